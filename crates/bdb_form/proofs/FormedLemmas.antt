@@ -1,0 +1,87 @@
+-- What it means for a page with an index that no row of form holds for it.
+use Rattle.std.proofs.Common.{◌≡◌, ℕ, ◌%◌, ◌<◌, ◌≤◌, List, length, arith, refl, sym, ◌∙◌, ap, ltb-false, nat_eq, eq-eqb}
+use Rattle.std.specs.Prelude.{cond, nat_lt, Bool, true, false, Option, Some, None, Result, Ok, Err}
+use Rattle.bdb_model.specs.declared.kinds.Order.{Order}
+use Rattle.bdb_model.specs.Numbers.{byte_at}
+use Rattle.bdb_model.specs.Page.{PageType}
+use Rattle.bdb_model.specs.Reading.{entries_of, index_end}
+use Rattle.bdb_model.specs.Rows.{listed_code, index_rows, item_rows, item_row, is_wrong_count, is_wrong_level, item_code}
+use Rattle.bdb_model.specs.Table.{Row, first_row, answer, least_below}
+use Rattle.std.specs.Prelude.{slice_get}
+use Rattle.std.specs.Result.{result_err}
+use Rattle.bdb_model.specs.declared.pages.ItemFault.{ItemFault}
+use Rattle.bdb_model.specs.Reading.{listed}
+use Rattle.bdb_layout.specs.Seen.{answer_seen}
+use Rattle.bdb_model.proofs.PageLemmas.{answer_value, answer_row, length_items, get_item, least_below_none, map_none}
+use Rattle.bdb_form.specs.Formed.{IsListed}
+
+-- no row of the page's index holds, and none of an item
+parts : (first least : Option ℕ) → ◌≡◌ {A = Option ℕ} (elim first [ Some code ↦ Some code | None ↦ least ]) None → (first ≡ None) × (least ≡ None)
+parts None least none = (refl, none)
+parts (Some code) least none = absurd cc
+
+no_index_row : (order : Order) (page : List ℕ) (t : PageType) → listed_code order page t ≡ None → first_row (index_rows order page t) ≡ None
+unfolding listed_code
+no_index_row order page t none = (parts (first_row (index_rows order page t)) (least_below (item_row t order page) (entries_of order page)) none).0
+
+no_item_row : (order : Order) (page : List ℕ) (t : PageType) → listed_code order page t ≡ None → least_below (item_row t order page) (entries_of order page) ≡ None
+unfolding listed_code
+no_item_row order page t none = (parts (first_row (index_rows order page t)) (least_below (item_row t order page) (entries_of order page)) none).1
+
+three_false : (a b c : Bool) (x y z : ℕ) → cond a (Some x) (cond b (Some y) (cond c (Some z) None)) ≡ None → (a ≡ false) × (b ≡ false) × (c ≡ false)
+three_false true b c x y z none = absurd cc
+three_false false true c x y z none = absurd cc
+three_false false false true x y z none = absurd cc
+three_false false false false x y z none = (refl, refl, refl)
+
+tests : (order : Order) (page : List ℕ) (t : PageType) → listed_code order page t ≡ None
+    → (nat_lt (length page) (index_end order page) ≡ false) × (is_wrong_level t (byte_at page 24) ≡ false) × (is_wrong_count t (entries_of order page) ≡ false)
+unfolding index_rows
+tests order page t none =
+    three_false (nat_lt (length page) (index_end order page)) (is_wrong_level t (byte_at page 24)) (is_wrong_count t (entries_of order page)) 19 20 21
+    (no_index_row order page t none)
+
+pub listed_room : (t : PageType) (order : Order) (page : List ℕ) → IsListed t order page → index_end order page ≤ length page
+listed_room t order page listed = ltb-false _ _ (tests order page t listed.formed).0
+
+pub listed_count : (t : PageType) (order : Order) (page : List ℕ) → IsListed t order page → is_wrong_count t (entries_of order page) ≡ false
+listed_count t order page listed = (tests order page t listed.formed).2
+
+pub whole_item : {T : Type 0} (t : PageType) (order : Order) (page : List ℕ) (i : ℕ) (item : T) → IsListed t order page → i < entries_of order page → answer (item_rows t order page i) item ≡ Ok item
+whole_item t order page i item listed lt =
+    answer_value (item_rows t order page i) item
+    (map_none item_code (first_row (item_rows t order page i)) (least_below_none (item_row t order page) (entries_of order page) i (no_item_row order page t listed.formed) lt))
+
+-- items that stand in pairs are even in number
+pub listed_even : (t : PageType) (order : Order) (page : List ℕ) → IsListed t order page → is_wrong_count t (entries_of order page) ≡ nat_eq (entries_of order page % 2) 1 → entries_of order page % 2 ≡ 0
+listed_even t order page listed odd =
+    let no : nat_eq (entries_of order page % 2) 1 ≡ false = sym odd ∙ listed_count t order page listed in
+    let other : entries_of order page % 2 ≡ 1 → ⊥ = λ one. absurd (cc (no, eq-eqb (entries_of order page % 2) 1 one)) in
+    omega arith
+
+-- an item that was read is the one in the list
+pub item_is : {C I : Type 0} (seen : C → I) (t : PageType) (order : Order) (page : List ℕ) (item_at : ℕ → I) (i : ℕ) (item : C)
+    → IsListed t order page → i < length (listed order page item_at).items → Ok (seen item) ≡ answer (item_rows t order page i) (item_at i)
+    → slice_get (listed order page item_at).items i ≡ Some (seen item)
+item_is seen t order page item_at i item formed lt read =
+    let below : i < entries_of order page = omega (arith, length_items order page item_at) in
+    let same : item_at i ≡ seen item = cc (read, whole_item t order page i (item_at i) formed below) in
+    get_item order page item_at i below ∙ ap (λ x. Some x) same
+
+-- and no item is refused
+pub no_refusal : {I : Type 0} (t : PageType) (order : Order) (page : List ℕ) (item_at : ℕ → I) (i : ℕ) (fault : ItemFault)
+    → IsListed t order page → i < length (listed order page item_at).items → Err fault ≡ answer (item_rows t order page i) (item_at i) → ⊥
+no_refusal t order page item_at i fault formed lt read =
+    let below : i < entries_of order page = omega (arith, length_items order page item_at) in
+    absurd (cc (read, whole_item t order page i (item_at i) formed below))
+
+-- the row of a refused item is the first that holds
+pub refused : {C I : Type 0} (seen : C → I) (r : Result C ItemFault) (rows : List (Row ItemFault)) (item : I) → answer_seen seen r ≡ answer rows item → result_err r ≡ first_row rows
+refused seen (Ok x) rows item read = ap result_err read ∙ answer_row rows item
+refused seen (Err fault) rows item read = ap result_err read ∙ answer_row rows item
+
+-- where no row of the index holds, the index lies on the page
+pub index_room : (t : PageType) (order : Order) (page : List ℕ) → first_row (index_rows order page t) ≡ None → index_end order page ≤ length page
+unfolding index_rows
+index_room t order page none =
+    ltb-false _ _ (three_false (nat_lt (length page) (index_end order page)) (is_wrong_level t (byte_at page 24)) (is_wrong_count t (entries_of order page)) 19 20 21 none).0

@@ -1,0 +1,16 @@
+use Rattle.bdb_model.specs.Page.{RecnoLeafPage}
+use Rattle.bdb_model.specs.Reading.{leaf_item_at}
+use Rattle.bdb_layout.specs.Seen.{leaf_item_seen}
+use Rattle.bdb_form.proofs.FormedLemmas.{item_is, no_refusal}
+use Rattle.bdb_form.proofs.recno_leaf.RecnoLeafView.item.Goals as goal
+
+pub unreachable-requires : goal.unreachable-requires
+unreachable-requires c =
+    no_refusal RecnoLeafPage c.self.inside.order c.self.inside.page.now (leaf_item_at c.self.inside.order c.self.inside.page.now) c.args.i c.in-Err.field-0
+    c.self.invariant (rw c.self.view_is c.requires) c.in-Err.ensures
+
+pub returns : goal.returns
+returns c =
+    rw (← c.self.view_is)
+    (item_is leaf_item_seen RecnoLeafPage c.self.inside.order c.self.inside.page.now (leaf_item_at c.self.inside.order c.self.inside.page.now) c.args.i c.in-Ok.item
+    c.self.invariant (rw c.self.view_is c.requires) c.in-Ok.ensures)

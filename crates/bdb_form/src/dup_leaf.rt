@@ -1,0 +1,71 @@
+ghost use Rattle.std.specs.Prelude.{◌≡◌, ◌<◌, ◌≤◌, length, slice_get, Some};
+ghost use Rattle.bdb_form.specs.Formed.{unless};
+ghost use Rattle.bdb_layout.specs.Seen.{leaf_item_seen};
+ghost use Rattle.bdb_model.specs.Page.{DupLeafPage};
+ghost use Rattle.bdb_model.specs.Reading.{listed, leaf_item_at};
+ghost use Rattle.bdb_model.specs.Rows.{listed_code};
+
+use crate::index::{Indexed, listed_code};
+use bdb_layout::{Header, LeafItem, header, leaf_item, u16_at};
+use bdb_model::Order;
+use std::marker::Model;
+
+/// A leaf of a tree of sorted duplicates.
+#[derive(Drop)]
+pub struct DupLeafView<'a> {
+    page: &'a [u8],
+    order: Order,
+}
+
+impl<'a> Model for DupLeafView<'a> {
+    ghost use Rattle.bdb_form.specs.Formed.{IsListed};
+    ghost use Rattle.bdb_model.specs.Page.{Listed, DupLeafPage};
+    ghost use Rattle.bdb_model.specs.Page.{Item};
+    ghost use Rattle.bdb_model.specs.Reading.{listed, leaf_item_at};
+
+    ghost Value = { Listed Item };
+
+    ghost view = { λ v. listed v.order v.page.now (leaf_item_at v.order v.page.now) };
+
+    ghost invariant = { λ v. IsListed DupLeafPage v.order v.page.now };
+}
+
+#[tactic(auto, using(bdb_model::proofs::PageLemmas::header_listed, bdb_model::proofs::PageLemmas::length_items, bdb_model::proofs::PageLemmas::get_item, crate::proofs::FormedLemmas::listed_room, crate::proofs::FormedLemmas::whole_item))]
+impl<'a> DupLeafView<'a> {
+    // The view of a page of this type, or the code of the first row of form that holds for it.
+    pub(crate) fn parse(page: &'a [u8], order: Order) -> Result<DupLeafView<'a>, u8>
+        requires header { 26 ≤ length page.now }
+        requires size { length page.now ≤ 32768 }
+        ensures { result ≡ unless (listed_code order page.now DupLeafPage) (listed order page.now (leaf_item_at order page.now)) }
+    {
+        match listed_code(page, order, Indexed::DupLeaf) {
+            Some(code) => Err(code),
+            None => Ok(DupLeafView { page, order }),
+        }
+    }
+
+    /// The fields of the page's header.
+    pub fn header(&self) -> Header
+        ensures { result ≡ self.now.header }
+    {
+        header(self.page, self.order)
+    }
+
+    /// How many entries there are, deleted ones too.
+    pub fn entries(&self) -> u16
+        ensures { result ≡ length self.now.items }
+    {
+        u16_at(self.page, 20, self.order)
+    }
+
+    /// The item of an entry.
+    pub fn item(&self, i: u16) -> LeafItem<'a>
+        requires { i < length self.now.items }
+        ensures { slice_get self.now.items i ≡ Some (leaf_item_seen result) }
+    {
+        match leaf_item(self.page, self.order, i) {
+            Ok(item) => item,
+            Err(_) => unreachable!(),
+        }
+    }
+}

@@ -1,0 +1,99 @@
+ghost use Rattle.std.specs.Prelude.{◌≡◌, ◌≤◌, IsTrue, length};
+ghost use Rattle.bdb_form.specs.Formed.{unless};
+ghost use Rattle.bdb_form.specs.Seen.{form_seen};
+ghost use Rattle.bdb_model.specs.HeadOf.{is_page_size};
+ghost use Rattle.bdb_model.specs.Numbers.{byte_at};
+ghost use Rattle.bdb_model.specs.Reading.{abstract_page, is_zero, page_as, page_type};
+ghost use Rattle.bdb_model.specs.Rows.{body_code, identity_rows, is_queue_type, is_tree_type, page_code, queue_code};
+ghost use Rattle.bdb_model.specs.Table.{first_row};
+
+use crate::{
+    DupLeafView, FreeView, HashView, InternalView, LeafView, MetaView, OverflowView, PageView,
+    QueueView, RecnoInternalView, RecnoLeafView, ZeroView,
+};
+use bdb_layout::u32_at;
+use bdb_model::Order;
+
+/// A page above 0 of a btree or hash file as the view of its type, or the code of the first row of form
+/// that holds for it. Of a metadata page only the number is looked at: its rows are those of `bdb_meta`.
+#[tactic(auto, unfolding(bdb_model::specs::Rows::page_code, bdb_model::specs::Reading::abstract_page))]
+pub fn form(page: &[u8], number: u32, order: Order) -> Result<PageView<'_>, u8>
+    requires { IsTrue (is_page_size (length page.now)) }
+    ensures { form_seen result ≡ unless (page_code order number page.now) (abstract_page order page.now) }
+{
+    if is_zero(page) {
+        return Ok(PageView::Zero(ZeroView));
+    }
+    if let Some(code) = tree_identity(page, number, order) {
+        return Err(code);
+    }
+    typed(page, order)
+}
+
+/// A page above 0 of a queue file as its view, or the code of the first row of form that holds for it.
+#[tactic(auto, unfolding(bdb_model::specs::Rows::queue_code, bdb_model::specs::Reading::abstract_page))]
+pub fn queue_form(page: &[u8], number: u32, order: Order) -> Result<PageView<'_>, u8>
+    requires { IsTrue (is_page_size (length page.now)) }
+    ensures { form_seen result ≡ unless (queue_code order number page.now) (abstract_page order page.now) }
+{
+    if is_zero(page) {
+        return Ok(PageView::Zero(ZeroView));
+    }
+    if let Some(code) = queue_identity(page, number, order) {
+        return Err(code);
+    }
+    Ok(PageView::Queue(QueueView::over(page, order)))
+}
+
+fn is_zero(page: &[u8]) -> bool
+    ensures { result ≡ is_zero page.now }
+{
+    page.iter().all(|byte| *byte == 0)
+}
+
+// The code of the first row that holds of those on the number and the type of a page.
+fn tree_identity(page: &[u8], number: u32, order: Order) -> Option<u8>
+    requires { 26 ≤ length page.now }
+    ensures { result ≡ first_row (identity_rows order page.now number is_tree_type) }
+{
+    if u32_at(page, 8, order) != number {
+        return Some(1);
+    }
+    if !matches!(page[25], 0 | 2..=9 | 12 | 13) {
+        return Some(2);
+    }
+    None
+}
+
+fn queue_identity(page: &[u8], number: u32, order: Order) -> Option<u8>
+    requires { 26 ≤ length page.now }
+    ensures { result ≡ first_row (identity_rows order page.now number is_queue_type) }
+{
+    if u32_at(page, 8, order) != number {
+        return Some(1);
+    }
+    if page[25] != 11 {
+        return Some(2);
+    }
+    None
+}
+
+// The view of a page whose type is one of a btree or hash file.
+fn typed(page: &[u8], order: Order) -> Result<PageView<'_>, u8>
+    requires header { 26 ≤ length page.now }
+    requires size { length page.now ≤ 32768 }
+    requires of_tree { IsTrue (is_tree_type (byte_at page.now 25)) }
+    ensures { form_seen result ≡ unless (body_code order page.now (page_type (byte_at page.now 25))) (page_as order page.now (page_type (byte_at page.now 25))) }
+{
+    match page[25] {
+        0 => Ok(PageView::Free(FreeView::over(page, order))),
+        3 => Ok(PageView::Internal(InternalView::parse(page, order)?)),
+        4 => Ok(PageView::RecnoInternal(RecnoInternalView::parse(page, order)?)),
+        5 => Ok(PageView::Leaf(LeafView::parse(page, order)?)),
+        6 => Ok(PageView::RecnoLeaf(RecnoLeafView::parse(page, order)?)),
+        7 => Ok(PageView::Overflow(OverflowView::parse(page, order)?)),
+        8 | 9 => Ok(PageView::Meta(MetaView::over(page, order))),
+        12 => Ok(PageView::DupLeaf(DupLeafView::parse(page, order)?)),
+        _ => Ok(PageView::Hash(HashView::parse(page, order)?)),
+    }
+}

@@ -1,0 +1,102 @@
+ghost use Rattle.std.specs.Prelude.{◌≡◌, ◌+◌, ◌*◌, ◌<◌, ◌≤◌, length, slice_get, slice_index, Some};
+ghost use Rattle.bdb_form.specs.Formed.{shares_at, unless};
+ghost use Rattle.bdb_layout.specs.Seen.{leaf_item_seen};
+ghost use Rattle.bdb_model.specs.Page.{LeafPage};
+ghost use Rattle.bdb_model.specs.Reading.{listed, leaf_item_at};
+ghost use Rattle.bdb_model.specs.Rows.{listed_code};
+
+use crate::index::{Indexed, listed_code};
+use bdb_layout::{Header, LeafItem, header, leaf_item, u16_at};
+use bdb_model::Order;
+use std::marker::Model;
+
+/// A leaf of a btree: pairs of a key and its data.
+#[derive(Drop)]
+pub struct LeafView<'a> {
+    page: &'a [u8],
+    order: Order,
+}
+
+impl<'a> Model for LeafView<'a> {
+    ghost use Rattle.bdb_form.specs.Formed.{IsListed};
+    ghost use Rattle.bdb_model.specs.Page.{Item, Listed, LeafPage};
+    ghost use Rattle.bdb_model.specs.Reading.{listed, leaf_item_at};
+
+    ghost Value = { Listed Item };
+
+    ghost view = { λ v. listed v.order v.page.now (leaf_item_at v.order v.page.now) };
+
+    ghost invariant = { λ v. IsListed LeafPage v.order v.page.now };
+}
+
+#[tactic(auto, using(bdb_model::proofs::PageLemmas::header_listed, bdb_model::proofs::PageLemmas::length_items, bdb_model::proofs::PageLemmas::get_item, bdb_model::proofs::PageLemmas::index_offset, crate::proofs::FormedLemmas::listed_room, crate::proofs::FormedLemmas::listed_even, crate::proofs::FormedLemmas::whole_item))]
+impl<'a> LeafView<'a> {
+    // The view of a page of this type, or the code of the first row of form that holds for it.
+    pub(crate) fn parse(page: &'a [u8], order: Order) -> Result<LeafView<'a>, u8>
+        requires header { 26 ≤ length page.now }
+        requires size { length page.now ≤ 32768 }
+        ensures { result ≡ unless (listed_code order page.now LeafPage) (listed order page.now (leaf_item_at order page.now)) }
+    {
+        match listed_code(page, order, Indexed::Leaf) {
+            Some(code) => Err(code),
+            None => Ok(LeafView { page, order }),
+        }
+    }
+
+    /// The fields of the page's header.
+    pub fn header(&self) -> Header
+        ensures { result ≡ self.now.header }
+    {
+        header(self.page, self.order)
+    }
+
+    /// How many pairs there are.
+    pub fn pairs(&self) -> u16
+        ensures { 2 * result ≡ length self.now.items }
+    {
+        u16_at(self.page, 20, self.order) / 2
+    }
+
+    /// The key of a pair.
+    pub fn key(&self, i: u16) -> LeafItem<'a>
+        requires { 2 * i < length self.now.items }
+        ensures { slice_get self.now.items (2 * i) ≡ Some (leaf_item_seen result) }
+    {
+        self.item(2 * usize::from(i))
+    }
+
+    /// The data of a pair.
+    pub fn value(&self, i: u16) -> LeafItem<'a>
+        requires { 2 * i + 1 < length self.now.items }
+        ensures { slice_get self.now.items (2 * i + 1) ≡ Some (leaf_item_seen result) }
+    {
+        self.item(2 * usize::from(i) + 1)
+    }
+
+    /// Whether a pair has the key of the pair before it: both entries of the index name one offset.
+    pub fn shares(&self, i: u16) -> bool
+        requires { 2 * i < length self.now.items }
+        ensures { result ≡ shares_at self.now i }
+    {
+        let i = usize::from(i);
+        i > 0 && self.offset(2 * i) == self.offset(2 * i - 2)
+    }
+
+    // An entry of the index.
+    fn offset(&self, index: usize) -> u16
+        requires { index < length self.now.items }
+        ensures { result ≡ slice_index self.now.offsets index }
+    {
+        u16_at(self.page, 26 + 2 * index, self.order)
+    }
+
+    fn item(&self, index: usize) -> LeafItem<'a>
+        requires { index < length self.now.items }
+        ensures { slice_get self.now.items index ≡ Some (leaf_item_seen result) }
+    {
+        match leaf_item(self.page, self.order, index as u16) {
+            Ok(item) => item,
+            Err(_) => unreachable!(),
+        }
+    }
+}

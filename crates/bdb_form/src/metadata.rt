@@ -1,0 +1,44 @@
+ghost use Rattle.std.specs.Prelude.{◌≡◌, ◌≤◌, length};
+ghost use Rattle.bdb_form.specs.Formed.{fields_as};
+ghost use Rattle.bdb_model.specs.Numbers.{byte_at};
+ghost use Rattle.bdb_model.specs.Reading.{header_of, page_type};
+
+use bdb_layout::{Header, header};
+use bdb_model::Order;
+use std::marker::Model;
+
+/// A metadata page of a btree or a hash table. Its fields are read by `bdb_meta`.
+#[derive(Drop)]
+pub struct MetaView<'a> {
+    page: &'a [u8],
+    order: Order,
+}
+
+impl<'a> Model for MetaView<'a> {
+    ghost use Rattle.bdb_form.specs.Formed.{HasHeader, MetaPage, fields_as};
+    ghost use Rattle.bdb_model.specs.Numbers.{byte_at};
+    ghost use Rattle.bdb_model.specs.Reading.{header_of, page_type};
+
+    ghost Value = { MetaPage };
+
+    ghost view = { λ v. record { header = header_of v.order v.page.now; fields = fields_as v.order v.page.now (page_type (byte_at v.page.now 25)) } };
+
+    ghost invariant = { λ v. HasHeader v.page.now };
+}
+
+impl<'a> MetaView<'a> {
+    pub(crate) fn over(page: &'a [u8], order: Order) -> MetaView<'a>
+        requires header { 26 ≤ length page.now }
+        requires size { length page.now ≤ 32768 }
+        ensures { result ≡ record { header = header_of order page.now; fields = fields_as order page.now (page_type (byte_at page.now 25)) } }
+    {
+        MetaView { page, order }
+    }
+
+    /// Bytes 0 to 25 read as a header.
+    pub fn header(&self) -> Header
+        ensures { result ≡ self.now.header }
+    {
+        header(self.page, self.order)
+    }
+}

@@ -1,0 +1,59 @@
+ghost use Rattle.std.specs.Prelude.{◌≡◌, ◌≤◌, length, take, drop};
+ghost use Rattle.bdb_form.specs.Formed.{HoldsData, unless};
+ghost use Rattle.bdb_model.specs.Numbers.{two_at};
+ghost use Rattle.bdb_model.specs.Page.{OverflowPage};
+ghost use Rattle.bdb_model.specs.Reading.{header_of};
+ghost use Rattle.bdb_model.specs.Rows.{body_code};
+
+use bdb_layout::{Header, header, u16_at};
+use bdb_model::Order;
+use std::marker::Model;
+
+/// A page of a chain: a piece of a value.
+#[derive(Drop)]
+pub struct OverflowView<'a> {
+    page: &'a [u8],
+    order: Order,
+}
+
+impl<'a> Model for OverflowView<'a> {
+    ghost use Rattle.std.specs.Prelude.{take, drop};
+    ghost use Rattle.bdb_form.specs.Formed.{HoldsData, OverflowPage};
+    ghost use Rattle.bdb_model.specs.Numbers.{two_at};
+    ghost use Rattle.bdb_model.specs.Reading.{header_of};
+
+    ghost Value = { OverflowPage };
+
+    ghost view = { λ v. record { header = header_of v.order v.page.now; bytes = take (two_at v.order v.page.now 22) (drop 26 v.page.now) } };
+
+    ghost invariant = { λ v. HoldsData v.order v.page.now };
+}
+
+impl<'a> OverflowView<'a> {
+    // The view of a page of this type, or the code of the row of form that holds for it.
+    pub(crate) fn parse(page: &'a [u8], order: Order) -> Result<OverflowView<'a>, u8>
+        requires header { 26 ≤ length page.now }
+        requires size { length page.now ≤ 32768 }
+        ensures { result ≡ unless (body_code order page.now OverflowPage) (record { header = header_of order page.now; bytes = take (two_at order page.now 22) (drop 26 page.now) }) }
+    {
+        if page.len() < 26 + usize::from(u16_at(page, 22, order)) {
+            return Err(25);
+        }
+        Ok(OverflowView { page, order })
+    }
+
+    /// The fields of the page's header: its entries are the references to the chain that it heads.
+    pub fn header(&self) -> Header
+        ensures { result ≡ self.now.header }
+    {
+        header(self.page, self.order)
+    }
+
+    /// The data on the page.
+    pub fn bytes(&self) -> &'a [u8]
+        ensures { result.now ≡ self.now.bytes }
+    {
+        let length = usize::from(u16_at(self.page, 22, self.order));
+        &self.page[26..26 + length]
+    }
+}

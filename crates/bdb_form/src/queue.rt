@@ -1,0 +1,65 @@
+ghost use Rattle.std.specs.Prelude.{◌≡◌, ◌≤◌, ◌+◌, ◌*◌, length, drop, slice_index, slice_range};
+ghost use Rattle.bdb_model.specs.Numbers.{four_at, has_bit, pad4};
+ghost use Rattle.bdb_model.specs.Reading.{header_of};
+
+use bdb_layout::{Header, header};
+use bdb_model::Order;
+use std::marker::Model;
+
+/// A page of a queue: records of one length.
+#[derive(Drop)]
+pub struct QueueView<'a> {
+    page: &'a [u8],
+    order: Order,
+}
+
+impl<'a> Model for QueueView<'a> {
+    ghost use Rattle.std.specs.Prelude.{drop};
+    ghost use Rattle.bdb_form.specs.Formed.{HasHeader, QueuePage};
+    ghost use Rattle.bdb_model.specs.Numbers.{four_at};
+    ghost use Rattle.bdb_model.specs.Reading.{header_of};
+
+    ghost Value = { QueuePage };
+
+    ghost view = { λ v. record { header = header_of v.order v.page.now; number = four_at v.order v.page.now 8; bytes = drop 28 v.page.now } };
+
+    ghost invariant = { λ v. HasHeader v.page.now };
+}
+
+impl<'a> QueueView<'a> {
+    pub(crate) fn over(page: &'a [u8], order: Order) -> QueueView<'a>
+        requires header { 26 ≤ length page.now }
+        requires size { length page.now ≤ 32768 }
+        ensures { result ≡ record { header = header_of order page.now; number = four_at order page.now 8; bytes = drop 28 page.now } }
+    {
+        QueueView { page, order }
+    }
+
+    /// Bytes 0 to 25 read as a header.
+    pub fn header(&self) -> Header
+        ensures { result ≡ self.now.header }
+    {
+        header(self.page, self.order)
+    }
+
+    /// The record in a slot, of `re_len` bytes, and whether it's valid. The slots begin at byte 28 of the
+    /// page; each is a byte that says so, the record, and what pads the two to a multiple of 4.
+    pub fn slot(&self, i: u32, re_len: u32) -> (bool, &'a [u8])
+        requires { (i + 1) * pad4 (re_len + 1) ≤ length self.now.bytes }
+        ensures valid { result.0 ≡ has_bit (slice_index self.now.bytes (i * pad4 (re_len + 1))) 1 }
+        ensures record_bytes { result.1.now ≡ slice_range self.now.bytes (i * pad4 (re_len + 1) + 1) (i * pad4 (re_len + 1) + 1 + re_len) }
+    {
+        let page = self.page;
+        let start = 28 + i as usize * slot_size(re_len);
+        let end = start + 1 + re_len as usize;
+        (page[start] & 1 != 0, &page[start + 1..end])
+    }
+}
+
+// The bytes of a slot: one, the record, and what pads them.
+fn slot_size(re_len: u32) -> usize
+    ensures size { result ≡ pad4 (re_len + 1) }
+    ensures room { re_len + 1 ≤ result }
+{
+    (re_len as usize + 1 + 3) / 4 * 4
+}

@@ -1,0 +1,7 @@
+-- A fault by its three numbers.
+use Rattle.std.specs.Prelude.{ℕ}
+use Rattle.bdb_model.specs.declared.kinds.Fault.{Fault}
+
+-- a stage, a page and a code
+abbrev pub fault : ℕ → ℕ → ℕ → Fault
+fault stage page code = record { stage = stage; page = page; code = code }

@@ -1,0 +1,11 @@
+//! Laws that compute all faults of sample files.
+#![tactic(auto, unfolding(bdb_samples::specs::Unfolded::count_ones, bdb_model::specs::Numbers::number_at, bdb_model::specs::Hashing::group, bdb_model::specs::HeadOf::head_of, bdb_model::specs::HeadOf::head_rows, bdb_model::specs::Rows::leaf_rows, bdb_model::specs::Rows::internal_rows, bdb_model::specs::Rows::recno_rows, bdb_model::specs::Rows::hash_rows, bdb_model::specs::Rows::index_rows, bdb_model::specs::Rows::listed_code, bdb_model::specs::Rows::metadata_rows, bdb_model::specs::Rows::form_code, bdb_model::specs::Reading::listed, bdb_model::specs::Reading::leaf_item_at, bdb_model::specs::Reading::internal_item_at, bdb_model::specs::Reading::recno_item_at, bdb_model::specs::Reading::hash_item_at, bdb_model::specs::Reading::blocks_of, bdb_model::specs::Reading::abstract_page, bdb_model::specs::File::file_of, bdb_model::specs::References::refs, bdb_model::specs::References::fit_code, bdb_model::specs::Graph::all_references, bdb_model::specs::Graph::owners, bdb_model::specs::Graph::is_anchor, bdb_model::specs::Graph::is_reserve, bdb_model::specs::Graph::reaches_in, bdb_model::specs::Verdict::head_faults, bdb_model::specs::Verdict::tail_faults, bdb_model::specs::Verdict::form_faults, bdb_model::specs::Verdict::reference_faults, bdb_model::specs::Verdict::ownership_faults, bdb_model::specs::Verdict::reach_faults, bdb_model::specs::Verdict::faults_of))]
+
+pub mod file_faults;
+pub mod hostile;
+pub mod meta_faults;
+pub mod ownership;
+pub mod page_faults;
+pub mod plain;
+pub mod references;
+pub mod worked;

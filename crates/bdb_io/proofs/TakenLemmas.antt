@@ -1,0 +1,23 @@
+-- How many known bytes were taken, after one more piece.
+use Rattle.std.proofs.Common.{◌≡◌, ℕ, ◌+◌, ◌≤◌, List, ◌++◌, length, take, arith, length-append, length-take}
+use Rattle.std.specs.Prelude.{Option}
+use Rattle.std.specs.Io.KnownBytes.{Consumes}
+use Rattle.bdb_model.specs.Faults.{Took, TookAtMost}
+use Rattle.bdb_model.proofs.KnownLemmas.{consumes_next}
+
+-- the bytes held came, and then a piece of the buffer
+pub took_next : (a b c : Option (List ℕ)) (held buf : List ℕ) (count n : ℕ) → Consumes a b held → count ≤ length buf → Consumes b c (take count buf)
+    → length held + count ≡ n → Took n a c
+took_next a b c held buf count n first within next sum = (
+  held ++ take count buf,
+  consumes_next a b c held (take count buf) first next,
+  omega (arith, sum, within, length-append held (take count buf), length-take count buf),
+)
+
+pub took_at_most_next : (a b c : Option (List ℕ)) (held buf : List ℕ) (count n : ℕ) → Consumes a b held → count ≤ length buf → Consumes b c (take count buf)
+    → length held + count ≤ n → TookAtMost n a c
+took_at_most_next a b c held buf count n first within next sum = (
+  held ++ take count buf,
+  consumes_next a b c held (take count buf) first next,
+  omega (arith, sum, within, length-append held (take count buf), length-take count buf),
+)

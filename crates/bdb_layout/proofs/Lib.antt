@@ -1,0 +1,6 @@
+pub mod BlockLemmas
+pub mod HashingLemmas
+pub mod KeyLemmas
+pub mod NumberLemmas
+pub mod ReadBackLemmas
+pub mod WritingLemmas

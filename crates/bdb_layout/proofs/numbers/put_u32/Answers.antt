@@ -1,0 +1,11 @@
+use Rattle.bdb_layout.proofs.NumberLemmas.{put_big, put_little}
+use Rattle.bdb_model.specs.Numbers.{spelled}
+use Rattle.bdb_layout.proofs.numbers.put_u32.Goals as goal
+
+pub returns-in-Big : goal.returns-in-Big
+unfolding spelled
+returns-in-Big c = rw c.in-Big.is (put_big c.args.at 4 c.args.value c.args.bytes.now c.write_u32.new.buf c.write_u32.ensures)
+
+pub returns-in-Little : goal.returns-in-Little
+unfolding spelled
+returns-in-Little c = rw c.in-Little.is (put_little c.args.at 4 c.args.value c.args.bytes.now c.write_u32-in-Little.new.buf c.write_u32-in-Little.ensures)

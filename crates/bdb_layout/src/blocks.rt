@@ -1,0 +1,82 @@
+ghost use Rattle.std.specs.Prelude.{◌≡◌, ◌<◌, IfSome, MatchOption, length};
+ghost use Rattle.std.specs.Iterator.{YieldsFirstBy, item_count};
+ghost use Rattle.std.specs.Option.{option_map};
+ghost use Rattle.bdb_model.specs.Reading.{blocks_of};
+ghost use Rattle.bdb_layout.specs.Blocks.{BeginsNoBlock, GoesOn, run_in};
+
+use crate::u16_at;
+use bdb_model::Order;
+use std::marker::Model;
+
+/// The data of a set on its page, in order, as slices of the page.
+#[derive(Drop)]
+pub struct DupBlocks<'a> {
+    rest: &'a [u8],
+    order: Order,
+}
+
+impl<'a> Model for DupBlocks<'a> {
+    ghost use Rattle.std.specs.Prelude.{[], IsSome};
+    ghost use Rattle.std.specs.Option.{unwrap_or};
+    ghost use Rattle.bdb_model.specs.Reading.{blocks_of};
+    ghost use Rattle.bdb_layout.specs.Blocks.{BlockRun, run_in};
+
+    ghost Value = { BlockRun };
+
+    ghost view = { λ it. run_in it.order (unwrap_or (blocks_of it.order it.rest.now) []) };
+
+    ghost invariant = { λ it. IsSome (blocks_of it.order it.rest.now) };
+}
+
+impl<'a> DupBlocks<'a> {
+    /// The set that a run of blocks is, or `None` exactly where the bytes aren't a run in that order.
+    pub fn over(blocks: &'a [u8], order: Order) -> Option<DupBlocks<'a>>
+        ensures { result ≡ option_map (run_in order) (blocks_of order blocks.now) }
+    {
+        let mut rest = blocks;
+        while !rest.is_empty() {
+            let (_, after) = first_block(rest, order)?;
+            rest = after;
+        }
+        Some(DupBlocks {
+            rest: blocks,
+            order,
+        })
+    }
+
+    // The bytes of the blocks that are left.
+    pub(crate) fn bytes(&self) -> &'a [u8]
+        ensures { blocks_of self.now.order result.now ≡ Some self.now.blocks }
+    {
+        self.rest
+    }
+}
+
+impl<'a> Iterator for DupBlocks<'a> {
+    type Item = &'a [u8];
+
+    ghost next_gives = { YieldsFirstBy (λ block. block.now) (λ left. left.blocks) };
+
+    ghost remaining = { item_count (λ left. left.blocks) };
+
+    fn next(&mut self) -> Option<&'a [u8]> {
+        let (block, rest) = first_block(self.rest, self.order)?;
+        self.rest = rest;
+        Some(block)
+    }
+}
+
+// The first block of a run and what comes after it, where a block is complete.
+fn first_block(run: &[u8], order: Order) -> Option<(&[u8], &[u8])>
+    ensures block { MatchOption result (BeginsNoBlock order run.now) (λ parts. GoesOn order run.now parts.0.now parts.1.now) }
+    ensures shorter { IfSome result (λ parts. length parts.1.now < length run.now) }
+{
+    if run.len() < 4 {
+        return None;
+    }
+    let size = usize::from(u16_at(run, 0, order));
+    if run.len() < size + 4 || usize::from(u16_at(run, size + 2, order)) != size {
+        return None;
+    }
+    Some((&run[2..2 + size], &run[size + 4..]))
+}

@@ -1,0 +1,77 @@
+ghost use Rattle.std.specs.Prelude.{◌≡◌, ◌+◌, ◌<◌, ◌≤◌, length};
+ghost use Rattle.bdb_model.specs.Reading.{entries_of, index_end, is_deleted, kind_at, leaf_content, leaf_item_at};
+ghost use Rattle.bdb_model.specs.Rows.{is_leaf_kind, leaf_end, leaf_rows};
+ghost use Rattle.bdb_model.specs.Table.{answer};
+ghost use Rattle.bdb_layout.specs.Seen.{answer_seen, leaf_item_seen};
+
+use crate::{LeafItem, index_end, offset_at, u16_at, u32_at};
+use bdb_model::{ItemFault, Order};
+
+/// The item of a leaf at a place of its index, or the first thing that is wrong with it.
+#[tactic(auto, unfolding(bdb_model::specs::Reading::leaf_item_at, bdb_model::specs::Rows::leaf_rows))]
+pub fn leaf_item(page: &[u8], order: Order, index: u16) -> Result<LeafItem<'_>, ItemFault>
+    requires room { index_end order page.now ≤ length page.now }
+    requires entry { index < entries_of order page.now }
+    ensures { answer_seen leaf_item_seen result ≡ answer (leaf_rows order page.now index) (leaf_item_at order page.now index) }
+{
+    let at = usize::from(offset_at(page, order, index));
+    if at < index_end(page, order) || page.len() < at + 3 {
+        return Err(ItemFault::Offset);
+    }
+    let kind = page[at + 2] % 128;
+    if !is_leaf_kind(page[25], index, kind) {
+        return Err(ItemFault::Kind);
+    }
+    if page.len() < leaf_end(page, order, at) {
+        return Err(ItemFault::Extent);
+    }
+    Ok(leaf_item_from(page, order, at))
+}
+
+// Whether an item of this kind may stand at a place of a leaf's index.
+fn is_leaf_kind(page_type: u8, index: u16, kind: u8) -> bool
+    ensures { result ≡ is_leaf_kind page_type index kind }
+{
+    kind == 1 || kind == 3 || (kind == 2 && page_type == 5 && index % 2 == 1)
+}
+
+// Where an item of a leaf ends.
+fn leaf_end(page: &[u8], order: Order, at: usize) -> usize
+    requires { at + 3 ≤ length page.now }
+    ensures { result ≡ leaf_end order page.now at }
+{
+    match page[at + 2] % 128 {
+        1 => at + 3 + usize::from(u16_at(page, at, order)),
+        _ => at + 12,
+    }
+}
+
+// The item at an offset.
+fn leaf_item_from(page: &[u8], order: Order, at: usize) -> LeafItem<'_>
+    requires within { leaf_end order page.now at ≤ length page.now }
+    requires least { 1 ≤ kind_at page.now at }
+    requires most { kind_at page.now at ≤ 3 }
+    ensures { leaf_item_seen result ≡ record { content = leaf_content order page.now at (kind_at page.now at); deleted = is_deleted page.now at } }
+{
+    let deleted = page[at + 2] >= 128;
+    match page[at + 2] % 128 {
+        1 => {
+            let size = usize::from(u16_at(page, at, order));
+            let bytes = &page[at + 3..at + 3 + size];
+            LeafItem::Inline { bytes, deleted }
+        }
+        2 => {
+            let root = u32_at(page, at + 4, order);
+            LeafItem::Duplicates { root, deleted }
+        }
+        _ => {
+            let head = u32_at(page, at + 4, order);
+            let total = u32_at(page, at + 8, order);
+            LeafItem::Overflow {
+                head,
+                total,
+                deleted,
+            }
+        }
+    }
+}

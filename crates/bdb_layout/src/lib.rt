@@ -1,0 +1,30 @@
+//! Fields and items of a page, read and written.
+#![tactic(auto)]
+
+mod blocks;
+mod hash;
+mod hashing;
+mod index;
+mod internal;
+mod items;
+mod keys;
+pub mod laws;
+mod leaf;
+mod numbers;
+mod page_header;
+mod recno;
+mod writing;
+
+pub use bdb_model::{Header, ItemFault, RecnoItem};
+pub use blocks::DupBlocks;
+pub use hash::hash_item;
+pub use hashing::{bucket_of, group_of, hash5, page_of};
+pub use index::{index_end, offset_at};
+pub use internal::internal_item;
+pub use items::{HashItem, InternalItem, InternalKey, LeafItem};
+pub use keys::compare;
+pub use leaf::leaf_item;
+pub use numbers::{put_u16, put_u32, u16_at, u32_at};
+pub use page_header::header;
+pub use recno::recno_item;
+pub use writing::{put_hash_item, put_header, put_internal_item, put_leaf_item, put_recno_item};

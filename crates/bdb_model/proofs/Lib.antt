@@ -1,0 +1,9 @@
+pub mod GraphLemmas
+pub mod GroupLemmas
+pub mod KnownLemmas
+pub mod LessLemmas
+pub mod MemberLemmas
+pub mod PageLemmas
+pub mod SpellingLemmas
+pub mod TurnLemmas
+pub mod VerdictLemmas

@@ -1,0 +1,15 @@
+-- The lines of the error sink that don't come from an answer, and how a line ends.
+use Rattle.std.specs.Prelude.{ℕ, List, [], ◌∷◌, ◌++◌, codes}
+
+-- a text and its line feed
+abbrev pub line : List ℕ → List ℕ
+line text = text ++ 10 ∷ []
+
+abbrev pub read_fault_line : List ℕ
+read_fault_line = line (codes "read fault")
+
+abbrev pub write_fault_line : List ℕ
+write_fault_line = line (codes "write fault")
+
+abbrev pub memory_line : List ℕ
+memory_line = line (codes "out of memory")

@@ -1,0 +1,22 @@
+//! Plain types of a database file, and the definitions that every contract cites.
+#![tactic(auto)]
+
+mod bytes;
+mod ending;
+pub mod graph_laws;
+mod kinds;
+pub mod laws;
+mod metadata;
+mod pages;
+mod references;
+mod steps;
+mod words;
+
+pub use bytes::Bytes;
+pub use ending::Ending;
+pub use kinds::{CheckError, Fault, Kind, Order, Unsupported, Verdict};
+pub use metadata::{BtreeMeta, FileKind, HashMeta, Head, MetaFault, QueueMeta};
+pub use pages::{Header, ItemFault, RecnoItem};
+pub use references::{Reference, Sort};
+pub use steps::Steps;
+pub use words::Words;

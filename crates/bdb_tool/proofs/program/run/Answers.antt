@@ -1,0 +1,5 @@
+use Rattle.std.proofs.Common.{refl}
+use Rattle.bdb_tool.proofs.program.run.Goals as goal
+
+pub returns-in-Some-clause-base : goal.returns-in-Some-clause-base
+returns-in-Some-clause-base g c = rw c.in-Some.is refl

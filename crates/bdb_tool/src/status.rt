@@ -1,0 +1,25 @@
+//! The exit statuses of the program.
+
+/// The command did what it does.
+pub const DONE: u8 = 0;
+
+/// A row of the fault table holds.
+pub const FAULT: u8 = 1;
+
+/// The words are no command.
+pub const USAGE: u8 = 2;
+
+/// Reading failed.
+pub const READ_FAULT: u8 = 4;
+
+/// Writing failed.
+pub const WRITE_FAULT: u8 = 5;
+
+/// The input is longer than the limit.
+pub const TOO_LARGE: u8 = 6;
+
+/// Memory was wanting.
+pub const MEMORY: u8 = 7;
+
+/// What was asked isn't built yet.
+pub const NOT_BUILT: u8 = 11;

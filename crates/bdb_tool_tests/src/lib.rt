@@ -1,0 +1,9 @@
+//! Tests of `run` over memory.
+#![tactic(auto)]
+
+#[cfg(test)]
+mod image;
+#[cfg(test)]
+mod outside;
+#[cfg(test)]
+mod tests;

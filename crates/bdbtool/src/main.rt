@@ -1,0 +1,62 @@
+//! The program: runs on the words of its command line, standard input, standard output and standard error.
+#![tactic(auto)]
+
+ghost use Rattle.std.specs.Prelude.{◌≡◌, IfOk, map, string_bytes};
+ghost use Rattle.std.specs.Vec.Iter.{into_iter_items};
+
+use bdb_io::{Sink, StdSink, StdSource, put_all};
+use bdb_model::Words;
+use bdb_tool::run_counted;
+use bdb_tool::status::{MEMORY, USAGE};
+use std::alloc::{AllocError, Global};
+use std::env::{self, Args};
+use std::io::ErrorKind;
+use std::marker::Brand;
+use std::process::ExitCode;
+use std::sync::ledger::Blank;
+
+fn main(rt: HostRuntime) -> ExitCode {
+    let mut err = StdSink::new(rt.stderr());
+    let mut args = match env::args(&rt) {
+        Ok(args) => args,
+        Err(error) => return refuse(&mut err, error.kind()),
+    };
+    let _name = args.next();
+    let Ok(words) = words_of(rt.alloc(), args) else {
+        return refuse(&mut err, ErrorKind::OutOfMemory);
+    };
+    let mut source = StdSource::new(rt.stdin());
+    let mut out = StdSink::new(rt.stdout());
+    ExitCode::from(run_counted::<Brand, _, _, _>(
+        rt.alloc(),
+        &words,
+        &mut source,
+        &mut out,
+        &mut err,
+        Blank::new(1),
+    ))
+}
+
+// Ends where the words can't be collected: memory was wanting, or a word isn't UTF-8.
+fn refuse<E: Sink>(err: &mut E, cause: ErrorKind) -> ExitCode {
+    if cause == ErrorKind::OutOfMemory {
+        let _ = put_all(err, b"out of memory\n");
+        return ExitCode::from(MEMORY);
+    }
+    let _ = put_all(
+        err,
+        b"usage: bdbtool verify, list, get, dump, load, salvage or trial\n",
+    );
+    ExitCode::from(USAGE)
+}
+
+// The words, in order.
+fn words_of(alloc: Global, args: Args) -> Result<Words, AllocError>
+    ensures { IfOk result (λ words. words ≡ map string_bytes (into_iter_items args)) }
+{
+    let mut words = Words::new(alloc);
+    for arg in args {
+        words.push(arg.as_str())?;
+    }
+    Ok(words)
+}
