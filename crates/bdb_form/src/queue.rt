@@ -42,6 +42,13 @@ impl<'a> QueueView<'a> {
         header(self.page, self.order)
     }
 
+    /// How many bytes the page has for its slots.
+    pub fn room(&self) -> usize
+        ensures { result ≡ length self.now.bytes }
+    {
+        self.page.len().saturating_sub(28)
+    }
+
     /// The record in a slot, of `re_len` bytes, and whether it's valid. The slots begin at byte 28 of the
     /// page; each is a byte that says so, the record, and what pads the two to a multiple of 4.
     pub fn slot(&self, i: u32, re_len: u32) -> (bool, &'a [u8])

@@ -1,0 +1,5 @@
+pub mod RowLemmas
+pub mod SparesLemmas
+pub mod FilledLemmas
+pub mod CommonLemmas
+pub mod FieldLemmas

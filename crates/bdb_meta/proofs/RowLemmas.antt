@@ -1,0 +1,105 @@
+-- Rows that follow one another, and the answer of a table with a value.
+use Rattle.std.proofs.Common.{◌≡◌, ℕ, Bool, true, false, List, [], ◌∷◌, ◌++◌, ◌∙◌, ◌<◌, ◌≤◌, length, refl, sym, ap, arith, append_assoc}
+use Rattle.std.specs.Prelude.{Option, Some, None, Result, Ok, Err, if◌then◌else◌, nat_lt, ◌==◌}
+use Rattle.bdb_model.specs.declared.metadata.MetaFault.{MetaFault}
+use Rattle.bdb_model.specs.declared.kinds.Order.{Order}
+use Rattle.bdb_model.specs.declared.metadata.FileKind.{FileKind}
+use Rattle.bdb_model.specs.Rows.{identity_rows, kind_rows, meta_rows, metadata_rows, type_of}
+use Rattle.bdb_model.specs.Table.{Row, answer, first_row}
+use Rattle.bdb_model.specs.HeadOf.{faulted, head_rows}
+use Rattle.bdb_meta.specs.RowGroups.{common_rows, length_rows, page_rows, version_rows}
+
+-- a row in front: it is passed, or it answers
+row_passed : {T : Type 0} → (holds : Bool) (code : ℕ) (rest : Result (Unit {0}) ℕ) (all after : Result T ℕ) → (if holds then Err code else rest) ≡ Ok tt → (rest ≡ Ok tt → all ≡ after) → (if holds then Err code else all) ≡ after
+row_passed true code rest all after h next = cc
+row_passed false code rest all after h next = next h
+
+row_answers : {T : Type 0} → (holds : Bool) (code c : ℕ) (rest : Result (Unit {0}) ℕ) (all : Result T ℕ) → (if holds then Err code else rest) ≡ Err c → (rest ≡ Err c → all ≡ Err c) → (if holds then Err code else all) ≡ Err c
+row_answers true code c rest all h next = cc
+row_answers false code c rest all h next = next h
+
+-- rows that hold nowhere are passed
+pub answer-passed : {T : Type 0} → (xs ys : List (Row ℕ)) (value : T) → answer {T = Unit {0}} xs tt ≡ Ok tt → answer (xs ++ ys) value ≡ answer ys value
+answer-passed [] ys value h = refl
+answer-passed (row ∷ xs) ys value h =
+    row_passed row.holds row.code (answer xs tt) (answer (xs ++ ys) value) (answer ys value) h (answer-passed xs ys value)
+
+-- the first row that holds answers, whatever follows
+pub answer-first : {T : Type 0} → (xs ys : List (Row ℕ)) (value : T) (code : ℕ) → answer {T = Unit {0}} xs tt ≡ Err code → answer (xs ++ ys) value ≡ Err code
+answer-first [] ys value code h = cc
+answer-first (row ∷ xs) ys value code h =
+    row_answers row.holds row.code code (answer xs tt) (answer (xs ++ ys) value) h (answer-first xs ys value code)
+
+-- the value where no row holds
+pub answer-value : {T : Type 0} → (xs : List (Row ℕ)) (value : T) → answer {T = Unit {0}} xs tt ≡ Ok tt → answer xs value ≡ Ok value
+answer-value [] value h = refl
+answer-value (row ∷ xs) value h = row_passed row.holds row.code (answer xs tt) (answer xs value) (Ok value) h (answer-value xs value)
+
+-- a row that holds, whatever the value
+pub answer-code : {T : Type 0} → (xs : List (Row ℕ)) (value : T) (code : ℕ) → answer {T = Unit {0}} xs tt ≡ Err code → answer xs value ≡ Err code
+answer-code [] value code h = cc
+answer-code (row ∷ xs) value code h = row_answers row.holds row.code code (answer xs tt) (answer xs value) h (answer-code xs value code)
+
+-- the rows of page 0, group by group, where it is long enough
+head_rows-groups : {T : Type 0} → (image : List ℕ) (value : T) → 512 ≤ length image → answer (head_rows image) value ≡ answer (version_rows image ++ (page_rows image ++ length_rows image)) value
+unfolding head_rows
+head_rows-groups image value h =
+    let long : nat_lt (length image) 512 ≡ false = grind arith in
+    rw long
+
+pub head_rows-version : {T : Type 0} → (image : List ℕ) (value : T) (code : ℕ) → 512 ≤ length image
+    → answer {T = Unit {0}} (version_rows image) tt ≡ Err code → answer (head_rows image) value ≡ Err code
+head_rows-version image value code long version =
+    head_rows-groups image value long ∙ answer-first (version_rows image) (page_rows image ++ length_rows image) value code version
+
+pub head_rows-pages : {T : Type 0} → (image : List ℕ) (value : T) (code : ℕ) → 512 ≤ length image
+    → answer {T = Unit {0}} (version_rows image) tt ≡ Ok tt → answer {T = Unit {0}} (page_rows image) tt ≡ Err code → answer (head_rows image) value ≡ Err code
+head_rows-pages image value code long version pages =
+    head_rows-groups image value long
+    ∙ (answer-passed (version_rows image) (page_rows image ++ length_rows image) value version
+    ∙ answer-first (page_rows image) (length_rows image) value code pages)
+
+pub head_rows-length : {T : Type 0} → (image : List ℕ) (value : T) → 512 ≤ length image
+    → answer {T = Unit {0}} (version_rows image) tt ≡ Ok tt → answer {T = Unit {0}} (page_rows image) tt ≡ Ok tt
+    → answer (head_rows image) value ≡ answer (length_rows image) value
+head_rows-length image value long version pages =
+    head_rows-groups image value long
+    ∙ (answer-passed (version_rows image) (page_rows image ++ length_rows image) value version
+    ∙ answer-passed (page_rows image) (length_rows image) value pages)
+
+pub head_rows-short : {T : Type 0} → (image : List ℕ) (value : T) → length image < 512 → answer (head_rows image) value ≡ Err 1
+unfolding head_rows
+head_rows-short image value h =
+    let short : nat_lt (length image) 512 ≡ true = grind arith in
+    rw short
+
+-- where no row holds, the value is the answer
+none_holds : {T : Type 0} → (holds : Bool) (code : ℕ) (rest : Option ℕ) (all : Result T ℕ) (value : T) → (if holds then Some code else rest) ≡ None
+    → (rest ≡ None → all ≡ Ok value) → (if holds then Err code else all) ≡ Ok value
+none_holds true code rest all value h next = cc
+none_holds false code rest all value h next = next h
+
+answer-none : {T : Type 0} → (xs : List (Row ℕ)) (value : T) → first_row xs ≡ None → answer xs value ≡ Ok value
+answer-none [] value h = refl
+answer-none (row ∷ xs) value h = none_holds row.holds row.code (first_row xs) (answer xs value) value h (answer-none xs value)
+
+pub faulted-none : {T : Type 0} → (fault : ℕ → MetaFault) (xs : List (Row ℕ)) (value : T) → first_row xs ≡ None → faulted fault (answer xs value) ≡ Ok value
+faulted-none fault xs value h = rw (answer-none xs value h)
+
+-- an image that is too short
+pub ruleset short_head = (head_rows-short)
+
+-- the rows of metadata: those of any, then those of its kind
+metadata-groups : {T : Type 0} → (order : Order) (page : List ℕ) (number last : ℕ) (kind : FileKind) (value : T)
+    → answer (metadata_rows order page number last kind) value ≡ answer (common_rows order page number kind ++ kind_rows order page number last kind) value
+unfolding metadata_rows
+metadata-groups order page number last kind value =
+    ap (λ rows. answer rows value)
+    (sym (append_assoc (identity_rows order page number (λ byte. byte == type_of kind)) (meta_rows order page number kind) (kind_rows order page number last kind)))
+
+pub metadata-kind : {T : Type 0} → (order : Order) (page : List ℕ) (number last : ℕ) (kind : FileKind) (value : T)
+    → answer {T = Unit {0}} (common_rows order page number kind) tt ≡ Ok tt
+    → answer (metadata_rows order page number last kind) value ≡ answer (kind_rows order page number last kind) value
+metadata-kind order page number last kind value common =
+    metadata-groups order page number last kind value
+    ∙ answer-passed (common_rows order page number kind) (kind_rows order page number last kind) value common

@@ -1,0 +1,8 @@
+use Rattle.std.proofs.Common.{◌≡◌, take}
+use Rattle.std.specs.List.{flat_map}
+use Rattle.bdb_model.specs.Numbers.{overwritten, spelled}
+use Rattle.bdb_meta.proofs.table.put_spares.Given as goal
+
+-- The spares so far are written, and nothing else.
+abbrev pub invariant-loop-group : goal.invariant-loop-group
+invariant-loop-group l = l.page ≡ overwritten l.initial.page 96 (flat_map (λ spare. spelled 4 l.order spare) (take l.group l.spares))

@@ -1,0 +1,2 @@
+pub mod RowGroups
+pub mod ReadBack

@@ -1,0 +1,95 @@
+ghost use Rattle.std.specs.Prelude.{◌≡◌, ◌≤◌, length, IsTrue};
+ghost use Rattle.bdb_model.specs.HeadOf.{faulted, form_fault, is_page_size};
+ghost use Rattle.bdb_model.specs.Reading.{btree_fields, is_zero};
+ghost use Rattle.bdb_model.specs.Rows.{are_wrong_flags, metadata_rows};
+ghost use Rattle.bdb_model.specs.Spelling.{btree_bytes};
+ghost use Rattle.bdb_model.specs.Table.{answer};
+ghost use Rattle.bdb_meta.specs.RowGroups.{flag_rows};
+ghost use Rattle.bdb_model.specs.declared.metadata.FileKind.TheVariants.{Btree};
+
+use crate::faults::form_fault;
+use crate::generic::{Generic, check_common, has_bit, put_generic};
+use bdb_layout::{put_u32, u32_at};
+use bdb_model::{BtreeMeta, FileKind, MetaFault, Order};
+
+/// Whether flags aren't known or don't go together.
+fn are_wrong_flags(number: u32, flags: u32) -> bool
+    ensures { result ≡ are_wrong_flags number flags }
+{
+    flags > 0xff
+        || (has_bit(flags, 0x02) && (has_bit(flags, 0x45) || (number == 0 && has_bit(flags, 0x20))))
+        || (has_bit(flags, 0x04) && has_bit(flags, 0x41))
+}
+
+/// The rows of btree metadata alone hold nowhere. A refusal is the code of the first that does.
+fn check_btree(number: u32, meta: &BtreeMeta) -> Result<(), u8>
+    ensures { result ≡ answer (flag_rows number meta.now.flags) tt }
+{
+    if has_bit(meta.flags, 0x80) {
+        return Err(9);
+    }
+    if are_wrong_flags(number, meta.flags) {
+        return Err(10);
+    }
+    Ok(())
+}
+
+/// The fields of btree metadata, taken as they are.
+fn btree_fields(page: &[u8], order: Order) -> BtreeMeta
+    requires { 92 ≤ length page.now }
+    ensures { result ≡ btree_fields order page.now }
+{
+    BtreeMeta {
+        flags: u32_at(page, 48, order),
+        minkey: u32_at(page, 76, order),
+        re_len: u32_at(page, 80, order),
+        re_pad: u32_at(page, 84, order),
+        root: u32_at(page, 88, order),
+        free: u32_at(page, 28, order),
+    }
+}
+
+/// The fields of this page as btree metadata. A refusal is the code of the first row that holds.
+#[tactic(auto, unfolding(bdb_model::specs::Rows::metadata_rows))]
+fn checked_btree(page: &[u8], order: Order, number: u32) -> Result<BtreeMeta, u8>
+    requires { 512 ≤ length page.now }
+    ensures { result ≡ answer (metadata_rows order page.now number 0 Btree) (btree_fields order page.now) }
+{
+    check_common(page, order, number, FileKind::Btree)?;
+    let meta = btree_fields(page, order);
+    check_btree(number, &meta)?;
+    Ok(meta)
+}
+
+/// The fields of the btree metadata page `number`, or the first row of the fault table that holds
+/// for it.
+pub fn btree_meta(page: &[u8], order: Order, number: u32) -> Result<BtreeMeta, MetaFault>
+    requires { IsTrue (is_page_size (length page.now)) }
+    ensures { result ≡ faulted form_fault (answer (metadata_rows order page.now number 0 Btree) (btree_fields order page.now)) }
+{
+    match checked_btree(page, order, number) {
+        Ok(meta) => Ok(meta),
+        Err(code) => Err(form_fault(code)),
+    }
+}
+
+/// Writes btree metadata over a page of zeros: page `number` of a file whose last page is `last`.
+pub fn put_btree_meta(page: &mut [u8], order: Order, number: u32, last: u32, meta: &BtreeMeta)
+    requires size { IsTrue (is_page_size (length page.old)) }
+    requires zero { IsTrue (is_zero page.old) }
+    ensures page { page.new ≡ btree_bytes order (length page.old) number last meta.now }
+    ensures fields { btree_fields order page.new ≡ meta.now }
+{
+    let generic = Generic {
+        kind: FileKind::Btree,
+        number,
+        free: meta.free,
+        last,
+        flags: meta.flags,
+    };
+    put_generic(page, order, generic);
+    put_u32(page, 76, order, meta.minkey);
+    put_u32(page, 80, order, meta.re_len);
+    put_u32(page, 84, order, meta.re_pad);
+    put_u32(page, 88, order, meta.root);
+}

@@ -1,0 +1,142 @@
+ghost use Rattle.std.specs.Prelude.{◌≡◌, ◌==◌, ◌≤◌, ◌<◌, ◌^◌, ◌-◌, ◌++◌, ◌||◌, length, not, IsTrue};
+ghost use Rattle.bdb_model.specs.Numbers.{byte_at, four_at, has_bit};
+ghost use Rattle.bdb_model.specs.Reading.{is_zero};
+ghost use Rattle.bdb_model.specs.Rows.{identity_rows, magic_of, meta_rows, type_of, version_of};
+ghost use Rattle.bdb_model.specs.Spelling.{common_bytes, last_field, zeros};
+ghost use Rattle.bdb_model.specs.Table.{answer};
+ghost use Rattle.bdb_meta.specs.RowGroups.{common_rows};
+
+use bdb_layout::{put_u32, u32_at};
+use bdb_model::{FileKind, Order};
+
+/// The magic number of a kind of file.
+pub fn magic_of(kind: FileKind) -> u32
+    ensures { result ≡ magic_of kind }
+{
+    match kind {
+        FileKind::Btree => 0x053162,
+        FileKind::Hash => 0x061561,
+        FileKind::Queue => 0x042253,
+    }
+}
+
+/// The version that is read of a kind of file.
+pub fn version_of(kind: FileKind) -> u32
+    ensures { result ≡ version_of kind }
+{
+    match kind {
+        FileKind::Btree | FileKind::Hash => 9,
+        FileKind::Queue => 4,
+    }
+}
+
+/// The type byte of metadata of a kind.
+pub fn type_of(kind: FileKind) -> u8
+    ensures { result ≡ type_of kind }
+{
+    match kind {
+        FileKind::Btree => 9,
+        FileKind::Hash => 8,
+        FileKind::Queue => 10,
+    }
+}
+
+/// Whether one of these bits is set.
+pub fn has_bit(flags: u32, bits: u32) -> bool
+    ensures { result ≡ has_bit flags bits }
+{
+    flags & bits != 0
+}
+
+/// Whether the metaflags or the number of partitions say that the file is partitioned.
+pub fn is_partitioned(page: &[u8], order: Order) -> bool
+    requires { 40 ≤ length page.now }
+    ensures { result ≡ (has_bit (byte_at page.now 26) 0x06 || not (four_at order page.now 36 == 0)) }
+{
+    has_bit(u32::from(page[26]), 0x06) || u32_at(page, 36, order) != 0
+}
+
+/// The page has its number, and the type of metadata of this kind. A refusal is the code of the row.
+fn check_identity(page: &[u8], order: Order, number: u32, kind: FileKind) -> Result<(), u8>
+    requires { 40 ≤ length page.now }
+    ensures { result ≡ answer (identity_rows order page.now number (λ byte. byte == type_of kind)) tt }
+{
+    if u32_at(page, 8, order) != number {
+        return Err(1);
+    }
+    if page[25] != type_of(kind) {
+        return Err(2);
+    }
+    Ok(())
+}
+
+/// The rows of all metadata hold nowhere. A refusal is the code of the first that does.
+fn check_generic(page: &[u8], order: Order, number: u32, kind: FileKind) -> Result<(), u8>
+    requires { 40 ≤ length page.now }
+    ensures { result ≡ answer (meta_rows order page.now number kind) tt }
+{
+    if number > 0 && u32_at(page, 12, order) != magic_of(kind) {
+        return Err(3);
+    }
+    if number > 0 && u32_at(page, 16, order) != version_of(kind) {
+        return Err(4);
+    }
+    if u32_at(page, 20, order) as usize != page.len() {
+        return Err(5);
+    }
+    if page[24] != 0 {
+        return Err(6);
+    }
+    if has_bit(u32::from(page[26]), 0x01) {
+        return Err(7);
+    }
+    if is_partitioned(page, order) {
+        return Err(8);
+    }
+    Ok(())
+}
+
+/// No row of any metadata holds for this page. A refusal is the code of the first that does.
+pub fn check_common(page: &[u8], order: Order, number: u32, kind: FileKind) -> Result<(), u8>
+    requires { 40 ≤ length page.now }
+    ensures { result ≡ answer (common_rows order page.now number kind) tt }
+{
+    check_identity(page, order, number, kind)?;
+    check_generic(page, order, number, kind)
+}
+
+/// The fields that all metadata has.
+#[derive(Clone, Copy)]
+pub struct Generic {
+    pub kind: FileKind,
+    pub number: u32,
+    pub free: u32,
+    pub last: u32,
+    pub flags: u32,
+}
+
+/// The last page field: that of page 0 is the last page of the file, all others are 0.
+fn last_field(number: u32, last: u32) -> u32
+    ensures { result ≡ last_field number last }
+{
+    if number == 0 { last } else { 0 }
+}
+
+/// Writes the fields that all metadata has over a page of zeros.
+pub fn put_generic(page: &mut [u8], order: Order, fields: Generic)
+    requires zero { IsTrue (is_zero page.old) }
+    requires room { 72 ≤ length page.old }
+    requires size { length page.old < 2 ^ 32 }
+    ensures { page.new ≡ common_bytes order fields.kind (length page.old) fields.number fields.free (last_field fields.number fields.last) fields.flags ++ zeros (length page.old - 72) }
+{
+    let size = page.len() as u32;
+    put_u32(page, 4, order, 1);
+    put_u32(page, 8, order, fields.number);
+    put_u32(page, 12, order, magic_of(fields.kind));
+    put_u32(page, 16, order, version_of(fields.kind));
+    put_u32(page, 20, order, size);
+    page[25] = type_of(fields.kind);
+    put_u32(page, 28, order, fields.free);
+    put_u32(page, 32, order, last_field(fields.number, fields.last));
+    put_u32(page, 48, order, fields.flags);
+}

@@ -1,0 +1,167 @@
+ghost use Rattle.std.specs.Prelude.{◌≡◌, ◌+◌, ◌^◌, ◌<◌, ◌≤◌, length, IsTrue};
+ghost use Rattle.bdb_model.specs.Hashing.{group};
+ghost use Rattle.std.specs.List.{flat_map};
+ghost use Rattle.bdb_model.specs.HeadOf.{faulted, form_fault, is_page_size};
+ghost use Rattle.bdb_model.specs.Numbers.{overwritten, spelled};
+ghost use Rattle.bdb_model.specs.Reading.{hash_fields, is_zero};
+ghost use Rattle.bdb_model.specs.Rows.{are_masks, lacks_spare, metadata_rows, table_rows};
+ghost use Rattle.bdb_model.specs.Spelling.{table_bytes};
+ghost use Rattle.bdb_model.specs.Table.{answer};
+ghost use Rattle.bdb_model.specs.declared.metadata.FileKind.TheVariants.{Hash};
+
+use crate::faults::form_fault;
+use crate::generic::{Generic, check_common, put_generic};
+use bdb_layout::{group_of, put_u32, u32_at};
+use bdb_model::{FileKind, HashMeta, MetaFault, Order};
+
+/// The hash of a fixed text, by which a file tells its hash function.
+const CHARKEY: u32 = 0x5e688dd1;
+
+/// Whether there is one bucket alone, or the masks are one and the same power of two around the
+/// greatest bucket.
+fn are_masks(meta: &HashMeta) -> bool
+    ensures { result ≡ are_masks meta.now }
+{
+    (meta.max_bucket == 0 && meta.high_mask == 0)
+        || (meta.high_mask >= 1
+            && (u64::from(meta.high_mask) + 1).is_power_of_two()
+            && meta.low_mask == meta.high_mask / 2
+            && meta.low_mask <= meta.max_bucket
+            && meta.max_bucket <= meta.high_mask)
+}
+
+/// How many groups the buckets up to the greatest are in.
+fn groups(max_bucket: u32) -> usize
+    requires { max_bucket < 2 ^ 31 }
+    ensures count { result ≡ group max_bucket + 1 }
+    ensures bound { result ≤ 32 }
+{
+    group_of(max_bucket) as usize + 1
+}
+
+/// Whether a group of a bucket up to the greatest has the spare 0.
+fn lacks_spare(meta: &HashMeta) -> bool
+    requires { meta.now.max_bucket < 2 ^ 31 }
+    ensures { result ≡ lacks_spare meta.now }
+{
+    (0..groups(meta.max_bucket)).any(|group| meta.spares[group] == 0)
+}
+
+/// The rows of hash metadata alone hold nowhere. A refusal is the code of the first that does.
+fn check_table(page: &[u8], order: Order, last: u32, meta: &HashMeta) -> Result<(), u8>
+    requires page { 224 ≤ length page.now }
+    requires last { last < 2 ^ 21 }
+    requires meta { meta.now ≡ hash_fields order page.now }
+    ensures { result ≡ answer (table_rows order page.now last) tt }
+{
+    if u32_at(page, 92, order) != CHARKEY {
+        return Err(11);
+    }
+    if meta.flags > 0x07 {
+        return Err(12);
+    }
+    if !are_masks(meta) {
+        return Err(13);
+    }
+    if meta.max_bucket > last || lacks_spare(meta) {
+        return Err(14);
+    }
+    Ok(())
+}
+
+/// The 32 spares.
+fn spares(page: &[u8], order: Order) -> [u32; 32]
+    requires { 224 ≤ length page.now }
+    ensures { result ≡ (hash_fields order page.now).spares }
+{
+    let mut spares = [0; 32];
+    for (group, spare) in spares.iter_mut().enumerate() {
+        *spare = u32_at(page, 96 + 4 * group, order);
+    }
+    spares
+}
+
+/// The fields of hash metadata, taken as they are.
+fn hash_fields(page: &[u8], order: Order) -> HashMeta
+    requires { 224 ≤ length page.now }
+    ensures { result ≡ hash_fields order page.now }
+{
+    HashMeta {
+        flags: u32_at(page, 48, order),
+        max_bucket: u32_at(page, 72, order),
+        high_mask: u32_at(page, 76, order),
+        low_mask: u32_at(page, 80, order),
+        ffactor: u32_at(page, 84, order),
+        spares: spares(page, order),
+        free: u32_at(page, 28, order),
+    }
+}
+
+/// The fields of this page as hash metadata. A refusal is the code of the first row that holds.
+#[tactic(auto, unfolding(bdb_model::specs::Rows::metadata_rows))]
+fn checked_table(page: &[u8], order: Order, number: u32, last: u32) -> Result<HashMeta, u8>
+    requires page { 512 ≤ length page.now }
+    requires last { last < 2 ^ 21 }
+    ensures { result ≡ answer (metadata_rows order page.now number last Hash) (hash_fields order page.now) }
+{
+    check_common(page, order, number, FileKind::Hash)?;
+    let meta = hash_fields(page, order);
+    check_table(page, order, last, &meta)?;
+    Ok(meta)
+}
+
+/// The fields of the hash metadata page `number` of a file whose last page is `last`, or the first row
+/// of the fault table that holds for it.
+pub fn hash_meta(page: &[u8], order: Order, number: u32, last: u32) -> Result<HashMeta, MetaFault>
+    requires size { IsTrue (is_page_size (length page.now)) }
+    requires last { last < 2 ^ 21 }
+    ensures { result ≡ faulted form_fault (answer (metadata_rows order page.now number last Hash) (hash_fields order page.now)) }
+{
+    match checked_table(page, order, number, last) {
+        Ok(meta) => Ok(meta),
+        Err(code) => Err(form_fault(code)),
+    }
+}
+
+/// Writes the 32 spares.
+fn put_spares(page: &mut [u8], order: Order, spares: &[u32; 32])
+    requires { 224 ≤ length page.old }
+    ensures page { page.new ≡ overwritten page.old 96 (flat_map (λ spare. spelled 4 order spare) spares.now) }
+    ensures field { (hash_fields order page.new).spares ≡ spares.now }
+{
+    for (group, spare) in spares.iter().enumerate() {
+        put_u32(page, 96 + 4 * group, order, *spare);
+    }
+}
+
+/// Writes hash metadata over a page of zeros: page `number` of a file whose last page is `last`, of a
+/// table of this many elements.
+pub fn put_hash_meta(
+    page: &mut [u8],
+    order: Order,
+    number: u32,
+    last: u32,
+    elements: u32,
+    meta: &HashMeta,
+)
+    requires size { IsTrue (is_page_size (length page.old)) }
+    requires zero { IsTrue (is_zero page.old) }
+    ensures page { page.new ≡ table_bytes order (length page.old) number last elements meta.now }
+    ensures fields { hash_fields order page.new ≡ meta.now }
+{
+    let generic = Generic {
+        kind: FileKind::Hash,
+        number,
+        free: meta.free,
+        last,
+        flags: meta.flags,
+    };
+    put_generic(page, order, generic);
+    put_u32(page, 72, order, meta.max_bucket);
+    put_u32(page, 76, order, meta.high_mask);
+    put_u32(page, 80, order, meta.low_mask);
+    put_u32(page, 84, order, meta.ffactor);
+    put_u32(page, 88, order, elements);
+    put_u32(page, 92, order, CHARKEY);
+    put_spares(page, order, &meta.spares);
+}
