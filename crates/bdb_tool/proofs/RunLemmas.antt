@@ -1,5 +1,5 @@
 -- From the two halves of a run to the whole.
-use Rattle.std.proofs.Common.{◌≡◌, ◌≢◌, ◌⊎◌, ℕ, ◌+◌, ◌^◌, List, inl, inr, refl, arith}
+use Rattle.std.proofs.Common.{◌≡◌, ◌⊎◌, ℕ, ◌+◌, ◌^◌, List, inl, inr, refl, arith}
 use Rattle.std.specs.Prelude.{Ok}
 use Rattle.std.specs.Io.KnownBytes.{IsAtEnd}
 use Rattle.bdb_model.specs.declared.ending.Ending.{Ending}

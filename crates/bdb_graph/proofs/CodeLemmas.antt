@@ -1,0 +1,348 @@
+-- The code of a page, by the calls that judge its form and its metadata.
+use Rattle.std.proofs.Common.{◌≡◌, ℕ, zero, suc, ◌+◌, ◌<◌, ◌≤◌, Bool, true, false, cond, List, [], ◌∷◌, ◌++◌, length, min, arith, refl, sym, ◌∙◌, ap, subst, inl, inr}
+use Rattle.std.specs.Prelude.{Option, Some, None, Result, Ok, Err, ◌==◌, ◌&&◌, not, nat_lt}
+use Rattle.std.specs.Option.{option_map}
+use Rattle.std.specs.Result.{result_err}
+use Rattle.std.proofs.lemmas.Bool.{cases_order, eqb-true, lt-ltb}
+use Rattle.std.proofs.lemmas.List.Folds.{list_all_at}
+use Rattle.bdb_model.specs.declared.kinds.Order.{Order}
+use Rattle.bdb_model.specs.declared.metadata.FileKind.{FileKind}
+use Rattle.bdb_model.specs.declared.metadata.FileKind.TheVariants.{Btree, Hash, Queue}
+use Rattle.bdb_model.specs.declared.metadata.Head.{Head}
+use Rattle.bdb_model.specs.declared.metadata.MetaFault.{MetaFault}
+use Rattle.bdb_model.specs.declared.metadata.MetaFault.TheVariants.{Fault as CodeFault}
+use Rattle.bdb_model.specs.declared.pages.ItemFault.{ItemFault}
+use Rattle.bdb_model.specs.declared.pages.ItemFault.TheVariants.{Offset, Kind, Extent}
+use Rattle.bdb_model.specs.HeadOf.{faulted, form_fault}
+use Rattle.bdb_model.specs.Numbers.{byte_at, four_at, two_at}
+use Rattle.bdb_model.specs.Page.{Page, PageType, FreePage, HashPage, InternalPage, RecnoInternalPage, LeafPage, RecnoLeafPage, OverflowPage, HashMetaPage, BtreeMetaPage, QueueMetaPage, QueuePage, DupLeafPage, OtherPage}
+use Rattle.bdb_model.specs.Reading.{entries_of, is_zero, page_type}
+use Rattle.bdb_model.specs.Rows.{body_code, form_code, identity_rows, index_rows, is_queue_type, is_tree_type, item_code, item_row, item_rows, kind_rows, listed_code, may_have_type, meta_rows, metadata_rows, page_code, queue_code, type_of, typed_code}
+use Rattle.bdb_model.specs.Table.{Row, ◌:?◌, answer, first_row, least_below, lesser}
+use Rattle.bdb_form.specs.declared.view.PageView.{PageView}
+use Rattle.bdb_form.specs.Formed.{unless}
+use Rattle.bdb_form.specs.Seen.{form_seen}
+use Rattle.bdb_graph.proofs.FormedLemmas.{size_bounds}
+use Rattle.bdb_model.specs.HeadOf.{is_page_size}
+
+-- What the calls answer.
+
+-- the fault of an answer is that of the first row that holds
+pub fault_of_rows : {T : Type 0} (fault : ℕ → MetaFault) (rows : List (Row ℕ)) (value : T) → result_err (faulted fault (answer rows value)) ≡ option_map fault (first_row rows)
+fault_of_rows fault [] value = refl
+fault_of_rows {T = T} fault (row ∷ rows) value =
+    elim row.holds as (λ b. result_err {T = T} (faulted fault (cond b (Err row.code) (answer rows value))) ≡ option_map fault (cond b (Some row.code) (first_row rows))) [
+      | true ↦ refl
+      | false ↦ fault_of_rows fault rows value
+    ]
+
+-- only metadata of a table looks at the last page
+pub btree_last : (order : Order) (page : List ℕ) (number last : ℕ) → metadata_rows order page number last Btree ≡ metadata_rows order page number 0 Btree
+unfolding metadata_rows
+btree_last order page number last = refl
+
+pub queue_last : (order : Order) (page : List ℕ) (number last : ℕ) → metadata_rows order page number last Queue ≡ metadata_rows order page number 0 Queue
+unfolding metadata_rows
+queue_last order page number last = refl
+
+-- a view is refused with the code
+pub refused_code : (result : Result PageView ℕ) (code : Option ℕ) (page : Page) → form_seen result ≡ unless code page → result_err result ≡ code
+refused_code (Ok view) None page same = refl
+refused_code (Ok view) (Some code) page same = absurd cc
+refused_code (Err code) None page same = absurd cc
+refused_code (Err code) (Some other) page same = cc
+
+-- Codes that aren't cases left out by name.
+
+abbrev IsPlain : ℕ → Type 0
+IsPlain code = form_fault code ≡ CodeFault code
+
+abbrev ArePlain : Option ℕ → Type 0
+ArePlain None = Unit {0}
+ArePlain (Some code) = IsPlain code
+
+abbrev AllPlain : List (Row ℕ) → Type 0
+AllPlain [] = Unit {0}
+AllPlain (row ∷ rows) = IsPlain row.code × AllPlain rows
+
+plain_first : (rows : List (Row ℕ)) → AllPlain rows → ArePlain (first_row rows)
+plain_first [] all = tt
+plain_first (row ∷ rows) all =
+    elim row.holds as (λ b. ArePlain (cond b (Some row.code) (first_row rows))) [
+      | true ↦ all.0
+      | false ↦ plain_first rows all.1
+    ]
+
+plain_lesser : (a b : Option ℕ) → ArePlain a → ArePlain b → ArePlain (lesser a b)
+plain_lesser None b first second = second
+plain_lesser (Some a) None first second = first
+plain_lesser (Some a) (Some b) first second =
+    elim (cases_order a b) [
+      | inl same ↦ let is : a ≡ min a b = omega arith in subst IsPlain is first
+      | inr (inl below) ↦ let is : a ≡ min a b = omega arith in subst IsPlain is first
+      | inr (inr above) ↦ let is : b ≡ min a b = omega arith in subst IsPlain is second
+    ]
+
+plain_least : (f : ℕ → Option ℕ) (n : ℕ) → ((i : ℕ) → ArePlain (f i)) → ArePlain (least_below f n)
+plain_least f zero each = tt
+plain_least f (suc n) each = plain_lesser (least_below f n) (f n) (plain_least f n each) (each n)
+
+plain_item : (fault : Option ItemFault) → ArePlain (option_map item_code fault)
+plain_item None = tt
+plain_item (Some Offset) = refl
+plain_item (Some Kind) = refl
+plain_item (Some Extent) = refl
+
+plain_or : (first least : Option ℕ) → ArePlain first → ArePlain least → ArePlain (elim first [ Some code ↦ Some code | None ↦ least ])
+plain_or None least first second = second
+plain_or (Some code) least first second = first
+
+plain_index : (order : Order) (page : List ℕ) (t : PageType) → ArePlain (first_row (index_rows order page t))
+unfolding index_rows
+plain_index order page t = plain_first (index_rows order page t) (refl, (refl, (refl, tt)))
+
+plain_listed : (order : Order) (page : List ℕ) (t : PageType) → ArePlain (listed_code order page t)
+unfolding listed_code
+plain_listed order page t =
+    plain_or (first_row (index_rows order page t)) (least_below (item_row t order page) (entries_of order page)) (plain_index order page t)
+    (plain_least (item_row t order page) (entries_of order page) (λ i. plain_item (first_row (item_rows t order page i))))
+
+plain_body : (order : Order) (page : List ℕ) (t : PageType) → ArePlain (body_code order page t)
+plain_body order page FreePage = tt
+plain_body order page OverflowPage = plain_first (25 :? nat_lt (length page) (26 + two_at order page 22) ∷ []) (refl, tt)
+plain_body order page HashMetaPage = tt
+plain_body order page BtreeMetaPage = tt
+plain_body order page QueueMetaPage = tt
+plain_body order page QueuePage = tt
+plain_body order page OtherPage = tt
+plain_body order page HashPage = plain_listed order page HashPage
+plain_body order page InternalPage = plain_listed order page InternalPage
+plain_body order page RecnoInternalPage = plain_listed order page RecnoInternalPage
+plain_body order page LeafPage = plain_listed order page LeafPage
+plain_body order page RecnoLeafPage = plain_listed order page RecnoLeafPage
+plain_body order page DupLeafPage = plain_listed order page DupLeafPage
+
+plain_unless : (zero_page : Bool) (code : Option ℕ) → ArePlain code → ArePlain (elim zero_page [ true ↦ None | false ↦ code ])
+plain_unless true code plain = tt
+plain_unless false code plain = plain
+
+plain_page : (order : Order) (number : ℕ) (page : List ℕ) → ArePlain (page_code order number page)
+unfolding page_code
+plain_page order number page =
+    plain_unless (is_zero page) _
+    (plain_or (first_row (identity_rows order page number is_tree_type)) (body_code order page (page_type (byte_at page 25)))
+    (plain_first (identity_rows order page number is_tree_type) (refl, (refl, tt))) (plain_body order page (page_type (byte_at page 25))))
+
+plain_queue : (order : Order) (number : ℕ) (page : List ℕ) → ArePlain (queue_code order number page)
+unfolding queue_code
+plain_queue order number page = plain_unless (is_zero page) _ (plain_first (identity_rows order page number is_queue_type) (refl, (refl, tt)))
+
+plain_fault : (code : Option ℕ) → ArePlain code → option_map form_fault code ≡ option_map (λ c. CodeFault c) code
+plain_fault None plain = refl
+plain_fault (Some code) plain = ap (λ f. Some f) plain
+
+-- Page 0.
+
+pub is_same : (a b : ℕ) → not (a == b) ≡ false → a ≡ b
+is_same a b same =
+    elim (a == b) as (λ c. (a == b) ≡ c → not c ≡ false → a ≡ b) [
+      | true ↦ λ is _. eqb-true a b is
+      | false ↦ λ is none. absurd cc
+    ] refl same
+
+-- two rows are passed once, whether they are looked at before the type or in its own table
+twice : (a b : Bool) (typed rest : Option ℕ) → (b ≡ false → typed ≡ cond {A = Option ℕ} a (Some 1) (cond b (Some 2) rest))
+    → ◌≡◌ {A = Option ℕ} (elim (cond {A = Option ℕ} a (Some 1) (cond b (Some 2) None)) [ Some code ↦ Some code | None ↦ typed ]) (cond {A = Option ℕ} a (Some 1) (cond b (Some 2) rest))
+twice true b typed rest same = refl
+twice false true typed rest same = refl
+twice false false typed rest same = same refl
+
+-- the code of a page with the type of metadata of a kind
+pub typed_metadata : (head : Head) (number : ℕ) (page : List ℕ) (kind : FileKind) → byte_at page 25 ≡ type_of kind
+    → typed_code head number page (page_type (byte_at page 25)) ≡ first_row (metadata_rows head.order page number head.last kind)
+typed_metadata head number page Btree is = ap (λ byte. typed_code head number page (page_type byte)) is
+typed_metadata head number page Hash is = ap (λ byte. typed_code head number page (page_type byte)) is
+typed_metadata head number page Queue is = ap (λ byte. typed_code head number page (page_type byte)) is
+
+pub first_page_code : (head : Head) (page : List ℕ) → form_code head 0 page ≡ first_row (metadata_rows head.order page 0 head.last head.kind)
+unfolding form_code metadata_rows
+first_page_code head page =
+    twice (not (four_at head.order page 8 == 0)) (not (byte_at page 25 == type_of head.kind)) (typed_code head 0 page (page_type (byte_at page 25)))
+    (first_row (meta_rows head.order page 0 head.kind ++ kind_rows head.order page 0 head.last head.kind))
+    (λ own. typed_metadata head 0 page head.kind (is_same (byte_at page 25) (type_of head.kind) own))
+
+-- Other pages.
+
+-- a zero page has no code, another that of its number and type, or else another
+abbrev pub code_by : Bool → Option ℕ → Option ℕ → Option ℕ
+code_by zeros identity typed = elim zeros [ true ↦ None | false ↦ elim identity [ Some code ↦ Some code | None ↦ typed ] ]
+
+pub code_same : (zeros : Bool) (identity typed other : Option ℕ) → (identity ≡ None → typed ≡ other) → code_by zeros identity typed ≡ code_by zeros identity other
+code_same true identity typed other same = refl
+code_same false (Some code) typed other same = refl
+code_same false None typed other same = same refl
+
+code_some : (zeros : Bool) (identity typed other : Option ℕ) (code : ℕ) → code_by zeros identity typed ≡ Some code → (typed ≡ Some code → other ≡ Some code) → code_by zeros identity other ≡ Some code
+code_some true identity typed other code some same = absurd cc
+code_some false (Some c) typed other code some same = some
+code_some false None typed other code some same = same some
+
+code_none : (zeros : Bool) (identity typed other : Option ℕ) → zeros ≡ false → code_by zeros identity typed ≡ None → code_by zeros identity other ≡ other
+code_none true identity typed other page none = absurd cc
+code_none false (Some c) typed other page none = absurd cc
+code_none false None typed other page none = refl
+
+above_zero : (number : ℕ) (b : Bool) → 0 < number → (nat_lt 0 number && b) ≡ b
+above_zero number b above = ap (λ c. c && b) (lt-ltb 0 number above)
+
+tree_types : (kind : FileKind) (n : ℕ) → (kind ≡ Queue → ⊥) → may_have_type kind (suc n) ≡ is_tree_type
+tree_types Btree n tree = refl
+tree_types Hash n tree = refl
+tree_types Queue n tree = absurd (tree refl)
+
+some_type : (kind : FileKind) → (type_of kind == 0) ≡ false
+some_type Btree = refl
+some_type Hash = refl
+some_type Queue = refl
+
+pub differs : (a b : ℕ) → (a ≡ b → ⊥) → (a == b) ≡ false
+differs a b different =
+    elim (a == b) as (λ c. (a == b) ≡ c → c ≡ false) [
+      | true ↦ λ is. absurd (different (eqb-true a b is))
+      | false ↦ λ is. refl
+    ] refl
+
+ten_fails : not (is_tree_type 10) ≡ false → ⊥
+ten_fails same = absurd cc
+
+-- the code of a page above 0 of a btree or hash file
+pub tree_code : (head : Head) (number : ℕ) (page : List ℕ) → 0 < number → (head.kind ≡ Queue → ⊥)
+    → form_code head number page ≡ code_by (is_zero page) (first_row (identity_rows head.order page number is_tree_type)) (typed_code head number page (page_type (byte_at page 25)))
+unfolding form_code
+tree_code head zero page above tree = absurd (omega arith)
+tree_code head (suc n) page above tree =
+    let typed : Option ℕ = typed_code head (suc n) page (page_type (byte_at page 25)) in
+    ap (λ zeros. code_by zeros (first_row (identity_rows head.order page (suc n) (may_have_type head.kind (suc n)))) typed) (above_zero (suc n) (is_zero page) above)
+    ∙ ap (λ is_type. code_by (is_zero page) (first_row (identity_rows head.order page (suc n) is_type)) typed) (tree_types head.kind n tree)
+
+-- a page that is refused by its form
+typed_body : (head : Head) (number : ℕ) (page : List ℕ) (t : PageType) (code : ℕ) → body_code head.order page t ≡ Some code → typed_code head number page t ≡ Some code
+typed_body head number page HashMetaPage code some = absurd cc
+typed_body head number page BtreeMetaPage code some = absurd cc
+typed_body head number page QueueMetaPage code some = absurd cc
+typed_body head number page t code some = some
+
+plain_some : (code : Option ℕ) (c : ℕ) → code ≡ Some c → ArePlain code → Some (CodeFault c) ≡ option_map form_fault code
+plain_some code c some plain = ap (option_map (λ x. CodeFault x)) (sym some) ∙ sym (plain_fault code plain)
+
+pub tree_refused : (head : Head) (number : ℕ) (page : List ℕ) (code : ℕ) → 0 < number → (head.kind ≡ Queue → ⊥) → page_code head.order number page ≡ Some code
+    → Some (CodeFault code) ≡ option_map form_fault (form_code head number page)
+unfolding page_code
+tree_refused head number page code above tree refused =
+    let identity : Option ℕ = first_row (identity_rows head.order page number is_tree_type) in
+    let t : PageType = page_type (byte_at page 25) in
+    let same : form_code head number page ≡ Some code =
+    tree_code head number page above tree
+    ∙ code_some (is_zero page) identity (body_code head.order page t) (typed_code head number page t) code refused (typed_body head number page t code) in
+    plain_some (page_code head.order number page) code refused (plain_page head.order number page)
+    ∙ ap (option_map form_fault) (refused ∙ sym same)
+
+-- a metadata page that its form lets pass
+pub not_zero : (page : List ℕ) (kind : FileKind) → is_page_size (length page) ≡ true → byte_at page 25 ≡ type_of kind → is_zero page ≡ false
+not_zero page kind size is =
+    let long : 25 < length page = let bounds : 512 ≤ length page = (size_bounds (length page) size).0 in omega arith in
+    list_all_at (λ byte. byte == 0) page 25 0 long (ap (λ byte. byte == 0) is ∙ some_type kind)
+
+pub tree_metadata : (head : Head) (number : ℕ) (page : List ℕ) (kind : FileKind) → 0 < number → (head.kind ≡ Queue → ⊥) → page_code head.order number page ≡ None
+    → is_page_size (length page) ≡ true → byte_at page 25 ≡ type_of kind → form_code head number page ≡ first_row (metadata_rows head.order page number head.last kind)
+unfolding page_code
+tree_metadata head number page kind above tree passed size is =
+    let t : PageType = page_type (byte_at page 25) in
+    tree_code head number page above tree
+    ∙ code_none (is_zero page) (first_row (identity_rows head.order page number is_tree_type)) (body_code head.order page t) (typed_code head number page t)
+    (not_zero page kind size is) passed
+    ∙ typed_metadata head number page kind is
+
+-- a type that isn't one of metadata
+pub record IsBody (t : PageType) : Type 0 where
+  pub same : (head : Head) (number : ℕ) (page : List ℕ) → typed_code head number page t ≡ body_code head.order page t
+
+if_body : (b : Bool) (s t : PageType) → IsBody s → IsBody t → IsBody (cond b s t)
+if_body true s t first second = first
+if_body false s t first second = second
+
+else_body : (b : Bool) (s t : PageType) → b ≡ false → IsBody t → IsBody (cond b s t)
+else_body true s t fails second = absurd cc
+else_body false s t fails second = second
+
+pub is_body : (byte : ℕ) → (byte == 8) ≡ false → (byte == 9) ≡ false → (byte == 10) ≡ false → IsBody (page_type byte)
+is_body byte hash btree queue =
+    if_body (byte == 0) FreePage _ (record { same = λ head number page. refl })
+    (if_body (byte == 2) HashPage _ (record { same = λ head number page. refl })
+    (if_body (byte == 3) InternalPage _ (record { same = λ head number page. refl })
+    (if_body (byte == 4) RecnoInternalPage _ (record { same = λ head number page. refl })
+    (if_body (byte == 5) LeafPage _ (record { same = λ head number page. refl })
+    (if_body (byte == 6) RecnoLeafPage _ (record { same = λ head number page. refl })
+    (if_body (byte == 7) OverflowPage _ (record { same = λ head number page. refl })
+    (else_body (byte == 8) HashMetaPage _ hash
+    (else_body (byte == 9) BtreeMetaPage _ btree
+    (else_body (byte == 10) QueueMetaPage _ queue
+    (if_body (byte == 11) QueuePage _ (record { same = λ head number page. refl })
+    (if_body (byte == 12) DupLeafPage _ (record { same = λ head number page. refl })
+    (if_body (byte == 13) HashPage OtherPage (record { same = λ head number page. refl }) (record { same = λ head number page. refl })))))))))))))
+
+pub two_none : (a b : Bool) → cond {A = Option ℕ} a (Some 1) (cond b (Some 2) None) ≡ None → b ≡ false
+two_none true b none = absurd cc
+two_none false true none = absurd cc
+two_none false false none = refl
+
+-- a page of a tree hasn't the type of queue metadata
+pub no_queue_type : (byte : ℕ) → not (is_tree_type byte) ≡ false → (byte == 10) ≡ false
+no_queue_type byte passed =
+    elim (byte == 10) as (λ b. (byte == 10) ≡ b → b ≡ false) [
+      | true ↦ λ is. let ten : byte ≡ 10 = eqb-true byte 10 is in absurd (ten_fails (ap (λ x. not (is_tree_type x)) (sym ten) ∙ passed))
+      | false ↦ λ is. refl
+    ] refl
+
+pub tree_passed : (head : Head) (number : ℕ) (page : List ℕ) → 0 < number → (head.kind ≡ Queue → ⊥) → page_code head.order number page ≡ None
+    → (byte_at page 25 ≡ 8 → ⊥) → (byte_at page 25 ≡ 9 → ⊥) → form_code head number page ≡ None
+unfolding page_code
+tree_passed head number page above tree passed hash btree =
+    let byte : ℕ = byte_at page 25 in
+    let identity : Option ℕ = first_row (identity_rows head.order page number is_tree_type) in
+    tree_code head number page above tree
+    ∙ code_same (is_zero page) identity (typed_code head number page (page_type byte)) (body_code head.order page (page_type byte))
+    (λ none. (is_body byte (differs byte 8 hash) (differs byte 9 btree) (no_queue_type byte (two_none _ _ none))).same head number page)
+    ∙ passed
+
+-- a page above 0 of a queue file
+queue_same : (zeros a b : Bool) (typed : Option ℕ) → (b ≡ false → typed ≡ None)
+    → code_by zeros (cond a (Some 1) (cond b (Some 2) None)) typed ≡ elim zeros [ true ↦ None | false ↦ cond a (Some 1) (cond b (Some 2) None) ]
+queue_same true a b typed none = refl
+queue_same false true b typed none = refl
+queue_same false false true typed none = refl
+queue_same false false false typed none = none refl
+
+typed_queue : (head : Head) (number : ℕ) (page : List ℕ) → byte_at page 25 ≡ 11 → typed_code head number page (page_type (byte_at page 25)) ≡ None
+typed_queue head number page is = ap (λ byte. typed_code head number page (page_type byte)) is
+
+queue_types : (kind : FileKind) (n : ℕ) → kind ≡ Queue → may_have_type kind (suc n) ≡ is_queue_type
+queue_types kind n is = ap (λ k. may_have_type k (suc n)) is
+
+pub form_queue : (head : Head) (number : ℕ) (page : List ℕ) → 0 < number → head.kind ≡ Queue → form_code head number page ≡ queue_code head.order number page
+unfolding form_code queue_code
+form_queue head zero page above queue = absurd (omega arith)
+form_queue head (suc n) page above queue =
+    let typed : Option ℕ = typed_code head (suc n) page (page_type (byte_at page 25)) in
+    ap (λ zeros. code_by zeros (first_row (identity_rows head.order page (suc n) (may_have_type head.kind (suc n)))) typed) (above_zero (suc n) (is_zero page) above)
+    ∙ ap (λ is_type. code_by (is_zero page) (first_row (identity_rows head.order page (suc n) is_type)) typed) (queue_types head.kind n queue)
+    ∙ queue_same (is_zero page) (not (four_at head.order page 8 == suc n)) (not (byte_at page 25 == 11)) typed
+    (λ own. typed_queue head (suc n) page (is_same (byte_at page 25) 11 own))
+
+-- the fault of a page above 0 of a queue file is the code of its form
+pub queue_fault : (head : Head) (number : ℕ) (page : List ℕ) (code : Option ℕ) → 0 < number → head.kind ≡ Queue → code ≡ queue_code head.order number page
+    → option_map (λ c. CodeFault c) code ≡ option_map form_fault (form_code head number page)
+queue_fault head number page code above queue same =
+    ap (option_map (λ c. CodeFault c)) same
+    ∙ sym (plain_fault (queue_code head.order number page) (plain_queue head.order number page))
+    ∙ ap (option_map form_fault) (sym (form_queue head number page above queue))

@@ -1,0 +1,71 @@
+ghost use Rattle.std.specs.Prelude.{◌≡◌, ◌^◌, ◌<◌, ◌≤◌, IsTrue, length, None};
+ghost use Rattle.bdb_graph.specs.Formed.{IsAccepted, IsFormed};
+ghost use Rattle.bdb_model.specs.File.{page_bytes};
+ghost use Rattle.bdb_model.specs.HeadOf.{head_of, is_page_size};
+ghost use Rattle.bdb_model.specs.Rows.{form_code};
+
+use bdb_model::Head;
+use std::marker::Model;
+
+/// An image on which no row of the first two stages holds: its file is one that is read, and each of its
+/// pages by itself has no fault.
+#[derive(Drop)]
+pub struct Formed<'a> {
+    image: &'a [u8],
+    head: Head,
+}
+
+impl<'a> Model for Formed<'a> {
+    ghost use Rattle.std.specs.Prelude.{List, ℕ};
+    ghost use Rattle.bdb_graph.specs.Formed.{IsFormed};
+
+    ghost Value = { List ℕ };
+
+    ghost view = { λ v. v.image.now };
+
+    ghost invariant = { λ v. IsFormed v.image.now v.head };
+}
+
+#[tactic(auto, using(crate::proofs::FirstLemmas::formed_page, crate::proofs::FirstLemmas::formed_accepted, crate::proofs::FirstLemmas::formed_last, crate::proofs::FirstLemmas::formed_few))]
+impl<'a> Formed<'a> {
+    // An image for which the two stages are decided.
+    pub(crate) fn over(image: &'a [u8], head: Head) -> Formed<'a>
+        requires { IsFormed image.now head }
+        ensures { result ≡ image.now }
+    {
+        Formed { image, head }
+    }
+
+    /// What page 0 says of the whole file.
+    pub fn head(&self) -> Head
+        ensures head { result ≡ head_of self.now }
+        ensures few { result.last < 2 ^ 21 }
+    {
+        self.head
+    }
+
+    /// The bytes of a page up to the last one.
+    pub(crate) fn page_bytes(&self, number: u32) -> &'a [u8]
+        requires { number ≤ (head_of self.now).last }
+        ensures bytes { result.now ≡ page_bytes (head_of self.now) self.now number }
+        ensures size { length result.now ≡ (head_of self.now).page_size }
+        ensures legal { IsTrue (is_page_size (length result.now)) }
+        ensures form { form_code (head_of self.now) number result.now ≡ None }
+    {
+        page_bytes(self.image, &self.head, number)
+    }
+}
+
+/// The bytes of a page of an image whose page 0 is accepted.
+#[tactic(auto, using(crate::proofs::FormedLemmas::page_room, crate::proofs::FormedLemmas::page_length))]
+pub(crate) fn page_bytes<'a>(image: &'a [u8], head: &Head, number: u32) -> &'a [u8]
+    requires head { IsAccepted image.now head.now }
+    requires there { number < head.now.pages }
+    ensures bytes { result.now ≡ page_bytes head.now image.now number }
+    ensures size { length result.now ≡ head.now.page_size }
+    ensures legal { IsTrue (is_page_size (length result.now)) }
+{
+    let size = head.page_size as usize;
+    let start = number as usize * size;
+    &image[start..start + size]
+}

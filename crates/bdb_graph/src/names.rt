@@ -1,0 +1,125 @@
+ghost use Rattle.std.specs.Prelude.{◌≡◌, ◌+◌, ◌*◌, ◌<◌, length, option_to_list};
+ghost use Rattle.bdb_graph.specs.Slots.{child_names, hash_names, internal_names, item_names};
+ghost use Rattle.bdb_layout.specs.Seen.{hash_content_seen, key_seen, leaf_item_seen};
+ghost use Rattle.bdb_model.specs.References.{content_names, leaf_names, unless_zero};
+
+use bdb_form::{DupLeafView, HashView, InternalView, LeafView, RecnoInternalView, RecnoLeafView};
+use bdb_layout::{HashItem, InternalKey, LeafItem};
+use bdb_model::Sort;
+
+/// What a page names: for what, and the number of a page, which need not be there.
+pub(crate) type Name = (Sort, u64);
+
+/// A page that is named, unless its number is 0.
+pub(crate) fn unless_zero(sort: Sort, target: u32) -> Option<Name>
+    ensures { option_to_list result ≡ unless_zero sort target }
+{
+    if target == 0 {
+        return None;
+    }
+    Some((sort, u64::from(target)))
+}
+
+/// The page that an item of a leaf names.
+fn item_name(item: &LeafItem) -> Option<Name>
+    ensures { option_to_list result ≡ content_names (leaf_item_seen item.now).content }
+{
+    match item {
+        LeafItem::Inline { .. } => None,
+        LeafItem::Duplicates { root, .. } => Some((Sort::DuplicateRoot, u64::from(*root))),
+        LeafItem::Overflow { head, .. } => Some((Sort::OverflowHead, u64::from(*head))),
+    }
+}
+
+/// The page that the key of an item of an internal page names.
+fn key_name(key: &InternalKey) -> Option<Name>
+    ensures { option_to_list result ≡ content_names (key_seen key.now) }
+{
+    match key {
+        InternalKey::Inline(_) => None,
+        InternalKey::Overflow { head, .. } => Some((Sort::OverflowHead, u64::from(*head))),
+    }
+}
+
+/// The page that an item of a hash page names.
+fn hash_item_name(item: &HashItem) -> Option<Name>
+    ensures { option_to_list result ≡ content_names (hash_content_seen item.now) }
+{
+    match item {
+        HashItem::Inline(_) | HashItem::Set(_) => None,
+        HashItem::Overflow { head, .. } => Some((Sort::OverflowHead, u64::from(*head))),
+        HashItem::OffPage { root } => Some((Sort::DuplicateRoot, u64::from(*root))),
+    }
+}
+
+/// The page that an item of a btree leaf names; a key that is shared names nothing of its own.
+pub(crate) fn leaf_name(page: &LeafView, slot: u32) -> Option<Name>
+    requires { slot < length page.now.items }
+    ensures { option_to_list result ≡ leaf_names page.now slot }
+{
+    prove!(slot < 2 * u32::from(page.pairs()));
+    let pair = (slot / 2) as u16;
+    if slot % 2 == 1 {
+        return item_name(&page.value(pair));
+    }
+    if page.shares(pair) {
+        return None;
+    }
+    item_name(&page.key(pair))
+}
+
+/// The page that an item of a leaf of records names.
+pub(crate) fn recno_leaf_name(page: &RecnoLeafView, slot: u32) -> Option<Name>
+    requires { slot < length page.now.items }
+    ensures { option_to_list result ≡ item_names page.now slot }
+{
+    prove!(slot < u32::from(page.entries()));
+    item_name(&page.item(slot as u16))
+}
+
+/// The page that an item of a leaf of duplicates names.
+pub(crate) fn dup_leaf_name(page: &DupLeafView, slot: u32) -> Option<Name>
+    requires { slot < length page.now.items }
+    ensures { option_to_list result ≡ item_names page.now slot }
+{
+    prove!(slot < u32::from(page.entries()));
+    item_name(&page.item(slot as u16))
+}
+
+/// The page below, which an item of an internal page of records names.
+pub(crate) fn child_name(page: &RecnoInternalView, slot: u32) -> Option<Name>
+    requires { slot < length page.now.items }
+    ensures { option_to_list result ≡ child_names page.now slot }
+{
+    prove!(slot < u32::from(page.entries()));
+    Some((Sort::Child, u64::from(page.item(slot as u16).child)))
+}
+
+/// The page that half an item of an internal page names: first the page below, then the chain of its key.
+pub(crate) fn internal_name(page: &InternalView, slot: u32) -> Option<Name>
+    requires { slot < 2 * length page.now.items }
+    ensures { option_to_list result ≡ internal_names page.now slot }
+{
+    prove!(slot < 2 * u32::from(page.entries()));
+    let item = page.item((slot / 2) as u16);
+    if slot % 2 == 1 {
+        return key_name(&item.key);
+    }
+    Some((Sort::Child, u64::from(item.child)))
+}
+
+/// The page that an item of a hash page names, and behind the items the next page of its bucket.
+pub(crate) fn hash_name(page: &HashView, slot: u32) -> Option<Name>
+    requires { slot < length page.now.items + 1 }
+    ensures { option_to_list result ≡ hash_names page.now slot }
+{
+    prove!(slot <= 2 * u32::from(page.pairs()));
+    let pair = (slot / 2) as u16;
+    if pair == page.pairs() {
+        return unless_zero(Sort::HashNext, page.header().next);
+    }
+    if slot % 2 == 1 {
+        return hash_item_name(&page.value(pair));
+    }
+    hash_item_name(&page.key(pair))
+}

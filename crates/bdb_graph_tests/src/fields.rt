@@ -1,0 +1,55 @@
+//! Images written a field a line.
+
+use bdb_layout::{put_u16, put_u32};
+use bdb_model::Order;
+
+/// A field that is written: a byte, or a number of two or four bytes, at its place.
+#[derive(Clone, Copy)]
+pub enum Field {
+    Byte(usize, u8),
+    Two(usize, u16),
+    Four(usize, u32),
+}
+
+/// Page 0 of a btree file of pages of 512 bytes: see docs/FORMAT.md, "The sample file".
+pub const BTREE: [Field; 6] = [
+    Field::Four(12, 0x053162), // magic number
+    Field::Four(16, 9), // version
+    Field::Four(20, 512), // page size
+    Field::Byte(25, 9), // type
+    Field::Four(32, 1), // last page
+    Field::Four(88, 1), // root
+];
+
+/// An empty leaf as page 1 of such a file.
+pub const LEAF: [Field; 3] = [
+    Field::Four(520, 1), // page number
+    Field::Byte(536, 1), // level
+    Field::Byte(537, 5), // type
+];
+
+pub fn write(page: &mut [u8], fields: &[Field], order: Order) {
+    for field in fields {
+        write_field(page, *field, order);
+    }
+}
+
+fn write_field(page: &mut [u8], field: Field, order: Order) {
+    match field {
+        Field::Byte(at, value) => {
+            if let Some(byte) = page.get_mut(at) {
+                *byte = value;
+            }
+        }
+        Field::Two(at, value) => {
+            if at < page.len() && page.len() - at >= 2 {
+                put_u16(page, at, order, value);
+            }
+        }
+        Field::Four(at, value) => {
+            if at < page.len() && page.len() - at >= 4 {
+                put_u32(page, at, order, value);
+            }
+        }
+    }
+}
