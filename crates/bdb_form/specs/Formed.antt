@@ -3,8 +3,8 @@ use Rattle.std.specs.Prelude.{◌≡◌, ◌≤◌, ◌+◌, ◌*◌, ℕ, zero,
 use Rattle.bdb_model.specs.declared.kinds.Order.{Order}
 use Rattle.bdb_model.specs.declared.pages.Header.{Header}
 use Rattle.bdb_model.specs.Numbers.{two_at}
-use Rattle.bdb_model.specs.Page.{PageType, Metadata, BtreeFields, HashFields, HashMetaPage, Listed}
-use Rattle.bdb_model.specs.Reading.{hash_fields, btree_fields}
+use Rattle.bdb_model.specs.Page.{PageType, Metadata, BtreeFields, HashFields, QueueFields, HashMetaPage, QueueMetaPage, Listed}
+use Rattle.bdb_model.specs.Reading.{hash_fields, btree_fields, queue_fields}
 use Rattle.bdb_model.specs.Rows.{listed_code}
 
 -- a page with an index has the type and no fault of form
@@ -42,6 +42,7 @@ pub record MetaPage : Type 0 where
 
 abbrev pub fields_as : Order → List ℕ → PageType → Metadata
 fields_as order page HashMetaPage = HashFields (hash_fields order page)
+fields_as order page QueueMetaPage = QueueFields (queue_fields order page)
 fields_as order page t = BtreeFields (btree_fields order page)
 
 -- a value where no row holds, else the code of the row

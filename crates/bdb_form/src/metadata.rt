@@ -7,7 +7,7 @@ use bdb_layout::{Header, header};
 use bdb_model::Order;
 use std::marker::Model;
 
-/// A metadata page of a btree or a hash table. Its fields are read by `bdb_meta`.
+/// A metadata page. Its fields are read by `bdb_meta`.
 #[derive(Drop)]
 pub struct MetaView<'a> {
     page: &'a [u8],
@@ -27,7 +27,8 @@ impl<'a> Model for MetaView<'a> {
 }
 
 impl<'a> MetaView<'a> {
-    pub(crate) fn over(page: &'a [u8], order: Order) -> MetaView<'a>
+    /// The view of a page that is known to be metadata, as page 0 is: `form` answers it for those above 0.
+    pub fn over(page: &'a [u8], order: Order) -> MetaView<'a>
         requires header { 26 ≤ length page.now }
         requires size { length page.now ≤ 32768 }
         ensures { result ≡ record { header = header_of order page.now; fields = fields_as order page.now (page_type (byte_at page.now 25)) } }

@@ -31,12 +31,12 @@ pub last_page : (image : List ℕ) → (file_of image).last ≡ (head_of image).
 unfolding file_of
 last_page image = refl
 
-page_is : (image : List ℕ) (p : ℕ) → p ≤ (head_of image).last → page_at (file_of image) p ≡ abstract_page (head_of image).order (page_bytes (head_of image) image p)
+pub page_is : (image : List ℕ) (p : ℕ) → p ≤ (head_of image).last → page_at (file_of image) p ≡ abstract_page (head_of image).order (page_bytes (head_of image) image p)
 unfolding file_of
 page_is image p low =
     get_or-map-range_with_len (λ q. abstract_page (head_of image).order (page_bytes (head_of image) image q)) 0 ((head_of image).last + 1) p p NoType (omega arith) (omega arith)
 
-kind_is : (image : List ℕ) → (file_of image).kind ≡ (head_of image).kind
+pub kind_is : (image : List ℕ) → (file_of image).kind ≡ (head_of image).kind
 unfolding file_of
 kind_is image = refl
 
@@ -57,7 +57,7 @@ typed_none false false (Some code) typed other none = absurd cc
 typed_none true false None typed other none = none
 typed_none false false None typed other none = none
 
-metadata_formed : (head : Head) (number : ℕ) (page : List ℕ) (kind : FileKind) → is_page_size (length page) ≡ true → byte_at page 25 ≡ type_of kind → form_code head number page ≡ None
+pub metadata_formed : (head : Head) (number : ℕ) (page : List ℕ) (kind : FileKind) → is_page_size (length page) ≡ true → byte_at page 25 ≡ type_of kind → form_code head number page ≡ None
     → first_row (metadata_rows head.order page number head.last kind) ≡ None
 unfolding form_code
 metadata_formed head number page kind size is none =
@@ -95,7 +95,7 @@ few_buckets order page number last none =
 
 -- Other pages.
 
-identity_none : (identity typed : Option ℕ) → code_by false identity typed ≡ None → identity ≡ None
+pub identity_none : (identity typed : Option ℕ) → code_by false identity typed ≡ None → identity ≡ None
 identity_none None typed none = refl
 identity_none (Some code) typed none = absurd cc
 
@@ -129,7 +129,7 @@ pub seen_page : (view : PageView) (code : Option ℕ) (page : Page) → form_see
 seen_page view None page seen none = cc
 seen_page view (Some code) page seen none = absurd cc
 
-abbrev is_meta_type : PageType → Bool
+abbrev pub is_meta_type : PageType → Bool
 is_meta_type HashMetaPage = true
 is_meta_type BtreeMetaPage = true
 is_meta_type QueueMetaPage = true
@@ -143,7 +143,7 @@ else_other : (b : Bool) (s t : PageType) → b ≡ false → is_meta_type t ≡ 
 else_other true s t none second = absurd cc
 else_other false s t none second = second
 
-other_type : (byte : ℕ) → (byte == 8) ≡ false → (byte == 9) ≡ false → (byte == 10) ≡ false → is_meta_type (page_type byte) ≡ false
+pub other_type : (byte : ℕ) → (byte == 8) ≡ false → (byte == 9) ≡ false → (byte == 10) ≡ false → is_meta_type (page_type byte) ≡ false
 other_type byte table tree queue =
     if_other (byte == 0) FreePage _ refl
     (if_other (byte == 2) HashPage _ refl
@@ -159,7 +159,7 @@ other_type byte table tree queue =
     (if_other (byte == 12) DupLeafPage _ refl
     (if_other (byte == 13) HashPage OtherPage refl refl))))))))))))
 
-other_page : (order : Order) (page : List ℕ) (t : PageType) → is_meta_type t ≡ false → is_meta (page_as order page t) ≡ false
+pub other_page : (order : Order) (page : List ℕ) (t : PageType) → is_meta_type t ≡ false → is_meta (page_as order page t) ≡ false
 other_page order page HashMetaPage other = absurd cc
 other_page order page BtreeMetaPage other = absurd cc
 other_page order page QueueMetaPage other = absurd cc

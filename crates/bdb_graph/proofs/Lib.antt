@@ -1,6 +1,16 @@
 pub mod CodeLemmas
 pub mod FirstLemmas
+pub mod FitLemmas
+pub mod ForestLemmas
 pub mod FormedLemmas
 pub mod HeldLemmas
+pub mod LeavesLemmas
+pub mod LinkLemmas
+pub mod LinkedLemmas
+pub mod MetaLemmas
+pub mod ReachLemmas
+pub mod RoleLemmas
 pub mod SlotLemmas
 pub mod SourceLemmas
+pub mod StageLemmas
+pub mod TallyLemmas

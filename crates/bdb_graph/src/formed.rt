@@ -40,6 +40,7 @@ impl<'a> Formed<'a> {
     pub fn head(&self) -> Head
         ensures head { result ≡ head_of self.now }
         ensures few { result.last < 2 ^ 21 }
+        ensures formed { IsFormed self.now result }
     {
         self.head
     }

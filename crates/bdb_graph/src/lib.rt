@@ -1,16 +1,31 @@
 //! The graph of the pages of a file, by its references.
 #![tactic(auto)]
 
+mod fits;
 mod formed;
+mod formed_page;
 mod held;
+pub mod laws;
+mod linked;
+mod linking;
 mod listing;
+mod meta;
+mod named;
 mod names;
 mod open;
+mod owned;
 mod page;
+mod reach;
+mod roles;
 mod source;
+mod tally;
 
 pub use bdb_model::{Reference, Sort};
 pub use formed::Formed;
 pub use held::references;
+pub use linked::Linked;
+pub use linking::link;
 pub use listing::References;
+pub use meta::Meta;
+pub use named::{Bucket, Chain, DupRoot, LeafPage, Ref, TreeRoot};
 pub use open::open_image;

@@ -62,7 +62,7 @@ fn check_pages(image: &[u8], head: &Head) -> Result<(), Verdict>
     Ok(())
 }
 
-fn is_zero(page: &[u8]) -> bool
+pub(crate) fn is_zero(page: &[u8]) -> bool
     ensures { result ≡ is_zero page.now }
 {
     page.iter().all(|byte| *byte == 0)

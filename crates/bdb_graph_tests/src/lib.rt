@@ -6,4 +6,6 @@ mod fields;
 #[cfg(test)]
 mod held;
 #[cfg(test)]
+mod linking;
+#[cfg(test)]
 mod opening;

@@ -1,0 +1,408 @@
+-- What a page is to a reference, by its bytes, and the codes with which references fail.
+use Rattle.std.proofs.Common.{◌≡◌, ◌⊎◌, ℕ, zero, suc, ◌+◌, ◌≤◌, ◌<◌, Bool, true, false, cond, List, [], ◌∷◌, ◌++◌, arith, refl, sym, ◌∙◌, ap, subst, inl, inr}
+use Rattle.std.specs.Prelude.{Option, Some, None, ◌==◌, ◌||◌, nat_lt, map}
+use Rattle.std.specs.Option.{option_map}
+use Rattle.std.specs.List.{list_any}
+use Rattle.std.proofs.lemmas.Bool.{cases_order, eqb-true, eqb-false, le-ltb, lt-ltb, ne_eqb, or_from}
+use Rattle.std.proofs.lemmas.List.Folds.{list_any-append}
+use Rattle.std.proofs.Math.Bool.{or-false}
+use Rattle.bdb_model.specs.declared.kinds.Fault.{Fault}
+use Rattle.bdb_model.specs.declared.kinds.Order.{Order}
+use Rattle.bdb_model.specs.declared.references.Reference.{Reference}
+use Rattle.bdb_model.specs.File.{File, header_in, no_header, page_at, type_in}
+use Rattle.bdb_model.specs.HeadOf.{is_page_size}
+use Rattle.bdb_model.specs.Numbers.{byte_at, four_at, has_bit}
+use Rattle.bdb_model.specs.Page.{Page, PageType, FreePage, HashPage, InternalPage, RecnoInternalPage, LeafPage, RecnoLeafPage, OverflowPage, HashMetaPage, BtreeMetaPage, QueueMetaPage, QueuePage, DupLeafPage, OtherPage, Zero}
+use Rattle.bdb_model.specs.Reading.{abstract_page, header_of, is_zero, listed, page_as, page_type}
+use Rattle.bdb_model.specs.References.{Asked, asked_by, child_types, fit_code, is_zero_page, root_types}
+use Rattle.bdb_model.specs.Table.{Row, ◌:?◌, first_row, lesser}
+use Rattle.bdb_model.specs.Verdict.{by_page, fails_as, holding, reference_faults, reference_rows}
+use Rattle.bdb_model.proofs.VerdictLemmas.{no_faults, none_holds, none_is_first_row}
+use Rattle.bdb_graph.proofs.FormedLemmas.{size_bounds}
+use Rattle.bdb_graph.specs.Fits.{failing_rows, page_rows}
+use Rattle.bdb_graph.specs.Linking.{first_fault}
+
+pub long_page : (n : ℕ) → is_page_size n ≡ true → 512 ≤ n
+long_page n legal = (size_bounds n legal).0
+
+-- Bytes as a page.
+
+pub zero_page : (order : Order) (page : List ℕ) → is_zero page ≡ true → abstract_page order page ≡ Zero
+unfolding abstract_page
+zero_page order page empty = rw (empty, abstract_page) refl
+
+pub typed_page : (order : Order) (page : List ℕ) → is_zero page ≡ false → abstract_page order page ≡ page_as order page (page_type (byte_at page 25))
+unfolding abstract_page
+typed_page order page some = rw (some, abstract_page) refl
+
+not_zero_as : (order : Order) (page : List ℕ) (t : PageType) → is_zero_page (page_as order page t) ≡ false
+not_zero_as order page FreePage = refl
+not_zero_as order page t = refl
+
+-- a page is a zero page where its bytes are 0
+pub is_zero_page_is : (order : Order) (page : List ℕ) → is_zero page ≡ is_zero_page (abstract_page order page)
+unfolding abstract_page
+is_zero_page_is order page =
+    elim (is_zero page) as (λ b. b ≡ is_zero_page (elim b [ true ↦ Zero | false ↦ page_as order page (page_type (byte_at page 25)) ])) [
+      | true ↦ refl
+      | false ↦ sym (not_zero_as order page (page_type (byte_at page 25)))
+    ]
+
+-- The type byte.
+
+abbrev AllOf : (ℕ → Type 0) → List ℕ → Type 0
+AllOf P [] = Unit {0}
+AllOf P (t ∷ ts) = P t × AllOf P ts
+
+-- what holds for each of some types holds for one of them
+one_of : (P : ℕ → Type 0) (byte : ℕ) (types : List ℕ) → AllOf P types → list_any (λ t. t == byte) types ≡ true → P byte
+one_of P byte [] all one = absurd cc
+one_of P byte (t ∷ ts) all one =
+    elim (t == byte) as (λ b. (t == byte) ≡ b → (b || list_any (λ k. k == byte) ts) ≡ true → P byte) [
+      | true ↦ λ same some. subst P (eqb-true t byte same) all.0
+      | false ↦ λ same some. one_of P byte ts all.1 some
+    ] refl one
+
+-- the byte is none of some types
+abbrev IsNoneOf : ℕ → List ℕ → Type 0
+IsNoneOf byte [] = Unit {0}
+IsNoneOf byte (t ∷ ts) = ((byte == t) ≡ false) × IsNoneOf byte ts
+
+none_of : (byte : ℕ) (types : List ℕ) → list_any (λ t. t == byte) types ≡ false → IsNoneOf byte types
+none_of byte [] none = tt
+none_of byte (t ∷ ts) none =
+    elim (t == byte) as (λ b. (t == byte) ≡ b → (b || list_any (λ k. k == byte) ts) ≡ false → IsNoneOf byte (t ∷ ts)) [
+      | true ↦ λ same some. absurd cc
+      | false ↦ λ same some. (ne_eqb byte t (λ is. eqb-false t byte same (sym is)), none_of byte ts some)
+    ] refl none
+
+-- the types of pages that have a type, and those of pages that have a header
+abbrev typed_bytes : List ℕ
+typed_bytes = 0 ∷ 2 ∷ 3 ∷ 4 ∷ 5 ∷ 6 ∷ 7 ∷ 8 ∷ 9 ∷ 10 ∷ 11 ∷ 12 ∷ 13 ∷ []
+
+abbrev headed_bytes : List ℕ
+headed_bytes = 0 ∷ 2 ∷ 3 ∷ 4 ∷ 5 ∷ 6 ∷ 7 ∷ 12 ∷ 13 ∷ []
+
+abbrev HasType : Order → List ℕ → ℕ → Type 0
+HasType order page byte = byte_at page 25 ≡ byte → type_in (page_as order page (page_type byte)) ≡ Some byte
+
+abbrev HasHeader : Order → List ℕ → ℕ → Type 0
+HasHeader order page byte = header_in (page_as order page (page_type byte)) ≡ header_of order page
+
+pub zero_type : (order : Order) (page : List ℕ) → is_zero page ≡ true → None ≡ type_in (abstract_page order page)
+zero_type order page empty = sym (ap type_in (zero_page order page empty))
+
+pub zero_header : (order : Order) (page : List ℕ) → is_zero page ≡ true → no_header ≡ header_in (abstract_page order page)
+zero_header order page empty = sym (ap header_in (zero_page order page empty))
+
+pub typed : (order : Order) (page : List ℕ) → is_zero page ≡ false → list_any (λ t. t == byte_at page 25) typed_bytes ≡ true → Some (byte_at page 25) ≡ type_in (abstract_page order page)
+unfolding listed
+typed order page some one =
+    let all : AllOf (HasType order page) typed_bytes =
+    (λ is. refl, (λ is. ap (λ n. Some n) is, (λ is. refl, (λ is. refl, (λ is. refl, (λ is. refl, (λ is. refl, (λ is. refl, (λ is. refl, (λ is. refl, (λ is. refl, (λ is. refl, (λ is. ap (λ n. Some n) is, tt))))))))))))) in
+    sym (ap type_in (typed_page order page some) ∙ one_of (HasType order page) (byte_at page 25) typed_bytes all one refl)
+
+pub headed : (order : Order) (page : List ℕ) → is_zero page ≡ false → list_any (λ t. t == byte_at page 25) headed_bytes ≡ true → header_of order page ≡ header_in (abstract_page order page)
+unfolding listed
+headed order page some one =
+    let all : AllOf (HasHeader order page) headed_bytes = (refl, (refl, (refl, (refl, (refl, (refl, (refl, (refl, (refl, tt))))))))) in
+    sym (ap header_in (typed_page order page some) ∙ one_of (HasHeader order page) (byte_at page 25) headed_bytes all one)
+
+no_type : (order : Order) (page : List ℕ) (byte : ℕ) → IsNoneOf byte typed_bytes → type_in (page_as order page (page_type byte)) ≡ None
+no_type order page byte (n0, (n2, (n3, (n4, (n5, (n6, (n7, (n8, (n9, (n10, (n11, (n12, (n13, end))))))))))))) =
+    rw (n0, n2, n3, n4, n5, n6, n7, n8, n9, n10, n11, n12, n13) refl
+
+pub untyped : (order : Order) (page : List ℕ) → is_zero page ≡ false → list_any (λ t. t == byte_at page 25) typed_bytes ≡ false → None ≡ type_in (abstract_page order page)
+untyped order page some none = sym (ap type_in (typed_page order page some) ∙ no_type order page (byte_at page 25) (none_of (byte_at page 25) typed_bytes none))
+
+without_header : (order : Order) (page : List ℕ) (a b c d : Bool)
+    → header_in (page_as order page (cond a HashMetaPage (cond b BtreeMetaPage (cond c QueueMetaPage (cond d QueuePage OtherPage))))) ≡ no_header
+without_header order page true b c d = refl
+without_header order page false true c d = refl
+without_header order page false false true d = refl
+without_header order page false false false true = refl
+without_header order page false false false false = refl
+
+no_header_as : (order : Order) (page : List ℕ) (byte : ℕ) → IsNoneOf byte headed_bytes → header_in (page_as order page (page_type byte)) ≡ no_header
+no_header_as order page byte (n0, (n2, (n3, (n4, (n5, (n6, (n7, (n12, (n13, end))))))))) =
+    rw (n0, n2, n3, n4, n5, n6, n7, n12, n13) (without_header order page (byte == 8) (byte == 9) (byte == 10) (byte == 11))
+
+pub unheaded : (order : Order) (page : List ℕ) → is_zero page ≡ false → list_any (λ t. t == byte_at page 25) headed_bytes ≡ false → no_header ≡ header_in (abstract_page order page)
+unheaded order page some none = sym (ap header_in (typed_page order page some) ∙ no_header_as order page (byte_at page 25) (none_of (byte_at page 25) headed_bytes none))
+
+-- The types that a page's references ask for.
+
+if_type : (P : PageType → Type 0) (b : Bool) (t u : PageType) → (b ≡ true → P t) → (b ≡ false → P u) → P (cond b t u)
+if_type P true t u here later = here refl
+if_type P false t u here later = later refl
+
+-- a page of this type names no page below and no root
+abbrev is_plain : PageType → Bool
+is_plain InternalPage = false
+is_plain RecnoInternalPage = false
+is_plain BtreeMetaPage = false
+is_plain t = true
+
+by_type : (P : PageType → Type 0) (byte : ℕ) → ((t : PageType) → is_plain t ≡ true → P t) → ((byte == 3) ≡ true → P InternalPage)
+    → ((byte == 4) ≡ true → P RecnoInternalPage) → ((byte == 9) ≡ true → P BtreeMetaPage) → P (page_type byte)
+by_type P byte plain internal recno tree =
+    if_type P (byte == 0) FreePage _ (λ _. plain FreePage refl) (λ _.
+    if_type P (byte == 2) HashPage _ (λ _. plain HashPage refl) (λ _.
+    if_type P (byte == 3) InternalPage _ internal (λ _.
+    if_type P (byte == 4) RecnoInternalPage _ recno (λ _.
+    if_type P (byte == 5) LeafPage _ (λ _. plain LeafPage refl) (λ _.
+    if_type P (byte == 6) RecnoLeafPage _ (λ _. plain RecnoLeafPage refl) (λ _.
+    if_type P (byte == 7) OverflowPage _ (λ _. plain OverflowPage refl) (λ _.
+    if_type P (byte == 8) HashMetaPage _ (λ _. plain HashMetaPage refl) (λ _.
+    if_type P (byte == 9) BtreeMetaPage _ tree (λ _.
+    if_type P (byte == 10) QueueMetaPage _ (λ _. plain QueueMetaPage refl) (λ _.
+    if_type P (byte == 11) QueuePage _ (λ _. plain QueuePage refl) (λ _.
+    if_type P (byte == 12) DupLeafPage _ (λ _. plain DupLeafPage refl) (λ _.
+    if_type P (byte == 13) HashPage OtherPage (λ _. plain HashPage refl) (λ _. plain OtherPage refl)))))))))))))
+
+plain_root : (order : Order) (page : List ℕ) (t : PageType) → is_plain t ≡ true → [] ≡ root_types (page_as order page t)
+plain_root order page InternalPage plain = refl
+plain_root order page RecnoInternalPage plain = refl
+plain_root order page BtreeMetaPage plain = absurd cc
+plain_root order page t plain = refl
+
+plain_child : (order : Order) (page : List ℕ) (t : PageType) → is_plain t ≡ true → [] ≡ child_types (page_as order page t)
+plain_child order page InternalPage plain = absurd cc
+plain_child order page RecnoInternalPage plain = absurd cc
+plain_child order page BtreeMetaPage plain = refl
+plain_child order page t plain = refl
+
+pub zero_root : (order : Order) (page : List ℕ) → is_zero page ≡ true → [] ≡ root_types (abstract_page order page)
+zero_root order page empty = sym (ap root_types (zero_page order page empty))
+
+pub zero_child : (order : Order) (page : List ℕ) → is_zero page ≡ true → [] ≡ child_types (abstract_page order page)
+zero_child order page empty = sym (ap child_types (zero_page order page empty))
+
+pub no_root : (order : Order) (page : List ℕ) → is_zero page ≡ false → (byte_at page 25 ≡ 9 → ⊥) → [] ≡ root_types (abstract_page order page)
+no_root order page some other =
+    by_type (λ t. [] ≡ root_types (page_as order page t)) (byte_at page 25) (plain_root order page) (λ is. refl) (λ is. refl) (λ is. absurd (other (eqb-true (byte_at page 25) 9 is)))
+    ∙ sym (ap root_types (typed_page order page some))
+
+pub no_child : (order : Order) (page : List ℕ) → is_zero page ≡ false → (byte_at page 25 ≡ 3 → ⊥) → (byte_at page 25 ≡ 4 → ⊥) → [] ≡ child_types (abstract_page order page)
+no_child order page some other another =
+    by_type (λ t. [] ≡ child_types (page_as order page t)) (byte_at page 25) (plain_child order page) (λ is. absurd (other (eqb-true (byte_at page 25) 3 is)))
+    (λ is. absurd (another (eqb-true (byte_at page 25) 4 is))) (λ is. refl)
+    ∙ sym (ap child_types (typed_page order page some))
+
+page_of_byte : (order : Order) (page : List ℕ) (byte : ℕ) → is_zero page ≡ false → byte_at page 25 ≡ byte → abstract_page order page ≡ page_as order page (page_type byte)
+page_of_byte order page byte some is = typed_page order page some ∙ ap (λ b. page_as order page (page_type b)) is
+
+pub tree_root : (order : Order) (page : List ℕ) → is_zero page ≡ false → byte_at page 25 ≡ 9 → cond (has_bit (four_at order page 48) 2) (4 ∷ 6 ∷ []) (3 ∷ 5 ∷ []) ≡ root_types (abstract_page order page)
+tree_root order page some is = sym (ap root_types (page_of_byte order page 9 some is))
+
+pub internal_child : (order : Order) (page : List ℕ) → is_zero page ≡ false → byte_at page 25 ≡ 3 → cond (byte_at page 24 == 2) (5 ∷ 12 ∷ []) (3 ∷ []) ≡ child_types (abstract_page order page)
+unfolding listed
+internal_child order page some is = sym (ap child_types (page_of_byte order page 3 some is))
+
+pub recno_child : (order : Order) (page : List ℕ) → is_zero page ≡ false → byte_at page 25 ≡ 4 → cond (byte_at page 24 == 2) (6 ∷ []) (4 ∷ []) ≡ child_types (abstract_page order page)
+unfolding listed
+recno_child order page some is = sym (ap child_types (page_of_byte order page 4 some is))
+
+-- The rows of one reference.
+
+-- a reference to a page that isn't there
+pub fits_nowhere : (file : File) (p : ℕ) (reference : Reference) → (reference.target == 0 || nat_lt file.last reference.target) ≡ true → Some 1 ≡ fit_code file p reference
+unfolding fit_code
+fits_nowhere file p reference out =
+    ap (λ b. cond b (Some 1) (first_row (page_rows (asked_by p (page_at file p) reference.sort) (page_at file reference.target)))) (sym out)
+
+-- a reference to a page that is there
+pub fits_there : (file : File) (p : ℕ) (reference : Reference) → (reference.target == 0 || nat_lt file.last reference.target) ≡ false
+    → first_row (page_rows (asked_by p (page_at file p) reference.sort) (page_at file reference.target)) ≡ fit_code file p reference
+unfolding fit_code
+fits_there file p reference inside =
+    ap (λ b. cond b (Some 1) (first_row (page_rows (asked_by p (page_at file p) reference.sort) (page_at file reference.target)))) (sym inside)
+
+-- a reference to page 0
+pub names_zero : (file : File) (p : ℕ) (reference : Reference) → reference.target ≡ 0 → Some 1 ≡ fit_code file p reference
+names_zero file p reference is = fits_nowhere file p reference (ap (λ n. n == 0 || nat_lt file.last n) is)
+
+or_true : (b : Bool) → (b || true) ≡ true
+or_true true = refl
+or_true false = refl
+
+-- a reference to a page above the last one
+pub names_above : (file : File) (p : ℕ) (reference : Reference) → file.last < reference.target → Some 1 ≡ fit_code file p reference
+names_above file p reference above =
+    fits_nowhere file p reference (ap (λ b. reference.target == 0 || b) (lt-ltb file.last reference.target above) ∙ or_true (reference.target == 0))
+
+-- a reference to a page that is there, by what it asks and what that page is
+pub names_page : (file : File) (p : ℕ) (reference : Reference) (asked : Asked) (holder target : Page) (code : Option ℕ) → (reference.target ≡ 0 → ⊥) → reference.target ≤ file.last
+    → code ≡ first_row (page_rows asked target) → asked ≡ asked_by p holder reference.sort → holder ≡ page_at file p → target ≡ page_at file reference.target
+    → code ≡ fit_code file p reference
+names_page file p reference asked holder target code some low code_is asked_is holder_is target_is =
+    code_is
+    ∙ (ap (λ (demand : Asked). first_row (page_rows demand target)) asked_is
+    ∙ (ap (λ (page : Page). first_row (page_rows (asked_by p page reference.sort) target)) holder_is
+    ∙ (ap (λ (page : Page). first_row (page_rows (asked_by p (page_at file p) reference.sort) page)) target_is
+    ∙ fits_there file p reference (or_from (reference.target == 0) (nat_lt file.last reference.target) (ne_eqb reference.target 0 some) (le-ltb file.last reference.target low)))))
+
+-- a code of a reference, or none
+abbrev IsCode : Option ℕ → Type 0
+IsCode code = (code ≡ None) ⊎ ((code ≡ Some 1) ⊎ ((code ≡ Some 2) ⊎ ((code ≡ Some 3) ⊎ (code ≡ Some 4))))
+
+abbrev first_of_four : Bool → Bool → Bool → Bool → Option ℕ
+first_of_four a b c d = first_row (1 :? a ∷ 2 :? b ∷ 3 :? c ∷ 4 :? d ∷ [])
+
+is_code : (a b c d : Bool) → IsCode (first_of_four a b c d)
+is_code true b c d = inr (inl refl)
+is_code false true c d = inr (inr (inl refl))
+is_code false false true d = inr (inr (inr (inl refl)))
+is_code false false false true = inr (inr (inr (inr refl)))
+is_code false false false false = inl refl
+
+fit_is_code : (file : File) (p : ℕ) (reference : Reference) → IsCode (fit_code file p reference)
+unfolding fit_code
+fit_is_code file p reference = is_code _ _ _ _
+
+-- the first of four codes, where one more reference has this code
+abbrev OneMore : Bool → Bool → Bool → Bool → Option ℕ → Type 0
+OneMore a b c d code =
+    lesser (first_of_four a b c d) code ≡ first_of_four (a || fails_as 1 code) (b || fails_as 2 code) (c || fails_as 3 code) (d || fails_as 4 code)
+
+one_fits : (a b c d : Bool) → OneMore a b c d None
+one_fits true b c d = refl
+one_fits false true c d = refl
+one_fits false false true d = refl
+one_fits false false false true = refl
+one_fits false false false false = refl
+
+one_out : (a b c d : Bool) → OneMore a b c d (Some 1)
+one_out true b c d = refl
+one_out false true c d = refl
+one_out false false true d = refl
+one_out false false false true = refl
+one_out false false false false = refl
+
+one_kind : (a b c d : Bool) → OneMore a b c d (Some 2)
+one_kind true b c d = refl
+one_kind false true c d = refl
+one_kind false false true d = refl
+one_kind false false false true = refl
+one_kind false false false false = refl
+
+one_level : (a b c d : Bool) → OneMore a b c d (Some 3)
+one_level true b c d = refl
+one_level false true c d = refl
+one_level false false true d = refl
+one_level false false false true = refl
+one_level false false false false = refl
+
+one_back : (a b c d : Bool) → OneMore a b c d (Some 4)
+one_back true b c d = refl
+one_back false true c d = refl
+one_back false false true d = refl
+one_back false false false true = refl
+one_back false false false false = refl
+
+one_more : (a b c d : Bool) (code : Option ℕ) → IsCode code → OneMore a b c d code
+one_more a b c d code is =
+    elim is [
+      | inl fits ↦ subst (OneMore a b c d) (sym fits) (one_fits a b c d)
+      | inr (inl out) ↦ subst (OneMore a b c d) (sym out) (one_out a b c d)
+      | inr (inr (inl kind)) ↦ subst (OneMore a b c d) (sym kind) (one_kind a b c d)
+      | inr (inr (inr (inl level))) ↦ subst (OneMore a b c d) (sym level) (one_level a b c d)
+      | inr (inr (inr (inr back))) ↦ subst (OneMore a b c d) (sym back) (one_back a b c d)
+    ]
+
+any_more : (test : Reference → Bool) (before : List Reference) (reference : Reference) → (list_any test before || test reference) ≡ list_any test (before ++ (reference ∷ []))
+any_more test before reference = sym (list_any-append test before (reference ∷ []) ∙ ap (λ b. list_any test before || b) (or-false (test reference)))
+
+same_four : (a b c d e f g h : Bool) → a ≡ e → b ≡ f → c ≡ g → d ≡ h → first_of_four a b c d ≡ first_of_four e f g h
+same_four a b c d e f g h ae bf cg dh =
+    ap (λ x. first_of_four x b c d) ae ∙ (ap (λ x. first_of_four e x c d) bf ∙ (ap (λ x. first_of_four e f x d) cg ∙ ap (λ x. first_of_four e f g x) dh))
+
+-- the least code with which the references of a list fail
+abbrev pub least_failing : File → ℕ → List Reference → Option ℕ
+least_failing file p references = first_row (failing_rows (fit_code file p) references)
+
+-- one more reference counts by its own code
+pub more_failing : (file : File) (p : ℕ) (before : List Reference) (reference : Reference)
+    → lesser (least_failing file p before) (fit_code file p reference) ≡ least_failing file p (before ++ (reference ∷ []))
+more_failing file p before reference =
+    let fit : Reference → Option ℕ = fit_code file p in
+    one_more (list_any (λ r. fails_as 1 (fit r)) before) (list_any (λ r. fails_as 2 (fit r)) before) (list_any (λ r. fails_as 3 (fit r)) before) (list_any (λ r. fails_as 4 (fit r)) before)
+    (fit reference) (fit_is_code file p reference)
+    ∙ same_four _ _ _ _ _ _ _ _
+    (any_more (λ r. fails_as 1 (fit r)) before reference) (any_more (λ r. fails_as 2 (fit r)) before reference)
+    (any_more (λ r. fails_as 3 (fit r)) before reference) (any_more (λ r. fails_as 4 (fit r)) before reference)
+
+-- The first fault of a stage.
+
+abbrev named : ℕ → ℕ → ℕ → Fault
+named stage page code = record { stage = stage; page = page; code = code }
+
+-- the first row that holds is the first fault of a page
+page_first : (stage page : ℕ) (rows : List (Row ℕ)) → first_fault (map (named stage page) (holding rows)) ≡ option_map (named stage page) (first_row rows)
+page_first stage page [] = refl
+page_first stage page (row ∷ rows) =
+    elim row.holds as (λ b. first_fault (map (named stage page) (cond b (row.code ∷ holding rows) (holding rows))) ≡ option_map (named stage page) (cond b (Some row.code) (first_row rows))) [
+      | true ↦ refl
+      | false ↦ page_first stage page rows
+    ]
+
+first_of_more : (faults later : List Fault) (fault : Fault) → first_fault faults ≡ Some fault → first_fault (faults ++ later) ≡ Some fault
+first_of_more [] later fault first = absurd cc
+first_of_more (one ∷ faults) later fault first = first
+
+first_of_none : (faults later : List Fault) → faults ≡ [] → first_fault (faults ++ later) ≡ first_fault later
+first_of_none faults later none = ap (λ (before : List Fault). first_fault (before ++ later)) none
+
+-- where no page before one has a code, the first fault of the stage is that page's
+first_by_page : (stage from n page code : ℕ) (codes : ℕ → List ℕ) → from ≤ page → page < from + n → ((p : ℕ) → from ≤ p → p < page → codes p ≡ [])
+    → first_fault (map (named stage page) (codes page)) ≡ Some (named stage page code) → first_fault (by_page stage from n codes) ≡ Some (named stage page code)
+first_by_page stage from zero page code codes low high none at = absurd (omega arith)
+first_by_page stage from (suc n) page code codes low high none at =
+    let later : List Fault = by_page stage (from + 1) n codes in
+    elim (cases_order from page) [
+      | inl same ↦
+          subst (λ p. first_fault (map (named stage p) (codes p) ++ later) ≡ Some (named stage page code)) (sym same)
+          (first_of_more (map (named stage page) (codes page)) later (named stage page code) at)
+      | inr (inl below) ↦
+          first_of_none (map (named stage from) (codes from)) later (ap (map (named stage from)) (none from (omega arith) below))
+          ∙ first_by_page stage (from + 1) n page code codes (omega arith) (omega arith) (λ p above. none p (omega arith)) at
+      | inr (inr above) ↦ absurd (omega arith)
+    ]
+
+-- no row of these holds at the pages from one on and below another
+abbrev pub NoneHold : (ℕ → List (Row ℕ)) → ℕ → ℕ → Type 0
+NoneHold rows from to = (p : ℕ) → from ≤ p → p < to → None ≡ first_row (rows p)
+
+no_code_holds : (rows : List (Row ℕ)) → None ≡ first_row rows → holding rows ≡ []
+no_code_holds rows none = none_holds rows (none_is_first_row rows (sym none))
+
+-- one more page at which no row holds
+pub none_more : (rows : ℕ → List (Row ℕ)) (from to : ℕ) → NoneHold rows from to → None ≡ first_row (rows to) → NoneHold rows from (to + 1)
+none_more rows from to none here p low below =
+    elim (cases_order p to) [
+      | inl same ↦ here ∙ ap (λ q. first_row (rows q)) (sym same)
+      | inr (inl lesser) ↦ none p low lesser
+      | inr (inr above) ↦ absurd (omega arith)
+    ]
+
+-- the first fault of a stage is at the first page at which a row holds, the first row there
+pub first_of_stage : (stage from n page code : ℕ) (rows : ℕ → List (Row ℕ)) → from ≤ page → page < from + n → NoneHold rows from page → Some code ≡ first_row (rows page)
+    → Some (named stage page code) ≡ first_fault (by_page stage from n (λ p. holding (rows p)))
+first_of_stage stage from n page code rows low high none at =
+    sym
+    (first_by_page stage from n page code (λ p. holding (rows p)) low high (λ p above below. no_code_holds (rows p) (none p above below))
+    (page_first stage page (rows page) ∙ ap (option_map (named stage page)) (sym at)))
+
+-- where no row holds at any page, the stage has no fault
+pub none_of_stage : (stage from n : ℕ) (rows : ℕ → List (Row ℕ)) → NoneHold rows from (from + n) → None ≡ first_fault (by_page stage from n (λ p. holding (rows p)))
+none_of_stage stage from n rows none =
+    sym (ap first_fault (no_faults stage from n (λ p. holding (rows p)) (λ p low high. no_code_holds (rows p) (none p low high))))
+
+pub first_reference_fault : (file : File) (page code : ℕ) → page ≤ file.last → NoneHold (reference_rows file) 0 page → Some code ≡ first_row (reference_rows file page)
+    → Some (named 3 page code) ≡ first_fault (reference_faults file)
+unfolding reference_faults
+first_reference_fault file page code low none at = first_of_stage 3 0 (file.last + 1) page code (reference_rows file) (omega arith) (omega arith) none at
+
+pub no_reference_fault : (file : File) → NoneHold (reference_rows file) 0 (file.last + 1) → None ≡ first_fault (reference_faults file)
+unfolding reference_faults
+no_reference_fault file none = none_of_stage 3 0 (file.last + 1) (reference_rows file) (λ p low high. none p low (omega arith))

@@ -1,0 +1,96 @@
+-- What a page without a fault of form is, where it's metadata.
+use Rattle.std.proofs.Common.{◌≡◌, ℕ, zero, suc, ◌+◌, ◌≤◌, Bool, true, false, cond, List, [], ◌∷◌, ◌++◌, length, arith, refl, sym, ◌∙◌, ap, subst, append-nil}
+use Rattle.std.specs.Prelude.{Option, Some, None}
+use Rattle.std.specs.Option.{is_some}
+use Rattle.std.specs.List.{filter, range_with_len}
+use Rattle.std.proofs.lemmas.Bool.{true≢false}
+use Rattle.bdb_model.specs.declared.kinds.Order.{Order}
+use Rattle.bdb_model.specs.declared.metadata.FileKind.{FileKind}
+use Rattle.bdb_model.specs.declared.metadata.FileKind.TheVariants.{Btree, Hash, Queue}
+use Rattle.bdb_model.specs.declared.metadata.Head.{Head}
+use Rattle.bdb_model.specs.File.{File, file_of, page_at, page_bytes}
+use Rattle.bdb_model.specs.Graph.{is_meta}
+use Rattle.bdb_model.specs.HeadOf.{head_of, is_page_size}
+use Rattle.bdb_model.specs.Numbers.{byte_at}
+use Rattle.bdb_model.specs.Page.{Metadata, Page, Zero, Meta, QueueFields}
+use Rattle.bdb_model.specs.Reading.{abstract_page, is_zero, page_as, page_type, queue_fields}
+use Rattle.bdb_model.specs.Rows.{form_code, may_have_type, metadata_rows}
+use Rattle.bdb_model.specs.Table.{first_row}
+use Rattle.bdb_model.proofs.GraphLemmas.{type_fits}
+use Rattle.std.proofs.lemmas.List.Elements.{filter-append}
+use Rattle.bdb_graph.specs.Linking.{meta_pages}
+use Rattle.bdb_graph.specs.Metas.{AreMetasBelow, meta_in}
+use Rattle.bdb_graph.proofs.CodeLemmas.{differs, not_zero, queue_last}
+use Rattle.bdb_graph.proofs.HeldLemmas.{metadata_formed, other_page, other_type, page_is}
+
+-- Queue metadata.
+
+pub queue_page : (order : Order) (page : List ℕ) → is_page_size (length page) ≡ true → byte_at page 25 ≡ 10 → abstract_page order page ≡ Meta (QueueFields (queue_fields order page))
+unfolding abstract_page
+queue_page order page size is = rw (not_zero page Queue size is, abstract_page) (ap (λ byte. page_as order page (page_type byte)) is)
+
+zero_number : (kind : FileKind) (number byte : ℕ) → byte ≡ 10 → may_have_type kind number byte ≡ true → number ≡ 0
+zero_number kind zero byte is may = refl
+zero_number Btree (suc n) byte is may = absurd (true≢false (sym (subst (λ b. may_have_type Btree (suc n) b ≡ true) is may)))
+zero_number Hash (suc n) byte is may = absurd (true≢false (sym (subst (λ b. may_have_type Hash (suc n) b ≡ true) is may)))
+zero_number Queue (suc n) byte is may = absurd (true≢false (sym (subst (λ b. may_have_type Queue (suc n) b ≡ true) is may)))
+
+-- queue metadata is page 0
+pub queue_formed : (head : Head) (number : ℕ) (page : List ℕ) → is_page_size (length page) ≡ true → byte_at page 25 ≡ 10 → form_code head number page ≡ None
+    → first_row (metadata_rows head.order page 0 0 Queue) ≡ None
+queue_formed head number page size is none =
+    let first : number ≡ 0 = zero_number head.kind number (byte_at page 25) is (type_fits head number page (not_zero page Queue size is) none) in
+    ap first_row (sym (queue_last head.order page 0 head.last))
+    ∙ (ap (λ n. first_row (metadata_rows head.order page n head.last Queue)) (sym first) ∙ metadata_formed head number page Queue size is none)
+
+-- Other pages.
+
+no_fields : (page : Page) → is_meta page ≡ false → meta_in page ≡ None
+no_fields (Meta fields) other = absurd cc
+no_fields page other = refl
+
+pub no_meta : (order : Order) (page : List ℕ) → (byte_at page 25 ≡ 8 → ⊥) → (byte_at page 25 ≡ 9 → ⊥) → (byte_at page 25 ≡ 10 → ⊥) → meta_in (abstract_page order page) ≡ None
+unfolding abstract_page
+no_meta order page table tree queue =
+    let byte : ℕ = byte_at page 25 in
+    elim (is_zero page) as (λ zeros. meta_in (elim zeros [ true ↦ Zero | false ↦ page_as order page (page_type byte) ]) ≡ None) [
+      | true ↦ refl
+      | false ↦ no_fields (page_as order page (page_type byte)) (other_page order page (page_type byte) (other_type byte (differs byte 8 table) (differs byte 9 tree) (differs byte 10 queue)))
+    ]
+
+-- The file.
+
+pub meta_of_page : (image : List ℕ) (p : ℕ) → p ≤ (head_of image).last → meta_in (page_at (file_of image) p) ≡ meta_in (abstract_page (head_of image).order (page_bytes (head_of image) image p))
+meta_of_page image p low = ap meta_in (page_is image p low)
+
+pub is_by_fields : (page : Page) → is_meta page ≡ is_some (meta_in page)
+is_by_fields (Meta fields) = refl
+is_by_fields page = refl
+
+-- The metadata pages.
+
+range_more : (a n : ℕ) → range_with_len a (n + 1) ≡ range_with_len a n ++ (a + n) ∷ []
+range_more a zero = let e : a + 0 ≡ a = omega arith in rw e refl
+range_more a (suc n) = let more : suc n + 1 ≡ suc (n + 1) = omega arith in let e : a + 1 + n ≡ a + suc n = omega arith in rw more (ap (λ xs. a ∷ xs) (range_more (a + 1) n ∙ ap (λ m. range_with_len (a + 1) n ++ m ∷ []) e))
+
+more : (file : File) (n : ℕ) (metas : List ℕ) → AreMetasBelow file n metas
+    → filter (λ p. is_meta (page_at file p)) (range_with_len 0 (n + 1)) ≡ metas ++ cond (is_meta (page_at file n)) (n ∷ []) []
+more file n metas below =
+    let test : ℕ → Bool = λ p. is_meta (page_at file p) in
+    let same : 0 + n ≡ n = omega arith in
+    ap (filter test) (range_more 0 n ∙ ap (λ m. range_with_len 0 n ++ m ∷ []) same)
+    ∙ (filter-append test (range_with_len 0 n) (n ∷ []) ∙ ap (λ ms. ms ++ cond (test n) (n ∷ []) []) (sym below))
+
+is_by : (page : Page) (found : Option Metadata) → found ≡ meta_in page → is_meta page ≡ is_some found
+is_by page found same = is_by_fields page ∙ ap is_some (sym same)
+
+pub one_more_meta : (file : File) (n : ℕ) (metas : List ℕ) (fields : Metadata) → AreMetasBelow file n metas → Some fields ≡ meta_in (page_at file n) → AreMetasBelow file (n + 1) (metas ++ n ∷ [])
+one_more_meta file n metas fields below same = sym (more file n metas below ∙ ap (λ b. metas ++ cond b (n ∷ []) []) (is_by (page_at file n) (Some fields) same))
+
+pub no_more_meta : (file : File) (n : ℕ) (metas : List ℕ) → AreMetasBelow file n metas → None ≡ meta_in (page_at file n) → AreMetasBelow file (n + 1) metas
+no_more_meta file n metas below same = sym (more file n metas below ∙ (ap (λ b. metas ++ cond b (n ∷ []) []) (is_by (page_at file n) None same) ∙ append-nil metas))
+
+-- all of them
+pub all_metas : (file : File) (n : ℕ) (metas : List ℕ) → n ≡ file.last + 1 → AreMetasBelow file n metas → metas ≡ meta_pages file
+unfolding meta_pages
+all_metas file n metas all below = below ∙ ap (λ m. filter (λ p. is_meta (page_at file p)) (range_with_len 0 m)) all

@@ -1,0 +1,43 @@
+-- What a linked image keeps, and which pages fit which use. Source: docs/FORMAT.md, "References".
+use Rattle.std.specs.Prelude.{◌≡◌, ◌≤◌, ℕ, IsTrue, List, [], ◌∷◌}
+use Rattle.std.specs.List.{Contains}
+use Rattle.bdb_model.specs.declared.references.Sort.{Sort}
+use Rattle.bdb_model.specs.declared.references.Sort.TheVariants.{Root, Bucket, OverflowHead, DuplicateRoot}
+use Rattle.bdb_model.specs.File.{File, file_of, page_at, type_in}
+use Rattle.bdb_model.specs.Graph.{Owner, all_references}
+use Rattle.bdb_model.specs.Page.{Metadata, Meta}
+use Rattle.bdb_model.specs.References.{has_type}
+use Rattle.bdb_graph.specs.Linking.{graph_faults, meta_pages}
+
+-- no row of stages 3 to 5 holds, and these are the metadata pages
+pub record IsLinked (image : List ℕ) (metas : List ℕ) : Type 0 where
+  pub sound : graph_faults image ≡ []
+  pub listed : metas ≡ meta_pages (file_of image)
+
+-- some page is metadata with these fields
+pub record HasMetadata (file : File) (fields : Metadata) : Type 0 where
+  pub page : ℕ
+  pub inside : page ≤ file.last
+  pub is : page_at file page ≡ Meta fields
+
+-- a reference of a sort names this page
+pub record IsTarget (file : File) (sort : Sort) (p : ℕ) : Type 0 where
+  pub owner : Owner
+  pub held : Contains (all_references file) owner
+  pub sort_is : owner.reference.sort ≡ sort
+  pub target_is : owner.reference.target ≡ p
+
+abbrev pub FitsTreeRoot : File → ℕ → Type 0
+FitsTreeRoot file p = IsTarget file Root p
+
+abbrev pub FitsBucket : File → ℕ → Type 0
+FitsBucket file p = IsTarget file Bucket p
+
+abbrev pub FitsChain : File → ℕ → Type 0
+FitsChain file p = IsTarget file OverflowHead p
+
+abbrev pub FitsDupRoot : File → ℕ → Type 0
+FitsDupRoot file p = IsTarget file DuplicateRoot p
+
+abbrev pub FitsLeafPage : File → ℕ → Type 0
+FitsLeafPage file p = IsTrue (has_type (5 ∷ 6 ∷ 12 ∷ []) (type_in (page_at file p)))

@@ -1,0 +1,32 @@
+-- What is counted of the references to each page. Who owns a page is `owners` of bdb_model.
+use Rattle.std.specs.Prelude.{◌≡◌, ℕ, ◌+◌, ◌-◌, ◌^◌, ◌<◌, ◌≤◌, ◌==◌, min, Bool, false, List, length, get_or, None}
+use Rattle.std.specs.List.{filter, list_all}
+use Rattle.bdb_graph.specs.declared.tally.Tally.{Tally}
+use Rattle.bdb_model.specs.declared.references.Reference.{Reference}
+use Rattle.bdb_model.specs.File.{File}
+use Rattle.bdb_model.specs.Graph.{Owner, first_holder, is_head_reference, owners}
+
+abbrev pub owner : ℕ → Reference → Owner
+owner holder reference = record { holder = holder; reference = reference }
+
+abbrev pub names_page : ℕ → Owner → Bool
+names_page p owner = owner.reference.target == p
+
+-- what a tally says of the owners so far; the count stands still at its type's end
+pub record IsTally (tally : Tally) (os : List Owner) : Type 0 where
+  pub counted : tally.count ≡ min (2 ^ 32 - 1) (length os)
+  pub led : tally.first ≡ first_holder os
+  pub heads : tally.heads_alone ≡ list_all (λ (owner : Owner). is_head_reference owner.reference.sort) os
+
+-- what stands for the tally of a page that isn't there
+abbrev pub no_tally : Tally
+no_tally = record { count = 0; first = None; heads_alone = false }
+
+-- each page has the tally of its owners among these
+pub record AreTallies (tallies : List Tally) (os : List Owner) : Type 0 where
+  pub each : (p : ℕ) → p < length tallies → IsTally (get_or tallies p no_tally) (filter (names_page p) os)
+
+-- each page of the file has the tally of its owners
+pub record AreTalliesOf (file : File) (tallies : List Tally) : Type 0 where
+  pub len : length tallies ≡ file.last + 1
+  pub each : (p : ℕ) → p ≤ file.last → IsTally (get_or tallies p no_tally) (owners file p)

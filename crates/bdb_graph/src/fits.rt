@@ -1,0 +1,178 @@
+ghost use Rattle.std.specs.Prelude.{◌≡◌, ◌≤◌};
+ghost use Rattle.std.specs.Result.{result_err};
+ghost use Rattle.bdb_graph.specs.Fits.{asks_previous, is_of_type, page_rows};
+ghost use Rattle.bdb_graph.specs.Linking.{first_fault};
+ghost use Rattle.bdb_model.specs.File.{file_of};
+ghost use Rattle.bdb_model.specs.References.{asked_by, asks_type, fit_code, has_type, is_asked};
+ghost use Rattle.bdb_model.specs.Table.{first_row, lesser};
+ghost use Rattle.bdb_model.specs.Verdict.{reference_faults, reference_rows};
+
+use crate::formed_page::{FormedPage, is_one_of, page_at};
+use crate::{Formed, references};
+use bdb_model::{Fault, Reference, Sort, Steps};
+use std::marker::Model;
+use std::sync::ledger::Ledger;
+
+/// What a reference asks of its target: one of these types, or a zero page; a level; a previous page.
+#[derive(Drop)]
+struct Demand {
+    types: &'static [u8],
+    or_zero: bool,
+    level: Option<u32>,
+    previous: Option<u32>,
+}
+
+impl Model for Demand {
+    ghost use Rattle.bdb_model.specs.References.{Asked};
+
+    ghost Value = { Asked };
+
+    ghost view = { λ v. record { types = v.types.now; or_zero = v.or_zero; level = v.level; previous = v.previous } };
+}
+
+impl Demand {
+    fn of_types(types: &'static [u8]) -> Demand
+        ensures { result ≡ asks_type types.now }
+    {
+        Demand {
+            types,
+            or_zero: false,
+            level: None,
+            previous: None,
+        }
+    }
+
+    fn after(types: &'static [u8], previous: u32) -> Demand
+        ensures { result ≡ asks_previous types.now previous }
+    {
+        Demand {
+            types,
+            or_zero: false,
+            level: None,
+            previous: Some(previous),
+        }
+    }
+
+    /// The first code with which a page that is there falls short of what is asked.
+    fn code_of(&self, page: &FormedPage) -> Option<u8>
+        ensures { result ≡ first_row (page_rows self.now page.now) }
+    {
+        let header = page.header();
+        if !self.is_of_type(page) {
+            Some(2)
+        } else if !is_asked(self.level, u32::from(header.level)) {
+            Some(3)
+        } else if !is_asked(self.previous, header.previous) {
+            Some(4)
+        } else {
+            None
+        }
+    }
+
+    fn is_of_type(&self, page: &FormedPage) -> bool
+        ensures { result ≡ is_of_type self.now page.now }
+    {
+        has_type(self.types, page.page_type()) || (self.or_zero && page.is_zero())
+    }
+}
+
+fn has_type(types: &[u8], page_type: Option<u8>) -> bool
+    ensures { result ≡ has_type types.now page_type }
+{
+    match page_type {
+        Some(page_type) => is_one_of(types, page_type),
+        None => false,
+    }
+}
+
+fn is_asked(asked: Option<u32>, number: u32) -> bool
+    ensures { result ≡ is_asked asked number }
+{
+    match asked {
+        Some(asked) => asked == number,
+        None => true,
+    }
+}
+
+/// What a reference of this sort asks, by its holder and the holder's page.
+fn asked_by(holder: u32, page: &FormedPage, sort: Sort) -> Demand
+    ensures { result ≡ asked_by holder page.now sort }
+{
+    match sort {
+        Sort::Free => Demand::of_types(&[0]),
+        Sort::Root => Demand::of_types(page.root_types()),
+        Sort::Bucket => Demand {
+            types: &[2, 13],
+            or_zero: true,
+            level: None,
+            previous: Some(0),
+        },
+        Sort::HashNext => Demand::after(&[2, 13], holder),
+        Sort::Child => Demand {
+            types: page.child_types(),
+            or_zero: false,
+            level: Some(u32::from(page.header().level).saturating_sub(1)),
+            previous: None,
+        },
+        Sort::OverflowHead => Demand::after(&[7], 0),
+        Sort::OverflowNext => Demand::after(&[7], holder),
+        Sort::DuplicateRoot => Demand::of_types(&[3, 4, 6, 12]),
+    }
+}
+
+/// The code of the first row that holds for a reference of this page; none where it fits.
+#[tactic(auto, using(crate::proofs::HeldLemmas::last_page))]
+fn fit_code(formed: &Formed, holder: u32, reference: Reference) -> Option<u8>
+    requires { holder ≤ (file_of formed.now).last }
+    ensures { result ≡ fit_code (file_of formed.now) holder reference }
+{
+    if reference.target == 0 || reference.target > u64::from(formed.head().last) {
+        return Some(1);
+    }
+    let asked = asked_by(holder, &page_at(formed, holder), reference.sort);
+    asked.code_of(&page_at(formed, reference.target as u32))
+}
+
+/// The lesser of two codes, where there are any.
+fn lesser(a: Option<u8>, b: Option<u8>) -> Option<u8>
+    ensures { result ≡ lesser a b }
+{
+    match (a, b) {
+        (None, b) => b,
+        (a, None) => a,
+        (Some(a), Some(b)) => Some(a.min(b)),
+    }
+}
+
+/// The least code with which a reference of this page fails, if one does: one step.
+fn least_code<L: Ledger>(formed: &Formed, page: u32, steps: &mut Steps<L>) -> Option<u8>
+    requires { page ≤ (file_of formed.now).last }
+    ensures { result ≡ first_row (reference_rows (file_of formed.now) page) }
+{
+    let mut least = None;
+    for reference in references(formed, page, steps) {
+        least = lesser(least, fit_code(formed, page, reference));
+    }
+    least
+}
+
+/// Each reference fits its target. A refusal is the first fault: the least page that holds one which
+/// doesn't, and there the least code. No memory is taken.
+pub(crate) fn check_references<L: Ledger>(
+    formed: &Formed<'_>,
+    steps: &mut Steps<L>,
+) -> Result<(), Fault>
+    ensures { result_err result ≡ first_fault (reference_faults (file_of formed.now)) }
+{
+    let last = formed.head().last;
+    for page in 0..=last {
+        if let Some(code) = least_code(formed, page, steps) {
+            return Err(Fault {
+                stage: 3,
+                page,
+                code,
+            });
+        }
+    }
+    Ok(())
+}

@@ -1,0 +1,156 @@
+ghost use Rattle.std.specs.Prelude.{◌≡◌, ◌≤◌, ◌==◌};
+ghost use Rattle.std.specs.List.{list_any};
+ghost use Rattle.bdb_model.specs.File.{file_of, header_in, page_at, type_in};
+ghost use Rattle.bdb_model.specs.Graph.{is_hash_meta, is_meta, is_spare};
+ghost use Rattle.bdb_model.specs.References.{child_types, is_zero_page, root_types};
+
+use crate::Formed;
+use crate::open::is_zero;
+use bdb_layout::{header, u32_at};
+use bdb_model::{Header, Order};
+use std::marker::Model;
+
+/// A page of a formed image, where its bytes lie.
+#[derive(Drop)]
+pub(crate) struct FormedPage<'a> {
+    bytes: &'a [u8],
+    order: Order,
+}
+
+impl<'a> Model for FormedPage<'a> {
+    ghost use Rattle.std.specs.Prelude.{◌≤◌, length};
+    ghost use Rattle.bdb_model.specs.Page.{Page};
+    ghost use Rattle.bdb_model.specs.Reading.{abstract_page};
+
+    ghost Value = { Page };
+
+    ghost view = { λ v. abstract_page v.order v.bytes.now };
+
+    ghost invariant = { λ v. 512 ≤ length v.bytes.now };
+}
+
+/// A page up to the last one.
+#[tactic(auto, using(crate::proofs::HeldLemmas::page_is, crate::proofs::FitLemmas::long_page, crate::proofs::HeldLemmas::last_page))]
+pub(crate) fn page_at<'a>(formed: &Formed<'a>, number: u32) -> FormedPage<'a>
+    requires { number ≤ (file_of formed.now).last }
+    ensures { result ≡ page_at (file_of formed.now) number }
+{
+    FormedPage {
+        bytes: formed.page_bytes(number),
+        order: formed.head().order,
+    }
+}
+
+const NO_HEADER: Header = Header {
+    number: 0,
+    previous: 0,
+    next: 0,
+    entries: 0,
+    high_free: 0,
+    level: 0,
+    page_type: 0,
+};
+
+/// Whether a type is one of these.
+pub(crate) fn is_one_of(types: &[u8], byte: u8) -> bool
+    ensures { result ≡ list_any (λ type. type == byte) types.now }
+{
+    types.iter().any(|one| *one == byte)
+}
+
+impl<'a> FormedPage<'a> {
+    /// Whether all its bytes are 0.
+    pub(crate) fn is_zero(&self) -> bool
+        ensures { result ≡ is_zero_page self.now }
+    {
+        is_zero(self.bytes)
+    }
+
+    /// Its type; a zero page has none.
+    pub(crate) fn page_type(&self) -> Option<u8>
+        ensures { result ≡ type_in self.now }
+    {
+        let byte = self.bytes[25];
+        if is_zero(self.bytes) || !is_one_of(&[0, 2, 3, 4, 5, 6, 7, 8, 9, 10, 11, 12, 13], byte) {
+            return None;
+        }
+        Some(byte)
+    }
+
+    /// Its header; all 0 where it has none.
+    pub(crate) fn header(&self) -> Header
+        ensures { result ≡ header_in self.now }
+    {
+        if is_zero(self.bytes) || !is_one_of(&[0, 2, 3, 4, 5, 6, 7, 12, 13], self.bytes[25]) {
+            return NO_HEADER;
+        }
+        header(self.bytes, self.order)
+    }
+
+    /// The types that the root of a tree may have, where this is btree metadata: those of a recno where it is one.
+    pub(crate) fn root_types(&self) -> &'static [u8]
+        ensures { result.now ≡ root_types self.now }
+    {
+        if is_zero(self.bytes) {
+            return &[];
+        }
+        match self.bytes[25] {
+            9 if u32_at(self.bytes, 48, self.order) & 2 != 0 => &[4, 6],
+            9 => &[3, 5],
+            _ => &[],
+        }
+    }
+
+    /// The types that a page below may have, where this is an internal page: those of a leaf where this has level 2.
+    pub(crate) fn child_types(&self) -> &'static [u8]
+        ensures { result.now ≡ child_types self.now }
+    {
+        if is_zero(self.bytes) {
+            return &[];
+        }
+        let is_lowest = self.bytes[24] == 2;
+        match self.bytes[25] {
+            3 if is_lowest => &[5, 12],
+            3 => &[3],
+            4 if is_lowest => &[6],
+            4 => &[4],
+            _ => &[],
+        }
+    }
+}
+
+// The roles that a page may have.
+impl<'a> FormedPage<'a> {
+    /// Whether it's metadata.
+    #[tactic(auto, using(crate::proofs::RoleLemmas::meta_is))]
+    pub(crate) fn is_meta(&self) -> bool
+        ensures { result ≡ is_meta self.now }
+    {
+        let byte = self.bytes[25];
+        byte == 8 || byte == 9 || byte == 10
+    }
+
+    /// Whether it's the metadata of a hash table.
+    #[tactic(auto, using(crate::proofs::RoleLemmas::hash_meta_is))]
+    pub(crate) fn is_hash_meta(&self) -> bool
+        ensures { result ≡ is_hash_meta self.now }
+    {
+        self.bytes[25] == 8
+    }
+
+    /// Whether a table may hold it in reserve, as long as no reference names it.
+    #[tactic(auto, using(crate::proofs::RoleLemmas::spare_zero, crate::proofs::RoleLemmas::spare_free, crate::proofs::RoleLemmas::spare_hash, crate::proofs::RoleLemmas::spare_other))]
+    pub(crate) fn is_spare(&self) -> bool
+        ensures { result ≡ is_spare self.now }
+    {
+        if is_zero(self.bytes) {
+            return true;
+        }
+        let header = header(self.bytes, self.order);
+        match self.bytes[25] {
+            0 => header.next == 0,
+            2 | 13 => header.entries == 0 && header.previous == 0 && header.next == 0,
+            _ => false,
+        }
+    }
+}
