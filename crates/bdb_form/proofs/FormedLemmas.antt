@@ -1,11 +1,11 @@
 -- What it means for a page with an index that no row of form holds for it.
-use Rattle.std.proofs.Common.{◌≡◌, ℕ, ◌%◌, ◌<◌, ◌≤◌, List, length, arith, refl, sym, ◌∙◌, ap, ltb-false, nat_eq, eq-eqb}
-use Rattle.std.specs.Prelude.{cond, nat_lt, Bool, true, false, Option, Some, None, Result, Ok, Err}
+use Rattle.std.proofs.Common.{◌≡◌, ℕ, ◌%◌, ◌<◌, ◌≤◌, List, length, drop, ◌+◌, arith, refl, sym, ◌∙◌, ap, ltb-false, nat_eq, eq-eqb, eqb-true}
+use Rattle.std.specs.Prelude.{cond, not, ◌==◌, IsTrue, nat_lt, Bool, true, false, Option, Some, None, Result, Ok, Err}
 use Rattle.bdb_model.specs.declared.kinds.Order.{Order}
-use Rattle.bdb_model.specs.Numbers.{byte_at}
-use Rattle.bdb_model.specs.Page.{PageType}
-use Rattle.bdb_model.specs.Reading.{entries_of, index_end}
-use Rattle.bdb_model.specs.Rows.{listed_code, index_rows, item_rows, item_row, is_wrong_count, is_wrong_level, item_code}
+use Rattle.bdb_model.specs.Numbers.{byte_at, four_at, two_at}
+use Rattle.bdb_model.specs.Page.{PageType, OverflowPage, Queue}
+use Rattle.bdb_model.specs.Reading.{entries_of, index_end, is_zero, page_as, page_type}
+use Rattle.bdb_model.specs.Rows.{body_code, is_tree_type, page_code, queue_code, listed_code, index_rows, item_rows, item_row, is_wrong_count, is_wrong_level, item_code}
 use Rattle.bdb_model.specs.Table.{Row, first_row, answer, least_below}
 use Rattle.std.specs.Prelude.{slice_get}
 use Rattle.std.specs.Result.{result_err}
@@ -13,7 +13,7 @@ use Rattle.bdb_model.specs.declared.pages.ItemFault.{ItemFault}
 use Rattle.bdb_model.specs.Reading.{listed}
 use Rattle.bdb_layout.specs.Seen.{answer_seen}
 use Rattle.bdb_model.proofs.PageLemmas.{answer_value, answer_row, length_items, get_item, least_below_none, map_none}
-use Rattle.bdb_form.specs.Formed.{IsListed}
+use Rattle.bdb_form.specs.Formed.{HoldsData, IsListed}
 
 -- no row of the page's index holds, and none of an item
 parts : (first least : Option ℕ) → ◌≡◌ {A = Option ℕ} (elim first [ Some code ↦ Some code | None ↦ least ]) None → (first ≡ None) × (least ≡ None)
@@ -85,3 +85,53 @@ pub index_room : (t : PageType) (order : Order) (page : List ℕ) → first_row 
 unfolding index_rows
 index_room t order page none =
     ltb-false _ _ (three_false (nat_lt (length page) (index_end order page)) (is_wrong_level t (byte_at page 24)) (is_wrong_count t (entries_of order page)) 19 20 21 none).0
+
+-- Pages that are known to have no fault of form.
+
+code_parts : (zeros a b : Bool) (body : Option ℕ)
+    → ◌≡◌ {A = Option ℕ} (elim zeros [ true ↦ None | false ↦ elim (cond {A = Option ℕ} a (Some 1) (cond {A = Option ℕ} b (Some 2) None)) [ Some code ↦ Some code | None ↦ body ] ]) None
+    → zeros ≡ false → (b ≡ false) × (body ≡ None)
+code_parts true a b body none other = absurd cc
+code_parts false true b body none other = absurd cc
+code_parts false false true body none other = absurd cc
+code_parts false false false body none other = (refl, none)
+
+is_from_not : (b : Bool) → not b ≡ false → IsTrue b
+is_from_not true same = refl
+is_from_not false same = absurd cc
+
+-- a page that isn't a zero page has one of the types of a btree or hash file
+pub tree_type : (order : Order) (number : ℕ) (page : List ℕ) → page_code order number page ≡ None → is_zero page ≡ false → IsTrue (is_tree_type (byte_at page 25))
+unfolding page_code
+tree_type order number page none other =
+    is_from_not (is_tree_type (byte_at page 25)) (code_parts (is_zero page) _ (not (is_tree_type (byte_at page 25))) _ none other).0
+
+pub tree_body : (order : Order) (number : ℕ) (page : List ℕ) → page_code order number page ≡ None → is_zero page ≡ false → body_code order page (page_type (byte_at page 25)) ≡ None
+unfolding page_code
+tree_body order number page none other = (code_parts (is_zero page) _ (not (is_tree_type (byte_at page 25))) _ none other).1
+
+-- a page of a queue file that isn't a zero page has the type of its records
+queue_parts : (zeros a b : Bool) → ◌≡◌ {A = Option ℕ} (elim zeros [ true ↦ None | false ↦ cond {A = Option ℕ} a (Some 1) (cond {A = Option ℕ} b (Some 2) None) ]) None → zeros ≡ false → b ≡ false
+queue_parts true a b none other = absurd cc
+queue_parts false true b none other = absurd cc
+queue_parts false false true none other = absurd cc
+queue_parts false false false none other = refl
+
+queue_type : (order : Order) (number : ℕ) (page : List ℕ) → queue_code order number page ≡ None → is_zero page ≡ false → byte_at page 25 ≡ 11
+unfolding queue_code
+queue_type order number page none other =
+    eqb-true (byte_at page 25) 11 (is_from_not (byte_at page 25 == 11) (queue_parts (is_zero page) _ (not (byte_at page 25 == 11)) none other))
+
+-- the data of an overflow page lie on it
+pub holds_data : (order : Order) (page : List ℕ) → length page ≤ 32768 → 26 ≤ length page → body_code order page (page_type (byte_at page 25)) ≡ None → byte_at page 25 ≡ 7 → HoldsData order page
+holds_data order page size header none seven =
+    let code : body_code order page OverflowPage ≡ None = ap (λ b. body_code order page (page_type b)) (sym seven) ∙ none in
+    record { size = size; header = header; room = ltb-false (length page) (26 + two_at order page 22) (room_false _ code) }
+  where
+    room_false : (b : Bool) → cond {A = Option ℕ} b (Some 25) None ≡ None → b ≡ false
+    room_false true same = absurd cc
+    room_false false same = refl
+
+-- the page of records that such a page stands for
+pub queue_page : (order : Order) (number : ℕ) (page : List ℕ) → queue_code order number page ≡ None → is_zero page ≡ false → Queue (four_at order page 8) (drop 28 page) ≡ page_as order page (page_type (byte_at page 25))
+queue_page order number page none other = ap (λ b. page_as order page (page_type b)) (sym (queue_type order number page none other))

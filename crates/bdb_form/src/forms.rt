@@ -1,6 +1,6 @@
-ghost use Rattle.std.specs.Prelude.{◌≡◌, ◌≤◌, IsTrue, length};
+ghost use Rattle.std.specs.Prelude.{◌≡◌, ◌≤◌, None, IsTrue, length};
 ghost use Rattle.bdb_form.specs.Formed.{unless};
-ghost use Rattle.bdb_form.specs.Seen.{form_seen};
+ghost use Rattle.bdb_form.specs.Seen.{form_seen, page_seen};
 ghost use Rattle.bdb_model.specs.HeadOf.{is_page_size};
 ghost use Rattle.bdb_model.specs.Numbers.{byte_at};
 ghost use Rattle.bdb_model.specs.Reading.{abstract_page, is_zero, page_as, page_type};
@@ -28,6 +28,35 @@ pub fn form(page: &[u8], number: u32, order: Order) -> Result<PageView<'_>, u8>
         return Err(code);
     }
     typed(page, order)
+}
+
+/// The view of a page above 0 of a btree or hash file for which no row of form is known to hold, without
+/// another look at its items.
+#[tactic(auto, using(crate::proofs::FormedLemmas::tree_type, crate::proofs::FormedLemmas::tree_body), unfolding(bdb_model::specs::Reading::abstract_page))]
+pub fn known_form(page: &[u8], number: u32, order: Order) -> PageView<'_>
+    requires size { IsTrue (is_page_size (length page.now)) }
+    requires form { page_code order number page.now ≡ None }
+    ensures { page_seen result ≡ abstract_page order page.now }
+{
+    let _ = number;
+    if is_zero(page) {
+        return PageView::Zero(ZeroView);
+    }
+    known_type(page, order)
+}
+
+/// The view of a page above 0 of a queue file for which no row of form is known to hold.
+#[tactic(auto, using(crate::proofs::FormedLemmas::queue_page), unfolding(bdb_model::specs::Reading::abstract_page))]
+pub fn known_queue_form(page: &[u8], number: u32, order: Order) -> PageView<'_>
+    requires size { IsTrue (is_page_size (length page.now)) }
+    requires form { queue_code order number page.now ≡ None }
+    ensures { page_seen result ≡ abstract_page order page.now }
+{
+    let _ = number;
+    if is_zero(page) {
+        return PageView::Zero(ZeroView);
+    }
+    PageView::Queue(QueueView::over(page, order))
 }
 
 /// A page above 0 of a queue file as its view, or the code of the first row of form that holds for it.
@@ -95,5 +124,27 @@ fn typed(page: &[u8], order: Order) -> Result<PageView<'_>, u8>
         8 | 9 => Ok(PageView::Meta(MetaView::over(page, order))),
         12 => Ok(PageView::DupLeaf(DupLeafView::parse(page, order)?)),
         _ => Ok(PageView::Hash(HashView::parse(page, order)?)),
+    }
+}
+
+// The view of a page of a known type, for which no row of form holds.
+#[tactic(auto, using(crate::proofs::FormedLemmas::holds_data))]
+fn known_type(page: &[u8], order: Order) -> PageView<'_>
+    requires header { 26 ≤ length page.now }
+    requires size { length page.now ≤ 32768 }
+    requires of_tree { IsTrue (is_tree_type (byte_at page.now 25)) }
+    requires form { body_code order page.now (page_type (byte_at page.now 25)) ≡ None }
+    ensures { page_seen result ≡ page_as order page.now (page_type (byte_at page.now 25)) }
+{
+    match page[25] {
+        0 => PageView::Free(FreeView::over(page, order)),
+        3 => PageView::Internal(InternalView::over(page, order)),
+        4 => PageView::RecnoInternal(RecnoInternalView::over(page, order)),
+        5 => PageView::Leaf(LeafView::over(page, order)),
+        6 => PageView::RecnoLeaf(RecnoLeafView::over(page, order)),
+        7 => PageView::Overflow(OverflowView::over(page, order)),
+        8 | 9 => PageView::Meta(MetaView::over(page, order)),
+        12 => PageView::DupLeaf(DupLeafView::over(page, order)),
+        _ => PageView::Hash(HashView::over(page, order)),
     }
 }

@@ -1,4 +1,4 @@
-ghost use Rattle.std.specs.Prelude.{◌≡◌, ◌+◌, ◌*◌, ◌<◌, ◌≤◌, length, slice_get, Some};
+ghost use Rattle.std.specs.Prelude.{◌≡◌, ◌+◌, ◌*◌, ◌<◌, ◌≤◌, length, slice_get, Some, None};
 ghost use Rattle.bdb_form.specs.Formed.{unless};
 ghost use Rattle.bdb_layout.specs.Seen.{hash_item_seen};
 ghost use Rattle.bdb_model.specs.Page.{HashPage};
@@ -31,6 +31,16 @@ impl<'a> Model for HashView<'a> {
 
 #[tactic(auto, using(bdb_model::proofs::PageLemmas::header_listed, bdb_model::proofs::PageLemmas::length_items, bdb_model::proofs::PageLemmas::get_item, bdb_model::proofs::PageLemmas::index_offset, crate::proofs::FormedLemmas::listed_room, crate::proofs::FormedLemmas::listed_even, crate::proofs::FormedLemmas::whole_item))]
 impl<'a> HashView<'a> {
+    // The view of a page of this type for which no row of form holds.
+    pub(crate) fn over(page: &'a [u8], order: Order) -> HashView<'a>
+        requires header { 26 ≤ length page.now }
+        requires size { length page.now ≤ 32768 }
+        requires formed { listed_code order page.now HashPage ≡ None }
+        ensures { result ≡ listed order page.now (hash_item_at order page.now) }
+    {
+        HashView { page, order }
+    }
+
     // The view of a page of this type, or the code of the first row of form that holds for it.
     pub(crate) fn parse(page: &'a [u8], order: Order) -> Result<HashView<'a>, u8>
         requires header { 26 ≤ length page.now }
@@ -39,7 +49,7 @@ impl<'a> HashView<'a> {
     {
         match listed_code(page, order, Indexed::Hash) {
             Some(code) => Err(code),
-            None => Ok(HashView { page, order }),
+            None => Ok(HashView::over(page, order)),
         }
     }
 

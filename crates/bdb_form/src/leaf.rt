@@ -1,4 +1,4 @@
-ghost use Rattle.std.specs.Prelude.{◌≡◌, ◌+◌, ◌*◌, ◌<◌, ◌≤◌, length, slice_get, slice_index, Some};
+ghost use Rattle.std.specs.Prelude.{◌≡◌, ◌+◌, ◌*◌, ◌<◌, ◌≤◌, length, slice_get, slice_index, Some, None};
 ghost use Rattle.bdb_form.specs.Formed.{shares_at, unless};
 ghost use Rattle.bdb_layout.specs.Seen.{leaf_item_seen};
 ghost use Rattle.bdb_model.specs.Page.{LeafPage};
@@ -31,6 +31,16 @@ impl<'a> Model for LeafView<'a> {
 
 #[tactic(auto, using(bdb_model::proofs::PageLemmas::header_listed, bdb_model::proofs::PageLemmas::length_items, bdb_model::proofs::PageLemmas::get_item, bdb_model::proofs::PageLemmas::index_offset, crate::proofs::FormedLemmas::listed_room, crate::proofs::FormedLemmas::listed_even, crate::proofs::FormedLemmas::whole_item))]
 impl<'a> LeafView<'a> {
+    // The view of a page of this type for which no row of form holds.
+    pub(crate) fn over(page: &'a [u8], order: Order) -> LeafView<'a>
+        requires header { 26 ≤ length page.now }
+        requires size { length page.now ≤ 32768 }
+        requires formed { listed_code order page.now LeafPage ≡ None }
+        ensures { result ≡ listed order page.now (leaf_item_at order page.now) }
+    {
+        LeafView { page, order }
+    }
+
     // The view of a page of this type, or the code of the first row of form that holds for it.
     pub(crate) fn parse(page: &'a [u8], order: Order) -> Result<LeafView<'a>, u8>
         requires header { 26 ≤ length page.now }
@@ -39,7 +49,7 @@ impl<'a> LeafView<'a> {
     {
         match listed_code(page, order, Indexed::Leaf) {
             Some(code) => Err(code),
-            None => Ok(LeafView { page, order }),
+            None => Ok(LeafView::over(page, order)),
         }
     }
 

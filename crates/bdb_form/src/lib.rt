@@ -19,7 +19,7 @@ mod zero;
 
 pub use dup_leaf::DupLeafView;
 pub use first::first_form;
-pub use forms::{form, queue_form};
+pub use forms::{form, known_form, known_queue_form, queue_form};
 pub use free::FreeView;
 pub use hash::HashView;
 pub use internal::InternalView;

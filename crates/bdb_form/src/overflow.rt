@@ -30,6 +30,14 @@ impl<'a> Model for OverflowView<'a> {
 }
 
 impl<'a> OverflowView<'a> {
+    // The view of a page of this type whose data lie on it.
+    pub(crate) fn over(page: &'a [u8], order: Order) -> OverflowView<'a>
+        requires { HoldsData order page.now }
+        ensures { result ≡ record { header = header_of order page.now; bytes = take (two_at order page.now 22) (drop 26 page.now) } }
+    {
+        OverflowView { page, order }
+    }
+
     // The view of a page of this type, or the code of the row of form that holds for it.
     pub(crate) fn parse(page: &'a [u8], order: Order) -> Result<OverflowView<'a>, u8>
         requires header { 26 ≤ length page.now }
@@ -39,7 +47,7 @@ impl<'a> OverflowView<'a> {
         if page.len() < 26 + usize::from(u16_at(page, 22, order)) {
             return Err(25);
         }
-        Ok(OverflowView { page, order })
+        Ok(OverflowView::over(page, order))
     }
 
     /// The fields of the page's header: its entries are the references to the chain that it heads.

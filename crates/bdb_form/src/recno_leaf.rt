@@ -1,4 +1,4 @@
-ghost use Rattle.std.specs.Prelude.{◌≡◌, ◌<◌, ◌≤◌, length, slice_get, Some};
+ghost use Rattle.std.specs.Prelude.{◌≡◌, ◌<◌, ◌≤◌, length, slice_get, Some, None};
 ghost use Rattle.bdb_form.specs.Formed.{unless};
 ghost use Rattle.bdb_layout.specs.Seen.{leaf_item_seen};
 ghost use Rattle.bdb_model.specs.Page.{RecnoLeafPage};
@@ -32,6 +32,16 @@ impl<'a> Model for RecnoLeafView<'a> {
 
 #[tactic(auto, using(bdb_model::proofs::PageLemmas::header_listed, bdb_model::proofs::PageLemmas::length_items, bdb_model::proofs::PageLemmas::get_item, crate::proofs::FormedLemmas::listed_room, crate::proofs::FormedLemmas::whole_item))]
 impl<'a> RecnoLeafView<'a> {
+    // The view of a page of this type for which no row of form holds.
+    pub(crate) fn over(page: &'a [u8], order: Order) -> RecnoLeafView<'a>
+        requires header { 26 ≤ length page.now }
+        requires size { length page.now ≤ 32768 }
+        requires formed { listed_code order page.now RecnoLeafPage ≡ None }
+        ensures { result ≡ listed order page.now (leaf_item_at order page.now) }
+    {
+        RecnoLeafView { page, order }
+    }
+
     // The view of a page of this type, or the code of the first row of form that holds for it.
     pub(crate) fn parse(page: &'a [u8], order: Order) -> Result<RecnoLeafView<'a>, u8>
         requires header { 26 ≤ length page.now }
@@ -40,7 +50,7 @@ impl<'a> RecnoLeafView<'a> {
     {
         match listed_code(page, order, Indexed::RecnoLeaf) {
             Some(code) => Err(code),
-            None => Ok(RecnoLeafView { page, order }),
+            None => Ok(RecnoLeafView::over(page, order)),
         }
     }
 

@@ -5,8 +5,7 @@ use Rattle.std.proofs.lemmas.Bool.{ltb-false, or_parts}
 use Rattle.std.proofs.lemmas.List.FromFn.{get_or-map-range_with_len}
 use Rattle.bdb_form.specs.declared.view.PageView.{PageView}
 use Rattle.bdb_form.specs.declared.view.PageView.TheVariants.{Zero as ZeroView, Free as FreeView, Meta as MetaView, Leaf as LeafView, Internal as InternalView, RecnoLeaf as RecnoLeafView, RecnoInternal as RecnoInternalView, DupLeaf as DupLeafView, Hash as HashView, Overflow as OverflowView, Queue as QueueView}
-use Rattle.bdb_form.specs.Formed.{unless}
-use Rattle.bdb_form.specs.Seen.{form_seen, page_seen}
+use Rattle.bdb_form.specs.Seen.{page_seen}
 use Rattle.bdb_model.specs.declared.kinds.Order.{Order}
 use Rattle.bdb_model.specs.declared.metadata.FileKind.{FileKind}
 use Rattle.bdb_model.specs.declared.metadata.FileKind.TheVariants.{Btree, Hash, Queue}
@@ -14,7 +13,7 @@ use Rattle.bdb_model.specs.declared.metadata.Head.{Head}
 use Rattle.bdb_model.specs.File.{file_of, page_at, page_bytes}
 use Rattle.bdb_model.specs.HeadOf.{faulted, form_fault, head_of, is_page_size}
 use Rattle.bdb_model.specs.Numbers.{byte_at}
-use Rattle.bdb_model.specs.Page.{Page, Zero, Meta, BtreeFields, HashFields, NoType, PageType, FreePage, HashPage, InternalPage, RecnoInternalPage, LeafPage, RecnoLeafPage, OverflowPage, HashMetaPage, BtreeMetaPage, QueueMetaPage, QueuePage, DupLeafPage, OtherPage}
+use Rattle.bdb_model.specs.Page.{Zero, Meta, BtreeFields, HashFields, NoType, PageType, FreePage, HashPage, InternalPage, RecnoInternalPage, LeafPage, RecnoLeafPage, OverflowPage, HashMetaPage, BtreeMetaPage, QueueMetaPage, QueuePage, DupLeafPage, OtherPage}
 use Rattle.bdb_model.specs.Reading.{abstract_page, btree_fields, hash_fields, is_zero, page_as, page_type}
 use Rattle.bdb_model.specs.References.{names_of, refs}
 use Rattle.bdb_model.specs.Rows.{body_code, form_code, identity_rows, is_tree_type, lacks_spare, may_have_type, metadata_rows, page_code, type_of, typed_code}
@@ -123,11 +122,6 @@ other_formed head (suc n) page forest none table tree =
     ∙ code_same (is_zero page) identity (typed_code head (suc n) page (page_type byte)) (body_code head.order page (page_type byte))
     (λ passed. (is_body byte (differs byte 8 table) (differs byte 9 tree) (no_queue_type byte (two_none _ _ passed))).same head (suc n) page))
     ∙ none
-
--- the page that a view shows
-pub seen_page : (view : PageView) (code : Option ℕ) (page : Page) → form_seen (Ok view) ≡ unless code page → code ≡ None → page_seen view ≡ page
-seen_page view None page seen none = cc
-seen_page view (Some code) page seen none = absurd cc
 
 abbrev pub is_meta_type : PageType → Bool
 is_meta_type HashMetaPage = true

@@ -1,5 +1,5 @@
 -- In a file that linking accepts the leaves below a page have no page twice: a child has one holder, so two ways up from a page are one.
-use Rattle.std.proofs.Common.{◌≡◌, ◌⊎◌, ℕ, zero, suc, ◌+◌, ◌≤◌, Bool, true, false, cond, List, [], ◌∷◌, ◌++◌, map, length, arith, refl, sym, ◌∙◌, ap, subst, inl, inr, length-append}
+use Rattle.std.proofs.Common.{◌≡◌, ◌⊎◌, ℕ, zero, suc, ◌+◌, ◌≤◌, Bool, true, false, cond, List, [], ◌∷◌, ◌++◌, map, length, Option, Some, None, arith, refl, sym, ◌∙◌, ap, subst, inl, inr, length-append}
 use Rattle.std.specs.Prelude.{nat_lt, ◌==◌}
 use Rattle.std.specs.List.{Contains, filter, flat_map, range_with_len}
 use Rattle.std.proofs.lemmas.Bool.{cases_Bool, eqb-false, eq-eqb, ltb-false, or_parts}
@@ -11,12 +11,15 @@ use Rattle.bdb_model.specs.declared.references.Sort.TheVariants.{Child}
 use Rattle.bdb_model.specs.File.{File, file_of, page_at}
 use Rattle.bdb_model.specs.References.{refs, asked_by, fit_rows, fit_code}
 use Rattle.bdb_model.specs.Graph.{Owner, all_references, has_heads_alone, held_by, is_head_reference, owners}
+use Rattle.bdb_model.specs.Leaves.{children_in, leaves_in, leaves_under}
 use Rattle.bdb_model.specs.Verdict.{holding, ownership_faults, ownership_rows, reference_faults}
 use Rattle.bdb_model.proofs.GraphLemmas.{each_fits}
 use Rattle.bdb_model.proofs.MemberLemmas.{first_member, in_range, later_member, member_cases, no_member, of_filter, of_flat_map, of_map}
 use Rattle.bdb_model.proofs.VerdictLemmas.{AllFail, all_fail, no_codes_at, none_is_first_row}
-use Rattle.bdb_graph.specs.Forest.{AllDistinct, IsWayDown, Names, NoLeafTwice, NotIn, children_of, is_child, leaves_in, leaves_or}
+use Rattle.bdb_graph.specs.Forest.{AllDistinct, IsWayDown, Names, NoLeafTwice, NotIn}
+use Rattle.bdb_graph.specs.Linked.{IsForest}
 use Rattle.bdb_graph.specs.Linking.{graph_faults}
+use Rattle.bdb_graph.proofs.ChildLemmas.{NamesChild, child_named, children_are, children_of, is_child}
 use Rattle.bdb_graph.proofs.ForestLemmas.{IsSoundGraph, few_owners, in_filter, named_owner, no_page_twice_below, sound_graph}
 
 -- Members and filters.
@@ -91,15 +94,13 @@ child_is_other : (sort : Sort) → is_child sort ≡ true → is_head_reference 
 child_is_other Child child = refl
 child_is_other sort child = absurd cc
 
-child_named : (file : File) (p : ℕ) (reference : Reference) → Contains (refs file p) reference → is_child reference.sort ≡ true → Names file p reference.target
-child_named file p reference held child = record { reference = reference; held = held; target = refl; other = child_is_other reference.sort child }
+reference_names : (file : File) (p : ℕ) (reference : Reference) → Contains (refs file p) reference → is_child reference.sort ≡ true → Names file p reference.target
+reference_names file p reference held child = record { reference = reference; held = held; target = refl; other = child_is_other reference.sort child }
 
 child_names : (file : File) (p q : ℕ) → Contains (children_of file p) q → Names file p q
 child_names file p q at =
-    let children : List Reference = filter (λ (r : Reference). is_child r.sort) (refs file p) in
-    let found : (r : Reference) × Contains children r × (r.target ≡ q) = of_map (λ (r : Reference). r.target) children q at in
-    let held : Contains (refs file p) found.0 × (is_child found.0.sort ≡ true) = of_filter (λ (r : Reference). is_child r.sort) (refs file p) found.0 found.1 in
-    subst (Names file p) found.2 (child_named file p found.0 held.0 held.1)
+    let named : NamesChild file p q = child_named file p q at in
+    subst (Names file p) named.target (reference_names file p named.reference named.held (ap is_child named.child))
 
 -- a page that is named is there, and isn't page 0
 named_inside : (file : File) (p q : ℕ) → reference_faults file ≡ [] → p ≤ file.last → Names file p q → (1 ≤ q) × (q ≤ file.last)
@@ -178,7 +179,7 @@ held_few file p q low =
 children_distinct : (file : File) (p : ℕ) → IsSoundGraph file → p ≤ file.last → AllDistinct (children_of file p)
 children_distinct file p sound low =
     distinct_targets (λ (r : Reference). is_child r.sort) (refs file p) (λ r at child.
-    at_most _ _ (held_few file p r.target low) (owned_once file p r.target sound low (child_named file p r at child)))
+    at_most _ _ (held_few file p r.target low) (owned_once file p r.target sound low (reference_names file p r at child)))
 
 -- Ways up by holders.
 
@@ -191,21 +192,50 @@ climb_more : (k : ℕ) (file : File) (x c p : ℕ) → Climbs k file x c → p �
 climb_more zero file x c p up low names = (p, low, subst (Names file p) (sym up) names, refl)
 climb_more (suc k) file x c p up low names = (up.0, up.1, up.2, climb_more k file up.0 c p up.3 low names)
 
-leaf_cases : (p : ℕ) (qs : List ℕ) (x : ℕ) → Contains (leaves_or p qs) x → (p ≡ x) ⊎ Contains qs x
-leaf_cases p [] x at = inl (only p x at)
-leaf_cases p (q ∷ qs) x at = inr at
+children_case : (o : Option (List ℕ)) → ((cs : List ℕ) × (o ≡ Some cs)) ⊎ (o ≡ None)
+children_case (Some cs) = inl (cs, refl)
+children_case None = inr refl
+
+leaf_case : (levels : ℕ) (file : File) (c x : ℕ) → children_in (page_at file c) ≡ None → Contains (leaves_in (suc levels) file c) x → c ≡ x
+unfolding leaves_in
+leaf_case levels file c x none at = only c x (subst (λ o. Contains (leaves_under (leaves_in levels file) c o) x) none at)
+
+below_case : (levels : ℕ) (file : File) (c x : ℕ) (cs : List ℕ) → children_in (page_at file c) ≡ Some cs → Contains (leaves_in (suc levels) file c) x → (d : ℕ) × Contains cs d × Contains (leaves_in levels file d) x
+unfolding leaves_in
+below_case levels file c x cs some at = of_flat_map (leaves_in levels file) cs x (subst (λ o. Contains (leaves_under (leaves_in levels file) c o) x) some at)
+
+no_level : (file : File) (c x : ℕ) → Contains (leaves_in zero file c) x → c ≡ x
+unfolding leaves_in
+no_level file c x at = only c x at
+
+-- the pages right below an internal page
+record IsBelow (file : File) (p : ℕ) (cs : List ℕ) : Type 0 where
+  names : (c : ℕ) → Contains cs c → Names file p c
+  inside : (c : ℕ) → Contains cs c → c ≤ file.last
+  distinct : AllDistinct cs
+
+is_below : (image : List ℕ) (p : ℕ) (cs : List ℕ) → IsForest image → p ≤ (file_of image).last → children_in (page_at (file_of image) p) ≡ Some cs → IsBelow (file_of image) p cs
+is_below image p cs forest low some =
+    let file : File = file_of image in
+    let sound : IsSoundGraph file = sound_graph image forest.linked in
+    let below : IsBelow file p (children_of file p) = record {
+      names = child_names file p;
+      inside = λ c at. (named_inside file p c sound.references low (child_names file p c at)).1;
+      distinct = children_distinct file p sound low;
+    } in
+    subst (IsBelow file p) (children_are image p cs forest low some) below
 
 -- from a leaf at or below a page holders lead up to that page
-leaf_climbs : (levels : ℕ) (file : File) (c x : ℕ) → IsSoundGraph file → c ≤ file.last → Contains (leaves_in levels file c) x → (k : ℕ) × Climbs k file x c
-leaf_climbs zero file c x sound low at = (zero, sym (only c x at))
-leaf_climbs (suc levels) file c x sound low at =
-    elim (leaf_cases c (flat_map (leaves_in levels file) (children_of file c)) x at) [
-      | inl same ↦ (zero, sym same)
-      | inr below ↦
-          let part : (d : ℕ) × Contains (children_of file c) d × Contains (leaves_in levels file d) x = of_flat_map (leaves_in levels file) (children_of file c) x below in
-          let names : Names file c part.0 = child_names file c part.0 part.1 in
-          let up : (k : ℕ) × Climbs k file x part.0 = leaf_climbs levels file part.0 x sound (named_inside file c part.0 sound.references low names).1 part.2 in
-          (suc up.0, climb_more up.0 file x part.0 c up.1 low names)
+leaf_climbs : (levels : ℕ) (image : List ℕ) (c x : ℕ) → IsForest image → c ≤ (file_of image).last → Contains (leaves_in levels (file_of image) c) x → (k : ℕ) × Climbs k (file_of image) x c
+leaf_climbs zero image c x forest low at = (zero, sym (no_level (file_of image) c x at))
+leaf_climbs (suc levels) image c x forest low at =
+    elim (children_case (children_in (page_at (file_of image) c))) [
+      | inr none ↦ (zero, sym (leaf_case levels (file_of image) c x none at))
+      | inl (cs, some) ↦
+          let below : IsBelow (file_of image) c cs = is_below image c cs forest low some in
+          let part : (d : ℕ) × Contains cs d × Contains (leaves_in levels (file_of image) d) x = below_case levels (file_of image) c x cs some at in
+          let up : (k : ℕ) × Climbs k (file_of image) x part.0 = leaf_climbs levels image part.0 x forest (below.inside part.0 part.1) part.2 in
+          (suc up.0, climb_more up.0 (file_of image) x part.0 c up.1 low (below.names part.0 part.1))
     ]
 
 -- a page that is above another isn't below it too
@@ -237,22 +267,33 @@ one_child (suc j) (suc k) image c d p x none low names_c names_d up_c up_d =
 
 -- Leaves.
 
-leaves_distinct : (p : ℕ) (qs : List ℕ) → AllDistinct qs → AllDistinct (leaves_or p qs)
-leaves_distinct p [] distinct = (tt, tt)
-leaves_distinct p (q ∷ qs) distinct = distinct
+leaf_alone : (levels : ℕ) (file : File) (p : ℕ) → children_in (page_at file p) ≡ None → AllDistinct (leaves_in (suc levels) file p)
+unfolding leaves_in
+leaf_alone levels file p none = subst (λ o. AllDistinct (leaves_under (leaves_in levels file) p o)) (sym none) (tt, tt)
 
-leaves_in_distinct : (levels : ℕ) (image : List ℕ) (p : ℕ) → graph_faults image ≡ [] → p ≤ (file_of image).last → AllDistinct (leaves_in levels (file_of image) p)
-leaves_in_distinct zero image p none low = (tt, tt)
-leaves_in_distinct (suc levels) image p none low =
+parts_distinct : (levels : ℕ) (file : File) (p : ℕ) (cs : List ℕ) → children_in (page_at file p) ≡ Some cs → AllDistinct (flat_map (leaves_in levels file) cs) → AllDistinct (leaves_in (suc levels) file p)
+unfolding leaves_in
+parts_distinct levels file p cs some distinct = subst (λ o. AllDistinct (leaves_under (leaves_in levels file) p o)) (sym some) distinct
+
+one_distinct : (file : File) (p : ℕ) → AllDistinct (leaves_in zero file p)
+unfolding leaves_in
+one_distinct file p = (tt, tt)
+
+leaves_in_distinct : (levels : ℕ) (image : List ℕ) (p : ℕ) → IsForest image → p ≤ (file_of image).last → AllDistinct (leaves_in levels (file_of image) p)
+leaves_in_distinct zero image p forest low = one_distinct (file_of image) p
+leaves_in_distinct (suc levels) image p forest low =
     let file : File = file_of image in
-    let sound : IsSoundGraph file = sound_graph image none in
-    let inside : (c : ℕ) → Contains (children_of file p) c → c ≤ file.last = λ c at. (named_inside file p c sound.references low (child_names file p c at)).1 in
-    leaves_distinct p (flat_map (leaves_in levels file) (children_of file p))
-    (distinct_parts (leaves_in levels file) (children_of file p) (children_distinct file p sound low) (λ c at. leaves_in_distinct levels image c none (inside c at))
-    (λ c d x at_c at_d in_c in_d.
-    let up_c : (k : ℕ) × Climbs k file x c = leaf_climbs levels file c x sound (inside c at_c) in_c in
-    let up_d : (k : ℕ) × Climbs k file x d = leaf_climbs levels file d x sound (inside d at_d) in_d in
-    one_child up_c.0 up_d.0 image c d p x none low (child_names file p c at_c) (child_names file p d at_d) up_c.1 up_d.1))
+    elim (children_case (children_in (page_at file p))) [
+      | inr none ↦ leaf_alone levels file p none
+      | inl (cs, some) ↦
+          let below : IsBelow file p cs = is_below image p cs forest low some in
+          parts_distinct levels file p cs some
+          (distinct_parts (leaves_in levels file) cs below.distinct (λ c at. leaves_in_distinct levels image c forest (below.inside c at))
+          (λ c d x at_c at_d in_c in_d.
+          let up_c : (k : ℕ) × Climbs k file x c = leaf_climbs levels image c x forest (below.inside c at_c) in_c in
+          let up_d : (k : ℕ) × Climbs k file x d = leaf_climbs levels image d x forest (below.inside d at_d) in_d in
+          one_child up_c.0 up_d.0 image c d p x forest.linked low (below.names c at_c) (below.names d at_d) up_c.1 up_d.1))
+    ]
 
 pub no_leaf_twice : NoLeafTwice
-no_leaf_twice image levels p none low = leaves_in_distinct levels image p none low
+no_leaf_twice image levels p forest low = leaves_in_distinct levels image p forest low

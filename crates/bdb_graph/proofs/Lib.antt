@@ -1,3 +1,4 @@
+pub mod ChildLemmas
 pub mod CodeLemmas
 pub mod FirstLemmas
 pub mod FitLemmas

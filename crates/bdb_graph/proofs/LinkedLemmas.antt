@@ -135,7 +135,7 @@ no_queue image head p formed low is queue =
     let none : form_code (head_of image) p (page_bytes (head_of image) image p) ≡ None = formed_page image p formed.form inside in
     true≢false (sym is ∙ (ap is_forest_meta (page_is image p inside) ∙ no_forest_page (head_of image) p (page_bytes (head_of image) image p) (sym (kind_is image) ∙ queue) none))
 
-forest_names : (kind : FileKind) (p : ℕ) (page : Page) → (kind ≡ Queue → ⊥) → names_of kind p page ≡ names_in p page
+pub forest_names : (kind : FileKind) (p : ℕ) (page : Page) → (kind ≡ Queue → ⊥) → names_of kind p page ≡ names_in p page
 forest_names Btree p page forest = refl
 forest_names Hash p page forest = refl
 forest_names Queue p page forest = absurd (forest refl)
@@ -156,7 +156,7 @@ held_in_all file p reference low held =
     in_flat_map (held_by file) (range_with_len 0 (file.last + 1)) p (record { holder = p; reference = reference }) (in_range 0 (file.last + 1) p (omega arith) (omega arith))
     (in_map (λ r. record { holder = p; reference = r }) (refs file p) reference held)
 
-named_target : (file : File) (p : ℕ) (sort : Sort) (target : ℕ) → p ≤ file.last → Contains (names_of file.kind p (page_at file p)) (sort, target) → IsTarget file sort target
+pub named_target : (file : File) (p : ℕ) (sort : Sort) (target : ℕ) → p ≤ file.last → Contains (names_of file.kind p (page_at file p)) (sort, target) → IsTarget file sort target
 unfolding refs
 named_target file p sort target low at =
     let found : (i : ℕ) × Contains (enumerate_from 0 (names_of file.kind p (page_at file p))) (i, (sort, target)) = in_enumerated 0 (names_of file.kind p (page_at file p)) (sort, target) at in
@@ -186,7 +186,7 @@ bucket_fits image head meta b formed has few =
 
 -- Targets are there.
 
-of_all : (file : File) (owner : Owner) → Contains (all_references file) owner → (owner.holder ≤ file.last) × Contains (refs file owner.holder) owner.reference
+pub of_all : (file : File) (owner : Owner) → Contains (all_references file) owner → (owner.holder ≤ file.last) × Contains (refs file owner.holder) owner.reference
 unfolding all_references
 of_all file owner at =
     let page : (q : ℕ) × Contains (range_with_len 0 (file.last + 1)) q × Contains (held_by file q) owner = of_flat_map (held_by file) (range_with_len 0 (file.last + 1)) owner at in

@@ -1,12 +1,12 @@
 -- The way from a page up by first owners, and ways down by references. Source: docs/FORMAT.md, "Ownership" and "Reach".
-use Rattle.std.specs.Prelude.{◌≡◌, ◌≢◌, ℕ, zero, suc, ◌≤◌, ◌||◌, Bool, true, false, IsTrue, List, [], ◌∷◌, map, length, Some}
-use Rattle.std.specs.List.{Contains, filter, flat_map}
-use Rattle.bdb_model.specs.declared.references.Sort.{Sort}
-use Rattle.bdb_model.specs.declared.references.Sort.TheVariants.{Child}
+use Rattle.std.specs.Prelude.{◌≡◌, ◌≢◌, ℕ, ◌≤◌, ◌||◌, Bool, false, IsTrue, List, [], ◌∷◌, length, Some}
+use Rattle.std.specs.List.{Contains}
 use Rattle.bdb_model.specs.declared.references.Reference.{Reference}
 use Rattle.bdb_model.specs.File.{File, file_of}
 use Rattle.bdb_model.specs.Graph.{first_holder, is_anchor, is_head_reference, is_reserve, owners}
+use Rattle.bdb_model.specs.Leaves.{leaves_in}
 use Rattle.bdb_model.specs.References.{refs}
+use Rattle.bdb_graph.specs.Linked.{IsForest}
 use Rattle.bdb_graph.specs.Linking.{graph_faults}
 
 abbrev pub NotIn : ℕ → List ℕ → Type 0
@@ -53,23 +53,6 @@ NoPageTwiceBelow =
     (image : List ℕ) (p : ℕ) (qs : List ℕ) → graph_faults image ≡ [] → p ≤ (file_of image).last → IsWayDown (file_of image) p qs
     → AllDistinct (p ∷ qs)
 
-abbrev pub is_child : Sort → Bool
-is_child Child = true
-is_child sort = false
-
--- the pages that a page names as children, in order
-abbrev pub children_of : File → ℕ → List ℕ
-children_of file p = map (λ (reference : Reference). reference.target) (filter (λ (reference : Reference). is_child reference.sort) (refs file p))
-
--- a page with no leaf below it is a leaf
-abbrev pub leaves_or : ℕ → List ℕ → List ℕ
-leaves_or p [] = p ∷ []
-leaves_or p (q ∷ qs) = q ∷ qs
-
--- the pages without children at or below a page, from left to right, in this many levels; no page below these levels is looked at
-abbrev pub leaves_in : ℕ → File → ℕ → List ℕ
-leaves_in zero file p = p ∷ []
-leaves_in (suc levels) file p = leaves_or p (flat_map (leaves_in levels file) (children_of file p))
-
+-- the leaves at or below a page, in any number of levels, have none twice
 abbrev pub NoLeafTwice : Type 0
-NoLeafTwice = (image : List ℕ) (levels p : ℕ) → graph_faults image ≡ [] → p ≤ (file_of image).last → AllDistinct (leaves_in levels (file_of image) p)
+NoLeafTwice = (image : List ℕ) (levels p : ℕ) → IsForest image → p ≤ (file_of image).last → AllDistinct (leaves_in levels (file_of image) p)

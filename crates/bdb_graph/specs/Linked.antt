@@ -3,16 +3,18 @@ use Rattle.std.specs.Prelude.{◌≡◌, ◌≤◌, ℕ, IsTrue, List, [], ◌�
 use Rattle.std.specs.List.{Contains}
 use Rattle.bdb_model.specs.declared.references.Sort.{Sort}
 use Rattle.bdb_model.specs.declared.references.Sort.TheVariants.{Root, Bucket, OverflowHead, DuplicateRoot}
-use Rattle.bdb_model.specs.File.{File, file_of, page_at, type_in}
+use Rattle.bdb_model.specs.File.{File, page_at, type_in}
 use Rattle.bdb_model.specs.Graph.{Owner, all_references}
 use Rattle.bdb_model.specs.Page.{Metadata, Meta}
 use Rattle.bdb_model.specs.References.{has_type}
-use Rattle.bdb_graph.specs.Linking.{graph_faults, meta_pages}
+use Rattle.bdb_model.specs.HeadOf.{head_of}
+use Rattle.bdb_graph.specs.Formed.{IsFormed}
+use Rattle.bdb_graph.specs.Linking.{graph_faults}
 
--- no row of stages 3 to 5 holds, and these are the metadata pages
-pub record IsLinked (image : List ℕ) (metas : List ℕ) : Type 0 where
-  pub sound : graph_faults image ≡ []
-  pub listed : metas ≡ meta_pages (file_of image)
+-- no row of the first five stages holds
+pub record IsForest (image : List ℕ) : Type 0 where
+  pub formed : IsFormed image (head_of image)
+  pub linked : graph_faults image ≡ []
 
 -- some page is metadata with these fields
 pub record HasMetadata (file : File) (fields : Metadata) : Type 0 where

@@ -45,6 +45,13 @@ impl<'a> Formed<'a> {
         self.head
     }
 
+    // The bytes of the file.
+    pub(crate) fn image(&self) -> &'a [u8]
+        ensures { result.now ≡ self.now }
+    {
+        self.image
+    }
+
     /// The bytes of a page up to the last one.
     pub(crate) fn page_bytes(&self, number: u32) -> &'a [u8]
         requires { number ≤ (head_of self.now).last }

@@ -11,13 +11,12 @@ ghost use Rattle.bdb_model.specs.Table.{first_row};
 ghost use Rattle.bdb_model.specs.declared.metadata.FileKind.TheVariants.{Btree, Hash, Queue};
 
 use crate::{Formed, References};
-use bdb_form::form;
+use bdb_form::known_form;
 use bdb_meta::{btree_meta, hash_meta};
 use bdb_model::{FileKind, Head, Order, Steps};
 use std::sync::ledger::Ledger;
 
 /// The references that a page holds, in order: one step, whatever they are. No memory is taken.
-#[tactic(auto, using(crate::proofs::HeldLemmas::refs_of_page, crate::proofs::HeldLemmas::last_page))]
 pub fn references<'a, L: Ledger>(
     formed: &Formed<'a>,
     page: u32,
@@ -28,6 +27,15 @@ pub fn references<'a, L: Ledger>(
     ensures cost { steps.new ≡ steps.old + 1 }
 {
     steps.tick();
+    references_of(formed, page)
+}
+
+/// The references that a page holds, without a step.
+#[tactic(auto, using(crate::proofs::HeldLemmas::refs_of_page, crate::proofs::HeldLemmas::last_page))]
+pub(crate) fn references_of<'a>(formed: &Formed<'a>, page: u32) -> References<'a>
+    requires { page ≤ (file_of formed.now).last }
+    ensures { result ≡ refs (file_of formed.now) page }
+{
     held_by(formed.page_bytes(page), &formed.head(), page)
 }
 
@@ -88,7 +96,7 @@ fn held_by_tree<'a>(page: &'a [u8], order: Order, number: u32) -> References<'a>
 }
 
 /// The references of a page that isn't metadata.
-#[tactic(auto, using(crate::proofs::HeldLemmas::no_metadata, crate::proofs::HeldLemmas::seen_page))]
+#[tactic(auto, using(crate::proofs::HeldLemmas::no_metadata))]
 fn held_by_other<'a>(page: &'a [u8], order: Order, number: u32) -> References<'a>
     requires size { IsTrue (is_page_size (length page.now)) }
     requires form { page_code order number page.now ≡ None }
@@ -96,8 +104,5 @@ fn held_by_other<'a>(page: &'a [u8], order: Order, number: u32) -> References<'a
     requires tree { byte_at page.now 25 ≢ 9 }
     ensures { result ≡ placed 0 (names_in number (abstract_page order page.now)) }
 {
-    match form(page, number, order) {
-        Ok(view) => References::of_view(view),
-        Err(_) => unreachable!(),
-    }
+    References::of_view(known_form(page, number, order))
 }

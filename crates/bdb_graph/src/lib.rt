@@ -2,6 +2,7 @@
 #![tactic(auto)]
 
 mod fits;
+mod forest;
 mod formed;
 mod formed_page;
 mod held;
@@ -21,6 +22,7 @@ mod source;
 mod tally;
 
 pub use bdb_model::{Reference, Sort};
+pub use forest::Forest;
 pub use formed::Formed;
 pub use held::references;
 pub use linked::Linked;

@@ -6,7 +6,7 @@ use crate::meta::metas_of;
 use crate::owned::check_owners;
 use crate::reach::check_reach;
 use crate::tally::tally_all;
-use crate::{Formed, Linked};
+use crate::{Forest, Formed, Linked};
 use bdb_model::{CheckError, Steps};
 use std::alloc::{AllocError, Global};
 use std::sync::ledger::Ledger;
@@ -25,7 +25,7 @@ pub fn link<'a, L: Ledger>(
 {
     check_graph(alloc, &formed, steps)?;
     match metas_of(alloc, &formed) {
-        Ok(metas) => Ok(Linked::over(formed, metas)),
+        Ok(metas) => Ok(Linked::over(Forest::over(formed), metas)),
         Err(_) => Err(CheckError::Memory),
     }
 }

@@ -1,6 +1,10 @@
-//! Tests of the page graph: opening an image, and the references of a page.
+//! Tests of the page graph: opening an image, the references of a page, chains, and the leaves of trees.
 #![tactic(auto)]
 
+#[cfg(test)]
+mod chains;
+#[cfg(test)]
+mod descents;
 #[cfg(test)]
 mod fields;
 #[cfg(test)]
@@ -9,3 +13,9 @@ mod held;
 mod linking;
 #[cfg(test)]
 mod opening;
+#[cfg(test)]
+mod sampled;
+#[cfg(test)]
+mod trees;
+#[cfg(test)]
+mod walks;

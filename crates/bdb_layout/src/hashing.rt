@@ -1,12 +1,20 @@
 ghost use Rattle.std.specs.Prelude.{◌≡◌, ◌<◌, ◌^◌};
-ghost use Rattle.bdb_model.specs.Hashing.{bucket, first_page, group, hash5};
+ghost use Rattle.std.specs.List.{fold};
+ghost use Rattle.bdb_model.specs.Hashing.{bucket, first_page, group, hash5, hash_step};
 
 /// The hash of a key.
 pub fn hash5(bytes: &[u8]) -> u32
     ensures { result ≡ hash5 bytes.now }
 {
+    hash5_after(0, bytes)
+}
+
+/// The hash of a key of which these bytes are the next after those with this hash, 0 for none.
+pub fn hash5_after(hash: u32, bytes: &[u8]) -> u32
+    ensures { result ≡ fold hash_step hash bytes.now }
+{
     bytes.iter().fold(
-        0u32,
+        hash,
         |hash, byte| hash.wrapping_mul(16_777_619) ^ u32::from(*byte),
     )
 }

@@ -18,7 +18,7 @@ mod writing;
 pub use bdb_model::{Header, ItemFault, RecnoItem};
 pub use blocks::DupBlocks;
 pub use hash::hash_item;
-pub use hashing::{bucket_of, group_of, hash5, page_of};
+pub use hashing::{bucket_of, group_of, hash5, hash5_after, page_of};
 pub use index::{index_end, offset_at};
 pub use internal::internal_item;
 pub use items::{HashItem, InternalItem, InternalKey, LeafItem};

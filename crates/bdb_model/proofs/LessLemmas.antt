@@ -1,5 +1,5 @@
 -- The order of keys is strict.
-use Rattle.std.proofs.Common.{◌≡◌, ℕ, ◌<◌, ◌≤◌, List, [], ◌∷◌, refl, arith, inl, inr, le-ltb, eq-eqb, eqb-true, subst, sym}
+use Rattle.std.proofs.Common.{◌≡◌, ℕ, ◌<◌, List, [], ◌∷◌, refl, arith, inl, inr, le-ltb, eq-eqb, eqb-true}
 use Rattle.std.specs.Prelude.{nat_lt, ◌==◌, ◌&&◌, ◌||◌, Bool, true, false}
 use Rattle.std.proofs.lemmas.Bool.{cases_order}
 use Rattle.bdb_model.specs.Less.{less, Less}

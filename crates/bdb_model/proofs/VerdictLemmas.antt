@@ -6,7 +6,7 @@ use Rattle.std.proofs.lemmas.List.Elements.{Contains-append_cases}
 use borrow.Author.Count.{below_none, below_more}
 use Rattle.bdb_model.specs.declared.kinds.Fault.{Fault}
 use Rattle.bdb_model.specs.Table.{Row, first_row}
-use Rattle.bdb_model.specs.Verdict.{alone, holding, by_page, head_faults, tail_faults, form_faults, reference_faults, ownership_faults, reach_faults, or_else, stage_faults, Holds, faults_of, tail_rows, reference_rows, ownership_rows, reach_rows, SoundWhereNoRowHolds, FirstIsLeast}
+use Rattle.bdb_model.specs.Verdict.{alone, holding, by_page, head_faults, tail_faults, form_faults, reference_faults, ownership_faults, reach_faults, structure_faults, or_else, stage_faults, Holds, first_faults, faults_of, tail_rows, reference_rows, ownership_rows, reach_rows, structure_rows, SoundWhereNoRowHolds, FirstIsLeast}
 use Rattle.bdb_model.specs.declared.metadata.Head.{Head}
 use Rattle.bdb_model.specs.HeadOf.{head_of, head_rows}
 use Rattle.bdb_model.specs.Rows.{form_code}
@@ -238,6 +238,12 @@ reach_in_order : (file : File) → InOrder 5 (reach_faults file)
 unfolding reach_faults
 reach_in_order file = by_page_in_order 5 1 file.last (λ p. holding (reach_rows file p)) (λ p. holding_least 1 (reach_rows file p) (omega arith, tt))
 
+structure_in_order : (file : File) → InOrder 6 (structure_faults file)
+unfolding structure_faults
+structure_in_order file =
+    by_page_in_order 6 0 (file.last + 1) (λ p. holding (structure_rows file p))
+    (λ p. holding_least 1 (structure_rows file p) (omega arith, (omega arith, (omega arith, tt))))
+
 pub stage_in_order : (image : List ℕ) (stage : ℕ) → InOrder stage (stage_faults image stage)
 stage_in_order image zero = nothing_in_order 0
 stage_in_order image (suc zero) = or_else_both (InOrder 1) (head_faults image) (tail_faults image) (head_in_order image) (tail_in_order image)
@@ -245,7 +251,8 @@ stage_in_order image (suc (suc zero)) = form_in_order image
 stage_in_order image (suc (suc (suc zero))) = references_in_order (file_of image)
 stage_in_order image (suc (suc (suc (suc zero)))) = ownership_in_order (file_of image)
 stage_in_order image (suc (suc (suc (suc (suc zero))))) = reach_in_order (file_of image)
-stage_in_order image (suc (suc (suc (suc (suc (suc stage)))))) = nothing_in_order (suc (suc (suc (suc (suc (suc stage))))))
+stage_in_order image (suc (suc (suc (suc (suc (suc zero)))))) = structure_in_order (file_of image)
+stage_in_order image (suc (suc (suc (suc (suc (suc (suc stage))))))) = nothing_in_order (suc (suc (suc (suc (suc (suc (suc stage)))))))
 
 -- the faults are those of one stage, and no earlier stage has any
 pub record IsFirstStage (image : List ℕ) (stage : ℕ) (faults : List Fault) : Type 0 where
@@ -258,43 +265,42 @@ no_faults_before image stage = (s : ℕ) → s < stage → stage_faults image s 
 one_more : (image : List ℕ) (stage : ℕ) → no_faults_before image stage → stage_faults image stage ≡ [] → no_faults_before image (stage + 1)
 one_more image stage before none = below_more (λ s. stage_faults image s ≡ []) stage before none
 
+-- of stages that follow each other, the first one that has faults
+first_of_stages : (n from : ℕ) (image : List ℕ) (first : Fault) (rest : List Fault) → no_faults_before image from → first_faults image (range_with_len from n) ≡ first ∷ rest
+    → (stage : ℕ) × IsFirstStage image stage (first ∷ rest)
+first_of_stages zero from image first rest before same = absurd cc
+first_of_stages (suc n) from image first rest before same =
+    elim (or_else_first (stage_faults image from) (first_faults image (range_with_len (from + 1) n)) first rest same) [
+      | inl here ↦ (from, record { before = before; faults_are = here })
+      | inr (none, later) ↦ first_of_stages n (from + 1) image first rest (one_more image from before none) later
+    ]
+
 pub first_stage : (image : List ℕ) (first : Fault) (rest : List Fault) → faults_of image ≡ first ∷ rest → (stage : ℕ) × IsFirstStage image stage (first ∷ rest)
 unfolding faults_of
-first_stage image first rest same =
-    let before_1 : no_faults_before image 1 = one_more image 0 (below_none (λ s. stage_faults image s ≡ [])) refl in
-    elim (or_else_first (stage_faults image 1) _ first rest same) [
-      | inl at_1 ↦ (1, record { before = before_1; faults_are = at_1 })
-      | inr (none_1, after_1) ↦
-          let before_2 : no_faults_before image 2 = one_more image 1 before_1 none_1 in
-          elim (or_else_first (stage_faults image 2) _ first rest after_1) [
-            | inl at_2 ↦ (2, record { before = before_2; faults_are = at_2 })
-            | inr (none_2, after_2) ↦
-                let before_3 : no_faults_before image 3 = one_more image 2 before_2 none_2 in
-                elim (or_else_first (stage_faults image 3) _ first rest after_2) [
-                  | inl at_3 ↦ (3, record { before = before_3; faults_are = at_3 })
-                  | inr (none_3, after_3) ↦
-                      let before_4 : no_faults_before image 4 = one_more image 3 before_3 none_3 in
-                      elim (or_else_first (stage_faults image 4) (stage_faults image 5) first rest after_3) [
-                        | inl at_4 ↦ (4, record { before = before_4; faults_are = at_4 })
-                        | inr (none_4, after_4) ↦ (5, record { before = one_more image 4 before_4 none_4; faults_are = after_4 })
-                      ]
-                ]
-          ]
+first_stage image first rest same = first_of_stages 6 1 image first rest (one_more image 0 (below_none (λ s. stage_faults image s ≡ [])) refl) same
+
+-- where none of stages that follow each other has faults, each of them has none
+none_of_stages : (n from : ℕ) (image : List ℕ) (stage : ℕ) → first_faults image (range_with_len from n) ≡ [] → from ≤ stage → stage < from + n → stage_faults image stage ≡ []
+none_of_stages zero from image stage none low high = absurd (omega arith)
+none_of_stages (suc n) from image stage none low high =
+    let parts : (stage_faults image from ≡ []) × (first_faults image (range_with_len (from + 1) n) ≡ []) = or_else_none (stage_faults image from) (first_faults image (range_with_len (from + 1) n)) none in
+    elim (cases_order from stage) [
+      | inl same ↦ subst (λ s. stage_faults image s ≡ []) same parts.0
+      | inr (inl below) ↦ none_of_stages n (from + 1) image stage parts.1 (omega arith) (omega arith)
+      | inr (inr above) ↦ absurd (omega arith)
     ]
 
 -- a file without faults has none in any stage
 pub no_stage : (image : List ℕ) (stage : ℕ) → faults_of image ≡ [] → stage_faults image stage ≡ []
 unfolding faults_of
 no_stage image zero none = refl
-no_stage image (suc zero) none = (or_else_none (stage_faults image 1) _ none).0
-no_stage image (suc (suc zero)) none = (or_else_none (stage_faults image 2) _ (or_else_none (stage_faults image 1) _ none).1).0
-no_stage image (suc (suc (suc zero))) none =
-    (or_else_none (stage_faults image 3) _ (or_else_none (stage_faults image 2) _ (or_else_none (stage_faults image 1) _ none).1).1).0
-no_stage image (suc (suc (suc (suc zero)))) none =
-    (or_else_none (stage_faults image 4) (stage_faults image 5) (or_else_none (stage_faults image 3) _ (or_else_none (stage_faults image 2) _ (or_else_none (stage_faults image 1) _ none).1).1).1).0
-no_stage image (suc (suc (suc (suc (suc zero))))) none =
-    (or_else_none (stage_faults image 4) (stage_faults image 5) (or_else_none (stage_faults image 3) _ (or_else_none (stage_faults image 2) _ (or_else_none (stage_faults image 1) _ none).1).1).1).1
-no_stage image (suc (suc (suc (suc (suc (suc stage)))))) none = refl
+no_stage image (suc zero) none = none_of_stages 6 1 image 1 none (omega arith) (omega arith)
+no_stage image (suc (suc zero)) none = none_of_stages 6 1 image 2 none (omega arith) (omega arith)
+no_stage image (suc (suc (suc zero))) none = none_of_stages 6 1 image 3 none (omega arith) (omega arith)
+no_stage image (suc (suc (suc (suc zero)))) none = none_of_stages 6 1 image 4 none (omega arith) (omega arith)
+no_stage image (suc (suc (suc (suc (suc zero))))) none = none_of_stages 6 1 image 5 none (omega arith) (omega arith)
+no_stage image (suc (suc (suc (suc (suc (suc zero)))))) none = none_of_stages 6 1 image 6 none (omega arith) (omega arith)
+no_stage image (suc (suc (suc (suc (suc (suc (suc stage))))))) none = refl
 
 -- The laws.
 

@@ -1,7 +1,9 @@
 -- A file as its pages: from here on no definition looks at bytes, or at their order. Source: docs/FORMAT.md, "References".
-use Rattle.std.specs.Prelude.{ℕ, ◌+◌, ◌*◌, List, map, take, drop, get_or, Option, Some, None}
+use Rattle.std.specs.Prelude.{ℕ, ◌+◌, ◌-◌, ◌*◌, ◌/◌, List, length, map, take, drop, get_or, Option, Some, None}
 use Rattle.std.specs.List.{range_with_len}
+use Rattle.bdb_model.specs.declared.kinds.Order.{Order}
 use Rattle.bdb_model.specs.declared.metadata.FileKind.{FileKind}
+use Rattle.bdb_model.specs.declared.metadata.FileKind.TheVariants.{Btree}
 use Rattle.bdb_model.specs.declared.metadata.Head.{Head}
 use Rattle.bdb_model.specs.declared.pages.Header.{Header}
 use Rattle.bdb_model.specs.HeadOf.{head_of}
@@ -34,6 +36,16 @@ file_of image =
       last = head.last;
       pages = map (λ p. abstract_page head.order (page_bytes head image p)) (range_with_len 0 (head.last + 1));
     }
+
+-- the whole pages of an image, read in an order and with a page size that are given
+unfoldable pub file_as : Order → ℕ → List ℕ → File
+file_as order size image = record {
+  kind = Btree;
+  size = size;
+  count = length image / size;
+  last = length image / size - 1;
+  pages = map (λ p. abstract_page order (take size (drop (p * size) image))) (range_with_len 0 (length image / size));
+}
 
 abbrev pub page_at : File → ℕ → Page
 page_at file p = get_or file.pages p NoType

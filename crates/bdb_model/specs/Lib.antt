@@ -10,7 +10,12 @@ pub mod Spelling
 pub mod File
 pub mod References
 pub mod Graph
+pub mod Chains
+pub mod Leaves
 pub mod Verdict
+pub mod Contents
+pub mod Lists
+pub mod ContentRows
 pub mod PageOf
 pub mod FirstForm
 pub mod FirstVerdict

@@ -1,5 +1,5 @@
 -- The faults of a file, stage by stage, and the verdict. Source: docs/FORMAT.md, "Faults".
-use Rattle.std.specs.Prelude.{◌≡◌, ◌⊎◌, ℕ, zero, suc, IsTrue, ◌+◌, ◌-◌, ◌<◌, ◌≤◌, ◌==◌, ◌&&◌, ◌||◌, not, if◌then◌else◌, Bool, false, List, [], ◌∷◌, map, length, Option, Some, None}
+use Rattle.std.specs.Prelude.{◌≡◌, ◌⊎◌, ℕ, zero, suc, IsTrue, ◌+◌, ◌-◌, ◌<◌, ◌≤◌, ◌==◌, ◌&&◌, ◌||◌, not, if◌then◌else◌, Bool, false, List, [], ◌∷◌, ◌++◌, map, length, Option, Some, None}
 use Rattle.std.specs.List.{Contains, flat_map, list_any, range_with_len}
 use Rattle.bdb_model.specs.declared.kinds.Fault.{Fault}
 use Rattle.bdb_model.specs.declared.kinds.Verdict.{Verdict}
@@ -14,6 +14,8 @@ use Rattle.bdb_model.specs.HeadOf.{head_of, head_rows, head_fault, form_fault}
 use Rattle.bdb_model.specs.File.{File, file_of, page_bytes}
 use Rattle.bdb_model.specs.References.{refs, fit_code}
 use Rattle.bdb_model.specs.Graph.{OneRole, is_anchor, is_reserve, is_unowned, is_shared_too_often, is_owned_twice, owners, reaches}
+use Rattle.bdb_model.specs.Chains.{chain_rows}
+use Rattle.bdb_model.specs.Leaves.{tree_rows}
 
 -- a code where there is one
 abbrev pub alone : Option ℕ → List ℕ
@@ -83,12 +85,27 @@ reach_rows file p = 1 :? not (reaches file p) ∷ []
 unfoldable pub reach_faults : File → List Fault
 reach_faults file = by_page 5 1 file.last (λ p. holding (reach_rows file p))
 
+-- Stage 6: each chain has the length that is told of it, and each leaf of a tree has its kind and its neighbours.
+
+abbrev pub structure_rows : File → ℕ → List (Row ℕ)
+structure_rows file p = chain_rows file p ++ tree_rows file p
+
+unfoldable pub structure_faults : File → List Fault
+structure_faults file = by_page 6 0 (file.last + 1) (λ p. holding (structure_rows file p))
+
+-- those of chains alone, and those of leaves alone
+unfoldable pub chain_faults : File → List Fault
+chain_faults file = by_page 6 0 (file.last + 1) (λ p. holding (chain_rows file p))
+
+unfoldable pub tree_faults : File → List Fault
+tree_faults file = by_page 6 0 (file.last + 1) (λ p. holding (tree_rows file p))
+
 -- the first list, unless it's empty; the second is looked at only then
 abbrev pub or_else : List Fault → (Unit {0} → List Fault) → List Fault
 or_else [] others = others tt
 or_else (fault ∷ faults) others = fault ∷ faults
 
--- the faults of one stage, in a file that the earlier stages accept; stages 6 to 8 are not built yet
+-- the faults of one stage, in a file that the earlier stages accept; stages 7 and 8 are not built yet
 abbrev pub stage_faults : List ℕ → ℕ → List Fault
 stage_faults image zero = []
 stage_faults image (suc zero) = or_else (head_faults image) (λ _. tail_faults image)
@@ -96,18 +113,22 @@ stage_faults image (suc (suc zero)) = form_faults image
 stage_faults image (suc (suc (suc zero))) = reference_faults (file_of image)
 stage_faults image (suc (suc (suc (suc zero)))) = ownership_faults (file_of image)
 stage_faults image (suc (suc (suc (suc (suc zero))))) = reach_faults (file_of image)
-stage_faults image (suc (suc (suc (suc (suc (suc stage)))))) = []
+stage_faults image (suc (suc (suc (suc (suc (suc zero)))))) = structure_faults (file_of image)
+stage_faults image (suc (suc (suc (suc (suc (suc (suc stage))))))) = []
 
 -- the row with this stage and code holds at this page, in a file where no row of an earlier stage holds
 pub record Holds (image : List ℕ) (stage page code : ℕ) : Type 0 where
   pub earlier : (s : ℕ) → s < stage → stage_faults image s ≡ []
   pub row : Contains (stage_faults image stage) (record { stage = stage; page = page; code = code })
 
+-- the faults of the first of these stages that has any
+abbrev pub first_faults : List ℕ → List ℕ → List Fault
+first_faults image [] = []
+first_faults image (stage ∷ stages) = or_else (stage_faults image stage) (λ _. first_faults image stages)
+
 -- the faults of the first stage that has any
 unfoldable pub faults_of : List ℕ → List Fault
-faults_of image =
-    or_else (stage_faults image 1) (λ _. or_else (stage_faults image 2) (λ _. or_else (stage_faults image 3)
-    (λ _. or_else (stage_faults image 4) (λ _. stage_faults image 5))))
+faults_of image = first_faults image (range_with_len 1 6)
 
 -- a fault, or the case that its row leaves out by name
 abbrev pub named_verdict : Fault → MetaFault → Verdict

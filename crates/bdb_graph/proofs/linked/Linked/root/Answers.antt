@@ -1,4 +1,6 @@
-use Rattle.std.proofs.Common.{arith, subst, sym}
+use Rattle.std.proofs.Common.{ap, arith, subst, sym}
+use Rattle.bdb_model.specs.declared.metadata.Head.{Head}
+use Rattle.bdb_model.specs.HeadOf.{head_of}
 use Rattle.bdb_model.specs.File.{file_of}
 use Rattle.bdb_model.specs.Page.{BtreeFields}
 use Rattle.bdb_graph.specs.Linked.{HasMetadata}
@@ -11,6 +13,7 @@ prove-unreachable-requires c =
     omega (
       arith,
       c.if-prove.true,
-      root_inside c.self.inside.formed c.head.result c.args.meta.now c.head.ensures.formed c.self.invariant.sound
+      ap (λ (head : Head). head.last) c.head.ensures.head,
+      root_inside c.self.inside.forest (head_of c.self.inside.forest) c.args.meta.now c.head.ensures.forest.formed c.head.ensures.forest.linked
           (subst (λ image. HasMetadata (file_of image) (BtreeFields c.args.meta.now)) (sym c.self.view_is) c.requires),
     )

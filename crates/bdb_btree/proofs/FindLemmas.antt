@@ -1,0 +1,447 @@
+-- What a key has in a btree: pairs with the sought key stand below the child that a descent chooses, and so on one leaf.
+use Rattle.std.proofs.Common.{◌≡◌, ◌⊎◌, ℕ, zero, suc, ◌+◌, ◌-◌, ◌<◌, ◌≤◌, Bool, true, false, not, cond, List, [], ◌∷◌, ◌++◌, length, map, get_or, take, drop, Option, Some, None, arith, refl, sym, ◌∙◌, ap, subst, inl, inr, append-nil}
+use Rattle.std.specs.Prelude.{◌&&◌, ◌==◌, nat_le}
+use Rattle.std.specs.List.{Contains, filter, flat_map, list_any, range_with_len}
+use Rattle.std.specs.Str.{bytes_eq}
+use Rattle.std.proofs.lemmas.Bool.{cases_Bool, cases_lt, eq-eqb, false_from_ne_true, le-leb, not-false, or_parts, true≢false}
+use Rattle.std.proofs.lemmas.List.{get_or-drop, get_or-take, length-drop, length-take}
+use Rattle.std.proofs.lemmas.List.Concat.{flat_map-append}
+use Rattle.std.proofs.lemmas.List.Elements.{Contains-get_or}
+use Rattle.std.proofs.lemmas.Option.{slice_get-get_or}
+use Rattle.std.proofs.lemmas.Slice.Eq.{bytes_eq-Decides}
+use Rattle.std.specs.declared.cmp.Ordering.{Ordering}
+use Rattle.std.specs.declared.cmp.Ordering.TheVariants.{Less as Below, Equal, Greater}
+use Rattle.bdb_model.specs.declared.metadata.BtreeMeta.{BtreeMeta}
+use Rattle.bdb_model.specs.Chains.{value_of}
+use Rattle.bdb_model.specs.ContentRows.{Separated, breaks, btree_contents, contents_faults, contents_rows, has_wrong_separator, inner_pages, no_separator, recno_contents, separated}
+use Rattle.bdb_model.specs.Contents.{StoredPair, data_of, pairs_of, tree_pairs}
+use Rattle.bdb_model.specs.File.{File, file_of, header_in, page_at, type_in}
+use Rattle.bdb_model.specs.HeadOf.{head_of}
+use Rattle.bdb_model.specs.Leaves.{children_in, leaves}
+use Rattle.bdb_model.specs.Less.{less}
+use Rattle.bdb_model.specs.Lists.{ListKey, BytesKey, btree_list, get, is_key, listed_pair}
+use Rattle.bdb_model.specs.Numbers.{has_bit}
+use Rattle.bdb_model.specs.Page.{BtreeFields, InternalItem, Internal, Listed, Page, RecnoInternal}
+use Rattle.bdb_model.specs.References.{child_types, has_type}
+use Rattle.bdb_model.specs.Verdict.{holding, structure_faults}
+use Rattle.bdb_model.proofs.MemberLemmas.{first_member, in_flat_map, in_map, in_range, later_member, none_passes}
+use Rattle.bdb_model.proofs.VerdictLemmas.{AllFail, all_fail, no_codes_at}
+use Rattle.bdb_layout.specs.Seen.{OrderingIs}
+use Rattle.bdb_graph.specs.Linked.{FitsLeafPage, HasMetadata, IsForest}
+use Rattle.bdb_graph.specs.Slots.{no_internal_item}
+use Rattle.bdb_graph.proofs.LinkedLemmas.{root_fits}
+use Rattle.bdb_overflow.specs.Datum.{FitsContent}
+use Rattle.bdb_overflow.proofs.ContentLemmas.{key_fits}
+use Rattle.bdb_tree.specs.Descent.{AllMonotone, AllReadable, IsLastFalse, chosen, descent, go_on, next_below}
+use Rattle.bdb_tree.proofs.DescentLemmas.{chosen_is, internal_inside, internal_is, is_inner, is_inner_below, monotone_by_neighbours}
+use Rattle.bdb_tree.proofs.WayLemmas.{chosen_among}
+use Rattle.bdb_btree.specs.Search.{AreOpen, data_under, found_left, from_key, is_below, left_of, under}
+use Rattle.bdb_btree.proofs.LessLemmas.{less_trans, not_less_self}
+use Rattle.bdb_btree.proofs.PairLemmas.{pair_of_page}
+use Rattle.bdb_btree.proofs.RootLemmas.{root_keyed}
+use Rattle.bdb_tree.proofs.ShapeLemmas.{IsLeafPage, of_type}
+use Rattle.bdb_tree.proofs.TreeLemmas.{HasTypeAt, IsChild, child_is, leaves_of_inner, leaves_of_leaf, level, root_cases, tree_cases, tree_level}
+
+-- What a list has under a key.
+
+under_get : (k key : List ℕ) (values : List (List ℕ)) (b : Bool) → bytes_eq k key ≡ b → get (under k values) (BytesKey key) ≡ cond b values []
+under_get k key [] true is = refl
+under_get k key [] false is = refl
+under_get k key (value ∷ values) true is =
+    ap (λ c. map (λ (entry : ListKey × List ℕ). entry.1) (cond c ((BytesKey k, value) ∷ filter (λ (entry : ListKey × List ℕ). is_key entry.0 (BytesKey key)) (under k values)) (filter (λ (entry : ListKey × List ℕ). is_key entry.0 (BytesKey key)) (under k values)))) is
+    ∙ ap (λ rest. value ∷ rest) (under_get k key values true is)
+under_get k key (value ∷ values) false is =
+    ap (λ c. map (λ (entry : ListKey × List ℕ). entry.1) (cond c ((BytesKey k, value) ∷ filter (λ (entry : ListKey × List ℕ). is_key entry.0 (BytesKey key)) (under k values)) (filter (λ (entry : ListKey × List ℕ). is_key entry.0 (BytesKey key)) (under k values)))) is
+    ∙ under_get k key values false is
+
+either_none : (b : Bool) → ◌≡◌ {A = List (List ℕ)} [] (cond b [] [])
+either_none true = refl
+either_none false = refl
+
+get_pair : (file : File) (key : List ℕ) (pair : StoredPair) → get (listed_pair file pair) (BytesKey key) ≡ data_under file key pair
+get_pair file key pair =
+    let values : List (List ℕ) = data_of file pair.data_item in
+    elim pair.live as (λ b. get (cond b (under pair.key values) []) (BytesKey key) ≡ cond (bytes_eq pair.key key) (cond b values []) []) [
+      | true ↦ under_get pair.key key values (bytes_eq pair.key key) refl
+      | false ↦ either_none (bytes_eq pair.key key)
+    ]
+
+get_append : (xs ys : List (ListKey × List ℕ)) (key : ListKey) → get (xs ++ ys) key ≡ get xs key ++ get ys key
+get_append [] ys key = refl
+get_append (x ∷ xs) ys key =
+    elim (is_key x.0 key) as (λ b. map (λ (entry : ListKey × List ℕ). entry.1) (cond b (x ∷ filter (λ (entry : ListKey × List ℕ). is_key entry.0 key) (xs ++ ys)) (filter (λ (entry : ListKey × List ℕ). is_key entry.0 key) (xs ++ ys)))
+    ≡ map (λ (entry : ListKey × List ℕ). entry.1) (cond b (x ∷ filter (λ (entry : ListKey × List ℕ). is_key entry.0 key) xs) (filter (λ (entry : ListKey × List ℕ). is_key entry.0 key) xs)) ++ get ys key) [
+      | true ↦ ap (λ rest. x.1 ∷ rest) (get_append xs ys key)
+      | false ↦ get_append xs ys key
+    ]
+
+get_pairs : (file : File) (key : List ℕ) (pairs : List StoredPair) → get (flat_map (listed_pair file) pairs) (BytesKey key) ≡ flat_map (data_under file key) pairs
+get_pairs file key [] = refl
+get_pairs file key (pair ∷ pairs) =
+    get_append (listed_pair file pair) (flat_map (listed_pair file) pairs) (BytesKey key)
+    ∙ (ap (λ first. first ++ get (flat_map (listed_pair file) pairs) (BytesKey key)) (get_pair file key pair) ∙ ap (λ rest. data_under file key pair ++ rest) (get_pairs file key pairs))
+
+-- the data below a page that a key has
+abbrev pub data_below : File → List ℕ → ℕ → List (List ℕ)
+data_below file key p = flat_map (data_under file key) (tree_pairs file p)
+
+pub get_tree : (file : File) (root : ℕ) (key : List ℕ) → get (btree_list file root) (BytesKey key) ≡ data_below file key root
+unfolding btree_list
+get_tree file root key = get_pairs file key (tree_pairs file root)
+
+-- pairs of other keys give nothing
+
+nothing_under : (file : File) (key : List ℕ) (pairs : List StoredPair) → ((pair : StoredPair) → Contains pairs pair → bytes_eq pair.key key ≡ false) → flat_map (data_under file key) pairs ≡ []
+nothing_under file key [] other = refl
+nothing_under file key (pair ∷ pairs) other =
+    ap (λ b. cond b (cond pair.live (data_of file pair.data_item) []) [] ++ flat_map (data_under file key) pairs) (other pair (first_member pair pairs))
+    ∙ nothing_under file key pairs (λ next at. other next (later_member pair pairs next at))
+
+pub from_key_same : (file : File) (key : List ℕ) (pairs : List StoredPair) → flat_map (data_under file key) (from_key key pairs) ≡ flat_map (data_under file key) pairs
+from_key_same file key [] = refl
+from_key_same file key (pair ∷ pairs) =
+    elim (bytes_eq pair.key key) as (λ b. bytes_eq pair.key key ≡ b → flat_map (data_under file key) (cond b (pair ∷ pairs) (from_key key pairs)) ≡ flat_map (data_under file key) (pair ∷ pairs)) [
+      | true ↦ λ is. refl
+      | false ↦ λ is. from_key_same file key pairs ∙ sym (ap (λ b. cond b (cond pair.live (data_of file pair.data_item) []) [] ++ flat_map (data_under file key) pairs) is)
+    ] refl
+
+-- Keys.
+
+-- a key that is less than a bound isn't one that isn't
+pub other_key : (a key bound : List ℕ) → less a bound ≡ true → less key bound ≡ false → bytes_eq a key ≡ false
+other_key a key bound low high =
+    false_from_ne_true (bytes_eq a key) (λ same. let is : a ≡ key = (bytes_eq-Decides a key).0 same in true≢false (sym low ∙ (ap (λ k. less k bound) is ∙ high)))
+
+pub above_key : (a key bound : List ℕ) → less a bound ≡ false → less key bound ≡ true → bytes_eq a key ≡ false
+above_key a key bound high low =
+    false_from_ne_true (bytes_eq a key) (λ same. let is : a ≡ key = (bytes_eq-Decides a key).0 same in true≢false (sym low ∙ (ap (λ k. less k bound) (sym is) ∙ high)))
+
+-- Lists of pages.
+
+flat_map_twice : {X Y Z : Type 0} (f : Y → List Z) (g : X → List Y) (xs : List X) → flat_map f (flat_map g xs) ≡ flat_map (λ x. flat_map f (g x)) xs
+flat_map_twice f g [] = refl
+flat_map_twice f g (x ∷ xs) = flat_map-append f (g x) (flat_map g xs) ∙ ap (λ rest. flat_map f (g x) ++ rest) (flat_map_twice f g xs)
+
+flat_map_over : {X Y Z : Type 0} (f : Y → List Z) (g : X → Y) (xs : List X) → flat_map f (map g xs) ≡ flat_map (λ x. f (g x)) xs
+flat_map_over f g [] = refl
+flat_map_over f g (x ∷ xs) = ap (λ rest. f (g x) ++ rest) (flat_map_over f g xs)
+
+all_empty : {X Y : Type 0} (f : X → List Y) (d : X) (xs : List X) → ((j : ℕ) → j < length xs → f (get_or xs j d) ≡ []) → flat_map f xs ≡ []
+all_empty f d [] none = refl
+all_empty f d (x ∷ xs) none = ap (λ first. first ++ flat_map f xs) (none 0 (omega arith)) ∙ all_empty f d xs (λ j low. none (suc j) (omega arith))
+
+-- where each place but one gives nothing
+only_one : {X Y : Type 0} (f : X → List Y) (d : X) (xs : List X) (i : ℕ) → i < length xs → ((j : ℕ) → j < length xs → (j ≡ i → ⊥) → f (get_or xs j d) ≡ []) → flat_map f xs ≡ f (get_or xs i d)
+only_one f d [] i low none = absurd (omega arith)
+only_one f d (x ∷ xs) zero low none = ap (λ rest. f x ++ rest) (all_empty f d xs (λ j inside. none (suc j) (omega arith) (λ same. omega arith))) ∙ append-nil (f x)
+only_one f d (x ∷ xs) (suc i) low none =
+    ap (λ first. first ++ flat_map f xs) (none 0 (omega arith) (λ same. omega arith)) ∙ only_one f d xs i (omega arith) (λ j inside other. none (suc j) (omega arith) (λ same. other (omega arith)))
+
+-- The pairs below a page.
+
+pairs_of_leaf : (file : File) (p : ℕ) → IsLeafPage (page_at file p) → tree_pairs file p ≡ pairs_of file p
+unfolding tree_pairs
+pairs_of_leaf file p leaf = ap (flat_map (pairs_of file)) (leaves_of_leaf file p leaf) ∙ append-nil (pairs_of file p)
+
+pairs_of_inner : (image : List ℕ) (p : ℕ) (children : List ℕ) → IsForest image → children_in (page_at (file_of image) p) ≡ Some children → tree_pairs (file_of image) p ≡ flat_map (tree_pairs (file_of image)) children
+unfolding tree_pairs
+pairs_of_inner image p children forest are =
+    ap (flat_map (pairs_of (file_of image))) (leaves_of_inner image p children forest are) ∙ flat_map_twice (pairs_of (file_of image)) (leaves (file_of image)) children
+
+data_of_inner : (image : List ℕ) (key : List ℕ) (p : ℕ) (page : Listed InternalItem) → IsForest image → page_at (file_of image) p ≡ Internal page
+    → data_below (file_of image) key p ≡ flat_map (λ (item : InternalItem). data_below (file_of image) key item.child) page.items
+data_of_inner image key p page forest is =
+    let file : File = file_of image in
+    ap (flat_map (data_under file key)) (pairs_of_inner image p (map (λ (item : InternalItem). item.child) page.items) forest (ap children_in is))
+    ∙ (flat_map_twice (data_under file key) (tree_pairs file) (map (λ (item : InternalItem). item.child) page.items)
+    ∙ flat_map_over (data_below file key) (λ (item : InternalItem). item.child) page.items)
+
+-- Separators.
+
+part_at : (file : File) (items : List InternalItem) (i : ℕ) → i < length items → get_or (map (separated file) items) i no_separator ≡ separated file (get_or items i no_internal_item)
+part_at file [] i low = absurd (omega arith)
+part_at file (item ∷ items) zero low = refl
+part_at file (item ∷ items) (suc i) low = part_at file items i (omega arith)
+
+parts_length : {X Y : Type 0} (f : X → Y) (xs : List X) → length (map f xs) ≡ length xs
+parts_length f [] = refl
+parts_length f (x ∷ xs) = ap suc (parts_length f xs)
+
+in_drop : {X : Type 0} (xs : List X) (m j : ℕ) (d : X) → m ≤ j → j < length xs → Contains (drop m xs) (get_or xs j d)
+in_drop xs m j d above low =
+    subst (Contains (drop m xs)) (get_or-drop m xs (j - m) d ∙ ap (λ n. get_or xs n d) (let same : m + (j - m) ≡ j = omega arith in same))
+    (Contains-get_or (drop m xs) (j - m) d (simp length-drop (omega arith)))
+
+in_take : {X : Type 0} (xs : List X) (m j : ℕ) (d : X) → j < m → j < length xs → Contains (take m xs) (get_or xs j d)
+in_take xs m j d below low = subst (Contains (take m xs)) (get_or-take m xs j d below) (Contains-get_or (take m xs) j d (simp length-take (omega arith)))
+
+abbrev item_of : List InternalItem → ℕ → InternalItem
+item_of items i = get_or items i no_internal_item
+
+abbrev key_of : File → List InternalItem → ℕ → List ℕ
+key_of file items i = value_of file (item_of items i).key
+
+-- the separators of an internal page ascend, and keep the keys below its children apart
+pub record AreSeparated (file : File) (items : List InternalItem) : Type 0 where
+  pub ascend : (m : ℕ) → 2 ≤ m → m < length items → less (value_of file (get_or items (m - 1) no_internal_item).key) (value_of file (get_or items m no_internal_item).key) ≡ true
+  pub later : (m j : ℕ) (pair : StoredPair) → 1 ≤ m → m ≤ j → j < length items → Contains (tree_pairs file (get_or items j no_internal_item).child) pair → less pair.key (value_of file (get_or items m no_internal_item).key) ≡ false
+  pub earlier : (m j : ℕ) (pair : StoredPair) → m < length items → j < m → Contains (tree_pairs file (get_or items j no_internal_item).child) pair → less pair.key (value_of file (get_or items m no_internal_item).key) ≡ true
+
+-- what a separator at which the row doesn't hold says
+record IsApart (parts : List Separated) (m : ℕ) : Type 0 where
+  ascends : (nat_le 2 m && not (less (get_or parts (m - 1) no_separator).key (get_or parts m no_separator).key)) ≡ false
+  later : list_any (λ other. less other (get_or parts m no_separator).key) (flat_map (λ (part : Separated). part.below) (drop m parts)) ≡ false
+  earlier : list_any (λ other. not (less other (get_or parts m no_separator).key)) (flat_map (λ (part : Separated). part.below) (take m parts)) ≡ false
+
+apart : (file : File) (page : Listed InternalItem) (m : ℕ) → has_wrong_separator file (Internal page) ≡ false → 1 ≤ m → m < length page.items → IsApart (map (separated file) page.items) m
+apart file page m right some low =
+    let parts : List Separated = map (separated file) page.items in
+    let inside : m < 1 + (length parts - 1) = omega (arith, parts_length (separated file) page.items) in
+    let none : breaks parts m ≡ false = none_passes (breaks parts) (range_with_len 1 (length parts - 1)) m right (in_range 1 (length parts - 1) m some inside) in
+    let two = or_parts _ _ none in
+    let one = or_parts _ _ two.0 in
+    record { ascends = one.0; later = one.1; earlier = two.1 }
+
+false_later : (a b : Bool) → a ≡ true → (a && not b) ≡ false → b ≡ true
+false_later true true is none = refl
+false_later true false is none = absurd cc
+false_later false b is none = absurd cc
+
+-- a key below a child is one of those of its part
+key_below : (file : File) (items : List InternalItem) (j : ℕ) (pair : StoredPair) → j < length items → Contains (tree_pairs file (item_of items j).child) pair
+    → Contains (get_or (map (separated file) items) j no_separator).below pair.key
+key_below file items j pair low at =
+    subst (λ (part : Separated). Contains part.below pair.key) (sym (part_at file items j low)) (in_map (λ (other : StoredPair). other.key) (tree_pairs file (item_of items j).child) pair at)
+
+pub are_separated : (file : File) (page : Listed InternalItem) → has_wrong_separator file (Internal page) ≡ false → AreSeparated file page.items
+are_separated file page right =
+    let items : List InternalItem = page.items in
+    let parts : List Separated = map (separated file) items in
+    let count : length parts ≡ length items = parts_length (separated file) items in
+    record {
+      ascend =
+          λ m two low.
+          let here : IsApart parts m = apart file page m right (omega arith) low in
+          ap (λ (part : Separated). less part.key (key_of file items m)) (sym (part_at file items (m - 1) (omega arith)))
+          ∙ (ap (λ (part : Separated). less (get_or parts (m - 1) no_separator).key part.key) (sym (part_at file items m low))
+          ∙ false_later (nat_le 2 m) (less (get_or parts (m - 1) no_separator).key (get_or parts m no_separator).key) (le-leb 2 m two) here.ascends);
+      later =
+          λ m j pair some above low at.
+          let here : IsApart parts m = apart file page m right some (omega arith) in
+          let inside : j < length parts = omega arith in
+          ap (λ (part : Separated). less pair.key part.key) (sym (part_at file items m (omega arith)))
+          ∙ none_passes (λ other. less other (get_or parts m no_separator).key) (flat_map (λ (part : Separated). part.below) (drop m parts)) pair.key here.later
+          (in_flat_map (λ (part : Separated). part.below) (drop m parts) (get_or parts j no_separator) pair.key (in_drop parts m j no_separator above inside) (key_below file items j pair low at));
+      earlier =
+          λ m j pair low below at.
+          let here : IsApart parts m = apart file page m right (omega arith) low in
+          let inside : j < length parts = omega arith in
+          ap (λ (part : Separated). less pair.key part.key) (sym (part_at file items m low))
+          ∙ not-false (less pair.key (get_or parts m no_separator).key)
+          (none_passes (λ other. not (less other (get_or parts m no_separator).key)) (flat_map (λ (part : Separated). part.below) (take m parts)) pair.key here.earlier
+          (in_flat_map (λ (part : Separated). part.below) (take m parts) (get_or parts j no_separator) pair.key (in_take parts m j no_separator below inside) (key_below file items j pair (omega arith) at)));
+    }
+
+-- The child that is chosen.
+
+last_from : (test : InternalItem → Bool) (items : List InternalItem) (n : ℕ) → n < length items → ((j : ℕ) → n < j → j < length items → test (item_of items j) ≡ true)
+    → (i : ℕ) × IsLastFalse test items i
+last_from test items zero low later = (0, record { inside = low; is_false = λ some. absurd (omega arith); later = later })
+last_from test items (suc n) low later =
+    elim (cases_Bool (test (item_of items (suc n)))) [
+      | inl is ↦
+          last_from test items n (omega arith) (λ j above inside.
+          elim (cases_lt (suc n) j) [ inl past ↦ later j past inside | inr here ↦ ap (λ m. test (item_of items m)) (let same : j ≡ suc n = omega arith in same) ∙ is ])
+      | inr is ↦ (suc n, record { inside = low; is_false = λ some. is; later = later })
+    ]
+
+-- all that a key has below a page it has below the child that is chosen for it
+chosen_data : (file : File) (key : List ℕ) (items : List InternalItem) → 0 < length items → AreSeparated file items
+    → flat_map (λ (item : InternalItem). data_below file key item.child) items ≡ data_below file key (chosen (is_below file key) items)
+chosen_data file key items some apart =
+    let test : InternalItem → Bool = is_below file key in
+    let last : (i : ℕ) × IsLastFalse test items i = last_from test items (length items - 1) (omega arith) (λ j above inside. absurd (omega arith)) in
+    let i : ℕ = last.0 in
+    only_one (λ (item : InternalItem). data_below file key item.child) no_internal_item items i last.1.inside
+    (λ j low other.
+    elim (cases_lt j i) [
+      | inl before ↦
+          nothing_under file key (tree_pairs file (item_of items j).child) (λ pair at.
+          other_key pair.key key (key_of file items i) (apart.earlier i j pair last.1.inside before at) (last.1.is_false (omega arith)))
+      | inr after ↦
+          let past : i < j = omega (arith, other) in
+          nothing_under file key (tree_pairs file (item_of items j).child) (λ pair at.
+          above_key pair.key key (key_of file items (i + 1)) (apart.later (i + 1) j pair (omega arith) (omega arith) low at) (last.1.later (i + 1) (omega arith) (omega arith)))
+    ])
+    ∙ ap (data_below file key) (sym (chosen_is test items i last.1))
+
+-- The way down.
+
+no_inner : (test : InternalItem → Bool) (page : Page) → children_in page ≡ None → next_below test page ≡ None
+no_inner test (Internal page) none = absurd cc
+no_inner test page none = refl
+
+keyed_inner : (page : Page) (children : List ℕ) → children_in page ≡ Some children → has_type (3 ∷ 5 ∷ 12 ∷ []) (type_in page) ≡ true → (view : Listed InternalItem) × (page ≡ Internal view)
+keyed_inner (Internal page) children are keyed = (page, refl)
+keyed_inner (RecnoInternal page) children are keyed = absurd cc
+keyed_inner page children are keyed = absurd cc
+
+child_keyed : (view : Listed InternalItem) (page : Page) (type : Option ℕ) → page ≡ Internal view → has_type (child_types page) type ≡ true → has_type (3 ∷ 5 ∷ 12 ∷ []) type ≡ true
+child_keyed view page type is has = of (view.header.level == 2) (ap (λ q. has_type (child_types q) type) (sym is) ∙ has)
+  where
+    of : (low : Bool) → has_type (cond low (5 ∷ 12 ∷ []) (3 ∷ [])) type ≡ true → has_type (3 ∷ 5 ∷ 12 ∷ []) type ≡ true
+    of true one = of_type (λ t. has_type (3 ∷ 5 ∷ 12 ∷ []) t ≡ true) (5 ∷ 12 ∷ []) type (refl, (refl, tt)) one
+    of false one = of_type (λ t. has_type (3 ∷ 5 ∷ 12 ∷ []) t ≡ true) (3 ∷ []) type (refl, tt) one
+
+tree_keyed : (type : Option ℕ) → has_type (3 ∷ 5 ∷ 12 ∷ []) type ≡ true → has_type (3 ∷ 4 ∷ 5 ∷ 6 ∷ 12 ∷ []) type ≡ true
+tree_keyed type keyed = of_type (λ t. has_type (3 ∷ 4 ∷ 5 ∷ 6 ∷ 12 ∷ []) t ≡ true) (3 ∷ 5 ∷ 12 ∷ []) type (refl, (refl, (refl, tt))) keyed
+
+step_down : (levels : ℕ) (file : File) (test : InternalItem → Bool) (p : ℕ) (next : Option ℕ) → next_below test (page_at file p) ≡ next → descent (suc levels) file test p ≡ go_on (descent levels file test) p next
+unfolding descent
+step_down levels file test p next is = ap (go_on (descent levels file test) p) is
+
+-- each internal page of a tree keeps its keys apart
+abbrev pub AllSeparated : File → ℕ → Type 0
+AllSeparated file root = (q : ℕ) (page : Listed InternalItem) → Contains (inner_pages file root) q → page_at file q ≡ Internal page → AreSeparated file page.items
+
+-- all that a key has below a page it has on the leaf to which a descent leads
+data_of_descent : (levels : ℕ) (image key : List ℕ) (p : ℕ) → IsForest image → level (file_of image) p ≡ levels → HasTypeAt (file_of image) (3 ∷ 5 ∷ 12 ∷ []) p → AllSeparated (file_of image) p
+    → data_below (file_of image) key p ≡ flat_map (data_under (file_of image) key) (pairs_of (file_of image) (descent levels (file_of image) (is_below (file_of image) key) p))
+data_of_descent zero image key p forest is keyed apart = let high : 1 ≤ level (file_of image) p = tree_level image p forest (tree_keyed (type_in (page_at (file_of image) p)) keyed) in absurd (omega arith)
+data_of_descent (suc n) image key p forest is keyed apart =
+    let file : File = file_of image in
+    let test : InternalItem → Bool = is_below file key in
+    elim (tree_cases image p forest (tree_keyed (type_in (page_at (file_of image) p)) keyed)) [
+      | inr leaf ↦
+          ap (flat_map (data_under file key)) (pairs_of_leaf file p leaf ∙ ap (pairs_of file) (sym (step_down n file test p None (no_inner test (page_at file p) leaf.none))))
+      | inl inner ↦
+          let view : (view : Listed InternalItem) × (page_at file p ≡ Internal view) = keyed_inner (page_at file p) inner.children inner.are keyed in
+          let page : Listed InternalItem = view.0 in
+          let here : page_at file p ≡ Internal page = view.1 in
+          let formed = internal_is image p page forest (internal_inside image p page here) here in
+          let c : ℕ = chosen test page.items in
+          let found : (item : InternalItem) × Contains page.items item × (item.child ≡ c) = chosen_among test page.items formed.1 in
+          let member : Contains (map (λ (item : InternalItem). item.child) page.items) c = subst (Contains (map (λ (item : InternalItem). item.child) page.items)) found.2 (in_map (λ (item : InternalItem). item.child) page.items found.0 found.1) in
+          let child : IsChild file p c = child_is image p c (map (λ (item : InternalItem). item.child) page.items) forest (ap children_in here) member in
+          data_of_inner image key p page forest here
+          ∙ (chosen_data file key page.items formed.1 (apart p page (is_inner file p page (omega (arith, formed.0)) here) here)
+          ∙ (data_of_descent n image key c forest (omega (arith, child.level)) (child_keyed page (page_at file p) (type_in (page_at file c)) here child.type)
+          (λ q other at its. apart q other (is_inner_below file p page c q here member child at) its)
+          ∙ ap (λ q. flat_map (data_under file key) (pairs_of file q)) (sym (step_down n file test p (Some c) (ap (next_below test) here)))))
+    ]
+
+-- What sound contents give.
+
+past_first : (a b : Bool) → a ≡ true → (a && b) ≡ false → b ≡ false
+past_first true b is none = none
+past_first false b is none = absurd cc
+
+keyed_rows : (file : File) (meta : BtreeMeta) (p : ℕ) (b : Bool) → b ≡ false → holding (cond b (recno_contents file meta p) (btree_contents file meta p)) ≡ [] → holding (btree_contents file meta p) ≡ []
+keyed_rows file meta p true is none = absurd cc
+keyed_rows file meta p false is none = none
+
+pub all_separated : (image : List ℕ) (meta : BtreeMeta) → has_bit meta.flags 0x02 ≡ false → contents_faults (file_of image) (BtreeFields meta) ≡ [] → AllSeparated (file_of image) meta.root
+unfolding contents_faults
+all_separated image meta keys none q page at is =
+    let file : File = file_of image in
+    let low : q ≤ file.last = internal_inside image q page is in
+    let codes : holding (contents_rows file (BtreeFields meta) q) ≡ [] = no_codes_at 8 0 (file.last + 1) q (λ p. holding (contents_rows file (BtreeFields meta) p)) none (omega arith) (omega arith) in
+    let fail : AllFail (btree_contents file meta q) = all_fail (btree_contents file meta q) (keyed_rows file meta q (has_bit meta.flags 0x02) keys codes) in
+    let passed : ((q == q) && has_wrong_separator file (page_at file q)) ≡ false =
+    none_passes (λ r. (r == q) && has_wrong_separator file (page_at file r)) (inner_pages file meta.root) q fail.1.1.1.0 at in
+    are_separated file page (ap (has_wrong_separator file) (sym is) ∙ past_first (q == q) (has_wrong_separator file (page_at file q)) (eq-eqb q q refl) passed)
+
+-- What a descent with the sought key asks.
+
+-- the root of a btree is an internal page with keys or a leaf of pairs
+pub root_typed : (image : List ℕ) (meta : BtreeMeta) → IsForest image → HasMetadata (file_of image) (BtreeFields meta) → has_bit meta.flags 0x02 ≡ false → HasTypeAt (file_of image) (3 ∷ 5 ∷ []) meta.root
+root_typed image meta forest has keys =
+    elim (root_cases image meta.root forest (root_fits image (head_of image) meta forest.formed has)) [
+      | inl keyed ↦ keyed
+      | inr recno ↦
+          of_type (λ type. has_type (4 ∷ 6 ∷ []) type ≡ true → has_type (3 ∷ 5 ∷ []) type ≡ true) (3 ∷ 5 ∷ 12 ∷ []) (type_in (page_at (file_of image) meta.root)) (λ _. refl, (λ _. refl, (λ other. absurd cc, tt)))
+          (root_keyed image meta forest has keys) recno
+    ]
+
+pub keys_readable : (image : List ℕ) (root : ℕ) → IsForest image → AllReadable (file_of image) (λ (item : InternalItem). FitsContent (file_of image) item.key) root
+keys_readable image root forest p page item inner is (i, low, same) =
+    subst (λ (it : InternalItem). FitsContent (file_of image) it.key) same
+    (key_fits image p page i (get_or page.items i item) forest (internal_inside image p page is) is (slice_get-get_or page.items i item low))
+
+pub keys_monotone : (file : File) (key : List ℕ) (root : ℕ) → AllSeparated file root → AllMonotone file (is_below file key) root
+keys_monotone file key root apart p page inner is =
+    monotone_by_neighbours (is_below file key) page.items (λ i some low holds.
+    less_trans key (key_of file page.items i) (key_of file page.items (i + 1)) holds
+    (ap (λ m. less (key_of file page.items m) (key_of file page.items (i + 1))) (let same : i ≡ i + 1 - 1 = omega arith in same) ∙ (apart p page inner is).ascend (i + 1) (omega arith) low))
+
+-- a key has in a list what it has on the leaf to which a descent leads
+pub found_on_leaf : (image key : List ℕ) (meta : BtreeMeta) → IsForest image → HasMetadata (file_of image) (BtreeFields meta) → has_bit meta.flags 0x02 ≡ false → contents_faults (file_of image) (BtreeFields meta) ≡ []
+    → get (btree_list (file_of image) meta.root) (BytesKey key)
+    ≡ flat_map (data_under (file_of image) key) (pairs_of (file_of image) (descent (header_in (page_at (file_of image) meta.root)).level (file_of image) (is_below (file_of image) key) meta.root))
+found_on_leaf image key meta forest has keys none =
+    let file : File = file_of image in
+    get_tree file meta.root key
+    ∙ data_of_descent (level file meta.root) image key meta.root forest refl
+    (root_keyed image meta forest has keys) (all_separated image meta keys none)
+
+-- what is found on that leaf of a handle to the same image is what the key has
+pub found_by : (linked image key : List ℕ) (meta : BtreeMeta) (root leaf : ℕ) (found : List (List ℕ)) → IsForest linked → HasMetadata (file_of linked) (BtreeFields meta) → has_bit meta.flags 0x02 ≡ false
+    → contents_faults (file_of linked) (BtreeFields meta) ≡ [] → image ≡ linked → root ≡ meta.root
+    → leaf ≡ descent (header_in (page_at (file_of image) root)).level (file_of image) (is_below (file_of image) key) root
+    → found ≡ flat_map (data_under (file_of image) key) (pairs_of (file_of image) leaf)
+    → found ≡ get (btree_list (file_of linked) meta.root) (BytesKey key)
+found_by linked image key meta root leaf found forest has keys none same named leads is =
+    let F : List ℕ → ℕ → List (List ℕ) =
+    λ other r. flat_map (data_under (file_of other) key) (pairs_of (file_of other) (descent (header_in (page_at (file_of other) r)).level (file_of other) (is_below (file_of other) key) r)) in
+    is
+    ∙ (ap (λ p. flat_map (data_under (file_of image) key) (pairs_of (file_of image) p)) leads
+    ∙ (ap (λ other. F other root) same ∙ (ap (F linked) named ∙ sym (found_on_leaf linked key meta forest has keys none))))
+
+-- On the leaf.
+
+differ : (xs ys : List ℕ) → (xs ≡ ys → ⊥) → false ≡ bytes_eq xs ys
+differ xs ys other = sym (false_from_ne_true (bytes_eq xs ys) (λ same. other ((bytes_eq-Decides xs ys).0 same)))
+
+pub differ_by : (answer : Ordering) (xs ys : List ℕ) → OrderingIs answer xs ys → (answer ≡ Below) ⊎ (answer ≡ Greater) → false ≡ bytes_eq xs ys
+differ_by Below xs ys is other = differ xs ys (λ same. true≢false (sym is ∙ (ap (less xs) (sym same) ∙ not_less_self xs)))
+differ_by Equal xs ys is other = elim other [ inl same ↦ absurd cc | inr same ↦ absurd cc ]
+differ_by Greater xs ys is other = differ xs ys (λ same. true≢false (sym is ∙ (ap (less ys) same ∙ not_less_self ys)))
+
+from_key_part : (key : List ℕ) (pairs : List StoredPair) (pair : StoredPair) → Contains (from_key key pairs) pair → Contains pairs pair
+from_key_part key [] pair at = at
+from_key_part key (first ∷ pairs) pair at =
+    elim (bytes_eq first.key key) as (λ b. Contains (cond b (first ∷ pairs) (from_key key pairs)) pair → Contains (first ∷ pairs) pair) [
+      | true ↦ λ here. here
+      | false ↦ λ later. later_member first pairs pair (from_key_part key pairs pair later)
+    ] at
+
+-- the first of the pairs from one with a key on has the key
+pub from_key_first : (key : List ℕ) (pairs : List StoredPair) (pair : StoredPair) (rest : List StoredPair) → from_key key pairs ≡ pair ∷ rest → pair.key ≡ key
+from_key_first key [] pair rest is = absurd cc
+from_key_first key (first ∷ pairs) pair rest is =
+    elim (bytes_eq first.key key) as (λ b. bytes_eq first.key key ≡ b → cond b (first ∷ pairs) (from_key key pairs) ≡ pair ∷ rest → pair.key ≡ key) [
+      | true ↦ λ same here. let one : first ≡ pair = cc in ap (λ (x : StoredPair). x.key) (sym one) ∙ (bytes_eq-Decides first.key key).0 same
+      | false ↦ λ other later. from_key_first key pairs pair rest later
+    ] refl is
+
+-- the pairs of a leaf are open
+pub page_open : (image : List ℕ) (p : ℕ) (pairs : List StoredPair) → IsForest image → FitsLeafPage (file_of image) p → structure_faults (file_of image) ≡ [] → pairs ≡ pairs_of (file_of image) p → AreOpen (file_of image) pairs
+page_open image p pairs forest fits stage are =
+    record { stage = stage; fit = λ pair at. (pair_of_page image p pair forest fits (subst (λ ps. Contains ps pair) are at)).fits }
+
+pub key_open : (file : File) (key : List ℕ) (pairs : List StoredPair) → AreOpen file pairs → AreOpen file (from_key key pairs)
+key_open file key pairs opened = record { stage = opened.stage; fit = λ pair at. opened.fit pair (from_key_part key pairs pair at) }
+
+pub found_some : (file : File) (key : List ℕ) (pairs : List StoredPair) (pair : StoredPair) (rest : List StoredPair) → from_key key pairs ≡ pair ∷ rest
+    → flat_map (data_under file pair.key) (pair ∷ rest) ≡ flat_map (data_under file key) pairs
+found_some file key pairs pair rest is =
+    ap (λ k. flat_map (data_under file k) (pair ∷ rest)) (from_key_first key pairs pair rest is) ∙ (ap (flat_map (data_under file key)) (sym is) ∙ from_key_same file key pairs)
+
+pub found_none : (file : File) (key : List ℕ) (pairs : List StoredPair) → from_key key pairs ≡ [] → [] ≡ flat_map (data_under file key) pairs
+found_none file key pairs none = ap (flat_map (data_under file key)) (sym none) ∙ from_key_same file key pairs
+
+-- the data that are left where a search goes on to the next pair
+pub next_found : (file : File) (key : List ℕ) (here after : Option (List (List ℕ))) (old new : List StoredPair) (pair : StoredPair) → left_of here ≡ [] → old ≡ pair ∷ new → left_of after ≡ data_under file key pair
+    → found_left file key after new ≡ found_left file key here old
+next_found file key here after old new pair none more are =
+    ap (λ values. values ++ flat_map (data_under file key) new) are ∙ sym (ap (λ values. values ++ flat_map (data_under file key) old) none ∙ ap (flat_map (data_under file key)) more)

@@ -1,0 +1,244 @@
+-- The least page of a row, and the first fault of a table.
+use Rattle.std.proofs.Common.{◌≡◌, ◌⊎◌, ℕ, ◌+◌, ◌<◌, ◌≤◌, Bool, true, false, cond, List, [], ◌∷◌, min, Option, Some, None, arith, refl, sym, ◌∙◌, ap, subst, inl, inr}
+use Rattle.std.specs.Prelude.{◌==◌, ◌&&◌, ◌||◌, nat_le}
+use Rattle.std.specs.List.{Contains, fold, list_any}
+use Rattle.std.proofs.lemmas.Bool.{cases_eq, cases_order, eq-eqb, eqb-true, leb-true, leb-false, or_cases, or_left, or_right, true≢false}
+use Rattle.bdb_model.specs.declared.kinds.Fault.{Fault}
+use Rattle.bdb_model.specs.Table.{Row, ◌:?◌, lesser}
+use Rattle.bdb_model.specs.Verdict.{by_page, holding}
+use Rattle.bdb_model.proofs.MemberLemmas.{first_member, later_member, member_cases, no_member}
+use Rattle.bdb_model.proofs.VerdictLemmas.{ComesFirst, IsOfStage, Rises, by_page_first, holding_least, in_by_page, of_by_page}
+use Rattle.bdb_graph.specs.Linking.{first_fault}
+use Rattle.bdb_btree.specs.Least.{IsLeastPage, noting, sooner}
+
+-- The least page of a row.
+
+-- a test that gives the same answers has the same least page
+pub least_same : (least : Option ℕ) (test other : ℕ → Bool) → ((p : ℕ) → test p ≡ other p) → IsLeastPage least test → IsLeastPage least other
+least_same None test other same is = λ p. sym (same p) ∙ is p
+least_same (Some least) test other same is = (sym (same least) ∙ is.0, λ p holds. is.1 p (same p ∙ holds))
+
+-- one more page
+least_more : (least : Option ℕ) (q : ℕ) (test : ℕ → Bool) → IsLeastPage least test → IsLeastPage (lesser least (Some q)) (λ p. test p || (q == p))
+least_more None q test is = (
+  or_right (test q) (q == q) (eq-eqb q q refl),
+  λ p holds. elim (or_cases (test p) (q == p) holds) [
+    | inl passes ↦ absurd (true≢false (sym passes ∙ is p))
+    | inr same ↦ let e : q ≡ p = eqb-true q p same in omega arith
+  ],
+)
+least_more (Some least) q test is = (
+  elim (cases_order least q) [
+    | inl same ↦ let e : min least q ≡ least = omega arith in rw e (or_left (test least) (q == least) is.0)
+    | inr (inl low) ↦ let e : min least q ≡ least = omega arith in rw e (or_left (test least) (q == least) is.0)
+    | inr (inr high) ↦ let e : min least q ≡ q = omega arith in rw e (or_right (test q) (q == q) (eq-eqb q q refl))
+  ],
+  λ p holds. elim (or_cases (test p) (q == p) holds) [
+    | inl passes ↦ let low : least ≤ p = is.1 p passes in omega arith
+    | inr same ↦ let e : q ≡ p = eqb-true q p same in omega arith
+  ],
+)
+
+or_assoc : (a b c : Bool) → ((a || b) || c) ≡ (a || (b || c))
+or_assoc true b c = refl
+or_assoc false b c = refl
+
+or_false : (a : Bool) → (a || false) ≡ a
+or_false true = refl
+or_false false = refl
+
+and_true : (a : Bool) → (a && true) ≡ a
+and_true true = refl
+and_true false = refl
+
+and_false : (a : Bool) → (a && false) ≡ false
+and_false true = refl
+and_false false = refl
+
+module _ {X : Type 0} (page : X → ℕ) (test : X → Bool) where
+  -- the row of one item
+  abbrev passes_at : X → ℕ → Bool
+  passes_at item p = (page item == p) && test item
+
+  note_one : (least : Option ℕ) (row : ℕ → Bool) (item : X) → IsLeastPage least row → IsLeastPage (noting page test least item) (λ p. row p || passes_at item p)
+  note_one least row item is =
+      elim (test item) as (λ b. IsLeastPage (cond b (lesser least (Some (page item))) least) (λ p. row p || ((page item == p) && b))) [
+        | true ↦ least_same (lesser least (Some (page item))) (λ p. row p || (page item == p)) (λ p. row p || ((page item == p) && true)) (λ p. ap (λ b. row p || b) (sym (and_true (page item == p)))) (least_more least (page item) row is)
+        | false ↦ least_same least row (λ p. row p || ((page item == p) && false)) (λ p. sym (ap (λ b. row p || b) (and_false (page item == p)) ∙ or_false (row p))) is
+      ]
+
+  note_more : (items : List X) (least : Option ℕ) (row : ℕ → Bool) → IsLeastPage least row → IsLeastPage (fold (noting page test) least items) (λ p. row p || list_any (λ item. passes_at item p) items)
+  note_more [] least row is = least_same least row (λ p. row p || false) (λ p. sym (or_false (row p))) is
+  note_more (item ∷ items) least row is =
+      least_same (fold (noting page test) (noting page test least item) items) (λ p. (row p || passes_at item p) || list_any (λ other. passes_at other p) items)
+      (λ p. row p || (passes_at item p || list_any (λ other. passes_at other p) items)) (λ p. or_assoc (row p) (passes_at item p) (list_any (λ other. passes_at other p) items))
+      (note_more items (noting page test least item) (λ p. row p || passes_at item p) (note_one least row item is))
+
+  -- the items that were noted are those of the row
+  pub note_all : (items : List X) → IsLeastPage (fold (noting page test) None items) (λ p. list_any (λ item. (page item == p) && test item) items)
+  note_all items = note_more items None (λ p. false) (λ p. refl)
+
+-- The first fault of a table.
+
+-- a row: its code, and at which pages it holds
+pub record PageRow : Type 0 where
+  pub code : ℕ
+  pub test : ℕ → Bool
+
+abbrev pub rows_at : List PageRow → ℕ → List (Row ℕ)
+rows_at [] p = []
+rows_at (row ∷ rows) p = row.code :? row.test p ∷ rows_at rows p
+
+-- some row of a table has this code and holds at this page
+abbrev pub HoldsAt : List PageRow → ℕ → ℕ → Type 0
+HoldsAt [] p code = ⊥
+HoldsAt (row ∷ rows) p code = ((row.test p ≡ true) × (row.code ≡ code)) ⊎ HoldsAt rows p code
+
+-- the first of all that hold
+abbrev pub IsFirst : List PageRow → Option Fault → Type 0
+IsFirst rows None = (p code : ℕ) → HoldsAt rows p code → ⊥
+IsFirst rows (Some first) =
+    (first.stage ≡ 8) × HoldsAt rows first.page first.code × ((p code : ℕ) → HoldsAt rows p code → ComesFirst first (record { stage = 8; page = p; code = code }))
+
+-- all codes of a table are at least this
+abbrev pub AreAbove : ℕ → List PageRow → Type 0
+AreAbove n [] = Unit {0}
+AreAbove n (row ∷ rows) = (n ≤ row.code) × AreAbove row.code rows
+
+above_code : (rows : List PageRow) (n p code : ℕ) → AreAbove n rows → HoldsAt rows p code → n ≤ code
+above_code [] n p code above holds = absurd holds
+above_code (row ∷ rows) n p code above holds =
+    elim holds [
+      | inl here ↦ let e : row.code ≡ code = here.1 in let low : n ≤ row.code = above.0 in omega arith
+      | inr later ↦ let more : row.code ≤ code = above_code rows row.code p code above.1 later in let low : n ≤ row.code = above.0 in omega arith
+    ]
+
+pub no_rows : IsFirst [] None
+no_rows p code holds = holds
+
+first_step : (row : PageRow) (rows : List PageRow) (page : ℕ) (later : Fault) → AreAbove row.code rows → (row.test page ≡ true) × ((p : ℕ) → row.test p ≡ true → page ≤ p) → IsFirst rows (Some later)
+    → (b : Bool) → nat_le page later.page ≡ b → IsFirst (row ∷ rows) (cond b (Some (record { stage = 8; page = page; code = row.code })) (Some later))
+first_step row rows page later above least first true before =
+    let low : page ≤ later.page = leb-true page later.page before in (
+      refl,
+      inl (least.0, refl),
+      λ p code holds. elim holds [
+        | inl here ↦
+            let from : page ≤ p = least.1 p here.0 in
+            let same : row.code ≡ code = here.1 in
+            elim (cases_eq page p) [ inl at ↦ inr (at, omega arith) | inr other ↦ inl (omega arith) ]
+        | inr in_rest ↦
+            let up : row.code ≤ code = above_code rows row.code p code above in_rest in
+            elim (first.2 p code in_rest) [
+              | inl earlier ↦ inl (omega arith)
+              | inr at ↦ let same : later.page ≡ p = at.0 in elim (cases_eq page p) [ inl here ↦ inr (here, up) | inr other ↦ inl (omega arith) ]
+            ]
+      ],
+    )
+first_step row rows page later above least first false before =
+    let high : later.page < page = leb-false page later.page before in (
+      first.0,
+      inr first.1,
+      λ p code holds. elim holds [
+        | inl here ↦ let from : page ≤ p = least.1 p here.0 in inl (omega arith)
+        | inr in_rest ↦ first.2 p code in_rest
+      ],
+    )
+
+pub first_more : (row : PageRow) (rows : List PageRow) (least : Option ℕ) (first : Option Fault) → AreAbove row.code rows → IsLeastPage least row.test → IsFirst rows first → IsFirst (row ∷ rows) (sooner row.code least first)
+first_more row rows None None above least first = λ p code holds. elim holds [ inl here ↦ true≢false (sym here.0 ∙ least p) | inr later ↦ first p code later ]
+first_more row rows None (Some later) above least first = (
+  first.0,
+  inr first.1,
+  λ p code holds. elim holds [ inl here ↦ absurd (true≢false (sym here.0 ∙ least p)) | inr in_rest ↦ first.2 p code in_rest ],
+)
+first_more row rows (Some page) None above least first = (
+  refl,
+  inl (least.0, refl),
+  λ p code holds. elim holds [
+    | inl here ↦
+        let from : page ≤ p = least.1 p here.0 in
+        let same : row.code ≡ code = here.1 in
+        elim (cases_eq page p) [ inl at ↦ inr (at, omega arith) | inr other ↦ inl (omega arith) ]
+    | inr later ↦ absurd (first p code later)
+  ],
+)
+first_more row rows (Some page) (Some later) above least first = first_step row rows page later above least first (nat_le page later.page) refl
+
+-- What holds at a page is a code of it.
+
+code_step : (holds : Bool) (n code : ℕ) (codes : List ℕ) → holds ≡ true → n ≡ code → Contains (cond holds (n ∷ codes) codes) code
+code_step true n code codes is same = subst (Contains (n ∷ codes)) same (first_member n codes)
+code_step false n code codes is same = absurd cc
+
+code_later : (holds : Bool) (n code : ℕ) (codes : List ℕ) → Contains codes code → Contains (cond holds (n ∷ codes) codes) code
+code_later true n code codes at = later_member n codes code at
+code_later false n code codes at = at
+
+is_code : (rows : List PageRow) (p code : ℕ) → HoldsAt rows p code → Contains (holding (rows_at rows p)) code
+is_code [] p code holds = absurd holds
+is_code (row ∷ rows) p code holds =
+    elim holds [
+      | inl here ↦ code_step (row.test p) row.code code (holding (rows_at rows p)) here.0 here.1
+      | inr later ↦ code_later (row.test p) row.code code (holding (rows_at rows p)) (is_code rows p code later)
+    ]
+
+of_code : (rows : List PageRow) (p code : ℕ) → Contains (holding (rows_at rows p)) code → HoldsAt rows p code
+of_code [] p code at = absurd (no_member [] code refl at)
+of_code (row ∷ rows) p code at =
+    elim (row.test p) as (λ b. Contains (cond b (row.code ∷ holding (rows_at rows p)) (holding (rows_at rows p))) code → ((b ≡ true) × (row.code ≡ code)) ⊎ HoldsAt rows p code) [
+      | true ↦ λ in_codes. elim (member_cases row.code (holding (rows_at rows p)) code in_codes) [ inl here ↦ inl (refl, here) | inr later ↦ inr (of_code rows p code later) ]
+      | false ↦ λ in_codes. inr (of_code rows p code in_codes)
+    ] at
+
+rises : (rows : List PageRow) (n p : ℕ) → AreAbove n rows → Rises n (rows_at rows p)
+rises [] n p above = tt
+rises (row ∷ rows) n p above = (above.0, rises rows row.code p above.1)
+
+-- the tests hold at pages below a number alone
+abbrev pub AreInside : ℕ → List PageRow → Type 0
+AreInside high [] = Unit {0}
+AreInside high (row ∷ rows) = ((p : ℕ) → row.test p ≡ true → p < high) × AreInside high rows
+
+inside_at : (rows : List PageRow) (high p code : ℕ) → AreInside high rows → HoldsAt rows p code → p < high
+inside_at [] high p code inside holds = absurd holds
+inside_at (row ∷ rows) high p code inside holds = elim holds [ inl here ↦ inside.0 p here.0 | inr later ↦ inside_at rows high p code inside.1 later ]
+
+fault_same : (s t p q c d : ℕ) → s ≡ t → p ≡ q → c ≡ d → ◌≡◌ {A = Fault} (record { stage = s; page = p; code = c }) (record { stage = t; page = q; code = d })
+fault_same s t p q c d stage page code = cc
+
+-- two faults of a stage that come before one another are the same
+same_fault : (a b : Fault) → a.stage ≡ b.stage → ComesFirst a b → ComesFirst b a → a ≡ b
+same_fault a b stage first second =
+    elim first [
+      | inl low ↦ elim second [ inl high ↦ absurd (omega arith) | inr at ↦ absurd (let e : b.page ≡ a.page = at.0 in omega arith) ]
+      | inr at ↦
+          let page : a.page ≡ b.page = at.0 in
+          elim second [
+            | inl high ↦ absurd (omega arith)
+            | inr back ↦ let less : a.code ≤ b.code = at.1 in let more : b.code ≤ a.code = back.1 in let code : a.code ≡ b.code = omega arith in fault_same a.stage b.stage a.page b.page a.code b.code stage page code
+          ]
+    ]
+
+first_is : (rows : List PageRow) (n high : ℕ) (first : Option Fault) (faults : List Fault) → AreAbove n rows → AreInside high rows → IsFirst rows first → by_page 8 0 high (λ p. holding (rows_at rows p)) ≡ faults → first_fault faults ≡ first
+first_is rows n high None [] above inside is same = refl
+first_is rows n high (Some first) [] above inside is same =
+    absurd (no_member (by_page 8 0 high (λ p. holding (rows_at rows p))) (record { stage = 8; page = first.page; code = first.code }) same
+    (in_by_page 8 0 high first.page first.code (λ p. holding (rows_at rows p)) (omega arith) (let low : first.page < high = inside_at rows high first.page first.code inside is.1 in omega arith)
+    (is_code rows first.page first.code is.1)))
+first_is rows n high None (fault ∷ faults) above inside is same =
+    let at : IsOfStage 8 0 (0 + high) (λ p. holding (rows_at rows p)) fault = of_by_page 8 0 high (λ p. holding (rows_at rows p)) fault (subst (λ fs. Contains fs fault) (sym same) (first_member fault faults)) in
+    absurd (is fault.page fault.code (of_code rows fault.page fault.code at.is_code))
+first_is rows n high (Some first) (fault ∷ faults) above inside is same =
+    let at : IsOfStage 8 0 (0 + high) (λ p. holding (rows_at rows p)) fault = of_by_page 8 0 high (λ p. holding (rows_at rows p)) fault (subst (λ fs. Contains fs fault) (sym same) (first_member fault faults)) in
+    let holds : HoldsAt rows fault.page fault.code = of_code rows fault.page fault.code at.is_code in
+    let back : ComesFirst first (record { stage = 8; page = fault.page; code = fault.code }) = is.2 fault.page fault.code holds in
+    let member : Contains (by_page 8 0 high (λ p. holding (rows_at rows p))) (record { stage = 8; page = first.page; code = first.code }) =
+    in_by_page 8 0 high first.page first.code (λ p. holding (rows_at rows p)) (omega arith) (let low : first.page < high = inside_at rows high first.page first.code inside is.1 in omega arith) (is_code rows first.page first.code is.1) in
+    let front : ComesFirst fault (record { stage = 8; page = first.page; code = first.code }) =
+    by_page_first 8 0 high (λ p. holding (rows_at rows p)) (λ p. holding_least n (rows_at rows p) (rises rows n p above)) fault faults (record { stage = 8; page = first.page; code = first.code }) same member in
+    ap (λ f. Some f) (same_fault fault first (at.same_stage ∙ sym is.0) front back)
+
+-- the first fault that was noted is the first of the table
+pub first_of_table : (rows : List PageRow) (n high : ℕ) (first : Option Fault) → AreAbove n rows → AreInside high rows → IsFirst rows first → first_fault (by_page 8 0 high (λ p. holding (rows_at rows p))) ≡ first
+first_of_table rows n high first above inside is = first_is rows n high first (by_page 8 0 high (λ p. holding (rows_at rows p))) above inside is refl

@@ -1,0 +1,16 @@
+pub mod CheckLemmas
+pub mod CountLemmas
+pub mod FindLemmas
+pub mod InnerLemmas
+pub mod LeastLemmas
+pub mod LessLemmas
+pub mod OrderLemmas
+pub mod PairLemmas
+pub mod RootLemmas
+pub mod RowLemmas
+pub mod ScanLemmas
+pub mod SeenLemmas
+pub mod SeparatorLemmas
+pub mod SetDataLemmas
+pub mod SetLemmas
+pub mod WalkLemmas

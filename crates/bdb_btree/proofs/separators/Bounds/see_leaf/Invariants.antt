@@ -1,0 +1,10 @@
+use Rattle.std.proofs.Common.{◌≡◌}
+use Rattle.std.specs.List.{fold}
+use Rattle.bdb_model.specs.Contents.{pairs_of}
+use Rattle.bdb_model.specs.File.{file_of}
+use Rattle.bdb_btree.specs.Bounds.{under_pair}
+use Rattle.bdb_btree.proofs.separators.Bounds.see_leaf.Given as goal
+
+-- What is kept and the pairs that are left make up the whole.
+abbrev pub invariant-loop-pair : goal.invariant-loop-pair
+invariant-loop-pair l = fold under_pair l.self l.pair-iterator ≡ fold under_pair l.fn.self (pairs_of (file_of l.forest) l.leaf)

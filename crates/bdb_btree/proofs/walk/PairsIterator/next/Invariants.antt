@@ -1,0 +1,14 @@
+use Rattle.std.proofs.Common.{◌≡◌, length}
+use Rattle.bdb_model.specs.File.{file_of}
+use Rattle.bdb_btree.specs.Pairs.{AreLeaves, pairs_left}
+use Rattle.bdb_btree.proofs.walk.PairsIterator.next.Given as goal
+
+-- As many pairs are left as at the beginning.
+abbrev pub invariant-loop-pair : goal.invariant-loop-pair
+invariant-loop-pair l = record {
+  left : pairs_left (file_of l.self-inside.forest) l.self-inside.here l.self-inside.leaves ≡ pairs_left (file_of l.initial.self-inside.forest) l.initial.self-inside.here l.initial.self-inside.leaves;
+  leaves : AreLeaves (file_of l.self-inside.forest) l.self-inside.leaves;
+}
+
+abbrev pub decreases-loop-pair : goal.decreases-loop-pair
+decreases-loop-pair l = length l.self-inside.leaves

@@ -1,0 +1,84 @@
+-- What is kept of an internal page while its items are gone through: enough to decide its separators.
+use Rattle.std.specs.Prelude.{◌≡◌, ℕ, ◌||◌, if◌then◌else◌, Bool, true, false, List, [], ◌∷◌, Option, Some, None}
+use Rattle.std.specs.List.{fold, slice_get}
+use Rattle.bdb_model.specs.Chains.{value_of}
+use Rattle.bdb_model.specs.Page.{InternalItem}
+use Rattle.bdb_overflow.specs.Datum.{FitsContent}
+use Rattle.bdb_tree.specs.Trees.{IsTreePage}
+use Rattle.bdb_model.specs.Less.{less}
+use Rattle.bdb_model.specs.ContentRows.{Separated}
+use Rattle.bdb_model.specs.Contents.{StoredPair, pairs_of, tree_pairs}
+use Rattle.bdb_model.specs.File.{File}
+use Rattle.bdb_btree.specs.Runs.{is_not_above}
+
+-- the key of the last item above index 0, the greatest of the keys below the items so far, and whether a condition failed
+pub record Bounds : Type 0 where
+  pub separator : Option (List ℕ)
+  pub greatest : Option (List ℕ)
+  pub wrong : Bool
+
+abbrev pub no_bounds : Bounds
+no_bounds = record { separator = None; greatest = None; wrong = false }
+
+-- a value is below the bound, where there is one
+abbrev pub is_below : Option (List ℕ) → List ℕ → Bool
+is_below None value = false
+is_below (Some bound) value = less value bound
+
+-- a value is above the greatest one so far, or the first
+abbrev pub exceeds : Option (List ℕ) → List ℕ → Bool
+exceeds None value = true
+exceeds (Some greatest) value = less greatest value
+
+abbrev pub greater_of : Option (List ℕ) → List ℕ → Option (List ℕ)
+greater_of None value = Some value
+greater_of (Some bound) value = if less bound value then Some value else Some bound
+
+-- a key below the last item
+abbrev pub under : Bounds → List ℕ → Bounds
+under bounds key = record {
+  separator = bounds.separator;
+  greatest = greater_of bounds.greatest key;
+  wrong = bounds.wrong || is_below bounds.separator key;
+}
+
+abbrev pub under_pair : Bounds → StoredPair → Bounds
+under_pair bounds pair = under bounds pair.key
+
+-- the keys of a leaf below the last item
+abbrev pub under_page : File → Bounds → ℕ → Bounds
+under_page file bounds p = fold under_pair bounds (pairs_of file p)
+
+-- the key of the next item
+abbrev pub beyond : Bounds → List ℕ → Bounds
+beyond bounds key = record {
+  separator = Some key;
+  greatest = bounds.greatest;
+  wrong = bounds.wrong || (is_not_above bounds.separator key || is_not_above bounds.greatest key);
+}
+
+-- an item above index 0, and the keys below it
+abbrev pub past : Bounds → Separated → Bounds
+past bounds part = fold under (beyond bounds part.key) part.below
+
+-- all items of a page, the key of the first of which isn't compared
+abbrev pub bounds_of : List Separated → Bounds
+bounds_of [] = no_bounds
+bounds_of (part ∷ parts) = fold past (fold under no_bounds part.below) parts
+
+-- an item as it is read: its key, unless it's the first, and all keys below it
+abbrev pub see_item : File → Bool → Bounds → InternalItem → Bounds
+see_item file first bounds item =
+    fold under_pair (if first then bounds else beyond bounds (value_of file item.key)) (tree_pairs file item.child)
+
+abbrev pub see_items : File → Bounds → List InternalItem → Bounds
+see_items file bounds [] = bounds
+see_items file bounds (item ∷ items) = fold (see_item file false) (see_item file true bounds item) items
+
+-- what an item names is there
+pub record ItemFits (file : File) (item : InternalItem) : Type 0 where
+  pub key : FitsContent file item.key
+  pub child : IsTreePage file item.child
+
+abbrev pub ItemsFit : File → List InternalItem → Type 0
+ItemsFit file items = (i : ℕ) (item : InternalItem) → slice_get items i ≡ Some item → ItemFits file item

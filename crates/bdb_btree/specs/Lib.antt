@@ -1,0 +1,9 @@
+pub mod Bounds
+pub mod Counts
+pub mod Least
+pub mod Pairs
+pub mod Rows
+pub mod Runs
+pub mod Search
+pub mod Told
+pub mod ToldPair

@@ -1,0 +1,73 @@
+-- Data and pairs as they are gone through, and what a key has. Source: docs/FORMAT.md, "Items" and "Lists of databases".
+use Rattle.std.specs.Prelude.{◌≡◌, ℕ, not, if◌then◌else◌, Bool, List, [], ◌∷◌, ◌++◌, map, drop, Option, Some, None}
+use Rattle.std.specs.List.{filter, flat_map}
+use Rattle.std.specs.Str.{bytes_eq}
+use Rattle.bdb_model.specs.Chains.{value_of}
+use Rattle.bdb_model.specs.Contents.{StoredPair, data_of, live_values}
+use Rattle.bdb_model.specs.File.{File, page_at}
+use Rattle.bdb_model.specs.Less.{less}
+use Rattle.bdb_model.specs.Lists.{ListKey, BytesKey, listed_pair}
+use Rattle.bdb_model.specs.Page.{InternalItem, Item}
+use Rattle.bdb_model.specs.Verdict.{structure_faults}
+use Rattle.bdb_overflow.specs.Datum.{datum_seen, key_view_seen}
+use Rattle.bdb_overflow.specs.declared.datum.Datum.{Datum}
+use Rattle.bdb_overflow.specs.declared.datum.KeyView.{KeyView}
+use Rattle.bdb_btree.specs.Pairs.{AreFit}
+use Rattle.bdb_btree.specs.declared.data.SetLeaf.{SetLeaf}
+use Rattle.bdb_btree.specs.declared.data.SetLeaf.TheVariants.{Records, Sorted}
+
+-- what is left of a walk, if one goes on
+abbrev pub left_of : {X : Type 0} → Option (List X) → List X
+left_of None = []
+left_of (Some left) = left
+
+-- the entries of a leaf of a set off the page
+abbrev pub set_items : SetLeaf → List Item
+set_items (Records leaf) = leaf.items
+set_items (Sorted leaf) = leaf.items
+
+-- the values of the live entries from one on
+abbrev pub values_from : File → List Item → ℕ → List (List ℕ)
+values_from file items i = map (λ (item : Item). value_of file item.content) (filter (λ (item : Item). not item.deleted) (drop i items))
+
+-- the values that are left of a set: those of this leaf, and those of the leaves after it
+abbrev pub values_left : File → Option (List (List ℕ)) → List ℕ → List (List ℕ)
+values_left file here leaves = left_of here ++ flat_map (λ p. live_values file (page_at file p)) leaves
+
+abbrev pub one_value : Option Datum → List (List ℕ)
+one_value None = []
+one_value (Some datum) = datum_seen datum ∷ []
+
+-- a pair that is told: its key and one of its data
+abbrev pub entry_seen : (KeyView × Datum) → ListKey × List ℕ
+entry_seen entry = (key_view_seen entry.0, datum_seen entry.1)
+
+-- a key with each of these data
+abbrev pub under : List ℕ → List (List ℕ) → List (ListKey × List ℕ)
+under key values = map (λ value. (BytesKey key, value)) values
+
+-- what is left of a scan: the data of this pair, and the pairs after it
+abbrev pub entries_left : File → Option (List (ListKey × List ℕ)) → List StoredPair → List (ListKey × List ℕ)
+entries_left file here pairs = left_of here ++ flat_map (listed_pair file) pairs
+
+-- what a walk over pairs keeps of them and of the file
+pub record AreOpen (file : File) (pairs : List StoredPair) : Type 0 where
+  pub stage : structure_faults file ≡ []
+  pub fit : AreFit file pairs
+
+-- the data of a live pair with this key; another pair gives none
+abbrev pub data_under : File → List ℕ → StoredPair → List (List ℕ)
+data_under file key pair = if bytes_eq pair.key key then (if pair.live then data_of file pair.data_item else []) else []
+
+-- the pairs from the first one with this key on
+abbrev pub from_key : List ℕ → List StoredPair → List StoredPair
+from_key key [] = []
+from_key key (pair ∷ pairs) = if bytes_eq pair.key key then pair ∷ pairs else from_key key pairs
+
+-- the data that are left of a search: those of this pair, and those of the pairs after it with the key
+abbrev pub found_left : File → List ℕ → Option (List (List ℕ)) → List StoredPair → List (List ℕ)
+found_left file key here pairs = left_of here ++ flat_map (data_under file key) pairs
+
+-- the sought key is less than that of an item
+abbrev pub is_below : File → List ℕ → InternalItem → Bool
+is_below file key item = less key (value_of file item.key)

@@ -1,0 +1,215 @@
+ghost use Rattle.std.specs.Prelude.{◌≡◌, IfOk, OnOk};
+ghost use Rattle.std.specs.List.{All, fold};
+ghost use Rattle.std.specs.Option.{option_map};
+ghost use Rattle.bdb_graph.specs.Linked.{FitsLeafPage};
+ghost use Rattle.bdb_model.specs.ContentRows.{has_wrong_separator, is_wrong_at};
+ghost use Rattle.bdb_model.specs.Contents.{pairs_of, tree_pairs};
+ghost use Rattle.bdb_model.specs.File.{file_of, page_at};
+ghost use Rattle.bdb_model.specs.Page.{Internal};
+ghost use Rattle.bdb_overflow.specs.Datum.{FitsContent, datum_seen};
+ghost use Rattle.bdb_layout.specs.Seen.{internal_item_seen, key_seen};
+ghost use Rattle.bdb_btree.specs.Bounds.{ItemsFit, beyond, bounds_of, exceeds, is_below, no_bounds, see_item, see_items, under, under_pair};
+ghost use Rattle.bdb_btree.specs.Least.{IsLeastPage};
+ghost use Rattle.bdb_tree.specs.Trees.{IsTreePage};
+
+use crate::least::note;
+use crate::order::{is_less, is_not_above};
+use crate::walk::page_pairs;
+use bdb_form::{InternalView, PageView};
+use bdb_graph::Forest;
+use bdb_layout::InternalItem;
+use bdb_overflow::{Datum, key_datum};
+use bdb_tree::leaves_below;
+use std::alloc::{AllocError, Global};
+use std::marker::Model;
+
+/// Whether a value is below a bound, where there is one.
+fn is_below(bound: &Option<Datum<'_>>, value: &Datum<'_>) -> bool
+    ensures { result ≡ is_below (option_map datum_seen bound.now) (datum_seen value.now) }
+{
+    match bound {
+        Some(bound) => is_less(value, bound),
+        None => false,
+    }
+}
+
+/// Whether a value is above the greatest one so far, or the first.
+fn exceeds(greatest: &Option<Datum<'_>>, value: &Datum<'_>) -> bool
+    ensures { result ≡ exceeds (option_map datum_seen greatest.now) (datum_seen value.now) }
+{
+    match greatest {
+        Some(greatest) => is_less(greatest, value),
+        None => true,
+    }
+}
+
+/// What is kept of an internal page while its items are gone through: the key of the last item above index 0,
+/// the greatest of the keys below the items so far, and whether a condition on separators failed.
+#[derive(Drop)]
+struct Bounds<'a> {
+    separator: Option<Datum<'a>>,
+    greatest: Option<Datum<'a>>,
+    wrong: bool,
+}
+
+impl<'a> Model for Bounds<'a> {
+    ghost use Rattle.std.specs.Option.{option_map};
+    ghost use Rattle.bdb_btree.specs.Bounds.{Bounds as BoundsSeen};
+
+    ghost Value = { BoundsSeen };
+
+    ghost use Rattle.bdb_overflow.specs.Datum.{datum_seen};
+
+    ghost view = { λ v. record { separator = option_map datum_seen v.separator; greatest = option_map datum_seen v.greatest; wrong = v.wrong } };
+}
+
+impl<'a> Bounds<'a> {
+    /// No item yet.
+    fn new() -> Bounds<'a>
+        ensures { result ≡ no_bounds }
+    {
+        Bounds {
+            separator: None,
+            greatest: None,
+            wrong: false,
+        }
+    }
+
+    /// Whether a condition failed.
+    fn is_wrong(&self) -> bool
+        ensures { result ≡ self.now.wrong }
+    {
+        self.wrong
+    }
+
+    /// A key below the last item.
+    fn see_key(&mut self, key: Datum<'a>)
+        ensures { self.new ≡ under self.old (datum_seen key.entry) }
+    {
+        if is_below(&self.separator, &key) {
+            self.wrong = true;
+        }
+        if exceeds(&self.greatest, &key) {
+            self.greatest = Some(key);
+        }
+    }
+
+    /// The key of the next item.
+    fn see_separator(&mut self, key: Datum<'a>)
+        ensures { self.new ≡ beyond self.old (datum_seen key.entry) }
+    {
+        if is_not_above(&self.separator, &key) || is_not_above(&self.greatest, &key) {
+            self.wrong = true;
+        }
+        self.separator = Some(key);
+    }
+
+    /// The keys of a leaf below the last item.
+    fn see_leaf(&mut self, forest: &Forest<'a>, leaf: u32)
+        requires { FitsLeafPage (file_of forest.now) leaf }
+        ensures { self.new ≡ fold under_pair self.old (pairs_of (file_of forest.now) leaf) }
+    {
+        if let Some(pairs) = page_pairs(forest, leaf) {
+            for pair in pairs {
+                self.see_key(pair.key);
+            }
+        }
+    }
+
+    /// All keys below the last item. An error is want of memory: 4 bytes for each leaf and each page above it.
+    fn see_below(
+        &mut self,
+        alloc: Global,
+        forest: &Forest<'a>,
+        child: u32,
+    ) -> Result<(), AllocError>
+        requires { IsTreePage (file_of forest.now) child }
+        ensures { OnOk result (self.new ≡ fold under_pair self.old (tree_pairs (file_of forest.now) child)) }
+    {
+        forest.head();
+        let leaves = leaves_below(alloc, forest, child)?;
+        for leaf in &leaves {
+            self.see_leaf(forest, *leaf);
+        }
+        Ok(())
+    }
+}
+
+impl<'a> Bounds<'a> {
+    /// An item of an internal page by its place, and the keys below it. The key of the first isn't compared.
+    fn see_item(
+        &mut self,
+        alloc: Global,
+        forest: &Forest<'a>,
+        item: &InternalItem<'a>,
+        first: bool,
+    ) -> Result<(), AllocError>
+        requires key { FitsContent (file_of forest.now) (key_seen item.now.key) }
+        requires child { IsTreePage (file_of forest.now) item.now.child }
+        ensures { OnOk result (self.new ≡ see_item (file_of forest.now) first self.old (internal_item_seen item.now)) }
+    {
+        if !first {
+            self.see_separator(key_datum(forest, &item.key));
+        }
+        self.see_below(alloc, forest, item.child)
+    }
+
+    /// All items of an internal page.
+    fn see_items(
+        &mut self,
+        alloc: Global,
+        forest: &Forest<'a>,
+        page: &InternalView<'a>,
+    ) -> Result<(), AllocError>
+        requires { ItemsFit (file_of forest.now) page.now.items }
+        ensures { OnOk result (self.new ≡ see_items (file_of forest.now) self.old page.now.items) }
+    {
+        for i in 0..page.entries() {
+            self.see_item(alloc, forest, &page.item(i), i == 0)?;
+        }
+        Ok(())
+    }
+}
+
+/// Whether a condition on separators fails at some item of an internal page: one pass over its items and the
+/// keys below them, each compared twice. An error is want of memory.
+fn is_wrong_view(
+    alloc: Global,
+    forest: &Forest<'_>,
+    page: &InternalView<'_>,
+) -> Result<bool, AllocError>
+    requires { ItemsFit (file_of forest.now) page.now.items }
+    ensures { IfOk result (λ wrong. wrong ≡ has_wrong_separator (file_of forest.now) (Internal page.now)) }
+{
+    let mut bounds = Bounds::new();
+    bounds.see_items(alloc, forest, page)?;
+    Ok(bounds.is_wrong())
+}
+
+/// Whether a page of a tree is an internal page with a wrong separator. An error is want of memory.
+fn is_wrong_page(alloc: Global, forest: &Forest<'_>, number: u32) -> Result<bool, AllocError>
+    requires { IsTreePage (file_of forest.now) number }
+    ensures { IfOk result (λ wrong. wrong ≡ has_wrong_separator (file_of forest.now) (page_at (file_of forest.now) number)) }
+{
+    forest.head();
+    match forest.page(number) {
+        PageView::Internal(page) => is_wrong_view(alloc, forest, &page),
+        _ => Ok(false),
+    }
+}
+
+/// The least of these pages of a tree with a wrong separator, if there is one. An error is want of memory.
+pub(crate) fn wrong_separator(
+    alloc: Global,
+    forest: &Forest<'_>,
+    pages: &[u32],
+) -> Result<Option<u32>, AllocError>
+    requires { All (IsTreePage (file_of forest.now)) pages.now }
+    ensures { IfOk result (λ least. IsLeastPage least (is_wrong_at (file_of forest.now) (has_wrong_separator (file_of forest.now)) pages.now)) }
+{
+    let mut least = None;
+    for page in pages {
+        least = note(least, *page, is_wrong_page(alloc, forest, *page)?);
+    }
+    Ok(least)
+}

@@ -1,0 +1,145 @@
+ghost use Rattle.std.specs.Prelude.{◌≡◌, ◌≤◌, []};
+ghost use Rattle.std.specs.List.{flat_map};
+ghost use Rattle.std.specs.Iterator.{YieldsFirstBy, item_count};
+ghost use Rattle.bdb_model.specs.Contents.{pairs_of, tree_pairs};
+ghost use Rattle.bdb_model.specs.Verdict.{structure_faults};
+ghost use Rattle.bdb_model.specs.File.{file_of};
+ghost use Rattle.bdb_graph.specs.Linked.{FitsLeafPage};
+ghost use Rattle.bdb_btree.specs.Pairs.{AreLeaves, pair_seen, pairs_here};
+ghost use Rattle.bdb_tree.specs.Trees.{IsRoot};
+
+use crate::pair::{Pair, pair_at};
+use bdb_form::{LeafView, PageView};
+use bdb_graph::Forest;
+use bdb_tree::{Leaves, tree_leaves};
+use std::marker::Model;
+
+/// The pairs of one leaf that are left, in order.
+#[derive(Drop)]
+pub(crate) struct PagePairs<'a> {
+    forest: Forest<'a>,
+    page: u32,
+    leaf: LeafView<'a>,
+    next: u16,
+}
+
+impl<'a> Model for PagePairs<'a> {
+    ghost use Rattle.std.specs.Prelude.{List};
+    ghost use Rattle.bdb_model.specs.Contents.{StoredPair};
+    ghost use Rattle.bdb_model.specs.File.{file_of};
+
+    ghost Value = { List StoredPair };
+
+    ghost use Rattle.bdb_btree.specs.Pairs.{IsOnLeaf, pairs_from};
+
+    ghost view = { λ v. pairs_from (file_of v.forest) v.page v.leaf v.next };
+
+    ghost invariant = { λ v. IsOnLeaf v.forest v.page v.leaf v.next };
+}
+
+impl<'a> Iterator for PagePairs<'a> {
+    type Item = Pair<'a>;
+
+    ghost next_gives = { YieldsFirstBy pair_seen (λ left. left) };
+
+    ghost remaining = { item_count (λ left. left) };
+
+    #[tactic(auto, using(crate::proofs::WalkLemmas::more_pairs, crate::proofs::WalkLemmas::no_pairs_more))]
+    fn next(&mut self) -> Option<Pair<'a>> {
+        let i = self.next;
+        if i >= self.leaf.pairs() {
+            return None;
+        }
+        self.next = i + 1;
+        Some(pair_at(&self.forest, self.page, &self.leaf, i))
+    }
+}
+
+/// The pairs of a leaf, in order; none where it isn't one of pairs.
+pub(crate) fn page_pairs<'a>(forest: &Forest<'a>, page: u32) -> Option<PagePairs<'a>>
+    requires { FitsLeafPage (file_of forest.now) page }
+    ensures { pairs_here result ≡ pairs_of (file_of forest.now) page }
+{
+    forest.head();
+    match forest.page(page) {
+        PageView::Leaf(leaf) => Some(PagePairs {
+            forest: forest.again(),
+            page,
+            leaf,
+            next: 0,
+        }),
+        _ => None,
+    }
+}
+
+/// The next pair of a leaf, if there is one.
+fn next_here<'a>(here: &mut Option<PagePairs<'a>>) -> Option<Pair<'a>>
+    ensures { YieldsFirstBy pair_seen pairs_here here.old result here.new }
+{
+    match here {
+        Some(pairs) => pairs.next(),
+        None => None,
+    }
+}
+
+/// The pairs of a tree that are left, from left to right.
+#[derive(Drop)]
+pub(crate) struct Pairs<'a> {
+    forest: Forest<'a>,
+    here: Option<PagePairs<'a>>,
+    leaves: Leaves<'a>,
+}
+
+impl<'a> Model for Pairs<'a> {
+    ghost use Rattle.std.specs.Prelude.{List};
+    ghost use Rattle.bdb_model.specs.Contents.{StoredPair};
+    ghost use Rattle.bdb_model.specs.File.{file_of};
+
+    ghost Value = { List StoredPair };
+
+    ghost use Rattle.bdb_btree.specs.Pairs.{AreLeaves, pairs_left};
+
+    ghost view = { λ v. pairs_left (file_of v.forest) v.here v.leaves };
+
+    ghost invariant = { λ v. AreLeaves (file_of v.forest) v.leaves };
+}
+
+/// The pairs of these leaves, in order.
+pub(crate) fn pairs_over<'a>(forest: &Forest<'a>, leaves: Leaves<'a>) -> Pairs<'a>
+    requires { AreLeaves (file_of forest.now) leaves }
+    ensures { result ≡ flat_map (pairs_of (file_of forest.now)) leaves.entry }
+{
+    Pairs {
+        forest: forest.again(),
+        here: None,
+        leaves,
+    }
+}
+
+/// All pairs of a tree, from left to right.
+pub(crate) fn tree_pairs<'a>(forest: &Forest<'a>, root: u32) -> Pairs<'a>
+    requires root { IsRoot (file_of forest.now) root }
+    requires stage { structure_faults (file_of forest.now) ≡ [] }
+    ensures { result ≡ tree_pairs (file_of forest.now) root }
+{
+    forest.head();
+    pairs_over(forest, tree_leaves(forest, root))
+}
+
+impl<'a> Iterator for Pairs<'a> {
+    type Item = Pair<'a>;
+
+    ghost next_gives = { YieldsFirstBy pair_seen (λ left. left) };
+
+    ghost remaining = { item_count (λ left. left) };
+
+    fn next(&mut self) -> Option<Pair<'a>> {
+        loop {
+            if let Some(pair) = next_here(&mut self.here) {
+                return Some(pair);
+            }
+            let leaf = self.leaves.next()?;
+            self.here = page_pairs(&self.forest, leaf.number());
+        }
+    }
+}

@@ -1,0 +1,12 @@
+pub mod Chains
+pub mod ContentFaults
+pub mod Duplicates
+pub mod Fields
+pub mod Judged
+pub mod Named
+pub mod Queues
+pub mod Records
+pub mod Separators
+pub mod StructureFaults
+pub mod Tables
+pub mod Trees

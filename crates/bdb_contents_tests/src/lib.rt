@@ -1,0 +1,23 @@
+//! Tests of what databases hold: their rules, their lists and lookups in them.
+#![tactic(auto)]
+
+#[cfg(test)]
+mod btree_samples;
+#[cfg(test)]
+mod btrees;
+#[cfg(test)]
+mod fields;
+#[cfg(test)]
+mod hashes;
+#[cfg(test)]
+mod lookup_samples;
+#[cfg(test)]
+mod lookups;
+#[cfg(test)]
+mod opened;
+#[cfg(test)]
+mod queues;
+#[cfg(test)]
+mod recno_samples;
+#[cfg(test)]
+mod recnos;

@@ -1,0 +1,187 @@
+-- The faults of stage 8 from those of each database.
+use Rattle.std.proofs.Common.{◌≡◌, ℕ, zero, suc, ◌+◌, ◌<◌, ◌≤◌, Bool, true, false, cond, List, [], ◌∷◌, map, arith, refl, sym, ◌∙◌, ap, subst, inl, inr}
+use Rattle.std.specs.Prelude.{◌==◌, ◌&&◌}
+use Rattle.std.specs.List.{Contains, flat_map, list_any, range_with_len}
+use Rattle.std.proofs.lemmas.Bool.{cases_eq, eq-eqb, eqb-true, or_cases, or_left, or_right, and_from, and_parts}
+use Rattle.bdb_model.specs.declared.kinds.Fault.{Fault}
+use Rattle.bdb_model.specs.File.{File}
+use Rattle.bdb_model.specs.Numbers.{has_bit}
+use Rattle.bdb_model.specs.Page.{Metadata, BtreeFields, HashFields, QueueFields}
+use Rattle.bdb_model.specs.Table.{Row, ◌:?◌}
+use Rattle.bdb_model.specs.Verdict.{by_page, holding}
+use Rattle.bdb_file.specs.Stages.{content_faults, fields_of, file_contents, holds_code}
+use Rattle.bdb_model.specs.ContentRows.{btree_contents, contents_faults, contents_rows, recno_contents}
+use Rattle.bdb_model.proofs.MemberLemmas.{first_member, later_member, member_cases, no_member, of_flat_map, in_flat_map}
+use Rattle.bdb_model.proofs.VerdictLemmas.{FirstComesFirst, IsOfStage, Rises, by_page_first, holding_least, in_by_page, of_by_page}
+
+-- The codes of a table.
+
+pub list_any_at : {X : Type 0} → (test : X → Bool) (xs : List X) (x : X) → Contains xs x → test x ≡ true → list_any test xs ≡ true
+list_any_at test [] x at passes = absurd (no_member [] x refl at)
+list_any_at test (y ∷ ys) x at passes =
+    elim (member_cases y ys x at) [
+      | inl same ↦ or_left (test y) (list_any test ys) (ap test same ∙ passes)
+      | inr later ↦ or_right (test y) (list_any test ys) (list_any_at test ys x later passes)
+    ]
+
+pub any_is : {X : Type 0} → (test : X → Bool) (xs : List X) → list_any test xs ≡ true → (x : X) × Contains xs x × (test x ≡ true)
+any_is test [] passes = absurd cc
+any_is test (y ∷ ys) passes =
+    elim (or_cases (test y) (list_any test ys) passes) [
+      | inl here ↦ (y, first_member y ys, here)
+      | inr later ↦ let found = any_is test ys later in (found.0, later_member y ys found.0 found.1, found.2)
+    ]
+
+pub holding_code : (rows : List (Row ℕ)) (code : ℕ) → Contains (holding rows) code → holds_code code rows ≡ true
+holding_code [] code at = absurd (no_member [] code refl at)
+holding_code (row ∷ rows) code at = step row.holds refl (holding_code rows code) at
+  where
+    step : (b : Bool) → row.holds ≡ b → (Contains (holding rows) code → holds_code code rows ≡ true) → Contains (cond b (row.code ∷ holding rows) (holding rows)) code → holds_code code (row ∷ rows) ≡ true
+    step true holds deeper here =
+        elim (member_cases row.code (holding rows) code here) [
+          | inl same ↦ or_left (row.code == code && row.holds) (holds_code code rows) (and_from (row.code == code) row.holds (eq-eqb row.code code same) holds)
+          | inr later ↦ or_right (row.code == code && row.holds) (holds_code code rows) (deeper later)
+        ]
+    step false holds deeper here = or_right (row.code == code && row.holds) (holds_code code rows) (deeper here)
+
+pub code_holding : (rows : List (Row ℕ)) (code : ℕ) → holds_code code rows ≡ true → Contains (holding rows) code
+code_holding [] code holds = absurd cc
+code_holding (row ∷ rows) code holds =
+    elim (or_cases (row.code == code && row.holds) (holds_code code rows) holds) [
+      | inl here ↦
+          let parts = and_parts (row.code == code) row.holds here in
+          let same : row.code ≡ code = eqb-true row.code code parts.0 in
+          rw parts.1 (subst (λ c. Contains (row.code ∷ holding rows) c) same (first_member row.code (holding rows)))
+      | inr later ↦ deeper row.holds (code_holding rows code later)
+    ]
+  where
+    deeper : (b : Bool) → Contains (holding rows) code → Contains (cond b (row.code ∷ holding rows) (holding rows)) code
+    deeper true at = later_member row.code (holding rows) code at
+    deeper false at = at
+
+-- a table with a row for each number from one on
+numbered : ℕ → ℕ → (ℕ → Bool) → List (Row ℕ)
+numbered from n test = map (λ code. code :? test code) (range_with_len from n)
+
+of_numbered : (n from : ℕ) (test : ℕ → Bool) (code : ℕ) → Contains (holding (numbered from n test)) code → test code ≡ true
+unfolding numbered
+of_numbered zero from test code at = absurd (no_member [] code refl at)
+of_numbered (suc n) from test code at = step (test from) refl (of_numbered n (from + 1) test code) at
+  where
+    step : (b : Bool) → test from ≡ b → (Contains (holding (map (λ c. c :? test c) (range_with_len (from + 1) n))) code → test code ≡ true)
+        → Contains (cond b (from ∷ holding (map (λ c. c :? test c) (range_with_len (from + 1) n))) (holding (map (λ c. c :? test c) (range_with_len (from + 1) n)))) code → test code ≡ true
+    step true holds deeper here =
+        elim (member_cases from (holding (map (λ c. c :? test c) (range_with_len (from + 1) n))) code here) [
+          | inl same ↦ ap test (sym same) ∙ holds
+          | inr later ↦ deeper later
+        ]
+    step false holds deeper here = deeper here
+
+in_numbered : (n from : ℕ) (test : ℕ → Bool) (code : ℕ) → from ≤ code → code < from + n → test code ≡ true → Contains (holding (numbered from n test)) code
+unfolding numbered
+in_numbered zero from test code low high holds = absurd (omega arith)
+in_numbered (suc n) from test code low high holds =
+    elim (cases_eq from code) [
+      | inl same ↦ rw (ap test same ∙ holds) (subst (λ c. Contains (from ∷ holding (map (λ k. k :? test k) (range_with_len (from + 1) n))) c) same (first_member from _))
+      | inr other ↦ deeper (test from) (in_numbered n (from + 1) test code (omega arith) (omega arith) holds)
+    ]
+  where
+    deeper : (b : Bool) → Contains (holding (map (λ c. c :? test c) (range_with_len (from + 1) n))) code
+        → Contains (cond b (from ∷ holding (map (λ c. c :? test c) (range_with_len (from + 1) n))) (holding (map (λ c. c :? test c) (range_with_len (from + 1) n)))) code
+    deeper true at = later_member from (holding (map (λ c. c :? test c) (range_with_len (from + 1) n))) code at
+    deeper false at = at
+
+-- The codes of stage 8 are from 1 to 9.
+
+abbrev Within : List (Row ℕ) → Type 0
+Within [] = Unit {0}
+Within (row ∷ rows) = (1 ≤ row.code) × (row.code < 10) × Within rows
+
+holding_within : (rows : List (Row ℕ)) (code : ℕ) → Within rows → Contains (holding rows) code → (1 ≤ code) × (code < 10)
+holding_within [] code within at = absurd (no_member [] code refl at)
+holding_within (row ∷ rows) code within at = step row.holds (holding_within rows code within.2) at
+  where
+    step : (b : Bool) → (Contains (holding rows) code → (1 ≤ code) × (code < 10)) → Contains (cond b (row.code ∷ holding rows) (holding rows)) code → (1 ≤ code) × (code < 10)
+    step true deeper here =
+        elim (member_cases row.code (holding rows) code here) [
+          | inl same ↦ let low : 1 ≤ row.code = within.0 in let high : row.code < 10 = within.1 in (omega arith, omega arith)
+          | inr later ↦ deeper later
+        ]
+    step false deeper here = deeper here
+
+contents_within : (file : File) (fields : Metadata) (p : ℕ) → Within (contents_rows file fields p)
+contents_within file (BtreeFields meta) p =
+    elim (has_bit meta.flags 0x02) as (λ b. Within (cond b (recno_contents file meta p) (btree_contents file meta p))) [
+      | true ↦ (omega arith, omega arith, (omega arith, omega arith, tt))
+      | false ↦ (omega arith, omega arith, (omega arith, omega arith, (omega arith, omega arith, (omega arith, omega arith, (omega arith, omega arith, (omega arith, omega arith, tt))))))
+    ]
+contents_within file (HashFields meta) p =
+    (omega arith, omega arith, (omega arith, omega arith, (omega arith, omega arith, (omega arith, omega arith, (omega arith, omega arith, tt)))))
+contents_within file (QueueFields meta) p = tt
+
+-- The faults of all databases.
+
+abbrev some_database : File → ℕ → ℕ → Bool
+some_database file p code = list_any (λ fields. holds_code code (contents_rows file fields p)) (fields_of file)
+
+-- a code that holds at a page holds there for some database
+of_codes : (file : File) (p code : ℕ) → Contains (holding (file_contents file p)) code → (fields : Metadata) × Contains (fields_of file) fields × Contains (holding (contents_rows file fields p)) code
+unfolding numbered
+of_codes file p code at =
+    let found = any_is (λ fields. holds_code code (contents_rows file fields p)) (fields_of file) (of_numbered 9 1 (some_database file p) code at) in
+    (found.0, found.1, code_holding (contents_rows file found.0 p) code found.2)
+
+in_codes : (file : File) (fields : Metadata) (p code : ℕ) → Contains (fields_of file) fields → Contains (holding (contents_rows file fields p)) code → Contains (holding (file_contents file p)) code
+unfolding numbered
+in_codes file fields p code at holds =
+    let within : (1 ≤ code) × (code < 10) = holding_within (contents_rows file fields p) code (contents_within file fields p) holds in
+    in_numbered 9 1 (some_database file p) code within.0 within.1
+    (list_any_at (λ other. holds_code code (contents_rows file other p)) (fields_of file) fields at (holding_code (contents_rows file fields p) code holds))
+
+-- the faults of stage 8 are those of some database
+pub of_contents : (file : File) (fault : Fault) → Contains (content_faults file) fault → Contains (flat_map (contents_faults file) (fields_of file)) fault
+unfolding content_faults contents_faults
+of_contents file fault at =
+    let is : IsOfStage 8 0 (0 + (file.last + 1)) (λ p. holding (file_contents file p)) fault = of_by_page 8 0 (file.last + 1) (λ p. holding (file_contents file p)) fault at in
+    let found = of_codes file fault.page fault.code is.is_code in
+    in_flat_map (contents_faults file) (fields_of file) found.0 fault found.1
+    (subst (λ s. Contains (by_page 8 0 (file.last + 1) (λ p. holding (contents_rows file found.0 p))) (record { stage = s; page = fault.page; code = fault.code })) (sym is.same_stage)
+    (in_by_page 8 0 (file.last + 1) fault.page fault.code (λ p. holding (contents_rows file found.0 p)) is.from_low is.below_high found.2))
+
+pub in_contents : (file : File) (fault : Fault) → Contains (flat_map (contents_faults file) (fields_of file)) fault → Contains (content_faults file) fault
+unfolding content_faults contents_faults
+in_contents file fault at =
+    let found = of_flat_map (contents_faults file) (fields_of file) fault at in
+    let codes : ℕ → List ℕ = λ p. holding (contents_rows file found.0 p) in
+    let is : IsOfStage 8 0 (0 + (file.last + 1)) codes fault = of_by_page 8 0 (file.last + 1) codes fault found.2 in
+    subst (λ s. Contains (by_page 8 0 (file.last + 1) (λ p. holding (file_contents file p))) (record { stage = s; page = fault.page; code = fault.code })) (sym is.same_stage)
+    (in_by_page 8 0 (file.last + 1) fault.page fault.code (λ p. holding (file_contents file p)) is.from_low is.below_high (in_codes file found.0 fault.page fault.code found.1 is.is_code))
+
+-- Both lists rise.
+
+within_rises : (file : File) (fields : Metadata) (p : ℕ) → Rises 1 (contents_rows file fields p)
+within_rises file (BtreeFields meta) p =
+    elim (has_bit meta.flags 0x02) as (λ b. Rises 1 (cond b (recno_contents file meta p) (btree_contents file meta p))) [
+      | true ↦ (omega arith, (omega arith, tt))
+      | false ↦ (omega arith, (omega arith, (omega arith, (omega arith, (omega arith, (omega arith, tt))))))
+    ]
+within_rises file (HashFields meta) p = (omega arith, (omega arith, (omega arith, (omega arith, (omega arith, tt)))))
+within_rises file (QueueFields meta) p = tt
+
+pub contents_rises : (file : File) (fields : Metadata) → FirstComesFirst (contents_faults file fields)
+unfolding contents_faults
+contents_rises file fields = by_page_first 8 0 (file.last + 1) (λ p. holding (contents_rows file fields p)) (λ p. holding_least 1 (contents_rows file fields p) (within_rises file fields p))
+
+pub contents_one : (file : File) (fields : Metadata) (fault : Fault) → Contains (contents_faults file fields) fault → fault.stage ≡ 8
+unfolding contents_faults
+contents_one file fields fault at = (of_by_page 8 0 (file.last + 1) (λ p. holding (contents_rows file fields p)) fault at).same_stage
+
+pub content_rises : (file : File) → FirstComesFirst (content_faults file)
+unfolding content_faults
+content_rises file =
+    by_page_first 8 0 (file.last + 1) (λ p. holding (file_contents file p))
+    (λ p. holding_least 1 (file_contents file p) (omega arith, (omega arith, (omega arith, (omega arith, (omega arith, (omega arith, (omega arith, (omega arith, (omega arith, tt))))))))))
+
+pub content_one : (file : File) (fault : Fault) → Contains (content_faults file) fault → fault.stage ≡ 8
+unfolding content_faults
+content_one file fault at = (of_by_page 8 0 (file.last + 1) (λ p. holding (file_contents file p)) fault at).same_stage

@@ -1,0 +1,110 @@
+-- The faults of what the databases of a file hold, by its metadata pages.
+use Rattle.std.proofs.Common.{◌≡◌, ℕ, ◌+◌, ◌<◌, ◌≤◌, true, List, [], length, append-nil, Option, Some, None, arith, refl, sym, ◌∙◌, ap, subst}
+use Rattle.std.specs.Prelude.{take}
+use Rattle.std.specs.List.{Contains, flat_map, range_with_len, slice_get}
+use Rattle.std.proofs.lemmas.List.{take_all}
+use Rattle.bdb_model.specs.declared.kinds.Fault.{Fault}
+use Rattle.bdb_model.specs.declared.metadata.QueueMeta.{QueueMeta}
+use Rattle.bdb_model.specs.ContentRows.{contents_faults, contents_rows}
+use Rattle.bdb_model.specs.File.{File, file_of, page_at, page_bytes}
+use Rattle.bdb_model.specs.Graph.{is_meta}
+use Rattle.bdb_model.specs.HeadOf.{head_of}
+use Rattle.bdb_model.specs.Page.{Metadata, QueueFields, Page, Meta}
+use Rattle.bdb_model.specs.Reading.{abstract_page}
+use Rattle.bdb_model.specs.Verdict.{holding}
+use Rattle.bdb_model.proofs.MemberLemmas.{in_flat_map, in_map, is_empty, no_member, of_filter, of_flat_map, of_map, of_range}
+use Rattle.bdb_model.proofs.VerdictLemmas.{IsOfStage, of_by_page}
+use Rattle.bdb_graph.specs.Linked.{HasMetadata}
+use Rattle.bdb_graph.specs.Linking.{first_fault, meta_pages}
+use Rattle.bdb_graph.proofs.ForestLemmas.{in_filter}
+use Rattle.bdb_graph.proofs.HeldLemmas.{page_is}
+use Rattle.bdb_file.specs.Merged.{earlier}
+use Rattle.bdb_file.specs.Noted.{contents_at, contents_in, earliest}
+use Rattle.bdb_file.specs.Stages.{content_faults, fields_in, fields_of}
+use Rattle.bdb_file.proofs.ContentLemmas.{content_one, content_rises, contents_one, contents_rises, in_contents, of_contents}
+use Rattle.bdb_file.proofs.MergeLemmas.{IsFirstOrNone, first_is, first_of_list}
+use Rattle.bdb_file.proofs.NotedLemmas.{earliest_first, first_same, noted_more}
+
+pub has_metadata : (file : File) (p : ℕ) (fields : Metadata) → p ≤ file.last → page_at file p ≡ Meta fields → HasMetadata file fields
+has_metadata file p fields inside is = record { page = p; inside = inside; is = is }
+
+-- no row speaks of queues
+pub no_queue_fault : (file : File) (meta : QueueMeta) → first_fault (contents_faults file (QueueFields meta)) ≡ None
+unfolding contents_faults
+no_queue_fault file meta = ap first_fault (is_empty (contents_faults file (QueueFields meta)) none)
+  where
+    none : (fault : Fault) → Contains (contents_faults file (QueueFields meta)) fault → ⊥
+    none fault at =
+        let is : IsOfStage 8 0 (0 + (file.last + 1)) (λ p. holding (contents_rows file (QueueFields meta) p)) fault = of_by_page 8 0 (file.last + 1) (λ p. holding (contents_rows file (QueueFields meta) p)) fault at in
+        no_member [] fault.code refl is.is_code
+
+-- The faults of the metadata on a page.
+
+one_of : (file : File) (page : Page) (fault : Fault) → Contains (flat_map (contents_faults file) (fields_in page)) fault → fault.stage ≡ 8
+one_of file page fault at = let found = of_flat_map (contents_faults file) (fields_in page) fault at in contents_one file found.0 fault found.2
+
+first_of_page : (file : File) (page : Page) → IsFirstOrNone (flat_map (contents_faults file) (fields_in page)) (contents_in file page)
+first_of_page file (Meta fields) =
+    subst (λ fs. IsFirstOrNone fs (first_fault (contents_faults file fields))) (sym (append-nil (contents_faults file fields)))
+    (first_of_list (contents_faults file fields) 8 (contents_rises file fields) (contents_one file fields))
+first_of_page file page = λ fault at. no_member [] fault refl at
+
+pub contents_more : (file : File) (i p : ℕ) (least : Option Fault) → slice_get (meta_pages file) i ≡ Some p → least ≡ earliest (contents_at file) (take i (meta_pages file))
+    → earlier least (contents_at file p) ≡ earliest (contents_at file) (take (i + 1) (meta_pages file))
+contents_more file i p least is noted = noted_more (contents_at file) (meta_pages file) i p least is noted
+
+-- The metadata of a file is on its metadata pages.
+
+is_some_meta : (page : Page) (fields : Metadata) → Contains (fields_in page) fields → is_meta page ≡ true
+is_some_meta (Meta other) fields at = refl
+is_some_meta page fields at = absurd (no_member [] fields refl at)
+
+of_fields : (image : List ℕ) (fields : Metadata) → Contains (fields_of (file_of image)) fields
+    → (p : ℕ) × Contains (meta_pages (file_of image)) p × Contains (fields_in (page_at (file_of image) p)) fields
+unfolding file_of meta_pages
+of_fields image fields at =
+    let found = of_flat_map fields_in (file_of image).pages fields at in
+    let page = of_map (λ p. abstract_page (head_of image).order (page_bytes (head_of image) image p)) (range_with_len 0 ((head_of image).last + 1)) found.0 found.1 in
+    let within : (0 ≤ page.0) × (page.0 < 0 + ((head_of image).last + 1)) = of_range 0 ((head_of image).last + 1) page.0 page.1 in
+    let high : page.0 < 0 + ((head_of image).last + 1) = within.1 in
+    let same : page_at (file_of image) page.0 ≡ found.0 = page_is image page.0 (omega arith) ∙ page.2 in
+    let here : Contains (fields_in (page_at (file_of image) page.0)) fields = subst (λ q. Contains (fields_in q) fields) (sym same) found.2 in
+    (page.0, in_filter (λ p. is_meta (page_at (file_of image) p)) (range_with_len 0 ((head_of image).last + 1)) page.0 page.1 (is_some_meta (page_at (file_of image) page.0) fields here), here)
+
+in_fields : (image : List ℕ) (p : ℕ) (fields : Metadata) → Contains (meta_pages (file_of image)) p → Contains (fields_in (page_at (file_of image) p)) fields → Contains (fields_of (file_of image)) fields
+unfolding file_of meta_pages
+in_fields image p fields at here =
+    let listed = of_filter (λ q. is_meta (page_at (file_of image) q)) (range_with_len 0 ((head_of image).last + 1)) p at in
+    let within : (0 ≤ p) × (p < 0 + ((head_of image).last + 1)) = of_range 0 ((head_of image).last + 1) p listed.0 in
+    let high : p < 0 + ((head_of image).last + 1) = within.1 in
+    in_flat_map fields_in (file_of image).pages (abstract_page (head_of image).order (page_bytes (head_of image) image p)) fields
+    (in_map (λ q. abstract_page (head_of image).order (page_bytes (head_of image) image q)) (range_with_len 0 ((head_of image).last + 1)) p listed.0)
+    (subst (λ q. Contains (fields_in q) fields) (page_is image p (omega arith)) here)
+
+-- the faults of all metadata pages are those of stage 8
+of_pages : (image : List ℕ) (fault : Fault) → Contains (flat_map (λ p. flat_map (contents_faults (file_of image)) (fields_in (page_at (file_of image) p))) (meta_pages (file_of image))) fault
+    → Contains (content_faults (file_of image)) fault
+of_pages image fault at =
+    let file : File = file_of image in
+    let page = of_flat_map (λ p. flat_map (contents_faults file) (fields_in (page_at file p))) (meta_pages file) fault at in
+    let found = of_flat_map (contents_faults file) (fields_in (page_at file page.0)) fault page.2 in
+    in_contents file fault (in_flat_map (contents_faults file) (fields_of file) found.0 fault (in_fields image page.0 found.0 page.1 found.1) found.2)
+
+in_pages : (image : List ℕ) (fault : Fault) → Contains (content_faults (file_of image)) fault
+    → Contains (flat_map (λ p. flat_map (contents_faults (file_of image)) (fields_in (page_at (file_of image) p))) (meta_pages (file_of image))) fault
+in_pages image fault at =
+    let file : File = file_of image in
+    let found = of_flat_map (contents_faults file) (fields_of file) fault (of_contents file fault at) in
+    let page = of_fields image found.0 found.1 in
+    in_flat_map (λ p. flat_map (contents_faults file) (fields_in (page_at file p))) (meta_pages file) page.0 fault page.1
+    (in_flat_map (contents_faults file) (fields_in (page_at file page.0)) found.0 fault page.2 found.2)
+
+pub contents_first : (image : List ℕ) (i : ℕ) (least : Option Fault) → i ≡ length (meta_pages (file_of image)) → least ≡ earliest (contents_at (file_of image)) (take i (meta_pages (file_of image)))
+    → least ≡ first_fault (content_faults (file_of image))
+contents_first image i least all noted =
+    let file : File = file_of image in
+    let whole : least ≡ earliest (contents_at file) (meta_pages file) = noted ∙ ap (earliest (contents_at file)) (take_all i (meta_pages file) (omega arith)) in
+    whole
+    ∙ sym (first_is (content_faults file) 8 (earliest (contents_at file) (meta_pages file)) (content_rises file) (content_one file)
+    (first_same (flat_map (λ p. flat_map (contents_faults file) (fields_in (page_at file p))) (meta_pages file)) (content_faults file) (earliest (contents_at file) (meta_pages file)) (of_pages image) (in_pages image)
+    (earliest_first (contents_at file) (λ p. flat_map (contents_faults file) (fields_in (page_at file p))) 8 (λ p. first_of_page file (page_at file p)) (λ p. one_of file (page_at file p)) (meta_pages file))))

@@ -1,0 +1,94 @@
+-- The master of a file, its live pairs, and the pages that they name.
+use Rattle.std.proofs.Common.{◌≡◌, add-one, ℕ, Bool, true, false, cond, List, [], ◌∷◌, length, map, Option, Some, None, arith, refl, sym, ◌∙◌, ap}
+use Rattle.std.specs.Prelude.{◌==◌}
+use Rattle.std.specs.List.{filter, range_with_len, slice_get}
+use Rattle.std.proofs.lemmas.Bool.{ne_eqb, true≢false}
+use Rattle.std.proofs.lemmas.List.{take_all}
+use Rattle.bdb_model.specs.declared.kinds.Order.TheVariants.{Big}
+use Rattle.bdb_model.specs.declared.metadata.BtreeMeta.{BtreeMeta}
+use Rattle.bdb_model.specs.Chains.{value_of}
+use Rattle.bdb_model.specs.Contents.{StoredPair, tree_pairs}
+use Rattle.bdb_model.specs.File.{File, page_at}
+use Rattle.bdb_model.specs.Graph.{is_meta}
+use Rattle.bdb_model.specs.Numbers.{four_at, number, number_at}
+use Rattle.bdb_model.specs.Page.{Content, Inline, Set, Chain, Tree, Unknown, Page, Meta}
+use Rattle.bdb_graph.specs.Linking.{meta_pages}
+use Rattle.bdb_overflow.specs.Datum.{single_value}
+use Rattle.bdb_btree.specs.ToldPair.{told_pair}
+use Rattle.bdb_file.specs.Entries.{NamedPair, entry_of, live_entries, master_entries, named, page_in}
+use Rattle.bdb_file.specs.Master.{master_in, master_pairs, named_by, page_named, pairs_under}
+
+-- Values that name pages.
+
+number_first : (bytes : List ℕ) → length bytes ≡ 4 → number_at 4 Big bytes 0 ≡ number Big bytes
+unfolding number_at
+number_first bytes four = ap (number Big) (take_all 4 bytes (omega arith))
+
+if_four : (bytes : List ℕ) → (length bytes == 4) ≡ true → Some (number Big bytes) ≡ page_named bytes
+if_four bytes four = rw four refl
+
+pub named_by_four : (bytes : List ℕ) → length bytes ≡ 4 → Some (four_at Big bytes 0) ≡ page_named bytes
+named_by_four bytes four = ap (λ (n : ℕ). Some n) (number_first bytes four) ∙ if_four bytes (ap (λ n. n == 4) four)
+
+pub names_none : (bytes : List ℕ) → (length bytes ≡ 4 → ⊥) → None ≡ page_named bytes
+names_none bytes other = rw (ne_eqb (length bytes) 4 other) refl
+
+-- Live pairs.
+
+same_name : (file : File) (content : Content) → page_in (single_value file content) ≡ named_by file content
+unfolding value_of
+same_name file (Inline bytes) = refl
+same_name file (Set blocks) = refl
+same_name file (Chain head total) = refl
+same_name file (Tree root) = refl
+same_name file Unknown = refl
+
+same_entry : (file : File) (pair : StoredPair) → entry_of (told_pair file pair) ≡ named file pair
+same_entry file pair = ap (λ (n : Option ℕ). record { page = pair.page; key = pair.key; names = n }) (same_name file pair.data_item)
+
+live_step : (file : File) (live : Bool) (pair : StoredPair) (pairs : List StoredPair) (rest : List NamedPair) → rest ≡ map (named file) pairs
+    → cond live (entry_of (told_pair file pair) ∷ rest) rest ≡ map (named file) (cond live (pair ∷ pairs) pairs)
+live_step file true pair pairs rest same = ap (λ (e : NamedPair). e ∷ rest) (same_entry file pair) ∙ ap (λ es. named file pair ∷ es) same
+live_step file false pair pairs rest same = same
+
+live_are : (file : File) (pairs : List StoredPair) → live_entries (map (told_pair file) pairs) ≡ map (named file) (filter (λ (pair : StoredPair). pair.live) pairs)
+live_are file [] = refl
+live_are file (pair ∷ pairs) =
+    live_step file pair.live pair (filter (λ (one : StoredPair). one.live) pairs) (live_entries (map (told_pair file) pairs)) (live_are file pairs)
+
+pub entries_of_master : (file : File) (meta : BtreeMeta) → Some meta ≡ master_in (page_at file 0) → live_entries (map (told_pair file) (tree_pairs file meta.root)) ≡ master_entries file
+unfolding master_pairs
+entries_of_master file meta is = live_are file (tree_pairs file meta.root) ∙ ap (λ m. map (named file) (pairs_under file m)) is
+
+pub no_entries : (file : File) → None ≡ master_in (page_at file 0) → [] ≡ master_entries file
+unfolding master_pairs
+no_entries file is = ap (λ m. map (named file) (pairs_under file m)) is
+
+-- Page 0 is the first metadata page, where it's metadata.
+
+no_meta : (page : Page) → is_meta page ≡ false → None ≡ master_in page
+no_meta (Meta fields) is = absurd (true≢false is)
+no_meta page is = refl
+
+-- the metadata pages above page 0
+abbrev above : File → List ℕ
+above file = filter (λ p. is_meta (page_at file p)) (range_with_len 1 file.last)
+
+listed : (file : File) → meta_pages file ≡ cond (is_meta (page_at file 0)) (0 ∷ above file) (above file)
+unfolding meta_pages
+listed file = ap (λ n. filter (λ p. is_meta (page_at file p)) (range_with_len 0 n)) (add-one file.last)
+
+none_listed : (b : Bool) (rest : List ℕ) → 0 ≡ length (cond b (0 ∷ rest) rest) → b ≡ false
+none_listed true rest is = absurd (omega arith)
+none_listed false rest is = refl
+
+pub no_first : (file : File) → 0 ≡ length (meta_pages file) → None ≡ master_in (page_at file 0)
+no_first file none = no_meta (page_at file 0) (none_listed (is_meta (page_at file 0)) (above file) (none ∙ ap length (listed file)))
+
+other_listed : (b : Bool) (rest : List ℕ) (p : ℕ) → slice_get (cond b (0 ∷ rest) rest) 0 ≡ Some p → (p ≡ 0 → ⊥) → b ≡ false
+other_listed true rest p first other = absurd (other (let same : 0 ≡ p = cc in omega arith))
+other_listed false rest p first other = refl
+
+pub other_first : (file : File) (p : ℕ) → slice_get (meta_pages file) 0 ≡ Some p → (p ≡ 0 → ⊥) → None ≡ master_in (page_at file 0)
+other_first file p first other =
+    no_meta (page_at file 0) (other_listed (is_meta (page_at file 0)) (above file) p (sym (ap (λ ps. slice_get ps 0) (listed file)) ∙ first) other)

@@ -1,0 +1,10 @@
+pub mod ContentLemmas
+pub mod CountLemmas
+pub mod DatabaseLemmas
+pub mod EntryLemmas
+pub mod MasterLemmas
+pub mod MergeLemmas
+pub mod NotedLemmas
+pub mod RepeatLemmas
+pub mod TargetLemmas
+pub mod WholeLemmas

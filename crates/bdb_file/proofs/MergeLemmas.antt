@@ -1,0 +1,205 @@
+-- The first fault of a stage from those of its parts.
+use Rattle.std.proofs.Common.{◌≡◌, ◌⊎◌, ℕ, ◌+◌, ◌<◌, ◌≤◌, true, false, cond, List, [], ◌∷◌, ◌++◌, Option, Some, None, arith, refl, sym, ◌∙◌, ap, subst, inl, inr}
+use Rattle.std.specs.Prelude.{◌==◌, ◌&&◌, nat_lt, nat_le}
+use Rattle.std.specs.List.{Contains}
+use Rattle.std.proofs.lemmas.Bool.{cases_Bool, cases_order, eqb-true, leb-true, ltb-true, or_cases, and_parts}
+use Rattle.std.proofs.lemmas.List.Elements.{Contains-append_cases, Contains-append_left, Contains-append_right}
+use Rattle.bdb_model.specs.declared.kinds.Fault.{Fault}
+use Rattle.bdb_model.specs.Verdict.{by_page, holding, structure_faults, chain_faults, tree_faults, structure_rows}
+use Rattle.bdb_model.specs.Chains.{chain_rows}
+use Rattle.bdb_model.specs.Leaves.{tree_rows}
+use Rattle.bdb_model.specs.File.{File}
+use Rattle.bdb_model.specs.Table.{Row}
+use Rattle.bdb_model.proofs.MemberLemmas.{first_member, no_member}
+use Rattle.bdb_model.proofs.VerdictLemmas.{ComesFirst, FirstComesFirst, IsOfStage, by_page_first, holding_least, in_by_page, of_by_page}
+use Rattle.bdb_graph.specs.Linking.{first_fault}
+use Rattle.bdb_file.specs.Merged.{earlier, is_before}
+
+-- The first fault of a list that rises.
+
+-- a fault of a list that comes before all of it
+pub record IsFirstIn (faults : List Fault) (first : Fault) : Type 0 where
+  pub at : Contains faults first
+  pub before : (fault : Fault) → Contains faults fault → ComesFirst first fault
+  pub stage : (fault : Fault) → Contains faults fault → first.stage ≡ fault.stage
+
+-- none of an empty list, else one that comes before all
+abbrev pub IsFirstOrNone : List Fault → Option Fault → Type 0
+IsFirstOrNone faults None = (fault : Fault) → Contains faults fault → ⊥
+IsFirstOrNone faults (Some first) = IsFirstIn faults first
+
+same_fault : (a b : Fault) → a.stage ≡ b.stage → ComesFirst a b → ComesFirst b a → a ≡ b
+same_fault a b stage ab ba =
+    elim ab [
+      | inl low ↦ elim ba [ inl high ↦ absurd (omega arith) | inr (same, code) ↦ absurd (omega arith) ]
+      | inr (page, code) ↦ elim ba [
+        | inl high ↦ absurd (omega arith)
+        | inr (other, back) ↦ let equal : a.code ≡ b.code = omega arith in whole a.stage b.stage a.page b.page a.code b.code stage page equal
+      ]
+    ]
+  where
+    whole : (s t p q c d : ℕ) → s ≡ t → p ≡ q → c ≡ d → ◌≡◌ {A = Fault} (record { stage = s; page = p; code = c }) (record { stage = t; page = q; code = d })
+    whole s t p q c d stages pages codes = cc
+
+pub first_of_list : (faults : List Fault) (stage : ℕ) → FirstComesFirst faults → ((fault : Fault) → Contains faults fault → fault.stage ≡ stage) → IsFirstOrNone faults (first_fault faults)
+first_of_list [] stage rises same = λ fault at. no_member [] fault refl at
+first_of_list (first ∷ rest) stage rises same = record {
+  at = first_member first rest;
+  before = λ fault at. rises first rest fault refl at;
+  stage = λ fault at. same first (first_member first rest) ∙ sym (same fault at);
+}
+
+-- what comes first in a list that rises is its first
+pub first_is : (faults : List Fault) (stage : ℕ) (found : Option Fault) → FirstComesFirst faults → ((fault : Fault) → Contains faults fault → fault.stage ≡ stage) → IsFirstOrNone faults found
+    → first_fault faults ≡ found
+first_is [] stage None rises same found = refl
+first_is [] stage (Some first) rises same found = absurd (no_member [] first refl found.at)
+first_is (a ∷ rest) stage None rises same found = absurd (found a (first_member a rest))
+first_is (a ∷ rest) stage (Some first) rises same found =
+    ap (λ (f : Fault). Some f)
+    (same_fault a first (same a (first_member a rest) ∙ sym (same first found.at)) (rises a rest first refl found.at) (found.before a (first_member a rest)))
+
+-- a fault that comes before another comes before what that comes before
+comes_through : (a b c : Fault) → ComesFirst a b → ComesFirst b c → ComesFirst a c
+comes_through a b c ab bc =
+    elim ab [
+      | inl low ↦ elim bc [ inl high ↦ inl (omega arith) | inr (same, code) ↦ inl (omega arith) ]
+      | inr (page, code) ↦ elim bc [ inl high ↦ inl (omega arith) | inr (same, more) ↦ inr (page ∙ same, omega arith) ]
+    ]
+
+before_is : (a b : Fault) → is_before a b ≡ true → ComesFirst a b
+before_is a b test =
+    elim (or_cases (nat_lt a.page b.page) (a.page == b.page && nat_le a.code b.code) test) [
+      | inl low ↦ inl (ltb-true a.page b.page low)
+      | inr both ↦ let parts = and_parts (a.page == b.page) (nat_le a.code b.code) both in inr (eqb-true a.page b.page parts.0, leb-true a.code b.code parts.1)
+    ]
+
+after_is : (a b : Fault) → is_before a b ≡ false → ComesFirst b a
+after_is a b test = elim (cases_order a.page b.page) [
+  | inl same ↦ elim (cases_order a.code b.code) [
+    | inl equal ↦ inr (sym same, omega arith)
+    | inr (inl low) ↦ absurd (impossible same low)
+    | inr (inr high) ↦ inr (sym same, omega arith)
+  ]
+  | inr (inl low) ↦ absurd (lower low)
+  | inr (inr high) ↦ inl high
+]
+  where
+    lower : a.page < b.page → ⊥
+    lower low = grind (arith, ltb-true, test)
+
+    impossible : a.page ≡ b.page → a.code < b.code → ⊥
+    impossible same low = grind (arith, test)
+
+-- The first fault of two lists together.
+
+-- the faults of a list are those of two others
+pub record AreBoth (xs ys zs : List Fault) : Type 0 where
+  pub of : (fault : Fault) → Contains zs fault → Contains xs fault ⊎ Contains ys fault
+  pub left : (fault : Fault) → Contains xs fault → Contains zs fault
+  pub right : (fault : Fault) → Contains ys fault → Contains zs fault
+
+pub first_of_both : (xs ys zs : List Fault) (a b : Option Fault) → AreBoth xs ys zs → ((fault : Fault) (other : Fault) → Contains zs fault → Contains zs other → fault.stage ≡ other.stage)
+    → IsFirstOrNone xs a → IsFirstOrNone ys b → IsFirstOrNone zs (earlier a b)
+first_of_both xs ys zs None None both same first second = λ fault at. elim (both.of fault at) [ inl left ↦ first fault left | inr right ↦ second fault right ]
+first_of_both xs ys zs None (Some b) both same first second = record {
+  at = both.right b second.at;
+  before = λ fault at. elim (both.of fault at) [ inl left ↦ absurd (first fault left) | inr right ↦ second.before fault right ];
+  stage = λ fault at. same b fault (both.right b second.at) at;
+}
+first_of_both xs ys zs (Some a) None both same first second = record {
+  at = both.left a first.at;
+  before = λ fault at. elim (both.of fault at) [ inl left ↦ first.before fault left | inr right ↦ absurd (second fault right) ];
+  stage = λ fault at. same a fault (both.left a first.at) at;
+}
+first_of_both xs ys zs (Some a) (Some b) both same first second =
+    elim (cases_Bool (is_before a b)) [
+      | inl before ↦ rw before (record {
+        at = both.left a first.at;
+        before = λ fault at. elim (both.of fault at) [ inl left ↦ first.before fault left | inr right ↦ comes_through a b fault (before_is a b before) (second.before fault right) ];
+        stage = λ fault at. same a fault (both.left a first.at) at;
+      })
+      | inr after ↦ rw after (record {
+        at = both.right b second.at;
+        before = λ fault at. elim (both.of fault at) [ inl left ↦ comes_through b a fault (after_is a b after) (first.before fault left) | inr right ↦ second.before fault right ];
+        stage = λ fault at. same b fault (both.right b second.at) at;
+      })
+    ]
+
+-- Faults of a run of pages.
+
+-- a run of pages whose codes are those of two others
+pub both_by_page : (stage from n : ℕ) (f g h : ℕ → List ℕ)
+    → ((p code : ℕ) → Contains (h p) code → Contains (f p) code ⊎ Contains (g p) code)
+    → ((p code : ℕ) → Contains (f p) code → Contains (h p) code) → ((p code : ℕ) → Contains (g p) code → Contains (h p) code)
+    → AreBoth (by_page stage from n f) (by_page stage from n g) (by_page stage from n h)
+both_by_page stage from n f g h of left right = record {
+  of = λ fault at.
+      let is : IsOfStage stage from (from + n) h fault = of_by_page stage from n h fault at in
+      elim (of fault.page fault.code is.is_code) [
+        | inl code ↦ inl (at_page f fault is.same_stage is.from_low is.below_high code)
+        | inr code ↦ inr (at_page g fault is.same_stage is.from_low is.below_high code)
+      ];
+  left = λ fault at. let is : IsOfStage stage from (from + n) f fault = of_by_page stage from n f fault at in at_page h fault is.same_stage is.from_low is.below_high (left fault.page fault.code is.is_code);
+  right = λ fault at. let is : IsOfStage stage from (from + n) g fault = of_by_page stage from n g fault at in at_page h fault is.same_stage is.from_low is.below_high (right fault.page fault.code is.is_code);
+}
+  where
+    at_page : (codes : ℕ → List ℕ) (fault : Fault) → fault.stage ≡ stage → from ≤ fault.page → fault.page < from + n → Contains (codes fault.page) fault.code → Contains (by_page stage from n codes) fault
+    at_page codes fault same low high code =
+        subst (λ s. Contains (by_page stage from n codes) (record { stage = s; page = fault.page; code = fault.code })) (sym same) (in_by_page stage from n fault.page fault.code codes low high code)
+
+-- the codes of two tables together
+of_holding : (xs ys : List (Row ℕ)) → holding (xs ++ ys) ≡ holding xs ++ holding ys
+of_holding [] ys = refl
+of_holding (row ∷ rows) ys =
+    elim row.holds as (λ b. cond b (row.code ∷ holding (rows ++ ys)) (holding (rows ++ ys)) ≡ cond b (row.code ∷ holding rows) (holding rows) ++ holding ys) [
+      | true ↦ ap (λ codes. row.code ∷ codes) (of_holding rows ys)
+      | false ↦ of_holding rows ys
+    ]
+
+-- Stage 6.
+
+structure_both : (file : File) → AreBoth (chain_faults file) (tree_faults file) (structure_faults file)
+unfolding chain_faults tree_faults structure_faults
+structure_both file =
+    both_by_page 6 0 (file.last + 1) (λ p. holding (chain_rows file p)) (λ p. holding (tree_rows file p)) (λ p. holding (structure_rows file p))
+    (λ p code at. Contains-append_cases (holding (chain_rows file p)) (holding (tree_rows file p)) code (subst (λ codes. Contains codes code) (of_holding (chain_rows file p) (tree_rows file p)) at))
+    (λ p code at. subst (λ codes. Contains codes code) (sym (of_holding (chain_rows file p) (tree_rows file p))) (Contains-append_left (holding (chain_rows file p)) (holding (tree_rows file p)) code at))
+    (λ p code at. subst (λ codes. Contains codes code) (sym (of_holding (chain_rows file p) (tree_rows file p))) (Contains-append_right (holding (chain_rows file p)) (holding (tree_rows file p)) code at))
+
+structure_one : (file : File) (fault : Fault) → Contains (structure_faults file) fault → fault.stage ≡ 6
+unfolding structure_faults
+structure_one file fault at = (of_by_page 6 0 (file.last + 1) (λ p. holding (structure_rows file p)) fault at).same_stage
+
+chain_one : (file : File) (fault : Fault) → Contains (chain_faults file) fault → fault.stage ≡ 6
+unfolding chain_faults
+chain_one file fault at = (of_by_page 6 0 (file.last + 1) (λ p. holding (chain_rows file p)) fault at).same_stage
+
+tree_one : (file : File) (fault : Fault) → Contains (tree_faults file) fault → fault.stage ≡ 6
+unfolding tree_faults
+tree_one file fault at = (of_by_page 6 0 (file.last + 1) (λ p. holding (tree_rows file p)) fault at).same_stage
+
+chain_rises : (file : File) → FirstComesFirst (chain_faults file)
+unfolding chain_faults
+chain_rises file = by_page_first 6 0 (file.last + 1) (λ p. holding (chain_rows file p)) (λ p. holding_least 1 (chain_rows file p) (omega arith, tt))
+
+tree_rises : (file : File) → FirstComesFirst (tree_faults file)
+unfolding tree_faults
+tree_rises file = by_page_first 6 0 (file.last + 1) (λ p. holding (tree_rows file p)) (λ p. holding_least 1 (tree_rows file p) (omega arith, (omega arith, tt)))
+
+structure_rises : (file : File) → FirstComesFirst (structure_faults file)
+unfolding structure_faults
+structure_rises file = by_page_first 6 0 (file.last + 1) (λ p. holding (structure_rows file p)) (λ p. holding_least 1 (structure_rows file p) (omega arith, (omega arith, (omega arith, tt))))
+
+-- the first fault of stage 6 is the earlier of those of its parts
+pub structure_first : (file : File) → first_fault (structure_faults file) ≡ earlier (first_fault (chain_faults file)) (first_fault (tree_faults file))
+structure_first file =
+    first_is (structure_faults file) 6 (earlier (first_fault (chain_faults file)) (first_fault (tree_faults file))) (structure_rises file) (structure_one file)
+    (first_of_both (chain_faults file) (tree_faults file) (structure_faults file) (first_fault (chain_faults file)) (first_fault (tree_faults file)) (structure_both file)
+    (λ fault other at also. structure_one file fault at ∙ sym (structure_one file other also))
+    (first_of_list (chain_faults file) 6 (chain_rises file) (chain_one file)) (first_of_list (tree_faults file) 6 (tree_rises file) (tree_one file)))
+
+-- a list without a first fault is empty
+pub no_first_fault : (faults : List Fault) → first_fault faults ≡ None → faults ≡ []
+no_first_fault [] none = refl
+no_first_fault (fault ∷ faults) none = absurd cc

@@ -1,0 +1,11 @@
+use Rattle.std.proofs.Common.{◌≡◌}
+use Rattle.std.specs.Prelude.{take}
+use Rattle.bdb_graph.specs.Linking.{meta_pages}
+use Rattle.bdb_model.specs.File.{file_of}
+use Rattle.bdb_file.specs.Entries.{naming_fault}
+use Rattle.bdb_file.specs.Noted.{earliest}
+use Rattle.bdb_file.proofs.counts.naming_fault.Given as goal
+
+-- The earliest of the faults of the metadata pages so far.
+abbrev pub invariant-loop-i : goal.invariant-loop-i
+invariant-loop-i l = l.least ≡ earliest (naming_fault l.entries) (take l.i (meta_pages (file_of l.linked)))

@@ -1,0 +1,5 @@
+pub mod Entries
+pub mod Master
+pub mod Merged
+pub mod Noted
+pub mod Stages

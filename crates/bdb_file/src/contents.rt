@@ -1,0 +1,105 @@
+ghost use Rattle.std.specs.Prelude.{◌≡◌, ◌≤◌, IfErr, IfOk, OnOk, []};
+ghost use Rattle.bdb_file.specs.Merged.{IsFirstOf};
+ghost use Rattle.bdb_file.specs.Noted.{IsMemory, contents_at};
+ghost use Rattle.bdb_file.specs.Stages.{content_faults};
+ghost use Rattle.bdb_graph.specs.Linked.{HasMetadata};
+ghost use Rattle.bdb_graph.specs.Linking.{first_fault};
+ghost use Rattle.bdb_graph.specs.Metas.{meta_seen};
+ghost use Rattle.bdb_model.specs.ContentRows.{contents_faults};
+ghost use Rattle.bdb_model.specs.File.{file_of, page_at};
+ghost use Rattle.bdb_model.specs.Page.{BtreeFields, HashFields, Meta as MetaPage};
+ghost use Rattle.bdb_model.specs.Verdict.{structure_faults};
+
+use crate::merged::{earlier, refused};
+use bdb_graph::{Linked, Meta};
+use bdb_model::{BtreeMeta, CheckError, Fault, HashMeta};
+use std::alloc::Global;
+
+/// The first fault of what a tree holds, of pairs or of records, if there is one. An error is want of memory.
+fn tree_fault(
+    alloc: Global,
+    linked: &Linked<'_>,
+    meta: &BtreeMeta,
+) -> Result<Option<Fault>, CheckError>
+    requires meta { HasMetadata (file_of linked.now) (BtreeFields meta.now) }
+    requires stage { structure_faults (file_of linked.now) ≡ [] }
+    ensures first { IfOk result (λ found. found ≡ first_fault (contents_faults (file_of linked.now) (BtreeFields meta.now))) }
+    ensures only { IfErr result IsMemory }
+{
+    let checked = if meta.flags & 0x02 == 0 {
+        bdb_btree::check(alloc, linked, meta)
+    } else {
+        bdb_recno::check(alloc, linked, meta)
+    };
+    match checked {
+        Ok(()) => Ok(None),
+        Err(CheckError::Fault(fault)) => Ok(Some(fault)),
+        Err(CheckError::Memory) => Err(CheckError::Memory),
+    }
+}
+
+/// The first fault of what a table holds, if there is one. An error is want of memory.
+fn table_fault(
+    alloc: Global,
+    linked: &Linked<'_>,
+    meta: &HashMeta,
+) -> Result<Option<Fault>, CheckError>
+    requires meta { HasMetadata (file_of linked.now) (HashFields meta.now) }
+    requires stage { structure_faults (file_of linked.now) ≡ [] }
+    ensures first { IfOk result (λ found. found ≡ first_fault (contents_faults (file_of linked.now) (HashFields meta.now))) }
+    ensures only { IfErr result IsMemory }
+{
+    match bdb_hash::check(alloc, linked, meta) {
+        Ok(()) => Ok(None),
+        Err(CheckError::Fault(fault)) => Ok(Some(fault)),
+        Err(CheckError::Memory) => Err(CheckError::Memory),
+    }
+}
+
+/// The first fault of what the database with the metadata on a page holds, if there is one. An error is want
+/// of memory.
+#[tactic(auto, using(crate::proofs::DatabaseLemmas::has_metadata, crate::proofs::DatabaseLemmas::no_queue_fault))]
+fn fault_at(
+    alloc: Global,
+    linked: &Linked<'_>,
+    number: u32,
+    meta: &Meta,
+) -> Result<Option<Fault>, CheckError>
+    requires inside { number ≤ (file_of linked.now).last }
+    requires fields { page_at (file_of linked.now) number ≡ MetaPage (meta_seen meta.now) }
+    requires stage { structure_faults (file_of linked.now) ≡ [] }
+    ensures first { IfOk result (λ found. found ≡ contents_at (file_of linked.now) number) }
+    ensures only { IfErr result IsMemory }
+{
+    match meta {
+        Meta::Btree(meta) => tree_fault(alloc, linked, meta),
+        Meta::Hash(meta) => table_fault(alloc, linked, meta),
+        Meta::Queue(_) => Ok(None),
+    }
+}
+
+/// The first fault of what the databases of a file hold, if there is one. An error is want of memory.
+#[tactic(auto, using(crate::proofs::DatabaseLemmas::contents_more, crate::proofs::DatabaseLemmas::contents_first))]
+fn contents_fault(alloc: Global, linked: &Linked<'_>) -> Result<Option<Fault>, CheckError>
+    requires { structure_faults (file_of linked.now) ≡ [] }
+    ensures first { IfOk result (λ found. found ≡ first_fault (content_faults (file_of linked.now))) }
+    ensures only { IfErr result IsMemory }
+{
+    let mut least = None;
+    for i in 0..linked.metas() {
+        let (number, meta) = linked.meta(i);
+        least = earlier(least, fault_at(alloc, linked, number, &meta)?);
+    }
+    Ok(least)
+}
+
+/// No row of stage 8 holds: what the databases hold keeps their rules. A refusal is the first fault, or want
+/// of memory.
+#[tactic(auto, using(crate::proofs::MergeLemmas::no_first_fault))]
+pub(crate) fn check_contents(alloc: Global, linked: &Linked<'_>) -> Result<(), CheckError>
+    requires { structure_faults (file_of linked.now) ≡ [] }
+    ensures accepted { OnOk result (content_faults (file_of linked.now) ≡ []) }
+    ensures refusal { IfErr result (IsFirstOf (content_faults (file_of linked.now))) }
+{
+    refused(contents_fault(alloc, linked)?)
+}

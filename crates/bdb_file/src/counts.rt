@@ -1,0 +1,82 @@
+ghost use Rattle.std.specs.Prelude.{◌≡◌, ◌<◌, ℕ, IfOk, if◌then◌else◌, get_or, length};
+ghost use Rattle.bdb_file.specs.Entries.{AreCounts, count_fault, naming_fault, one_more};
+ghost use Rattle.bdb_file.specs.Master.{is_page};
+ghost use Rattle.bdb_file.specs.Noted.{earliest};
+ghost use Rattle.bdb_graph.specs.Linking.{meta_pages};
+ghost use Rattle.bdb_model.specs.File.{file_of};
+
+use crate::entry::Entry;
+use crate::merged::earlier;
+use bdb_graph::Linked;
+use bdb_model::Fault;
+use std::alloc::{AllocError, Global};
+
+/// One more pair that names a page; a third counts as a second.
+fn one_more(count: u8) -> u8
+    ensures { result ≡ one_more count }
+{
+    if count >= 2 { 2 } else { count + 1 }
+}
+
+/// Counts a pair at the page that it names, if that page is there.
+fn count(counts: &mut Vec<u8>, names: Option<u32>)
+    ensures len { length counts.new.items ≡ length counts.old.items }
+    ensures each { (p : ℕ) → p < length counts.old.items → get_or counts.new.items p 0 ≡ (if is_page names p then one_more (get_or counts.old.items p 0) else get_or counts.old.items p 0) }
+{
+    if let Some(page) = names {
+        let page = page as usize;
+        if page < counts.len() {
+            counts[page] = one_more(counts[page]);
+        }
+    }
+}
+
+/// How many pairs of a master name each page below a number. An error is want of memory: a byte for each page.
+#[tactic(auto, using(crate::proofs::CountLemmas::none_counted, crate::proofs::CountLemmas::counted_more, crate::proofs::CountLemmas::all_counted))]
+fn counts_of(alloc: Global, pages: u32, entries: &[Entry<'_>]) -> Result<Vec<u8>, AllocError>
+    ensures { IfOk result (λ counts. AreCounts counts.items pages entries.now) }
+{
+    let mut counts = vec![in alloc; 0; pages as usize]?;
+    for entry in entries {
+        count(&mut counts, entry.names());
+    }
+    Ok(counts)
+}
+
+/// The fault of a metadata page that so many pairs name: above page 0 it's named once.
+fn count_fault(page: u32, count: u8) -> Option<Fault>
+    ensures { result ≡ count_fault page count }
+{
+    let code = match count {
+        0 => 1,
+        1 => return None,
+        _ => 5,
+    };
+    if page == 0 {
+        return None;
+    }
+    Some(Fault {
+        stage: 7,
+        page,
+        code,
+    })
+}
+
+/// The first fault of a metadata page that a master names not at all or twice, if there is one. An error is want
+/// of memory.
+#[tactic(auto, using(crate::proofs::CountLemmas::naming_more, crate::proofs::CountLemmas::naming_all, bdb_graph::proofs::HeldLemmas::last_page))]
+pub(crate) fn naming_fault(
+    alloc: Global,
+    linked: &Linked<'_>,
+    entries: &[Entry<'_>],
+) -> Result<Option<Fault>, AllocError>
+    ensures { IfOk result (λ found. found ≡ earliest (naming_fault entries.now) (meta_pages (file_of linked.now))) }
+{
+    let counts = counts_of(alloc, linked.head().last + 1, entries)?;
+    let mut least = None;
+    for i in 0..linked.metas() {
+        let (number, _) = linked.meta(i);
+        least = earlier(least, count_fault(number, counts[number as usize]));
+    }
+    Ok(least)
+}

@@ -1,0 +1,43 @@
+ghost use Rattle.std.specs.Prelude.{◌≡◌, [], IfErr, IfOk, OnOk};
+ghost use Rattle.bdb_file.specs.Merged.{IsFirstOf};
+ghost use Rattle.bdb_file.specs.Stages.{master_faults};
+ghost use Rattle.bdb_graph.specs.Linking.{first_fault};
+ghost use Rattle.bdb_model.specs.File.{file_of};
+ghost use Rattle.bdb_model.specs.Verdict.{structure_faults};
+
+use crate::counts::naming_fault;
+use crate::entry::master_entries;
+use crate::merged::{earlier, refused};
+use crate::repeats::repeat_fault;
+use crate::targets::entries_fault;
+use bdb_graph::Linked;
+use bdb_model::{CheckError, Fault};
+use std::alloc::{AllocError, Global};
+
+/// The first fault of stage 7, if there is one. An error is want of memory.
+#[tactic(auto, using(crate::proofs::MasterLemmas::master_first))]
+fn master_fault(alloc: Global, linked: &Linked<'_>) -> Result<Option<Fault>, AllocError>
+    requires { structure_faults (file_of linked.now) ≡ [] }
+    ensures { IfOk result (λ found. found ≡ first_fault (master_faults (file_of linked.now))) }
+{
+    linked.head();
+    let entries = master_entries(alloc, linked)?;
+    let naming = naming_fault(alloc, linked, &entries)?;
+    let repeats = repeat_fault(alloc, &entries)?;
+    let targets = entries_fault(linked, &entries);
+    Ok(earlier(earlier(naming, targets), repeats))
+}
+
+/// No row of stage 7 holds: a master names each other metadata page once, and nothing else. A refusal is the
+/// first fault, or want of memory.
+#[tactic(auto, using(crate::proofs::MergeLemmas::no_first_fault))]
+pub(crate) fn check_master(alloc: Global, linked: &Linked<'_>) -> Result<(), CheckError>
+    requires { structure_faults (file_of linked.now) ≡ [] }
+    ensures accepted { OnOk result (master_faults (file_of linked.now) ≡ []) }
+    ensures refusal { IfErr result (IsFirstOf (master_faults (file_of linked.now))) }
+{
+    match master_fault(alloc, linked) {
+        Ok(found) => refused(found),
+        Err(_) => Err(CheckError::Memory),
+    }
+}

@@ -1,0 +1,55 @@
+ghost use Rattle.std.specs.Prelude.{◌≡◌, IfErr, IfOk, OnOk, []};
+ghost use Rattle.bdb_file.specs.Merged.{IsFirstOf};
+ghost use Rattle.bdb_file.specs.Noted.{IsMemory};
+ghost use Rattle.bdb_graph.specs.Linking.{first_fault};
+ghost use Rattle.bdb_model.specs.File.{file_of};
+ghost use Rattle.bdb_model.specs.Verdict.{chain_faults, structure_faults, tree_faults};
+
+use crate::merged::{earlier, refused};
+use bdb_graph::Linked;
+use bdb_model::{CheckError, Fault};
+use bdb_overflow::check_chains;
+use bdb_tree::check_trees;
+use std::alloc::Global;
+
+/// The first fault of chains, if there is one.
+fn chain_fault(linked: &Linked<'_>) -> Option<Fault>
+    ensures { result ≡ first_fault (chain_faults (file_of linked.now)) }
+{
+    match check_chains(linked) {
+        Ok(()) => None,
+        Err(fault) => Some(fault),
+    }
+}
+
+/// The first fault of the leaves of trees, if there is one. An error is want of memory.
+fn leaf_fault(alloc: Global, linked: &Linked<'_>) -> Result<Option<Fault>, CheckError>
+    ensures first { IfOk result (λ found. found ≡ first_fault (tree_faults (file_of linked.now))) }
+    ensures only { IfErr result IsMemory }
+{
+    match check_trees(alloc, linked) {
+        Ok(()) => Ok(None),
+        Err(CheckError::Fault(fault)) => Ok(Some(fault)),
+        Err(CheckError::Memory) => Err(CheckError::Memory),
+    }
+}
+
+/// The first fault of stage 6, if there is one. An error is want of memory.
+#[tactic(auto, using(crate::proofs::MergeLemmas::structure_first))]
+fn structure_fault(alloc: Global, linked: &Linked<'_>) -> Result<Option<Fault>, CheckError>
+    ensures first { IfOk result (λ found. found ≡ first_fault (structure_faults (file_of linked.now))) }
+    ensures only { IfErr result IsMemory }
+{
+    let leaves = leaf_fault(alloc, linked)?;
+    Ok(earlier(chain_fault(linked), leaves))
+}
+
+/// No row of stage 6 holds: chains have their lengths, and leaves their kinds and neighbours. A refusal is the
+/// first fault, or want of memory.
+#[tactic(auto, using(crate::proofs::MergeLemmas::no_first_fault))]
+pub(crate) fn check_structure(alloc: Global, linked: &Linked<'_>) -> Result<(), CheckError>
+    ensures accepted { OnOk result (structure_faults (file_of linked.now) ≡ []) }
+    ensures refusal { IfErr result (IsFirstOf (structure_faults (file_of linked.now))) }
+{
+    refused(structure_fault(alloc, linked)?)
+}

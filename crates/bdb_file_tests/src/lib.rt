@@ -1,0 +1,7 @@
+//! Tests of the verdict on whole files.
+#![tactic(auto)]
+
+#[cfg(test)]
+mod fields;
+#[cfg(test)]
+mod files;

@@ -1,0 +1,157 @@
+ghost use Rattle.std.specs.Prelude.{◌≡◌, ◌≢◌, ◌^◌, ◌<◌, ◌≤◌, [], None, IsTrue, length};
+ghost use Rattle.bdb_form.specs.Seen.{page_seen};
+ghost use Rattle.bdb_graph.specs.Linked.{IsForest};
+ghost use Rattle.bdb_graph.specs.Linking.{graph_faults};
+ghost use Rattle.bdb_graph.specs.Metas.{meta_in, meta_seen};
+ghost use Rattle.std.specs.Option.{option_map};
+ghost use Rattle.bdb_model.specs.File.{file_of, page_at};
+ghost use Rattle.bdb_model.specs.HeadOf.{head_of, is_page_size};
+ghost use Rattle.bdb_model.specs.Reading.{abstract_page};
+ghost use Rattle.bdb_model.specs.References.{refs};
+ghost use Rattle.bdb_model.specs.Rows.{form_code};
+ghost use Rattle.bdb_model.specs.declared.metadata.FileKind.TheVariants.{Queue};
+
+use crate::held::references_of;
+use crate::meta::meta_at;
+use crate::{Formed, Meta, References};
+use bdb_form::{MetaView, PageView, known_form, known_queue_form};
+use bdb_model::{FileKind, Head};
+use std::marker::Model;
+
+/// The pages of an image on which no row of the first five stages holds. It is a handle that costs nothing
+/// to make, for an iterator that outlives the `Linked`.
+#[derive(Drop)]
+pub struct Forest<'a> {
+    formed: Formed<'a>,
+}
+
+impl<'a> Model for Forest<'a> {
+    ghost use Rattle.std.specs.Prelude.{◌≡◌, List, ℕ, []};
+    ghost use Rattle.bdb_graph.specs.Linking.{graph_faults};
+
+    ghost Value = { List ℕ };
+
+    ghost view = { λ v. v.formed };
+
+    ghost invariant = { λ v. graph_faults v.formed ≡ [] };
+}
+
+impl<'a> Forest<'a> {
+    // An image for which the stages are decided.
+    pub(crate) fn over(formed: Formed<'a>) -> Forest<'a>
+        requires { graph_faults formed ≡ [] }
+        ensures { result ≡ formed.entry }
+    {
+        Forest { formed }
+    }
+
+    /// Another handle to the same pages.
+    pub fn again(&self) -> Forest<'a>
+        ensures { result ≡ self.now }
+    {
+        Forest {
+            formed: Formed::over(self.formed.image(), self.formed.head()),
+        }
+    }
+
+    /// What page 0 says of the whole file.
+    pub fn head(&self) -> Head
+        ensures head { result ≡ head_of self.now }
+        ensures few { result.last < 2 ^ 21 }
+        ensures forest { IsForest self.now }
+    {
+        self.formed.head()
+    }
+
+    /// The bytes of the file.
+    pub fn image(&self) -> &'a [u8]
+        ensures { result.now ≡ self.now }
+    {
+        self.formed.image()
+    }
+
+    /// A page up to the last one, by its type.
+    #[tactic(auto, using(crate::proofs::HeldLemmas::page_is, crate::proofs::HeldLemmas::last_page, crate::proofs::HeldLemmas::kind_is))]
+    pub fn page(&self, number: u32) -> PageView<'a>
+        requires { number ≤ (file_of self.now).last }
+        ensures { page_seen result ≡ page_at (file_of self.now) number }
+    {
+        view_of(self.formed.page_bytes(number), &self.formed.head(), number)
+    }
+
+    /// The fields of a page up to the last one, if it's metadata.
+    pub(crate) fn meta(&self, number: u32) -> Option<Meta>
+        requires { number ≤ (file_of self.now).last }
+        ensures { option_map meta_seen result ≡ meta_in (page_at (file_of self.now) number) }
+    {
+        meta_at(&self.formed, number)
+    }
+
+    /// The references that a page up to the last one holds, in order. Whoever counts steps takes them from
+    /// `references`.
+    pub fn references(&self, page: u32) -> References<'a>
+        requires { page ≤ (file_of self.now).last }
+        ensures { result ≡ refs (file_of self.now) page }
+    {
+        references_of(&self.formed, page)
+    }
+}
+
+/// The view of a page without a fault of form.
+fn view_of<'a>(page: &'a [u8], head: &Head, number: u32) -> PageView<'a>
+    requires size { IsTrue (is_page_size (length page.now)) }
+    requires form { form_code head.now number page.now ≡ None }
+    ensures { page_seen result ≡ abstract_page head.now.order page.now }
+{
+    match head.kind {
+        FileKind::Btree | FileKind::Hash => forest_view(page, head, number),
+        FileKind::Queue => queue_view(page, head, number),
+    }
+}
+
+/// The view of a page of a btree or hash file.
+#[tactic(auto, using(crate::proofs::LinkedLemmas::forest_code))]
+fn forest_view<'a>(page: &'a [u8], head: &Head, number: u32) -> PageView<'a>
+    requires size { IsTrue (is_page_size (length page.now)) }
+    requires form { form_code head.now number page.now ≡ None }
+    requires forest { head.now.kind ≢ Queue }
+    ensures { page_seen result ≡ abstract_page head.now.order page.now }
+{
+    known_form(page, number, head.order)
+}
+
+/// The view of a page of a queue file.
+fn queue_view<'a>(page: &'a [u8], head: &Head, number: u32) -> PageView<'a>
+    requires size { IsTrue (is_page_size (length page.now)) }
+    requires form { form_code head.now number page.now ≡ None }
+    requires queue { head.now.kind ≡ Queue }
+    ensures { page_seen result ≡ abstract_page head.now.order page.now }
+{
+    if number == 0 {
+        return queue_metadata(page, head);
+    }
+    records_view(page, head, number)
+}
+
+/// The view of page 0 of a queue file.
+#[tactic(auto, using(crate::proofs::LinkedLemmas::queue_meta_page))]
+fn queue_metadata<'a>(page: &'a [u8], head: &Head) -> PageView<'a>
+    requires size { IsTrue (is_page_size (length page.now)) }
+    requires form { form_code head.now 0 page.now ≡ None }
+    requires queue { head.now.kind ≡ Queue }
+    ensures { page_seen result ≡ abstract_page head.now.order page.now }
+{
+    PageView::Meta(MetaView::over(page, head.order))
+}
+
+/// The view of a page above 0 of a queue file.
+#[tactic(auto, using(crate::proofs::LinkedLemmas::records_code))]
+fn records_view<'a>(page: &'a [u8], head: &Head, number: u32) -> PageView<'a>
+    requires size { IsTrue (is_page_size (length page.now)) }
+    requires form { form_code head.now number page.now ≡ None }
+    requires queue { head.now.kind ≡ Queue }
+    requires above { 0 < number }
+    ensures { page_seen result ≡ abstract_page head.now.order page.now }
+{
+    known_queue_form(page, number, head.order)
+}

@@ -1,0 +1,4 @@
+use Rattle.bdb_graph_tests.proofs.chains.answers_of.Given as goal
+
+abbrev pub ghosts-answers_counted : goal.ghosts-answers_counted
+ghosts-answers_counted a = record { name = a.blank.name; parts = a.blank.parts }

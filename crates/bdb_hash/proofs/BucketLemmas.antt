@@ -1,0 +1,221 @@
+-- The pages of a bucket are zero pages or hash pages, and the pairs on them are read one after another.
+use Rattle.std.proofs.Common.{◌≡◌, ℕ, zero, suc, ◌+◌, ◌-◌, ◌/◌, ◌≤◌, ◌<◌, Bool, true, false, not, ◌&&◌, ◌||◌, cond, List, [], ◌∷◌, map, length, arith, refl, sym, ◌∙◌, ap, subst}
+use Rattle.std.specs.Prelude.{Some, ◌==◌, nat_lt}
+use Rattle.std.specs.List.{flat_map}
+use Rattle.std.proofs.lemmas.Bool.{eqb-false, ne_eqb, or_parts}
+use Rattle.std.proofs.lemmas.List.{length-map}
+use Rattle.std.proofs.lemmas.List.Elements.{Contains-append_right}
+use Rattle.bdb_model.specs.declared.metadata.FileKind.{FileKind}
+use Rattle.bdb_model.specs.declared.metadata.FileKind.TheVariants.{Queue}
+use Rattle.bdb_model.specs.declared.metadata.Head.{Head}
+use Rattle.bdb_model.specs.declared.metadata.HashMeta.{HashMeta}
+use Rattle.bdb_model.specs.declared.references.Sort.{Sort}
+use Rattle.bdb_model.specs.declared.references.Sort.TheVariants.{Bucket, HashNext}
+use Rattle.bdb_model.specs.Chains.{chain_in, next_of}
+use Rattle.bdb_model.specs.Contents.{bucket_pages, pair_at, pairs_of}
+use Rattle.bdb_model.specs.File.{File, file_of, header_in, page_at, type_in}
+use Rattle.bdb_model.specs.Graph.{Owner}
+use Rattle.bdb_model.specs.Hashing.{first_page}
+use Rattle.bdb_model.specs.HeadOf.{head_of}
+use Rattle.bdb_model.specs.Page.{BtreeFields, HashFields, QueueFields, Item, Listed, Page, Zero, Free, Meta, Hash, Internal, RecnoInternal, Leaf, RecnoLeaf, DupLeaf, Overflow, Queue as QueuePage, NoType}
+use Rattle.bdb_model.specs.References.{asked_by, content_names, fit_code, fit_rows, has_type, is_zero_page, names_of, refs, unless_zero}
+use Rattle.bdb_model.specs.Verdict.{structure_faults}
+use Rattle.bdb_model.proofs.GraphLemmas.{each_fits}
+use Rattle.bdb_model.proofs.MemberLemmas.{first_member, no_member}
+use Rattle.bdb_model.proofs.VerdictLemmas.{AllFail, none_is_first_row}
+use Rattle.bdb_graph.specs.Linked.{IsForest, IsTarget}
+use Rattle.bdb_graph.specs.Linking.{graph_faults}
+use Rattle.bdb_graph.proofs.ForestLemmas.{sound_graph}
+use Rattle.bdb_graph.proofs.LinkedLemmas.{of_all, target_inside}
+use Rattle.bdb_hash.specs.Told.{Told, is_of_bucket, left_on, page_told, pages_from, told}
+use Rattle.bdb_hash.specs.Views.{IsOnWay, IsTable}
+use Rattle.bdb_hash.proofs.PairLemmas.{page_names}
+
+-- Which pages a bucket has.
+
+no_names : (kind : FileKind) (p : ℕ) (page : Page) → kind ≡ Queue → names_of kind p page ≡ []
+no_names kind p page queue = ap (λ k. names_of k p page) queue
+
+no_refs : (file : File) (p : ℕ) → file.kind ≡ Queue → refs file p ≡ []
+unfolding refs
+no_refs file p queue = rw (no_names file.kind p (page_at file p) queue) refl
+
+-- a file with a reference is no queue file
+pub is_no_queue : (file : File) (sort : Sort) (p : ℕ) → IsTarget file sort p → file.kind ≡ Queue → ⊥
+is_no_queue file sort p is queue = no_member (refs file is.owner.holder) is.owner.reference (no_refs file is.owner.holder queue) (of_all file is.owner is.held).1
+
+of_type : (page : Page) (or_zero : Bool) → (has_type (2 ∷ 13 ∷ []) (type_in page) || (or_zero && is_zero_page page)) ≡ true → is_of_bucket page ≡ true
+of_type Zero or_zero is = refl
+of_type (Free header) true is = absurd cc
+of_type (Free header) false is = absurd cc
+of_type (Meta (BtreeFields meta)) true is = absurd cc
+of_type (Meta (BtreeFields meta)) false is = absurd cc
+of_type (Meta (HashFields meta)) true is = absurd cc
+of_type (Meta (HashFields meta)) false is = absurd cc
+of_type (Meta (QueueFields meta)) true is = absurd cc
+of_type (Meta (QueueFields meta)) false is = absurd cc
+of_type (Hash page) or_zero is = refl
+of_type (Internal page) true is = absurd cc
+of_type (Internal page) false is = absurd cc
+of_type (RecnoInternal page) true is = absurd cc
+of_type (RecnoInternal page) false is = absurd cc
+of_type (Leaf page) true is = absurd cc
+of_type (Leaf page) false is = absurd cc
+of_type (RecnoLeaf page) true is = absurd cc
+of_type (RecnoLeaf page) false is = absurd cc
+of_type (DupLeaf page) true is = absurd cc
+of_type (DupLeaf page) false is = absurd cc
+of_type (Overflow header piece) true is = absurd cc
+of_type (Overflow header piece) false is = absurd cc
+of_type (QueuePage number records) true is = absurd cc
+of_type (QueuePage number records) false is = absurd cc
+of_type NoType true is = absurd cc
+of_type NoType false is = absurd cc
+
+not_not : (b : Bool) → not b ≡ false → b ≡ true
+not_not true is = refl
+not_not false is = absurd cc
+
+-- a target is none of the numbers that no page has
+pub target_some : (image : List ℕ) (sort : Sort) (p : ℕ) → graph_faults image ≡ [] → IsTarget (file_of image) sort p → p ≡ 0 → ⊥
+unfolding fit_code
+target_some image sort p none is =
+    let file : File = file_of image in
+    let owner : Owner = is.owner in
+    let held = of_all file owner is.held in
+    let rows = fit_rows file (asked_by owner.holder (page_at file owner.holder) owner.reference.sort) owner.reference.target in
+    let fail : AllFail rows = none_is_first_row rows (each_fits file owner.holder owner.reference (sound_graph image none).references held.0 held.1) in
+    let some : owner.reference.target ≡ 0 → ⊥ = eqb-false owner.reference.target 0 (or_parts (owner.reference.target == 0) (nat_lt file.last owner.reference.target) fail.0).0 in
+    λ zero'. some (is.target_is ∙ zero')
+
+kind_as : (file : File) (holder p target : ℕ) (asker : Page) (sort one : Sort) (or_zero : Bool) → one ≡ sort → target ≡ p
+    → (asked_by holder asker sort).types ≡ 2 ∷ 13 ∷ [] → (asked_by holder asker sort).or_zero ≡ or_zero
+    → not (has_type (asked_by holder asker one).types (type_in (page_at file target)) || ((asked_by holder asker one).or_zero && is_zero_page (page_at file target))) ≡ false
+    → is_of_bucket (page_at file p) ≡ true
+kind_as file holder p target asker sort one or_zero same is types zeros fits =
+    let asked : Bool → List ℕ → Page → Bool = λ z ts page. has_type ts (type_in page) || (z && is_zero_page page) in
+    let held : asked (asked_by holder asker one).or_zero (asked_by holder asker one).types (page_at file target) ≡ true = not_not _ fits in
+    let by_sort : asked (asked_by holder asker sort).or_zero (asked_by holder asker sort).types (page_at file target) ≡ true =
+    subst (λ s. asked (asked_by holder asker s).or_zero (asked_by holder asker s).types (page_at file target) ≡ true) same held in
+    of_type (page_at file p) or_zero
+    (ap (λ (page : Page). asked or_zero (2 ∷ 13 ∷ []) page) (sym (ap (page_at file) is))
+    ∙ (ap (λ ts. asked or_zero ts (page_at file target)) (sym types)
+    ∙ (ap (λ z. asked z (asked_by holder asker sort).types (page_at file target)) (sym zeros) ∙ by_sort)))
+
+target_kind : (image : List ℕ) (sort : Sort) (p : ℕ) (or_zero : Bool) → graph_faults image ≡ [] → IsTarget (file_of image) sort p
+    → ((holder : ℕ) (page : Page) → (asked_by holder page sort).types ≡ 2 ∷ 13 ∷ []) → ((holder : ℕ) (page : Page) → (asked_by holder page sort).or_zero ≡ or_zero)
+    → is_of_bucket (page_at (file_of image) p) ≡ true
+unfolding fit_code
+target_kind image sort p or_zero none is types zeros =
+    let file : File = file_of image in
+    let owner : Owner = is.owner in
+    let held = of_all file owner is.held in
+    let asker : Page = page_at file owner.holder in
+    let rows = fit_rows file (asked_by owner.holder asker owner.reference.sort) owner.reference.target in
+    let fail : AllFail rows = none_is_first_row rows (each_fits file owner.holder owner.reference (sound_graph image none).references held.0 held.1) in
+    kind_as file owner.holder p owner.reference.target asker sort owner.reference.sort or_zero is.sort_is is.target_is (types owner.holder asker) (zeros owner.holder asker) fail.1.0
+
+-- the first page of a bucket
+pub bucket_on_way : (image : List ℕ) (p : ℕ) → IsForest image → structure_faults (file_of image) ≡ [] → IsTarget (file_of image) Bucket p → IsOnWay image p
+bucket_on_way image p forest stage is = record {
+  forest = record { forest = forest; stage = stage; table = is_no_queue (file_of image) Bucket p is };
+  fits = λ _. record { inside = target_inside image Bucket p forest.linked is; kind = target_kind image Bucket p true forest.linked is (λ holder page. refl) (λ holder page. refl) };
+}
+
+-- the page after one of a bucket
+pub after_hash : (image : List ℕ) (p : ℕ) (page : Listed Item) → IsTable image → p ≤ (file_of image).last → page_at (file_of image) p ≡ Hash page → IsOnWay image page.header.next
+after_hash image p page table low is = record {
+  forest = table;
+  fits = λ some.
+      let named : IsTarget (file_of image) HashNext page.header.next =
+      page_names image p (Hash page) HashNext page.header.next table low is
+      (Contains-append_right (flat_map (λ (item : Item). content_names item.content) page.items) (unless_zero HashNext page.header.next) (HashNext, page.header.next)
+      (rw (ne_eqb page.header.next 0 some) (first_member (HashNext, page.header.next) []))) in
+      record { inside = target_inside image HashNext page.header.next table.forest.linked named; kind = target_kind image HashNext page.header.next false table.forest.linked named (λ holder other. refl) (λ holder other. refl) };
+}
+
+pub after_zero : (image : List ℕ) → IsTable image → IsOnWay image 0
+after_zero image table = record { forest = table; fits = λ some. absurd (some refl) }
+
+pub next_of_hash : (file : File) (p : ℕ) (page : Listed Item) → page_at file p ≡ Hash page → page.header.next ≡ next_of file p
+next_of_hash file p page is = ap (λ (other : Page). (header_in other).next) (sym is)
+
+pub next_of_zero : (file : File) (p : ℕ) → page_at file p ≡ Zero → 0 ≡ next_of file p
+next_of_zero file p is = ap (λ (other : Page). (header_in other).next) (sym is)
+
+-- The pairs of a page.
+
+pub hash_told : (image : List ℕ) (p : ℕ) (page : Listed Item) → page_at (file_of image) p ≡ Hash page → left_on image p (Some page) 0 ≡ page_told image p
+unfolding pairs_of
+hash_told image p page is =
+    let all : length page.items / 2 - 0 ≡ length page.items / 2 = omega arith in
+    rw (all, is) refl
+
+pub zero_told : (image : List ℕ) (p : ℕ) → page_at (file_of image) p ≡ Zero → [] ≡ page_told image p
+unfolding pairs_of
+zero_told image p is = rw is refl
+
+pub next_pair : (image : List ℕ) (p i : ℕ) (page : Listed Item) → i < length page.items / 2
+    → left_on image p (Some page) i ≡ told image (pair_at (file_of image) p page (λ n. false) i) ∷ left_on image p (Some page) (i + 1)
+next_pair image p i page below =
+    let turn : length page.items / 2 - i ≡ suc (length page.items / 2 - (i + 1)) = omega arith in
+    rw turn refl
+
+pub no_pair : (image : List ℕ) (p i : ℕ) (page : Listed Item) → length page.items / 2 ≤ i → left_on image p (Some page) i ≡ []
+no_pair image p i page past = let none : length page.items / 2 - i ≡ 0 = omega arith in rw none refl
+
+-- The pages of a bucket.
+
+pub no_page : (image : List ℕ) (turns p : ℕ) → p ≡ 0 → map (page_told image) (pages_from turns (file_of image) p) ≡ []
+no_page image turns p none = ap (λ q. map (page_told image) (pages_from turns (file_of image) q)) none
+
+no_page_in : (turns : ℕ) (file : File) (p : ℕ) (b : Bool) → turns ≡ 0 → cond b [] (chain_in turns file p) ≡ []
+unfolding chain_in
+no_page_in turns file p true none = refl
+no_page_in turns file p false none = ap (λ t. chain_in t file p) none
+
+pub no_turn : (image : List ℕ) (turns p : ℕ) → turns ≡ 0 → map (page_told image) (pages_from turns (file_of image) p) ≡ []
+no_turn image turns p none = ap (map (page_told image)) (no_page_in turns (file_of image) p (p == 0) none)
+
+or_else_same : {X : Type 0} (b : Bool) (x y : X) → ◌≡◌ {A = X} (elim b [ true ↦ x | false ↦ y ]) (cond b x y)
+or_else_same true x y = refl
+or_else_same false x y = refl
+
+pub pages_step : (turns : ℕ) (file : File) (p : ℕ) → chain_in (suc turns) file p ≡ p ∷ pages_from turns file (next_of file p)
+unfolding chain_in
+pages_step turns file p = ap (λ ps. p ∷ ps) (or_else_same (next_of file p == 0) [] (chain_in turns file (next_of file p)))
+
+pub first_page_left : (image : List ℕ) (turns p : ℕ) → (p ≡ 0 → ⊥) → (turns ≡ 0 → ⊥)
+    → map (page_told image) (pages_from turns (file_of image) p) ≡ page_told image p ∷ map (page_told image) (pages_from (turns - 1) (file_of image) (next_of (file_of image) p))
+first_page_left image zero p some turn = absurd (turn refl)
+first_page_left image (suc turns) p some turn =
+    let file : File = file_of image in
+    let less : suc turns - 1 ≡ turns = omega arith in
+    rw (ne_eqb p 0 some, less) (ap (map (page_told image)) (pages_step turns file p))
+
+chain_few : (turns : ℕ) (file : File) (p : ℕ) → length (chain_in turns file p) ≤ turns
+unfolding chain_in
+chain_few zero file p = omega arith
+chain_few (suc turns) file p =
+    elim (next_of file p == 0) as (λ b. length (p ∷ elim b [ true ↦ [] | false ↦ chain_in turns file (next_of file p) ]) ≤ suc turns) [
+      | true ↦ omega arith
+      | false ↦ let few : length (chain_in turns file (next_of file p)) ≤ turns = chain_few turns file (next_of file p) in omega arith
+    ]
+
+count_is : (image : List ℕ) → (file_of image).count ≡ (head_of image).pages
+unfolding file_of
+count_is image = refl
+
+-- the pages from the first one of a bucket on are all of it
+pub all_pages : (image : List ℕ) (head : Head) (meta : HashMeta) (p b : ℕ) → IsForest image → head ≡ head_of image → IsTarget (file_of image) Bucket p → p ≡ first_page b meta.spares
+    → pages_from head.pages (file_of image) p ≡ bucket_pages (file_of image) meta b
+all_pages image head meta p b forest head_is fits is =
+    let turns : head.pages ≡ (file_of image).count = ap (λ (h : Head). h.pages) head_is ∙ sym (count_is image) in
+    rw (ne_eqb p 0 (target_some image Bucket p forest.linked fits))
+    (ap (λ t. chain_in t (file_of image) p) turns ∙ ap (λ q. chain_in (file_of image).count (file_of image) q) is)
+
+pub few_pages : (image : List ℕ) (head : Head) (meta : HashMeta) (p b : ℕ) → IsForest image → head ≡ head_of image → IsTarget (file_of image) Bucket p → p ≡ first_page b meta.spares
+    → length (map (page_told image) (pages_from head.pages (file_of image) p)) ≤ (file_of image).count
+few_pages image head meta p b forest head_is fits is =
+    rw (all_pages image head meta p b forest head_is fits is, length-map {A = ℕ} {B = List Told})
+    (chain_few (file_of image).count (file_of image) (first_page b meta.spares))

@@ -1,0 +1,244 @@
+-- The least of the faults that were noted is the first fault of a table's contents.
+use Rattle.std.proofs.Common.{◌≡◌, ◌⊎◌, ℕ, ◌+◌, ◌≤◌, Bool, true, false, cond, List, [], ◌∷◌, ◌++◌, map, arith, refl, sym, ◌∙◌, ap, subst, inl, inr}
+use Rattle.std.specs.Prelude.{Option, Some, None}
+use Rattle.std.specs.List.{Contains, flat_map, fold, list_any, range_with_len}
+use Rattle.std.specs.Option.{option_map}
+use Rattle.std.specs.Str.{bytes_eq}
+use Rattle.std.proofs.lemmas.List.{map-append}
+use Rattle.bdb_graph.specs.Linked.{HasMetadata}
+use Rattle.bdb_graph.specs.Linking.{first_fault}
+use Rattle.bdb_model.specs.declared.kinds.Fault.{Fault}
+use Rattle.bdb_model.specs.declared.metadata.HashMeta.{HashMeta}
+use Rattle.bdb_model.specs.ContentRows.{contents_faults, contents_rows, hash_contents, repeated_after}
+use Rattle.bdb_model.specs.Contents.{StoredPair, bucket_pages, bucket_pairs, pairs_of, table_pairs}
+use Rattle.bdb_model.specs.File.{File, file_of}
+use Rattle.bdb_model.specs.Page.{HashFields}
+use Rattle.bdb_model.specs.Table.{first_row}
+use Rattle.bdb_model.specs.Verdict.{holding}
+use Rattle.bdb_model.proofs.MemberLemmas.{first_member, in_map, later_member, member_cases, no_member, of_flat_map, of_map, of_range}
+use Rattle.bdb_model.proofs.VerdictLemmas.{ComesFirst, FirstComesFirst, IsOfStage, LeastFirst, by_page_first, holding_least, in_by_page, of_by_page}
+use Rattle.bdb_hash.specs.Notes.{fault_at, note_bucket, note_repeat, pair_fault, pair_rows, stored}
+use Rattle.bdb_hash.specs.Told.{Told, bucket_told, joined_pages, page_told, table_told, told}
+use Rattle.bdb_hash.specs.Views.{IsTable}
+use Rattle.bdb_hash.proofs.LeastLemmas.{Given, GivenBy, IsLeast, first_through, least_given, least_given_by}
+use Rattle.bdb_hash.proofs.PlainLemmas.{IsPlain, bucket_plain}
+use Rattle.bdb_hash.proofs.RowLemmas.{ArePlain, buckets_of, page_holds, page_table, pair_holds, repeat_holds, repeat_row, rows_are, tests_of, tests_rise}
+
+-- Told pairs.
+
+page_flat : (image : List ℕ) (ps : List ℕ) → joined_pages (map (page_told image) ps) ≡ map (told image) (flat_map (pairs_of (file_of image)) ps)
+page_flat image [] = refl
+page_flat image (p ∷ ps) =
+    ap (λ ts. page_told image p ++ ts) (page_flat image ps) ∙ sym (map-append (told image) (pairs_of (file_of image) p) (flat_map (pairs_of (file_of image)) ps))
+
+-- the pairs of a bucket
+pub bucket_is : (image : List ℕ) (meta : HashMeta) (b : ℕ) → bucket_told image meta b ≡ map (told image) (bucket_pairs (file_of image) meta b)
+bucket_is image meta b = page_flat image (bucket_pages (file_of image) meta b)
+
+stored_told : (image : List ℕ) (pairs : List StoredPair) → stored (map (told image) pairs) ≡ pairs
+stored_told image [] = refl
+stored_told image (pair ∷ pairs) = ap (λ ps. pair ∷ ps) (stored_told image pairs)
+
+stored_flat : (image : List ℕ) (meta : HashMeta) (bs : List ℕ) → stored (flat_map (bucket_told image meta) bs) ≡ flat_map (bucket_pairs (file_of image) meta) bs
+stored_flat image meta [] = refl
+stored_flat image meta (b ∷ bs) =
+    map-append (λ (t : Told). t.pair) (bucket_told image meta b) (flat_map (bucket_told image meta) bs)
+    ∙ (ap (λ ps. ps ++ stored (flat_map (bucket_told image meta) bs)) (ap stored (bucket_is image meta b) ∙ stored_told image (bucket_pairs (file_of image) meta b))
+    ∙ ap (λ ps. bucket_pairs (file_of image) meta b ++ ps) (stored_flat image meta bs))
+
+-- the pairs of a table
+pub table_stored : (image : List ℕ) (meta : HashMeta) → stored (table_told image meta) ≡ table_pairs (file_of image) meta
+unfolding table_pairs
+table_stored image meta = stored_flat image meta (buckets_of meta)
+
+told_flat : (image : List ℕ) (meta : HashMeta) (bs : List ℕ) → flat_map (bucket_told image meta) bs ≡ map (told image) (flat_map (bucket_pairs (file_of image) meta) bs)
+told_flat image meta [] = refl
+told_flat image meta (b ∷ bs) =
+    ap (λ ts. ts ++ flat_map (bucket_told image meta) bs) (bucket_is image meta b)
+    ∙ (ap (λ ts. map (told image) (bucket_pairs (file_of image) meta b) ++ ts) (told_flat image meta bs)
+    ∙ sym (map-append (told image) (bucket_pairs (file_of image) meta b) (flat_map (bucket_pairs (file_of image) meta) bs)))
+
+pub table_is_told : (image : List ℕ) (meta : HashMeta) → table_told image meta ≡ map (told image) (table_pairs (file_of image) meta)
+unfolding table_pairs
+table_is_told image meta = told_flat image meta (buckets_of meta)
+
+-- Which pairs there are.
+
+in_table : (image : List ℕ) (meta : HashMeta) (pair : StoredPair) → Contains (table_pairs (file_of image) meta) pair → (b : ℕ) × Contains (buckets_of meta) b × Contains (bucket_pairs (file_of image) meta b) pair
+unfolding table_pairs
+in_table image meta pair at = of_flat_map (bucket_pairs (file_of image) meta) (buckets_of meta) pair at
+
+pub few_buckets : (meta : HashMeta) (b : ℕ) → Contains (buckets_of meta) b → b ≤ meta.max_bucket
+few_buckets meta b at = let within = of_range 0 (meta.max_bucket + 1) b at in omega (arith, within.1)
+
+pub table_plain : (image : List ℕ) (meta : HashMeta) → IsTable image → HasMetadata (file_of image) (HashFields meta) → ArePlain (file_of image) (table_pairs (file_of image) meta)
+table_plain image meta table has pair at =
+    let found = in_table image meta pair at in
+    bucket_plain image meta found.0 pair table has (few_buckets meta found.0 found.1) found.2
+
+repeat_step : (has : Bool) (pair other : StoredPair) (earlier' pairs : List StoredPair) → Contains (cond has (pair ∷ repeated_after (pair ∷ earlier') pairs) (repeated_after (pair ∷ earlier') pairs)) other
+    → (pair ≡ other) ⊎ Contains (repeated_after (pair ∷ earlier') pairs) other
+repeat_step true pair other earlier' pairs at = member_cases pair (repeated_after (pair ∷ earlier') pairs) other at
+repeat_step false pair other earlier' pairs at = inr at
+
+-- a pair that repeats a key is one of the pairs
+pub of_repeated : (earlier' pairs : List StoredPair) (pair : StoredPair) → Contains (repeated_after earlier' pairs) pair → Contains pairs pair
+of_repeated earlier' [] pair at = absurd (no_member [] pair refl at)
+of_repeated earlier' (one ∷ pairs) pair at =
+    elim (repeat_step (list_any (λ (other : StoredPair). bytes_eq other.key one.key) earlier') one pair earlier' pairs at) [
+      | inl same ↦ subst (Contains (one ∷ pairs)) same (first_member one pairs)
+      | inr later ↦ later_member one pairs pair (of_repeated (one ∷ earlier') pairs pair later)
+    ]
+
+-- The least fault of a table, noted pair by pair.
+
+abbrev pub least_noted : List ℕ → HashMeta → Option Fault
+least_noted image meta =
+    fold note_repeat (fold (note_bucket image meta) None (range_with_len 0 (meta.max_bucket + 1))) (repeated_after [] (stored (table_told image meta)))
+
+abbrev told_fault : HashMeta → ℕ → Told → Option Fault
+told_fault meta b t = pair_fault (file_of t.image) meta b t.pair
+
+abbrev repeat_fault : StoredPair → Option Fault
+repeat_fault pair = Some (fault_at pair.page 9)
+
+abbrev Nothing : Fault → Type 0
+Nothing fault = ⊥
+
+-- a fault that was noted
+abbrev IsNotedFault : List ℕ → HashMeta → Fault → Type 0
+IsNotedFault image meta fault =
+    (Nothing fault ⊎ GivenBy (told_fault meta) (bucket_told image meta) (buckets_of meta) fault) ⊎ Given repeat_fault (repeated_after [] (stored (table_told image meta))) fault
+
+noted_least : (image : List ℕ) (meta : HashMeta) → IsLeast (IsNotedFault image meta) (least_noted image meta)
+noted_least image meta =
+    least_given repeat_fault (repeated_after [] (stored (table_told image meta))) (λ fault. Nothing fault ⊎ GivenBy (told_fault meta) (bucket_told image meta) (buckets_of meta) fault)
+    (fold (note_bucket image meta) None (buckets_of meta))
+    (least_given_by (told_fault meta) (bucket_told image meta) (buckets_of meta) Nothing None (λ fault none. none))
+
+some_code : (page : ℕ) (code : Option ℕ) (fault : Fault) → option_map (fault_at page) code ≡ Some fault → (c : ℕ) × (code ≡ Some c) × (fault_at page c ≡ fault)
+some_code page None fault same = absurd cc
+some_code page (Some c) fault same = (c, refl, cc)
+
+-- what holds at a page
+codes_are : (image : List ℕ) (meta : HashMeta) (p : ℕ) → IsTable image → HasMetadata (file_of image) (HashFields meta)
+    → holding (hash_contents (file_of image) meta p)
+    ≡ holding (page_table (bucket_pairs (file_of image) meta) (buckets_of meta) (tests_of (file_of image) meta) p ++ (repeat_row (repeated_after [] (table_pairs (file_of image) meta)) p ∷ []))
+codes_are image meta p table has = ap holding (rows_are (file_of image) meta p (table_plain image meta table has))
+
+in_faults : (image : List ℕ) (meta : HashMeta) (page code : ℕ) → page ≤ (file_of image).last → Contains (holding (hash_contents (file_of image) meta page)) code
+    → Contains (contents_faults (file_of image) (HashFields meta)) (fault_at page code)
+unfolding contents_faults
+in_faults image meta page code low at = in_by_page 8 0 ((file_of image).last + 1) page code (λ p. holding (contents_rows (file_of image) (HashFields meta) p)) (omega arith) (omega arith) at
+
+-- a fault that was noted is one of the table's
+noted_is : (image : List ℕ) (meta : HashMeta) (fault : Fault) → IsTable image → HasMetadata (file_of image) (HashFields meta) → IsNotedFault image meta fault
+    → Contains (contents_faults (file_of image) (HashFields meta)) fault
+noted_is image meta fault table has (inl (inl none)) = absurd none
+noted_is image meta fault table has (inl (inr (b, listed, (t, held, given)))) =
+    let file : File = file_of image in
+    let pair : (one : StoredPair) × Contains (bucket_pairs file meta b) one × (told image one ≡ t) = of_map (told image) (bucket_pairs file meta b) t (subst (λ ts. Contains ts t) (bucket_is image meta b) held) in
+    let plain : IsPlain file pair.0 = bucket_plain image meta b pair.0 table has (few_buckets meta b listed) pair.1 in
+    let code : (c : ℕ) × (first_row (pair_rows file meta b pair.0) ≡ Some c) × (fault_at pair.0.page c ≡ fault) =
+    some_code pair.0.page (first_row (pair_rows file meta b pair.0)) fault (ap (told_fault meta b) pair.2 ∙ given) in
+    subst (Contains (contents_faults file (HashFields meta))) code.2
+    (in_faults image meta pair.0.page code.0 plain.inside
+    (subst (λ codes. Contains codes code.0) (sym (codes_are image meta pair.0.page table has))
+    (pair_holds (bucket_pairs file meta) (buckets_of meta) (tests_of file meta) (repeated_after [] (table_pairs file meta)) b pair.0 code.0 listed pair.1 code.1)))
+noted_is image meta fault table has (inr (pair, held, given)) =
+    let file : File = file_of image in
+    let repeated : Contains (repeated_after [] (table_pairs file meta)) pair = subst (λ ps. Contains (repeated_after [] ps) pair) (table_stored image meta) held in
+    let plain : IsPlain file pair = table_plain image meta table has pair (of_repeated [] (table_pairs file meta) pair repeated) in
+    let same : fault_at pair.page 9 ≡ fault = cc in
+    subst (Contains (contents_faults file (HashFields meta))) same
+    (in_faults image meta pair.page 9 plain.inside
+    (subst (λ codes. Contains codes 9) (sym (codes_are image meta pair.page table has))
+    (repeat_holds (bucket_pairs file meta) (buckets_of meta) (tests_of file meta) (repeated_after [] (table_pairs file meta)) pair repeated)))
+
+record IsCovered (image : List ℕ) (meta : HashMeta) (fault : Fault) : Type 0 where
+  noted : Fault
+  is : IsNotedFault image meta noted
+  first : ComesFirst noted fault
+
+-- a fault of the table comes after one that was noted
+covered : (image : List ℕ) (meta : HashMeta) (fault : Fault) → IsTable image → HasMetadata (file_of image) (HashFields meta) → Contains (contents_faults (file_of image) (HashFields meta)) fault
+    → IsCovered image meta fault
+unfolding contents_faults
+covered image meta fault table has at =
+    let file : File = file_of image in
+    let of : IsOfStage 8 0 (0 + (file.last + 1)) (λ p. holding (contents_rows file (HashFields meta) p)) fault = of_by_page 8 0 (file.last + 1) (λ p. holding (contents_rows file (HashFields meta) p)) fault at in
+    elim (page_holds (bucket_pairs file meta) (buckets_of meta) (tests_of file meta) (repeated_after [] (table_pairs file meta)) fault.page fault.code (tests_rise file meta)
+    (subst (λ codes. Contains codes fault.code) (codes_are image meta fault.page table has) of.is_code)) [
+      | inl by ↦ record {
+        noted = fault_at by.pair.page by.first;
+        is = inl (inr (by.bucket, by.listed, (told image by.pair, subst (λ ts. Contains ts (told image by.pair)) (sym (bucket_is image meta by.bucket)) (in_map (told image) (bucket_pairs file meta by.bucket) by.pair by.held), ap (option_map (fault_at by.pair.page)) by.first_is)));
+        first = inr (by.at, by.low);
+      }
+      | inr by ↦ record {
+        noted = fault_at by.pair.page 9;
+        is = inr (by.pair, subst (λ ps. Contains (repeated_after [] ps) by.pair) (sym (table_stored image meta)) by.held, refl);
+        first = inr (by.at, (let nine : fault.code ≡ 9 = by.nine in omega arith));
+      }
+    ]
+
+-- Both.
+
+both_first : (a b : Fault) → ComesFirst a b → ComesFirst b a → (a.page ≡ b.page) × (a.code ≡ b.code)
+both_first a b (inl p) (inl q) = absurd (omega arith)
+both_first a b (inl p) (inr q) = absurd (omega (arith, q.0))
+both_first a b (inr p) (inl q) = absurd (omega (arith, p.0))
+both_first a b (inr p) (inr q) = (p.0, omega (arith, p.1, q.1))
+
+same_fault : (a b : Fault) → a.stage ≡ b.stage → (a.page ≡ b.page) × (a.code ≡ b.code) → a ≡ b
+same_fault a b stage rest =
+    ap (λ s. record { stage = s; page = a.page; code = a.code }) stage
+    ∙ (ap (λ p. record { stage = b.stage; page = p; code = a.code }) rest.0 ∙ ap (λ c. record { stage = b.stage; page = b.page; code = c }) rest.1)
+
+-- the first of some faults that a list has, and that comes before all of it, is the list's first one
+first_is_least : (P : Fault → Type 0) (faults : List Fault) (least : Option Fault) → FirstComesFirst faults → ((a b : Fault) → Contains faults a → Contains faults b → a.stage ≡ b.stage) → IsLeast P least
+    → ((fault : Fault) → P fault → Contains faults fault) → ((fault : Fault) → Contains faults fault → (noted : Fault) × P noted × ComesFirst noted fault) → first_fault faults ≡ least
+first_is_least P [] None comes stage is has cover = refl
+first_is_least P [] (Some least) comes stage is has cover = absurd (no_member [] least refl (has least is.0))
+first_is_least P (fault ∷ faults) None comes stage is has cover = let noted = cover fault (first_member fault faults) in absurd (is noted.0 noted.1)
+first_is_least P (fault ∷ faults) (Some least) comes stage is has cover =
+    let noted = cover fault (first_member fault faults) in
+    let at : Contains (fault ∷ faults) least = has least is.0 in
+    ap (λ f. Some f)
+    (same_fault fault least (stage fault least (first_member fault faults) at)
+    (both_first fault least (comes fault faults least refl at) (first_through least noted.0 fault (is.1 noted.0 noted.1) noted.2)))
+
+contents_rise : (file : File) (meta : HashMeta) (p : ℕ) → LeastFirst (holding (contents_rows file (HashFields meta) p))
+contents_rise file meta p = holding_least 1 (contents_rows file (HashFields meta) p) (omega arith, (omega arith, (omega arith, (omega arith, (omega arith, tt)))))
+
+contents_first : (file : File) (meta : HashMeta) → FirstComesFirst (contents_faults file (HashFields meta))
+unfolding contents_faults
+contents_first file meta = by_page_first 8 0 (file.last + 1) (λ p. holding (contents_rows file (HashFields meta) p)) (contents_rise file meta)
+
+contents_stage : (file : File) (meta : HashMeta) (fault : Fault) → Contains (contents_faults file (HashFields meta)) fault → fault.stage ≡ 8
+unfolding contents_faults
+contents_stage file meta fault at = (of_by_page 8 0 (file.last + 1) (λ p. holding (contents_rows file (HashFields meta) p)) fault at).same_stage
+
+pub least_is_first : (image : List ℕ) (meta : HashMeta) → IsTable image → HasMetadata (file_of image) (HashFields meta) → first_fault (contents_faults (file_of image) (HashFields meta)) ≡ least_noted image meta
+least_is_first image meta table has =
+    first_is_least (IsNotedFault image meta) (contents_faults (file_of image) (HashFields meta)) (least_noted image meta) (contents_first (file_of image) meta)
+    (λ a b at_a at_b. contents_stage (file_of image) meta a at_a ∙ sym (contents_stage (file_of image) meta b at_b)) (noted_least image meta)
+    (λ fault noted. noted_is image meta fault table has noted) (λ fault at. let by : IsCovered image meta fault = covered image meta fault table has at in (by.noted, by.is, by.first))
+
+none_first : (faults : List Fault) → first_fault faults ≡ None → faults ≡ []
+none_first [] none = refl
+none_first (fault ∷ faults) none = absurd cc
+
+noted_first : (image : List ℕ) (meta : HashMeta) (least : Option Fault) (pairs : List Told) → IsTable image → HasMetadata (file_of image) (HashFields meta) → least ≡ fold (note_bucket image meta) None (range_with_len 0 (meta.max_bucket + 1))
+    → pairs ≡ table_told image meta → first_fault (contents_faults (file_of image) (HashFields meta)) ≡ fold note_repeat least (repeated_after [] (stored pairs))
+noted_first image meta least pairs table has least_is pairs_are =
+    least_is_first image meta table has
+    ∙ (ap (λ (l : Option Fault). fold note_repeat l (repeated_after [] (stored (table_told image meta)))) (sym least_is)
+    ∙ ap (λ (ps : List Told). fold note_repeat least (repeated_after [] (stored ps))) (sym pairs_are))
+
+pub no_fault : (image : List ℕ) (meta : HashMeta) (least : Option Fault) (pairs : List Told) → IsTable image → HasMetadata (file_of image) (HashFields meta) → least ≡ fold (note_bucket image meta) None (range_with_len 0 (meta.max_bucket + 1))
+    → pairs ≡ table_told image meta → None ≡ fold note_repeat least (repeated_after [] (stored pairs)) → contents_faults (file_of image) (HashFields meta) ≡ []
+no_fault image meta least pairs table has least_is pairs_are none = none_first _ (noted_first image meta least pairs table has least_is pairs_are ∙ sym none)
+
+pub the_fault : (image : List ℕ) (meta : HashMeta) (least : Option Fault) (pairs : List Told) (fault : Fault) → IsTable image → HasMetadata (file_of image) (HashFields meta) → least ≡ fold (note_bucket image meta) None (range_with_len 0 (meta.max_bucket + 1))
+    → pairs ≡ table_told image meta → Some fault ≡ fold note_repeat least (repeated_after [] (stored pairs)) → first_fault (contents_faults (file_of image) (HashFields meta)) ≡ Some fault
+the_fault image meta least pairs fault table has least_is pairs_are some = noted_first image meta least pairs table has least_is pairs_are ∙ sym some

@@ -1,0 +1,12 @@
+pub mod BucketLemmas
+pub mod DataLemmas
+pub mod FaultLemmas
+pub mod KeyLemmas
+pub mod LeastLemmas
+pub mod LookupLemmas
+pub mod MaskLemmas
+pub mod PairLemmas
+pub mod PlainLemmas
+pub mod RowLemmas
+pub mod ScanLemmas
+pub mod TableLemmas

@@ -1,0 +1,316 @@
+-- What a table's list has under a key are the data of the first pair with that key in the key's bucket.
+use Rattle.std.proofs.Common.{◌≡◌, ◌⊎◌, ℕ, zero, suc, ◌+◌, ◌≤◌, ◌<◌, Bool, true, false, not, ◌&&◌, cond, List, [], ◌∷◌, ◌++◌, map, length, arith, refl, sym, ◌∙◌, ap, subst, inl, inr}
+use Rattle.std.specs.Prelude.{Option, Some, None, ◌==◌}
+use Rattle.std.specs.List.{Contains, filter, find, flat_map, list_any, range_with_len}
+use Rattle.std.specs.Option.{option_map, option_or}
+use Rattle.std.specs.Str.{bytes_eq}
+use Rattle.std.proofs.lemmas.Bool.{cases_Bool, cases_eq, eq-eqb, eqb-true, not-false, or_parts, true≢false}
+use Rattle.std.proofs.lemmas.Grind.{flat_map-append}
+use Rattle.std.proofs.lemmas.List.{append-nil, map-append}
+use Rattle.std.proofs.lemmas.List.Elements.{Contains-append_left, filter-append}
+use Rattle.std.proofs.lemmas.List.Folds.{find-append}
+use Rattle.bdb_model.specs.declared.metadata.HashMeta.{HashMeta}
+use Rattle.bdb_model.specs.ContentRows.{bucket_of_key, contents_faults, contents_rows, hash_contents, repeated_after}
+use Rattle.bdb_model.specs.Contents.{StoredPair, bucket_pairs, data_of, table_pairs}
+use Rattle.bdb_model.specs.File.{File, file_of}
+use Rattle.bdb_model.specs.Less.{less, Less}
+use Rattle.bdb_model.specs.Lists.{ListKey, BytesKey, by_key, get, hash_list, insert_pair, is_key, listed_pair}
+use Rattle.bdb_model.specs.Page.{HashFields}
+use Rattle.bdb_model.specs.Verdict.{holding}
+use Rattle.bdb_model.proofs.LessLemmas.{not_less_same}
+use Rattle.bdb_model.proofs.MemberLemmas.{first_member, in_range, is_empty, later_member, member_cases, no_member, none_passes}
+use Rattle.bdb_model.proofs.VerdictLemmas.{AllFail, all_fail, no_codes_at}
+use Rattle.bdb_graph.specs.Linked.{HasMetadata}
+use Rattle.bdb_hash.specs.Told.{IsSought, Told, bucket_told, has_key, joined_pages, told}
+use Rattle.bdb_hash.specs.Views.{IsTable}
+use Rattle.bdb_hash.proofs.FaultLemmas.{bucket_is, few_buckets, of_repeated, table_plain}
+use Rattle.bdb_hash.proofs.KeyLemmas.{eq_same}
+use Rattle.bdb_hash.proofs.LeastLemmas.{has_any}
+use Rattle.bdb_hash.proofs.PlainLemmas.{IsPlain, bucket_plain}
+use Rattle.bdb_hash.proofs.RowLemmas.{ArePlain, buckets_of}
+
+-- The walk over the pages of a bucket.
+
+pub sought_found : (key : List ℕ) (all : List Told) (left rest : List (List Told)) (page : List Told) (most steps : ℕ) (t : Told) → IsSought key all left most steps → left ≡ page ∷ rest
+    → Some t ≡ find (has_key key) page → Some t ≡ find (has_key key) all
+sought_found key all left rest page most steps t sought next found =
+    ap (λ o. option_or o (find (has_key key) (joined_pages rest))) found
+    ∙ (sym (find-append (has_key key) page (joined_pages rest)) ∙ (ap (λ ps. find (has_key key) (joined_pages ps)) (sym next) ∙ sought.same))
+
+pub sought_on : (key : List ℕ) (all : List Told) (left rest : List (List Told)) (page : List Told) (most steps : ℕ) → IsSought key all left most steps → left ≡ page ∷ rest
+    → None ≡ find (has_key key) page → IsSought key all rest most (steps + 1)
+sought_on key all left rest page most steps sought next none = record {
+  same =
+      ap (λ o. option_or o (find (has_key key) (joined_pages rest))) none
+      ∙ (sym (find-append (has_key key) page (joined_pages rest)) ∙ (ap (λ ps. find (has_key key) (joined_pages ps)) (sym next) ∙ sought.same));
+  few = let more : length left ≡ suc (length rest) = ap length next in omega (arith, sought.few);
+}
+
+pub sought_none : (key : List ℕ) (all : List Told) (left : List (List Told)) (most steps : ℕ) → IsSought key all left most steps → left ≡ [] → None ≡ find (has_key key) all
+sought_none key all left most steps sought none = ap (λ ps. find (has_key key) (joined_pages ps)) (sym none) ∙ sought.same
+
+pub sought_more : (key : List ℕ) (all : List Told) (left rest : List (List Told)) (page : List Told) (most steps : ℕ) → IsSought key all left most steps → left ≡ page ∷ rest → steps + 1 ≤ most
+sought_more key all left rest page most steps sought next = let more : length left ≡ suc (length rest) = ap length next in omega (arith, sought.few)
+
+-- What a pair has under a key.
+
+abbrev under : File → List ℕ → StoredPair → List (List ℕ)
+under file key pair = get (listed_pair file pair) (BytesKey key)
+
+get_flat : {X : Type 0} (f : X → List (ListKey × List ℕ)) (key : ListKey) (xs : List X) → get (flat_map f xs) key ≡ flat_map (λ x. get (f x) key) xs
+get_flat f key [] = refl
+get_flat f key (x ∷ xs) =
+    let here : List (ListKey × List ℕ) = f x in
+    let rest : List (ListKey × List ℕ) = flat_map f xs in
+    let test : (ListKey × List ℕ) → Bool = λ entry. is_key entry.0 key in
+    ap (map (λ (entry : ListKey × List ℕ). entry.1)) (filter-append test here rest)
+    ∙ (map-append (λ (entry : ListKey × List ℕ). entry.1) (filter test here) (filter test rest) ∙ ap (λ vs. get here key ++ vs) (get_flat f key xs))
+
+all_under : (key own : List ℕ) (values : List (List ℕ)) → bytes_eq own key ≡ true → get (map (λ value. (BytesKey own, value)) values) (BytesKey key) ≡ values
+all_under key own [] is = refl
+all_under key own (value ∷ values) is =
+    let rest : List (ListKey × List ℕ) = filter (λ (entry : ListKey × List ℕ). is_key entry.0 (BytesKey key)) (map (λ v. (BytesKey own, v)) values) in
+    ap (λ b. map (λ (entry : ListKey × List ℕ). entry.1) (cond b ((BytesKey own, value) ∷ rest) rest)) is ∙ ap (λ vs. value ∷ vs) (all_under key own values is)
+
+none_under : (key own : List ℕ) (values : List (List ℕ)) → bytes_eq own key ≡ false → get (map (λ value. (BytesKey own, value)) values) (BytesKey key) ≡ []
+none_under key own [] other = refl
+none_under key own (value ∷ values) other =
+    let rest : List (ListKey × List ℕ) = filter (λ (entry : ListKey × List ℕ). is_key entry.0 (BytesKey key)) (map (λ v. (BytesKey own, v)) values) in
+    ap (λ b. map (λ (entry : ListKey × List ℕ). entry.1) (cond b ((BytesKey own, value) ∷ rest) rest)) other ∙ none_under key own values other
+
+under_own : (file : File) (key : List ℕ) (pair : StoredPair) → pair.live ≡ true → bytes_eq pair.key key ≡ true → under file key pair ≡ data_of file pair.data_item
+under_own file key pair live is =
+    ap (λ b. get (cond b (map (λ value. (BytesKey pair.key, value)) (data_of file pair.data_item)) []) (BytesKey key)) live ∙ all_under key pair.key (data_of file pair.data_item) is
+
+under_other : (file : File) (key : List ℕ) (pair : StoredPair) → bytes_eq pair.key key ≡ false → under file key pair ≡ []
+under_other file key pair other =
+    elim pair.live as (λ b. get (cond b (map (λ value. (BytesKey pair.key, value)) (data_of file pair.data_item)) []) (BytesKey key) ≡ []) [
+      | true ↦ none_under key pair.key (data_of file pair.data_item) other
+      | false ↦ refl
+    ]
+
+-- The order of the list.
+
+not_true : (b : Bool) → (b ≡ true → ⊥) → b ≡ false
+not_true true none = absurd (none refl)
+not_true false none = refl
+
+-- of two pairs with different keys one has nothing under a key
+one_under : (file : File) (key : List ℕ) (a b : StoredPair) → less a.key b.key ≡ true → (under file key a ≡ []) ⊎ (under file key b ≡ [])
+one_under file key a b is =
+    elim (cases_Bool (bytes_eq a.key key)) [
+      | inl own ↦
+          inr (under_other file key b (not_true (bytes_eq b.key key) (λ same.
+          not_less_same b.key (subst (λ xs. Less xs b.key) (eq_same a.key key own ∙ sym (eq_same b.key key same)) is))))
+      | inr other ↦ inl (under_other file key a other)
+    ]
+
+swap_empty : {X : Type 0} (xs ys zs : List X) → (xs ≡ []) ⊎ (ys ≡ []) → xs ++ (ys ++ zs) ≡ ys ++ (xs ++ zs)
+swap_empty xs ys zs (inl none) = ap (λ v. v ++ (ys ++ zs)) none ∙ ap (λ v. ys ++ (v ++ zs)) (sym none)
+swap_empty xs ys zs (inr none) = ap (λ v. xs ++ (v ++ zs)) none ∙ ap (λ v. v ++ (xs ++ zs)) (sym none)
+
+under_insert : (file : File) (key : List ℕ) (pair : StoredPair) (pairs : List StoredPair) → flat_map (under file key) (insert_pair pair pairs) ≡ under file key pair ++ flat_map (under file key) pairs
+under_insert file key pair [] = refl
+under_insert file key pair (other ∷ others) =
+    elim (less other.key pair.key) as (λ b. less other.key pair.key ≡ b
+    → flat_map (under file key) (cond b (other ∷ insert_pair pair others) (pair ∷ other ∷ others)) ≡ under file key pair ++ (under file key other ++ flat_map (under file key) others)) [
+      | true ↦ λ is.
+          ap (λ vs. under file key other ++ vs) (under_insert file key pair others)
+          ∙ swap_empty (under file key other) (under file key pair) (flat_map (under file key) others) (one_under file key other pair is)
+      | false ↦ λ is. refl
+    ] refl
+
+under_by_key : (file : File) (key : List ℕ) (pairs : List StoredPair) → flat_map (under file key) (by_key pairs) ≡ flat_map (under file key) pairs
+under_by_key file key [] = refl
+under_by_key file key (pair ∷ pairs) = under_insert file key pair (by_key pairs) ∙ ap (λ vs. under file key pair ++ vs) (under_by_key file key pairs)
+
+-- what the list has under a key
+list_under : (file : File) (meta : HashMeta) (key : List ℕ) → get (hash_list file meta) (BytesKey key) ≡ flat_map (under file key) (table_pairs file meta)
+unfolding hash_list
+list_under file meta key = get_flat (listed_pair file) (BytesKey key) (by_key (table_pairs file meta)) ∙ under_by_key file key (table_pairs file meta)
+
+-- One bucket.
+
+nothing_under : (file : File) (key : List ℕ) (pairs : List StoredPair) → ((pair : StoredPair) → Contains pairs pair → bytes_eq pair.key key ≡ false) → flat_map (under file key) pairs ≡ []
+nothing_under file key [] other = refl
+nothing_under file key (pair ∷ pairs) other =
+    ap (λ vs. vs ++ flat_map (under file key) pairs) (under_other file key pair (other pair (first_member pair pairs))) ∙ nothing_under file key pairs (λ one at. other one (later_member pair pairs one at))
+
+flat_flat : {X Y Z : Type 0} (f : Y → List Z) (g : X → List Y) (xs : List X) → flat_map f (flat_map g xs) ≡ flat_map (λ x. flat_map f (g x)) xs
+flat_flat f g [] = refl
+flat_flat f g (x ∷ xs) = flat_map-append f (g x) (flat_map g xs) ∙ ap (λ zs. flat_map f (g x) ++ zs) (flat_flat f g xs)
+
+none_of_range : {X : Type 0} (f : ℕ → List X) (a n : ℕ) → ((c : ℕ) → a ≤ c → c < a + n → f c ≡ []) → flat_map f (range_with_len a n) ≡ []
+none_of_range f a zero none = refl
+none_of_range f a (suc n) none = ap (λ xs. xs ++ flat_map f (range_with_len (a + 1) n)) (none a (omega arith) (omega arith)) ∙ none_of_range f (a + 1) n (λ c low high. none c (omega arith) (omega arith))
+
+-- where all but one of some parts are empty, that one is the whole
+one_of_range : {X : Type 0} (f : ℕ → List X) (a n b : ℕ) → a ≤ b → b < a + n → ((c : ℕ) → a ≤ c → c < a + n → (c ≡ b → ⊥) → f c ≡ []) → flat_map f (range_with_len a n) ≡ f b
+one_of_range f a zero b low high none = absurd (omega arith)
+one_of_range f a (suc n) b low high none =
+    elim (cases_eq a b) [
+      | inl same ↦
+          ap (λ xs. f a ++ xs) (none_of_range f (a + 1) n (λ c above below. none c (omega arith) (omega arith) (λ is. (let apart : a + 1 ≤ c = above in omega arith)))) ∙ (append-nil (f a) ∙ ap f same)
+      | inr other ↦
+          ap (λ xs. xs ++ flat_map f (range_with_len (a + 1) n)) (none a (omega arith) (omega arith) other)
+          ∙ one_of_range f (a + 1) n b (omega arith) (omega arith) (λ c above below apart. none c (omega arith) (omega arith) apart)
+    ]
+
+-- No row of the table holds.
+
+all_fail_at : (image : List ℕ) (meta : HashMeta) (p : ℕ) → contents_faults (file_of image) (HashFields meta) ≡ [] → p ≤ (file_of image).last → AllFail (hash_contents (file_of image) meta p)
+unfolding contents_faults
+all_fail_at image meta p none low =
+    all_fail (hash_contents (file_of image) meta p) (no_codes_at 8 0 ((file_of image).last + 1) p (λ q. holding (contents_rows (file_of image) (HashFields meta) q)) none (omega arith) (omega arith))
+
+and_true : (a b : Bool) → a ≡ true → (a && b) ≡ false → b ≡ false
+and_true true b is none = none
+and_true false b is none = absurd cc
+
+-- each key is in its own bucket
+own_bucket : (image : List ℕ) (meta : HashMeta) (b : ℕ) (pair : StoredPair) → IsTable image → HasMetadata (file_of image) (HashFields meta) → contents_faults (file_of image) (HashFields meta) ≡ []
+    → Contains (buckets_of meta) b → Contains (bucket_pairs (file_of image) meta b) pair → bucket_of_key meta pair.key ≡ b
+own_bucket image meta b pair table has none listed held =
+    let file : File = file_of image in
+    let plain : IsPlain file pair = bucket_plain image meta b pair table has (few_buckets meta b listed) held in
+    let fail : AllFail (hash_contents file meta pair.page) = all_fail_at image meta pair.page none plain.inside in
+    let bucket : list_any (λ (one : StoredPair). one.page == pair.page && not (bucket_of_key meta one.key == b)) (bucket_pairs file meta b) ≡ false =
+    none_passes (λ c. list_any (λ (one : StoredPair). one.page == pair.page && not (bucket_of_key meta one.key == c)) (bucket_pairs file meta c)) (buckets_of meta) b fail.1.1.1.0 listed in
+    let passes : (pair.page == pair.page && not (bucket_of_key meta pair.key == b)) ≡ false =
+    none_passes (λ (one : StoredPair). one.page == pair.page && not (bucket_of_key meta one.key == b)) (bucket_pairs file meta b) pair bucket held in
+    eqb-true (bucket_of_key meta pair.key) b
+    (not-false (bucket_of_key meta pair.key == b) (and_true (pair.page == pair.page) (not (bucket_of_key meta pair.key == b)) (eq-eqb pair.page pair.page refl) passes))
+
+-- no key repeats
+pub none_repeats : (image : List ℕ) (meta : HashMeta) → IsTable image → HasMetadata (file_of image) (HashFields meta) → contents_faults (file_of image) (HashFields meta) ≡ []
+    → repeated_after [] (table_pairs (file_of image) meta) ≡ []
+none_repeats image meta table has none =
+    let file : File = file_of image in
+    let repeated : List StoredPair = repeated_after [] (table_pairs file meta) in
+    is_empty repeated (λ pair at.
+    let plain : IsPlain file pair = table_plain image meta table has pair (of_repeated [] (table_pairs file meta) pair at) in
+    let fail : AllFail (hash_contents file meta pair.page) = all_fail_at image meta pair.page none plain.inside in
+    true≢false (sym (has_any (λ (one : StoredPair). one.page == pair.page) repeated pair at (eq-eqb pair.page pair.page refl)) ∙ fail.1.1.1.1.0))
+
+-- each pair has another key than those after it
+abbrev pub AreApart : List StoredPair → Type 0
+AreApart [] = Unit {0}
+AreApart (pair ∷ pairs) = ((other : StoredPair) → Contains pairs other → bytes_eq pair.key other.key ≡ false) × AreApart pairs
+
+cond_empty : {X : Type 0} (b : Bool) (x : X) (xs : List X) → cond b (x ∷ xs) xs ≡ [] → (b ≡ false) × (xs ≡ [])
+cond_empty true x xs none = absurd cc
+cond_empty false x xs none = (refl, none)
+
+record AreNew (earlier pairs : List StoredPair) : Type 0 where
+  each : (pair : StoredPair) → Contains pairs pair → list_any (λ (other : StoredPair). bytes_eq other.key pair.key) earlier ≡ false
+  apart : AreApart pairs
+
+new_where_none : (earlier pairs : List StoredPair) → repeated_after earlier pairs ≡ [] → AreNew earlier pairs
+new_where_none earlier [] none = record { each = λ pair at. absurd (no_member [] pair refl at); apart = tt }
+new_where_none earlier (pair ∷ pairs) none =
+    let here : (list_any (λ (other : StoredPair). bytes_eq other.key pair.key) earlier ≡ false) × (repeated_after (pair ∷ earlier) pairs ≡ []) =
+    cond_empty (list_any (λ (other : StoredPair). bytes_eq other.key pair.key) earlier) pair (repeated_after (pair ∷ earlier) pairs) none in
+    let rest : AreNew (pair ∷ earlier) pairs = new_where_none (pair ∷ earlier) pairs here.1 in
+    let both : (one : StoredPair) → Contains pairs one → (bytes_eq pair.key one.key ≡ false) × (list_any (λ (other : StoredPair). bytes_eq other.key one.key) earlier ≡ false) =
+    λ one at. or_parts (bytes_eq pair.key one.key) (list_any (λ (other : StoredPair). bytes_eq other.key one.key) earlier) (rest.each one at) in
+    record {
+      each = λ one at. elim (member_cases pair pairs one at) [
+        | inl same ↦ subst (λ (p : StoredPair). list_any (λ (other : StoredPair). bytes_eq other.key p.key) earlier ≡ false) same here.0
+        | inr later ↦ (both one later).1
+      ];
+      apart = (λ one at. (both one at).0, rest.apart);
+    }
+
+-- the keys of a table are apart
+pub table_apart : (image : List ℕ) (meta : HashMeta) → IsTable image → HasMetadata (file_of image) (HashFields meta) → contents_faults (file_of image) (HashFields meta) ≡ [] → AreApart (table_pairs (file_of image) meta)
+table_apart image meta table has none = (new_where_none [] (table_pairs (file_of image) meta) (none_repeats image meta table has none)).apart
+
+apart_parts : (xs ys : List StoredPair) → AreApart (xs ++ ys) → AreApart xs × AreApart ys
+apart_parts [] ys apart = (tt, apart)
+apart_parts (x ∷ xs) ys apart =
+    let rest : AreApart xs × AreApart ys = apart_parts xs ys apart.1 in
+    ((λ other at. apart.0 other (Contains-append_left xs ys other at), rest.0), rest.1)
+
+apart_part : {X : Type 0} (f : X → List StoredPair) (xs : List X) (x : X) → AreApart (flat_map f xs) → Contains xs x → AreApart (f x)
+apart_part f [] x apart at = absurd (no_member [] x refl at)
+apart_part f (y ∷ ys) x apart at =
+    let parts : AreApart (f y) × AreApart (flat_map f ys) = apart_parts (f y) (flat_map f ys) apart in
+    elim (member_cases y ys x at) [ inl same ↦ subst (λ z. AreApart (f z)) same parts.0 | inr later ↦ apart_part f ys x parts.1 later ]
+
+bucket_apart : (image : List ℕ) (meta : HashMeta) (b : ℕ) → IsTable image → HasMetadata (file_of image) (HashFields meta) → contents_faults (file_of image) (HashFields meta) ≡ []
+    → Contains (buckets_of meta) b → AreApart (bucket_pairs (file_of image) meta b)
+unfolding table_pairs
+bucket_apart image meta b table has none listed = apart_part (bucket_pairs (file_of image) meta) (buckets_of meta) b (table_apart image meta table has none) listed
+
+-- The first pair with a key.
+
+abbrev data_found : File → Option StoredPair → List (List ℕ)
+data_found file None = []
+data_found file (Some pair) = data_of file pair.data_item
+
+pub same_key : (a b key : List ℕ) → bytes_eq a b ≡ false → bytes_eq a key ≡ true → bytes_eq b key ≡ false
+same_key a b key apart own = not_true (bytes_eq b key) (λ same. true≢false (sym (subst (λ xs. bytes_eq a xs ≡ true) (sym (eq_same b key same)) own) ∙ apart))
+
+first_under : (file : File) (key : List ℕ) (pairs : List StoredPair) → ArePlain file pairs → AreApart pairs → flat_map (under file key) pairs ≡ data_found file (find (λ (pair : StoredPair). bytes_eq pair.key key) pairs)
+first_under file key [] plain apart = refl
+first_under file key (pair ∷ pairs) plain apart =
+    elim (bytes_eq pair.key key) as (λ b. bytes_eq pair.key key ≡ b
+    → under file key pair ++ flat_map (under file key) pairs ≡ data_found file (cond b (Some pair) (find (λ (one : StoredPair). bytes_eq one.key key) pairs))) [
+      | true ↦ λ own.
+          ap (λ vs. vs ++ flat_map (under file key) pairs) (under_own file key pair (plain pair (first_member pair pairs)).live own)
+          ∙ (ap (λ vs. data_of file pair.data_item ++ vs) (nothing_under file key pairs (λ other at. same_key pair.key other.key key (apart.0 other at) own)) ∙ append-nil (data_of file pair.data_item))
+      | false ↦ λ other.
+          ap (λ vs. vs ++ flat_map (under file key) pairs) (under_other file key pair other) ∙ first_under file key pairs (λ one at. plain one (later_member pair pairs one at)) apart.1
+    ] refl
+
+-- what is listed under a key is in the key's bucket
+list_in_bucket : (image : List ℕ) (meta : HashMeta) (key : List ℕ) → IsTable image → HasMetadata (file_of image) (HashFields meta) → contents_faults (file_of image) (HashFields meta) ≡ []
+    → bucket_of_key meta key ≤ meta.max_bucket
+    → get (hash_list (file_of image) meta) (BytesKey key) ≡ data_found (file_of image) (find (λ (pair : StoredPair). bytes_eq pair.key key) (bucket_pairs (file_of image) meta (bucket_of_key meta key)))
+unfolding table_pairs
+list_in_bucket image meta key table has none few =
+    let file : File = file_of image in
+    let b : ℕ = bucket_of_key meta key in
+    let listed : Contains (buckets_of meta) b = in_range 0 (meta.max_bucket + 1) b (omega arith) (omega arith) in
+    list_under file meta key
+    ∙ (flat_flat (under file key) (bucket_pairs file meta) (buckets_of meta)
+    ∙ (one_of_range (λ c. flat_map (under file key) (bucket_pairs file meta c)) 0 (meta.max_bucket + 1) b (omega arith) (omega arith) (λ c low high apart. other_bucket image meta key c table has none (in_range 0 (meta.max_bucket + 1) c low high) apart)
+    ∙ first_under file key (bucket_pairs file meta b) (λ pair at. bucket_plain image meta b pair table has few at) (bucket_apart image meta b table has none listed)))
+  where
+    other_bucket : (image : List ℕ) (meta : HashMeta) (key : List ℕ) (c : ℕ) → IsTable image → HasMetadata (file_of image) (HashFields meta) → contents_faults (file_of image) (HashFields meta) ≡ []
+        → Contains (buckets_of meta) c → (c ≡ bucket_of_key meta key → ⊥) → flat_map (under (file_of image) key) (bucket_pairs (file_of image) meta c) ≡ []
+    other_bucket image meta key c table has none listed apart =
+        nothing_under (file_of image) key (bucket_pairs (file_of image) meta c) (λ pair at.
+        not_true (bytes_eq pair.key key) (λ same. apart (sym (own_bucket image meta c pair table has none listed at) ∙ ap (bucket_of_key meta) (eq_same pair.key key same))))
+
+-- Found.
+
+find_told : (image : List ℕ) (key : List ℕ) (pairs : List StoredPair) → find (has_key key) (map (told image) pairs) ≡ option_map (told image) (find (λ (pair : StoredPair). bytes_eq pair.key key) pairs)
+find_told image key [] = refl
+find_told image key (pair ∷ pairs) =
+    elim (bytes_eq pair.key key) as (λ b. cond b (Some (told image pair)) (find (has_key key) (map (told image) pairs)) ≡ option_map (told image) (cond b (Some pair) (find (λ (one : StoredPair). bytes_eq one.key key) pairs))) [
+      | true ↦ refl
+      | false ↦ find_told image key pairs
+    ]
+
+-- the data of a pair that was found
+abbrev pub told_data : Option Told → List (List ℕ)
+told_data None = []
+told_data (Some t) = data_of (file_of t.image) t.pair.data_item
+
+told_found : (image : List ℕ) (found : Option StoredPair) → data_found (file_of image) found ≡ told_data (option_map (told image) found)
+told_found image None = refl
+told_found image (Some pair) = refl
+
+-- what is listed under a key is what the pair has that was found in the key's bucket
+pub list_found : (image : List ℕ) (meta : HashMeta) (key : List ℕ) (b : ℕ) (found : Option Told) → IsTable image → HasMetadata (file_of image) (HashFields meta)
+    → contents_faults (file_of image) (HashFields meta) ≡ [] → b ≡ bucket_of_key meta key → b ≤ meta.max_bucket → found ≡ find (has_key key) (bucket_told image meta b)
+    → told_data found ≡ get (hash_list (file_of image) meta) (BytesKey key)
+list_found image meta key b found table has none is few same =
+    let own : bucket_of_key meta key ≤ meta.max_bucket = omega (arith, is) in
+    sym
+    (list_in_bucket image meta key table has none own
+    ∙ (told_found image (find (λ (pair : StoredPair). bytes_eq pair.key key) (bucket_pairs (file_of image) meta (bucket_of_key meta key)))
+    ∙ (ap told_data (sym (find_told image key (bucket_pairs (file_of image) meta (bucket_of_key meta key))))
+    ∙ (ap (λ ts. told_data (find (has_key key) ts)) (sym (bucket_is image meta (bucket_of_key meta key)))
+    ∙ (ap (λ c. told_data (find (has_key key) (bucket_told image meta c))) (sym is) ∙ ap told_data (sym same))))))

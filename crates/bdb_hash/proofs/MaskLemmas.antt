@@ -1,0 +1,90 @@
+-- The bucket of a hash is one of the table's: its masks are as form leaves them.
+use Rattle.std.proofs.Common.{◌≡◌, ℕ, ◌+◌, ◌≤◌, ◌<◌, Bool, true, false, ◌&&◌, cond, List, arith, refl, sym, ◌∙◌, subst, inl, inr}
+use Rattle.std.specs.Prelude.{Option, Some, None, ◌==◌, ◌/◌, nat_le, nat_lt, bit_and}
+use Rattle.std.proofs.lemmas.Bool.{and_parts, eqb-true, leb-true, ltb-false, ltb-true, not-false, or_cases}
+use Rattle.std.proofs.lemmas.Nat.{and_le_r}
+use Rattle.std.specs.Int.{is_power_of_two}
+use Rattle.bdb_model.specs.declared.metadata.FileKind.TheVariants.{Hash}
+use Rattle.bdb_model.specs.declared.metadata.HashMeta.{HashMeta}
+use Rattle.bdb_model.specs.declared.metadata.Head.{Head}
+use Rattle.bdb_model.specs.File.{file_of, page_bytes}
+use Rattle.bdb_model.specs.Hashing.{bucket}
+use Rattle.bdb_model.specs.HeadOf.{head_of}
+use Rattle.bdb_model.specs.Numbers.{byte_at}
+use Rattle.bdb_model.specs.Page.{HashFields, Meta, Page, PageType, HashMetaPage, Zero}
+use Rattle.bdb_model.specs.Reading.{abstract_page, hash_fields, is_zero, page_as, page_type}
+use Rattle.bdb_model.specs.Rows.{are_masks, form_code, identity_rows, may_have_type, metadata_rows, typed_code}
+use Rattle.bdb_model.specs.Table.{first_row}
+use Rattle.bdb_model.proofs.VerdictLemmas.{AllFail, none_is_first_row}
+use Rattle.bdb_graph.specs.Linked.{HasMetadata, IsForest}
+use Rattle.bdb_graph.proofs.FirstLemmas.{formed_page}
+use Rattle.bdb_graph.proofs.HeldLemmas.{last_page, page_is}
+
+-- the masks of a page that is metadata of a table
+abbrev HasMasks : Page → Type 0
+HasMasks (Meta (HashFields meta)) = are_masks meta ≡ true
+HasMasks page = Unit {0}
+
+table_masks : (head : Head) (number : ℕ) (page : List ℕ) → first_row (metadata_rows head.order page number head.last Hash) ≡ None → are_masks (hash_fields head.order page) ≡ true
+unfolding metadata_rows
+table_masks head number page none =
+    let fail : AllFail (metadata_rows head.order page number head.last Hash) = none_is_first_row (metadata_rows head.order page number head.last Hash) none in
+    not-false (are_masks (hash_fields head.order page)) fail.1.1.1.1.1.1.1.1.1.1.0
+
+masks_as : (head : Head) (number : ℕ) (page : List ℕ) (t : PageType) → typed_code head number page t ≡ None → HasMasks (page_as head.order page t)
+masks_as head number page HashMetaPage none = table_masks head number page none
+masks_as head number page t none = tt
+
+abbrev form_by : Bool → Option ℕ → Option ℕ → Option ℕ
+form_by empty first rest = elim empty [ true ↦ None | false ↦ elim first [ Some code ↦ Some code | None ↦ rest ] ]
+
+rest_none : (above zeros : Bool) (first rest : Option ℕ) → zeros ≡ false → form_by (above && zeros) first rest ≡ None → rest ≡ None
+rest_none above true first rest some none = absurd cc
+rest_none true false (Some code) rest some none = absurd cc
+rest_none false false (Some code) rest some none = absurd cc
+rest_none true false None rest some none = none
+rest_none false false None rest some none = none
+
+masks_of : (head : Head) (number : ℕ) (page : List ℕ) → form_code head number page ≡ None → HasMasks (abstract_page head.order page)
+unfolding abstract_page form_code
+masks_of head number page none =
+    let byte : ℕ = byte_at page 25 in
+    elim (is_zero page) as (λ zeros. is_zero page ≡ zeros → HasMasks (elim zeros [ true ↦ Zero | false ↦ page_as head.order page (page_type byte) ])) [
+      | true ↦ λ _. tt
+      | false ↦ λ some.
+          masks_as head number page (page_type byte)
+          (rest_none (nat_lt 0 number) (is_zero page) (first_row (identity_rows head.order page number (may_have_type head.kind number))) (typed_code head number page (page_type byte)) some none)
+    ] refl
+
+meta_masks : (image : List ℕ) (meta : HashMeta) → IsForest image → HasMetadata (file_of image) (HashFields meta) → are_masks meta ≡ true
+meta_masks image meta forest has =
+    let inside : has.page ≤ (head_of image).last = omega (arith, has.inside, last_page image) in
+    subst HasMasks (sym (page_is image has.page inside) ∙ has.is) (masks_of (head_of image) has.page (page_bytes (head_of image) image has.page) (formed_page image has.page forest.formed.form inside))
+
+-- The bucket of a hash.
+
+within : (meta : HashMeta) (hash : ℕ) → are_masks meta ≡ true → nat_lt meta.max_bucket (bit_and hash meta.high_mask) ≡ true → bit_and hash meta.low_mask ≤ meta.max_bucket
+within meta hash masks above =
+    let over : meta.max_bucket < bit_and hash meta.high_mask = ltb-true meta.max_bucket (bit_and hash meta.high_mask) above in
+    let high : bit_and hash meta.high_mask ≤ meta.high_mask = and_le_r hash meta.high_mask in
+    let low : bit_and hash meta.low_mask ≤ meta.low_mask = and_le_r hash meta.low_mask in
+    elim (or_cases (meta.max_bucket == 0 && meta.high_mask == 0)
+    (nat_le 1 meta.high_mask && is_power_of_two (meta.high_mask + 1) && meta.low_mask == meta.high_mask / 2 && nat_le meta.low_mask meta.max_bucket && nat_le meta.max_bucket meta.high_mask) masks) [
+      | inl one ↦
+          let parts : ((meta.max_bucket == 0) ≡ true) × ((meta.high_mask == 0) ≡ true) = and_parts (meta.max_bucket == 0) (meta.high_mask == 0) one in
+          let none : meta.high_mask ≡ 0 = eqb-true meta.high_mask 0 parts.1 in
+          absurd (omega arith)
+      | inr many ↦
+          let last = and_parts (nat_le 1 meta.high_mask && is_power_of_two (meta.high_mask + 1) && meta.low_mask == meta.high_mask / 2 && nat_le meta.low_mask meta.max_bucket) (nat_le meta.max_bucket meta.high_mask) many in
+          let middle = and_parts (nat_le 1 meta.high_mask && is_power_of_two (meta.high_mask + 1) && meta.low_mask == meta.high_mask / 2) (nat_le meta.low_mask meta.max_bucket) last.0 in
+          let below : meta.low_mask ≤ meta.max_bucket = leb-true meta.low_mask meta.max_bucket middle.1 in
+          omega arith
+    ]
+
+pub bucket_within : (image : List ℕ) (meta : HashMeta) (hash : ℕ) → IsForest image → HasMetadata (file_of image) (HashFields meta) → bucket hash meta.max_bucket meta.high_mask meta.low_mask ≤ meta.max_bucket
+bucket_within image meta hash forest has =
+    elim (nat_lt meta.max_bucket (bit_and hash meta.high_mask)) as (λ b. nat_lt meta.max_bucket (bit_and hash meta.high_mask) ≡ b
+    → cond b (bit_and hash meta.low_mask) (bit_and hash meta.high_mask) ≤ meta.max_bucket) [
+      | true ↦ λ above. within meta hash (meta_masks image meta forest has) above
+      | false ↦ λ below. ltb-false meta.max_bucket (bit_and hash meta.high_mask) below
+    ] refl

@@ -1,0 +1,201 @@
+-- The rows of a table's contents at a page are those of its pairs by themselves, and of repeated keys.
+use Rattle.std.proofs.Common.{◌≡◌, ◌⊎◌, ℕ, ◌+◌, ◌≤◌, Bool, true, false, not, ◌&&◌, ◌||◌, cond, List, [], ◌∷◌, ◌++◌, map, arith, refl, sym, ◌∙◌, ap, inl, inr}
+use Rattle.std.specs.Prelude.{Some, ◌==◌}
+use Rattle.std.specs.List.{Contains, flat_map, list_any, range_with_len, take_while}
+use Rattle.std.proofs.lemmas.Bool.{and_parts, eq-eqb, eqb-true}
+use Rattle.std.proofs.lemmas.List.{append-nil}
+use Rattle.std.proofs.lemmas.List.Elements.{Contains-append_cases, Contains-append_left, Contains-append_right}
+use Rattle.std.proofs.lemmas.List.Folds.{list_any-append}
+use Rattle.std.proofs.lemmas.List.Sums.{take_while-cons}
+use Rattle.bdb_model.specs.declared.metadata.HashMeta.{HashMeta}
+use Rattle.bdb_model.specs.ContentRows.{ascends, bucket_of_key, groups, hash_contents, hash_sorted, is_duplicate, is_unsorted, is_wrong_set, live_data, repeated_after}
+use Rattle.bdb_model.specs.Contents.{StoredPair, bucket_pairs, data_of, table_pairs}
+use Rattle.bdb_model.specs.File.{File}
+use Rattle.bdb_model.specs.Numbers.{has_bit}
+use Rattle.bdb_model.specs.Table.{Row, ◌:?◌, first_row}
+use Rattle.bdb_model.specs.Verdict.{holding}
+use Rattle.bdb_model.proofs.MemberLemmas.{first_member, in_map, later_member, member_cases, no_member, of_map}
+use Rattle.bdb_model.proofs.VerdictLemmas.{Rises}
+use Rattle.bdb_hash.proofs.LeastLemmas.{HoldsIn, any_has, first_least, has_any, in_holding, of_first, of_holding}
+use Rattle.bdb_hash.proofs.PlainLemmas.{IsPlain}
+
+-- Tests of pairs.
+
+any_flat : {X Y : Type 0} (test : Y → Bool) (f : X → List Y) (xs : List X) → list_any test (flat_map f xs) ≡ list_any (λ x. list_any test (f x)) xs
+any_flat test f [] = refl
+any_flat test f (x ∷ xs) = list_any-append test (f x) (flat_map f xs) ∙ ap (λ b. list_any test (f x) || b) (any_flat test f xs)
+
+and_false : (b : Bool) → (b && false) ≡ false
+and_false true = refl
+and_false false = refl
+
+and_any : {X : Type 0} (given : Bool) (at test : X → Bool) (xs : List X) → (given && list_any (λ x. at x && test x) xs) ≡ list_any (λ x. at x && (given && test x)) xs
+and_any true at test xs = refl
+and_any false at test [] = refl
+and_any false at test (x ∷ xs) = and_any false at test xs ∙ ap (λ b. b || list_any (λ y. at y && false) xs) (sym (and_false (at x)))
+
+-- a test holds for a pair on this page, in its bucket
+abbrev pub some_at : (ℕ → List StoredPair) → List ℕ → (ℕ → StoredPair → Bool) → ℕ → Bool
+some_at pairs buckets test p = list_any (λ b. list_any (λ (pair : StoredPair). pair.page == p && test b pair) (pairs b)) buckets
+
+pub record IsFound (pairs : ℕ → List StoredPair) (buckets : List ℕ) (test : ℕ → StoredPair → Bool) (p : ℕ) : Type 0 where
+  pub bucket : ℕ
+  pub listed : Contains buckets bucket
+  pub pair : StoredPair
+  pub held : Contains (pairs bucket) pair
+  pub at : pair.page ≡ p
+  pub passes : test bucket pair ≡ true
+
+found_at : (pairs : ℕ → List StoredPair) (buckets : List ℕ) (test : ℕ → StoredPair → Bool) (p : ℕ) → some_at pairs buckets test p ≡ true → IsFound pairs buckets test p
+found_at pairs buckets test p some =
+    let bucket : (b : ℕ) × Contains buckets b × (list_any (λ (pair : StoredPair). pair.page == p && test b pair) (pairs b) ≡ true) =
+    any_has (λ b. list_any (λ (pair : StoredPair). pair.page == p && test b pair) (pairs b)) buckets some in
+    let pair : (one : StoredPair) × Contains (pairs bucket.0) one × ((one.page == p && test bucket.0 one) ≡ true) =
+    any_has (λ (one : StoredPair). one.page == p && test bucket.0 one) (pairs bucket.0) bucket.2 in
+    let both : ((pair.0.page == p) ≡ true) × (test bucket.0 pair.0 ≡ true) = and_parts (pair.0.page == p) (test bucket.0 pair.0) pair.2 in
+    record { bucket = bucket.0; listed = bucket.1; pair = pair.0; held = pair.1; at = eqb-true pair.0.page p both.0; passes = both.1 }
+
+at_found : (pairs : ℕ → List StoredPair) (buckets : List ℕ) (test : ℕ → StoredPair → Bool) (b : ℕ) (pair : StoredPair) → Contains buckets b → Contains (pairs b) pair → test b pair ≡ true
+    → some_at pairs buckets test pair.page ≡ true
+at_found pairs buckets test b pair listed held passes =
+    has_any (λ c. list_any (λ (one : StoredPair). one.page == pair.page && test c one) (pairs c)) buckets b listed
+    (has_any (λ (one : StoredPair). one.page == pair.page && test b one) (pairs b) pair held (ap (λ t. t && test b pair) (eq-eqb pair.page pair.page refl) ∙ passes))
+
+-- Tables of tests.
+
+-- a test of pairs by their bucket, with its code
+pub record Test : Type 0 where
+  pub code : ℕ
+  pub holds : ℕ → StoredPair → Bool
+
+abbrev pub pair_table : List Test → ℕ → StoredPair → List (Row ℕ)
+pair_table tests b pair = map (λ (test : Test). test.code :? test.holds b pair) tests
+
+abbrev pub page_table : (ℕ → List StoredPair) → List ℕ → List Test → ℕ → List (Row ℕ)
+page_table pairs buckets tests p = map (λ (test : Test). test.code :? some_at pairs buckets test.holds p) tests
+
+abbrev pub repeat_row : List StoredPair → ℕ → Row ℕ
+repeat_row repeated p = 9 :? list_any (λ (pair : StoredPair). pair.page == p) repeated
+
+-- the first code of a pair holds at its page
+pub pair_holds : (pairs : ℕ → List StoredPair) (buckets : List ℕ) (tests : List Test) (repeated : List StoredPair) (b : ℕ) (pair : StoredPair) (code : ℕ) → Contains buckets b → Contains (pairs b) pair
+    → first_row (pair_table tests b pair) ≡ Some code → Contains (holding (page_table pairs buckets tests pair.page ++ (repeat_row repeated pair.page ∷ []))) code
+pair_holds pairs buckets tests repeated b pair code listed held first =
+    let is : HoldsIn (pair_table tests b pair) code = of_first (pair_table tests b pair) code first in
+    let test : (t : Test) × Contains tests t × ((t.code :? t.holds b pair) ≡ is.row) = of_map (λ (t : Test). t.code :? t.holds b pair) tests is.row is.listed in
+    let passes : test.0.holds b pair ≡ true = ap (λ (row : Row ℕ). row.holds) test.2 ∙ is.holds in
+    let row : Row ℕ = test.0.code :? some_at pairs buckets test.0.holds pair.page in
+    in_holding (page_table pairs buckets tests pair.page ++ (repeat_row repeated pair.page ∷ [])) code (record {
+      row = row;
+      listed = Contains-append_left (page_table pairs buckets tests pair.page) (repeat_row repeated pair.page ∷ []) row (in_map (λ (t : Test). t.code :? some_at pairs buckets t.holds pair.page) tests test.0 test.1);
+      holds = at_found pairs buckets test.0.holds b pair listed held passes;
+      code_is = ap (λ (r : Row ℕ). r.code) test.2 ∙ is.code_is;
+    })
+
+pub repeat_holds : (pairs : ℕ → List StoredPair) (buckets : List ℕ) (tests : List Test) (repeated : List StoredPair) (pair : StoredPair) → Contains repeated pair
+    → Contains (holding (page_table pairs buckets tests pair.page ++ (repeat_row repeated pair.page ∷ []))) 9
+repeat_holds pairs buckets tests repeated pair at =
+    in_holding (page_table pairs buckets tests pair.page ++ (repeat_row repeated pair.page ∷ [])) 9 (record {
+      row = repeat_row repeated pair.page;
+      listed = Contains-append_right (page_table pairs buckets tests pair.page) (repeat_row repeated pair.page ∷ []) (repeat_row repeated pair.page) (first_member (repeat_row repeated pair.page) []);
+      holds = has_any (λ (one : StoredPair). one.page == pair.page) repeated pair at (eq-eqb pair.page pair.page refl);
+      code_is = refl;
+    })
+
+-- a code that holds at a page comes from a pair there, whose first code isn't greater, or from a repeated key
+pub record IsByPair (pairs : ℕ → List StoredPair) (buckets : List ℕ) (tests : List Test) (p code : ℕ) : Type 0 where
+  pub bucket : ℕ
+  pub listed : Contains buckets bucket
+  pub pair : StoredPair
+  pub held : Contains (pairs bucket) pair
+  pub at : pair.page ≡ p
+  pub first : ℕ
+  pub first_is : first_row (pair_table tests bucket pair) ≡ Some first
+  pub low : first ≤ code
+
+pub record IsByRepeat (repeated : List StoredPair) (p code : ℕ) : Type 0 where
+  pub pair : StoredPair
+  pub held : Contains repeated pair
+  pub at : pair.page ≡ p
+  pub nine : code ≡ 9
+
+pub page_holds : (pairs : ℕ → List StoredPair) (buckets : List ℕ) (tests : List Test) (repeated : List StoredPair) (p code : ℕ) → ((b : ℕ) (pair : StoredPair) → Rises 1 (pair_table tests b pair))
+    → Contains (holding (page_table pairs buckets tests p ++ (repeat_row repeated p ∷ []))) code → IsByPair pairs buckets tests p code ⊎ IsByRepeat repeated p code
+page_holds pairs buckets tests repeated p code rises at =
+    let is : HoldsIn (page_table pairs buckets tests p ++ (repeat_row repeated p ∷ [])) code = of_holding (page_table pairs buckets tests p ++ (repeat_row repeated p ∷ [])) code at in
+    elim (Contains-append_cases (page_table pairs buckets tests p) (repeat_row repeated p ∷ []) is.row is.listed) [
+      | inl here ↦
+          let test : (t : Test) × Contains tests t × ((t.code :? some_at pairs buckets t.holds p) ≡ is.row) = of_map (λ (t : Test). t.code :? some_at pairs buckets t.holds p) tests is.row here in
+          let found : IsFound pairs buckets test.0.holds p = found_at pairs buckets test.0.holds p (ap (λ (row : Row ℕ). row.holds) test.2 ∙ is.holds) in
+          let first : (n : ℕ) × (first_row (pair_table tests found.bucket found.pair) ≡ Some n) × (n ≤ code) =
+          first_least 1 (pair_table tests found.bucket found.pair) code (rises found.bucket found.pair) (record {
+            row = test.0.code :? test.0.holds found.bucket found.pair;
+            listed = in_map (λ (t : Test). t.code :? t.holds found.bucket found.pair) tests test.0 test.1;
+            holds = found.passes;
+            code_is = ap (λ (row : Row ℕ). row.code) test.2 ∙ is.code_is;
+          }) in
+          inl (record { bucket = found.bucket; listed = found.listed; pair = found.pair; held = found.held; at = found.at; first = first.0; first_is = first.1; low = first.2 })
+      | inr last ↦
+          let same : repeat_row repeated p ≡ is.row = elim (member_cases (repeat_row repeated p) [] is.row last) [ inl here ↦ here | inr none ↦ absurd (no_member [] is.row refl none) ] in
+          let pair : (one : StoredPair) × Contains repeated one × ((one.page == p) ≡ true) = any_has (λ (one : StoredPair). one.page == p) repeated (ap (λ (row : Row ℕ). row.holds) same ∙ is.holds) in
+          inr (record { pair = pair.0; held = pair.1; at = eqb-true pair.0.page p pair.2; nine = sym is.code_is ∙ ap (λ (row : Row ℕ). row.code) (sym same) })
+    ]
+
+-- The rows of a table.
+
+-- what is tested of a pair by itself
+abbrev pub tests_of : File → HashMeta → List Test
+tests_of file meta =
+    record { code = 1; holds = λ b pair. not (has_bit meta.flags 0x05) && is_duplicate pair }
+    ∷ record { code = 2; holds = λ b pair. is_wrong_set file (hash_sorted meta.flags) pair.data_item }
+    ∷ record { code = 5; holds = λ b pair. hash_sorted meta.flags && not (ascends (data_of file pair.data_item)) }
+    ∷ record { code = 8; holds = λ b pair. not (bucket_of_key meta pair.key == b) }
+    ∷ []
+
+pub tests_rise : (file : File) (meta : HashMeta) (b : ℕ) (pair : StoredPair) → Rises 1 (pair_table (tests_of file meta) b pair)
+tests_rise file meta b pair = (omega arith, (omega arith, (omega arith, (omega arith, tt))))
+
+abbrev pub buckets_of : HashMeta → List ℕ
+buckets_of meta = range_with_len 0 (meta.max_bucket + 1)
+
+-- each of these pairs is live and shares no key
+abbrev pub ArePlain : File → List StoredPair → Type 0
+ArePlain file pairs = (pair : StoredPair) → Contains pairs pair → IsPlain file pair
+
+no_group : (pairs : List StoredPair) → ((pair : StoredPair) → Contains pairs pair → pair.shares ≡ false) → take_while (λ (other : StoredPair). other.shares) pairs ≡ []
+no_group [] apart = refl
+no_group (pair ∷ pairs) apart = take_while-cons (λ (other : StoredPair). other.shares) pair pairs ∙ ap (λ b. cond b (pair ∷ take_while (λ (other : StoredPair). other.shares) pairs) []) (apart pair (first_member pair pairs))
+
+data_alone : (file : File) (pair : StoredPair) → pair.live ≡ true → flat_map (live_data file) (pair ∷ []) ≡ data_of file pair.data_item
+data_alone file pair live = ap (λ b. cond b (data_of file pair.data_item) [] ++ []) live ∙ append-nil (data_of file pair.data_item)
+
+groups_alone : (file : File) (pairs : List StoredPair) (p : ℕ) → ArePlain file pairs
+    → list_any (λ (group : StoredPair × List StoredPair). group.0.page == p && is_unsorted file group) (groups pairs) ≡ list_any (λ (pair : StoredPair). pair.page == p && not (ascends (data_of file pair.data_item))) pairs
+groups_alone file [] p plain = refl
+groups_alone file (pair ∷ pairs) p plain =
+    let none : take_while (λ (other : StoredPair). other.shares) pairs ≡ [] = no_group pairs (λ other at. (plain other (later_member pair pairs other at)).apart) in
+    ap (λ ps. (pair.page == p && is_unsorted file (pair, ps)) || list_any (λ (group : StoredPair × List StoredPair). group.0.page == p && is_unsorted file group) (groups pairs)) none
+    ∙ (ap (λ values. (pair.page == p && not (ascends values)) || list_any (λ (group : StoredPair × List StoredPair). group.0.page == p && is_unsorted file group) (groups pairs))
+    (data_alone file pair (plain pair (first_member pair pairs)).live)
+    ∙ ap (λ b. (pair.page == p && not (ascends (data_of file pair.data_item))) || b) (groups_alone file pairs p (λ other at. plain other (later_member pair pairs other at))))
+
+rows_eq : (a b c d e f : Bool) (two three : Bool) → a ≡ b → c ≡ d → e ≡ f
+    → ◌≡◌ {A = List (Row ℕ)} (1 :? a ∷ 2 :? c ∷ 5 :? e ∷ 8 :? two ∷ 9 :? three ∷ []) (1 :? b ∷ 2 :? d ∷ 5 :? f ∷ 8 :? two ∷ 9 :? three ∷ [])
+rows_eq a b c d e f two three p q r =
+    ap (λ x. 1 :? x ∷ 2 :? c ∷ 5 :? e ∷ 8 :? two ∷ 9 :? three ∷ []) p
+    ∙ (ap (λ x. 1 :? b ∷ 2 :? x ∷ 5 :? e ∷ 8 :? two ∷ 9 :? three ∷ []) q ∙ ap (λ x. 1 :? b ∷ 2 :? d ∷ 5 :? x ∷ 8 :? two ∷ 9 :? three ∷ []) r)
+
+pub rows_are : (file : File) (meta : HashMeta) (p : ℕ) → ArePlain file (table_pairs file meta)
+    → hash_contents file meta p ≡ page_table (bucket_pairs file meta) (buckets_of meta) (tests_of file meta) p ++ (repeat_row (repeated_after [] (table_pairs file meta)) p ∷ [])
+unfolding table_pairs
+rows_are file meta p plain =
+    let pairs : ℕ → List StoredPair = bucket_pairs file meta in
+    let buckets : List ℕ = buckets_of meta in
+    let all : List StoredPair = flat_map pairs buckets in
+    let at : StoredPair → Bool = λ pair. pair.page == p in
+    rows_eq _ _ _ _ _ _ _ _
+    (and_any (not (has_bit meta.flags 0x05)) at is_duplicate all ∙ any_flat (λ (pair : StoredPair). pair.page == p && (not (has_bit meta.flags 0x05) && is_duplicate pair)) pairs buckets)
+    (any_flat (λ (pair : StoredPair). pair.page == p && is_wrong_set file (hash_sorted meta.flags) pair.data_item) pairs buckets)
+    (ap (λ b. hash_sorted meta.flags && b) (groups_alone file all p plain)
+    ∙ (and_any (hash_sorted meta.flags) at (λ (pair : StoredPair). not (ascends (data_of file pair.data_item))) all
+    ∙ any_flat (λ (pair : StoredPair). pair.page == p && (hash_sorted meta.flags && not (ascends (data_of file pair.data_item)))) pairs buckets))

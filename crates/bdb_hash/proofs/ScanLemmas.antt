@@ -1,0 +1,284 @@
+-- A table's pairs, sorted by their keys, are its list.
+use Rattle.std.proofs.Common.{◌≡◌, ◌⊎◌, ℕ, suc, ◌+◌, ◌≤◌, ◌<◌, Bool, true, false, cond, List, [], ◌∷◌, ◌++◌, map, length, get_or, arith, refl, sym, ◌∙◌, ap, subst, inl, inr}
+use Rattle.std.specs.declared.cmp.Ordering.{Ordering}
+use Rattle.std.specs.declared.cmp.Ordering.TheVariants.{Less as Below, Equal, Greater}
+use Rattle.std.specs.Cmp.Lexicographic.{nat_list_cmp_total, slice_cmp}
+use Rattle.std.specs.List.{Contains, flat_map, sum_by}
+use Rattle.std.specs.List.Sorted.{IsPermutation, IsSorted}
+use Rattle.std.specs.Ordering.{is_lt, nat_cmp}
+use Rattle.std.specs.Str.{bytes_eq}
+use Rattle.std.proofs.lemmas.Bool.{cases_Bool, true≢false}
+use Rattle.std.proofs.lemmas.List.Folds.{flat_map-map}
+use Rattle.std.proofs.lemmas.List.Sorted.{Contains-permutation, IsPermutation-sym, ranks_by, sorted_far, sum_by-IsPermutation}
+use Rattle.std.proofs.lemmas.List.Sums.{sum_by-cons}
+use Rattle.bdb_layout.specs.Seen.{OrderingIs}
+use Rattle.bdb_layout.proofs.KeyLemmas.{slice_cmp-is}
+use Rattle.bdb_model.specs.declared.metadata.HashMeta.{HashMeta}
+use Rattle.bdb_model.specs.ContentRows.{contents_faults}
+use Rattle.bdb_model.specs.Contents.{StoredPair, table_pairs}
+use Rattle.bdb_model.specs.File.{file_of}
+use Rattle.bdb_model.specs.Less.{less, Less}
+use Rattle.bdb_model.specs.Lists.{ListKey, by_key, hash_list, insert_pair}
+use Rattle.bdb_model.specs.Page.{HashFields}
+use Rattle.bdb_model.proofs.LessLemmas.{not_less_both, not_less_same}
+use Rattle.bdb_model.proofs.MemberLemmas.{first_member, in_map, later_member, member_cases, no_member, of_map}
+use Rattle.bdb_graph.specs.Linked.{HasMetadata}
+use Rattle.bdb_hash.specs.Scanned.{IsListedOn, ranked}
+use Rattle.bdb_hash.specs.Notes.{stored}
+use Rattle.bdb_hash.specs.Told.{Told, entry_list, listed_told, table_told, told, told_cmp}
+use Rattle.bdb_hash.specs.Views.{IsTable}
+use Rattle.bdb_hash.proofs.FaultLemmas.{table_is_told, table_stored}
+use Rattle.bdb_hash.proofs.KeyLemmas.{eq_self, is_order}
+use Rattle.bdb_hash.proofs.LookupLemmas.{AreApart, same_key, table_apart}
+
+-- The order of keys.
+
+less_through : (a b c : List ℕ) → Less a b → Less b c → Less a c
+less_through a b c first second =
+    let below : slice_cmp nat_cmp a c ≡ Below = nat_list_cmp_total.trans a b c (sym (is_order Below a b first)) (sym (is_order Below b c second)) in
+    subst (λ r. OrderingIs r a c) below (slice_cmp-is a c)
+
+of_three : (r : Ordering) (a b : List ℕ) → OrderingIs r a b → (Less a b) ⊎ ((a ≡ b) ⊎ (Less b a))
+of_three Below a b is = inl is
+of_three Equal a b is = inr (inl is)
+of_three Greater a b is = inr (inr is)
+
+-- of two keys that differ one is less
+less_or : (a b : List ℕ) → bytes_eq a b ≡ false → (Less a b) ⊎ (Less b a)
+less_or a b differ =
+    elim (of_three (slice_cmp nat_cmp a b) a b (slice_cmp-is a b)) [
+      | inl below ↦ inl below
+      | inr (inl same) ↦ absurd (true≢false (sym (subst (λ xs. bytes_eq a xs ≡ true) same (eq_self a)) ∙ differ))
+      | inr (inr above) ↦ inr above
+    ]
+
+not_lt : (r : Ordering) (a b : List ℕ) → OrderingIs r a b → is_lt r ≡ false → (a ≡ b) ⊎ (Less b a)
+not_lt Below a b is other = absurd cc
+not_lt Equal a b is other = inl is
+not_lt Greater a b is other = inr is
+
+-- Lists whose keys rise.
+
+abbrev IsRising : {X : Type 0} → (X → List ℕ) → List X → Type 0
+IsRising key [] = Unit {0}
+IsRising key (x ∷ xs) = ((y : _) → Contains xs y → Less (key x) (key y)) × IsRising key xs
+
+-- two such lists with the same members are one
+one_rising : {X : Type 0} (key : X → List ℕ) (xs ys : List X) → IsRising key xs → IsRising key ys → ((z : X) → Contains xs z → Contains ys z) → ((z : X) → Contains ys z → Contains xs z) → xs ≡ ys
+one_rising key [] [] first second on back = refl
+one_rising key [] (y ∷ ys) first second on back = absurd (no_member [] y refl (back y (first_member y ys)))
+one_rising key (x ∷ xs) [] first second on back = absurd (no_member [] x refl (on x (first_member x xs)))
+one_rising {X = X} key (x ∷ xs) (y ∷ ys) first second on back =
+    let heads : x ≡ y =
+    elim (member_cases y ys x (on x (first_member x xs))) [
+      | inl same ↦ sym same
+      | inr above ↦ elim (member_cases x xs y (back y (first_member y ys))) [
+        | inl same ↦ same
+        | inr below ↦ absurd (not_less_both (key x) (key y) (first.0 y below) (second.0 x above))
+      ]
+    ] in
+    let tails : xs ≡ ys =
+    one_rising key xs ys first.1 second.1
+    (λ z at. elim (member_cases y ys z (on z (later_member x xs z at))) [
+      | inl same ↦ absurd (not_less_same (key z) (subst (λ (w : X). Less (key w) (key z)) (heads ∙ same) (first.0 z at)))
+      | inr later ↦ later
+    ])
+    (λ z at. elim (member_cases x xs z (back z (later_member y ys z at))) [
+      | inl same ↦ absurd (not_less_same (key z) (subst (λ (w : X). Less (key w) (key z)) (sym heads ∙ same) (second.0 z at)))
+      | inr later ↦ later
+    ]) in
+    ap (λ w. w ∷ xs) heads ∙ ap (λ ws. y ∷ ws) tails
+
+-- Pairs in the order of their keys.
+
+insert_cond : (b : Bool) (pair other q : StoredPair) (rest others : List StoredPair) → Contains (cond b (other ∷ rest) (pair ∷ other ∷ others)) q → (Contains rest q → (pair ≡ q) ⊎ Contains others q)
+    → (pair ≡ q) ⊎ Contains (other ∷ others) q
+insert_cond true pair other q rest others at more =
+    elim (member_cases other rest q at) [
+      | inl same ↦ inr (subst (Contains (other ∷ others)) same (first_member other others))
+      | inr later ↦ elim (more later) [ inl here ↦ inl here | inr there ↦ inr (later_member other others q there) ]
+    ]
+insert_cond false pair other q rest others at more = member_cases pair (other ∷ others) q at
+
+of_insert : (pair : StoredPair) (pairs : List StoredPair) (q : StoredPair) → Contains (insert_pair pair pairs) q → (pair ≡ q) ⊎ Contains pairs q
+of_insert pair [] q at = member_cases pair [] q at
+of_insert pair (other ∷ others) q at = insert_cond (less other.key pair.key) pair other q (insert_pair pair others) others at (of_insert pair others q)
+
+in_insert_cond : (b : Bool) (pair other q : StoredPair) (rest others : List StoredPair) → (pair ≡ q) ⊎ Contains (other ∷ others) q → ((pair ≡ q) ⊎ Contains others q → Contains rest q)
+    → Contains (cond b (other ∷ rest) (pair ∷ other ∷ others)) q
+in_insert_cond true pair other q rest others (inl same) more = later_member other rest q (more (inl same))
+in_insert_cond true pair other q rest others (inr at) more =
+    elim (member_cases other others q at) [
+      | inl same ↦ subst (Contains (other ∷ rest)) same (first_member other rest)
+      | inr later ↦ later_member other rest q (more (inr later))
+    ]
+in_insert_cond false pair other q rest others (inl same) more = subst (Contains (pair ∷ other ∷ others)) same (first_member pair (other ∷ others))
+in_insert_cond false pair other q rest others (inr at) more = later_member pair (other ∷ others) q at
+
+in_insert : (pair : StoredPair) (pairs : List StoredPair) (q : StoredPair) → (pair ≡ q) ⊎ Contains pairs q → Contains (insert_pair pair pairs) q
+in_insert pair [] q (inl same) = subst (Contains (pair ∷ [])) same (first_member pair [])
+in_insert pair [] q (inr at) = absurd (no_member [] q refl at)
+in_insert pair (other ∷ others) q either = in_insert_cond (less other.key pair.key) pair other q (insert_pair pair others) others either (in_insert pair others q)
+
+of_by_key : (pairs : List StoredPair) (q : StoredPair) → Contains (by_key pairs) q → Contains pairs q
+of_by_key [] q at = at
+of_by_key (pair ∷ pairs) q at =
+    elim (of_insert pair (by_key pairs) q at) [
+      | inl same ↦ subst (Contains (pair ∷ pairs)) same (first_member pair pairs)
+      | inr later ↦ later_member pair pairs q (of_by_key pairs q later)
+    ]
+
+in_by_key : (pairs : List StoredPair) (q : StoredPair) → Contains pairs q → Contains (by_key pairs) q
+in_by_key [] q at = at
+in_by_key (pair ∷ pairs) q at =
+    elim (member_cases pair pairs q at) [
+      | inl same ↦ in_insert pair (by_key pairs) q (inl same)
+      | inr later ↦ in_insert pair (by_key pairs) q (inr (in_by_key pairs q later))
+    ]
+
+abbrev pair_key : StoredPair → List ℕ
+pair_key pair = pair.key
+
+insert_rising : (pair : StoredPair) (pairs : List StoredPair) → IsRising pair_key pairs → ((q : StoredPair) → Contains pairs q → bytes_eq pair.key q.key ≡ false) → IsRising pair_key (insert_pair pair pairs)
+insert_rising pair [] rising apart = (λ q at. absurd (no_member [] q refl at), tt)
+insert_rising pair (other ∷ others) rising apart =
+    elim (less other.key pair.key) as (λ b. less other.key pair.key ≡ b → IsRising pair_key (cond b (other ∷ insert_pair pair others) (pair ∷ other ∷ others))) [
+      | true ↦ λ below. (
+        λ q at. elim (of_insert pair others q at) [
+          | inl same ↦ subst (λ (p : StoredPair). Less other.key p.key) same below
+          | inr later ↦ rising.0 q later
+        ],
+        insert_rising pair others rising.1 (λ q at. apart q (later_member other others q at)),
+      )
+      | false ↦ λ not_below.
+          let first : Less pair.key other.key =
+          elim (less_or pair.key other.key (apart other (first_member other others))) [ inl below ↦ below | inr above ↦ absurd (true≢false (sym above ∙ not_below)) ] in (
+            λ q at. elim (member_cases other others q at) [
+              | inl same ↦ subst (λ (p : StoredPair). Less pair.key p.key) same first
+              | inr later ↦ less_through pair.key other.key q.key first (rising.0 q later)
+            ],
+            rising,
+          )
+    ] refl
+
+by_key_rising : (pairs : List StoredPair) → AreApart pairs → IsRising pair_key (by_key pairs)
+by_key_rising [] apart = tt
+by_key_rising (pair ∷ pairs) apart = insert_rising pair (by_key pairs) (by_key_rising pairs apart.1) (λ q at. apart.0 q (of_by_key pairs q at))
+
+abbrev told_key : Told → List ℕ
+told_key t = t.pair.key
+
+told_rising : (image : List ℕ) (pairs : List StoredPair) → IsRising pair_key pairs → IsRising told_key (map (told image) pairs)
+told_rising image [] rising = tt
+told_rising image (pair ∷ pairs) rising = (
+  λ t at.
+      let found : (q : StoredPair) × Contains pairs q × (told image q ≡ t) = of_map (told image) pairs t at in
+      subst (λ (u : Told). Less pair.key u.pair.key) found.2 (rising.0 found.0 found.1),
+  told_rising image pairs rising.1,
+)
+
+-- Sorted pairs.
+
+-- how many pairs have a key
+abbrev has_count : List ℕ → Told → ℕ
+has_count key t = cond (bytes_eq t.pair.key key) 1 0
+
+count_member : (key : List ℕ) (ts : List Told) (t : Told) → Contains ts t → bytes_eq t.pair.key key ≡ true → 1 ≤ sum_by (has_count key) ts
+count_member key [] t at own = absurd (no_member [] t refl at)
+count_member key (u ∷ ts) t at own =
+    let sum : sum_by (has_count key) (u ∷ ts) ≡ has_count key u + sum_by (has_count key) ts = sum_by-cons (has_count key) u ts in
+    elim (member_cases u ts t at) [
+      | inl same ↦ let one : has_count key u ≡ 1 = ap (λ b. cond b 1 0) (ap (λ (v : Told). bytes_eq v.pair.key key) same ∙ own) in omega arith
+      | inr later ↦ let some : 1 ≤ sum_by (has_count key) ts = count_member key ts t later own in omega arith
+    ]
+
+count_none : (key : List ℕ) (ts : List Told) → ((q : StoredPair) → Contains (stored ts) q → bytes_eq q.key key ≡ false) → sum_by (has_count key) ts ≡ 0
+count_none key [] other = refl
+count_none key (t ∷ ts) other =
+    let none : has_count key t ≡ 0 = ap (λ b. cond b 1 0) (other t.pair (first_member t.pair (stored ts))) in
+    sum_by-cons (has_count key) t ts ∙ (ap (λ n. n + sum_by (has_count key) ts) none ∙ (let rest : sum_by (has_count key) ts ≡ 0 = count_none key ts (λ q at. other q (later_member t.pair (stored ts) q at)) in omega arith))
+
+count_few : (key : List ℕ) (ts : List Told) → AreApart (stored ts) → sum_by (has_count key) ts ≤ 1
+count_few key [] apart = omega arith
+count_few key (t ∷ ts) apart =
+    let sum : sum_by (has_count key) (t ∷ ts) ≡ has_count key t + sum_by (has_count key) ts = sum_by-cons (has_count key) t ts in
+    elim (cases_Bool (bytes_eq t.pair.key key)) [
+      | inl own ↦
+          let one : has_count key t ≡ 1 = ap (λ b. cond b 1 0) own in
+          let none : sum_by (has_count key) ts ≡ 0 = count_none key ts (λ q at. same_key t.pair.key q.key key (apart.0 q at) own) in
+          omega arith
+      | inr other ↦
+          let none : has_count key t ≡ 0 = ap (λ b. cond b 1 0) other in
+          let few : sum_by (has_count key) ts ≤ 1 = count_few key ts apart.1 in
+          omega arith
+    ]
+
+-- none of the pairs behind the first of sorted ones is less
+first_low : (t : Told) (ts : List Told) (u : Told) → IsSorted told_cmp (t ∷ ts) → Contains ts u → is_lt (told_cmp u t) ≡ false
+first_low t ts u sorted at =
+    let far : is_lt (told_cmp (get_or (t ∷ ts) (suc at.0) u) (get_or (t ∷ ts) 0 u)) ≡ false =
+    sorted_far (λ (a b : Told). is_lt (told_cmp a b)) (ranks_by nat_list_cmp_total told_key) (t ∷ ts) sorted 0 (suc at.0) u (omega arith) (let below : at.0 < length ts = at.1 in omega arith) in
+    subst (λ (v : Told). is_lt (told_cmp v t) ≡ false) at.2 far
+
+rest_sorted : (t : Told) (ts : List Told) → IsSorted told_cmp (t ∷ ts) → IsSorted told_cmp ts
+rest_sorted t ts sorted = λ k d low high.
+    let more : suc k + 1 ≡ suc (k + 1) = omega arith in
+    subst (λ n. is_lt (told_cmp (get_or (t ∷ ts) n d) (get_or (t ∷ ts) (suc k) d)) ≡ false) more (sorted (suc k) d (omega arith) (omega arith))
+
+-- sorted pairs of which no two have one key rise
+sorted_rising : (ts : List Told) → IsSorted told_cmp ts → ((key : List ℕ) → sum_by (has_count key) ts ≤ 1) → IsRising told_key ts
+sorted_rising [] sorted few = tt
+sorted_rising (t ∷ ts) sorted few = (
+  λ u at.
+      elim (not_lt (slice_cmp nat_cmp u.pair.key t.pair.key) u.pair.key t.pair.key (slice_cmp-is u.pair.key t.pair.key) (first_low t ts u sorted at)) [
+        | inl same ↦ absurd (
+            let key : List ℕ = t.pair.key in
+            let sum : sum_by (has_count key) (t ∷ ts) ≡ has_count key t + sum_by (has_count key) ts = sum_by-cons (has_count key) t ts in
+            let one : has_count key t ≡ 1 = ap (λ b. cond b 1 0) (eq_self key) in
+            let some : 1 ≤ sum_by (has_count key) ts = count_member key ts u at (subst (λ xs. bytes_eq xs key ≡ true) (sym same) (eq_self key)) in
+            let most : sum_by (has_count key) (t ∷ ts) ≤ 1 = few key in
+            omega arith)
+        | inr above ↦ above
+      ],
+  sorted_rising ts (rest_sorted t ts sorted) (λ key.
+      let sum : sum_by (has_count key) (t ∷ ts) ≡ has_count key t + sum_by (has_count key) ts = sum_by-cons (has_count key) t ts in
+      let most : sum_by (has_count key) (t ∷ ts) ≤ 1 = few key in
+      omega arith),
+)
+
+-- the pairs of a table, sorted, are in the order of its list
+pub sorted_ranked : (image : List ℕ) (meta : HashMeta) (old new : List Told) → IsTable image → HasMetadata (file_of image) (HashFields meta) → contents_faults (file_of image) (HashFields meta) ≡ []
+    → old ≡ table_told image meta → IsPermutation old new → IsSorted told_cmp new → new ≡ ranked image meta
+sorted_ranked image meta old new table has none are moved sorted =
+    let pairs : List StoredPair = table_pairs (file_of image) meta in
+    let apart : AreApart pairs = table_apart image meta table has none in
+    let old_stored : stored old ≡ pairs = ap stored are ∙ table_stored image meta in
+    let old_told : old ≡ map (told image) pairs = are ∙ table_is_told image meta in
+    let few : (key : List ℕ) → sum_by (has_count key) new ≤ 1 = λ key.
+    let same : sum_by (has_count key) new ≡ sum_by (has_count key) old = sum_by-IsPermutation (has_count key) old new moved in
+    let most : sum_by (has_count key) old ≤ 1 = count_few key old (subst AreApart (sym old_stored) apart) in
+    omega arith in
+    one_rising told_key new (ranked image meta) (sorted_rising new sorted few) (told_rising image (by_key pairs) (by_key_rising pairs apart))
+    (λ t at.
+    let found : (q : StoredPair) × Contains pairs q × (told image q ≡ t) = of_map (told image) pairs t (subst (λ ts. Contains ts t) old_told (Contains-permutation new old t (IsPermutation-sym old new moved) at)) in
+    subst (Contains (ranked image meta)) found.2 (in_map (told image) (by_key pairs) found.0 (in_by_key pairs found.0 found.1)))
+    (λ t at.
+    let found : (q : StoredPair) × Contains (by_key pairs) q × (told image q ≡ t) = of_map (told image) (by_key pairs) t at in
+    Contains-permutation old new t moved (subst (λ ts. Contains ts t) (sym old_told) (subst (Contains (map (told image) pairs)) found.2 (in_map (told image) pairs found.0 (of_by_key pairs found.0 found.1)))))
+
+-- The list.
+
+-- the list of the pairs in order
+pub ranked_list : (image : List ℕ) (meta : HashMeta) (pairs : List Told) → pairs ≡ ranked image meta → flat_map listed_told pairs ≡ hash_list (file_of image) meta
+unfolding hash_list
+ranked_list image meta pairs are = ap (flat_map listed_told) are ∙ flat_map-map listed_told (told image) (by_key (table_pairs (file_of image) meta))
+
+-- A walk over the list.
+
+pub listed_on : (first : List (ListKey × List ℕ)) (key next : List ℕ) (values others : List (List ℕ)) (left rest : List Told) (t : Told) → IsListedOn first key values left → values ≡ []
+    → left ≡ t ∷ rest → entry_list next others ≡ listed_told t → IsListedOn first next others rest
+listed_on first key next values others left rest t on none more same = record {
+  same =
+      ap (λ entries. entries ++ flat_map listed_told rest) same
+      ∙ (sym (ap (λ vs. entry_list key vs ++ flat_map listed_told left) none ∙ ap (flat_map listed_told) more) ∙ on.same);
+}

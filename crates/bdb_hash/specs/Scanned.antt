@@ -1,0 +1,23 @@
+-- The list of a table as the code gives it.
+use Rattle.std.specs.Prelude.{◌≡◌, ℕ, ◌++◌, List, map}
+use Rattle.std.specs.List.{flat_map}
+use Rattle.bdb_overflow.specs.declared.datum.Datum.{Datum}
+use Rattle.bdb_overflow.specs.declared.datum.KeyView.{KeyView}
+use Rattle.bdb_overflow.specs.Datum.{datum_seen, key_view_seen}
+use Rattle.bdb_hash.specs.Told.{Told, entry_list, listed_told, told}
+use Rattle.bdb_model.specs.declared.metadata.HashMeta.{HashMeta}
+use Rattle.bdb_model.specs.Contents.{table_pairs}
+use Rattle.bdb_model.specs.File.{file_of}
+use Rattle.bdb_model.specs.Lists.{ListKey, by_key}
+
+-- a pair of a list
+abbrev pub entry_seen : (KeyView × Datum) → ListKey × List ℕ
+entry_seen entry = (key_view_seen entry.0, datum_seen entry.1)
+
+-- the pairs of a table in the order of their keys
+abbrev pub ranked : List ℕ → HashMeta → List Told
+ranked image meta = map (told image) (by_key (table_pairs (file_of image) meta))
+
+-- what is left of a key's data and of the pairs after it is what was left at first
+pub record IsListedOn (first : List (ListKey × List ℕ)) (key : List ℕ) (data' : List (List ℕ)) (left : List Told) : Type 0 where
+  pub same : entry_list key data' ++ flat_map listed_told left ≡ first

@@ -1,0 +1,33 @@
+ghost use Rattle.std.specs.Prelude.{◌≡◌, [], IfErr, OnOk};
+ghost use Rattle.bdb_graph.specs.Linked.{HasMetadata};
+ghost use Rattle.bdb_hash.specs.Notes.{IsContentsRefusal};
+ghost use Rattle.bdb_model.specs.ContentRows.{contents_faults};
+ghost use Rattle.bdb_model.specs.File.{file_of};
+ghost use Rattle.bdb_model.specs.Page.{HashFields};
+ghost use Rattle.bdb_model.specs.Verdict.{structure_faults};
+
+use crate::repeats::note_repeats;
+use crate::table::{note_table, table_pairs};
+use bdb_graph::Linked;
+use bdb_model::{CheckError, HashMeta};
+use std::alloc::Global;
+
+/// No row of contents holds for the table of this metadata. A refusal is the first fault: the least page,
+/// and there the least code; or want of memory. It takes memory for each pair of the table.
+pub fn check(alloc: Global, linked: &Linked<'_>, meta: &HashMeta) -> Result<(), CheckError>
+    requires meta { HasMetadata (file_of linked.now) (HashFields meta.now) }
+    requires stage { structure_faults (file_of linked.now) ≡ [] }
+    ensures accepted { OnOk result (contents_faults (file_of linked.now) (HashFields meta.now) ≡ []) }
+    ensures refusal { IfErr result (IsContentsRefusal (file_of linked.now) meta.now) }
+{
+    let least = note_table(linked, meta);
+    let pairs = match table_pairs(alloc, linked, meta) {
+        Ok(pairs) => pairs,
+        Err(_) => return Err(CheckError::Memory),
+    };
+    match note_repeats(alloc, least, &pairs) {
+        Ok(None) => Ok(()),
+        Ok(Some(fault)) => Err(CheckError::Fault(fault)),
+        Err(_) => Err(CheckError::Memory),
+    }
+}

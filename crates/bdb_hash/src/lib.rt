@@ -1,0 +1,27 @@
+//! What the buckets of a hash table hold: checked, listed and looked up.
+#![tactic(auto)]
+
+mod bucket;
+mod data;
+mod entries;
+mod faults;
+mod key;
+mod listing;
+mod lookup;
+mod pair;
+mod pairs;
+mod ranking;
+mod repeats;
+mod rows;
+mod table;
+mod tree;
+
+pub(crate) use bucket::{BucketPages, bucket_pages};
+pub use data::Data as Found;
+pub(crate) use data::Data;
+pub use faults::check;
+pub use listing::Scan;
+pub use lookup::find;
+pub(crate) use pair::Pair;
+pub(crate) use pairs::PagePairs;
+pub use ranking::scan;

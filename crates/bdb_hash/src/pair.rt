@@ -1,0 +1,196 @@
+ghost use Rattle.std.specs.Prelude.{◌≡◌, ◌+◌, ◌*◌, ◌/◌, ◌<◌, ◌≤◌, false, length};
+ghost use Rattle.bdb_overflow.specs.Datum.{FitsContent, datum_seen};
+ghost use Rattle.bdb_hash.specs.Told.{entry_list, has_key, listed_told, told};
+ghost use Rattle.bdb_hash.specs.Views.{IsTable};
+ghost use Rattle.bdb_layout.specs.Seen.{hash_content_seen};
+ghost use Rattle.bdb_model.specs.Chains.{value_of};
+ghost use Rattle.bdb_model.specs.ContentRows.{is_duplicate, is_wrong_set};
+ghost use Rattle.bdb_model.specs.Contents.{data_of, pair_at};
+ghost use Rattle.bdb_model.specs.File.{file_of, page_at};
+ghost use Rattle.bdb_model.specs.Page.{Hash};
+
+use crate::Data;
+use crate::key::is_same;
+use crate::rows::is_wrong_root;
+use bdb_form::HashView;
+use bdb_graph::Forest;
+use bdb_layout::HashItem;
+use bdb_overflow::{Datum, compare_datum, hash_datum};
+use std::cmp::Ordering;
+use std::marker::Model;
+
+/// A pair of a hash page, with its key.
+#[derive(Drop)]
+pub(crate) struct Pair<'a> {
+    forest: Forest<'a>,
+    page: u32,
+    key: Datum<'a>,
+    item: HashItem<'a>,
+}
+
+impl<'a> Model for Pair<'a> {
+    ghost use Rattle.std.specs.Prelude.{true, false};
+    ghost use Rattle.bdb_overflow.specs.Datum.{datum_seen};
+    ghost use Rattle.bdb_hash.specs.Told.{Told, told};
+    ghost use Rattle.bdb_hash.specs.Views.{IsPair};
+    ghost use Rattle.bdb_layout.specs.Seen.{hash_content_seen};
+
+    ghost Value = { Told };
+
+    ghost view = { λ it. told it.forest (record { page = it.page; key = datum_seen it.key; data_item = hash_content_seen it.item; live = true; shares = false }) };
+
+    ghost invariant = { λ it. IsPair it.forest (hash_content_seen it.item) };
+}
+
+impl<'a> PartialEq for Pair<'a> {
+    ghost use Rattle.bdb_hash.specs.Told.{Told};
+    ghost use Rattle.std.specs.Cmp;
+    ghost use Rattle.std.specs.Cmp.{on_per};
+    ghost use Rattle.std.specs.Cmp.Lexicographic.{nat_list_eq_equiv};
+    ghost use Rattle.std.specs.Str.{bytes_eq};
+
+    ghost eq = { λ x y. bytes_eq x.pair.key y.pair.key };
+
+    ghost laws = { on_per (λ (it : Told). it.pair.key) (Cmp.partial_equiv_from_equiv nat_list_eq_equiv) };
+
+    fn eq(&self, other: &Self) -> bool {
+        is_same(&self.key, &other.key)
+    }
+}
+
+impl<'a> Eq for Pair<'a> {
+    ghost use Rattle.bdb_hash.specs.Told.{Told};
+    ghost use Rattle.std.specs.Cmp.{on_equiv};
+    ghost use Rattle.std.specs.Cmp.Lexicographic.{nat_list_eq_equiv};
+
+    ghost laws = { on_equiv (λ (it : Told). it.pair.key) nat_list_eq_equiv };
+}
+
+impl<'a> PartialOrd for Pair<'a> {
+    ghost use Rattle.bdb_hash.specs.Told.{Told, told_cmp};
+    ghost use Rattle.std.specs.Cmp.{on_po};
+    ghost use Rattle.std.specs.Cmp.Lexicographic.{texts_po};
+    ghost use Rattle.std.specs.Prelude.{Some};
+
+    ghost partial_cmp = { λ x y. Some (told_cmp x y) };
+
+    ghost laws = { on_po (λ (it : Told). it.pair.key) texts_po };
+
+    fn partial_cmp(&self, other: &Self) -> Option<Ordering> {
+        Some(self.cmp(other))
+    }
+}
+
+/// Pairs are compared by their keys alone.
+impl<'a> Ord for Pair<'a> {
+    ghost use Rattle.bdb_hash.specs.Told.{Told, told_cmp};
+    ghost use Rattle.std.specs.Cmp.{on_total};
+    ghost use Rattle.std.specs.Cmp.Lexicographic.{nat_list_cmp_total, texts_ties};
+    ghost use Rattle.std.proofs.Common.{refl};
+
+    ghost cmp = { told_cmp };
+
+    ghost total = { on_total (λ (it : Told). it.pair.key) nat_list_cmp_total };
+
+    ghost matches_partial_cmp = { λ x y. refl };
+
+    ghost matches_eq = { λ x y. texts_ties x.pair.key y.pair.key };
+
+    #[tactic(auto, using(crate::proofs::KeyLemmas::is_order))]
+    fn cmp(&self, other: &Self) -> Ordering {
+        compare_datum(&self.key, &other.key)
+    }
+}
+
+/// The value of a key, which is never a set.
+#[tactic(auto, using(crate::proofs::PairLemmas::no_single, crate::proofs::PairLemmas::single))]
+fn key_of<'a>(forest: &Forest<'a>, item: &HashItem<'a>) -> Datum<'a>
+    requires { FitsContent (file_of forest.now) (hash_content_seen item.now) }
+    ensures { datum_seen result ≡ value_of (file_of forest.now) (hash_content_seen item.now) }
+{
+    match hash_datum(forest, item) {
+        Some(key) => key,
+        None => Datum::Inline(&[]),
+    }
+}
+
+impl<'a> Pair<'a> {
+    /// A pair of a hash page.
+    #[tactic(auto, using(crate::proofs::PairLemmas::item_fits, crate::proofs::PairLemmas::item_root, crate::proofs::PairLemmas::pair_is))]
+    pub(crate) fn read(forest: &Forest<'a>, page: u32, view: &HashView<'a>, i: u16) -> Pair<'a>
+        requires table { IsTable forest.now }
+        requires inside { page ≤ (file_of forest.now).last }
+        requires shows { page_at (file_of forest.now) page ≡ Hash view.now }
+        requires there { 2 * i + 1 < length view.now.items }
+        ensures { result ≡ told forest.now (pair_at (file_of forest.now) page view.now (λ n. false) i) }
+    {
+        let key = key_of(forest, &view.key(i));
+        Pair {
+            forest: forest.again(),
+            page,
+            key,
+            item: view.value(i),
+        }
+    }
+
+    /// The page that it stands on.
+    pub(crate) fn page(&self) -> u32
+        ensures { result ≡ self.now.pair.page }
+    {
+        self.page
+    }
+
+    /// Its key.
+    pub(crate) fn key(&self) -> &Datum<'a>
+        ensures { datum_seen result.now ≡ self.now.pair.key }
+    {
+        &self.key
+    }
+}
+
+impl<'a> Pair<'a> {
+    /// Its data.
+    pub(crate) fn into_data(self) -> Data<'a>
+        ensures { result ≡ data_of (file_of self.entry.image) self.entry.pair.data_item }
+    {
+        let forest = self.forest.again();
+        let item = self.item;
+        Data::of_item(&forest, item)
+    }
+}
+
+impl<'a> Pair<'a> {
+    /// Whether it has this key.
+    pub(crate) fn has_key(&self, key: &[u8]) -> bool
+        ensures { result ≡ has_key key.now self.now }
+    {
+        is_same(&self.key, &Datum::Inline(key))
+    }
+
+    /// Its key, and its data.
+    pub(crate) fn into_entry(self) -> (Datum<'a>, Data<'a>)
+        ensures { entry_list (datum_seen result.0) result.1 ≡ listed_told self.entry }
+    {
+        let forest = self.forest.again();
+        let key = self.key;
+        let item = self.item;
+        (key, Data::of_item(&forest, item))
+    }
+
+    /// Whether its data are a set.
+    pub(crate) fn is_duplicate(&self) -> bool
+        ensures { result ≡ is_duplicate self.now.pair }
+    {
+        matches!(self.item, HashItem::Set(_) | HashItem::OffPage { .. })
+    }
+
+    /// Whether its data are a set off the page that isn't of the kind that the table has.
+    pub(crate) fn is_wrong_set(&self, sorted: bool) -> bool
+        ensures { result ≡ is_wrong_set (file_of self.now.image) sorted self.now.pair.data_item }
+    {
+        match self.item {
+            HashItem::OffPage { root } => is_wrong_root(&self.forest.page(root), sorted),
+            _ => false,
+        }
+    }
+}

@@ -1,0 +1,134 @@
+ghost use Rattle.std.specs.Prelude.{◌≡◌, Some};
+ghost use Rattle.bdb_form.specs.Seen.{page_seen};
+ghost use Rattle.bdb_hash.specs.Notes.{earlier, is_before, pair_fault, pair_rows};
+ghost use Rattle.bdb_overflow.specs.Datum.{datum_seen};
+ghost use Rattle.bdb_model.specs.ContentRows.{ascends, bucket_of_key, hash_sorted, wrong_set_types};
+ghost use Rattle.bdb_model.specs.File.{file_of, type_in};
+ghost use Rattle.bdb_model.specs.Numbers.{has_bit};
+ghost use Rattle.bdb_model.specs.References.{has_type};
+ghost use Rattle.bdb_model.specs.Table.{first_row};
+
+use crate::key::{hash_of, is_less};
+use crate::{Data, Pair};
+use bdb_form::PageView;
+use bdb_layout::bucket_of;
+use bdb_model::{Fault, HashMeta};
+use bdb_overflow::Datum;
+
+/// Whether a table may hold several data of a key.
+pub(crate) fn has_duplicates(meta: &HashMeta) -> bool
+    ensures { result ≡ has_bit meta.now.flags 0x05 }
+{
+    meta.flags & 0x05 != 0
+}
+
+/// Whether the data of a key ascend in this table.
+pub(crate) fn is_sorted(meta: &HashMeta) -> bool
+    ensures { result ≡ hash_sorted meta.now.flags }
+{
+    meta.flags & 0x04 != 0
+}
+
+/// Whether data ascend strictly.
+pub(crate) fn ascends(values: Data<'_>) -> bool
+    ensures { result ≡ ascends values.entry }
+{
+    let mut values = values;
+    let mut last = match values.next() {
+        Some(first) => first,
+        None => return true,
+    };
+    for next in values {
+        if !is_less(&last, &next) {
+            return false;
+        }
+        last = next;
+    }
+    true
+}
+
+/// The bucket of a key.
+pub(crate) fn bucket_of_key(meta: &HashMeta, key: &Datum<'_>) -> u32
+    ensures { result ≡ bucket_of_key meta.now (datum_seen key.now) }
+{
+    bucket_of(hash_of(key), meta.max_bucket, meta.high_mask, meta.low_mask)
+}
+
+/// Whether a set whose root is this page isn't of the kind that the table has.
+pub(crate) fn is_wrong_root(view: &PageView<'_>, sorted: bool) -> bool
+    ensures { result ≡ has_type (wrong_set_types sorted) (type_in (page_seen view.now)) }
+{
+    match view {
+        PageView::Hash(page) => is_wrong_type(page.header().page_type, sorted),
+        PageView::RecnoInternal(_) | PageView::RecnoLeaf(_) => sorted,
+        PageView::Internal(_) | PageView::DupLeaf(_) => !sorted,
+        PageView::Zero(_)
+        | PageView::Free(_)
+        | PageView::Meta(_)
+        | PageView::Leaf(_)
+        | PageView::Overflow(_)
+        | PageView::Queue(_) => false,
+    }
+}
+
+fn is_wrong_type(page_type: u8, sorted: bool) -> bool
+    ensures { result ≡ has_type (wrong_set_types sorted) (Some page_type) }
+{
+    if sorted {
+        page_type == 4 || page_type == 6
+    } else {
+        page_type == 3 || page_type == 12
+    }
+}
+
+/// The code of the first row that holds for a pair by itself, in this bucket.
+fn pair_code(pair: Pair<'_>, meta: &HashMeta, b: u32) -> Option<u8>
+    ensures { result ≡ first_row (pair_rows (file_of pair.entry.image) meta.now b pair.entry.pair) }
+{
+    if !has_duplicates(meta) && pair.is_duplicate() {
+        return Some(1);
+    }
+    if pair.is_wrong_set(is_sorted(meta)) {
+        return Some(2);
+    }
+    let is_elsewhere = bucket_of_key(meta, pair.key()) != b;
+    if is_sorted(meta) && !ascends(pair.into_data()) {
+        return Some(5);
+    }
+    if is_elsewhere {
+        return Some(8);
+    }
+    None
+}
+
+/// The first fault of a pair by itself, in this bucket.
+pub(crate) fn pair_fault(pair: Pair<'_>, meta: &HashMeta, b: u32) -> Option<Fault>
+    ensures { result ≡ pair_fault (file_of pair.entry.image) meta.now b pair.entry.pair }
+{
+    let page = pair.page();
+    match pair_code(pair, meta, b) {
+        Some(code) => Some(Fault {
+            stage: 8,
+            page,
+            code,
+        }),
+        None => None,
+    }
+}
+
+fn is_before(a: &Fault, b: &Fault) -> bool
+    ensures { result ≡ is_before a.now b.now }
+{
+    a.page < b.page || (a.page == b.page && a.code < b.code)
+}
+
+/// The first of two faults, where there are any.
+pub(crate) fn earlier(a: Option<Fault>, b: Option<Fault>) -> Option<Fault>
+    ensures { result ≡ earlier a b }
+{
+    match (a, b) {
+        (None, b) => b,
+        (Some(a), None) => Some(a),
+        (Some(a), Some(b)) => Some(if is_before(&b, &a) { b } else { a }),
+    }
+}

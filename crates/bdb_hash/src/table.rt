@@ -1,0 +1,107 @@
+ghost use Rattle.std.specs.Prelude.{◌≡◌, ◌+◌, ◌++◌, [], None, OnOk, IfOk};
+ghost use Rattle.std.specs.List.{fold, range_with_len};
+ghost use Rattle.bdb_graph.specs.Linked.{HasMetadata};
+ghost use Rattle.bdb_hash.specs.Notes.{note_bucket, note_told};
+ghost use Rattle.bdb_hash.specs.Told.{joined_pages, table_told};
+ghost use Rattle.bdb_hash.specs.Views.{IsTable};
+ghost use Rattle.bdb_model.specs.File.{file_of};
+ghost use Rattle.bdb_model.specs.Page.{HashFields};
+ghost use Rattle.bdb_model.specs.Verdict.{structure_faults};
+
+use crate::rows::{earlier, pair_fault};
+use crate::{BucketPages, PagePairs, Pair, bucket_pages};
+use bdb_graph::Linked;
+use bdb_model::{Fault, HashMeta};
+use std::alloc::{AllocError, Global};
+
+/// How many buckets a table has.
+#[tactic(auto, using(bdb_graph::proofs::LinkedLemmas::bucket_few, crate::proofs::TableLemmas::table_is))]
+pub(crate) fn buckets(linked: &Linked<'_>, meta: &HashMeta) -> u32
+    requires meta { HasMetadata (file_of linked.now) (HashFields meta.now) }
+    requires stage { structure_faults (file_of linked.now) ≡ [] }
+    ensures count { result ≡ meta.now.max_bucket + 1 }
+    ensures table { IsTable linked.now }
+{
+    prove!(meta.max_bucket <= linked.head().last);
+    meta.max_bucket + 1
+}
+
+/// Adds the pairs of a page.
+fn push_page<'a>(pairs: &mut Vec<Pair<'a>>, page: PagePairs<'a>) -> Result<(), AllocError>
+    ensures { OnOk result (pairs.new.items ≡ pairs.old.items ++ page.entry) }
+{
+    for pair in page {
+        pairs.push(pair)?;
+    }
+    Ok(())
+}
+
+/// Adds the pairs of the pages of a bucket.
+fn push_bucket<'a>(pairs: &mut Vec<Pair<'a>>, pages: BucketPages<'a>) -> Result<(), AllocError>
+    ensures { OnOk result (pairs.new.items ≡ pairs.old.items ++ joined_pages pages.entry) }
+{
+    for page in pages {
+        push_page(pairs, page)?;
+    }
+    Ok(())
+}
+
+/// All pairs of a table, in the order of buckets, chains and indexes. An error is want of memory.
+#[tactic(auto, using(crate::proofs::TableLemmas::read_more))]
+pub(crate) fn table_pairs<'a>(
+    alloc: Global,
+    linked: &Linked<'a>,
+    meta: &HashMeta,
+) -> Result<Vec<Pair<'a>>, AllocError>
+    requires meta { HasMetadata (file_of linked.now) (HashFields meta.now) }
+    requires stage { structure_faults (file_of linked.now) ≡ [] }
+    ensures { IfOk result (λ pairs. pairs.items ≡ table_told linked.now meta.now) }
+{
+    let mut pairs = Vec::new(alloc);
+    for b in 0..buckets(linked, meta) {
+        push_bucket(&mut pairs, bucket_pages(linked, meta, b))?;
+    }
+    Ok(pairs)
+}
+
+/// The first of a fault and of those of the pairs of a page by themselves.
+fn note_page(least: Option<Fault>, page: PagePairs<'_>, meta: &HashMeta, b: u32) -> Option<Fault>
+    ensures { result ≡ fold (note_told meta.now b) least page.entry }
+{
+    let mut least = least;
+    for pair in page {
+        least = earlier(least, pair_fault(pair, meta, b));
+    }
+    least
+}
+
+/// The first of a fault and of those of the pairs of a bucket by themselves.
+fn note_bucket(
+    least: Option<Fault>,
+    pages: BucketPages<'_>,
+    meta: &HashMeta,
+    b: u32,
+) -> Option<Fault>
+    ensures { result ≡ fold (note_told meta.now b) least (joined_pages pages.entry) }
+{
+    let mut least = least;
+    for page in pages {
+        least = note_page(least, page, meta, b);
+    }
+    least
+}
+
+/// The first fault of the pairs of a table by themselves, if there is one.
+#[tactic(auto, using(crate::proofs::TableLemmas::noted_more))]
+pub(crate) fn note_table(linked: &Linked<'_>, meta: &HashMeta) -> Option<Fault>
+    requires meta { HasMetadata (file_of linked.now) (HashFields meta.now) }
+    requires stage { structure_faults (file_of linked.now) ≡ [] }
+    ensures least { result ≡ fold (note_bucket linked.now meta.now) None (range_with_len 0 (meta.now.max_bucket + 1)) }
+    ensures table { IsTable linked.now }
+{
+    let mut least = None;
+    for b in 0..buckets(linked, meta) {
+        least = note_bucket(least, bucket_pages(linked, meta, b), meta, b);
+    }
+    least
+}

@@ -1,0 +1,138 @@
+-- Chains of a wrong length, item by item, and the faults that they are.
+use Rattle.std.proofs.Common.{◌≡◌, ℕ, zero, suc, ◌+◌, ◌-◌, ◌*◌, ◌%◌, ◌<◌, ◌≤◌, Bool, true, false, cond, List, [], ◌∷◌, length, get_or, Some, None, arith, refl, sym, ◌∙◌, ap, inl, inr, zero-add}
+use Rattle.std.specs.Prelude.{◌||◌, nat_le, slice_get}
+use Rattle.std.specs.List.{flat_map, list_any, range_with_len}
+use Rattle.std.proofs.lemmas.Bool.{cases_order, le-leb, or_from}
+use Rattle.std.proofs.lemmas.List.Folds.{list_any-append, list_any_at}
+use Rattle.std.proofs.lemmas.List.FromFn.{get_or-range_with_len, length-range_with_len}
+use Rattle.bdb_form.specs.Formed.{shares_at}
+use Rattle.bdb_graph.specs.Slots.{no_internal_item}
+use Rattle.bdb_graph.specs.Linking.{first_fault}
+use Rattle.bdb_graph.proofs.FitLemmas.{NoneHold, first_of_stage}
+use Rattle.bdb_model.specs.Chains.{chain_rows, content_chains, is_wrong_length, leaf_chains}
+use Rattle.bdb_model.specs.File.{File, page_at}
+use Rattle.bdb_model.specs.Page.{DupLeaf, Hash, Internal, Item, InternalItem, Leaf, Listed, RecnoLeaf}
+use Rattle.bdb_model.specs.References.{is_shared_key, no_item}
+use Rattle.bdb_model.specs.Table.{first_row}
+use Rattle.bdb_model.specs.Verdict.{chain_faults, holding}
+use Rattle.bdb_model.proofs.MemberLemmas.{none_pass, of_range}
+use Rattle.bdb_model.proofs.VerdictLemmas.{no_faults, none_holds, none_is_first_row}
+use Rattle.bdb_overflow.specs.Lengths.{has_wrong, is_wrong, is_wrong_entry, is_wrong_item, is_wrong_key}
+use Rattle.bdb_overflow.proofs.ContentLemmas.{got}
+
+-- Items.
+
+pub item_is_wrong : (file : File) (page : Listed Item) (i : ℕ) (item : Item) → slice_get page.items i ≡ Some item → is_wrong_item file page i ≡ is_wrong file item.content
+item_is_wrong file page i item at = ap (λ (it : Item). is_wrong file it.content) (got page.items i item no_item at).1
+
+pub key_is_wrong : (file : File) (page : Listed InternalItem) (i : ℕ) (item : InternalItem) → slice_get page.items i ≡ Some item → is_wrong_key file page i ≡ is_wrong file item.key
+key_is_wrong file page i item at = ap (λ (it : InternalItem). is_wrong file it.key) (got page.items i item no_internal_item at).1
+
+-- a pair that has the key of the pair before it, by the entries of the index
+shared_by : (page : Listed Item) (i : ℕ) → is_shared_key page.offsets (2 * i) ≡ shares_at page i
+shared_by page zero = refl
+shared_by page (suc i) =
+    let even : (2 * suc i) % 2 ≡ 0 = omega arith in
+    let above : nat_le 2 (2 * suc i) ≡ true = le-leb 2 (2 * suc i) (omega arith) in
+    let before : 2 * suc i - 2 ≡ 2 * i = omega arith in
+    rw (even, above, before) refl
+
+-- a key that isn't shared
+pub own_is_wrong : (file : File) (page : Listed Item) (i : ℕ) (item : Item) → slice_get page.items (2 * i) ≡ Some item → shares_at page i ≡ false
+    → is_wrong_entry file page (2 * i) ≡ is_wrong file item.content
+own_is_wrong file page i item at own = rw (shared_by page i, own) (item_is_wrong file page (2 * i) item at)
+
+pub shared_is_right : (file : File) (page : Listed Item) (i : ℕ) → shares_at page i ≡ true → is_wrong_entry file page (2 * i) ≡ false
+shared_is_right file page i shared = rw (shared_by page i, shared) refl
+
+odd_is_own : (offsets : List ℕ) (i : ℕ) → is_shared_key offsets (2 * i + 1) ≡ false
+odd_is_own offsets i = let odd : (2 * i + 1) % 2 ≡ 1 = omega arith in rw odd refl
+
+pub data_is_wrong : (file : File) (page : Listed Item) (i : ℕ) (item : Item) → slice_get page.items (2 * i + 1) ≡ Some item → is_wrong_entry file page (2 * i + 1) ≡ is_wrong file item.content
+data_is_wrong file page i item at = rw (odd_is_own page.offsets i) (item_is_wrong file page (2 * i + 1) item at)
+
+-- Pages.
+
+-- a test fails below a number
+abbrev pub NoneBelow : (ℕ → Bool) → ℕ → Type 0
+NoneBelow test n = (k : ℕ) → k < n → test k ≡ false
+
+pub pair_more : (test : ℕ → Bool) (i : ℕ) → NoneBelow test (2 * i) → test (2 * i) ≡ false → test (2 * i + 1) ≡ false → NoneBelow test (2 * (i + 1))
+pair_more test i none key value k below =
+    elim (cases_order k (2 * i)) [
+      | inl same ↦ ap test same ∙ key
+      | inr (inl lesser) ↦ none k lesser
+      | inr (inr above) ↦ let last : k ≡ 2 * i + 1 = omega arith in ap test last ∙ value
+    ]
+
+any_of_all : {X C : Type 0} (wrong : C → Bool) (f : X → List C) (xs : List X) → list_any wrong (flat_map f xs) ≡ list_any (λ x. list_any wrong (f x)) xs
+any_of_all wrong f [] = refl
+any_of_all wrong f (x ∷ xs) = list_any-append wrong (f x) (flat_map f xs) ∙ ap (λ b. list_any wrong (f x) || b) (any_of_all wrong f xs)
+
+none_of_list : {X : Type 0} (test : X → Bool) (d : X) (xs : List X) → ((k : ℕ) → k < length xs → test (get_or xs k d) ≡ false) → list_any test xs ≡ false
+none_of_list test d [] none = refl
+none_of_list test d (x ∷ xs) none = or_from (test x) (list_any test xs) (none 0 (omega arith)) (none_of_list test d xs (λ k lt. none (suc k) (omega arith)))
+
+-- a chain of a wrong length among those of items
+some_of : {X : Type 0} (file : File) (f : X → List (ℕ × ℕ)) (d : X) (xs : List X) (i : ℕ) → i < length xs → list_any (is_wrong_length file) (f (get_or xs i d)) ≡ true
+    → list_any (is_wrong_length file) (flat_map f xs) ≡ true
+some_of file f d xs i there is = any_of_all (is_wrong_length file) f xs ∙ list_any_at (λ x. list_any (is_wrong_length file) (f x)) xs i d there is
+
+none_of : {X : Type 0} (file : File) (f : X → List (ℕ × ℕ)) (d : X) (xs : List X) (n : ℕ) → NoneBelow (λ k. list_any (is_wrong_length file) (f (get_or xs k d))) n → length xs ≤ n
+    → list_any (is_wrong_length file) (flat_map f xs) ≡ false
+none_of file f d xs n none all =
+    any_of_all (is_wrong_length file) f xs ∙ none_of_list (λ x. list_any (is_wrong_length file) (f x)) d xs (λ k lt. none k (omega arith))
+
+pub records_some : (file : File) (page : Listed Item) (i : ℕ) → i < length page.items → is_wrong_item file page i ≡ true → has_wrong file (RecnoLeaf page) ≡ true
+records_some file page i there is = some_of file (λ (item : Item). content_chains item.content) no_item page.items i there is
+
+pub records_none : (file : File) (page : Listed Item) (n : ℕ) → NoneBelow (is_wrong_item file page) n → length page.items ≤ n → has_wrong file (RecnoLeaf page) ≡ false
+records_none file page n none all = none_of file (λ (item : Item). content_chains item.content) no_item page.items n none all
+
+pub duplicates_some : (file : File) (page : Listed Item) (i : ℕ) → i < length page.items → is_wrong_item file page i ≡ true → has_wrong file (DupLeaf page) ≡ true
+duplicates_some file page i there is = some_of file (λ (item : Item). content_chains item.content) no_item page.items i there is
+
+pub duplicates_none : (file : File) (page : Listed Item) (n : ℕ) → NoneBelow (is_wrong_item file page) n → length page.items ≤ n → has_wrong file (DupLeaf page) ≡ false
+duplicates_none file page n none all = none_of file (λ (item : Item). content_chains item.content) no_item page.items n none all
+
+pub hash_some : (file : File) (page : Listed Item) (i : ℕ) → i < length page.items → is_wrong_item file page i ≡ true → has_wrong file (Hash page) ≡ true
+hash_some file page i there is = some_of file (λ (item : Item). content_chains item.content) no_item page.items i there is
+
+pub hash_none : (file : File) (page : Listed Item) (n : ℕ) → NoneBelow (is_wrong_item file page) n → length page.items ≤ n → has_wrong file (Hash page) ≡ false
+hash_none file page n none all = none_of file (λ (item : Item). content_chains item.content) no_item page.items n none all
+
+pub keys_some : (file : File) (page : Listed InternalItem) (i : ℕ) → i < length page.items → is_wrong_key file page i ≡ true → has_wrong file (Internal page) ≡ true
+keys_some file page i there is = some_of file (λ (item : InternalItem). content_chains item.key) no_internal_item page.items i there is
+
+pub keys_none : (file : File) (page : Listed InternalItem) (n : ℕ) → NoneBelow (is_wrong_key file page) n → length page.items ≤ n → has_wrong file (Internal page) ≡ false
+keys_none file page n none all = none_of file (λ (item : InternalItem). content_chains item.key) no_internal_item page.items n none all
+
+pub leaf_some : (file : File) (page : Listed Item) (i : ℕ) → i < length page.items → is_wrong_entry file page i ≡ true → has_wrong file (Leaf page) ≡ true
+leaf_some file page i there is =
+    let indices : List ℕ = range_with_len 0 (length page.items) in
+    any_of_all (is_wrong_length file) (leaf_chains page) indices
+    ∙ list_any_at (is_wrong_entry file page) indices i 0 (omega (arith, length-range_with_len 0 (length page.items)))
+    (ap (is_wrong_entry file page) (get_or-range_with_len 0 (length page.items) i 0 there ∙ zero-add i) ∙ is)
+
+pub leaf_none : (file : File) (page : Listed Item) (n : ℕ) → NoneBelow (is_wrong_entry file page) n → length page.items ≤ n → has_wrong file (Leaf page) ≡ false
+leaf_none file page n none all =
+    let indices : List ℕ = range_with_len 0 (length page.items) in
+    any_of_all (is_wrong_length file) (leaf_chains page) indices
+    ∙ none_pass (is_wrong_entry file page) indices (λ k at. let inside = of_range 0 (length page.items) k at in none k (omega (arith, inside.1)))
+
+-- The stage.
+
+pub no_row : (file : File) (p : ℕ) → has_wrong file (page_at file p) ≡ false → None ≡ first_row (chain_rows file p)
+no_row file p right = sym (ap (λ b. cond b (Some 1) None) right)
+
+-- a page with a wrong length, where none before it has one
+pub chains_first : (file : File) (page : ℕ) → page ≤ file.last → NoneHold (chain_rows file) 0 page → has_wrong file (page_at file page) ≡ true
+    → first_fault (chain_faults file) ≡ Some (record { stage = 6; page = page; code = 1 })
+unfolding chain_faults
+chains_first file page low none wrong =
+    sym (first_of_stage 6 0 (file.last + 1) page 1 (chain_rows file) (omega arith) (omega arith) none (sym (ap (λ b. cond b (Some 1) None) wrong)))
+
+pub chains_none : (file : File) (n : ℕ) → file.last < n → NoneHold (chain_rows file) 0 n → chain_faults file ≡ []
+unfolding chain_faults
+chains_none file n all none =
+    no_faults 6 0 (file.last + 1) (λ p. holding (chain_rows file p)) (λ p low high. none_holds (chain_rows file p) (none_is_first_row (chain_rows file p) (sym (none p low (omega arith)))))

@@ -1,0 +1,5 @@
+pub mod ContentLemmas
+pub mod LengthLemmas
+pub mod LinkedLemmas
+pub mod RunLemmas
+pub mod WholeLemmas

@@ -1,0 +1,4 @@
+pub mod Datum
+pub mod Lengths
+pub mod Runs
+pub mod Whole

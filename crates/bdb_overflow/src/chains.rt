@@ -1,0 +1,27 @@
+ghost use Rattle.std.specs.Prelude.{◌≡◌, ◌≤◌, length};
+ghost use Rattle.bdb_graph.specs.Linked.{FitsChain};
+ghost use Rattle.bdb_model.specs.Chains.{pieces_of};
+ghost use Rattle.bdb_model.specs.File.{file_of};
+
+use crate::{Pieces, pieces_at};
+use bdb_graph::{Chain, Forest, Linked, Ref};
+
+/// The pieces of the chain with this head.
+#[tactic(auto, using(crate::proofs::LinkedLemmas::legal_size, crate::proofs::LinkedLemmas::linked_whole, crate::proofs::LinkedLemmas::linked_pieces, crate::proofs::LinkedLemmas::count_is))]
+pub fn chain_pieces<'a>(forest: &Forest<'a>, head: u32) -> Pieces<'a>
+    requires { FitsChain (file_of forest.now) head }
+    ensures pieces { result ≡ pieces_of (file_of forest.now) head }
+    ensures few { length result ≤ (file_of forest.now).count }
+{
+    let file = forest.head();
+    pieces_at(forest.image(), file.order, file.page_size, head)
+}
+
+/// The pieces of a chain of a linked image, in order, one for each of its pages.
+pub fn pieces<'a>(linked: &Linked<'a>, r: Ref<Chain>) -> Pieces<'a>
+    requires { FitsChain (file_of linked.now) r }
+    ensures pieces { result ≡ pieces_of (file_of linked.now) r }
+    ensures few { length result ≤ (file_of linked.now).count }
+{
+    chain_pieces(&linked.forest(), r.number())
+}

@@ -1,0 +1,65 @@
+ghost use Rattle.std.specs.Prelude.{◌≡◌, ◌++◌, IfOk, OnOk, length};
+ghost use Rattle.bdb_model.specs.Chains.{joined};
+ghost use Rattle.bdb_overflow.specs.Datum.{datum_seen};
+
+use crate::Pieces;
+use bdb_model::Bytes;
+use std::alloc::{AllocError, Global};
+
+/// A value: bytes of a page, or the pieces of its chain.
+#[derive(Drop)]
+pub enum Datum<'a> {
+    Inline(&'a [u8]),
+    Chained(Pieces<'a>),
+}
+
+/// A key: a value, or the number of a record.
+#[derive(Drop)]
+pub enum KeyView<'a> {
+    Bytes(Datum<'a>),
+    Number(u32),
+}
+
+impl<'a> Datum<'a> {
+    /// The same value once more.
+    pub fn again(&self) -> Datum<'a>
+        ensures { datum_seen result ≡ datum_seen self.now }
+    {
+        match self {
+            Datum::Inline(bytes) => Datum::Inline(bytes),
+            Datum::Chained(pieces) => Datum::Chained(pieces.again()),
+        }
+    }
+
+    /// How many bytes the value has.
+    pub fn len(&self) -> u64
+        ensures { result ≡ length (datum_seen self.now) }
+    {
+        match self {
+            Datum::Inline(bytes) => bytes.len() as u64,
+            Datum::Chained(pieces) => pieces.length(),
+        }
+    }
+
+    /// The bytes of the value in one list of their own.
+    pub fn copy(&self, alloc: Global) -> Result<Bytes, AllocError>
+        ensures { IfOk result (λ bytes. bytes ≡ datum_seen self.now) }
+    {
+        let mut copy = Bytes::new(alloc);
+        match self {
+            Datum::Inline(bytes) => copy.push_all(bytes)?,
+            Datum::Chained(pieces) => push_pieces(&mut copy, pieces.again())?,
+        }
+        Ok(copy)
+    }
+}
+
+/// Adds the bytes of pieces at the end.
+fn push_pieces(bytes: &mut Bytes, pieces: Pieces<'_>) -> Result<(), AllocError>
+    ensures { OnOk result (bytes.new ≡ bytes.old ++ joined pieces.entry) }
+{
+    for piece in pieces {
+        bytes.push_all(piece)?;
+    }
+    Ok(())
+}

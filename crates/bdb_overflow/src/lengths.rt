@@ -1,0 +1,268 @@
+ghost use Rattle.std.specs.Prelude.{◌≡◌, ◌+◌, ◌*◌, ◌<◌, ◌≤◌, [], Some, IfErr, OnOk, length};
+ghost use Rattle.bdb_graph.specs.Linked.{FitsChain, IsForest};
+ghost use Rattle.bdb_graph.specs.Linking.{first_fault};
+ghost use Rattle.bdb_layout.specs.Seen.{hash_content_seen, key_seen, leaf_item_seen};
+ghost use Rattle.bdb_model.specs.Chains.{is_wrong_length};
+ghost use Rattle.bdb_model.specs.File.{file_of, page_at};
+ghost use Rattle.bdb_model.specs.Page.{DupLeaf, Hash, Internal, Leaf, RecnoLeaf};
+ghost use Rattle.bdb_model.specs.Verdict.{chain_faults};
+ghost use Rattle.bdb_overflow.specs.Datum.{FitsContent};
+ghost use Rattle.bdb_overflow.specs.Lengths.{has_wrong, is_wrong, is_wrong_entry, is_wrong_item, is_wrong_key};
+
+use crate::chain_pieces;
+use bdb_form::{DupLeafView, HashView, InternalView, LeafView, PageView, RecnoLeafView};
+use bdb_graph::{Forest, Linked};
+use bdb_layout::{HashItem, InternalKey, LeafItem};
+use bdb_model::Fault;
+
+/// Whether the pages of a chain don't add up to a length.
+fn is_wrong_length(forest: &Forest<'_>, head: u32, total: u32) -> bool
+    requires { FitsChain (file_of forest.now) head }
+    ensures { result ≡ is_wrong_length (file_of forest.now) (head, total) }
+{
+    chain_pieces(forest, head).length() != u64::from(total)
+}
+
+/// Whether an item of a leaf names a chain of another length.
+fn tells_wrong(forest: &Forest<'_>, item: &LeafItem<'_>) -> bool
+    requires { FitsContent (file_of forest.now) (leaf_item_seen item.now).content }
+    ensures { result ≡ is_wrong (file_of forest.now) (leaf_item_seen item.now).content }
+{
+    match item {
+        LeafItem::Overflow { head, total, .. } => is_wrong_length(forest, *head, *total),
+        LeafItem::Inline { .. } | LeafItem::Duplicates { .. } => false,
+    }
+}
+
+/// Whether the key of an item of an internal page does.
+fn key_tells_wrong(forest: &Forest<'_>, key: &InternalKey<'_>) -> bool
+    requires { FitsContent (file_of forest.now) (key_seen key.now) }
+    ensures { result ≡ is_wrong (file_of forest.now) (key_seen key.now) }
+{
+    match key {
+        InternalKey::Overflow { head, total } => is_wrong_length(forest, *head, *total),
+        InternalKey::Inline(_) => false,
+    }
+}
+
+/// Whether an item of a hash page does.
+fn hash_item_tells_wrong(forest: &Forest<'_>, item: &HashItem<'_>) -> bool
+    requires { FitsContent (file_of forest.now) (hash_content_seen item.now) }
+    ensures { result ≡ is_wrong (file_of forest.now) (hash_content_seen item.now) }
+{
+    match item {
+        HashItem::Overflow { head, total } => is_wrong_length(forest, *head, *total),
+        HashItem::Inline(_) | HashItem::Set(_) | HashItem::OffPage { .. } => false,
+    }
+}
+
+/// Whether an entry of a leaf of records names a chain of another length.
+#[tactic(auto, using(crate::proofs::ContentLemmas::recno_item_fits, crate::proofs::LengthLemmas::item_is_wrong))]
+fn is_wrong_record(forest: &Forest<'_>, number: u32, page: &RecnoLeafView<'_>, i: u16) -> bool
+    requires forest { IsForest forest.now }
+    requires there { number ≤ (file_of forest.now).last }
+    requires page { page_at (file_of forest.now) number ≡ RecnoLeaf page.now }
+    requires item { i < length page.now.items }
+    ensures { result ≡ is_wrong_item (file_of forest.now) page.now i }
+{
+    tells_wrong(forest, &page.item(i))
+}
+
+/// Whether some entry of a leaf of records does.
+fn records_have_wrong(forest: &Forest<'_>, number: u32, page: &RecnoLeafView<'_>) -> bool
+    requires forest { IsForest forest.now }
+    requires there { number ≤ (file_of forest.now).last }
+    requires page { page_at (file_of forest.now) number ≡ RecnoLeaf page.now }
+    ensures { result ≡ has_wrong (file_of forest.now) (RecnoLeaf page.now) }
+{
+    for i in 0..page.entries() {
+        if is_wrong_record(forest, number, page, i) {
+            return true;
+        }
+    }
+    false
+}
+
+/// Whether an entry of a leaf of sorted duplicates names a chain of another length.
+#[tactic(auto, using(crate::proofs::ContentLemmas::dup_item_fits, crate::proofs::LengthLemmas::item_is_wrong))]
+fn is_wrong_duplicate(forest: &Forest<'_>, number: u32, page: &DupLeafView<'_>, i: u16) -> bool
+    requires forest { IsForest forest.now }
+    requires there { number ≤ (file_of forest.now).last }
+    requires page { page_at (file_of forest.now) number ≡ DupLeaf page.now }
+    requires item { i < length page.now.items }
+    ensures { result ≡ is_wrong_item (file_of forest.now) page.now i }
+{
+    tells_wrong(forest, &page.item(i))
+}
+
+/// Whether some entry of a leaf of sorted duplicates does.
+fn duplicates_have_wrong(forest: &Forest<'_>, number: u32, page: &DupLeafView<'_>) -> bool
+    requires forest { IsForest forest.now }
+    requires there { number ≤ (file_of forest.now).last }
+    requires page { page_at (file_of forest.now) number ≡ DupLeaf page.now }
+    ensures { result ≡ has_wrong (file_of forest.now) (DupLeaf page.now) }
+{
+    for i in 0..page.entries() {
+        if is_wrong_duplicate(forest, number, page, i) {
+            return true;
+        }
+    }
+    false
+}
+
+/// Whether a key of an internal page names a chain of another length.
+#[tactic(auto, using(crate::proofs::ContentLemmas::key_fits, crate::proofs::LengthLemmas::key_is_wrong))]
+fn is_wrong_key(forest: &Forest<'_>, number: u32, page: &InternalView<'_>, i: u16) -> bool
+    requires forest { IsForest forest.now }
+    requires there { number ≤ (file_of forest.now).last }
+    requires page { page_at (file_of forest.now) number ≡ Internal page.now }
+    requires item { i < length page.now.items }
+    ensures { result ≡ is_wrong_key (file_of forest.now) page.now i }
+{
+    key_tells_wrong(forest, &page.item(i).key)
+}
+
+/// Whether some key of an internal page does.
+fn keys_have_wrong(forest: &Forest<'_>, number: u32, page: &InternalView<'_>) -> bool
+    requires forest { IsForest forest.now }
+    requires there { number ≤ (file_of forest.now).last }
+    requires page { page_at (file_of forest.now) number ≡ Internal page.now }
+    ensures { result ≡ has_wrong (file_of forest.now) (Internal page.now) }
+{
+    for i in 0..page.entries() {
+        if is_wrong_key(forest, number, page, i) {
+            return true;
+        }
+    }
+    false
+}
+
+/// Whether an item of a hash page names a chain of another length: a key, or data.
+#[tactic(auto, using(crate::proofs::ContentLemmas::hash_item_fits, crate::proofs::LengthLemmas::item_is_wrong))]
+fn is_wrong_hash_key(forest: &Forest<'_>, number: u32, page: &HashView<'_>, i: u16) -> bool
+    requires forest { IsForest forest.now }
+    requires there { number ≤ (file_of forest.now).last }
+    requires page { page_at (file_of forest.now) number ≡ Hash page.now }
+    requires pair { 2 * i < length page.now.items }
+    ensures { result ≡ is_wrong_item (file_of forest.now) page.now (2 * i) }
+{
+    hash_item_tells_wrong(forest, &page.key(i))
+}
+
+/// Whether data of a hash page do.
+#[tactic(auto, using(crate::proofs::ContentLemmas::hash_item_fits, crate::proofs::LengthLemmas::item_is_wrong))]
+fn is_wrong_hash_value(forest: &Forest<'_>, number: u32, page: &HashView<'_>, i: u16) -> bool
+    requires forest { IsForest forest.now }
+    requires there { number ≤ (file_of forest.now).last }
+    requires page { page_at (file_of forest.now) number ≡ Hash page.now }
+    requires pair { 2 * i + 1 < length page.now.items }
+    ensures { result ≡ is_wrong_item (file_of forest.now) page.now (2 * i + 1) }
+{
+    hash_item_tells_wrong(forest, &page.value(i))
+}
+
+/// Whether some item of a hash page does.
+fn pairs_have_wrong(forest: &Forest<'_>, number: u32, page: &HashView<'_>) -> bool
+    requires forest { IsForest forest.now }
+    requires there { number ≤ (file_of forest.now).last }
+    requires page { page_at (file_of forest.now) number ≡ Hash page.now }
+    ensures { result ≡ has_wrong (file_of forest.now) (Hash page.now) }
+{
+    for i in 0..page.pairs() {
+        if is_wrong_hash_key(forest, number, page, i)
+            || is_wrong_hash_value(forest, number, page, i)
+        {
+            return true;
+        }
+    }
+    false
+}
+
+/// Whether the key of a pair of a btree leaf names a chain of another length; a shared key names none.
+#[tactic(auto, using(crate::proofs::ContentLemmas::leaf_item_fits, crate::proofs::LengthLemmas::own_is_wrong, crate::proofs::LengthLemmas::shared_is_right))]
+fn is_wrong_leaf_key(forest: &Forest<'_>, number: u32, page: &LeafView<'_>, i: u16) -> bool
+    requires forest { IsForest forest.now }
+    requires there { number ≤ (file_of forest.now).last }
+    requires page { page_at (file_of forest.now) number ≡ Leaf page.now }
+    requires pair { 2 * i < length page.now.items }
+    ensures { result ≡ is_wrong_entry (file_of forest.now) page.now (2 * i) }
+{
+    !page.shares(i) && tells_wrong(forest, &page.key(i))
+}
+
+/// Whether the data of a pair of a btree leaf do.
+#[tactic(auto, using(crate::proofs::ContentLemmas::leaf_item_fits, crate::proofs::LengthLemmas::data_is_wrong))]
+fn is_wrong_leaf_value(forest: &Forest<'_>, number: u32, page: &LeafView<'_>, i: u16) -> bool
+    requires forest { IsForest forest.now }
+    requires there { number ≤ (file_of forest.now).last }
+    requires page { page_at (file_of forest.now) number ≡ Leaf page.now }
+    requires pair { 2 * i + 1 < length page.now.items }
+    ensures { result ≡ is_wrong_entry (file_of forest.now) page.now (2 * i + 1) }
+{
+    tells_wrong(forest, &page.value(i))
+}
+
+/// Whether some item of a btree leaf does.
+fn leaf_has_wrong(forest: &Forest<'_>, number: u32, page: &LeafView<'_>) -> bool
+    requires forest { IsForest forest.now }
+    requires there { number ≤ (file_of forest.now).last }
+    requires page { page_at (file_of forest.now) number ≡ Leaf page.now }
+    ensures { result ≡ has_wrong (file_of forest.now) (Leaf page.now) }
+{
+    for i in 0..page.pairs() {
+        if is_wrong_leaf_key(forest, number, page, i)
+            || is_wrong_leaf_value(forest, number, page, i)
+        {
+            return true;
+        }
+    }
+    false
+}
+
+/// Whether some chain that the items of a page name has another length than they tell.
+fn has_wrong(forest: &Forest<'_>, number: u32) -> bool
+    requires forest { IsForest forest.now }
+    requires there { number ≤ (file_of forest.now).last }
+    ensures { result ≡ has_wrong (file_of forest.now) (page_at (file_of forest.now) number) }
+{
+    match forest.page(number) {
+        PageView::Hash(page) => pairs_have_wrong(forest, number, &page),
+        PageView::Internal(page) => keys_have_wrong(forest, number, &page),
+        PageView::Leaf(page) => leaf_has_wrong(forest, number, &page),
+        PageView::RecnoLeaf(page) => records_have_wrong(forest, number, &page),
+        PageView::DupLeaf(page) => duplicates_have_wrong(forest, number, &page),
+        PageView::Zero(_)
+        | PageView::Free(_)
+        | PageView::Meta(_)
+        | PageView::RecnoInternal(_)
+        | PageView::Overflow(_)
+        | PageView::Queue(_) => false,
+    }
+}
+
+/// No page names a chain of another length; or the first that does, as a fault.
+fn check_pages(forest: &Forest<'_>) -> Result<(), Fault>
+    ensures accepted { OnOk result (chain_faults (file_of forest.now) ≡ []) }
+    ensures refusal { IfErr result (λ fault. first_fault (chain_faults (file_of forest.now)) ≡ Some fault) }
+{
+    let last = forest.head().last;
+    for page in 0..=last {
+        if has_wrong(forest, page) {
+            return Err(Fault {
+                stage: 6,
+                page,
+                code: 1,
+            });
+        }
+    }
+    Ok(())
+}
+
+/// Each chain has the length that the items which name it tell. A refusal is the first fault: the least
+/// page of which an item tells another. No memory is taken.
+pub fn check_chains(linked: &Linked<'_>) -> Result<(), Fault>
+    ensures accepted { OnOk result (chain_faults (file_of linked.now) ≡ []) }
+    ensures refusal { IfErr result (λ fault. first_fault (chain_faults (file_of linked.now)) ≡ Some fault) }
+{
+    check_pages(&linked.forest())
+}

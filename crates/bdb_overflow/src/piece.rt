@@ -1,0 +1,148 @@
+ghost use Rattle.std.specs.Prelude.{◌≡◌, ◌+◌, ◌/◌, ◌^◌, ◌<◌, ◌≤◌, ◌∷◌, [], IsTrue, length, take, drop};
+ghost use Rattle.std.specs.Iterator.{YieldsFirstBy, item_count};
+ghost use Rattle.bdb_model.specs.Chains.{joined, pieces_of};
+ghost use Rattle.bdb_model.specs.File.{file_as};
+ghost use Rattle.bdb_model.specs.HeadOf.{is_page_size};
+ghost use Rattle.bdb_model.specs.Numbers.{two_at};
+ghost use Rattle.bdb_overflow.specs.Whole.{IsLeft, IsWholeChain, bytes_of, pieces_from};
+
+use bdb_layout::{u16_at, u32_at};
+use bdb_model::Order;
+use std::marker::Model;
+
+/// The bytes of a page that the image has whole.
+#[tactic(auto, using(crate::proofs::WholeLemmas::page_room, crate::proofs::WholeLemmas::page_length))]
+fn page_of<'a>(image: &'a [u8], size: u32, number: u32) -> &'a [u8]
+    requires some { 1 ≤ size }
+    requires there { number < length image.now / size }
+    ensures bytes { result.now ≡ bytes_of size image.now number }
+    ensures whole { length result.now ≡ size }
+{
+    let size = size as usize;
+    let start = number as usize * size;
+    &image[start..start + size]
+}
+
+/// The data on a page of a chain.
+fn data_of<'a>(page: &'a [u8], order: Order) -> &'a [u8]
+    requires header { 26 ≤ length page.now }
+    requires room { 26 + two_at order page.now 22 ≤ length page.now }
+    ensures { result.now ≡ take (two_at order page.now 22) (drop 26 page.now) }
+{
+    let length = usize::from(u16_at(page, 22, order));
+    &page[26..26 + length]
+}
+
+/// The first piece of a whole chain, and the page after it, 0 for none.
+#[tactic(auto, using(crate::proofs::WholeLemmas::whole_link, crate::proofs::WholeLemmas::pieces_from_cons, crate::proofs::WholeLemmas::after_left))]
+fn first_piece<'a>(image: &'a [u8], order: Order, size: u32, head: u32) -> (&'a [u8], u32)
+    requires size { IsTrue (is_page_size size) }
+    requires whole { IsWholeChain order size image.now head }
+    ensures pieces { pieces_from order size image.now head ≡ result.0.now ∷ pieces_from order size image.now result.1 }
+    ensures rest { IsLeft order size image.now result.1 }
+{
+    let page = page_of(image, size, head);
+    (data_of(page, order), u32_at(page, 16, order))
+}
+
+/// The pieces of a value that are left, one for each page of its chain: slices of the image.
+#[derive(Drop)]
+pub struct Pieces<'a> {
+    image: &'a [u8],
+    order: Order,
+    size: u32,
+    next: u32,
+}
+
+impl<'a> Model for Pieces<'a> {
+    ghost use Rattle.std.specs.Prelude.{List, ℕ};
+    ghost use Rattle.bdb_overflow.specs.Whole.{IsLeft, pieces_from};
+
+    ghost Value = { List (List ℕ) };
+
+    ghost view = { λ it. pieces_from it.order it.size it.image.now it.next };
+
+    ghost invariant = { λ it. IsLeft it.order it.size it.image.now it.next };
+}
+
+#[tactic(auto, using(crate::proofs::WholeLemmas::none_left, crate::proofs::WholeLemmas::at_end))]
+impl<'a> Pieces<'a> {
+    /// No pieces.
+    pub(crate) fn none() -> Pieces<'a>
+        ensures { result ≡ [] }
+    {
+        Pieces {
+            image: &[],
+            order: Order::Big,
+            size: 512,
+            next: 0,
+        }
+    }
+
+    /// The same pieces once more.
+    pub fn again(&self) -> Pieces<'a>
+        ensures { result ≡ self.now }
+    {
+        Pieces {
+            image: self.image,
+            order: self.order,
+            size: self.size,
+            next: self.next,
+        }
+    }
+
+    /// How many bytes the pieces have together.
+    #[tactic(auto, using(crate::proofs::WholeLemmas::left_short))]
+    pub(crate) fn length(&self) -> u64
+        ensures { result ≡ length (joined self.now) }
+    {
+        let _ = &self.image;
+        length_of(self.again())
+    }
+}
+
+/// How many bytes pieces have together.
+fn length_of(pieces: Pieces<'_>) -> u64
+    requires { length (joined pieces) < 2 ^ 64 }
+    ensures { result ≡ length (joined pieces.entry) }
+{
+    let mut total = 0;
+    for piece in pieces {
+        total += piece.len() as u64;
+    }
+    total
+}
+
+/// The pieces of the chain with this head on an image, by its order and page size.
+#[tactic(auto, using(crate::proofs::WholeLemmas::all_left, crate::proofs::WholeLemmas::pieces_from_all, crate::proofs::WholeLemmas::pieces_few_as))]
+pub fn pieces_at<'a>(image: &'a [u8], order: Order, page_size: u32, head: u32) -> Pieces<'a>
+    requires size { IsTrue (is_page_size page_size) }
+    requires whole { IsWholeChain order page_size image.now head }
+    ensures pieces { result ≡ pieces_of (file_as order page_size image.now) head }
+    ensures few { length result ≤ length image.now / page_size }
+{
+    Pieces {
+        image,
+        order,
+        size: page_size,
+        next: head,
+    }
+}
+
+impl<'a> Iterator for Pieces<'a> {
+    type Item = &'a [u8];
+
+    ghost next_gives = { YieldsFirstBy (λ piece. piece.now) (λ left. left) };
+
+    ghost remaining = { item_count (λ left. left) };
+
+    #[tactic(auto, using(crate::proofs::WholeLemmas::at_end, crate::proofs::WholeLemmas::left_whole))]
+    fn next(&mut self) -> Option<&'a [u8]> {
+        if self.next == 0 {
+            return None;
+        }
+        let (piece, next) = first_piece(self.image, self.order, self.size, self.next);
+        self.next = next;
+        Some(piece)
+    }
+}

@@ -1,0 +1,18 @@
+ghost use Rattle.std.specs.Prelude.{◌≡◌};
+ghost use Rattle.bdb_graph.specs.Linked.{HasMetadata};
+ghost use Rattle.bdb_model.specs.File.{file_of};
+ghost use Rattle.bdb_model.specs.Lists.{queue_list};
+ghost use Rattle.bdb_model.specs.Page.{QueueFields};
+
+use crate::Scan;
+use bdb_graph::Linked;
+use bdb_model::QueueMeta;
+
+/// The live records of the queue with this metadata, in order. It goes over the pages of the file, and takes
+/// no memory.
+pub fn scan<'a>(linked: &Linked<'a>, meta: &QueueMeta) -> Scan<'a>
+    requires { HasMetadata (file_of linked.now) (QueueFields meta.now) }
+    ensures { result ≡ queue_list (file_of linked.now) meta.now }
+{
+    Scan::over(linked.forest(), *meta)
+}

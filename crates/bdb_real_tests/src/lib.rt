@@ -1,0 +1,11 @@
+//! Tests on files that the original library wrote: what is listed and found in them.
+#![tactic(auto)]
+
+#[cfg(test)]
+mod opened;
+#[cfg(test)]
+mod real_images;
+#[cfg(test)]
+mod real_lists;
+#[cfg(test)]
+mod reals;

@@ -1,0 +1,217 @@
+-- The first fault of the contents of a recno, by the faults that are noted.
+use Rattle.std.proofs.Common.{◌≡◌, ◌⊎◌, ℕ, zero, suc, ◌+◌, ◌≤◌, Bool, true, false, cond, List, [], ◌∷◌, ◌++◌, map, Option, None, arith, refl, sym, ◌∙◌, ap, subst, inl, inr}
+use Rattle.std.specs.Prelude.{◌&&◌}
+use Rattle.std.specs.List.{All, Contains, filter}
+use Rattle.std.specs.Option.{is_some}
+use Rattle.std.proofs.lemmas.List.Elements.{All-contains, Contains-append_cases, Contains-append_left, Contains-append_right}
+use Rattle.std.proofs.lemmas.List.Sums.{fold-append}
+use Rattle.bdb_graph.specs.Linked.{HasMetadata, IsForest}
+use Rattle.bdb_graph.specs.Linking.{first_fault}
+use Rattle.bdb_model.specs.declared.kinds.Fault.{Fault}
+use Rattle.bdb_model.specs.declared.metadata.BtreeMeta.{BtreeMeta}
+use Rattle.bdb_model.specs.ContentRows.{btree_contents, contents_faults, contents_rows, has_wrong_count, has_wrong_record, inner_in, inner_pages, is_wrong_at, recno_contents}
+use Rattle.bdb_model.specs.File.{File, file_of, header_in, page_at}
+use Rattle.bdb_model.specs.Leaves.{children_in, leaves}
+use Rattle.bdb_model.specs.Numbers.{has_bit}
+use Rattle.bdb_model.specs.Page.{BtreeFields, Page}
+use Rattle.bdb_model.specs.Table.{Row, ◌:?◌}
+use Rattle.bdb_model.specs.Verdict.{by_page, holding}
+use Rattle.bdb_model.proofs.MemberLemmas.{first_member, later_member, member_cases, no_member, of_filter}
+use Rattle.bdb_model.proofs.VerdictLemmas.{IsOfStage, LeastFirst, by_page_first, holding_least, in_by_page, of_by_page}
+use Rattle.bdb_recno.specs.Counts.{HasRightCounts}
+use Rattle.bdb_recno.specs.Noted.{faults_on, noted, noted_all}
+use Rattle.bdb_recno.specs.Pages.{IsRecnoPage}
+use Rattle.bdb_recno.proofs.CountLemmas.{all_one, count_faults, level_below, next_recno}
+use Rattle.bdb_recno.proofs.NotedLemmas.{IsFaultOn, in_faults_on, in_wrong_at, least_noted, of_faults_on, of_wrong_at, same_first}
+use Rattle.bdb_recno.proofs.PageLemmas.{leaf_inside, leaves_recno, recno_inside, root_recno}
+
+-- The pages that are looked at are there.
+
+inner_recno : (n : ℕ) (image ps : List ℕ) (p : ℕ) → IsForest image → All (IsRecnoPage (file_of image)) ps → Contains (inner_in n (file_of image) ps) p → IsRecnoPage (file_of image) p
+inner_recno zero image ps p forest all at = absurd (no_member [] p refl at)
+inner_recno (suc n) image ps p forest all at =
+    let file : File = file_of image in
+    let inner : ℕ → Bool = λ q. is_some (children_in (page_at file q)) in
+    elim (Contains-append_cases (filter inner ps) (inner_in n file (level_below file ps)) p at) [
+      | inl here ↦ All-contains (IsRecnoPage file) ps p all (of_filter inner ps p here).0
+      | inr below ↦ inner_recno n image (level_below file ps) p forest (next_recno image ps forest all) below
+    ]
+
+pub inner_inside : (image : List ℕ) (root p : ℕ) → IsForest image → IsRecnoPage (file_of image) root → Contains (inner_pages (file_of image) root) p → p ≤ (file_of image).last
+unfolding inner_pages
+inner_inside image root p forest recno at =
+    recno_inside image p (inner_recno (header_in (page_at (file_of image) root)).level image (root ∷ []) p forest (all_one (IsRecnoPage (file_of image)) root recno) at)
+
+-- The codes of a page.
+
+only : (x y : ℕ) → Contains (x ∷ []) y → x ≡ y
+only x y at = elim (member_cases x [] y at) [ inl here ↦ here | inr later ↦ absurd (no_member [] y refl later) ]
+
+of_two : (a b : Bool) (code : ℕ) → Contains (holding (6 :? a ∷ 7 :? b ∷ [])) code → ((code ≡ 6) × (a ≡ true)) ⊎ ((code ≡ 7) × (b ≡ true))
+of_two true true code at =
+    elim (member_cases 6 (7 ∷ []) code at) [ inl here ↦ inl (sym here, refl) | inr later ↦ inr (sym (only 7 code later), refl) ]
+of_two true false code at = inl (sym (only 6 code at), refl)
+of_two false true code at = inr (sym (only 7 code at), refl)
+of_two false false code at = absurd (no_member [] code refl at)
+
+in_six : (a b : Bool) → a ≡ true → Contains (holding (6 :? a ∷ 7 :? b ∷ [])) 6
+in_six true b is = first_member 6 (cond b (7 ∷ []) [])
+in_six false b is = absurd cc
+
+in_seven : (a b : Bool) → b ≡ true → Contains (holding (6 :? a ∷ 7 :? b ∷ [])) 7
+in_seven true true is = later_member 6 (7 ∷ []) 7 (first_member 7 [])
+in_seven false true is = first_member 7 []
+in_seven a false is = absurd cc
+
+-- The faults.
+
+-- the faults as they are noted: those of counts, then those of lengths
+abbrev pub noted_faults : File → BtreeMeta → List Fault
+noted_faults file meta =
+    count_faults file (inner_pages file meta.root)
+    ++ cond (has_bit meta.flags 0x08) (faults_on file 7 (has_wrong_record file meta) (leaves file meta.root)) []
+
+-- the rows of a recno at a page
+abbrev rows_at : File → BtreeMeta → ℕ → List (Row ℕ)
+rows_at file meta p = contents_rows file (BtreeFields meta) p
+
+recno_rows : (file : File) (meta : BtreeMeta) (p : ℕ) → has_bit meta.flags 0x02 ≡ true → rows_at file meta p ≡ recno_contents file meta p
+recno_rows file meta p recno = ap (λ b. cond b (recno_contents file meta p) (btree_contents file meta p)) recno
+
+-- the codes of a recno at a page
+abbrev codes_at : File → BtreeMeta → ℕ → List ℕ
+codes_at file meta p = holding (recno_contents file meta p)
+
+least_codes : (file : File) (meta : BtreeMeta) (p : ℕ) → LeastFirst (codes_at file meta p)
+least_codes file meta p = holding_least 6 (recno_contents file meta p) (omega arith, (omega arith, tt))
+
+abbrev recno_faults : File → BtreeMeta → List Fault
+recno_faults file meta = by_page 8 0 (file.last + 1) (codes_at file meta)
+
+same_fault : (fault : Fault) (code : ℕ) → fault.stage ≡ 8 → fault.code ≡ code → ◌≡◌ {A = Fault} (record { stage = 8; page = fault.page; code = code }) fault
+same_fault fault code stage_is code_is = same fault.stage fault.page fault.code stage_is code_is
+  where
+    same : (stage page c : ℕ) → stage ≡ 8 → c ≡ code → ◌≡◌ {A = Fault} (record { stage = 8; page = page; code = code }) (record { stage = stage; page = page; code = c })
+    same stage page c is also = cc
+
+-- a fault of a page of a list, by its row, is one of the recno
+row_holds : (file : File) (meta : BtreeMeta) (code : ℕ) (test : Page → Bool) (pages : List ℕ) (fault : Fault) → IsFaultOn file code test pages fault → ((p : ℕ) → Contains pages p → p ≤ file.last)
+    → (is_wrong_at file test pages fault.page ≡ true → Contains (codes_at file meta fault.page) code) → Contains (recno_faults file meta) fault
+row_holds file meta code test pages fault is inside row =
+    let low : fault.page ≤ file.last = inside fault.page is.listed in
+    subst (Contains (recno_faults file meta)) (same_fault fault code is.stage_is is.code_is)
+    (in_by_page 8 0 (file.last + 1) fault.page code (codes_at file meta) (omega arith) (omega arith) (row (in_wrong_at file test pages fault.page is.listed is.wrong)))
+
+of_lengths : (b : Bool) (faults : List Fault) (fault : Fault) → Contains (cond b faults []) fault → (b ≡ true) × Contains faults fault
+of_lengths true faults fault at = (refl, at)
+of_lengths false faults fault at = absurd (no_member [] fault refl at)
+
+and_true : (a b : Bool) → a ≡ true → b ≡ true → (a && b) ≡ true
+and_true a b p q = rw (p, q) refl
+
+both_true : (a b : Bool) → (a && b) ≡ true → (a ≡ true) × (b ≡ true)
+both_true true b is = (refl, is)
+both_true false b is = absurd cc
+
+noted_holds : (image : List ℕ) (meta : BtreeMeta) (fault : Fault) → IsForest image → IsRecnoPage (file_of image) meta.root → Contains (noted_faults (file_of image) meta) fault → Contains (recno_faults (file_of image) meta) fault
+noted_holds image meta fault forest root at =
+    let file : File = file_of image in
+    let counts : List ℕ = inner_pages file meta.root in
+    let lengths : List ℕ = leaves file meta.root in
+    let fixed : Bool = has_bit meta.flags 0x08 in
+    elim (Contains-append_cases (count_faults file counts) (cond fixed (faults_on file 7 (has_wrong_record file meta) lengths) []) fault at) [
+      | inl counted ↦
+          row_holds file meta 6 (has_wrong_count file) counts fault (of_faults_on file 6 (has_wrong_count file) counts fault counted) (λ p there. inner_inside image meta.root p forest root there)
+          (in_six (is_wrong_at file (has_wrong_count file) counts fault.page) (fixed && is_wrong_at file (has_wrong_record file meta) lengths fault.page))
+      | inr long ↦
+          let of : (fixed ≡ true) × Contains (faults_on file 7 (has_wrong_record file meta) lengths) fault = of_lengths fixed _ fault long in
+          row_holds file meta 7 (has_wrong_record file meta) lengths fault (of_faults_on file 7 (has_wrong_record file meta) lengths fault of.1)
+          (λ p there. leaf_inside image p (leaves_recno image meta.root p forest root there))
+          (λ wrong. in_seven (is_wrong_at file (has_wrong_count file) counts fault.page) (fixed && is_wrong_at file (has_wrong_record file meta) lengths fault.page) (and_true fixed _ of.0 wrong))
+    ]
+
+holds_noted : (file : File) (meta : BtreeMeta) (fault : Fault) → Contains (recno_faults file meta) fault → Contains (noted_faults file meta) fault
+holds_noted file meta fault at =
+    let counts : List ℕ = inner_pages file meta.root in
+    let lengths : List ℕ = leaves file meta.root in
+    let fixed : Bool = has_bit meta.flags 0x08 in
+    let count_row : Bool = is_wrong_at file (has_wrong_count file) counts fault.page in
+    let length_row : Bool = is_wrong_at file (has_wrong_record file meta) lengths fault.page in
+    let long : List Fault = faults_on file 7 (has_wrong_record file meta) lengths in
+    let of : IsOfStage 8 0 (0 + (file.last + 1)) (codes_at file meta) fault = of_by_page 8 0 (file.last + 1) (codes_at file meta) fault at in
+    elim (of_two count_row (fixed && length_row) fault.code of.is_code) [
+      | inl (six, wrong) ↦
+          let parts : Contains counts fault.page × (has_wrong_count file (page_at file fault.page) ≡ true) = of_wrong_at file (has_wrong_count file) counts fault.page wrong in
+          Contains-append_left (count_faults file counts) (cond fixed long []) fault
+          (subst (Contains (count_faults file counts)) (same_fault fault 6 of.same_stage six) (in_faults_on file 6 (has_wrong_count file) counts fault.page parts.0 parts.1))
+      | inr (seven, wrong) ↦
+          let flags : (fixed ≡ true) × (length_row ≡ true) = both_true fixed length_row wrong in
+          let parts : Contains lengths fault.page × (has_wrong_record file meta (page_at file fault.page) ≡ true) = of_wrong_at file (has_wrong_record file meta) lengths fault.page flags.1 in
+          let there : Contains long fault =
+          subst (Contains long) (same_fault fault 7 of.same_stage seven) (in_faults_on file 7 (has_wrong_record file meta) lengths fault.page parts.0 parts.1) in
+          Contains-append_right (count_faults file counts) (cond fixed long []) fault (subst (λ b. Contains (cond b long []) fault) (sym flags.0) there)
+    ]
+
+by_page_same : (stage n : ℕ) (from : ℕ) (codes others : ℕ → List ℕ) → ((p : ℕ) → codes p ≡ others p) → by_page stage from n codes ≡ by_page stage from n others
+by_page_same stage zero from codes others same = refl
+by_page_same stage (suc n) from codes others same =
+    ap (λ cs. map (λ code. record { stage = stage; page = from; code = code }) cs ++ by_page stage (from + 1) n codes) (same from)
+    ∙ ap (λ faults. map (λ code. record { stage = stage; page = from; code = code }) (others from) ++ faults) (by_page_same stage n (from + 1) codes others same)
+
+faults_are : (file : File) (meta : BtreeMeta) → has_bit meta.flags 0x02 ≡ true → contents_faults file (BtreeFields meta) ≡ recno_faults file meta
+unfolding contents_faults
+faults_are file meta recno = by_page_same 8 (file.last + 1) 0 (λ p. holding (rows_at file meta p)) (codes_at file meta) (λ p. ap holding (recno_rows file meta p recno))
+
+-- the first fault of the contents is the least of those that are noted
+pub all_noted : (image : List ℕ) (meta : BtreeMeta) → IsForest image → HasMetadata (file_of image) (BtreeFields meta) → has_bit meta.flags 0x02 ≡ true
+    → first_fault (contents_faults (file_of image) (BtreeFields meta)) ≡ noted_all None (noted_faults (file_of image) meta)
+all_noted image meta forest has recno =
+    let file : File = file_of image in
+    let root : IsRecnoPage file meta.root = root_recno image meta forest has recno in
+    ap first_fault (faults_are file meta recno)
+    ∙ same_first 8 (noted_faults file meta) (recno_faults file meta) (noted_all None (noted_faults file meta)) (least_noted (noted_faults file meta))
+    (by_page_first 8 0 (file.last + 1) (codes_at file meta) (least_codes file meta))
+    (λ fault at. (of_by_page 8 0 (file.last + 1) (codes_at file meta) fault at).same_stage)
+    (λ fault at. noted_holds image meta fault forest root at) (holds_noted file meta)
+
+noted_both : (file : File) (meta : BtreeMeta) (fixed : Bool) (counted : Option Fault) → has_bit meta.flags 0x08 ≡ fixed → counted ≡ noted_all None (count_faults file (inner_pages file meta.root))
+    → noted_all counted (cond fixed (faults_on file 7 (has_wrong_record file meta) (leaves file meta.root)) []) ≡ noted_all None (noted_faults file meta)
+noted_both file meta fixed counted is counts =
+    let long : Bool → List Fault = λ b. cond b (faults_on file 7 (has_wrong_record file meta) (leaves file meta.root)) [] in
+    ap (λ least. noted_all least (long fixed)) counts
+    ∙ (sym (fold-append noted None (count_faults file (inner_pages file meta.root)) (long fixed)) ∙ ap (λ b. noted_all None (count_faults file (inner_pages file meta.root) ++ long b)) (sym is))
+
+-- where lengths aren't fixed, counts alone are noted
+pub counts_first : (image : List ℕ) (meta : BtreeMeta) (counted : Option Fault) → IsForest image → HasMetadata (file_of image) (BtreeFields meta) → has_bit meta.flags 0x02 ≡ true
+    → counted ≡ noted_all None (count_faults (file_of image) (inner_pages (file_of image) meta.root)) → has_bit meta.flags 0x08 ≡ false
+    → counted ≡ first_fault (contents_faults (file_of image) (BtreeFields meta))
+counts_first image meta counted forest has recno counts free = noted_both (file_of image) meta false counted free counts ∙ sym (all_noted image meta forest has recno)
+
+-- where they are, lengths are noted after the counts
+pub lengths_first : (image : List ℕ) (meta : BtreeMeta) (counted least : Option Fault) → IsForest image → HasMetadata (file_of image) (BtreeFields meta) → has_bit meta.flags 0x02 ≡ true
+    → counted ≡ noted_all None (count_faults (file_of image) (inner_pages (file_of image) meta.root)) → has_bit meta.flags 0x08 ≡ true
+    → least ≡ noted_all counted (faults_on (file_of image) 7 (has_wrong_record (file_of image) meta) (leaves (file_of image) meta.root))
+    → least ≡ first_fault (contents_faults (file_of image) (BtreeFields meta))
+lengths_first image meta counted least forest has recno counts fixed lengths =
+    lengths ∙ (noted_both (file_of image) meta true counted fixed counts ∙ sym (all_noted image meta forest has recno))
+
+-- contents without a fault have right counts
+pub right_counts : (image : List ℕ) (meta : BtreeMeta) → IsForest image → HasMetadata (file_of image) (BtreeFields meta) → has_bit meta.flags 0x02 ≡ true → contents_faults (file_of image) (BtreeFields meta) ≡ []
+    → HasRightCounts (file_of image) meta.root
+right_counts image meta forest has recno none =
+    let file : File = file_of image in
+    let counts : List ℕ = inner_pages file meta.root in
+    let root : IsRecnoPage file meta.root = root_recno image meta forest has recno in
+    let no_faults : recno_faults file meta ≡ [] = sym (faults_are file meta recno) ∙ none in
+    record {
+      right = λ q there.
+          elim (has_wrong_count file (page_at file q)) as (λ b. has_wrong_count file (page_at file q) ≡ b → b ≡ false) [
+            | true ↦ λ wrong.
+                let fault : Fault = record { stage = 8; page = q; code = 6 } in
+                let is : IsFaultOn file 6 (has_wrong_count file) counts fault = record { stage_is = refl; code_is = refl; listed = there; wrong = wrong } in
+                absurd (no_member (recno_faults file meta) fault no_faults
+                (row_holds file meta 6 (has_wrong_count file) counts fault is (λ p at. inner_inside image meta.root p forest root at)
+                (in_six (is_wrong_at file (has_wrong_count file) counts q) (has_bit meta.flags 0x08 && is_wrong_at file (has_wrong_record file meta) (leaves file meta.root) q))))
+            | false ↦ λ _. refl
+          ] refl;
+    }

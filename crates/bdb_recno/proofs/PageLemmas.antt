@@ -1,0 +1,205 @@
+-- The pages of a tree of records, and the entries below a page.
+use Rattle.std.proofs.Common.{◌≡◌, ◌⊎◌, ℕ, ◌+◌, ◌<◌, ◌≤◌, Bool, true, false, cond, not, List, [], ◌∷◌, ◌++◌, length, map, Option, Some, None, refl, sym, ◌∙◌, ap, subst, inl, inr, append-nil}
+use Rattle.std.specs.Prelude.{◌==◌, ◌||◌, get_or}
+use Rattle.std.specs.List.{Contains, enumerate_from, flat_map}
+use Rattle.std.proofs.lemmas.List.Concat.{flat_map-append}
+use Rattle.std.proofs.lemmas.List.Elements.{Contains-append_right}
+use Rattle.bdb_form.specs.declared.view.PageView.{PageView}
+use Rattle.bdb_form.specs.declared.view.PageView.TheVariants.{RecnoInternal as InternalView, RecnoLeaf as LeafView}
+use Rattle.bdb_form.specs.Seen.{page_seen}
+use Rattle.bdb_graph.proofs.ForestLemmas.{sound_graph}
+use Rattle.bdb_graph.specs.Linked.{HasMetadata, IsForest}
+use Rattle.bdb_model.specs.declared.metadata.FileKind.{FileKind}
+use Rattle.bdb_model.specs.declared.metadata.FileKind.TheVariants.{Btree, Hash as HashFile, Queue as QueueFile}
+use Rattle.bdb_model.specs.declared.references.Reference.{Reference}
+use Rattle.bdb_model.specs.declared.references.Sort.{Sort}
+use Rattle.bdb_model.specs.declared.references.Sort.TheVariants.{Root}
+use Rattle.bdb_model.specs.declared.metadata.BtreeMeta.{BtreeMeta}
+use Rattle.bdb_model.specs.declared.pages.RecnoItem.{RecnoItem}
+use Rattle.bdb_model.specs.Contents.{entries_in, tree_entries}
+use Rattle.bdb_model.specs.File.{File, file_of, page_at, type_in}
+use Rattle.bdb_model.specs.HeadOf.{head_of}
+use Rattle.bdb_model.specs.Leaves.{children_in, leaves}
+use Rattle.bdb_model.specs.Numbers.{has_bit}
+use Rattle.bdb_model.specs.Page.{Item, Listed, BtreeFields, Page, Meta, RecnoInternal, RecnoLeaf}
+use Rattle.bdb_model.specs.References.{asked_by, child_types, first_free, fit_code, fit_rows, has_type, names_in, names_of, refs, root_types}
+use Rattle.bdb_model.proofs.GraphLemmas.{each_fits}
+use Rattle.bdb_model.proofs.MemberLemmas.{first_member, in_map, later_member, member_cases, no_member}
+use Rattle.bdb_model.proofs.VerdictLemmas.{AllFail, none_is_first_row}
+use Rattle.bdb_recno.specs.Entries.{entries_on}
+use Rattle.bdb_recno.specs.Pages.{IsRecnoPage, IsRecnoLeaf}
+use Rattle.bdb_tree.specs.Trees.{IsTreePage}
+use Rattle.bdb_tree.proofs.ShapeLemmas.{IsLeafPage, is_forest_page, no_queue, of_type}
+use Rattle.bdb_tree.proofs.TreeLemmas.{IsChild, child_is, leaves_of_inner, leaves_of_leaf, recno_internal_page, recno_leaf, recno_leaf_page, tree_cases, typed_inside}
+
+-- What a page is.
+
+abbrev pub IsInternal : File → ℕ → Type 0
+IsInternal file p = (page : Listed RecnoItem) × (page_at file p ≡ RecnoInternal page)
+
+abbrev pub IsLeaf : File → ℕ → Type 0
+IsLeaf file p = (page : Listed Item) × (page_at file p ≡ RecnoLeaf page)
+
+four_or_six : (t : Option ℕ) → has_type (4 ∷ 6 ∷ []) t ≡ true → (t ≡ Some 4) ⊎ (t ≡ Some 6)
+four_or_six t type = of_type (λ u. (u ≡ Some 4) ⊎ (u ≡ Some 6)) (4 ∷ 6 ∷ []) t (inl refl, (inr refl, tt)) type
+
+-- a page of records is an internal page or a leaf
+pub recno_cases : (image : List ℕ) (p : ℕ) → IsForest image → IsRecnoPage (file_of image) p → IsInternal (file_of image) p ⊎ IsLeaf (file_of image) p
+recno_cases image p forest recno =
+    elim (four_or_six (type_in (page_at (file_of image) p)) recno) [
+      | inl four ↦ inl (recno_internal_page image p forest four)
+      | inr six ↦ inr (recno_leaf_page image p forest six)
+    ]
+
+pub recno_tree : (file : File) (p : ℕ) → IsRecnoPage file p → IsTreePage file p
+recno_tree file p recno = of_type (λ t. has_type (3 ∷ 4 ∷ 5 ∷ 6 ∷ 12 ∷ []) t ≡ true) (4 ∷ 6 ∷ []) (type_in (page_at file p)) (refl, (refl, tt)) recno
+
+pub recno_inside : (image : List ℕ) (p : ℕ) → IsRecnoPage (file_of image) p → p ≤ (file_of image).last
+recno_inside image p recno = typed_inside image (4 ∷ 6 ∷ []) p recno
+
+pub leaf_recno : (file : File) (p : ℕ) → IsRecnoLeaf file p → IsRecnoPage file p
+leaf_recno file p leaf = ap (has_type (4 ∷ 6 ∷ [])) leaf
+
+-- The root.
+
+enumerated : {X : Type 0} (n : ℕ) (xs : List X) (x : X) → Contains xs x → (i : ℕ) × Contains (enumerate_from n xs) (i, x)
+enumerated n [] x at = absurd (no_member [] x refl at)
+enumerated n (y ∷ ys) x at =
+    elim (member_cases y ys x at) [
+      | inl same ↦ (n, subst (λ z. Contains ((n, y) ∷ enumerate_from (n + 1) ys) (n, z)) same (first_member (n, y) (enumerate_from (n + 1) ys)))
+      | inr later ↦ let rest = enumerated (n + 1) ys x later in (rest.0, later_member (n, y) (enumerate_from (n + 1) ys) (rest.0, x) rest.1)
+    ]
+
+tree_names : (kind : FileKind) (p : ℕ) (page : Page) → (kind ≡ QueueFile → ⊥) → names_of kind p page ≡ names_in p page
+tree_names Btree p page other = refl
+tree_names HashFile p page other = refl
+tree_names QueueFile p page other = absurd (other refl)
+
+root_held : (image : List ℕ) (meta : BtreeMeta) (has : HasMetadata (file_of image) (BtreeFields meta)) → IsForest image
+    → (reference : Reference) × Contains (refs (file_of image) has.page) reference × (reference.sort ≡ Root) × (reference.target ≡ meta.root)
+unfolding refs
+root_held image meta has forest =
+    let file : File = file_of image in
+    let free : List (Sort × ℕ) = first_free has.page meta.free in
+    let other : file.kind ≡ QueueFile → ⊥ = no_queue image (head_of image) has.page forest.formed has.inside (ap is_forest_page has.is) in
+    let names : List (Sort × ℕ) = names_of file.kind has.page (page_at file has.page) in
+    let same : names ≡ free ++ ((Root, meta.root) ∷ []) = tree_names file.kind has.page (page_at file has.page) other ∙ ap (names_in has.page) has.is in
+    let at : Contains names (Root, meta.root) =
+    subst (λ ns. Contains ns (Root, meta.root)) (sym same) (Contains-append_right free ((Root, meta.root) ∷ []) (Root, meta.root) (first_member (Root, meta.root) [])) in
+    let placed : (i : ℕ) × Contains (enumerate_from 0 names) (i, (Root, meta.root)) = enumerated 0 names (Root, meta.root) at in (
+      record { place = placed.0; sort = Root; target = meta.root },
+      in_map (λ (named : ℕ × (Sort × ℕ)). record { place = named.0; sort = named.1.0; target = named.1.1 }) (enumerate_from 0 names) (placed.0, (Root, meta.root)) placed.1,
+      refl,
+      refl,
+    )
+
+root_typed : (file : File) (p : ℕ) (reference : Reference) (meta : BtreeMeta) → page_at file p ≡ Meta (BtreeFields meta) → reference.sort ≡ Root → reference.target ≡ meta.root → fit_code file p reference ≡ None
+    → has_type (root_types (Meta (BtreeFields meta))) (type_in (page_at file meta.root)) ≡ true
+unfolding fit_code
+root_typed file p reference meta is sort target fits =
+    let rows : AllFail (fit_rows file (asked_by p (page_at file p) reference.sort) reference.target) = none_is_first_row (fit_rows file (asked_by p (page_at file p) reference.sort) reference.target) fits in
+    let by_sort : AllFail (fit_rows file (asked_by p (page_at file p) Root) reference.target) = subst (λ s. AllFail (fit_rows file (asked_by p (page_at file p) s) reference.target)) sort rows in
+    let by_target : AllFail (fit_rows file (asked_by p (page_at file p) Root) meta.root) = subst (λ t. AllFail (fit_rows file (asked_by p (page_at file p) Root) t)) target by_sort in
+    let by_page : AllFail (fit_rows file (asked_by p (Meta (BtreeFields meta)) Root) meta.root) = subst (λ q. AllFail (fit_rows file (asked_by p q Root) meta.root)) is by_target in
+    left_of (has_type (root_types (Meta (BtreeFields meta))) (type_in (page_at file meta.root))) by_page.1.0
+  where
+    left_of : (b : Bool) → not (b || false) ≡ false → b ≡ true
+    left_of true passed = refl
+    left_of false passed = absurd cc
+
+-- what metadata of a recno names as its root is a page of records
+pub root_recno : (image : List ℕ) (meta : BtreeMeta) → IsForest image → HasMetadata (file_of image) (BtreeFields meta) → has_bit meta.flags 0x02 ≡ true → IsRecnoPage (file_of image) meta.root
+root_recno image meta forest has recno =
+    let file : File = file_of image in
+    let held = root_held image meta has forest in
+    let type : has_type (root_types (Meta (BtreeFields meta))) (type_in (page_at file meta.root)) ≡ true =
+    root_typed file has.page held.0 meta has.is held.2 held.3 (each_fits file has.page held.0 (sound_graph image forest.linked).references has.inside held.1) in
+    subst (λ b. has_type (cond b (4 ∷ 6 ∷ []) (3 ∷ 5 ∷ [])) (type_in (page_at file meta.root)) ≡ true) recno type
+
+-- The pages right below a page.
+
+-- the pages that the items of an internal page name
+abbrev pub children_of : Listed RecnoItem → List ℕ
+children_of page = map (λ (item : RecnoItem). item.child) page.items
+
+pub child_of : (image : List ℕ) (p : ℕ) (page : Listed RecnoItem) (c : ℕ) → IsForest image → page_at (file_of image) p ≡ RecnoInternal page → Contains (children_of page) c → IsChild (file_of image) p c
+child_of image p page c forest is at = child_is image p c (children_of page) forest (ap children_in is) at
+
+below_type : (b : Bool) (t : Option ℕ) → has_type (cond b (6 ∷ []) (4 ∷ [])) t ≡ true → has_type (4 ∷ 6 ∷ []) t ≡ true
+below_type true t type = of_type (λ u. has_type (4 ∷ 6 ∷ []) u ≡ true) (6 ∷ []) t (refl, tt) type
+below_type false t type = of_type (λ u. has_type (4 ∷ 6 ∷ []) u ≡ true) (4 ∷ []) t (refl, tt) type
+
+-- a child of a page of records is one too
+pub child_recno : (image : List ℕ) (p : ℕ) (page : Listed RecnoItem) (c : ℕ) → IsForest image → page_at (file_of image) p ≡ RecnoInternal page → Contains (children_of page) c → IsRecnoPage (file_of image) c
+child_recno image p page c forest is at =
+    let child : IsChild (file_of image) p c = child_of image p page c forest is at in
+    below_type (page.header.level == 2) (type_in (page_at (file_of image) c)) (subst (λ q. has_type (child_types q) (type_in (page_at (file_of image) c)) ≡ true) is child.type)
+
+-- The entries below a page.
+
+-- each leaf below a page of records is one of records
+pub leaves_recno : (image : List ℕ) (p q : ℕ) → IsForest image → IsRecnoPage (file_of image) p → Contains (leaves (file_of image) p) q → IsRecnoLeaf (file_of image) q
+leaves_recno image p q forest recno at = recno_leaf image p q forest recno at
+
+-- and so is one that an iterator over the leaves gives
+pub turned_leaf : (image : List ℕ) (p i q page : ℕ) → IsForest image → IsRecnoPage (file_of image) p → (i < length (leaves (file_of image) p)) × (q ≡ get_or (leaves (file_of image) p) i q) → page ≡ q
+    → IsRecnoLeaf (file_of image) page
+turned_leaf image p i q page forest recno turn same =
+    subst (IsRecnoLeaf (file_of image)) (sym same) (leaves_recno image p q forest recno (i, turn.0, sym turn.1))
+
+entries_joined : (file : File) (cs : List ℕ) → entries_on file (flat_map (leaves file) cs) ≡ flat_map (tree_entries file) cs
+unfolding tree_entries
+entries_joined file [] = refl
+entries_joined file (c ∷ cs) =
+    flat_map-append (λ p. entries_in (page_at file p)) (leaves file c) (flat_map (leaves file) cs)
+    ∙ ap (λ items. tree_entries file c ++ items) (entries_joined file cs)
+
+pub entries_are : (file : File) (p : ℕ) → tree_entries file p ≡ entries_on file (leaves file p)
+unfolding tree_entries
+entries_are file p = refl
+
+-- the entries below an internal page are those of its children, joined
+pub entries_below : (image : List ℕ) (p : ℕ) (page : Listed RecnoItem) → IsForest image → page_at (file_of image) p ≡ RecnoInternal page
+    → tree_entries (file_of image) p ≡ flat_map (tree_entries (file_of image)) (children_of page)
+entries_below image p page forest is =
+    entries_are (file_of image) p
+    ∙ (ap (entries_on (file_of image)) (leaves_of_inner image p (children_of page) forest (ap children_in is)) ∙ entries_joined (file_of image) (children_of page))
+
+leaf_shape : (image : List ℕ) (p : ℕ) (page : Listed Item) → IsForest image → page_at (file_of image) p ≡ RecnoLeaf page → IsLeafPage (page_at (file_of image) p)
+leaf_shape image p page forest is =
+    elim (tree_cases image p forest (ap (λ q. has_type (3 ∷ 4 ∷ 5 ∷ 6 ∷ 12 ∷ []) (type_in q)) is)) [
+      | inl inner ↦ absurd (let none : Some inner.children ≡ None = sym inner.are ∙ ap children_in is in cc)
+      | inr leaf ↦ leaf
+    ]
+
+-- the entries of a leaf
+pub entries_of_leaf : (image : List ℕ) (p : ℕ) (page : Listed Item) → IsForest image → page_at (file_of image) p ≡ RecnoLeaf page → tree_entries (file_of image) p ≡ page.items
+entries_of_leaf image p page forest is =
+    let file : File = file_of image in
+    entries_are file p ∙ (ap (entries_on file) (leaves_of_leaf file p (leaf_shape image p page forest is)) ∙ (append-nil (entries_in (page_at file p)) ∙ ap entries_in is))
+
+-- Views.
+
+seen_internal : (view : PageView) (page : Listed RecnoItem) → page_seen view ≡ RecnoInternal page → (v : Listed RecnoItem) × (view ≡ InternalView v)
+seen_internal (InternalView v) page seen = (v, refl)
+seen_internal view page seen = absurd cc
+
+seen_leaf : (view : PageView) (page : Listed Item) → page_seen view ≡ RecnoLeaf page → (v : Listed Item) × (view ≡ LeafView v)
+seen_leaf (LeafView v) page seen = (v, refl)
+seen_leaf view page seen = absurd cc
+
+-- the view of a page of records is none of the others
+pub no_other_view : (image : List ℕ) (p : ℕ) (view : PageView) → IsForest image → IsRecnoPage (file_of image) p → page_seen view ≡ page_at (file_of image) p
+    → ((v : Listed RecnoItem) → view ≡ InternalView v → ⊥) → ((v : Listed Item) → view ≡ LeafView v → ⊥) → ⊥
+no_other_view image p view forest recno seen internal leaf =
+    elim (recno_cases image p forest recno) [
+      | inl is ↦ let as_internal = seen_internal view is.0 (seen ∙ is.1) in internal as_internal.0 as_internal.1
+      | inr is ↦ let as_leaf = seen_leaf view is.0 (seen ∙ is.1) in leaf as_leaf.0 as_leaf.1
+    ]
+
+-- a leaf isn't an internal page
+pub leaf_no_internal : (file : File) (p : ℕ) (page : Listed RecnoItem) → IsRecnoLeaf file p → RecnoInternal page ≡ page_at file p → ⊥
+leaf_no_internal file p page leaf is = let type : ◌≡◌ {A = Option ℕ} (Some 4) (Some 6) = ap type_in is ∙ leaf in absurd cc
+
+pub leaf_inside : (image : List ℕ) (p : ℕ) → IsRecnoLeaf (file_of image) p → p ≤ (file_of image).last
+leaf_inside image p leaf = recno_inside image p (leaf_recno (file_of image) p leaf)

@@ -1,0 +1,199 @@
+-- How the counts of internal pages lead to an entry.
+use Rattle.std.proofs.Common.{◌≡◌, ℕ, zero, suc, ◌+◌, ◌-◌, ◌<◌, ◌≤◌, Bool, true, false, cond, List, [], ◌∷◌, ◌++◌, drop, length, map, Option, Some, None, arith, refl, sym, ◌∙◌, ap, subst, inl, inr}
+use Rattle.std.specs.Prelude.{nat_lt, slice_get}
+use Rattle.std.specs.List.{Contains, filter, flat_map, list_any}
+use Rattle.std.specs.Option.{is_some, unwrap_or}
+use Rattle.std.proofs.lemmas.Bool.{eqb-true, le-ltb, lt-ltb, ltb-false, ltb-true, not-false, or_parts}
+use Rattle.std.proofs.lemmas.List.{drop_more}
+use Rattle.std.proofs.lemmas.List.Elements.{Contains-append_cases, Contains-append_left, Contains-append_right}
+use Rattle.std.proofs.lemmas.Option.{get_or_from_slice_get, slice_get_within}
+use Rattle.bdb_graph.specs.Linked.{IsForest}
+use Rattle.bdb_graph.proofs.ForestLemmas.{in_filter}
+use Rattle.bdb_model.specs.declared.pages.RecnoItem.{RecnoItem}
+use Rattle.bdb_model.specs.ContentRows.{has_wrong_count, inner_in, inner_pages}
+use Rattle.bdb_model.specs.Contents.{tree_entries}
+use Rattle.bdb_model.specs.File.{File, file_of, header_in, page_at}
+use Rattle.bdb_model.specs.Leaves.{children_in}
+use Rattle.bdb_model.specs.Page.{Item, Listed, RecnoInternal, RecnoLeaf}
+use Rattle.bdb_model.proofs.MemberLemmas.{first_member, in_flat_map, later_member, member_cases, no_member, of_filter, of_flat_map}
+use Rattle.bdb_tree.proofs.TreeLemmas.{IsChild, tree_cases}
+use Rattle.bdb_recno.specs.Counts.{HasRightCounts, child_by_count}
+use Rattle.bdb_recno.specs.Pages.{IsRecnoPage}
+use Rattle.bdb_recno.proofs.CountLemmas.{level_below, miscounts}
+use Rattle.bdb_recno.proofs.PageLemmas.{child_of, child_recno, children_of, entries_below, entries_of_leaf, recno_tree}
+
+-- The internal pages below a page.
+
+-- each of these pages is one of those
+abbrev AreAmong : List ℕ → List ℕ → Type 0
+AreAmong ps qs = (p : ℕ) → Contains ps p → Contains qs p
+
+inner_among : (n : ℕ) (file : File) (ps qs : List ℕ) → AreAmong ps qs → AreAmong (inner_in n file ps) (inner_in n file qs)
+inner_among zero file ps qs among p at = at
+inner_among (suc n) file ps qs among p at =
+    let inner : ℕ → Bool = λ q. is_some (children_in (page_at file q)) in
+    let below : ℕ → List ℕ = λ q. unwrap_or (children_in (page_at file q)) [] in
+    elim (Contains-append_cases (filter inner ps) (inner_in n file (level_below file ps)) p at) [
+      | inl here ↦
+          let passed : Contains ps p × (inner p ≡ true) = of_filter inner ps p here in
+          Contains-append_left (filter inner qs) (inner_in n file (level_below file qs)) p (in_filter inner qs p (among p passed.0) passed.1)
+      | inr later ↦
+          Contains-append_right (filter inner qs) (inner_in n file (level_below file qs)) p
+          (inner_among n file (level_below file ps) (level_below file qs)
+          (λ c there.
+          let found : (q : ℕ) × Contains ps q × Contains (below q) c = of_flat_map below ps c there in
+          in_flat_map below qs found.0 c (among found.0 found.1) found.2)
+          p later)
+    ]
+
+one_among : (p : ℕ) (qs : List ℕ) → Contains qs p → AreAmong (p ∷ []) qs
+one_among p qs at q there =
+    elim (member_cases p [] q there) [ inl same ↦ subst (Contains qs) same at | inr later ↦ absurd (no_member [] q refl later) ]
+
+-- the internal pages of a child are some of its parent's
+child_among : (n : ℕ) (file : File) (p c : ℕ) (page : Listed RecnoItem) → page_at file p ≡ RecnoInternal page → Contains (children_of page) c → (header_in (page_at file c)).level ≡ n → (header_in (page_at file p)).level ≡ suc n
+    → AreAmong (inner_pages file c) (inner_pages file p)
+unfolding inner_pages
+child_among n file p c page is at low high q there =
+    let inner : ℕ → Bool = λ r. is_some (children_in (page_at file r)) in
+    let below : Contains (level_below file (p ∷ [])) c =
+    in_flat_map (λ r. unwrap_or (children_in (page_at file r)) []) (p ∷ []) p c (first_member p []) (subst (λ pg. Contains (unwrap_or (children_in pg) []) c) (sym is) at) in
+    subst (λ k. Contains (inner_in k file (p ∷ [])) q) (sym high)
+    (Contains-append_right (filter inner (p ∷ [])) (inner_in n file (level_below file (p ∷ []))) q
+    (inner_among n file (c ∷ []) (level_below file (p ∷ [])) (one_among c (level_below file (p ∷ [])) below) q (subst (λ k. Contains (inner_in k file (c ∷ [])) q) low there)))
+
+itself_among : (n : ℕ) (file : File) (p : ℕ) (page : Listed RecnoItem) → page_at file p ≡ RecnoInternal page → (header_in (page_at file p)).level ≡ suc n → Contains (inner_pages file p) p
+unfolding inner_pages
+itself_among n file p page is high =
+    let inner : ℕ → Bool = λ r. is_some (children_in (page_at file r)) in
+    subst (λ k. Contains (inner_in k file (p ∷ [])) p) (sym high)
+    (Contains-append_left (filter inner (p ∷ [])) (inner_in n file (level_below file (p ∷ []))) p (in_filter inner (p ∷ []) p (first_member p []) (ap (λ pg. is_some (children_in pg)) is)))
+
+pub child_counts : (image : List ℕ) (p c : ℕ) (page : Listed RecnoItem) → IsForest image → page_at (file_of image) p ≡ RecnoInternal page → Contains (children_of page) c → HasRightCounts (file_of image) p
+    → HasRightCounts (file_of image) c
+child_counts image p c page forest is at counts =
+    let file : File = file_of image in
+    let child : IsChild file p c = child_of image p page c forest is at in
+    record { right = λ q there. counts.right q (child_among (header_in (page_at file c)).level file p c page is at refl (omega (arith, child.level)) q there) }
+
+pub some_level : (image : List ℕ) (p : ℕ) → IsForest image → IsRecnoPage (file_of image) p → 1 ≤ (header_in (page_at (file_of image) p)).level
+some_level image p forest recno =
+    elim (tree_cases image p forest (recno_tree (file_of image) p recno)) [
+      | inl inner ↦ let high : 2 ≤ (header_in (page_at (file_of image) p)).level = inner.level in omega arith
+      | inr leaf ↦ let one : (header_in (page_at (file_of image) p)).level ≡ 1 = leaf.level in omega arith
+    ]
+
+-- the counts of a page's own items
+pub own_counts : (image : List ℕ) (p : ℕ) (page : Listed RecnoItem) → IsForest image → IsRecnoPage (file_of image) p → page_at (file_of image) p ≡ RecnoInternal page → HasRightCounts (file_of image) p
+    → list_any (miscounts (file_of image)) page.items ≡ false
+own_counts image p page forest recno is counts =
+    let file : File = file_of image in
+    let high : 1 ≤ (header_in (page_at file p)).level = some_level image p forest recno in
+    sym (ap (has_wrong_count file) is) ∙ counts.right p (itself_among ((header_in (page_at file p)).level - 1) file p page is (omega arith))
+
+-- The entry at a place.
+
+get_left : {X : Type 0} (xs ys : List X) (i : ℕ) → i < length xs → slice_get (xs ++ ys) i ≡ slice_get xs i
+get_left [] ys i below = absurd (omega arith)
+get_left (x ∷ xs) ys zero below = refl
+get_left (x ∷ xs) ys (suc i) below = get_left xs ys i (omega arith)
+
+get_right : {X : Type 0} (xs ys : List X) (i j : ℕ) → i ≡ length xs + j → slice_get (xs ++ ys) i ≡ slice_get ys j
+get_right [] ys i j is = let same : i ≡ j = omega arith in ap (slice_get ys) same
+get_right (x ∷ xs) ys zero j is = absurd (omega arith)
+get_right (x ∷ xs) ys (suc i) j is = get_right xs ys i j (omega arith)
+
+-- what child_by_count leads to
+abbrev pub LeadsTo : File → List RecnoItem → ℕ → Option (ℕ × ℕ) → Type 0
+LeadsTo file items place None = slice_get (flat_map (tree_entries file) (map (λ (item : RecnoItem). item.child) items)) place ≡ None
+LeadsTo file items place (Some (child, below)) =
+    Contains (map (λ (item : RecnoItem). item.child) items) child
+    × (slice_get (flat_map (tree_entries file) (map (λ (item : RecnoItem). item.child) items)) place ≡ slice_get (tree_entries file child) below)
+
+later_leads : (file : File) (item : RecnoItem) (items : List RecnoItem) (place : ℕ) (found : Option (ℕ × ℕ)) → item.count ≡ length (tree_entries file item.child) → item.count ≤ place
+    → LeadsTo file items (place - item.count) found → LeadsTo file (item ∷ items) place found
+later_leads file item items place None count past leads =
+    get_right (tree_entries file item.child) (flat_map (tree_entries file) (map (λ (it : RecnoItem). it.child) items)) place (place - item.count) (omega arith) ∙ leads
+later_leads file item items place (Some (child, below)) count past leads = (
+  later_member item.child (map (λ (it : RecnoItem). it.child) items) child leads.0,
+  get_right (tree_entries file item.child) (flat_map (tree_entries file) (map (λ (it : RecnoItem). it.child) items)) place (place - item.count) (omega arith) ∙ leads.1,
+)
+
+pub count_leads : (file : File) (items : List RecnoItem) (place : ℕ) → list_any (miscounts file) items ≡ false → LeadsTo file items place (child_by_count items place)
+count_leads file [] place right = refl
+count_leads file (item ∷ items) place right =
+    let parts : (miscounts file item ≡ false) × (list_any (miscounts file) items ≡ false) = or_parts (miscounts file item) (list_any (miscounts file) items) right in
+    let count : item.count ≡ length (tree_entries file item.child) = eqb-true item.count (length (tree_entries file item.child)) (not-false _ parts.0) in
+    elim (nat_lt place item.count) as (λ b. nat_lt place item.count ≡ b → LeadsTo file (item ∷ items) place (cond b (Some (item.child, place)) (child_by_count items (place - item.count)))) [
+      | true ↦ λ less.
+          let below : place < item.count = ltb-true place item.count less in (
+            first_member item.child (map (λ (it : RecnoItem). it.child) items),
+            get_left (tree_entries file item.child) (flat_map (tree_entries file) (map (λ (it : RecnoItem). it.child) items)) place (omega arith),
+          )
+      | false ↦ λ more. later_leads file item items place (child_by_count items (place - item.count)) count (ltb-false place item.count more) (count_leads file items (place - item.count) parts.1)
+    ] refl
+
+-- The loop over the items.
+
+drop_at : (its : List RecnoItem) (k : ℕ) (it : RecnoItem) → slice_get its k ≡ Some it → drop k its ≡ it ∷ drop (k + 1) its
+drop_at its k it there =
+    drop_more its k it (slice_get_within its k it there) ∙ ap (λ x. x ∷ drop (k + 1) its) (get_or_from_slice_get its k it it there)
+
+pub count_here : (items : List RecnoItem) (i place left : ℕ) (item : RecnoItem) → slice_get items i ≡ Some item → child_by_count (drop i items) left ≡ child_by_count items place → left < item.count
+    → Some (item.child, left) ≡ child_by_count items place
+count_here items i place left item at same below =
+    sym (ap (λ b. cond b (Some (item.child, left)) (child_by_count (drop (i + 1) items) (left - item.count))) (lt-ltb left item.count below))
+    ∙ (ap (λ its. child_by_count its left) (sym (drop_at items i item at)) ∙ same)
+
+pub count_later : (items : List RecnoItem) (i place left : ℕ) (item : RecnoItem) → slice_get items i ≡ Some item → child_by_count (drop i items) left ≡ child_by_count items place → item.count ≤ left
+    → child_by_count (drop (i + 1) items) (left - item.count) ≡ child_by_count items place
+count_later items i place left item at same past =
+    sym (ap (λ b. cond b (Some (item.child, left)) (child_by_count (drop (i + 1) items) (left - item.count))) (le-ltb left item.count past))
+    ∙ (ap (λ its. child_by_count its left) (sym (drop_at items i item at)) ∙ same)
+
+-- The way down.
+
+-- a page on the way to an entry, and the place of the entry below it
+pub record IsOnTheWay (file : File) (root place page left : ℕ) : Type 0 where
+  pub recno : IsRecnoPage file page
+  pub counts : HasRightCounts file page
+  pub same : slice_get (tree_entries file page) left ≡ slice_get (tree_entries file root) place
+
+pub way_down : (image : List ℕ) (root place page left child below : ℕ) (inner : Listed RecnoItem) → IsForest image → IsOnTheWay (file_of image) root place page left → RecnoInternal inner ≡ page_at (file_of image) page
+    → Some (child, below) ≡ child_by_count inner.items left → IsOnTheWay (file_of image) root place child below
+way_down image root place page left child below inner forest way is found =
+    let file : File = file_of image in
+    let leads : LeadsTo file inner.items left (Some (child, below)) =
+    subst (LeadsTo file inner.items left) (sym found) (count_leads file inner.items left (own_counts image page inner forest way.recno (sym is) way.counts)) in
+    record {
+      recno = child_recno image page inner child forest (sym is) leads.0;
+      counts = child_counts image page child inner forest (sym is) leads.0 way.counts;
+      same = sym leads.1 ∙ (ap (λ entries. slice_get entries left) (sym (entries_below image page inner forest (sym is))) ∙ way.same);
+    }
+
+-- the child is a level below
+pub way_falls : (image : List ℕ) (root place page left child below : ℕ) (inner : Listed RecnoItem) → IsForest image → IsOnTheWay (file_of image) root place page left → RecnoInternal inner ≡ page_at (file_of image) page
+    → Some (child, below) ≡ child_by_count inner.items left → (header_in (page_at (file_of image) child)).level + 1 ≡ (header_in (page_at (file_of image) page)).level
+way_falls image root place page left child below inner forest way is found =
+    let file : File = file_of image in
+    let leads : LeadsTo file inner.items left (Some (child, below)) =
+    subst (LeadsTo file inner.items left) (sym found) (count_leads file inner.items left (own_counts image page inner forest way.recno (sym is) way.counts)) in
+    (child_of image page inner child forest (sym is) leads.0).level
+
+-- no child has the entry
+pub way_ends : (image : List ℕ) (root place page left : ℕ) (inner : Listed RecnoItem) → IsForest image → IsOnTheWay (file_of image) root place page left → RecnoInternal inner ≡ page_at (file_of image) page
+    → None ≡ child_by_count inner.items left → None ≡ slice_get (tree_entries (file_of image) root) place
+way_ends image root place page left inner forest way is found =
+    let file : File = file_of image in
+    let leads : LeadsTo file inner.items left None =
+    subst (LeadsTo file inner.items left) (sym found) (count_leads file inner.items left (own_counts image page inner forest way.recno (sym is) way.counts)) in
+    sym leads ∙ (ap (λ entries. slice_get entries left) (sym (entries_below image page inner forest (sym is))) ∙ way.same)
+
+pub way_begins : (file : File) (root place : ℕ) → IsRecnoPage file root → HasRightCounts file root → IsOnTheWay file root place root place
+way_begins file root place recno counts = record { recno = recno; counts = counts; same = refl }
+
+-- the leaf that has the entry
+pub way_leaf : (image : List ℕ) (root place page left : ℕ) (leaf : Listed Item) (found : Option Item) → IsForest image → IsOnTheWay (file_of image) root place page left → RecnoLeaf leaf ≡ page_at (file_of image) page
+    → found ≡ slice_get leaf.items left → found ≡ slice_get (tree_entries (file_of image) root) place
+way_leaf image root place page left leaf found forest way is at =
+    at ∙ (ap (λ entries. slice_get entries left) (sym (entries_of_leaf image page leaf forest (sym is))) ∙ way.same)

@@ -1,0 +1,7 @@
+use Rattle.bdb_model.specs.File.{file_of}
+use Rattle.bdb_recno.proofs.CountLemmas.{IsNotedSoFar}
+use Rattle.bdb_recno.proofs.counts.note_counts.Given as goal
+
+-- The faults of the levels passed are noted, and those of this level and the ones below it are the others.
+abbrev pub invariant-loop-level : goal.invariant-loop-level
+invariant-loop-level l = IsNotedSoFar (file_of l.forest) l.root l._level l.pages.items l.least

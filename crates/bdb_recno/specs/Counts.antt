@@ -1,0 +1,16 @@
+-- How the counts of internal pages lead to an entry. Source: docs/FORMAT.md, "Databases of a file".
+use Rattle.std.specs.Prelude.{◌≡◌, ℕ, ◌-◌, nat_lt, if◌then◌else◌, false, List, [], ◌∷◌, Option, Some, None}
+use Rattle.std.specs.List.{Contains}
+use Rattle.bdb_model.specs.declared.pages.RecnoItem.{RecnoItem}
+use Rattle.bdb_model.specs.ContentRows.{has_wrong_count, inner_pages}
+use Rattle.bdb_model.specs.File.{File, page_at}
+
+-- no internal page at or below this page has a wrong count
+pub record HasRightCounts (file : File) (p : ℕ) : Type 0 where
+  pub right : (q : ℕ) → Contains (inner_pages file p) q → has_wrong_count file (page_at file q) ≡ false
+
+-- by the counts of items, the child below which the entry at a place stands, and its place there
+abbrev pub child_by_count : List RecnoItem → ℕ → Option (ℕ × ℕ)
+child_by_count [] place = None
+child_by_count (item ∷ items) place =
+    if nat_lt place item.count then Some (item.child, place) else child_by_count items (place - item.count)

@@ -1,0 +1,91 @@
+ghost use Rattle.std.specs.Prelude.{◌≡◌, ◌+◌, ◌≤◌, [], IsTrue};
+ghost use Rattle.std.specs.Iterator.{YieldsFirstBy, item_count};
+ghost use Rattle.std.specs.List.{cons_option};
+ghost use Rattle.std.specs.Option.{option_map};
+ghost use Rattle.bdb_graph.specs.Linked.{HasMetadata, IsForest};
+ghost use Rattle.bdb_model.specs.ContentRows.{contents_faults};
+ghost use Rattle.bdb_model.specs.File.{file_of, header_in, page_at};
+ghost use Rattle.bdb_model.specs.Lists.{NumberKey, get, recno_list};
+ghost use Rattle.bdb_model.specs.Numbers.{has_bit};
+ghost use Rattle.bdb_model.specs.Page.{BtreeFields};
+ghost use Rattle.bdb_overflow.specs.Datum.{datum_seen};
+ghost use Rattle.bdb_recno.specs.Counts.{HasRightCounts};
+ghost use Rattle.bdb_recno.specs.Pages.{IsRecnoPage};
+
+use crate::entry::{is_deleted, value_at};
+use crate::page::pages_of;
+use crate::search::entry_below;
+use bdb_graph::{Forest, Linked};
+use bdb_model::{BtreeMeta, Steps};
+use bdb_overflow::Datum;
+use std::marker::Model;
+use std::sync::ledger::Ledger;
+
+/// What a list has under a number: one value, or none.
+#[derive(Drop)]
+pub struct Found<'a> {
+    value: Option<Datum<'a>>,
+}
+
+impl<'a> Model for Found<'a> {
+    ghost use Rattle.std.specs.Prelude.{List, ℕ, []};
+    ghost use Rattle.std.specs.List.{cons_option};
+    ghost use Rattle.std.specs.Option.{option_map};
+    ghost use Rattle.bdb_overflow.specs.Datum.{datum_seen};
+
+    ghost Value = { List (List ℕ) };
+
+    ghost view = { λ it. cons_option (option_map datum_seen it.value) [] };
+}
+
+impl<'a> Iterator for Found<'a> {
+    type Item = Datum<'a>;
+
+    ghost next_gives = { YieldsFirstBy datum_seen (λ left. left) };
+
+    ghost remaining = { item_count (λ left. left) };
+
+    fn next(&mut self) -> Option<Datum<'a>> {
+        self.value.take()
+    }
+}
+
+/// What the list of a recno has under a number: a step for each page from the root down to a leaf. It takes no memory.
+pub fn find<'a, L: Ledger>(
+    linked: &Linked<'a>,
+    meta: &BtreeMeta,
+    number: u32,
+    steps: &mut Steps<L>,
+) -> Found<'a>
+    requires meta { HasMetadata (file_of linked.now) (BtreeFields meta.now) }
+    requires recno { IsTrue (has_bit meta.now.flags 0x02) }
+    requires contents { contents_faults (file_of linked.now) (BtreeFields meta.now) ≡ [] }
+    ensures values { result ≡ get (recno_list (file_of linked.now) meta.now.root) (NumberKey number) }
+    ensures cost { steps.new ≤ steps.old + (header_in (page_at (file_of linked.now) meta.now.root)).level }
+{
+    let forest = pages_of(linked, meta);
+    Found {
+        value: record_of(&forest, meta.root, number, steps),
+    }
+}
+
+/// The value of the live record with a number, from 1.
+fn record_of<'a, L: Ledger>(
+    forest: &Forest<'a>,
+    root: u32,
+    number: u32,
+    steps: &mut Steps<L>,
+) -> Option<Datum<'a>>
+    requires forest { IsForest forest.now }
+    requires root { IsRecnoPage (file_of forest.now) root }
+    requires counts { HasRightCounts (file_of forest.now) root }
+    ensures value { cons_option (option_map datum_seen result) [] ≡ get (recno_list (file_of forest.now) root) (NumberKey number) }
+    ensures cost { steps.new ≤ steps.old + (header_in (page_at (file_of forest.now) root)).level }
+{
+    let place = number.checked_sub(1)?;
+    let entry = entry_below(forest, root, place, steps)?;
+    if is_deleted(&entry) {
+        return None;
+    }
+    Some(value_at(forest, &entry))
+}

@@ -1,0 +1,20 @@
+//! What a recno holds: its counts and lengths checked, its list, and a record by its number.
+#![tactic(auto)]
+
+mod contents;
+mod counts;
+mod entries;
+mod entry;
+mod found;
+mod items;
+mod lengths;
+mod list;
+mod listing;
+mod noted;
+mod page;
+mod search;
+
+pub use contents::check;
+pub use found::{Found, find};
+pub use list::scan;
+pub use listing::Scan;

@@ -1,0 +1,80 @@
+ghost use Rattle.std.specs.Prelude.{◌≡◌, IsTrue, length};
+ghost use Rattle.bdb_graph.specs.Linked.{FitsTreeRoot, HasMetadata, IsForest};
+ghost use Rattle.bdb_model.specs.Contents.{entries_in};
+ghost use Rattle.bdb_model.specs.File.{file_of, header_in, page_at};
+ghost use Rattle.bdb_model.specs.Numbers.{has_bit};
+ghost use Rattle.bdb_model.specs.Page.{BtreeFields, RecnoLeaf};
+ghost use Rattle.bdb_recno.specs.Pages.{IsRecnoLeaf, IsRecnoPage};
+ghost use Rattle.bdb_recno.specs.Seen.{recno_page_seen};
+
+use bdb_form::{PageView, RecnoInternalView, RecnoLeafView};
+use bdb_graph::{Forest, Linked};
+use bdb_model::BtreeMeta;
+
+/// The pages of a file, in which the root of this recno is one of records.
+pub(crate) fn pages_of<'a>(linked: &Linked<'a>, meta: &BtreeMeta) -> Forest<'a>
+    requires meta { HasMetadata (file_of linked.now) (BtreeFields meta.now) }
+    requires recno { IsTrue (has_bit meta.now.flags 0x02) }
+    ensures pages { result ≡ linked.now }
+    ensures forest { IsForest linked.now }
+    ensures root { FitsTreeRoot (file_of linked.now) meta.now.root }
+    ensures recno { IsRecnoPage (file_of linked.now) meta.now.root }
+{
+    prove!(linked.root(meta).number() <= linked.head().last);
+    linked.forest()
+}
+
+/// A page of a tree of records.
+#[derive(Drop)]
+pub(crate) enum RecnoPage<'a> {
+    Internal(RecnoInternalView<'a>),
+    Leaf(RecnoLeafView<'a>),
+}
+
+/// A page of a tree of records, by what it is.
+#[tactic(auto, using(crate::proofs::PageLemmas::recno_inside))]
+pub(crate) fn recno_page<'a>(forest: &Forest<'a>, page: u32) -> RecnoPage<'a>
+    requires forest { IsForest forest.now }
+    requires page { IsRecnoPage (file_of forest.now) page }
+    ensures { recno_page_seen result ≡ page_at (file_of forest.now) page }
+{
+    match forest.page(page) {
+        PageView::RecnoInternal(view) => RecnoPage::Internal(view),
+        PageView::RecnoLeaf(view) => RecnoPage::Leaf(view),
+        _ => unreachable!(),
+    }
+}
+
+/// The level of a page of records.
+pub(crate) fn level_of(forest: &Forest<'_>, page: u32) -> u8
+    requires forest { IsForest forest.now }
+    requires page { IsRecnoPage (file_of forest.now) page }
+    ensures { result ≡ (header_in (page_at (file_of forest.now) page)).level }
+{
+    match recno_page(forest, page) {
+        RecnoPage::Internal(view) => view.header().level,
+        RecnoPage::Leaf(view) => view.header().level,
+    }
+}
+
+/// A leaf of records.
+#[tactic(auto, using(crate::proofs::PageLemmas::leaf_recno, crate::proofs::PageLemmas::leaf_no_internal))]
+pub(crate) fn leaf_at<'a>(forest: &Forest<'a>, page: u32) -> RecnoLeafView<'a>
+    requires forest { IsForest forest.now }
+    requires leaf { IsRecnoLeaf (file_of forest.now) page }
+    ensures { page_at (file_of forest.now) page ≡ RecnoLeaf result }
+{
+    match recno_page(forest, page) {
+        RecnoPage::Leaf(view) => view,
+        RecnoPage::Internal(_) => unreachable!(),
+    }
+}
+
+/// How many entries a leaf of records has, deleted ones too.
+pub(crate) fn entries_at(forest: &Forest<'_>, page: u32) -> u16
+    requires forest { IsForest forest.now }
+    requires leaf { IsRecnoLeaf (file_of forest.now) page }
+    ensures { result ≡ length (entries_in (page_at (file_of forest.now) page)) }
+{
+    leaf_at(forest, page).entries()
+}

@@ -1,0 +1,145 @@
+-- Search by halves on an internal page, and the way from a page down to the child that is chosen.
+use Rattle.std.proofs.Common.{◌≡◌, ℕ, zero, suc, ◌+◌, ◌-◌, ◌<◌, ◌≤◌, Bool, true, false, cond, List, [], ◌∷◌, length, map, get_or, arith, refl, sym, ◌∙◌, ap, subst, inl, inr}
+use Rattle.std.specs.Prelude.{Some, slice_get}
+use Rattle.std.specs.List.{Contains, filter, flat_map}
+use Rattle.std.proofs.lemmas.Option.{get_or_from_slice_get}
+use Rattle.std.specs.Option.{is_some, unwrap_or}
+use Rattle.std.proofs.lemmas.List.Elements.{Contains-append_cases, Contains-append_left, Contains-append_right}
+use Rattle.bdb_graph.specs.Linked.{IsForest}
+use Rattle.bdb_graph.proofs.ForestLemmas.{in_filter}
+use Rattle.bdb_graph.specs.Slots.{no_internal_item}
+use Rattle.bdb_model.specs.ContentRows.{inner_in, inner_pages}
+use Rattle.bdb_model.specs.File.{File, file_of, header_in, page_at, type_in}
+use Rattle.bdb_model.specs.Leaves.{children_in}
+use Rattle.bdb_model.specs.Page.{InternalItem, Internal, Listed}
+use Rattle.bdb_model.proofs.MemberLemmas.{first_member, in_flat_map, member_cases, no_member, of_filter, of_flat_map}
+use Rattle.bdb_model.specs.References.{has_type}
+use Rattle.bdb_tree.proofs.ShapeLemmas.{IsFormedPage}
+use Rattle.bdb_tree.proofs.TreeLemmas.{IsChild, formed_at, level, typed_inside}
+use Rattle.bdb_tree.specs.Descent.{AllMonotone, AllReadable, IsLastFalse, IsMonotone, chosen, chosen_after}
+
+-- The item that is chosen.
+
+all_true : (test : InternalItem → Bool) (child : ℕ) (items : List InternalItem) → ((j : ℕ) → j < length items → test (get_or items j no_internal_item) ≡ true) → chosen_after test child items ≡ child
+all_true test child [] later = refl
+all_true test child (item ∷ items) later =
+    rw (later 0 (omega arith)) (all_true test child items (λ j low. later (suc j) (omega arith)))
+
+last_chosen : (test : InternalItem → Bool) (child : ℕ) (items : List InternalItem) (i : ℕ) → i < length items → test (get_or items i no_internal_item) ≡ false
+    → ((j : ℕ) → i < j → j < length items → test (get_or items j no_internal_item) ≡ true)
+    → chosen_after test child items ≡ (get_or items i no_internal_item).child
+last_chosen test child [] i inside is_false later = absurd (omega arith)
+last_chosen test child (item ∷ items) zero inside is_false later =
+    rw is_false (all_true test item.child items (λ j low. later (suc j) (omega arith) (omega arith)))
+last_chosen test child (item ∷ items) (suc i) inside is_false later =
+    last_chosen test (cond (test item) child item.child) items i (omega arith) is_false (λ j above low. later (suc j) (omega arith) (omega arith))
+
+-- the last item for which the test is false is the one whose child is chosen
+pub chosen_is : (test : InternalItem → Bool) (items : List InternalItem) (i : ℕ) → IsLastFalse test items i → chosen test items ≡ (get_or items i no_internal_item).child
+chosen_is test [] i is = absurd (omega (arith, is.inside))
+chosen_is test (item ∷ items) zero is = all_true test item.child items (λ j low. is.later (suc j) (omega arith) (omega arith))
+chosen_is test (item ∷ items) (suc i) is =
+    last_chosen test item.child items i (omega (arith, is.inside)) (is.is_false (omega arith)) (λ j above low. is.later (suc j) (omega arith) (omega arith))
+
+pub chosen_item : (test : InternalItem → Bool) (items : List InternalItem) (i : ℕ) (item : InternalItem) → IsLastFalse test items i → slice_get items i ≡ Some item → item.child ≡ chosen test items
+chosen_item test items i item is at = ap (λ (x : InternalItem). x.child) (sym (get_or_from_slice_get items i item no_internal_item at)) ∙ sym (chosen_is test items i is)
+
+-- Search by halves.
+
+-- the last item for which the test is false is at low or between low and high
+pub record IsBetween (test : InternalItem → Bool) (items : List InternalItem) (low high : ℕ) : Type 0 where
+  pub some : low < high
+  pub inside : high ≤ length items
+  pub low_false : 1 ≤ low → test (get_or items low no_internal_item) ≡ false
+  pub high_true : high < length items → test (get_or items high no_internal_item) ≡ true
+
+-- The internal pages of a tree.
+
+abbrev kids : File → ℕ → List ℕ
+kids file p = unwrap_or (children_in (page_at file p)) []
+
+inner_more : (levels : ℕ) (file : File) (ps qs : List ℕ) → ((x : ℕ) → Contains ps x → Contains qs x) → (x : ℕ) → Contains (inner_in levels file ps) x → Contains (inner_in levels file qs) x
+inner_more zero file ps qs more x at = at
+inner_more (suc levels) file ps qs more x at =
+    let test : ℕ → Bool = λ p. is_some (children_in (page_at file p)) in
+    elim (Contains-append_cases (filter test ps) (inner_in levels file (flat_map (kids file) ps)) x at) [
+      | inl here ↦
+          let passed : Contains ps x × (test x ≡ true) = of_filter test ps x here in
+          Contains-append_left (filter test qs) (inner_in levels file (flat_map (kids file) qs)) x (in_filter test qs x (more x passed.0) passed.1)
+      | inr later ↦
+          Contains-append_right (filter test qs) (inner_in levels file (flat_map (kids file) qs)) x
+          (inner_more levels file (flat_map (kids file) ps) (flat_map (kids file) qs)
+          (λ y below.
+          let found : (p : ℕ) × Contains ps p × Contains (kids file p) y = of_flat_map (kids file) ps y below in
+          in_flat_map (kids file) qs found.0 y (more found.0 found.1) found.2) x later)
+    ]
+
+inner_here : (levels : ℕ) (file : File) (p : ℕ) (page : Listed InternalItem) → 1 ≤ levels → page_at file p ≡ Internal page → Contains (inner_in levels file (p ∷ [])) p
+inner_here zero file p page some is = absurd (omega arith)
+inner_here (suc levels) file p page some is =
+    let test : ℕ → Bool = λ q. is_some (children_in (page_at file q)) in
+    Contains-append_left (filter test (p ∷ [])) (inner_in levels file (flat_map (kids file) (p ∷ []))) p
+    (in_filter test (p ∷ []) p (first_member p []) (ap (λ q. is_some (children_in q)) is))
+
+inner_below : (levels : ℕ) (file : File) (p child q : ℕ) → Contains (kids file p) child → Contains (inner_in levels file (child ∷ [])) q → Contains (inner_in (suc levels) file (p ∷ [])) q
+inner_below levels file p child q held at =
+    Contains-append_right (filter (λ x. is_some (children_in (page_at file x))) (p ∷ [])) (inner_in levels file (flat_map (kids file) (p ∷ []))) q
+    (inner_more levels file (child ∷ []) (flat_map (kids file) (p ∷ []))
+    (λ x only.
+    elim (member_cases child [] x only) [
+      | inl same ↦ subst (Contains (flat_map (kids file) (p ∷ []))) same (in_flat_map (kids file) (p ∷ []) p child (first_member p []) held)
+      | inr none ↦ absurd (no_member [] x refl none)
+    ]) q at)
+
+-- an internal page is one of its own tree
+pub is_inner : (file : File) (p : ℕ) (page : Listed InternalItem) → 1 ≤ page.header.level → page_at file p ≡ Internal page → Contains (inner_pages file p) p
+unfolding inner_pages
+is_inner file p page some is = inner_here (header_in (page_at file p)).level file p page (omega (arith, ap (λ q. (header_in q).level) is, some)) is
+
+-- and the internal pages of the tree of a child are too
+pub is_inner_below : (file : File) (p : ℕ) (page : Listed InternalItem) (child q : ℕ) → page_at file p ≡ Internal page → Contains (map (λ (item : InternalItem). item.child) page.items) child
+    → IsChild file p child → Contains (inner_pages file child) q → Contains (inner_pages file p) q
+unfolding inner_pages
+is_inner_below file p page child q is held fits at =
+    let up : suc (level file child) ≡ level file p = omega (arith, fits.level) in
+    subst (λ n. Contains (inner_in n file (p ∷ [])) q) up
+    (inner_below (level file child) file p child q (subst (λ k. Contains (unwrap_or (children_in k) []) child) (sym is) held) at)
+
+-- What a test asks of the page where a descent stands.
+
+-- an internal page has items, and stands above the leaves
+pub internal_is : (image : List ℕ) (p : ℕ) (page : Listed InternalItem) → IsForest image → p ≤ (file_of image).last → page_at (file_of image) p ≡ Internal page → IsFormedPage (Internal page)
+internal_is image p page forest low is = subst IsFormedPage is (formed_at image p forest low)
+
+pub some_items : (image : List ℕ) (p : ℕ) (view : Listed InternalItem) → IsForest image → p ≤ (file_of image).last → Internal view ≡ page_at (file_of image) p → 0 < length view.items
+some_items image p view forest low is = (internal_is image p view forest low (sym is)).1
+
+is_inner_here : (image : List ℕ) (p : ℕ) (view : Listed InternalItem) → IsForest image → p ≤ (file_of image).last → Internal view ≡ page_at (file_of image) p → Contains (inner_pages (file_of image) p) p
+is_inner_here image p view forest low is =
+    let high : 2 ≤ view.header.level = (internal_is image p view forest low (sym is)).0 in is_inner (file_of image) p view (omega arith) (sym is)
+
+pub readable_here : (image : List ℕ) (reads : InternalItem → Type 0) (p : ℕ) (view : Listed InternalItem) → IsForest image → p ≤ (file_of image).last → AllReadable (file_of image) reads p
+    → Internal view ≡ page_at (file_of image) p → (item : InternalItem) → Contains view.items item → reads item
+readable_here image reads p view forest low readable is item at = readable p view item (is_inner_here image p view forest low is) (sym is) at
+
+pub monotone_here : (image : List ℕ) (test : InternalItem → Bool) (p : ℕ) (view : Listed InternalItem) → IsForest image → p ≤ (file_of image).last → AllMonotone (file_of image) test p
+    → Internal view ≡ page_at (file_of image) p → IsMonotone test view.items
+monotone_here image test p view forest low monotone is = monotone p view (is_inner_here image p view forest low is) (sym is)
+
+-- For callers.
+
+-- the items of a page keep a test once each one keeps it for the next
+pub monotone_by_neighbours : (test : InternalItem → Bool) (items : List InternalItem)
+    → ((i : ℕ) → 1 ≤ i → i + 1 < length items → test (get_or items i no_internal_item) ≡ true → test (get_or items (i + 1) no_internal_item) ≡ true)
+    → IsMonotone test items
+monotone_by_neighbours test items next i j above low inside holds = far (j - i) j (omega arith) inside
+  where
+    far : (n k : ℕ) → k ≡ i + n → k < length items → test (get_or items k no_internal_item) ≡ true
+    far zero k same low = ap (λ m. test (get_or items m no_internal_item)) (let at : k ≡ i = omega arith in at) ∙ holds
+    far (suc n) k same low =
+        ap (λ m. test (get_or items m no_internal_item)) (let at : k ≡ i + n + 1 = omega arith in at)
+        ∙ next (i + n) (omega arith) (omega arith) (far n (i + n) refl (omega arith))
+
+-- an internal page is there
+pub internal_inside : (image : List ℕ) (p : ℕ) (page : Listed InternalItem) → page_at (file_of image) p ≡ Internal page → p ≤ (file_of image).last
+internal_inside image p page is = typed_inside image (3 ∷ []) p (ap (λ q. has_type (3 ∷ []) (type_in q)) is)

@@ -1,0 +1,119 @@
+-- The leaves of a tree, level by level: the pages of one level stand for the leaves below them, and so do their children.
+use Rattle.std.proofs.Common.{◌≡◌, ℕ, ◌+◌, ◌<◌, ◌≤◌, List, [], ◌∷◌, ◌++◌, length, map, take, get_or, arith, refl, sym, ◌∙◌, ap, subst, append_assoc, append-nil, inl, inr, true}
+use Rattle.std.specs.Prelude.{Option, Some, None}
+use Rattle.std.specs.List.{All, Contains, flat_map, slice_get}
+use Rattle.std.specs.Option.{unwrap_or}
+use Rattle.std.proofs.lemmas.List.{map-append, take_more}
+use Rattle.std.proofs.lemmas.List.Concat.{flat_map-append}
+use Rattle.std.proofs.lemmas.List.Elements.{All-contains, Contains-get_or}
+use Rattle.std.proofs.lemmas.Option.{get_or_from_slice_get}
+use Rattle.bdb_form.specs.declared.view.PageView.{PageView}
+use Rattle.bdb_form.specs.Seen.{header_seen, page_seen}
+use Rattle.bdb_model.specs.declared.pages.Header.{Header}
+use Rattle.bdb_model.specs.File.{File, file_of, header_in, page_at, type_in}
+use Rattle.bdb_model.specs.Leaves.{children_in, leaves}
+use Rattle.bdb_model.specs.Page.{Page}
+use Rattle.bdb_model.specs.References.{has_type}
+use Rattle.bdb_model.proofs.MemberLemmas.{first_member, later_member, no_member, of_flat_map}
+use Rattle.bdb_graph.specs.Linked.{IsForest}
+use Rattle.bdb_tree.specs.Trees.{IsTreePage, children_at}
+use Rattle.bdb_tree.proofs.ShapeLemmas.{tree_header}
+use Rattle.bdb_tree.proofs.TreeLemmas.{IsChild, child_is, flat_map_same, leaves_of_inner, leaves_of_leaf, level, only, tree_cases}
+
+-- one item more
+pub children_more : {X : Type 0} (child : X → ℕ) (before : List ℕ) (items : List X) (i : ℕ) (item : X) → i < length items → slice_get items i ≡ Some item
+    → (before ++ map child (take i items)) ++ (child item ∷ []) ≡ before ++ map child (take (i + 1) items)
+children_more child before items i item below at =
+    append_assoc before (map child (take i items)) (child item ∷ [])
+    ∙ ap (λ cs. before ++ cs)
+    (sym (ap (map child) (take_more items i item below ∙ ap (λ x. take i items ++ (x ∷ [])) (get_or_from_slice_get items i item item at)) ∙ map-append child (take i items) (item ∷ [])))
+
+-- the header of a page of a tree, as its view tells it
+pub seen_level : (file : File) (p : ℕ) (view : PageView) → IsTreePage file p → page_seen view ≡ page_at file p → (header_seen view).level ≡ (header_in (page_at file p)).level
+seen_level file p view tree seen =
+    ap (λ (header : Header). header.level) (tree_header view (subst (λ (page : Page). has_type (3 ∷ 4 ∷ 5 ∷ 6 ∷ 12 ∷ []) (type_in page) ≡ true) (sym seen) tree))
+    ∙ ap (λ (page : Page). (header_in page).level) seen
+
+-- Children of pages.
+
+joined_twice : {X Y Z : Type 0} (f : Y → List Z) (g : X → List Y) (xs : List X) → flat_map f (flat_map g xs) ≡ flat_map (λ x. flat_map f (g x)) xs
+joined_twice f g [] = refl
+joined_twice f g (x ∷ xs) = flat_map-append f (g x) (flat_map g xs) ∙ ap (λ zs. flat_map f (g x) ++ zs) (joined_twice f g xs)
+
+all_of : {X : Type 0} (P : X → Type 0) (xs : List X) → ((x : X) → Contains xs x → P x) → All P xs
+all_of P xs each = λ k d below. each (get_or xs k d) (Contains-get_or xs k d below)
+
+child_at : (image : List ℕ) (p c : ℕ) → IsForest image → Contains (children_at (file_of image) p) c → IsChild (file_of image) p c
+child_at image p c forest at = of (children_in (page_at (file_of image) p)) refl
+  where
+    of : (children : Option (List ℕ)) → children_in (page_at (file_of image) p) ≡ children → IsChild (file_of image) p c
+    of None none = absurd (no_member [] c refl (subst (λ cs. Contains (unwrap_or cs []) c) none at))
+    of (Some children) are = child_is image p c children forest are (subst (λ cs. Contains (unwrap_or cs []) c) are at)
+
+-- the children of pages are pages of trees
+pub children_are_trees : (image pages : List ℕ) → IsForest image → All (IsTreePage (file_of image)) (flat_map (children_at (file_of image)) pages)
+children_are_trees image pages forest =
+    all_of (IsTreePage (file_of image)) (flat_map (children_at (file_of image)) pages) (λ c at.
+    let page : (p : ℕ) × Contains pages p × Contains (children_at (file_of image) p) c = of_flat_map (children_at (file_of image)) pages c at in
+    (child_at image page.0 c forest page.2).tree)
+
+-- Levels.
+
+-- pages of one level, which falls by one with each turn; the leaves below them are all of a tree
+pub record IsLevel (file : File) (pages : List ℕ) (turn top : ℕ) (all : List ℕ) : Type 0 where
+  pub trees : All (IsTreePage file) pages
+  pub level : (p : ℕ) → Contains pages p → (header_in (page_at file p)).level + turn ≡ top + 1
+  pub leaves : flat_map (leaves file) pages ≡ all
+
+-- the first page alone
+pub first_level : (file : File) (pages : List ℕ) (p top : ℕ) → IsTreePage file p → top ≡ level file p → pages ≡ p ∷ [] → IsLevel file pages 1 top (leaves file p)
+first_level file pages p top tree is alone =
+    subst (λ ps. IsLevel file ps 1 top (leaves file p)) (sym alone)
+    (record {
+      trees = all_of (IsTreePage file) (p ∷ []) (λ q at. subst (IsTreePage file) (only p q at) tree);
+      level = λ q at. let same : level file p ≡ level file q = ap (level file) (only p q at) in omega arith;
+      leaves = append-nil (leaves file p);
+    })
+
+leaves_by_children : (image : List ℕ) (p : ℕ) → IsForest image → IsTreePage (file_of image) p → 2 ≤ level (file_of image) p → leaves (file_of image) p ≡ flat_map (leaves (file_of image)) (children_at (file_of image) p)
+leaves_by_children image p forest tree high =
+    elim (tree_cases image p forest tree) [
+      | inl inner ↦ leaves_of_inner image p inner.children forest inner.are ∙ ap (λ cs. flat_map (leaves (file_of image)) (unwrap_or cs [])) (sym inner.are)
+      | inr leaf ↦ absurd (let one : level (file_of image) p ≡ 1 = leaf.level in omega arith)
+    ]
+
+-- the children of pages that are no leaves
+pub next_is_level : (image pages next all : List ℕ) (turn top : ℕ) → IsForest image → IsLevel (file_of image) pages turn top all → turn < top → next ≡ flat_map (children_at (file_of image)) pages
+    → IsLevel (file_of image) next (turn + 1) top all
+next_is_level image pages next all turn top forest is more next_is =
+    let file : File = file_of image in
+    subst (λ ps. IsLevel file ps (turn + 1) top all) (sym next_is)
+    (record {
+      trees = children_are_trees image pages forest;
+      level = λ c at.
+          let page : (p : ℕ) × Contains pages p × Contains (children_at file p) c = of_flat_map (children_at file) pages c at in
+          let child : IsChild file page.0 c = child_at image page.0 c forest page.2 in
+          omega (arith, child.level, is.level page.0 page.1);
+      leaves =
+          joined_twice (leaves file) (children_at file) pages
+          ∙ (sym
+          (flat_map_same (leaves file) (λ p. flat_map (leaves file) (children_at file p)) pages (λ p at.
+          leaves_by_children image p forest (All-contains (IsTreePage file) pages p is.trees at) (omega (arith, is.level p at))))
+          ∙ is.leaves);
+    })
+
+singles : (f : ℕ → List ℕ) (ps : List ℕ) → ((p : ℕ) → Contains ps p → f p ≡ p ∷ []) → flat_map f ps ≡ ps
+singles f [] each = refl
+singles f (p ∷ ps) each = ap (λ qs. qs ++ flat_map f ps) (each p (first_member p ps)) ∙ ap (λ qs. p ∷ qs) (singles f ps (λ q at. each q (later_member p ps q at)))
+
+-- pages of the last level are leaves, all of them
+pub last_level : (image pages all : List ℕ) (turn top : ℕ) → IsForest image → IsLevel (file_of image) pages turn top all → top ≤ turn → pages ≡ all
+last_level image pages all turn top forest is end =
+    sym
+    (singles (leaves (file_of image)) pages (λ p at.
+    let tree : IsTreePage (file_of image) p = All-contains (IsTreePage (file_of image)) pages p is.trees at in
+    elim (tree_cases image p forest tree) [
+      | inr leaf ↦ leaves_of_leaf (file_of image) p leaf
+      | inl inner ↦ absurd (let high : 2 ≤ level (file_of image) p = inner.level in omega (arith, is.level p at))
+    ]))
+    ∙ is.leaves

@@ -1,0 +1,10 @@
+pub mod BelongLemmas
+pub mod DescentLemmas
+pub mod DownLemmas
+pub mod LevelLemmas
+pub mod LinkLemmas
+pub mod NotedLemmas
+pub mod ShapeLemmas
+pub mod StageLemmas
+pub mod TreeLemmas
+pub mod WayLemmas

@@ -1,0 +1,246 @@
+-- Where no row of stage 6 holds, a walk by next pages from a leaf of a tree gives that leaf and those after it.
+use Rattle.std.proofs.Common.{◌≡◌, ◌⊎◌, ℕ, zero, suc, ◌+◌, ◌<◌, ◌≤◌, true, false, ◌||◌, eqb, List, [], ◌∷◌, ◌++◌, length, arith, refl, sym, ◌∙◌, ap, subst, inl, inr, append_assoc, length-append}
+use Rattle.std.specs.Prelude.{◌==◌, Some}
+use Rattle.std.specs.List.{AllByRecursion, Contains, IsDistinct, list_any, slice_get}
+use Rattle.std.proofs.lemmas.Bool.{and_parts, eqb-true, ne_eqb, not-false}
+use Rattle.std.proofs.lemmas.List.Elements.{Contains-append_right}
+use Rattle.std.proofs.lemmas.Map.Steps.{length-le_from_distinct_below}
+use Rattle.bdb_model.specs.declared.metadata.Head.{Head}
+use Rattle.bdb_model.specs.declared.references.Sort.{Sort}
+use Rattle.bdb_model.specs.declared.references.Sort.TheVariants.{DuplicateRoot, Root}
+use Rattle.bdb_model.specs.Chains.{chain, chain_in, next_of}
+use Rattle.bdb_model.specs.File.{File, file_of, header_in, page_at}
+use Rattle.bdb_model.specs.HeadOf.{head_of}
+use Rattle.bdb_model.specs.Leaves.{LeafPlace, first_or_zero, is_root_reference, leaf_places, leaves, places_from}
+use Rattle.bdb_model.specs.Verdict.{structure_faults}
+use Rattle.bdb_model.proofs.MemberLemmas.{first_member, later_member, member_cases, no_member}
+use Rattle.bdb_graph.specs.Forest.{AllDistinct, NotIn}
+use Rattle.bdb_graph.specs.Linked.{FitsLeafPage, IsForest, IsTarget}
+use Rattle.bdb_graph.proofs.FirstLemmas.{formed_last}
+use Rattle.bdb_graph.proofs.HeldLemmas.{last_page}
+use Rattle.bdb_graph.proofs.LeavesLemmas.{no_leaf_twice}
+use Rattle.bdb_graph.proofs.ReachLemmas.{count_is}
+use Rattle.bdb_tree.specs.Links.{IsLeafWalk, pages_from}
+use Rattle.bdb_tree.specs.Trees.{IsRoot, IsTreePage}
+use Rattle.bdb_tree.proofs.BelongLemmas.{Belongs, belongs, leaf_above}
+use Rattle.bdb_tree.proofs.TreeLemmas.{IsRightPlace, leaf_fits, leaf_inside, leaf_low, no_tree_fault, place_is_right, place_of_root, root_is_tree, tree_inside}
+
+-- Next pages.
+
+-- the place of a leaf between those before it and those after it
+record HasPlace (places : List LeafPlace) (p next : ℕ) : Type 0 where
+  place : LeafPlace
+  at : Contains places place
+  leaf : place.leaf ≡ p
+  after : place.after ≡ next
+
+place_between : (sort : Sort) (from : ℕ) (before : List ℕ) (p : ℕ) (after : List ℕ) → HasPlace (places_from sort from (before ++ (p ∷ after))) p (first_or_zero after)
+place_between sort from [] p after =
+    let place : LeafPlace = record { tree = sort; before = from; leaf = p; after = first_or_zero after } in
+    record { place = place; at = first_member place (places_from sort p after); leaf = refl; after = refl }
+place_between sort from (q ∷ before) p after =
+    let rest : HasPlace (places_from sort q (before ++ (p ∷ after))) p (first_or_zero after) = place_between sort q before p after in
+    let first : LeafPlace = record { tree = sort; before = from; leaf = q; after = first_or_zero (before ++ (p ∷ after)) } in
+    record { place = rest.place; at = later_member first (places_from sort q (before ++ (p ∷ after))) rest.place rest.at; leaf = rest.leaf; after = rest.after }
+
+-- a place of a leaf of a tree
+root_place : (file : File) (root p next : ℕ) → IsRoot file root → ((sort : Sort) → HasPlace (places_from sort 0 (leaves file root)) p next) → HasPlace (leaf_places file) p next
+root_place file root p next is has =
+    elim is [
+      | inl tree ↦ of Root refl tree
+      | inr set ↦ of DuplicateRoot refl set
+    ]
+  where
+    of : (sort : Sort) → is_root_reference sort ≡ true → IsTarget file sort root → HasPlace (leaf_places file) p next
+    of sort kind target =
+        let place : HasPlace (places_from sort 0 (leaves file root)) p next = has sort in
+        record { place = place.place; at = place_of_root file sort root place.place kind target place.at; leaf = place.leaf; after = place.after }
+
+-- a leaf of a tree that stands before these leaves, and after others
+record StandsAt (file : File) (root : ℕ) (p : ℕ) (after : List ℕ) : Type 0 where
+  is : IsRoot file root
+  before : List ℕ
+  leaves_are : leaves file root ≡ before ++ (p ∷ after)
+
+member_of : (file : File) (root p : ℕ) (after : List ℕ) → StandsAt file root p after → Contains (leaves file root) p
+member_of file root p after stands =
+    subst (λ xs. Contains xs p) (sym stands.leaves_are) (Contains-append_right stands.before (p ∷ after) p (first_member p after))
+
+-- the next page of a leaf is the leaf after it, 0 at the end
+next_is : (image : List ℕ) (root p : ℕ) (after : List ℕ) → IsForest image → structure_faults (file_of image) ≡ [] → StandsAt (file_of image) root p after → next_of (file_of image) p ≡ first_or_zero after
+next_is image root p after forest none stands =
+    let file : File = file_of image in
+    let has : HasPlace (leaf_places file) p (first_or_zero after) =
+    root_place file root p (first_or_zero after) stands.is (λ sort.
+    subst (λ xs. HasPlace (places_from sort 0 xs) p (first_or_zero after)) (sym stands.leaves_are) (place_between sort 0 stands.before p after)) in
+    let low : p ≤ file.last = leaf_low image root p forest (root_is_tree image root forest stands.is) (member_of file root p after stands) in
+    let right : IsRightPlace file has.place = place_is_right file has.place (no_tree_fault file none) (omega (arith, has.leaf)) has.at in
+    let links = and_parts ((header_in (page_at file has.place.leaf)).previous == has.place.before) ((header_in (page_at file has.place.leaf)).next == has.place.after) (not-false _ right.link) in
+    ap (next_of file) (sym has.leaf) ∙ (eqb-true (next_of file has.place.leaf) has.place.after links.1 ∙ has.after)
+
+-- the leaf after it stands there too
+next_stands : (file : File) (root p q : ℕ) (qs : List ℕ) → StandsAt file root p (q ∷ qs) → StandsAt file root q qs
+next_stands file root p q qs stands =
+    record { is = stands.is; before = stands.before ++ (p ∷ []); leaves_are = stands.leaves_are ∙ sym (append_assoc stands.before (p ∷ []) (q ∷ qs)) }
+
+-- each leaf of a tree is a leaf page, and isn't page 0
+stands_fits : (image : List ℕ) (root p : ℕ) (after : List ℕ) → IsForest image → StandsAt (file_of image) root p after → FitsLeafPage (file_of image) p
+stands_fits image root p after forest stands = leaf_fits image root p forest (root_is_tree image root forest stands.is) (member_of (file_of image) root p after stands)
+
+stands_above : (image : List ℕ) (root p : ℕ) (after : List ℕ) → IsForest image → StandsAt (file_of image) root p after → (p == 0) ≡ false
+stands_above image root p after forest stands =
+    let above : 1 ≤ p = leaf_above image p forest (stands_fits image root p after forest stands) in
+    ne_eqb p 0 (λ none. omega arith)
+
+-- The walk.
+
+last_turn : (turns : ℕ) (file : File) (p : ℕ) → next_of file p ≡ 0 → chain_in (suc turns) file p ≡ p ∷ []
+unfolding chain_in
+last_turn turns file p none = ap (λ b. p ∷ elim b [ true ↦ [] | false ↦ chain_in turns file (next_of file p) ]) (ap (λ n. n == 0) none)
+
+one_turn : (turns : ℕ) (file : File) (p q : ℕ) → next_of file p ≡ q → (q == 0) ≡ false → chain_in (suc turns) file p ≡ p ∷ chain_in turns file q
+unfolding chain_in
+one_turn turns file p q next some =
+    ap (λ b. p ∷ elim b [ true ↦ [] | false ↦ chain_in turns file (next_of file p) ]) (ap (λ n. n == 0) next ∙ some)
+    ∙ ap (λ n. p ∷ chain_in turns file n) next
+
+-- with a turn for each leaf, next pages give them all
+follows : (turns : ℕ) (image : List ℕ) (root p : ℕ) (after : List ℕ) → IsForest image → structure_faults (file_of image) ≡ [] → StandsAt (file_of image) root p after → length after < turns
+    → chain_in turns (file_of image) p ≡ p ∷ after
+follows zero image root p after forest none stands few = absurd (omega arith)
+follows (suc turns) image root p [] forest none stands few = last_turn turns (file_of image) p (next_is image root p [] forest none stands)
+follows (suc turns) image root p (q ∷ qs) forest none stands few =
+    let next : StandsAt (file_of image) root q qs = next_stands (file_of image) root p q qs stands in
+    one_turn turns (file_of image) p q (next_is image root p (q ∷ qs) forest none stands) (stands_above image root q qs forest next)
+    ∙ ap (λ xs. p ∷ xs) (follows turns image root q qs forest none next (omega arith))
+
+-- How many leaves there are.
+
+is_distinct : (xs : List ℕ) → AllDistinct xs → IsDistinct eqb xs
+unfolding IsDistinct
+is_distinct [] distinct = tt
+is_distinct (x ∷ xs) distinct = (apart xs distinct.0, is_distinct xs distinct.1)
+  where
+    apart : (ys : List ℕ) → NotIn x ys → AllByRecursion (λ y. eqb x y ≡ false) ys
+    apart [] out = tt
+    apart (y ∷ ys) out = (ne_eqb x y out.0, apart ys out.1)
+
+of_any : (q : ℕ) (xs : List ℕ) → list_any (eqb q) xs ≡ true → Contains xs q
+of_any q [] some = absurd cc
+of_any q (x ∷ xs) some =
+    elim (eqb q x) as (λ b. eqb q x ≡ b → (b || list_any (eqb q) xs) ≡ true → Contains (x ∷ xs) q) [
+      | true ↦ λ same _. subst (Contains (x ∷ xs)) (sym (eqb-true q x same)) (first_member x xs)
+      | false ↦ λ _ later. later_member x xs q (of_any q xs later)
+    ] refl some
+
+-- the leaves of a tree are no more than the pages
+few_leaves : (image : List ℕ) (root : ℕ) → IsForest image → IsRoot (file_of image) root → length (leaves (file_of image) root) ≤ (file_of image).count
+few_leaves image root forest is =
+    let file : File = file_of image in
+    let tree : IsTreePage file root = root_is_tree image root forest is in
+    let distinct : AllDistinct (leaves file root) = no_leaf_twice image (header_in (page_at file root)).level root forest (tree_inside image root tree) in
+    let few : length (leaves file root) ≤ file.last + 1 =
+    length-le_from_distinct_below (leaves file root) (file.last + 1) (is_distinct (leaves file root) distinct) (λ q some.
+    let low : q ≤ file.last = leaf_low image root q forest tree (of_any q (leaves file root) some) in omega arith) in
+    omega (arith, few, last_page image, formed_last image (head_of image) forest.formed, count_is image)
+
+-- a walk from a leaf of a tree gives the leaves from there on
+walked : (image : List ℕ) (root p : ℕ) (after : List ℕ) → IsForest image → structure_faults (file_of image) ≡ [] → StandsAt (file_of image) root p after → pages_from (file_of image) p ≡ p ∷ after
+unfolding pages_from
+walked image root p after forest none stands =
+    let file : File = file_of image in
+    let few : length after < file.count =
+    omega (arith, few_leaves image root forest stands.is, ap length stands.leaves_are, length-append stands.before (p ∷ after)) in
+    ap (λ b. elim b [ true ↦ [] | false ↦ chain file p ]) (stands_above image root p after forest stands) ∙ follows file.count image root p after forest none stands few
+
+pub pages_of_tree : (image : List ℕ) (first root : ℕ) (before after : List ℕ) → IsForest image → structure_faults (file_of image) ≡ [] → IsRoot (file_of image) root
+    → leaves (file_of image) root ≡ before ++ (first ∷ after) → pages_from (file_of image) first ≡ first ∷ after
+pages_of_tree image first root before after forest none is same = walked image root first after forest none (record { is = is; before = before; leaves_are = same })
+
+-- and from the first leaf all of them
+pub all_pages : (image : List ℕ) (root first : ℕ) → IsForest image → structure_faults (file_of image) ≡ [] → IsRoot (file_of image) root → slice_get (leaves (file_of image) root) 0 ≡ Some first
+    → pages_from (file_of image) first ≡ leaves (file_of image) root
+all_pages image root first forest none is at =
+    let parts : (rest : List ℕ) × (leaves (file_of image) root ≡ first ∷ rest) = begins (leaves (file_of image) root) at in
+    pages_of_tree image first root [] parts.0 forest none is parts.1 ∙ sym parts.1
+  where
+    begins : (xs : List ℕ) → slice_get xs 0 ≡ Some first → (rest : List ℕ) × (xs ≡ first ∷ rest)
+    begins [] same = absurd cc
+    begins (x ∷ xs) same = (xs, let here : x ≡ first = cc in ap (λ y. y ∷ xs) here)
+
+chain_few : (turns : ℕ) (file : File) (p : ℕ) → length (chain_in turns file p) ≤ turns
+unfolding chain_in
+chain_few zero file p = omega arith
+chain_few (suc turns) file p =
+    elim (next_of file p == 0) as (λ b. length (p ∷ elim b [ true ↦ [] | false ↦ chain_in turns file (next_of file p) ]) ≤ suc turns) [
+      | true ↦ omega arith
+      | false ↦ omega (arith, chain_few turns file (next_of file p))
+    ]
+
+-- a walk gives no more pages than there are
+pub pages_few : (file : File) (p : ℕ) → length (pages_from file p) ≤ file.count
+unfolding pages_from
+pages_few file p =
+    elim (p == 0) as (λ b. length {A = ℕ} (elim b [ true ↦ [] | false ↦ chain file p ]) ≤ file.count) [
+      | true ↦ omega arith
+      | false ↦ chain_few file.count file p
+    ]
+
+-- A step.
+
+pub no_pages : (file : File) → pages_from file 0 ≡ []
+unfolding pages_from
+no_pages file = refl
+
+parted : (xs : List ℕ) (x : ℕ) → Contains xs x → (before : List ℕ) × (after : List ℕ) × (xs ≡ before ++ (x ∷ after))
+parted [] x at = absurd (no_member [] x refl at)
+parted (y ∷ xs) x at =
+    elim (member_cases y xs x at) [
+      | inl here ↦ ([], xs, ap (λ z. z ∷ xs) here)
+      | inr later ↦ let rest = parted xs x later in (y ∷ rest.0, rest.1, ap (λ zs. y ∷ zs) rest.2)
+    ]
+
+-- what comes after a leaf: nothing, or a leaf with those after it
+record IsStep (image : List ℕ) (p next : ℕ) : Type 0 where
+  first : pages_from (file_of image) p ≡ p ∷ pages_from (file_of image) next
+  at : (next ≡ 0) ⊎ FitsLeafPage (file_of image) next
+
+step_of : (image : List ℕ) (root p : ℕ) (after : List ℕ) → IsForest image → structure_faults (file_of image) ≡ [] → StandsAt (file_of image) root p after → IsStep image p (first_or_zero after)
+step_of image root p [] forest none stands = record { first = walked image root p [] forest none stands ∙ ap (λ xs. p ∷ xs) (sym (no_pages (file_of image))); at = inl refl }
+step_of image root p (q ∷ qs) forest none stands =
+    let next : StandsAt (file_of image) root q qs = next_stands (file_of image) root p q qs stands in
+    record {
+      first = walked image root p (q ∷ qs) forest none stands ∙ ap (λ xs. p ∷ xs) (sym (walked image root q qs forest none next));
+      at = inr (stands_fits image root q qs forest next);
+    }
+
+leaf_step : (image : List ℕ) (p : ℕ) → IsForest image → structure_faults (file_of image) ≡ [] → FitsLeafPage (file_of image) p → IsStep image p (next_of (file_of image) p)
+leaf_step image p forest none leaf =
+    let file : File = file_of image in
+    let belongs_to : Belongs file p = belongs image p forest leaf in
+    let parts : (before : List ℕ) × (after : List ℕ) × (leaves file belongs_to.root ≡ before ++ (p ∷ after)) = parted (leaves file belongs_to.root) p belongs_to.at in
+    let stands : StandsAt file belongs_to.root p parts.1 = record { is = belongs_to.is; before = parts.0; leaves_are = parts.2 } in
+    subst (IsStep image p) (sym (next_is image belongs_to.root p parts.1 forest none stands)) (step_of image belongs_to.root p parts.1 forest none stands)
+
+-- a walk stands at a leaf, unless it's at its end
+pub at_leaf : (image : List ℕ) (p : ℕ) → IsLeafWalk image p → (p ≡ 0 → ⊥) → FitsLeafPage (file_of image) p
+at_leaf image p walk some = elim walk.at [ inl none ↦ absurd (some none) | inr leaf ↦ leaf ]
+
+-- the first page of a walk is the leaf at which it stands
+pub gives_first : (image : List ℕ) (p : ℕ) → IsLeafWalk image p → (p ≡ 0 → ⊥) → pages_from (file_of image) p ≡ p ∷ pages_from (file_of image) (next_of (file_of image) p)
+gives_first image p walk some = (leaf_step image p walk.forest walk.stage (at_leaf image p walk some)).first
+
+-- and it goes on at that leaf's next page
+pub goes_on : (image : List ℕ) (p : ℕ) → IsLeafWalk image p → (p ≡ 0 → ⊥) → IsLeafWalk image (next_of (file_of image) p)
+goes_on image p walk some = record { forest = walk.forest; stage = walk.stage; at = (leaf_step image p walk.forest walk.stage (at_leaf image p walk some)).at }
+
+-- The pages that are looked at are there.
+
+pub leaf_within : (image : List ℕ) (head : Head) (p : ℕ) → head ≡ head_of image → FitsLeafPage (file_of image) p → p ≤ head.last
+leaf_within image head p same leaf = omega (arith, leaf_inside image p leaf, last_page image, ap (λ (h : Head). h.last) same)
+
+pub tree_within : (image : List ℕ) (head : Head) (p : ℕ) → head ≡ head_of image → IsTreePage (file_of image) p → p ≤ head.last
+tree_within image head p same tree = omega (arith, tree_inside image p tree, last_page image, ap (λ (h : Head). h.last) same)
+
+pub root_within : (image : List ℕ) (head : Head) (p : ℕ) → head ≡ head_of image → IsForest image → IsRoot (file_of image) p → p ≤ head.last
+root_within image head p same forest root = tree_within image head p same (root_is_tree image p forest root)

@@ -1,0 +1,397 @@
+-- The faults of leaves as they are noted: the least of them is the first of the stage.
+use Rattle.std.proofs.Common.{◌≡◌, ◌⊎◌, ℕ, zero, suc, ◌+◌, ◌-◌, ◌<◌, ◌≤◌, Bool, true, false, cond, List, [], ◌∷◌, ◌++◌, length, map, take, get_or, arith, refl, sym, ◌∙◌, ap, subst, append-nil, add-one, add-zero, inl, inr}
+use Rattle.std.specs.Prelude.{Option, Some, None, ◌==◌, ◌&&◌, ◌||◌, slice_index}
+use Rattle.std.specs.List.{All, Contains, filter, flat_map, list_any, range_with_len}
+use Rattle.std.proofs.lemmas.Bool.{and_from, and_parts, cond-false, eq-eqb, eqb-true, ne_eqb}
+use Rattle.std.proofs.lemmas.List.{flat_map_more, take_all, take_more}
+use Rattle.std.proofs.lemmas.List.Folds.{list_any_at}
+use Rattle.std.proofs.lemmas.List.Elements.{Contains-append_cases, Contains-append_left, Contains-append_right, Contains-get_or}
+use Rattle.bdb_model.specs.declared.kinds.Fault.{Fault}
+use Rattle.bdb_model.specs.declared.references.Reference.{Reference}
+use Rattle.bdb_model.specs.declared.references.Sort.{Sort}
+use Rattle.bdb_model.specs.declared.references.Sort.TheVariants.{DuplicateRoot, Root}
+use Rattle.bdb_model.specs.File.{File, file_of}
+use Rattle.bdb_model.specs.Graph.{Owner, all_references}
+use Rattle.bdb_model.specs.Leaves.{LeafPlace, first_or_zero, is_root_reference, is_wrong_leaf, is_wrong_link, leaf_places, leaves, places_from, root_references, tree_rows}
+use Rattle.bdb_model.specs.References.{refs}
+use Rattle.bdb_model.specs.Table.{◌:?◌, first_row}
+use Rattle.bdb_model.specs.Verdict.{alone, holding, tree_faults}
+use Rattle.bdb_model.proofs.MemberLemmas.{first_member, in_flat_map, in_range, is_empty, later_member, member_cases, no_member, of_filter, of_flat_map, of_range}
+use Rattle.bdb_model.proofs.VerdictLemmas.{FirstComesFirst, IsOfStage, by_page_first, holding_least, in_by_page, of_by_page}
+use Rattle.bdb_graph.specs.Linked.{FitsLeafPage, IsForest, IsTarget}
+use Rattle.bdb_graph.specs.Linking.{first_fault}
+use Rattle.bdb_graph.proofs.ForestLemmas.{in_filter}
+use Rattle.bdb_tree.specs.Trees.{IsRoot, IsTreePage}
+use Rattle.bdb_tree.proofs.TreeLemmas.{code_of_two, held_in_all, held_of_all, leaf_fits, leaf_low, root_is_tree}
+use Rattle.bdb_tree.specs.Noted.{ComesFirst, IsLeast, IsLeastOf, held_faults, leaf_fault, place_faults, place_in, place_rows, root_faults}
+
+-- The least of some faults.
+
+same_first : (a b : Fault) → a ≡ b → ComesFirst a b
+same_first a b same = let page : a.page ≡ b.page = ap (λ (f : Fault). f.page) same in let code : a.code ≡ b.code = ap (λ (f : Fault). f.code) same in inr (page, omega arith)
+
+first_of_first : (a b c : Fault) → ComesFirst a b → ComesFirst b c → ComesFirst a c
+first_of_first a b c ab bc =
+    elim ab [
+      | inl less ↦ elim bc [ inl lesser ↦ inl (omega arith) | inr (same, low) ↦ inl (omega arith) ]
+      | inr (same, low) ↦ elim bc [ inl lesser ↦ inl (omega arith) | inr (same_too, low_too) ↦ inr (same ∙ same_too, omega arith) ]
+    ]
+
+of_one_more : {X : Type 0} (xs : List X) (x y : X) → Contains (xs ++ (x ∷ [])) y → Contains xs y ⊎ (x ≡ y)
+of_one_more xs x y at =
+    elim (Contains-append_cases xs (x ∷ []) y at) [
+      | inl here ↦ inl here
+      | inr last ↦ elim (member_cases x [] y last) [ inl same ↦ inr same | inr later ↦ absurd (no_member [] y refl later) ]
+    ]
+
+-- one fault alone
+pub least_alone : (faults : List Fault) (fault : Fault) → faults ≡ [] → IsLeastOf (faults ++ (fault ∷ [])) fault
+least_alone faults fault none =
+    record {
+      holds = Contains-append_right faults (fault ∷ []) fault (first_member fault []);
+      least = λ other at. elim (of_one_more faults fault other at) [ inl here ↦ absurd (no_member faults other none here) | inr same ↦ same_first fault other same ];
+    }
+
+-- one more fault that doesn't come before the least
+pub least_kept : (faults : List Fault) (first fault : Fault) → IsLeastOf faults first → ComesFirst first fault → IsLeastOf (faults ++ (fault ∷ [])) first
+least_kept faults first fault is comes =
+    record {
+      holds = Contains-append_left faults (fault ∷ []) first is.holds;
+      least = λ other at. elim (of_one_more faults fault other at) [ inl here ↦ is.least other here | inr same ↦ subst (ComesFirst first) same comes ];
+    }
+
+-- one more that does
+pub least_taken : (faults : List Fault) (first fault : Fault) → IsLeastOf faults first → ComesFirst fault first → IsLeastOf (faults ++ (fault ∷ [])) fault
+least_taken faults first fault is comes =
+    record {
+      holds = Contains-append_right faults (fault ∷ []) fault (first_member fault []);
+      least = λ other at.
+          elim (of_one_more faults fault other at) [ inl here ↦ first_of_first fault first other comes (is.least other here) | inr same ↦ same_first fault other same ];
+    }
+
+-- Places.
+
+-- the fault of a leaf, where a row holds for it
+pub one_place : (file : File) (place : LeafPlace) (code : ℕ) (faults : List Fault) (least : Fault) → Some code ≡ first_row (place_rows file place) → IsLeastOf (faults ++ (leaf_fault place.leaf code ∷ [])) least
+    → IsLeastOf (faults ++ place_faults file place) least
+one_place file place code faults least is = subst (λ c. IsLeastOf (faults ++ map (leaf_fault place.leaf) (alone c)) least) is
+
+pub no_place : (file : File) (place : LeafPlace) (faults : List Fault) (least : Option Fault) → None ≡ first_row (place_rows file place) → IsLeast faults least → IsLeast (faults ++ place_faults file place) least
+no_place file place faults least is here =
+    subst (λ c. IsLeast (faults ++ map (leaf_fault place.leaf) (alone c)) least) is (subst (λ fs. IsLeast fs least) (sym (append-nil faults)) here)
+
+length_places : (sort : Sort) (before : ℕ) (ps : List ℕ) → length (places_from sort before ps) ≡ length ps
+length_places sort before [] = refl
+length_places sort before (p ∷ ps) = ap (λ n. suc n) (length_places sort p ps)
+
+abbrev place_after : Sort → ℕ → List ℕ → ℕ → LeafPlace
+place_after sort before ps i = record { tree = sort; before = cond (i == 0) before (slice_index ps (i - 1)); leaf = slice_index ps i; after = slice_index ps (i + 1) }
+
+first_is : (ps : List ℕ) → first_or_zero ps ≡ slice_index ps 0
+first_is [] = refl
+first_is (p ∷ ps) = refl
+
+same_place : (sort : Sort) (before before_too leaf after after_too : ℕ) → before ≡ before_too → after ≡ after_too
+    → ◌≡◌ {A = LeafPlace} (record { tree = sort; before = before; leaf = leaf; after = after }) (record { tree = sort; before = before_too; leaf = leaf; after = after_too })
+same_place sort before before_too leaf after after_too first second =
+    ap (λ n. record { tree = sort; before = n; leaf = leaf; after = after }) first ∙ ap (λ n. record { tree = sort; before = before_too; leaf = leaf; after = n }) second
+
+later_before : (before p : ℕ) (ps : List ℕ) (i : ℕ) → cond (i == 0) p (slice_index ps (i - 1)) ≡ cond (suc i == 0) before (slice_index (p ∷ ps) (suc i - 1))
+later_before before p ps zero = refl
+later_before before p ps (suc i) =
+    let one : suc i - 1 ≡ i = omega arith in
+    let two : suc (suc i) - 1 ≡ suc i = omega arith in
+    cond-false (suc i == 0) p (slice_index ps (suc i - 1)) (ne_eqb (suc i) 0 (λ is. omega arith))
+    ∙ (ap (slice_index ps) one
+    ∙ (sym (ap (slice_index (p ∷ ps)) two)
+    ∙ sym (cond-false (suc (suc i) == 0) before (slice_index (p ∷ ps) (suc (suc i) - 1)) (ne_eqb (suc (suc i)) 0 (λ is. omega arith)))))
+
+later_after : (p : ℕ) (ps : List ℕ) (i : ℕ) → slice_index ps (i + 1) ≡ slice_index (p ∷ ps) (suc i + 1)
+later_after p ps i = sym (ap (slice_index (p ∷ ps)) (let more : suc i + 1 ≡ suc (i + 1) = omega arith in more))
+
+place_is : (sort : Sort) (before : ℕ) (ps : List ℕ) (i : ℕ) (d : LeafPlace) → i < length ps → get_or (places_from sort before ps) i d ≡ place_after sort before ps i
+place_is sort before [] i d below = absurd (omega arith)
+place_is sort before (p ∷ ps) zero d below = ap (λ n. record { tree = sort; before = before; leaf = p; after = n }) (first_is ps)
+place_is sort before (p ∷ ps) (suc i) d below =
+    place_is sort p ps i d (omega arith) ∙ same_place sort _ _ (slice_index ps i) _ _ (later_before before p ps i) (later_after p ps i)
+
+-- one leaf more
+pub place_more : (f : LeafPlace → List Fault) (sort : Sort) (ps : List ℕ) (i : ℕ) (faults : List Fault) → i < length ps
+    → (faults ++ flat_map f (take i (places_from sort 0 ps))) ++ f (place_in sort ps i) ≡ faults ++ flat_map f (take (i + 1) (places_from sort 0 ps))
+place_more f sort ps i faults below =
+    let places : List LeafPlace = places_from sort 0 ps in
+    let place : LeafPlace = place_in sort ps i in
+    let next : take (i + 1) places ≡ take i places ++ (place ∷ []) =
+    take_more places i place (omega (arith, length_places sort 0 ps)) ∙ ap (λ q. take i places ++ (q ∷ [])) (place_is sort 0 ps i place below) in
+    flat_map_more f faults (take i places) place ∙ ap (λ qs. faults ++ flat_map f qs) (sym next)
+
+-- after the last one all are passed
+pub all_places : (f : LeafPlace → List Fault) (sort : Sort) (ps : List ℕ) (i : ℕ) → length ps ≤ i → flat_map f (take i (places_from sort 0 ps)) ≡ flat_map f (places_from sort 0 ps)
+all_places f sort ps i all = ap (flat_map f) (take_all i (places_from sort 0 ps) (omega (arith, length_places sort 0 ps)))
+
+-- Members.
+
+of_owner : (file : File) (owner : Owner) → Contains (root_references file) owner → Contains (all_references file) owner × (is_root_reference owner.reference.sort ≡ true)
+unfolding root_references
+of_owner file owner at = of_filter (λ (o : Owner). is_root_reference o.reference.sort) (all_references file) owner at
+
+root_by_sort : (file : File) (sort : Sort) (p : ℕ) → is_root_reference sort ≡ true → IsTarget file sort p → IsRoot file p
+root_by_sort file Root p root is = inl is
+root_by_sort file DuplicateRoot p root is = inr is
+root_by_sort file sort p root is = absurd cc
+
+-- a reference to a root that some page holds names a root
+pub held_root : (file : File) (p : ℕ) (reference : Reference) → p ≤ file.last → Contains (refs file p) reference → is_root_reference reference.sort ≡ true → IsRoot file reference.target
+held_root file p reference low held root =
+    root_by_sort file reference.sort reference.target root
+    (record { owner = record { holder = p; reference = reference }; held = held_in_all file p reference low held; sort_is = refl; target_is = refl })
+
+-- and so a page of a tree
+pub held_tree : (image : List ℕ) (p : ℕ) (before after : List Reference) (reference : Reference) → IsForest image → p ≤ (file_of image).last → before ++ (reference ∷ after) ≡ refs (file_of image) p
+    → is_root_reference reference.sort ≡ true → IsTreePage (file_of image) reference.target
+held_tree image p before after reference forest low parts root =
+    let held : Contains (refs (file_of image) p) reference = subst (λ rs. Contains rs reference) parts (Contains-append_right before (reference ∷ after) reference (first_member reference after)) in
+    root_is_tree image reference.target forest (held_root (file_of image) p reference low held root)
+
+-- the leaves of a tree are leaves
+pub all_leaves : (image ps : List ℕ) (p : ℕ) → IsForest image → IsTreePage (file_of image) p → ps ≡ leaves (file_of image) p → All (FitsLeafPage (file_of image)) ps
+all_leaves image ps p forest tree is =
+    λ k d below. leaf_fits image p (get_or ps k d) forest tree (subst (λ qs. Contains qs (get_or ps k d)) is (Contains-get_or ps k d below))
+
+-- Trees.
+
+-- the faults of the leaves of a tree are those of the reference to its root
+pub tree_noted : (file : File) (reference : Reference) (ps : List ℕ) (faults : List Fault) (least : Option Fault) → is_root_reference reference.sort ≡ true → ps ≡ leaves file reference.target
+    → IsLeast (faults ++ flat_map (place_faults file) (places_from reference.sort 0 ps)) least → IsLeast (faults ++ root_faults file reference) least
+tree_noted file reference ps faults least root is here =
+    let all : List LeafPlace = places_from reference.sort 0 (leaves file reference.target) in
+    subst (λ b. IsLeast (faults ++ cond b (flat_map (place_faults file) all) []) least) (sym root)
+    (subst (λ qs. IsLeast (faults ++ flat_map (place_faults file) (places_from reference.sort 0 qs)) least) is here)
+
+-- one reference more
+pub reference_noted : (file : File) (before : List Reference) (reference : Reference) (faults : List Fault) (least : Option Fault)
+    → IsLeast ((faults ++ flat_map (root_faults file) before) ++ root_faults file reference) least → IsLeast (faults ++ flat_map (root_faults file) (before ++ (reference ∷ []))) least
+reference_noted file before reference faults least = subst (λ fs. IsLeast fs least) (flat_map_more (root_faults file) faults before reference)
+
+range_more : (a n : ℕ) → range_with_len a (suc n) ≡ range_with_len a n ++ ((a + n) ∷ [])
+range_more a zero = rw (add-zero a) refl
+range_more a (suc n) = ap (λ xs. a ∷ xs) (range_more (a + 1) n ∙ ap (λ k. range_with_len (a + 1) n ++ (k ∷ [])) (omega arith))
+
+-- one page more
+pub page_noted : (file : File) (n : ℕ) (least : Option Fault) → IsLeast (flat_map (held_faults file) (range_with_len 0 n) ++ held_faults file n) least → IsLeast (flat_map (held_faults file) (range_with_len 0 (n + 1))) least
+page_noted file n least =
+    let next : range_with_len 0 (n + 1) ≡ range_with_len 0 n ++ (n ∷ []) =
+    ap (range_with_len 0) (add-one n) ∙ (range_more 0 n ∙ ap (λ k. range_with_len 0 n ++ (k ∷ [])) (omega arith)) in
+    subst (λ fs. IsLeast fs least) (flat_map_more (held_faults file) [] (range_with_len 0 n) n ∙ ap (flat_map (held_faults file)) (sym next))
+
+-- all faults that are noted
+abbrev pub noted : File → List Fault
+noted file = flat_map (held_faults file) (range_with_len 0 (file.last + 1))
+
+-- a place of a leaf with the first row that holds there
+record IsNoted (file : File) (fault : Fault) : Type 0 where
+  place : LeafPlace
+  at : Contains (leaf_places file) place
+  code : ℕ
+  first : first_row (place_rows file place) ≡ Some code
+  is : leaf_fault place.leaf code ≡ fault
+
+in_root_faults : (file : File) (reference : Reference) (place : LeafPlace) (code : ℕ) → is_root_reference reference.sort ≡ true → Contains (places_from reference.sort 0 (leaves file reference.target)) place
+    → first_row (place_rows file place) ≡ Some code → Contains (root_faults file reference) (leaf_fault place.leaf code)
+in_root_faults file reference place code root at first =
+    let all : List LeafPlace = places_from reference.sort 0 (leaves file reference.target) in
+    let here : Contains (place_faults file place) (leaf_fault place.leaf code) =
+    subst (λ c. Contains (map (leaf_fault place.leaf) (alone c)) (leaf_fault place.leaf code)) (sym first) (first_member (leaf_fault place.leaf code) []) in
+    subst (λ b. Contains (cond b (flat_map (place_faults file) all) []) (leaf_fault place.leaf code)) (sym root) (in_flat_map (place_faults file) all place (leaf_fault place.leaf code) at here)
+
+-- the fault of each place is noted
+in_noted : (file : File) (place : LeafPlace) (code : ℕ) → Contains (leaf_places file) place → first_row (place_rows file place) ≡ Some code → Contains (noted file) (leaf_fault place.leaf code)
+unfolding leaf_places
+in_noted file place code at first =
+    let found : (owner : Owner) × Contains (root_references file) owner × Contains (places_from owner.reference.sort 0 (leaves file owner.reference.target)) place =
+    of_flat_map (λ (owner : Owner). places_from owner.reference.sort 0 (leaves file owner.reference.target)) (root_references file) place at in
+    let owner : Owner = found.0 in
+    let root : Contains (all_references file) owner × (is_root_reference owner.reference.sort ≡ true) = of_owner file owner found.1 in
+    let held : (owner.holder ≤ file.last) × Contains (refs file owner.holder) owner.reference = held_of_all file owner root.0 in
+    in_flat_map (held_faults file) (range_with_len 0 (file.last + 1)) owner.holder (leaf_fault place.leaf code) (in_range 0 (file.last + 1) owner.holder (omega arith) (omega (arith, held.0)))
+    (in_flat_map (root_faults file) (refs file owner.holder) owner.reference (leaf_fault place.leaf code) held.1 (in_root_faults file owner.reference place code root.1 found.2 first))
+
+of_place : (file : File) (place : LeafPlace) (fault : Fault) (code : Option ℕ) → Contains (leaf_places file) place → first_row (place_rows file place) ≡ code → Contains (map (leaf_fault place.leaf) (alone code)) fault → IsNoted file fault
+of_place file place fault None at first here = absurd (no_member [] fault refl here)
+of_place file place fault (Some code) at first here =
+    elim (member_cases (leaf_fault place.leaf code) [] fault here) [
+      | inl same ↦ record { place = place; at = at; code = code; first = first; is = same }
+      | inr later ↦ absurd (no_member [] fault refl later)
+    ]
+
+of_root_faults : (file : File) (p : ℕ) (reference : Reference) (fault : Fault) → p ≤ file.last → Contains (refs file p) reference → Contains (root_faults file reference) fault → IsNoted file fault
+unfolding leaf_places root_references
+of_root_faults file p reference fault low held =
+    let all : List LeafPlace = places_from reference.sort 0 (leaves file reference.target) in
+    let owner : Owner = record { holder = p; reference = reference } in
+    elim (is_root_reference reference.sort) as (λ b. is_root_reference reference.sort ≡ b → Contains (cond b (flat_map (place_faults file) all) []) fault → IsNoted file fault) [
+      | false ↦ λ other at. absurd (no_member [] fault refl at)
+      | true ↦ λ root at.
+          let found : (place : LeafPlace) × Contains all place × Contains (place_faults file place) fault = of_flat_map (place_faults file) all fault at in
+          of_place file found.0 fault (first_row (place_rows file found.0))
+          (in_flat_map (λ (o : Owner). places_from o.reference.sort 0 (leaves file o.reference.target)) (filter (λ (o : Owner). is_root_reference o.reference.sort) (all_references file)) owner found.0
+          (in_filter (λ (o : Owner). is_root_reference o.reference.sort) (all_references file) owner (held_in_all file p reference low held) root) found.1)
+          refl found.2
+    ] refl
+
+-- a fault that is noted is that of a place
+of_noted : (file : File) (fault : Fault) → Contains (noted file) fault → IsNoted file fault
+of_noted file fault at =
+    let page : (p : ℕ) × Contains (range_with_len 0 (file.last + 1)) p × Contains (held_faults file p) fault = of_flat_map (held_faults file) (range_with_len 0 (file.last + 1)) fault at in
+    let within : (0 ≤ page.0) × (page.0 < 0 + (file.last + 1)) = of_range 0 (file.last + 1) page.0 page.1 in
+    let found : (r : Reference) × Contains (refs file page.0) r × Contains (root_faults file r) fault = of_flat_map (root_faults file) (refs file page.0) fault page.2 in
+    of_root_faults file page.0 found.0 fault (omega (arith, within.1)) found.1 found.2
+
+-- The faults of the stage.
+
+first_of_two : (a b : Bool) (code : ℕ) → first_row (2 :? a ∷ 3 :? b ∷ []) ≡ Some code → ((code ≡ 2) × (a ≡ true)) ⊎ ((code ≡ 3) × (b ≡ true))
+first_of_two true b code is = inl (cc, refl)
+first_of_two false true code is = inr (cc, refl)
+first_of_two false false code is = absurd cc
+
+holding_two : (a b : Bool) → a ≡ true → Contains (holding (2 :? a ∷ 3 :? b ∷ [])) 2
+holding_two true b is = first_member 2 (holding (3 :? b ∷ []))
+holding_two false b is = absurd cc
+
+holding_three : (a b : Bool) → b ≡ true → Contains (holding (2 :? a ∷ 3 :? b ∷ [])) 3
+holding_three true true is = later_member 2 (3 ∷ []) 3 (first_member 3 [])
+holding_three false true is = first_member 3 []
+holding_three a false is = absurd cc
+
+some_passes : {X : Type 0} (test : X → Bool) (xs : List X) → list_any test xs ≡ true → (x : X) × Contains xs x × (test x ≡ true)
+some_passes test [] any = absurd cc
+some_passes test (x ∷ xs) any =
+    elim (test x) as (λ b. test x ≡ b → (b || list_any test xs) ≡ true → (y : _) × Contains (x ∷ xs) y × (test y ≡ true)) [
+      | true ↦ λ passes _. (x, first_member x xs, passes)
+      | false ↦ λ _ later. let found : (y : _) × Contains xs y × (test y ≡ true) = some_passes test xs later in (found.0, later_member x xs found.0 found.1, found.2)
+    ] refl any
+
+passes_here : {X : Type 0} (test : X → Bool) (xs : List X) (x : X) → Contains xs x → test x ≡ true → list_any test xs ≡ true
+passes_here test xs x at passes = list_any_at test xs at.0 x at.1 (ap test at.2 ∙ passes)
+
+-- the first row of a place is one that holds at its page
+in_tree_faults : (file : File) (place : LeafPlace) (code : ℕ) → place.leaf ≤ file.last → Contains (leaf_places file) place → first_row (place_rows file place) ≡ Some code → Contains (tree_faults file) (leaf_fault place.leaf code)
+unfolding tree_faults
+in_tree_faults file place code low at first =
+    let p : ℕ = place.leaf in
+    let types : LeafPlace → Bool = λ other. other.leaf == p && is_wrong_leaf file other in
+    let links : LeafPlace → Bool = λ other. other.leaf == p && is_wrong_link file other in
+    in_by_page 6 0 (file.last + 1) p code (λ page. holding (tree_rows file page)) (omega arith) (omega arith)
+    (elim (first_of_two (is_wrong_leaf file place) (is_wrong_link file place) code first) [
+      | inl (is, wrong) ↦
+          subst (Contains (holding (tree_rows file p))) (sym is)
+          (holding_two _ (list_any links (leaf_places file)) (passes_here types (leaf_places file) place at (and_from (p == p) (is_wrong_leaf file place) (eq-eqb p p refl) wrong)))
+      | inr (is, wrong) ↦
+          subst (Contains (holding (tree_rows file p))) (sym is)
+          (holding_three (list_any types (leaf_places file)) _ (passes_here links (leaf_places file) place at (and_from (p == p) (is_wrong_link file place) (eq-eqb p p refl) wrong)))
+    ])
+
+-- a fault that is noted comes no later than this one
+record IsPreceded (file : File) (fault : Fault) : Type 0 where
+  earlier : Fault
+  at : Contains (noted file) earlier
+  comes : ComesFirst earlier fault
+
+first_wrong_type : (a b : Bool) → a ≡ true → first_row {Code = ℕ} (2 :? a ∷ 3 :? b ∷ []) ≡ Some 2
+first_wrong_type true b is = refl
+first_wrong_type false b is = absurd cc
+
+first_wrong_link : (a b : Bool) → b ≡ true → (code : ℕ) × (first_row (2 :? a ∷ 3 :? b ∷ []) ≡ Some code) × (code ≤ 3)
+first_wrong_link true b is = (2, refl, omega arith)
+first_wrong_link false true is = (3, refl, omega arith)
+first_wrong_link false false is = absurd cc
+
+preceded : (file : File) (place : LeafPlace) (code : ℕ) (fault : Fault) → Contains (leaf_places file) place → first_row (place_rows file place) ≡ Some code → place.leaf ≡ fault.page → code ≤ fault.code → IsPreceded file fault
+preceded file place code fault at first same low = record { earlier = leaf_fault place.leaf code; at = in_noted file place code at first; comes = inr (same, low) }
+
+-- a fault of the stage is no earlier than one that is noted
+of_tree_faults : (file : File) (fault : Fault) → Contains (tree_faults file) fault → IsPreceded file fault
+unfolding tree_faults
+of_tree_faults file fault at =
+    let p : ℕ = fault.page in
+    let types : LeafPlace → Bool = λ other. other.leaf == p && is_wrong_leaf file other in
+    let links : LeafPlace → Bool = λ other. other.leaf == p && is_wrong_link file other in
+    let of : IsOfStage 6 0 (0 + (file.last + 1)) (λ page. holding (tree_rows file page)) fault = of_by_page 6 0 (file.last + 1) (λ page. holding (tree_rows file page)) fault at in
+    elim (code_of_two (list_any types (leaf_places file)) (list_any links (leaf_places file)) fault.code of.is_code) [
+      | inl (is, any) ↦
+          let found : (place : LeafPlace) × Contains (leaf_places file) place × (types place ≡ true) = some_passes types (leaf_places file) any in
+          let both = and_parts (found.0.leaf == p) (is_wrong_leaf file found.0) found.2 in
+          preceded file found.0 2 fault found.1 (first_wrong_type (is_wrong_leaf file found.0) (is_wrong_link file found.0) both.1) (eqb-true found.0.leaf p both.0) (omega (arith, is))
+      | inr (is, any) ↦
+          let found : (place : LeafPlace) × Contains (leaf_places file) place × (links place ≡ true) = some_passes links (leaf_places file) any in
+          let both = and_parts (found.0.leaf == p) (is_wrong_link file found.0) found.2 in
+          let first : (code : ℕ) × (first_row (place_rows file found.0) ≡ Some code) × (code ≤ 3) = first_wrong_link (is_wrong_leaf file found.0) (is_wrong_link file found.0) both.1 in
+          preceded file found.0 first.0 fault found.1 first.1 (eqb-true found.0.leaf p both.0) (omega (arith, is, first.2))
+    ]
+
+-- The least is the first.
+
+place_leaf : (sort : Sort) (before : ℕ) (ps : List ℕ) (place : LeafPlace) → Contains (places_from sort before ps) place → Contains ps place.leaf
+place_leaf sort before [] place at = absurd (no_member [] place refl at)
+place_leaf sort before (p ∷ ps) place at =
+    elim (member_cases (record { tree = sort; before = before; leaf = p; after = first_or_zero ps }) (places_from sort p ps) place at) [
+      | inl same ↦ subst (λ (q : LeafPlace). Contains (p ∷ ps) q.leaf) same (first_member p ps)
+      | inr later ↦ later_member p ps place.leaf (place_leaf sort p ps place later)
+    ]
+
+-- a leaf of a tree is there
+place_low : (image : List ℕ) (place : LeafPlace) → IsForest image → Contains (leaf_places (file_of image)) place → place.leaf ≤ (file_of image).last
+unfolding leaf_places
+place_low image place forest at =
+    let file : File = file_of image in
+    let found : (owner : Owner) × Contains (root_references file) owner × Contains (places_from owner.reference.sort 0 (leaves file owner.reference.target)) place =
+    of_flat_map (λ (owner : Owner). places_from owner.reference.sort 0 (leaves file owner.reference.target)) (root_references file) place at in
+    let owner : Owner = found.0 in
+    let root : Contains (all_references file) owner × (is_root_reference owner.reference.sort ≡ true) = of_owner file owner found.1 in
+    let held : (owner.holder ≤ file.last) × Contains (refs file owner.holder) owner.reference = held_of_all file owner root.0 in
+    leaf_low image owner.reference.target place.leaf forest (root_is_tree image owner.reference.target forest (held_root file owner.holder owner.reference held.0 held.1 root.1))
+    (place_leaf owner.reference.sort 0 (leaves file owner.reference.target) place found.2)
+
+noted_in_stage : (image : List ℕ) (fault : Fault) → IsForest image → Contains (noted (file_of image)) fault → Contains (tree_faults (file_of image)) fault
+noted_in_stage image fault forest at =
+    let file : File = file_of image in
+    let is : IsNoted file fault = of_noted file fault at in
+    subst (Contains (tree_faults file)) is.is (in_tree_faults file is.place is.code (place_low image is.place forest is.at) is.at is.first)
+
+in_order : (file : File) → FirstComesFirst (tree_faults file)
+unfolding tree_faults
+in_order file = by_page_first 6 0 (file.last + 1) (λ p. holding (tree_rows file p)) (λ p. holding_least 2 (tree_rows file p) (omega arith, (omega arith, tt)))
+
+stage_of : (file : File) (fault : Fault) → Contains (tree_faults file) fault → fault.stage ≡ 6
+unfolding tree_faults
+stage_of file fault at = (of_by_page 6 0 (file.last + 1) (λ page. holding (tree_rows file page)) fault at).same_stage
+
+same_fault : (a b : Fault) → a.stage ≡ b.stage → ComesFirst a b → ComesFirst b a → a ≡ b
+same_fault a b stage ab ba =
+    let page : a.page ≡ b.page = elim ab [ inl less ↦ elim ba [ inl lesser ↦ absurd (omega arith) | inr (same, low) ↦ sym same ] | inr (same, low) ↦ same ] in
+    let code : a.code ≡ b.code = elim ab [ inl less ↦ absurd (omega (arith, page)) | inr (same, low) ↦ elim ba [ inl lesser ↦ absurd (omega (arith, same)) | inr (same_too, low_too) ↦ omega arith ] ] in
+    ap (λ s. record { stage = s; page = a.page; code = a.code }) stage
+    ∙ (ap (λ p. record { stage = b.stage; page = p; code = a.code }) page ∙ ap (λ c. record { stage = b.stage; page = b.page; code = c }) code)
+
+first_is_least : (image : List ℕ) (fault : Fault) (faults : List Fault) → IsForest image → IsLeastOf (noted (file_of image)) fault → tree_faults (file_of image) ≡ faults → Some fault ≡ first_fault faults
+first_is_least image fault [] forest is same = absurd (no_member (tree_faults (file_of image)) fault same (noted_in_stage image fault forest is.holds))
+first_is_least image fault (first ∷ rest) forest is same =
+    let file : File = file_of image in
+    let here : Contains (tree_faults file) fault = noted_in_stage image fault forest is.holds in
+    let at : Contains (tree_faults file) first = subst (λ fs. Contains fs first) (sym same) (first_member first rest) in
+    let before : IsPreceded file first = of_tree_faults file first at in
+    ap (λ f. Some f)
+    (same_fault fault first (stage_of file fault here ∙ sym (stage_of file first at))
+    (first_of_first fault before.earlier first (is.least before.earlier before.at) before.comes)
+    (in_order file first rest fault same here))
+
+none_is_least : (image : List ℕ) → noted (file_of image) ≡ [] → tree_faults (file_of image) ≡ []
+none_is_least image none =
+    is_empty (tree_faults (file_of image)) (λ fault at.
+    let before : IsPreceded (file_of image) fault = of_tree_faults (file_of image) fault at in
+    no_member (noted (file_of image)) before.earlier none before.at)
+
+-- the least of all faults that are noted is the first of the stage
+pub least_is_first : (image : List ℕ) (least : Option Fault) → IsForest image → IsLeast (noted (file_of image)) least → least ≡ first_fault (tree_faults (file_of image))
+least_is_first image None forest is = sym (ap first_fault (none_is_least image is))
+least_is_first image (Some fault) forest is = first_is_least image fault (tree_faults (file_of image)) forest is refl

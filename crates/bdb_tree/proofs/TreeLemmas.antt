@@ -1,0 +1,591 @@
+-- The pages of trees in a file that linking accepts: children are pages of trees a level below, so the leaves are had level by level.
+use Rattle.std.proofs.Common.{◌≡◌, ◌⊎◌, ℕ, zero, suc, ◌+◌, ◌-◌, ◌<◌, ◌≤◌, Bool, true, false, cond, List, [], ◌∷◌, ◌++◌, length, map, arith, refl, sym, ◌∙◌, ap, subst, inl, inr, length-append}
+use Rattle.std.specs.Prelude.{Option, Some, None, ◌==◌, ◌&&◌, ◌||◌, not, nat_lt, nat_le, ◌%◌, slice_index, get_or}
+use Rattle.std.specs.List.{Contains, enumerate_from, filter, flat_map, range_with_len}
+use Rattle.std.proofs.lemmas.Bool.{and_left, ne_eqb, cases_lt, eq-eqb, eqb-false, eqb-true, ltb-false, not-false, or_parts}
+use Rattle.std.proofs.lemmas.List.{get_or_past}
+use Rattle.std.proofs.lemmas.List.FromFn.{length-map-range_with_len}
+use Rattle.std.proofs.lemmas.List.Elements.{Contains-append_left, Contains-get_or}
+use Rattle.bdb_model.specs.declared.metadata.FileKind.{FileKind}
+use Rattle.bdb_model.specs.declared.metadata.FileKind.TheVariants.{Btree, Hash as HashFile, Queue as QueueFile}
+use Rattle.bdb_model.specs.declared.pages.RecnoItem.{RecnoItem}
+use Rattle.bdb_model.specs.declared.references.Reference.{Reference}
+use Rattle.bdb_model.specs.declared.references.Sort.{Sort}
+use Rattle.bdb_model.specs.declared.references.Sort.TheVariants.{Child, DuplicateRoot, Root, HashNext}
+use Rattle.bdb_model.specs.File.{File, file_of, header_in, page_at, page_bytes, type_in}
+use Rattle.bdb_model.specs.Reading.{abstract_page}
+use Rattle.bdb_model.specs.Graph.{Owner, all_references, held_by}
+use Rattle.bdb_model.specs.HeadOf.{head_of}
+use Rattle.bdb_model.specs.Leaves.{LeafPlace, children_in, is_root_reference, is_wrong_leaf, is_wrong_link, first_or_zero, leaf_places, leaves, leaves_in, leaves_under, places_from, root_references, tree_rows, wrong_leaf_types}
+use Rattle.bdb_model.specs.Numbers.{has_bit}
+use Rattle.bdb_model.specs.Page.{BtreeFields, Content, Tree, Item, InternalItem, Listed, Page, Meta, Hash, Internal, RecnoInternal, Leaf, RecnoLeaf, DupLeaf, NoType}
+use Rattle.bdb_model.specs.References.{asked_by, child_types, content_names, fit_code, fit_rows, has_type, is_asked, is_shared_key, is_zero_page, leaf_names, names_in, names_of, no_item, refs, root_types, unless_zero}
+use Rattle.bdb_model.specs.Table.{◌:?◌}
+use Rattle.bdb_model.specs.Verdict.{holding, reference_faults, structure_faults, structure_rows, tree_faults}
+use Rattle.bdb_model.proofs.GraphLemmas.{each_fits}
+use Rattle.bdb_model.proofs.MemberLemmas.{first_member, in_flat_map, in_map, in_range, later_member, member_cases, no_member, none_passes, of_flat_map, of_map, of_range}
+use Rattle.bdb_model.proofs.VerdictLemmas.{AllFail, all_fail, no_codes_at, no_faults, none_holds, none_is_first_row}
+use Rattle.bdb_graph.specs.Linked.{FitsDupRoot, FitsLeafPage, FitsTreeRoot, IsForest, IsTarget}
+use Rattle.bdb_graph.proofs.ForestLemmas.{in_filter, sound_graph}
+use Rattle.bdb_form.specs.declared.view.PageView.{PageView}
+use Rattle.bdb_form.specs.Seen.{page_seen}
+use Rattle.bdb_tree.specs.Noted.{is_leaf_page}
+use Rattle.bdb_tree.specs.Trees.{IsRoot, IsTreePage}
+use Rattle.bdb_tree.proofs.ShapeLemmas.{AllTypes, IsFormedPage, IsInnerPage, IsLeafPage, SetsAreData, internal_of, dup_leaf_of, is_forest_page, leaf_of, leaf_shape, no_queue, of_type, page_formed, recno_internal_of, recno_leaf_of, tree_shape}
+
+abbrev pub level : File → ℕ → ℕ
+level file p = (header_in (page_at file p)).level
+
+-- Pages that are there.
+
+pages_counted : (image : List ℕ) → length (file_of image).pages ≡ (file_of image).last + 1
+unfolding file_of
+pages_counted image = length-map-range_with_len (λ p. abstract_page (head_of image).order (page_bytes (head_of image) image p)) 0 ((head_of image).last + 1)
+
+-- a page with a type is there
+pub typed_inside : (image types : List ℕ) (p : ℕ) → has_type types (type_in (page_at (file_of image) p)) ≡ true → p ≤ (file_of image).last
+typed_inside image types p has =
+    elim (cases_lt p (length (file_of image).pages)) [
+      | inl below ↦ omega (arith, pages_counted image)
+      | inr past ↦ absurd (let none : has_type types None ≡ true = subst (λ (page : Page). has_type types (type_in page) ≡ true) (get_or_past (file_of image).pages p NoType past) has in cc)
+    ]
+
+pub tree_inside : (image : List ℕ) (p : ℕ) → IsTreePage (file_of image) p → p ≤ (file_of image).last
+tree_inside image p tree = typed_inside image (3 ∷ 4 ∷ 5 ∷ 6 ∷ 12 ∷ []) p tree
+
+pub leaf_inside : (image : List ℕ) (p : ℕ) → FitsLeafPage (file_of image) p → p ≤ (file_of image).last
+leaf_inside image p leaf = typed_inside image (5 ∷ 6 ∷ 12 ∷ []) p leaf
+
+pub leaf_is_tree : (file : File) (p : ℕ) → FitsLeafPage file p → IsTreePage file p
+leaf_is_tree file p leaf = of_type (λ type. has_type (3 ∷ 4 ∷ 5 ∷ 6 ∷ 12 ∷ []) type ≡ true) (5 ∷ 6 ∷ 12 ∷ []) (type_in (page_at file p)) (refl, (refl, (refl, tt))) leaf
+
+pub formed_at : (image : List ℕ) (p : ℕ) → IsForest image → p ≤ (file_of image).last → IsFormedPage (page_at (file_of image) p)
+formed_at image p forest low = page_formed image (head_of image) p forest.formed low
+
+-- a leaf as its view shows it
+pub leaf_view : (image : List ℕ) (p : ℕ) (view : PageView) → IsForest image → FitsLeafPage (file_of image) p → page_seen view ≡ page_at (file_of image) p → is_leaf_page (page_seen view) ≡ true
+leaf_view image p view forest leaf seen = ap is_leaf_page seen ∙ leaf_shape (page_at (file_of image) p) (formed_at image p forest (leaf_inside image p leaf)) leaf
+
+-- a page of a tree is an internal page or a leaf
+pub tree_cases : (image : List ℕ) (p : ℕ) → IsForest image → IsTreePage (file_of image) p → IsInnerPage (page_at (file_of image) p) ⊎ IsLeafPage (page_at (file_of image) p)
+tree_cases image p forest tree = tree_shape (page_at (file_of image) p) (formed_at image p forest (tree_inside image p tree)) tree
+
+-- a page by its type
+
+pub internal_page : (image : List ℕ) (p : ℕ) → IsForest image → type_in (page_at (file_of image) p) ≡ Some 3 → (page : Listed InternalItem) × (page_at (file_of image) p ≡ Internal page)
+internal_page image p forest is =
+    internal_of (page_at (file_of image) p) (formed_at image p forest (typed_inside image (3 ∷ []) p (ap (has_type (3 ∷ [])) is))) is
+
+pub recno_internal_page : (image : List ℕ) (p : ℕ) → IsForest image → type_in (page_at (file_of image) p) ≡ Some 4 → (page : Listed RecnoItem) × (page_at (file_of image) p ≡ RecnoInternal page)
+recno_internal_page image p forest is =
+    recno_internal_of (page_at (file_of image) p) (formed_at image p forest (typed_inside image (4 ∷ []) p (ap (has_type (4 ∷ [])) is))) is
+
+pub leaf_page : (image : List ℕ) (p : ℕ) → IsForest image → type_in (page_at (file_of image) p) ≡ Some 5 → (page : Listed Item) × (page_at (file_of image) p ≡ Leaf page)
+leaf_page image p forest is =
+    leaf_of (page_at (file_of image) p) (formed_at image p forest (typed_inside image (5 ∷ []) p (ap (has_type (5 ∷ [])) is))) is
+
+pub recno_leaf_page : (image : List ℕ) (p : ℕ) → IsForest image → type_in (page_at (file_of image) p) ≡ Some 6 → (page : Listed Item) × (page_at (file_of image) p ≡ RecnoLeaf page)
+recno_leaf_page image p forest is =
+    recno_leaf_of (page_at (file_of image) p) (formed_at image p forest (typed_inside image (6 ∷ []) p (ap (has_type (6 ∷ [])) is))) is
+
+pub dup_leaf_page : (image : List ℕ) (p : ℕ) → IsForest image → type_in (page_at (file_of image) p) ≡ Some 12 → (page : Listed Item) × (page_at (file_of image) p ≡ DupLeaf page)
+dup_leaf_page image p forest is =
+    dup_leaf_of (page_at (file_of image) p) (formed_at image p forest (typed_inside image (12 ∷ []) p (ap (has_type (12 ∷ [])) is))) is
+
+-- What a page names.
+
+forest_names : (kind : FileKind) (p : ℕ) (page : Page) → (kind ≡ QueueFile → ⊥) → names_of kind p page ≡ names_in p page
+forest_names Btree p page forest = refl
+forest_names HashFile p page forest = refl
+forest_names QueueFile p page forest = absurd (forest refl)
+
+in_enumerated : {X : Type 0} (n : ℕ) (xs : List X) (x : X) → Contains xs x → (i : ℕ) × Contains (enumerate_from n xs) (i, x)
+in_enumerated n [] x at = absurd (no_member [] x refl at)
+in_enumerated n (y ∷ ys) x at =
+    elim (member_cases y ys x at) [
+      | inl same ↦ (n, subst (λ z. Contains ((n, y) ∷ enumerate_from (n + 1) ys) (n, z)) same (first_member (n, y) (enumerate_from (n + 1) ys)))
+      | inr later ↦ let rest = in_enumerated (n + 1) ys x later in (rest.0, later_member (n, y) (enumerate_from (n + 1) ys) (rest.0, x) rest.1)
+    ]
+
+-- a reference of this sort to a page, which this page holds
+record Holds (file : File) (p : ℕ) (sort : Sort) (target : ℕ) : Type 0 where
+  place : ℕ
+  held : Contains (refs file p) (record { place = place; sort = sort; target = target })
+
+named_of : (file : File) (p : ℕ) (sort : Sort) (target : ℕ) → Contains (names_of file.kind p (page_at file p)) (sort, target) → Holds file p sort target
+unfolding refs
+named_of file p sort target at =
+    let names : List (Sort × ℕ) = names_of file.kind p (page_at file p) in
+    let found : (i : ℕ) × Contains (enumerate_from 0 names) (i, (sort, target)) = in_enumerated 0 names (sort, target) at in
+    record {
+      place = found.0;
+      held = in_map (λ (named : ℕ × (Sort × ℕ)). record { place = named.0; sort = named.1.0; target = named.1.1 }) (enumerate_from 0 names) (found.0, (sort, target)) found.1;
+    }
+
+-- a page that isn't one of a queue file holds a reference for each page that it names
+named : (image : List ℕ) (p : ℕ) (sort : Sort) (target : ℕ) → IsForest image → p ≤ (file_of image).last → is_forest_page (page_at (file_of image) p) ≡ true
+    → Contains (names_in p (page_at (file_of image) p)) (sort, target) → Holds (file_of image) p sort target
+named image p sort target forest low is at =
+    let file : File = file_of image in
+    named_of file p sort target
+    (subst (λ names. Contains names (sort, target)) (sym (forest_names file.kind p (page_at file p) (no_queue image (head_of image) p forest.formed low is))) at)
+
+-- what a reference of a sort to a page asks, and finds
+record Fits (file : File) (holder : ℕ) (sort : Sort) (target : ℕ) : Type 0 where
+  inside : target ≤ file.last
+  above : 1 ≤ target
+  type : has_type (asked_by holder (page_at file holder) sort).types (type_in (page_at file target)) ≡ true
+  level : is_asked (asked_by holder (page_at file holder) sort).level (level file target) ≡ true
+
+-- the sorts that ask for a type and no zero page
+abbrev asks_kind : Sort → Bool
+asks_kind Child = true
+asks_kind Root = true
+asks_kind DuplicateRoot = true
+asks_kind sort = false
+
+or_none : (a b : Bool) → b ≡ false → not (a || b) ≡ false → a ≡ true
+or_none true b none passed = refl
+or_none false true none passed = absurd cc
+or_none false false none passed = absurd cc
+
+no_zero : (holder : ℕ) (page target : Page) (sort : Sort) → asks_kind sort ≡ true → ((asked_by holder page sort).or_zero && is_zero_page target) ≡ false
+no_zero holder page target Child is = refl
+no_zero holder page target Root is = refl
+no_zero holder page target DuplicateRoot is = refl
+no_zero holder page target sort is = absurd cc
+
+held_fits : (file : File) (p : ℕ) (sort : Sort) (target : ℕ) → reference_faults file ≡ [] → p ≤ file.last → asks_kind sort ≡ true → Holds file p sort target → Fits file p sort target
+unfolding fit_code
+held_fits file p sort target none low kind holds =
+    let rows = fit_rows file (asked_by p (page_at file p) sort) target in
+    let fail : AllFail rows = none_is_first_row rows (each_fits file p (record { place = holds.place; sort = sort; target = target }) none low holds.held) in
+    let range : ((target == 0) ≡ false) × (nat_lt file.last target ≡ false) = or_parts (target == 0) (nat_lt file.last target) fail.0 in
+    let some : target ≡ 0 → ⊥ = eqb-false target 0 range.0 in
+    record {
+      inside = ltb-false file.last target range.1;
+      above = omega arith;
+      type = or_none _ _ (no_zero p (page_at file p) (page_at file target) sort kind) fail.1.0;
+      level = not-false _ fail.1.1.0;
+    }
+
+-- Children.
+
+child_named : {X : Type 0} (child : X → ℕ) (names : X → List (Sort × ℕ)) (xs : List X) (c : ℕ) → ((x : X) → Contains (names x) (Child, child x)) → Contains (map child xs) c → Contains (flat_map names xs) (Child, c)
+child_named child names xs c each at =
+    let found : (x : _) × Contains xs x × (child x ≡ c) = of_map child xs c at in
+    in_flat_map names xs found.0 (Child, c) found.1 (subst (λ n. Contains (names found.0) (Child, n)) found.2 (each found.0))
+
+-- an internal page names the pages below it
+page_names : (p : ℕ) (page : Page) (children : List ℕ) (c : ℕ) → children_in page ≡ Some children → Contains children c → Contains (names_in p page) (Child, c)
+page_names p (Internal page) children c are at =
+    let same : map (λ (item : InternalItem). item.child) page.items ≡ children = cc in
+    child_named (λ (item : InternalItem). item.child) (λ (item : InternalItem). (Child, item.child) ∷ content_names item.key) page.items c
+    (λ item. first_member (Child, item.child) (content_names item.key)) (subst (λ cs. Contains cs c) (sym same) at)
+page_names p (RecnoInternal page) children c are at =
+    let same : map (λ (item : RecnoItem). item.child) page.items ≡ children = cc in
+    let found : (item : RecnoItem) × Contains page.items item × (item.child ≡ c) = of_map (λ (item : RecnoItem). item.child) page.items c (subst (λ cs. Contains cs c) (sym same) at) in
+    subst (λ n. Contains {X = Sort × ℕ} (map (λ (item : RecnoItem). (Child, item.child)) page.items) (Child, n)) found.2 (in_map (λ (item : RecnoItem). (Child, item.child)) page.items found.0 found.1)
+page_names p page children c are at = absurd cc
+
+inner_of_forest : (page : Page) (children : List ℕ) → children_in page ≡ Some children → is_forest_page page ≡ true
+inner_of_forest (Internal page) children are = refl
+inner_of_forest (RecnoInternal page) children are = refl
+inner_of_forest page children are = absurd cc
+
+inner_type : (page : Page) (children : List ℕ) → children_in page ≡ Some children → has_type (3 ∷ 4 ∷ []) (type_in page) ≡ true
+inner_type (Internal page) children are = refl
+inner_type (RecnoInternal page) children are = refl
+inner_type page children are = absurd cc
+
+either_types : (P : Option ℕ → Type 0) (b : Bool) (xs ys : List ℕ) → AllTypes P xs → AllTypes P ys → AllTypes P (cond b xs ys)
+either_types P true xs ys first second = first
+either_types P false xs ys first second = second
+
+-- the types of children are types of trees
+child_tree : (page : Page) → AllTypes (λ type. has_type (3 ∷ 4 ∷ 5 ∷ 6 ∷ 12 ∷ []) type ≡ true) (child_types page)
+child_tree (Internal page) = either_types (λ type. has_type (3 ∷ 4 ∷ 5 ∷ 6 ∷ 12 ∷ []) type ≡ true) (page.header.level == 2) (5 ∷ 12 ∷ []) (3 ∷ []) (refl, (refl, tt)) (refl, tt)
+child_tree (RecnoInternal page) = either_types (λ type. has_type (3 ∷ 4 ∷ 5 ∷ 6 ∷ 12 ∷ []) type ≡ true) (page.header.level == 2) (6 ∷ []) (4 ∷ []) (refl, tt) (refl, tt)
+child_tree page = tt
+
+-- a page below another: it's there, a page of a tree, one level below, and of a type that the page above asks for
+pub record IsChild (file : File) (p c : ℕ) : Type 0 where
+  pub inside : c ≤ file.last
+  pub above : 1 ≤ c
+  pub tree : IsTreePage file c
+  pub level : (header_in (page_at file c)).level + 1 ≡ (header_in (page_at file p)).level
+  pub type : has_type (child_types (page_at file p)) (type_in (page_at file c)) ≡ true
+
+inner_level : (page : Page) (children : List ℕ) → IsFormedPage page → children_in page ≡ Some children → 2 ≤ (header_in page).level
+inner_level (Internal page) children formed are = formed.0
+inner_level (RecnoInternal page) children formed are = formed.0
+inner_level page children formed are = absurd cc
+
+pub child_is : (image : List ℕ) (p c : ℕ) (children : List ℕ) → IsForest image → children_in (page_at (file_of image) p) ≡ Some children → Contains children c → IsChild (file_of image) p c
+child_is image p c children forest are at =
+    let file : File = file_of image in
+    let page : Page = page_at file p in
+    let low : p ≤ file.last = typed_inside image (3 ∷ 4 ∷ []) p (inner_type page children are) in
+    let holds : Holds file p Child c = named image p Child c forest low (inner_of_forest page children are) (page_names p page children c are at) in
+    let fits : Fits file p Child c = held_fits file p Child c (sound_graph image forest.linked).references low refl holds in
+    let high : 2 ≤ level file p = inner_level page children (formed_at image p forest low) are in
+    let below : level file p - 1 ≡ level file c = eqb-true (level file p - 1) (level file c) fits.level in
+    record {
+      inside = fits.inside;
+      above = fits.above;
+      tree = of_type (λ type. has_type (3 ∷ 4 ∷ 5 ∷ 6 ∷ 12 ∷ []) type ≡ true) (child_types page) (type_in (page_at file c)) (child_tree page) fits.type;
+      level = omega arith;
+      type = fits.type;
+    }
+
+-- Leaves.
+
+pub flat_map_same : {X Y : Type 0} (f g : X → List Y) (xs : List X) → ((x : X) → Contains xs x → f x ≡ g x) → flat_map f xs ≡ flat_map g xs
+flat_map_same f g [] same = refl
+flat_map_same f g (x ∷ xs) same =
+    ap (λ ys. ys ++ flat_map f xs) (same x (first_member x xs)) ∙ ap (λ ys. g x ++ ys) (flat_map_same f g xs (λ y at. same y (later_member x xs y at)))
+
+leaves_above_none : (levels : ℕ) (file : File) (p : ℕ) → children_in (page_at file p) ≡ None → leaves_in (suc levels) file p ≡ p ∷ []
+unfolding leaves_in
+leaves_above_none levels file p none = ap (leaves_under (leaves_in levels file) p) none
+
+-- a leaf is the only one at or below it
+pub leaves_of_leaf : (file : File) (p : ℕ) → IsLeafPage (page_at file p) → leaves file p ≡ p ∷ []
+leaves_of_leaf file p leaf = ap (λ n. leaves_in n file p) leaf.level ∙ leaves_above_none 0 file p leaf.none
+
+leaves_below_inner : (levels : ℕ) (file : File) (p : ℕ) (children : List ℕ) → children_in (page_at file p) ≡ Some children → leaves_in (suc levels) file p ≡ flat_map (leaves_in levels file) children
+unfolding leaves_in
+leaves_below_inner levels file p children are = ap (leaves_under (leaves_in levels file) p) are
+
+-- the leaves below an internal page are those below its children, in order
+pub leaves_of_inner : (image : List ℕ) (p : ℕ) (children : List ℕ) → IsForest image → children_in (page_at (file_of image) p) ≡ Some children
+    → leaves (file_of image) p ≡ flat_map (leaves (file_of image)) children
+leaves_of_inner image p children forest are = of (level (file_of image) p) refl
+  where
+    of : (n : ℕ) → level (file_of image) p ≡ n → leaves (file_of image) p ≡ flat_map (leaves (file_of image)) children
+    of zero is =
+        let low : p ≤ (file_of image).last = typed_inside image (3 ∷ 4 ∷ []) p (inner_type (page_at (file_of image) p) children are) in
+        let high : 2 ≤ level (file_of image) p = inner_level (page_at (file_of image) p) children (formed_at image p forest low) are in
+        absurd (omega arith)
+    of (suc n) is =
+        ap (λ k. leaves_in k (file_of image) p) is
+        ∙ (leaves_below_inner n (file_of image) p children are
+        ∙ flat_map_same (leaves_in n (file_of image)) (leaves (file_of image)) children (λ c at.
+        let child : IsChild (file_of image) p c = child_is image p c children forest are at in
+        let same : n ≡ level (file_of image) c = omega (arith, child.level) in
+        ap (λ k. leaves_in k (file_of image) c) same))
+
+-- a page of a tree stands above level 0
+pub tree_level : (image : List ℕ) (p : ℕ) → IsForest image → IsTreePage (file_of image) p → 1 ≤ level (file_of image) p
+tree_level image p forest tree =
+    elim (tree_cases image p forest tree) [ inl inner ↦ let high : 2 ≤ level (file_of image) p = inner.level in omega arith | inr leaf ↦ let one : level (file_of image) p ≡ 1 = leaf.level in omega arith ]
+
+-- what goes down from a page to those below it
+abbrev pub GoesDown : List ℕ → (ℕ → Type 0) → Type 0
+GoesDown image P = (p c : ℕ) (children : List ℕ) → P p → children_in (page_at (file_of image) p) ≡ Some children → Contains children c → P c
+
+-- the one member of a list
+pub only : {X : Type 0} (x y : X) → Contains (x ∷ []) y → x ≡ y
+only x y at = elim (member_cases x [] y at) [ inl same ↦ same | inr later ↦ absurd (no_member [] y refl later) ]
+
+leaves_in_have : (levels : ℕ) (image : List ℕ) (P : ℕ → Type 0) (p q : ℕ) → IsForest image → GoesDown image P → level (file_of image) p ≡ levels → IsTreePage (file_of image) p → P p
+    → Contains (leaves_in levels (file_of image) p) q → P q × FitsLeafPage (file_of image) q
+leaves_in_have zero image P p q forest down is tree here at = let high : 1 ≤ level (file_of image) p = tree_level image p forest tree in absurd (omega arith)
+leaves_in_have (suc n) image P p q forest down is tree here at =
+    let file : File = file_of image in
+    elim (tree_cases image p forest tree) [
+      | inr leaf ↦
+          let same : p ≡ q = only p q (subst (λ ps. Contains ps q) (leaves_above_none n file p leaf.none) at) in
+          (subst P same here, subst (FitsLeafPage file) same leaf.type)
+      | inl inner ↦
+          let below : (c : ℕ) × Contains inner.children c × Contains (leaves_in n file c) q =
+          of_flat_map (leaves_in n file) inner.children q (subst (λ ps. Contains ps q) (leaves_below_inner n file p inner.children inner.are) at) in
+          let child : IsChild file p below.0 = child_is image p below.0 inner.children forest inner.are below.1 in
+          leaves_in_have n image P below.0 q forest down (omega (arith, child.level)) child.tree (down p below.0 inner.children here inner.are below.1) below.2
+    ]
+
+-- what goes down from a page of a tree holds for each leaf below it
+pub leaves_have : (image : List ℕ) (P : ℕ → Type 0) (p q : ℕ) → IsForest image → GoesDown image P → IsTreePage (file_of image) p → P p → Contains (leaves (file_of image) p) q → P q
+leaves_have image P p q forest down tree here at = (leaves_in_have (level (file_of image) p) image P p q forest down refl tree here at).0
+
+-- each leaf at or below a page of a tree is a leaf
+pub leaf_fits : (image : List ℕ) (p q : ℕ) → IsForest image → IsTreePage (file_of image) p → Contains (leaves (file_of image) p) q → FitsLeafPage (file_of image) q
+leaf_fits image p q forest tree at = (leaves_in_have (level (file_of image) p) image (λ _. Unit {0}) p q forest (λ _ _ _ _ _ _. tt) refl tree tt at).1
+
+pub leaf_low : (image : List ℕ) (p q : ℕ) → IsForest image → IsTreePage (file_of image) p → Contains (leaves (file_of image) p) q → q ≤ (file_of image).last
+leaf_low image p q forest tree at = leaf_inside image q (leaf_fits image p q forest tree at)
+
+some_of_parts : {X Y : Type 0} (f : X → List Y) (xs : List X) → 0 < length xs → ((x : X) → Contains xs x → 0 < length (f x)) → 0 < length (flat_map f xs)
+some_of_parts f [] some each = some
+some_of_parts f (x ∷ xs) some each = let first : 0 < length (f x) = each x (first_member x xs) in omega (arith, length-append (f x) (flat_map f xs))
+
+leaves_in_some : (levels : ℕ) (image : List ℕ) (p : ℕ) → IsForest image → level (file_of image) p ≡ levels → IsTreePage (file_of image) p → 0 < length (leaves_in levels (file_of image) p)
+leaves_in_some zero image p forest is tree = let high : 1 ≤ level (file_of image) p = tree_level image p forest tree in absurd (omega arith)
+leaves_in_some (suc n) image p forest is tree =
+    let file : File = file_of image in
+    elim (tree_cases image p forest tree) [
+      | inr leaf ↦ subst (λ (ps : List ℕ). 0 < length ps) (sym (leaves_above_none n file p leaf.none)) (omega arith)
+      | inl inner ↦
+          subst (λ (ps : List ℕ). 0 < length ps) (sym (leaves_below_inner n file p inner.children inner.are))
+          (some_of_parts (leaves_in n file) inner.children inner.some (λ c at.
+          let child : IsChild file p c = child_is image p c inner.children forest inner.are at in
+          leaves_in_some n image c forest (omega (arith, child.level)) child.tree))
+    ]
+
+-- a page of a tree has a leaf at or below it
+pub some_leaf : (image : List ℕ) (p : ℕ) → IsForest image → IsTreePage (file_of image) p → 0 < length (leaves (file_of image) p)
+some_leaf image p forest tree = leaves_in_some (level (file_of image) p) image p forest refl tree
+
+-- The types of leaves.
+
+abbrev pub HasTypeAt : File → List ℕ → ℕ → Type 0
+HasTypeAt file types p = has_type types (type_in (page_at file p)) ≡ true
+
+-- the pages below one of a btree or of sorted duplicates
+keyed_below : (page : Page) (children : List ℕ) → has_type (3 ∷ 5 ∷ 12 ∷ []) (type_in page) ≡ true → children_in page ≡ Some children → AllTypes (λ type. has_type (3 ∷ 5 ∷ 12 ∷ []) type ≡ true) (child_types page)
+keyed_below (Internal page) children has are =
+    either_types (λ type. has_type (3 ∷ 5 ∷ 12 ∷ []) type ≡ true) (page.header.level == 2) (5 ∷ 12 ∷ []) (3 ∷ []) (refl, (refl, tt)) (refl, tt)
+keyed_below (RecnoInternal page) children has are = absurd cc
+keyed_below page children has are = absurd cc
+
+-- the pages below one of a recno or of unsorted duplicates
+recno_below : (page : Page) (children : List ℕ) → has_type (4 ∷ 6 ∷ []) (type_in page) ≡ true → children_in page ≡ Some children → AllTypes (λ type. has_type (4 ∷ 6 ∷ []) type ≡ true) (child_types page)
+recno_below (RecnoInternal page) children has are =
+    either_types (λ type. has_type (4 ∷ 6 ∷ []) type ≡ true) (page.header.level == 2) (6 ∷ []) (4 ∷ []) (refl, tt) (refl, tt)
+recno_below (Internal page) children has are = absurd cc
+recno_below page children has are = absurd cc
+
+wider : (small big : List ℕ) (file : File) (p : ℕ) → AllTypes (λ type. has_type big type ≡ true) small → HasTypeAt file small p → HasTypeAt file big p
+wider small big file p all has = of_type (λ type. has_type big type ≡ true) small (type_in (page_at file p)) all has
+
+-- a leaf below a page of a btree or of sorted duplicates is one of pairs or of sorted data
+pub keyed_leaf : (image : List ℕ) (p q : ℕ) → IsForest image → HasTypeAt (file_of image) (3 ∷ 5 ∷ 12 ∷ []) p → Contains (leaves (file_of image) p) q → HasTypeAt (file_of image) (5 ∷ 12 ∷ []) q
+keyed_leaf image p q forest has at =
+    let file : File = file_of image in
+    let tree : IsTreePage file p = wider (3 ∷ 5 ∷ 12 ∷ []) (3 ∷ 4 ∷ 5 ∷ 6 ∷ 12 ∷ []) file p (refl, (refl, (refl, tt))) has in
+    let keyed : HasTypeAt file (3 ∷ 5 ∷ 12 ∷ []) q =
+    leaves_have image (HasTypeAt file (3 ∷ 5 ∷ 12 ∷ [])) p q forest
+    (λ p c children here are below. of_type (λ type. has_type (3 ∷ 5 ∷ 12 ∷ []) type ≡ true) (child_types (page_at file p)) (type_in (page_at file c)) (keyed_below (page_at file p) children here are) (child_is image p c children forest are below).type)
+    tree has at in
+    of_type (λ type. has_type (3 ∷ 5 ∷ 12 ∷ []) type ≡ true → has_type (5 ∷ 12 ∷ []) type ≡ true) (5 ∷ 6 ∷ 12 ∷ []) (type_in (page_at file q))
+    (λ _. refl, (λ other. absurd cc, (λ _. refl, tt))) (leaf_fits image p q forest tree at) keyed
+
+-- a leaf below a page of a recno or of unsorted duplicates is one of records
+pub recno_leaf : (image : List ℕ) (p q : ℕ) → IsForest image → HasTypeAt (file_of image) (4 ∷ 6 ∷ []) p → Contains (leaves (file_of image) p) q → type_in (page_at (file_of image) q) ≡ Some 6
+recno_leaf image p q forest has at =
+    let file : File = file_of image in
+    let tree : IsTreePage file p = wider (4 ∷ 6 ∷ []) (3 ∷ 4 ∷ 5 ∷ 6 ∷ 12 ∷ []) file p (refl, (refl, tt)) has in
+    let recno : HasTypeAt file (4 ∷ 6 ∷ []) q =
+    leaves_have image (HasTypeAt file (4 ∷ 6 ∷ [])) p q forest
+    (λ p c children here are below. of_type (λ type. has_type (4 ∷ 6 ∷ []) type ≡ true) (child_types (page_at file p)) (type_in (page_at file c)) (recno_below (page_at file p) children here are) (child_is image p c children forest are below).type)
+    tree has at in
+    of_type (λ type. has_type (4 ∷ 6 ∷ []) type ≡ true → type ≡ Some 6) (5 ∷ 6 ∷ 12 ∷ []) (type_in (page_at file q))
+    (λ other. absurd cc, (λ _. refl, (λ other. absurd cc, tt))) (leaf_fits image p q forest tree at) recno
+
+-- Roots.
+
+-- a reference that a page holds is among all, and the other way round
+pub held_in_all : (file : File) (p : ℕ) (reference : Reference) → p ≤ file.last → Contains (refs file p) reference → Contains (all_references file) (record { holder = p; reference = reference })
+unfolding all_references
+held_in_all file p reference low held =
+    in_flat_map (held_by file) (range_with_len 0 (file.last + 1)) p (record { holder = p; reference = reference }) (in_range 0 (file.last + 1) p (omega arith) (omega arith))
+    (in_map (λ r. record { holder = p; reference = r }) (refs file p) reference held)
+
+pub held_of_all : (file : File) (owner : Owner) → Contains (all_references file) owner → (owner.holder ≤ file.last) × Contains (refs file owner.holder) owner.reference
+unfolding all_references
+held_of_all file owner at =
+    let page : (q : ℕ) × Contains (range_with_len 0 (file.last + 1)) q × Contains (held_by file q) owner = of_flat_map (held_by file) (range_with_len 0 (file.last + 1)) owner at in
+    let within : (0 ≤ page.0) × (page.0 < 0 + (file.last + 1)) = of_range 0 (file.last + 1) page.0 page.1 in
+    let held : (r : Reference) × Contains (refs file page.0) r × (record { holder = page.0; reference = r } ≡ owner) = of_map (λ r. record { holder = page.0; reference = r }) (refs file page.0) owner page.2 in (
+      subst (λ (o : Owner). o.holder ≤ file.last) held.2 (let low : page.0 ≤ file.last = omega (arith, within.1) in low),
+      subst (λ (o : Owner). Contains (refs file o.holder) o.reference) held.2 held.1,
+    )
+
+held_as : (file : File) (p : ℕ) (reference : Reference) (sort : Sort) (target : ℕ) → Contains (refs file p) reference → reference.sort ≡ sort → reference.target ≡ target → Holds file p sort target
+held_as file p reference sort target held sort_is target_is =
+    record {
+      place = reference.place;
+      held =
+          subst (λ t. Contains (refs file p) (record { place = reference.place; sort = sort; target = t })) target_is
+          (subst (λ s. Contains (refs file p) (record { place = reference.place; sort = s; target = reference.target })) sort_is held);
+    }
+
+-- a root fits the reference that names it
+root_fits : (image : List ℕ) (sort : Sort) (r : ℕ) → IsForest image → asks_kind sort ≡ true → (is : IsTarget (file_of image) sort r) → Fits (file_of image) is.owner.holder sort r
+root_fits image sort r forest kind is =
+    let file : File = file_of image in
+    let held = held_of_all file is.owner is.held in
+    held_fits file is.owner.holder sort r (sound_graph image forest.linked).references held.0 kind (held_as file is.owner.holder is.owner.reference sort r held.1 is.sort_is is.target_is)
+
+root_keyed_or_recno : (page : Page) (type : Option ℕ) → has_type (root_types page) type ≡ true → (has_type (3 ∷ 5 ∷ []) type ≡ true) ⊎ (has_type (4 ∷ 6 ∷ []) type ≡ true)
+root_keyed_or_recno (Meta (BtreeFields meta)) type has =
+    elim (has_bit meta.flags 0x02) as (λ b. has_type (cond b (4 ∷ 6 ∷ []) (3 ∷ 5 ∷ [])) type ≡ true → (has_type (3 ∷ 5 ∷ []) type ≡ true) ⊎ (has_type (4 ∷ 6 ∷ []) type ≡ true)) [
+      | true ↦ λ recno. inr recno
+      | false ↦ λ keyed. inl keyed
+    ] has
+root_keyed_or_recno page None has = absurd cc
+root_keyed_or_recno page (Some t) has = absurd cc
+
+-- the root that metadata names is one of a btree or one of a recno
+pub root_cases : (image : List ℕ) (r : ℕ) → IsForest image → FitsTreeRoot (file_of image) r → HasTypeAt (file_of image) (3 ∷ 5 ∷ []) r ⊎ HasTypeAt (file_of image) (4 ∷ 6 ∷ []) r
+root_cases image r forest is = root_keyed_or_recno (page_at (file_of image) is.owner.holder) (type_in (page_at (file_of image) r)) (root_fits image Root r forest refl is).type
+
+-- the root of duplicates is one of sorted or of unsorted ones
+pub dup_root_type : (image : List ℕ) (r : ℕ) → IsForest image → FitsDupRoot (file_of image) r → HasTypeAt (file_of image) (3 ∷ 4 ∷ 6 ∷ 12 ∷ []) r
+dup_root_type image r forest is = (root_fits image DuplicateRoot r forest refl is).type
+
+pub root_is_tree : (image : List ℕ) (r : ℕ) → IsForest image → IsRoot (file_of image) r → IsTreePage (file_of image) r
+root_is_tree image r forest is =
+    elim is [
+      | inl root ↦
+          elim (root_cases image r forest root) [
+            | inl keyed ↦ wider (3 ∷ 5 ∷ []) (3 ∷ 4 ∷ 5 ∷ 6 ∷ 12 ∷ []) (file_of image) r (refl, (refl, tt)) keyed
+            | inr recno ↦ wider (4 ∷ 6 ∷ []) (3 ∷ 4 ∷ 5 ∷ 6 ∷ 12 ∷ []) (file_of image) r (refl, (refl, tt)) recno
+          ]
+      | inr dup ↦ wider (3 ∷ 4 ∷ 6 ∷ 12 ∷ []) (3 ∷ 4 ∷ 5 ∷ 6 ∷ 12 ∷ []) (file_of image) r (refl, (refl, (refl, (refl, tt)))) (dup_root_type image r forest dup)
+    ]
+
+-- Faults of leaves.
+
+-- the code of one of two rows that holds
+pub code_of_two : (a b : Bool) (code : ℕ) → Contains (holding (2 :? a ∷ 3 :? b ∷ [])) code → ((code ≡ 2) × (a ≡ true)) ⊎ ((code ≡ 3) × (b ≡ true))
+code_of_two true true code at =
+    elim (member_cases 2 (3 ∷ []) code at) [ inl same ↦ inl (sym same, refl) | inr later ↦ inr (sym (only 3 code later), refl) ]
+code_of_two true false code at = inl (sym (only 2 code at), refl)
+code_of_two false true code at = inr (sym (only 3 code at), refl)
+code_of_two false false code at = absurd (no_member [] code refl at)
+
+-- a place at which neither row of leaves holds
+pub record IsRightPlace (file : File) (place : LeafPlace) : Type 0 where
+  pub type : is_wrong_leaf file place ≡ false
+  pub link : is_wrong_link file place ≡ false
+
+false_part : (a b : Bool) → a ≡ true → (a && b) ≡ false → b ≡ false
+false_part true b is fails = fails
+false_part false b is fails = absurd cc
+
+-- where no leaf has a fault, no place of a leaf is wrong
+pub place_is_right : (file : File) (place : LeafPlace) → tree_faults file ≡ [] → place.leaf ≤ file.last → Contains (leaf_places file) place → IsRightPlace file place
+unfolding tree_faults
+place_is_right file place none low at =
+    let p : ℕ = place.leaf in
+    let fail : AllFail (tree_rows file p) = all_fail (tree_rows file p) (no_codes_at 6 0 (file.last + 1) p (λ page. holding (tree_rows file page)) none (omega arith) (omega arith)) in
+    let here : (place.leaf == p) ≡ true = eq-eqb place.leaf p refl in
+    record {
+      type = false_part (place.leaf == p) (is_wrong_leaf file place) here (none_passes (λ (other : LeafPlace). other.leaf == p && is_wrong_leaf file other) (leaf_places file) place fail.0 at);
+      link = false_part (place.leaf == p) (is_wrong_link file place) here (none_passes (λ (other : LeafPlace). other.leaf == p && is_wrong_link file other) (leaf_places file) place fail.1.0 at);
+    }
+
+-- the faults of leaves are some of those of the stage
+pub no_tree_fault : (file : File) → structure_faults file ≡ [] → tree_faults file ≡ []
+unfolding structure_faults tree_faults
+no_tree_fault file none =
+    no_faults 6 0 (file.last + 1) (λ p. holding (tree_rows file p)) (λ p low high.
+    let fail : AllFail (structure_rows file p) = all_fail (structure_rows file p) (no_codes_at 6 0 (file.last + 1) p (λ page. holding (structure_rows file page)) none low high) in
+    none_holds (tree_rows file p) fail.1)
+
+-- the places of the leaves below a root
+pub place_of_root : (file : File) (sort : Sort) (r : ℕ) (place : LeafPlace) → is_root_reference sort ≡ true → IsTarget file sort r → Contains (places_from sort 0 (leaves file r)) place → Contains (leaf_places file) place
+unfolding leaf_places root_references
+place_of_root file sort r place root is at =
+    let owner : Owner = is.owner in
+    let same : places_from owner.reference.sort 0 (leaves file owner.reference.target) ≡ places_from sort 0 (leaves file r) = ap (λ s. places_from s 0 (leaves file owner.reference.target)) is.sort_is ∙ ap (λ t. places_from sort 0 (leaves file t)) is.target_is in
+    in_flat_map (λ (o : Owner). places_from o.reference.sort 0 (leaves file o.reference.target)) (filter (λ (o : Owner). is_root_reference o.reference.sort) (all_references file)) owner place
+    (in_filter (λ (o : Owner). is_root_reference o.reference.sort) (all_references file) owner is.held (ap is_root_reference is.sort_is ∙ root))
+    (subst (λ places. Contains places place) (sym same) at)
+
+-- each leaf has a place
+pub leaf_has_place : (sort : Sort) (before : ℕ) (ps : List ℕ) (q : ℕ) → Contains ps q → (place : LeafPlace) × Contains (places_from sort before ps) place × (place.leaf ≡ q) × (place.tree ≡ sort)
+leaf_has_place sort before [] q at = absurd (no_member [] q refl at)
+leaf_has_place sort before (p ∷ ps) q at =
+    let first : LeafPlace = record { tree = sort; before = before; leaf = p; after = first_or_zero ps } in
+    elim (member_cases p ps q at) [
+      | inl same ↦ (first, first_member first (places_from sort p ps), same, refl)
+      | inr later ↦ let found = leaf_has_place sort p ps q later in (found.0, later_member first (places_from sort p ps) found.0 found.1, found.2, found.3)
+    ]
+
+-- where no leaf has a fault, a leaf below a root hasn't a type that is wrong there
+right_type : (image : List ℕ) (sort : Sort) (r q : ℕ) → IsForest image → tree_faults (file_of image) ≡ [] → is_root_reference sort ≡ true → IsTarget (file_of image) sort r → IsTreePage (file_of image) r
+    → Contains (leaves (file_of image) r) q → has_type (wrong_leaf_types sort) (type_in (page_at (file_of image) q)) ≡ false
+right_type image sort r q forest none root is tree at =
+    let file : File = file_of image in
+    let found = leaf_has_place sort 0 (leaves file r) q at in
+    let low : found.0.leaf ≤ file.last = omega (arith, found.2, leaf_low image r q forest tree at) in
+    let right : IsRightPlace file found.0 = place_is_right file found.0 none low (place_of_root file sort r found.0 root is found.1) in
+    subst (λ s. has_type (wrong_leaf_types s) (type_in (page_at file q)) ≡ false) found.3
+    (subst (λ p. has_type (wrong_leaf_types found.0.tree) (type_in (page_at file p)) ≡ false) found.2 right.type)
+
+-- each leaf below the root of a btree is a leaf of pairs
+pub root_leaf : (image : List ℕ) (r q : ℕ) → IsForest image → tree_faults (file_of image) ≡ [] → FitsTreeRoot (file_of image) r → HasTypeAt (file_of image) (3 ∷ 5 ∷ []) r
+    → Contains (leaves (file_of image) r) q → type_in (page_at (file_of image) q) ≡ Some 5
+root_leaf image r q forest none root keyed at =
+    let file : File = file_of image in
+    of_type (λ type. has_type (12 ∷ []) type ≡ false → type ≡ Some 5) (5 ∷ 12 ∷ []) (type_in (page_at file q)) (λ _. refl, (λ wrong. absurd cc, tt))
+    (keyed_leaf image r q forest (wider (3 ∷ 5 ∷ []) (3 ∷ 5 ∷ 12 ∷ []) file r (refl, (refl, tt)) keyed) at)
+    (right_type image Root r q forest none refl root (root_is_tree image r forest (inl root)) at)
+
+-- each leaf below the root of sorted duplicates is one of sorted data
+pub dup_leaf : (image : List ℕ) (r q : ℕ) → IsForest image → tree_faults (file_of image) ≡ [] → FitsDupRoot (file_of image) r → HasTypeAt (file_of image) (3 ∷ 12 ∷ []) r
+    → Contains (leaves (file_of image) r) q → type_in (page_at (file_of image) q) ≡ Some 12
+dup_leaf image r q forest none root keyed at =
+    let file : File = file_of image in
+    of_type (λ type. has_type (5 ∷ []) type ≡ false → type ≡ Some 12) (5 ∷ 12 ∷ []) (type_in (page_at file q)) (λ wrong. absurd cc, (λ _. refl, tt))
+    (keyed_leaf image r q forest (wider (3 ∷ 12 ∷ []) (3 ∷ 5 ∷ 12 ∷ []) file r (refl, (refl, tt)) keyed) at)
+    (right_type image DuplicateRoot r q forest none refl root (root_is_tree image r forest (inr root)) at)
+
+dup_cases : (type : Option ℕ) → has_type (3 ∷ 4 ∷ 6 ∷ 12 ∷ []) type ≡ true → (has_type (3 ∷ 12 ∷ []) type ≡ true) ⊎ (has_type (4 ∷ 6 ∷ []) type ≡ true)
+dup_cases type has =
+    of_type (λ t. (has_type (3 ∷ 12 ∷ []) t ≡ true) ⊎ (has_type (4 ∷ 6 ∷ []) t ≡ true)) (3 ∷ 4 ∷ 6 ∷ 12 ∷ []) type (inl refl, (inr refl, (inr refl, (inl refl, tt)))) has
+
+-- the root of duplicates is one of sorted or one of unsorted ones
+pub dup_root_cases : (image : List ℕ) (r : ℕ) → IsForest image → FitsDupRoot (file_of image) r → HasTypeAt (file_of image) (3 ∷ 12 ∷ []) r ⊎ HasTypeAt (file_of image) (4 ∷ 6 ∷ []) r
+dup_root_cases image r forest is = dup_cases (type_in (page_at (file_of image) r)) (dup_root_type image r forest is)
+
+-- each leaf below the root of duplicates is one of sorted data or of records
+pub any_dup_leaf : (image : List ℕ) (r q : ℕ) → IsForest image → tree_faults (file_of image) ≡ [] → FitsDupRoot (file_of image) r
+    → Contains (leaves (file_of image) r) q → HasTypeAt (file_of image) (6 ∷ 12 ∷ []) q
+any_dup_leaf image r q forest none root at =
+    elim (dup_root_cases image r forest root) [
+      | inl keyed ↦ ap (has_type (6 ∷ 12 ∷ [])) (dup_leaf image r q forest none root keyed at)
+      | inr recno ↦ ap (has_type (6 ∷ 12 ∷ [])) (recno_leaf image r q forest recno at)
+    ]
+
+-- Sets off the page.
+
+dup_named : (image : List ℕ) (p root : ℕ) → IsForest image → p ≤ (file_of image).last → is_forest_page (page_at (file_of image) p) ≡ true
+    → Contains (names_in p (page_at (file_of image) p)) (DuplicateRoot, root) → FitsDupRoot (file_of image) root
+dup_named image p root forest low is at =
+    let file : File = file_of image in
+    let holds : Holds file p DuplicateRoot root = named image p DuplicateRoot root forest low is at in
+    let reference : Reference = record { place = holds.place; sort = DuplicateRoot; target = root } in
+    record { owner = record { holder = p; reference = reference }; held = held_in_all file p reference low holds.held; sort_is = refl; target_is = refl }
+
+content_named : (content : Content) (root : ℕ) → content ≡ Tree root → Contains (content_names content) (DuplicateRoot, root)
+content_named content root is = subst (λ c. Contains (content_names c) (DuplicateRoot, root)) (sym is) (first_member (DuplicateRoot, root) [])
+
+-- data of a hash page that are a set off the page name the root of duplicates
+pub hash_dup_root : (image : List ℕ) (p i root : ℕ) (page : Listed Item) → IsForest image → p ≤ (file_of image).last → page_at (file_of image) p ≡ Hash page → i < length page.items
+    → (get_or page.items i no_item).content ≡ Tree root → FitsDupRoot (file_of image) root
+hash_dup_root image p i root page forest low is below set =
+    let named_here : Contains (names_in p (Hash page)) (DuplicateRoot, root) =
+    Contains-append_left (flat_map (λ (item : Item). content_names item.content) page.items) (unless_zero HashNext page.header.next) (DuplicateRoot, root)
+    (in_flat_map (λ (item : Item). content_names item.content) page.items (get_or page.items i no_item) (DuplicateRoot, root) (Contains-get_or page.items i no_item below) (content_named _ root set)) in
+    dup_named image p root forest low (ap is_forest_page is) (subst (λ (q : Page). Contains (names_in p q) (DuplicateRoot, root)) (sym is) named_here)
+
+odd_not_shared : (offsets : List ℕ) (i : ℕ) → i % 2 ≡ 1 → is_shared_key offsets i ≡ false
+odd_not_shared offsets i odd =
+    and_left (i % 2 == 0 && nat_le 2 i) (slice_index offsets i == slice_index offsets (i - 2)) (and_left (i % 2 == 0) (nat_le 2 i) (ne_eqb (i % 2) 0 (λ even. omega arith)))
+
+leaf_data : (page : Page) (leaf : Listed Item) → page ≡ Leaf leaf → IsFormedPage page → SetsAreData leaf
+leaf_data page leaf is formed = let here : IsFormedPage (Leaf leaf) = subst IsFormedPage is formed in here.1
+
+-- data of a leaf that are a set off the page name the root of duplicates
+pub leaf_dup_root : (image : List ℕ) (p i root : ℕ) (page : Listed Item) → IsForest image → p ≤ (file_of image).last → page_at (file_of image) p ≡ Leaf page → i < length page.items
+    → (get_or page.items i no_item).content ≡ Tree root → FitsDupRoot (file_of image) root
+leaf_dup_root image p i root page forest low is below set =
+    let odd : i % 2 ≡ 1 = leaf_data (page_at (file_of image) p) page is (formed_at image p forest low) i root below set in
+    let names : leaf_names page i ≡ content_names (get_or page.items i no_item).content = ap (λ b. cond b [] (content_names (get_or page.items i no_item).content)) (odd_not_shared page.offsets i odd) in
+    let named_here : Contains (names_in p (Leaf page)) (DuplicateRoot, root) =
+    in_flat_map (leaf_names page) (range_with_len 0 (length page.items)) i (DuplicateRoot, root) (in_range 0 (length page.items) i (omega arith) (omega arith))
+    (subst (λ ns. Contains ns (DuplicateRoot, root)) (sym names) (content_named _ root set)) in
+    dup_named image p root forest low (ap is_forest_page is) (subst (λ (q : Page). Contains (names_in p q) (DuplicateRoot, root)) (sym is) named_here)

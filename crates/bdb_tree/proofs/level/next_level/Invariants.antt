@@ -1,0 +1,9 @@
+use Rattle.std.proofs.Common.{◌≡◌, take}
+use Rattle.std.specs.List.{flat_map}
+use Rattle.bdb_model.specs.File.{file_of}
+use Rattle.bdb_tree.specs.Trees.{children_at}
+use Rattle.bdb_tree.proofs.level.next_level.Given as goal
+
+-- The children of the pages passed are added.
+abbrev pub invariant-loop-page : goal.invariant-loop-page
+invariant-loop-page l = l.next.items ≡ flat_map (children_at (file_of l.forest)) (take l.page-index l.pages)

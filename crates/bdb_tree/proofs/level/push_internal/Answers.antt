@@ -1,0 +1,12 @@
+use Rattle.std.proofs.Common.{arith, ap, ◌∙◌, ◌++◌, ◌∷◌, []}
+use Rattle.bdb_layout.specs.Seen.{internal_item_seen}
+use Rattle.bdb_model.specs.Page.{InternalItem}
+use Rattle.bdb_tree.proofs.LevelLemmas.{children_more}
+use Rattle.bdb_tree.proofs.level.push_internal.Goals as goal
+
+-- The child of this item follows those of the items before it.
+pub loop-i-preserved : goal.loop-i-preserved
+loop-i-preserved c =
+    c.in_ok-push.ensures.items
+    ∙ (ap (λ children. children ++ (c.item.result.child ∷ [])) c.loop-i.invariant
+    ∙ children_more (λ (item : InternalItem). item.child) c.args.next.now.items c.args.page.now.items c.loop-i.i (internal_item_seen c.item.result) (omega arith) c.item.ensures)

@@ -1,0 +1,4 @@
+pub mod Descent
+pub mod Links
+pub mod Noted
+pub mod Trees

@@ -1,0 +1,194 @@
+ghost use Rattle.std.specs.Prelude.{◌≡◌, ◌<◌, ◌≤◌, ◌∷◌, ◌++◌, List, [], IfErr, IfOk, IsTrue, MatchBool, OnOk, length, not, ◌&&◌, ◌==◌, slice_index};
+ghost use Rattle.std.specs.List.{All, flat_map};
+ghost use Rattle.bdb_form.specs.Seen.{page_seen};
+ghost use Rattle.bdb_graph.specs.Linked.{FitsLeafPage};
+ghost use Rattle.bdb_graph.specs.Linking.{first_fault};
+ghost use Rattle.bdb_model.specs.declared.kinds.Fault.{Fault};
+ghost use Rattle.bdb_model.specs.File.{file_of, header_in, page_at, type_in};
+ghost use Rattle.bdb_model.specs.Leaves.{is_root_reference, places_from, wrong_leaf_types};
+ghost use Rattle.bdb_model.specs.References.{has_type};
+ghost use Rattle.bdb_model.specs.Table.{first_row};
+ghost use Rattle.bdb_model.specs.Verdict.{tree_faults};
+ghost use Rattle.bdb_tree.specs.Noted.{ComesFirst, IsLeast, held_faults, is_leaf_page, place_faults, place_in, place_rows, root_faults};
+ghost use Rattle.bdb_tree.specs.Trees.{IsTreePage, IsTreeRefusal};
+
+use crate::leaves_below;
+use bdb_form::PageView;
+use bdb_graph::{Forest, Linked, Reference, Sort};
+use bdb_model::{CheckError, Fault};
+use std::alloc::{AllocError, Global};
+
+/// Whether a fault comes no later than another, by page and then by code.
+fn comes_first(a: Fault, b: Fault) -> bool
+    ensures { MatchBool result (ComesFirst a b) (ComesFirst b a) }
+{
+    a.page < b.page || (a.page == b.page && a.code <= b.code)
+}
+
+/// The least of the faults so far and one more.
+fn lesser(least: Option<Fault>, fault: Fault) -> Fault
+    ensures { (faults : List Fault) → IsLeast faults least → IsLeast (faults ++ fault ∷ []) (Some result) }
+{
+    match least {
+        None => fault,
+        Some(first) if comes_first(first, fault) => first,
+        Some(_) => fault,
+    }
+}
+
+/// Whether a leaf names these two as its previous and its next page.
+#[tactic(auto, using(crate::proofs::ShapeLemmas::leaf_header))]
+fn is_between(page: &PageView<'_>, before: u32, after: u32) -> bool
+    requires { IsTrue (is_leaf_page (page_seen page.now)) }
+    ensures { result ≡ ((header_in (page_seen page.now)).previous == before && (header_in (page_seen page.now)).next == after) }
+{
+    let header = page.header();
+    header.previous == before && header.next == after
+}
+
+/// Whether a leaf has the type that none of a tree has: below metadata that of sorted data, below a set that of pairs.
+#[tactic(auto, using(crate::proofs::ShapeLemmas::no_dup_leaf, crate::proofs::ShapeLemmas::no_pair_leaf))]
+fn has_wrong_type(page: &PageView<'_>, sort: Sort) -> bool
+    requires { IsTrue (is_leaf_page (page_seen page.now)) }
+    ensures { result ≡ has_type (wrong_leaf_types sort) (type_in (page_seen page.now)) }
+{
+    match sort {
+        Sort::Root => matches!(page, PageView::DupLeaf(_)),
+        Sort::DuplicateRoot => matches!(page, PageView::Leaf(_)),
+        _ => false,
+    }
+}
+
+/// The first row that holds for leaf `i` of a tree: 2 for a wrong type, 3 for a wrong neighbour.
+#[tactic(auto, using(crate::proofs::TreeLemmas::leaf_inside, crate::proofs::TreeLemmas::leaf_view))]
+fn leaf_code(forest: &Forest<'_>, sort: Sort, leaves: &[u32], i: usize) -> Option<u8>
+    requires there { i < length leaves.now }
+    requires leaf { FitsLeafPage (file_of forest.now) (slice_index leaves.now i) }
+    ensures { result ≡ first_row (place_rows (file_of forest.now) (place_in sort leaves.now i)) }
+{
+    // What it ensures: the laws of linked files hold.
+    forest.head();
+    let page = forest.page(leaves[i]);
+    if has_wrong_type(&page, sort) {
+        return Some(2);
+    }
+    let before = if i > 0 { leaves[i - 1] } else { 0 };
+    let after = leaves.get(i + 1).copied().unwrap_or(0);
+    if !is_between(&page, before, after) {
+        return Some(3);
+    }
+    None
+}
+
+/// The least of the faults so far and that of leaf `i` of a tree.
+#[tactic(auto, using(crate::proofs::NotedLemmas::no_place))]
+fn note_leaf(
+    forest: &Forest<'_>,
+    sort: Sort,
+    leaves: &[u32],
+    i: usize,
+    least: Option<Fault>,
+) -> Option<Fault>
+    requires there { i < length leaves.now }
+    requires leaf { FitsLeafPage (file_of forest.now) (slice_index leaves.now i) }
+    ensures { (faults : List Fault) → IsLeast faults least → IsLeast (faults ++ place_faults (file_of forest.now) (place_in sort leaves.now i)) result }
+{
+    match leaf_code(forest, sort, leaves, i) {
+        Some(code) => Some(lesser(
+            least,
+            Fault {
+                stage: 6,
+                page: leaves[i],
+                code,
+            },
+        )),
+        None => least,
+    }
+}
+
+/// The least of the faults so far and those of the leaves of a tree, whose root is named by this sort.
+fn note_leaves(
+    forest: &Forest<'_>,
+    sort: Sort,
+    leaves: &[u32],
+    least: Option<Fault>,
+) -> Option<Fault>
+    requires { All (FitsLeafPage (file_of forest.now)) leaves.now }
+    ensures { (faults : List Fault) → IsLeast faults least → IsLeast (faults ++ flat_map (place_faults (file_of forest.now)) (places_from sort 0 leaves.now)) result }
+{
+    let mut found = least;
+    for i in 0..leaves.len() {
+        found = note_leaf(forest, sort, leaves, i, found);
+    }
+    found
+}
+
+/// A reference of this sort is to the root of a tree.
+fn is_root_reference(sort: Sort) -> bool
+    ensures { result ≡ is_root_reference sort }
+{
+    matches!(sort, Sort::Root | Sort::DuplicateRoot)
+}
+
+/// The least of the faults so far and those of the tree that a reference names, if it names one.
+fn note_tree(
+    alloc: Global,
+    forest: &Forest<'_>,
+    reference: Reference,
+    least: Option<Fault>,
+) -> Result<Option<Fault>, AllocError>
+    requires { IsTrue (is_root_reference reference.sort) → IsTreePage (file_of forest.now) reference.target }
+    ensures { IfOk result (λ found. (faults : List Fault) → IsLeast faults least → IsLeast (faults ++ root_faults (file_of forest.now) reference) found) }
+{
+    if !is_root_reference(reference.sort) {
+        return Ok(least);
+    }
+    prove!(reference.target <= u64::from(forest.head().last));
+    let leaves = leaves_below(alloc, forest, reference.target as u32)?;
+    Ok(note_leaves(forest, reference.sort, &leaves, least))
+}
+
+/// The least of the faults so far and those of the trees that a page names.
+fn note_page(
+    alloc: Global,
+    forest: &Forest<'_>,
+    page: u32,
+    least: Option<Fault>,
+) -> Result<Option<Fault>, AllocError>
+    requires { page ≤ (file_of forest.now).last }
+    ensures { IfOk result (λ found. (faults : List Fault) → IsLeast faults least → IsLeast (faults ++ held_faults (file_of forest.now) page) found) }
+{
+    // What it ensures: the laws of linked files hold.
+    forest.head();
+    let mut found = least;
+    for reference in forest.references(page) {
+        found = note_tree(alloc, forest, reference, found)?;
+    }
+    Ok(found)
+}
+
+/// The first fault of a leaf, if there is one. An error is want of memory.
+#[tactic(auto, using(bdb_graph::proofs::HeldLemmas::last_page))]
+fn least_fault(alloc: Global, forest: &Forest<'_>) -> Result<Option<Fault>, AllocError>
+    ensures { IfOk result (λ least. least ≡ first_fault (tree_faults (file_of forest.now))) }
+{
+    let mut least = None;
+    for page in 0..forest.head().last + 1 {
+        least = note_page(alloc, forest, page, least)?;
+    }
+    Ok(least)
+}
+
+/// Each leaf of a tree has a type that the tree may have, and names its neighbours in the tree. A refusal is
+/// the first fault: the least page, and there the least code. It keeps the leaves of one tree at a time;
+/// `Memory` is want of memory.
+pub fn check_trees(alloc: Global, linked: &Linked<'_>) -> Result<(), CheckError>
+    ensures accepted { OnOk result (tree_faults (file_of linked.now) ≡ []) }
+    ensures refusal { IfErr result (IsTreeRefusal (file_of linked.now)) }
+{
+    match least_fault(alloc, &linked.forest()) {
+        Ok(None) => Ok(()),
+        Ok(Some(fault)) => Err(CheckError::Fault(fault)),
+        Err(_) => Err(CheckError::Memory),
+    }
+}

@@ -1,0 +1,66 @@
+ghost use Rattle.std.specs.Prelude.{◌≡◌, Some};
+ghost use Rattle.std.specs.List.{slice_get};
+ghost use Rattle.bdb_form.specs.Seen.{page_seen};
+ghost use Rattle.bdb_graph.specs.Linked.{FitsDupRoot, FitsLeafPage, FitsTreeRoot};
+ghost use Rattle.bdb_model.specs.File.{file_of, page_at};
+ghost use Rattle.bdb_model.specs.Leaves.{children_in, leaves};
+ghost use Rattle.bdb_tree.specs.Links.{HasItem, first_below};
+ghost use Rattle.bdb_tree.specs.Trees.{IsTreePage};
+
+use bdb_form::PageView;
+use bdb_graph::{DupRoot, Forest, LeafPage, Linked, Ref, TreeRoot};
+
+/// The first leaf of the tree of metadata.
+pub fn first_leaf(linked: &Linked<'_>, r: Ref<TreeRoot>) -> Ref<LeafPage>
+    requires { FitsTreeRoot (file_of linked.now) r }
+    ensures first { slice_get (leaves (file_of linked.now) r) 0 ≡ Some result }
+    ensures fits { FitsLeafPage (file_of linked.now) result }
+{
+    prove!(r.number() <= linked.head().last);
+    leftmost(&linked.forest(), r.number())
+}
+
+/// The first leaf of a tree of duplicates.
+pub fn dup_first(linked: &Linked<'_>, r: Ref<DupRoot>) -> Ref<LeafPage>
+    requires { FitsDupRoot (file_of linked.now) r }
+    ensures first { slice_get (leaves (file_of linked.now) r) 0 ≡ Some result }
+    ensures fits { FitsLeafPage (file_of linked.now) result }
+{
+    prove!(r.number() <= linked.head().last);
+    leftmost(&linked.forest(), r.number())
+}
+
+/// The first leaf at or below a page of a tree.
+pub fn leftmost(forest: &Forest<'_>, root: u32) -> Ref<LeafPage>
+    requires { IsTreePage (file_of forest.now) root }
+    ensures first { slice_get (leaves (file_of forest.now) root) 0 ≡ Some result }
+    ensures fits { FitsLeafPage (file_of forest.now) result }
+{
+    prove!(root <= forest.head().last);
+    let mut page = root;
+    while let Some(child) = first_child(forest, page) {
+        page = child;
+    }
+    Ref::at(page)
+}
+
+/// The first of the pages right below a page of a tree; a leaf has none.
+fn first_child(forest: &Forest<'_>, page: u32) -> Option<u32>
+    requires { IsTreePage (file_of forest.now) page }
+    ensures { result ≡ first_below (children_in (page_at (file_of forest.now) page)) }
+{
+    prove!(page <= forest.head().last);
+    first_item(&forest.page(page))
+}
+
+/// The page that the first item of an internal page names; another page names none so.
+fn first_item(page: &PageView<'_>) -> Option<u32>
+    requires { HasItem (page_seen page.now) }
+    ensures { result ≡ first_below (children_in (page_seen page.now)) }
+{
+    match page {
+        PageView::Internal(page) => Some(page.item(0).child),
+        PageView::RecnoInternal(page) => Some(page.item(0).child),
+        _ => None,
+    }
+}

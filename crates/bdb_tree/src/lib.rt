@@ -1,0 +1,16 @@
+//! The trees of a file: their leaves, in order, what each leaf has to be, and the way down to one.
+#![tactic(auto)]
+
+mod check;
+mod descend;
+mod first;
+mod level;
+mod links;
+mod walk;
+
+pub use check::check_trees;
+pub use descend::{Separate, descend_by, descend_in};
+pub use first::{dup_first, first_leaf, leftmost};
+pub use level::{leaves_below, next_level};
+pub use links::{leaves, tree_leaves};
+pub use walk::Leaves;
