@@ -8,22 +8,9 @@ Prints `const NAME: Image`. A piece ends before a run of 8 or more zeros; its te
 import pathlib
 import sys
 
-SHORTEST_GAP = 8
+from image_to_pieces import pieces
+
 DIGITS_A_LINE = 80
-
-
-def pieces(data):
-    """Places and bytes of what lies between long runs of zeros."""
-    at = 0
-    while at < len(data):
-        if data[at] == 0:
-            at += 1
-            continue
-        end = at
-        while end < len(data) and any(data[end : end + SHORTEST_GAP]):
-            end += 1
-        yield at, data[at:end]
-        at = end
 
 
 def folded(digits, indent):
