@@ -8,3 +8,4 @@ pub mod NotedLemmas
 pub mod RepeatLemmas
 pub mod TargetLemmas
 pub mod WholeLemmas
+pub mod VerdictLemmas

@@ -3,3 +3,4 @@ pub mod Master
 pub mod Merged
 pub mod Noted
 pub mod Stages
+pub mod Whole

@@ -1,4 +1,4 @@
-//! Whole files: the verdict of the stages after linking.
+//! Whole files: the verdict.
 #![tactic(auto)]
 
 mod check;
@@ -9,7 +9,11 @@ mod key;
 mod master;
 mod merged;
 mod repeats;
+mod sound;
 mod structure;
 mod targets;
+mod verdict;
 
 pub use check::check_file;
+pub use sound::Sound;
+pub use verdict::verify;

@@ -3,9 +3,9 @@
 ghost use Rattle.std.specs.Prelude.{◌≡◌};
 
 use crate::fields::{Field, write};
-use bdb_file::check_file;
+use bdb_file::{check_file, verify};
 use bdb_graph::{link, open_image};
-use bdb_model::{CheckError, Fault, Order, Steps};
+use bdb_model::{CheckError, Fault, Order, Steps, Verdict};
 use std::alloc::Global;
 use std::marker::Brand;
 use std::sync::ledger::{Blank, Ledger};
@@ -213,11 +213,68 @@ fn is_as_told(alloc: Global, case: &Case, order: Order) -> bool {
     told_blank::<Brand>(alloc, &image, Blank::new(1)) == case.told
 }
 
+fn verdict_counted<L: Ledger>(alloc: Global, image: &[u8], steps: &mut Steps<L>) -> Told {
+    if image.len() > SIZE {
+        return Told::Refused;
+    }
+    match verify(alloc, image, steps) {
+        Ok(_) => Told::Sound,
+        Err(Verdict::Fault(Fault { stage, page, code })) => Told::Fault { stage, page, code },
+        Err(Verdict::Unsupported(_, _)) => Told::Refused,
+        Err(Verdict::Memory) => Told::Memory,
+    }
+}
+
+fn verdict_blank<L: Ledger>(alloc: Global, image: &[u8], blank: Blank) -> Told
+    requires name { blank.name ≡ L.name }
+    requires parts { blank.parts ≡ L.parts }
+    requires one { L.parts ≡ 1 }
+{
+    let mut steps = Steps::<L>::new(blank);
+    verdict_counted(alloc, image, &mut steps)
+}
+
+/// Whether the verdict on the file of two databases is this, once these fields are written over it.
+fn has_verdict(alloc: Global, fields: &[Field], told: Told, order: Order) -> bool {
+    let mut image = [0u8; SIZE];
+    write(&mut image, &TWO_DATABASES, order);
+    write(&mut image, fields, order);
+    verdict_blank::<Brand>(alloc, &image, Blank::new(1)) == told
+}
+
 #[test]
 fn tells_the_first_fault_of_a_file(rt: HostRuntime) {
     for case in &CASES {
         for order in [Order::Little, Order::Big] {
             assert!(rt; is_as_told(rt.alloc(), case, order));
         }
+    }
+}
+
+#[test]
+fn verifies_a_file(rt: HostRuntime) {
+    for case in &CASES {
+        for order in [Order::Little, Order::Big] {
+            assert!(rt; has_verdict(rt.alloc(), case.fields, case.told, order));
+        }
+    }
+}
+
+#[test]
+fn verifies_the_stages_before(rt: HostRuntime) {
+    for order in [Order::Little, Order::Big] {
+        let page_size = Told::Fault {
+            stage: 1,
+            page: 0,
+            code: 5,
+        };
+        assert!(rt; has_verdict(rt.alloc(), &[Field::Four(20, 513)], page_size, order));
+        let page_number = Told::Fault {
+            stage: 2,
+            page: 3,
+            code: 1,
+        };
+        assert!(rt; has_verdict(rt.alloc(), &[Field::Four(1544, 9)], page_number, order));
+        assert!(rt; has_verdict(rt.alloc(), &[Field::Four(16, 10)], Told::Refused, order));
     }
 }

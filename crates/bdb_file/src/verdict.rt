@@ -1,0 +1,69 @@
+ghost use Rattle.std.specs.Prelude.{◌≡◌, ◌≤◌, ◌^◌, [], IfErr, IfOk, OnOk, length};
+ghost use Rattle.bdb_file.specs.Whole.{IsVerdictOf, file_faults, told_as};
+ghost use Rattle.bdb_graph.specs.Linking.{graph_faults};
+
+use crate::{Sound, check_file};
+use bdb_graph::{Formed, Linked, link, open_image};
+use bdb_model::{CheckError, Steps, Verdict};
+use std::alloc::Global;
+use std::sync::ledger::Ledger;
+
+/// The refusal of a check as a verdict.
+fn told_as(error: CheckError) -> Verdict
+    ensures { result ≡ told_as error }
+{
+    match error {
+        CheckError::Fault(fault) => Verdict::Fault(fault),
+        CheckError::Memory => Verdict::Memory,
+    }
+}
+
+/// A formed image as one whose pages are linked, or its verdict.
+#[tactic(auto, using(crate::proofs::VerdictLemmas::graph_refused))]
+fn linked_of<'a, L: Ledger>(
+    alloc: Global,
+    formed: Formed<'a>,
+    steps: &mut Steps<L>,
+) -> Result<Linked<'a>, Verdict>
+    ensures linked { IfOk result (λ linked. linked ≡ formed.entry) }
+    ensures refusal { IfErr result (IsVerdictOf formed.entry) }
+{
+    formed.head();
+    match link(alloc, formed, steps) {
+        Ok(linked) => Ok(linked),
+        Err(error) => Err(told_as(error)),
+    }
+}
+
+/// A linked image as a sound file, or its verdict.
+#[tactic(auto, using(crate::proofs::VerdictLemmas::file_refused, crate::proofs::VerdictLemmas::file_accepted))]
+fn sound_of<'a>(alloc: Global, linked: Linked<'a>) -> Result<Sound<'a>, Verdict>
+    ensures sound { IfOk result (λ sound. sound ≡ linked.entry) }
+    ensures accepted { OnOk result (file_faults linked.entry ≡ []) }
+    ensures refusal { IfErr result (IsVerdictOf linked.entry) }
+{
+    linked.head();
+    match check_file(alloc, &linked) {
+        Ok(()) => Ok(Sound::over(linked)),
+        Err(error) => Err(told_as(error)),
+    }
+}
+
+/// An image as a sound file, or its verdict: the least page, and there the least code, of the first of the eight
+/// stages in which a row holds, or the case that is left out by name. `Memory` is want of memory.
+#[tactic(auto, using(crate::proofs::VerdictLemmas::form_refused))]
+pub fn verify<'a, L: Ledger>(
+    alloc: Global,
+    image: &'a [u8],
+    steps: &mut Steps<L>,
+) -> Result<Sound<'a>, Verdict>
+    requires { length image.now ≤ 2 ^ 30 }
+    ensures sound { IfOk result (λ sound. sound ≡ image.now) }
+    ensures accepted { OnOk result (file_faults image.now ≡ []) }
+    ensures refusal { IfErr result (IsVerdictOf image.now) }
+{
+    match open_image(alloc, image) {
+        Ok(formed) => sound_of(alloc, linked_of(alloc, formed, steps)?),
+        Err(verdict) => Err(verdict),
+    }
+}
