@@ -5,10 +5,9 @@ usage: image_to_hex.py FILE NAME
 
 Prints `const NAME: Image`. A piece ends before a run of 8 or more zeros; its text goes on behind a backslash.
 """
-import pathlib
 import sys
 
-from image_to_pieces import pieces
+from image_to_pieces import main
 
 DIGITS_A_LINE = 80
 
@@ -19,19 +18,11 @@ def folded(digits, indent):
     return f"\\\n{indent}".join(parts)
 
 
-def main(file, name):
-    data = pathlib.Path(file).read_bytes()
-    print(f"pub const {name}: Image = Image {{")
-    print(f"    size: {len(data)},")
-    print("    pieces: &[")
-    for at, piece in pieces(data):
-        text = folded(piece.hex(), " " * 13)
-        print(f'        ({at}, "{text}"),')
-    print("    ],")
-    print("};")
-
-
 if __name__ == "__main__":
     if len(sys.argv) != 3:
         sys.exit(__doc__)
-    main(sys.argv[1], sys.argv[2])
+    main(
+        sys.argv[1],
+        f"pub const {sys.argv[2]}: Image = Image {{",
+        lambda at, piece: f'({at}, "{folded(piece.hex(), " " * 13)}")',
+    )

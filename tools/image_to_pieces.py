@@ -32,13 +32,14 @@ def lines(piece):
         yield ", ".join(str(byte) for byte in piece[start : start + BYTES_A_LINE])
 
 
-def main(file, name):
+def main(file, opening, spelled):
+    """Prints a constant that opens so, each piece spelled by its place and bytes."""
     data = pathlib.Path(file).read_bytes()
-    print(f"const {name}: Sample = Sample {{")
+    print(opening)
     print(f"    size: {len(data)},")
     print("    pieces: &[")
     for at, piece in pieces(data):
-        print(f"        Piece {{ at: {at}, bytes: &[{', '.join(lines(piece))}] }},")
+        print(f"        {spelled(at, piece)},")
     print("    ],")
     print("};")
 
@@ -46,4 +47,8 @@ def main(file, name):
 if __name__ == "__main__":
     if len(sys.argv) != 3:
         sys.exit(__doc__)
-    main(sys.argv[1], sys.argv[2])
+    main(
+        sys.argv[1],
+        f"const {sys.argv[2]}: Sample = Sample {{",
+        lambda at, piece: f"Piece {{ at: {at}, bytes: &[{', '.join(lines(piece))}] }}",
+    )

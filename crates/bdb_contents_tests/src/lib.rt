@@ -4,11 +4,17 @@
 #[cfg(test)]
 mod btree_samples;
 #[cfg(test)]
+mod btree_separators;
+#[cfg(test)]
 mod btrees;
 #[cfg(test)]
 mod fields;
 #[cfg(test)]
+mod hash_samples;
+#[cfg(test)]
 mod hashes;
+#[cfg(test)]
+mod lookup_cases;
 #[cfg(test)]
 mod lookup_samples;
 #[cfg(test)]

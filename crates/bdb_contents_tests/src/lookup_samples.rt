@@ -1,6 +1,7 @@
 //! Btrees that the original library wrote, with the lists that it tells of them. Bytes that aren't read are 0.
 
-use crate::lookups::{Entry, has_list};
+use crate::lookup_cases::Entry;
+use crate::lookups::has_list;
 use std::alloc::Global;
 
 const SIZE: usize = 8192;

@@ -16,6 +16,8 @@ mod opening;
 #[cfg(test)]
 mod sampled;
 #[cfg(test)]
+mod structure_samples;
+#[cfg(test)]
 mod trees;
 #[cfg(test)]
 mod walks;

@@ -4,6 +4,8 @@
 #[cfg(test)]
 mod opened;
 #[cfg(test)]
+mod real_btrees;
+#[cfg(test)]
 mod real_images;
 #[cfg(test)]
 mod real_lists;
