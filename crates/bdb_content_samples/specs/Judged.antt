@@ -1,17 +1,15 @@
 -- What the definitions say of whole images.
-use Rattle.std.specs.Prelude.{ℕ, List, [], ◌∷◌, codes}
+use Rattle.std.specs.Prelude.{ℕ, List, map, codes}
 use Prim.Native.String.{String}
 use Rattle.std.specs.List.{flat_map}
 use Rattle.bdb_model.specs.declared.kinds.Fault.{Fault}
-use Rattle.bdb_model.specs.Page.{Metadata, Page, Meta}
+use Rattle.bdb_model.specs.declared.settings.Settings.{Settings}
+use Rattle.bdb_model.specs.HeadOf.{head_of}
+use Rattle.bdb_model.specs.Page.{Metadata}
 use Rattle.bdb_model.specs.File.{file_of, page_at}
-use Rattle.bdb_model.specs.Verdict.{faults_of, or_else}
 use Rattle.bdb_model.specs.Lists.{ListKey, BytesKey, NumberKey, list_of}
-use Rattle.bdb_model.specs.ContentRows.{contents_faults}
-
-abbrev pub fields_in : Page → List Metadata
-fields_in (Meta fields) = fields ∷ []
-fields_in page = []
+use Rattle.bdb_model.specs.ContentRows.{contents_faults, fields_in}
+use Rattle.bdb_model.specs.Databases.{settings_of, data_under}
 
 -- the metadata on a page of an image
 abbrev pub fields_at : List ℕ → ℕ → List Metadata
@@ -20,10 +18,6 @@ fields_at image p = fields_in (page_at (file_of image) p)
 -- the faults of stage 8 of the database whose metadata page is given
 abbrev pub contents_at : List ℕ → ℕ → List Fault
 contents_at image p = flat_map (contents_faults (file_of image)) (fields_at image p)
-
--- the faults of stages 1 to 6; where there are none, those of stage 8 of the database of page 0
-abbrev pub judged : List ℕ → List Fault
-judged image = or_else (faults_of image) (λ _. contents_at image 0)
 
 -- the list of the database whose metadata page is given
 abbrev pub list_at : List ℕ → ℕ → List (ListKey × List ℕ)
@@ -35,3 +29,11 @@ entry key datum = (BytesKey (codes key), codes datum)
 
 abbrev pub numbered : ℕ → String → ListKey × List ℕ
 numbered n datum = (NumberKey n, codes datum)
+
+-- the settings of the database whose metadata page is given
+abbrev pub settings_at : List ℕ → ℕ → List Settings
+settings_at image p = map (settings_of (head_of image).page_size (head_of image).order) (fields_at image p)
+
+-- what the database whose metadata page is given has under the bytes of a key
+abbrev pub under : List ℕ → ℕ → String → List (List ℕ)
+under image p key = flat_map (λ fields. data_under (file_of image) fields (codes key)) (fields_at image p)

@@ -1,32 +1,32 @@
-ghost use Rattle.bdb_content_samples.specs.Judged.{judged};
 ghost use Rattle.bdb_content_samples.specs.Separators.{counted, counted_twice, split_set};
 ghost use Rattle.bdb_graph_samples.specs.Named.{fault};
+ghost use Rattle.bdb_model.specs.Verdict.{faults_of};
 ghost use Rattle.std.specs.Prelude.{◌≡◌, [], ◌∷◌};
 
 /// Below the first item are two live pairs and a deleted one: its count is 2 or 3. Below the second is one pair.
 pub fn both_ends()
-    ensures live { judged (counted 4 2 1) ≡ [] }
-    ensures all { judged (counted 4 3 1) ≡ [] }
-    ensures fewer { judged (counted 4 1 1) ≡ fault 8 1 6 ∷ [] }
-    ensures more { judged (counted 4 4 1) ≡ fault 8 1 6 ∷ [] }
-    ensures second_fewer { judged (counted 4 2 0) ≡ fault 8 1 6 ∷ [] }
-    ensures second_more { judged (counted 4 2 2) ≡ fault 8 1 6 ∷ [] }
+    ensures live { faults_of (counted 4 2 1) ≡ [] }
+    ensures all { faults_of (counted 4 3 1) ≡ [] }
+    ensures fewer { faults_of (counted 4 1 1) ≡ fault 8 1 6 ∷ [] }
+    ensures more { faults_of (counted 4 4 1) ≡ fault 8 1 6 ∷ [] }
+    ensures second_fewer { faults_of (counted 4 2 0) ≡ fault 8 1 6 ∷ [] }
+    ensures second_more { faults_of (counted 4 2 2) ≡ fault 8 1 6 ∷ [] }
 {}
 
 /// Without the flag counts are free.
 pub fn without_the_flag()
-    ensures { judged (counted 0 9 9) ≡ [] }
+    ensures { faults_of (counted 0 9 9) ≡ [] }
 {}
 
-/// Each internal page is judged by all that is below it.
+/// Each internal page is faults_of by all that is below it.
 pub fn levels()
-    ensures right { judged (counted_twice 2 1) ≡ [] }
-    ensures outer { judged (counted_twice 1 1) ≡ fault 8 1 6 ∷ [] }
-    ensures inner { judged (counted_twice 2 2) ≡ fault 8 2 6 ∷ [] }
-    ensures both { judged (counted_twice 3 0) ≡ fault 8 1 6 ∷ fault 8 2 6 ∷ [] }
+    ensures right { faults_of (counted_twice 2 1) ≡ [] }
+    ensures outer { faults_of (counted_twice 1 1) ≡ fault 8 1 6 ∷ [] }
+    ensures inner { faults_of (counted_twice 2 2) ≡ fault 8 2 6 ∷ [] }
+    ensures both { faults_of (counted_twice 3 0) ≡ fault 8 1 6 ∷ fault 8 2 6 ∷ [] }
 {}
 
 /// The counts in the tree of a set aren't looked at, with the flag neither; the set itself is wrong there.
 pub fn sets()
-    ensures { judged (split_set 4 "2" 9) ≡ fault 8 1 1 ∷ fault 8 1 2 ∷ [] }
+    ensures { faults_of (split_set 4 "2" 9) ≡ fault 8 1 1 ∷ fault 8 1 2 ∷ [] }
 {}

@@ -1,12 +1,13 @@
 ghost use Rattle.bdb_content_samples.specs.Chains.{chain_of_data, chain_of_deleted_data, chain_of_hash_key, chain_of_key, chain_of_shared_key, five_bytes};
 ghost use Rattle.bdb_content_samples.specs.Duplicates.{set_and_pair, several_data, set_on_two_leaves, sorted_items, unsorted_items, with_item, with_set};
 ghost use Rattle.bdb_content_samples.specs.Fields.{chain, deleted, gone, hash_chain, hash_tree, live, one_leaf, pair, recno_leaf, set, text};
-ghost use Rattle.bdb_content_samples.specs.Judged.{entry, judged, list_at, numbered};
+ghost use Rattle.bdb_content_samples.specs.Judged.{entry, list_at, numbered};
 ghost use Rattle.bdb_content_samples.specs.Queues.{more_bits, over_two_pages, page_of_zeros, second_of_three};
 ghost use Rattle.bdb_content_samples.specs.Records.{counted_records, first_and_third, record_in_a_chain, records};
 ghost use Rattle.bdb_content_samples.specs.Separators.{split};
 ghost use Rattle.bdb_content_samples.specs.Tables.{empty_set_in_a_bucket, five_keys, hash_live, set_in_a_bucket, with_hash_item, zero_bucket};
 ghost use Rattle.bdb_model.specs.Lists.{BytesKey, NumberKey, get};
+ghost use Rattle.bdb_model.specs.Verdict.{faults_of};
 ghost use Rattle.std.specs.Prelude.{◌≡◌, codes, [], ◌∷◌};
 
 /// A btree: its live pairs, leaf by leaf.
@@ -47,12 +48,12 @@ pub fn recnos()
     ensures empty { list_at (records 2 0 []) 0 ≡ [] }
 {}
 
-/// Queues on which no row of stages 1 to 6 holds, and no row of contents speaks of queues.
+/// Queues on which no row holds; no row of contents speaks of queues.
 pub fn sound_queues()
-    ensures one { judged second_of_three ≡ [] }
-    ensures two_pages { judged over_two_pages ≡ [] }
-    ensures zero_page { judged page_of_zeros ≡ [] }
-    ensures bits { judged more_bits ≡ [] }
+    ensures one { faults_of second_of_three ≡ [] }
+    ensures two_pages { faults_of over_two_pages ≡ [] }
+    ensures zero_page { faults_of page_of_zeros ≡ [] }
+    ensures bits { faults_of more_bits ≡ [] }
 {}
 
 /// A queue: the valid records from the first one on that are below the next one.

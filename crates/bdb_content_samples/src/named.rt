@@ -9,17 +9,20 @@ ghost use Rattle.std.specs.Prelude.{◌≡◌, codes, [], ◌∷◌};
 
 /// No row holds on a file with a btree and a hash that have names.
 pub fn sound()
-    ensures structure { faults_of (two_databases [] []) ≡ [] }
+    ensures file { faults_of (two_databases (live "a" ∷ live "b" ∷ []) (hash_live "b" ∷ [])) ≡ [] }
     ensures master { contents_at (two_databases [] []) 0 ≡ [] }
     ensures btree { contents_at (two_databases (live "a" ∷ live "b" ∷ []) []) 2 ≡ [] }
     ensures hash { contents_at (two_databases [] (hash_live "b" ∷ [])) 4 ≡ [] }
 {}
 
-/// The rows of contents are those of one database, at its pages.
+/// The rows of contents are those of one database, at its pages; those of the file are the rows of all its databases.
 pub fn faults()
     ensures btree { contents_at (two_databases (live "b" ∷ live "a" ∷ []) (hash_live "a" ∷ [])) 2 ≡ fault 8 3 3 ∷ [] }
     ensures hash { contents_at (two_databases (live "b" ∷ live "a" ∷ []) (hash_live "a" ∷ [])) 4 ≡ fault 8 5 8 ∷ [] }
     ensures master { contents_at (two_databases (live "b" ∷ live "a" ∷ []) (hash_live "a" ∷ [])) 0 ≡ [] }
+    ensures file { faults_of (two_databases (live "b" ∷ live "a" ∷ []) (hash_live "a" ∷ [])) ≡ fault 8 3 3 ∷ fault 8 5 8 ∷ [] }
+    ensures btree_alone { faults_of (two_databases (live "b" ∷ live "a" ∷ []) []) ≡ fault 8 3 3 ∷ [] }
+    ensures hash_alone { faults_of (two_databases [] (hash_live "a" ∷ [])) ≡ fault 8 5 8 ∷ [] }
 {}
 
 /// Each database has its list; that of the master are the names with the pages of metadata.

@@ -8,9 +8,8 @@ use Rattle.bdb_model.specs.File.{File}
 use Rattle.bdb_model.specs.Numbers.{has_bit}
 use Rattle.bdb_model.specs.Page.{Metadata, BtreeFields, HashFields, QueueFields}
 use Rattle.bdb_model.specs.Table.{Row, ◌:?◌}
-use Rattle.bdb_model.specs.Verdict.{by_page, holding}
-use Rattle.bdb_file.specs.Stages.{content_faults, fields_of, file_contents, holds_code}
-use Rattle.bdb_model.specs.ContentRows.{btree_contents, contents_faults, contents_rows, recno_contents}
+use Rattle.bdb_model.specs.Verdict.{by_page, holding, content_faults}
+use Rattle.bdb_model.specs.ContentRows.{fields_of, file_contents, holds_code, holds_somewhere, btree_contents, contents_faults, contents_rows, recno_contents}
 use Rattle.bdb_model.proofs.MemberLemmas.{first_member, later_member, member_cases, no_member, of_flat_map, in_flat_map}
 use Rattle.bdb_model.proofs.VerdictLemmas.{FirstComesFirst, IsOfStage, Rises, by_page_first, holding_least, in_by_page, of_by_page}
 
@@ -121,21 +120,18 @@ contents_within file (QueueFields meta) p = tt
 
 -- The faults of all databases.
 
-abbrev some_database : File → ℕ → ℕ → Bool
-some_database file p code = list_any (λ fields. holds_code code (contents_rows file fields p)) (fields_of file)
-
 -- a code that holds at a page holds there for some database
 of_codes : (file : File) (p code : ℕ) → Contains (holding (file_contents file p)) code → (fields : Metadata) × Contains (fields_of file) fields × Contains (holding (contents_rows file fields p)) code
 unfolding numbered
 of_codes file p code at =
-    let found = any_is (λ fields. holds_code code (contents_rows file fields p)) (fields_of file) (of_numbered 9 1 (some_database file p) code at) in
+    let found = any_is (λ fields. holds_code code (contents_rows file fields p)) (fields_of file) (of_numbered 9 1 (holds_somewhere file p) code at) in
     (found.0, found.1, code_holding (contents_rows file found.0 p) code found.2)
 
 in_codes : (file : File) (fields : Metadata) (p code : ℕ) → Contains (fields_of file) fields → Contains (holding (contents_rows file fields p)) code → Contains (holding (file_contents file p)) code
 unfolding numbered
 in_codes file fields p code at holds =
     let within : (1 ≤ code) × (code < 10) = holding_within (contents_rows file fields p) code (contents_within file fields p) holds in
-    in_numbered 9 1 (some_database file p) code within.0 within.1
+    in_numbered 9 1 (holds_somewhere file p) code within.0 within.1
     (list_any_at (λ other. holds_code code (contents_rows file other p)) (fields_of file) fields at (holding_code (contents_rows file fields p) code holds))
 
 -- the faults of stage 8 are those of some database

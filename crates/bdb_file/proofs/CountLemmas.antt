@@ -7,7 +7,7 @@ use Rattle.std.proofs.lemmas.List.{take_all}
 use Rattle.std.proofs.lemmas.List.Filters.{length-filter_more}
 use Rattle.bdb_model.specs.declared.kinds.Fault.{Fault}
 use Rattle.bdb_file.specs.Entries.{AreCounts, NamedPair, count_fault, entries_naming, naming_fault, one_more}
-use Rattle.bdb_file.specs.Master.{is_page}
+use Rattle.bdb_model.specs.Master.{is_page}
 use Rattle.bdb_file.specs.Merged.{earlier}
 use Rattle.bdb_file.specs.Noted.{earliest}
 use Rattle.bdb_file.proofs.NotedLemmas.{noted_more}

@@ -5,13 +5,13 @@ use Rattle.std.specs.List.{Contains, flat_map, range_with_len, slice_get}
 use Rattle.std.proofs.lemmas.List.{take_all}
 use Rattle.bdb_model.specs.declared.kinds.Fault.{Fault}
 use Rattle.bdb_model.specs.declared.metadata.QueueMeta.{QueueMeta}
-use Rattle.bdb_model.specs.ContentRows.{contents_faults, contents_rows}
+use Rattle.bdb_model.specs.ContentRows.{contents_faults, contents_rows, fields_in, fields_of}
 use Rattle.bdb_model.specs.File.{File, file_of, page_at, page_bytes}
 use Rattle.bdb_model.specs.Graph.{is_meta}
 use Rattle.bdb_model.specs.HeadOf.{head_of}
 use Rattle.bdb_model.specs.Page.{Metadata, QueueFields, Page, Meta}
 use Rattle.bdb_model.specs.Reading.{abstract_page}
-use Rattle.bdb_model.specs.Verdict.{holding}
+use Rattle.bdb_model.specs.Verdict.{holding, content_faults}
 use Rattle.bdb_model.proofs.MemberLemmas.{in_flat_map, in_map, is_empty, no_member, of_filter, of_flat_map, of_map, of_range}
 use Rattle.bdb_model.proofs.VerdictLemmas.{IsOfStage, of_by_page}
 use Rattle.bdb_graph.specs.Linked.{HasMetadata}
@@ -20,7 +20,6 @@ use Rattle.bdb_graph.proofs.ForestLemmas.{in_filter}
 use Rattle.bdb_graph.proofs.HeldLemmas.{page_is}
 use Rattle.bdb_file.specs.Merged.{earlier}
 use Rattle.bdb_file.specs.Noted.{contents_at, contents_in, earliest}
-use Rattle.bdb_file.specs.Stages.{content_faults, fields_in, fields_of}
 use Rattle.bdb_file.proofs.ContentLemmas.{content_one, content_rises, contents_one, contents_rises, in_contents, of_contents}
 use Rattle.bdb_file.proofs.MergeLemmas.{IsFirstOrNone, first_is, first_of_list}
 use Rattle.bdb_file.proofs.NotedLemmas.{earliest_first, first_same, noted_more}
@@ -71,7 +70,7 @@ of_fields image fields at =
     let here : Contains (fields_in (page_at (file_of image) page.0)) fields = subst (λ q. Contains (fields_in q) fields) (sym same) found.2 in
     (page.0, in_filter (λ p. is_meta (page_at (file_of image) p)) (range_with_len 0 ((head_of image).last + 1)) page.0 page.1 (is_some_meta (page_at (file_of image) page.0) fields here), here)
 
-in_fields : (image : List ℕ) (p : ℕ) (fields : Metadata) → Contains (meta_pages (file_of image)) p → Contains (fields_in (page_at (file_of image) p)) fields → Contains (fields_of (file_of image)) fields
+pub in_fields : (image : List ℕ) (p : ℕ) (fields : Metadata) → Contains (meta_pages (file_of image)) p → Contains (fields_in (page_at (file_of image) p)) fields → Contains (fields_of (file_of image)) fields
 unfolding file_of meta_pages
 in_fields image p fields at here =
     let listed = of_filter (λ q. is_meta (page_at (file_of image) q)) (range_with_len 0 ((head_of image).last + 1)) p at in

@@ -16,7 +16,7 @@ use Rattle.bdb_graph.specs.Linking.{meta_pages}
 use Rattle.bdb_overflow.specs.Datum.{single_value}
 use Rattle.bdb_btree.specs.ToldPair.{told_pair}
 use Rattle.bdb_file.specs.Entries.{NamedPair, entry_of, live_entries, master_entries, named, page_in}
-use Rattle.bdb_file.specs.Master.{master_in, master_pairs, named_by, page_named, pairs_under}
+use Rattle.bdb_model.specs.Master.{master_in, master_pairs, named_by, page_named, pairs_under}
 
 -- Values that name pages.
 

@@ -7,7 +7,7 @@ use Rattle.std.proofs.lemmas.Bool.{and_from, and_parts, cases_eq, eq-eqb, eqb-tr
 use Rattle.std.proofs.lemmas.List.Elements.{Contains-append_cases, Contains-append_left, Contains-append_right}
 use Rattle.bdb_model.specs.declared.kinds.Fault.{Fault}
 use Rattle.bdb_model.specs.declared.metadata.BtreeMeta.{BtreeMeta}
-use Rattle.bdb_model.specs.ContentRows.{repeated_after}
+use Rattle.bdb_model.specs.ContentRows.{repeated_after, holds_code}
 use Rattle.bdb_model.specs.Contents.{StoredPair, tree_pairs}
 use Rattle.bdb_model.specs.File.{File, file_of, page_at}
 use Rattle.bdb_model.specs.Graph.{is_meta}
@@ -15,7 +15,7 @@ use Rattle.bdb_model.specs.HeadOf.{head_of}
 use Rattle.bdb_model.specs.Page.{BtreeFields, HashFields, QueueFields, Page, Meta}
 use Rattle.bdb_model.specs.Numbers.{has_bit}
 use Rattle.bdb_model.specs.Table.{Row, ◌:?◌}
-use Rattle.bdb_model.specs.Verdict.{holding}
+use Rattle.bdb_model.specs.Verdict.{holding, master_faults}
 use Rattle.bdb_model.proofs.MemberLemmas.{first_member, in_flat_map, in_map, in_range, later_member, member_cases, no_member, of_filter, of_flat_map, of_map, of_range}
 use Rattle.bdb_model.proofs.VerdictLemmas.{ComesFirst, FirstComesFirst, IsOfStage, by_page_first, holding_least, in_by_page, of_by_page}
 use Rattle.bdb_graph.specs.Linked.{IsForest}
@@ -24,10 +24,9 @@ use Rattle.bdb_graph.proofs.ForestLemmas.{in_filter}
 use Rattle.bdb_graph.proofs.LinkedLemmas.{root_fits}
 use Rattle.bdb_btree.proofs.PairLemmas.{tree_pair}
 use Rattle.bdb_file.specs.Entries.{NamedPair, count_fault, entries_naming, entry_fault, fault_at, master_entries, named, naming_fault, repeat_fault, repeated_entries, target_fault}
-use Rattle.bdb_file.specs.Master.{is_named_kind, is_none, is_page, master_in, master_pairs, master_rows, misses_target, named_by, naming, pairs_under}
+use Rattle.bdb_model.specs.Master.{is_named_kind, is_none, is_page, master_in, master_pairs, master_rows, misses_target, named_by, naming, pairs_under}
 use Rattle.bdb_file.specs.Merged.{earlier}
 use Rattle.bdb_file.specs.Noted.{earliest}
-use Rattle.bdb_file.specs.Stages.{holds_code, master_faults}
 use Rattle.bdb_file.proofs.ContentLemmas.{any_is, code_holding, holding_code, list_any_at}
 use Rattle.bdb_file.proofs.DatabaseLemmas.{has_metadata}
 use Rattle.bdb_file.proofs.MergeLemmas.{IsFirstOrNone, first_is}
@@ -151,7 +150,7 @@ of_repeated before (one ∷ pairs) pair at =
 
 -- The pairs of a master stand on pages of the file.
 
-master_is : (page : Page) (meta : BtreeMeta) → master_in page ≡ Some meta → page ≡ Meta (BtreeFields meta)
+pub master_is : (page : Page) (meta : BtreeMeta) → master_in page ≡ Some meta → page ≡ Meta (BtreeFields meta)
 master_is (Meta (BtreeFields other)) meta is = step (has_bit other.flags 0x20) is
   where
     step : (b : Bool) → cond b (Some other) None ≡ Some meta → ◌≡◌ {A = Page} (Meta (BtreeFields other)) (Meta (BtreeFields meta))
@@ -211,7 +210,7 @@ meta_at file p at =
     let high : p < 0 + (file.last + 1) = within.1 in
     (omega arith, listed.1)
 
-at_meta : (file : File) (p : ℕ) → p ≤ file.last → is_meta (page_at file p) ≡ true → Contains (meta_pages file) p
+pub at_meta : (file : File) (p : ℕ) → p ≤ file.last → is_meta (page_at file p) ≡ true → Contains (meta_pages file) p
 unfolding meta_pages
 at_meta file p low is = in_filter (λ q. is_meta (page_at file q)) (range_with_len 0 (file.last + 1)) p (in_range 0 (file.last + 1) p (omega arith) (omega arith)) is
 
@@ -237,7 +236,7 @@ count_cases p n fault is = let found = count_step_cases p fault (p == 0) (n == 0
 count_one : (p n : ℕ) → nat_lt 0 p ≡ true → (n == 0) ≡ true → count_fault p n ≡ Some (fault_at p 1)
 count_one p n above none = let other : (p == 0) ≡ false = not_zero p 0 above in rw (other, none) refl
 
-count_five : (p n : ℕ) → nat_lt 0 p ≡ true → nat_lt 1 n ≡ true → count_fault p n ≡ Some (fault_at p 5)
+pub count_five : (p n : ℕ) → nat_lt 0 p ≡ true → nat_lt 1 n ≡ true → count_fault p n ≡ Some (fault_at p 5)
 count_five p n above many = let other : (p == 0) ≡ false = not_zero p 0 above in let some : (n == 0) ≡ false = not_zero n 1 many in rw (other, some, many) refl
 
 abbrev is_unnamed : File → ℕ → Bool
@@ -258,7 +257,7 @@ is_twice file p = is_named_kind file p && nat_lt 1 (length (naming file p))
 count_same : (file : File) (p : ℕ) → length (entries_naming p (master_entries file)) ≡ length (naming file p)
 count_same file p = count_of file p (master_pairs file)
 
-in_naming : (file : File) (p : ℕ) (fault : Fault) → Contains (meta_pages file) p → naming_fault (master_entries file) p ≡ Some fault → Contains (master_faults file) fault
+pub in_naming : (file : File) (p : ℕ) (fault : Fault) → Contains (meta_pages file) p → naming_fault (master_entries file) p ≡ Some fault → Contains (master_faults file) fault
 in_naming file p fault at is =
     let meta = meta_at file p at in
     let cases : CountIs p (length (naming file p)) fault = count_cases p (length (naming file p)) fault (ap (count_fault p) (sym (count_same file p)) ∙ is) in
@@ -293,7 +292,7 @@ target_three file page (Some p) is = step (is_named_kind file p) is
     step true same = absurd cc
     step false same = refl
 
-in_targets : (file : File) (entry : NamedPair) (fault : Fault) → AreInside file → Contains (master_entries file) entry → entry_fault file entry ≡ Some fault → Contains (master_faults file) fault
+pub in_targets : (file : File) (entry : NamedPair) (fault : Fault) → AreInside file → Contains (master_entries file) entry → entry_fault file entry ≡ Some fault → Contains (master_faults file) fault
 in_targets file entry fault inside at is =
     let found = of_map (named file) (master_pairs file) entry at in
     let pair : StoredPair = found.0 in
@@ -311,15 +310,19 @@ in_targets file entry fault inside at is =
           (and_from (pair.page == pair.page) (misses_target file (named_by file pair.data_item)) (eq-eqb pair.page pair.page refl) misses)))
     ]
 
+-- a pair that repeats a key is told on its page
+pub repeat_here : (file : File) (pair : StoredPair) → AreInside file → Contains (repeated_after [] (master_pairs file)) pair → Contains (master_faults file) (fault_at pair.page 4)
+repeat_here file pair inside at =
+    in_master file pair.page (4 :? has_repeat file pair.page) (inside pair (of_repeated [] (master_pairs file) pair at)) (3, omega arith, refl)
+    (list_any_at (λ (other : StoredPair). other.page == pair.page) (repeated_after [] (master_pairs file)) pair at (eq-eqb pair.page pair.page refl))
+
 in_repeats : (file : File) (entry : NamedPair) (fault : Fault) → AreInside file → Contains (repeated_entries [] (master_entries file)) entry → repeat_fault entry ≡ Some fault → Contains (master_faults file) fault
 in_repeats file entry fault inside at is =
     let found = of_map (named file) (repeated_after [] (master_pairs file)) entry (subst (λ es. Contains es entry) (repeats_are file [] (master_pairs file)) at) in
     let pair : StoredPair = found.0 in
     let same : Some (fault_at pair.page 4) ≡ Some fault = ap repeat_fault found.2 ∙ is in
     let one : fault_at pair.page 4 ≡ fault = cc in
-    subst (Contains (master_faults file)) one
-    (in_master file pair.page (4 :? has_repeat file pair.page) (inside pair (of_repeated [] (master_pairs file) pair found.1)) (3, omega arith, refl)
-    (list_any_at (λ (other : StoredPair). other.page == pair.page) (repeated_after [] (master_pairs file)) pair found.1 (eq-eqb pair.page pair.page refl)))
+    subst (Contains (master_faults file)) one (repeat_here file pair inside found.1)
 
 -- All faults of a master, pair by pair and page by page.
 

@@ -8,13 +8,13 @@ use Rattle.bdb_model.specs.Reading.{abstract_page}
 use Rattle.bdb_model.specs.Graph.{is_meta}
 use Rattle.bdb_model.specs.HeadOf.{head_of}
 use Rattle.bdb_model.specs.Page.{NoType}
-use Rattle.bdb_file.specs.Master.{is_named_kind}
+use Rattle.bdb_model.specs.Master.{is_named_kind}
 
 pages_counted : (image : List ℕ) → length (file_of image).pages ≡ (head_of image).last + 1
 unfolding file_of
 pages_counted image = length-map-range_with_len (λ p. abstract_page (head_of image).order (page_bytes (head_of image) image p)) 0 ((head_of image).last + 1)
 
-past_last : (image : List ℕ) (p : ℕ) → (head_of image).last < p → page_at (file_of image) p ≡ NoType
+pub past_last : (image : List ℕ) (p : ℕ) → (head_of image).last < p → page_at (file_of image) p ≡ NoType
 past_last image p past = get_or_past (file_of image).pages p NoType (omega (arith, pages_counted image))
 
 and_false : (a : Bool) → (a && false) ≡ false

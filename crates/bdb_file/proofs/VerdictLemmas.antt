@@ -1,5 +1,5 @@
 -- The verdict of a file from the answers of opening, linking and the checks after them.
-use Rattle.std.proofs.Common.{◌≡◌, ◌⊎◌, ℕ, zero, suc, ◌+◌, ◌<◌, ◌≤◌, false, List, [], ◌∷◌, Some, arith, refl, sym, ◌∙◌, ap, subst, inl, inr}
+use Rattle.std.proofs.Common.{◌≡◌, ◌⊎◌, ℕ, zero, suc, ◌+◌, ◌<◌, ◌≤◌, false, List, [], ◌∷◌, Some, None, arith, refl, sym, ◌∙◌, ap, subst, inl, inr}
 use Rattle.std.specs.Prelude.{◌==◌}
 use Rattle.std.specs.List.{Contains, range_with_len}
 use Rattle.std.proofs.lemmas.Bool.{cases_eq, ne_eqb}
@@ -9,17 +9,17 @@ use Rattle.bdb_model.specs.declared.kinds.Fault.{Fault}
 use Rattle.bdb_model.specs.declared.kinds.Verdict.{Verdict}
 use Rattle.bdb_model.specs.declared.kinds.Verdict.TheVariants.{Fault as FaultVerdict, Unsupported, Memory}
 use Rattle.bdb_model.specs.declared.metadata.Head.{Head}
-use Rattle.bdb_model.specs.File.{File, file_of}
-use Rattle.bdb_model.specs.Verdict.{or_else, stage_faults, first_faults, faults_of, first_verdict, form_verdict, structure_faults, verdict_as}
+use Rattle.bdb_model.specs.File.{file_of}
+use Rattle.bdb_model.specs.Verdict.{or_else, stage_faults, first_faults, faults_of, first_verdict, form_verdict, structure_faults, verdict_as, verdict_of, content_faults, master_faults}
 use Rattle.bdb_model.proofs.MemberLemmas.{first_member}
-use Rattle.bdb_model.proofs.VerdictLemmas.{of_by_page, stage_in_order}
+use Rattle.bdb_model.proofs.VerdictLemmas.{stage_in_order}
 use Rattle.bdb_graph.specs.Formed.{IsFormed}
 use Rattle.bdb_graph.specs.Linked.{IsForest}
 use Rattle.bdb_graph.specs.Linking.{IsRefusal, first_fault, graph_faults}
 use Rattle.bdb_graph.proofs.ForestLemmas.{both_empty}
 use Rattle.bdb_file.specs.Merged.{IsFirstOf}
-use Rattle.bdb_file.specs.Stages.{content_faults, master_faults, whole_faults}
-use Rattle.bdb_file.specs.Whole.{IsVerdictOf, file_faults, told_as, whole_verdict}
+use Rattle.bdb_file.specs.Stages.{whole_faults}
+use Rattle.bdb_file.specs.Whole.{IsVerdictOf, told_as}
 
 or_else_empty : (faults : List Fault) (others : Unit {0} → List Fault) → faults ≡ [] → or_else faults others ≡ others tt
 or_else_empty [] others none = refl
@@ -79,111 +79,76 @@ named_fault fault late =
     let two : (fault.stage == 2) ≡ false = ne_eqb fault.stage 2 (λ same. absurd (omega arith)) in
     rw (one, two) refl
 
-begins_with : (image : List ℕ) (first : Fault) (rest : List Fault) → 3 ≤ first.stage → file_faults image ≡ first ∷ rest → whole_verdict image ≡ Some (FaultVerdict first)
-begins_with image first rest late same = ap first_verdict same ∙ ap (λ (v : Verdict). Some v) (named_fault first late)
-
--- the verdict is the first fault of the first of stages 3 to 6 that has any
-verdict_at : (image : List ℕ) (stage : ℕ) (first : Fault) → 3 ≤ stage → stage < 7 → Passes image stage → first_fault (stage_faults image stage) ≡ Some first → whole_verdict image ≡ Some (FaultVerdict first)
-unfolding faults_of file_faults
+-- the verdict is the first fault of the first stage that has any
+verdict_at : (image : List ℕ) (stage : ℕ) (first : Fault) → 3 ≤ stage → stage < 9 → Passes image stage → first_fault (stage_faults image stage) ≡ Some first → verdict_of image ≡ Some (FaultVerdict first)
+unfolding faults_of
 verdict_at image stage first late high passes is =
     let whole : (rest : List Fault) × (stage_faults image stage ≡ first ∷ rest) = listed_first (stage_faults image stage) first is in
     let of : first.stage ≡ stage = (stage_in_order image stage).one_stage first (subst (λ fs. Contains fs first) (sym whole.1) (first_member first whole.0)) in
-    begins_with image first whole.0 (omega arith)
-    (or_else_begins (faults_of image) (λ _. whole_faults (file_of image)) first whole.0 (skip 6 1 stage image first whole.0 (omega arith) (omega arith) passes whole.1))
+    ap first_verdict (skip 8 1 stage image first whole.0 (omega arith) (omega arith) passes whole.1)
+    ∙ ap (λ (v : Verdict). Some v) (named_fault first (omega arith))
 
 first_of_two : (faults others : List Fault) (first : Fault) → first_fault (or_else faults (λ _. others)) ≡ Some first → (first_fault faults ≡ Some first) ⊎ ((faults ≡ []) × (first_fault others ≡ Some first))
 first_of_two [] others first is = inr (refl, is)
 first_of_two (fault ∷ faults) others first is = inl is
 
-graph_verdict : (image : List ℕ) (first : Fault) → Passes image 3 → first_fault (graph_faults image) ≡ Some first → whole_verdict image ≡ Some (FaultVerdict first)
+-- the verdict is the first fault of the first of three stages that has any
+verdict_among : (image : List ℕ) (stage : ℕ) (first : Fault) → 3 ≤ stage → stage < 7 → Passes image stage
+    → first_fault (or_else (stage_faults image stage) (λ _. or_else (stage_faults image (stage + 1)) (λ _. stage_faults image (stage + 2)))) ≡ Some first → verdict_of image ≡ Some (FaultVerdict first)
+verdict_among image stage first late high passes is =
+    elim (first_of_two (stage_faults image stage) (or_else (stage_faults image (stage + 1)) (λ _. stage_faults image (stage + 2))) first is) [
+      | inl here ↦ verdict_at image stage first late (omega arith) passes here
+      | inr (none, after) ↦
+          let second : Passes image (stage + 1) = one_more_passes image stage passes none in
+          elim (first_of_two (stage_faults image (stage + 1)) (stage_faults image (stage + 2)) first after) [
+            | inl next ↦ verdict_at image (stage + 1) first (omega arith) (omega arith) second next
+            | inr (none_next, last) ↦
+                let two : (stage + 1) + 1 ≡ stage + 2 = omega arith in
+                verdict_at image (stage + 2) first (omega arith) (omega arith) (subst (Passes image) two (one_more_passes image (stage + 1) second none_next)) last
+          ]
+    ]
+
+graph_verdict : (image : List ℕ) (first : Fault) → Passes image 3 → first_fault (graph_faults image) ≡ Some first → verdict_of image ≡ Some (FaultVerdict first)
 unfolding graph_faults
-graph_verdict image first passes is =
-    elim (first_of_two (stage_faults image 3) (or_else (stage_faults image 4) (λ _. stage_faults image 5)) first is) [
-      | inl three ↦ verdict_at image 3 first (omega arith) (omega arith) passes three
-      | inr (none_3, after) ↦
-          let four_passes : Passes image 4 = one_more_passes image 3 passes none_3 in
-          elim (first_of_two (stage_faults image 4) (stage_faults image 5) first after) [
-            | inl four ↦ verdict_at image 4 first (omega arith) (omega arith) four_passes four
-            | inr (none_4, five) ↦ verdict_at image 5 first (omega arith) (omega arith) (one_more_passes image 4 four_passes none_4) five
-          ]
-    ]
+graph_verdict image first passes is = verdict_among image 3 first (omega arith) (omega arith) passes is
 
-master_stage : (file : File) (fault : Fault) → Contains (master_faults file) fault → fault.stage ≡ 7
-unfolding master_faults
-master_stage file fault at = (of_by_page 7 0 (file.last + 1) _ fault at).same_stage
-
-content_stage : (file : File) (fault : Fault) → Contains (content_faults file) fault → fault.stage ≡ 8
-unfolding content_faults
-content_stage file fault at = (of_by_page 8 0 (file.last + 1) _ fault at).same_stage
-
--- a fault of stages 7 and 8, in a file without one before them
-late_verdict : (image : List ℕ) (stage : ℕ) (first : Fault) (faults : List Fault) → 3 ≤ stage → faults_of image ≡ [] → whole_faults (file_of image) ≡ faults → ((fault : Fault) → Contains faults fault → fault.stage ≡ stage)
-    → first_fault faults ≡ Some first → whole_verdict image ≡ Some (FaultVerdict first)
-unfolding file_faults
-late_verdict image stage first faults late none same one is =
-    let whole : (rest : List Fault) × (faults ≡ first ∷ rest) = listed_first faults first is in
-    let of : first.stage ≡ stage = one first (subst (λ fs. Contains fs first) (sym whole.1) (first_member first whole.0)) in
-    begins_with image first whole.0 (omega arith) (or_else_empty (faults_of image) (λ _. whole_faults (file_of image)) none ∙ same ∙ whole.1)
-
-after_six : (image : List ℕ) (faults : List Fault) → faults_of image ≡ [] → whole_faults (file_of image) ≡ faults → file_faults image ≡ faults
-unfolding file_faults
-after_six image faults none same = or_else_empty (faults_of image) (λ _. whole_faults (file_of image)) none ∙ same
-
-none_of_six : (image : List ℕ) → Passes image 6 → structure_faults (file_of image) ≡ [] → faults_of image ≡ []
-unfolding faults_of
-none_of_six image passes structure = no_first 6 1 image (one_more_passes image 6 passes structure)
-
-file_verdict : (image : List ℕ) (first : Fault) → Passes image 6 → first_fault (whole_faults (file_of image)) ≡ Some first → whole_verdict image ≡ Some (FaultVerdict first)
+file_verdict : (image : List ℕ) (first : Fault) → Passes image 6 → first_fault (whole_faults (file_of image)) ≡ Some first → verdict_of image ≡ Some (FaultVerdict first)
 unfolding whole_faults
-file_verdict image first passes is =
-    let file : File = file_of image in
-    elim (first_of_two (structure_faults file) (or_else (master_faults file) (λ _. content_faults file)) first is) [
-      | inl six ↦ verdict_at image 6 first (omega arith) (omega arith) passes six
-      | inr (none_6, after) ↦
-          let none : faults_of image ≡ [] = none_of_six image passes none_6 in
-          let skipped : whole_faults file ≡ or_else (master_faults file) (λ _. content_faults file) = or_else_empty (structure_faults file) (λ _. or_else (master_faults file) (λ _. content_faults file)) none_6 in
-          elim (first_of_two (master_faults file) (content_faults file) first after) [
-            | inl seven ↦
-                let whole : (rest : List Fault) × (master_faults file ≡ first ∷ rest) = listed_first (master_faults file) first seven in
-                let of : first.stage ≡ 7 = master_stage file first (subst (λ fs. Contains fs first) (sym whole.1) (first_member first whole.0)) in
-                begins_with image first whole.0 (omega arith)
-                (after_six image (first ∷ whole.0) none (skipped ∙ or_else_begins (master_faults file) (λ _. content_faults file) first whole.0 whole.1))
-            | inr (none_7, eight) ↦
-                late_verdict image 8 first (content_faults file) (omega arith) none (skipped ∙ or_else_empty (master_faults file) (λ _. content_faults file) none_7) (content_stage file) eight
-          ]
-    ]
+file_verdict image first passes is = verdict_among image 6 first (omega arith) (omega arith) passes is
 
 -- What the calls answer.
 
-is_verdict : (image : List ℕ) (verdict : Verdict) → whole_verdict image ≡ Some verdict → IsVerdictOf image verdict
+is_verdict : (image : List ℕ) (verdict : Verdict) → verdict_of image ≡ Some verdict → IsVerdictOf image verdict
 is_verdict image (FaultVerdict fault) same = same
 is_verdict image (Unsupported name page) same = same
 is_verdict image Memory same = tt
 
 -- the verdict of the first two stages is that of all
 pub form_refused : (image : List ℕ) (verdict : Verdict) → form_verdict image ≡ Some verdict → IsVerdictOf image verdict
-unfolding faults_of file_faults
-form_refused image verdict is =
-    is_verdict image verdict (step (stage_faults image 1) (stage_faults image 2) (first_faults image (range_with_len 3 4)) (whole_faults (file_of image)) is)
+unfolding faults_of
+form_refused image verdict is = is_verdict image verdict (step (stage_faults image 1) (stage_faults image 2) (first_faults image (range_with_len 3 6)) is)
   where
-    step : (one two others more : List Fault) → first_verdict (or_else one (λ _. two)) ≡ Some verdict → first_verdict (or_else (or_else one (λ _. or_else two (λ _. others))) (λ _. more)) ≡ Some verdict
-    step [] [] others more same = absurd cc
-    step [] (fault ∷ faults) others more same = same
-    step (fault ∷ faults) two others more same = same
+    step : (one two others : List Fault) → first_verdict (or_else one (λ _. two)) ≡ Some verdict → first_verdict (or_else one (λ _. or_else two (λ _. others))) ≡ Some verdict
+    step [] [] others same = absurd cc
+    step [] (fault ∷ faults) others same = same
+    step (fault ∷ faults) two others same = same
 
 pub graph_refused : (image : List ℕ) (head : Head) (error : CheckError) → IsFormed image head → IsRefusal image error → IsVerdictOf image (told_as error)
 graph_refused image head (FaultError fault) formed is = graph_verdict image fault (form_passes image formed.file formed.form) is
 graph_refused image head MemoryError formed is = tt
 
+-- a linked image passes the first five stages
+forest_passes : (image : List ℕ) → IsForest image → Passes image 6
+forest_passes image forest = graph_passes image (form_passes image forest.formed.file forest.formed.form) forest.linked
+
 pub file_refused : (image : List ℕ) (error : CheckError) → IsForest image → IsFirstOf (whole_faults (file_of image)) error → IsVerdictOf image (told_as error)
-file_refused image (FaultError fault) forest is = file_verdict image fault (graph_passes image (form_passes image forest.formed.file forest.formed.form) forest.linked) is
+file_refused image (FaultError fault) forest is = file_verdict image fault (forest_passes image forest) is
 file_refused image MemoryError forest is = tt
 
-pub file_accepted : (image : List ℕ) → IsForest image → structure_faults (file_of image) ≡ [] → master_faults (file_of image) ≡ [] → content_faults (file_of image) ≡ [] → file_faults image ≡ []
-unfolding file_faults whole_faults
+pub file_accepted : (image : List ℕ) → IsForest image → structure_faults (file_of image) ≡ [] → master_faults (file_of image) ≡ [] → content_faults (file_of image) ≡ [] → faults_of image ≡ []
+unfolding faults_of
 file_accepted image forest structure master contents =
-    let file : File = file_of image in
-    or_else_empty (faults_of image) (λ _. whole_faults file) (none_of_six image (graph_passes image (form_passes image forest.formed.file forest.formed.form) forest.linked) structure)
-    ∙ or_else_empty (structure_faults file) (λ _. or_else (master_faults file) (λ _. content_faults file)) structure
-    ∙ or_else_empty (master_faults file) (λ _. content_faults file) master
-    ∙ contents
+    no_first 8 1 image (one_more_passes image 8 (one_more_passes image 7 (one_more_passes image 6 (forest_passes image forest) structure) master) contents)
+
+pub no_verdict : (image : List ℕ) → faults_of image ≡ [] → verdict_of image ≡ None
+no_verdict image none = ap first_verdict none

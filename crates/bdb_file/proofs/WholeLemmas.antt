@@ -4,10 +4,10 @@ use Rattle.bdb_model.specs.declared.kinds.Fault.{Fault}
 use Rattle.bdb_model.specs.declared.kinds.CheckError.{CheckError}
 use Rattle.bdb_model.specs.declared.kinds.CheckError.TheVariants.{Fault as FaultError, Memory}
 use Rattle.bdb_model.specs.File.{File}
-use Rattle.bdb_model.specs.Verdict.{or_else, structure_faults}
+use Rattle.bdb_model.specs.Verdict.{or_else, structure_faults, content_faults, master_faults}
 use Rattle.bdb_graph.specs.Linking.{first_fault}
 use Rattle.bdb_file.specs.Merged.{IsFirstOf}
-use Rattle.bdb_file.specs.Stages.{content_faults, master_faults, whole_faults}
+use Rattle.bdb_file.specs.Stages.{whole_faults}
 
 first_part : (xs : List Fault) (others : Unit {0} → List Fault) (fault : Fault) → first_fault xs ≡ Some fault → first_fault (or_else xs others) ≡ Some fault
 first_part [] others fault first = absurd cc

@@ -9,7 +9,7 @@ use Rattle.bdb_model.specs.declared.kinds.Fault.{Fault}
 use Rattle.bdb_model.specs.Contents.{StoredPair}
 use Rattle.bdb_model.specs.File.{File}
 use Rattle.bdb_btree.specs.ToldPair.{ToldPair}
-use Rattle.bdb_file.specs.Master.{is_named_kind, is_page, master_pairs, named_by, page_named}
+use Rattle.bdb_model.specs.Master.{is_named_kind, is_page, master_pairs, named_by, page_named}
 use Rattle.bdb_file.specs.Merged.{earlier}
 use Rattle.bdb_file.specs.Noted.{noting}
 

@@ -1,6 +1,9 @@
 pub mod Entries
-pub mod Master
+pub mod Laws
 pub mod Merged
+pub mod Named
 pub mod Noted
 pub mod Stages
 pub mod Whole
+pub mod Listing
+pub mod Lookup

@@ -1,8 +1,8 @@
 ghost use Rattle.std.specs.Prelude.{◌≡◌, [], IfErr, OnOk};
 ghost use Rattle.bdb_file.specs.Merged.{IsFirstOf};
-ghost use Rattle.bdb_file.specs.Stages.{content_faults, master_faults, whole_faults};
+ghost use Rattle.bdb_file.specs.Stages.{whole_faults};
+ghost use Rattle.bdb_model.specs.Verdict.{content_faults, master_faults, structure_faults};
 ghost use Rattle.bdb_model.specs.File.{file_of};
-ghost use Rattle.bdb_model.specs.Verdict.{structure_faults};
 
 use crate::contents::check_contents;
 use crate::master::check_master;

@@ -1,14 +1,13 @@
 ghost use Rattle.std.specs.Prelude.{◌≡◌, ◌≤◌, IfErr, IfOk, OnOk, []};
 ghost use Rattle.bdb_file.specs.Merged.{IsFirstOf};
 ghost use Rattle.bdb_file.specs.Noted.{IsMemory, contents_at};
-ghost use Rattle.bdb_file.specs.Stages.{content_faults};
+ghost use Rattle.bdb_model.specs.Verdict.{content_faults, structure_faults};
 ghost use Rattle.bdb_graph.specs.Linked.{HasMetadata};
 ghost use Rattle.bdb_graph.specs.Linking.{first_fault};
 ghost use Rattle.bdb_graph.specs.Metas.{meta_seen};
 ghost use Rattle.bdb_model.specs.ContentRows.{contents_faults};
 ghost use Rattle.bdb_model.specs.File.{file_of, page_at};
 ghost use Rattle.bdb_model.specs.Page.{BtreeFields, HashFields, Meta as MetaPage};
-ghost use Rattle.bdb_model.specs.Verdict.{structure_faults};
 
 use crate::merged::{earlier, refused};
 use bdb_graph::{Linked, Meta};

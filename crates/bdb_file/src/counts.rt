@@ -1,6 +1,6 @@
 ghost use Rattle.std.specs.Prelude.{◌≡◌, ◌<◌, ℕ, IfOk, if◌then◌else◌, get_or, length};
 ghost use Rattle.bdb_file.specs.Entries.{AreCounts, count_fault, naming_fault, one_more};
-ghost use Rattle.bdb_file.specs.Master.{is_page};
+ghost use Rattle.bdb_model.specs.Master.{is_page};
 ghost use Rattle.bdb_file.specs.Noted.{earliest};
 ghost use Rattle.bdb_graph.specs.Linking.{meta_pages};
 ghost use Rattle.bdb_model.specs.File.{file_of};

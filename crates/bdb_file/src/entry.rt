@@ -3,7 +3,7 @@ ghost use Rattle.std.specs.Option.{option_map};
 ghost use Rattle.bdb_btree.specs.Told.{leaf_pair_seen};
 ghost use Rattle.bdb_btree.specs.ToldPair.{told_pair};
 ghost use Rattle.bdb_file.specs.Entries.{entry_of, live_entries, master_entries, page_in};
-ghost use Rattle.bdb_file.specs.Master.{master_in, page_named};
+ghost use Rattle.bdb_model.specs.Master.{master_in, page_named};
 ghost use Rattle.bdb_graph.specs.Metas.{meta_seen};
 ghost use Rattle.bdb_model.specs.File.{file_of, page_at};
 ghost use Rattle.bdb_model.specs.Page.{Meta as MetaPage};
@@ -14,7 +14,7 @@ use crate::key::Key;
 use bdb_btree::{LeafPair, LeafPairs, pairs};
 use bdb_graph::{Linked, Meta};
 use bdb_layout::u32_at;
-use bdb_model::{BtreeMeta, Order};
+use bdb_model::{BtreeMeta, Bytes, Order};
 use bdb_overflow::Datum;
 use std::alloc::{AllocError, Global};
 use std::marker::Model;
@@ -84,6 +84,13 @@ impl<'a> Entry<'a> {
         Key::of(self.key.again())
     }
 
+    /// The bytes of the key in a list of their own. An error is want of memory.
+    pub(crate) fn name(&self, alloc: Global) -> Result<Bytes, AllocError>
+        ensures { IfOk result (λ name. name ≡ self.now.key) }
+    {
+        self.key.copy(alloc)
+    }
+
     /// The page that the pair names, if it names one.
     pub(crate) fn names(&self) -> Option<u32>
         ensures { result ≡ self.now.names }
@@ -94,7 +101,7 @@ impl<'a> Entry<'a> {
 
 /// The metadata of the master of a file, if page 0 is a btree with the flag of subdatabases.
 #[tactic(auto, using(crate::proofs::EntryLemmas::no_first, crate::proofs::EntryLemmas::other_first))]
-fn master_of(linked: &Linked<'_>) -> Option<BtreeMeta>
+pub(crate) fn master_of(linked: &Linked<'_>) -> Option<BtreeMeta>
     ensures { result ≡ master_in (page_at (file_of linked.now) 0) }
 {
     if linked.metas() == 0 {

@@ -1,19 +1,31 @@
-//! Whole files: the verdict.
+//! Whole files: the verdict, and the databases of a sound one.
 #![tactic(auto)]
 
 mod check;
 mod contents;
 mod counts;
+mod db;
+mod digits;
 mod entry;
 mod key;
+pub mod laws;
+mod listing;
+mod lookup;
 mod master;
 mod merged;
+mod named;
+mod reads;
 mod repeats;
+mod settings;
 mod sound;
 mod structure;
 mod targets;
 mod verdict;
 
 pub use check::check_file;
+pub use db::Db;
+pub use digits::number_in;
+pub use listing::Scan;
+pub use lookup::Found;
 pub use sound::Sound;
 pub use verdict::verify;

@@ -1,9 +1,8 @@
 ghost use Rattle.std.specs.Prelude.{◌≡◌, [], IfErr, IfOk, OnOk};
 ghost use Rattle.bdb_file.specs.Merged.{IsFirstOf};
-ghost use Rattle.bdb_file.specs.Stages.{master_faults};
+ghost use Rattle.bdb_model.specs.Verdict.{master_faults, structure_faults};
 ghost use Rattle.bdb_graph.specs.Linking.{first_fault};
 ghost use Rattle.bdb_model.specs.File.{file_of};
-ghost use Rattle.bdb_model.specs.Verdict.{structure_faults};
 
 use crate::counts::naming_fault;
 use crate::entry::master_entries;

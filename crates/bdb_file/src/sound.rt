@@ -1,40 +1,128 @@
-ghost use Rattle.std.specs.Prelude.{◌≡◌, []};
-ghost use Rattle.bdb_file.specs.Whole.{file_faults};
+ghost use Rattle.std.specs.Prelude.{◌≡◌, ◌<◌, [], IfSome, length, option_copied};
+ghost use Rattle.bdb_file.specs.Named.{IsSound, database_at};
+ghost use Rattle.bdb_graph.specs.Linked.{HasMetadata};
+ghost use Rattle.bdb_graph.specs.Metas.{meta_seen};
+ghost use Rattle.bdb_model.specs.ContentRows.{contents_faults};
+ghost use Rattle.bdb_model.specs.Databases.{databases, place_of, settings_of};
+ghost use Rattle.bdb_model.specs.File.{file_of};
+ghost use Rattle.bdb_model.specs.HeadOf.{head_of};
+ghost use Rattle.bdb_model.specs.Verdict.{faults_of, structure_faults};
 
-use bdb_graph::Linked;
+use crate::Db;
+use crate::named::NamedMeta;
+use crate::settings::settings_of;
+use bdb_graph::{Linked, Meta};
+use bdb_model::{Head, Settings};
 use std::marker::Model;
 
-/// A file on which no row of any stage holds.
+/// A file on which no row of any stage holds, with its databases: those that its master names, in the order of
+/// the master's list, or the one on page 0, which has no name.
 #[derive(Drop)]
 pub struct Sound<'a> {
     linked: Linked<'a>,
+    databases: Vec<NamedMeta>,
 }
 
 impl<'a> Model for Sound<'a> {
-    ghost use Rattle.std.specs.Prelude.{◌≡◌, List, ℕ, []};
-    ghost use Rattle.bdb_file.specs.Whole.{file_faults};
+    ghost use Rattle.std.specs.Prelude.{List, ℕ};
+    ghost use Rattle.bdb_file.specs.Named.{IsSound};
 
     ghost Value = { List ℕ };
 
     ghost view = { λ v. v.linked };
 
-    ghost invariant = { λ v. file_faults v.linked ≡ [] };
+    ghost invariant = { λ v. IsSound v.linked v.databases.items };
 }
 
 impl<'a> Sound<'a> {
-    // A file for which all stages are decided.
-    pub(crate) fn over(linked: Linked<'a>) -> Sound<'a>
-        requires { file_faults linked ≡ [] }
+    // A file for which all stages are decided, with its databases.
+    pub(crate) fn over(linked: Linked<'a>, databases: Vec<NamedMeta>) -> Sound<'a>
+        requires { IsSound linked databases.items }
         ensures { result ≡ linked.entry }
     {
-        Sound { linked }
+        Sound { linked, databases }
     }
 
     /// Its pages. No row of any stage holds for them.
     pub fn linked(&self) -> &Linked<'a>
         ensures pages { result.now ≡ self.now }
-        ensures sound { file_faults self.now ≡ [] }
+        ensures sound { faults_of self.now ≡ [] }
     {
         &self.linked
+    }
+
+    /// What page 0 says of the whole file.
+    pub fn head(&self) -> Head
+        ensures { result ≡ head_of self.now }
+    {
+        self.linked.head()
+    }
+
+    /// How many databases there are.
+    #[tactic(auto, using(crate::proofs::CountedLemmas::few_databases))]
+    pub fn databases(&self) -> u32
+        ensures { result ≡ length (databases (file_of self.now)) }
+    {
+        prove!(self.databases.len() <= self.linked.head().last as usize + 1);
+        self.databases.len() as u32
+    }
+
+    /// The database at a place, from 0.
+    pub fn database(&self, i: u32) -> Db
+        requires { i < length (databases (file_of self.now)) }
+        ensures { result ≡ i }
+    {
+        Db::at(i)
+    }
+
+    /// The name of a database, if it has one.
+    pub fn name(&self, db: Db) -> Option<&[u8]>
+        requires { db < length (databases (file_of self.now)) }
+        ensures { option_copied result ≡ (database_at (file_of self.now) db).name }
+    {
+        self.named(db).name()
+    }
+
+    /// The settings of a database, as the header of its dump text shows them.
+    pub fn settings(&self, db: Db) -> Settings
+        requires { db < length (databases (file_of self.now)) }
+        ensures { result ≡ settings_of (head_of self.now).page_size (head_of self.now).order (database_at (file_of self.now) db).fields }
+    {
+        settings_of(self.head(), self.named(db).meta())
+    }
+
+    /// The database with a name, or the one without a name; `None` exactly where there is none. It takes no memory.
+    #[tactic(auto, using(crate::proofs::PlaceLemmas::place_found, crate::proofs::PlaceLemmas::place_later, crate::proofs::PlaceLemmas::place_none))]
+    pub fn by_name(&self, name: Option<&[u8]>) -> Option<Db>
+        ensures place { result ≡ place_of (option_copied name.entry) (databases (file_of self.now)) }
+        ensures inside { IfSome result (λ db. db < length (databases (file_of self.now))) }
+    {
+        for i in 0..self.databases() {
+            let db = Db::at(i);
+            if self.named(db).has_name(name) {
+                return Some(db);
+            }
+        }
+        None
+    }
+
+    /// The metadata of a database, which keeps the rules of structure and of contents.
+    #[tactic(auto, using(crate::proofs::SoundLemmas::has_metadata_at, crate::proofs::SoundLemmas::no_structure, crate::proofs::SoundLemmas::no_contents_at))]
+    pub(crate) fn meta(&self, db: Db) -> &Meta
+        requires { db < length (databases (file_of self.now)) }
+        ensures fields { meta_seen result.now ≡ (database_at (file_of self.now) db).fields }
+        ensures there { HasMetadata (file_of self.now) (meta_seen result.now) }
+        ensures structure { structure_faults (file_of self.now) ≡ [] }
+        ensures contents { contents_faults (file_of self.now) (meta_seen result.now) ≡ [] }
+    {
+        self.linked();
+        self.named(db).meta()
+    }
+
+    fn named(&self, db: Db) -> &NamedMeta
+        requires { db < length (databases (file_of self.now)) }
+        ensures { result.now ≡ database_at (file_of self.now) db }
+    {
+        &self.databases[db.place() as usize]
     }
 }

@@ -1,6 +1,6 @@
 ghost use Rattle.std.specs.Prelude.{◌≡◌};
 ghost use Rattle.bdb_file.specs.Entries.{entry_fault, target_fault};
-ghost use Rattle.bdb_file.specs.Master.{is_named_kind};
+ghost use Rattle.bdb_model.specs.Master.{is_named_kind};
 ghost use Rattle.bdb_file.specs.Noted.{earliest};
 ghost use Rattle.bdb_form.specs.Seen.{page_seen};
 ghost use Rattle.bdb_model.specs.File.{file_of};

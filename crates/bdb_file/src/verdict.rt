@@ -1,7 +1,9 @@
-ghost use Rattle.std.specs.Prelude.{◌≡◌, ◌≤◌, ◌^◌, [], IfErr, IfOk, OnOk, length};
-ghost use Rattle.bdb_file.specs.Whole.{IsVerdictOf, file_faults, told_as};
-ghost use Rattle.bdb_graph.specs.Linking.{graph_faults};
+ghost use Rattle.std.specs.Prelude.{◌≡◌, ◌≤◌, ◌^◌, [], IfErr, IfOk, None, OnOk, length};
+ghost use Rattle.bdb_file.specs.Whole.{IsVerdictOf, told_as};
+ghost use Rattle.bdb_model.specs.File.{file_of};
+ghost use Rattle.bdb_model.specs.Verdict.{content_faults, faults_of, master_faults, structure_faults, verdict_of};
 
+use crate::named::databases_of;
 use crate::{Sound, check_file};
 use bdb_graph::{Formed, Linked, link, open_image};
 use bdb_model::{CheckError, Steps, Verdict};
@@ -35,16 +37,33 @@ fn linked_of<'a, L: Ledger>(
     }
 }
 
+/// A linked image on which no row holds, with its databases. An error is want of memory.
+#[tactic(auto, using(crate::proofs::VerdictLemmas::file_accepted))]
+fn with_databases<'a>(alloc: Global, linked: Linked<'a>) -> Result<Sound<'a>, Verdict>
+    requires structure { structure_faults (file_of linked) ≡ [] }
+    requires master { master_faults (file_of linked) ≡ [] }
+    requires contents { content_faults (file_of linked) ≡ [] }
+    ensures sound { IfOk result (λ sound. sound ≡ linked.entry) }
+    ensures accepted { OnOk result (faults_of linked.entry ≡ []) }
+    ensures refusal { IfErr result (IsVerdictOf linked.entry) }
+{
+    linked.head();
+    match databases_of(alloc, &linked) {
+        Ok(databases) => Ok(Sound::over(linked, databases)),
+        Err(_) => Err(Verdict::Memory),
+    }
+}
+
 /// A linked image as a sound file, or its verdict.
-#[tactic(auto, using(crate::proofs::VerdictLemmas::file_refused, crate::proofs::VerdictLemmas::file_accepted))]
+#[tactic(auto, using(crate::proofs::VerdictLemmas::file_refused, crate::proofs::VerdictLemmas::no_verdict))]
 fn sound_of<'a>(alloc: Global, linked: Linked<'a>) -> Result<Sound<'a>, Verdict>
     ensures sound { IfOk result (λ sound. sound ≡ linked.entry) }
-    ensures accepted { OnOk result (file_faults linked.entry ≡ []) }
+    ensures accepted { OnOk result (verdict_of linked.entry ≡ None) }
     ensures refusal { IfErr result (IsVerdictOf linked.entry) }
 {
     linked.head();
     match check_file(alloc, &linked) {
-        Ok(()) => Ok(Sound::over(linked)),
+        Ok(()) => with_databases(alloc, linked),
         Err(error) => Err(told_as(error)),
     }
 }
@@ -59,7 +78,7 @@ pub fn verify<'a, L: Ledger>(
 ) -> Result<Sound<'a>, Verdict>
     requires { length image.now ≤ 2 ^ 30 }
     ensures sound { IfOk result (λ sound. sound ≡ image.now) }
-    ensures accepted { OnOk result (file_faults image.now ≡ []) }
+    ensures accepted { OnOk result (verdict_of image.now ≡ None) }
     ensures refusal { IfErr result (IsVerdictOf image.now) }
 {
     match open_image(alloc, image) {

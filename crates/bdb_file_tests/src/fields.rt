@@ -3,12 +3,13 @@
 use bdb_layout::{put_u16, put_u32};
 use bdb_model::Order;
 
-/// A field that is written: a byte, or a number of two or four bytes, at its place.
+/// A field that is written at its place: a byte, a number of two or four bytes, or a byte so many times.
 #[derive(Clone, Copy)]
 pub enum Field {
     Byte(usize, u8),
     Two(usize, u16),
     Four(usize, u32),
+    Run(usize, usize, u8),
 }
 
 pub fn write(page: &mut [u8], fields: &[Field], order: Order) {
@@ -34,5 +35,12 @@ fn write_field(page: &mut [u8], field: Field, order: Order) {
                 put_u32(page, at, order, value);
             }
         }
+        Field::Run(at, length, value) => fill(page, at, length, value),
+    }
+}
+
+fn fill(page: &mut [u8], at: usize, length: usize, value: u8) {
+    for byte in page.iter_mut().skip(at).take(length) {
+        *byte = value;
     }
 }

@@ -3,22 +3,13 @@
 ghost use Rattle.std.specs.Prelude.{◌≡◌};
 
 use crate::fields::{Field, write};
-use bdb_file::{check_file, verify};
+use crate::judging::{SIZE, Told, verdict_told};
+use bdb_file::check_file;
 use bdb_graph::{link, open_image};
-use bdb_model::{CheckError, Fault, Order, Steps, Verdict};
+use bdb_model::{CheckError, Fault, Order, Steps, Unsupported};
 use std::alloc::Global;
 use std::marker::Brand;
 use std::sync::ledger::{Blank, Ledger};
-
-const SIZE: usize = 7 * 512;
-
-#[derive(Clone, Copy, Debug, PartialEq, Eq)]
-enum Told {
-    Sound,
-    Fault { stage: u8, page: u32, code: u8 },
-    Memory,
-    Refused,
-}
 
 /// What is written over the file, and what comes of it.
 #[derive(Clone, Copy)]
@@ -29,7 +20,7 @@ struct Case {
 
 // A master whose leaf 1 names `a` with page 2 and `b` with page 4: an empty btree on page 3, and an empty table of two
 // buckets on pages 5 and 6. A number of a page is in high order first, whichever the order of the file.
-const TWO_DATABASES: [Field; 56] = [
+pub(crate) const TWO_DATABASES: [Field; 56] = [
     Field::Four(12, 0x053162), // magic number of page 0
     Field::Four(16, 9), // version
     Field::Four(20, 512), // page size
@@ -213,33 +204,12 @@ fn is_as_told(alloc: Global, case: &Case, order: Order) -> bool {
     told_blank::<Brand>(alloc, &image, Blank::new(1)) == case.told
 }
 
-fn verdict_counted<L: Ledger>(alloc: Global, image: &[u8], steps: &mut Steps<L>) -> Told {
-    if image.len() > SIZE {
-        return Told::Refused;
-    }
-    match verify(alloc, image, steps) {
-        Ok(_) => Told::Sound,
-        Err(Verdict::Fault(Fault { stage, page, code })) => Told::Fault { stage, page, code },
-        Err(Verdict::Unsupported(_, _)) => Told::Refused,
-        Err(Verdict::Memory) => Told::Memory,
-    }
-}
-
-fn verdict_blank<L: Ledger>(alloc: Global, image: &[u8], blank: Blank) -> Told
-    requires name { blank.name ≡ L.name }
-    requires parts { blank.parts ≡ L.parts }
-    requires one { L.parts ≡ 1 }
-{
-    let mut steps = Steps::<L>::new(blank);
-    verdict_counted(alloc, image, &mut steps)
-}
-
 /// Whether the verdict on the file of two databases is this, once these fields are written over it.
 fn has_verdict(alloc: Global, fields: &[Field], told: Told, order: Order) -> bool {
     let mut image = [0u8; SIZE];
     write(&mut image, &TWO_DATABASES, order);
     write(&mut image, fields, order);
-    verdict_blank::<Brand>(alloc, &image, Blank::new(1)) == told
+    verdict_told(alloc, &image) == told
 }
 
 #[test]
@@ -275,6 +245,10 @@ fn verifies_the_stages_before(rt: HostRuntime) {
             code: 1,
         };
         assert!(rt; has_verdict(rt.alloc(), &[Field::Four(1544, 9)], page_number, order));
-        assert!(rt; has_verdict(rt.alloc(), &[Field::Four(16, 10)], Told::Refused, order));
+        let version = Told::Unsupported {
+            name: Unsupported::Version,
+            page: 0,
+        };
+        assert!(rt; has_verdict(rt.alloc(), &[Field::Four(16, 10)], version, order));
     }
 }

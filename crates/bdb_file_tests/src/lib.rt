@@ -5,3 +5,9 @@
 mod fields;
 #[cfg(test)]
 mod files;
+#[cfg(test)]
+mod judging;
+#[cfg(test)]
+mod sounds;
+#[cfg(test)]
+mod worked;

@@ -1,3 +1,2 @@
 pub mod FormedLemmas
-pub mod FirstLemmas
 pub mod SlotLemmas

@@ -2,7 +2,6 @@
 #![tactic(auto)]
 
 mod dup_leaf;
-mod first;
 mod forms;
 mod free;
 mod hash;
@@ -18,7 +17,6 @@ mod view;
 mod zero;
 
 pub use dup_leaf::DupLeafView;
-pub use first::first_form;
 pub use forms::{form, known_form, known_queue_form, queue_form};
 pub use free::FreeView;
 pub use hash::HashView;

@@ -80,7 +80,7 @@ impl<'a> Forest<'a> {
     }
 
     /// The fields of a page up to the last one, if it's metadata.
-    pub(crate) fn meta(&self, number: u32) -> Option<Meta>
+    pub fn meta(&self, number: u32) -> Option<Meta>
         requires { number ≤ (file_of self.now).last }
         ensures { option_map meta_seen result ≡ meta_in (page_at (file_of self.now) number) }
     {

@@ -5,11 +5,13 @@ use Rattle.std.proofs.lemmas.Bool.{cases_order}
 use Rattle.std.proofs.lemmas.List.Elements.{Contains-append_cases}
 use borrow.Author.Count.{below_none, below_more}
 use Rattle.bdb_model.specs.declared.kinds.Fault.{Fault}
-use Rattle.bdb_model.specs.Table.{Row, first_row}
-use Rattle.bdb_model.specs.Verdict.{alone, holding, by_page, head_faults, tail_faults, form_faults, reference_faults, ownership_faults, reach_faults, structure_faults, or_else, stage_faults, Holds, first_faults, faults_of, tail_rows, reference_rows, ownership_rows, reach_rows, structure_rows, SoundWhereNoRowHolds, FirstIsLeast}
+use Rattle.bdb_model.specs.Table.{Row, ◌:?◌, first_row}
+use Rattle.bdb_model.specs.Verdict.{alone, holding, by_page, head_faults, tail_faults, form_faults, reference_faults, ownership_faults, reach_faults, structure_faults, master_faults, content_faults, or_else, stage_faults, Holds, first_faults, faults_of, tail_rows, reference_rows, ownership_rows, reach_rows, structure_rows, SoundWhereNoRowHolds, FirstIsLeast}
 use Rattle.bdb_model.specs.declared.metadata.Head.{Head}
 use Rattle.bdb_model.specs.HeadOf.{head_of, head_rows}
 use Rattle.bdb_model.specs.Rows.{form_code}
+use Rattle.bdb_model.specs.Master.{master_rows}
+use Rattle.bdb_model.specs.ContentRows.{file_contents, holds_somewhere}
 use Rattle.bdb_model.specs.File.{File, file_of, page_bytes}
 use Rattle.bdb_model.proofs.MemberLemmas.{first_member, member_cases, no_member, is_empty, first_of_parts, of_map, in_map, of_flat_map, in_flat_map, of_range, in_range}
 
@@ -244,6 +246,22 @@ structure_in_order file =
     by_page_in_order 6 0 (file.last + 1) (λ p. holding (structure_rows file p))
     (λ p. holding_least 1 (structure_rows file p) (omega arith, (omega arith, (omega arith, tt))))
 
+master_in_order : (file : File) → InOrder 7 (master_faults file)
+unfolding master_faults
+master_in_order file =
+    by_page_in_order 7 0 (file.last + 1) (λ p. holding (master_rows file p))
+    (λ p. holding_least 1 (master_rows file p) (omega arith, (omega arith, (omega arith, (omega arith, (omega arith, tt))))))
+
+-- a table whose codes are numbers that follow each other
+numbered_rise : (from n low : ℕ) (test : ℕ → Bool) → low ≤ from → Rises low (map (λ code. code :? test code) (range_with_len from n))
+numbered_rise from zero low test below = tt
+numbered_rise from (suc n) low test below = (below, numbered_rise (from + 1) n from test (omega arith))
+
+content_in_order : (file : File) → InOrder 8 (content_faults file)
+unfolding content_faults
+content_in_order file =
+    by_page_in_order 8 0 (file.last + 1) (λ p. holding (file_contents file p)) (λ p. holding_least 1 (file_contents file p) (numbered_rise 1 9 1 (holds_somewhere file p) (omega arith)))
+
 pub stage_in_order : (image : List ℕ) (stage : ℕ) → InOrder stage (stage_faults image stage)
 stage_in_order image zero = nothing_in_order 0
 stage_in_order image (suc zero) = or_else_both (InOrder 1) (head_faults image) (tail_faults image) (head_in_order image) (tail_in_order image)
@@ -252,7 +270,9 @@ stage_in_order image (suc (suc (suc zero))) = references_in_order (file_of image
 stage_in_order image (suc (suc (suc (suc zero)))) = ownership_in_order (file_of image)
 stage_in_order image (suc (suc (suc (suc (suc zero))))) = reach_in_order (file_of image)
 stage_in_order image (suc (suc (suc (suc (suc (suc zero)))))) = structure_in_order (file_of image)
-stage_in_order image (suc (suc (suc (suc (suc (suc (suc stage))))))) = nothing_in_order (suc (suc (suc (suc (suc (suc (suc stage)))))))
+stage_in_order image (suc (suc (suc (suc (suc (suc (suc zero))))))) = master_in_order (file_of image)
+stage_in_order image (suc (suc (suc (suc (suc (suc (suc (suc zero)))))))) = content_in_order (file_of image)
+stage_in_order image (suc (suc (suc (suc (suc (suc (suc (suc (suc stage))))))))) = nothing_in_order (suc (suc (suc (suc (suc (suc (suc (suc (suc stage)))))))))
 
 -- the faults are those of one stage, and no earlier stage has any
 pub record IsFirstStage (image : List ℕ) (stage : ℕ) (faults : List Fault) : Type 0 where
@@ -277,7 +297,7 @@ first_of_stages (suc n) from image first rest before same =
 
 pub first_stage : (image : List ℕ) (first : Fault) (rest : List Fault) → faults_of image ≡ first ∷ rest → (stage : ℕ) × IsFirstStage image stage (first ∷ rest)
 unfolding faults_of
-first_stage image first rest same = first_of_stages 6 1 image first rest (one_more image 0 (below_none (λ s. stage_faults image s ≡ [])) refl) same
+first_stage image first rest same = first_of_stages 8 1 image first rest (one_more image 0 (below_none (λ s. stage_faults image s ≡ [])) refl) same
 
 -- where none of stages that follow each other has faults, each of them has none
 none_of_stages : (n from : ℕ) (image : List ℕ) (stage : ℕ) → first_faults image (range_with_len from n) ≡ [] → from ≤ stage → stage < from + n → stage_faults image stage ≡ []
@@ -294,13 +314,15 @@ none_of_stages (suc n) from image stage none low high =
 pub no_stage : (image : List ℕ) (stage : ℕ) → faults_of image ≡ [] → stage_faults image stage ≡ []
 unfolding faults_of
 no_stage image zero none = refl
-no_stage image (suc zero) none = none_of_stages 6 1 image 1 none (omega arith) (omega arith)
-no_stage image (suc (suc zero)) none = none_of_stages 6 1 image 2 none (omega arith) (omega arith)
-no_stage image (suc (suc (suc zero))) none = none_of_stages 6 1 image 3 none (omega arith) (omega arith)
-no_stage image (suc (suc (suc (suc zero)))) none = none_of_stages 6 1 image 4 none (omega arith) (omega arith)
-no_stage image (suc (suc (suc (suc (suc zero))))) none = none_of_stages 6 1 image 5 none (omega arith) (omega arith)
-no_stage image (suc (suc (suc (suc (suc (suc zero)))))) none = none_of_stages 6 1 image 6 none (omega arith) (omega arith)
-no_stage image (suc (suc (suc (suc (suc (suc (suc stage))))))) none = refl
+no_stage image (suc zero) none = none_of_stages 8 1 image 1 none (omega arith) (omega arith)
+no_stage image (suc (suc zero)) none = none_of_stages 8 1 image 2 none (omega arith) (omega arith)
+no_stage image (suc (suc (suc zero))) none = none_of_stages 8 1 image 3 none (omega arith) (omega arith)
+no_stage image (suc (suc (suc (suc zero)))) none = none_of_stages 8 1 image 4 none (omega arith) (omega arith)
+no_stage image (suc (suc (suc (suc (suc zero))))) none = none_of_stages 8 1 image 5 none (omega arith) (omega arith)
+no_stage image (suc (suc (suc (suc (suc (suc zero)))))) none = none_of_stages 8 1 image 6 none (omega arith) (omega arith)
+no_stage image (suc (suc (suc (suc (suc (suc (suc zero))))))) none = none_of_stages 8 1 image 7 none (omega arith) (omega arith)
+no_stage image (suc (suc (suc (suc (suc (suc (suc (suc zero)))))))) none = none_of_stages 8 1 image 8 none (omega arith) (omega arith)
+no_stage image (suc (suc (suc (suc (suc (suc (suc (suc (suc stage))))))))) none = refl
 
 -- The laws.
 

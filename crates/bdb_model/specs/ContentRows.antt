@@ -11,13 +11,13 @@ use Rattle.bdb_model.specs.Numbers.{has_bit}
 use Rattle.bdb_model.specs.Less.{less}
 use Rattle.bdb_model.specs.Hashing.{hash5, bucket}
 use Rattle.bdb_model.specs.Table.{Row, ◌:?◌}
-use Rattle.bdb_model.specs.Page.{Content, Inline, Set, Chain, Tree, Unknown, Item, InternalItem, Metadata, BtreeFields, HashFields, QueueFields, Page, Internal, RecnoInternal}
+use Rattle.bdb_model.specs.Page.{Content, Inline, Set, Chain, Tree, Unknown, Item, InternalItem, Metadata, BtreeFields, HashFields, QueueFields, Page, Meta, Internal, RecnoInternal}
 use Rattle.bdb_model.specs.File.{File, page_at, header_in, type_in}
 use Rattle.bdb_model.specs.References.{has_type}
 use Rattle.bdb_model.specs.Chains.{value_of}
 use Rattle.bdb_model.specs.Leaves.{children_in, leaves}
 use Rattle.bdb_model.specs.Contents.{StoredPair, entries_in, data_of, tree_pairs, tree_entries, bucket_pairs, table_pairs}
-use Rattle.bdb_model.specs.Verdict.{by_page, holding}
+use Rattle.bdb_model.specs.ByPage.{by_page, holding}
 
 -- Duplicates and DuplicateKind.
 
@@ -209,3 +209,25 @@ contents_rows file (QueueFields meta) p = []
 -- the faults of stage 8 of the database with this metadata
 unfoldable pub contents_faults : File → Metadata → List Fault
 contents_faults file fields = by_page 8 0 (file.last + 1) (λ p. holding (contents_rows file fields p))
+
+-- Stage 8 of a whole file: a row holds at a page where it does for some database.
+
+-- the fields of a metadata page
+abbrev pub fields_in : Page → List Metadata
+fields_in (Meta fields) = fields ∷ []
+fields_in page = []
+
+-- the metadata of a file, page by page
+abbrev pub fields_of : File → List Metadata
+fields_of file = flat_map fields_in file.pages
+
+-- a row with this code holds
+abbrev pub holds_code : ℕ → List (Row ℕ) → Bool
+holds_code code rows = list_any (λ (row : Row ℕ). row.code == code && row.holds) rows
+
+-- the row with this code holds at a page for some database
+abbrev pub holds_somewhere : File → ℕ → ℕ → Bool
+holds_somewhere file p code = list_any (λ fields. holds_code code (contents_rows file fields p)) (fields_of file)
+
+abbrev pub file_contents : File → ℕ → List (Row ℕ)
+file_contents file p = map (λ code. code :? holds_somewhere file p code) (range_with_len 1 9)

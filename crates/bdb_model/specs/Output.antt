@@ -1,16 +1,13 @@
 -- The answer to words and an input: a status, and what is written to the output and to the error sink.
 use Rattle.std.specs.Prelude.{◌≡◌, ◌⊎◌, ℕ, List, Option, Some, None, ⊤}
-use Rattle.bdb_model.specs.declared.ending.Ending.{Ending}
 use Rattle.bdb_model.specs.Change.{Change, Gains, GainsPart, Stays}
-use Rattle.bdb_model.specs.FirstAnswers.{Ends, err_of, out_of, status_of}
+use Rattle.bdb_model.specs.Answers.{answer_of}
 
 -- the answer to these words and this input
 pub record Output (words : List (List ℕ)) (input out err : List ℕ) (status : ℕ) : Type 0 where
-  pub ending : Ending
-  pub ends : Ends words input ending
-  pub out_is : out ≡ out_of ending
-  pub err_is : err ≡ err_of ending
-  pub status_is : status ≡ status_of ending
+  pub out_is : out ≡ (answer_of words input).out
+  pub err_is : err ≡ (answer_of words input).err
+  pub status_is : status ≡ (answer_of words input).status
 
 -- the input is what the source had left; where it tells nothing, it may be any
 abbrev pub IsInput : Option (List ℕ) → List ℕ → Type 0

@@ -1,9 +1,9 @@
 -- What a run of the program promises, whatever its source and its sinks do.
-use Rattle.std.specs.Prelude.{◌≡◌, ◌≢◌, ◌⊎◌, ℕ, ◌+◌, ◌^◌, List}
+use Rattle.std.specs.Prelude.{◌≡◌, ◌≢◌, ◌⊎◌, ℕ, ◌+◌, List, Some, None}
 use Rattle.std.specs.Io.KnownBytes.{IsAtEnd}
 use Rattle.bdb_model.specs.Change.{Change, Gains, GainsPart, HasFailed, IsUncalled, Stays}
 use Rattle.bdb_model.specs.Faults.{Took}
-use Rattle.bdb_model.specs.FirstAnswers.{IsVerify}
+use Rattle.bdb_model.specs.Command.{Command, command_of}
 use Rattle.bdb_model.specs.Lines.{memory_line, read_fault_line, write_fault_line}
 use Rattle.bdb_model.specs.Output.{Answers, AnswersInPart, IsInput, Output}
 
@@ -36,6 +36,7 @@ pub record RunsAs (words : List (List ℕ)) (source out err : Change) (status : 
   -- where memory was wanting, the output has a prefix of an answer, and the error sink has the line that says so
   pub memory : status ≡ 7 → AnswersInPart words source out × Gains err memory_line
   -- words that are no command are a usage fault, or its line can't be written, and the source isn't called
-  pub usage : (IsVerify words → ⊥) → ((status ≡ 2) ⊎ (status ≡ 5)) × IsUncalled source
+  pub usage : command_of words ≡ None → ((status ≡ 2) ⊎ (status ≡ 5)) × IsUncalled source
   -- an answer to a command comes after the source was read to its end, or one byte beyond the limit, which status 6 says
-  pub read_whole : IsVerify words → IsAnswered status → IsAtEnd source.now ⊎ ((status ≡ 6) × Took (2 ^ 30 + 1) source.before source.now)
+  pub read_whole : (command : Command) → command_of words ≡ Some command → IsAnswered status
+      → IsAtEnd source.now ⊎ ((status ≡ 6) × Took (command.limit + 1) source.before source.now)

@@ -1,6 +1,6 @@
 -- The faults of a file, stage by stage, and the verdict. Source: docs/FORMAT.md, "Faults".
-use Rattle.std.specs.Prelude.{◌≡◌, ◌⊎◌, ℕ, zero, suc, IsTrue, ◌+◌, ◌-◌, ◌<◌, ◌≤◌, ◌==◌, ◌&&◌, ◌||◌, not, if◌then◌else◌, Bool, false, List, [], ◌∷◌, ◌++◌, map, length, Option, Some, None}
-use Rattle.std.specs.List.{Contains, flat_map, list_any, range_with_len}
+use Rattle.std.specs.Prelude.{◌≡◌, ◌⊎◌, ℕ, zero, suc, IsTrue, ◌+◌, ◌-◌, ◌<◌, ◌≤◌, ◌==◌, ◌&&◌, ◌||◌, not, if◌then◌else◌, Bool, false, List, [], ◌∷◌, ◌++◌, length, Option, Some, None}
+use Rattle.std.specs.List.{Contains, list_any, range_with_len}
 use Rattle.bdb_model.specs.declared.kinds.Fault.{Fault}
 use Rattle.bdb_model.specs.declared.kinds.Verdict.{Verdict}
 use Rattle.bdb_model.specs.declared.kinds.Verdict.TheVariants.{Fault as FaultVerdict, Unsupported as UnsupportedVerdict}
@@ -8,6 +8,7 @@ use Rattle.bdb_model.specs.declared.metadata.Head.{Head}
 use Rattle.bdb_model.specs.declared.metadata.MetaFault.{MetaFault}
 use Rattle.bdb_model.specs.declared.metadata.MetaFault.TheVariants.{Fault as CodeFault, Unsupported as LeftOut}
 use Rattle.bdb_model.specs.Table.{Row, ◌:?◌, first_row}
+pub use Rattle.bdb_model.specs.ByPage.{alone, holding, by_page}
 use Rattle.bdb_model.specs.Reading.{is_zero}
 use Rattle.bdb_model.specs.Rows.{form_code}
 use Rattle.bdb_model.specs.HeadOf.{head_of, head_rows, head_fault, form_fault}
@@ -16,20 +17,8 @@ use Rattle.bdb_model.specs.References.{refs, fit_code}
 use Rattle.bdb_model.specs.Graph.{OneRole, is_anchor, is_reserve, is_unowned, is_shared_too_often, is_owned_twice, owners, reaches}
 use Rattle.bdb_model.specs.Chains.{chain_rows}
 use Rattle.bdb_model.specs.Leaves.{tree_rows}
-
--- a code where there is one
-abbrev pub alone : Option ℕ → List ℕ
-alone None = []
-alone (Some code) = code ∷ []
-
--- the codes of all rows that hold
-abbrev pub holding : List (Row ℕ) → List ℕ
-holding [] = []
-holding (row ∷ rows) = if row.holds then row.code ∷ holding rows else holding rows
-
--- the faults of n pages from one on, by the codes that hold at each
-abbrev pub by_page : ℕ → ℕ → ℕ → (ℕ → List ℕ) → List Fault
-by_page stage from n codes = flat_map (λ p. map (λ code. record { stage = stage; page = p; code = code }) (codes p)) (range_with_len from n)
+use Rattle.bdb_model.specs.Master.{master_rows}
+use Rattle.bdb_model.specs.ContentRows.{file_contents}
 
 -- Stage 1: page 0, and where it has no fault the pages above the last one, which are zero pages.
 
@@ -100,12 +89,22 @@ chain_faults file = by_page 6 0 (file.last + 1) (λ p. holding (chain_rows file 
 unfoldable pub tree_faults : File → List Fault
 tree_faults file = by_page 6 0 (file.last + 1) (λ p. holding (tree_rows file p))
 
+-- Stage 7: a master names each other metadata page once, and nothing else.
+
+unfoldable pub master_faults : File → List Fault
+master_faults file = by_page 7 0 (file.last + 1) (λ p. holding (master_rows file p))
+
+-- Stage 8: what the databases hold keeps their rules.
+
+unfoldable pub content_faults : File → List Fault
+content_faults file = by_page 8 0 (file.last + 1) (λ p. holding (file_contents file p))
+
 -- the first list, unless it's empty; the second is looked at only then
 abbrev pub or_else : List Fault → (Unit {0} → List Fault) → List Fault
 or_else [] others = others tt
 or_else (fault ∷ faults) others = fault ∷ faults
 
--- the faults of one stage, in a file that the earlier stages accept; stages 7 and 8 are not built yet
+-- the faults of one stage, in a file that the earlier stages accept
 abbrev pub stage_faults : List ℕ → ℕ → List Fault
 stage_faults image zero = []
 stage_faults image (suc zero) = or_else (head_faults image) (λ _. tail_faults image)
@@ -114,7 +113,9 @@ stage_faults image (suc (suc (suc zero))) = reference_faults (file_of image)
 stage_faults image (suc (suc (suc (suc zero)))) = ownership_faults (file_of image)
 stage_faults image (suc (suc (suc (suc (suc zero))))) = reach_faults (file_of image)
 stage_faults image (suc (suc (suc (suc (suc (suc zero)))))) = structure_faults (file_of image)
-stage_faults image (suc (suc (suc (suc (suc (suc (suc stage))))))) = []
+stage_faults image (suc (suc (suc (suc (suc (suc (suc zero))))))) = master_faults (file_of image)
+stage_faults image (suc (suc (suc (suc (suc (suc (suc (suc zero)))))))) = content_faults (file_of image)
+stage_faults image (suc (suc (suc (suc (suc (suc (suc (suc (suc stage))))))))) = []
 
 -- the row with this stage and code holds at this page, in a file where no row of an earlier stage holds
 pub record Holds (image : List ℕ) (stage page code : ℕ) : Type 0 where
@@ -128,7 +129,7 @@ first_faults image (stage ∷ stages) = or_else (stage_faults image stage) (λ _
 
 -- the faults of the first stage that has any
 unfoldable pub faults_of : List ℕ → List Fault
-faults_of image = first_faults image (range_with_len 1 6)
+faults_of image = first_faults image (range_with_len 1 8)
 
 -- a fault, or the case that its row leaves out by name
 abbrev pub named_verdict : Fault → MetaFault → Verdict

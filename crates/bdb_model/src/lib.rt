@@ -2,21 +2,21 @@
 #![tactic(auto)]
 
 mod bytes;
-mod ending;
 pub mod graph_laws;
 mod kinds;
 pub mod laws;
 mod metadata;
 mod pages;
 mod references;
+mod settings;
 mod steps;
 mod words;
 
 pub use bytes::Bytes;
-pub use ending::Ending;
 pub use kinds::{CheckError, Fault, Kind, Order, Unsupported, Verdict};
 pub use metadata::{BtreeMeta, FileKind, HashMeta, Head, MetaFault, QueueMeta};
 pub use pages::{Header, ItemFault, RecnoItem};
 pub use references::{Reference, Sort};
+pub use settings::Settings;
 pub use steps::Steps;
 pub use words::Words;

@@ -1,3 +1,10 @@
-pub mod OrderLemmas
-pub mod PartLemmas
+pub mod PrintingLemmas
+pub mod NameLemmas
+pub mod FinishLemmas
 pub mod RunLemmas
+pub mod CommandLemmas
+pub mod GivenLemmas
+pub mod ReadLemmas
+pub mod StepLemmas
+pub mod RequestLemmas
+pub mod AnswerLemmas

@@ -1,24 +1,14 @@
--- The two halves of a run: what it decides from the words and the source, and how it writes that.
-use Rattle.std.specs.Prelude.{◌≡◌, ◌≢◌, ◌⊎◌, ℕ, ◌+◌, ◌^◌, List, Result, IfOk, IsErrOf, OnErr}
-use Rattle.std.specs.Io.KnownBytes.{IsAtEnd}
-use Rattle.bdb_model.specs.declared.ending.Ending.{Ending}
-use Rattle.bdb_model.specs.declared.ending.Ending.TheVariants.{Usage, TooLarge}
-use Rattle.bdb_model.specs.Change.{Change, Gains, GainsPart, HasFailed, IsUncalled, Stays}
-use Rattle.bdb_model.specs.Faults.{Took}
-use Rattle.bdb_model.specs.FirstAnswers.{Ends, IsVerify, err_of, out_of, status_of}
-use Rattle.bdb_model.specs.Lines.{memory_line, write_fault_line}
-use Rattle.bdb_model.specs.Output.{IsInput}
-use Rattle.bdb_tool.specs.declared.ending.Stop.{Stop}
-use Rattle.bdb_tool.specs.declared.ending.Stop.TheVariants.{ReadFault}
-
--- what was decided is how these words and some input of the source end, or why that isn't known
-pub record Decides (words : List (List ℕ)) (source : Change) (decided : Result Ending Stop) : Type 0 where
-  pub ends : IfOk decided (λ ending. (input : List ℕ) × IsInput source.before input × Ends words input ending)
-  pub command : OnErr decided (IsVerify words)
-  pub read_fault : IsErrOf decided ReadFault → HasFailed source
-  -- words that are no command are decided without the source
-  pub uncalled : (IsVerify words → ⊥) → IsUncalled source
-  pub read_whole : IsVerify words → IfOk decided (λ ending. IsAtEnd source.now ⊎ ((ending ≡ TooLarge) × Took (2 ^ 30 + 1) source.before source.now))
+-- The two halves of a run: what it takes from the words and the source, and how it writes the answer.
+use Rattle.std.specs.Prelude.{◌≡◌, ◌≢◌, ◌⊎◌, ℕ, List, [], Result, Ok, Err}
+use Rattle.bdb_model.specs.declared.kinds.Verdict.{Verdict}
+use Rattle.bdb_model.specs.declared.kinds.Verdict.TheVariants.{Fault, Unsupported, Memory as MemoryVerdict}
+use Rattle.bdb_model.specs.Answers.{Answer, fault_line, too_large_line, unsupported_line, usage}
+use Rattle.bdb_model.specs.Change.{Change, Gains, GainsPart, HasFailed}
+use Rattle.bdb_model.specs.Lines.{memory_line, read_fault_line, write_fault_line}
+use Rattle.bdb_tool.specs.declared.printing.Cut.{Cut}
+use Rattle.bdb_tool.specs.declared.printing.Cut.TheVariants.{WriteFault, Memory}
+use Rattle.bdb_tool.specs.declared.request.Stop.{Stop}
+use Rattle.bdb_tool.specs.declared.request.Stop.TheVariants.{Usage, TooLarge, ReadFault, Memory as MemoryStop}
 
 -- a text was written to the error sink for this status, or that sink failed
 pub record Tells (text : List ℕ) (wanted : ℕ) (err : Change) (status : ℕ) : Type 0 where
@@ -27,13 +17,38 @@ pub record Tells (text : List ℕ) (wanted : ℕ) (err : Change) (status : ℕ) 
   pub failed : status ≡ 5 → HasFailed err
   pub part : status ≡ 5 → GainsPart err text
 
--- an ending was written to the output and the error sink, or one of them failed, or memory was wanting
-pub record Finishes (ending : Ending) (out err : Change) (status : ℕ) : Type 0 where
-  pub status_is : (status ≡ status_of ending) ⊎ ((status ≡ 5) ⊎ ((status ≡ 7) × (ending ≢ Usage)))
-  pub printed : status ≡ status_of ending → Gains out (out_of ending)
-  pub told : status ≡ status_of ending → Gains err (err_of ending)
-  pub part : Stays out ⊎ GainsPart out (out_of ending)
+-- it was told why there is no request to answer, or that memory was wanting
+abbrev pub IsToldStop : Stop → Change → ℕ → Type 0
+IsToldStop Usage err status = Tells usage.err 2 err status
+IsToldStop (TooLarge limit) err status = Tells (too_large_line limit) 6 err status ⊎ Tells memory_line 7 err status
+IsToldStop ReadFault err status = Tells read_fault_line 4 err status
+IsToldStop MemoryStop err status = Tells memory_line 7 err status
+
+-- it was told how a text was written: nothing where it was written whole
+abbrev pub Reports : Result Unit Cut → Change → ℕ → Type 0
+Reports (Ok unit) err status = (status ≡ 0) × Gains err []
+Reports (Err WriteFault) err status = (status ≡ 5) × ((HasFailed err → ⊥) → Gains err write_fault_line) × GainsPart err write_fault_line
+Reports (Err Memory) err status = Tells memory_line 7 err status
+
+-- an answer was written to the output and the error sink, or one of them failed, or memory was wanting
+pub record Finishes (answer : Answer) (out err : Change) (status : ℕ) : Type 0 where
+  pub status_is : (status ≡ answer.status) ⊎ ((status ≡ 5) ⊎ (status ≡ 7))
+  pub printed : status ≡ answer.status → Gains out answer.out
+  pub told : status ≡ answer.status → Gains err answer.err
+  pub part : GainsPart out answer.out
   pub failed : status ≡ 5 → HasFailed out ⊎ HasFailed err
   pub write_fault_line_told : status ≡ 5 → (HasFailed err → ⊥) → Gains err write_fault_line
-  pub error_line_begun : status ≡ 5 → GainsPart err write_fault_line ⊎ (GainsPart err memory_line ⊎ GainsPart err (err_of ending))
+  pub error_line_begun : status ≡ 5 → GainsPart err write_fault_line ⊎ (GainsPart err memory_line ⊎ GainsPart err answer.err)
   pub memory : status ≡ 7 → Gains err memory_line
+
+-- an answer's status is none that the outside or memory gives
+pub record HasOwnStatus (answer : Answer) : Type 0 where
+  pub no_read_fault : answer.status ≢ 4
+  pub no_write_fault : answer.status ≢ 5
+  pub no_memory : answer.status ≢ 7
+
+-- the verdict was told, or that memory was wanting
+abbrev pub IsRefused : Verdict → Change → ℕ → Type 0
+IsRefused (Fault fault) err status = Tells (fault_line fault) 1 err status ⊎ Tells memory_line 7 err status
+IsRefused (Unsupported name page) err status = Tells (unsupported_line name page) 3 err status ⊎ Tells memory_line 7 err status
+IsRefused MemoryVerdict err status = Tells memory_line 7 err status

@@ -2,17 +2,20 @@ ghost use Rattle.std.specs.Prelude.{◌≡◌};
 ghost use Rattle.bdb_model.specs.Change.{change};
 ghost use Rattle.bdb_model.specs.Faults.{IsUntouched};
 ghost use Rattle.bdb_model.specs.Run.{RunsAs};
+ghost use Rattle.bdb_tool.specs.Parts.{IsToldStop};
 
-use crate::ending::{Stop, ending_of};
-use crate::finish::{finish, tell};
-use crate::status::{MEMORY, READ_FAULT};
+use crate::answer::answer;
+use crate::finish::{tell, tell_memory};
+use crate::request::{Stop, request_of};
+use crate::status::{READ_FAULT, TOO_LARGE, USAGE};
+use crate::text::too_large_line;
 use bdb_io::{PureSource, Sink, Source};
 use bdb_model::{Steps, Words};
 use std::alloc::Global;
 use std::sync::ledger::{Blank, Ledger};
 
 /// All that the program does: reads the source as the words say, writes to `out` and `err`, and answers the exit
-/// status, one of those in `status`. The base isn't called, and no step is taken.
+/// status, one of those in `status`. The base isn't called.
 pub fn run<S: Source, B: Source, K: Sink, E: Sink, L: Ledger>(
     alloc: Global,
     words: &Words,
@@ -24,9 +27,8 @@ pub fn run<S: Source, B: Source, K: Sink, E: Sink, L: Ledger>(
 ) -> u8
     ensures runs { RunsAs words.now (change S.left S.faults source.old source.new) (change K.written K.faults out.old out.new) (change E.written E.faults err.old err.new) result }
     ensures base { IsUntouched B.faults base.entry base.exit }
-    ensures steps { steps.new ≡ steps.old }
 {
-    let status = run_alone(alloc, words, source, out, err);
+    let status = run_alone(alloc, words, source, out, err, steps);
     match base {
         Some(_) => status,
         None => status,
@@ -52,18 +54,38 @@ pub fn run_counted<L: Ledger, S: Source, K: Sink, E: Sink>(
 }
 
 // A run without a base.
-fn run_alone<S: Source, K: Sink, E: Sink>(
+#[tactic(auto, using(crate::proofs::RunLemmas::taken_runs, crate::proofs::RunLemmas::stopped_runs))]
+fn run_alone<S: Source, K: Sink, E: Sink, L: Ledger>(
     alloc: Global,
     words: &Words,
     source: &mut S,
     out: &mut K,
     err: &mut E,
+    steps: &mut Steps<L>,
 ) -> u8
     ensures { RunsAs words.now (change S.left S.faults source.old source.new) (change K.written K.faults out.old out.new) (change E.written E.faults err.old err.new) result }
 {
-    match ending_of(alloc, words, source) {
-        Ok(ending) => finish(alloc, ending, out, err),
-        Err(Stop::ReadFault) => tell(err, b"read fault\n", READ_FAULT),
-        Err(Stop::Memory) => tell(err, b"out of memory\n", MEMORY),
+    match request_of(alloc, words, source) {
+        Ok(request) => answer(alloc, &request, out, err, steps),
+        Err(stop) => stopped(alloc, stop, err),
+    }
+}
+
+// Tells why there was no request, and answers the status.
+fn stopped<E: Sink>(alloc: Global, stop: Stop, err: &mut E) -> u8
+    ensures { IsToldStop stop (change E.written E.faults err.old err.new) result }
+{
+    match stop {
+        Stop::Usage => tell(
+            err,
+            b"usage: bdbtool verify, list, get, dump, load, salvage or trial\n",
+            USAGE,
+        ),
+        Stop::TooLarge(limit) => match too_large_line(alloc, limit) {
+            Ok(line) => tell(err, line.as_bytes(), TOO_LARGE),
+            Err(_) => tell_memory(err),
+        },
+        Stop::ReadFault => tell(err, b"read fault\n", READ_FAULT),
+        Stop::Memory => tell_memory(err),
     }
 }

@@ -9,6 +9,9 @@ pub const FAULT: u8 = 1;
 /// The words are no command.
 pub const USAGE: u8 = 2;
 
+/// The file has something that is left out by name.
+pub const UNSUPPORTED: u8 = 3;
+
 /// Reading failed.
 pub const READ_FAULT: u8 = 4;
 
@@ -21,5 +24,5 @@ pub const TOO_LARGE: u8 = 6;
 /// Memory was wanting.
 pub const MEMORY: u8 = 7;
 
-/// What was asked isn't built yet.
-pub const NOT_BUILT: u8 = 11;
+/// No database has the name, or the key has no data in it.
+pub const NOT_FOUND: u8 = 9;

@@ -2,8 +2,24 @@
 #![tactic(auto)]
 
 #[cfg(test)]
-mod image;
+mod asking;
+#[cfg(test)]
+mod failing;
+#[cfg(test)]
+mod files;
+#[cfg(test)]
+mod images;
+#[cfg(test)]
+mod long_value;
+#[cfg(test)]
+mod others;
 #[cfg(test)]
 mod outside;
 #[cfg(test)]
-mod tests;
+mod reading;
+#[cfg(test)]
+mod running;
+#[cfg(test)]
+mod usage;
+#[cfg(test)]
+mod verifying;

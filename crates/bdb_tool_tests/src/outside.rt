@@ -1,6 +1,7 @@
 ghost use Rattle.std.specs.Prelude.{None};
 
 use bdb_io::{Failed, MemSink, Sink, Source};
+use std::alloc::{AllocError, Global};
 
 /// A source that gives at most `most` bytes a read, fails at one of its calls, counted from 1, and counts them.
 #[derive(Drop)]
@@ -43,10 +44,19 @@ impl<'a> Source for Dripping<'a> {
     }
 }
 
-/// A sink that takes one byte a write.
+/// A sink that takes a byte a write.
 #[derive(Drop)]
 pub struct Narrow {
     pub sink: MemSink,
+}
+
+impl Narrow {
+    /// A sink whose write after so many bytes fails.
+    pub fn cut_after(alloc: Global, taken: usize) -> Result<Narrow, AllocError> {
+        let mut sink = MemSink::new(alloc);
+        sink.fail_at((taken as u64).saturating_add(1))?;
+        Ok(Narrow { sink })
+    }
 }
 
 impl Sink for Narrow {

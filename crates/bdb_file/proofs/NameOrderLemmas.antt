@@ -1,0 +1,268 @@
+-- The names that a master gives ascend.
+use Rattle.std.proofs.Common.{◌≡◌, ℕ, ◌+◌, ◌<◌, ◌≤◌, Bool, true, false, not, cond, List, [], ◌∷◌, ◌++◌, length, map, Option, Some, None, arith, refl, sym, ◌∙◌, ap, subst, inl, inr, true≢false}
+use Rattle.std.specs.Prelude.{◌==◌, ◌&&◌, ◌||◌, ◌^◌, nat_lt}
+use Rattle.std.specs.List.{Contains, filter, flat_map, list_any}
+use Rattle.std.specs.Str.{bytes_eq}
+use Rattle.std.proofs.lemmas.Bool.{and_from, and_parts, cases_Bool, cases_eq, eq-eqb, false_from_ne_true, or_parts}
+use Rattle.std.proofs.lemmas.List.{map-append}
+use Rattle.bdb_model.specs.declared.kinds.Fault.{Fault}
+use Rattle.bdb_model.specs.declared.kinds.Order.{Order}
+use Rattle.bdb_model.specs.declared.metadata.BtreeMeta.{BtreeMeta}
+use Rattle.bdb_model.specs.declared.metadata.FileKind.TheVariants.{Btree}
+use Rattle.bdb_model.specs.ContentRows.{ascends, ascends_from, btree_contents, contents_faults, contents_rows, fields_in, is_out_of_order, neighbours, neighbours_from, recno_contents, repeated_after}
+use Rattle.bdb_model.specs.Contents.{StoredPair, tree_pairs}
+use Rattle.bdb_model.specs.Databases.{database_on, databases, databases_under, named_database}
+use Rattle.bdb_model.specs.File.{File, file_of, page_at, page_bytes}
+use Rattle.bdb_model.specs.Graph.{is_meta}
+use Rattle.bdb_model.specs.HeadOf.{head_of, is_page_size}
+use Rattle.bdb_model.specs.Less.{less}
+use Rattle.bdb_model.specs.Master.{master_in, master_pairs, named_by, pairs_under}
+use Rattle.bdb_model.specs.Numbers.{byte_at, four_at, has_bit}
+use Rattle.bdb_model.specs.Page.{BtreeFields, HashFields, QueueFields, Page, Meta}
+use Rattle.bdb_model.specs.Reading.{abstract_page, btree_fields, hash_fields, queue_fields}
+use Rattle.bdb_model.specs.Rows.{are_wrong_flags, metadata_rows}
+use Rattle.bdb_model.specs.Verdict.{faults_of, holding, master_faults, or_else, stage_faults}
+use Rattle.bdb_model.proofs.MemberLemmas.{first_member, in_map, is_empty, later_member, member_cases, no_member, none_passes, of_filter}
+use Rattle.bdb_model.proofs.VerdictLemmas.{AllFail, all_fail, no_codes_at, no_stage, none_is_first_row}
+use Rattle.bdb_graph.specs.Formed.{IsAccepted}
+use Rattle.bdb_graph.specs.Linked.{HasMetadata, IsForest}
+use Rattle.bdb_graph.specs.Linking.{graph_faults}
+use Rattle.bdb_graph.specs.Metas.{meta_in}
+use Rattle.bdb_graph.proofs.FirstLemmas.{formed_accepted, formed_page}
+use Rattle.bdb_graph.proofs.FormedLemmas.{IsPaged, accepted_paged, page_length}
+use Rattle.bdb_graph.proofs.HeldLemmas.{page_is, table_page, tree_formed, tree_page}
+use Rattle.bdb_graph.proofs.LinkedLemmas.{root_fits}
+use Rattle.bdb_graph.proofs.MetaLemmas.{no_meta, queue_page}
+use Rattle.bdb_btree.proofs.LessLemmas.{less_above, less_not_back, not_less_self, same_unless_less}
+use Rattle.bdb_btree.proofs.PairLemmas.{tree_pair}
+use Rattle.bdb_hash.proofs.KeyLemmas.{eq_self}
+use Rattle.bdb_file.specs.Entries.{fault_at, named}
+use Rattle.bdb_file.specs.Laws.{NamesAscend, name_bytes}
+use Rattle.bdb_file.proofs.DatabaseLemmas.{has_metadata}
+use Rattle.bdb_file.proofs.MasterLemmas.{AreInside, master_inside, master_is, repeat_here}
+use Rattle.bdb_file.proofs.NamedLemmas.{NamesMeta, entry_names}
+use Rattle.bdb_file.proofs.ShareLemmas.{ShareKeys, tree_keys}
+use Rattle.bdb_file.proofs.SoundLemmas.{no_contents}
+
+-- Lists of pairs whose keys don't fall.
+
+-- no later key is less than this one
+abbrev NoneBelow : List ℕ → List StoredPair → Type 0
+NoneBelow key pairs = (pair : StoredPair) → Contains pairs pair → less pair.key key ≡ false
+
+-- no key is less than an earlier one
+abbrev DontFall : List StoredPair → Type 0
+DontFall [] = Unit {0}
+DontFall (pair ∷ pairs) = NoneBelow pair.key pairs × DontFall pairs
+
+-- what isn't less than something that isn't less than a third isn't less than that
+not_less_chain : (a b c : List ℕ) → less b a ≡ false → less c b ≡ false → less c a ≡ false
+not_less_chain a b c ab bc = false_from_ne_true (less c a) (λ is. true≢false (sym (less_above c a b is ab) ∙ bc))
+
+none_below_more : (key : List ℕ) (pair : StoredPair) (pairs : List StoredPair) → less pair.key key ≡ false → NoneBelow pair.key pairs → NoneBelow key (pair ∷ pairs)
+none_below_more key pair pairs here after other at =
+    elim (member_cases pair pairs other at) [
+      | inl same ↦ subst (λ (one : StoredPair). less one.key key ≡ false) same here
+      | inr later ↦ not_less_chain key pair.key other.key here (after other later)
+    ]
+
+-- two pairs that follow each other, where one that shares its key has the key before it
+in_order_step : (a b : List ℕ) (shares : Bool) → (shares ≡ true → b ≡ a) → (not shares && not (less a b)) ≡ false → less b a ≡ false
+in_order_step a b true same kept = ap (λ key. less key a) (same refl) ∙ not_less_self a
+in_order_step a b false same kept =
+    elim (cases_Bool (less a b)) [ inl low ↦ less_not_back a b low | inr other ↦ absurd (true≢false (ap not (sym other) ∙ kept)) ]
+
+dont_fall_from : (pair : StoredPair) (pairs : List StoredPair) → ShareKeys pair.key pairs → ((two : StoredPair × StoredPair) → Contains (neighbours_from pair pairs) two → is_out_of_order two ≡ false) → NoneBelow pair.key pairs × DontFall pairs
+dont_fall_from pair [] shares kept = (λ other at. absurd (no_member [] other refl at), tt)
+dont_fall_from pair (next ∷ pairs) shares kept =
+    let after = dont_fall_from next pairs shares.1 (λ two at. kept two (later_member (pair, next) (neighbours_from next pairs) two at)) in
+    (none_below_more pair.key next pairs (in_order_step pair.key next.key next.shares shares.0 (kept (pair, next) (first_member (pair, next) (neighbours_from next pairs)))) after.0, after)
+
+dont_fall : (pairs : List StoredPair) → ShareKeys [] pairs → ((two : StoredPair × StoredPair) → Contains (neighbours pairs) two → is_out_of_order two ≡ false) → DontFall pairs
+dont_fall [] shares kept = tt
+dont_fall (pair ∷ pairs) shares kept = dont_fall_from pair pairs shares.1 kept
+
+kept_fall : (test : StoredPair → Bool) (pairs : List StoredPair) → DontFall pairs → DontFall (filter test pairs)
+kept_fall test [] fall = tt
+kept_fall test (pair ∷ pairs) fall = step (test pair) (kept_fall test pairs fall.1)
+  where
+    step : (b : Bool) → DontFall (filter test pairs) → DontFall (cond b (pair ∷ filter test pairs) (filter test pairs))
+    step true after = (λ other at. fall.0 other (of_filter test pairs other at).0, after)
+    step false after = after
+
+-- Keys that don't fall and don't repeat ascend.
+
+not_repeated : (b : Bool) (pair : StoredPair) (rest : List StoredPair) → cond b (pair ∷ rest) rest ≡ [] → (b ≡ false) × (rest ≡ [])
+not_repeated true pair rest none = absurd cc
+not_repeated false pair rest none = (refl, none)
+
+ascend_from : (before : StoredPair) (earlier pairs : List StoredPair) → NoneBelow before.key pairs → DontFall pairs → repeated_after (before ∷ earlier) pairs ≡ [] → ascends_from before.key (map (λ (pair : StoredPair). pair.key) pairs) ≡ true
+ascend_from before earlier [] above fall none = refl
+ascend_from before earlier (pair ∷ pairs) above fall none =
+    let parts = not_repeated (list_any (λ (other : StoredPair). bytes_eq other.key pair.key) (before ∷ earlier)) pair (repeated_after (pair ∷ before ∷ earlier) pairs) none in
+    let apart : bytes_eq before.key pair.key ≡ false = (or_parts (bytes_eq before.key pair.key) (list_any (λ (other : StoredPair). bytes_eq other.key pair.key) earlier) parts.0).0 in
+    and_from (less before.key pair.key) (ascends_from pair.key (map (λ (one : StoredPair). one.key) pairs))
+    (elim (cases_Bool (less before.key pair.key)) [
+      | inl low ↦ low
+      | inr other ↦
+          let same : before.key ≡ pair.key = same_unless_less before.key pair.key other (above pair (first_member pair pairs)) in
+          absurd (true≢false (sym (subst (λ key. bytes_eq before.key key ≡ true) same (eq_self before.key)) ∙ apart))
+    ])
+    (ascend_from pair (before ∷ earlier) pairs fall.0 fall.1 parts.1)
+
+ascend : (pairs : List StoredPair) → DontFall pairs → repeated_after [] pairs ≡ [] → ascends (map (λ (pair : StoredPair). pair.key) pairs) ≡ true
+ascend [] fall none = refl
+ascend (pair ∷ pairs) fall none = ascend_from pair [] pairs fall.0 fall.1 none
+
+-- The files without faults.
+
+none_after : (faults others : List Fault) → faults ≡ [] → others ≡ [] → or_else faults (λ _. others) ≡ []
+none_after [] others none after = after
+none_after (fault ∷ faults) others none after = absurd cc
+
+forest_of : (image : List ℕ) → length image ≤ 2 ^ 30 → faults_of image ≡ [] → IsForest image
+unfolding graph_faults
+forest_of image size sound = record {
+  formed = record { size = size; head_is = refl; file = no_stage image 1 sound; form = no_stage image 2 sound };
+  linked =
+      none_after (stage_faults image 3) (or_else (stage_faults image 4) (λ _. stage_faults image 5)) (no_stage image 3 sound)
+      (none_after (stage_faults image 4) (stage_faults image 5) (no_stage image 4 sound) (no_stage image 5 sound));
+}
+
+-- A master isn't a recno.
+
+-- metadata of a btree is read from a page of its type
+record IsTreeMeta (order : Order) (page : List ℕ) (meta : BtreeMeta) : Type 0 where
+  byte : byte_at page 25 ≡ 9
+  fields : btree_fields order page ≡ meta
+
+tree_meta : (order : Order) (page : List ℕ) (meta : BtreeMeta) → is_page_size (length page) ≡ true → abstract_page order page ≡ Meta (BtreeFields meta) → IsTreeMeta order page meta
+tree_meta order page meta size is =
+    elim (cases_eq (byte_at page 25) 9) [
+      | inl tree ↦ let same : ◌≡◌ {A = Page} (Meta (BtreeFields (btree_fields order page))) (Meta (BtreeFields meta)) = sym (tree_page order page size tree) ∙ is in record { byte = tree; fields = cc }
+      | inr no_tree ↦ elim (cases_eq (byte_at page 25) 8) [
+        | inl table ↦ let same : ◌≡◌ {A = Page} (Meta (HashFields (hash_fields order page))) (Meta (BtreeFields meta)) = sym (table_page order page size table) ∙ is in absurd cc
+        | inr no_table ↦ elim (cases_eq (byte_at page 25) 10) [
+          | inl queue ↦ let same : ◌≡◌ {A = Page} (Meta (QueueFields (queue_fields order page))) (Meta (BtreeFields meta)) = sym (queue_page order page size queue) ∙ is in absurd cc
+          | inr no_queue ↦ let none : Some (BtreeFields meta) ≡ None = sym (ap meta_in is) ∙ no_meta order page no_table no_tree no_queue in absurd cc
+        ]
+      ]
+    ]
+
+page_sized : (image : List ℕ) (p : ℕ) → IsForest image → p ≤ (head_of image).last → is_page_size (length (page_bytes (head_of image) image p)) ≡ true
+page_sized image p forest low =
+    let accepted : IsAccepted image (head_of image) = formed_accepted image (head_of image) forest.formed in
+    let paged : IsPaged image (head_of image) = accepted_paged image (head_of image) accepted in
+    let there : p < (head_of image).pages = omega (arith, paged.last) in
+    ap is_page_size (page_length image (head_of image) p accepted there) ∙ paged.legal
+
+-- flags of a master go with no records
+no_recno : (flags : ℕ) → are_wrong_flags 0 flags ≡ false → has_bit flags 0x20 ≡ true → has_bit flags 0x02 ≡ false
+no_recno flags fit master =
+    let outer = or_parts (nat_lt 0xff flags || (has_bit flags 0x02 && (has_bit flags 0x45 || (0 == 0 && has_bit flags 0x20)))) (has_bit flags 0x04 && has_bit flags 0x41) fit in
+    let inner = or_parts (nat_lt 0xff flags) (has_bit flags 0x02 && (has_bit flags 0x45 || (0 == 0 && has_bit flags 0x20))) outer.0 in
+    step (has_bit flags 0x02) (has_bit flags 0x45) (has_bit flags 0x20) master inner.1
+  where
+    step : (records counts subs : Bool) → subs ≡ true → (records && (counts || subs)) ≡ false → records ≡ false
+    step false counts subs is none = refl
+    step true true subs is none = absurd cc
+    step true false true is none = absurd cc
+    step true false false is none = absurd cc
+
+master_keys : (image : List ℕ) (meta : BtreeMeta) → IsForest image → page_at (file_of image) 0 ≡ Meta (BtreeFields meta) → has_bit meta.flags 0x20 ≡ true → has_bit meta.flags 0x02 ≡ false
+unfolding metadata_rows
+master_keys image meta forest is master =
+    let order : Order = (head_of image).order in
+    let page : List ℕ = page_bytes (head_of image) image 0 in
+    let size : is_page_size (length page) ≡ true = page_sized image 0 forest (omega arith) in
+    let read : IsTreeMeta order page meta = tree_meta order page meta size (sym (page_is image 0 (omega arith)) ∙ is) in
+    let fail : AllFail (metadata_rows order page 0 0 Btree) = none_is_first_row (metadata_rows order page 0 0 Btree) (tree_formed (head_of image) 0 page size read.byte (formed_page image 0 forest.formed.form (omega arith))) in
+    let flags : four_at order page 48 ≡ meta.flags = ap (λ (m : BtreeMeta). m.flags) read.fields in
+    no_recno meta.flags (subst (λ n. are_wrong_flags 0 n ≡ false) flags fail.1.1.1.1.1.1.1.1.1.0) master
+
+-- The pairs of a master.
+
+of_neighbours : (pair : StoredPair) (pairs : List StoredPair) (two : StoredPair × StoredPair) → Contains (neighbours_from pair pairs) two → Contains pairs two.1
+of_neighbours pair [] two at = absurd (no_member [] two refl at)
+of_neighbours pair (next ∷ pairs) two at =
+    elim (member_cases (pair, next) (neighbours_from next pairs) two at) [
+      | inl same ↦ subst (λ (t : StoredPair × StoredPair). Contains (next ∷ pairs) t.1) same (first_member next pairs)
+      | inr later ↦ later_member next pairs two.1 (of_neighbours next pairs two later)
+    ]
+
+of_all_neighbours : (pairs : List StoredPair) (two : StoredPair × StoredPair) → Contains (neighbours pairs) two → Contains pairs two.1
+of_all_neighbours [] two at = absurd (no_member [] two refl at)
+of_all_neighbours (pair ∷ pairs) two at = later_member pair pairs two.1 (of_neighbours pair pairs two at)
+
+keyed_rows : (file : File) (meta : BtreeMeta) (p : ℕ) (b : Bool) → b ≡ false → holding (cond b (recno_contents file meta p) (btree_contents file meta p)) ≡ [] → holding (btree_contents file meta p) ≡ []
+keyed_rows file meta p true is none = absurd cc
+keyed_rows file meta p false is none = none
+
+past_first : (a b : Bool) → a ≡ true → (a && b) ≡ false → b ≡ false
+past_first true b is none = none
+past_first false b is none = absurd cc
+
+keys_kept : (image : List ℕ) (meta : BtreeMeta) → IsForest image → HasMetadata (file_of image) (BtreeFields meta) → has_bit meta.flags 0x02 ≡ false → contents_faults (file_of image) (BtreeFields meta) ≡ []
+    → (two : StoredPair × StoredPair) → Contains (neighbours (tree_pairs (file_of image) meta.root)) two → is_out_of_order two ≡ false
+unfolding contents_faults
+keys_kept image meta forest has keys none two at =
+    let file : File = file_of image in
+    let pairs : List StoredPair = tree_pairs file meta.root in
+    let p : ℕ = two.1.page in
+    let low : p ≤ file.last = (tree_pair image meta.root two.1 forest (inl (root_fits image (head_of image) meta forest.formed has)) (of_all_neighbours pairs two at)).inside in
+    let codes : holding (contents_rows file (BtreeFields meta) p) ≡ [] = no_codes_at 8 0 (file.last + 1) p (λ q. holding (contents_rows file (BtreeFields meta) q)) none (omega arith) (omega arith) in
+    let fail : AllFail (btree_contents file meta p) = all_fail (btree_contents file meta p) (keyed_rows file meta p (has_bit meta.flags 0x02) keys codes) in
+    past_first (p == p) (is_out_of_order two) (eq-eqb p p refl)
+    (none_passes (λ (other : StoredPair × StoredPair). other.1.page == p && is_out_of_order other) (neighbours pairs) two fail.1.1.0 at)
+
+-- no pair of a master has the key of an earlier one
+none_repeats : (file : File) → AreInside file → master_faults file ≡ [] → repeated_after [] (master_pairs file) ≡ []
+none_repeats file inside none = is_empty (repeated_after [] (master_pairs file)) (λ pair at. no_member (master_faults file) (fault_at pair.page 4) none (repeat_here file pair inside at))
+
+-- The databases of a master have the keys of its pairs as names.
+
+one_name : (file : File) (key : List ℕ) (names : Option ℕ) (p : ℕ) → names ≡ Some p → is_meta (page_at file p) ≡ true → map name_bytes (database_on file (Some key) names) ≡ key ∷ []
+one_name file key names p is meta = ap (λ n. map name_bytes (database_on file (Some key) n)) is ∙ step (page_at file p) meta
+  where
+    step : (page : Page) → is_meta page ≡ true → map name_bytes (map (λ fields. record { name = Some key; fields = fields }) (fields_in page)) ≡ key ∷ []
+    step (Meta fields) meta = refl
+    step page other = absurd cc
+
+pair_name : (file : File) (pair : StoredPair) → AreInside file → master_faults file ≡ [] → Contains (master_pairs file) pair → map name_bytes (named_database file pair) ≡ pair.key ∷ []
+pair_name file pair inside none at =
+    let names : NamesMeta file (named file pair) = entry_names file (named file pair) inside none (in_map (named file) (master_pairs file) pair at) in
+    one_name file pair.key (named_by file pair.data_item) names.page names.names_are (and_parts (nat_lt 0 names.page) (is_meta (page_at file names.page)) names.kind).1
+
+all_names : (file : File) (pairs : List StoredPair) → ((pair : StoredPair) → Contains pairs pair → map name_bytes (named_database file pair) ≡ pair.key ∷ [])
+    → map name_bytes (flat_map (named_database file) pairs) ≡ map (λ (pair : StoredPair). pair.key) pairs
+all_names file [] each = refl
+all_names file (pair ∷ pairs) each =
+    map-append name_bytes (named_database file pair) (flat_map (named_database file) pairs)
+    ∙ (ap (λ names. names ++ map name_bytes (flat_map (named_database file) pairs)) (each pair (first_member pair pairs))
+    ∙ ap (λ names. pair.key ∷ names) (all_names file pairs (λ other at. each other (later_member pair pairs other at))))
+
+flags_of_master : (page : Page) (meta : BtreeMeta) → master_in page ≡ Some meta → has_bit meta.flags 0x20 ≡ true
+flags_of_master (Meta (BtreeFields other)) meta is = step (has_bit other.flags 0x20) refl is
+  where
+    step : (b : Bool) → has_bit other.flags 0x20 ≡ b → cond b (Some other) None ≡ Some meta → has_bit meta.flags 0x20 ≡ true
+    step true flag same = let one : other ≡ meta = cc in ap (λ (m : BtreeMeta). has_bit m.flags 0x20) (sym one) ∙ flag
+    step false flag same = absurd cc
+flags_of_master page meta is = absurd cc
+
+pub names_ascend : NamesAscend
+unfolding databases master_pairs
+names_ascend image meta size sound is =
+    let file : File = file_of image in
+    let forest : IsForest image = forest_of image size sound in
+    let none : master_faults file ≡ [] = no_stage image 7 sound in
+    let inside : AreInside file = master_inside image forest in
+    let page : page_at file 0 ≡ Meta (BtreeFields meta) = master_is (page_at file 0) meta is in
+    let has : HasMetadata file (BtreeFields meta) = has_metadata file 0 (BtreeFields meta) (omega arith) page in
+    let keys : has_bit meta.flags 0x02 ≡ false = master_keys image meta forest page (flags_of_master (page_at file 0) meta is) in
+    let pairs : List StoredPair = tree_pairs file meta.root in
+    let fall : DontFall pairs = dont_fall pairs (tree_keys image meta.root []) (keys_kept image meta forest has keys (no_contents image (BtreeFields meta) sound has)) in
+    let live : master_pairs file ≡ filter (λ (pair : StoredPair). pair.live) pairs = ap (pairs_under file) is in
+    let master_fall : DontFall (master_pairs file) = subst DontFall (sym live) (kept_fall (λ (pair : StoredPair). pair.live) pairs fall) in
+    let names : map name_bytes (databases file) ≡ map (λ (pair : StoredPair). pair.key) (master_pairs file) =
+    ap (λ found. map name_bytes (databases_under file found)) is ∙ all_names file (master_pairs file) (λ pair at. pair_name file pair inside none at) in
+    ap ascends names ∙ ascend (master_pairs file) master_fall (none_repeats file inside none)

@@ -1,0 +1,108 @@
+-- Numbers that no record has.
+use Rattle.std.proofs.Common.{◌≡◌, ℕ, ◌-◌, ◌<◌, ◌≤◌, ◌^◌, Bool, true, false, cond, List, [], ◌∷◌, ◌++◌, length, map, Some, None, arith, refl, sym, ◌∙◌, ap, subst, inl, ne_eqb}
+use Rattle.std.specs.Prelude.{nat_le, nat_lt, ◌&&◌, slice_get, slice_index}
+use Rattle.std.specs.List.{filter, flat_map, range_with_len}
+use Rattle.std.proofs.lemmas.Bool.{and_parts, ltb-true}
+use Rattle.std.proofs.lemmas.List.{map-append}
+use Rattle.std.proofs.lemmas.List.Elements.{filter-append}
+use Rattle.std.proofs.lemmas.Option.{slice_get_past}
+use Rattle.bdb_graph.specs.Linked.{HasMetadata, IsForest}
+use Rattle.bdb_graph.proofs.LinkedLemmas.{root_fits}
+use Rattle.bdb_model.specs.declared.metadata.BtreeMeta.{BtreeMeta}
+use Rattle.bdb_model.specs.declared.metadata.QueueMeta.{QueueMeta}
+use Rattle.bdb_model.specs.Contents.{tree_entries}
+use Rattle.bdb_model.specs.Databases.{data_under, get_number}
+use Rattle.bdb_model.specs.Digits.{number_in}
+use Rattle.bdb_model.specs.File.{File, file_of, page_at}
+use Rattle.bdb_model.specs.HeadOf.{head_of}
+use Rattle.bdb_model.specs.Leaves.{leaves}
+use Rattle.bdb_model.specs.Lists.{ListKey, NumberKey, get, is_key, is_record, listed_slot, page_records, queue_list, recno_list, record_number, slot_at}
+use Rattle.bdb_model.specs.Numbers.{has_bit}
+use Rattle.bdb_model.specs.Page.{BtreeFields, Page, Queue, QueueFields}
+use Rattle.bdb_model.specs.Verdict.{structure_faults}
+use Rattle.bdb_tree.specs.Trees.{IsRoot}
+use Rattle.bdb_tree.proofs.LinkLemmas.{all_pages, pages_few}
+use Rattle.bdb_recno.specs.Entries.{AreNumbered, entries_on}
+use Rattle.bdb_recno.specs.Pages.{IsRecnoPage}
+use Rattle.bdb_recno.proofs.ListLemmas.{none_there}
+use Rattle.bdb_recno.proofs.PageLemmas.{entries_are, root_recno}
+use Rattle.bdb_recno.proofs.ScanLemmas.{room_for_all}
+
+-- Recnos.
+
+few_leaves : (image : List ℕ) (root : ℕ) → IsForest image → structure_faults (file_of image) ≡ [] → IsRoot (file_of image) root → length (leaves (file_of image) root) ≤ (file_of image).count
+few_leaves image root forest stage is = by_first (leaves (file_of image) root) refl
+  where
+    by_first : (pages : List ℕ) → leaves (file_of image) root ≡ pages → length pages ≤ (file_of image).count
+    by_first [] same = omega arith
+    by_first (first ∷ rest) same =
+        let whole = all_pages image root first forest stage is (ap (λ (ps : List ℕ). slice_get ps 0) same) in
+        subst (λ (ps : List ℕ). length ps ≤ (file_of image).count) (whole ∙ same) (pages_few (file_of image) first)
+
+few_entries : (image : List ℕ) (meta : BtreeMeta) → IsForest image → structure_faults (file_of image) ≡ [] → HasMetadata (file_of image) (BtreeFields meta) → has_bit meta.flags 0x02 ≡ true
+    → length (tree_entries (file_of image) meta.root) < 2 ^ 32
+few_entries image meta forest stage has recno =
+    let file : File = file_of image in
+    let is : IsRoot file meta.root = inl (root_fits image (head_of image) meta forest.formed has) in
+    let page : IsRecnoPage file meta.root = root_recno image meta forest has recno in
+    let are : AreNumbered file [] (leaves file meta.root) 0 = room_for_all image meta.root (leaves file meta.root) forest page refl (few_leaves image meta.root forest stage is) in
+    let all : length (tree_entries file meta.root) ≡ length (entries_on file (leaves file meta.root)) = ap length (entries_are file meta.root) in
+    omega (arith, are.room, all)
+
+pub past_records : (image : List ℕ) (meta : BtreeMeta) (number : ℕ) → IsForest image → structure_faults (file_of image) ≡ [] → HasMetadata (file_of image) (BtreeFields meta) → has_bit meta.flags 0x02 ≡ true → 2 ^ 32 ≤ number
+    → [] ≡ get (recno_list (file_of image) meta.root) (NumberKey number)
+past_records image meta number forest stage has recno past =
+    let few = few_entries image meta forest stage has recno in
+    none_there (file_of image) meta.root number (number - 1) (omega arith) (sym (slice_get_past (tree_entries (file_of image) meta.root) (number - 1) (omega arith)))
+
+-- Queues.
+
+abbrev Rows : Type 0
+Rows = List (ListKey × List ℕ)
+
+get_parts : (xs ys : Rows) (key : ListKey) → get (xs ++ ys) key ≡ get xs key ++ get ys key
+get_parts xs ys key =
+    ap (map (λ (entry : ListKey × List ℕ). entry.1)) (filter-append (λ (entry : ListKey × List ℕ). is_key entry.0 key) xs ys)
+    ∙ map-append (λ (entry : ListKey × List ℕ). entry.1) (filter (λ (entry : ListKey × List ℕ). is_key entry.0 key) xs) (filter (λ (entry : ListKey × List ℕ). is_key entry.0 key) ys)
+
+in_no_part : (f : ℕ → Rows) (xs : List ℕ) (key : ListKey) → ((x : ℕ) → get (f x) key ≡ []) → get (flat_map f xs) key ≡ []
+in_no_part f [] key none = refl
+in_no_part f (x ∷ xs) key none = get_parts (f x) (flat_map f xs) key ∙ (ap (λ (vs : List (List ℕ)). vs ++ get (flat_map f xs) key) (none x) ∙ in_no_part f xs key none)
+
+in_no_slot : (meta : QueueMeta) (p : ℕ) (records : List ℕ) (number : ℕ) → meta.current ≤ number → (slot : ℕ) → get (listed_slot meta p records slot) (NumberKey number) ≡ []
+in_no_slot meta p records number past slot = by_test (is_record meta p records slot) refl _
+  where
+    by_test : (b : Bool) → is_record meta p records slot ≡ b → (bytes : List ℕ) → get (cond b ((NumberKey (record_number meta p slot), bytes) ∷ []) []) (NumberKey number) ≡ []
+    by_test false same bytes = refl
+    by_test true same bytes =
+        let n : ℕ = record_number meta p slot in
+        let numbered : (nat_le meta.first n && nat_lt n meta.current) ≡ true = (and_parts (nat_le meta.first n && nat_lt n meta.current) (has_bit (slice_index records (slot_at meta slot)) 0x01) same).0 in
+        let below : n < meta.current = ltb-true n meta.current (and_parts (nat_le meta.first n) (nat_lt n meta.current) numbered).1 in
+        ap (λ b. map (λ (entry : ListKey × List ℕ). entry.1) (cond b ((NumberKey n, bytes) ∷ []) [])) (ne_eqb n number (λ is. omega arith))
+
+in_no_page : (meta : QueueMeta) (p number : ℕ) (page : Page) → meta.current ≤ number → get (page_records meta p page) (NumberKey number) ≡ []
+in_no_page meta p number (Queue n records) past = in_no_part (listed_slot meta p records) (range_with_len 0 meta.per_page) (NumberKey number) (in_no_slot meta p records number past)
+in_no_page meta p number page past = refl
+
+pub past_queue : (file : File) (meta : QueueMeta) (number : ℕ) → meta.current ≤ number → [] ≡ get (queue_list file meta) (NumberKey number)
+unfolding queue_list
+past_queue file meta number past =
+    sym (in_no_part (λ p. page_records meta p (page_at file p)) (range_with_len 1 file.last) (NumberKey number) (λ p. in_no_page meta p number (page_at file p) past))
+
+-- What a key that says a number asks for.
+
+recno_asked : (file : File) (meta : BtreeMeta) (key : List ℕ) → has_bit meta.flags 0x02 ≡ true → get_number (recno_list file meta.root) (number_in key) ≡ data_under file (BtreeFields meta) key
+recno_asked file meta key recno = rw recno refl
+
+pub no_record_named : (file : File) (meta : BtreeMeta) (key : List ℕ) → has_bit meta.flags 0x02 ≡ true → None ≡ number_in key → [] ≡ data_under file (BtreeFields meta) key
+no_record_named file meta key recno none = ap (get_number (recno_list file meta.root)) none ∙ recno_asked file meta key recno
+
+pub record_named : (file : File) (meta : BtreeMeta) (key : List ℕ) (number : ℕ) (found : List (List ℕ)) → has_bit meta.flags 0x02 ≡ true → Some number ≡ number_in key → found ≡ get (recno_list file meta.root) (NumberKey number)
+    → found ≡ data_under file (BtreeFields meta) key
+record_named file meta key number found recno says is = is ∙ (ap (get_number (recno_list file meta.root)) says ∙ recno_asked file meta key recno)
+
+pub no_number_queued : (file : File) (meta : QueueMeta) (key : List ℕ) → None ≡ number_in key → [] ≡ data_under file (QueueFields meta) key
+no_number_queued file meta key none = ap (get_number (queue_list file meta)) none
+
+pub number_queued : (file : File) (meta : QueueMeta) (key : List ℕ) (number : ℕ) (found : List (List ℕ)) → Some number ≡ number_in key → found ≡ get (queue_list file meta) (NumberKey number) → found ≡ data_under file (QueueFields meta) key
+number_queued file meta key number found says is = is ∙ ap (get_number (queue_list file meta)) says

@@ -1,0 +1,24 @@
+-- The databases of a sound file, by their places, and how the code finds them. Source: docs/FORMAT.md, "Databases of a file".
+use Rattle.std.specs.Prelude.{◌≡◌, ℕ, List, [], get_or, Some, None}
+use Rattle.bdb_model.specs.Databases.{Database, database_on, databases}
+use Rattle.bdb_model.specs.File.{File, file_of}
+use Rattle.bdb_model.specs.Page.{QueueFields}
+use Rattle.bdb_model.specs.Verdict.{faults_of}
+use Rattle.bdb_file.specs.Entries.{NamedPair}
+
+-- what stands past the last database
+abbrev pub no_database : Database
+no_database = record { name = None; fields = QueueFields (record { first = 0; current = 0; re_len = 0; re_pad = 0; per_page = 0 }) }
+
+-- the database at a place, from 0
+abbrev pub database_at : File → ℕ → Database
+database_at file i = get_or (databases file) i no_database
+
+-- the database that a pair of a master names; none where it names no metadata page
+abbrev pub entry_database : File → NamedPair → List Database
+entry_database file entry = database_on file (Some entry.key) entry.names
+
+-- no row of any stage holds for an image, and these are its databases
+pub record IsSound (image : List ℕ) (all : List Database) : Type 0 where
+  pub faultless : faults_of image ≡ []
+  pub all_are : all ≡ databases (file_of image)

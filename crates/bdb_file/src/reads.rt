@@ -1,0 +1,35 @@
+ghost use Rattle.std.specs.Prelude.{◌≡◌, ◌<◌, ◌≤◌, ◌+◌, IfOk, length};
+ghost use Rattle.bdb_file.specs.Lookup.{most_steps};
+ghost use Rattle.bdb_file.specs.Named.{database_at};
+ghost use Rattle.bdb_model.specs.Databases.{data_under, databases};
+ghost use Rattle.bdb_model.specs.File.{file_of};
+ghost use Rattle.bdb_model.specs.Lists.{list_of};
+
+use crate::listing::scan_of;
+use crate::lookup::found_in;
+use crate::{Db, Found, Scan, Sound};
+use bdb_model::Steps;
+use std::alloc::{AllocError, Global};
+use std::sync::ledger::Ledger;
+
+impl<'a> Sound<'a> {
+    /// The list of a database: its live pairs in order. That of a table takes memory for each of its pairs,
+    /// another one none; an error is want of it.
+    pub fn scan(&self, alloc: Global, db: Db) -> Result<Scan<'a>, AllocError>
+        requires { db < length (databases (file_of self.now)) }
+        ensures { IfOk result (λ scan. scan ≡ list_of (file_of self.now) (database_at (file_of self.now) db).fields) }
+    {
+        scan_of(alloc, self.linked(), self.meta(db))
+    }
+
+    /// What a database has under a key, in order; none where the key isn't there. Of records the key says the
+    /// number, in one to ten decimal digits. It takes no memory, and a step for each page of the tree or the
+    /// bucket that it looks into.
+    pub fn get<L: Ledger>(&self, db: Db, key: &[u8], steps: &mut Steps<L>) -> Found<'a>
+        requires { db < length (databases (file_of self.now)) }
+        ensures found { result ≡ data_under (file_of self.now) (database_at (file_of self.now) db).fields key.now }
+        ensures cost { steps.new ≤ steps.old + most_steps (file_of self.now) (database_at (file_of self.now) db).fields }
+    {
+        found_in(self.linked(), self.meta(db), key, steps)
+    }
+}

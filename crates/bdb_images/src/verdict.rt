@@ -1,0 +1,50 @@
+ghost use Rattle.std.specs.Prelude.{◌≡◌, IfOk};
+ghost use Rattle.bdb_images.specs.Lines.{verdict_on, verify_words};
+
+use crate::lines::first_line;
+use bdb_io::{MemSink, PureSource};
+use bdb_model::{Bytes, Words};
+use bdb_tool::run_counted;
+use bdb_tool::status::{DONE, MEMORY, WRITE_FAULT};
+use std::alloc::{AllocError, Global};
+use std::marker::Brand;
+use std::sync::ledger::Blank;
+
+/// The first line of the answer to `verify` over an image.
+pub fn verdict_on(alloc: Global, image: &[u8]) -> Result<Bytes, AllocError>
+    ensures { IfOk result (λ verdict. verdict ≡ verdict_on image.now) }
+{
+    let words = verify_words(alloc)?;
+    let mut source = PureSource::new(bytes_of(alloc, image)?);
+    let mut out = MemSink::new(alloc);
+    let mut err = MemSink::new(alloc);
+    let status = run_counted::<Brand, _, _, _>(
+        alloc,
+        &words,
+        &mut source,
+        &mut out,
+        &mut err,
+        Blank::new(1),
+    );
+    match status {
+        WRITE_FAULT | MEMORY => Err(AllocError),
+        DONE => bytes_of(alloc, first_line(out.bytes())),
+        _ => bytes_of(alloc, first_line(err.bytes())),
+    }
+}
+
+fn verify_words(alloc: Global) -> Result<Words, AllocError>
+    ensures { IfOk result (λ words. words ≡ verify_words) }
+{
+    let mut words = Words::new(alloc);
+    words.push("verify")?;
+    Ok(words)
+}
+
+fn bytes_of(alloc: Global, piece: &[u8]) -> Result<Bytes, AllocError>
+    ensures { IfOk result (λ bytes. bytes ≡ piece.now) }
+{
+    let mut bytes = Bytes::new(alloc);
+    bytes.push_all(piece)?;
+    Ok(bytes)
+}

@@ -1,0 +1,130 @@
+-- What the program answers to a command and an input. Source: README.md, "Use".
+use Rattle.std.specs.Prelude.{ℕ, nat_lt, if◌then◌else◌, Bool, true, List, [], ◌∷◌, ◌++◌, length, Option, Some, None, codes, decimal, slice_get}
+use Rattle.std.specs.List.{flat_map}
+use Rattle.bdb_model.specs.declared.kinds.Fault.{Fault}
+use Rattle.bdb_model.specs.declared.kinds.Kind.{Kind}
+use Rattle.bdb_model.specs.declared.kinds.Kind.TheVariants.{Btree, Recno, Hash, Queue}
+use Rattle.bdb_model.specs.declared.kinds.Unsupported.{Unsupported}
+use Rattle.bdb_model.specs.declared.kinds.Verdict.{Verdict}
+use Rattle.bdb_model.specs.declared.kinds.Verdict.TheVariants.{Fault as FaultVerdict, Unsupported as UnsupportedVerdict, Memory}
+use Rattle.bdb_model.specs.declared.metadata.BtreeMeta.{BtreeMeta}
+use Rattle.bdb_model.specs.Numbers.{has_bit}
+use Rattle.bdb_model.specs.HeadOf.{head_of}
+use Rattle.bdb_model.specs.Page.{Metadata, BtreeFields, HashFields, QueueFields}
+use Rattle.bdb_model.specs.File.{File, file_of}
+use Rattle.bdb_model.specs.Databases.{Database, data_under, databases, place_of}
+use Rattle.bdb_model.specs.Verdict.{verdict_of}
+use Rattle.bdb_model.specs.TextSpelling.{spelling}
+use Rattle.bdb_model.specs.Lines.{line, memory_line}
+use Rattle.bdb_model.specs.FaultNames.{fault_name, unsupported_name}
+use Rattle.bdb_model.specs.Command.{Asked, Verify, ListAll, Get, Command, command_of}
+
+-- a status, and what is written to the output and to the error sink
+pub record Answer : Type 0 where
+  pub status : ℕ
+  pub out : List ℕ
+  pub err : List ℕ
+
+-- an answer of an error line alone
+abbrev pub told : ℕ → List ℕ → Answer
+told status text = record { status = status; out = []; err = text }
+
+-- an answer of output alone
+abbrev pub done : List ℕ → Answer
+done text = record { status = 0; out = text; err = [] }
+
+abbrev pub usage : Answer
+usage = told 2 (line (codes "usage: bdbtool verify, list, get, dump, load, salvage or trial"))
+
+abbrev pub too_large_line : ℕ → List ℕ
+too_large_line limit = codes "input longer than " ++ (decimal limit ++ line (codes " bytes"))
+
+abbrev pub fault_line : Fault → List ℕ
+fault_line fault =
+    codes "fault: stage " ++ (decimal fault.stage ++ (codes " page " ++ (decimal fault.page ++ (codes " code " ++ (decimal fault.code ++ (codes " " ++ line (fault_name fault.stage fault.code)))))))
+
+abbrev pub unsupported_line : Unsupported → ℕ → List ℕ
+unsupported_line name page = codes "unsupported: " ++ (unsupported_name name ++ (codes ", page " ++ line (decimal page)))
+
+abbrev pub not_found : Answer
+not_found = told 9 (line (codes "not found"))
+
+-- `verify`: the number of whole pages
+abbrev pub sound_line : ℕ → List ℕ
+sound_line pages = codes "sound, " ++ (decimal pages ++ line (codes " pages"))
+
+-- `list`: for each database its kind, and its name where it has one
+
+abbrev pub btree_kind : BtreeMeta → Kind
+btree_kind meta = if has_bit meta.flags 0x02 then Recno else Btree
+
+abbrev pub kind_of : Metadata → Kind
+kind_of (BtreeFields meta) = btree_kind meta
+kind_of (HashFields meta) = Hash
+kind_of (QueueFields meta) = Queue
+
+abbrev pub kind_text : Kind → List ℕ
+kind_text Btree = codes "btree"
+kind_text Recno = codes "recno"
+kind_text Hash = codes "hash"
+kind_text Queue = codes "queue"
+
+abbrev pub name_text : Option (List ℕ) → List ℕ
+name_text None = []
+name_text (Some name) = codes " " ++ spelling true name
+
+abbrev pub database_line : Database → List ℕ
+database_line database = line (kind_text (kind_of database.fields) ++ name_text database.name)
+
+unfoldable pub list_text : List Database → List ℕ
+list_text all = flat_map database_line all
+
+-- `get`: the data of the key in the database with the name, each on a line
+
+abbrev pub data_of_database : File → List ℕ → Option Database → List (List ℕ)
+data_of_database file key None = []
+data_of_database file key (Some database) = data_under file database.fields key
+
+abbrev pub data_at : File → List ℕ → Option ℕ → List (List ℕ)
+data_at file key None = []
+data_at file key (Some place) = data_of_database file key (slice_get (databases file) place)
+
+-- what the file has under this name and key; nothing where no database has the name
+unfoldable pub data_named : File → Option (List ℕ) → List ℕ → List (List ℕ)
+data_named file name key = data_at file key (place_of name (databases file))
+
+abbrev pub value_line : Bool → List ℕ → List ℕ
+value_line prints value = line (spelling prints value)
+
+unfoldable pub values_text : Bool → List (List ℕ) → List ℕ
+values_text prints values = flat_map (value_line prints) values
+
+abbrev pub found : Bool → List (List ℕ) → Answer
+found prints [] = not_found
+found prints (value ∷ values) = done (values_text prints (value ∷ values))
+
+-- what is answered over a sound file
+abbrev pub sound_answer : Asked → List ℕ → Answer
+sound_answer Verify image = done (sound_line (head_of image).pages)
+sound_answer ListAll image = done (list_text (databases (file_of image)))
+sound_answer (Get name key prints) image = found prints (data_named (file_of image) name key)
+
+-- what is answered by the verdict
+abbrev pub judged_answer : Option Verdict → Asked → List ℕ → Answer
+judged_answer None asked image = sound_answer asked image
+judged_answer (Some (FaultVerdict fault)) asked image = told 1 (fault_line fault)
+judged_answer (Some (UnsupportedVerdict name page)) asked image = told 3 (unsupported_line name page)
+judged_answer (Some Memory) asked image = told 7 memory_line
+
+-- what a command is answered over an input
+abbrev pub command_answer : Command → List ℕ → Answer
+command_answer command input =
+    if nat_lt command.limit (length input) then told 6 (too_large_line command.limit) else judged_answer (verdict_of input) command.asked input
+
+abbrev pub words_answer : Option Command → List ℕ → Answer
+words_answer None input = usage
+words_answer (Some command) input = command_answer command input
+
+-- the answer to words and an input
+unfoldable pub answer_of : List (List ℕ) → List ℕ → Answer
+answer_of words input = words_answer (command_of words) input

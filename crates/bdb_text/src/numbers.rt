@@ -1,0 +1,15 @@
+ghost use Rattle.std.specs.Prelude.{◌≡◌, IfOk};
+ghost use Rattle.std.specs.Fmt.{decimal};
+
+use bdb_model::Bytes;
+use std::alloc::{AllocError, Global};
+
+/// A number in decimal, without leading zeros.
+pub fn number_text(alloc: Global, number: u32) -> Result<Bytes, AllocError>
+    ensures { IfOk result (λ text. text ≡ decimal number) }
+{
+    let digits = format!(in alloc; "{number}")?;
+    let mut text = Bytes::new(alloc);
+    text.push_all(digits.as_bytes())?;
+    Ok(text)
+}

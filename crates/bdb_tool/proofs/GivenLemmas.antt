@@ -1,0 +1,131 @@
+-- Options that are given, one after another.
+use Rattle.std.proofs.Common.{◌≡◌, Bool, true, false, ◌||◌, Bor, List, [], ◌∷◌, ◌++◌, refl, sym, ◌∙◌}
+use Rattle.std.specs.Prelude.{ℕ, IsTrue, Option, Some, None, is_some, option_copied}
+use Rattle.std.specs.Str.{bytes_eq}
+use Rattle.std.proofs.lemmas.Bool.{or_from, or_left, or_right}
+use Rattle.std.proofs.lemmas.List.Folds.{list_any-append}
+use Rattle.bdb_model.specs.Command.{Given, hex_option, is_given, max_bytes, name_option, print_option, value_given}
+use Rattle.bdb_tool.specs.declared.options.Arguments.{Arguments}
+use Rattle.bdb_tool.specs.declared.options.GivenOption.{GivenOption}
+use Rattle.bdb_tool.specs.declared.options.GivenOption.TheVariants.{MaxBytes, Name, Hex, Print}
+use Rattle.bdb_tool.specs.WordsSeen.{HasGiven, IsNew, given_seen}
+
+-- One more option at the end.
+
+pub is_given-push : (word : List ℕ) (before : List Given) (option : Given) (rest : List Given) → is_given word (before ++ option ∷ rest) ≡ (is_given word before || (bytes_eq option.word word || is_given word rest))
+is_given-push word before option rest = list_any-append (λ (other : Given). bytes_eq other.word word) before (option ∷ rest)
+
+pub given_other : (word : List ℕ) (before : List Given) (option : Given) (is : Bool) → bytes_eq option.word word ≡ false → is_given word before ≡ is → is_given word (before ++ option ∷ []) ≡ is
+given_other word before option true other is =
+    is_given-push word before option [] ∙ or_left (is_given word before) _ is
+given_other word before option false other is =
+    is_given-push word before option [] ∙ or_from (is_given word before) _ is (or_from (bytes_eq option.word word) false other refl)
+
+given_now : (word : List ℕ) (before : List Given) (option : Given) → bytes_eq option.word word ≡ true → is_given word (before ++ option ∷ []) ≡ true
+given_now word before option same =
+    is_given-push word before option [] ∙ or_right (is_given word before) _ (or_left (bytes_eq option.word word) false same)
+
+value_at : (word : List ℕ) (first : Given) (before after : List Given) (same : Bool) → bytes_eq first.word word ≡ same → value_given word before ≡ value_given word after → value_given word (first ∷ before) ≡ value_given word (first ∷ after)
+value_at word first before after true is rest = rw is refl
+value_at word first before after false is rest = rw is rest
+
+value_other : (word : List ℕ) (before : List Given) (option : Given) → bytes_eq option.word word ≡ false → value_given word (before ++ option ∷ []) ≡ value_given word before
+value_other word [] option other = rw other refl
+value_other word (first ∷ before) option other =
+    value_at word first (before ++ option ∷ []) before (bytes_eq first.word word) refl (value_other word before option other)
+
+value_kept : (word : List ℕ) (first : Given) (before : List Given) (same : Bool) → bytes_eq first.word word ≡ same → value_given word (first ∷ before) ≡ None → (bytes_eq first.word word ≡ false) × (value_given word before ≡ None)
+value_kept word first before true is none = let some : None ≡ Some first.value = sym none ∙ rw is refl in cc
+value_kept word first before false is none = (is, rw is at none)
+
+value_now : (word : List ℕ) (before : List Given) (option : Given) → bytes_eq option.word word ≡ true → value_given word before ≡ None → value_given word (before ++ option ∷ []) ≡ Some option.value
+value_now word [] option same none = rw same refl
+value_now word (first ∷ before) option same none =
+    let parts = value_kept word first before (bytes_eq first.word word) refl none in
+    rw parts.0 (value_now word before option same parts.1)
+
+-- An option has a value where it is given.
+
+not_given : (word : List ℕ) (before : List Given) → value_given word before ≡ None → is_given word before ≡ false
+not_given word [] none = refl
+not_given word (first ∷ before) none =
+    let parts = value_kept word first before (bytes_eq first.word word) refl none in
+    or_from (bytes_eq first.word word) (is_given word before) parts.0 (not_given word before parts.1)
+
+given_head : (word value : List ℕ) (first : Given) (before : List Given) (same : Bool) → bytes_eq first.word word ≡ same → (value_given word before ≡ Some value → is_given word before ≡ true) → value_given word (first ∷ before) ≡ Some value → is_given word (first ∷ before) ≡ true
+given_head word value first before true is rest some = or_left (bytes_eq first.word word) (is_given word before) is
+given_head word value first before false is rest some = or_right (bytes_eq first.word word) (is_given word before) (rest (rw is at some))
+
+given_value : (word value : List ℕ) (before : List Given) → value_given word before ≡ Some value → is_given word before ≡ true
+given_value word value [] some = cc
+given_value word value (first ∷ before) some =
+    given_head word value first before (bytes_eq first.word word) refl (given_value word value before) some
+
+-- What was read says which options are given.
+
+copied_none : (text : Option (Bor (List ℕ))) → is_some text ≡ false → option_copied text ≡ None
+copied_none None none = refl
+copied_none (Some text) none = cc
+
+has_value : (word : List ℕ) (text : Option (Bor (List ℕ))) (before : List Given) → is_some text ≡ true → value_given word before ≡ option_copied text → is_given word before ≡ true
+has_value word None before some value = cc
+has_value word (Some text) before some value = given_value word text.now before value
+
+pub has_max_bytes : (read : Arguments) (option : GivenOption) (text : Bor (List ℕ)) (before : List Given) → option ≡ MaxBytes text → is_some read.max_bytes ≡ true → HasGiven read before → IsTrue (is_given (given_seen option).word before)
+has_max_bytes read option text before is some has =
+    rw is (has_value max_bytes read.max_bytes before some has.max_bytes_is)
+
+pub has_name : (read : Arguments) (option : GivenOption) (text : Bor (List ℕ)) (before : List Given) → option ≡ Name text → is_some read.name ≡ true → HasGiven read before → IsTrue (is_given (given_seen option).word before)
+has_name read option text before is some has = rw is (has_value name_option read.name before some has.name_is)
+
+-- One more option.
+
+pub with_max_bytes : (old read : Arguments) (option : GivenOption) (text : Bor (List ℕ)) (next : ℕ) (before : List Given) → option ≡ MaxBytes text → is_some old.max_bytes ≡ false → read ≡ record old { max_bytes = Some text } → HasGiven old before → IsNew before (given_seen option) (record read { operands = next })
+with_max_bytes old read option text next before is none read_is has =
+    let lacks = has.max_bytes_is ∙ copied_none old.max_bytes none in
+    rw (is, read_is) (
+      not_given max_bytes before lacks,
+      record {
+        max_bytes_is = value_now max_bytes before (given_seen (MaxBytes text)) refl lacks;
+        name_is = value_other name_option before (given_seen (MaxBytes text)) refl ∙ has.name_is;
+        hex_is = given_other hex_option before (given_seen (MaxBytes text)) old.hex refl has.hex_is;
+        print_is = given_other print_option before (given_seen (MaxBytes text)) old.print refl has.print_is;
+      },
+    )
+
+pub with_name : (old read : Arguments) (option : GivenOption) (text : Bor (List ℕ)) (next : ℕ) (before : List Given) → option ≡ Name text → is_some old.name ≡ false → read ≡ record old { name = Some text } → HasGiven old before → IsNew before (given_seen option) (record read { operands = next })
+with_name old read option text next before is none read_is has =
+    let lacks = has.name_is ∙ copied_none old.name none in
+    rw (is, read_is) (
+      not_given name_option before lacks,
+      record {
+        max_bytes_is = value_other max_bytes before (given_seen (Name text)) refl ∙ has.max_bytes_is;
+        name_is = value_now name_option before (given_seen (Name text)) refl lacks;
+        hex_is = given_other hex_option before (given_seen (Name text)) old.hex refl has.hex_is;
+        print_is = given_other print_option before (given_seen (Name text)) old.print refl has.print_is;
+      },
+    )
+
+pub with_hex : (old read : Arguments) (option : GivenOption) (next : ℕ) (before : List Given) → option ≡ Hex → old.hex ≡ false → read ≡ record old { hex = true } → HasGiven old before → IsNew before (given_seen option) (record read { operands = next })
+with_hex old read option next before is none read_is has =
+    rw (is, read_is) (
+      has.hex_is ∙ none,
+      record {
+        max_bytes_is = value_other max_bytes before (given_seen Hex) refl ∙ has.max_bytes_is;
+        name_is = value_other name_option before (given_seen Hex) refl ∙ has.name_is;
+        hex_is = given_now hex_option before (given_seen Hex) refl;
+        print_is = given_other print_option before (given_seen Hex) old.print refl has.print_is;
+      },
+    )
+
+pub with_print : (old read : Arguments) (option : GivenOption) (next : ℕ) (before : List Given) → option ≡ Print → old.print ≡ false → read ≡ record old { print = true } → HasGiven old before → IsNew before (given_seen option) (record read { operands = next })
+with_print old read option next before is none read_is has =
+    rw (is, read_is) (
+      has.print_is ∙ none,
+      record {
+        max_bytes_is = value_other max_bytes before (given_seen Print) refl ∙ has.max_bytes_is;
+        name_is = value_other name_option before (given_seen Print) refl ∙ has.name_is;
+        hex_is = given_other hex_option before (given_seen Print) old.hex refl has.hex_is;
+        print_is = given_now print_option before (given_seen Print) refl;
+      },
+    )

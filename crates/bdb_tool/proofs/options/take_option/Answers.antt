@@ -1,0 +1,19 @@
+use Rattle.bdb_tool.proofs.GivenLemmas.{has_max_bytes, has_name, with_hex, with_max_bytes, with_name, with_print}
+use Rattle.bdb_tool.proofs.options.take_option.Goals as goal
+use Rattle.bdb_tool.proofs.options.take_option.Goals.{in-Hex, in-MaxBytes, in-Name, in-Print}
+
+pub returns-in_default-clause-options : goal.returns-in_default-clause-options
+returns-in_default-clause-options c = λ before has. has_max_bytes c.args.read.now c.args.option c.in-MaxBytes.text before c.in-MaxBytes.is c.if-is_none.ensures has
+
+pub returns-in_default-2-clause-options : goal.returns-in_default-2-clause-options
+returns-in_default-2-clause-options c = λ before has. has_name c.args.read.now c.args.option c.in-Name.text before c.in-Name.is c.if-is_none-2.ensures has
+
+pub returns-clause-options : goal.returns-clause-options
+returns-clause-options c =
+    λ before has.
+    elim c.match-option.branch [
+      | in-MaxBytes w ↦ with_max_bytes c.args.read.now c.match-option.read c.args.option w.in-MaxBytes.text c.args.next before w.in-MaxBytes.is w.if-is_none.ensures w.read-is has
+      | in-Name w ↦ with_name c.args.read.now c.match-option.read c.args.option w.in-Name.text c.args.next before w.in-Name.is w.if-is_none-2.ensures w.read-is has
+      | in-Hex w ↦ with_hex c.args.read.now c.match-option.read c.args.option c.args.next before w.in-Hex.is w.if-not-read.true w.read-is has
+      | in-Print w ↦ with_print c.args.read.now c.match-option.read c.args.option c.args.next before w.in-Print.is w.if-not-read-2.true w.read-is has
+    ]

@@ -1,0 +1,91 @@
+-- What the values of the code are in the definitions of a command line's words.
+use Rattle.std.specs.Prelude.{ℕ, ◌≡◌, ◌<◌, ◌≤◌, ◌++◌, Bool, true, false, not, if◌then◌else◌, List, [], ◌∷◌, drop, length, Option, Some, IsTrue, is_some, option_copied}
+use Rattle.bdb_model.specs.Command.{Verify, ListAll, Command, OptionRow, Given, Arguments, arguments, get_asked, get_options, hex_option, is_given, max_bytes, name_of, name_option, only_operands, plain_options, print_option, row_of, value_given, with_option, within}
+use Rattle.bdb_model.specs.TextSpelling.{bytes_spelled}
+use Rattle.bdb_tool.specs.declared.options.OptionWord.{OptionWord}
+use Rattle.bdb_tool.specs.declared.options.OptionWord.TheVariants.{MaxBytes as MaxBytesWord, Name as NameWord, Hex as HexWord, Print as PrintWord}
+use Rattle.bdb_tool.specs.declared.options.GivenOption.{GivenOption}
+use Rattle.bdb_tool.specs.declared.options.GivenOption.TheVariants.{MaxBytes, Name, Hex, Print}
+use Rattle.bdb_tool.specs.declared.options.Arguments.{Arguments as ReadArguments}
+use Rattle.bdb_tool.specs.declared.command.Asked.{Asked as CodeAsked}
+use Rattle.bdb_tool.specs.declared.command.Asked.TheVariants.{Verify as VerifyWord, List as ListWord, Get as GetWord}
+use Rattle.bdb_tool.specs.declared.command.Command.{Command as CodeCommand}
+use Rattle.bdb_tool.specs.declared.options.Step.{Step}
+use Rattle.bdb_tool.specs.declared.options.Step.TheVariants.{Given as GivenStep, Operands}
+
+-- Options.
+
+abbrev pub options_of : Bool → List OptionRow
+options_of is_get = if is_get then get_options else plain_options
+
+abbrev pub row_seen : OptionWord → OptionRow
+row_seen MaxBytesWord = record { word = max_bytes; takes_value = true }
+row_seen NameWord = record { word = name_option; takes_value = true }
+row_seen HexWord = record { word = hex_option; takes_value = false }
+row_seen PrintWord = record { word = print_option; takes_value = false }
+
+abbrev pub given_seen : GivenOption → Given
+given_seen (MaxBytes text) = record { word = max_bytes; value = text.now }
+given_seen (Name text) = record { word = name_option; value = text.now }
+given_seen Hex = record { word = hex_option; value = [] }
+given_seen Print = record { word = print_option; value = [] }
+
+-- how many words an option takes
+abbrev pub word_count : GivenOption → ℕ
+word_count (MaxBytes text) = 2
+word_count (Name text) = 2
+word_count Hex = 1
+word_count Print = 1
+
+-- the word of an option of these, and its row
+abbrev pub IsRowOf : List OptionRow → List ℕ → OptionWord → Type 0
+IsRowOf options word option = (row_of options word ≡ Some (row_seen option)) × (word ≡ (row_seen option).word)
+
+-- an option that takes a value has the next word as its value, another has none
+abbrev pub IsTaken : Bool → Option (List ℕ) → GivenOption → Type 0
+IsTaken true next given = (next ≡ Some (given_seen given).value) × (word_count given ≡ 2)
+IsTaken false next given = ((given_seen given).value ≡ []) × (word_count given ≡ 1)
+
+-- an option is given by its word and the next word
+abbrev pub IsGivenBy : OptionWord → Option (List ℕ) → GivenOption → Type 0
+IsGivenBy option next given =
+    ((given_seen given).word ≡ (row_seen option).word) × IsTaken (row_seen option).takes_value next given
+
+-- what was read says the options that are given
+pub record HasGiven (read : ReadArguments) (given : List Given) : Type 0 where
+  pub max_bytes_is : value_given max_bytes given ≡ option_copied read.max_bytes
+  pub name_is : value_given name_option given ≡ option_copied read.name
+  pub hex_is : is_given hex_option given ≡ read.hex
+  pub print_is : is_given print_option given ≡ read.print
+
+-- an option that wasn't given before, and what is read with it
+abbrev pub IsNew : List Given → Given → ReadArguments → Type 0
+IsNew before option more = (is_given option.word before ≡ false) × HasGiven more (before ++ option ∷ [])
+
+-- a step through the words from a place on
+abbrev pub IsStep : List OptionRow → List (List ℕ) → ℕ → Step → Type 0
+IsStep options words at (Operands place) = arguments options (drop at words) ≡ only_operands (drop place words)
+IsStep options words at (GivenStep option next) =
+    (at < next) × (next ≤ length words)
+    × (arguments options (drop at words) ≡ with_option (given_seen option).word (given_seen option).value (arguments options (drop next words)))
+
+-- what was read is the options and the operands that the words give
+pub record AreArguments (all : Option Arguments) (words : List (List ℕ)) (read : ReadArguments) : Type 0 where
+  pub given : List Given
+  pub all_is : all ≡ Some (record { given = given; operands = drop read.operands words })
+  pub options_are : HasGiven read given
+
+-- Commands.
+
+abbrev pub asked_seen : ℕ → CodeAsked → Option Command
+asked_seen limit VerifyWord = within (Some limit) Verify
+asked_seen limit ListWord = within (Some limit) ListAll
+asked_seen limit (GetWord lookup) =
+    get_asked (Some limit) (name_of (option_copied lookup.name)) (bytes_spelled (not lookup.hex) lookup.key.now) lookup.print
+
+abbrev pub command_seen : CodeCommand → Option Command
+command_seen command = asked_seen command.limit command.asked
+
+-- what is seen of a command is the command that the words are
+abbrev pub IsSeen : Option Command → CodeCommand → Type 0
+IsSeen asked command = (asked ≡ command_seen command) × IsTrue (is_some (command_seen command))

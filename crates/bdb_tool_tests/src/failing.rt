@@ -1,0 +1,129 @@
+//! What is written where a sink fails.
+
+use crate::files::{DUPLICATES_UNTOLD, ONE_PAIR, OUT_OF_ORDER, VERSION_10};
+use crate::images::File;
+use crate::outside::Narrow;
+use crate::reading::COMMANDS;
+use crate::running::Told::Line;
+use crate::running::{
+    NOT_FOUND, READ_FAULT, Row, USAGE, WRITE_FAULT, is_start, source_over, status_of,
+};
+use bdb_io::{MemSink, Sink, Source};
+use std::alloc::{AllocError, Global};
+use std::process::Abort;
+use std::test::Fail;
+
+const REFUSED: [Row; 6] = [
+    (
+        &["verify"],
+        &OUT_OF_ORDER,
+        Line(1, b"fault: stage 8 page 1 code 3 KeyOrder\n"),
+    ),
+    (&["verify", "x"], &ONE_PAIR, USAGE),
+    (
+        &["list"],
+        &VERSION_10,
+        Line(3, b"unsupported: Version, page 0\n"),
+    ),
+    (
+        &["list", "--max-bytes", "5"],
+        &ONE_PAIR,
+        Line(6, b"input longer than 5 bytes\n"),
+    ),
+    (
+        &["get", "a"],
+        &DUPLICATES_UNTOLD,
+        Line(1, b"fault: stage 8 page 1 code 1 Duplicates\n"),
+    ),
+    (&["get", "b"], &ONE_PAIR, NOT_FOUND),
+];
+
+#[derive(Drop)]
+struct Cut {
+    status: u8,
+    out: Narrow,
+    err: MemSink,
+}
+
+// The output takes so many bytes.
+fn output_cut(alloc: Global, given: &[&str], file: &File, taken: usize) -> Result<Cut, AllocError> {
+    let mut source = source_over(alloc, file)?;
+    let mut out = Narrow::cut_after(alloc, taken)?;
+    let mut err = MemSink::new(alloc);
+    let status = status_of(alloc, given, &mut source, &mut out, &mut err)?;
+    Ok(Cut { status, out, err })
+}
+
+// The error sink takes so many bytes of a line.
+fn check_line_cut<S: Source, K: Sink>(
+    rt: &impl Abort,
+    alloc: Global,
+    given: &[&str],
+    source: &mut S,
+    out: &mut K,
+    line: &[u8],
+    taken: usize,
+) -> Result<(), AllocError> {
+    let mut err = Narrow::cut_after(alloc, taken)?;
+    let status = status_of(alloc, given, source, out, &mut err)?;
+    assert_eq!(rt; status, 5);
+    assert!(rt; is_start(line, taken, err.sink.bytes()));
+    Ok(())
+}
+
+#[test]
+fn tells_a_write_fault_at_each_call(rt: HostRuntime) -> Result<(), Fail> {
+    for (given, file, told) in COMMANDS.iter() {
+        let whole = told.out();
+        for taken in 0..whole.len() {
+            let cut = output_cut(rt.alloc(), given, file, taken)?;
+            assert_eq!(rt; cut.status, 5);
+            assert!(rt; is_start(whole, taken, cut.out.sink.bytes()));
+            assert_eq!(rt; cut.err.bytes(), WRITE_FAULT);
+        }
+    }
+    Ok(())
+}
+
+#[test]
+fn ends_where_the_error_sink_fails(rt: HostRuntime) -> Result<(), Fail> {
+    let alloc = rt.alloc();
+    for (given, file, told) in REFUSED.iter() {
+        let line = told.err();
+        for taken in 0..line.len() {
+            let mut source = source_over(alloc, file)?;
+            let mut out = MemSink::new(alloc);
+            check_line_cut(&rt, alloc, given, &mut source, &mut out, line, taken)?;
+            assert!(rt; out.bytes().is_empty());
+        }
+    }
+    Ok(())
+}
+
+#[test]
+fn ends_where_both_sinks_fail(rt: HostRuntime) -> Result<(), Fail> {
+    let alloc = rt.alloc();
+    for (given, file, _) in COMMANDS.iter() {
+        for taken in 0..WRITE_FAULT.len() {
+            let mut source = source_over(alloc, file)?;
+            let mut out = Narrow::cut_after(alloc, 0)?;
+            check_line_cut(&rt, alloc, given, &mut source, &mut out, WRITE_FAULT, taken)?;
+        }
+    }
+    Ok(())
+}
+
+#[test]
+fn ends_where_source_and_error_sink_fail(rt: HostRuntime) -> Result<(), Fail> {
+    let alloc = rt.alloc();
+    for (given, file, _) in COMMANDS.iter() {
+        for taken in 0..READ_FAULT.len() {
+            let mut source = source_over(alloc, file)?;
+            source.fail_at(1)?;
+            let mut out = MemSink::new(alloc);
+            check_line_cut(&rt, alloc, given, &mut source, &mut out, READ_FAULT, taken)?;
+            assert!(rt; out.bytes().is_empty());
+        }
+    }
+    Ok(())
+}

@@ -1,0 +1,40 @@
+//! Images that are written a field a line.
+
+use bdb_model::Bytes;
+use std::alloc::{AllocError, Global};
+
+/// The bytes from a place on.
+pub type Field = (usize, &'static [u8]);
+
+/// The bytes of the longest file.
+const LONGEST: usize = 7 * 512;
+
+/// A file of at most seven pages of 512 bytes: its length in bytes, and its fields. A later field is written over an
+/// earlier one, and bytes without a field are 0.
+#[derive(Clone, Copy)]
+pub struct File {
+    pub length: usize,
+    pub parts: &'static [&'static [Field]],
+}
+
+pub fn bytes_of(alloc: Global, file: &File) -> Result<Bytes, AllocError> {
+    let mut image = [0u8; LONGEST];
+    for part in file.parts {
+        put(&mut image, part);
+    }
+    let mut bytes = Bytes::new(alloc);
+    if let Some(whole) = image.get(..file.length) {
+        bytes.push_all(whole)?;
+    }
+    Ok(bytes)
+}
+
+fn put(image: &mut [u8], fields: &[Field]) {
+    for (at, bytes) in fields {
+        for (i, byte) in bytes.iter().enumerate() {
+            if let Some(cell) = image.get_mut(at.wrapping_add(i)) {
+                *cell = *byte;
+            }
+        }
+    }
+}

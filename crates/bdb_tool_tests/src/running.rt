@@ -1,0 +1,121 @@
+//! Runs over memory, and what they give.
+
+use crate::images::{File, bytes_of};
+use bdb_io::{MemSink, MemSource, Sink, Source};
+use bdb_model::Words;
+use bdb_tool::run_counted;
+use std::alloc::{AllocError, Global};
+use std::marker::Brand;
+use std::process::Abort;
+use std::sync::ledger::Blank;
+
+/// What is told by a run: output and status 0, or a status and an error line.
+#[derive(Clone, Copy)]
+pub enum Told {
+    Done(&'static [u8]),
+    Line(u8, &'static [u8]),
+}
+
+/// Words, the file that they're asked of, and what is told.
+pub type Row = (&'static [&'static str], &'static File, Told);
+
+/// The usage line.
+pub const USAGE: Told = Told::Line(
+    2,
+    b"usage: bdbtool verify, list, get, dump, load, salvage or trial\n",
+);
+
+pub const NOT_FOUND: Told = Told::Line(9, b"not found\n");
+
+pub const SOUND: &[u8] = b"sound, 2 pages\n";
+
+pub const READ_FAULT: &[u8] = b"read fault\n";
+
+pub const WRITE_FAULT: &[u8] = b"write fault\n";
+
+impl Told {
+    pub fn status(self) -> u8 {
+        match self {
+            Told::Done(_) => 0,
+            Told::Line(status, _) => status,
+        }
+    }
+
+    pub fn out(self) -> &'static [u8] {
+        match self {
+            Told::Done(text) => text,
+            Told::Line(_, _) => b"",
+        }
+    }
+
+    pub fn err(self) -> &'static [u8] {
+        match self {
+            Told::Done(_) => b"",
+            Told::Line(_, text) => text,
+        }
+    }
+}
+
+pub fn words_of(alloc: Global, given: &[&str]) -> Result<Words, AllocError> {
+    let mut words = Words::new(alloc);
+    for word in given {
+        words.push(word)?;
+    }
+    Ok(words)
+}
+
+pub fn source_over(alloc: Global, file: &File) -> Result<MemSource, AllocError> {
+    Ok(MemSource::new(alloc, bytes_of(alloc, file)?))
+}
+
+/// The status of a run with ample memory.
+pub fn status_of<S: Source, K: Sink, E: Sink>(
+    alloc: Global,
+    given: &[&str],
+    source: &mut S,
+    out: &mut K,
+    err: &mut E,
+) -> Result<u8, AllocError> {
+    let words = words_of(alloc, given)?;
+    Ok(run_counted::<Brand, S, K, E>(alloc, &words, source, out, err, Blank::new(1)))
+}
+
+/// What a run gave.
+#[derive(Drop)]
+pub struct Ran {
+    pub status: u8,
+    pub out: MemSink,
+    pub err: MemSink,
+}
+
+pub fn ran_over<S: Source>(
+    alloc: Global,
+    given: &[&str],
+    source: &mut S,
+) -> Result<Ran, AllocError> {
+    let mut out = MemSink::new(alloc);
+    let mut err = MemSink::new(alloc);
+    let status = status_of(alloc, given, source, &mut out, &mut err)?;
+    Ok(Ran { status, out, err })
+}
+
+pub fn check(rt: &impl Abort, ran: &Ran, told: Told, place: usize) {
+    assert_eq!(rt; ran.status, told.status(), "at {place}");
+    assert_eq!(rt; ran.out.bytes(), told.out(), "at {place}");
+    assert_eq!(rt; ran.err.bytes(), told.err(), "at {place}");
+}
+
+/// Runs each row, and compares.
+pub fn check_rows(rt: &impl Abort, alloc: Global, rows: &[Row]) -> Result<(), AllocError> {
+    for (place, (given, file, told)) in rows.iter().enumerate() {
+        let mut source = source_over(alloc, file)?;
+        let ran = ran_over(alloc, given, &mut source)?;
+        check(rt, &ran, *told, place);
+    }
+    Ok(())
+}
+
+/// Whether a text is so many first bytes of another.
+pub fn is_start(whole: &[u8], taken: usize, text: &[u8]) -> bool {
+    text.len() == taken && whole.starts_with(text)
+}

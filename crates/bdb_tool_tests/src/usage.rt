@@ -1,0 +1,125 @@
+//! Words that are no command, and words that are one. The rules: README.md, "Use".
+
+use crate::files::{KEY_OF_DASHES, ONE_PAIR};
+use crate::images::bytes_of;
+use crate::outside::Dripping;
+use crate::running::Told::Done;
+use crate::running::{NOT_FOUND, Row, SOUND, USAGE, check, check_rows, ran_over};
+use std::test::Fail;
+
+const NO_COMMAND: [&[&str]; 44] = [
+    &[],
+    &[""],
+    &["--"],
+    &["Verify"],
+    &["dump"],
+    &["dump", "--print", "--print"],
+    &["--max-bytes", "1024", "verify"],
+    // operands
+    &["verify", "x"],
+    &["verify", ""],
+    &["verify", "-"],
+    &["verify", "--", "--"],
+    &["verify", "--", "--max-bytes", "1024"],
+    &["list", "x"],
+    &["get"],
+    &["get", "--"],
+    &["get", "--print"],
+    &["get", "a", "b"],
+    &["get", "a", "--print"],
+    &["get", "a", "--"],
+    &["get", "--", "a", "--print"],
+    // options
+    &["verify", "---"],
+    &["verify", "--hex"],
+    &["verify", "--max"],
+    &["list", "--name", "a"],
+    &["list", "--print"],
+    &["get", "--x"],
+    &["get", "--order", "a"],
+    &["verify", "--max-bytes=5"],
+    &["get", "--name=a", "k"],
+    &["verify", "--max-bytes", "1024", "--max-bytes", "1024"],
+    &["get", "--print", "--hex", "--print", "61"],
+    &["get", "--name", "a", "--name", "a", "k"],
+    // values
+    &["verify", "--max-bytes"],
+    &["get", "--name"],
+    &["verify", "--max-bytes", "0"],
+    &["verify", "--max-bytes", "1073741825"],
+    &["verify", "--max-bytes", "4294967297"],
+    &["verify", "--max-bytes", "00000001024"],
+    &["list", "--max-bytes", "1k"],
+    &["get", "--max-bytes", "", "a"],
+    // spellings
+    &["get", "\\q"],
+    &["get", "a\\"],
+    &["get", "--hex", "6"],
+    &["get", "--name", "\\x", "k"],
+];
+
+const COMMANDS: [Row; 19] = [
+    (&["verify", "--"], &ONE_PAIR, Done(SOUND)),
+    (
+        &["verify", "--max-bytes", "1073741824"],
+        &ONE_PAIR,
+        Done(SOUND),
+    ),
+    (
+        &["verify", "--max-bytes", "0000001024", "--"],
+        &ONE_PAIR,
+        Done(SOUND),
+    ),
+    (&["list", "--"], &ONE_PAIR, Done(b"btree\n")),
+    (&["get", "--", "a"], &ONE_PAIR, Done(b"62\n")),
+    (&["get", "--", "--"], &ONE_PAIR, NOT_FOUND),
+    (&["get", "--name", "--", "a"], &ONE_PAIR, NOT_FOUND),
+    (&["get", "--name", "--print", "a"], &ONE_PAIR, NOT_FOUND),
+    (&["get", "-"], &ONE_PAIR, NOT_FOUND),
+    (&["get", "--hex", "61"], &ONE_PAIR, Done(b"62\n")),
+    (&["get", "--hex", ""], &ONE_PAIR, NOT_FOUND),
+    (&["get", "61"], &ONE_PAIR, NOT_FOUND),
+    (&["get", "--print", "--hex", "61"], &ONE_PAIR, Done(b"b\n")),
+    (
+        &["get", "--hex", "--max-bytes", "1024", "--print", "--", "61"],
+        &ONE_PAIR,
+        Done(b"b\n"),
+    ),
+    (
+        &["get", "--print", "--name", "", "--hex", "61"],
+        &ONE_PAIR,
+        NOT_FOUND,
+    ),
+    (&["get", "--", "--x"], &KEY_OF_DASHES, Done(b"5c0a41\n")),
+    (&["get", "\\2d-x"], &KEY_OF_DASHES, Done(b"5c0a41\n")),
+    (
+        &["get", "--hex", "2d2D78"],
+        &KEY_OF_DASHES,
+        Done(b"5c0a41\n"),
+    ),
+    (
+        &["get", "--print", "--", "--x"],
+        &KEY_OF_DASHES,
+        Done(b"\\\\\\0aA\n"),
+    ),
+];
+
+#[test]
+fn reads_nothing_where_words_are_no_command(rt: HostRuntime) -> Result<(), Fail> {
+    let image = bytes_of(rt.alloc(), &ONE_PAIR)?;
+    let mut source = Dripping::new(image.as_slice(), 1024);
+    for (place, given) in NO_COMMAND.iter().enumerate() {
+        let ran = ran_over(rt.alloc(), given, &mut source)?;
+        check(&rt, &ran, USAGE, place);
+        assert_eq!(rt; source.reads, 0, "at {place}");
+    }
+    let ran = ran_over(rt.alloc(), &["verify"], &mut source)?;
+    check(&rt, &ran, Done(SOUND), NO_COMMAND.len());
+    Ok(())
+}
+
+#[test]
+fn takes_options_in_any_order(rt: HostRuntime) -> Result<(), Fail> {
+    check_rows(&rt, rt.alloc(), &COMMANDS)?;
+    Ok(())
+}

@@ -1,0 +1,173 @@
+#!/usr/bin/env python3
+"""Asks the built program about each file of real/ and compares its answers with what the original library has there.
+
+usage: check_real.py [PROGRAM]
+
+PROGRAM is the built program; without it, crates/bdbtool/out/bdbtool. Each file of real/expected.tsv is given to `verify`, `list`
+and, for each database of its dump text, `get` of the first, a middle and the last key. Where `verify` finds no sound file, the
+other commands must answer the same. Output, error line and status are compared whole. Prints a line for each answer that
+differs, and then how many files have none; the exit status is 1 where a file has one.
+"""
+import itertools
+import pathlib
+import re
+import subprocess
+import sys
+from typing import NamedTuple
+
+TOP = pathlib.Path(__file__).resolve().parent.parent
+REAL = TOP / "real"
+SECONDS_A_RUN = 60
+LONGEST_SHOWN = 120
+
+
+class Answer(NamedTuple):
+    """What a run of the program gives, or has to give."""
+
+    status: int
+    out: str
+    err: str
+
+
+class Row(NamedTuple):
+    """A row of the table: a file, and the answers to `verify` and `list`."""
+
+    file: str
+    verify: Answer
+    list: Answer
+
+
+class Database(NamedTuple):
+    """A section of a dump text: the words that name it, whether its keys are numbers, and the data of each key, in order."""
+
+    naming: list
+    is_numbered: bool
+    data: dict
+
+
+def lines_text(lines):
+    """Lines as they stand in a text."""
+    return "".join(line + "\n" for line in lines)
+
+
+def row(line):
+    """The row that a line of the table is. Lines of one answer stand between bars; the program tells the first fault alone."""
+    file, judged, listed, _ = line.split("\t")
+    status, first = judged.split(" | ")[0].split(" ", 1)
+    if status != "0":
+        refused = Answer(int(status), "", lines_text([first]))
+        return Row(file, refused, refused)
+    return Row(file, Answer(0, lines_text([first]), ""), Answer(0, lines_text(listed.split(" | ")), ""))
+
+
+def table():
+    """The rows below the heading."""
+    return [row(line) for line in (REAL / "expected.tsv").read_text().splitlines()[1:]]
+
+
+def unescaped(match):
+    """The byte that a backslash and what follows spell: another backslash, or two digits."""
+    return match[1] if match[1] == b"\\" else bytes.fromhex(match[1].decode())
+
+
+def spelled_bytes(text, form):
+    """The bytes that a line spells, in the format `bytevalue` or `print`."""
+    if form == "bytevalue":
+        return bytes.fromhex(text)
+    return re.sub(rb"\\(\\|[0-9a-f]{2})", unescaped, text.encode())
+
+
+def sections(text):
+    """The fields of the header, and the lines of data without their space, of each section of a dump text."""
+    lines = iter(text.splitlines())
+    for version in lines:
+        header = [version, *itertools.takewhile(lambda line: line != "HEADER=END", lines)]
+        data = itertools.takewhile(lambda line: line != "DATA=END", lines)
+        yield dict(field.split("=", 1) for field in header), [line[1:] for line in data]
+
+
+def database(header, lines):
+    """The database of a section, whose keys and data take turns."""
+    items = [spelled_bytes(line, header["format"]) for line in lines]
+    data = {}
+    for key, value in zip(items[::2], items[1::2], strict=True):
+        data.setdefault(key, []).append(value)
+    naming = ["--name", header["database"]] if "database" in header else []
+    return Database(naming, header["type"] in ("recno", "queue"), data)
+
+
+def databases(file):
+    """The databases of the dump text of a file; none where there is no text."""
+    path = REAL / "dumps" / f"{file}.dump"
+    return [database(*section) for section in sections(path.read_text())] if path.exists() else []
+
+
+def some_keys(keys):
+    """The first, a middle and the last key, each once."""
+    return dict.fromkeys(keys[at] for at in (0, len(keys) // 2, -1)) if keys else []
+
+
+def key_words(base, key):
+    """The words that spell a key: the digits of a number, and two digits for each byte of another key."""
+    return [key.decode()] if base.is_numbered else ["--hex", key.hex()]
+
+
+def gets(row, base):
+    """The words of `get` for some keys of a database, each with the answer that it must have."""
+    for key in some_keys(list(base.data)):
+        found = Answer(0, lines_text(value.hex() for value in base.data[key]), "")
+        yield ["get", *base.naming, *key_words(base, key)], found if row.verify.status == 0 else row.verify
+
+
+def questions(row):
+    """The words of each run on a file, with the answer that it must have."""
+    yield ["verify"], row.verify
+    yield ["list"], row.list
+    for base in databases(row.file):
+        yield from gets(row, base)
+
+
+def answer(program, words, path):
+    """What the program answers to the words and the file on its standard input."""
+    with path.open("rb") as image:
+        try:
+            run = subprocess.run([program, *words], stdin=image, capture_output=True, timeout=SECONDS_A_RUN)
+        except subprocess.TimeoutExpired:
+            return Answer(-1, "", f"no end within {SECONDS_A_RUN} seconds")
+    return Answer(run.returncode, run.stdout.decode("latin-1"), run.stderr.decode("latin-1"))
+
+
+def shown(text):
+    """A text in one line, cut where it's long."""
+    spelled = repr(text)
+    return spelled if len(spelled) <= LONGEST_SHOWN else spelled[:LONGEST_SHOWN] + ".."
+
+
+def mismatches(program, row):
+    """A line for each answer about a file that isn't what it must be."""
+    for words, expected in questions(row):
+        given = answer(program, words, REAL / "files" / row.file)
+        if given != expected:
+            yield f"{row.file}: {shown(' '.join(words))}: {shown(tuple(given))} and not {shown(tuple(expected))}"
+
+
+def holds(program, row):
+    """Whether all answers about a file are right; prints those that aren't."""
+    wrong = list(mismatches(program, row))
+    print(lines_text(wrong), end="", flush=True)
+    return not wrong
+
+
+def main(program):
+    if not pathlib.Path(program).is_file():
+        sys.exit(f"{program} isn't there; ./bdbtool builds the program")
+    rows = table()
+    right = [row.file for row in rows if holds(program, row)]
+    print(f"{len(right)} of {len(rows)} hold")
+    return len(right) == len(rows)
+
+
+if __name__ == "__main__":
+    if len(sys.argv) > 2:
+        sys.exit(__doc__)
+    sys.exit(0 if main(sys.argv[1] if len(sys.argv) == 2 else TOP / "crates/bdbtool/out/bdbtool") else 1)
