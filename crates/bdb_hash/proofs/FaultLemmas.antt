@@ -228,17 +228,15 @@ none_first : (faults : List Fault) → first_fault faults ≡ None → faults �
 none_first [] none = refl
 none_first (fault ∷ faults) none = absurd cc
 
-noted_first : (image : List ℕ) (meta : HashMeta) (least : Option Fault) (pairs : List Told) → IsTable image → HasMetadata (file_of image) (HashFields meta) → least ≡ fold (note_bucket image meta) None (range_with_len 0 (meta.max_bucket + 1))
-    → pairs ≡ table_told image meta → first_fault (contents_faults (file_of image) (HashFields meta)) ≡ fold note_repeat least (repeated_after [] (stored pairs))
-noted_first image meta least pairs table has least_is pairs_are =
-    least_is_first image meta table has
-    ∙ (ap (λ (l : Option Fault). fold note_repeat l (repeated_after [] (stored (table_told image meta)))) (sym least_is)
-    ∙ ap (λ (ps : List Told). fold note_repeat least (repeated_after [] (stored ps))) (sym pairs_are))
+noted_first : (image : List ℕ) (meta : HashMeta) (least noted : Option Fault) → IsTable image → HasMetadata (file_of image) (HashFields meta) → least ≡ fold (note_bucket image meta) None (range_with_len 0 (meta.max_bucket + 1))
+    → noted ≡ fold note_repeat least (repeated_after [] (stored (table_told image meta))) → first_fault (contents_faults (file_of image) (HashFields meta)) ≡ noted
+noted_first image meta least noted table has least_is noted_is =
+    least_is_first image meta table has ∙ (ap (λ (l : Option Fault). fold note_repeat l (repeated_after [] (stored (table_told image meta)))) (sym least_is) ∙ sym noted_is)
 
-pub no_fault : (image : List ℕ) (meta : HashMeta) (least : Option Fault) (pairs : List Told) → IsTable image → HasMetadata (file_of image) (HashFields meta) → least ≡ fold (note_bucket image meta) None (range_with_len 0 (meta.max_bucket + 1))
-    → pairs ≡ table_told image meta → None ≡ fold note_repeat least (repeated_after [] (stored pairs)) → contents_faults (file_of image) (HashFields meta) ≡ []
-no_fault image meta least pairs table has least_is pairs_are none = none_first _ (noted_first image meta least pairs table has least_is pairs_are ∙ sym none)
+pub no_fault : (image : List ℕ) (meta : HashMeta) (least : Option Fault) → IsTable image → HasMetadata (file_of image) (HashFields meta) → least ≡ fold (note_bucket image meta) None (range_with_len 0 (meta.max_bucket + 1))
+    → None ≡ fold note_repeat least (repeated_after [] (stored (table_told image meta))) → contents_faults (file_of image) (HashFields meta) ≡ []
+no_fault image meta least table has least_is none = none_first _ (noted_first image meta least None table has least_is none)
 
-pub the_fault : (image : List ℕ) (meta : HashMeta) (least : Option Fault) (pairs : List Told) (fault : Fault) → IsTable image → HasMetadata (file_of image) (HashFields meta) → least ≡ fold (note_bucket image meta) None (range_with_len 0 (meta.max_bucket + 1))
-    → pairs ≡ table_told image meta → Some fault ≡ fold note_repeat least (repeated_after [] (stored pairs)) → first_fault (contents_faults (file_of image) (HashFields meta)) ≡ Some fault
-the_fault image meta least pairs fault table has least_is pairs_are some = noted_first image meta least pairs table has least_is pairs_are ∙ sym some
+pub the_fault : (image : List ℕ) (meta : HashMeta) (least : Option Fault) (fault : Fault) → IsTable image → HasMetadata (file_of image) (HashFields meta) → least ≡ fold (note_bucket image meta) None (range_with_len 0 (meta.max_bucket + 1))
+    → Some fault ≡ fold note_repeat least (repeated_after [] (stored (table_told image meta))) → first_fault (contents_faults (file_of image) (HashFields meta)) ≡ Some fault
+the_fault image meta least fault table has least_is some = noted_first image meta least (Some fault) table has least_is some

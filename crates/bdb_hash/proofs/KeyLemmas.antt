@@ -11,7 +11,7 @@ use Rattle.bdb_layout.proofs.KeyLemmas.{slice_cmp-is}
 use Rattle.bdb_model.specs.Less.{less, Less}
 use Rattle.bdb_model.proofs.LessLemmas.{not_less_both, not_less_same}
 
-not_true : (b : Bool) → (b ≡ true → ⊥) → b ≡ false
+pub not_true : (b : Bool) → (b ≡ true → ⊥) → b ≡ false
 not_true true none = absurd (none refl)
 not_true false none = refl
 

@@ -7,6 +7,7 @@ pub mod LookupLemmas
 pub mod MaskLemmas
 pub mod PairLemmas
 pub mod PlainLemmas
+pub mod RepeatLemmas
 pub mod RowLemmas
 pub mod ScanLemmas
 pub mod TableLemmas

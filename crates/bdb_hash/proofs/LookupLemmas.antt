@@ -24,7 +24,7 @@ use Rattle.bdb_graph.specs.Linked.{HasMetadata}
 use Rattle.bdb_hash.specs.Told.{IsSought, Told, bucket_told, has_key, joined_pages, told}
 use Rattle.bdb_hash.specs.Views.{IsTable}
 use Rattle.bdb_hash.proofs.FaultLemmas.{bucket_is, few_buckets, of_repeated, table_plain}
-use Rattle.bdb_hash.proofs.KeyLemmas.{eq_same}
+use Rattle.bdb_hash.proofs.KeyLemmas.{eq_same, not_true}
 use Rattle.bdb_hash.proofs.LeastLemmas.{has_any}
 use Rattle.bdb_hash.proofs.PlainLemmas.{IsPlain, bucket_plain}
 use Rattle.bdb_hash.proofs.RowLemmas.{ArePlain, buckets_of}
@@ -90,10 +90,6 @@ under_other file key pair other =
     ]
 
 -- The order of the list.
-
-not_true : (b : Bool) → (b ≡ true → ⊥) → b ≡ false
-not_true true none = absurd (none refl)
-not_true false none = refl
 
 -- of two pairs with different keys one has nothing under a key
 one_under : (file : File) (key : List ℕ) (a b : StoredPair) → less a.key b.key ≡ true → (under file key a ≡ []) ⊎ (under file key b ≡ [])

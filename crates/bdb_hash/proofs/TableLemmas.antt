@@ -31,7 +31,7 @@ range_more : (a n : ℕ) → range_with_len a (n + 1) ≡ range_with_len a n ++ 
 range_more a zero = let same : a ≡ a + 0 = omega arith in ap (λ n. n ∷ []) same
 range_more a (suc n) = let more : suc n + 1 ≡ suc (n + 1) = omega arith in let e : a + 1 + n ≡ a + suc n = omega arith in rw more (ap (λ xs. a ∷ xs) (range_more (a + 1) n ∙ ap (λ m. range_with_len (a + 1) n ++ m ∷ []) e))
 
-zero_more : (n : ℕ) → range_with_len 0 (n + 1) ≡ range_with_len 0 n ++ n ∷ []
+pub zero_more : (n : ℕ) → range_with_len 0 (n + 1) ≡ range_with_len 0 n ++ n ∷ []
 zero_more n = let same : 0 + n ≡ n = omega arith in range_more 0 n ∙ ap (λ m. range_with_len 0 n ++ m ∷ []) same
 
 -- a file with a table has references

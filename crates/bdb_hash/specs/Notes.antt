@@ -76,3 +76,15 @@ repeat_noted is_new least page = if is_new then least else earlier least (Some (
 pub record IsNoted (start least : Option Fault) (keys : BTreeSet (List ℕ)) (pairs : List Told) (i : ℕ) : Type 0 where
   pub keys_are : (key : List ℕ) → contains (slice_cmp nat_cmp) keys key ≡ list_any (λ (other : StoredPair). bytes_eq other.key key) (before (take i pairs))
   pub noted : fold note_repeat least (repeated_after (before (take i pairs)) (stored (drop i pairs))) ≡ fold note_repeat start (repeated_after [] (stored pairs))
+
+-- a stray: a pair of this bucket that isn't in the bucket of its key
+abbrev pub is_stray : HashMeta → ℕ → Told → Bool
+is_stray meta b told = not (bucket_of_key meta told.pair.key == b)
+
+-- the bucket has a stray
+abbrev pub has_stray_in : List ℕ → HashMeta → ℕ → Bool
+has_stray_in image meta b = list_any (is_stray meta b) (bucket_told image meta b)
+
+-- the faults of the pairs that have the key of an earlier one of their bucket
+abbrev pub note_again : List ℕ → HashMeta → Option Fault → ℕ → Option Fault
+note_again image meta least b = fold note_repeat least (repeated_after [] (stored (bucket_told image meta b)))

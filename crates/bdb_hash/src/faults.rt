@@ -6,14 +6,15 @@ ghost use Rattle.bdb_model.specs.File.{file_of};
 ghost use Rattle.bdb_model.specs.Page.{HashFields};
 ghost use Rattle.bdb_model.specs.Verdict.{structure_faults};
 
-use crate::repeats::note_repeats;
-use crate::table::{note_table, table_pairs};
+use crate::repeats::note_table_repeats;
+use crate::table::note_table;
 use bdb_graph::Linked;
 use bdb_model::{CheckError, HashMeta};
 use std::alloc::Global;
 
 /// No row of contents holds for the table of this metadata. A refusal is the first fault: the least page,
-/// and there the least code; or want of memory. It takes memory for each pair of the table.
+/// and there the least code; or want of memory. It takes memory for the pairs of one bucket at a time,
+/// and for all pairs of the table where one isn't in the bucket of its key.
 pub fn check(alloc: Global, linked: &Linked<'_>, meta: &HashMeta) -> Result<(), CheckError>
     requires meta { HasMetadata (file_of linked.now) (HashFields meta.now) }
     requires stage { structure_faults (file_of linked.now) ≡ [] }
@@ -21,11 +22,7 @@ pub fn check(alloc: Global, linked: &Linked<'_>, meta: &HashMeta) -> Result<(), 
     ensures refusal { IfErr result (IsContentsRefusal (file_of linked.now) meta.now) }
 {
     let least = note_table(linked, meta);
-    let pairs = match table_pairs(alloc, linked, meta) {
-        Ok(pairs) => pairs,
-        Err(_) => return Err(CheckError::Memory),
-    };
-    match note_repeats(alloc, least, &pairs) {
+    match note_table_repeats(alloc, least, linked, meta) {
         Ok(None) => Ok(()),
         Ok(Some(fault)) => Err(CheckError::Fault(fault)),
         Err(_) => Err(CheckError::Memory),

@@ -13,6 +13,7 @@ mod pairs;
 mod ranking;
 mod repeats;
 mod rows;
+mod strays;
 mod table;
 mod tree;
 

@@ -1,21 +1,29 @@
-ghost use Rattle.std.specs.Prelude.{◌≡◌, [], true, not, IfOk, OnOk};
+ghost use Rattle.std.specs.Prelude.{◌≡◌, ◌+◌, [], true, not, IfOk, OnOk};
 ghost use Rattle.std.specs.BTreeSet.{Updates, contains};
 ghost use Rattle.std.specs.Cmp.Lexicographic.{slice_cmp};
-ghost use Rattle.std.specs.List.{fold};
+ghost use Rattle.std.specs.List.{fold, range_with_len};
 ghost use Rattle.std.specs.Ordering.{nat_cmp};
-ghost use Rattle.bdb_hash.specs.Notes.{note_repeat, repeat_noted, stored};
+ghost use Rattle.bdb_graph.specs.Linked.{HasMetadata};
+ghost use Rattle.bdb_hash.specs.Notes.{note_again, note_repeat, repeat_noted, stored};
+ghost use Rattle.bdb_hash.specs.Told.{table_told};
 ghost use Rattle.bdb_model.specs.ContentRows.{repeated_after};
+ghost use Rattle.bdb_model.specs.File.{file_of};
+ghost use Rattle.bdb_model.specs.Page.{HashFields};
+ghost use Rattle.bdb_model.specs.Verdict.{structure_faults};
 
 use crate::Pair;
 use crate::key::Key;
 use crate::rows::earlier;
-use bdb_model::Fault;
+use crate::strays::has_stray;
+use crate::table::{bucket_pairs, buckets, table_pairs};
+use bdb_graph::Linked;
+use bdb_model::{Fault, HashMeta};
 use std::alloc::{AllocError, Global};
 use std::collections::BTreeSet;
 
 /// The first of a fault and of those of pairs that have the key of an earlier one. An error is want of
 /// memory.
-pub(crate) fn note_repeats(
+fn note_repeats(
     alloc: Global,
     least: Option<Fault>,
     pairs: &[Pair<'_>],
@@ -55,4 +63,48 @@ fn with_repeat(least: Option<Fault>, is_new: bool, page: u32) -> Option<Fault>
             code: 9,
         }),
     )
+}
+
+/// The first of a fault and of those of the pairs of a table that have the key of an earlier one of their
+/// bucket. It takes memory for the pairs of one bucket at a time; an error is want of it.
+#[tactic(auto, using(crate::proofs::RepeatLemmas::again_more))]
+fn note_by_bucket(
+    alloc: Global,
+    least: Option<Fault>,
+    linked: &Linked<'_>,
+    meta: &HashMeta,
+) -> Result<Option<Fault>, AllocError>
+    requires meta { HasMetadata (file_of linked.now) (HashFields meta.now) }
+    requires stage { structure_faults (file_of linked.now) ≡ [] }
+    ensures { IfOk result (λ noted. noted ≡ fold (note_again linked.now meta.now) least (range_with_len 0 (meta.now.max_bucket + 1))) }
+{
+    let mut least = least;
+    for b in 0..buckets(linked, meta) {
+        let pairs = bucket_pairs(alloc, linked, meta, b)?;
+        least = note_repeats(alloc, least, &pairs)?;
+    }
+    Ok(least)
+}
+
+/// The first of a fault and of those of the pairs of a table that have the key of an earlier one. Equal keys
+/// stand in one bucket, unless the table has a stray: then alone it takes memory for all pairs at once. An
+/// error is want of it.
+#[tactic(auto, using(crate::proofs::RepeatLemmas::by_bucket_is))]
+pub(crate) fn note_table_repeats(
+    alloc: Global,
+    least: Option<Fault>,
+    linked: &Linked<'_>,
+    meta: &HashMeta,
+) -> Result<Option<Fault>, AllocError>
+    requires meta { HasMetadata (file_of linked.now) (HashFields meta.now) }
+    requires stage { structure_faults (file_of linked.now) ≡ [] }
+    ensures { IfOk result (λ noted. noted ≡ fold note_repeat least (repeated_after [] (stored (table_told linked.now meta.now)))) }
+{
+    if has_stray(linked, meta) {
+        let pairs = table_pairs(alloc, linked, meta)?;
+        let noted = note_repeats(alloc, least, &pairs)?;
+        return Ok(noted);
+    }
+    let noted = note_by_bucket(alloc, least, linked, meta)?;
+    Ok(noted)
 }

@@ -1,8 +1,8 @@
-ghost use Rattle.std.specs.Prelude.{◌≡◌, ◌+◌, ◌++◌, [], None, OnOk, IfOk};
+ghost use Rattle.std.specs.Prelude.{◌≡◌, ◌≤◌, ◌+◌, ◌++◌, [], None, OnOk, IfOk};
 ghost use Rattle.std.specs.List.{fold, range_with_len};
 ghost use Rattle.bdb_graph.specs.Linked.{HasMetadata};
 ghost use Rattle.bdb_hash.specs.Notes.{note_bucket, note_told};
-ghost use Rattle.bdb_hash.specs.Told.{joined_pages, table_told};
+ghost use Rattle.bdb_hash.specs.Told.{bucket_told, joined_pages, table_told};
 ghost use Rattle.bdb_hash.specs.Views.{IsTable};
 ghost use Rattle.bdb_model.specs.File.{file_of};
 ghost use Rattle.bdb_model.specs.Page.{HashFields};
@@ -44,6 +44,23 @@ fn push_bucket<'a>(pairs: &mut Vec<Pair<'a>>, pages: BucketPages<'a>) -> Result<
         push_page(pairs, page)?;
     }
     Ok(())
+}
+
+/// The pairs of a bucket, in the order of chains and indexes. An error is want of memory.
+pub(crate) fn bucket_pairs<'a>(
+    alloc: Global,
+    linked: &Linked<'a>,
+    meta: &HashMeta,
+    b: u32,
+) -> Result<Vec<Pair<'a>>, AllocError>
+    requires meta { HasMetadata (file_of linked.now) (HashFields meta.now) }
+    requires bucket { b ≤ meta.now.max_bucket }
+    requires stage { structure_faults (file_of linked.now) ≡ [] }
+    ensures { IfOk result (λ pairs. pairs.items ≡ bucket_told linked.now meta.now b) }
+{
+    let mut pairs = Vec::new(alloc);
+    push_bucket(&mut pairs, bucket_pages(linked, meta, b))?;
+    Ok(pairs)
 }
 
 /// All pairs of a table, in the order of buckets, chains and indexes. An error is want of memory.
