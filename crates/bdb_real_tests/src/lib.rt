@@ -4,10 +4,14 @@
 #[cfg(test)]
 mod opened;
 #[cfg(test)]
+mod real_btree_lists;
+#[cfg(test)]
 mod real_btrees;
 #[cfg(test)]
 mod real_images;
 #[cfg(test)]
 mod real_lists;
+#[cfg(test)]
+mod real_set_lists;
 #[cfg(test)]
 mod reals;

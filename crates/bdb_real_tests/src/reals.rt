@@ -11,7 +11,7 @@ ghost use Rattle.bdb_model.specs.Verdict.{structure_faults};
 
 use crate::opened::{has_sound_trees, is_keyed, is_recno};
 use crate::real_images::{self, Image};
-use crate::{real_btrees, real_lists};
+use crate::{real_btree_lists, real_btrees, real_lists, real_set_lists};
 use bdb_graph::{Linked, Meta, link, open_image};
 use bdb_model::{BtreeMeta, HashMeta, QueueMeta, Steps};
 use bdb_overflow::{Datum, KeyView, compare_datum};
@@ -52,17 +52,17 @@ const HASH_WITH_LONG_DATA: Real = Real {
 
 const BTREE_WITH_FREE_PAGES: Real = Real {
     image: real_btrees::BTREE_WITH_FREE_PAGES,
-    list: real_lists::BTREE_WITH_FREE_PAGES,
+    list: real_btree_lists::BTREE_WITH_FREE_PAGES,
 };
 
 const BTREE_WITH_DELETED_SETS: Real = Real {
     image: real_btrees::BTREE_WITH_DELETED_SETS,
-    list: real_lists::BTREE_WITH_DELETED_SETS,
+    list: real_set_lists::BTREE_WITH_DELETED_SETS,
 };
 
 const BTREE_AFTER_RECOVERY: Real = Real {
     image: real_btrees::BTREE_AFTER_RECOVERY,
-    list: real_lists::BTREE_AFTER_RECOVERY,
+    list: real_btree_lists::BTREE_AFTER_RECOVERY,
 };
 
 /// Writes bytes at their place; `None` where there is no room, or where the text isn't one of bytes.

@@ -15,7 +15,7 @@ use Rattle.bdb_model.specs.Lines.{line}
 use Rattle.bdb_model.specs.Numbers.{has_bit}
 use Rattle.bdb_model.specs.Page.{Metadata, BtreeFields, HashFields, QueueFields}
 use Rattle.bdb_model.specs.declared.metadata.MetaFault.TheVariants.{Fault as CodeFault, Unsupported as LeftOut}
-use Rattle.bdb_model.specs.Answers.{data_at, data_named, data_of_database, fault_line, found, judged_answer, database_line, kind_of, kind_text, name_text, not_found, sound_answer, unsupported_line, value_line, values_text}
+use Rattle.bdb_model.specs.Answers.{Answer, data_at, data_named, data_of_database, fault_line, found, judged_answer, database_line, kind_of, kind_text, name_text, not_found, sound_answer, told, unsupported_line, value_line, values_text}
 use Rattle.bdb_model.specs.Change.{Change}
 use Rattle.bdb_model.specs.Command.{Asked, Verify, ListAll, Get, Command, within}
 use Rattle.bdb_model.specs.Databases.{Database, btree_settings, data_under, databases, place_of, recno_settings, settings_of}
@@ -46,19 +46,22 @@ no_line a f text = record { written = record { part = nothing_of a text; cause =
 
 -- Statuses.
 
+low_own : (answer : Answer) → answer.status < 4 → HasOwnStatus answer
+low_own answer low = record { no_read_fault = λ is. omega arith; no_write_fault = λ is. omega arith; no_memory = λ is. omega arith }
+
 pub found_own : (prints : Bool) (values : List (List ℕ)) → HasOwnStatus (found prints values)
 found_own prints [] = record { no_read_fault = λ is. omega arith; no_write_fault = λ is. omega arith; no_memory = λ is. omega arith }
-found_own prints (value ∷ values) = record { no_read_fault = λ is. omega arith; no_write_fault = λ is. omega arith; no_memory = λ is. omega arith }
+found_own prints (value ∷ values) = low_own (found prints (value ∷ values)) (omega arith)
 
 sound_own : (asked : Asked) (image : List ℕ) → HasOwnStatus (sound_answer asked image)
-sound_own Verify image = record { no_read_fault = λ is. omega arith; no_write_fault = λ is. omega arith; no_memory = λ is. omega arith }
-sound_own ListAll image = record { no_read_fault = λ is. omega arith; no_write_fault = λ is. omega arith; no_memory = λ is. omega arith }
+sound_own Verify image = low_own (sound_answer Verify image) (omega arith)
+sound_own ListAll image = low_own (sound_answer ListAll image) (omega arith)
 sound_own (Get name key prints) image = found_own prints (data_named (file_of image) name key)
 
 judged_own : (verdict : Option Verdict) (asked : Asked) (image : List ℕ) → (verdict ≡ Some MemoryVerdict → ⊥) → HasOwnStatus (judged_answer verdict asked image)
 judged_own None asked image other = sound_own asked image
-judged_own (Some (Fault fault)) asked image other = record { no_read_fault = λ is. omega arith; no_write_fault = λ is. omega arith; no_memory = λ is. omega arith }
-judged_own (Some (Unsupported name page)) asked image other = record { no_read_fault = λ is. omega arith; no_write_fault = λ is. omega arith; no_memory = λ is. omega arith }
+judged_own (Some (Fault fault)) asked image other = low_own (told 1 (fault_line fault)) (omega arith)
+judged_own (Some (Unsupported name page)) asked image other = low_own (told 3 (unsupported_line name page)) (omega arith)
 judged_own (Some MemoryVerdict) asked image other = absurd (other refl)
 
 -- No verdict of an image is want of memory.
@@ -77,6 +80,9 @@ never_memory [] is = cc
 never_memory (fault ∷ faults) is =
     let same : verdict_as fault ≡ MemoryVerdict = cc in chosen_other (fault.stage == 1) (fault.stage == 2) fault (head_fault fault.code) (form_fault fault.code) same
 
+pub answer_own : (asked : Asked) (image : List ℕ) → HasOwnStatus (judged_answer (verdict_of image) asked image)
+answer_own asked image = judged_own (verdict_of image) asked image (never_memory (faults_of image))
+
 -- A file that isn't sound.
 
 pub refused_finishes : (verdict : Verdict) (asked : Asked) (image : List ℕ) (written : Option (List ℕ)) (faults : ℕ) (err : Change) (status : ℕ) → IsVerdictOf image verdict → IsRefused verdict err status
@@ -85,14 +91,14 @@ refused_finishes (Fault fault) asked image written faults err status is (inl tel
     subst (λ verdict. Finishes (judged_answer verdict asked image) (moved written written faults faults) err status) (sym is)
     (told_finishes 1 (fault_line fault) written faults err status (λ five. omega arith) (λ seven. omega arith) tells)
 refused_finishes (Fault fault) asked image written faults err status is (inr tells) =
-    memory_finishes (judged_answer (verdict_of image) asked image) written faults err status (judged_own (verdict_of image) asked image (never_memory (faults_of image))) tells
+    memory_finishes (judged_answer (verdict_of image) asked image) written faults err status (answer_own asked image) tells
 refused_finishes (Unsupported name page) asked image written faults err status is (inl tells) =
     subst (λ verdict. Finishes (judged_answer verdict asked image) (moved written written faults faults) err status) (sym is)
     (told_finishes 3 (unsupported_line name page) written faults err status (λ five. omega arith) (λ seven. omega arith) tells)
 refused_finishes (Unsupported name page) asked image written faults err status is (inr tells) =
-    memory_finishes (judged_answer (verdict_of image) asked image) written faults err status (judged_own (verdict_of image) asked image (never_memory (faults_of image))) tells
+    memory_finishes (judged_answer (verdict_of image) asked image) written faults err status (answer_own asked image) tells
 refused_finishes MemoryVerdict asked image written faults err status is tells =
-    memory_finishes (judged_answer (verdict_of image) asked image) written faults err status (judged_own (verdict_of image) asked image (never_memory (faults_of image))) tells
+    memory_finishes (judged_answer (verdict_of image) asked image) written faults err status (answer_own asked image) tells
 
 -- A sound file.
 

@@ -1,13 +1,11 @@
 -- From what a run takes, and how it writes its answer, to its whole promise.
-use Rattle.std.proofs.Common.{◌≡◌, ◌≢◌, ◌⊎◌, ℕ, ◌+◌, ◌<◌, ◌≤◌, Bool, List, [], ◌∷◌, length, inl, inr, refl, sym, subst, ◌∙◌, ap, arith, length-append, append-nil}
+use Rattle.std.proofs.Common.{◌≡◌, ◌≢◌, ◌⊎◌, ℕ, ◌+◌, ◌<◌, ◌≤◌, List, [], length, inl, inr, refl, sym, subst, ◌∙◌, ap, arith, length-append, append-nil}
 use Rattle.std.specs.Prelude.{Option, Some, None, if◌then◌else◌}
 use Rattle.std.specs.Io.KnownBytes.{Consumes, IsAtEnd}
 use Rattle.std.proofs.lemmas.Bool.{le-ltb, lt-ltb}
-use Rattle.bdb_model.specs.declared.kinds.Verdict.{Verdict}
-use Rattle.bdb_model.specs.declared.kinds.Verdict.TheVariants.{Fault, Unsupported, Memory as MemoryVerdict}
-use Rattle.bdb_model.specs.Answers.{Answer, answer_of, command_answer, found, judged_answer, sound_answer, told, too_large_line, usage, words_answer}
+use Rattle.bdb_model.specs.Answers.{Answer, answer_of, command_answer, judged_answer, told, too_large_line, usage, words_answer}
 use Rattle.bdb_model.specs.Change.{Change, GainsPart, HasFailed, IsUncalled}
-use Rattle.bdb_model.specs.Command.{Asked, Verify, ListAll, Get, Command, command_of}
+use Rattle.bdb_model.specs.Command.{Command, command_of}
 use Rattle.bdb_model.specs.Faults.{Took}
 use Rattle.bdb_model.specs.Lines.{memory_line, read_fault_line, write_fault_line}
 use Rattle.bdb_model.specs.Output.{AnswersInPart, IsInput, Output}
@@ -21,6 +19,7 @@ use Rattle.bdb_tool.proofs.FinishLemmas.{memory_finishes, told_finishes}
 use Rattle.bdb_tool.specs.Requests.{AreCommand, IsRequest, IsStopped, IsTaken, IsTooLong}
 use Rattle.bdb_tool.specs.WordsSeen.{command_seen}
 use Rattle.bdb_tool.specs.declared.request.Request.{Request}
+use Rattle.bdb_tool.proofs.AnswerLemmas.{answer_own}
 use Rattle.bdb_tool.proofs.PrintingLemmas.{moved}
 
 -- The input.
@@ -113,22 +112,6 @@ finished_runs words source out err input status is other finishes calls =
       read_whole = calls.read_whole;
     }
 
--- no verdict is a read fault
-found_other : (prints : Bool) (values : List (List ℕ)) → (found prints values).status ≢ 4
-found_other prints [] is = omega arith
-found_other prints (value ∷ values) is = omega arith
-
-sound_other : (asked : Asked) (image : List ℕ) → (sound_answer asked image).status ≢ 4
-sound_other Verify image is = omega arith
-sound_other ListAll image is = omega arith
-sound_other (Get name key prints) image is = found_other prints _ is
-
-judged_other : (verdict : Option Verdict) (asked : Asked) (image : List ℕ) → (judged_answer verdict asked image).status ≢ 4
-judged_other None asked image = sound_other asked image
-judged_other (Some (Fault fault)) asked image = λ is. omega arith
-judged_other (Some (Unsupported name page)) asked image = λ is. omega arith
-judged_other (Some MemoryVerdict) asked image = λ is. omega arith
-
 no_command : (words : List (List ℕ)) (command : Command) → command_of words ≡ Some command → command_of words ≡ None → ⊥
 no_command words command is none = let both : Some command ≡ None = sym is ∙ none in absurd cc
 
@@ -138,7 +121,7 @@ pub request_runs : (words : List (List ℕ)) (source out err : Change) (command 
 request_runs words source out err command image status request finishes =
     let is : answer_of words image ≡ judged_answer (verdict_of image) command.asked image = some_answer words image command request.command_is ∙ within_answer command image request.within in
     finished_runs words source out err image status (whole_input source.before source.now image request.bytes request.end)
-    (subst (λ (answer : Answer). answer.status ≢ 4) (sym is) (judged_other (verdict_of image) command.asked image))
+    (subst (λ (answer : Answer). answer.status ≢ 4) (sym is) (answer_own command.asked image).no_read_fault)
     (subst (λ answer. Finishes answer out err status) (sym is) finishes)
     (record {
       usage = λ none. absurd (no_command words command request.command_is none);

@@ -35,7 +35,7 @@ IsStopped words source (TooLarge limit) = IsTooLong words source limit
 IsStopped words source ReadFault = AreCommand words × HasFailed source
 IsStopped words source Memory = AreCommand words
 
--- the request is a command of the words with the whole input
+-- what is asked is what the words say, and the image is the whole input
 pub record IsTaken (words : List (List ℕ)) (source : Change) (request : Request) : Type 0 where
   pub command : Command
   pub seen : command_seen request.command ≡ Some command
