@@ -4,9 +4,10 @@
 usage: check_real.py [PROGRAM]
 
 PROGRAM is the built program; without it, crates/bdbtool/out/bdbtool. Each file of real/expected.tsv is given to `verify`, `list`
-and, for each database of its dump text, `get` of the first, a middle and the last key. Where `verify` finds no sound file, the
-other commands must answer the same. Output, error line and status are compared whole. Prints a line for each answer that
-differs, and then how many files have none; the exit status is 1 where a file has one.
+and, for each database of its dump text, `get` of the first, a middle and the last key, and `dump` in both spellings, whole and
+by name. Where `verify` finds no sound file, the other commands must answer the same. Output, error line and status are compared
+whole, but of a `dump` the names, kinds and data lines, those of a hash in the order of their keys. Prints a line for each answer
+that differs, and then how many files have none; the exit status is 1 where a file has one.
 """
 import itertools
 import pathlib
@@ -38,11 +39,19 @@ class Row(NamedTuple):
 
 
 class Database(NamedTuple):
-    """A section of a dump text: the words that name it, whether its keys are numbers, and the data of each key, in order."""
+    """A section of a dump text: the words that name it, its kind, and its pairs, those of a hash in the order of their keys."""
 
     naming: list
-    is_numbered: bool
-    data: dict
+    kind: str
+    pairs: list
+
+    @property
+    def data(self):
+        """The data of each key, in order."""
+        data = {}
+        for key, value in self.pairs:
+            data.setdefault(key, []).append(value)
+        return data
 
 
 def lines_text(lines):
@@ -77,6 +86,18 @@ def spelled_bytes(text, form):
     return re.sub(rb"\\(\\|[0-9a-f]{2})", unescaped, text.encode())
 
 
+def escaped(byte):
+    """A byte as it is printed."""
+    if byte == ord("\\"):
+        return "\\\\"
+    return chr(byte) if 0x20 <= byte <= 0x7E else f"\\{byte:02x}"
+
+
+def spelling(data, form):
+    """The line that spells bytes, in the format `bytevalue` or `print`."""
+    return data.hex() if form == "bytevalue" else "".join(map(escaped, data))
+
+
 def sections(text):
     """The fields of the header, and the lines of data without their space, of each section of a dump text."""
     lines = iter(text.splitlines())
@@ -89,11 +110,11 @@ def sections(text):
 def database(header, lines):
     """The database of a section, whose keys and data take turns."""
     items = [spelled_bytes(line, header["format"]) for line in lines]
-    data = {}
-    for key, value in zip(items[::2], items[1::2], strict=True):
-        data.setdefault(key, []).append(value)
+    pairs = list(zip(items[::2], items[1::2], strict=True))
+    if header["type"] == "hash":
+        pairs.sort(key=lambda pair: pair[0])
     naming = ["--name", header["database"]] if "database" in header else []
-    return Database(naming, header["type"] in ("recno", "queue"), data)
+    return Database(naming, header["type"], pairs)
 
 
 def databases(file):
@@ -109,7 +130,7 @@ def some_keys(keys):
 
 def key_words(base, key):
     """The words that spell a key: the digits of a number, and two digits for each byte of another key."""
-    return [key.decode()] if base.is_numbered else ["--hex", key.hex()]
+    return [key.decode()] if base.kind in ("recno", "queue") else ["--hex", key.hex()]
 
 
 def gets(row, base):
@@ -127,6 +148,39 @@ def questions(row):
         yield from gets(row, base)
 
 
+def dump_lines(bases, form):
+    """What is compared of a dump text: of each section the format, the words that name it, the kind, and the data lines."""
+    return [(form, base.naming, base.kind, [spelling(item, form) for pair in base.pairs for item in pair]) for base in bases]
+
+
+def shown_lines(text):
+    """The same of a text that the program wrote."""
+    return [
+        (header["format"], ["--name", header["database"]] if "database" in header else [], header["type"], lines)
+        for header, lines in sections(text)
+    ]
+
+
+def dumps(row):
+    """The words of each `dump` on a file, the format, and the databases that it has to show."""
+    bases = databases(row.file)
+    for options, form in ([], "bytevalue"), (["--print"], "print"):
+        yield ["dump", *options], form, bases
+        for base in bases:
+            if base.naming:
+                yield ["dump", *options, *base.naming], form, [base]
+
+
+def dump_mismatch(given, expected, form, bases):
+    """What is wrong with the answer to a `dump`; none where nothing is."""
+    if expected.status != 0:
+        return None if given == expected else f"{shown(tuple(given))} and not {shown(tuple(expected))}"
+    if (given.status, given.err) != (0, ""):
+        return shown(tuple(given))
+    lines, wanted = shown_lines(given.out), dump_lines(bases, form)
+    return None if lines == wanted else f"{shown(lines)} and not {shown(wanted)}"
+
+
 def answer(program, words, path):
     """What the program answers to the words and the file on its standard input."""
     with path.open("rb") as image:
@@ -137,9 +191,9 @@ def answer(program, words, path):
     return Answer(run.returncode, run.stdout.decode("latin-1"), run.stderr.decode("latin-1"))
 
 
-def shown(text):
-    """A text in one line, cut where it's long."""
-    spelled = repr(text)
+def shown(value):
+    """A value in one line, cut where it's long."""
+    spelled = repr(value)
     return spelled if len(spelled) <= LONGEST_SHOWN else spelled[:LONGEST_SHOWN] + ".."
 
 
@@ -149,6 +203,10 @@ def mismatches(program, row):
         given = answer(program, words, REAL / "files" / row.file)
         if given != expected:
             yield f"{row.file}: {shown(' '.join(words))}: {shown(tuple(given))} and not {shown(tuple(expected))}"
+    for words, form, bases in dumps(row):
+        wrong = dump_mismatch(answer(program, words, REAL / "files" / row.file), row.verify, form, bases)
+        if wrong:
+            yield f"{row.file}: {shown(' '.join(words))}: {wrong}"
 
 
 def holds(program, row):

@@ -3,17 +3,17 @@ use Rattle.std.proofs.Common.{◌≡◌, ℕ, ◌+◌, ◌<◌, ◌≤◌, Bool,
 use Rattle.std.specs.Prelude.{◌&&◌, ◌==◌}
 use Rattle.std.specs.List.{Contains, list_any}
 use Rattle.std.proofs.lemmas.Bool.{and_parts, eqb-true, or_cases}
-use Rattle.bdb_model.specs.declared.kinds.Fault.{Fault}
-use Rattle.bdb_model.specs.declared.metadata.BtreeMeta.{BtreeMeta}
-use Rattle.bdb_model.specs.ContentRows.{btree_contents, contents_faults, groups, has_duplicate, has_unsorted, has_wrong_count, has_wrong_separator, has_wrong_set, btree_sorted, inner_pages, is_wrong_at, neighbours, neighbours_from, recno_contents}
-use Rattle.bdb_model.specs.Contents.{StoredPair, tree_pairs}
-use Rattle.bdb_model.specs.File.{File, file_of}
-use Rattle.bdb_model.specs.Numbers.{has_bit}
-use Rattle.bdb_model.specs.Page.{BtreeFields}
-use Rattle.bdb_model.specs.Verdict.{by_page, holding}
-use Rattle.bdb_model.proofs.MemberLemmas.{first_member, later_member, member_cases, no_member}
+use Rattle.bdb_format.specs.declared.kinds.Fault.{Fault}
+use Rattle.bdb_format.specs.declared.metadata.BtreeMeta.{BtreeMeta}
+use Rattle.bdb_format.specs.ContentRows.{btree_contents, database_faults, groups, has_duplicate, has_unsorted, has_wrong_count, has_wrong_separator, has_wrong_set, inner_pages, is_wrong_at, neighbours, neighbours_from, recno_contents}
+use Rattle.bdb_format.specs.Contents.{StoredPair, tree_pairs}
+use Rattle.bdb_format.specs.File.{File, file_of}
+use Rattle.bdb_format.specs.Numbers.{has_bit}
+use Rattle.bdb_format.specs.Page.{BtreeFields}
+use Rattle.bdb_format.specs.Verdict.{by_page, holding, first_fault}
+use Rattle.bdb_format.proofs.MemberLemmas.{first_member, later_member, member_cases, no_member}
+use Rattle.bdb_format.specs.Flags.{counts_records, has_duplicates, is_sorted}
 use Rattle.bdb_graph.specs.Linked.{FitsTreeRoot, IsForest}
-use Rattle.bdb_graph.specs.Linking.{first_fault}
 use Rattle.bdb_btree.specs.Counts.{IsKeyed}
 use Rattle.bdb_btree.specs.Least.{IsLeastPage, sooner}
 use Rattle.bdb_btree.specs.Rows.{has_wrong_order}
@@ -21,16 +21,10 @@ use Rattle.bdb_btree.proofs.InnerLemmas.{inner_pages_keyed}
 use Rattle.bdb_btree.proofs.LeastLemmas.{AreAbove, AreInside, IsFirst, PageRow, first_more, first_of_table, no_rows, rows_at}
 use Rattle.bdb_btree.proofs.PairLemmas.{tree_pair}
 use Rattle.bdb_tree.proofs.TreeLemmas.{typed_inside}
+use Rattle.bdb_format.proofs.ListLemmas.{any_member}
+use Rattle.bdb_format.proofs.PairLemmas.{neighbour_in}
 
 -- A row that holds at a page holds of something there.
-
-any_member : {X : Type 0} (test : X → Bool) (xs : List X) → list_any test xs ≡ true → (x : X) × Contains xs x × (test x ≡ true)
-any_member test [] some = absurd cc
-any_member test (x ∷ xs) some =
-    elim (or_cases (test x) (list_any test xs) some) [
-      | inl here ↦ (x, first_member x xs, here)
-      | inr later ↦ let found = any_member test xs later in (found.0, later_member x xs found.0 found.1, found.2)
-    ]
 
 at_page : {X : Type 0} (page : X → ℕ) (test : X → Bool) (xs : List X) (p high : ℕ) → ((x : X) → Contains xs x → page x < high) → list_any (λ x. (page x == p) && test x) xs ≡ true → p < high
 at_page page test xs p high inside some =
@@ -41,18 +35,6 @@ at_page page test xs p high inside some =
 
 guarded : (b : Bool) (high : ℕ) (test : ℕ → Bool) → ((p : ℕ) → test p ≡ true → p < high) → (p : ℕ) → (b && test p) ≡ true → p < high
 guarded b high test inside p holds = inside p (and_parts b (test p) holds).1
-
-neighbour_from : (pair : StoredPair) (pairs : List StoredPair) (two : StoredPair × StoredPair) → Contains (neighbours_from pair pairs) two → Contains pairs two.1
-neighbour_from pair [] two at = absurd (no_member [] two refl at)
-neighbour_from pair (next ∷ pairs) two at =
-    elim (member_cases (pair, next) (neighbours_from next pairs) two at) [
-      | inl here ↦ subst (Contains (next ∷ pairs)) (ap (λ (t : StoredPair × StoredPair). t.1) here) (first_member next pairs)
-      | inr later ↦ later_member next pairs two.1 (neighbour_from next pairs two later)
-    ]
-
-neighbour_in : (pairs : List StoredPair) (two : StoredPair × StoredPair) → Contains (neighbours pairs) two → Contains pairs two.1
-neighbour_in [] two at = absurd (no_member [] two refl at)
-neighbour_in (pair ∷ pairs) two at = later_member pair pairs two.1 (neighbour_from pair pairs two at)
 
 group_in : (pairs : List StoredPair) (group : StoredPair × List StoredPair) → Contains (groups pairs) group → Contains pairs group.0
 group_in [] group at = absurd (no_member [] group refl at)
@@ -65,10 +47,10 @@ group_in (pair ∷ pairs) group at =
 -- The table.
 
 abbrev from_six : File → BtreeMeta → List PageRow
-from_six file meta = record { code = 6; test = λ p. has_bit meta.flags 0x04 && is_wrong_at file (has_wrong_count file) (inner_pages file meta.root) p } ∷ []
+from_six file meta = record { code = 6; test = λ p. counts_records meta && is_wrong_at file (has_wrong_count file) (inner_pages file meta.root) p } ∷ []
 
 abbrev from_five : File → BtreeMeta → List PageRow
-from_five file meta = record { code = 5; test = λ p. btree_sorted meta.flags && has_unsorted file (tree_pairs file meta.root) p } ∷ from_six file meta
+from_five file meta = record { code = 5; test = λ p. is_sorted (BtreeFields meta) && has_unsorted file (tree_pairs file meta.root) p } ∷ from_six file meta
 
 abbrev from_four : File → BtreeMeta → List PageRow
 from_four file meta = record { code = 4; test = is_wrong_at file (has_wrong_separator file) (inner_pages file meta.root) } ∷ from_five file meta
@@ -77,10 +59,11 @@ abbrev from_three : File → BtreeMeta → List PageRow
 from_three file meta = record { code = 3; test = has_wrong_order (tree_pairs file meta.root) } ∷ from_four file meta
 
 abbrev from_two : File → BtreeMeta → List PageRow
-from_two file meta = record { code = 2; test = has_wrong_set file (btree_sorted meta.flags) (tree_pairs file meta.root) } ∷ from_three file meta
+from_two file meta = record { code = 2; test = has_wrong_set file (is_sorted (BtreeFields meta)) (tree_pairs file meta.root) } ∷ from_three file meta
 
 abbrev btree_table : File → BtreeMeta → List PageRow
-btree_table file meta = record { code = 1; test = λ p. not (has_bit meta.flags 0x41) && has_duplicate (tree_pairs file meta.root) p } ∷ from_two file meta
+btree_table file meta =
+    record { code = 1; test = λ p. not (has_duplicates (BtreeFields meta)) && has_duplicate (tree_pairs file meta.root) p } ∷ from_two file meta
 
 table_rises : (file : File) (meta : BtreeMeta) → AreAbove 0 (btree_table file meta)
 table_rises file meta = (omega arith, (omega arith, (omega arith, (omega arith, (omega arith, (omega arith, tt))))))
@@ -93,7 +76,8 @@ table_inside image meta forest fits keyed =
     let pair_low : (pair : StoredPair) → Contains pairs pair → pair.page < high = λ pair at. (let low : pair.page ≤ file.last = (tree_pair image meta.root pair forest (inl fits) at).inside in omega arith) in
     let page_low : (q : ℕ) → Contains (inner_pages file meta.root) q → q < high =
     λ q at. (let low : q ≤ file.last = typed_inside image (3 ∷ 5 ∷ 12 ∷ []) q (inner_pages_keyed image meta.root q forest keyed at) in omega arith) in (
-      guarded (not (has_bit meta.flags 0x41)) high (has_duplicate pairs) (λ p holds. at_page (λ (pair : StoredPair). pair.page) _ pairs p high pair_low holds),
+      guarded (not (has_duplicates (BtreeFields meta))) high (has_duplicate pairs)
+          (λ p holds. at_page (λ (pair : StoredPair). pair.page) _ pairs p high pair_low holds),
       (
         (λ p holds. at_page (λ (pair : StoredPair). pair.page) _ pairs p high pair_low holds),
         (
@@ -101,10 +85,11 @@ table_inside image meta forest fits keyed =
           (
             (λ p holds. at_page (λ (q : ℕ). q) _ (inner_pages file meta.root) p high page_low holds),
             (
-              guarded (btree_sorted meta.flags) high (has_unsorted file pairs)
+              guarded (is_sorted (BtreeFields meta)) high (has_unsorted file pairs)
                   (λ p holds. at_page (λ (group : StoredPair × List StoredPair). group.0.page) _ (groups pairs) p high (λ group at. pair_low group.0 (group_in pairs group at)) holds),
               (
-                guarded (has_bit meta.flags 0x04) high (is_wrong_at file (has_wrong_count file) (inner_pages file meta.root)) (λ p holds. at_page (λ (q : ℕ). q) _ (inner_pages file meta.root) p high page_low holds),
+                guarded (counts_records meta) high (is_wrong_at file (has_wrong_count file) (inner_pages file meta.root))
+                    (λ p holds. at_page (λ (q : ℕ). q) _ (inner_pages file meta.root) p high page_low holds),
                 tt,
               ),
             ),
@@ -114,18 +99,18 @@ table_inside image meta forest fits keyed =
     )
 
 -- the rows of a btree are those of the table
-faults_are : (file : File) (meta : BtreeMeta) → has_bit meta.flags 2 ≡ false → contents_faults file (BtreeFields meta) ≡ by_page 8 0 (file.last + 1) (λ p. holding (rows_at (btree_table file meta) p))
-unfolding contents_faults
+faults_are : (file : File) (meta : BtreeMeta) → has_bit meta.flags 2 ≡ false → database_faults file (BtreeFields meta) ≡ by_page 8 0 (file.last + 1) (λ p. holding (rows_at (btree_table file meta) p))
+unfolding database_faults
 faults_are file meta keyed = ap (λ b. by_page 8 0 (file.last + 1) (λ p. holding (cond b (recno_contents file meta p) (btree_contents file meta p)))) keyed
 
 -- the least page of each row, where the row is looked at
 pub record AreLeast (file : File) (meta : BtreeMeta) (duplicate wrong_set wrong_order separator unsorted count : Option ℕ) : Type 0 where
-  pub duplicate_is : IsLeastPage duplicate (λ p. not (has_bit meta.flags 0x41) && has_duplicate (tree_pairs file meta.root) p)
-  pub wrong_set_is : IsLeastPage wrong_set (has_wrong_set file (btree_sorted meta.flags) (tree_pairs file meta.root))
+  pub duplicate_is : IsLeastPage duplicate (λ p. not (has_duplicates (BtreeFields meta)) && has_duplicate (tree_pairs file meta.root) p)
+  pub wrong_set_is : IsLeastPage wrong_set (has_wrong_set file (is_sorted (BtreeFields meta)) (tree_pairs file meta.root))
   pub wrong_order_is : IsLeastPage wrong_order (has_wrong_order (tree_pairs file meta.root))
   pub separator_is : IsLeastPage separator (is_wrong_at file (has_wrong_separator file) (inner_pages file meta.root))
-  pub unsorted_is : IsLeastPage unsorted (λ p. btree_sorted meta.flags && has_unsorted file (tree_pairs file meta.root) p)
-  pub count_is : IsLeastPage count (λ p. has_bit meta.flags 0x04 && is_wrong_at file (has_wrong_count file) (inner_pages file meta.root) p)
+  pub unsorted_is : IsLeastPage unsorted (λ p. is_sorted (BtreeFields meta) && has_unsorted file (tree_pairs file meta.root) p)
+  pub count_is : IsLeastPage count (λ p. counts_records meta && is_wrong_at file (has_wrong_count file) (inner_pages file meta.root) p)
 
 pub btree_first : (image : List ℕ) (meta : BtreeMeta) (duplicate wrong_set wrong_order separator unsorted count : Option ℕ)
     → IsForest image
@@ -133,7 +118,7 @@ pub btree_first : (image : List ℕ) (meta : BtreeMeta) (duplicate wrong_set wro
     → IsKeyed (file_of image) meta.root
     → has_bit meta.flags 2 ≡ false
     → AreLeast (file_of image) meta duplicate wrong_set wrong_order separator unsorted count
-    → sooner 1 duplicate (sooner 2 wrong_set (sooner 3 wrong_order (sooner 4 separator (sooner 5 unsorted (sooner 6 count None))))) ≡ first_fault (contents_faults (file_of image) (BtreeFields meta))
+    → sooner 1 duplicate (sooner 2 wrong_set (sooner 3 wrong_order (sooner 4 separator (sooner 5 unsorted (sooner 6 count None))))) ≡ first_fault (database_faults (file_of image) (BtreeFields meta))
 btree_first image meta duplicate wrong_set wrong_order separator unsorted count forest fits keyed flags least =
     let file : File = file_of image in
     let first : Option Fault = sooner 1 duplicate (sooner 2 wrong_set (sooner 3 wrong_order (sooner 4 separator (sooner 5 unsorted (sooner 6 count None))))) in

@@ -6,12 +6,12 @@ use Rattle.std.proofs.lemmas.Bool.{cases_lt, le-ltb, lt-ltb, or_from}
 use Rattle.std.proofs.lemmas.List.{take_all, take_more}
 use Rattle.std.proofs.lemmas.List.Folds.{list_any_at}
 use Rattle.std.proofs.lemmas.List.Sums.{fold-append}
-use Rattle.bdb_model.specs.ContentRows.{has_wrong_count, is_wrong_count}
-use Rattle.bdb_model.specs.Contents.{StoredPair, pairs_of, tree_pairs}
-use Rattle.bdb_model.specs.File.{File, page_at, type_in}
-use Rattle.bdb_model.specs.Leaves.{leaves}
-use Rattle.bdb_model.specs.Page.{InternalItem, Listed, Page}
-use Rattle.bdb_model.specs.References.{has_type}
+use Rattle.bdb_format.specs.ContentRows.{has_wrong_count, is_wrong_count}
+use Rattle.bdb_format.specs.Contents.{StoredPair, pairs_of, tree_pairs}
+use Rattle.bdb_format.specs.File.{File, page_at, type_in}
+use Rattle.bdb_format.specs.Leaves.{leaves}
+use Rattle.bdb_format.specs.Page.{InternalItem, Listed, Page}
+use Rattle.bdb_format.specs.References.{has_type}
 use Rattle.bdb_form.specs.Seen.{page_seen}
 use Rattle.bdb_form.specs.declared.view.PageView.{PageView}
 use Rattle.bdb_form.specs.declared.view.PageView.TheVariants.{Internal as InternalSeen, RecnoInternal as RecnoInternalSeen}
@@ -19,7 +19,7 @@ use Rattle.bdb_overflow.proofs.ContentLemmas.{got}
 use Rattle.bdb_btree.specs.Counts.{IsKeyed, count_page, count_pair, no_pairs_counted, one_more}
 use Rattle.bdb_tree.specs.Trees.{IsTreePage}
 use Rattle.bdb_btree.specs.declared.counts.Counts.{Counts}
-use Rattle.bdb_tree.proofs.ShapeLemmas.{of_type}
+use Rattle.bdb_format.proofs.TypeLemmas.{of_type}
 
 -- Pairs.
 

@@ -11,21 +11,21 @@ use Rattle.std.proofs.lemmas.Option.{slice_get-get_or}
 use Rattle.std.proofs.lemmas.Slice.Eq.{bytes_eq-Decides}
 use Rattle.std.specs.declared.cmp.Ordering.{Ordering}
 use Rattle.std.specs.declared.cmp.Ordering.TheVariants.{Less as Below, Equal, Greater}
-use Rattle.bdb_model.specs.declared.metadata.BtreeMeta.{BtreeMeta}
-use Rattle.bdb_model.specs.Chains.{value_of}
-use Rattle.bdb_model.specs.ContentRows.{Separated, breaks, btree_contents, contents_faults, contents_rows, has_wrong_separator, inner_pages, no_separator, recno_contents, separated}
-use Rattle.bdb_model.specs.Contents.{StoredPair, data_of, pairs_of, tree_pairs}
-use Rattle.bdb_model.specs.File.{File, file_of, header_in, page_at, type_in}
-use Rattle.bdb_model.specs.HeadOf.{head_of}
-use Rattle.bdb_model.specs.Leaves.{children_in, leaves}
-use Rattle.bdb_model.specs.Less.{less}
-use Rattle.bdb_model.specs.Lists.{ListKey, BytesKey, btree_list, get, is_key, listed_pair}
-use Rattle.bdb_model.specs.Numbers.{has_bit}
-use Rattle.bdb_model.specs.Page.{BtreeFields, InternalItem, Internal, Listed, Page, RecnoInternal}
-use Rattle.bdb_model.specs.References.{child_types, has_type}
-use Rattle.bdb_model.specs.Verdict.{holding, structure_faults}
-use Rattle.bdb_model.proofs.MemberLemmas.{first_member, in_flat_map, in_map, in_range, later_member, none_passes}
-use Rattle.bdb_model.proofs.VerdictLemmas.{AllFail, all_fail, no_codes_at}
+use Rattle.bdb_format.specs.declared.metadata.BtreeMeta.{BtreeMeta}
+use Rattle.bdb_format.specs.Chains.{value_of}
+use Rattle.bdb_format.specs.ContentRows.{Separated, breaks, btree_contents, database_faults, database_rows, has_wrong_separator, inner_pages, no_separator, recno_contents, separated}
+use Rattle.bdb_format.specs.Contents.{StoredPair, data_of, pairs_of, tree_pairs}
+use Rattle.bdb_format.specs.File.{File, file_of, header_in, page_at, type_in}
+use Rattle.bdb_format.specs.HeadOf.{head_of}
+use Rattle.bdb_format.specs.Leaves.{children_in, leaves}
+use Rattle.bdb_format.specs.Less.{less}
+use Rattle.bdb_format.specs.Lists.{ListKey, BytesKey, btree_list, get, is_key, listed_pair}
+use Rattle.bdb_format.specs.Page.{BtreeFields, InternalItem, Internal, Listed, Page, RecnoInternal}
+use Rattle.bdb_format.specs.References.{child_types, has_type}
+use Rattle.bdb_format.specs.Verdict.{holding, structure_faults}
+use Rattle.bdb_format.proofs.MemberLemmas.{first_member, in_flat_map, in_map, in_range, later_member, none_passes}
+use Rattle.bdb_format.proofs.VerdictLemmas.{AllFail, all_fail, no_codes_at}
+use Rattle.bdb_format.specs.Flags.{is_recno}
 use Rattle.bdb_layout.specs.Seen.{OrderingIs}
 use Rattle.bdb_graph.specs.Linked.{FitsLeafPage, HasMetadata, IsForest}
 use Rattle.bdb_graph.specs.Slots.{no_internal_item}
@@ -36,11 +36,16 @@ use Rattle.bdb_tree.specs.Descent.{AllMonotone, AllReadable, IsLastFalse, chosen
 use Rattle.bdb_tree.proofs.DescentLemmas.{chosen_is, internal_inside, internal_is, is_inner, is_inner_below, monotone_by_neighbours}
 use Rattle.bdb_tree.proofs.WayLemmas.{chosen_among}
 use Rattle.bdb_btree.specs.Search.{AreOpen, data_under, found_left, from_key, is_below, left_of, under}
-use Rattle.bdb_btree.proofs.LessLemmas.{less_trans, not_less_self}
+use Rattle.bdb_btree.proofs.LessLemmas.{less_trans}
 use Rattle.bdb_btree.proofs.PairLemmas.{pair_of_page}
 use Rattle.bdb_btree.proofs.RootLemmas.{root_keyed}
-use Rattle.bdb_tree.proofs.ShapeLemmas.{IsLeafPage, of_type}
+use Rattle.bdb_tree.proofs.ShapeLemmas.{IsLeafPage}
 use Rattle.bdb_tree.proofs.TreeLemmas.{HasTypeAt, IsChild, child_is, leaves_of_inner, leaves_of_leaf, level, root_cases, tree_cases, tree_level}
+use Rattle.bdb_format.proofs.ListLemmas.{flat_map_twice}
+use Rattle.bdb_format.proofs.BoolLemmas.{second_false}
+use Rattle.bdb_format.proofs.TypeLemmas.{of_type, tree_keyed}
+use Rattle.bdb_format.proofs.PairLemmas.{get_append, keyed_rows}
+use Rattle.bdb_format.proofs.LessLemmas.{less_self}
 
 -- What a list has under a key.
 
@@ -64,15 +69,6 @@ get_pair file key pair =
     elim pair.live as (λ b. get (cond b (under pair.key values) []) (BytesKey key) ≡ cond (bytes_eq pair.key key) (cond b values []) []) [
       | true ↦ under_get pair.key key values (bytes_eq pair.key key) refl
       | false ↦ either_none (bytes_eq pair.key key)
-    ]
-
-get_append : (xs ys : List (ListKey × List ℕ)) (key : ListKey) → get (xs ++ ys) key ≡ get xs key ++ get ys key
-get_append [] ys key = refl
-get_append (x ∷ xs) ys key =
-    elim (is_key x.0 key) as (λ b. map (λ (entry : ListKey × List ℕ). entry.1) (cond b (x ∷ filter (λ (entry : ListKey × List ℕ). is_key entry.0 key) (xs ++ ys)) (filter (λ (entry : ListKey × List ℕ). is_key entry.0 key) (xs ++ ys)))
-    ≡ map (λ (entry : ListKey × List ℕ). entry.1) (cond b (x ∷ filter (λ (entry : ListKey × List ℕ). is_key entry.0 key) xs) (filter (λ (entry : ListKey × List ℕ). is_key entry.0 key) xs)) ++ get ys key) [
-      | true ↦ ap (λ rest. x.1 ∷ rest) (get_append xs ys key)
-      | false ↦ get_append xs ys key
     ]
 
 get_pairs : (file : File) (key : List ℕ) (pairs : List StoredPair) → get (flat_map (listed_pair file) pairs) (BytesKey key) ≡ flat_map (data_under file key) pairs
@@ -117,10 +113,6 @@ above_key a key bound high low =
     false_from_ne_true (bytes_eq a key) (λ same. let is : a ≡ key = (bytes_eq-Decides a key).0 same in true≢false (sym low ∙ (ap (λ k. less k bound) (sym is) ∙ high)))
 
 -- Lists of pages.
-
-flat_map_twice : {X Y Z : Type 0} (f : Y → List Z) (g : X → List Y) (xs : List X) → flat_map f (flat_map g xs) ≡ flat_map (λ x. flat_map f (g x)) xs
-flat_map_twice f g [] = refl
-flat_map_twice f g (x ∷ xs) = flat_map-append f (g x) (flat_map g xs) ∙ ap (λ rest. flat_map f (g x) ++ rest) (flat_map_twice f g xs)
 
 flat_map_over : {X Y Z : Type 0} (f : Y → List Z) (g : X → Y) (xs : List X) → flat_map f (map g xs) ≡ flat_map (λ x. f (g x)) xs
 flat_map_over f g [] = refl
@@ -293,9 +285,6 @@ child_keyed view page type is has = of (view.header.level == 2) (ap (λ q. has_t
     of true one = of_type (λ t. has_type (3 ∷ 5 ∷ 12 ∷ []) t ≡ true) (5 ∷ 12 ∷ []) type (refl, (refl, tt)) one
     of false one = of_type (λ t. has_type (3 ∷ 5 ∷ 12 ∷ []) t ≡ true) (3 ∷ []) type (refl, tt) one
 
-tree_keyed : (type : Option ℕ) → has_type (3 ∷ 5 ∷ 12 ∷ []) type ≡ true → has_type (3 ∷ 4 ∷ 5 ∷ 6 ∷ 12 ∷ []) type ≡ true
-tree_keyed type keyed = of_type (λ t. has_type (3 ∷ 4 ∷ 5 ∷ 6 ∷ 12 ∷ []) t ≡ true) (3 ∷ 5 ∷ 12 ∷ []) type (refl, (refl, (refl, tt))) keyed
-
 step_down : (levels : ℕ) (file : File) (test : InternalItem → Bool) (p : ℕ) (next : Option ℕ) → next_below test (page_at file p) ≡ next → descent (suc levels) file test p ≡ go_on (descent levels file test) p next
 unfolding descent
 step_down levels file test p next is = ap (go_on (descent levels file test) p) is
@@ -332,29 +321,22 @@ data_of_descent (suc n) image key p forest is keyed apart =
 
 -- What sound contents give.
 
-past_first : (a b : Bool) → a ≡ true → (a && b) ≡ false → b ≡ false
-past_first true b is none = none
-past_first false b is none = absurd cc
-
-keyed_rows : (file : File) (meta : BtreeMeta) (p : ℕ) (b : Bool) → b ≡ false → holding (cond b (recno_contents file meta p) (btree_contents file meta p)) ≡ [] → holding (btree_contents file meta p) ≡ []
-keyed_rows file meta p true is none = absurd cc
-keyed_rows file meta p false is none = none
-
-pub all_separated : (image : List ℕ) (meta : BtreeMeta) → has_bit meta.flags 0x02 ≡ false → contents_faults (file_of image) (BtreeFields meta) ≡ [] → AllSeparated (file_of image) meta.root
-unfolding contents_faults
+pub all_separated : (image : List ℕ) (meta : BtreeMeta) → is_recno meta ≡ false → database_faults (file_of image) (BtreeFields meta) ≡ [] → AllSeparated (file_of image) meta.root
+unfolding database_faults
 all_separated image meta keys none q page at is =
     let file : File = file_of image in
     let low : q ≤ file.last = internal_inside image q page is in
-    let codes : holding (contents_rows file (BtreeFields meta) q) ≡ [] = no_codes_at 8 0 (file.last + 1) q (λ p. holding (contents_rows file (BtreeFields meta) p)) none (omega arith) (omega arith) in
-    let fail : AllFail (btree_contents file meta q) = all_fail (btree_contents file meta q) (keyed_rows file meta q (has_bit meta.flags 0x02) keys codes) in
+    let codes : holding (database_rows file (BtreeFields meta) q) ≡ [] = no_codes_at 8 0 (file.last + 1) q (λ p. holding (database_rows file (BtreeFields meta) p)) none (omega arith) (omega arith) in
+    let fail : AllFail (btree_contents file meta q) = all_fail (btree_contents file meta q) (keyed_rows file meta q (is_recno meta) keys codes) in
     let passed : ((q == q) && has_wrong_separator file (page_at file q)) ≡ false =
     none_passes (λ r. (r == q) && has_wrong_separator file (page_at file r)) (inner_pages file meta.root) q fail.1.1.1.0 at in
-    are_separated file page (ap (has_wrong_separator file) (sym is) ∙ past_first (q == q) (has_wrong_separator file (page_at file q)) (eq-eqb q q refl) passed)
+    are_separated file page (ap (has_wrong_separator file) (sym is) ∙ second_false (q == q) (has_wrong_separator file (page_at file q)) (eq-eqb q q refl) passed)
 
 -- What a descent with the sought key asks.
 
 -- the root of a btree is an internal page with keys or a leaf of pairs
-pub root_typed : (image : List ℕ) (meta : BtreeMeta) → IsForest image → HasMetadata (file_of image) (BtreeFields meta) → has_bit meta.flags 0x02 ≡ false → HasTypeAt (file_of image) (3 ∷ 5 ∷ []) meta.root
+pub root_typed : (image : List ℕ) (meta : BtreeMeta) → IsForest image → HasMetadata (file_of image) (BtreeFields meta) → is_recno meta ≡ false
+    → HasTypeAt (file_of image) (3 ∷ 5 ∷ []) meta.root
 root_typed image meta forest has keys =
     elim (root_cases image meta.root forest (root_fits image (head_of image) meta forest.formed has)) [
       | inl keyed ↦ keyed
@@ -364,9 +346,9 @@ root_typed image meta forest has keys =
     ]
 
 pub keys_readable : (image : List ℕ) (root : ℕ) → IsForest image → AllReadable (file_of image) (λ (item : InternalItem). FitsContent (file_of image) item.key) root
-keys_readable image root forest p page item inner is (i, low, same) =
-    subst (λ (it : InternalItem). FitsContent (file_of image) it.key) same
-    (key_fits image p page i (get_or page.items i item) forest (internal_inside image p page is) is (slice_get-get_or page.items i item low))
+keys_readable image root forest p page inner is i above low =
+    key_fits image p page i (get_or page.items i no_internal_item) forest (internal_inside image p page is) is
+    (slice_get-get_or page.items i no_internal_item low)
 
 pub keys_monotone : (file : File) (key : List ℕ) (root : ℕ) → AllSeparated file root → AllMonotone file (is_below file key) root
 keys_monotone file key root apart p page inner is =
@@ -375,7 +357,8 @@ keys_monotone file key root apart p page inner is =
     (ap (λ m. less (key_of file page.items m) (key_of file page.items (i + 1))) (let same : i ≡ i + 1 - 1 = omega arith in same) ∙ (apart p page inner is).ascend (i + 1) (omega arith) low))
 
 -- a key has in a list what it has on the leaf to which a descent leads
-pub found_on_leaf : (image key : List ℕ) (meta : BtreeMeta) → IsForest image → HasMetadata (file_of image) (BtreeFields meta) → has_bit meta.flags 0x02 ≡ false → contents_faults (file_of image) (BtreeFields meta) ≡ []
+pub found_on_leaf : (image key : List ℕ) (meta : BtreeMeta) → IsForest image → HasMetadata (file_of image) (BtreeFields meta) → is_recno meta ≡ false
+    → database_faults (file_of image) (BtreeFields meta) ≡ []
     → get (btree_list (file_of image) meta.root) (BytesKey key)
     ≡ flat_map (data_under (file_of image) key) (pairs_of (file_of image) (descent (header_in (page_at (file_of image) meta.root)).level (file_of image) (is_below (file_of image) key) meta.root))
 found_on_leaf image key meta forest has keys none =
@@ -385,8 +368,9 @@ found_on_leaf image key meta forest has keys none =
     (root_keyed image meta forest has keys) (all_separated image meta keys none)
 
 -- what is found on that leaf of a handle to the same image is what the key has
-pub found_by : (linked image key : List ℕ) (meta : BtreeMeta) (root leaf : ℕ) (found : List (List ℕ)) → IsForest linked → HasMetadata (file_of linked) (BtreeFields meta) → has_bit meta.flags 0x02 ≡ false
-    → contents_faults (file_of linked) (BtreeFields meta) ≡ [] → image ≡ linked → root ≡ meta.root
+pub found_by : (linked image key : List ℕ) (meta : BtreeMeta) (root leaf : ℕ) (found : List (List ℕ)) → IsForest linked
+    → HasMetadata (file_of linked) (BtreeFields meta) → is_recno meta ≡ false
+    → database_faults (file_of linked) (BtreeFields meta) ≡ [] → image ≡ linked → root ≡ meta.root
     → leaf ≡ descent (header_in (page_at (file_of image) root)).level (file_of image) (is_below (file_of image) key) root
     → found ≡ flat_map (data_under (file_of image) key) (pairs_of (file_of image) leaf)
     → found ≡ get (btree_list (file_of linked) meta.root) (BytesKey key)
@@ -403,9 +387,9 @@ differ : (xs ys : List ℕ) → (xs ≡ ys → ⊥) → false ≡ bytes_eq xs ys
 differ xs ys other = sym (false_from_ne_true (bytes_eq xs ys) (λ same. other ((bytes_eq-Decides xs ys).0 same)))
 
 pub differ_by : (answer : Ordering) (xs ys : List ℕ) → OrderingIs answer xs ys → (answer ≡ Below) ⊎ (answer ≡ Greater) → false ≡ bytes_eq xs ys
-differ_by Below xs ys is other = differ xs ys (λ same. true≢false (sym is ∙ (ap (less xs) (sym same) ∙ not_less_self xs)))
+differ_by Below xs ys is other = differ xs ys (λ same. true≢false (sym is ∙ (ap (less xs) (sym same) ∙ less_self xs)))
 differ_by Equal xs ys is other = elim other [ inl same ↦ absurd cc | inr same ↦ absurd cc ]
-differ_by Greater xs ys is other = differ xs ys (λ same. true≢false (sym is ∙ (ap (less ys) same ∙ not_less_self ys)))
+differ_by Greater xs ys is other = differ xs ys (λ same. true≢false (sym is ∙ (ap (less ys) same ∙ less_self ys)))
 
 from_key_part : (key : List ℕ) (pairs : List StoredPair) (pair : StoredPair) → Contains (from_key key pairs) pair → Contains pairs pair
 from_key_part key [] pair at = at

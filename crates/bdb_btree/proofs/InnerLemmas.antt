@@ -4,17 +4,17 @@ use Rattle.std.specs.Prelude.{◌==◌}
 use Rattle.std.specs.List.{All, Contains, filter, flat_map}
 use Rattle.std.specs.Option.{is_some, unwrap_or}
 use Rattle.std.proofs.lemmas.List.Elements.{Contains-append_cases, Contains-get_or}
-use Rattle.bdb_model.specs.ContentRows.{inner_in, inner_pages}
-use Rattle.bdb_model.specs.File.{File, file_of, header_in, page_at, type_in}
-use Rattle.bdb_model.specs.Leaves.{children_in}
-use Rattle.bdb_model.specs.Page.{Page, Internal, RecnoInternal}
-use Rattle.bdb_model.specs.References.{child_types, has_type}
-use Rattle.bdb_model.proofs.MemberLemmas.{member_cases, no_member, of_filter, of_flat_map}
+use Rattle.bdb_format.specs.ContentRows.{inner_in, inner_pages}
+use Rattle.bdb_format.specs.File.{File, file_of, header_in, page_at, type_in}
+use Rattle.bdb_format.specs.Leaves.{children_in}
+use Rattle.bdb_format.specs.Page.{Page, Internal, RecnoInternal}
+use Rattle.bdb_format.specs.References.{child_types, has_type}
+use Rattle.bdb_format.proofs.MemberLemmas.{member_cases, no_member, of_filter, of_flat_map}
 use Rattle.bdb_graph.specs.Linked.{IsForest}
 use Rattle.bdb_btree.specs.Counts.{IsKeyed}
 use Rattle.bdb_tree.specs.Trees.{IsTreePage, children_at}
-use Rattle.bdb_tree.proofs.ShapeLemmas.{AllTypes, of_type}
 use Rattle.bdb_tree.proofs.TreeLemmas.{child_is}
+use Rattle.bdb_format.proofs.TypeLemmas.{of_type, keyed_below}
 
 abbrev is_inner : File → ℕ → Bool
 is_inner file p = is_some (children_in (page_at file p))
@@ -39,22 +39,13 @@ more_inner file n turn found new level next all low added children left =
 
 -- Types.
 
-either : (P : Option ℕ → Type 0) (b : Bool) (xs ys : List ℕ) → AllTypes P xs → AllTypes P ys → AllTypes P (cond b xs ys)
-either P true xs ys p q = p
-either P false xs ys p q = q
-
-child_types_keyed : (page : Page) (children : List ℕ) → has_type (3 ∷ 5 ∷ 12 ∷ []) (type_in page) ≡ true → children_in page ≡ Some children → AllTypes (λ type. has_type (3 ∷ 5 ∷ 12 ∷ []) type ≡ true) (child_types page)
-child_types_keyed (Internal page) children keyed are = either (λ type. has_type (3 ∷ 5 ∷ 12 ∷ []) type ≡ true) (page.header.level == 2) (5 ∷ 12 ∷ []) (3 ∷ []) (refl, (refl, tt)) (refl, tt)
-child_types_keyed (RecnoInternal page) children keyed are = absurd cc
-child_types_keyed page children keyed are = absurd cc
-
 child_keyed : (image : List ℕ) (p c : ℕ) → IsForest image → IsKeyed (file_of image) p → Contains (children_at (file_of image) p) c → IsKeyed (file_of image) c
 child_keyed image p c forest keyed at = of (children_in (page_at (file_of image) p)) refl
   where
     of : (children : Option (List ℕ)) → children_in (page_at (file_of image) p) ≡ children → IsKeyed (file_of image) c
     of None none = absurd (no_member [] c refl (subst (λ cs. Contains (unwrap_or cs []) c) none at))
     of (Some children) are =
-        of_type (λ type. has_type (3 ∷ 5 ∷ 12 ∷ []) type ≡ true) (child_types (page_at (file_of image) p)) (type_in (page_at (file_of image) c)) (child_types_keyed (page_at (file_of image) p) children keyed are)
+        of_type (λ type. has_type (3 ∷ 5 ∷ 12 ∷ []) type ≡ true) (child_types (page_at (file_of image) p)) (type_in (page_at (file_of image) c)) (keyed_below (page_at (file_of image) p) children keyed are)
         (child_is image p c children forest are (subst (λ cs. Contains (unwrap_or cs []) c) are at)).type
 
 inner_keyed : (image : List ℕ) (levels : ℕ) (ps : List ℕ) (q : ℕ) → IsForest image → ((p : ℕ) → Contains ps p → IsKeyed (file_of image) p) → Contains (inner_in levels (file_of image) ps) q → IsKeyed (file_of image) q

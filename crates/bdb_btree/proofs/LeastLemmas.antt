@@ -3,13 +3,15 @@ use Rattle.std.proofs.Common.{◌≡◌, ◌⊎◌, ℕ, ◌+◌, ◌<◌, ◌�
 use Rattle.std.specs.Prelude.{◌==◌, ◌&&◌, ◌||◌, nat_le}
 use Rattle.std.specs.List.{Contains, fold, list_any}
 use Rattle.std.proofs.lemmas.Bool.{cases_eq, cases_order, eq-eqb, eqb-true, leb-true, leb-false, or_cases, or_left, or_right, true≢false}
-use Rattle.bdb_model.specs.declared.kinds.Fault.{Fault}
-use Rattle.bdb_model.specs.Table.{Row, ◌:?◌, lesser}
-use Rattle.bdb_model.specs.Verdict.{by_page, holding}
-use Rattle.bdb_model.proofs.MemberLemmas.{first_member, later_member, member_cases, no_member}
-use Rattle.bdb_model.proofs.VerdictLemmas.{ComesFirst, IsOfStage, Rises, by_page_first, holding_least, in_by_page, of_by_page}
-use Rattle.bdb_graph.specs.Linking.{first_fault}
+use Rattle.bdb_format.specs.ByPage.{ComesFirst}
+use Rattle.bdb_format.specs.declared.kinds.Fault.{Fault}
+use Rattle.bdb_format.specs.Table.{Row, ◌:?◌, lesser}
+use Rattle.bdb_format.specs.Verdict.{by_page, holding, first_fault}
+use Rattle.bdb_format.proofs.MemberLemmas.{first_member, later_member, member_cases, no_member}
+use Rattle.bdb_format.proofs.VerdictLemmas.{IsOfStage, Rises, by_page_first, holding_least, in_by_page, of_by_page}
 use Rattle.bdb_btree.specs.Least.{IsLeastPage, noting, sooner}
+use Rattle.bdb_format.proofs.FaultLemmas.{same_fault}
+use Rattle.std.proofs.Math.Bool.{and-false}
 
 -- The least page of a row.
 
@@ -51,10 +53,6 @@ and_true : (a : Bool) → (a && true) ≡ a
 and_true true = refl
 and_true false = refl
 
-and_false : (a : Bool) → (a && false) ≡ false
-and_false true = refl
-and_false false = refl
-
 module _ {X : Type 0} (page : X → ℕ) (test : X → Bool) where
   -- the row of one item
   abbrev passes_at : X → ℕ → Bool
@@ -64,7 +62,7 @@ module _ {X : Type 0} (page : X → ℕ) (test : X → Bool) where
   note_one least row item is =
       elim (test item) as (λ b. IsLeastPage (cond b (lesser least (Some (page item))) least) (λ p. row p || ((page item == p) && b))) [
         | true ↦ least_same (lesser least (Some (page item))) (λ p. row p || (page item == p)) (λ p. row p || ((page item == p) && true)) (λ p. ap (λ b. row p || b) (sym (and_true (page item == p)))) (least_more least (page item) row is)
-        | false ↦ least_same least row (λ p. row p || ((page item == p) && false)) (λ p. sym (ap (λ b. row p || b) (and_false (page item == p)) ∙ or_false (row p))) is
+        | false ↦ least_same least row (λ p. row p || ((page item == p) && false)) (λ p. sym (ap (λ b. row p || b) (and-false (page item == p)) ∙ or_false (row p))) is
       ]
 
   note_more : (items : List X) (least : Option ℕ) (row : ℕ → Bool) → IsLeastPage least row → IsLeastPage (fold (noting page test) least items) (λ p. row p || list_any (λ item. passes_at item p) items)
@@ -203,22 +201,6 @@ AreInside high (row ∷ rows) = ((p : ℕ) → row.test p ≡ true → p < high)
 inside_at : (rows : List PageRow) (high p code : ℕ) → AreInside high rows → HoldsAt rows p code → p < high
 inside_at [] high p code inside holds = absurd holds
 inside_at (row ∷ rows) high p code inside holds = elim holds [ inl here ↦ inside.0 p here.0 | inr later ↦ inside_at rows high p code inside.1 later ]
-
-fault_same : (s t p q c d : ℕ) → s ≡ t → p ≡ q → c ≡ d → ◌≡◌ {A = Fault} (record { stage = s; page = p; code = c }) (record { stage = t; page = q; code = d })
-fault_same s t p q c d stage page code = cc
-
--- two faults of a stage that come before one another are the same
-same_fault : (a b : Fault) → a.stage ≡ b.stage → ComesFirst a b → ComesFirst b a → a ≡ b
-same_fault a b stage first second =
-    elim first [
-      | inl low ↦ elim second [ inl high ↦ absurd (omega arith) | inr at ↦ absurd (let e : b.page ≡ a.page = at.0 in omega arith) ]
-      | inr at ↦
-          let page : a.page ≡ b.page = at.0 in
-          elim second [
-            | inl high ↦ absurd (omega arith)
-            | inr back ↦ let less : a.code ≤ b.code = at.1 in let more : b.code ≤ a.code = back.1 in let code : a.code ≡ b.code = omega arith in fault_same a.stage b.stage a.page b.page a.code b.code stage page code
-          ]
-    ]
 
 first_is : (rows : List PageRow) (n high : ℕ) (first : Option Fault) (faults : List Fault) → AreAbove n rows → AreInside high rows → IsFirst rows first → by_page 8 0 high (λ p. holding (rows_at rows p)) ≡ faults → first_fault faults ≡ first
 first_is rows n high None [] above inside is same = refl

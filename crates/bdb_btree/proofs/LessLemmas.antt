@@ -5,8 +5,8 @@ use Rattle.std.proofs.lemmas.Bool.{cases_order, cases_Bool, or_cases, or_left, o
 use Rattle.std.specs.declared.cmp.Ordering.{Ordering}
 use Rattle.std.specs.declared.cmp.Ordering.TheVariants.{Less as Below, Equal, Greater}
 use Rattle.bdb_layout.specs.Seen.{OrderingIs}
-use Rattle.bdb_model.specs.Less.{less, Less}
-use Rattle.bdb_model.proofs.LessLemmas.{not_less_both, not_less_same}
+use Rattle.bdb_format.specs.Less.{less, Less}
+use Rattle.bdb_format.proofs.LessLemmas.{not_less_both, not_less_same, less_self}
 
 by_first : (x y : ℕ) (b : Bool) → x < y → (nat_lt x y || ((x == y) && b)) ≡ true
 by_first x y b lt = or_left (nat_lt x y) _ (lt-ltb x y lt)
@@ -80,11 +80,8 @@ less_above xs ys zs lt above =
       | inr other ↦ let same : ys ≡ zs = same_unless_less ys zs other above in ap (λ l. less xs l) (sym same) ∙ lt
     ]
 
-pub not_less_self : (xs : List ℕ) → less xs xs ≡ false
-not_less_self xs = false_from_ne_true (less xs xs) (λ is. not_less_same xs is)
-
 pub same_not_less : (xs ys : List ℕ) → xs ≡ ys → false ≡ less xs ys
-same_not_less xs ys same = sym (ap (less xs) (sym same) ∙ not_less_self xs)
+same_not_less xs ys same = sym (ap (less xs) (sym same) ∙ less_self xs)
 
 pub not_less_by : (answer : Ordering) (xs ys : List ℕ) → OrderingIs answer xs ys → (answer ≡ Equal) ⊎ (answer ≡ Greater) → false ≡ less xs ys
 not_less_by Below xs ys is other = elim other [ inl same ↦ absurd cc | inr same ↦ absurd cc ]

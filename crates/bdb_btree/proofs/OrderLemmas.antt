@@ -3,11 +3,11 @@ use Rattle.std.proofs.Common.{◌≡◌, ℕ, ◌+◌, Bool, true, false, not, c
 use Rattle.std.specs.Prelude.{◌==◌, ◌&&◌, ◌||◌}
 use Rattle.std.specs.List.{flat_map, fold, list_any, prefix_len, take_while}
 use Rattle.std.proofs.lemmas.Bool.{true≢false}
-use Rattle.bdb_model.specs.Less.{less}
-use Rattle.bdb_model.specs.Table.{lesser}
-use Rattle.bdb_model.specs.File.{File}
-use Rattle.bdb_model.specs.Contents.{StoredPair}
-use Rattle.bdb_model.specs.ContentRows.{ascends, ascends_from, has_unsorted, is_out_of_order, is_unsorted, live_data, neighbours, neighbours_from}
+use Rattle.bdb_format.specs.Less.{less}
+use Rattle.bdb_format.specs.Table.{lesser}
+use Rattle.bdb_format.specs.File.{File}
+use Rattle.bdb_format.specs.Contents.{StoredPair}
+use Rattle.bdb_format.specs.ContentRows.{ascends, ascends_from, has_unsorted, is_out_of_order, is_unsorted, live_data, neighbours, neighbours_from}
 use Rattle.bdb_btree.specs.Least.{IsLeastPage, noting}
 use Rattle.bdb_btree.specs.Runs.{Run, follow, is_not_above, next_data, next_key}
 use Rattle.bdb_btree.proofs.LeastLemmas.{least_same, note_all}

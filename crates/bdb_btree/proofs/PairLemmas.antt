@@ -2,12 +2,12 @@
 use Rattle.std.proofs.Common.{◌≡◌, ◌⊎◌, ℕ, zero, suc, ◌+◌, ◌*◌, ◌/◌, ◌<◌, ◌≤◌, false, List, [], ◌∷◌, ◌++◌, length, map, arith, refl, sym, ◌∙◌, ap, subst, inl, inr, true≢false}
 use Rattle.std.specs.List.{Contains, flat_map, range_with_len}
 use Rattle.std.proofs.lemmas.Option.{slice_get-get_or}
-use Rattle.bdb_model.specs.Contents.{StoredPair, item_at, pair_at, pairs_in, pairs_of, tree_pairs}
-use Rattle.bdb_model.specs.File.{File, file_of, page_at}
-use Rattle.bdb_model.specs.Leaves.{leaves}
-use Rattle.bdb_model.specs.Page.{Content, Inline, Set, Chain, Tree, Unknown, Item, Listed, Page, Hash, Leaf}
-use Rattle.bdb_model.specs.References.{is_shared_key, no_item}
-use Rattle.bdb_model.proofs.MemberLemmas.{no_member, of_flat_map, of_map, of_range}
+use Rattle.bdb_format.specs.Contents.{StoredPair, pair_at, pairs_in, pairs_of, tree_pairs}
+use Rattle.bdb_format.specs.File.{File, file_of, page_at}
+use Rattle.bdb_format.specs.Leaves.{leaves}
+use Rattle.bdb_format.specs.Page.{Content, Inline, Set, Chain, Tree, Unknown, Item, Listed, Page, Hash, Leaf}
+use Rattle.bdb_format.specs.References.{is_shared_key, item_at, no_item}
+use Rattle.bdb_format.proofs.MemberLemmas.{no_member, of_flat_map, of_map, of_range}
 use Rattle.bdb_graph.specs.Linked.{FitsLeafPage, IsForest}
 use Rattle.bdb_btree.specs.Pairs.{FitsPair, FitsSet}
 use Rattle.bdb_tree.specs.Trees.{IsRoot}

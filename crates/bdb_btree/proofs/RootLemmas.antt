@@ -3,57 +3,30 @@ use Rattle.std.proofs.Common.{◌≡◌, ℕ, ◌+◌, Bool, true, false, not, c
 use Rattle.std.specs.Prelude.{◌||◌}
 use Rattle.std.specs.List.{Contains, enumerate_from, range_with_len}
 use Rattle.std.proofs.lemmas.List.Elements.{Contains-append_right}
-use Rattle.bdb_model.specs.declared.metadata.BtreeMeta.{BtreeMeta}
-use Rattle.bdb_model.specs.declared.metadata.FileKind.{FileKind}
-use Rattle.bdb_model.specs.declared.metadata.FileKind.TheVariants.{Btree, Hash, Queue}
-use Rattle.bdb_model.specs.declared.references.Reference.{Reference}
-use Rattle.bdb_model.specs.declared.references.Sort.{Sort}
-use Rattle.bdb_model.specs.declared.references.Sort.TheVariants.{Root}
-use Rattle.bdb_model.specs.File.{File, file_of, page_at, type_in}
-use Rattle.bdb_model.specs.Graph.{all_references, held_by}
-use Rattle.bdb_model.specs.HeadOf.{head_of}
-use Rattle.bdb_model.specs.Numbers.{has_bit}
-use Rattle.bdb_model.specs.Page.{BtreeFields, Page, Meta}
-use Rattle.bdb_model.specs.References.{asked_by, first_free, fit_code, fit_rows, has_type, names_in, names_of, refs, root_types}
-use Rattle.bdb_model.proofs.GraphLemmas.{each_fits}
-use Rattle.bdb_model.proofs.MemberLemmas.{first_member, in_map, later_member, member_cases, no_member, of_flat_map, of_map}
-use Rattle.bdb_model.proofs.VerdictLemmas.{AllFail, none_is_first_row}
+use Rattle.bdb_format.specs.declared.metadata.BtreeMeta.{BtreeMeta}
+use Rattle.bdb_format.specs.declared.metadata.FileKind.{FileKind}
+use Rattle.bdb_format.specs.declared.metadata.FileKind.TheVariants.{Btree, Hash, Queue}
+use Rattle.bdb_format.specs.declared.references.Reference.{Reference}
+use Rattle.bdb_format.specs.declared.references.Sort.{Sort}
+use Rattle.bdb_format.specs.declared.references.Sort.TheVariants.{Root}
+use Rattle.bdb_format.specs.File.{File, file_of, page_at, type_in}
+use Rattle.bdb_format.specs.Graph.{all_references, held_by}
+use Rattle.bdb_format.specs.HeadOf.{head_of}
+use Rattle.bdb_format.specs.Numbers.{has_bit}
+use Rattle.bdb_format.specs.Page.{BtreeFields, Page, Meta}
+use Rattle.bdb_format.specs.References.{asked_by, first_free, fit_code, fit_rows, has_type, targets_in, targets_of, refs, root_types}
+use Rattle.bdb_format.proofs.GraphLemmas.{each_fits}
+use Rattle.bdb_format.proofs.MemberLemmas.{first_member, in_map, later_member, member_cases, no_member, of_flat_map, of_map}
+use Rattle.bdb_format.proofs.VerdictLemmas.{AllFail, none_is_first_row}
 use Rattle.bdb_graph.specs.Linked.{HasMetadata, IsForest, IsTarget}
 use Rattle.bdb_graph.proofs.ForestLemmas.{sound_graph}
 use Rattle.bdb_graph.proofs.LinkedLemmas.{root_fits}
 use Rattle.bdb_btree.specs.Counts.{IsKeyed}
-use Rattle.bdb_tree.proofs.ShapeLemmas.{of_type}
-
-in_enumerated : {X : Type 0} (n : ℕ) (xs : List X) (x : X) → Contains xs x → (i : ℕ) × Contains (enumerate_from n xs) (i, x)
-in_enumerated n [] x at = absurd (no_member [] x refl at)
-in_enumerated n (y ∷ ys) x at =
-    elim (member_cases y ys x at) [
-      | inl same ↦ (n, subst (λ z. Contains ((n, y) ∷ enumerate_from (n + 1) ys) (n, z)) same (first_member (n, y) (enumerate_from (n + 1) ys)))
-      | inr later ↦ let rest = in_enumerated (n + 1) ys x later in (rest.0, later_member (n, y) (enumerate_from (n + 1) ys) (rest.0, x) rest.1)
-    ]
-
--- a queue file holds no reference
-no_names : (kind : FileKind) (p : ℕ) (page : Page) → kind ≡ Queue → names_of kind p page ≡ []
-no_names Btree p page queue = absurd cc
-no_names Hash p page queue = absurd cc
-no_names Queue p page queue = refl
-
-no_refs : (file : File) (p : ℕ) → file.kind ≡ Queue → refs file p ≡ []
-unfolding refs
-no_refs file p queue =
-    ap (λ names. map (λ (named : ℕ × (Sort × ℕ)). record { place = named.0; sort = named.1.0; target = named.1.1 }) (enumerate_from 0 names)) (no_names file.kind p (page_at file p) queue)
-
-no_queue : (file : File) (sort : Sort) (p : ℕ) → IsTarget file sort p → file.kind ≡ Queue → ⊥
-unfolding all_references
-no_queue file sort p is queue =
-    let page : (q : ℕ) × Contains (range_with_len 0 (file.last + 1)) q × Contains (held_by file q) is.owner = of_flat_map (held_by file) (range_with_len 0 (file.last + 1)) is.owner is.held in
-    let held : (r : Reference) × Contains (refs file page.0) r × (record { holder = page.0; reference = r } ≡ is.owner) = of_map (λ r. record { holder = page.0; reference = r }) (refs file page.0) is.owner page.2 in
-    no_member (refs file page.0) held.0 (no_refs file page.0 queue) held.1
-
-forest_names : (kind : FileKind) (p : ℕ) (page : Page) → (kind ≡ Queue → ⊥) → names_of kind p page ≡ names_in p page
-forest_names Btree p page forest = refl
-forest_names Hash p page forest = refl
-forest_names Queue p page forest = absurd (forest refl)
+use Rattle.bdb_format.proofs.ListLemmas.{in_enumerated}
+use Rattle.bdb_format.proofs.BoolLemmas.{first_or_none}
+use Rattle.bdb_format.proofs.ReferenceLemmas.{forest_names}
+use Rattle.bdb_format.proofs.TypeLemmas.{of_type}
+use Rattle.bdb_graph.proofs.TargetLemmas.{is_no_queue}
 
 -- metadata holds a reference to its root
 root_held : (image : List ℕ) (meta : BtreeMeta) → IsForest image → (has : HasMetadata (file_of image) (BtreeFields meta))
@@ -61,19 +34,16 @@ root_held : (image : List ℕ) (meta : BtreeMeta) → IsForest image → (has : 
 unfolding refs
 root_held image meta forest has =
     let file : File = file_of image in
-    let names : names_of file.kind has.page (page_at file has.page) ≡ names_in has.page (Meta (BtreeFields meta)) =
-    forest_names file.kind has.page (page_at file has.page) (no_queue file Root meta.root (root_fits image (head_of image) meta forest.formed has)) ∙ ap (names_in has.page) has.is in
-    let at : Contains (names_of file.kind has.page (page_at file has.page)) (Root, meta.root) =
+    let names : targets_of file.kind has.page (page_at file has.page) ≡ targets_in has.page (Meta (BtreeFields meta)) =
+    forest_names file.kind has.page (page_at file has.page) (is_no_queue file Root meta.root (root_fits image (head_of image) meta forest.formed has)) ∙ ap (targets_in has.page) has.is in
+    let at : Contains (targets_of file.kind has.page (page_at file has.page)) (Root, meta.root) =
     subst (λ ns. Contains ns (Root, meta.root)) (sym names) (Contains-append_right (first_free has.page meta.free) ((Root, meta.root) ∷ []) (Root, meta.root) (first_member (Root, meta.root) [])) in
-    let found : (i : ℕ) × Contains (enumerate_from 0 (names_of file.kind has.page (page_at file has.page))) (i, (Root, meta.root)) = in_enumerated 0 (names_of file.kind has.page (page_at file has.page)) (Root, meta.root) at in (
+    let found : (i : ℕ) × Contains (enumerate_from 0 (targets_of file.kind has.page (page_at file has.page))) (i, (Root, meta.root)) =
+    in_enumerated 0 (targets_of file.kind has.page (page_at file has.page)) (Root, meta.root) at in (
       found.0,
-      in_map (λ (named : ℕ × (Sort × ℕ)). record { place = named.0; sort = named.1.0; target = named.1.1 }) (enumerate_from 0 (names_of file.kind has.page (page_at file has.page))) (found.0, (Root, meta.root)) found.1,
+      in_map (λ (named : ℕ × (Sort × ℕ)). record { place = named.0; sort = named.1.0; target = named.1.1 })
+          (enumerate_from 0 (targets_of file.kind has.page (page_at file has.page))) (found.0, (Root, meta.root)) found.1,
     )
-
-only_first : (a b : Bool) → b ≡ false → not (a || b) ≡ false → a ≡ true
-only_first true b none passed = refl
-only_first false true none passed = absurd cc
-only_first false false none passed = absurd cc
 
 root_type : (image : List ℕ) (meta : BtreeMeta) → IsForest image → (has : HasMetadata (file_of image) (BtreeFields meta))
     → has_type (root_types (page_at (file_of image) has.page)) (type_in (page_at (file_of image) meta.root)) ≡ true
@@ -83,7 +53,7 @@ root_type image meta forest has =
     let held = root_held image meta forest has in
     let rows = fit_rows file (asked_by has.page (page_at file has.page) Root) meta.root in
     let fail : AllFail rows = none_is_first_row rows (each_fits file has.page (record { place = held.0; sort = Root; target = meta.root }) (sound_graph image forest.linked).references has.inside held.1) in
-    only_first _ _ refl fail.1.0
+    first_or_none _ _ refl fail.1.0
 
 -- the root of a btree is one of pairs
 pub root_keyed : (image : List ℕ) (meta : BtreeMeta) → IsForest image → HasMetadata (file_of image) (BtreeFields meta) → has_bit meta.flags 2 ≡ false → IsKeyed (file_of image) meta.root

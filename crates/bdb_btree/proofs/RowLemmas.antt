@@ -1,10 +1,10 @@
 -- The rows on the pairs of a tree, once all pairs have been passed.
 use Rattle.std.proofs.Common.{◌≡◌, ℕ, Bool, true, false, List, [], ◌∷◌, ◌&&◌, refl, sym, ap, subst, inl}
 use Rattle.std.specs.List.{Contains, fold}
-use Rattle.bdb_model.specs.ContentRows.{has_duplicate, has_unsorted, has_wrong_set, is_duplicate, is_wrong_set}
-use Rattle.bdb_model.specs.Contents.{StoredPair, tree_pairs}
-use Rattle.bdb_model.specs.File.{File, file_of}
-use Rattle.bdb_model.proofs.MemberLemmas.{first_member, later_member}
+use Rattle.bdb_format.specs.ContentRows.{has_duplicate, has_unsorted, has_wrong_set, is_duplicate, is_wrong_set}
+use Rattle.bdb_format.specs.Contents.{StoredPair, tree_pairs}
+use Rattle.bdb_format.specs.File.{File, file_of}
+use Rattle.bdb_format.proofs.MemberLemmas.{first_member, later_member}
 use Rattle.bdb_graph.specs.Linked.{FitsTreeRoot, IsForest}
 use Rattle.bdb_btree.specs.Least.{IsLeastPage, noting}
 use Rattle.bdb_btree.specs.Pairs.{AreFit, FitsPair}

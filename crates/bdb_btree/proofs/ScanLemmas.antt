@@ -1,13 +1,13 @@
 -- The data of an item, and the pairs of a list, one after another.
 use Rattle.std.proofs.Common.{◌≡◌, ℕ, zero, suc, ◌+◌, ◌≤◌, Bool, true, false, not, cond, List, [], ◌∷◌, ◌++◌, length, map, drop, Option, Some, None, arith, refl, sym, ◌∙◌, ap, subst, add-one}
 use Rattle.std.specs.List.{Contains, filter, flat_map, slice_get}
-use Rattle.bdb_model.specs.Chains.{value_of}
-use Rattle.bdb_model.specs.Contents.{StoredPair, data_of, entries_in, live_values, tree_pairs}
-use Rattle.bdb_model.specs.File.{File, file_of, page_at}
-use Rattle.bdb_model.specs.Leaves.{leaves}
-use Rattle.bdb_model.specs.Lists.{ListKey, btree_list, listed_pair}
-use Rattle.bdb_model.specs.Verdict.{structure_faults}
-use Rattle.bdb_model.specs.Page.{Item, Listed, Page, Tree}
+use Rattle.bdb_format.specs.Chains.{value_of}
+use Rattle.bdb_format.specs.Contents.{StoredPair, data_of, entries_in, live_values, tree_pairs}
+use Rattle.bdb_format.specs.File.{File, file_of, page_at}
+use Rattle.bdb_format.specs.Leaves.{leaves}
+use Rattle.bdb_format.specs.Lists.{ListKey, btree_list, listed_pair}
+use Rattle.bdb_format.specs.Verdict.{structure_faults}
+use Rattle.bdb_format.specs.Page.{Item, Listed, Page, Tree}
 use Rattle.bdb_form.specs.Seen.{page_seen}
 use Rattle.bdb_form.specs.declared.view.PageView.{PageView}
 use Rattle.bdb_form.specs.declared.view.PageView.TheVariants.{DupLeaf as DupLeafSeen, RecnoLeaf as RecnoLeafSeen}

@@ -6,13 +6,13 @@ use Rattle.std.proofs.lemmas.Bool.{ne_eqb}
 use Rattle.std.proofs.lemmas.List.{take_all, take_more}
 use Rattle.std.proofs.lemmas.List.Elements.{Contains-get_or}
 use Rattle.std.proofs.lemmas.List.Sums.{fold-append}
-use Rattle.bdb_model.specs.Chains.{value_of}
-use Rattle.bdb_model.specs.ContentRows.{has_wrong_separator, is_wrong_at, separated}
-use Rattle.bdb_model.specs.Contents.{StoredPair, pairs_of, tree_pairs}
-use Rattle.bdb_model.specs.File.{File, file_of, page_at}
-use Rattle.bdb_model.specs.Leaves.{children_in, leaves}
-use Rattle.bdb_model.specs.Page.{InternalItem, Listed, Page, Internal}
-use Rattle.bdb_model.proofs.MemberLemmas.{in_map}
+use Rattle.bdb_format.specs.Chains.{value_of}
+use Rattle.bdb_format.specs.ContentRows.{has_wrong_separator, is_wrong_at, separated}
+use Rattle.bdb_format.specs.Contents.{StoredPair, pairs_of, tree_pairs}
+use Rattle.bdb_format.specs.File.{File, file_of, page_at}
+use Rattle.bdb_format.specs.Leaves.{children_in, leaves}
+use Rattle.bdb_format.specs.Page.{InternalItem, Listed, Page, Internal}
+use Rattle.bdb_format.proofs.MemberLemmas.{in_map}
 use Rattle.bdb_graph.specs.Linked.{FitsLeafPage, IsForest}
 use Rattle.bdb_overflow.proofs.ContentLemmas.{got, key_fits}
 use Rattle.bdb_btree.specs.Bounds.{Bounds, ItemsFit, beyond, bounds_of, no_bounds, past, see_item, see_items, under, under_page, under_pair}

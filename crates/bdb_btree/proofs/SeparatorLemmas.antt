@@ -6,12 +6,13 @@ use Rattle.std.proofs.lemmas.Bool.{cases_Bool, le-leb, or_from, or_parts, false_
 use Rattle.std.proofs.lemmas.List.{drop_all, drop_more, take_more}
 use Rattle.std.proofs.lemmas.List.Sums.{fold-append}
 use Rattle.std.proofs.lemmas.Grind.{flat_map-append}
-use Rattle.bdb_model.specs.Less.{less, Less}
-use Rattle.bdb_model.specs.ContentRows.{Separated, breaks, no_separator}
-use Rattle.bdb_model.proofs.MemberLemmas.{in_range, none_pass, none_passes, of_range}
+use Rattle.bdb_format.specs.Less.{less, Less}
+use Rattle.bdb_format.specs.ContentRows.{Separated, breaks, no_separator}
+use Rattle.bdb_format.proofs.MemberLemmas.{in_range, none_pass, none_passes, of_range}
 use Rattle.bdb_btree.specs.Bounds.{Bounds, beyond, bounds_of, greater_of, is_below, no_bounds, past, under}
 use Rattle.bdb_btree.specs.Runs.{is_not_above}
-use Rattle.bdb_btree.proofs.LessLemmas.{below_less, less_above, less_trans, not_less_self}
+use Rattle.bdb_btree.proofs.LessLemmas.{below_less, less_above, less_trans}
+use Rattle.bdb_format.proofs.LessLemmas.{less_self}
 
 or_assoc : (a b c : Bool) → ((a || b) || c) ≡ (a || (b || c))
 or_assoc true b c = refl
@@ -196,7 +197,7 @@ less_if true false is none = sym none
 less_if false a is none = absurd (true≢false (sym is))
 
 keys_rise : (parts : List Separated) (i d : ℕ) → NoneHere parts → 1 ≤ i → i + d < length parts → less (key_at parts (i + d)) (key_at parts i) ≡ false
-keys_rise parts i zero none some low = let same : i + 0 ≡ i = omega arith in ap (λ n. less (key_at parts n) (key_at parts i)) same ∙ not_less_self (key_at parts i)
+keys_rise parts i zero none some low = let same : i + 0 ≡ i = omega arith in ap (λ n. less (key_at parts n) (key_at parts i)) same ∙ less_self (key_at parts i)
 keys_rise parts i (suc d) none some low =
     let sound : IsSound parts (i + suc d) = sound_at parts (i + suc d) (none (i + suc d) (omega arith) low) in
     let back : i + suc d - 1 ≡ i + d = omega arith in

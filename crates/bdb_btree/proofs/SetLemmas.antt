@@ -1,16 +1,16 @@
 -- The root of a set of data off the page, by its type.
 use Rattle.std.proofs.Common.{◌≡◌, ℕ, Bool, true, false, not, List, [], ◌∷◌, Some, refl, ◌∙◌}
-use Rattle.bdb_model.specs.ContentRows.{wrong_set_types}
-use Rattle.bdb_model.specs.File.{File, file_of, page_at, type_in}
-use Rattle.bdb_model.specs.Page.{Item, Listed, RecnoInternal, RecnoLeaf}
-use Rattle.bdb_model.specs.References.{has_type}
-use Rattle.bdb_model.specs.declared.pages.RecnoItem.{RecnoItem}
+use Rattle.bdb_format.specs.ContentRows.{wrong_set_types}
+use Rattle.bdb_format.specs.File.{File, file_of, page_at, type_in}
+use Rattle.bdb_format.specs.Page.{Item, Listed, RecnoInternal, RecnoLeaf}
+use Rattle.bdb_format.specs.References.{has_type}
+use Rattle.bdb_format.specs.declared.pages.RecnoItem.{RecnoItem}
 use Rattle.bdb_form.specs.Seen.{page_seen}
 use Rattle.bdb_form.specs.declared.view.PageView.{PageView}
 use Rattle.bdb_form.specs.declared.view.PageView.TheVariants.{RecnoInternal as RecnoInternalSeen, RecnoLeaf as RecnoLeafSeen}
 use Rattle.bdb_graph.specs.Linked.{FitsDupRoot, IsForest}
-use Rattle.bdb_tree.proofs.ShapeLemmas.{of_type}
 use Rattle.bdb_tree.proofs.TreeLemmas.{dup_root_type, recno_internal_page, recno_leaf_page}
+use Rattle.bdb_format.proofs.TypeLemmas.{of_type}
 
 not_internal : (view : PageView) (page : Listed RecnoItem) → page_seen view ≡ RecnoInternal page → ((seen : Listed RecnoItem) → view ≡ RecnoInternalSeen seen → ⊥) → ⊥
 not_internal (RecnoInternalSeen seen) page is other = other seen refl

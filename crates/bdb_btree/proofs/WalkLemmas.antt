@@ -4,13 +4,13 @@ use Rattle.std.specs.Prelude.{◌==◌, nat_le, slice_index}
 use Rattle.std.specs.List.{Contains, flat_map, range_with_len, slice_get}
 use Rattle.std.proofs.lemmas.Bool.{eq-eqb, le-leb}
 use Rattle.std.proofs.lemmas.Option.{slice_get-get_or}
-use Rattle.bdb_model.specs.Chains.{value_of}
-use Rattle.bdb_model.specs.Contents.{StoredPair, item_at, pair_at, pairs_in, pairs_of, tree_pairs}
-use Rattle.bdb_model.specs.File.{File, file_of, page_at, type_in}
-use Rattle.bdb_model.specs.Leaves.{leaves}
-use Rattle.bdb_model.specs.Page.{Item, Listed, Leaf}
-use Rattle.bdb_model.specs.References.{is_shared_key, no_item}
-use Rattle.bdb_model.proofs.MemberLemmas.{first_member, later_member}
+use Rattle.bdb_format.specs.Chains.{value_of}
+use Rattle.bdb_format.specs.Contents.{StoredPair, pair_at, pairs_in, pairs_of, tree_pairs}
+use Rattle.bdb_format.specs.File.{File, file_of, page_at, type_in}
+use Rattle.bdb_format.specs.Leaves.{leaves}
+use Rattle.bdb_format.specs.Page.{Item, Listed, Leaf}
+use Rattle.bdb_format.specs.References.{is_shared_key, item_at, no_item}
+use Rattle.bdb_format.proofs.MemberLemmas.{first_member, later_member}
 use Rattle.bdb_form.specs.Formed.{shares_at}
 use Rattle.bdb_form.specs.Seen.{page_seen}
 use Rattle.bdb_form.specs.declared.view.PageView.{PageView}
@@ -22,8 +22,8 @@ use Rattle.bdb_graph.specs.Linked.{FitsDupRoot, FitsLeafPage, IsForest}
 use Rattle.bdb_btree.specs.Pairs.{AreLeaves, pairs_from, pairs_here, pairs_left}
 use Rattle.bdb_overflow.specs.Datum.{single_value}
 use Rattle.bdb_tree.specs.Trees.{IsRoot}
-use Rattle.bdb_tree.proofs.ShapeLemmas.{of_type}
 use Rattle.bdb_tree.proofs.TreeLemmas.{dup_leaf_page, leaf_fits, leaf_page, recno_leaf_page, root_is_tree}
+use Rattle.bdb_format.proofs.TypeLemmas.{of_type}
 
 -- Items.
 

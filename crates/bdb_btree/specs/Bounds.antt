@@ -1,14 +1,14 @@
 -- What is kept of an internal page while its items are gone through: enough to decide its separators.
 use Rattle.std.specs.Prelude.{◌≡◌, ℕ, ◌||◌, if◌then◌else◌, Bool, true, false, List, [], ◌∷◌, Option, Some, None}
 use Rattle.std.specs.List.{fold, slice_get}
-use Rattle.bdb_model.specs.Chains.{value_of}
-use Rattle.bdb_model.specs.Page.{InternalItem}
+use Rattle.bdb_format.specs.Chains.{value_of}
+use Rattle.bdb_format.specs.Page.{InternalItem}
 use Rattle.bdb_overflow.specs.Datum.{FitsContent}
 use Rattle.bdb_tree.specs.Trees.{IsTreePage}
-use Rattle.bdb_model.specs.Less.{less}
-use Rattle.bdb_model.specs.ContentRows.{Separated}
-use Rattle.bdb_model.specs.Contents.{StoredPair, pairs_of, tree_pairs}
-use Rattle.bdb_model.specs.File.{File}
+use Rattle.bdb_format.specs.Less.{less}
+use Rattle.bdb_format.specs.ContentRows.{Separated}
+use Rattle.bdb_format.specs.Contents.{StoredPair, pairs_of, tree_pairs}
+use Rattle.bdb_format.specs.File.{File}
 use Rattle.bdb_btree.specs.Runs.{is_not_above}
 
 -- the key of the last item above index 0, the greatest of the keys below the items so far, and whether a condition failed

@@ -1,10 +1,7 @@
 -- The least page at which a row holds, and the first fault of a table of rows.
-use Rattle.std.specs.Prelude.{◌≡◌, ◌≤◌, ℕ, nat_le, if◌then◌else◌, Bool, true, false, List, Option, Some, None}
-use Rattle.bdb_model.specs.declared.kinds.Fault.{Fault}
-use Rattle.bdb_model.specs.declared.kinds.CheckError.{CheckError}
-use Rattle.bdb_model.specs.declared.kinds.CheckError.TheVariants.{Fault as FaultError, Memory}
-use Rattle.bdb_graph.specs.Linking.{first_fault}
-use Rattle.bdb_model.specs.Table.{lesser}
+use Rattle.std.specs.Prelude.{◌≡◌, ◌≤◌, ℕ, nat_le, if◌then◌else◌, Bool, true, false, Option, Some, None}
+use Rattle.bdb_format.specs.declared.kinds.Fault.{Fault}
+use Rattle.bdb_format.specs.Table.{lesser}
 
 -- the least page for which a test holds, if there is one
 abbrev pub IsLeastPage : Option ℕ → (ℕ → Bool) → Type 0
@@ -21,8 +18,3 @@ sooner code None later = later
 sooner code (Some page) None = Some (record { stage = 8; page = page; code = code })
 sooner code (Some page) (Some later) =
     if nat_le page later.page then Some (record { stage = 8; page = page; code = code }) else Some later
-
--- a refusal is the first of these faults, or want of memory
-abbrev pub IsFirstOf : List Fault → CheckError → Type 0
-IsFirstOf faults (FaultError fault) = first_fault faults ≡ Some fault
-IsFirstOf faults Memory = Unit {0}

@@ -1,10 +1,10 @@
 -- Pairs as the code has them, and what is left of a walk over them. Source: docs/FORMAT.md, "Items".
 use Rattle.std.specs.Prelude.{◌≡◌, ◌≤◌, ℕ, ◌*◌, ◌/◌, ◌-◌, not, List, [], ◌++◌, map, length, Option, Some, None}
 use Rattle.std.specs.List.{Contains, flat_map, range_with_len, slice_get}
-use Rattle.bdb_model.specs.File.{File, file_of, page_at}
-use Rattle.bdb_model.specs.Page.{Content, Inline, Set, Chain, Tree, Unknown, Item, Listed, Leaf}
-use Rattle.bdb_model.specs.References.{is_shared_key}
-use Rattle.bdb_model.specs.Contents.{StoredPair, pair_at, pairs_of}
+use Rattle.bdb_format.specs.File.{File, file_of, page_at}
+use Rattle.bdb_format.specs.Page.{Content, Inline, Set, Chain, Tree, Unknown, Item, Listed, Leaf}
+use Rattle.bdb_format.specs.References.{is_shared_key}
+use Rattle.bdb_format.specs.Contents.{StoredPair, pair_at, pairs_of}
 use Rattle.bdb_layout.specs.Seen.{leaf_item_seen}
 use Rattle.bdb_graph.specs.Linked.{FitsDupRoot, FitsLeafPage, IsForest}
 use Rattle.bdb_overflow.specs.Datum.{FitsContent, datum_seen}

@@ -1,9 +1,9 @@
 -- The rows on the pairs of a btree, pair after pair.
 use Rattle.std.specs.Prelude.{ℕ, ◌==◌, ◌&&◌, if◌then◌else◌, Bool, List, None}
 use Rattle.std.specs.List.{list_any}
-use Rattle.bdb_model.specs.ContentRows.{is_duplicate, is_out_of_order, is_wrong_set, neighbours}
-use Rattle.bdb_model.specs.Contents.{StoredPair}
-use Rattle.bdb_model.specs.File.{File}
+use Rattle.bdb_format.specs.ContentRows.{is_duplicate, is_out_of_order, is_wrong_set, neighbours}
+use Rattle.bdb_format.specs.Contents.{StoredPair}
+use Rattle.bdb_format.specs.File.{File}
 use Rattle.bdb_btree.specs.Least.{noting}
 use Rattle.bdb_btree.specs.Runs.{next_data, next_key}
 use Rattle.bdb_btree.specs.declared.pair_rows.Passed.{Passed}

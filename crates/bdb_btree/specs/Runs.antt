@@ -1,13 +1,13 @@
 -- Values that ought to ascend, one after another: keys of pairs, and the live data of pairs that share a key.
 use Rattle.std.specs.Prelude.{ℕ, ◌&&◌, ◌||◌, not, if◌then◌else◌, Bool, false, List, Option, Some, None}
 use Rattle.std.specs.List.{fold}
-use Rattle.bdb_model.specs.Less.{less}
-use Rattle.bdb_model.specs.Table.{lesser}
-use Rattle.bdb_model.specs.Chains.{value_of}
-use Rattle.bdb_model.specs.File.{File, page_at}
-use Rattle.bdb_model.specs.Page.{Item}
-use Rattle.bdb_model.specs.Contents.{StoredPair, entries_in}
-use Rattle.bdb_model.specs.ContentRows.{live_data}
+use Rattle.bdb_format.specs.Less.{less}
+use Rattle.bdb_format.specs.Table.{lesser}
+use Rattle.bdb_format.specs.Chains.{value_of}
+use Rattle.bdb_format.specs.File.{File, page_at}
+use Rattle.bdb_format.specs.Page.{Item}
+use Rattle.bdb_format.specs.Contents.{StoredPair, entries_in}
+use Rattle.bdb_format.specs.ContentRows.{live_data}
 
 -- a value isn't above the one before it, where there is one
 abbrev pub is_not_above : Option (List ℕ) → List ℕ → Bool

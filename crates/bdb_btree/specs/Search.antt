@@ -2,13 +2,13 @@
 use Rattle.std.specs.Prelude.{◌≡◌, ℕ, not, if◌then◌else◌, Bool, List, [], ◌∷◌, ◌++◌, map, drop, Option, Some, None}
 use Rattle.std.specs.List.{filter, flat_map}
 use Rattle.std.specs.Str.{bytes_eq}
-use Rattle.bdb_model.specs.Chains.{value_of}
-use Rattle.bdb_model.specs.Contents.{StoredPair, data_of, live_values}
-use Rattle.bdb_model.specs.File.{File, page_at}
-use Rattle.bdb_model.specs.Less.{less}
-use Rattle.bdb_model.specs.Lists.{ListKey, BytesKey, listed_pair}
-use Rattle.bdb_model.specs.Page.{InternalItem, Item}
-use Rattle.bdb_model.specs.Verdict.{structure_faults}
+use Rattle.bdb_format.specs.Chains.{value_of}
+use Rattle.bdb_format.specs.Contents.{StoredPair, data_of, live_values}
+use Rattle.bdb_format.specs.File.{File, page_at}
+use Rattle.bdb_format.specs.Less.{less}
+use Rattle.bdb_format.specs.Lists.{ListKey, BytesKey, listed_pair}
+use Rattle.bdb_format.specs.Page.{InternalItem, Item}
+use Rattle.bdb_format.specs.Verdict.{structure_faults}
 use Rattle.bdb_overflow.specs.Datum.{datum_seen, key_view_seen}
 use Rattle.bdb_overflow.specs.declared.datum.Datum.{Datum}
 use Rattle.bdb_overflow.specs.declared.datum.KeyView.{KeyView}

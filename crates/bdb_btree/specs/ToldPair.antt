@@ -1,7 +1,7 @@
 -- A pair as callers are told it.
 use Rattle.std.specs.Prelude.{ℕ, Bool, List, Option}
-use Rattle.bdb_model.specs.Contents.{StoredPair}
-use Rattle.bdb_model.specs.File.{File}
+use Rattle.bdb_format.specs.Contents.{StoredPair}
+use Rattle.bdb_format.specs.File.{File}
 use Rattle.bdb_overflow.specs.Datum.{single_value}
 
 -- a pair: its leaf, its key, the one value of its data, none where they are a set, and whether it's live

@@ -1,32 +1,32 @@
 ghost use Rattle.std.specs.Prelude.{◌≡◌, ◌&&◌, [], IfErr, IfOk, None, OnOk, false, if◌then◌else◌};
 ghost use Rattle.std.specs.List.{All};
 ghost use Rattle.bdb_graph.specs.Linked.{FitsTreeRoot, HasMetadata};
-ghost use Rattle.bdb_graph.specs.Linking.{first_fault};
-ghost use Rattle.bdb_model.specs.ContentRows.{contents_faults, has_wrong_count, is_wrong_at};
-ghost use Rattle.bdb_model.specs.File.{file_of};
-ghost use Rattle.bdb_model.specs.Numbers.{has_bit};
-ghost use Rattle.bdb_model.specs.Page.{BtreeFields};
-ghost use Rattle.bdb_model.specs.Verdict.{structure_faults};
+ghost use Rattle.bdb_format.specs.ContentRows.{database_faults, has_wrong_count, is_wrong_at};
+ghost use Rattle.bdb_format.specs.File.{file_of};
+ghost use Rattle.bdb_format.specs.Numbers.{has_bit};
+ghost use Rattle.bdb_format.specs.Page.{BtreeFields};
+ghost use Rattle.bdb_format.specs.Verdict.{structure_faults, first_fault, IsFirstOf};
+ghost use Rattle.bdb_format.specs.Flags.{is_recno};
 ghost use Rattle.bdb_btree.specs.Counts.{IsKeyed};
-ghost use Rattle.bdb_btree.specs.Least.{IsFirstOf, IsLeastPage, sooner};
+ghost use Rattle.bdb_btree.specs.Least.{IsLeastPage, sooner};
 
 use crate::counts::wrong_count;
 use crate::inner::inner_pages;
 use crate::least::sooner;
 use crate::pair_rows::{PairRows, pair_rows};
 use crate::separators::wrong_separator;
+use bdb_format::{BtreeMeta, CheckError, Fault};
 use bdb_graph::{Forest, Linked};
-use bdb_model::{BtreeMeta, CheckError, Fault};
 use std::alloc::{AllocError, Global};
 
 /// No row on what a btree holds holds. A refusal is the first fault: the least page, and there the least code;
 /// or want of memory. While it runs it takes 4 bytes for each internal page, and 8 for each page below one.
 pub fn check(alloc: Global, linked: &Linked<'_>, meta: &BtreeMeta) -> Result<(), CheckError>
     requires meta { HasMetadata (file_of linked.now) (BtreeFields meta.now) }
-    requires keyed { has_bit meta.now.flags 0x02 ≡ false }
+    requires keyed { is_recno meta.now ≡ false }
     requires stage { structure_faults (file_of linked.now) ≡ [] }
-    ensures accepted { OnOk result (contents_faults (file_of linked.now) (BtreeFields meta.now) ≡ []) }
-    ensures refusal { IfErr result (IsFirstOf (contents_faults (file_of linked.now) (BtreeFields meta.now))) }
+    ensures accepted { OnOk result (database_faults (file_of linked.now) (BtreeFields meta.now) ≡ []) }
+    ensures refusal { IfErr result (IsFirstOf (database_faults (file_of linked.now) (BtreeFields meta.now))) }
 {
     linked.root(meta);
     match first_fault(alloc, &linked.forest(), meta) {
@@ -43,10 +43,10 @@ fn first_fault(
     meta: &BtreeMeta,
 ) -> Result<Option<Fault>, AllocError>
     requires meta { HasMetadata (file_of forest.now) (BtreeFields meta.now) }
-    requires keyed { has_bit meta.now.flags 0x02 ≡ false }
+    requires keyed { is_recno meta.now ≡ false }
     requires root { FitsTreeRoot (file_of forest.now) meta.now.root }
     requires stage { structure_faults (file_of forest.now) ≡ [] }
-    ensures { IfOk result (λ first. first ≡ first_fault (contents_faults (file_of forest.now) (BtreeFields meta.now))) }
+    ensures { IfOk result (λ first. first ≡ first_fault (database_faults (file_of forest.now) (BtreeFields meta.now))) }
 {
     forest.head();
     let rows = pair_rows(forest, meta.root, has_bit(meta.flags, 0x40));

@@ -3,10 +3,10 @@ ghost use Rattle.std.specs.Iterator.{YieldsFirstBy, item_count};
 ghost use Rattle.std.specs.List.{slice_get};
 ghost use Rattle.bdb_layout.specs.Seen.{leaf_item_seen};
 ghost use Rattle.bdb_graph.specs.Linked.{FitsDupRoot, FitsLeafPage};
-ghost use Rattle.bdb_model.specs.Contents.{data_of, live_values};
-ghost use Rattle.bdb_model.specs.File.{file_of, page_at};
-ghost use Rattle.bdb_model.specs.Page.{Tree};
-ghost use Rattle.bdb_model.specs.Verdict.{structure_faults};
+ghost use Rattle.bdb_format.specs.Contents.{data_of, live_values};
+ghost use Rattle.bdb_format.specs.File.{file_of, page_at};
+ghost use Rattle.bdb_format.specs.Page.{Tree};
+ghost use Rattle.bdb_format.specs.Verdict.{structure_faults};
 ghost use Rattle.bdb_overflow.specs.Datum.{FitsContent, datum_seen};
 ghost use Rattle.bdb_btree.specs.Pairs.{AllFit, FitsSet};
 ghost use Rattle.bdb_btree.specs.Search.{left_of, set_items, values_from};
@@ -59,7 +59,7 @@ struct LeafValues<'a> {
 
 impl<'a> Model for LeafValues<'a> {
     ghost use Rattle.std.specs.Prelude.{List, ℕ};
-    ghost use Rattle.bdb_model.specs.File.{file_of};
+    ghost use Rattle.bdb_format.specs.File.{file_of};
 
     ghost Value = { List (List ℕ) };
 
@@ -137,7 +137,7 @@ struct SetData<'a> {
 
 impl<'a> Model for SetData<'a> {
     ghost use Rattle.std.specs.Prelude.{List, ℕ};
-    ghost use Rattle.bdb_model.specs.File.{file_of};
+    ghost use Rattle.bdb_format.specs.File.{file_of};
 
     ghost Value = { List (List ℕ) };
 

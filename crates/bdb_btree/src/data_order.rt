@@ -5,10 +5,10 @@ ghost use Rattle.bdb_btree.specs.Runs.{follow, follow_item, next_data};
 ghost use Rattle.bdb_overflow.specs.Datum.{FitsContent, datum_seen};
 ghost use Rattle.bdb_graph.specs.Linked.{FitsDupRoot, FitsLeafPage};
 ghost use Rattle.bdb_layout.specs.Seen.{leaf_item_seen};
-ghost use Rattle.bdb_model.specs.Contents.{data_of, entries_in};
-ghost use Rattle.bdb_model.specs.Page.{Tree};
-ghost use Rattle.bdb_model.specs.File.{file_of, page_at};
-ghost use Rattle.bdb_model.specs.Verdict.{structure_faults};
+ghost use Rattle.bdb_format.specs.Contents.{data_of, entries_in};
+ghost use Rattle.bdb_format.specs.Page.{Tree};
+ghost use Rattle.bdb_format.specs.File.{file_of, page_at};
+ghost use Rattle.bdb_format.specs.Verdict.{structure_faults};
 
 use crate::least::lesser;
 use crate::order::is_not_above;

@@ -1,9 +1,9 @@
 ghost use Rattle.std.specs.Prelude.{◌≡◌};
 ghost use Rattle.bdb_btree.specs.Pairs.{FitsSet, pair_seen};
 ghost use Rattle.bdb_layout.specs.Seen.{leaf_item_seen};
-ghost use Rattle.bdb_model.specs.ContentRows.{is_duplicate, is_wrong_set, wrong_set_types};
-ghost use Rattle.bdb_model.specs.File.{file_of, page_at, type_in};
-ghost use Rattle.bdb_model.specs.References.{has_type};
+ghost use Rattle.bdb_format.specs.ContentRows.{is_duplicate, is_wrong_set, wrong_set_types};
+ghost use Rattle.bdb_format.specs.File.{file_of, page_at, type_in};
+ghost use Rattle.bdb_format.specs.References.{has_type};
 ghost use Rattle.bdb_graph.specs.Linked.{FitsDupRoot};
 
 use crate::pair::Pair;

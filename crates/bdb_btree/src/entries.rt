@@ -1,9 +1,9 @@
 ghost use Rattle.std.specs.Prelude.{◌≡◌, []};
 ghost use Rattle.std.specs.List.{flat_map};
 ghost use Rattle.std.specs.Iterator.{YieldsFirstBy, item_count};
-ghost use Rattle.bdb_model.specs.File.{file_of};
-ghost use Rattle.bdb_model.specs.Lists.{listed_pair};
-ghost use Rattle.bdb_model.specs.Verdict.{structure_faults};
+ghost use Rattle.bdb_format.specs.File.{file_of};
+ghost use Rattle.bdb_format.specs.Lists.{listed_pair};
+ghost use Rattle.bdb_format.specs.Verdict.{structure_faults};
 ghost use Rattle.bdb_btree.specs.Pairs.{FitsPair, pair_seen};
 ghost use Rattle.bdb_btree.specs.Search.{AreOpen, entry_seen, left_of};
 
@@ -23,7 +23,7 @@ struct Entries<'a> {
 
 impl<'a> Model for Entries<'a> {
     ghost use Rattle.std.specs.Prelude.{List, ℕ};
-    ghost use Rattle.bdb_model.specs.Lists.{ListKey};
+    ghost use Rattle.bdb_format.specs.Lists.{ListKey};
 
     ghost Value = { List (ListKey × List ℕ) };
 
@@ -81,8 +81,8 @@ pub struct Scan<'a> {
 
 impl<'a> Model for Scan<'a> {
     ghost use Rattle.std.specs.Prelude.{List, ℕ};
-    ghost use Rattle.bdb_model.specs.File.{file_of};
-    ghost use Rattle.bdb_model.specs.Lists.{ListKey};
+    ghost use Rattle.bdb_format.specs.File.{file_of};
+    ghost use Rattle.bdb_format.specs.Lists.{ListKey};
 
     ghost Value = { List (ListKey × List ℕ) };
 

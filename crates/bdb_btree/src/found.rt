@@ -3,9 +3,9 @@ ghost use Rattle.std.specs.Iterator.{YieldsFirstBy, item_count};
 ghost use Rattle.std.specs.List.{flat_map};
 ghost use Rattle.std.specs.Str.{bytes_eq};
 ghost use Rattle.bdb_graph.specs.Linked.{FitsLeafPage};
-ghost use Rattle.bdb_model.specs.Contents.{pairs_of};
-ghost use Rattle.bdb_model.specs.File.{file_of};
-ghost use Rattle.bdb_model.specs.Verdict.{structure_faults};
+ghost use Rattle.bdb_format.specs.Contents.{pairs_of};
+ghost use Rattle.bdb_format.specs.File.{file_of};
+ghost use Rattle.bdb_format.specs.Verdict.{structure_faults};
 ghost use Rattle.bdb_overflow.specs.Datum.{datum_seen};
 ghost use Rattle.bdb_btree.specs.Pairs.{FitsPair, pair_seen};
 ghost use Rattle.bdb_btree.specs.Search.{AreOpen, data_under, from_key, left_of};
@@ -83,7 +83,7 @@ pub struct Found<'a> {
 
 impl<'a> Model for Found<'a> {
     ghost use Rattle.std.specs.Prelude.{List, ℕ};
-    ghost use Rattle.bdb_model.specs.File.{file_of};
+    ghost use Rattle.bdb_format.specs.File.{file_of};
 
     ghost Value = { List (List ℕ) };
 

@@ -2,9 +2,9 @@ ghost use Rattle.std.specs.Prelude.{◌≡◌, ◌++◌, IfOk, OnOk};
 ghost use Rattle.std.specs.List.{All, filter};
 ghost use Rattle.std.specs.Option.{is_some};
 ghost use Rattle.bdb_form.specs.Seen.{page_seen};
-ghost use Rattle.bdb_model.specs.ContentRows.{inner_pages};
-ghost use Rattle.bdb_model.specs.File.{file_of, header_in, page_at};
-ghost use Rattle.bdb_model.specs.Leaves.{children_in};
+ghost use Rattle.bdb_format.specs.ContentRows.{inner_pages};
+ghost use Rattle.bdb_format.specs.File.{file_of, header_in, page_at};
+ghost use Rattle.bdb_format.specs.Leaves.{children_in};
 ghost use Rattle.bdb_tree.specs.Trees.{IsTreePage};
 
 use bdb_form::PageView;

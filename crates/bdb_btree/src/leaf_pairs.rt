@@ -1,16 +1,16 @@
 ghost use Rattle.std.specs.Prelude.{◌≡◌, [], map};
 ghost use Rattle.std.specs.Iterator.{YieldsFirstBy, item_count};
 ghost use Rattle.bdb_graph.specs.Linked.{HasMetadata};
-ghost use Rattle.bdb_model.specs.Contents.{tree_pairs};
-ghost use Rattle.bdb_model.specs.File.{file_of};
-ghost use Rattle.bdb_model.specs.Page.{BtreeFields};
-ghost use Rattle.bdb_model.specs.Verdict.{structure_faults};
+ghost use Rattle.bdb_format.specs.Contents.{tree_pairs};
+ghost use Rattle.bdb_format.specs.File.{file_of};
+ghost use Rattle.bdb_format.specs.Page.{BtreeFields};
+ghost use Rattle.bdb_format.specs.Verdict.{structure_faults};
 ghost use Rattle.bdb_btree.specs.Told.{leaf_pair_seen};
 ghost use Rattle.bdb_btree.specs.ToldPair.{told_pair};
 
 use crate::walk::{Pairs, tree_pairs};
+use bdb_format::BtreeMeta;
 use bdb_graph::{Forest, Linked};
-use bdb_model::BtreeMeta;
 use bdb_overflow::{Datum, leaf_datum};
 use std::marker::Model;
 
@@ -34,7 +34,7 @@ pub struct LeafPairs<'a> {
 
 impl<'a> Model for LeafPairs<'a> {
     ghost use Rattle.std.specs.Prelude.{List, map};
-    ghost use Rattle.bdb_model.specs.File.{file_of};
+    ghost use Rattle.bdb_format.specs.File.{file_of};
     ghost use Rattle.bdb_btree.specs.ToldPair.{ToldPair};
 
     ghost Value = { List ToldPair };

@@ -1,8 +1,8 @@
 ghost use Rattle.std.specs.Prelude.{◌≡◌, if◌then◌else◌, Some};
 ghost use Rattle.bdb_btree.specs.Least.{sooner};
-ghost use Rattle.bdb_model.specs.Table.{lesser};
+ghost use Rattle.bdb_format.specs.Table.{lesser};
 
-use bdb_model::Fault;
+use bdb_format::Fault;
 
 /// The lesser of a page, where there is one, and another.
 pub(crate) fn lesser(least: Option<u32>, page: u32) -> Option<u32>

@@ -1,12 +1,11 @@
 ghost use Rattle.std.specs.Prelude.{◌≡◌, ◌+◌, [], false};
 ghost use Rattle.bdb_graph.specs.Linked.{HasMetadata};
-ghost use Rattle.bdb_layout.specs.Seen.{internal_item_seen};
-ghost use Rattle.bdb_model.specs.ContentRows.{contents_faults};
-ghost use Rattle.bdb_model.specs.File.{file_of, header_in, page_at};
-ghost use Rattle.bdb_model.specs.Lists.{BytesKey, btree_list, get};
-ghost use Rattle.bdb_model.specs.Numbers.{has_bit};
-ghost use Rattle.bdb_model.specs.Page.{BtreeFields};
-ghost use Rattle.bdb_model.specs.Verdict.{structure_faults};
+ghost use Rattle.bdb_format.specs.ContentRows.{database_faults};
+ghost use Rattle.bdb_format.specs.File.{file_of, header_in, page_at};
+ghost use Rattle.bdb_format.specs.Lists.{BytesKey, btree_list, get};
+ghost use Rattle.bdb_format.specs.Page.{BtreeFields};
+ghost use Rattle.bdb_format.specs.Verdict.{structure_faults};
+ghost use Rattle.bdb_format.specs.Flags.{is_recno};
 ghost use Rattle.bdb_overflow.specs.Datum.{FitsContent};
 ghost use Rattle.bdb_btree.specs.Search.{is_below};
 
@@ -14,8 +13,8 @@ use crate::entries::Scan;
 use crate::found::{Found, found_on};
 use crate::order::is_less;
 use crate::walk::tree_pairs;
+use bdb_format::{BtreeMeta, Steps};
 use bdb_graph::{Forest, Linked};
-use bdb_model::{BtreeMeta, Steps};
 use bdb_overflow::{Datum, key_datum};
 use bdb_tree::{Separate, descend_in};
 use std::sync::ledger::Ledger;
@@ -59,9 +58,9 @@ pub fn find<'a, L: Ledger>(
     steps: &mut Steps<L>,
 ) -> Found<'a>
     requires meta { HasMetadata (file_of linked.now) (BtreeFields meta.now) }
-    requires keys { has_bit meta.now.flags 0x02 ≡ false }
+    requires keys { is_recno meta.now ≡ false }
     requires stage { structure_faults (file_of linked.now) ≡ [] }
-    requires contents { contents_faults (file_of linked.now) (BtreeFields meta.now) ≡ [] }
+    requires contents { database_faults (file_of linked.now) (BtreeFields meta.now) ≡ [] }
     ensures found { result ≡ get (btree_list (file_of linked.now) meta.now.root) (BytesKey key.now) }
     ensures cost { steps.new ≡ steps.old + (header_in (page_at (file_of linked.now) meta.now.root)).level }
 {

@@ -3,7 +3,7 @@ ghost use Rattle.std.specs.Option.{option_map};
 ghost use Rattle.bdb_btree.specs.Pairs.{pair_seen};
 ghost use Rattle.bdb_btree.specs.Runs.{is_not_above, next_key};
 ghost use Rattle.bdb_overflow.specs.Datum.{datum_seen};
-ghost use Rattle.bdb_model.specs.Less.{less};
+ghost use Rattle.bdb_format.specs.Less.{less};
 
 use crate::least::lesser;
 use crate::pair::Pair;

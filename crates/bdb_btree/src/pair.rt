@@ -1,12 +1,12 @@
 ghost use Rattle.std.specs.Prelude.{◌≡◌, ◌+◌, ◌*◌, ◌<◌, ◌≤◌, length};
-ghost use Rattle.bdb_model.specs.Contents.{pair_at};
-ghost use Rattle.bdb_model.specs.File.{file_of, page_at};
-ghost use Rattle.bdb_model.specs.Page.{Leaf};
-ghost use Rattle.bdb_model.specs.References.{is_shared_key};
+ghost use Rattle.bdb_format.specs.Contents.{pair_at};
+ghost use Rattle.bdb_format.specs.File.{file_of, page_at};
+ghost use Rattle.bdb_format.specs.Page.{Leaf};
+ghost use Rattle.bdb_format.specs.References.{is_shared_key};
 ghost use Rattle.bdb_btree.specs.Pairs.{pair_seen};
 ghost use Rattle.bdb_overflow.specs.Datum.{datum_seen};
 ghost use Rattle.bdb_layout.specs.Seen.{leaf_item_seen};
-ghost use Rattle.bdb_model.specs.Chains.{value_of};
+ghost use Rattle.bdb_format.specs.Chains.{value_of};
 ghost use Rattle.bdb_overflow.specs.Datum.{FitsContent};
 ghost use Rattle.bdb_graph.specs.Linked.{IsForest};
 

@@ -1,10 +1,10 @@
 ghost use Rattle.std.specs.Prelude.{◌≡◌, ◌&&◌, []};
 ghost use Rattle.std.specs.List.{fold};
 ghost use Rattle.bdb_graph.specs.Linked.{FitsTreeRoot};
-ghost use Rattle.bdb_model.specs.ContentRows.{has_duplicate, has_unsorted, has_wrong_set};
-ghost use Rattle.bdb_model.specs.Contents.{tree_pairs};
-ghost use Rattle.bdb_model.specs.File.{file_of};
-ghost use Rattle.bdb_model.specs.Verdict.{structure_faults};
+ghost use Rattle.bdb_format.specs.ContentRows.{has_duplicate, has_unsorted, has_wrong_set};
+ghost use Rattle.bdb_format.specs.Contents.{tree_pairs};
+ghost use Rattle.bdb_format.specs.File.{file_of};
+ghost use Rattle.bdb_format.specs.Verdict.{structure_faults};
 ghost use Rattle.bdb_btree.specs.Least.{IsLeastPage};
 ghost use Rattle.bdb_btree.specs.Pairs.{FitsPair, pair_seen};
 ghost use Rattle.bdb_btree.specs.Rows.{has_wrong_order, next_pair, no_pairs_passed};

@@ -1,9 +1,9 @@
 ghost use Rattle.std.specs.Prelude.{◌≡◌, ◌≤◌, []};
 ghost use Rattle.std.specs.List.{flat_map};
 ghost use Rattle.std.specs.Iterator.{YieldsFirstBy, item_count};
-ghost use Rattle.bdb_model.specs.Contents.{pairs_of, tree_pairs};
-ghost use Rattle.bdb_model.specs.Verdict.{structure_faults};
-ghost use Rattle.bdb_model.specs.File.{file_of};
+ghost use Rattle.bdb_format.specs.Contents.{pairs_of, tree_pairs};
+ghost use Rattle.bdb_format.specs.Verdict.{structure_faults};
+ghost use Rattle.bdb_format.specs.File.{file_of};
 ghost use Rattle.bdb_graph.specs.Linked.{FitsLeafPage};
 ghost use Rattle.bdb_btree.specs.Pairs.{AreLeaves, pair_seen, pairs_here};
 ghost use Rattle.bdb_tree.specs.Trees.{IsRoot};
@@ -25,8 +25,8 @@ pub(crate) struct PagePairs<'a> {
 
 impl<'a> Model for PagePairs<'a> {
     ghost use Rattle.std.specs.Prelude.{List};
-    ghost use Rattle.bdb_model.specs.Contents.{StoredPair};
-    ghost use Rattle.bdb_model.specs.File.{file_of};
+    ghost use Rattle.bdb_format.specs.Contents.{StoredPair};
+    ghost use Rattle.bdb_format.specs.File.{file_of};
 
     ghost Value = { List StoredPair };
 
@@ -92,8 +92,8 @@ pub(crate) struct Pairs<'a> {
 
 impl<'a> Model for Pairs<'a> {
     ghost use Rattle.std.specs.Prelude.{List};
-    ghost use Rattle.bdb_model.specs.Contents.{StoredPair};
-    ghost use Rattle.bdb_model.specs.File.{file_of};
+    ghost use Rattle.bdb_format.specs.Contents.{StoredPair};
+    ghost use Rattle.bdb_format.specs.File.{file_of};
 
     ghost Value = { List StoredPair };
 

@@ -1,4 +1,4 @@
--- Files with chains, whose items tell a total length. Source: docs/FORMAT.md, "Other pages" and "Stage 6".
+-- Files with chains, whose items tell a total length. Source: docs/FORMAT.md, "Other pages" and "Stage 6, chains and trees".
 use Rattle.std.specs.Prelude.{ℕ, ◌+◌, ◌-◌, List, [], ◌∷◌, ◌++◌, map, replicate, codes}
 use Rattle.std.specs.List.{range_with_len}
 use Rattle.bdb_content_samples.specs.Fields.{Entry, text, chain, set, deleted, child, child_by_chain, hash_text, hash_chain, pair, again, live, leaf, recno_leaf, dup_leaf, internal, hash_page, overflow, btree, recno, table}

@@ -1,4 +1,4 @@
--- Files on which rows of stage 8 hold. Source: docs/FORMAT.md, "Stage 8".
+-- Files on which rows of stage 8 hold. Source: docs/FORMAT.md, "Stage 8, contents".
 use Rattle.std.specs.Prelude.{ℕ, List, [], ◌∷◌, ◌++◌, replicate}
 
 -- samples/contents-01-duplicates.db

@@ -1,4 +1,4 @@
--- Btrees with keys that have several data, on their page and off it. Source: docs/FORMAT.md, "Items", "Trees of duplicates" and "Stage 8".
+-- Btrees with keys that have several data, on their page and off it. Source: docs/FORMAT.md, "Items", "Trees of duplicates" and "Stage 8, contents".
 use Rattle.std.specs.Prelude.{ℕ, List, [], ◌∷◌, map}
 use Prim.Native.String.{String}
 use Rattle.bdb_content_samples.specs.Fields.{text, set, deleted, child, recno_child, pair, again, live, leaf, recno_leaf, dup_leaf, internal, recno_internal, btree, one_leaf}

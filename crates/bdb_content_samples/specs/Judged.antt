@@ -2,14 +2,14 @@
 use Rattle.std.specs.Prelude.{ℕ, List, map, codes}
 use Prim.Native.String.{String}
 use Rattle.std.specs.List.{flat_map}
-use Rattle.bdb_model.specs.declared.kinds.Fault.{Fault}
-use Rattle.bdb_model.specs.declared.settings.Settings.{Settings}
-use Rattle.bdb_model.specs.HeadOf.{head_of}
-use Rattle.bdb_model.specs.Page.{Metadata}
-use Rattle.bdb_model.specs.File.{file_of, page_at}
-use Rattle.bdb_model.specs.Lists.{ListKey, BytesKey, NumberKey, list_of}
-use Rattle.bdb_model.specs.ContentRows.{contents_faults, fields_in}
-use Rattle.bdb_model.specs.Databases.{settings_of, data_under}
+use Rattle.bdb_format.specs.declared.kinds.Fault.{Fault}
+use Rattle.bdb_format.specs.declared.settings.Settings.{Settings}
+use Rattle.bdb_format.specs.HeadOf.{head_of}
+use Rattle.bdb_format.specs.Page.{Metadata}
+use Rattle.bdb_format.specs.File.{file_of, page_at}
+use Rattle.bdb_format.specs.Lists.{ListKey, BytesKey, NumberKey, list_of}
+use Rattle.bdb_format.specs.ContentRows.{database_faults, fields_in}
+use Rattle.bdb_format.specs.Databases.{settings_of, data_under}
 
 -- the metadata on a page of an image
 abbrev pub fields_at : List ℕ → ℕ → List Metadata
@@ -17,7 +17,7 @@ fields_at image p = fields_in (page_at (file_of image) p)
 
 -- the faults of stage 8 of the database whose metadata page is given
 abbrev pub contents_at : List ℕ → ℕ → List Fault
-contents_at image p = flat_map (contents_faults (file_of image)) (fields_at image p)
+contents_at image p = flat_map (database_faults (file_of image)) (fields_at image p)
 
 -- the list of the database whose metadata page is given
 abbrev pub list_at : List ℕ → ℕ → List (ListKey × List ℕ)

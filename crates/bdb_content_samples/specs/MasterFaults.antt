@@ -1,4 +1,4 @@
--- Files on which rows of stage 7 hold. Source: docs/FORMAT.md, "Stage 7".
+-- Files on which rows of stage 7 hold. Source: docs/FORMAT.md, "Stage 7, the master".
 use Rattle.std.specs.Prelude.{ℕ, List, [], ◌∷◌, ◌++◌, replicate}
 
 -- samples/master-01-unnamed-many.db

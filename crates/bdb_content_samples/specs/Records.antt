@@ -1,4 +1,4 @@
--- Recnos: records on one leaf, and on leaves below internal pages that count them. Source: docs/FORMAT.md, "Databases of a file" and "Stage 8".
+-- Recnos: records on one leaf, and on leaves below internal pages that count them. Source: docs/FORMAT.md, "Databases of a file" and "Stage 8, contents".
 use Rattle.std.specs.Prelude.{ℕ, List, [], ◌∷◌}
 use Rattle.bdb_content_samples.specs.Fields.{text, chain, deleted, recno_child, recno_leaf, recno_internal, recno}
 use Rattle.bdb_content_samples.specs.Chains.{five_bytes}

@@ -1,4 +1,4 @@
--- Btrees with internal pages: separators and counts. Source: docs/FORMAT.md, "Stage 8".
+-- Btrees with internal pages: separators and counts. Source: docs/FORMAT.md, "Stage 8, contents".
 use Rattle.std.specs.Prelude.{ℕ, List, [], ◌∷◌}
 use Prim.Native.String.{String}
 use Rattle.bdb_content_samples.specs.Fields.{Entry, text, set, child, child_by_chain, pair, live, gone, leaf, dup_leaf, internal, btree}

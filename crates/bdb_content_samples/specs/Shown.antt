@@ -1,9 +1,9 @@
 -- Settings of databases, and metadata with more of them than plain files have. Source: docs/FORMAT.md, "Metadata pages".
 use Rattle.std.specs.Prelude.{ℕ, Bool, true, false, List, [], ◌∷◌}
-use Rattle.bdb_model.specs.Numbers.{overwritten}
-use Rattle.bdb_model.specs.declared.kinds.Kind.TheVariants.{Btree, Recno, Hash, Queue}
-use Rattle.bdb_model.specs.declared.kinds.Order.TheVariants.{Little}
-use Rattle.bdb_model.specs.declared.settings.Settings.{Settings}
+use Rattle.bdb_format.specs.Numbers.{overwritten}
+use Rattle.bdb_format.specs.declared.kinds.Kind.TheVariants.{Btree, Recno, Hash, Queue}
+use Rattle.bdb_format.specs.declared.kinds.Order.TheVariants.{Little}
+use Rattle.bdb_format.specs.declared.settings.Settings.{Settings}
 use Rattle.bdb_content_samples.specs.Fields.{one_leaf}
 use Rattle.bdb_content_samples.specs.Records.{records}
 use Rattle.bdb_content_samples.specs.Tables.{buckets}

@@ -1,4 +1,4 @@
--- Files on which rows of stage 6 hold. Source: docs/FORMAT.md, "Stage 6".
+-- Files on which rows of stage 6 hold. Source: docs/FORMAT.md, "Stage 6, chains and trees".
 use Rattle.std.specs.Prelude.{ℕ, List, [], ◌∷◌, ◌++◌, replicate}
 
 -- samples/structure-01-chain-length.db

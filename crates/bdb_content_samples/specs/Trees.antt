@@ -1,4 +1,4 @@
--- Files whose leaves have links and types that are given. Source: docs/FORMAT.md, "Stage 6".
+-- Files whose leaves have links and types that are given. Source: docs/FORMAT.md, "Stage 6, chains and trees".
 use Rattle.std.specs.Prelude.{ℕ, List, [], ◌∷◌}
 use Rattle.bdb_content_samples.specs.Fields.{text, set, child, recno_child, hash_tree, hash_text, pair, live, leaf, recno_leaf, dup_leaf, internal, recno_internal, hash_page, btree, recno, table}
 

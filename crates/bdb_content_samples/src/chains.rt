@@ -1,9 +1,9 @@
 ghost use Rattle.bdb_content_samples.specs.Chains.{chain_in_a_set, chain_of_data, chain_of_deleted_data, chain_of_deleted_record, chain_of_first_key, chain_of_hash_key, chain_of_key, chain_of_shared_key, chain_of_two, chain_of_two_leaves, empty_chain, long_value};
 ghost use Rattle.bdb_graph_samples.specs.Named.{fault};
-ghost use Rattle.bdb_model.specs.Chains.{chain, pieces_of, value_of};
-ghost use Rattle.bdb_model.specs.File.{file_of};
-ghost use Rattle.bdb_model.specs.Page.{Chain};
-ghost use Rattle.bdb_model.specs.Verdict.{faults_of};
+ghost use Rattle.bdb_format.specs.Chains.{chain, pieces_of, value_of};
+ghost use Rattle.bdb_format.specs.File.{file_of};
+ghost use Rattle.bdb_format.specs.Page.{Chain};
+ghost use Rattle.bdb_format.specs.Verdict.{faults_of};
 ghost use Rattle.std.specs.Prelude.{◌≡◌, codes, [], ◌∷◌};
 
 /// A value of 5,000 bytes on eleven pages, and totals that are one off.

@@ -5,8 +5,8 @@ ghost use Rattle.bdb_content_samples.specs.Named.{names, two_databases};
 ghost use Rattle.bdb_content_samples.specs.Queues.{second_of_three};
 ghost use Rattle.bdb_content_samples.specs.Records.{first_and_third};
 ghost use Rattle.bdb_content_samples.specs.Tables.{buckets, hash_live, set_in_a_bucket};
-ghost use Rattle.bdb_model.specs.Databases.{databases, place_of};
-ghost use Rattle.bdb_model.specs.File.{file_of};
+ghost use Rattle.bdb_format.specs.Databases.{databases, place_of};
+ghost use Rattle.bdb_format.specs.File.{file_of};
 ghost use Rattle.bdb_samples.specs.OnePair.{one_pair};
 ghost use Rattle.std.specs.Prelude.{◌≡◌, codes, None, Some, [], ◌∷◌};
 

@@ -2,7 +2,7 @@ ghost use Rattle.bdb_content_samples.specs.Chains.{five_bytes, leaf_with_chain};
 ghost use Rattle.bdb_content_samples.specs.Duplicates.{set_and_pair, set_on_two_leaves, sorted_items, sorted_level, under_one_key, unsorted_items, unsorted_level, with_item, with_set};
 ghost use Rattle.bdb_content_samples.specs.Fields.{again, chain, deleted, dup_leaf, live, one_leaf, pair, set, text};
 ghost use Rattle.bdb_graph_samples.specs.Named.{fault};
-ghost use Rattle.bdb_model.specs.Verdict.{faults_of};
+ghost use Rattle.bdb_format.specs.Verdict.{faults_of};
 ghost use Rattle.std.specs.Prelude.{◌≡◌, [], ◌∷◌};
 
 /// Three pairs that share a key, with the flags of duplicates and without; the flag of sorted ones alone counts as duplicates.

@@ -2,8 +2,8 @@ ghost use Rattle.bdb_content_samples.specs.Chains.{leaf_with_chain};
 ghost use Rattle.bdb_content_samples.specs.Fields.{again, chain, gone, inline, live, one_leaf, pair, text};
 ghost use Rattle.bdb_content_samples.specs.Separators.{split, split_in_three};
 ghost use Rattle.bdb_graph_samples.specs.Named.{fault};
-ghost use Rattle.bdb_model.specs.Numbers.{overwritten};
-ghost use Rattle.bdb_model.specs.Verdict.{faults_of};
+ghost use Rattle.bdb_format.specs.Numbers.{overwritten};
+ghost use Rattle.bdb_format.specs.Verdict.{faults_of};
 ghost use Rattle.std.specs.Prelude.{◌≡◌, ◌+◌, [], ◌∷◌};
 
 /// The keys `61` and `6100`; one key twice; an order that is of unsigned bytes; a key without bytes.

@@ -6,8 +6,8 @@ ghost use Rattle.bdb_content_samples.specs.Queues.{more_bits, over_two_pages, pa
 ghost use Rattle.bdb_content_samples.specs.Records.{counted_records, first_and_third, record_in_a_chain, records};
 ghost use Rattle.bdb_content_samples.specs.Separators.{split};
 ghost use Rattle.bdb_content_samples.specs.Tables.{empty_set_in_a_bucket, five_keys, hash_live, set_in_a_bucket, with_hash_item, zero_bucket};
-ghost use Rattle.bdb_model.specs.Lists.{BytesKey, NumberKey, get};
-ghost use Rattle.bdb_model.specs.Verdict.{faults_of};
+ghost use Rattle.bdb_format.specs.Lists.{BytesKey, NumberKey, get};
+ghost use Rattle.bdb_format.specs.Verdict.{faults_of};
 ghost use Rattle.std.specs.Prelude.{◌≡◌, codes, [], ◌∷◌};
 
 /// A btree: its live pairs, leaf by leaf.

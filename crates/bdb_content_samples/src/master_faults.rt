@@ -1,6 +1,6 @@
 ghost use Rattle.bdb_content_samples.specs.MasterFaults.{master_entry_size, master_entry_target, master_name_twice_many, master_page_twice_many, master_unnamed_many};
 ghost use Rattle.bdb_graph_samples.specs.Named.{fault};
-ghost use Rattle.bdb_model.specs.Verdict.{faults_of};
+ghost use Rattle.bdb_format.specs.Verdict.{faults_of};
 ghost use Rattle.std.specs.Prelude.{◌≡◌, [], ◌∷◌};
 
 /// Rows of the metadata pages that a master names.

@@ -3,8 +3,8 @@ ghost use Rattle.bdb_content_samples.specs.Judged.{contents_at, entry, list_at};
 ghost use Rattle.bdb_content_samples.specs.Named.{two_databases};
 ghost use Rattle.bdb_content_samples.specs.Tables.{hash_live};
 ghost use Rattle.bdb_graph_samples.specs.Named.{fault};
-ghost use Rattle.bdb_model.specs.Lists.{BytesKey};
-ghost use Rattle.bdb_model.specs.Verdict.{faults_of};
+ghost use Rattle.bdb_format.specs.Lists.{BytesKey};
+ghost use Rattle.bdb_format.specs.Verdict.{faults_of};
 ghost use Rattle.std.specs.Prelude.{◌≡◌, codes, [], ◌∷◌};
 
 /// No row holds on a file with a btree and a hash that have names.

@@ -1,7 +1,7 @@
 ghost use Rattle.bdb_content_samples.specs.Fields.{deleted, one_leaf, live, text};
 ghost use Rattle.bdb_content_samples.specs.Records.{counted_records, counted_records_twice, record_in_a_chain, records};
 ghost use Rattle.bdb_graph_samples.specs.Named.{fault};
-ghost use Rattle.bdb_model.specs.Verdict.{faults_of};
+ghost use Rattle.bdb_format.specs.Verdict.{faults_of};
 ghost use Rattle.std.specs.Prelude.{◌≡◌, [], ◌∷◌};
 
 /// A count is the number of entries below, deleted ones among them.

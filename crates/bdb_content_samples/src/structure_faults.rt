@@ -1,6 +1,6 @@
 ghost use Rattle.bdb_content_samples.specs.StructureFaults.{structure_chain_length, structure_leaf_kind, structure_leaf_link, structure_leaf_link_many};
 ghost use Rattle.bdb_graph_samples.specs.Named.{fault};
-ghost use Rattle.bdb_model.specs.Verdict.{faults_of};
+ghost use Rattle.bdb_format.specs.Verdict.{faults_of};
 ghost use Rattle.std.specs.Prelude.{◌≡◌, [], ◌∷◌};
 
 /// Rows of chains and trees.

@@ -1,8 +1,8 @@
 ghost use Rattle.bdb_content_samples.specs.Fields.{dup_leaf, leaf, live, text};
 ghost use Rattle.bdb_content_samples.specs.Trees.{linked_leaf, mixed_leaves, record_leaves, set_above, set_in_a_table, three_levels, turned_leaves, two_leaves, two_sets};
 ghost use Rattle.bdb_graph_samples.specs.Named.{fault};
-ghost use Rattle.bdb_model.specs.Numbers.{overwritten};
-ghost use Rattle.bdb_model.specs.Verdict.{faults_of};
+ghost use Rattle.bdb_format.specs.Numbers.{overwritten};
+ghost use Rattle.bdb_format.specs.Verdict.{faults_of};
 ghost use Rattle.std.specs.Prelude.{◌≡◌, ◌+◌, [], ◌∷◌};
 
 /// A leaf that is alone has no neighbour.

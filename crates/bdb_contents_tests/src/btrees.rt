@@ -1,12 +1,12 @@
-//! What a btree holds: its order, its duplicates and its counts. Values: docs/FORMAT.md, "Items" and "Stage 8".
+//! What a btree holds: its order, its duplicates and its counts. Values: docs/FORMAT.md, "Items" and "Stage 8, contents".
 
 ghost use Rattle.std.specs.Prelude.{◌≡◌};
 
 use crate::fields::{Field, write};
 use crate::opened::{btree_of, has_sound_trees, is_keyed};
 use bdb_btree::{LeafPair, check, pairs};
+use bdb_format::{CheckError, Fault, Order, Steps};
 use bdb_graph::{Linked, link, open_image};
-use bdb_model::{CheckError, Fault, Order, Steps};
 use bdb_overflow::Datum;
 use std::alloc::Global;
 use std::marker::Brand;

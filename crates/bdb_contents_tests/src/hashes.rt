@@ -1,21 +1,21 @@
-//! Hash tables, checked, listed and found in. Values: docs/FORMAT.md, "Hash metadata", "Items" and "Stage 8, contents".
+//! Hash tables, checked, listed and found in. Values: docs/FORMAT.md, "Hash metadata, type 8", "Items" and "Stage 8, contents".
 
 ghost use Rattle.std.specs.Prelude.{◌≡◌, []};
 ghost use Rattle.std.specs.Bool.{OnTrue};
 ghost use Rattle.bdb_graph.specs.Linked.{HasMetadata};
-ghost use Rattle.bdb_model.specs.ContentRows.{contents_faults};
-ghost use Rattle.bdb_model.specs.File.{file_of};
-ghost use Rattle.bdb_model.specs.Page.{HashFields};
-ghost use Rattle.bdb_model.specs.Verdict.{structure_faults};
+ghost use Rattle.bdb_format.specs.ContentRows.{database_faults};
+ghost use Rattle.bdb_format.specs.File.{file_of};
+ghost use Rattle.bdb_format.specs.Page.{HashFields};
+ghost use Rattle.bdb_format.specs.Verdict.{structure_faults};
 
 use crate::fields::{Field, write};
 use crate::hash_samples::{
     DUPLICATES, DUPLICATES_TWICE, ELSEWHERE, ELSEWHERE_FIRST, KEY_TWICE, KEY_TWICE_LATER, Piece,
     Sample, UNSORTED, UNSORTED_FIRST, WRONG_SET,
 };
+use bdb_format::{CheckError, Fault, HashMeta, Order, Steps};
 use bdb_graph::{Linked, Meta, link, open_image};
 use bdb_hash::{Found, Scan, check, find, scan};
-use bdb_model::{CheckError, Fault, HashMeta, Order, Steps};
 use bdb_overflow::{Datum, KeyView, check_chains, compare_datum};
 use bdb_tree::check_trees;
 use std::alloc::Global;
@@ -394,7 +394,7 @@ fn finds<L: Ledger>(
 ) -> bool
     requires meta { HasMetadata (file_of linked.now) (HashFields meta.now) }
     requires stage { structure_faults (file_of linked.now) ≡ [] }
-    requires contents { contents_faults (file_of linked.now) (HashFields meta.now) ≡ [] }
+    requires contents { database_faults (file_of linked.now) (HashFields meta.now) ≡ [] }
 {
     for (key, values) in found {
         if !has_all(find(linked, meta, key, steps), values) {

@@ -2,18 +2,18 @@
 
 ghost use Rattle.std.specs.Prelude.{◌≡◌, [], false};
 ghost use Rattle.bdb_graph.specs.Linked.{HasMetadata};
-ghost use Rattle.bdb_model.specs.ContentRows.{contents_faults};
-ghost use Rattle.bdb_model.specs.File.{file_of};
-ghost use Rattle.bdb_model.specs.Numbers.{has_bit};
-ghost use Rattle.bdb_model.specs.Page.{BtreeFields};
-ghost use Rattle.bdb_model.specs.Verdict.{structure_faults};
+ghost use Rattle.bdb_format.specs.ContentRows.{database_faults};
+ghost use Rattle.bdb_format.specs.File.{file_of};
+ghost use Rattle.bdb_format.specs.Page.{BtreeFields};
+ghost use Rattle.bdb_format.specs.Verdict.{structure_faults};
+ghost use Rattle.bdb_format.specs.Flags.{is_recno};
 
 use crate::fields::write;
 use crate::lookup_cases::{CASES, Case, Entry, Part};
 use crate::opened::{btree_of, has_sound_trees, is_keyed};
 use bdb_btree::{Found, check, find, scan};
+use bdb_format::{BtreeMeta, Order, Steps};
 use bdb_graph::{Linked, link, open_image};
-use bdb_model::{BtreeMeta, Order, Steps};
 use bdb_overflow::{Datum, KeyView, compare_datum};
 use std::alloc::Global;
 use std::cmp::Ordering;
@@ -70,9 +70,9 @@ fn finds<L: Ledger>(
     steps: &mut Steps<L>,
 ) -> bool
     requires meta { HasMetadata (file_of linked.now) (BtreeFields meta.now) }
-    requires keys { has_bit meta.now.flags 0x02 ≡ false }
+    requires keys { is_recno meta.now ≡ false }
     requires stage { structure_faults (file_of linked.now) ≡ [] }
-    requires contents { contents_faults (file_of linked.now) (BtreeFields meta.now) ≡ [] }
+    requires contents { database_faults (file_of linked.now) (BtreeFields meta.now) ≡ [] }
 {
     let mut found = find(linked, meta, key, steps);
     for entry in list {
@@ -92,9 +92,9 @@ fn finds_all<L: Ledger>(
     steps: &mut Steps<L>,
 ) -> bool
     requires meta { HasMetadata (file_of linked.now) (BtreeFields meta.now) }
-    requires keys { has_bit meta.now.flags 0x02 ≡ false }
+    requires keys { is_recno meta.now ≡ false }
     requires stage { structure_faults (file_of linked.now) ≡ [] }
-    requires contents { contents_faults (file_of linked.now) (BtreeFields meta.now) ≡ [] }
+    requires contents { database_faults (file_of linked.now) (BtreeFields meta.now) ≡ [] }
 {
     for entry in list {
         if !finds(linked, meta, entry.key, list, steps) {

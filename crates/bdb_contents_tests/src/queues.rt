@@ -1,13 +1,13 @@
-//! The records of queues, listed and found. Values: docs/FORMAT.md, "Queue metadata" and "Databases of a file".
+//! The records of queues, listed and found. Values: docs/FORMAT.md, "Queue metadata, type 10" and "Databases of a file".
 
 ghost use Rattle.std.specs.Prelude.{◌≡◌};
 ghost use Rattle.bdb_graph.specs.Linked.{HasMetadata};
-ghost use Rattle.bdb_model.specs.File.{file_of};
-ghost use Rattle.bdb_model.specs.Page.{QueueFields};
+ghost use Rattle.bdb_format.specs.File.{file_of};
+ghost use Rattle.bdb_format.specs.Page.{QueueFields};
 
 use crate::fields::{Field, write};
+use bdb_format::{Order, QueueMeta, Steps};
 use bdb_graph::{Linked, Meta, link, open_image};
-use bdb_model::{Order, QueueMeta, Steps};
 use bdb_overflow::{Datum, KeyView};
 use bdb_queue::{find, scan};
 use std::alloc::Global;

@@ -3,15 +3,15 @@
 
 ghost use Rattle.std.specs.Prelude.{◌≡◌, [], IfSome, IsTrue};
 ghost use Rattle.bdb_graph.specs.Linked.{HasMetadata};
-ghost use Rattle.bdb_model.specs.ContentRows.{contents_faults};
-ghost use Rattle.bdb_model.specs.File.{file_of};
-ghost use Rattle.bdb_model.specs.Numbers.{has_bit};
-ghost use Rattle.bdb_model.specs.Page.{BtreeFields};
-ghost use Rattle.bdb_model.specs.Verdict.{structure_faults};
+ghost use Rattle.bdb_format.specs.ContentRows.{database_faults};
+ghost use Rattle.bdb_format.specs.File.{file_of};
+ghost use Rattle.bdb_format.specs.Page.{BtreeFields};
+ghost use Rattle.bdb_format.specs.Verdict.{structure_faults};
+ghost use Rattle.bdb_format.specs.Flags.{is_recno};
 
 use crate::fields::{Field, write};
+use bdb_format::{BtreeMeta, CheckError, Fault, Order, Steps};
 use bdb_graph::{Linked, Meta, link, open_image};
-use bdb_model::{BtreeMeta, CheckError, Fault, Order, Steps};
 use bdb_overflow::{Datum, KeyView, check_chains};
 use bdb_recno::{check, find, scan};
 use bdb_tree::check_trees;
@@ -201,7 +201,7 @@ fn meta_of(linked: &Linked<'_>) -> Option<BtreeMeta>
 
 /// Whether it's that of a recno.
 fn is_recno(meta: &BtreeMeta) -> bool
-    ensures { IsTrue result → IsTrue (has_bit meta.now.flags 0x02) }
+    ensures { IsTrue result → IsTrue (is_recno meta.now) }
 {
     meta.flags & 0x02 != 0
 }
@@ -252,7 +252,7 @@ fn is_byte(value: &Datum<'_>, byte: u8) -> bool {
 /// Whether a list has exactly these records, in order.
 fn lists(linked: &Linked<'_>, meta: &BtreeMeta, listed: &[(u32, u8)]) -> bool
     requires meta { HasMetadata (file_of linked.now) (BtreeFields meta.now) }
-    requires recno { IsTrue (has_bit meta.now.flags 0x02) }
+    requires recno { IsTrue (is_recno meta.now) }
     requires stage { structure_faults (file_of linked.now) ≡ [] }
 {
     let mut records = scan(linked, meta);
@@ -278,8 +278,8 @@ fn finds<L: Ledger>(
     steps: &mut Steps<L>,
 ) -> bool
     requires meta { HasMetadata (file_of linked.now) (BtreeFields meta.now) }
-    requires recno { IsTrue (has_bit meta.now.flags 0x02) }
-    requires contents { contents_faults (file_of linked.now) (BtreeFields meta.now) ≡ [] }
+    requires recno { IsTrue (is_recno meta.now) }
+    requires contents { database_faults (file_of linked.now) (BtreeFields meta.now) ≡ [] }
 {
     let mut found = find(linked, meta, number, steps);
     match (found.next(), byte) {
@@ -297,8 +297,8 @@ fn finds_all<L: Ledger>(
     steps: &mut Steps<L>,
 ) -> bool
     requires meta { HasMetadata (file_of linked.now) (BtreeFields meta.now) }
-    requires recno { IsTrue (has_bit meta.now.flags 0x02) }
-    requires contents { contents_faults (file_of linked.now) (BtreeFields meta.now) ≡ [] }
+    requires recno { IsTrue (is_recno meta.now) }
+    requires contents { database_faults (file_of linked.now) (BtreeFields meta.now) ≡ [] }
 {
     for (number, byte) in found {
         if !finds(linked, meta, *number, *byte, steps) {
@@ -311,9 +311,9 @@ fn finds_all<L: Ledger>(
 /// Whether no row of stage 8 holds; not, where memory is wanting.
 fn has_sound_contents(alloc: Global, linked: &Linked<'_>, meta: &BtreeMeta) -> bool
     requires meta { HasMetadata (file_of linked.now) (BtreeFields meta.now) }
-    requires recno { IsTrue (has_bit meta.now.flags 0x02) }
+    requires recno { IsTrue (is_recno meta.now) }
     requires stage { structure_faults (file_of linked.now) ≡ [] }
-    ensures { IsTrue result → contents_faults (file_of linked.now) (BtreeFields meta.now) ≡ [] }
+    ensures { IsTrue result → database_faults (file_of linked.now) (BtreeFields meta.now) ≡ [] }
 {
     check(alloc, linked, meta).is_ok()
 }

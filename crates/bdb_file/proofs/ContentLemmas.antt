@@ -3,15 +3,15 @@ use Rattle.std.proofs.Common.{◌≡◌, ℕ, zero, suc, ◌+◌, ◌<◌, ◌�
 use Rattle.std.specs.Prelude.{◌==◌, ◌&&◌}
 use Rattle.std.specs.List.{Contains, flat_map, list_any, range_with_len}
 use Rattle.std.proofs.lemmas.Bool.{cases_eq, eq-eqb, eqb-true, or_cases, or_left, or_right, and_from, and_parts}
-use Rattle.bdb_model.specs.declared.kinds.Fault.{Fault}
-use Rattle.bdb_model.specs.File.{File}
-use Rattle.bdb_model.specs.Numbers.{has_bit}
-use Rattle.bdb_model.specs.Page.{Metadata, BtreeFields, HashFields, QueueFields}
-use Rattle.bdb_model.specs.Table.{Row, ◌:?◌}
-use Rattle.bdb_model.specs.Verdict.{by_page, holding, content_faults}
-use Rattle.bdb_model.specs.ContentRows.{fields_of, file_contents, holds_code, holds_somewhere, btree_contents, contents_faults, contents_rows, recno_contents}
-use Rattle.bdb_model.proofs.MemberLemmas.{first_member, later_member, member_cases, no_member, of_flat_map, in_flat_map}
-use Rattle.bdb_model.proofs.VerdictLemmas.{FirstComesFirst, IsOfStage, Rises, by_page_first, holding_least, in_by_page, of_by_page}
+use Rattle.bdb_format.specs.declared.kinds.Fault.{Fault}
+use Rattle.bdb_format.specs.File.{File}
+use Rattle.bdb_format.specs.Page.{Metadata, BtreeFields, HashFields, QueueFields}
+use Rattle.bdb_format.specs.Table.{Row, ◌:?◌}
+use Rattle.bdb_format.specs.Verdict.{by_page, holding, contents_faults}
+use Rattle.bdb_format.specs.ContentRows.{fields_of, contents_rows, holds_code, holds_somewhere, btree_contents, database_faults, database_rows, recno_contents}
+use Rattle.bdb_format.proofs.MemberLemmas.{first_member, later_member, member_cases, no_member, of_flat_map, in_flat_map}
+use Rattle.bdb_format.proofs.VerdictLemmas.{FirstComesFirst, IsOfStage, Rises, by_page_first, holding_least, in_by_page, of_by_page}
+use Rattle.bdb_format.specs.Flags.{is_recno}
 
 -- The codes of a table.
 
@@ -108,9 +108,9 @@ holding_within (row ∷ rows) code within at = step row.holds (holding_within ro
         ]
     step false deeper here = deeper here
 
-contents_within : (file : File) (fields : Metadata) (p : ℕ) → Within (contents_rows file fields p)
+contents_within : (file : File) (fields : Metadata) (p : ℕ) → Within (database_rows file fields p)
 contents_within file (BtreeFields meta) p =
-    elim (has_bit meta.flags 0x02) as (λ b. Within (cond b (recno_contents file meta p) (btree_contents file meta p))) [
+    elim (is_recno meta) as (λ b. Within (cond b (recno_contents file meta p) (btree_contents file meta p))) [
       | true ↦ (omega arith, omega arith, (omega arith, omega arith, tt))
       | false ↦ (omega arith, omega arith, (omega arith, omega arith, (omega arith, omega arith, (omega arith, omega arith, (omega arith, omega arith, (omega arith, omega arith, tt))))))
     ]
@@ -121,63 +121,63 @@ contents_within file (QueueFields meta) p = tt
 -- The faults of all databases.
 
 -- a code that holds at a page holds there for some database
-of_codes : (file : File) (p code : ℕ) → Contains (holding (file_contents file p)) code → (fields : Metadata) × Contains (fields_of file) fields × Contains (holding (contents_rows file fields p)) code
+of_codes : (file : File) (p code : ℕ) → Contains (holding (contents_rows file p)) code → (fields : Metadata) × Contains (fields_of file) fields × Contains (holding (database_rows file fields p)) code
 unfolding numbered
 of_codes file p code at =
-    let found = any_is (λ fields. holds_code code (contents_rows file fields p)) (fields_of file) (of_numbered 9 1 (holds_somewhere file p) code at) in
-    (found.0, found.1, code_holding (contents_rows file found.0 p) code found.2)
+    let found = any_is (λ fields. holds_code code (database_rows file fields p)) (fields_of file) (of_numbered 9 1 (holds_somewhere file p) code at) in
+    (found.0, found.1, code_holding (database_rows file found.0 p) code found.2)
 
-in_codes : (file : File) (fields : Metadata) (p code : ℕ) → Contains (fields_of file) fields → Contains (holding (contents_rows file fields p)) code → Contains (holding (file_contents file p)) code
+in_codes : (file : File) (fields : Metadata) (p code : ℕ) → Contains (fields_of file) fields → Contains (holding (database_rows file fields p)) code → Contains (holding (contents_rows file p)) code
 unfolding numbered
 in_codes file fields p code at holds =
-    let within : (1 ≤ code) × (code < 10) = holding_within (contents_rows file fields p) code (contents_within file fields p) holds in
+    let within : (1 ≤ code) × (code < 10) = holding_within (database_rows file fields p) code (contents_within file fields p) holds in
     in_numbered 9 1 (holds_somewhere file p) code within.0 within.1
-    (list_any_at (λ other. holds_code code (contents_rows file other p)) (fields_of file) fields at (holding_code (contents_rows file fields p) code holds))
+    (list_any_at (λ other. holds_code code (database_rows file other p)) (fields_of file) fields at (holding_code (database_rows file fields p) code holds))
 
 -- the faults of stage 8 are those of some database
-pub of_contents : (file : File) (fault : Fault) → Contains (content_faults file) fault → Contains (flat_map (contents_faults file) (fields_of file)) fault
-unfolding content_faults contents_faults
+pub of_contents : (file : File) (fault : Fault) → Contains (contents_faults file) fault → Contains (flat_map (database_faults file) (fields_of file)) fault
+unfolding contents_faults database_faults
 of_contents file fault at =
-    let is : IsOfStage 8 0 (0 + (file.last + 1)) (λ p. holding (file_contents file p)) fault = of_by_page 8 0 (file.last + 1) (λ p. holding (file_contents file p)) fault at in
+    let is : IsOfStage 8 0 (0 + (file.last + 1)) (λ p. holding (contents_rows file p)) fault = of_by_page 8 0 (file.last + 1) (λ p. holding (contents_rows file p)) fault at in
     let found = of_codes file fault.page fault.code is.is_code in
-    in_flat_map (contents_faults file) (fields_of file) found.0 fault found.1
-    (subst (λ s. Contains (by_page 8 0 (file.last + 1) (λ p. holding (contents_rows file found.0 p))) (record { stage = s; page = fault.page; code = fault.code })) (sym is.same_stage)
-    (in_by_page 8 0 (file.last + 1) fault.page fault.code (λ p. holding (contents_rows file found.0 p)) is.from_low is.below_high found.2))
+    in_flat_map (database_faults file) (fields_of file) found.0 fault found.1
+    (subst (λ s. Contains (by_page 8 0 (file.last + 1) (λ p. holding (database_rows file found.0 p))) (record { stage = s; page = fault.page; code = fault.code })) (sym is.same_stage)
+    (in_by_page 8 0 (file.last + 1) fault.page fault.code (λ p. holding (database_rows file found.0 p)) is.from_low is.below_high found.2))
 
-pub in_contents : (file : File) (fault : Fault) → Contains (flat_map (contents_faults file) (fields_of file)) fault → Contains (content_faults file) fault
-unfolding content_faults contents_faults
+pub in_contents : (file : File) (fault : Fault) → Contains (flat_map (database_faults file) (fields_of file)) fault → Contains (contents_faults file) fault
+unfolding contents_faults database_faults
 in_contents file fault at =
-    let found = of_flat_map (contents_faults file) (fields_of file) fault at in
-    let codes : ℕ → List ℕ = λ p. holding (contents_rows file found.0 p) in
+    let found = of_flat_map (database_faults file) (fields_of file) fault at in
+    let codes : ℕ → List ℕ = λ p. holding (database_rows file found.0 p) in
     let is : IsOfStage 8 0 (0 + (file.last + 1)) codes fault = of_by_page 8 0 (file.last + 1) codes fault found.2 in
-    subst (λ s. Contains (by_page 8 0 (file.last + 1) (λ p. holding (file_contents file p))) (record { stage = s; page = fault.page; code = fault.code })) (sym is.same_stage)
-    (in_by_page 8 0 (file.last + 1) fault.page fault.code (λ p. holding (file_contents file p)) is.from_low is.below_high (in_codes file found.0 fault.page fault.code found.1 is.is_code))
+    subst (λ s. Contains (by_page 8 0 (file.last + 1) (λ p. holding (contents_rows file p))) (record { stage = s; page = fault.page; code = fault.code })) (sym is.same_stage)
+    (in_by_page 8 0 (file.last + 1) fault.page fault.code (λ p. holding (contents_rows file p)) is.from_low is.below_high (in_codes file found.0 fault.page fault.code found.1 is.is_code))
 
 -- Both lists rise.
 
-within_rises : (file : File) (fields : Metadata) (p : ℕ) → Rises 1 (contents_rows file fields p)
+within_rises : (file : File) (fields : Metadata) (p : ℕ) → Rises 1 (database_rows file fields p)
 within_rises file (BtreeFields meta) p =
-    elim (has_bit meta.flags 0x02) as (λ b. Rises 1 (cond b (recno_contents file meta p) (btree_contents file meta p))) [
+    elim (is_recno meta) as (λ b. Rises 1 (cond b (recno_contents file meta p) (btree_contents file meta p))) [
       | true ↦ (omega arith, (omega arith, tt))
       | false ↦ (omega arith, (omega arith, (omega arith, (omega arith, (omega arith, (omega arith, tt))))))
     ]
 within_rises file (HashFields meta) p = (omega arith, (omega arith, (omega arith, (omega arith, (omega arith, tt)))))
 within_rises file (QueueFields meta) p = tt
 
-pub contents_rises : (file : File) (fields : Metadata) → FirstComesFirst (contents_faults file fields)
-unfolding contents_faults
-contents_rises file fields = by_page_first 8 0 (file.last + 1) (λ p. holding (contents_rows file fields p)) (λ p. holding_least 1 (contents_rows file fields p) (within_rises file fields p))
+pub contents_rises : (file : File) (fields : Metadata) → FirstComesFirst (database_faults file fields)
+unfolding database_faults
+contents_rises file fields = by_page_first 8 0 (file.last + 1) (λ p. holding (database_rows file fields p)) (λ p. holding_least 1 (database_rows file fields p) (within_rises file fields p))
 
-pub contents_one : (file : File) (fields : Metadata) (fault : Fault) → Contains (contents_faults file fields) fault → fault.stage ≡ 8
-unfolding contents_faults
-contents_one file fields fault at = (of_by_page 8 0 (file.last + 1) (λ p. holding (contents_rows file fields p)) fault at).same_stage
+pub contents_one : (file : File) (fields : Metadata) (fault : Fault) → Contains (database_faults file fields) fault → fault.stage ≡ 8
+unfolding database_faults
+contents_one file fields fault at = (of_by_page 8 0 (file.last + 1) (λ p. holding (database_rows file fields p)) fault at).same_stage
 
-pub content_rises : (file : File) → FirstComesFirst (content_faults file)
-unfolding content_faults
+pub content_rises : (file : File) → FirstComesFirst (contents_faults file)
+unfolding contents_faults
 content_rises file =
-    by_page_first 8 0 (file.last + 1) (λ p. holding (file_contents file p))
-    (λ p. holding_least 1 (file_contents file p) (omega arith, (omega arith, (omega arith, (omega arith, (omega arith, (omega arith, (omega arith, (omega arith, (omega arith, tt))))))))))
+    by_page_first 8 0 (file.last + 1) (λ p. holding (contents_rows file p))
+    (λ p. holding_least 1 (contents_rows file p) (omega arith, (omega arith, (omega arith, (omega arith, (omega arith, (omega arith, (omega arith, (omega arith, (omega arith, tt))))))))))
 
-pub content_one : (file : File) (fault : Fault) → Contains (content_faults file) fault → fault.stage ≡ 8
-unfolding content_faults
-content_one file fault at = (of_by_page 8 0 (file.last + 1) (λ p. holding (file_contents file p)) fault at).same_stage
+pub content_one : (file : File) (fault : Fault) → Contains (contents_faults file) fault → fault.stage ≡ 8
+unfolding contents_faults
+content_one file fault at = (of_by_page 8 0 (file.last + 1) (λ p. holding (contents_rows file p)) fault at).same_stage

@@ -5,9 +5,9 @@ use Rattle.std.specs.List.{slice_get}
 use Rattle.std.proofs.lemmas.Bool.{lt-ltb, ne_eqb}
 use Rattle.std.proofs.lemmas.List.{take_all}
 use Rattle.std.proofs.lemmas.List.Filters.{length-filter_more}
-use Rattle.bdb_model.specs.declared.kinds.Fault.{Fault}
+use Rattle.bdb_format.specs.declared.kinds.Fault.{Fault}
 use Rattle.bdb_file.specs.Entries.{AreCounts, NamedPair, count_fault, entries_naming, naming_fault, one_more}
-use Rattle.bdb_model.specs.Master.{is_page}
+use Rattle.bdb_format.specs.Master.{is_page}
 use Rattle.bdb_file.specs.Merged.{earlier}
 use Rattle.bdb_file.specs.Noted.{earliest}
 use Rattle.bdb_file.proofs.NotedLemmas.{noted_more}

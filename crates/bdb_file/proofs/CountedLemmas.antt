@@ -5,19 +5,18 @@ use Rattle.std.specs.List.{AllByRecursion, Contains, IsDistinct, flat_map, list_
 use Rattle.std.proofs.lemmas.Bool.{and_parts, cases_Bool, eq-eqb, eqb-true}
 use Rattle.std.proofs.lemmas.List.{length-map}
 use Rattle.std.proofs.lemmas.Map.Steps.{length-le_from_distinct_below}
-use Rattle.bdb_model.specs.declared.metadata.BtreeMeta.{BtreeMeta}
-use Rattle.bdb_model.specs.ContentRows.{fields_in}
-use Rattle.bdb_model.specs.Databases.{database_on, databases}
-use Rattle.bdb_model.specs.File.{File, file_of, page_at}
-use Rattle.bdb_model.specs.Graph.{is_meta}
-use Rattle.bdb_model.specs.HeadOf.{head_of}
-use Rattle.bdb_model.specs.Master.{is_named_kind, is_page, master_in}
-use Rattle.bdb_model.specs.Page.{Page, Meta}
-use Rattle.bdb_model.specs.Verdict.{faults_of, master_faults}
-use Rattle.bdb_model.proofs.MemberLemmas.{first_member, later_member, no_member, of_map}
-use Rattle.bdb_model.proofs.VerdictLemmas.{no_stage}
+use Rattle.bdb_format.specs.declared.metadata.BtreeMeta.{BtreeMeta}
+use Rattle.bdb_format.specs.ContentRows.{fields_in}
+use Rattle.bdb_format.specs.Databases.{database_on, databases}
+use Rattle.bdb_format.specs.File.{File, file_of, page_at}
+use Rattle.bdb_format.specs.Graph.{is_meta}
+use Rattle.bdb_format.specs.HeadOf.{head_of}
+use Rattle.bdb_format.specs.Master.{is_named_kind, is_page, master_in}
+use Rattle.bdb_format.specs.Page.{Page, Meta}
+use Rattle.bdb_format.specs.Verdict.{faults_of, master_faults}
+use Rattle.bdb_format.proofs.MemberLemmas.{first_member, in_filter, later_member, no_member, of_map}
+use Rattle.bdb_format.proofs.VerdictLemmas.{no_stage}
 use Rattle.bdb_graph.specs.Linked.{IsForest}
-use Rattle.bdb_graph.proofs.ForestLemmas.{in_filter}
 use Rattle.bdb_graph.proofs.HeldLemmas.{last_page}
 use Rattle.bdb_file.specs.Entries.{NamedPair, entries_naming, fault_at, master_entries}
 use Rattle.bdb_file.specs.Named.{entry_database}

@@ -3,20 +3,18 @@ use Rattle.std.proofs.Common.{◌≡◌, ℕ, ◌+◌, ◌<◌, ◌≤◌, true,
 use Rattle.std.specs.Prelude.{take}
 use Rattle.std.specs.List.{Contains, flat_map, range_with_len, slice_get}
 use Rattle.std.proofs.lemmas.List.{take_all}
-use Rattle.bdb_model.specs.declared.kinds.Fault.{Fault}
-use Rattle.bdb_model.specs.declared.metadata.QueueMeta.{QueueMeta}
-use Rattle.bdb_model.specs.ContentRows.{contents_faults, contents_rows, fields_in, fields_of}
-use Rattle.bdb_model.specs.File.{File, file_of, page_at, page_bytes}
-use Rattle.bdb_model.specs.Graph.{is_meta}
-use Rattle.bdb_model.specs.HeadOf.{head_of}
-use Rattle.bdb_model.specs.Page.{Metadata, QueueFields, Page, Meta}
-use Rattle.bdb_model.specs.Reading.{abstract_page}
-use Rattle.bdb_model.specs.Verdict.{holding, content_faults}
-use Rattle.bdb_model.proofs.MemberLemmas.{in_flat_map, in_map, is_empty, no_member, of_filter, of_flat_map, of_map, of_range}
-use Rattle.bdb_model.proofs.VerdictLemmas.{IsOfStage, of_by_page}
-use Rattle.bdb_graph.specs.Linked.{HasMetadata}
-use Rattle.bdb_graph.specs.Linking.{first_fault, meta_pages}
-use Rattle.bdb_graph.proofs.ForestLemmas.{in_filter}
+use Rattle.bdb_format.specs.declared.kinds.Fault.{Fault}
+use Rattle.bdb_format.specs.declared.metadata.QueueMeta.{QueueMeta}
+use Rattle.bdb_format.specs.ContentRows.{database_faults, database_rows, fields_in, fields_of}
+use Rattle.bdb_format.specs.File.{File, file_of, page_at, page_bytes}
+use Rattle.bdb_format.specs.Graph.{is_meta}
+use Rattle.bdb_format.specs.HeadOf.{head_of}
+use Rattle.bdb_format.specs.Page.{Metadata, QueueFields, Page, Meta}
+use Rattle.bdb_format.specs.Reading.{abstract_page}
+use Rattle.bdb_format.specs.Verdict.{holding, contents_faults, first_fault}
+use Rattle.bdb_format.proofs.MemberLemmas.{in_flat_map, in_map, is_empty, no_member, of_filter, of_flat_map, of_map, of_range, in_filter}
+use Rattle.bdb_format.proofs.VerdictLemmas.{IsOfStage, of_by_page}
+use Rattle.bdb_graph.specs.Linked.{HasMetadata, meta_pages}
 use Rattle.bdb_graph.proofs.HeldLemmas.{page_is}
 use Rattle.bdb_file.specs.Merged.{earlier}
 use Rattle.bdb_file.specs.Noted.{contents_at, contents_in, earliest}
@@ -28,24 +26,24 @@ pub has_metadata : (file : File) (p : ℕ) (fields : Metadata) → p ≤ file.la
 has_metadata file p fields inside is = record { page = p; inside = inside; is = is }
 
 -- no row speaks of queues
-pub no_queue_fault : (file : File) (meta : QueueMeta) → first_fault (contents_faults file (QueueFields meta)) ≡ None
-unfolding contents_faults
-no_queue_fault file meta = ap first_fault (is_empty (contents_faults file (QueueFields meta)) none)
+pub no_queue_fault : (file : File) (meta : QueueMeta) → first_fault (database_faults file (QueueFields meta)) ≡ None
+unfolding database_faults
+no_queue_fault file meta = ap first_fault (is_empty (database_faults file (QueueFields meta)) none)
   where
-    none : (fault : Fault) → Contains (contents_faults file (QueueFields meta)) fault → ⊥
+    none : (fault : Fault) → Contains (database_faults file (QueueFields meta)) fault → ⊥
     none fault at =
-        let is : IsOfStage 8 0 (0 + (file.last + 1)) (λ p. holding (contents_rows file (QueueFields meta) p)) fault = of_by_page 8 0 (file.last + 1) (λ p. holding (contents_rows file (QueueFields meta) p)) fault at in
+        let is : IsOfStage 8 0 (0 + (file.last + 1)) (λ p. holding (database_rows file (QueueFields meta) p)) fault = of_by_page 8 0 (file.last + 1) (λ p. holding (database_rows file (QueueFields meta) p)) fault at in
         no_member [] fault.code refl is.is_code
 
 -- The faults of the metadata on a page.
 
-one_of : (file : File) (page : Page) (fault : Fault) → Contains (flat_map (contents_faults file) (fields_in page)) fault → fault.stage ≡ 8
-one_of file page fault at = let found = of_flat_map (contents_faults file) (fields_in page) fault at in contents_one file found.0 fault found.2
+one_of : (file : File) (page : Page) (fault : Fault) → Contains (flat_map (database_faults file) (fields_in page)) fault → fault.stage ≡ 8
+one_of file page fault at = let found = of_flat_map (database_faults file) (fields_in page) fault at in contents_one file found.0 fault found.2
 
-first_of_page : (file : File) (page : Page) → IsFirstOrNone (flat_map (contents_faults file) (fields_in page)) (contents_in file page)
+first_of_page : (file : File) (page : Page) → IsFirstOrNone (flat_map (database_faults file) (fields_in page)) (contents_in file page)
 first_of_page file (Meta fields) =
-    subst (λ fs. IsFirstOrNone fs (first_fault (contents_faults file fields))) (sym (append-nil (contents_faults file fields)))
-    (first_of_list (contents_faults file fields) 8 (contents_rises file fields) (contents_one file fields))
+    subst (λ fs. IsFirstOrNone fs (first_fault (database_faults file fields))) (sym (append-nil (database_faults file fields)))
+    (first_of_list (database_faults file fields) 8 (contents_rises file fields) (contents_one file fields))
 first_of_page file page = λ fault at. no_member [] fault refl at
 
 pub contents_more : (file : File) (i p : ℕ) (least : Option Fault) → slice_get (meta_pages file) i ≡ Some p → least ≡ earliest (contents_at file) (take i (meta_pages file))
@@ -81,29 +79,29 @@ in_fields image p fields at here =
     (subst (λ q. Contains (fields_in q) fields) (page_is image p (omega arith)) here)
 
 -- the faults of all metadata pages are those of stage 8
-of_pages : (image : List ℕ) (fault : Fault) → Contains (flat_map (λ p. flat_map (contents_faults (file_of image)) (fields_in (page_at (file_of image) p))) (meta_pages (file_of image))) fault
-    → Contains (content_faults (file_of image)) fault
+of_pages : (image : List ℕ) (fault : Fault) → Contains (flat_map (λ p. flat_map (database_faults (file_of image)) (fields_in (page_at (file_of image) p))) (meta_pages (file_of image))) fault
+    → Contains (contents_faults (file_of image)) fault
 of_pages image fault at =
     let file : File = file_of image in
-    let page = of_flat_map (λ p. flat_map (contents_faults file) (fields_in (page_at file p))) (meta_pages file) fault at in
-    let found = of_flat_map (contents_faults file) (fields_in (page_at file page.0)) fault page.2 in
-    in_contents file fault (in_flat_map (contents_faults file) (fields_of file) found.0 fault (in_fields image page.0 found.0 page.1 found.1) found.2)
+    let page = of_flat_map (λ p. flat_map (database_faults file) (fields_in (page_at file p))) (meta_pages file) fault at in
+    let found = of_flat_map (database_faults file) (fields_in (page_at file page.0)) fault page.2 in
+    in_contents file fault (in_flat_map (database_faults file) (fields_of file) found.0 fault (in_fields image page.0 found.0 page.1 found.1) found.2)
 
-in_pages : (image : List ℕ) (fault : Fault) → Contains (content_faults (file_of image)) fault
-    → Contains (flat_map (λ p. flat_map (contents_faults (file_of image)) (fields_in (page_at (file_of image) p))) (meta_pages (file_of image))) fault
+in_pages : (image : List ℕ) (fault : Fault) → Contains (contents_faults (file_of image)) fault
+    → Contains (flat_map (λ p. flat_map (database_faults (file_of image)) (fields_in (page_at (file_of image) p))) (meta_pages (file_of image))) fault
 in_pages image fault at =
     let file : File = file_of image in
-    let found = of_flat_map (contents_faults file) (fields_of file) fault (of_contents file fault at) in
+    let found = of_flat_map (database_faults file) (fields_of file) fault (of_contents file fault at) in
     let page = of_fields image found.0 found.1 in
-    in_flat_map (λ p. flat_map (contents_faults file) (fields_in (page_at file p))) (meta_pages file) page.0 fault page.1
-    (in_flat_map (contents_faults file) (fields_in (page_at file page.0)) found.0 fault page.2 found.2)
+    in_flat_map (λ p. flat_map (database_faults file) (fields_in (page_at file p))) (meta_pages file) page.0 fault page.1
+    (in_flat_map (database_faults file) (fields_in (page_at file page.0)) found.0 fault page.2 found.2)
 
 pub contents_first : (image : List ℕ) (i : ℕ) (least : Option Fault) → i ≡ length (meta_pages (file_of image)) → least ≡ earliest (contents_at (file_of image)) (take i (meta_pages (file_of image)))
-    → least ≡ first_fault (content_faults (file_of image))
+    → least ≡ first_fault (contents_faults (file_of image))
 contents_first image i least all noted =
     let file : File = file_of image in
     let whole : least ≡ earliest (contents_at file) (meta_pages file) = noted ∙ ap (earliest (contents_at file)) (take_all i (meta_pages file) (omega arith)) in
     whole
-    ∙ sym (first_is (content_faults file) 8 (earliest (contents_at file) (meta_pages file)) (content_rises file) (content_one file)
-    (first_same (flat_map (λ p. flat_map (contents_faults file) (fields_in (page_at file p))) (meta_pages file)) (content_faults file) (earliest (contents_at file) (meta_pages file)) (of_pages image) (in_pages image)
-    (earliest_first (contents_at file) (λ p. flat_map (contents_faults file) (fields_in (page_at file p))) 8 (λ p. first_of_page file (page_at file p)) (λ p. one_of file (page_at file p)) (meta_pages file))))
+    ∙ sym (first_is (contents_faults file) 8 (earliest (contents_at file) (meta_pages file)) (content_rises file) (content_one file)
+    (first_same (flat_map (λ p. flat_map (database_faults file) (fields_in (page_at file p))) (meta_pages file)) (contents_faults file) (earliest (contents_at file) (meta_pages file)) (of_pages image) (in_pages image)
+    (earliest_first (contents_at file) (λ p. flat_map (database_faults file) (fields_in (page_at file p))) 8 (λ p. first_of_page file (page_at file p)) (λ p. one_of file (page_at file p)) (meta_pages file))))

@@ -4,19 +4,19 @@ use Rattle.std.specs.Prelude.{◌==◌}
 use Rattle.std.specs.List.{filter, range_with_len, slice_get}
 use Rattle.std.proofs.lemmas.Bool.{ne_eqb, true≢false}
 use Rattle.std.proofs.lemmas.List.{take_all}
-use Rattle.bdb_model.specs.declared.kinds.Order.TheVariants.{Big}
-use Rattle.bdb_model.specs.declared.metadata.BtreeMeta.{BtreeMeta}
-use Rattle.bdb_model.specs.Chains.{value_of}
-use Rattle.bdb_model.specs.Contents.{StoredPair, tree_pairs}
-use Rattle.bdb_model.specs.File.{File, page_at}
-use Rattle.bdb_model.specs.Graph.{is_meta}
-use Rattle.bdb_model.specs.Numbers.{four_at, number, number_at}
-use Rattle.bdb_model.specs.Page.{Content, Inline, Set, Chain, Tree, Unknown, Page, Meta}
-use Rattle.bdb_graph.specs.Linking.{meta_pages}
+use Rattle.bdb_format.specs.declared.kinds.Order.TheVariants.{Big}
+use Rattle.bdb_format.specs.declared.metadata.BtreeMeta.{BtreeMeta}
+use Rattle.bdb_format.specs.Chains.{value_of}
+use Rattle.bdb_format.specs.Contents.{StoredPair, tree_pairs}
+use Rattle.bdb_format.specs.File.{File, page_at}
+use Rattle.bdb_format.specs.Graph.{is_meta}
+use Rattle.bdb_format.specs.Numbers.{four_at, number, number_at}
+use Rattle.bdb_format.specs.Page.{Content, Inline, Set, Chain, Tree, Unknown, Page, Meta}
+use Rattle.bdb_graph.specs.Linked.{meta_pages}
 use Rattle.bdb_overflow.specs.Datum.{single_value}
 use Rattle.bdb_btree.specs.ToldPair.{told_pair}
 use Rattle.bdb_file.specs.Entries.{NamedPair, entry_of, live_entries, master_entries, named, page_in}
-use Rattle.bdb_model.specs.Master.{master_in, master_pairs, named_by, page_named, pairs_under}
+use Rattle.bdb_format.specs.Master.{master_in, master_pairs, named_by, page_named, pairs_under}
 
 -- Values that name pages.
 

@@ -5,26 +5,26 @@ use Rattle.std.specs.List.{Contains, filter, flat_map, list_any, range_with_len}
 use Rattle.std.specs.Str.{bytes_eq}
 use Rattle.std.proofs.lemmas.Bool.{and_from, and_parts, cases_eq, eq-eqb, eqb-true, lt-ltb, ltb-true, ne_eqb, or_cases, true≢false}
 use Rattle.std.proofs.lemmas.List.Elements.{Contains-append_cases, Contains-append_left, Contains-append_right}
-use Rattle.bdb_model.specs.declared.kinds.Fault.{Fault}
-use Rattle.bdb_model.specs.declared.metadata.BtreeMeta.{BtreeMeta}
-use Rattle.bdb_model.specs.ContentRows.{repeated_after, holds_code}
-use Rattle.bdb_model.specs.Contents.{StoredPair, tree_pairs}
-use Rattle.bdb_model.specs.File.{File, file_of, page_at}
-use Rattle.bdb_model.specs.Graph.{is_meta}
-use Rattle.bdb_model.specs.HeadOf.{head_of}
-use Rattle.bdb_model.specs.Page.{BtreeFields, HashFields, QueueFields, Page, Meta}
-use Rattle.bdb_model.specs.Numbers.{has_bit}
-use Rattle.bdb_model.specs.Table.{Row, ◌:?◌}
-use Rattle.bdb_model.specs.Verdict.{holding, master_faults}
-use Rattle.bdb_model.proofs.MemberLemmas.{first_member, in_flat_map, in_map, in_range, later_member, member_cases, no_member, of_filter, of_flat_map, of_map, of_range}
-use Rattle.bdb_model.proofs.VerdictLemmas.{ComesFirst, FirstComesFirst, IsOfStage, by_page_first, holding_least, in_by_page, of_by_page}
-use Rattle.bdb_graph.specs.Linked.{IsForest}
-use Rattle.bdb_graph.specs.Linking.{first_fault, meta_pages}
-use Rattle.bdb_graph.proofs.ForestLemmas.{in_filter}
+use Rattle.bdb_format.specs.ByPage.{ComesFirst}
+use Rattle.bdb_format.specs.declared.kinds.Fault.{Fault}
+use Rattle.bdb_format.specs.declared.metadata.BtreeMeta.{BtreeMeta}
+use Rattle.bdb_format.specs.ContentRows.{holds_code, repeated}
+use Rattle.bdb_format.specs.Contents.{StoredPair, tree_pairs}
+use Rattle.bdb_format.specs.File.{File, file_of, page_at}
+use Rattle.bdb_format.specs.Graph.{is_meta}
+use Rattle.bdb_format.specs.HeadOf.{head_of}
+use Rattle.bdb_format.specs.Page.{BtreeFields, HashFields, QueueFields, Page, Meta}
+use Rattle.bdb_format.specs.Table.{Row, ◌:?◌}
+use Rattle.bdb_format.specs.Verdict.{holding, master_faults, first_fault}
+use Rattle.bdb_format.proofs.MemberLemmas.{first_member, in_flat_map, in_map, in_range, member_cases, no_member, of_filter, of_flat_map, of_map, of_range, in_filter}
+use Rattle.bdb_format.proofs.VerdictLemmas.{FirstComesFirst, IsOfStage, by_page_first, holding_least, in_by_page, of_by_page}
+use Rattle.bdb_graph.specs.Linked.{IsForest, meta_pages}
 use Rattle.bdb_graph.proofs.LinkedLemmas.{root_fits}
 use Rattle.bdb_btree.proofs.PairLemmas.{tree_pair}
 use Rattle.bdb_file.specs.Entries.{NamedPair, count_fault, entries_naming, entry_fault, fault_at, master_entries, named, naming_fault, repeat_fault, repeated_entries, target_fault}
-use Rattle.bdb_model.specs.Master.{is_named_kind, is_none, is_page, master_in, master_pairs, master_rows, misses_target, named_by, naming, pairs_under}
+use Rattle.bdb_format.specs.Master.{is_named_kind, is_none, is_page, master_in, master_pairs, master_rows, misses_target, named_by, naming, pairs_under}
+use Rattle.bdb_format.proofs.RepeatLemmas.{of_repeated, repeated_after, repeated_is}
+use Rattle.bdb_format.specs.Flags.{names_databases}
 use Rattle.bdb_file.specs.Merged.{earlier}
 use Rattle.bdb_file.specs.Noted.{earliest}
 use Rattle.bdb_file.proofs.ContentLemmas.{any_is, code_holding, holding_code, list_any_at}
@@ -136,22 +136,14 @@ repeats_are file before (pair ∷ pairs) =
     repeat_step file (list_any (λ (other : NamedPair). bytes_eq other.key pair.key) (map (named file) before)) (list_any (λ (other : StoredPair). bytes_eq other.key pair.key) before) pair
     (repeated_entries (map (named file) (pair ∷ before)) (map (named file) pairs)) (repeated_after (pair ∷ before) pairs) (any_same file pair.key before) (repeats_are file (pair ∷ before) pairs)
 
-repeat_member : (b : Bool) (pair other : StoredPair) (rest : List StoredPair) → Contains (cond b (pair ∷ rest) rest) other → (pair ≡ other) ⊎ Contains rest other
-repeat_member true pair other rest at = member_cases pair rest other at
-repeat_member false pair other rest at = inr at
-
-of_repeated : (before pairs : List StoredPair) (pair : StoredPair) → Contains (repeated_after before pairs) pair → Contains pairs pair
-of_repeated before [] pair at = absurd (no_member [] pair refl at)
-of_repeated before (one ∷ pairs) pair at =
-    elim (repeat_member (list_any (λ (other : StoredPair). bytes_eq other.key one.key) before) one pair (repeated_after (one ∷ before) pairs) at) [
-      | inl same ↦ subst (Contains (one ∷ pairs)) same (first_member one pairs)
-      | inr later ↦ later_member one pairs pair (of_repeated (one ∷ before) pairs pair later)
-    ]
+-- the entries that repeat a name are those of the pairs that do
+all_repeats_are : (file : File) → repeated_entries [] (master_entries file) ≡ map (named file) (repeated (master_pairs file))
+all_repeats_are file = repeats_are file [] (master_pairs file) ∙ ap (map (named file)) (sym (repeated_is (master_pairs file)))
 
 -- The pairs of a master stand on pages of the file.
 
 pub master_is : (page : Page) (meta : BtreeMeta) → master_in page ≡ Some meta → page ≡ Meta (BtreeFields meta)
-master_is (Meta (BtreeFields other)) meta is = step (has_bit other.flags 0x20) is
+master_is (Meta (BtreeFields other)) meta is = step (names_databases other) is
   where
     step : (b : Bool) → cond b (Some other) None ≡ Some meta → ◌≡◌ {A = Page} (Meta (BtreeFields other)) (Meta (BtreeFields meta))
     step true same = let one : other ≡ meta = cc in ap (λ (m : BtreeMeta). Meta (BtreeFields m)) one
@@ -249,7 +241,7 @@ abbrev has_target : File → ℕ → Bool
 has_target file p = list_any (λ (pair : StoredPair). pair.page == p && misses_target file (named_by file pair.data_item)) (master_pairs file)
 
 abbrev has_repeat : File → ℕ → Bool
-has_repeat file p = list_any (λ (pair : StoredPair). pair.page == p) (repeated_after [] (master_pairs file))
+has_repeat file p = list_any (λ (pair : StoredPair). pair.page == p) (repeated (master_pairs file))
 
 abbrev is_twice : File → ℕ → Bool
 is_twice file p = is_named_kind file p && nat_lt 1 (length (naming file p))
@@ -311,14 +303,15 @@ in_targets file entry fault inside at is =
     ]
 
 -- a pair that repeats a key is told on its page
-pub repeat_here : (file : File) (pair : StoredPair) → AreInside file → Contains (repeated_after [] (master_pairs file)) pair → Contains (master_faults file) (fault_at pair.page 4)
+pub repeat_here : (file : File) (pair : StoredPair) → AreInside file → Contains (repeated (master_pairs file)) pair
+    → Contains (master_faults file) (fault_at pair.page 4)
 repeat_here file pair inside at =
-    in_master file pair.page (4 :? has_repeat file pair.page) (inside pair (of_repeated [] (master_pairs file) pair at)) (3, omega arith, refl)
-    (list_any_at (λ (other : StoredPair). other.page == pair.page) (repeated_after [] (master_pairs file)) pair at (eq-eqb pair.page pair.page refl))
+    in_master file pair.page (4 :? has_repeat file pair.page) (inside pair (of_repeated (master_pairs file) pair at)) (3, omega arith, refl)
+    (list_any_at (λ (other : StoredPair). other.page == pair.page) (repeated (master_pairs file)) pair at (eq-eqb pair.page pair.page refl))
 
 in_repeats : (file : File) (entry : NamedPair) (fault : Fault) → AreInside file → Contains (repeated_entries [] (master_entries file)) entry → repeat_fault entry ≡ Some fault → Contains (master_faults file) fault
 in_repeats file entry fault inside at is =
-    let found = of_map (named file) (repeated_after [] (master_pairs file)) entry (subst (λ es. Contains es entry) (repeats_are file [] (master_pairs file)) at) in
+    let found = of_map (named file) (repeated (master_pairs file)) entry (subst (λ es. Contains es entry) (all_repeats_are file) at) in
     let pair : StoredPair = found.0 in
     let same : Some (fault_at pair.page 4) ≡ Some fault = ap repeat_fault found.2 ∙ is in
     let one : fault_at pair.page 4 ≡ fault = cc in
@@ -375,12 +368,13 @@ from_target file pair fault at is =
     (Contains-append_right (by_naming file entries) (by_target file entries) fault
     (in_flat_map (λ (entry : NamedPair). given (entry_fault file entry)) entries (named file pair) fault (in_map (named file) (master_pairs file) pair at) (in_given (entry_fault file (named file pair)) fault is)))
 
-from_repeat : (file : File) (pair : StoredPair) (fault : Fault) → Contains (repeated_after [] (master_pairs file)) pair → Some (fault_at pair.page 4) ≡ Some fault → Contains (all_noted file (master_entries file)) fault
+from_repeat : (file : File) (pair : StoredPair) (fault : Fault) → Contains (repeated (master_pairs file)) pair → Some (fault_at pair.page 4) ≡ Some fault
+    → Contains (all_noted file (master_entries file)) fault
 from_repeat file pair fault at is =
     let entries : List NamedPair = master_entries file in
     Contains-append_right (by_naming file entries ++ by_target file entries) (by_repeat entries) fault
     (in_flat_map (λ (entry : NamedPair). given (repeat_fault entry)) (repeated_entries [] entries) (named file pair) fault
-    (subst (λ es. Contains es (named file pair)) (sym (repeats_are file [] (master_pairs file))) (in_map (named file) (repeated_after [] (master_pairs file)) pair at))
+    (subst (λ es. Contains es (named file pair)) (sym (all_repeats_are file)) (in_map (named file) (repeated (master_pairs file)) pair at))
     (in_given (repeat_fault (named file pair)) fault is))
 
 moved : (page p code : ℕ) (fault : Fault) → page ≡ p → fault_at p code ≡ fault → Some (fault_at page code) ≡ Some fault
@@ -406,7 +400,7 @@ in_all file fault at =
           from_target file found.0 fault found.1
           (target_three file found.0.page (named_by file found.0.data_item) parts.1 ∙ moved found.0.page fault.page 3 fault (eqb-true found.0.page fault.page parts.0) (same 3 code))
       | inr (inr (inr (inl (code, row)))) ↦
-          let found = any_is (λ (pair : StoredPair). pair.page == fault.page) (repeated_after [] (master_pairs file)) row in
+          let found = any_is (λ (pair : StoredPair). pair.page == fault.page) (repeated (master_pairs file)) row in
           from_repeat file found.0 fault found.1 (moved found.0.page fault.page 4 fault (eqb-true found.0.page fault.page found.2) (same 4 code))
       | inr (inr (inr (inr (code, row)))) ↦
           let parts = and_parts (is_named_kind file fault.page) (nat_lt 1 (length (naming file fault.page))) row in

@@ -4,16 +4,17 @@ use Rattle.std.specs.Prelude.{◌==◌, ◌&&◌, nat_lt, nat_le}
 use Rattle.std.specs.List.{Contains}
 use Rattle.std.proofs.lemmas.Bool.{cases_Bool, cases_order, eqb-true, leb-true, ltb-true, or_cases, and_parts}
 use Rattle.std.proofs.lemmas.List.Elements.{Contains-append_cases, Contains-append_left, Contains-append_right}
-use Rattle.bdb_model.specs.declared.kinds.Fault.{Fault}
-use Rattle.bdb_model.specs.Verdict.{by_page, holding, structure_faults, chain_faults, tree_faults, structure_rows}
-use Rattle.bdb_model.specs.Chains.{chain_rows}
-use Rattle.bdb_model.specs.Leaves.{tree_rows}
-use Rattle.bdb_model.specs.File.{File}
-use Rattle.bdb_model.specs.Table.{Row}
-use Rattle.bdb_model.proofs.MemberLemmas.{first_member, no_member}
-use Rattle.bdb_model.proofs.VerdictLemmas.{ComesFirst, FirstComesFirst, IsOfStage, by_page_first, holding_least, in_by_page, of_by_page}
-use Rattle.bdb_graph.specs.Linking.{first_fault}
+use Rattle.bdb_format.specs.ByPage.{ComesFirst}
+use Rattle.bdb_format.specs.declared.kinds.Fault.{Fault}
+use Rattle.bdb_format.specs.Verdict.{by_page, holding, structure_faults, chain_faults, tree_faults, structure_rows, first_fault}
+use Rattle.bdb_format.specs.Chains.{chain_rows}
+use Rattle.bdb_format.specs.Leaves.{tree_rows}
+use Rattle.bdb_format.specs.File.{File}
+use Rattle.bdb_format.specs.Table.{Row}
+use Rattle.bdb_format.proofs.MemberLemmas.{first_member, no_member}
+use Rattle.bdb_format.proofs.VerdictLemmas.{FirstComesFirst, IsOfStage, by_page_first, holding_least, in_by_page, of_by_page}
 use Rattle.bdb_file.specs.Merged.{earlier, is_before}
+use Rattle.bdb_format.proofs.FaultLemmas.{same_fault, comes_through, tree_rises, tree_one}
 
 -- The first fault of a list that rises.
 
@@ -27,19 +28,6 @@ pub record IsFirstIn (faults : List Fault) (first : Fault) : Type 0 where
 abbrev pub IsFirstOrNone : List Fault → Option Fault → Type 0
 IsFirstOrNone faults None = (fault : Fault) → Contains faults fault → ⊥
 IsFirstOrNone faults (Some first) = IsFirstIn faults first
-
-same_fault : (a b : Fault) → a.stage ≡ b.stage → ComesFirst a b → ComesFirst b a → a ≡ b
-same_fault a b stage ab ba =
-    elim ab [
-      | inl low ↦ elim ba [ inl high ↦ absurd (omega arith) | inr (same, code) ↦ absurd (omega arith) ]
-      | inr (page, code) ↦ elim ba [
-        | inl high ↦ absurd (omega arith)
-        | inr (other, back) ↦ let equal : a.code ≡ b.code = omega arith in whole a.stage b.stage a.page b.page a.code b.code stage page equal
-      ]
-    ]
-  where
-    whole : (s t p q c d : ℕ) → s ≡ t → p ≡ q → c ≡ d → ◌≡◌ {A = Fault} (record { stage = s; page = p; code = c }) (record { stage = t; page = q; code = d })
-    whole s t p q c d stages pages codes = cc
 
 pub first_of_list : (faults : List Fault) (stage : ℕ) → FirstComesFirst faults → ((fault : Fault) → Contains faults fault → fault.stage ≡ stage) → IsFirstOrNone faults (first_fault faults)
 first_of_list [] stage rises same = λ fault at. no_member [] fault refl at
@@ -58,14 +46,6 @@ first_is (a ∷ rest) stage None rises same found = absurd (found a (first_membe
 first_is (a ∷ rest) stage (Some first) rises same found =
     ap (λ (f : Fault). Some f)
     (same_fault a first (same a (first_member a rest) ∙ sym (same first found.at)) (rises a rest first refl found.at) (found.before a (first_member a rest)))
-
--- a fault that comes before another comes before what that comes before
-comes_through : (a b c : Fault) → ComesFirst a b → ComesFirst b c → ComesFirst a c
-comes_through a b c ab bc =
-    elim ab [
-      | inl low ↦ elim bc [ inl high ↦ inl (omega arith) | inr (same, code) ↦ inl (omega arith) ]
-      | inr (page, code) ↦ elim bc [ inl high ↦ inl (omega arith) | inr (same, more) ↦ inr (page ∙ same, omega arith) ]
-    ]
 
 before_is : (a b : Fault) → is_before a b ≡ true → ComesFirst a b
 before_is a b test =
@@ -175,17 +155,9 @@ chain_one : (file : File) (fault : Fault) → Contains (chain_faults file) fault
 unfolding chain_faults
 chain_one file fault at = (of_by_page 6 0 (file.last + 1) (λ p. holding (chain_rows file p)) fault at).same_stage
 
-tree_one : (file : File) (fault : Fault) → Contains (tree_faults file) fault → fault.stage ≡ 6
-unfolding tree_faults
-tree_one file fault at = (of_by_page 6 0 (file.last + 1) (λ p. holding (tree_rows file p)) fault at).same_stage
-
 chain_rises : (file : File) → FirstComesFirst (chain_faults file)
 unfolding chain_faults
 chain_rises file = by_page_first 6 0 (file.last + 1) (λ p. holding (chain_rows file p)) (λ p. holding_least 1 (chain_rows file p) (omega arith, tt))
-
-tree_rises : (file : File) → FirstComesFirst (tree_faults file)
-unfolding tree_faults
-tree_rises file = by_page_first 6 0 (file.last + 1) (λ p. holding (tree_rows file p)) (λ p. holding_least 1 (tree_rows file p) (omega arith, (omega arith, tt)))
 
 structure_rises : (file : File) → FirstComesFirst (structure_faults file)
 unfolding structure_faults
@@ -198,8 +170,3 @@ structure_first file =
     (first_of_both (chain_faults file) (tree_faults file) (structure_faults file) (first_fault (chain_faults file)) (first_fault (tree_faults file)) (structure_both file)
     (λ fault other at also. structure_one file fault at ∙ sym (structure_one file other also))
     (first_of_list (chain_faults file) 6 (chain_rises file) (chain_one file)) (first_of_list (tree_faults file) 6 (tree_rises file) (tree_one file)))
-
--- a list without a first fault is empty
-pub no_first_fault : (faults : List Fault) → first_fault faults ≡ None → faults ≡ []
-no_first_fault [] none = refl
-no_first_fault (fault ∷ faults) none = absurd cc

@@ -5,35 +5,35 @@ use Rattle.std.specs.List.{Contains, filter, flat_map, list_any}
 use Rattle.std.specs.Str.{bytes_eq}
 use Rattle.std.proofs.lemmas.Bool.{and_from, and_parts, cases_Bool, cases_eq, eq-eqb, false_from_ne_true, or_parts}
 use Rattle.std.proofs.lemmas.List.{map-append}
-use Rattle.bdb_model.specs.declared.kinds.Fault.{Fault}
-use Rattle.bdb_model.specs.declared.kinds.Order.{Order}
-use Rattle.bdb_model.specs.declared.metadata.BtreeMeta.{BtreeMeta}
-use Rattle.bdb_model.specs.declared.metadata.FileKind.TheVariants.{Btree}
-use Rattle.bdb_model.specs.ContentRows.{ascends, ascends_from, btree_contents, contents_faults, contents_rows, fields_in, is_out_of_order, neighbours, neighbours_from, recno_contents, repeated_after}
-use Rattle.bdb_model.specs.Contents.{StoredPair, tree_pairs}
-use Rattle.bdb_model.specs.Databases.{database_on, databases, databases_under, named_database}
-use Rattle.bdb_model.specs.File.{File, file_of, page_at, page_bytes}
-use Rattle.bdb_model.specs.Graph.{is_meta}
-use Rattle.bdb_model.specs.HeadOf.{head_of, is_page_size}
-use Rattle.bdb_model.specs.Less.{less}
-use Rattle.bdb_model.specs.Master.{master_in, master_pairs, named_by, pairs_under}
-use Rattle.bdb_model.specs.Numbers.{byte_at, four_at, has_bit}
-use Rattle.bdb_model.specs.Page.{BtreeFields, HashFields, QueueFields, Page, Meta}
-use Rattle.bdb_model.specs.Reading.{abstract_page, btree_fields, hash_fields, queue_fields}
-use Rattle.bdb_model.specs.Rows.{are_wrong_flags, metadata_rows}
-use Rattle.bdb_model.specs.Verdict.{faults_of, holding, master_faults, or_else, stage_faults}
-use Rattle.bdb_model.proofs.MemberLemmas.{first_member, in_map, is_empty, later_member, member_cases, no_member, none_passes, of_filter}
-use Rattle.bdb_model.proofs.VerdictLemmas.{AllFail, all_fail, no_codes_at, no_stage, none_is_first_row}
+use Rattle.bdb_format.specs.declared.kinds.Order.{Order}
+use Rattle.bdb_format.specs.declared.metadata.BtreeMeta.{BtreeMeta}
+use Rattle.bdb_format.specs.declared.metadata.FileKind.TheVariants.{Btree}
+use Rattle.bdb_format.specs.ContentRows.{ascends, ascends_from, btree_contents, database_faults, database_rows, fields_in, is_out_of_order, neighbours, neighbours_from, recno_contents, repeated}
+use Rattle.bdb_format.specs.Contents.{StoredPair, tree_pairs}
+use Rattle.bdb_format.specs.Databases.{database_on, databases, databases_under, named_database}
+use Rattle.bdb_format.specs.File.{File, file_of, page_at, page_bytes}
+use Rattle.bdb_format.specs.Graph.{is_meta}
+use Rattle.bdb_format.specs.HeadOf.{head_of, is_page_size}
+use Rattle.bdb_format.specs.Less.{less}
+use Rattle.bdb_format.specs.Master.{master_in, master_pairs, named_by, pairs_under}
+use Rattle.bdb_format.specs.Numbers.{byte_at, four_at, has_bit}
+use Rattle.bdb_format.specs.Page.{BtreeFields, HashFields, QueueFields, Page, Meta}
+use Rattle.bdb_format.specs.Reading.{abstract_page, btree_fields, hash_fields, queue_fields}
+use Rattle.bdb_format.specs.Rows.{are_wrong_flags, metadata_rows}
+use Rattle.bdb_format.specs.Verdict.{faults_of, holding, master_faults}
+use Rattle.bdb_format.proofs.MemberLemmas.{first_member, in_map, is_empty, later_member, member_cases, no_member, none_passes, of_filter}
+use Rattle.bdb_format.proofs.VerdictLemmas.{AllFail, all_fail, no_codes_at, no_stage, none_in, none_is_first_row}
+use Rattle.bdb_format.proofs.RepeatLemmas.{repeated_after, repeated_is}
+use Rattle.bdb_format.specs.Flags.{is_recno, names_databases}
 use Rattle.bdb_graph.specs.Formed.{IsAccepted}
 use Rattle.bdb_graph.specs.Linked.{HasMetadata, IsForest}
-use Rattle.bdb_graph.specs.Linking.{graph_faults}
 use Rattle.bdb_graph.specs.Metas.{meta_in}
 use Rattle.bdb_graph.proofs.FirstLemmas.{formed_accepted, formed_page}
 use Rattle.bdb_graph.proofs.FormedLemmas.{IsPaged, accepted_paged, page_length}
 use Rattle.bdb_graph.proofs.HeldLemmas.{page_is, table_page, tree_formed, tree_page}
 use Rattle.bdb_graph.proofs.LinkedLemmas.{root_fits}
 use Rattle.bdb_graph.proofs.MetaLemmas.{no_meta, queue_page}
-use Rattle.bdb_btree.proofs.LessLemmas.{less_above, less_not_back, not_less_self, same_unless_less}
+use Rattle.bdb_btree.proofs.LessLemmas.{less_above, less_not_back, same_unless_less}
 use Rattle.bdb_btree.proofs.PairLemmas.{tree_pair}
 use Rattle.bdb_hash.proofs.KeyLemmas.{eq_self}
 use Rattle.bdb_file.specs.Entries.{fault_at, named}
@@ -43,6 +43,9 @@ use Rattle.bdb_file.proofs.MasterLemmas.{AreInside, master_inside, master_is, re
 use Rattle.bdb_file.proofs.NamedLemmas.{NamesMeta, entry_names}
 use Rattle.bdb_file.proofs.ShareLemmas.{ShareKeys, tree_keys}
 use Rattle.bdb_file.proofs.SoundLemmas.{no_contents}
+use Rattle.bdb_format.proofs.BoolLemmas.{second_false}
+use Rattle.bdb_format.proofs.PairLemmas.{neighbour_in, keyed_rows}
+use Rattle.bdb_format.proofs.LessLemmas.{less_self}
 
 -- Lists of pairs whose keys don't fall.
 
@@ -68,7 +71,7 @@ none_below_more key pair pairs here after other at =
 
 -- two pairs that follow each other, where one that shares its key has the key before it
 in_order_step : (a b : List ℕ) (shares : Bool) → (shares ≡ true → b ≡ a) → (not shares && not (less a b)) ≡ false → less b a ≡ false
-in_order_step a b true same kept = ap (λ key. less key a) (same refl) ∙ not_less_self a
+in_order_step a b true same kept = ap (λ key. less key a) (same refl) ∙ less_self a
 in_order_step a b false same kept =
     elim (cases_Bool (less a b)) [ inl low ↦ less_not_back a b low | inr other ↦ absurd (true≢false (ap not (sym other) ∙ kept)) ]
 
@@ -116,17 +119,10 @@ ascend (pair ∷ pairs) fall none = ascend_from pair [] pairs fall.0 fall.1 none
 
 -- The files without faults.
 
-none_after : (faults others : List Fault) → faults ≡ [] → others ≡ [] → or_else faults (λ _. others) ≡ []
-none_after [] others none after = after
-none_after (fault ∷ faults) others none after = absurd cc
-
 forest_of : (image : List ℕ) → length image ≤ 2 ^ 30 → faults_of image ≡ [] → IsForest image
-unfolding graph_faults
 forest_of image size sound = record {
-  formed = record { size = size; head_is = refl; file = no_stage image 1 sound; form = no_stage image 2 sound };
-  linked =
-      none_after (stage_faults image 3) (or_else (stage_faults image 4) (λ _. stage_faults image 5)) (no_stage image 3 sound)
-      (none_after (stage_faults image 4) (stage_faults image 5) (no_stage image 4 sound) (no_stage image 5 sound));
+  formed = record { size = size; head_is = refl; form = none_in image (1 ∷ 2 ∷ []) (no_stage image 1 sound, (no_stage image 2 sound, tt)) };
+  linked = none_in image (3 ∷ 4 ∷ 5 ∷ []) (no_stage image 3 sound, (no_stage image 4 sound, (no_stage image 5 sound, tt)));
 }
 
 -- A master isn't a recno.
@@ -169,7 +165,8 @@ no_recno flags fit master =
     step true false true is none = absurd cc
     step true false false is none = absurd cc
 
-master_keys : (image : List ℕ) (meta : BtreeMeta) → IsForest image → page_at (file_of image) 0 ≡ Meta (BtreeFields meta) → has_bit meta.flags 0x20 ≡ true → has_bit meta.flags 0x02 ≡ false
+master_keys : (image : List ℕ) (meta : BtreeMeta) → IsForest image → page_at (file_of image) 0 ≡ Meta (BtreeFields meta) → names_databases meta ≡ true
+    → is_recno meta ≡ false
 unfolding metadata_rows
 master_keys image meta forest is master =
     let order : Order = (head_of image).order in
@@ -182,42 +179,23 @@ master_keys image meta forest is master =
 
 -- The pairs of a master.
 
-of_neighbours : (pair : StoredPair) (pairs : List StoredPair) (two : StoredPair × StoredPair) → Contains (neighbours_from pair pairs) two → Contains pairs two.1
-of_neighbours pair [] two at = absurd (no_member [] two refl at)
-of_neighbours pair (next ∷ pairs) two at =
-    elim (member_cases (pair, next) (neighbours_from next pairs) two at) [
-      | inl same ↦ subst (λ (t : StoredPair × StoredPair). Contains (next ∷ pairs) t.1) same (first_member next pairs)
-      | inr later ↦ later_member next pairs two.1 (of_neighbours next pairs two later)
-    ]
-
-of_all_neighbours : (pairs : List StoredPair) (two : StoredPair × StoredPair) → Contains (neighbours pairs) two → Contains pairs two.1
-of_all_neighbours [] two at = absurd (no_member [] two refl at)
-of_all_neighbours (pair ∷ pairs) two at = later_member pair pairs two.1 (of_neighbours pair pairs two at)
-
-keyed_rows : (file : File) (meta : BtreeMeta) (p : ℕ) (b : Bool) → b ≡ false → holding (cond b (recno_contents file meta p) (btree_contents file meta p)) ≡ [] → holding (btree_contents file meta p) ≡ []
-keyed_rows file meta p true is none = absurd cc
-keyed_rows file meta p false is none = none
-
-past_first : (a b : Bool) → a ≡ true → (a && b) ≡ false → b ≡ false
-past_first true b is none = none
-past_first false b is none = absurd cc
-
-keys_kept : (image : List ℕ) (meta : BtreeMeta) → IsForest image → HasMetadata (file_of image) (BtreeFields meta) → has_bit meta.flags 0x02 ≡ false → contents_faults (file_of image) (BtreeFields meta) ≡ []
+keys_kept : (image : List ℕ) (meta : BtreeMeta) → IsForest image → HasMetadata (file_of image) (BtreeFields meta) → is_recno meta ≡ false → database_faults (file_of image) (BtreeFields meta) ≡ []
     → (two : StoredPair × StoredPair) → Contains (neighbours (tree_pairs (file_of image) meta.root)) two → is_out_of_order two ≡ false
-unfolding contents_faults
+unfolding database_faults
 keys_kept image meta forest has keys none two at =
     let file : File = file_of image in
     let pairs : List StoredPair = tree_pairs file meta.root in
     let p : ℕ = two.1.page in
-    let low : p ≤ file.last = (tree_pair image meta.root two.1 forest (inl (root_fits image (head_of image) meta forest.formed has)) (of_all_neighbours pairs two at)).inside in
-    let codes : holding (contents_rows file (BtreeFields meta) p) ≡ [] = no_codes_at 8 0 (file.last + 1) p (λ q. holding (contents_rows file (BtreeFields meta) q)) none (omega arith) (omega arith) in
-    let fail : AllFail (btree_contents file meta p) = all_fail (btree_contents file meta p) (keyed_rows file meta p (has_bit meta.flags 0x02) keys codes) in
-    past_first (p == p) (is_out_of_order two) (eq-eqb p p refl)
+    let low : p ≤ file.last = (tree_pair image meta.root two.1 forest (inl (root_fits image (head_of image) meta forest.formed has)) (neighbour_in pairs two at)).inside in
+    let codes : holding (database_rows file (BtreeFields meta) p) ≡ [] = no_codes_at 8 0 (file.last + 1) p (λ q. holding (database_rows file (BtreeFields meta) q)) none (omega arith) (omega arith) in
+    let fail : AllFail (btree_contents file meta p) = all_fail (btree_contents file meta p) (keyed_rows file meta p (is_recno meta) keys codes) in
+    second_false (p == p) (is_out_of_order two) (eq-eqb p p refl)
     (none_passes (λ (other : StoredPair × StoredPair). other.1.page == p && is_out_of_order other) (neighbours pairs) two fail.1.1.0 at)
 
 -- no pair of a master has the key of an earlier one
-none_repeats : (file : File) → AreInside file → master_faults file ≡ [] → repeated_after [] (master_pairs file) ≡ []
-none_repeats file inside none = is_empty (repeated_after [] (master_pairs file)) (λ pair at. no_member (master_faults file) (fault_at pair.page 4) none (repeat_here file pair inside at))
+none_repeats : (file : File) → AreInside file → master_faults file ≡ [] → repeated (master_pairs file) ≡ []
+none_repeats file inside none =
+    is_empty (repeated (master_pairs file)) (λ pair at. no_member (master_faults file) (fault_at pair.page 4) none (repeat_here file pair inside at))
 
 -- The databases of a master have the keys of its pairs as names.
 
@@ -241,11 +219,11 @@ all_names file (pair ∷ pairs) each =
     ∙ (ap (λ names. names ++ map name_bytes (flat_map (named_database file) pairs)) (each pair (first_member pair pairs))
     ∙ ap (λ names. pair.key ∷ names) (all_names file pairs (λ other at. each other (later_member pair pairs other at))))
 
-flags_of_master : (page : Page) (meta : BtreeMeta) → master_in page ≡ Some meta → has_bit meta.flags 0x20 ≡ true
-flags_of_master (Meta (BtreeFields other)) meta is = step (has_bit other.flags 0x20) refl is
+flags_of_master : (page : Page) (meta : BtreeMeta) → master_in page ≡ Some meta → names_databases meta ≡ true
+flags_of_master (Meta (BtreeFields other)) meta is = step (names_databases other) refl is
   where
-    step : (b : Bool) → has_bit other.flags 0x20 ≡ b → cond b (Some other) None ≡ Some meta → has_bit meta.flags 0x20 ≡ true
-    step true flag same = let one : other ≡ meta = cc in ap (λ (m : BtreeMeta). has_bit m.flags 0x20) (sym one) ∙ flag
+    step : (b : Bool) → names_databases other ≡ b → cond b (Some other) None ≡ Some meta → names_databases meta ≡ true
+    step true flag same = let one : other ≡ meta = cc in ap (λ (m : BtreeMeta). names_databases m) (sym one) ∙ flag
     step false flag same = absurd cc
 flags_of_master page meta is = absurd cc
 
@@ -258,11 +236,11 @@ names_ascend image meta size sound is =
     let inside : AreInside file = master_inside image forest in
     let page : page_at file 0 ≡ Meta (BtreeFields meta) = master_is (page_at file 0) meta is in
     let has : HasMetadata file (BtreeFields meta) = has_metadata file 0 (BtreeFields meta) (omega arith) page in
-    let keys : has_bit meta.flags 0x02 ≡ false = master_keys image meta forest page (flags_of_master (page_at file 0) meta is) in
+    let keys : is_recno meta ≡ false = master_keys image meta forest page (flags_of_master (page_at file 0) meta is) in
     let pairs : List StoredPair = tree_pairs file meta.root in
     let fall : DontFall pairs = dont_fall pairs (tree_keys image meta.root []) (keys_kept image meta forest has keys (no_contents image (BtreeFields meta) sound has)) in
     let live : master_pairs file ≡ filter (λ (pair : StoredPair). pair.live) pairs = ap (pairs_under file) is in
     let master_fall : DontFall (master_pairs file) = subst DontFall (sym live) (kept_fall (λ (pair : StoredPair). pair.live) pairs fall) in
     let names : map name_bytes (databases file) ≡ map (λ (pair : StoredPair). pair.key) (master_pairs file) =
     ap (λ found. map name_bytes (databases_under file found)) is ∙ all_names file (master_pairs file) (λ pair at. pair_name file pair inside none at) in
-    ap ascends names ∙ ascend (master_pairs file) master_fall (none_repeats file inside none)
+    ap ascends names ∙ ascend (master_pairs file) master_fall (sym (repeated_is (master_pairs file)) ∙ none_repeats file inside none)

@@ -4,16 +4,16 @@ use Rattle.std.specs.List.{Contains, flat_map}
 use Rattle.std.specs.Option.{ForSome}
 use Rattle.std.proofs.lemmas.Bool.{cases_order, true≢false}
 use Rattle.std.proofs.lemmas.List.Folds.{flat_map-map}
-use Rattle.bdb_model.specs.declared.metadata.BtreeMeta.{BtreeMeta}
-use Rattle.bdb_model.specs.declared.kinds.Fault.{Fault}
-use Rattle.bdb_model.specs.ContentRows.{fields_in}
-use Rattle.bdb_model.specs.Databases.{Database, database_on, databases, databases_under}
-use Rattle.bdb_model.specs.File.{File, file_of, page_at}
-use Rattle.bdb_model.specs.HeadOf.{head_of}
-use Rattle.bdb_model.specs.Master.{is_named_kind, master_in, master_pairs}
-use Rattle.bdb_model.specs.Page.{Metadata, Page, Meta}
-use Rattle.bdb_model.specs.Verdict.{master_faults}
-use Rattle.bdb_model.proofs.MemberLemmas.{no_member}
+use Rattle.bdb_format.specs.declared.metadata.BtreeMeta.{BtreeMeta}
+use Rattle.bdb_format.specs.declared.kinds.Fault.{Fault}
+use Rattle.bdb_format.specs.ContentRows.{fields_in}
+use Rattle.bdb_format.specs.Databases.{Database, database_on, databases, databases_under}
+use Rattle.bdb_format.specs.File.{File, file_of, page_at}
+use Rattle.bdb_format.specs.HeadOf.{head_of}
+use Rattle.bdb_format.specs.Master.{is_named_kind, master_in, master_pairs}
+use Rattle.bdb_format.specs.Page.{Metadata, Page, Meta}
+use Rattle.bdb_format.specs.Verdict.{master_faults}
+use Rattle.bdb_format.proofs.MemberLemmas.{no_member}
 use Rattle.bdb_graph.specs.Linked.{IsForest}
 use Rattle.bdb_graph.specs.Metas.{meta_in}
 use Rattle.bdb_graph.proofs.HeldLemmas.{last_page}

@@ -8,18 +8,19 @@ use Rattle.std.proofs.lemmas.List.Elements.{filter-append}
 use Rattle.std.proofs.lemmas.Option.{slice_get_past}
 use Rattle.bdb_graph.specs.Linked.{HasMetadata, IsForest}
 use Rattle.bdb_graph.proofs.LinkedLemmas.{root_fits}
-use Rattle.bdb_model.specs.declared.metadata.BtreeMeta.{BtreeMeta}
-use Rattle.bdb_model.specs.declared.metadata.QueueMeta.{QueueMeta}
-use Rattle.bdb_model.specs.Contents.{tree_entries}
-use Rattle.bdb_model.specs.Databases.{data_under, get_number}
-use Rattle.bdb_model.specs.Digits.{number_in}
-use Rattle.bdb_model.specs.File.{File, file_of, page_at}
-use Rattle.bdb_model.specs.HeadOf.{head_of}
-use Rattle.bdb_model.specs.Leaves.{leaves}
-use Rattle.bdb_model.specs.Lists.{ListKey, NumberKey, get, is_key, is_record, listed_slot, page_records, queue_list, recno_list, record_number, slot_at}
-use Rattle.bdb_model.specs.Numbers.{has_bit}
-use Rattle.bdb_model.specs.Page.{BtreeFields, Page, Queue, QueueFields}
-use Rattle.bdb_model.specs.Verdict.{structure_faults}
+use Rattle.bdb_format.specs.declared.metadata.BtreeMeta.{BtreeMeta}
+use Rattle.bdb_format.specs.declared.metadata.QueueMeta.{QueueMeta}
+use Rattle.bdb_format.specs.Contents.{tree_entries}
+use Rattle.bdb_format.specs.Databases.{data_under, get_number}
+use Rattle.bdb_format.specs.Digits.{number_in}
+use Rattle.bdb_format.specs.File.{File, file_of, page_at}
+use Rattle.bdb_format.specs.HeadOf.{head_of}
+use Rattle.bdb_format.specs.Leaves.{leaves}
+use Rattle.bdb_format.specs.Lists.{ListKey, NumberKey, get, is_key, is_record, listed_slot, page_records, queue_list, recno_list, record_number, slot_at}
+use Rattle.bdb_format.specs.Numbers.{has_bit}
+use Rattle.bdb_format.specs.Page.{BtreeFields, Page, Queue, QueueFields}
+use Rattle.bdb_format.specs.Verdict.{structure_faults}
+use Rattle.bdb_format.specs.Flags.{is_recno}
 use Rattle.bdb_tree.specs.Trees.{IsRoot}
 use Rattle.bdb_tree.proofs.LinkLemmas.{all_pages, pages_few}
 use Rattle.bdb_recno.specs.Entries.{AreNumbered, entries_on}
@@ -39,7 +40,8 @@ few_leaves image root forest stage is = by_first (leaves (file_of image) root) r
         let whole = all_pages image root first forest stage is (ap (λ (ps : List ℕ). slice_get ps 0) same) in
         subst (λ (ps : List ℕ). length ps ≤ (file_of image).count) (whole ∙ same) (pages_few (file_of image) first)
 
-few_entries : (image : List ℕ) (meta : BtreeMeta) → IsForest image → structure_faults (file_of image) ≡ [] → HasMetadata (file_of image) (BtreeFields meta) → has_bit meta.flags 0x02 ≡ true
+few_entries : (image : List ℕ) (meta : BtreeMeta) → IsForest image → structure_faults (file_of image) ≡ [] → HasMetadata (file_of image) (BtreeFields meta)
+    → is_recno meta ≡ true
     → length (tree_entries (file_of image) meta.root) < 2 ^ 32
 few_entries image meta forest stage has recno =
     let file : File = file_of image in
@@ -49,7 +51,8 @@ few_entries image meta forest stage has recno =
     let all : length (tree_entries file meta.root) ≡ length (entries_on file (leaves file meta.root)) = ap length (entries_are file meta.root) in
     omega (arith, are.room, all)
 
-pub past_records : (image : List ℕ) (meta : BtreeMeta) (number : ℕ) → IsForest image → structure_faults (file_of image) ≡ [] → HasMetadata (file_of image) (BtreeFields meta) → has_bit meta.flags 0x02 ≡ true → 2 ^ 32 ≤ number
+pub past_records : (image : List ℕ) (meta : BtreeMeta) (number : ℕ) → IsForest image → structure_faults (file_of image) ≡ []
+    → HasMetadata (file_of image) (BtreeFields meta) → is_recno meta ≡ true → 2 ^ 32 ≤ number
     → [] ≡ get (recno_list (file_of image) meta.root) (NumberKey number)
 past_records image meta number forest stage has recno past =
     let few = few_entries image meta forest stage has recno in
@@ -91,13 +94,16 @@ past_queue file meta number past =
 
 -- What a key that says a number asks for.
 
-recno_asked : (file : File) (meta : BtreeMeta) (key : List ℕ) → has_bit meta.flags 0x02 ≡ true → get_number (recno_list file meta.root) (number_in key) ≡ data_under file (BtreeFields meta) key
+recno_asked : (file : File) (meta : BtreeMeta) (key : List ℕ) → is_recno meta ≡ true
+    → get_number (recno_list file meta.root) (number_in key) ≡ data_under file (BtreeFields meta) key
 recno_asked file meta key recno = rw recno refl
 
-pub no_record_named : (file : File) (meta : BtreeMeta) (key : List ℕ) → has_bit meta.flags 0x02 ≡ true → None ≡ number_in key → [] ≡ data_under file (BtreeFields meta) key
+pub no_record_named : (file : File) (meta : BtreeMeta) (key : List ℕ) → is_recno meta ≡ true → None ≡ number_in key
+    → [] ≡ data_under file (BtreeFields meta) key
 no_record_named file meta key recno none = ap (get_number (recno_list file meta.root)) none ∙ recno_asked file meta key recno
 
-pub record_named : (file : File) (meta : BtreeMeta) (key : List ℕ) (number : ℕ) (found : List (List ℕ)) → has_bit meta.flags 0x02 ≡ true → Some number ≡ number_in key → found ≡ get (recno_list file meta.root) (NumberKey number)
+pub record_named : (file : File) (meta : BtreeMeta) (key : List ℕ) (number : ℕ) (found : List (List ℕ)) → is_recno meta ≡ true → Some number ≡ number_in key
+    → found ≡ get (recno_list file meta.root) (NumberKey number)
     → found ≡ data_under file (BtreeFields meta) key
 record_named file meta key number found recno says is = is ∙ (ap (get_number (recno_list file meta.root)) says ∙ recno_asked file meta key recno)
 

@@ -8,9 +8,10 @@ use Rattle.std.specs.Ordering.{is_eq, nat_cmp}
 use Rattle.std.specs.Str.{bytes_eq}
 use Rattle.std.proofs.lemmas.List.{drop_all, reverse-append, take_more}
 use Rattle.std.proofs.lemmas.Map.Text.{is_eq-slice_cmp}
-use Rattle.bdb_model.specs.declared.kinds.Fault.{Fault}
+use Rattle.bdb_format.specs.declared.kinds.Fault.{Fault}
 use Rattle.bdb_file.specs.Entries.{IsNoted, NamedPair, repeat_fault, repeat_noted, repeated_entries}
 use Rattle.bdb_file.specs.Noted.{earliest, noting}
+use Rattle.bdb_format.proofs.BoolLemmas.{cond_or}
 
 one_before : (entries : List NamedPair) (i : ℕ) (e : NamedPair) → i < length entries → e ≡ get_or entries i e → reverse (take (i + 1) entries) ≡ e ∷ reverse (take i entries)
 one_before entries i e below is =
@@ -21,10 +22,6 @@ one_left : (entries : List NamedPair) (i : ℕ) (e : NamedPair) → i < length e
 one_left entries i e below is =
     let next : suc i ≡ i + 1 = omega arith in
     drop-cons entries i e below ∙ (ap (λ (one : NamedPair). one ∷ drop (suc i) entries) (sym is) ∙ ap (λ n. e ∷ drop n entries) next)
-
-cond_or : (a b : Bool) → cond a true b ≡ (a || b)
-cond_or true b = refl
-cond_or false b = refl
 
 keys_more : (keys more : BTreeSet (List ℕ)) (entries : List NamedPair) (entry : NamedPair) → ((key : List ℕ) → contains (slice_cmp nat_cmp) keys key ≡ list_any (λ (other : NamedPair). bytes_eq other.key key) entries)
     → Updates (slice_cmp nat_cmp) keys more entry.key true → (key : List ℕ) → contains (slice_cmp nat_cmp) more key ≡ list_any (λ (other : NamedPair). bytes_eq other.key key) (entry ∷ entries)

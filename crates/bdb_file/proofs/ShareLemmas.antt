@@ -4,19 +4,20 @@ use Rattle.std.specs.Prelude.{◌==◌, ◌&&◌, ◌%◌, nat_le, slice_index}
 use Rattle.std.specs.List.{flat_map, range_with_len}
 use Rattle.std.proofs.lemmas.Bool.{and_parts, cases_order, eqb-true, leb-true}
 use Rattle.std.proofs.lemmas.List.FromFn.{get_or-map-range_with_len}
-use Rattle.bdb_model.specs.declared.kinds.Order.{Order}
-use Rattle.bdb_model.specs.Contents.{StoredPair, pair_at, pairs_in, pairs_of, tree_pairs}
-use Rattle.bdb_model.specs.File.{File, file_of, page_at, page_bytes}
-use Rattle.bdb_model.specs.HeadOf.{head_of}
-use Rattle.bdb_model.specs.Chains.{value_of}
-use Rattle.bdb_model.specs.Leaves.{leaves}
-use Rattle.bdb_model.specs.Numbers.{byte_at}
-use Rattle.bdb_model.specs.Page.{Item, Listed, Page, Zero, Hash, Leaf, PageType, LeafPage}
-use Rattle.bdb_model.specs.Reading.{abstract_page, entries_of, is_deleted, is_zero, kind_at, leaf_content, leaf_item_at, listed, offset_of, page_as, page_type}
-use Rattle.bdb_model.specs.References.{is_shared_key, no_item}
-use Rattle.bdb_model.proofs.PageLemmas.{index_offset, length_items}
+use Rattle.bdb_format.specs.declared.kinds.Order.{Order}
+use Rattle.bdb_format.specs.Contents.{StoredPair, pair_at, pairs_in, pairs_of, tree_pairs}
+use Rattle.bdb_format.specs.File.{File, file_of, page_at, page_bytes}
+use Rattle.bdb_format.specs.HeadOf.{head_of}
+use Rattle.bdb_format.specs.Chains.{value_of}
+use Rattle.bdb_format.specs.Leaves.{leaves}
+use Rattle.bdb_format.specs.Numbers.{byte_at}
+use Rattle.bdb_format.specs.Page.{Item, Listed, Page, Zero, Hash, Leaf, PageType, LeafPage}
+use Rattle.bdb_format.specs.Reading.{abstract_page, entries_of, is_deleted, is_zero, kind_at, leaf_content, leaf_item_at, listed, offset_of, page_as, page_type}
+use Rattle.bdb_format.specs.References.{is_shared_key, no_item}
+use Rattle.bdb_format.proofs.PageLemmas.{index_offset, length_items}
 use Rattle.bdb_graph.proofs.HeldLemmas.{page_is}
 use Rattle.bdb_file.proofs.TargetLemmas.{past_last}
+use Rattle.bdb_format.proofs.LeafLemmas.{leaf_item_is, one_offset}
 
 -- Entries of a leaf with one offset are one item.
 
@@ -28,22 +29,14 @@ abbrev OffsetsTellIn : Page → Type 0
 OffsetsTellIn (Leaf leaf) = OffsetsTell leaf
 OffsetsTellIn page = Unit {0}
 
-one_offset : (order : Order) (page : List ℕ) (i j : ℕ) → offset_of order page i ≡ offset_of order page j → leaf_item_at order page i ≡ leaf_item_at order page j
-unfolding leaf_item_at
-one_offset order page i j same = ap (λ at. record { content = leaf_content order page at (kind_at page at); deleted = is_deleted page at }) same
-
-item_is : (order : Order) (page : List ℕ) (i : ℕ) → i < entries_of order page → get_or (listed order page (leaf_item_at order page)).items i no_item ≡ leaf_item_at order page i
-unfolding listed
-item_is order page i there = get_or-map-range_with_len (leaf_item_at order page) 0 (entries_of order page) i i no_item there (omega arith)
-
 leaf_tells : (order : Order) (page : List ℕ) → OffsetsTell (listed order page (leaf_item_at order page))
 leaf_tells order page i j low also same =
     let count : length (listed order page (leaf_item_at order page)).items ≡ entries_of order page = length_items order page (leaf_item_at order page) in
     let here : i < entries_of order page = omega arith in
     let there : j < entries_of order page = omega arith in
-    item_is order page i here
+    leaf_item_is order page i here
     ∙ (one_offset order page i j (sym (index_offset order page (leaf_item_at order page) i here) ∙ (same ∙ index_offset order page (leaf_item_at order page) j there))
-    ∙ sym (item_is order page j there))
+    ∙ sym (leaf_item_is order page j there))
 
 type_tells : (order : Order) (page : List ℕ) (t : PageType) → OffsetsTellIn (page_as order page t)
 type_tells order page LeafPage = leaf_tells order page

@@ -3,18 +3,18 @@ use Rattle.std.proofs.Common.{◌≡◌, ℕ, ◌<◌, ◌≤◌, List, [], leng
 use Rattle.std.specs.List.{Contains}
 use Rattle.std.proofs.lemmas.Bool.{cases_order}
 use Rattle.std.proofs.lemmas.List.{get_or_default}
-use Rattle.bdb_model.specs.declared.kinds.Fault.{Fault}
-use Rattle.bdb_model.specs.declared.metadata.BtreeMeta.{BtreeMeta}
-use Rattle.bdb_model.specs.ContentRows.{contents_faults, fields_in, fields_of}
-use Rattle.bdb_model.specs.Databases.{Database, database_on, databases, databases_under, named_database}
-use Rattle.bdb_model.specs.File.{File, file_of, page_at}
-use Rattle.bdb_model.specs.Graph.{is_meta}
-use Rattle.bdb_model.specs.HeadOf.{head_of}
-use Rattle.bdb_model.specs.Master.{master_in, master_pairs, named_by}
-use Rattle.bdb_model.specs.Page.{Metadata, NoType, Page, Meta}
-use Rattle.bdb_model.specs.Verdict.{content_faults, faults_of, structure_faults}
-use Rattle.bdb_model.proofs.MemberLemmas.{first_member, in_flat_map, is_empty, no_member, of_flat_map, of_map, member_cases}
-use Rattle.bdb_model.proofs.VerdictLemmas.{no_stage}
+use Rattle.bdb_format.specs.declared.kinds.Fault.{Fault}
+use Rattle.bdb_format.specs.declared.metadata.BtreeMeta.{BtreeMeta}
+use Rattle.bdb_format.specs.ContentRows.{database_faults, fields_in, fields_of}
+use Rattle.bdb_format.specs.Databases.{Database, database_on, databases, databases_under, named_database}
+use Rattle.bdb_format.specs.File.{File, file_of, page_at}
+use Rattle.bdb_format.specs.Graph.{is_meta}
+use Rattle.bdb_format.specs.HeadOf.{head_of}
+use Rattle.bdb_format.specs.Master.{master_in, master_pairs, named_by}
+use Rattle.bdb_format.specs.Page.{Metadata, NoType, Page, Meta}
+use Rattle.bdb_format.specs.Verdict.{contents_faults, faults_of, structure_faults}
+use Rattle.bdb_format.proofs.MemberLemmas.{first_member, in_flat_map, is_empty, no_member, of_flat_map, of_map, member_cases}
+use Rattle.bdb_format.proofs.VerdictLemmas.{no_stage}
 use Rattle.bdb_graph.specs.Linked.{HasMetadata}
 use Rattle.bdb_graph.proofs.HeldLemmas.{last_page}
 use Rattle.bdb_file.specs.Named.{database_at, no_database}
@@ -73,8 +73,8 @@ has_metadata_at image i fields below same = subst (HasMetadata (file_of image)) 
 pub no_structure : (image : List ℕ) → faults_of image ≡ [] → structure_faults (file_of image) ≡ []
 no_structure image sound = no_stage image 6 sound
 
-pub no_contents : (image : List ℕ) (fields : Metadata) → faults_of image ≡ [] → HasMetadata (file_of image) fields → contents_faults (file_of image) fields ≡ []
-no_contents image fields sound has = is_empty (contents_faults file fields) none
+pub no_contents : (image : List ℕ) (fields : Metadata) → faults_of image ≡ [] → HasMetadata (file_of image) fields → database_faults (file_of image) fields ≡ []
+no_contents image fields sound has = is_empty (database_faults file fields) none
   where
     file : File
     file = file_of image
@@ -84,9 +84,9 @@ no_contents image fields sound has = is_empty (contents_faults file fields) none
         in_fields image has.page fields (at_meta file has.page has.inside (ap is_meta has.is))
         (subst (λ page. Contains (fields_in page) fields) (sym has.is) (first_member fields []))
 
-    none : (fault : Fault) → Contains (contents_faults file fields) fault → ⊥
-    none fault at = no_member (content_faults file) fault (no_stage image 8 sound) (in_contents file fault (in_flat_map (contents_faults file) (fields_of file) fields fault listed at))
+    none : (fault : Fault) → Contains (database_faults file fields) fault → ⊥
+    none fault at = no_member (contents_faults file) fault (no_stage image 8 sound) (in_contents file fault (in_flat_map (database_faults file) (fields_of file) fields fault listed at))
 
 pub no_contents_at : (image : List ℕ) (i : ℕ) (fields : Metadata) → faults_of image ≡ [] → i < length (databases (file_of image)) → fields ≡ (database_at (file_of image) i).fields
-    → contents_faults (file_of image) fields ≡ []
+    → database_faults (file_of image) fields ≡ []
 no_contents_at image i fields sound below same = no_contents image fields sound (has_metadata_at image i fields below same)

@@ -3,12 +3,13 @@ use Rattle.std.proofs.Common.{◌≡◌, ℕ, ◌+◌, ◌<◌, Bool, true, fals
 use Rattle.std.specs.Prelude.{◌&&◌, nat_lt}
 use Rattle.std.proofs.lemmas.List.{get_or_past}
 use Rattle.std.proofs.lemmas.List.FromFn.{length-map-range_with_len}
-use Rattle.bdb_model.specs.File.{file_of, page_at, page_bytes}
-use Rattle.bdb_model.specs.Reading.{abstract_page}
-use Rattle.bdb_model.specs.Graph.{is_meta}
-use Rattle.bdb_model.specs.HeadOf.{head_of}
-use Rattle.bdb_model.specs.Page.{NoType}
-use Rattle.bdb_model.specs.Master.{is_named_kind}
+use Rattle.bdb_format.specs.File.{file_of, page_at, page_bytes}
+use Rattle.bdb_format.specs.Reading.{abstract_page}
+use Rattle.bdb_format.specs.Graph.{is_meta}
+use Rattle.bdb_format.specs.HeadOf.{head_of}
+use Rattle.bdb_format.specs.Page.{NoType}
+use Rattle.bdb_format.specs.Master.{is_named_kind}
+use Rattle.std.proofs.Math.Bool.{and-false}
 
 pages_counted : (image : List ℕ) → length (file_of image).pages ≡ (head_of image).last + 1
 unfolding file_of
@@ -17,9 +18,5 @@ pages_counted image = length-map-range_with_len (λ p. abstract_page (head_of im
 pub past_last : (image : List ℕ) (p : ℕ) → (head_of image).last < p → page_at (file_of image) p ≡ NoType
 past_last image p past = get_or_past (file_of image).pages p NoType (omega (arith, pages_counted image))
 
-and_false : (a : Bool) → (a && false) ≡ false
-and_false true = refl
-and_false false = refl
-
 pub not_there : (image : List ℕ) (p : ℕ) → (head_of image).last < p → false ≡ is_named_kind (file_of image) p
-not_there image p past = sym (ap (λ b. nat_lt 0 p && b) (ap is_meta (past_last image p past)) ∙ and_false (nat_lt 0 p))
+not_there image p past = sym (ap (λ b. nat_lt 0 p && b) (ap is_meta (past_last image p past)) ∙ and-false (nat_lt 0 p))

@@ -1,35 +1,31 @@
--- The first fault of the first stage that has one.
-use Rattle.std.proofs.Common.{◌≡◌, List, [], ◌∷◌, Some, sym, subst}
-use Rattle.bdb_model.specs.declared.kinds.Fault.{Fault}
-use Rattle.bdb_model.specs.declared.kinds.CheckError.{CheckError}
-use Rattle.bdb_model.specs.declared.kinds.CheckError.TheVariants.{Fault as FaultError, Memory}
-use Rattle.bdb_model.specs.File.{File}
-use Rattle.bdb_model.specs.Verdict.{or_else, structure_faults, content_faults, master_faults}
-use Rattle.bdb_graph.specs.Linking.{first_fault}
-use Rattle.bdb_file.specs.Merged.{IsFirstOf}
-use Rattle.bdb_file.specs.Stages.{whole_faults}
+-- The first fault of stages 6 to 8, by the refusal of each.
+use Rattle.std.proofs.Common.{◌≡◌, ℕ, List, [], ◌∷◌, arith}
+use Rattle.bdb_format.specs.declared.kinds.CheckError.{CheckError}
+use Rattle.bdb_format.specs.File.{file_of}
+use Rattle.bdb_format.specs.Verdict.{IsFirstOf, contents_faults, faults_in, master_faults, structure_faults}
+use Rattle.bdb_format.proofs.VerdictLemmas.{none_in, none_within, refused_after}
 
-first_part : (xs : List Fault) (others : Unit {0} → List Fault) (fault : Fault) → first_fault xs ≡ Some fault → first_fault (or_else xs others) ≡ Some fault
-first_part [] others fault first = absurd cc
-first_part (x ∷ xs) others fault first = first
+pub structure_refused : (image : List ℕ) (error : CheckError) → IsFirstOf (structure_faults (file_of image)) error
+    → IsFirstOf (faults_in (6 ∷ 7 ∷ 8 ∷ []) image) error
+structure_refused image error first = refused_after image [] 6 (7 ∷ 8 ∷ []) error (none_in image [] tt) first
 
-earlier_refused : (xs : List Fault) (others : Unit {0} → List Fault) (error : CheckError) → IsFirstOf xs error → IsFirstOf (or_else xs others) error
-earlier_refused xs others (FaultError fault) first = first_part xs others fault first
-earlier_refused xs others Memory first = tt
+pub master_refused : (image : List ℕ) (error : CheckError) → structure_faults (file_of image) ≡ [] → IsFirstOf (master_faults (file_of image)) error
+    → IsFirstOf (faults_in (6 ∷ 7 ∷ 8 ∷ []) image) error
+master_refused image error structure first = refused_after image (6 ∷ []) 7 (8 ∷ []) error (none_in image (6 ∷ []) (structure, tt)) first
 
-later_refused : (xs : List Fault) (others : Unit {0} → List Fault) (error : CheckError) → xs ≡ [] → IsFirstOf (others tt) error → IsFirstOf (or_else xs others) error
-later_refused xs others error none first = subst (λ ys. IsFirstOf (or_else ys others) error) (sym none) first
+pub contents_refused : (image : List ℕ) (error : CheckError) → structure_faults (file_of image) ≡ [] → master_faults (file_of image) ≡ []
+    → IsFirstOf (contents_faults (file_of image)) error
+    → IsFirstOf (faults_in (6 ∷ 7 ∷ 8 ∷ []) image) error
+contents_refused image error structure master first = refused_after image (6 ∷ 7 ∷ []) 8 [] error (none_in image (6 ∷ 7 ∷ []) (structure, (master, tt))) first
 
-pub structure_refused : (file : File) (error : CheckError) → IsFirstOf (structure_faults file) error → IsFirstOf (whole_faults file) error
-unfolding whole_faults
-structure_refused file error first = earlier_refused (structure_faults file) (λ _. or_else (master_faults file) (λ _. content_faults file)) error first
+pub no_whole_fault : (image : List ℕ) → structure_faults (file_of image) ≡ [] → master_faults (file_of image) ≡ [] → contents_faults (file_of image) ≡ []
+    → faults_in (6 ∷ 7 ∷ 8 ∷ []) image ≡ []
+no_whole_fault image structure master contents = none_in image (6 ∷ 7 ∷ 8 ∷ []) (structure, (master, (contents, tt)))
 
-pub master_refused : (file : File) (error : CheckError) → structure_faults file ≡ [] → IsFirstOf (master_faults file) error → IsFirstOf (whole_faults file) error
-unfolding whole_faults
-master_refused file error structure first =
-    later_refused (structure_faults file) (λ _. or_else (master_faults file) (λ _. content_faults file)) error structure (earlier_refused (master_faults file) (λ _. content_faults file) error first)
+-- each of the stages, where none of them has faults
 
-pub contents_refused : (file : File) (error : CheckError) → structure_faults file ≡ [] → master_faults file ≡ [] → IsFirstOf (content_faults file) error → IsFirstOf (whole_faults file) error
-unfolding whole_faults
-contents_refused file error structure master first =
-    later_refused (structure_faults file) (λ _. or_else (master_faults file) (λ _. content_faults file)) error structure (later_refused (master_faults file) (λ _. content_faults file) error master first)
+pub no_structure_fault : (image : List ℕ) → faults_in (6 ∷ 7 ∷ 8 ∷ []) image ≡ [] → structure_faults (file_of image) ≡ []
+no_structure_fault image none = none_within 6 3 image 6 none (omega arith) (omega arith)
+
+pub no_master_fault : (image : List ℕ) → faults_in (6 ∷ 7 ∷ 8 ∷ []) image ≡ [] → master_faults (file_of image) ≡ []
+no_master_fault image none = none_within 6 3 image 7 none (omega arith) (omega arith)

@@ -1,15 +1,15 @@
--- The live pairs of a master as the code keeps them, and the faults of stage 7 that they give. Source: docs/FORMAT.md, "Stage 7".
+-- The live pairs of a master as the code keeps them, and the faults of stage 7 that they give. Source: docs/FORMAT.md, "Stage 7, the master".
 use Rattle.std.specs.Prelude.{◌≡◌, ℕ, ◌+◌, ◌<◌, nat_lt, ◌==◌, min, if◌then◌else◌, Bool, List, [], ◌∷◌, map, length, take, drop, reverse, get_or, Option, Some, None}
 use Rattle.std.specs.BTreeSet.{BTreeSet, contains}
 use Rattle.std.specs.Cmp.Lexicographic.{slice_cmp}
 use Rattle.std.specs.List.{filter, fold, list_any}
 use Rattle.std.specs.Ordering.{nat_cmp}
 use Rattle.std.specs.Str.{bytes_eq}
-use Rattle.bdb_model.specs.declared.kinds.Fault.{Fault}
-use Rattle.bdb_model.specs.Contents.{StoredPair}
-use Rattle.bdb_model.specs.File.{File}
+use Rattle.bdb_format.specs.declared.kinds.Fault.{Fault}
+use Rattle.bdb_format.specs.Contents.{StoredPair}
+use Rattle.bdb_format.specs.File.{File}
 use Rattle.bdb_btree.specs.ToldPair.{ToldPair}
-use Rattle.bdb_model.specs.Master.{is_named_kind, is_page, master_pairs, named_by, page_named}
+use Rattle.bdb_format.specs.Master.{is_named_kind, is_page, master_pairs, named_by, page_named}
 use Rattle.bdb_file.specs.Merged.{earlier}
 use Rattle.bdb_file.specs.Noted.{noting}
 

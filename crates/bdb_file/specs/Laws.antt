@@ -1,11 +1,11 @@
 -- A law of the databases that a master names. Source: docs/FORMAT.md, "Databases of a file".
 use Rattle.std.specs.Prelude.{◌≡◌, ◌≤◌, ◌^◌, ℕ, IsTrue, List, [], length, map, Some, unwrap_or}
-use Rattle.bdb_model.specs.declared.metadata.BtreeMeta.{BtreeMeta}
-use Rattle.bdb_model.specs.ContentRows.{ascends}
-use Rattle.bdb_model.specs.Databases.{Database, databases}
-use Rattle.bdb_model.specs.File.{file_of, page_at}
-use Rattle.bdb_model.specs.Master.{master_in}
-use Rattle.bdb_model.specs.Verdict.{faults_of}
+use Rattle.bdb_format.specs.declared.metadata.BtreeMeta.{BtreeMeta}
+use Rattle.bdb_format.specs.ContentRows.{ascends}
+use Rattle.bdb_format.specs.Databases.{Database, databases}
+use Rattle.bdb_format.specs.File.{file_of, page_at}
+use Rattle.bdb_format.specs.Master.{master_in}
+use Rattle.bdb_format.specs.Verdict.{faults_of}
 
 -- the bytes of a name
 abbrev pub name_bytes : Database → List ℕ

@@ -3,7 +3,6 @@ pub mod Laws
 pub mod Merged
 pub mod Named
 pub mod Noted
-pub mod Stages
 pub mod Whole
 pub mod Listing
 pub mod Lookup

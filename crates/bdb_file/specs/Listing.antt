@@ -2,7 +2,7 @@
 use Rattle.std.specs.Prelude.{ℕ, List}
 use Rattle.bdb_file.specs.declared.listing.Entries.{Entries}
 use Rattle.bdb_file.specs.declared.listing.Entries.TheVariants.{Btree, Recno, Hash, Queue}
-use Rattle.bdb_model.specs.Lists.{ListKey}
+use Rattle.bdb_format.specs.Lists.{ListKey}
 use Rattle.bdb_overflow.specs.Datum.{datum_seen, key_view_seen}
 use Rattle.bdb_overflow.specs.declared.datum.Datum.{Datum}
 use Rattle.bdb_overflow.specs.declared.datum.KeyView.{KeyView}

@@ -1,9 +1,8 @@
 -- The first fault of a stage that several checks decide.
-use Rattle.std.specs.Prelude.{◌≡◌, nat_lt, nat_le, ◌==◌, ◌&&◌, ◌||◌, if◌then◌else◌, Bool, List, Option, Some, None}
-use Rattle.bdb_model.specs.declared.kinds.Fault.{Fault}
-use Rattle.bdb_model.specs.declared.kinds.CheckError.{CheckError}
-use Rattle.bdb_model.specs.declared.kinds.CheckError.TheVariants.{Fault as FaultError, Memory}
-use Rattle.bdb_graph.specs.Linking.{first_fault}
+use Rattle.std.specs.Prelude.{◌≡◌, nat_lt, nat_le, ◌==◌, ◌&&◌, ◌||◌, if◌then◌else◌, Bool, Option, Some, None}
+use Rattle.bdb_format.specs.declared.kinds.Fault.{Fault}
+use Rattle.bdb_format.specs.declared.kinds.CheckError.{CheckError}
+use Rattle.bdb_format.specs.declared.kinds.CheckError.TheVariants.{Fault as FaultError, Memory}
 
 -- a fault comes before another, by page and then by code
 abbrev pub is_before : Fault → Fault → Bool
@@ -14,11 +13,6 @@ abbrev pub earlier : Option Fault → Option Fault → Option Fault
 earlier None b = b
 earlier (Some a) None = Some a
 earlier (Some a) (Some b) = if is_before a b then Some a else Some b
-
--- a refusal is the first of these faults, or want of memory
-abbrev pub IsFirstOf : List Fault → CheckError → Type 0
-IsFirstOf faults (FaultError fault) = first_fault faults ≡ Some fault
-IsFirstOf faults Memory = Unit {0}
 
 -- a refusal is this fault
 abbrev pub IsFaultOf : Option Fault → CheckError → Type 0

@@ -1,9 +1,9 @@
 -- The databases of a sound file, by their places, and how the code finds them. Source: docs/FORMAT.md, "Databases of a file".
 use Rattle.std.specs.Prelude.{◌≡◌, ℕ, List, [], get_or, Some, None}
-use Rattle.bdb_model.specs.Databases.{Database, database_on, databases}
-use Rattle.bdb_model.specs.File.{File, file_of}
-use Rattle.bdb_model.specs.Page.{QueueFields}
-use Rattle.bdb_model.specs.Verdict.{faults_of}
+use Rattle.bdb_format.specs.Databases.{Database, database_on, databases}
+use Rattle.bdb_format.specs.File.{File, file_of}
+use Rattle.bdb_format.specs.Page.{QueueFields}
+use Rattle.bdb_format.specs.Verdict.{faults_of}
 use Rattle.bdb_file.specs.Entries.{NamedPair}
 
 -- what stands past the last database

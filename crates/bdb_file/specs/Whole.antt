@@ -1,15 +1,15 @@
 -- A refusal of a whole file. Source: docs/FORMAT.md, "Faults".
 use Rattle.std.specs.Prelude.{◌≡◌, ℕ, List, Some}
-use Rattle.bdb_model.specs.declared.kinds.CheckError.{CheckError}
-use Rattle.bdb_model.specs.declared.kinds.CheckError.TheVariants.{Fault as FaultError, Memory as MemoryError}
-use Rattle.bdb_model.specs.declared.kinds.Verdict.{Verdict}
-use Rattle.bdb_model.specs.declared.kinds.Verdict.TheVariants.{Fault as FaultVerdict, Unsupported, Memory}
-use Rattle.bdb_model.specs.Verdict.{verdict_of}
+use Rattle.bdb_format.specs.declared.kinds.CheckError.{CheckError}
+use Rattle.bdb_format.specs.declared.kinds.CheckError.TheVariants.{Fault as FaultError, Memory as MemoryError}
+use Rattle.bdb_format.specs.declared.kinds.Verdict.{Verdict}
+use Rattle.bdb_format.specs.declared.kinds.Verdict.TheVariants.{Fault as FaultVerdict, Unsupported, Memory}
+use Rattle.bdb_format.specs.Verdict.{Faulty, LeftOut, verdict_of}
 
--- a refusal is the verdict, or want of memory
+-- a refusal tells the verdict, or is want of memory
 abbrev pub IsVerdictOf : List ℕ → Verdict → Type 0
-IsVerdictOf image (FaultVerdict fault) = verdict_of image ≡ Some (FaultVerdict fault)
-IsVerdictOf image (Unsupported name page) = verdict_of image ≡ Some (Unsupported name page)
+IsVerdictOf image (FaultVerdict fault) = verdict_of image ≡ Some (Faulty fault)
+IsVerdictOf image (Unsupported name page) = verdict_of image ≡ Some (LeftOut name page)
 IsVerdictOf image Memory = Unit {0}
 
 -- the refusal of a check as a verdict

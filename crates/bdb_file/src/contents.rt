@@ -1,17 +1,15 @@
 ghost use Rattle.std.specs.Prelude.{◌≡◌, ◌≤◌, IfErr, IfOk, OnOk, []};
-ghost use Rattle.bdb_file.specs.Merged.{IsFirstOf};
 ghost use Rattle.bdb_file.specs.Noted.{IsMemory, contents_at};
-ghost use Rattle.bdb_model.specs.Verdict.{content_faults, structure_faults};
+ghost use Rattle.bdb_format.specs.Verdict.{contents_faults, structure_faults, first_fault, IsFirstOf};
 ghost use Rattle.bdb_graph.specs.Linked.{HasMetadata};
-ghost use Rattle.bdb_graph.specs.Linking.{first_fault};
 ghost use Rattle.bdb_graph.specs.Metas.{meta_seen};
-ghost use Rattle.bdb_model.specs.ContentRows.{contents_faults};
-ghost use Rattle.bdb_model.specs.File.{file_of, page_at};
-ghost use Rattle.bdb_model.specs.Page.{BtreeFields, HashFields, Meta as MetaPage};
+ghost use Rattle.bdb_format.specs.ContentRows.{database_faults};
+ghost use Rattle.bdb_format.specs.File.{file_of, page_at};
+ghost use Rattle.bdb_format.specs.Page.{BtreeFields, HashFields, Meta as MetaPage};
 
 use crate::merged::{earlier, refused};
+use bdb_format::{BtreeMeta, CheckError, Fault, HashMeta};
 use bdb_graph::{Linked, Meta};
-use bdb_model::{BtreeMeta, CheckError, Fault, HashMeta};
 use std::alloc::Global;
 
 /// The first fault of what a tree holds, of pairs or of records, if there is one. An error is want of memory.
@@ -22,7 +20,7 @@ fn tree_fault(
 ) -> Result<Option<Fault>, CheckError>
     requires meta { HasMetadata (file_of linked.now) (BtreeFields meta.now) }
     requires stage { structure_faults (file_of linked.now) ≡ [] }
-    ensures first { IfOk result (λ found. found ≡ first_fault (contents_faults (file_of linked.now) (BtreeFields meta.now))) }
+    ensures first { IfOk result (λ found. found ≡ first_fault (database_faults (file_of linked.now) (BtreeFields meta.now))) }
     ensures only { IfErr result IsMemory }
 {
     let checked = if meta.flags & 0x02 == 0 {
@@ -45,7 +43,7 @@ fn table_fault(
 ) -> Result<Option<Fault>, CheckError>
     requires meta { HasMetadata (file_of linked.now) (HashFields meta.now) }
     requires stage { structure_faults (file_of linked.now) ≡ [] }
-    ensures first { IfOk result (λ found. found ≡ first_fault (contents_faults (file_of linked.now) (HashFields meta.now))) }
+    ensures first { IfOk result (λ found. found ≡ first_fault (database_faults (file_of linked.now) (HashFields meta.now))) }
     ensures only { IfErr result IsMemory }
 {
     match bdb_hash::check(alloc, linked, meta) {
@@ -81,7 +79,7 @@ fn fault_at(
 #[tactic(auto, using(crate::proofs::DatabaseLemmas::contents_more, crate::proofs::DatabaseLemmas::contents_first))]
 fn contents_fault(alloc: Global, linked: &Linked<'_>) -> Result<Option<Fault>, CheckError>
     requires { structure_faults (file_of linked.now) ≡ [] }
-    ensures first { IfOk result (λ found. found ≡ first_fault (content_faults (file_of linked.now))) }
+    ensures first { IfOk result (λ found. found ≡ first_fault (contents_faults (file_of linked.now))) }
     ensures only { IfErr result IsMemory }
 {
     let mut least = None;
@@ -94,11 +92,11 @@ fn contents_fault(alloc: Global, linked: &Linked<'_>) -> Result<Option<Fault>, C
 
 /// No row of stage 8 holds: what the databases hold keeps their rules. A refusal is the first fault, or want
 /// of memory.
-#[tactic(auto, using(crate::proofs::MergeLemmas::no_first_fault))]
+#[tactic(auto, using(bdb_graph::proofs::LinkingLemmas::no_first_fault))]
 pub(crate) fn check_contents(alloc: Global, linked: &Linked<'_>) -> Result<(), CheckError>
     requires { structure_faults (file_of linked.now) ≡ [] }
-    ensures accepted { OnOk result (content_faults (file_of linked.now) ≡ []) }
-    ensures refusal { IfErr result (IsFirstOf (content_faults (file_of linked.now))) }
+    ensures accepted { OnOk result (contents_faults (file_of linked.now) ≡ []) }
+    ensures refusal { IfErr result (IsFirstOf (contents_faults (file_of linked.now))) }
 {
     refused(contents_fault(alloc, linked)?)
 }

@@ -1,14 +1,14 @@
 ghost use Rattle.std.specs.Prelude.{◌≡◌, ◌<◌, ℕ, IfOk, if◌then◌else◌, get_or, length};
 ghost use Rattle.bdb_file.specs.Entries.{AreCounts, count_fault, naming_fault, one_more};
-ghost use Rattle.bdb_model.specs.Master.{is_page};
+ghost use Rattle.bdb_format.specs.Master.{is_page};
 ghost use Rattle.bdb_file.specs.Noted.{earliest};
-ghost use Rattle.bdb_graph.specs.Linking.{meta_pages};
-ghost use Rattle.bdb_model.specs.File.{file_of};
+ghost use Rattle.bdb_graph.specs.Linked.{meta_pages};
+ghost use Rattle.bdb_format.specs.File.{file_of};
 
 use crate::entry::Entry;
 use crate::merged::earlier;
+use bdb_format::Fault;
 use bdb_graph::Linked;
-use bdb_model::Fault;
 use std::alloc::{AllocError, Global};
 
 /// One more pair that names a page; a third counts as a second.

@@ -1,5 +1,5 @@
 ghost use Rattle.std.specs.Prelude.{◌≡◌};
-ghost use Rattle.bdb_model.specs.Digits.{number_in};
+ghost use Rattle.bdb_format.specs.Digits.{number_in};
 
 /// The number that one to ten decimal digits say, from the high end on; none of other bytes.
 #[tactic(auto, using(crate::proofs::DigitLemmas::no_digits, crate::proofs::DigitLemmas::many_digits, crate::proofs::DigitLemmas::wrong_digit, crate::proofs::DigitLemmas::whole_number, crate::proofs::DigitLemmas::more_digits, crate::proofs::DigitLemmas::next_value, crate::proofs::DigitLemmas::digit_low, crate::proofs::DigitLemmas::digit_high, crate::proofs::DigitLemmas::next_below, crate::proofs::DigitLemmas::next_fits))]

@@ -3,14 +3,14 @@ ghost use Rattle.std.specs.Iterator.{YieldsFirstBy, item_count};
 ghost use Rattle.bdb_graph.specs.Linked.{HasMetadata};
 ghost use Rattle.bdb_graph.specs.Metas.{meta_seen};
 ghost use Rattle.bdb_file.specs.Listing.{entries_left, entry_seen};
-ghost use Rattle.bdb_model.specs.ContentRows.{contents_faults};
-ghost use Rattle.bdb_model.specs.File.{file_of};
-ghost use Rattle.bdb_model.specs.Lists.{list_of};
-ghost use Rattle.bdb_model.specs.Page.{BtreeFields};
-ghost use Rattle.bdb_model.specs.Verdict.{structure_faults};
+ghost use Rattle.bdb_format.specs.ContentRows.{database_faults};
+ghost use Rattle.bdb_format.specs.File.{file_of};
+ghost use Rattle.bdb_format.specs.Lists.{list_of};
+ghost use Rattle.bdb_format.specs.Page.{BtreeFields};
+ghost use Rattle.bdb_format.specs.Verdict.{structure_faults};
 
+use bdb_format::BtreeMeta;
 use bdb_graph::{Linked, Meta};
-use bdb_model::BtreeMeta;
 use bdb_overflow::{Datum, KeyView};
 use std::alloc::{AllocError, Global};
 use std::marker::Model;
@@ -46,7 +46,7 @@ pub struct Scan<'a> {
 
 impl<'a> Model for Scan<'a> {
     ghost use Rattle.std.specs.Prelude.{List, ℕ};
-    ghost use Rattle.bdb_model.specs.Lists.{ListKey};
+    ghost use Rattle.bdb_format.specs.Lists.{ListKey};
     ghost use Rattle.bdb_file.specs.Listing.{entries_left};
 
     ghost Value = { List (ListKey × List ℕ) };
@@ -88,7 +88,7 @@ pub(crate) fn scan_of<'a>(
 ) -> Result<Scan<'a>, AllocError>
     requires meta { HasMetadata (file_of linked.now) (meta_seen meta.now) }
     requires stage { structure_faults (file_of linked.now) ≡ [] }
-    requires contents { contents_faults (file_of linked.now) (meta_seen meta.now) ≡ [] }
+    requires contents { database_faults (file_of linked.now) (meta_seen meta.now) ≡ [] }
     ensures { IfOk result (λ scan. scan ≡ list_of (file_of linked.now) (meta_seen meta.now)) }
 {
     let entries = match meta {

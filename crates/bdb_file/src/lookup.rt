@@ -3,17 +3,17 @@ ghost use Rattle.std.specs.Iterator.{YieldsFirstBy, item_count};
 ghost use Rattle.bdb_graph.specs.Linked.{HasMetadata};
 ghost use Rattle.bdb_graph.specs.Metas.{meta_seen};
 ghost use Rattle.bdb_file.specs.Lookup.{data_left, most_steps};
-ghost use Rattle.bdb_model.specs.ContentRows.{contents_faults};
-ghost use Rattle.bdb_model.specs.Databases.{data_under};
-ghost use Rattle.bdb_model.specs.File.{file_of};
-ghost use Rattle.bdb_model.specs.Numbers.{has_bit};
-ghost use Rattle.bdb_model.specs.Page.{BtreeFields, QueueFields};
-ghost use Rattle.bdb_model.specs.Verdict.{structure_faults};
+ghost use Rattle.bdb_format.specs.ContentRows.{database_faults};
+ghost use Rattle.bdb_format.specs.Databases.{data_under};
+ghost use Rattle.bdb_format.specs.File.{file_of};
+ghost use Rattle.bdb_format.specs.Page.{BtreeFields, QueueFields};
+ghost use Rattle.bdb_format.specs.Verdict.{structure_faults};
+ghost use Rattle.bdb_format.specs.Flags.{is_recno};
 ghost use Rattle.bdb_overflow.specs.Datum.{datum_seen};
 
 use crate::digits::number_in;
+use bdb_format::{BtreeMeta, QueueMeta, Steps};
 use bdb_graph::{Linked, Meta};
-use bdb_model::{BtreeMeta, QueueMeta, Steps};
 use bdb_overflow::Datum;
 use std::marker::Model;
 use std::sync::ledger::Ledger;
@@ -79,9 +79,9 @@ fn record_in<'a, L: Ledger>(
     steps: &mut Steps<L>,
 ) -> Data<'a>
     requires meta { HasMetadata (file_of linked.now) (BtreeFields meta.now) }
-    requires recno { IsTrue (has_bit meta.now.flags 0x02) }
+    requires recno { IsTrue (is_recno meta.now) }
     requires stage { structure_faults (file_of linked.now) ≡ [] }
-    requires contents { contents_faults (file_of linked.now) (BtreeFields meta.now) ≡ [] }
+    requires contents { database_faults (file_of linked.now) (BtreeFields meta.now) ≡ [] }
     ensures found { data_left result ≡ data_under (file_of linked.now) (BtreeFields meta.now) key.now }
     ensures cost { steps.new ≤ steps.old + most_steps (file_of linked.now) (BtreeFields meta.now) }
 {
@@ -125,7 +125,7 @@ fn tree_data<'a, L: Ledger>(
 ) -> Data<'a>
     requires meta { HasMetadata (file_of linked.now) (BtreeFields meta.now) }
     requires stage { structure_faults (file_of linked.now) ≡ [] }
-    requires contents { contents_faults (file_of linked.now) (BtreeFields meta.now) ≡ [] }
+    requires contents { database_faults (file_of linked.now) (BtreeFields meta.now) ≡ [] }
     ensures found { data_left result ≡ data_under (file_of linked.now) (BtreeFields meta.now) key.now }
     ensures cost { steps.new ≤ steps.old + most_steps (file_of linked.now) (BtreeFields meta.now) }
 {
@@ -147,7 +147,7 @@ pub(crate) fn found_in<'a, L: Ledger>(
 ) -> Found<'a>
     requires meta { HasMetadata (file_of linked.now) (meta_seen meta.now) }
     requires stage { structure_faults (file_of linked.now) ≡ [] }
-    requires contents { contents_faults (file_of linked.now) (meta_seen meta.now) ≡ [] }
+    requires contents { database_faults (file_of linked.now) (meta_seen meta.now) ≡ [] }
     ensures found { result ≡ data_under (file_of linked.now) (meta_seen meta.now) key.now }
     ensures cost { steps.new ≤ steps.old + most_steps (file_of linked.now) (meta_seen meta.now) }
 {

@@ -1,16 +1,14 @@
 ghost use Rattle.std.specs.Prelude.{◌≡◌, [], IfErr, IfOk, OnOk};
-ghost use Rattle.bdb_file.specs.Merged.{IsFirstOf};
-ghost use Rattle.bdb_model.specs.Verdict.{master_faults, structure_faults};
-ghost use Rattle.bdb_graph.specs.Linking.{first_fault};
-ghost use Rattle.bdb_model.specs.File.{file_of};
+ghost use Rattle.bdb_format.specs.Verdict.{master_faults, structure_faults, first_fault, IsFirstOf};
+ghost use Rattle.bdb_format.specs.File.{file_of};
 
 use crate::counts::naming_fault;
 use crate::entry::master_entries;
 use crate::merged::{earlier, refused};
 use crate::repeats::repeat_fault;
 use crate::targets::entries_fault;
+use bdb_format::{CheckError, Fault};
 use bdb_graph::Linked;
-use bdb_model::{CheckError, Fault};
 use std::alloc::{AllocError, Global};
 
 /// The first fault of stage 7, if there is one. An error is want of memory.
@@ -29,7 +27,7 @@ fn master_fault(alloc: Global, linked: &Linked<'_>) -> Result<Option<Fault>, All
 
 /// No row of stage 7 holds: a master names each other metadata page once, and nothing else. A refusal is the
 /// first fault, or want of memory.
-#[tactic(auto, using(crate::proofs::MergeLemmas::no_first_fault))]
+#[tactic(auto, using(bdb_graph::proofs::LinkingLemmas::no_first_fault))]
 pub(crate) fn check_master(alloc: Global, linked: &Linked<'_>) -> Result<(), CheckError>
     requires { structure_faults (file_of linked.now) ≡ [] }
     ensures accepted { OnOk result (master_faults (file_of linked.now) ≡ []) }

@@ -1,7 +1,7 @@
 ghost use Rattle.std.specs.Prelude.{◌≡◌, IfErr, None, OnOk};
 ghost use Rattle.bdb_file.specs.Merged.{IsFaultOf, earlier, is_before};
 
-use bdb_model::{CheckError, Fault};
+use bdb_format::{CheckError, Fault};
 
 /// Whether a fault comes before another, by page and then by code.
 fn is_before(a: Fault, b: Fault) -> bool

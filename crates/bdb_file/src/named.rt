@@ -3,14 +3,14 @@ ghost use Rattle.std.specs.Option.{ForSome};
 ghost use Rattle.bdb_file.specs.Entries.{master_entries};
 ghost use Rattle.bdb_file.specs.Named.{entry_database};
 ghost use Rattle.bdb_graph.specs.Metas.{meta_seen};
-ghost use Rattle.bdb_model.specs.Databases.{database_on, databases, is_name};
+ghost use Rattle.bdb_format.specs.Databases.{database_on, databases, is_name};
 ghost use Rattle.std.specs.List.{flat_map};
-ghost use Rattle.bdb_model.specs.File.{file_of};
-ghost use Rattle.bdb_model.specs.Verdict.{master_faults, structure_faults};
+ghost use Rattle.bdb_format.specs.File.{file_of};
+ghost use Rattle.bdb_format.specs.Verdict.{master_faults, structure_faults};
 
 use crate::entry::{Entry, master_entries, master_of};
+use bdb_format::Bytes;
 use bdb_graph::{Linked, Meta};
-use bdb_model::Bytes;
 use std::alloc::{AllocError, Global};
 use std::marker::Model;
 
@@ -23,7 +23,7 @@ pub(crate) struct NamedMeta {
 
 impl Model for NamedMeta {
     ghost use Rattle.bdb_graph.specs.Metas.{meta_seen};
-    ghost use Rattle.bdb_model.specs.Databases.{Database};
+    ghost use Rattle.bdb_format.specs.Databases.{Database};
 
     ghost Value = { Database };
 

@@ -8,7 +8,7 @@ ghost use Rattle.bdb_file.specs.Noted.{earliest};
 use crate::entry::Entry;
 use crate::key::Key;
 use crate::merged::earlier;
-use bdb_model::Fault;
+use bdb_format::Fault;
 use std::alloc::{AllocError, Global};
 use std::collections::BTreeSet;
 

@@ -1,9 +1,9 @@
 ghost use Rattle.std.specs.Prelude.{◌≡◌};
 ghost use Rattle.bdb_graph.specs.Metas.{meta_seen};
-ghost use Rattle.bdb_model.specs.Databases.{btree_settings, hash_settings, plain_settings, queue_settings, recno_settings, settings_of};
+ghost use Rattle.bdb_format.specs.Databases.{btree_settings, hash_settings, plain_settings, queue_settings, recno_settings, settings_of};
 
+use bdb_format::{BtreeMeta, HashMeta, Head, Kind, QueueMeta, Settings};
 use bdb_graph::Meta;
-use bdb_model::{BtreeMeta, HashMeta, Head, Kind, QueueMeta, Settings};
 
 /// The settings of a database of this kind that says nothing of its own.
 fn plain_settings(kind: Kind, head: Head) -> Settings

@@ -2,17 +2,17 @@ ghost use Rattle.std.specs.Prelude.{◌≡◌, ◌<◌, [], IfSome, length, opti
 ghost use Rattle.bdb_file.specs.Named.{IsSound, database_at};
 ghost use Rattle.bdb_graph.specs.Linked.{HasMetadata};
 ghost use Rattle.bdb_graph.specs.Metas.{meta_seen};
-ghost use Rattle.bdb_model.specs.ContentRows.{contents_faults};
-ghost use Rattle.bdb_model.specs.Databases.{databases, place_of, settings_of};
-ghost use Rattle.bdb_model.specs.File.{file_of};
-ghost use Rattle.bdb_model.specs.HeadOf.{head_of};
-ghost use Rattle.bdb_model.specs.Verdict.{faults_of, structure_faults};
+ghost use Rattle.bdb_format.specs.ContentRows.{database_faults};
+ghost use Rattle.bdb_format.specs.Databases.{databases, place_of, settings_of};
+ghost use Rattle.bdb_format.specs.File.{file_of};
+ghost use Rattle.bdb_format.specs.HeadOf.{head_of};
+ghost use Rattle.bdb_format.specs.Verdict.{faults_of, structure_faults};
 
 use crate::Db;
 use crate::named::NamedMeta;
 use crate::settings::settings_of;
+use bdb_format::{Head, Settings};
 use bdb_graph::{Linked, Meta};
-use bdb_model::{Head, Settings};
 use std::marker::Model;
 
 /// A file on which no row of any stage holds, with its databases: those that its master names, in the order of
@@ -113,7 +113,7 @@ impl<'a> Sound<'a> {
         ensures fields { meta_seen result.now ≡ (database_at (file_of self.now) db).fields }
         ensures there { HasMetadata (file_of self.now) (meta_seen result.now) }
         ensures structure { structure_faults (file_of self.now) ≡ [] }
-        ensures contents { contents_faults (file_of self.now) (meta_seen result.now) ≡ [] }
+        ensures contents { database_faults (file_of self.now) (meta_seen result.now) ≡ [] }
     {
         self.linked();
         self.named(db).meta()

@@ -1,13 +1,11 @@
 ghost use Rattle.std.specs.Prelude.{◌≡◌, IfErr, IfOk, OnOk, []};
-ghost use Rattle.bdb_file.specs.Merged.{IsFirstOf};
 ghost use Rattle.bdb_file.specs.Noted.{IsMemory};
-ghost use Rattle.bdb_graph.specs.Linking.{first_fault};
-ghost use Rattle.bdb_model.specs.File.{file_of};
-ghost use Rattle.bdb_model.specs.Verdict.{chain_faults, structure_faults, tree_faults};
+ghost use Rattle.bdb_format.specs.File.{file_of};
+ghost use Rattle.bdb_format.specs.Verdict.{chain_faults, structure_faults, tree_faults, first_fault, IsFirstOf};
 
 use crate::merged::{earlier, refused};
+use bdb_format::{CheckError, Fault};
 use bdb_graph::Linked;
-use bdb_model::{CheckError, Fault};
 use bdb_overflow::check_chains;
 use bdb_tree::check_trees;
 use std::alloc::Global;
@@ -46,7 +44,7 @@ fn structure_fault(alloc: Global, linked: &Linked<'_>) -> Result<Option<Fault>, 
 
 /// No row of stage 6 holds: chains have their lengths, and leaves their kinds and neighbours. A refusal is the
 /// first fault, or want of memory.
-#[tactic(auto, using(crate::proofs::MergeLemmas::no_first_fault))]
+#[tactic(auto, using(bdb_graph::proofs::LinkingLemmas::no_first_fault))]
 pub(crate) fn check_structure(alloc: Global, linked: &Linked<'_>) -> Result<(), CheckError>
     ensures accepted { OnOk result (structure_faults (file_of linked.now) ≡ []) }
     ensures refusal { IfErr result (IsFirstOf (structure_faults (file_of linked.now))) }

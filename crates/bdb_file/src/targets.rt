@@ -1,16 +1,16 @@
 ghost use Rattle.std.specs.Prelude.{◌≡◌};
 ghost use Rattle.bdb_file.specs.Entries.{entry_fault, target_fault};
-ghost use Rattle.bdb_model.specs.Master.{is_named_kind};
+ghost use Rattle.bdb_format.specs.Master.{is_named_kind};
 ghost use Rattle.bdb_file.specs.Noted.{earliest};
 ghost use Rattle.bdb_form.specs.Seen.{page_seen};
-ghost use Rattle.bdb_model.specs.File.{file_of};
-ghost use Rattle.bdb_model.specs.Graph.{is_meta};
+ghost use Rattle.bdb_format.specs.File.{file_of};
+ghost use Rattle.bdb_format.specs.Graph.{is_meta};
 
 use crate::entry::Entry;
 use crate::merged::earlier;
 use bdb_form::PageView;
+use bdb_format::Fault;
 use bdb_graph::Linked;
-use bdb_model::Fault;
 
 fn is_meta(view: &PageView<'_>) -> bool
     ensures { result ≡ is_meta (page_seen view.now) }

@@ -1,12 +1,11 @@
-ghost use Rattle.std.specs.Prelude.{◌≡◌, ◌≤◌, ◌^◌, [], IfErr, IfOk, None, OnOk, length};
+ghost use Rattle.std.specs.Prelude.{◌≡◌, ◌≤◌, ◌^◌, [], ◌∷◌, IfErr, IfOk, None, OnOk, length};
 ghost use Rattle.bdb_file.specs.Whole.{IsVerdictOf, told_as};
-ghost use Rattle.bdb_model.specs.File.{file_of};
-ghost use Rattle.bdb_model.specs.Verdict.{content_faults, faults_of, master_faults, structure_faults, verdict_of};
+ghost use Rattle.bdb_format.specs.Verdict.{faults_in, faults_of, verdict_of};
 
 use crate::named::databases_of;
 use crate::{Sound, check_file};
+use bdb_format::{CheckError, Steps, Verdict};
 use bdb_graph::{Formed, Linked, link, open_image};
-use bdb_model::{CheckError, Steps, Verdict};
 use std::alloc::Global;
 use std::sync::ledger::Ledger;
 
@@ -38,11 +37,9 @@ fn linked_of<'a, L: Ledger>(
 }
 
 /// A linked image on which no row holds, with its databases. An error is want of memory.
-#[tactic(auto, using(crate::proofs::VerdictLemmas::file_accepted))]
+#[tactic(auto, using(crate::proofs::VerdictLemmas::file_accepted, crate::proofs::WholeLemmas::no_structure_fault, crate::proofs::WholeLemmas::no_master_fault))]
 fn with_databases<'a>(alloc: Global, linked: Linked<'a>) -> Result<Sound<'a>, Verdict>
-    requires structure { structure_faults (file_of linked) ≡ [] }
-    requires master { master_faults (file_of linked) ≡ [] }
-    requires contents { content_faults (file_of linked) ≡ [] }
+    requires { faults_in (6 ∷ 7 ∷ 8 ∷ []) linked ≡ [] }
     ensures sound { IfOk result (λ sound. sound ≡ linked.entry) }
     ensures accepted { OnOk result (faults_of linked.entry ≡ []) }
     ensures refusal { IfErr result (IsVerdictOf linked.entry) }

@@ -1,7 +1,7 @@
 //! Images written a field a line.
 
+use bdb_format::Order;
 use bdb_layout::{put_u16, put_u32};
-use bdb_model::Order;
 
 /// A field that is written at its place: a byte, a number of two or four bytes, or a byte so many times.
 #[derive(Clone, Copy)]

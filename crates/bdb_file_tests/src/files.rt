@@ -1,12 +1,12 @@
-//! Whole files: a master with two databases. Values: docs/FORMAT.md, "Databases of a file" and "Stage 7".
+//! Whole files: a master with two databases. Values: docs/FORMAT.md, "Databases of a file" and "Stage 7, the master".
 
 ghost use Rattle.std.specs.Prelude.{◌≡◌};
 
 use crate::fields::{Field, write};
 use crate::judging::{SIZE, Told, verdict_told};
 use bdb_file::check_file;
+use bdb_format::{CheckError, Fault, Order, Steps, Unsupported};
 use bdb_graph::{link, open_image};
-use bdb_model::{CheckError, Fault, Order, Steps, Unsupported};
 use std::alloc::Global;
 use std::marker::Brand;
 use std::sync::ledger::{Blank, Ledger};

@@ -3,7 +3,7 @@
 ghost use Rattle.std.specs.Prelude.{◌≡◌};
 
 use bdb_file::verify;
-use bdb_model::{Fault, Steps, Unsupported, Verdict};
+use bdb_format::{Fault, Steps, Unsupported, Verdict};
 use std::alloc::Global;
 use std::marker::Brand;
 use std::sync::ledger::{Blank, Ledger};

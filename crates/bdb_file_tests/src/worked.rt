@@ -2,7 +2,7 @@
 
 use crate::fields::{Field, write};
 use crate::judging::{SIZE, Told, verdict_told};
-use bdb_model::{Order, Unsupported};
+use bdb_format::{Order, Unsupported};
 use std::alloc::Global;
 
 const PAGE: usize = 512;

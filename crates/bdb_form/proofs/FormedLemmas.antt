@@ -1,59 +1,40 @@
 -- What it means for a page with an index that no row of form holds for it.
 use Rattle.std.proofs.Common.{◌≡◌, ℕ, ◌%◌, ◌<◌, ◌≤◌, List, length, drop, ◌+◌, arith, refl, sym, ◌∙◌, ap, ltb-false, nat_eq, eq-eqb, eqb-true}
-use Rattle.std.specs.Prelude.{cond, not, ◌==◌, IsTrue, nat_lt, Bool, true, false, Option, Some, None, Result, Ok, Err}
-use Rattle.bdb_model.specs.declared.kinds.Order.{Order}
-use Rattle.bdb_model.specs.Numbers.{byte_at, four_at, two_at}
-use Rattle.bdb_model.specs.Page.{PageType, OverflowPage, Queue}
-use Rattle.bdb_model.specs.Reading.{entries_of, index_end, is_zero, page_as, page_type}
-use Rattle.bdb_model.specs.Rows.{body_code, is_tree_type, page_code, queue_code, listed_code, index_rows, item_rows, item_row, is_wrong_count, is_wrong_level, item_code}
-use Rattle.bdb_model.specs.Table.{Row, first_row, answer, least_below}
+use Rattle.std.specs.Prelude.{cond, not, ◌==◌, IsTrue, Bool, true, false, Option, Some, None, Result, Ok, Err}
+use Rattle.bdb_format.specs.declared.kinds.Order.{Order}
+use Rattle.bdb_format.specs.Numbers.{byte_at, four_at, two_at}
+use Rattle.bdb_format.specs.Page.{PageType, Listed, OverflowPage, Queue}
+use Rattle.bdb_format.specs.Reading.{entries_of, header_of, index_end, is_zero, page_as, page_type}
+use Rattle.bdb_format.specs.Rows.{body_code, is_tree_type, page_code, queue_code, index_rows, item_rows, is_wrong_entry_count}
+use Rattle.bdb_format.specs.Table.{Row, first_row, answer}
 use Rattle.std.specs.Prelude.{slice_get}
 use Rattle.std.specs.Result.{result_err}
-use Rattle.bdb_model.specs.declared.pages.ItemFault.{ItemFault}
-use Rattle.bdb_model.specs.Reading.{listed}
+use Rattle.bdb_format.specs.declared.pages.ItemFault.{ItemFault}
+use Rattle.bdb_format.specs.Reading.{listed}
 use Rattle.bdb_layout.specs.Seen.{answer_seen}
-use Rattle.bdb_model.proofs.PageLemmas.{answer_value, answer_row, length_items, get_item, least_below_none, map_none}
-use Rattle.bdb_form.specs.Formed.{HoldsData, IsListed}
+use Rattle.bdb_format.proofs.ItemLemmas.{index_passes, no_index_row, no_item_row}
+use Rattle.bdb_format.proofs.PageLemmas.{header_listed, answer_value, answer_row, length_items, get_item}
+use Rattle.bdb_form.specs.Formed.{HoldsData, IsListed, unless}
 
--- no row of the page's index holds, and none of an item
-parts : (first least : Option ℕ) → ◌≡◌ {A = Option ℕ} (elim first [ Some code ↦ Some code | None ↦ least ]) None → (first ≡ None) × (least ≡ None)
-parts None least none = (refl, none)
-parts (Some code) least none = absurd cc
+-- A page with an index.
 
-no_index_row : (order : Order) (page : List ℕ) (t : PageType) → listed_code order page t ≡ None → first_row (index_rows order page t) ≡ None
-unfolding listed_code
-no_index_row order page t none = (parts (first_row (index_rows order page t)) (least_below (item_row t order page) (entries_of order page)) none).0
-
-no_item_row : (order : Order) (page : List ℕ) (t : PageType) → listed_code order page t ≡ None → least_below (item_row t order page) (entries_of order page) ≡ None
-unfolding listed_code
-no_item_row order page t none = (parts (first_row (index_rows order page t)) (least_below (item_row t order page) (entries_of order page)) none).1
-
-three_false : (a b c : Bool) (x y z : ℕ) → cond a (Some x) (cond b (Some y) (cond c (Some z) None)) ≡ None → (a ≡ false) × (b ≡ false) × (c ≡ false)
-three_false true b c x y z none = absurd cc
-three_false false true c x y z none = absurd cc
-three_false false false true x y z none = absurd cc
-three_false false false false x y z none = (refl, refl, refl)
-
-tests : (order : Order) (page : List ℕ) (t : PageType) → listed_code order page t ≡ None
-    → (nat_lt (length page) (index_end order page) ≡ false) × (is_wrong_level t (byte_at page 24) ≡ false) × (is_wrong_count t (entries_of order page) ≡ false)
-unfolding index_rows
-tests order page t none =
-    three_false (nat_lt (length page) (index_end order page)) (is_wrong_level t (byte_at page 24)) (is_wrong_count t (entries_of order page)) 19 20 21
-    (no_index_row order page t none)
+-- where no row of the index holds, the index lies on the page
+pub index_room : (t : PageType) (order : Order) (page : List ℕ) → first_row (index_rows order page t) ≡ None → index_end order page ≤ length page
+index_room t order page none = ltb-false _ _ (index_passes order page t none).room
 
 pub listed_room : (t : PageType) (order : Order) (page : List ℕ) → IsListed t order page → index_end order page ≤ length page
-listed_room t order page listed = ltb-false _ _ (tests order page t listed.formed).0
+listed_room t order page listed = index_room t order page (no_index_row order page t listed.formed)
 
-pub listed_count : (t : PageType) (order : Order) (page : List ℕ) → IsListed t order page → is_wrong_count t (entries_of order page) ≡ false
-listed_count t order page listed = (tests order page t listed.formed).2
+pub listed_count : (t : PageType) (order : Order) (page : List ℕ) → IsListed t order page → is_wrong_entry_count t (entries_of order page) ≡ false
+listed_count t order page listed = (index_passes order page t (no_index_row order page t listed.formed)).entries
 
 pub whole_item : {T : Type 0} (t : PageType) (order : Order) (page : List ℕ) (i : ℕ) (item : T) → IsListed t order page → i < entries_of order page → answer (item_rows t order page i) item ≡ Ok item
 whole_item t order page i item listed lt =
     answer_value (item_rows t order page i) item
-    (map_none item_code (first_row (item_rows t order page i)) (least_below_none (item_row t order page) (entries_of order page) i (no_item_row order page t listed.formed) lt))
+    (no_item_row order page t i listed.formed lt)
 
 -- items that stand in pairs are even in number
-pub listed_even : (t : PageType) (order : Order) (page : List ℕ) → IsListed t order page → is_wrong_count t (entries_of order page) ≡ nat_eq (entries_of order page % 2) 1 → entries_of order page % 2 ≡ 0
+pub listed_even : (t : PageType) (order : Order) (page : List ℕ) → IsListed t order page → is_wrong_entry_count t (entries_of order page) ≡ nat_eq (entries_of order page % 2) 1 → entries_of order page % 2 ≡ 0
 listed_even t order page listed odd =
     let no : nat_eq (entries_of order page % 2) 1 ≡ false = sym odd ∙ listed_count t order page listed in
     let other : entries_of order page % 2 ≡ 1 → ⊥ = λ one. absurd (cc (no, eq-eqb (entries_of order page % 2) 1 one)) in
@@ -80,11 +61,15 @@ pub refused : {C I : Type 0} (seen : C → I) (r : Result C ItemFault) (rows : L
 refused seen (Ok x) rows item read = ap result_err read ∙ answer_row rows item
 refused seen (Err fault) rows item read = ap result_err read ∙ answer_row rows item
 
--- where no row of the index holds, the index lies on the page
-pub index_room : (t : PageType) (order : Order) (page : List ℕ) → first_row (index_rows order page t) ≡ None → index_end order page ≤ length page
-unfolding index_rows
-index_room t order page none =
-    ltb-false _ _ (three_false (nat_lt (length page) (index_end order page)) (is_wrong_level t (byte_at page 24)) (is_wrong_count t (entries_of order page)) 19 20 21 none).0
+-- The header of a page with an index.
+
+pub header_over : {I : Type 0} (order : Order) (page : List ℕ) (item_at : ℕ → I) (view : Listed I) → view ≡ listed order page item_at → view.header ≡ header_of order page
+header_over {I = I} order page item_at view is = ap (λ (v : Listed I). v.header) is ∙ header_listed order page item_at
+
+pub header_parsed : {I : Type 0} (order : Order) (page : List ℕ) (item_at : ℕ → I) (code : Option ℕ) (view : Listed I) → Ok view ≡ unless code (listed order page item_at)
+    → view.header ≡ header_of order page
+header_parsed order page item_at None view is = header_over order page item_at view cc
+header_parsed order page item_at (Some code) view is = absurd cc
 
 -- Pages that are known to have no fault of form.
 
@@ -111,16 +96,10 @@ unfolding page_code
 tree_body order number page none other = (code_parts (is_zero page) _ (not (is_tree_type (byte_at page 25))) _ none other).1
 
 -- a page of a queue file that isn't a zero page has the type of its records
-queue_parts : (zeros a b : Bool) → ◌≡◌ {A = Option ℕ} (elim zeros [ true ↦ None | false ↦ cond {A = Option ℕ} a (Some 1) (cond {A = Option ℕ} b (Some 2) None) ]) None → zeros ≡ false → b ≡ false
-queue_parts true a b none other = absurd cc
-queue_parts false true b none other = absurd cc
-queue_parts false false true none other = absurd cc
-queue_parts false false false none other = refl
-
 queue_type : (order : Order) (number : ℕ) (page : List ℕ) → queue_code order number page ≡ None → is_zero page ≡ false → byte_at page 25 ≡ 11
 unfolding queue_code
 queue_type order number page none other =
-    eqb-true (byte_at page 25) 11 (is_from_not (byte_at page 25 == 11) (queue_parts (is_zero page) _ (not (byte_at page 25 == 11)) none other))
+    eqb-true (byte_at page 25) 11 (is_from_not (byte_at page 25 == 11) (code_parts (is_zero page) _ (not (byte_at page 25 == 11)) _ none other).0)
 
 -- the data of an overflow page lie on it
 pub holds_data : (order : Order) (page : List ℕ) → length page ≤ 32768 → 26 ≤ length page → body_code order page (page_type (byte_at page 25)) ≡ None → byte_at page 25 ≡ 7 → HoldsData order page

@@ -2,8 +2,9 @@
 use Rattle.std.specs.Prelude.{ℕ, Result, Ok, Err}
 use Rattle.bdb_form.specs.declared.view.PageView.{PageView}
 use Rattle.bdb_form.specs.declared.view.PageView.TheVariants.{Zero, Free, Meta, Leaf, Internal, RecnoLeaf, RecnoInternal, DupLeaf, Hash, Overflow, Queue}
-use Rattle.bdb_model.specs.declared.pages.Header.{Header}
-use Rattle.bdb_model.specs.Page.{Page, Zero as ZeroPage, Free as FreePage, Meta as AnyMeta, Leaf as AnyLeaf, Internal as AnyInternal, RecnoLeaf as AnyRecnoLeaf, RecnoInternal as AnyRecnoInternal, DupLeaf as AnyDupLeaf, Hash as AnyHash, Overflow as AnyOverflow, Queue as AnyQueue}
+use Rattle.bdb_format.specs.declared.pages.Header.{Header}
+use Rattle.bdb_format.specs.File.{no_header}
+use Rattle.bdb_format.specs.Page.{Page, Zero as ZeroPage, Free as FreePage, Meta as AnyMeta, Leaf as AnyLeaf, Internal as AnyInternal, RecnoLeaf as AnyRecnoLeaf, RecnoInternal as AnyRecnoInternal, DupLeaf as AnyDupLeaf, Hash as AnyHash, Overflow as AnyOverflow, Queue as AnyQueue}
 
 abbrev pub page_seen : PageView → Page
 page_seen (Zero view) = ZeroPage
@@ -22,10 +23,7 @@ abbrev pub form_seen : Result PageView ℕ → Result Page ℕ
 form_seen (Ok view) = Ok (page_seen view)
 form_seen (Err code) = Err code
 
--- the header of a zero page
-abbrev pub no_header : Header
-no_header = record { number = 0; previous = 0; next = 0; entries = 0; high_free = 0; level = 0; page_type = 0 }
-
+-- the header of a page: of a zero page all is 0
 abbrev pub header_seen : PageView → Header
 header_seen (Zero view) = no_header
 header_seen (Free view) = view

@@ -1,13 +1,13 @@
 ghost use Rattle.std.specs.Prelude.{◌≡◌, ◌<◌, ◌≤◌, length, slice_get, Some, None};
 ghost use Rattle.bdb_form.specs.Formed.{unless};
 ghost use Rattle.bdb_layout.specs.Seen.{leaf_item_seen};
-ghost use Rattle.bdb_model.specs.Page.{DupLeafPage};
-ghost use Rattle.bdb_model.specs.Reading.{listed, leaf_item_at};
-ghost use Rattle.bdb_model.specs.Rows.{listed_code};
+ghost use Rattle.bdb_format.specs.Page.{DupLeafPage};
+ghost use Rattle.bdb_format.specs.Reading.{listed, leaf_item_at};
+ghost use Rattle.bdb_format.specs.Rows.{listed_code};
 
 use crate::index::{Indexed, listed_code};
+use bdb_format::Order;
 use bdb_layout::{Header, LeafItem, header, leaf_item, u16_at};
-use bdb_model::Order;
 use std::marker::Model;
 
 /// A leaf of a tree of sorted duplicates.
@@ -19,9 +19,9 @@ pub struct DupLeafView<'a> {
 
 impl<'a> Model for DupLeafView<'a> {
     ghost use Rattle.bdb_form.specs.Formed.{IsListed};
-    ghost use Rattle.bdb_model.specs.Page.{Listed, DupLeafPage};
-    ghost use Rattle.bdb_model.specs.Page.{Item};
-    ghost use Rattle.bdb_model.specs.Reading.{listed, leaf_item_at};
+    ghost use Rattle.bdb_format.specs.Page.{Listed, DupLeafPage};
+    ghost use Rattle.bdb_format.specs.Page.{Item};
+    ghost use Rattle.bdb_format.specs.Reading.{listed, leaf_item_at};
 
     ghost Value = { Listed Item };
 
@@ -30,7 +30,7 @@ impl<'a> Model for DupLeafView<'a> {
     ghost invariant = { λ v. IsListed DupLeafPage v.order v.page.now };
 }
 
-#[tactic(auto, using(bdb_model::proofs::PageLemmas::header_listed, bdb_model::proofs::PageLemmas::length_items, bdb_model::proofs::PageLemmas::get_item, crate::proofs::FormedLemmas::listed_room, crate::proofs::FormedLemmas::whole_item))]
+#[tactic(auto, using(bdb_format::proofs::PageLemmas::header_listed, bdb_format::proofs::PageLemmas::length_items, bdb_format::proofs::PageLemmas::get_item, crate::proofs::FormedLemmas::listed_room, crate::proofs::FormedLemmas::whole_item))]
 impl<'a> DupLeafView<'a> {
     // The view of a page of this type for which no row of form holds.
     pub(crate) fn over(page: &'a [u8], order: Order) -> DupLeafView<'a>

@@ -1,25 +1,26 @@
-ghost use Rattle.std.specs.Prelude.{◌≡◌, ◌≤◌, None, IsTrue, length};
+ghost use Rattle.std.specs.Prelude.{◌≡◌, ◌≤◌, None, IfOk, IsTrue, length};
 ghost use Rattle.bdb_form.specs.Formed.{unless};
-ghost use Rattle.bdb_form.specs.Seen.{form_seen, page_seen};
-ghost use Rattle.bdb_model.specs.HeadOf.{is_page_size};
-ghost use Rattle.bdb_model.specs.Numbers.{byte_at};
-ghost use Rattle.bdb_model.specs.Reading.{abstract_page, is_zero, page_as, page_type};
-ghost use Rattle.bdb_model.specs.Rows.{body_code, identity_rows, is_queue_type, is_tree_type, page_code, queue_code};
-ghost use Rattle.bdb_model.specs.Table.{first_row};
+ghost use Rattle.bdb_form.specs.Seen.{form_seen, header_seen, page_seen};
+ghost use Rattle.bdb_format.specs.HeadOf.{is_page_size};
+ghost use Rattle.bdb_format.specs.Numbers.{byte_at};
+ghost use Rattle.bdb_format.specs.Reading.{abstract_page, header_of, is_zero, page_as, page_type};
+ghost use Rattle.bdb_format.specs.Rows.{body_code, identity_rows, is_queue_type, is_tree_type, page_code, queue_code};
+ghost use Rattle.bdb_format.specs.Table.{first_row};
 
 use crate::{
     DupLeafView, FreeView, HashView, InternalView, LeafView, MetaView, OverflowView, PageView,
     QueueView, RecnoInternalView, RecnoLeafView, ZeroView,
 };
+use bdb_format::Order;
 use bdb_layout::u32_at;
-use bdb_model::Order;
 
 /// A page above 0 of a btree or hash file as the view of its type, or the code of the first row of form
 /// that holds for it. Of a metadata page only the number is looked at: its rows are those of `bdb_meta`.
-#[tactic(auto, unfolding(bdb_model::specs::Rows::page_code, bdb_model::specs::Reading::abstract_page))]
+#[tactic(auto, using(bdb_format::proofs::PageLemmas::zero_header), unfolding(bdb_format::specs::Rows::page_code, bdb_format::specs::Reading::abstract_page))]
 pub fn form(page: &[u8], number: u32, order: Order) -> Result<PageView<'_>, u8>
     requires { IsTrue (is_page_size (length page.now)) }
-    ensures { form_seen result ≡ unless (page_code order number page.now) (abstract_page order page.now) }
+    ensures page { form_seen result ≡ unless (page_code order number page.now) (abstract_page order page.now) }
+    ensures header { IfOk result (λ view. header_seen view ≡ header_of order page.now) }
 {
     if is_zero(page) {
         return Ok(PageView::Zero(ZeroView));
@@ -32,11 +33,12 @@ pub fn form(page: &[u8], number: u32, order: Order) -> Result<PageView<'_>, u8>
 
 /// The view of a page above 0 of a btree or hash file for which no row of form is known to hold, without
 /// another look at its items.
-#[tactic(auto, using(crate::proofs::FormedLemmas::tree_type, crate::proofs::FormedLemmas::tree_body), unfolding(bdb_model::specs::Reading::abstract_page))]
+#[tactic(auto, using(crate::proofs::FormedLemmas::tree_type, crate::proofs::FormedLemmas::tree_body, bdb_format::proofs::PageLemmas::zero_header), unfolding(bdb_format::specs::Reading::abstract_page))]
 pub fn known_form(page: &[u8], number: u32, order: Order) -> PageView<'_>
     requires size { IsTrue (is_page_size (length page.now)) }
     requires form { page_code order number page.now ≡ None }
-    ensures { page_seen result ≡ abstract_page order page.now }
+    ensures page { page_seen result ≡ abstract_page order page.now }
+    ensures header { header_seen result ≡ header_of order page.now }
 {
     let _ = number;
     if is_zero(page) {
@@ -46,11 +48,12 @@ pub fn known_form(page: &[u8], number: u32, order: Order) -> PageView<'_>
 }
 
 /// The view of a page above 0 of a queue file for which no row of form is known to hold.
-#[tactic(auto, using(crate::proofs::FormedLemmas::queue_page), unfolding(bdb_model::specs::Reading::abstract_page))]
+#[tactic(auto, using(crate::proofs::FormedLemmas::queue_page, bdb_format::proofs::PageLemmas::zero_header), unfolding(bdb_format::specs::Reading::abstract_page))]
 pub fn known_queue_form(page: &[u8], number: u32, order: Order) -> PageView<'_>
     requires size { IsTrue (is_page_size (length page.now)) }
     requires form { queue_code order number page.now ≡ None }
-    ensures { page_seen result ≡ abstract_page order page.now }
+    ensures page { page_seen result ≡ abstract_page order page.now }
+    ensures header { header_seen result ≡ header_of order page.now }
 {
     let _ = number;
     if is_zero(page) {
@@ -60,10 +63,11 @@ pub fn known_queue_form(page: &[u8], number: u32, order: Order) -> PageView<'_>
 }
 
 /// A page above 0 of a queue file as its view, or the code of the first row of form that holds for it.
-#[tactic(auto, unfolding(bdb_model::specs::Rows::queue_code, bdb_model::specs::Reading::abstract_page))]
+#[tactic(auto, using(bdb_format::proofs::PageLemmas::zero_header), unfolding(bdb_format::specs::Rows::queue_code, bdb_format::specs::Reading::abstract_page))]
 pub fn queue_form(page: &[u8], number: u32, order: Order) -> Result<PageView<'_>, u8>
     requires { IsTrue (is_page_size (length page.now)) }
-    ensures { form_seen result ≡ unless (queue_code order number page.now) (abstract_page order page.now) }
+    ensures page { form_seen result ≡ unless (queue_code order number page.now) (abstract_page order page.now) }
+    ensures header { IfOk result (λ view. header_seen view ≡ header_of order page.now) }
 {
     if is_zero(page) {
         return Ok(PageView::Zero(ZeroView));
@@ -108,11 +112,13 @@ fn queue_identity(page: &[u8], number: u32, order: Order) -> Option<u8>
 }
 
 // The view of a page whose type is one of a btree or hash file.
+#[tactic(auto, using(crate::proofs::FormedLemmas::header_parsed))]
 fn typed(page: &[u8], order: Order) -> Result<PageView<'_>, u8>
     requires header { 26 ≤ length page.now }
     requires size { length page.now ≤ 32768 }
     requires of_tree { IsTrue (is_tree_type (byte_at page.now 25)) }
-    ensures { form_seen result ≡ unless (body_code order page.now (page_type (byte_at page.now 25))) (page_as order page.now (page_type (byte_at page.now 25))) }
+    ensures page { form_seen result ≡ unless (body_code order page.now (page_type (byte_at page.now 25))) (page_as order page.now (page_type (byte_at page.now 25))) }
+    ensures header { IfOk result (λ view. header_seen view ≡ header_of order page.now) }
 {
     match page[25] {
         0 => Ok(PageView::Free(FreeView::over(page, order))),
@@ -128,13 +134,14 @@ fn typed(page: &[u8], order: Order) -> Result<PageView<'_>, u8>
 }
 
 // The view of a page of a known type, for which no row of form holds.
-#[tactic(auto, using(crate::proofs::FormedLemmas::holds_data))]
+#[tactic(auto, using(crate::proofs::FormedLemmas::holds_data, crate::proofs::FormedLemmas::header_over))]
 fn known_type(page: &[u8], order: Order) -> PageView<'_>
     requires header { 26 ≤ length page.now }
     requires size { length page.now ≤ 32768 }
     requires of_tree { IsTrue (is_tree_type (byte_at page.now 25)) }
     requires form { body_code order page.now (page_type (byte_at page.now 25)) ≡ None }
-    ensures { page_seen result ≡ page_as order page.now (page_type (byte_at page.now 25)) }
+    ensures page { page_seen result ≡ page_as order page.now (page_type (byte_at page.now 25)) }
+    ensures header { header_seen result ≡ header_of order page.now }
 {
     match page[25] {
         0 => PageView::Free(FreeView::over(page, order)),

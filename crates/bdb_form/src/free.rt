@@ -1,8 +1,8 @@
 ghost use Rattle.std.specs.Prelude.{◌≡◌, ◌≤◌, length};
-ghost use Rattle.bdb_model.specs.Reading.{header_of};
+ghost use Rattle.bdb_format.specs.Reading.{header_of};
 
+use bdb_format::Order;
 use bdb_layout::{Header, header};
-use bdb_model::Order;
 use std::marker::Model;
 
 /// A free page: its header, whose next names the next free page.
@@ -14,8 +14,8 @@ pub struct FreeView<'a> {
 
 impl<'a> Model for FreeView<'a> {
     ghost use Rattle.bdb_form.specs.Formed.{HasHeader};
-    ghost use Rattle.bdb_model.specs.Reading.{header_of};
-    ghost use Rattle.bdb_model.specs.declared.pages.Header.{Header};
+    ghost use Rattle.bdb_format.specs.Reading.{header_of};
+    ghost use Rattle.bdb_format.specs.declared.pages.Header.{Header};
 
     ghost Value = { Header };
 

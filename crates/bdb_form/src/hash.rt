@@ -1,13 +1,13 @@
 ghost use Rattle.std.specs.Prelude.{◌≡◌, ◌+◌, ◌*◌, ◌<◌, ◌≤◌, length, slice_get, Some, None};
 ghost use Rattle.bdb_form.specs.Formed.{unless};
 ghost use Rattle.bdb_layout.specs.Seen.{hash_item_seen};
-ghost use Rattle.bdb_model.specs.Page.{HashPage};
-ghost use Rattle.bdb_model.specs.Reading.{listed, hash_item_at};
-ghost use Rattle.bdb_model.specs.Rows.{listed_code};
+ghost use Rattle.bdb_format.specs.Page.{HashPage};
+ghost use Rattle.bdb_format.specs.Reading.{listed, hash_item_at};
+ghost use Rattle.bdb_format.specs.Rows.{listed_code};
 
 use crate::index::{Indexed, listed_code};
+use bdb_format::Order;
 use bdb_layout::{HashItem, Header, hash_item, header, u16_at};
-use bdb_model::Order;
 use std::marker::Model;
 
 /// A page of a hash table: pairs of a key and its data.
@@ -19,8 +19,8 @@ pub struct HashView<'a> {
 
 impl<'a> Model for HashView<'a> {
     ghost use Rattle.bdb_form.specs.Formed.{IsListed};
-    ghost use Rattle.bdb_model.specs.Page.{Item, Listed, HashPage};
-    ghost use Rattle.bdb_model.specs.Reading.{listed, hash_item_at};
+    ghost use Rattle.bdb_format.specs.Page.{Item, Listed, HashPage};
+    ghost use Rattle.bdb_format.specs.Reading.{listed, hash_item_at};
 
     ghost Value = { Listed Item };
 
@@ -29,7 +29,7 @@ impl<'a> Model for HashView<'a> {
     ghost invariant = { λ v. IsListed HashPage v.order v.page.now };
 }
 
-#[tactic(auto, using(bdb_model::proofs::PageLemmas::header_listed, bdb_model::proofs::PageLemmas::length_items, bdb_model::proofs::PageLemmas::get_item, bdb_model::proofs::PageLemmas::index_offset, crate::proofs::FormedLemmas::listed_room, crate::proofs::FormedLemmas::listed_even, crate::proofs::FormedLemmas::whole_item))]
+#[tactic(auto, using(bdb_format::proofs::PageLemmas::header_listed, bdb_format::proofs::PageLemmas::length_items, bdb_format::proofs::PageLemmas::get_item, bdb_format::proofs::PageLemmas::index_offset, crate::proofs::FormedLemmas::listed_room, crate::proofs::FormedLemmas::listed_even, crate::proofs::FormedLemmas::whole_item))]
 impl<'a> HashView<'a> {
     // The view of a page of this type for which no row of form holds.
     pub(crate) fn over(page: &'a [u8], order: Order) -> HashView<'a>

@@ -2,12 +2,12 @@ ghost use Rattle.std.specs.Prelude.{◌≡◌, ◌≤◌, ◌<◌, length};
 ghost use Rattle.std.specs.Option.{option_map};
 ghost use Rattle.std.specs.Result.{result_err};
 ghost use Rattle.bdb_form.specs.Indexed.{type_seen};
-ghost use Rattle.bdb_model.specs.Reading.{entries_of, index_end};
-ghost use Rattle.bdb_model.specs.Rows.{index_rows, is_wrong_count, is_wrong_level, item_code, item_row, listed_code};
-ghost use Rattle.bdb_model.specs.Table.{first_row, least_below, lesser};
+ghost use Rattle.bdb_format.specs.Reading.{entries_of, index_end};
+ghost use Rattle.bdb_format.specs.Rows.{all_item_rows, index_rows, is_wrong_entry_count, is_wrong_level, item_code, item_row, listed_code};
+ghost use Rattle.bdb_format.specs.Table.{first_row, lesser};
 
+use bdb_format::Order;
 use bdb_layout::{ItemFault, hash_item, internal_item, leaf_item, recno_item, u16_at};
-use bdb_model::Order;
 
 /// The types of pages with an index.
 #[derive(Clone, Copy, Debug, PartialEq, Eq)]
@@ -21,7 +21,7 @@ pub enum Indexed {
 }
 
 // The code of the first row that holds for a page with an index: its own, else the least of its items.
-#[tactic(auto, using(crate::proofs::FormedLemmas::index_room), unfolding(bdb_model::specs::Rows::listed_code))]
+#[tactic(auto, using(crate::proofs::FormedLemmas::index_room, bdb_format::proofs::ItemLemmas::index_first, bdb_format::proofs::ItemLemmas::items_next))]
 pub fn listed_code(page: &[u8], order: Order, kind: Indexed) -> Option<u8>
     requires header { 26 ≤ length page.now }
     requires size { length page.now ≤ 32768 }
@@ -33,7 +33,7 @@ pub fn listed_code(page: &[u8], order: Order, kind: Indexed) -> Option<u8>
     }
 }
 
-#[tactic(auto, unfolding(bdb_model::specs::Rows::index_rows))]
+#[tactic(auto, unfolding(bdb_format::specs::Rows::index_rows))]
 fn index_code(page: &[u8], order: Order, kind: Indexed) -> Option<u8>
     requires header { 26 ≤ length page.now }
     ensures { result ≡ first_row (index_rows order page.now (type_seen kind)) }
@@ -45,7 +45,7 @@ fn index_code(page: &[u8], order: Order, kind: Indexed) -> Option<u8>
     if is_wrong_level(kind, page[24]) {
         return Some(20);
     }
-    if is_wrong_count(kind, entries) {
+    if is_wrong_entry_count(kind, entries) {
         return Some(21);
     }
     None
@@ -61,8 +61,8 @@ fn is_wrong_level(kind: Indexed, level: u8) -> bool
     }
 }
 
-fn is_wrong_count(kind: Indexed, entries: u16) -> bool
-    ensures { result ≡ is_wrong_count (type_seen kind) entries }
+fn is_wrong_entry_count(kind: Indexed, entries: u16) -> bool
+    ensures { result ≡ is_wrong_entry_count (type_seen kind) entries }
 {
     match kind {
         Indexed::Hash | Indexed::Leaf => entries % 2 == 1,
@@ -75,7 +75,7 @@ fn is_wrong_count(kind: Indexed, entries: u16) -> bool
 fn least_item_code(page: &[u8], order: Order, kind: Indexed) -> Option<u8>
     requires size { length page.now ≤ 32768 }
     requires room { index_end order page.now ≤ length page.now }
-    ensures { result ≡ least_below (item_row (type_seen kind) order page.now) (entries_of order page.now) }
+    ensures { result ≡ first_row (all_item_rows (type_seen kind) order page.now) }
 {
     let mut least = None;
     for index in 0..u16_at(page, 20, order) {

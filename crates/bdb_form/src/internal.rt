@@ -1,13 +1,13 @@
 ghost use Rattle.std.specs.Prelude.{◌≡◌, ◌<◌, ◌≤◌, length, slice_get, Some, None};
 ghost use Rattle.bdb_form.specs.Formed.{unless};
 ghost use Rattle.bdb_layout.specs.Seen.{internal_item_seen};
-ghost use Rattle.bdb_model.specs.Page.{InternalPage};
-ghost use Rattle.bdb_model.specs.Reading.{listed, internal_item_at};
-ghost use Rattle.bdb_model.specs.Rows.{listed_code};
+ghost use Rattle.bdb_format.specs.Page.{InternalPage};
+ghost use Rattle.bdb_format.specs.Reading.{listed, internal_item_at};
+ghost use Rattle.bdb_format.specs.Rows.{listed_code};
 
 use crate::index::{Indexed, listed_code};
+use bdb_format::Order;
 use bdb_layout::{Header, InternalItem, header, internal_item, u16_at};
-use bdb_model::Order;
 use std::marker::Model;
 
 /// An internal page of a btree, or of a tree of sorted duplicates.
@@ -19,9 +19,9 @@ pub struct InternalView<'a> {
 
 impl<'a> Model for InternalView<'a> {
     ghost use Rattle.bdb_form.specs.Formed.{IsListed};
-    ghost use Rattle.bdb_model.specs.Page.{Listed, InternalPage};
-    ghost use Rattle.bdb_model.specs.Page.{InternalItem};
-    ghost use Rattle.bdb_model.specs.Reading.{listed, internal_item_at};
+    ghost use Rattle.bdb_format.specs.Page.{Listed, InternalPage};
+    ghost use Rattle.bdb_format.specs.Page.{InternalItem};
+    ghost use Rattle.bdb_format.specs.Reading.{listed, internal_item_at};
 
     ghost Value = { Listed InternalItem };
 
@@ -30,7 +30,7 @@ impl<'a> Model for InternalView<'a> {
     ghost invariant = { λ v. IsListed InternalPage v.order v.page.now };
 }
 
-#[tactic(auto, using(bdb_model::proofs::PageLemmas::header_listed, bdb_model::proofs::PageLemmas::length_items, bdb_model::proofs::PageLemmas::get_item, crate::proofs::FormedLemmas::listed_room, crate::proofs::FormedLemmas::whole_item))]
+#[tactic(auto, using(bdb_format::proofs::PageLemmas::header_listed, bdb_format::proofs::PageLemmas::length_items, bdb_format::proofs::PageLemmas::get_item, crate::proofs::FormedLemmas::listed_room, crate::proofs::FormedLemmas::whole_item))]
 impl<'a> InternalView<'a> {
     // The view of a page of this type for which no row of form holds.
     pub(crate) fn over(page: &'a [u8], order: Order) -> InternalView<'a>

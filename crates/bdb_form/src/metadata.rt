@@ -1,10 +1,10 @@
 ghost use Rattle.std.specs.Prelude.{◌≡◌, ◌≤◌, length};
 ghost use Rattle.bdb_form.specs.Formed.{fields_as};
-ghost use Rattle.bdb_model.specs.Numbers.{byte_at};
-ghost use Rattle.bdb_model.specs.Reading.{header_of, page_type};
+ghost use Rattle.bdb_format.specs.Numbers.{byte_at};
+ghost use Rattle.bdb_format.specs.Reading.{header_of, page_type};
 
+use bdb_format::Order;
 use bdb_layout::{Header, header};
-use bdb_model::Order;
 use std::marker::Model;
 
 /// A metadata page. Its fields are read by `bdb_meta`.
@@ -16,8 +16,8 @@ pub struct MetaView<'a> {
 
 impl<'a> Model for MetaView<'a> {
     ghost use Rattle.bdb_form.specs.Formed.{HasHeader, MetaPage, fields_as};
-    ghost use Rattle.bdb_model.specs.Numbers.{byte_at};
-    ghost use Rattle.bdb_model.specs.Reading.{header_of, page_type};
+    ghost use Rattle.bdb_format.specs.Numbers.{byte_at};
+    ghost use Rattle.bdb_format.specs.Reading.{header_of, page_type};
 
     ghost Value = { MetaPage };
 

@@ -1,12 +1,12 @@
 ghost use Rattle.std.specs.Prelude.{◌≡◌, ◌≤◌, length, take, drop};
 ghost use Rattle.bdb_form.specs.Formed.{HoldsData, unless};
-ghost use Rattle.bdb_model.specs.Numbers.{two_at};
-ghost use Rattle.bdb_model.specs.Page.{OverflowPage};
-ghost use Rattle.bdb_model.specs.Reading.{header_of};
-ghost use Rattle.bdb_model.specs.Rows.{body_code};
+ghost use Rattle.bdb_format.specs.Numbers.{two_at};
+ghost use Rattle.bdb_format.specs.Page.{OverflowPage};
+ghost use Rattle.bdb_format.specs.Reading.{header_of};
+ghost use Rattle.bdb_format.specs.Rows.{body_code};
 
+use bdb_format::Order;
 use bdb_layout::{Header, header, u16_at};
-use bdb_model::Order;
 use std::marker::Model;
 
 /// A page of a chain: a piece of a value.
@@ -19,8 +19,8 @@ pub struct OverflowView<'a> {
 impl<'a> Model for OverflowView<'a> {
     ghost use Rattle.std.specs.Prelude.{take, drop};
     ghost use Rattle.bdb_form.specs.Formed.{HoldsData, OverflowPage};
-    ghost use Rattle.bdb_model.specs.Numbers.{two_at};
-    ghost use Rattle.bdb_model.specs.Reading.{header_of};
+    ghost use Rattle.bdb_format.specs.Numbers.{two_at};
+    ghost use Rattle.bdb_format.specs.Reading.{header_of};
 
     ghost Value = { OverflowPage };
 

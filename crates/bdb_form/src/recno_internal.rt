@@ -1,12 +1,12 @@
 ghost use Rattle.std.specs.Prelude.{◌≡◌, ◌<◌, ◌≤◌, length, slice_get, Some, None};
 ghost use Rattle.bdb_form.specs.Formed.{unless};
-ghost use Rattle.bdb_model.specs.Page.{RecnoInternalPage};
-ghost use Rattle.bdb_model.specs.Reading.{listed, recno_item_at};
-ghost use Rattle.bdb_model.specs.Rows.{listed_code};
+ghost use Rattle.bdb_format.specs.Page.{RecnoInternalPage};
+ghost use Rattle.bdb_format.specs.Reading.{listed, recno_item_at};
+ghost use Rattle.bdb_format.specs.Rows.{listed_code};
 
 use crate::index::{Indexed, listed_code};
+use bdb_format::Order;
 use bdb_layout::{Header, RecnoItem, header, recno_item, u16_at};
-use bdb_model::Order;
 use std::marker::Model;
 
 /// An internal page of a recno tree, or of a tree of unsorted duplicates.
@@ -18,9 +18,9 @@ pub struct RecnoInternalView<'a> {
 
 impl<'a> Model for RecnoInternalView<'a> {
     ghost use Rattle.bdb_form.specs.Formed.{IsListed};
-    ghost use Rattle.bdb_model.specs.Page.{Listed, RecnoInternalPage};
-    ghost use Rattle.bdb_model.specs.declared.pages.RecnoItem.{RecnoItem};
-    ghost use Rattle.bdb_model.specs.Reading.{listed, recno_item_at};
+    ghost use Rattle.bdb_format.specs.Page.{Listed, RecnoInternalPage};
+    ghost use Rattle.bdb_format.specs.declared.pages.RecnoItem.{RecnoItem};
+    ghost use Rattle.bdb_format.specs.Reading.{listed, recno_item_at};
 
     ghost Value = { Listed RecnoItem };
 
@@ -29,7 +29,7 @@ impl<'a> Model for RecnoInternalView<'a> {
     ghost invariant = { λ v. IsListed RecnoInternalPage v.order v.page.now };
 }
 
-#[tactic(auto, using(bdb_model::proofs::PageLemmas::header_listed, bdb_model::proofs::PageLemmas::length_items, bdb_model::proofs::PageLemmas::get_item, crate::proofs::FormedLemmas::listed_room, crate::proofs::FormedLemmas::whole_item))]
+#[tactic(auto, using(bdb_format::proofs::PageLemmas::header_listed, bdb_format::proofs::PageLemmas::length_items, bdb_format::proofs::PageLemmas::get_item, crate::proofs::FormedLemmas::listed_room, crate::proofs::FormedLemmas::whole_item))]
 impl<'a> RecnoInternalView<'a> {
     // The view of a page of this type for which no row of form holds.
     pub(crate) fn over(page: &'a [u8], order: Order) -> RecnoInternalView<'a>

@@ -1,5 +1,6 @@
 ghost use Rattle.std.specs.Prelude.{◌≡◌};
 ghost use Rattle.bdb_form.specs.Seen.{header_seen};
+ghost use Rattle.bdb_format.specs.File.{no_header};
 
 use crate::{
     DupLeafView, FreeView, HashView, InternalView, LeafView, MetaView, OverflowView, QueueView,
@@ -46,7 +47,7 @@ impl<'a> PageView<'a> {
 }
 
 fn no_header() -> Header
-    ensures { result ≡ record { number = 0; previous = 0; next = 0; entries = 0; high_free = 0; level = 0; page_type = 0 } }
+    ensures { result ≡ no_header }
 {
     Header {
         number: 0,

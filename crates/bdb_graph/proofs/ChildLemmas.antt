@@ -2,28 +2,30 @@
 use Rattle.std.proofs.Common.{◌≡◌, ◌⊎◌, ℕ, zero, suc, ◌+◌, ◌≤◌, Bool, true, false, cond, List, [], ◌∷◌, ◌++◌, map, Some, None, arith, refl, sym, ◌∙◌, ap, inl, inr, true≢false}
 use Rattle.std.specs.List.{Contains, enumerate_from, filter, flat_map}
 use Rattle.std.proofs.lemmas.Bool.{eqb-true}
-use Rattle.bdb_model.specs.declared.kinds.Order.{Order}
-use Rattle.bdb_model.specs.declared.metadata.FileKind.{FileKind}
-use Rattle.bdb_model.specs.declared.metadata.FileKind.TheVariants.{Btree, Hash as HashFile, Queue as QueueFile}
-use Rattle.bdb_model.specs.declared.metadata.Head.{Head}
-use Rattle.bdb_model.specs.declared.pages.RecnoItem.{RecnoItem}
-use Rattle.bdb_model.specs.declared.references.Reference.{Reference}
-use Rattle.bdb_model.specs.declared.references.Sort.{Sort}
-use Rattle.bdb_model.specs.declared.references.Sort.TheVariants.{Child}
-use Rattle.bdb_model.specs.File.{File, file_of, page_at, page_bytes}
-use Rattle.bdb_model.specs.HeadOf.{head_of}
-use Rattle.bdb_model.specs.Leaves.{children_in}
-use Rattle.bdb_model.specs.Numbers.{byte_at}
-use Rattle.bdb_model.specs.Page.{Content, Inline, Set, Chain, Tree, Unknown, InternalItem, Page, Zero, Meta, Internal, RecnoInternal, Queue}
-use Rattle.bdb_model.specs.Reading.{abstract_page, is_zero, page_as, page_type}
-use Rattle.bdb_model.specs.References.{content_names, names_in, names_of, refs}
-use Rattle.bdb_model.specs.Rows.{form_code, may_have_type}
-use Rattle.bdb_model.proofs.GraphLemmas.{type_fits}
-use Rattle.bdb_model.proofs.MemberLemmas.{of_filter, of_map}
+use Rattle.bdb_format.specs.declared.kinds.Order.{Order}
+use Rattle.bdb_format.specs.declared.metadata.FileKind.{FileKind}
+use Rattle.bdb_format.specs.declared.metadata.FileKind.TheVariants.{Btree, Hash as HashFile, Queue as QueueFile}
+use Rattle.bdb_format.specs.declared.metadata.Head.{Head}
+use Rattle.bdb_format.specs.declared.pages.RecnoItem.{RecnoItem}
+use Rattle.bdb_format.specs.declared.references.Reference.{Reference}
+use Rattle.bdb_format.specs.declared.references.Sort.{Sort}
+use Rattle.bdb_format.specs.declared.references.Sort.TheVariants.{Child}
+use Rattle.bdb_format.specs.File.{File, file_of, page_at, page_bytes}
+use Rattle.bdb_format.specs.HeadOf.{head_of}
+use Rattle.bdb_format.specs.Leaves.{children_in}
+use Rattle.bdb_format.specs.Numbers.{byte_at}
+use Rattle.bdb_format.specs.Page.{Content, Inline, Set, Chain, Tree, Unknown, InternalItem, Page, Zero, Meta, Internal, RecnoInternal, Queue}
+use Rattle.bdb_format.specs.Reading.{abstract_page, is_zero, page_as, page_type}
+use Rattle.bdb_format.specs.References.{content_targets, internal_targets, targets_in, targets_of, refs}
+use Rattle.bdb_format.specs.Rows.{form_code, may_have_type}
+use Rattle.bdb_format.proofs.GraphLemmas.{type_fits, queue_types}
+use Rattle.bdb_format.proofs.MemberLemmas.{of_filter, of_map}
+use Rattle.bdb_format.proofs.PageLemmas.{later_type}
 use Rattle.bdb_graph.specs.Formed.{IsFormed}
 use Rattle.bdb_graph.specs.Linked.{IsForest}
 use Rattle.bdb_graph.proofs.FirstLemmas.{formed_page}
 use Rattle.bdb_graph.proofs.HeldLemmas.{kind_is, last_page, page_is}
+use Rattle.bdb_format.proofs.ReferenceLemmas.{forest_names}
 
 -- A queue file.
 
@@ -33,10 +35,6 @@ is_queue_page Zero = true
 is_queue_page (Meta fields) = true
 is_queue_page (Queue number records) = true
 is_queue_page page = false
-
-queue_byte : (number byte : ℕ) → may_have_type QueueFile number byte ≡ true → (byte ≡ 10) ⊎ (byte ≡ 11)
-queue_byte zero byte may = inl (eqb-true byte 10 may)
-queue_byte (suc number) byte may = inr (eqb-true byte 11 may)
 
 queue_typed : (order : Order) (page : List ℕ) (byte : ℕ) → (byte ≡ 10) ⊎ (byte ≡ 11) → is_queue_page (page_as order page (page_type byte)) ≡ true
 queue_typed order page byte types =
@@ -50,7 +48,7 @@ queue_abstract head number page queue none =
       | true ↦ λ _. refl
       | false ↦ λ some.
           queue_typed head.order page byte
-          (queue_byte number byte (ap (λ kind. may_have_type kind number byte) (sym queue) ∙ type_fits head number page some none))
+          (queue_types number byte (ap (λ kind. may_have_type kind number byte) (sym queue) ∙ type_fits head number page some none))
     ] refl
 
 -- the pages of a queue file are zero pages, metadata and pages of records
@@ -88,32 +86,27 @@ placed_children n (name ∷ names) =
       | false ↦ placed_children (n + 1) names
     ]
 
-no_child_named : (key : Content) (names : List (Sort × ℕ)) → named_children (content_names key ++ names) ≡ named_children names
+no_child_named : (key : Content) (names : List (Sort × ℕ)) → named_children (content_targets key ++ names) ≡ named_children names
 no_child_named (Inline bytes) names = refl
 no_child_named (Set blocks) names = refl
 no_child_named (Chain head total) names = refl
 no_child_named (Tree root) names = refl
 no_child_named Unknown names = refl
 
-internal_children : (items : List InternalItem) → named_children (flat_map (λ (item : InternalItem). (Child, item.child) ∷ content_names item.key) items) ≡ map (λ (item : InternalItem). item.child) items
+internal_children : (items : List InternalItem) → named_children (flat_map internal_targets items) ≡ map (λ (item : InternalItem). item.child) items
 internal_children [] = refl
 internal_children (item ∷ items) =
     ap (λ ps. item.child ∷ ps)
-    (no_child_named item.key (flat_map (λ (other : InternalItem). (Child, other.child) ∷ content_names other.key) items) ∙ internal_children items)
+    (no_child_named item.key (flat_map internal_targets items) ∙ internal_children items)
 
 recno_children : (items : List RecnoItem) → named_children (map (λ (item : RecnoItem). (Child, item.child)) items) ≡ map (λ (item : RecnoItem). item.child) items
 recno_children [] = refl
 recno_children (item ∷ items) = ap (λ ps. item.child ∷ ps) (recno_children items)
 
-page_children : (p : ℕ) (page : Page) (cs : List ℕ) → children_in page ≡ Some cs → named_children (names_in p page) ≡ cs
+page_children : (p : ℕ) (page : Page) (cs : List ℕ) → children_in page ≡ Some cs → named_children (targets_in p page) ≡ cs
 page_children p (Internal page) cs some = internal_children page.items ∙ cc
 page_children p (RecnoInternal page) cs some = recno_children page.items ∙ cc
 page_children p page cs some = absurd cc
-
-forest_names : (kind : FileKind) (p : ℕ) (page : Page) → (kind ≡ QueueFile → ⊥) → names_of kind p page ≡ names_in p page
-forest_names Btree p page forest = refl
-forest_names HashFile p page forest = refl
-forest_names QueueFile p page forest = absurd (forest refl)
 
 no_queue_page : (page : Page) (cs : List ℕ) → children_in page ≡ Some cs → is_queue_page page ≡ false
 no_queue_page (Internal page) cs some = refl
@@ -126,7 +119,7 @@ unfolding refs
 children_are image p cs forest low some =
     let file : File = file_of image in
     let other : file.kind ≡ QueueFile → ⊥ = λ queue. true≢false (sym (queue_page image (head_of image) p forest.formed low queue) ∙ no_queue_page (page_at file p) cs some) in
-    placed_children 0 (names_of file.kind p (page_at file p))
+    placed_children 0 (targets_of file.kind p (page_at file p))
     ∙ (ap named_children (forest_names file.kind p (page_at file p) other) ∙ page_children p (page_at file p) cs some)
 
 child_sort : (sort : Sort) → is_child sort ≡ true → sort ≡ Child

@@ -1,29 +1,28 @@
 -- The code of a page, by the calls that judge its form and its metadata.
-use Rattle.std.proofs.Common.{◌≡◌, ℕ, zero, suc, ◌+◌, ◌<◌, ◌≤◌, Bool, true, false, cond, List, [], ◌∷◌, ◌++◌, length, min, arith, refl, sym, ◌∙◌, ap, subst, inl, inr}
+use Rattle.std.proofs.Common.{◌≡◌, ℕ, zero, suc, ◌+◌, ◌<◌, ◌≤◌, Bool, true, false, cond, List, [], ◌∷◌, ◌++◌, length, arith, refl, sym, ◌∙◌, ap}
 use Rattle.std.specs.Prelude.{Option, Some, None, Result, Ok, Err, ◌==◌, ◌&&◌, not, nat_lt}
 use Rattle.std.specs.Option.{option_map}
 use Rattle.std.specs.Result.{result_err}
-use Rattle.std.proofs.lemmas.Bool.{cases_order, eqb-true, lt-ltb}
+use Rattle.std.proofs.lemmas.Bool.{eqb-true, lt-ltb}
 use Rattle.std.proofs.lemmas.List.Folds.{list_all_at}
-use Rattle.bdb_model.specs.declared.kinds.Order.{Order}
-use Rattle.bdb_model.specs.declared.metadata.FileKind.{FileKind}
-use Rattle.bdb_model.specs.declared.metadata.FileKind.TheVariants.{Btree, Hash, Queue}
-use Rattle.bdb_model.specs.declared.metadata.Head.{Head}
-use Rattle.bdb_model.specs.declared.metadata.MetaFault.{MetaFault}
-use Rattle.bdb_model.specs.declared.metadata.MetaFault.TheVariants.{Fault as CodeFault}
-use Rattle.bdb_model.specs.declared.pages.ItemFault.{ItemFault}
-use Rattle.bdb_model.specs.declared.pages.ItemFault.TheVariants.{Offset, Kind, Extent}
-use Rattle.bdb_model.specs.HeadOf.{faulted, form_fault}
-use Rattle.bdb_model.specs.Numbers.{byte_at, four_at, two_at}
-use Rattle.bdb_model.specs.Page.{Page, PageType, FreePage, HashPage, InternalPage, RecnoInternalPage, LeafPage, RecnoLeafPage, OverflowPage, HashMetaPage, BtreeMetaPage, QueueMetaPage, QueuePage, DupLeafPage, OtherPage}
-use Rattle.bdb_model.specs.Reading.{entries_of, is_zero, page_type}
-use Rattle.bdb_model.specs.Rows.{body_code, form_code, identity_rows, index_rows, is_queue_type, is_tree_type, item_code, item_row, item_rows, kind_rows, listed_code, may_have_type, meta_rows, metadata_rows, page_code, queue_code, type_of, typed_code}
-use Rattle.bdb_model.specs.Table.{Row, ◌:?◌, answer, first_row, least_below, lesser}
+use Rattle.bdb_format.specs.declared.kinds.Order.{Order}
+use Rattle.bdb_format.specs.declared.metadata.FileKind.{FileKind}
+use Rattle.bdb_format.specs.declared.metadata.FileKind.TheVariants.{Btree, Hash, Queue}
+use Rattle.bdb_format.specs.declared.metadata.Head.{Head}
+use Rattle.bdb_format.specs.declared.metadata.MetaFault.{MetaFault}
+use Rattle.bdb_format.specs.declared.metadata.MetaFault.TheVariants.{Fault as CodeFault}
+use Rattle.bdb_format.specs.HeadOf.{faulted, form_fault}
+use Rattle.bdb_format.specs.Numbers.{byte_at, four_at, two_at}
+use Rattle.bdb_format.specs.Page.{Page, PageType, FreePage, HashPage, InternalPage, RecnoInternalPage, LeafPage, RecnoLeafPage, OverflowPage, HashMetaPage, BtreeMetaPage, QueueMetaPage, QueuePage, DupLeafPage, OtherPage}
+use Rattle.bdb_format.specs.Reading.{is_zero, page_type}
+use Rattle.bdb_format.specs.Rows.{body_code, form_code, identity_rows, index_rows, is_queue_type, is_tree_type, all_item_rows, field_rows, listed_code, may_have_type, metadata_rows, page_code, queue_code, type_of, typed_code}
+use Rattle.bdb_format.specs.Table.{Row, ◌:?◌, answer, first_row}
+use Rattle.bdb_format.proofs.PageLemmas.{later_type, metadata_code}
 use Rattle.bdb_form.specs.declared.view.PageView.{PageView}
 use Rattle.bdb_form.specs.Formed.{unless}
 use Rattle.bdb_form.specs.Seen.{form_seen}
 use Rattle.bdb_graph.proofs.FormedLemmas.{size_bounds}
-use Rattle.bdb_model.specs.HeadOf.{is_page_size}
+use Rattle.bdb_format.specs.HeadOf.{is_page_size}
 
 -- What the calls answer.
 
@@ -73,39 +72,13 @@ plain_first (row ∷ rows) all =
       | false ↦ plain_first rows all.1
     ]
 
-plain_lesser : (a b : Option ℕ) → ArePlain a → ArePlain b → ArePlain (lesser a b)
-plain_lesser None b first second = second
-plain_lesser (Some a) None first second = first
-plain_lesser (Some a) (Some b) first second =
-    elim (cases_order a b) [
-      | inl same ↦ let is : a ≡ min a b = omega arith in subst IsPlain is first
-      | inr (inl below) ↦ let is : a ≡ min a b = omega arith in subst IsPlain is first
-      | inr (inr above) ↦ let is : b ≡ min a b = omega arith in subst IsPlain is second
-    ]
-
-plain_least : (f : ℕ → Option ℕ) (n : ℕ) → ((i : ℕ) → ArePlain (f i)) → ArePlain (least_below f n)
-plain_least f zero each = tt
-plain_least f (suc n) each = plain_lesser (least_below f n) (f n) (plain_least f n each) (each n)
-
-plain_item : (fault : Option ItemFault) → ArePlain (option_map item_code fault)
-plain_item None = tt
-plain_item (Some Offset) = refl
-plain_item (Some Kind) = refl
-plain_item (Some Extent) = refl
-
 plain_or : (first least : Option ℕ) → ArePlain first → ArePlain least → ArePlain (elim first [ Some code ↦ Some code | None ↦ least ])
 plain_or None least first second = second
 plain_or (Some code) least first second = first
 
-plain_index : (order : Order) (page : List ℕ) (t : PageType) → ArePlain (first_row (index_rows order page t))
-unfolding index_rows
-plain_index order page t = plain_first (index_rows order page t) (refl, (refl, (refl, tt)))
-
 plain_listed : (order : Order) (page : List ℕ) (t : PageType) → ArePlain (listed_code order page t)
-unfolding listed_code
-plain_listed order page t =
-    plain_or (first_row (index_rows order page t)) (least_below (item_row t order page) (entries_of order page)) (plain_index order page t)
-    (plain_least (item_row t order page) (entries_of order page) (λ i. plain_item (first_row (item_rows t order page i))))
+unfolding listed_code index_rows
+plain_listed order page t = plain_first (index_rows order page t ++ all_item_rows t order page) (refl, (refl, (refl, (refl, (refl, (refl, tt))))))
 
 plain_body : (order : Order) (page : List ℕ) (t : PageType) → ArePlain (body_code order page t)
 plain_body order page FreePage = tt
@@ -135,7 +108,9 @@ plain_page order number page =
 
 plain_queue : (order : Order) (number : ℕ) (page : List ℕ) → ArePlain (queue_code order number page)
 unfolding queue_code
-plain_queue order number page = plain_unless (is_zero page) _ (plain_first (identity_rows order page number is_queue_type) (refl, (refl, tt)))
+plain_queue order number page =
+    plain_unless (is_zero page) _
+    (plain_or (first_row (identity_rows order page number is_queue_type)) None (plain_first (identity_rows order page number is_queue_type) (refl, (refl, tt))) tt)
 
 plain_fault : (code : Option ℕ) → ArePlain code → option_map form_fault code ≡ option_map (λ c. CodeFault c) code
 plain_fault None plain = refl
@@ -151,15 +126,15 @@ is_same a b same =
     ] refl same
 
 -- two rows are passed once, whether they are looked at before the type or in its own table
-twice : (a b : Bool) (typed rest : Option ℕ) → (b ≡ false → typed ≡ cond {A = Option ℕ} a (Some 1) (cond b (Some 2) rest))
+twice : (a b : Bool) (typed rest : Option ℕ) → (b ≡ false → typed ≡ rest)
     → ◌≡◌ {A = Option ℕ} (elim (cond {A = Option ℕ} a (Some 1) (cond b (Some 2) None)) [ Some code ↦ Some code | None ↦ typed ]) (cond {A = Option ℕ} a (Some 1) (cond b (Some 2) rest))
 twice true b typed rest same = refl
 twice false true typed rest same = refl
 twice false false typed rest same = same refl
 
--- the code of a page with the type of metadata of a kind
+-- the code of a page with the type of metadata of a kind, its number and type aside
 pub typed_metadata : (head : Head) (number : ℕ) (page : List ℕ) (kind : FileKind) → byte_at page 25 ≡ type_of kind
-    → typed_code head number page (page_type (byte_at page 25)) ≡ first_row (metadata_rows head.order page number head.last kind)
+    → typed_code head number page (page_type (byte_at page 25)) ≡ first_row (field_rows head.order page number head.last kind)
 typed_metadata head number page Btree is = ap (λ byte. typed_code head number page (page_type byte)) is
 typed_metadata head number page Hash is = ap (λ byte. typed_code head number page (page_type byte)) is
 typed_metadata head number page Queue is = ap (λ byte. typed_code head number page (page_type byte)) is
@@ -168,7 +143,7 @@ pub first_page_code : (head : Head) (page : List ℕ) → form_code head 0 page 
 unfolding form_code metadata_rows
 first_page_code head page =
     twice (not (four_at head.order page 8 == 0)) (not (byte_at page 25 == type_of head.kind)) (typed_code head 0 page (page_type (byte_at page 25)))
-    (first_row (meta_rows head.order page 0 head.kind ++ kind_rows head.order page 0 head.last head.kind))
+    (first_row (field_rows head.order page 0 head.last head.kind))
     (λ own. typed_metadata head 0 page head.kind (is_same (byte_at page 25) (type_of head.kind) own))
 
 -- Other pages.
@@ -192,13 +167,18 @@ code_none true identity typed other page none = absurd cc
 code_none false (Some c) typed other page none = absurd cc
 code_none false None typed other page none = refl
 
+pub identity_fails : (zeros : Bool) (identity typed : Option ℕ) → zeros ≡ false → code_by zeros identity typed ≡ None → identity ≡ None
+identity_fails true identity typed page none = absurd cc
+identity_fails false (Some c) typed page none = absurd cc
+identity_fails false None typed page none = refl
+
 above_zero : (number : ℕ) (b : Bool) → 0 < number → (nat_lt 0 number && b) ≡ b
 above_zero number b above = ap (λ c. c && b) (lt-ltb 0 number above)
 
-tree_types : (kind : FileKind) (n : ℕ) → (kind ≡ Queue → ⊥) → may_have_type kind (suc n) ≡ is_tree_type
-tree_types Btree n tree = refl
-tree_types Hash n tree = refl
-tree_types Queue n tree = absurd (tree refl)
+tree_types : (kind : FileKind) (n byte : ℕ) → (kind ≡ Queue → ⊥) → may_have_type kind (suc n) byte ≡ is_tree_type byte
+tree_types Btree n byte tree = later_type Btree n byte
+tree_types Hash n byte tree = later_type Hash n byte
+tree_types Queue n byte tree = absurd (tree refl)
 
 some_type : (kind : FileKind) → (type_of kind == 0) ≡ false
 some_type Btree = refl
@@ -223,7 +203,7 @@ tree_code head zero page above tree = absurd (omega arith)
 tree_code head (suc n) page above tree =
     let typed : Option ℕ = typed_code head (suc n) page (page_type (byte_at page 25)) in
     ap (λ zeros. code_by zeros (first_row (identity_rows head.order page (suc n) (may_have_type head.kind (suc n)))) typed) (above_zero (suc n) (is_zero page) above)
-    ∙ ap (λ is_type. code_by (is_zero page) (first_row (identity_rows head.order page (suc n) is_type)) typed) (tree_types head.kind n tree)
+    ∙ ap (λ fits. code_by (is_zero page) (first_row (1 :? not (four_at head.order page 8 == suc n) ∷ 2 :? not fits ∷ [])) typed) (tree_types head.kind n (byte_at page 25) tree)
 
 -- a page that is refused by its form
 typed_body : (head : Head) (number : ℕ) (page : List ℕ) (t : PageType) (code : ℕ) → body_code head.order page t ≡ Some code → typed_code head number page t ≡ Some code
@@ -258,10 +238,12 @@ pub tree_metadata : (head : Head) (number : ℕ) (page : List ℕ) (kind : FileK
 unfolding page_code
 tree_metadata head number page kind above tree passed size is =
     let t : PageType = page_type (byte_at page 25) in
+    let identity : Option ℕ = first_row (identity_rows head.order page number is_tree_type) in
+    let some : is_zero page ≡ false = not_zero page kind size is in
     tree_code head number page above tree
-    ∙ code_none (is_zero page) (first_row (identity_rows head.order page number is_tree_type)) (body_code head.order page t) (typed_code head number page t)
-    (not_zero page kind size is) passed
+    ∙ code_none (is_zero page) identity (body_code head.order page t) (typed_code head number page t) some passed
     ∙ typed_metadata head number page kind is
+    ∙ sym (metadata_code head.order page number head.last kind is_tree_type (identity_fails (is_zero page) identity (body_code head.order page t) some passed) is)
 
 -- a type that isn't one of metadata
 pub record IsBody (t : PageType) : Type 0 where
@@ -316,28 +298,21 @@ tree_passed head number page above tree passed hash btree =
     ∙ passed
 
 -- a page above 0 of a queue file
-queue_same : (zeros a b : Bool) (typed : Option ℕ) → (b ≡ false → typed ≡ None)
-    → code_by zeros (cond a (Some 1) (cond b (Some 2) None)) typed ≡ elim zeros [ true ↦ None | false ↦ cond a (Some 1) (cond b (Some 2) None) ]
-queue_same true a b typed none = refl
-queue_same false true b typed none = refl
-queue_same false false true typed none = refl
-queue_same false false false typed none = none refl
-
 typed_queue : (head : Head) (number : ℕ) (page : List ℕ) → byte_at page 25 ≡ 11 → typed_code head number page (page_type (byte_at page 25)) ≡ None
 typed_queue head number page is = ap (λ byte. typed_code head number page (page_type byte)) is
 
-queue_types : (kind : FileKind) (n : ℕ) → kind ≡ Queue → may_have_type kind (suc n) ≡ is_queue_type
-queue_types kind n is = ap (λ k. may_have_type k (suc n)) is
+queue_types : (kind : FileKind) (n byte : ℕ) → kind ≡ Queue → may_have_type kind (suc n) byte ≡ is_queue_type byte
+queue_types kind n byte is = ap (λ k. may_have_type k (suc n) byte) is ∙ later_type Queue n byte
 
 pub form_queue : (head : Head) (number : ℕ) (page : List ℕ) → 0 < number → head.kind ≡ Queue → form_code head number page ≡ queue_code head.order number page
 unfolding form_code queue_code
 form_queue head zero page above queue = absurd (omega arith)
 form_queue head (suc n) page above queue =
     let typed : Option ℕ = typed_code head (suc n) page (page_type (byte_at page 25)) in
+    let identity : Option ℕ = first_row (identity_rows head.order page (suc n) is_queue_type) in
     ap (λ zeros. code_by zeros (first_row (identity_rows head.order page (suc n) (may_have_type head.kind (suc n)))) typed) (above_zero (suc n) (is_zero page) above)
-    ∙ ap (λ is_type. code_by (is_zero page) (first_row (identity_rows head.order page (suc n) is_type)) typed) (queue_types head.kind n queue)
-    ∙ queue_same (is_zero page) (not (four_at head.order page 8 == suc n)) (not (byte_at page 25 == 11)) typed
-    (λ own. typed_queue head (suc n) page (is_same (byte_at page 25) 11 own))
+    ∙ ap (λ fits. code_by (is_zero page) (first_row (1 :? not (four_at head.order page 8 == suc n) ∷ 2 :? not fits ∷ [])) typed) (queue_types head.kind n (byte_at page 25) queue)
+    ∙ code_same (is_zero page) identity typed None (λ none. typed_queue head (suc n) page (is_same (byte_at page 25) 11 (two_none _ _ none)))
 
 -- the fault of a page above 0 of a queue file is the code of its form
 pub queue_fault : (head : Head) (number : ℕ) (page : List ℕ) (code : Option ℕ) → 0 < number → head.kind ≡ Queue → code ≡ queue_code head.order number page

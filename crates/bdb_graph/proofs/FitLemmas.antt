@@ -6,34 +6,27 @@ use Rattle.std.specs.List.{list_any}
 use Rattle.std.proofs.lemmas.Bool.{cases_order, eqb-true, eqb-false, le-ltb, lt-ltb, ne_eqb, or_from}
 use Rattle.std.proofs.lemmas.List.Folds.{list_any-append}
 use Rattle.std.proofs.Math.Bool.{or-false}
-use Rattle.bdb_model.specs.declared.kinds.Fault.{Fault}
-use Rattle.bdb_model.specs.declared.kinds.Order.{Order}
-use Rattle.bdb_model.specs.declared.references.Reference.{Reference}
-use Rattle.bdb_model.specs.File.{File, header_in, no_header, page_at, type_in}
-use Rattle.bdb_model.specs.HeadOf.{is_page_size}
-use Rattle.bdb_model.specs.Numbers.{byte_at, four_at, has_bit}
-use Rattle.bdb_model.specs.Page.{Page, PageType, FreePage, HashPage, InternalPage, RecnoInternalPage, LeafPage, RecnoLeafPage, OverflowPage, HashMetaPage, BtreeMetaPage, QueueMetaPage, QueuePage, DupLeafPage, OtherPage, Zero}
-use Rattle.bdb_model.specs.Reading.{abstract_page, header_of, is_zero, listed, page_as, page_type}
-use Rattle.bdb_model.specs.References.{Asked, asked_by, child_types, fit_code, is_zero_page, root_types}
-use Rattle.bdb_model.specs.Table.{Row, ◌:?◌, first_row, lesser}
-use Rattle.bdb_model.specs.Verdict.{by_page, fails_as, holding, reference_faults, reference_rows}
-use Rattle.bdb_model.proofs.VerdictLemmas.{no_faults, none_holds, none_is_first_row}
+use Rattle.bdb_format.specs.declared.kinds.Fault.{Fault}
+use Rattle.bdb_format.specs.declared.kinds.Order.{Order}
+use Rattle.bdb_format.specs.declared.references.Reference.{Reference}
+use Rattle.bdb_format.specs.File.{File, header_in, no_header, page_at, type_in}
+use Rattle.bdb_format.specs.HeadOf.{is_page_size}
+use Rattle.bdb_format.specs.Numbers.{byte_at, four_at, has_bit}
+use Rattle.bdb_format.specs.Page.{Page, PageType, FreePage, HashPage, InternalPage, RecnoInternalPage, LeafPage, RecnoLeafPage, OverflowPage, HashMetaPage, BtreeMetaPage, QueueMetaPage, QueuePage, DupLeafPage, OtherPage, Zero}
+use Rattle.bdb_format.specs.Reading.{abstract_page, header_of, is_zero, listed, page_as, page_type}
+use Rattle.bdb_format.specs.References.{Asked, asked_by, child_types, fit_code, is_zero_page, root_types}
+use Rattle.bdb_format.specs.Table.{Row, ◌:?◌, first_row, lesser}
+use Rattle.bdb_format.specs.Verdict.{by_page, fails_as, holding, reference_faults, reference_rows, first_fault}
+use Rattle.bdb_format.proofs.VerdictLemmas.{no_faults, none_holds, none_is_first_row}
 use Rattle.bdb_graph.proofs.FormedLemmas.{size_bounds}
 use Rattle.bdb_graph.specs.Fits.{failing_rows, page_rows}
-use Rattle.bdb_graph.specs.Linking.{first_fault}
+use Rattle.bdb_format.proofs.GraphLemmas.{zero_page, typed_page}
+use Rattle.bdb_format.proofs.TypeLemmas.{if_type}
 
 pub long_page : (n : ℕ) → is_page_size n ≡ true → 512 ≤ n
 long_page n legal = (size_bounds n legal).0
 
 -- Bytes as a page.
-
-pub zero_page : (order : Order) (page : List ℕ) → is_zero page ≡ true → abstract_page order page ≡ Zero
-unfolding abstract_page
-zero_page order page empty = rw (empty, abstract_page) refl
-
-pub typed_page : (order : Order) (page : List ℕ) → is_zero page ≡ false → abstract_page order page ≡ page_as order page (page_type (byte_at page 25))
-unfolding abstract_page
-typed_page order page some = rw (some, abstract_page) refl
 
 not_zero_as : (order : Order) (page : List ℕ) (t : PageType) → is_zero_page (page_as order page t) ≡ false
 not_zero_as order page FreePage = refl
@@ -131,10 +124,6 @@ pub unheaded : (order : Order) (page : List ℕ) → is_zero page ≡ false → 
 unheaded order page some none = sym (ap header_in (typed_page order page some) ∙ no_header_as order page (byte_at page 25) (none_of (byte_at page 25) headed_bytes none))
 
 -- The types that a page's references ask for.
-
-if_type : (P : PageType → Type 0) (b : Bool) (t u : PageType) → (b ≡ true → P t) → (b ≡ false → P u) → P (cond b t u)
-if_type P true t u here later = here refl
-if_type P false t u here later = later refl
 
 -- a page of this type names no page below and no root
 abbrev is_plain : PageType → Bool

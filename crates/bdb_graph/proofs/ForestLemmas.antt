@@ -1,37 +1,28 @@
 -- In a file that linking accepts each page leads up, and no way has a page twice: the turns that a page takes fall on the way up.
-use Rattle.std.proofs.Common.{◌≡◌, ◌⊎◌, ℕ, zero, suc, ◌+◌, ◌≤◌, Bool, true, false, not, ◌&&◌, ◌||◌, cond, List, [], ◌∷◌, length, Option, Some, None, arith, refl, sym, ◌∙◌, ap, subst, inl, inr, true≢false}
+use Rattle.std.proofs.Common.{◌≡◌, ◌⊎◌, ℕ, zero, suc, ◌+◌, ◌<◌, ◌≤◌, Bool, true, false, not, ◌&&◌, ◌||◌, cond, List, [], ◌∷◌, length, Option, Some, None, arith, refl, sym, ◌∙◌, ap, subst, inl, inr, true≢false}
 use Rattle.std.specs.Prelude.{nat_lt, ◌==◌}
 use Rattle.std.specs.List.{Contains, list_all, filter, range_with_len}
 use Rattle.std.proofs.lemmas.Bool.{cases_Bool, not-false, eqb-false, eq-eqb, ltb-false, or_parts, or_from}
-use Rattle.bdb_model.specs.declared.kinds.Fault.{Fault}
-use Rattle.bdb_model.specs.File.{File, file_of, page_at}
-use Rattle.bdb_model.specs.References.{refs, asked_by, fit_rows, fit_code}
-use Rattle.bdb_model.specs.Graph.{Owner, all_references, first_holder, has_heads_alone, held_by, if_some, is_anchor, is_head_reference, is_reserve, owners, reaches, reaches_in}
-use Rattle.bdb_model.specs.Verdict.{holding, or_else, ownership_faults, ownership_rows, reach_faults, reach_rows, reference_faults}
-use Rattle.bdb_model.proofs.GraphLemmas.{IsOwner, anchor_unowned, is_owner, owner_fits, reserve_is}
-use Rattle.bdb_model.proofs.MemberLemmas.{first_member, in_flat_map, in_map, in_range, later_member, member_cases, no_member}
-use Rattle.bdb_model.proofs.VerdictLemmas.{AllFail, all_fail, no_codes_at, none_is_first_row}
+use Rattle.bdb_format.specs.File.{File, file_of, page_at}
+use Rattle.bdb_format.specs.References.{refs, asked_by, fit_rows, fit_code}
+use Rattle.bdb_format.specs.Graph.{Owner, all_references, first_holder, has_heads_alone, held_by, if_some, is_anchor, is_head_reference, is_reserve, owners, reaches, reaches_in}
+use Rattle.bdb_format.specs.Verdict.{holding, stage_faults, ownership_faults, ownership_rows, reach_faults, reach_rows, reference_faults, faults_in}
+use Rattle.bdb_format.proofs.GraphLemmas.{IsOwner, anchor_unowned, is_owner, owner_fits, reserve_is, reached_of}
+use Rattle.bdb_format.proofs.MemberLemmas.{first_member, in_flat_map, in_map, in_range, later_member, member_cases, no_member, in_filter}
+use Rattle.bdb_format.proofs.VerdictLemmas.{AllFail, all_fail, no_codes_at, none_is_first_row, none_within}
 use Rattle.bdb_graph.specs.Forest.{AllDistinct, EachPageLeadsUp, IsWayDown, IsWayUp, LeadsUp, Names, NoPageTwiceBelow, NotIn, is_top}
-use Rattle.bdb_graph.specs.Linking.{graph_faults}
 
 -- The stages.
-
-pub both_empty : (faults others : List Fault) → or_else faults (λ _. others) ≡ [] → (faults ≡ []) × (others ≡ [])
-both_empty [] others none = (refl, none)
-both_empty (fault ∷ faults) others none = absurd cc
 
 pub record IsSoundGraph (file : File) : Type 0 where
   pub references : reference_faults file ≡ []
   pub ownership : ownership_faults file ≡ []
   pub reach : reach_faults file ≡ []
 
-pub sound_graph : (image : List ℕ) → graph_faults image ≡ [] → IsSoundGraph (file_of image)
-unfolding graph_faults
+pub sound_graph : (image : List ℕ) → faults_in (3 ∷ 4 ∷ 5 ∷ []) image ≡ [] → IsSoundGraph (file_of image)
 sound_graph image none =
-    let file : File = file_of image in
-    let first = both_empty (reference_faults file) (or_else (ownership_faults file) (λ _. reach_faults file)) none in
-    let second = both_empty (ownership_faults file) (reach_faults file) first.1 in
-    record { references = first.0; ownership = second.0; reach = second.1 }
+    let each : (stage : ℕ) → 3 ≤ stage → stage < 6 → stage_faults image stage ≡ [] = λ stage. none_within 3 3 image stage none in
+    record { references = each 3 (omega arith) (omega arith); ownership = each 4 (omega arith) (omega arith); reach = each 5 (omega arith) (omega arith) }
 
 -- A page with an owner.
 
@@ -71,12 +62,6 @@ owned_inside file p h none some =
           let low : owner.reference.target ≤ file.last = ltb-false file.last owner.reference.target range.1 in
           (omega (arith, is.names), omega (arith, is.names))
     ]
-
-reached : (file : File) (p : ℕ) → reach_faults file ≡ [] → 1 ≤ p → p ≤ file.last → reaches file p ≡ true
-unfolding reach_faults
-reached file p none low high =
-    let codes : holding (reach_rows file p) ≡ [] = no_codes_at 5 1 file.last p (λ page. holding (reach_rows file page)) none low (omega arith) in
-    not-false (reaches file p) (all_fail (reach_rows file p) codes).0
 
 -- Turns.
 
@@ -148,7 +133,7 @@ way_distinct file p (h ∷ hs) none way = (not_on file p h hs none (way_exact fi
 
 leads_up : (file : File) (p : ℕ) → IsSoundGraph file → 1 ≤ p → p ≤ file.last → LeadsUp file p
 leads_up file p sound low high =
-    let way = way_of file.count file p (reached file p sound.reach low high) in
+    let way = way_of file.count file p (reached_of file p sound.reach low high) in
     record { holders = way.0; way = way.1; few = way.2; distinct = way_distinct file p way.0 sound.references way.1 }
 
 pub each_page_leads_up : EachPageLeadsUp
@@ -177,7 +162,7 @@ down_distinct : (file : File) (p : ℕ) (qs : List ℕ) → IsSoundGraph file �
 down_distinct file p [] sound lead = (tt, tt)
 down_distinct file p (q ∷ qs) sound lead =
     let inside = owned_inside file q p sound.references lead.0 in
-    let way = holder_way file.count file p q sound.references lead.0 (reached file q sound.reach inside.0 inside.1) in (
+    let way = holder_way file.count file p q sound.references lead.0 (reached_of file q sound.reach inside.0 inside.1) in (
       not_below (length way.0) file p q qs sound.references (way_reaches file p way.0 sound.references way.1) (way_exact file q p way.0 sound.references (lead.0, way.1)) lead.1,
       down_distinct file q qs sound lead.1,
     )
@@ -185,18 +170,6 @@ down_distinct file p (q ∷ qs) sound lead =
 -- One owner.
 
 -- a reference to a page is among its owners
-pub in_filter : {X : Type 0} (test : X → Bool) (xs : List X) (x : X) → Contains xs x → test x ≡ true → Contains (filter test xs) x
-in_filter test [] x at passes = absurd (no_member [] x refl at)
-in_filter test (y ∷ ys) x at passes =
-    elim (member_cases y ys x at) [
-      | inl same ↦ let here : test y ≡ true = ap test same ∙ passes in rw here (subst (λ z. Contains (z ∷ filter test ys) x) (sym same) (first_member x (filter test ys)))
-      | inr later ↦
-          elim (test y) as (λ b. Contains (cond b (y ∷ filter test ys) (filter test ys)) x) [
-            | true ↦ later_member y (filter test ys) x (in_filter test ys x later passes)
-            | false ↦ in_filter test ys x later passes
-          ]
-    ]
-
 pub named_owner : (file : File) (p q : ℕ) (names : Names file p q) → p ≤ file.last → Contains (owners file q) (record { holder = p; reference = names.reference })
 unfolding owners all_references
 named_owner file p q names low =

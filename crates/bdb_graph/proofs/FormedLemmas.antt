@@ -3,16 +3,16 @@ use Rattle.std.proofs.Common.{◌≡◌, ℕ, zero, suc, ◌+◌, ◌*◌, ◌-�
 use Rattle.std.specs.Prelude.{◌==◌, ◌||◌, not, None}
 use Rattle.std.specs.List.{list_any}
 use Rattle.std.proofs.Math.Nat.{mul-le-mul_left, mul-le-mul_right}
-use Rattle.std.proofs.lemmas.Bool.{eqb-true, leb-false, ltb-false}
+use Rattle.std.proofs.lemmas.Bool.{eqb-true, leb-false, ltb-false, not-false}
 use Rattle.std.proofs.lemmas.List.{length-take-le, length-drop}
-use Rattle.bdb_model.specs.declared.metadata.FileKind.{FileKind}
-use Rattle.bdb_model.specs.declared.metadata.FileKind.TheVariants.{Btree, Hash, Queue}
-use Rattle.bdb_model.specs.declared.metadata.Head.{Head}
-use Rattle.bdb_model.specs.File.{page_bytes}
-use Rattle.bdb_model.specs.HeadOf.{file_kind, head_of, head_rows, is_page_size, is_past, last_page, magic_at, order_of, pages_of}
-use Rattle.bdb_model.specs.Numbers.{four_at}
-use Rattle.bdb_model.specs.Table.{first_row}
-use Rattle.bdb_model.proofs.VerdictLemmas.{AllFail, none_is_first_row}
+use Rattle.bdb_format.specs.declared.metadata.FileKind.{FileKind}
+use Rattle.bdb_format.specs.declared.metadata.FileKind.TheVariants.{Btree, Hash, Queue}
+use Rattle.bdb_format.specs.declared.metadata.Head.{Head}
+use Rattle.bdb_format.specs.File.{page_bytes}
+use Rattle.bdb_format.specs.HeadOf.{file_kind, head_of, head_rows, is_page_size, is_past, last_page, magic_at, order_of, pages_of}
+use Rattle.bdb_format.specs.Numbers.{four_at}
+use Rattle.bdb_format.specs.Table.{first_row}
+use Rattle.bdb_format.proofs.VerdictLemmas.{AllFail, none_is_first_row}
 use Rattle.bdb_graph.specs.Formed.{IsAccepted}
 
 -- Page sizes.
@@ -51,12 +51,8 @@ legal_size true large either small = refl
 legal_size false true either small = absurd cc
 legal_size false false either small = absurd cc
 
-not_false : (b : Bool) → not b ≡ false → b ≡ true
-not_false true none = refl
-not_false false none = absurd cc
-
 whole_pages : (n size : ℕ) → 512 ≤ size → not (n % size == 0) ≡ false → n ≡ n / size * size
-whole_pages n size least even = let none : n % size ≡ 0 = eqb-true (n % size) 0 (not_false _ even) in omega arith
+whole_pages n size least even = let none : n % size ≡ 0 = eqb-true (n % size) 0 (not-false _ even) in omega arith
 
 some_page : (n pages size : ℕ) → 512 ≤ n → n ≡ pages * size → 0 < pages
 some_page n zero size long whole = absurd (omega arith)

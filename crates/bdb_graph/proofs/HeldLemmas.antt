@@ -6,21 +6,21 @@ use Rattle.std.proofs.lemmas.List.FromFn.{get_or-map-range_with_len}
 use Rattle.bdb_form.specs.declared.view.PageView.{PageView}
 use Rattle.bdb_form.specs.declared.view.PageView.TheVariants.{Zero as ZeroView, Free as FreeView, Meta as MetaView, Leaf as LeafView, Internal as InternalView, RecnoLeaf as RecnoLeafView, RecnoInternal as RecnoInternalView, DupLeaf as DupLeafView, Hash as HashView, Overflow as OverflowView, Queue as QueueView}
 use Rattle.bdb_form.specs.Seen.{page_seen}
-use Rattle.bdb_model.specs.declared.kinds.Order.{Order}
-use Rattle.bdb_model.specs.declared.metadata.FileKind.{FileKind}
-use Rattle.bdb_model.specs.declared.metadata.FileKind.TheVariants.{Btree, Hash, Queue}
-use Rattle.bdb_model.specs.declared.metadata.Head.{Head}
-use Rattle.bdb_model.specs.File.{file_of, page_at, page_bytes}
-use Rattle.bdb_model.specs.HeadOf.{faulted, form_fault, head_of, is_page_size}
-use Rattle.bdb_model.specs.Numbers.{byte_at}
-use Rattle.bdb_model.specs.Page.{Zero, Meta, BtreeFields, HashFields, NoType, PageType, FreePage, HashPage, InternalPage, RecnoInternalPage, LeafPage, RecnoLeafPage, OverflowPage, HashMetaPage, BtreeMetaPage, QueueMetaPage, QueuePage, DupLeafPage, OtherPage}
-use Rattle.bdb_model.specs.Reading.{abstract_page, btree_fields, hash_fields, is_zero, page_as, page_type}
-use Rattle.bdb_model.specs.References.{names_of, refs}
-use Rattle.bdb_model.specs.Rows.{body_code, form_code, identity_rows, is_tree_type, lacks_spare, may_have_type, metadata_rows, page_code, type_of, typed_code}
-use Rattle.bdb_model.specs.Table.{Row, answer, first_row}
-use Rattle.bdb_model.specs.Graph.{is_meta}
-use Rattle.bdb_model.proofs.PageLemmas.{answer_value}
-use Rattle.bdb_model.proofs.VerdictLemmas.{AllFail, none_is_first_row}
+use Rattle.bdb_format.specs.declared.kinds.Order.{Order}
+use Rattle.bdb_format.specs.declared.metadata.FileKind.{FileKind}
+use Rattle.bdb_format.specs.declared.metadata.FileKind.TheVariants.{Btree, Hash, Queue}
+use Rattle.bdb_format.specs.declared.metadata.Head.{Head}
+use Rattle.bdb_format.specs.File.{file_of, page_at, page_bytes}
+use Rattle.bdb_format.specs.HeadOf.{faulted, form_fault, head_of, is_page_size}
+use Rattle.bdb_format.specs.Numbers.{byte_at}
+use Rattle.bdb_format.specs.Page.{Zero, Meta, BtreeFields, HashFields, NoType, PageType, FreePage, HashPage, InternalPage, RecnoInternalPage, LeafPage, RecnoLeafPage, OverflowPage, HashMetaPage, BtreeMetaPage, QueueMetaPage, QueuePage, DupLeafPage, OtherPage}
+use Rattle.bdb_format.specs.Reading.{abstract_page, btree_fields, hash_fields, is_zero, page_as, page_type}
+use Rattle.bdb_format.specs.References.{targets_of, refs}
+use Rattle.bdb_format.specs.Rows.{body_code, form_code, identity_rows, is_tree_type, lacks_spare, may_have_type, metadata_rows, page_code, type_of, typed_code}
+use Rattle.bdb_format.specs.Table.{Row, answer, first_row}
+use Rattle.bdb_format.specs.Graph.{is_meta}
+use Rattle.bdb_format.proofs.PageLemmas.{answer_value, metadata_code}
+use Rattle.bdb_format.proofs.VerdictLemmas.{AllFail, none_is_first_row}
 use Rattle.bdb_graph.specs.Slots.{IsNoMetadata, placed}
 use Rattle.bdb_graph.proofs.CodeLemmas.{btree_last, code_by, code_same, differs, is_body, is_same, no_queue_type, not_zero, tree_code, two_none, typed_metadata}
 
@@ -40,29 +40,30 @@ unfolding file_of
 kind_is image = refl
 
 pub refs_of_page : (image : List ℕ) (p : ℕ) → p ≤ (head_of image).last
-    → refs (file_of image) p ≡ placed 0 (names_of (head_of image).kind p (abstract_page (head_of image).order (page_bytes (head_of image) image p)))
+    → refs (file_of image) p ≡ placed 0 (targets_of (head_of image).kind p (abstract_page (head_of image).order (page_bytes (head_of image) image p)))
 unfolding refs
 refs_of_page image p low =
-    ap (λ kind. placed 0 (names_of kind p (page_at (file_of image) p))) (kind_is image)
-    ∙ ap (λ page. placed 0 (names_of (head_of image).kind p page)) (page_is image p low)
+    ap (λ kind. placed 0 (targets_of kind p (page_at (file_of image) p))) (kind_is image)
+    ∙ ap (λ page. placed 0 (targets_of (head_of image).kind p page)) (page_is image p low)
 
 -- Metadata.
 
--- where no row holds, none of the type's own does
-typed_none : (above zeros : Bool) (identity typed : Option ℕ) → zeros ≡ false → code_by (above && zeros) identity typed ≡ None → typed ≡ None
-typed_none above true identity typed other none = absurd cc
-typed_none true false (Some code) typed other none = absurd cc
-typed_none false false (Some code) typed other none = absurd cc
-typed_none true false None typed other none = none
-typed_none false false None typed other none = none
+-- where no row holds, none of the number and the type does, and none of the type's own
+parts_none : (above zeros : Bool) (identity typed : Option ℕ) → zeros ≡ false → code_by (above && zeros) identity typed ≡ None → (identity ≡ None) × (typed ≡ None)
+parts_none above true identity typed other none = absurd cc
+parts_none true false (Some code) typed other none = absurd cc
+parts_none false false (Some code) typed other none = absurd cc
+parts_none true false None typed other none = (refl, none)
+parts_none false false None typed other none = (refl, none)
 
 pub metadata_formed : (head : Head) (number : ℕ) (page : List ℕ) (kind : FileKind) → is_page_size (length page) ≡ true → byte_at page 25 ≡ type_of kind → form_code head number page ≡ None
     → first_row (metadata_rows head.order page number head.last kind) ≡ None
 unfolding form_code
 metadata_formed head number page kind size is none =
-    sym (typed_metadata head number page kind is)
-    ∙ typed_none (nat_lt 0 number) (is_zero page) (first_row (identity_rows head.order page number (may_have_type head.kind number))) (typed_code head number page (page_type (byte_at page 25)))
-    (not_zero page kind size is) none
+    let identity : Option ℕ = first_row (identity_rows head.order page number (may_have_type head.kind number)) in
+    let typed : Option ℕ = typed_code head number page (page_type (byte_at page 25)) in
+    let parts : (identity ≡ None) × (typed ≡ None) = parts_none (nat_lt 0 number) (is_zero page) identity typed (not_zero page kind size is) none in
+    metadata_code head.order page number head.last kind (may_have_type head.kind number) parts.0 is ∙ sym (typed_metadata head number page kind is) ∙ parts.1
 
 pub table_formed : (head : Head) (number : ℕ) (page : List ℕ) → is_page_size (length page) ≡ true → byte_at page 25 ≡ 8 → form_code head number page ≡ None
     → first_row (metadata_rows head.order page number head.last Hash) ≡ None

@@ -5,22 +5,22 @@ use Rattle.std.specs.List.{Contains, filter, flat_map, range_with_len}
 use Rattle.std.proofs.lemmas.Bool.{cases_Bool, eqb-false, eq-eqb, ltb-false, or_parts}
 use Rattle.std.proofs.lemmas.List.Elements.{Contains-append_cases, filter-append}
 use Rattle.std.proofs.lemmas.List.Folds.{list_all_at}
-use Rattle.bdb_model.specs.declared.references.Reference.{Reference}
-use Rattle.bdb_model.specs.declared.references.Sort.{Sort}
-use Rattle.bdb_model.specs.declared.references.Sort.TheVariants.{Child}
-use Rattle.bdb_model.specs.File.{File, file_of, page_at}
-use Rattle.bdb_model.specs.References.{refs, asked_by, fit_rows, fit_code}
-use Rattle.bdb_model.specs.Graph.{Owner, all_references, has_heads_alone, held_by, is_head_reference, owners}
-use Rattle.bdb_model.specs.Leaves.{children_in, leaves_in, leaves_under}
-use Rattle.bdb_model.specs.Verdict.{holding, ownership_faults, ownership_rows, reference_faults}
-use Rattle.bdb_model.proofs.GraphLemmas.{each_fits}
-use Rattle.bdb_model.proofs.MemberLemmas.{first_member, in_range, later_member, member_cases, no_member, of_filter, of_flat_map, of_map}
-use Rattle.bdb_model.proofs.VerdictLemmas.{AllFail, all_fail, no_codes_at, none_is_first_row}
+use Rattle.bdb_format.specs.declared.references.Reference.{Reference}
+use Rattle.bdb_format.specs.declared.references.Sort.{Sort}
+use Rattle.bdb_format.specs.declared.references.Sort.TheVariants.{Child}
+use Rattle.bdb_format.specs.File.{File, file_of, page_at}
+use Rattle.bdb_format.specs.References.{refs, asked_by, fit_rows, fit_code}
+use Rattle.bdb_format.specs.Graph.{Owner, all_references, has_heads_alone, held_by, is_head_reference, owners}
+use Rattle.bdb_format.specs.Leaves.{children_in, leaves_in, leaves_under}
+use Rattle.bdb_format.specs.Verdict.{holding, ownership_faults, ownership_rows, reference_faults, faults_in}
+use Rattle.bdb_format.proofs.GraphLemmas.{each_fits}
+use Rattle.bdb_format.proofs.MemberLemmas.{first_member, in_filter, in_range, later_member, member_cases, no_member, of_filter, of_flat_map, of_map}
+use Rattle.bdb_format.proofs.VerdictLemmas.{AllFail, all_fail, no_codes_at, none_is_first_row}
 use Rattle.bdb_graph.specs.Forest.{AllDistinct, IsWayDown, Names, NoLeafTwice, NotIn}
 use Rattle.bdb_graph.specs.Linked.{IsForest}
-use Rattle.bdb_graph.specs.Linking.{graph_faults}
 use Rattle.bdb_graph.proofs.ChildLemmas.{NamesChild, child_named, children_are, children_of, is_child}
-use Rattle.bdb_graph.proofs.ForestLemmas.{IsSoundGraph, few_owners, in_filter, named_owner, no_page_twice_below, sound_graph}
+use Rattle.bdb_graph.proofs.ForestLemmas.{IsSoundGraph, few_owners, named_owner, no_page_twice_below, sound_graph}
+use Rattle.bdb_format.proofs.ListLemmas.{only_member}
 
 -- Members and filters.
 
@@ -30,12 +30,9 @@ at_most m n less few = omega arith
 over : (n : ℕ) → 2 ≤ n → n ≤ 1 → ⊥
 over n two one = omega arith
 
-only : {X : Type 0} (x y : X) → Contains (x ∷ []) y → x ≡ y
-only x y at = elim (member_cases x [] y at) [ inl same ↦ same | inr later ↦ absurd (no_member [] y refl later) ]
-
 one_member : {X : Type 0} (xs : List X) (x y : X) → length xs ≤ 1 → Contains xs x → Contains xs y → x ≡ y
 one_member [] x y few at_x at_y = absurd (no_member [] x refl at_x)
-one_member (z ∷ []) x y few at_x at_y = sym (only z x at_x) ∙ only z y at_y
+one_member (z ∷ []) x y few at_x at_y = sym (only_member z x at_x) ∙ only_member z y at_y
 one_member (z ∷ (w ∷ xs)) x y few at_x at_y = absurd (omega (arith, few))
 
 kept_of_tail : {X : Type 0} (test : X → Bool) (x : X) (xs : List X) → length (filter test xs) ≤ length (filter test (x ∷ xs))
@@ -198,7 +195,7 @@ children_case None = inr refl
 
 leaf_case : (levels : ℕ) (file : File) (c x : ℕ) → children_in (page_at file c) ≡ None → Contains (leaves_in (suc levels) file c) x → c ≡ x
 unfolding leaves_in
-leaf_case levels file c x none at = only c x (subst (λ o. Contains (leaves_under (leaves_in levels file) c o) x) none at)
+leaf_case levels file c x none at = only_member c x (subst (λ o. Contains (leaves_under (leaves_in levels file) c o) x) none at)
 
 below_case : (levels : ℕ) (file : File) (c x : ℕ) (cs : List ℕ) → children_in (page_at file c) ≡ Some cs → Contains (leaves_in (suc levels) file c) x → (d : ℕ) × Contains cs d × Contains (leaves_in levels file d) x
 unfolding leaves_in
@@ -206,7 +203,7 @@ below_case levels file c x cs some at = of_flat_map (leaves_in levels file) cs x
 
 no_level : (file : File) (c x : ℕ) → Contains (leaves_in zero file c) x → c ≡ x
 unfolding leaves_in
-no_level file c x at = only c x at
+no_level file c x at = only_member c x at
 
 -- the pages right below an internal page
 record IsBelow (file : File) (p : ℕ) (cs : List ℕ) : Type 0 where
@@ -239,14 +236,16 @@ leaf_climbs (suc levels) image c x forest low at =
     ]
 
 -- a page that is above another isn't below it too
-no_return : (k : ℕ) (image : List ℕ) (h p : ℕ) (qs : List ℕ) → graph_faults image ≡ [] → p ≤ (file_of image).last → Climbs k (file_of image) h p → IsWayDown (file_of image) h qs → Contains qs p → ⊥
+no_return : (k : ℕ) (image : List ℕ) (h p : ℕ) (qs : List ℕ) → faults_in (3 ∷ 4 ∷ 5 ∷ []) image ≡ [] → p ≤ (file_of image).last → Climbs k (file_of image) h p
+    → IsWayDown (file_of image) h qs → Contains qs p → ⊥
 no_return zero image h p qs none low up way at =
     let distinct : AllDistinct (p ∷ qs) = no_page_twice_below image p qs none low (subst (λ v. IsWayDown (file_of image) v qs) up way) in
     is_out p qs distinct.0 at
 no_return (suc k) image h p qs none low up way at = no_return k image up.0 p (h ∷ qs) none low up.3 (up.2, way) (later_member h qs p at)
 
 -- a child of a page isn't below a child of it
-not_below_other : (k : ℕ) (image : List ℕ) (c d p : ℕ) → graph_faults image ≡ [] → p ≤ (file_of image).last → Names (file_of image) p c → Names (file_of image) p d → Climbs (suc k) (file_of image) c d → ⊥
+not_below_other : (k : ℕ) (image : List ℕ) (c d p : ℕ) → faults_in (3 ∷ 4 ∷ 5 ∷ []) image ≡ [] → p ≤ (file_of image).last → Names (file_of image) p c
+    → Names (file_of image) p d → Climbs (suc k) (file_of image) c d → ⊥
 not_below_other k image c d p none low names_c names_d up =
     let file : File = file_of image in
     let same : up.0 ≡ p = one_holder file up.0 p c (sound_graph image none) up.1 low up.2 names_c in
@@ -254,7 +253,7 @@ not_below_other k image c d p none low names_c names_d up =
     no_return k image loop.0 p (p ∷ []) none low loop.3 (loop.2, tt) (first_member p [])
 
 -- two children of a page that are above one page are one
-one_child : (j k : ℕ) (image : List ℕ) (c d p x : ℕ) → graph_faults image ≡ [] → p ≤ (file_of image).last
+one_child : (j k : ℕ) (image : List ℕ) (c d p x : ℕ) → faults_in (3 ∷ 4 ∷ 5 ∷ []) image ≡ [] → p ≤ (file_of image).last
     → Names (file_of image) p c → Names (file_of image) p d → Climbs j (file_of image) x c → Climbs k (file_of image) x d → c ≡ d
 one_child zero zero image c d p x none low names_c names_d up_c up_d = sym up_c ∙ up_d
 one_child zero (suc k) image c d p x none low names_c names_d up_c up_d =

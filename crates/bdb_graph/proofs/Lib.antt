@@ -15,3 +15,5 @@ pub mod SlotLemmas
 pub mod SourceLemmas
 pub mod StageLemmas
 pub mod TallyLemmas
+pub mod TargetLemmas
+pub mod LinkingLemmas

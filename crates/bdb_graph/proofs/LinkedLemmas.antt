@@ -9,32 +9,33 @@ use Rattle.std.proofs.lemmas.List.FromFn.{length-range_with_len}
 use Rattle.std.proofs.lemmas.List.Sums.{count_by-le-length, length-filter}
 use Rattle.std.proofs.lemmas.Grind.{get_or_default_zero}
 use Rattle.std.proofs.lemmas.Option.{slice_get-get_or}
-use Rattle.bdb_model.specs.declared.kinds.Order.{Order}
-use Rattle.bdb_model.specs.declared.metadata.BtreeMeta.{BtreeMeta}
-use Rattle.bdb_model.specs.declared.metadata.HashMeta.{HashMeta}
-use Rattle.bdb_model.specs.declared.metadata.FileKind.{FileKind}
-use Rattle.bdb_model.specs.declared.metadata.FileKind.TheVariants.{Btree, Hash, Queue}
-use Rattle.bdb_model.specs.declared.metadata.Head.{Head}
-use Rattle.bdb_model.specs.declared.references.Reference.{Reference}
-use Rattle.bdb_model.specs.declared.references.Sort.{Sort}
-use Rattle.bdb_model.specs.declared.references.Sort.TheVariants.{Root, Bucket}
-use Rattle.bdb_model.specs.File.{File, file_of, page_at, page_bytes}
-use Rattle.bdb_model.specs.Graph.{Owner, all_references, held_by, is_meta}
-use Rattle.bdb_model.specs.Hashing.{first_page}
-use Rattle.bdb_model.specs.HeadOf.{form_fault, head_of}
-use Rattle.bdb_model.specs.Numbers.{byte_at, four_at}
-use Rattle.bdb_model.specs.Page.{Page, Zero, Meta, BtreeFields, HashFields}
-use Rattle.bdb_model.specs.Reading.{abstract_page, is_zero, page_as, page_type}
-use Rattle.bdb_model.specs.References.{asked_by, first_free, fit_code, fit_rows, names_in, names_of, refs}
-use Rattle.bdb_model.specs.HeadOf.{is_page_size}
-use Rattle.bdb_model.specs.Rows.{body_code, form_code, identity_rows, is_tree_type, may_have_type, page_code, queue_code, type_of}
-use Rattle.bdb_model.specs.Table.{first_row}
-use Rattle.bdb_model.proofs.GraphLemmas.{each_fits, type_fits}
-use Rattle.bdb_model.proofs.MemberLemmas.{first_member, in_flat_map, in_map, in_range, later_member, member_cases, no_member, of_filter, of_flat_map, of_map, of_range}
-use Rattle.bdb_model.proofs.VerdictLemmas.{AllFail, none_is_first_row}
+use Rattle.bdb_format.specs.declared.kinds.Order.{Order}
+use Rattle.bdb_format.specs.declared.metadata.BtreeMeta.{BtreeMeta}
+use Rattle.bdb_format.specs.declared.metadata.HashMeta.{HashMeta}
+use Rattle.bdb_format.specs.declared.metadata.FileKind.{FileKind}
+use Rattle.bdb_format.specs.declared.metadata.FileKind.TheVariants.{Btree, Hash, Queue}
+use Rattle.bdb_format.specs.declared.metadata.Head.{Head}
+use Rattle.bdb_format.specs.declared.references.Reference.{Reference}
+use Rattle.bdb_format.specs.declared.references.Sort.{Sort}
+use Rattle.bdb_format.specs.declared.references.Sort.TheVariants.{Root, Bucket}
+use Rattle.bdb_format.specs.File.{File, file_of, page_at, page_bytes}
+use Rattle.bdb_format.specs.Graph.{Owner, all_references, held_by, is_meta}
+use Rattle.bdb_format.specs.Hashing.{first_page}
+use Rattle.bdb_format.specs.HeadOf.{form_fault, head_of}
+use Rattle.bdb_format.specs.Numbers.{byte_at, four_at}
+use Rattle.bdb_format.specs.Page.{Page, Zero, Meta, BtreeFields, HashFields}
+use Rattle.bdb_format.specs.Reading.{abstract_page, is_zero, page_as, page_type}
+use Rattle.bdb_format.specs.References.{asked_by, first_free, fit_code, fit_rows, targets_in, targets_of, refs}
+use Rattle.bdb_format.specs.HeadOf.{is_page_size}
+use Rattle.bdb_format.specs.Rows.{body_code, form_code, identity_rows, is_tree_type, may_have_type, page_code, queue_code, type_of}
+use Rattle.bdb_format.specs.Table.{first_row}
+use Rattle.bdb_format.proofs.GraphLemmas.{each_fits, type_fits}
+use Rattle.bdb_format.proofs.MemberLemmas.{first_member, in_flat_map, in_map, in_range, later_member, member_cases, no_member, of_filter, of_flat_map, of_map, of_range}
+use Rattle.bdb_format.proofs.PageLemmas.{later_type}
+use Rattle.bdb_format.proofs.VerdictLemmas.{AllFail, none_is_first_row}
 use Rattle.bdb_graph.specs.Formed.{IsFormed}
-use Rattle.bdb_graph.specs.Linked.{HasMetadata, IsTarget}
-use Rattle.bdb_graph.specs.Linking.{graph_faults, meta_pages}
+use Rattle.bdb_graph.specs.Linked.{HasMetadata, IsTarget, meta_pages}
+use Rattle.bdb_format.specs.Verdict.{faults_in}
 use Rattle.bdb_graph.specs.Metas.{meta_in}
 use Rattle.bdb_form.specs.Formed.{fields_as}
 use Rattle.bdb_graph.proofs.CodeLemmas.{code_by, form_queue, is_same, not_zero, tree_refused, two_none}
@@ -42,6 +43,8 @@ use Rattle.bdb_graph.proofs.FirstLemmas.{formed_page}
 use Rattle.bdb_graph.proofs.ForestLemmas.{sound_graph}
 use Rattle.bdb_graph.proofs.MetaLemmas.{is_by_fields}
 use Rattle.bdb_graph.proofs.HeldLemmas.{identity_none, kind_is, last_page, page_is}
+use Rattle.bdb_format.proofs.ListLemmas.{in_enumerated}
+use Rattle.bdb_format.proofs.ReferenceLemmas.{forest_names, held_in_all, of_all}
 
 -- Form.
 
@@ -111,7 +114,7 @@ is_forest_meta page = false
 
 queue_byte : (number byte : ℕ) → may_have_type Queue number byte ≡ true → (byte ≡ 10) ⊎ (byte ≡ 11)
 queue_byte zero byte may = inl (eqb-true byte 10 may)
-queue_byte (suc number) byte may = inr (eqb-true byte 11 may)
+queue_byte (suc number) byte may = inr (eqb-true byte 11 (sym (later_type Queue number byte) ∙ may))
 
 no_forest_of : (order : Order) (page : List ℕ) (byte : ℕ) → (byte ≡ 10) ⊎ (byte ≡ 11) → is_forest_meta (page_as order page (page_type byte)) ≡ false
 no_forest_of order page byte types =
@@ -135,41 +138,24 @@ no_queue image head p formed low is queue =
     let none : form_code (head_of image) p (page_bytes (head_of image) image p) ≡ None = formed_page image p formed.form inside in
     true≢false (sym is ∙ (ap is_forest_meta (page_is image p inside) ∙ no_forest_page (head_of image) p (page_bytes (head_of image) image p) (sym (kind_is image) ∙ queue) none))
 
-pub forest_names : (kind : FileKind) (p : ℕ) (page : Page) → (kind ≡ Queue → ⊥) → names_of kind p page ≡ names_in p page
-forest_names Btree p page forest = refl
-forest_names Hash p page forest = refl
-forest_names Queue p page forest = absurd (forest refl)
-
 -- What a page names is the target of a reference.
 
-in_enumerated : {X : Type 0} (n : ℕ) (xs : List X) (x : X) → Contains xs x → (i : ℕ) × Contains (enumerate_from n xs) (i, x)
-in_enumerated n [] x at = absurd (no_member [] x refl at)
-in_enumerated n (y ∷ ys) x at =
-    elim (member_cases y ys x at) [
-      | inl same ↦ (n, subst (λ z. Contains ((n, y) ∷ enumerate_from (n + 1) ys) (n, z)) same (first_member (n, y) (enumerate_from (n + 1) ys)))
-      | inr later ↦ let rest = in_enumerated (n + 1) ys x later in (rest.0, later_member (n, y) (enumerate_from (n + 1) ys) (rest.0, x) rest.1)
-    ]
-
-held_in_all : (file : File) (p : ℕ) (reference : Reference) → p ≤ file.last → Contains (refs file p) reference → Contains (all_references file) (record { holder = p; reference = reference })
-unfolding all_references
-held_in_all file p reference low held =
-    in_flat_map (held_by file) (range_with_len 0 (file.last + 1)) p (record { holder = p; reference = reference }) (in_range 0 (file.last + 1) p (omega arith) (omega arith))
-    (in_map (λ r. record { holder = p; reference = r }) (refs file p) reference held)
-
-pub named_target : (file : File) (p : ℕ) (sort : Sort) (target : ℕ) → p ≤ file.last → Contains (names_of file.kind p (page_at file p)) (sort, target) → IsTarget file sort target
+pub named_target : (file : File) (p : ℕ) (sort : Sort) (target : ℕ) → p ≤ file.last → Contains (targets_of file.kind p (page_at file p)) (sort, target) → IsTarget file sort target
 unfolding refs
 named_target file p sort target low at =
-    let found : (i : ℕ) × Contains (enumerate_from 0 (names_of file.kind p (page_at file p))) (i, (sort, target)) = in_enumerated 0 (names_of file.kind p (page_at file p)) (sort, target) at in
+    let found : (i : ℕ) × Contains (enumerate_from 0 (targets_of file.kind p (page_at file p))) (i, (sort, target)) =
+    in_enumerated 0 (targets_of file.kind p (page_at file p)) (sort, target) at in
     let reference : Reference = record { place = found.0; sort = sort; target = target } in
     let held : Contains (refs file p) reference =
-    in_map (λ (named : ℕ × (Sort × ℕ)). record { place = named.0; sort = named.1.0; target = named.1.1 }) (enumerate_from 0 (names_of file.kind p (page_at file p))) (found.0, (sort, target)) found.1 in
+    in_map (λ (named : ℕ × (Sort × ℕ)). record { place = named.0; sort = named.1.0; target = named.1.1 })
+    (enumerate_from 0 (targets_of file.kind p (page_at file p))) (found.0, (sort, target)) found.1 in
     record { owner = record { holder = p; reference = reference }; held = held_in_all file p reference low held; sort_is = refl; target_is = refl }
 
 target_of : (image : List ℕ) (head : Head) (p : ℕ) (page : Page) (sort : Sort) (target : ℕ) → IsFormed image head → p ≤ (file_of image).last → page_at (file_of image) p ≡ page
-    → is_forest_meta page ≡ true → Contains (names_in p page) (sort, target) → IsTarget (file_of image) sort target
+    → is_forest_meta page ≡ true → Contains (targets_in p page) (sort, target) → IsTarget (file_of image) sort target
 target_of image head p page sort target formed low is forest at =
-    let names : names_of (file_of image).kind p (page_at (file_of image) p) ≡ names_in p page =
-    forest_names (file_of image).kind p (page_at (file_of image) p) (no_queue image head p formed low (ap is_forest_meta is ∙ forest)) ∙ ap (names_in p) is in
+    let names : targets_of (file_of image).kind p (page_at (file_of image) p) ≡ targets_in p page =
+    forest_names (file_of image).kind p (page_at (file_of image) p) (no_queue image head p formed low (ap is_forest_meta is ∙ forest)) ∙ ap (targets_in p) is in
     named_target (file_of image) p sort target low (subst (λ ns. Contains ns (sort, target)) (sym names) at)
 
 pub root_fits : (image : List ℕ) (head : Head) (meta : BtreeMeta) → IsFormed image head → HasMetadata (file_of image) (BtreeFields meta) → IsTarget (file_of image) Root meta.root
@@ -186,18 +172,7 @@ bucket_fits image head meta b formed has few =
 
 -- Targets are there.
 
-pub of_all : (file : File) (owner : Owner) → Contains (all_references file) owner → (owner.holder ≤ file.last) × Contains (refs file owner.holder) owner.reference
-unfolding all_references
-of_all file owner at =
-    let page : (q : ℕ) × Contains (range_with_len 0 (file.last + 1)) q × Contains (held_by file q) owner = of_flat_map (held_by file) (range_with_len 0 (file.last + 1)) owner at in
-    let within : (0 ≤ page.0) × (page.0 < 0 + (file.last + 1)) = of_range 0 (file.last + 1) page.0 page.1 in
-    let held : (r : Reference) × Contains (refs file page.0) r × (record { holder = page.0; reference = r } ≡ owner) =
-    of_map (λ r. record { holder = page.0; reference = r }) (refs file page.0) owner page.2 in (
-      subst (λ (o : Owner). o.holder ≤ file.last) held.2 (let low : page.0 ≤ file.last = omega (arith, within.1) in low),
-      subst (λ (o : Owner). Contains (refs file o.holder) o.reference) held.2 held.1,
-    )
-
-pub target_inside : (image : List ℕ) (sort : Sort) (p : ℕ) → graph_faults image ≡ [] → IsTarget (file_of image) sort p → p ≤ (file_of image).last
+pub target_inside : (image : List ℕ) (sort : Sort) (p : ℕ) → faults_in (3 ∷ 4 ∷ 5 ∷ []) image ≡ [] → IsTarget (file_of image) sort p → p ≤ (file_of image).last
 unfolding fit_code
 target_inside image sort p none is =
     let file : File = file_of image in
@@ -211,10 +186,12 @@ target_inside image sort p none is =
 same_last : (image : List ℕ) (head : Head) → IsFormed image head → (file_of image).last ≡ head.last
 same_last image head formed = last_page image ∙ ap (λ (h : Head). h.last) (sym formed.head_is)
 
-pub root_inside : (image : List ℕ) (head : Head) (meta : BtreeMeta) → IsFormed image head → graph_faults image ≡ [] → HasMetadata (file_of image) (BtreeFields meta) → meta.root ≤ head.last
+pub root_inside : (image : List ℕ) (head : Head) (meta : BtreeMeta) → IsFormed image head → faults_in (3 ∷ 4 ∷ 5 ∷ []) image ≡ []
+    → HasMetadata (file_of image) (BtreeFields meta) → meta.root ≤ head.last
 root_inside image head meta formed none has = omega (arith, target_inside image Root meta.root none (root_fits image head meta formed has), same_last image head formed)
 
-pub bucket_inside : (image : List ℕ) (head : Head) (meta : HashMeta) (b : ℕ) → IsFormed image head → graph_faults image ≡ [] → HasMetadata (file_of image) (HashFields meta) → b ≤ meta.max_bucket
+pub bucket_inside : (image : List ℕ) (head : Head) (meta : HashMeta) (b : ℕ) → IsFormed image head → faults_in (3 ∷ 4 ∷ 5 ∷ []) image ≡ []
+    → HasMetadata (file_of image) (HashFields meta) → b ≤ meta.max_bucket
     → first_page b meta.spares ≤ head.last
 bucket_inside image head meta b formed none has few =
     omega (arith, target_inside image Bucket (first_page b meta.spares) none (bucket_fits image head meta b formed has few), same_last image head formed)
@@ -222,7 +199,8 @@ bucket_inside image head meta b formed none has few =
 first_of_bucket : (b : ℕ) (spares : List ℕ) → b ≤ first_page b spares
 first_of_bucket b spares = omega arith
 
-pub bucket_few : (image : List ℕ) (head : Head) (meta : HashMeta) (b : ℕ) → IsFormed image head → graph_faults image ≡ [] → HasMetadata (file_of image) (HashFields meta) → b ≤ meta.max_bucket → b ≤ head.last
+pub bucket_few : (image : List ℕ) (head : Head) (meta : HashMeta) (b : ℕ) → IsFormed image head → faults_in (3 ∷ 4 ∷ 5 ∷ []) image ≡ []
+    → HasMetadata (file_of image) (HashFields meta) → b ≤ meta.max_bucket → b ≤ head.last
 bucket_few image head meta b formed none has few = omega (arith, first_of_bucket b meta.spares, bucket_inside image head meta b formed none has few)
 
 -- The metadata pages.

@@ -4,24 +4,26 @@ use Rattle.std.specs.Prelude.{Option, Some, None}
 use Rattle.std.specs.Option.{is_some}
 use Rattle.std.specs.List.{filter, range_with_len}
 use Rattle.std.proofs.lemmas.Bool.{true≢false}
-use Rattle.bdb_model.specs.declared.kinds.Order.{Order}
-use Rattle.bdb_model.specs.declared.metadata.FileKind.{FileKind}
-use Rattle.bdb_model.specs.declared.metadata.FileKind.TheVariants.{Btree, Hash, Queue}
-use Rattle.bdb_model.specs.declared.metadata.Head.{Head}
-use Rattle.bdb_model.specs.File.{File, file_of, page_at, page_bytes}
-use Rattle.bdb_model.specs.Graph.{is_meta}
-use Rattle.bdb_model.specs.HeadOf.{head_of, is_page_size}
-use Rattle.bdb_model.specs.Numbers.{byte_at}
-use Rattle.bdb_model.specs.Page.{Metadata, Page, Zero, Meta, QueueFields}
-use Rattle.bdb_model.specs.Reading.{abstract_page, is_zero, page_as, page_type, queue_fields}
-use Rattle.bdb_model.specs.Rows.{form_code, may_have_type, metadata_rows}
-use Rattle.bdb_model.specs.Table.{first_row}
-use Rattle.bdb_model.proofs.GraphLemmas.{type_fits}
+use Rattle.bdb_format.specs.declared.kinds.Order.{Order}
+use Rattle.bdb_format.specs.declared.metadata.FileKind.{FileKind}
+use Rattle.bdb_format.specs.declared.metadata.FileKind.TheVariants.{Btree, Hash, Queue}
+use Rattle.bdb_format.specs.declared.metadata.Head.{Head}
+use Rattle.bdb_format.specs.File.{File, file_of, page_at, page_bytes}
+use Rattle.bdb_format.specs.Graph.{is_meta}
+use Rattle.bdb_format.specs.HeadOf.{head_of, is_page_size}
+use Rattle.bdb_format.specs.Numbers.{byte_at}
+use Rattle.bdb_format.specs.Page.{Metadata, Page, Zero, Meta, QueueFields}
+use Rattle.bdb_format.specs.Reading.{abstract_page, is_zero, page_as, page_type, queue_fields}
+use Rattle.bdb_format.specs.Rows.{form_code, may_have_type, metadata_rows}
+use Rattle.bdb_format.specs.Table.{first_row}
+use Rattle.bdb_format.proofs.GraphLemmas.{type_fits}
+use Rattle.bdb_format.proofs.PageLemmas.{later_type}
 use Rattle.std.proofs.lemmas.List.Elements.{filter-append}
-use Rattle.bdb_graph.specs.Linking.{meta_pages}
+use Rattle.bdb_graph.specs.Linked.{meta_pages}
 use Rattle.bdb_graph.specs.Metas.{AreMetasBelow, meta_in}
 use Rattle.bdb_graph.proofs.CodeLemmas.{differs, not_zero, queue_last}
 use Rattle.bdb_graph.proofs.HeldLemmas.{metadata_formed, other_page, other_type, page_is}
+use Rattle.bdb_format.proofs.ListLemmas.{range_more}
 
 -- Queue metadata.
 
@@ -31,9 +33,9 @@ queue_page order page size is = rw (not_zero page Queue size is, abstract_page) 
 
 zero_number : (kind : FileKind) (number byte : ℕ) → byte ≡ 10 → may_have_type kind number byte ≡ true → number ≡ 0
 zero_number kind zero byte is may = refl
-zero_number Btree (suc n) byte is may = absurd (true≢false (sym (subst (λ b. may_have_type Btree (suc n) b ≡ true) is may)))
-zero_number Hash (suc n) byte is may = absurd (true≢false (sym (subst (λ b. may_have_type Hash (suc n) b ≡ true) is may)))
-zero_number Queue (suc n) byte is may = absurd (true≢false (sym (subst (λ b. may_have_type Queue (suc n) b ≡ true) is may)))
+zero_number Btree (suc n) byte is may = absurd (true≢false (sym (subst (λ b. may_have_type Btree (suc n) b ≡ true) is may) ∙ later_type Btree n 10))
+zero_number Hash (suc n) byte is may = absurd (true≢false (sym (subst (λ b. may_have_type Hash (suc n) b ≡ true) is may) ∙ later_type Hash n 10))
+zero_number Queue (suc n) byte is may = absurd (true≢false (sym (subst (λ b. may_have_type Queue (suc n) b ≡ true) is may) ∙ later_type Queue n 10))
 
 -- queue metadata is page 0
 pub queue_formed : (head : Head) (number : ℕ) (page : List ℕ) → is_page_size (length page) ≡ true → byte_at page 25 ≡ 10 → form_code head number page ≡ None
@@ -68,10 +70,6 @@ is_by_fields (Meta fields) = refl
 is_by_fields page = refl
 
 -- The metadata pages.
-
-range_more : (a n : ℕ) → range_with_len a (n + 1) ≡ range_with_len a n ++ (a + n) ∷ []
-range_more a zero = let e : a + 0 ≡ a = omega arith in rw e refl
-range_more a (suc n) = let more : suc n + 1 ≡ suc (n + 1) = omega arith in let e : a + 1 + n ≡ a + suc n = omega arith in rw more (ap (λ xs. a ∷ xs) (range_more (a + 1) n ∙ ap (λ m. range_with_len (a + 1) n ++ m ∷ []) e))
 
 more : (file : File) (n : ℕ) (metas : List ℕ) → AreMetasBelow file n metas
     → filter (λ p. is_meta (page_at file p)) (range_with_len 0 (n + 1)) ≡ metas ++ cond (is_meta (page_at file n)) (n ∷ []) []

@@ -2,11 +2,11 @@
 use Rattle.std.proofs.Common.{◌≡◌, ℕ, zero, suc, ◌+◌, ◌-◌, ◌<◌, ◌≤◌, Bool, true, false, List, [], ◌∷◌, refl, sym, ◌∙◌, ap, arith, subst}
 use Rattle.std.specs.Prelude.{Some, None, ◌||◌}
 use Rattle.std.specs.List.{Contains}
-use Rattle.bdb_model.specs.File.{File, file_of}
-use Rattle.bdb_model.specs.HeadOf.{head_of}
-use Rattle.bdb_model.specs.Graph.{Owner, first_holder, if_some, is_anchor, is_reserve, owners, reaches_in}
-use Rattle.bdb_model.proofs.GraphLemmas.{is_owner}
-use Rattle.bdb_model.proofs.MemberLemmas.{first_member}
+use Rattle.bdb_format.specs.File.{File, file_of}
+use Rattle.bdb_format.specs.HeadOf.{head_of}
+use Rattle.bdb_format.specs.Graph.{Owner, first_holder, if_some, is_anchor, is_reserve, owners, reaches_in}
+use Rattle.bdb_format.proofs.GraphLemmas.{is_owner}
+use Rattle.bdb_format.proofs.MemberLemmas.{first_member}
 
 -- a page from which nothing needs to be followed
 abbrev pub is_end : File → ℕ → Bool
@@ -49,10 +49,6 @@ holder_of file p holder (owner ∷ os) same first =
 -- the holder of a reference is a page of the file
 pub holder_there : (file : File) (p holder : ℕ) → first_holder (owners file p) ≡ Some holder → holder ≤ file.last
 holder_there file p holder first = holder_of file p holder (owners file p) refl first
-
-pub count_is : (image : List ℕ) → (file_of image).count ≡ (head_of image).pages
-unfolding file_of
-count_is image = refl
 
 -- without a turn left a page has to be an anchor or a reserve itself
 pub last_turn : (file : File) (turns p : ℕ) → turns ≡ 0 → reaches_in turns file p ≡ is_end file p

@@ -5,15 +5,17 @@ use Rattle.std.specs.List.{list_any}
 use Rattle.std.proofs.lemmas.Bool.{cases_Bool, cases_eq, ne_eqb, or_from}
 use Rattle.std.proofs.lemmas.List.FromFn.{length-map-range_with_len}
 use Rattle.std.proofs.lemmas.List.Folds.{list_all_at, list_any_at}
-use Rattle.bdb_model.specs.declared.kinds.Order.{Order}
-use Rattle.bdb_model.specs.File.{File, file_of, page_at, page_bytes}
-use Rattle.bdb_model.specs.Graph.{is_hash_meta, is_meta, is_spare}
-use Rattle.bdb_model.specs.HeadOf.{head_of}
-use Rattle.bdb_model.specs.Numbers.{byte_at}
-use Rattle.bdb_model.specs.Page.{NoType, PageType, FreePage, HashPage, InternalPage, RecnoInternalPage, LeafPage, RecnoLeafPage, OverflowPage, HashMetaPage, BtreeMetaPage, QueueMetaPage, QueuePage, DupLeafPage, OtherPage}
-use Rattle.bdb_model.specs.Reading.{abstract_page, hash_item_at, header_of, is_zero, page_as, page_type}
-use Rattle.bdb_model.proofs.PageLemmas.{header_listed}
-use Rattle.bdb_graph.proofs.FitLemmas.{typed_page, zero_page}
+use Rattle.bdb_format.specs.declared.kinds.Order.{Order}
+use Rattle.bdb_format.specs.File.{File, file_of, page_at, page_bytes}
+use Rattle.bdb_format.specs.Graph.{is_hash_meta, is_meta, is_spare}
+use Rattle.bdb_format.specs.HeadOf.{head_of}
+use Rattle.bdb_format.specs.Numbers.{byte_at}
+use Rattle.bdb_format.specs.Page.{NoType, PageType, FreePage, HashPage, InternalPage, RecnoInternalPage, LeafPage, RecnoLeafPage, OverflowPage, HashMetaPage, BtreeMetaPage, QueueMetaPage, QueuePage, DupLeafPage, OtherPage}
+use Rattle.bdb_format.specs.Reading.{abstract_page, hash_item_at, header_of, is_zero, page_as, page_type}
+use Rattle.bdb_format.proofs.PageLemmas.{header_listed}
+use Rattle.bdb_format.proofs.ListLemmas.{none_of_list}
+use Rattle.bdb_format.proofs.GraphLemmas.{zero_page, typed_page}
+use Rattle.bdb_format.proofs.ReferenceLemmas.{pages_counted}
 
 -- Bytes as a page.
 
@@ -156,14 +158,6 @@ spare_other order page some free hash sorted =
 
 -- The file.
 
-no_page_passes : {X : Type 0} (test : X → Bool) (d : X) (xs : List X) → ((k : ℕ) → k < length xs → test (get_or xs k d) ≡ false) → list_any test xs ≡ false
-no_page_passes test d [] none = refl
-no_page_passes test d (x ∷ xs) none = or_from (test x) (list_any test xs) (none 0 (omega arith)) (no_page_passes test d xs (λ k lt. none (suc k) (omega arith)))
-
-pages_counted : (image : List ℕ) → length (file_of image).pages ≡ (file_of image).last + 1
-unfolding file_of
-pages_counted image = length-map-range_with_len (λ p. abstract_page (head_of image).order (page_bytes (head_of image) image p)) 0 ((head_of image).last + 1)
-
 pub some_table : (image : List ℕ) (p : ℕ) → p ≤ (file_of image).last → is_hash_meta (page_at (file_of image) p) ≡ true → list_any is_hash_meta (file_of image).pages ≡ true
 some_table image p low is = list_any_at is_hash_meta (file_of image).pages p NoType (omega (arith, pages_counted image)) is
 
@@ -172,7 +166,7 @@ abbrev pub NoTable : File → ℕ → Type 0
 NoTable file n = (p : ℕ) → p < n → is_hash_meta (page_at file p) ≡ false
 
 pub no_table : (image : List ℕ) (n : ℕ) → (file_of image).last < n → NoTable (file_of image) n → list_any is_hash_meta (file_of image).pages ≡ false
-no_table image n all none = no_page_passes is_hash_meta NoType (file_of image).pages (λ p lt. none p (omega (arith, pages_counted image)))
+no_table image n all none = none_of_list is_hash_meta NoType (file_of image).pages (λ p lt. none p (omega (arith, pages_counted image)))
 
 -- a tally that stands still at its type's end counts nothing where there is nothing
 pub counts_none : (count n : ℕ) → count ≡ min (2 ^ 32 - 1) n → (count == 0) ≡ (n == 0)

@@ -4,10 +4,10 @@ use Rattle.std.specs.Prelude.{nat_lt}
 use Rattle.std.specs.List.{flat_map, range_with_len}
 use Rattle.std.proofs.Math.Seq.{drop-cons}
 use Rattle.std.proofs.lemmas.List.{drop_all}
-use Rattle.bdb_model.specs.declared.references.Sort.TheVariants.{Bucket, HashNext, Child}
-use Rattle.bdb_model.specs.Hashing.{first_page}
-use Rattle.bdb_model.specs.Page.{Item, InternalItem, Listed}
-use Rattle.bdb_model.specs.References.{content_names, no_item, unless_zero}
+use Rattle.bdb_format.specs.declared.references.Sort.TheVariants.{Bucket, HashNext, Child}
+use Rattle.bdb_format.specs.Hashing.{first_page}
+use Rattle.bdb_format.specs.Page.{Item, InternalItem, Listed}
+use Rattle.bdb_format.specs.References.{content_targets, no_item, unless_zero}
 use Rattle.bdb_graph.specs.declared.source.Source.{Source}
 use Rattle.bdb_graph.specs.declared.source.Source.TheVariants.{Table}
 use Rattle.bdb_graph.specs.Slots.{hash_names, internal_names, names_from, no_internal_item, slot_names, slots_of}
@@ -36,7 +36,8 @@ each_item f d items i (suc n) all =
 
 -- the items of a hash page from an index on, and the next page
 pub each_of_hash : (page : Listed Item) (i n : ℕ) → i + n ≡ length page.items
-    → flat_map (hash_names page) (range_with_len i (suc n)) ≡ flat_map (λ item. content_names item.content) (drop i page.items) ++ unless_zero HashNext page.header.next
+    → flat_map (hash_names page) (range_with_len i (suc n))
+    ≡ flat_map (λ item. content_targets item.content) (drop i page.items) ++ unless_zero HashNext page.header.next
 each_of_hash page i zero all =
     let last : nat_lt i (length page.items) ≡ false = le-ltb _ _ (omega arith) in
     rw (drop_all i page.items (omega arith), last) (append-nil (unless_zero HashNext page.header.next))
@@ -51,7 +52,7 @@ even_slot page i k same =
     let even : nat_eq (k % 2) 1 ≡ false = ne_eqb _ _ (omega arith) in
     rw (half, even) refl
 
-odd_slot : (page : Listed InternalItem) (i k : ℕ) → k ≡ 2 * i + 1 → internal_names page k ≡ content_names (get_or page.items i no_internal_item).key
+odd_slot : (page : Listed InternalItem) (i k : ℕ) → k ≡ 2 * i + 1 → internal_names page k ≡ content_targets (get_or page.items i no_internal_item).key
 odd_slot page i k same =
     let half : k / 2 ≡ i = omega arith in
     let odd : nat_eq (k % 2) 1 ≡ true = eq-eqb _ _ (omega arith) in
@@ -59,7 +60,7 @@ odd_slot page i k same =
 
 -- the items of an internal page from an index on, each as two slots
 pub each_of_internal : (page : Listed InternalItem) (i n k m : ℕ) → i + n ≡ length page.items → k ≡ 2 * i → m ≡ 2 * n
-    → flat_map (internal_names page) (range_with_len k m) ≡ flat_map (λ item. (Child, item.child) ∷ content_names item.key) (drop i page.items)
+    → flat_map (internal_names page) (range_with_len k m) ≡ flat_map (λ item. (Child, item.child) ∷ content_targets item.key) (drop i page.items)
 each_of_internal page i zero k m all place twice =
     let none : m ≡ 0 = omega arith in
     rw (drop_all i page.items (omega arith), none) refl

@@ -1,12 +1,11 @@
 -- The first fault of stages 4 and 5.
 use Rattle.std.proofs.Common.{◌≡◌, ℕ, ◌<◌, ◌≤◌, false, cond, arith, sym, ap}
 use Rattle.std.specs.Prelude.{Some, None, not}
-use Rattle.bdb_model.specs.declared.kinds.Fault.{Fault}
-use Rattle.bdb_model.specs.File.{File}
-use Rattle.bdb_model.specs.Graph.{reaches}
-use Rattle.bdb_model.specs.Table.{first_row}
-use Rattle.bdb_model.specs.Verdict.{ownership_faults, ownership_rows, reach_faults, reach_rows}
-use Rattle.bdb_graph.specs.Linking.{first_fault}
+use Rattle.bdb_format.specs.declared.kinds.Fault.{Fault}
+use Rattle.bdb_format.specs.File.{File}
+use Rattle.bdb_format.specs.Graph.{reaches}
+use Rattle.bdb_format.specs.Table.{first_row}
+use Rattle.bdb_format.specs.Verdict.{ownership_faults, ownership_rows, reach_faults, reach_rows, first_fault}
 use Rattle.bdb_graph.proofs.FitLemmas.{NoneHold, first_of_stage, none_of_stage}
 
 abbrev fault_at : ℕ → ℕ → ℕ → Fault

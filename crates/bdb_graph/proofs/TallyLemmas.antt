@@ -5,9 +5,9 @@ use Rattle.std.proofs.lemmas.Grind.{common_steps}
 use Rattle.std.proofs.lemmas.List.Concat.{flat_map-append}
 use Rattle.bdb_graph.specs.declared.tally.Tally.{Tally}
 use Rattle.bdb_graph.specs.Tallies.{AreTallies, AreTalliesOf, owner}
-use Rattle.bdb_model.specs.File.{File}
-use Rattle.bdb_model.specs.Graph.{Owner, all_references, held_by, owners}
-use Rattle.bdb_model.specs.References.{refs}
+use Rattle.bdb_format.specs.File.{File}
+use Rattle.bdb_format.specs.Graph.{Owner, all_references, held_by, owners}
+use Rattle.bdb_format.specs.References.{refs}
 
 -- the references of the pages below a number
 abbrev pub held_below : File → ℕ → List Owner

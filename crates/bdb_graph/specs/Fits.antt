@@ -1,12 +1,12 @@
--- With which code a reference fails, as the code asks for it. Source: docs/FORMAT.md, "Stage 3".
+-- With which code a reference fails, as the code asks for it. Source: docs/FORMAT.md, "Stage 3, references".
 use Rattle.std.specs.Prelude.{ℕ, ◌&&◌, ◌||◌, not, Bool, false, List, [], ◌∷◌, Option, Some, None}
 use Rattle.std.specs.List.{list_any}
-use Rattle.bdb_model.specs.declared.references.Reference.{Reference}
-use Rattle.bdb_model.specs.File.{header_in, type_in}
-use Rattle.bdb_model.specs.Page.{Page}
-use Rattle.bdb_model.specs.References.{Asked, has_type, is_asked, is_zero_page}
-use Rattle.bdb_model.specs.Table.{Row, ◌:?◌}
-use Rattle.bdb_model.specs.Verdict.{fails_as}
+use Rattle.bdb_format.specs.declared.references.Reference.{Reference}
+use Rattle.bdb_format.specs.File.{header_in, type_in}
+use Rattle.bdb_format.specs.Page.{Page}
+use Rattle.bdb_format.specs.References.{Asked, has_type, is_asked, is_zero_page}
+use Rattle.bdb_format.specs.Table.{Row, ◌:?◌}
+use Rattle.bdb_format.specs.Verdict.{fails_as}
 
 -- one of these types, with this previous page
 abbrev pub asks_previous : List ℕ → ℕ → Asked

@@ -1,13 +1,13 @@
--- The way from a page up by first owners, and ways down by references. Source: docs/FORMAT.md, "Ownership" and "Reach".
+-- The way from a page up by first owners, and ways down by references. Source: docs/FORMAT.md, "Stage 4, ownership" and "Stage 5, reach".
 use Rattle.std.specs.Prelude.{◌≡◌, ◌≢◌, ℕ, ◌≤◌, ◌||◌, Bool, false, IsTrue, List, [], ◌∷◌, length, Some}
 use Rattle.std.specs.List.{Contains}
-use Rattle.bdb_model.specs.declared.references.Reference.{Reference}
-use Rattle.bdb_model.specs.File.{File, file_of}
-use Rattle.bdb_model.specs.Graph.{first_holder, is_anchor, is_head_reference, is_reserve, owners}
-use Rattle.bdb_model.specs.Leaves.{leaves_in}
-use Rattle.bdb_model.specs.References.{refs}
+use Rattle.bdb_format.specs.declared.references.Reference.{Reference}
+use Rattle.bdb_format.specs.File.{File, file_of}
+use Rattle.bdb_format.specs.Graph.{first_holder, is_anchor, is_head_reference, is_reserve, owners}
+use Rattle.bdb_format.specs.Leaves.{leaves_in}
+use Rattle.bdb_format.specs.References.{refs}
 use Rattle.bdb_graph.specs.Linked.{IsForest}
-use Rattle.bdb_graph.specs.Linking.{graph_faults}
+use Rattle.bdb_format.specs.Verdict.{faults_in}
 
 abbrev pub NotIn : ℕ → List ℕ → Type 0
 NotIn x [] = Unit {0}
@@ -46,11 +46,11 @@ IsWayDown file p [] = Unit {0}
 IsWayDown file p (q ∷ qs) = Names file p q × IsWayDown file q qs
 
 abbrev pub EachPageLeadsUp : Type 0
-EachPageLeadsUp = (image : List ℕ) (p : ℕ) → graph_faults image ≡ [] → 1 ≤ p → p ≤ (file_of image).last → LeadsUp (file_of image) p
+EachPageLeadsUp = (image : List ℕ) (p : ℕ) → faults_in (3 ∷ 4 ∷ 5 ∷ []) image ≡ [] → 1 ≤ p → p ≤ (file_of image).last → LeadsUp (file_of image) p
 
 abbrev pub NoPageTwiceBelow : Type 0
 NoPageTwiceBelow =
-    (image : List ℕ) (p : ℕ) (qs : List ℕ) → graph_faults image ≡ [] → p ≤ (file_of image).last → IsWayDown (file_of image) p qs
+    (image : List ℕ) (p : ℕ) (qs : List ℕ) → faults_in (3 ∷ 4 ∷ 5 ∷ []) image ≡ [] → p ≤ (file_of image).last → IsWayDown (file_of image) p qs
     → AllDistinct (p ∷ qs)
 
 -- the leaves at or below a page, in any number of levels, have none twice

@@ -1,9 +1,9 @@
 -- What is known of an image once its page 0, and then all its pages, have no fault of form.
-use Rattle.std.specs.Prelude.{◌≡◌, ◌≤◌, ◌^◌, ℕ, List, [], length, None}
-use Rattle.bdb_model.specs.declared.metadata.Head.{Head}
-use Rattle.bdb_model.specs.HeadOf.{head_of, head_rows}
-use Rattle.bdb_model.specs.Table.{first_row}
-use Rattle.bdb_model.specs.Verdict.{stage_faults}
+use Rattle.std.specs.Prelude.{◌≡◌, ◌≤◌, ◌^◌, ℕ, List, [], ◌∷◌, length, None}
+use Rattle.bdb_format.specs.declared.metadata.Head.{Head}
+use Rattle.bdb_format.specs.HeadOf.{head_of, head_rows}
+use Rattle.bdb_format.specs.Table.{first_row}
+use Rattle.bdb_format.specs.Verdict.{faults_in}
 
 -- no row of page 0 that speaks of the file holds
 pub record IsAccepted (image : List ℕ) (head : Head) : Type 0 where
@@ -15,5 +15,4 @@ pub record IsAccepted (image : List ℕ) (head : Head) : Type 0 where
 pub record IsFormed (image : List ℕ) (head : Head) : Type 0 where
   pub size : length image ≤ 2 ^ 30
   pub head_is : head ≡ head_of image
-  pub file : stage_faults image 1 ≡ []
-  pub form : stage_faults image 2 ≡ []
+  pub form : faults_in (1 ∷ 2 ∷ []) image ≡ []

@@ -2,8 +2,6 @@ pub mod Fits
 pub mod Forest
 pub mod Formed
 pub mod Linked
-pub mod Linking
 pub mod Metas
 pub mod Slots
 pub mod Tallies
-pub mod Told

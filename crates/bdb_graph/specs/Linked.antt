@@ -1,20 +1,24 @@
 -- What a linked image keeps, and which pages fit which use. Source: docs/FORMAT.md, "References".
-use Rattle.std.specs.Prelude.{◌≡◌, ◌≤◌, ℕ, IsTrue, List, [], ◌∷◌}
-use Rattle.std.specs.List.{Contains}
-use Rattle.bdb_model.specs.declared.references.Sort.{Sort}
-use Rattle.bdb_model.specs.declared.references.Sort.TheVariants.{Root, Bucket, OverflowHead, DuplicateRoot}
-use Rattle.bdb_model.specs.File.{File, page_at, type_in}
-use Rattle.bdb_model.specs.Graph.{Owner, all_references}
-use Rattle.bdb_model.specs.Page.{Metadata, Meta}
-use Rattle.bdb_model.specs.References.{has_type}
-use Rattle.bdb_model.specs.HeadOf.{head_of}
+use Rattle.std.specs.Prelude.{◌≡◌, ◌≤◌, ℕ, ◌+◌, IsTrue, List, [], ◌∷◌}
+use Rattle.std.specs.List.{Contains, filter, range_with_len}
+use Rattle.bdb_format.specs.declared.references.Sort.{Sort}
+use Rattle.bdb_format.specs.declared.references.Sort.TheVariants.{Root, Bucket, OverflowHead, DuplicateRoot}
+use Rattle.bdb_format.specs.File.{File, page_at, type_in}
+use Rattle.bdb_format.specs.Graph.{Owner, all_references, is_meta}
+use Rattle.bdb_format.specs.Page.{Metadata, Meta}
+use Rattle.bdb_format.specs.References.{has_type}
+use Rattle.bdb_format.specs.HeadOf.{head_of}
 use Rattle.bdb_graph.specs.Formed.{IsFormed}
-use Rattle.bdb_graph.specs.Linking.{graph_faults}
+use Rattle.bdb_format.specs.Verdict.{faults_in}
 
 -- no row of the first five stages holds
 pub record IsForest (image : List ℕ) : Type 0 where
   pub formed : IsFormed image (head_of image)
-  pub linked : graph_faults image ≡ []
+  pub linked : faults_in (3 ∷ 4 ∷ 5 ∷ []) image ≡ []
+
+-- the metadata pages, ascending
+unfoldable pub meta_pages : File → List ℕ
+meta_pages file = filter (λ p. is_meta (page_at file p)) (range_with_len 0 (file.last + 1))
 
 -- some page is metadata with these fields
 pub record HasMetadata (file : File) (fields : Metadata) : Type 0 where

@@ -1,11 +1,11 @@
--- The fields of a metadata page, as a caller gets them. Source: docs/FORMAT.md, "Pages".
+-- The fields of a metadata page, as a caller gets them. Source: docs/FORMAT.md, "Other pages".
 use Rattle.std.specs.Prelude.{◌≡◌, ℕ, List, Option, Some, None}
 use Rattle.std.specs.List.{filter, range_with_len}
 use Rattle.bdb_graph.specs.declared.meta.Meta.{Meta}
 use Rattle.bdb_graph.specs.declared.meta.Meta.TheVariants.{Btree, Hash, Queue}
-use Rattle.bdb_model.specs.File.{File, page_at}
-use Rattle.bdb_model.specs.Graph.{is_meta}
-use Rattle.bdb_model.specs.Page.{Metadata, BtreeFields, HashFields, QueueFields, Page, Meta as MetaPage}
+use Rattle.bdb_format.specs.File.{File, page_at}
+use Rattle.bdb_format.specs.Graph.{is_meta}
+use Rattle.bdb_format.specs.Page.{Metadata, BtreeFields, HashFields, QueueFields, Page, Meta as MetaPage}
 
 abbrev pub meta_seen : Meta → Metadata
 meta_seen (Btree meta) = BtreeFields meta

@@ -1,17 +1,17 @@
--- What a page names, slot by slot, as the code walks over it. What it names as a whole is `names_in` of bdb_model.
+-- What a page names, slot by slot, as the code walks over it. What it names as a whole is `targets_in` of bdb_format.
 use Rattle.std.specs.Prelude.{ℕ, ◌+◌, ◌-◌, ◌*◌, ◌/◌, ◌%◌, ◌^◌, ◌<◌, ◌≤◌, nat_lt, ◌==◌, if◌then◌else◌, List, [], ◌∷◌, map, length, get_or}
 use Rattle.std.specs.List.{enumerate_from, flat_map, range_with_len}
 use Rattle.bdb_form.specs.declared.view.PageView.{PageView}
 use Rattle.bdb_form.specs.declared.view.PageView.TheVariants.{Zero, Free, Meta, Leaf as LeafPage, Internal as InternalPage, RecnoLeaf as RecnoLeafPage, RecnoInternal as RecnoInternalPage, DupLeaf as DupLeafPage, Hash as HashPage, Overflow, Queue}
 use Rattle.bdb_graph.specs.declared.source.Source.{Source}
 use Rattle.bdb_graph.specs.declared.source.Source.TheVariants.{Nothing, Next, Tree, Table, Leaf, RecnoLeaf, DupLeaf, RecnoInternal, Internal, Hash}
-use Rattle.bdb_model.specs.declared.pages.RecnoItem.{RecnoItem}
-use Rattle.bdb_model.specs.declared.references.Reference.{Reference}
-use Rattle.bdb_model.specs.declared.references.Sort.{Sort}
-use Rattle.bdb_model.specs.declared.references.Sort.TheVariants.{Free as FreeRef, Root, Bucket, HashNext, Child}
-use Rattle.bdb_model.specs.Hashing.{first_page}
-use Rattle.bdb_model.specs.Page.{Unknown, Item, InternalItem, Listed}
-use Rattle.bdb_model.specs.References.{content_names, leaf_names, no_item, unless_zero}
+use Rattle.bdb_format.specs.declared.pages.RecnoItem.{RecnoItem}
+use Rattle.bdb_format.specs.declared.references.Reference.{Reference}
+use Rattle.bdb_format.specs.declared.references.Sort.{Sort}
+use Rattle.bdb_format.specs.declared.references.Sort.TheVariants.{Free as FreeRef, Root, Bucket, HashNext, Child}
+use Rattle.bdb_format.specs.Hashing.{first_page}
+use Rattle.bdb_format.specs.Page.{Unknown, Item, InternalItem, Listed}
+use Rattle.bdb_format.specs.References.{content_targets, is_shared_key, no_item, unless_zero}
 
 abbrev pub no_internal_item : InternalItem
 no_internal_item = record { child = 0; count = 0; key = Unknown }
@@ -21,7 +21,11 @@ no_recno_item = record { child = 0; count = 0 }
 
 -- what an item names
 abbrev pub item_names : Listed Item → ℕ → List (Sort × ℕ)
-item_names page slot = content_names (get_or page.items slot no_item).content
+item_names page slot = content_targets (get_or page.items slot no_item).content
+
+-- what an entry of a btree leaf names; a key that is shared names nothing of its own
+abbrev pub entry_names : Listed Item → ℕ → List (Sort × ℕ)
+entry_names page slot = if is_shared_key page.offsets slot then [] else item_names page slot
 
 abbrev pub child_names : Listed RecnoItem → ℕ → List (Sort × ℕ)
 child_names page slot = (Child, (get_or page.items slot no_recno_item).child) ∷ []
@@ -30,7 +34,7 @@ child_names page slot = (Child, (get_or page.items slot no_recno_item).child) �
 abbrev pub internal_names : Listed InternalItem → ℕ → List (Sort × ℕ)
 internal_names page slot =
     let item : InternalItem = get_or page.items (slot / 2) no_internal_item in
-    if slot % 2 == 1 then content_names item.key else (Child, item.child) ∷ []
+    if slot % 2 == 1 then content_targets item.key else (Child, item.child) ∷ []
 
 -- the items, and behind them the next page
 abbrev pub hash_names : Listed Item → ℕ → List (Sort × ℕ)
@@ -54,7 +58,7 @@ slot_names Nothing slot = []
 slot_names (Next sort next) slot = unless_zero sort next
 slot_names (Tree free root) slot = if slot == 0 then unless_zero FreeRef free else (Root, root) ∷ []
 slot_names (Table free max_bucket spares) slot = if slot == 0 then unless_zero FreeRef free else (Bucket, first_page (slot - 1) spares) ∷ []
-slot_names (Leaf page) slot = leaf_names page slot
+slot_names (Leaf page) slot = entry_names page slot
 slot_names (RecnoLeaf page) slot = item_names page slot
 slot_names (DupLeaf page) slot = item_names page slot
 slot_names (RecnoInternal page) slot = child_names page slot

@@ -1,10 +1,10 @@
--- What is counted of the references to each page. Who owns a page is `owners` of bdb_model.
+-- What is counted of the references to each page. Who owns a page is `owners` of bdb_format.
 use Rattle.std.specs.Prelude.{◌≡◌, ℕ, ◌+◌, ◌-◌, ◌^◌, ◌<◌, ◌≤◌, ◌==◌, min, Bool, false, List, length, get_or, None}
 use Rattle.std.specs.List.{filter, list_all}
 use Rattle.bdb_graph.specs.declared.tally.Tally.{Tally}
-use Rattle.bdb_model.specs.declared.references.Reference.{Reference}
-use Rattle.bdb_model.specs.File.{File}
-use Rattle.bdb_model.specs.Graph.{Owner, first_holder, is_head_reference, owners}
+use Rattle.bdb_format.specs.declared.references.Reference.{Reference}
+use Rattle.bdb_format.specs.File.{File}
+use Rattle.bdb_format.specs.Graph.{Owner, first_holder, is_head_reference, owners}
 
 abbrev pub owner : ℕ → Reference → Owner
 owner holder reference = record { holder = holder; reference = reference }

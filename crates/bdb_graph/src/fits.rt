@@ -1,15 +1,14 @@
 ghost use Rattle.std.specs.Prelude.{◌≡◌, ◌≤◌};
 ghost use Rattle.std.specs.Result.{result_err};
 ghost use Rattle.bdb_graph.specs.Fits.{asks_previous, is_of_type, page_rows};
-ghost use Rattle.bdb_graph.specs.Linking.{first_fault};
-ghost use Rattle.bdb_model.specs.File.{file_of};
-ghost use Rattle.bdb_model.specs.References.{asked_by, asks_type, fit_code, has_type, is_asked};
-ghost use Rattle.bdb_model.specs.Table.{first_row, lesser};
-ghost use Rattle.bdb_model.specs.Verdict.{reference_faults, reference_rows};
+ghost use Rattle.bdb_format.specs.File.{file_of};
+ghost use Rattle.bdb_format.specs.References.{asked_by, asks_type, fit_code, has_type, is_asked};
+ghost use Rattle.bdb_format.specs.Table.{first_row, lesser};
+ghost use Rattle.bdb_format.specs.Verdict.{reference_faults, reference_rows, first_fault};
 
 use crate::formed_page::{FormedPage, is_one_of, page_at};
 use crate::{Formed, references};
-use bdb_model::{Fault, Reference, Sort, Steps};
+use bdb_format::{Fault, Reference, Sort, Steps};
 use std::marker::Model;
 use std::sync::ledger::Ledger;
 
@@ -23,7 +22,7 @@ struct Demand {
 }
 
 impl Model for Demand {
-    ghost use Rattle.bdb_model.specs.References.{Asked};
+    ghost use Rattle.bdb_format.specs.References.{Asked};
 
     ghost Value = { Asked };
 

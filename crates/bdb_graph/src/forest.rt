@@ -1,21 +1,21 @@
-ghost use Rattle.std.specs.Prelude.{◌≡◌, ◌≢◌, ◌^◌, ◌<◌, ◌≤◌, [], None, IsTrue, length};
-ghost use Rattle.bdb_form.specs.Seen.{page_seen};
+ghost use Rattle.std.specs.Prelude.{◌≡◌, ◌≢◌, ◌^◌, ◌<◌, ◌≤◌, [], None, IsTrue, length, ◌∷◌};
+ghost use Rattle.bdb_form.specs.Seen.{header_seen, page_seen};
 ghost use Rattle.bdb_graph.specs.Linked.{IsForest};
-ghost use Rattle.bdb_graph.specs.Linking.{graph_faults};
+ghost use Rattle.bdb_format.specs.Verdict.{faults_in};
 ghost use Rattle.bdb_graph.specs.Metas.{meta_in, meta_seen};
 ghost use Rattle.std.specs.Option.{option_map};
-ghost use Rattle.bdb_model.specs.File.{file_of, page_at};
-ghost use Rattle.bdb_model.specs.HeadOf.{head_of, is_page_size};
-ghost use Rattle.bdb_model.specs.Reading.{abstract_page};
-ghost use Rattle.bdb_model.specs.References.{refs};
-ghost use Rattle.bdb_model.specs.Rows.{form_code};
-ghost use Rattle.bdb_model.specs.declared.metadata.FileKind.TheVariants.{Queue};
+ghost use Rattle.bdb_format.specs.File.{file_of, page_at, page_bytes};
+ghost use Rattle.bdb_format.specs.HeadOf.{head_of, is_page_size};
+ghost use Rattle.bdb_format.specs.Reading.{abstract_page, header_of};
+ghost use Rattle.bdb_format.specs.References.{refs};
+ghost use Rattle.bdb_format.specs.Rows.{form_code};
+ghost use Rattle.bdb_format.specs.declared.metadata.FileKind.TheVariants.{Queue};
 
 use crate::held::references_of;
 use crate::meta::meta_at;
 use crate::{Formed, Meta, References};
 use bdb_form::{MetaView, PageView, known_form, known_queue_form};
-use bdb_model::{FileKind, Head};
+use bdb_format::{FileKind, Head};
 use std::marker::Model;
 
 /// The pages of an image on which no row of the first five stages holds. It is a handle that costs nothing
@@ -26,20 +26,20 @@ pub struct Forest<'a> {
 }
 
 impl<'a> Model for Forest<'a> {
-    ghost use Rattle.std.specs.Prelude.{◌≡◌, List, ℕ, []};
-    ghost use Rattle.bdb_graph.specs.Linking.{graph_faults};
+    ghost use Rattle.std.specs.Prelude.{◌≡◌, List, ℕ, [], ◌∷◌};
+    ghost use Rattle.bdb_format.specs.Verdict.{faults_in};
 
     ghost Value = { List ℕ };
 
     ghost view = { λ v. v.formed };
 
-    ghost invariant = { λ v. graph_faults v.formed ≡ [] };
+    ghost invariant = { λ v. faults_in (3 ∷ 4 ∷ 5 ∷ []) v.formed ≡ [] };
 }
 
 impl<'a> Forest<'a> {
     // An image for which the stages are decided.
     pub(crate) fn over(formed: Formed<'a>) -> Forest<'a>
-        requires { graph_faults formed ≡ [] }
+        requires { faults_in (3 ∷ 4 ∷ 5 ∷ []) formed ≡ [] }
         ensures { result ≡ formed.entry }
     {
         Forest { formed }
@@ -74,7 +74,8 @@ impl<'a> Forest<'a> {
     #[tactic(auto, using(crate::proofs::HeldLemmas::page_is, crate::proofs::HeldLemmas::last_page, crate::proofs::HeldLemmas::kind_is))]
     pub fn page(&self, number: u32) -> PageView<'a>
         requires { number ≤ (file_of self.now).last }
-        ensures { page_seen result ≡ page_at (file_of self.now) number }
+        ensures page { page_seen result ≡ page_at (file_of self.now) number }
+        ensures header { header_seen result ≡ header_of (head_of self.now).order (page_bytes (head_of self.now) self.now number) }
     {
         view_of(self.formed.page_bytes(number), &self.formed.head(), number)
     }
@@ -101,7 +102,8 @@ impl<'a> Forest<'a> {
 fn view_of<'a>(page: &'a [u8], head: &Head, number: u32) -> PageView<'a>
     requires size { IsTrue (is_page_size (length page.now)) }
     requires form { form_code head.now number page.now ≡ None }
-    ensures { page_seen result ≡ abstract_page head.now.order page.now }
+    ensures page { page_seen result ≡ abstract_page head.now.order page.now }
+    ensures header { header_seen result ≡ header_of head.now.order page.now }
 {
     match head.kind {
         FileKind::Btree | FileKind::Hash => forest_view(page, head, number),
@@ -115,7 +117,8 @@ fn forest_view<'a>(page: &'a [u8], head: &Head, number: u32) -> PageView<'a>
     requires size { IsTrue (is_page_size (length page.now)) }
     requires form { form_code head.now number page.now ≡ None }
     requires forest { head.now.kind ≢ Queue }
-    ensures { page_seen result ≡ abstract_page head.now.order page.now }
+    ensures page { page_seen result ≡ abstract_page head.now.order page.now }
+    ensures header { header_seen result ≡ header_of head.now.order page.now }
 {
     known_form(page, number, head.order)
 }
@@ -125,7 +128,8 @@ fn queue_view<'a>(page: &'a [u8], head: &Head, number: u32) -> PageView<'a>
     requires size { IsTrue (is_page_size (length page.now)) }
     requires form { form_code head.now number page.now ≡ None }
     requires queue { head.now.kind ≡ Queue }
-    ensures { page_seen result ≡ abstract_page head.now.order page.now }
+    ensures page { page_seen result ≡ abstract_page head.now.order page.now }
+    ensures header { header_seen result ≡ header_of head.now.order page.now }
 {
     if number == 0 {
         return queue_metadata(page, head);
@@ -139,7 +143,8 @@ fn queue_metadata<'a>(page: &'a [u8], head: &Head) -> PageView<'a>
     requires size { IsTrue (is_page_size (length page.now)) }
     requires form { form_code head.now 0 page.now ≡ None }
     requires queue { head.now.kind ≡ Queue }
-    ensures { page_seen result ≡ abstract_page head.now.order page.now }
+    ensures page { page_seen result ≡ abstract_page head.now.order page.now }
+    ensures header { header_seen result ≡ header_of head.now.order page.now }
 {
     PageView::Meta(MetaView::over(page, head.order))
 }
@@ -151,7 +156,8 @@ fn records_view<'a>(page: &'a [u8], head: &Head, number: u32) -> PageView<'a>
     requires form { form_code head.now number page.now ≡ None }
     requires queue { head.now.kind ≡ Queue }
     requires above { 0 < number }
-    ensures { page_seen result ≡ abstract_page head.now.order page.now }
+    ensures page { page_seen result ≡ abstract_page head.now.order page.now }
+    ensures header { header_seen result ≡ header_of head.now.order page.now }
 {
     known_queue_form(page, number, head.order)
 }

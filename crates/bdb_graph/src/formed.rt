@@ -1,10 +1,10 @@
 ghost use Rattle.std.specs.Prelude.{◌≡◌, ◌^◌, ◌<◌, ◌≤◌, IsTrue, length, None};
 ghost use Rattle.bdb_graph.specs.Formed.{IsAccepted, IsFormed};
-ghost use Rattle.bdb_model.specs.File.{page_bytes};
-ghost use Rattle.bdb_model.specs.HeadOf.{head_of, is_page_size};
-ghost use Rattle.bdb_model.specs.Rows.{form_code};
+ghost use Rattle.bdb_format.specs.File.{page_bytes};
+ghost use Rattle.bdb_format.specs.HeadOf.{head_of, is_page_size};
+ghost use Rattle.bdb_format.specs.Rows.{form_code};
 
-use bdb_model::Head;
+use bdb_format::Head;
 use std::marker::Model;
 
 /// An image on which no row of the first two stages holds: its file is one that is read, and each of its

@@ -1,13 +1,13 @@
 ghost use Rattle.std.specs.Prelude.{◌≡◌, ◌≤◌, ◌==◌};
 ghost use Rattle.std.specs.List.{list_any};
-ghost use Rattle.bdb_model.specs.File.{file_of, header_in, page_at, type_in};
-ghost use Rattle.bdb_model.specs.Graph.{is_hash_meta, is_meta, is_spare};
-ghost use Rattle.bdb_model.specs.References.{child_types, is_zero_page, root_types};
+ghost use Rattle.bdb_format.specs.File.{file_of, header_in, page_at, type_in};
+ghost use Rattle.bdb_format.specs.Graph.{is_hash_meta, is_meta, is_spare};
+ghost use Rattle.bdb_format.specs.References.{child_types, is_zero_page, root_types};
 
 use crate::Formed;
 use crate::open::is_zero;
+use bdb_format::{Header, Order};
 use bdb_layout::{header, u32_at};
-use bdb_model::{Header, Order};
 use std::marker::Model;
 
 /// A page of a formed image, where its bytes lie.
@@ -19,8 +19,8 @@ pub(crate) struct FormedPage<'a> {
 
 impl<'a> Model for FormedPage<'a> {
     ghost use Rattle.std.specs.Prelude.{◌≤◌, length};
-    ghost use Rattle.bdb_model.specs.Page.{Page};
-    ghost use Rattle.bdb_model.specs.Reading.{abstract_page};
+    ghost use Rattle.bdb_format.specs.Page.{Page};
+    ghost use Rattle.bdb_format.specs.Reading.{abstract_page};
 
     ghost Value = { Page };
 

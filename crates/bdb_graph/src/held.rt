@@ -1,19 +1,19 @@
 ghost use Rattle.std.specs.Prelude.{◌≡◌, ◌≢◌, ◌+◌, ◌^◌, ◌<◌, ◌≤◌, IsTrue, None, length};
 ghost use Rattle.bdb_graph.specs.Slots.{placed};
-ghost use Rattle.bdb_model.specs.File.{file_of};
-ghost use Rattle.bdb_model.specs.HeadOf.{is_page_size};
-ghost use Rattle.bdb_model.specs.Numbers.{byte_at};
-ghost use Rattle.bdb_model.specs.Page.{BtreeFields, HashFields, Meta};
-ghost use Rattle.bdb_model.specs.Reading.{abstract_page, btree_fields, hash_fields};
-ghost use Rattle.bdb_model.specs.References.{names_in, names_of, refs};
-ghost use Rattle.bdb_model.specs.Rows.{form_code, metadata_rows, page_code};
-ghost use Rattle.bdb_model.specs.Table.{first_row};
-ghost use Rattle.bdb_model.specs.declared.metadata.FileKind.TheVariants.{Btree, Hash, Queue};
+ghost use Rattle.bdb_format.specs.File.{file_of};
+ghost use Rattle.bdb_format.specs.HeadOf.{is_page_size};
+ghost use Rattle.bdb_format.specs.Numbers.{byte_at};
+ghost use Rattle.bdb_format.specs.Page.{BtreeFields, HashFields, Meta};
+ghost use Rattle.bdb_format.specs.Reading.{abstract_page, btree_fields, hash_fields};
+ghost use Rattle.bdb_format.specs.References.{targets_in, targets_of, refs};
+ghost use Rattle.bdb_format.specs.Rows.{form_code, metadata_rows, page_code};
+ghost use Rattle.bdb_format.specs.Table.{first_row};
+ghost use Rattle.bdb_format.specs.declared.metadata.FileKind.TheVariants.{Btree, Hash, Queue};
 
 use crate::{Formed, References};
 use bdb_form::known_form;
+use bdb_format::{FileKind, Head, Order, Steps};
 use bdb_meta::{btree_meta, hash_meta};
-use bdb_model::{FileKind, Head, Order, Steps};
 use std::sync::ledger::Ledger;
 
 /// The references that a page holds, in order: one step, whatever they are. No memory is taken.
@@ -44,7 +44,7 @@ fn held_by<'a>(page: &'a [u8], head: &Head, number: u32) -> References<'a>
     requires size { IsTrue (is_page_size (length page.now)) }
     requires last { head.now.last < 2 ^ 21 }
     requires form { form_code head.now number page.now ≡ None }
-    ensures { result ≡ placed 0 (names_of head.now.kind number (abstract_page head.now.order page.now)) }
+    ensures { result ≡ placed 0 (targets_of head.now.kind number (abstract_page head.now.order page.now)) }
 {
     match head.kind {
         FileKind::Btree | FileKind::Hash => held_in_forest(page, head, number),
@@ -59,7 +59,7 @@ fn held_in_forest<'a>(page: &'a [u8], head: &Head, number: u32) -> References<'a
     requires last { head.now.last < 2 ^ 21 }
     requires form { form_code head.now number page.now ≡ None }
     requires forest { head.now.kind ≢ Queue }
-    ensures { result ≡ placed 0 (names_in number (abstract_page head.now.order page.now)) }
+    ensures { result ≡ placed 0 (targets_in number (abstract_page head.now.order page.now)) }
 {
     match page[25] {
         8 => held_by_table(page, head, number),
@@ -69,12 +69,12 @@ fn held_in_forest<'a>(page: &'a [u8], head: &Head, number: u32) -> References<'a
 }
 
 /// The references of hash metadata.
-#[tactic(auto, using(bdb_model::proofs::PageLemmas::answer_value, crate::proofs::HeldLemmas::few_buckets))]
+#[tactic(auto, using(bdb_format::proofs::PageLemmas::answer_value, crate::proofs::HeldLemmas::few_buckets))]
 fn held_by_table<'a>(page: &'a [u8], head: &Head, number: u32) -> References<'a>
     requires size { IsTrue (is_page_size (length page.now)) }
     requires last { head.now.last < 2 ^ 21 }
     requires form { first_row (metadata_rows head.now.order page.now number head.now.last Hash) ≡ None }
-    ensures { result ≡ placed 0 (names_in number (Meta (HashFields (hash_fields head.now.order page.now)))) }
+    ensures { result ≡ placed 0 (targets_in number (Meta (HashFields (hash_fields head.now.order page.now)))) }
 {
     match hash_meta(page, head.order, number, head.last) {
         Ok(meta) => References::of_hash(number, &meta),
@@ -83,11 +83,11 @@ fn held_by_table<'a>(page: &'a [u8], head: &Head, number: u32) -> References<'a>
 }
 
 /// The references of btree metadata.
-#[tactic(auto, using(bdb_model::proofs::PageLemmas::answer_value))]
+#[tactic(auto, using(bdb_format::proofs::PageLemmas::answer_value))]
 fn held_by_tree<'a>(page: &'a [u8], order: Order, number: u32) -> References<'a>
     requires size { IsTrue (is_page_size (length page.now)) }
     requires form { first_row (metadata_rows order page.now number 0 Btree) ≡ None }
-    ensures { result ≡ placed 0 (names_in number (Meta (BtreeFields (btree_fields order page.now)))) }
+    ensures { result ≡ placed 0 (targets_in number (Meta (BtreeFields (btree_fields order page.now)))) }
 {
     match btree_meta(page, order, number) {
         Ok(meta) => References::of_btree(number, &meta),
@@ -102,7 +102,7 @@ fn held_by_other<'a>(page: &'a [u8], order: Order, number: u32) -> References<'a
     requires form { page_code order number page.now ≡ None }
     requires table { byte_at page.now 25 ≢ 8 }
     requires tree { byte_at page.now 25 ≢ 9 }
-    ensures { result ≡ placed 0 (names_in number (abstract_page order page.now)) }
+    ensures { result ≡ placed 0 (targets_in number (abstract_page order page.now)) }
 {
     References::of_view(known_form(page, number, order))
 }

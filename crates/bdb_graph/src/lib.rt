@@ -21,7 +21,7 @@ mod roles;
 mod source;
 mod tally;
 
-pub use bdb_model::{Reference, Sort};
+pub use bdb_format::{Reference, Sort};
 pub use forest::Forest;
 pub use formed::Formed;
 pub use held::references;

@@ -1,21 +1,18 @@
-ghost use Rattle.std.specs.Prelude.{◌≡◌, ◌≢◌, ◌+◌, ◌^◌, ◌<◌, ◌≤◌, [], Some, None, IsTrue, length};
+ghost use Rattle.std.specs.Prelude.{◌≡◌, ◌+◌, ◌^◌, ◌<◌, ◌≤◌, Some, None, length};
 ghost use Rattle.std.specs.List.{slice_get};
-ghost use Rattle.bdb_form.specs.Seen.{page_seen};
-ghost use Rattle.bdb_graph.specs.Linked.{IsForest, FitsBucket, FitsChain, FitsDupRoot, FitsTreeRoot, HasMetadata};
-ghost use Rattle.bdb_graph.specs.Linking.{graph_faults, meta_pages};
+ghost use Rattle.bdb_form.specs.Seen.{header_seen, page_seen};
+ghost use Rattle.bdb_graph.specs.Linked.{IsForest, FitsBucket, FitsChain, FitsDupRoot, FitsTreeRoot, HasMetadata, meta_pages};
 ghost use Rattle.bdb_graph.specs.Metas.{meta_seen};
-ghost use Rattle.bdb_model.specs.File.{file_of, page_at};
-ghost use Rattle.bdb_model.specs.Hashing.{first_page};
-ghost use Rattle.bdb_model.specs.HeadOf.{head_of, is_page_size};
-ghost use Rattle.bdb_model.specs.Page.{BtreeFields, HashFields, Meta as MetaPage};
-ghost use Rattle.bdb_model.specs.Reading.{abstract_page};
-ghost use Rattle.bdb_model.specs.Rows.{form_code};
-ghost use Rattle.bdb_model.specs.declared.metadata.FileKind.TheVariants.{Queue};
+ghost use Rattle.bdb_format.specs.File.{file_of, page_at, page_bytes};
+ghost use Rattle.bdb_format.specs.Hashing.{first_page};
+ghost use Rattle.bdb_format.specs.HeadOf.{head_of};
+ghost use Rattle.bdb_format.specs.Page.{BtreeFields, HashFields, Meta as MetaPage};
+ghost use Rattle.bdb_format.specs.Reading.{header_of};
 
 use crate::{Bucket, Chain, DupRoot, Forest, Meta, Ref, TreeRoot};
 use bdb_form::PageView;
+use bdb_format::{BtreeMeta, HashMeta, Head};
 use bdb_layout::page_of;
-use bdb_model::{BtreeMeta, HashMeta, Head};
 use std::marker::Model;
 
 /// An image on which no row of the first five stages holds: its pages are a forest, whose roots its
@@ -28,8 +25,8 @@ pub struct Linked<'a> {
 
 impl<'a> Model for Linked<'a> {
     ghost use Rattle.std.specs.Prelude.{◌≡◌, List, ℕ};
-    ghost use Rattle.bdb_graph.specs.Linking.{meta_pages};
-    ghost use Rattle.bdb_model.specs.File.{file_of};
+    ghost use Rattle.bdb_graph.specs.Linked.{meta_pages};
+    ghost use Rattle.bdb_format.specs.File.{file_of};
 
     ghost Value = { List ℕ };
 
@@ -66,7 +63,8 @@ impl<'a> Linked<'a> {
     /// A page up to the last one, by its type.
     pub fn page(&self, number: u32) -> PageView<'a>
         requires { number ≤ (file_of self.now).last }
-        ensures { page_seen result ≡ page_at (file_of self.now) number }
+        ensures page { page_seen result ≡ page_at (file_of self.now) number }
+        ensures header { header_seen result ≡ header_of (head_of self.now).order (page_bytes (head_of self.now) self.now number) }
     {
         self.forest.page(number)
     }

@@ -1,5 +1,5 @@
-ghost use Rattle.std.specs.Prelude.{◌≡◌, [], IfErr, IfOk, OnOk};
-ghost use Rattle.bdb_graph.specs.Linking.{IsRefusal, graph_faults};
+ghost use Rattle.std.specs.Prelude.{◌≡◌, [], ◌∷◌, IfErr, IfOk, OnOk};
+ghost use Rattle.bdb_format.specs.Verdict.{faults_in, IsFirstOf};
 
 use crate::fits::check_references;
 use crate::meta::metas_of;
@@ -7,7 +7,7 @@ use crate::owned::check_owners;
 use crate::reach::check_reach;
 use crate::tally::tally_all;
 use crate::{Forest, Formed, Linked};
-use bdb_model::{CheckError, Steps};
+use bdb_format::{CheckError, Steps};
 use std::alloc::{AllocError, Global};
 use std::sync::ledger::Ledger;
 
@@ -20,8 +20,8 @@ pub fn link<'a, L: Ledger>(
     steps: &mut Steps<L>,
 ) -> Result<Linked<'a>, CheckError>
     ensures linked { IfOk result (λ linked. linked ≡ formed.entry) }
-    ensures accepted { OnOk result (graph_faults formed.entry ≡ []) }
-    ensures refusal { IfErr result (IsRefusal formed.entry) }
+    ensures accepted { OnOk result (faults_in (3 ∷ 4 ∷ 5 ∷ []) formed.entry ≡ []) }
+    ensures refusal { IfErr result (IsFirstOf (faults_in (3 ∷ 4 ∷ 5 ∷ []) formed.entry)) }
 {
     check_graph(alloc, &formed, steps)?;
     match metas_of(alloc, &formed) {
@@ -37,8 +37,8 @@ fn check_graph<L: Ledger>(
     formed: &Formed<'_>,
     steps: &mut Steps<L>,
 ) -> Result<(), CheckError>
-    ensures accepted { OnOk result (graph_faults formed.now ≡ []) }
-    ensures refusal { IfErr result (IsRefusal formed.now) }
+    ensures accepted { OnOk result (faults_in (3 ∷ 4 ∷ 5 ∷ []) formed.now ≡ []) }
+    ensures refusal { IfErr result (IsFirstOf (faults_in (3 ∷ 4 ∷ 5 ∷ []) formed.now)) }
 {
     if let Err(fault) = check_references(formed, steps) {
         return Err(CheckError::Fault(fault));

@@ -2,13 +2,13 @@ ghost use Rattle.std.specs.Prelude.{◌≡◌, ◌^◌, ◌<◌, ℕ, []};
 ghost use Rattle.std.specs.Iterator.{YieldsFirst, item_count};
 ghost use Rattle.bdb_form.specs.Seen.{page_seen};
 ghost use Rattle.bdb_graph.specs.Slots.{HasRoom, IsNoMetadata, names_from, placed};
-ghost use Rattle.bdb_model.specs.Page.{BtreeFields, HashFields, Meta};
-ghost use Rattle.bdb_model.specs.References.{first_free, names_in, unless_zero};
-ghost use Rattle.bdb_model.specs.declared.references.Sort.TheVariants.{Free};
+ghost use Rattle.bdb_format.specs.Page.{BtreeFields, HashFields, Meta};
+ghost use Rattle.bdb_format.specs.References.{first_free, targets_in, unless_zero};
+ghost use Rattle.bdb_format.specs.declared.references.Sort.TheVariants.{Free};
 
 use crate::source::Source;
 use bdb_form::PageView;
-use bdb_model::{BtreeMeta, HashMeta, Reference};
+use bdb_format::{BtreeMeta, HashMeta, Reference};
 use std::marker::Model;
 
 /// The references that a page holds, in order.
@@ -21,7 +21,7 @@ pub struct References<'a> {
 
 impl<'a> Model for References<'a> {
     ghost use Rattle.std.specs.Prelude.{List};
-    ghost use Rattle.bdb_model.specs.declared.references.Reference.{Reference};
+    ghost use Rattle.bdb_format.specs.declared.references.Reference.{Reference};
     ghost use Rattle.bdb_graph.specs.Slots.{HasPlace, names_from, placed};
 
     ghost Value = { List Reference };
@@ -42,14 +42,14 @@ impl<'a> References<'a> {
     /// The references of a page that isn't metadata.
     pub(crate) fn of_view(view: PageView<'a>) -> References<'a>
         requires { IsNoMetadata view }
-        ensures { (p : ℕ) → result ≡ placed 0 (names_in p (page_seen view.entry)) }
+        ensures { (p : ℕ) → result ≡ placed 0 (targets_in p (page_seen view.entry)) }
     {
         References::over(Source::of_view(view))
     }
 
     /// The references of btree metadata on page `p`: the first free page, which page 0 alone names, and the root.
     pub(crate) fn of_btree(p: u32, meta: &BtreeMeta) -> References<'a>
-        ensures { result ≡ placed 0 (names_in p (Meta (BtreeFields meta.now))) }
+        ensures { result ≡ placed 0 (targets_in p (Meta (BtreeFields meta.now))) }
     {
         let free = first_free(p, meta.free);
         References::over(Source::Tree {
@@ -61,7 +61,7 @@ impl<'a> References<'a> {
     /// The references of hash metadata on page `p`: the first free page, which page 0 alone names, and the buckets.
     pub(crate) fn of_hash(p: u32, meta: &HashMeta) -> References<'a>
         requires { meta.now.max_bucket < 2 ^ 31 }
-        ensures { result ≡ placed 0 (names_in p (Meta (HashFields meta.now))) }
+        ensures { result ≡ placed 0 (targets_in p (Meta (HashFields meta.now))) }
     {
         let free = first_free(p, meta.free);
         References::over(Source::Table {

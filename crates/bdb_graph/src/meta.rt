@@ -1,16 +1,16 @@
 ghost use Rattle.std.specs.Prelude.{◌≡◌, ◌+◌, ◌^◌, ◌<◌, ◌≤◌, IfOk, IsTrue, OnOk, None, length};
 ghost use Rattle.std.specs.Option.{option_map};
-ghost use Rattle.bdb_graph.specs.Linking.{meta_pages};
+ghost use Rattle.bdb_graph.specs.Linked.{meta_pages};
 ghost use Rattle.bdb_graph.specs.Metas.{AreMetasBelow, meta_in, meta_seen};
-ghost use Rattle.bdb_model.specs.File.{file_of, page_at};
-ghost use Rattle.bdb_model.specs.HeadOf.{is_page_size};
-ghost use Rattle.bdb_model.specs.Reading.{abstract_page, btree_fields, hash_fields, queue_fields};
-ghost use Rattle.bdb_model.specs.Rows.{form_code, metadata_rows};
-ghost use Rattle.bdb_model.specs.Table.{first_row};
-ghost use Rattle.bdb_model.specs.declared.metadata.FileKind.TheVariants.{Btree, Hash, Queue};
+ghost use Rattle.bdb_format.specs.File.{file_of, page_at};
+ghost use Rattle.bdb_format.specs.HeadOf.{is_page_size};
+ghost use Rattle.bdb_format.specs.Reading.{abstract_page, btree_fields, hash_fields, queue_fields};
+ghost use Rattle.bdb_format.specs.Rows.{form_code, metadata_rows};
+ghost use Rattle.bdb_format.specs.Table.{first_row};
+ghost use Rattle.bdb_format.specs.declared.metadata.FileKind.TheVariants.{Btree, Hash, Queue};
 
 use crate::Formed;
-use bdb_model::{BtreeMeta, HashMeta, Head, Order, QueueMeta};
+use bdb_format::{BtreeMeta, HashMeta, Head, Order, QueueMeta};
 use std::alloc::{AllocError, Global};
 
 /// The fields of a metadata page.
@@ -73,7 +73,7 @@ fn meta_on(page: &[u8], head: &Head, number: u32) -> Option<Meta>
 }
 
 /// The fields of hash metadata without a fault.
-#[tactic(auto, using(bdb_model::proofs::PageLemmas::answer_value, crate::proofs::HeldLemmas::read_meta))]
+#[tactic(auto, using(bdb_format::proofs::PageLemmas::answer_value, crate::proofs::HeldLemmas::read_meta))]
 fn table_on(page: &[u8], head: &Head, number: u32) -> HashMeta
     requires size { IsTrue (is_page_size (length page.now)) }
     requires last { head.now.last < 2 ^ 21 }
@@ -87,7 +87,7 @@ fn table_on(page: &[u8], head: &Head, number: u32) -> HashMeta
 }
 
 /// The fields of btree metadata without a fault.
-#[tactic(auto, using(bdb_model::proofs::PageLemmas::answer_value, crate::proofs::HeldLemmas::read_meta))]
+#[tactic(auto, using(bdb_format::proofs::PageLemmas::answer_value, crate::proofs::HeldLemmas::read_meta))]
 fn tree_on(page: &[u8], order: Order, number: u32) -> BtreeMeta
     requires size { IsTrue (is_page_size (length page.now)) }
     requires form { first_row (metadata_rows order page.now number 0 Btree) ≡ None }
@@ -100,7 +100,7 @@ fn tree_on(page: &[u8], order: Order, number: u32) -> BtreeMeta
 }
 
 /// The fields of queue metadata without a fault.
-#[tactic(auto, using(bdb_model::proofs::PageLemmas::answer_value, crate::proofs::HeldLemmas::read_meta))]
+#[tactic(auto, using(bdb_format::proofs::PageLemmas::answer_value, crate::proofs::HeldLemmas::read_meta))]
 fn queue_on(page: &[u8], order: Order) -> QueueMeta
     requires size { IsTrue (is_page_size (length page.now)) }
     requires form { first_row (metadata_rows order page.now 0 0 Queue) ≡ None }

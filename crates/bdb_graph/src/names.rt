@@ -1,11 +1,11 @@
 ghost use Rattle.std.specs.Prelude.{◌≡◌, ◌+◌, ◌*◌, ◌<◌, length, option_to_list};
-ghost use Rattle.bdb_graph.specs.Slots.{child_names, hash_names, internal_names, item_names};
+ghost use Rattle.bdb_graph.specs.Slots.{child_names, entry_names, hash_names, internal_names, item_names};
 ghost use Rattle.bdb_layout.specs.Seen.{hash_content_seen, key_seen, leaf_item_seen};
-ghost use Rattle.bdb_model.specs.References.{content_names, leaf_names, unless_zero};
+ghost use Rattle.bdb_format.specs.References.{content_targets, unless_zero};
 
 use bdb_form::{DupLeafView, HashView, InternalView, LeafView, RecnoInternalView, RecnoLeafView};
+use bdb_format::Sort;
 use bdb_layout::{HashItem, InternalKey, LeafItem};
-use bdb_model::Sort;
 
 /// What a page names: for what, and the number of a page, which need not be there.
 pub(crate) type Name = (Sort, u64);
@@ -22,7 +22,7 @@ pub(crate) fn unless_zero(sort: Sort, target: u32) -> Option<Name>
 
 /// The page that an item of a leaf names.
 fn item_name(item: &LeafItem) -> Option<Name>
-    ensures { option_to_list result ≡ content_names (leaf_item_seen item.now).content }
+    ensures { option_to_list result ≡ content_targets (leaf_item_seen item.now).content }
 {
     match item {
         LeafItem::Inline { .. } => None,
@@ -33,7 +33,7 @@ fn item_name(item: &LeafItem) -> Option<Name>
 
 /// The page that the key of an item of an internal page names.
 fn key_name(key: &InternalKey) -> Option<Name>
-    ensures { option_to_list result ≡ content_names (key_seen key.now) }
+    ensures { option_to_list result ≡ content_targets (key_seen key.now) }
 {
     match key {
         InternalKey::Inline(_) => None,
@@ -43,7 +43,7 @@ fn key_name(key: &InternalKey) -> Option<Name>
 
 /// The page that an item of a hash page names.
 fn hash_item_name(item: &HashItem) -> Option<Name>
-    ensures { option_to_list result ≡ content_names (hash_content_seen item.now) }
+    ensures { option_to_list result ≡ content_targets (hash_content_seen item.now) }
 {
     match item {
         HashItem::Inline(_) | HashItem::Set(_) => None,
@@ -55,7 +55,7 @@ fn hash_item_name(item: &HashItem) -> Option<Name>
 /// The page that an item of a btree leaf names; a key that is shared names nothing of its own.
 pub(crate) fn leaf_name(page: &LeafView, slot: u32) -> Option<Name>
     requires { slot < length page.now.items }
-    ensures { option_to_list result ≡ leaf_names page.now slot }
+    ensures { option_to_list result ≡ entry_names page.now slot }
 {
     prove!(slot < 2 * u32::from(page.pairs()));
     let pair = (slot / 2) as u16;

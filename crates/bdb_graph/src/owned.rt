@@ -1,18 +1,17 @@
 ghost use Rattle.std.specs.Prelude.{◌≡◌, ◌≤◌, ◌&&◌, ◌||◌, not};
 ghost use Rattle.std.specs.List.{list_any};
 ghost use Rattle.std.specs.Result.{result_err};
-ghost use Rattle.bdb_graph.specs.Linking.{first_fault};
 ghost use Rattle.bdb_graph.specs.Tallies.{AreTalliesOf, IsTally};
-ghost use Rattle.bdb_model.specs.File.{file_of};
-ghost use Rattle.bdb_model.specs.Graph.{is_anchor, is_hash_meta, is_owned_twice, is_reserve, is_shared_too_often, owners};
-ghost use Rattle.bdb_model.specs.Table.{first_row};
-ghost use Rattle.bdb_model.specs.Verdict.{ownership_faults, ownership_rows};
+ghost use Rattle.bdb_format.specs.File.{file_of};
+ghost use Rattle.bdb_format.specs.Graph.{is_anchor, is_hash_meta, is_owned_twice, is_reserve, is_shared_too_often, owners};
+ghost use Rattle.bdb_format.specs.Table.{first_row};
+ghost use Rattle.bdb_format.specs.Verdict.{ownership_faults, ownership_rows, first_fault};
 
 use crate::Formed;
 use crate::formed_page::page_at;
 use crate::roles::{has_table, is_anchor, is_reserve};
 use crate::tally::Tally;
-use bdb_model::Fault;
+use bdb_format::Fault;
 
 /// Each page from 1 on has an owner, or needs none, and no more than it may have. A refusal is the first fault.
 #[tactic(auto, using(crate::proofs::HeldLemmas::last_page, crate::proofs::StageLemmas::ownership_first, crate::proofs::StageLemmas::ownership_none, crate::proofs::FitLemmas::none_more))]

@@ -1,13 +1,13 @@
 ghost use Rattle.std.specs.Prelude.{◌≡◌, ◌≢◌, ◌<◌, ◌^◌, IsTrue, length};
 ghost use Rattle.std.specs.Option.{option_map};
-ghost use Rattle.bdb_model.specs.HeadOf.{form_fault, is_page_size};
-ghost use Rattle.bdb_model.specs.Rows.{form_code, metadata_rows};
-ghost use Rattle.bdb_model.specs.Table.{first_row};
-ghost use Rattle.bdb_model.specs.declared.metadata.FileKind.TheVariants.{Queue};
+ghost use Rattle.bdb_format.specs.HeadOf.{form_fault, is_page_size};
+ghost use Rattle.bdb_format.specs.Rows.{form_code, metadata_rows};
+ghost use Rattle.bdb_format.specs.Table.{first_row};
+ghost use Rattle.bdb_format.specs.declared.metadata.FileKind.TheVariants.{Queue};
 
 use bdb_form::{form, queue_form};
+use bdb_format::{FileKind, Head, MetaFault};
 use bdb_meta::{btree_meta, hash_meta, queue_meta};
-use bdb_model::{FileKind, Head, MetaFault};
 
 /// The first row of form that holds for a page up to the last one, if one does.
 #[tactic(auto, using(crate::proofs::CodeLemmas::first_page_code))]

@@ -1,16 +1,15 @@
 ghost use Rattle.std.specs.Prelude.{◌≡◌, ◌≤◌, ◌||◌};
 ghost use Rattle.std.specs.List.{list_any};
 ghost use Rattle.std.specs.Result.{result_err};
-ghost use Rattle.bdb_graph.specs.Linking.{first_fault};
 ghost use Rattle.bdb_graph.specs.Tallies.{AreTalliesOf, IsTally};
-ghost use Rattle.bdb_model.specs.File.{file_of};
-ghost use Rattle.bdb_model.specs.Graph.{is_anchor, is_hash_meta, is_reserve, owners, reaches};
-ghost use Rattle.bdb_model.specs.Verdict.{reach_faults};
+ghost use Rattle.bdb_format.specs.File.{file_of};
+ghost use Rattle.bdb_format.specs.Graph.{is_anchor, is_hash_meta, is_reserve, owners, reaches};
+ghost use Rattle.bdb_format.specs.Verdict.{reach_faults, first_fault};
 
 use crate::Formed;
 use crate::roles::{has_table, is_anchor, is_reserve};
 use crate::tally::Tally;
-use bdb_model::Fault;
+use bdb_format::Fault;
 
 /// Each page from 1 on reaches an anchor or a reserve by the holders of first references. A refusal is the first fault.
 #[tactic(auto, using(crate::proofs::HeldLemmas::last_page, crate::proofs::StageLemmas::reach_first, crate::proofs::StageLemmas::reach_none, crate::proofs::FitLemmas::none_more))]
@@ -32,7 +31,7 @@ pub(crate) fn check_reach(formed: &Formed<'_>, tallies: &[Tally]) -> Result<(), 
 }
 
 /// Whether a page reaches an anchor or a reserve, in at most as many turns as there are pages.
-#[tactic(auto, using(crate::proofs::HeldLemmas::last_page, crate::proofs::ReachLemmas::count_is))]
+#[tactic(auto, using(crate::proofs::HeldLemmas::last_page, bdb_format::proofs::ReferenceLemmas::count_is))]
 fn reaches(formed: &Formed<'_>, tallies: &[Tally], page: u32, has_table: bool) -> bool
     requires page { page ≤ (file_of formed.now).last }
     requires tallies { AreTalliesOf (file_of formed.now) tallies.now }

@@ -1,13 +1,13 @@
 ghost use Rattle.std.specs.Prelude.{◌≡◌, ◌≤◌};
 ghost use Rattle.std.specs.List.{list_any};
 ghost use Rattle.bdb_graph.specs.Tallies.{IsTally};
-ghost use Rattle.bdb_model.specs.File.{file_of};
-ghost use Rattle.bdb_model.specs.Graph.{is_anchor, is_hash_meta, is_reserve, owners};
+ghost use Rattle.bdb_format.specs.File.{file_of};
+ghost use Rattle.bdb_format.specs.Graph.{is_anchor, is_hash_meta, is_reserve, owners};
 
 use crate::Formed;
 use crate::formed_page::page_at;
 use crate::tally::Tally;
-use bdb_model::FileKind;
+use bdb_format::FileKind;
 
 /// Whether a page is the metadata of a hash table.
 #[tactic(auto, using(crate::proofs::HeldLemmas::last_page, crate::proofs::RoleLemmas::some_table, crate::proofs::RoleLemmas::no_table))]
@@ -23,7 +23,7 @@ pub(crate) fn has_table(formed: &Formed<'_>) -> bool
 }
 
 /// Whether a page needs no owner: it's metadata, or a page of a queue file.
-#[tactic(auto, using(crate::proofs::HeldLemmas::kind_is), unfolding(bdb_model::specs::Graph::is_anchor))]
+#[tactic(auto, using(crate::proofs::HeldLemmas::kind_is), unfolding(bdb_format::specs::Graph::is_anchor))]
 pub(crate) fn is_anchor(formed: &Formed<'_>, page: u32) -> bool
     requires { page ≤ (file_of formed.now).last }
     ensures { result ≡ is_anchor (file_of formed.now) page }
@@ -35,7 +35,7 @@ pub(crate) fn is_anchor(formed: &Formed<'_>, page: u32) -> bool
 }
 
 /// Whether a table holds a page in reserve.
-#[tactic(auto, using(crate::proofs::RoleLemmas::counts_none), unfolding(bdb_model::specs::Graph::is_reserve))]
+#[tactic(auto, using(crate::proofs::RoleLemmas::counts_none), unfolding(bdb_format::specs::Graph::is_reserve))]
 pub(crate) fn is_reserve(formed: &Formed<'_>, page: u32, tally: Tally, has_table: bool) -> bool
     requires page { page ≤ (file_of formed.now).last }
     requires tally { IsTally tally (owners (file_of formed.now) page) }

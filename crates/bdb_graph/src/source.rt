@@ -1,7 +1,7 @@
 ghost use Rattle.std.specs.Prelude.{◌≡◌, ◌<◌, ◌≤◌, ◌∷◌, [], ℕ, IfSome, MatchOption, option_to_list};
 ghost use Rattle.bdb_form.specs.Seen.{page_seen};
 ghost use Rattle.bdb_graph.specs.Slots.{HasRoom, IsNoMetadata, names_from, slot_names, slots_of};
-ghost use Rattle.bdb_model.specs.References.{names_in};
+ghost use Rattle.bdb_format.specs.References.{targets_in};
 
 use crate::names::{
     Name, child_name, dup_leaf_name, hash_name, internal_name, leaf_name, recno_leaf_name,
@@ -10,8 +10,8 @@ use crate::names::{
 use bdb_form::{
     DupLeafView, HashView, InternalView, LeafView, PageView, RecnoInternalView, RecnoLeafView,
 };
+use bdb_format::Sort;
 use bdb_layout::page_of;
-use bdb_model::Sort;
 
 /// What a page names, slot by slot; a slot names at most one page.
 #[derive(Drop)]
@@ -47,7 +47,7 @@ impl<'a> Source<'a> {
     /// What a page names that isn't metadata.
     pub(crate) fn of_view(view: PageView<'a>) -> Source<'a>
         requires { IsNoMetadata view }
-        ensures names { (p : ℕ) → names_from result 0 ≡ names_in p (page_seen view.entry) }
+        ensures names { (p : ℕ) → names_from result 0 ≡ targets_in p (page_seen view.entry) }
         ensures room { HasRoom result }
     {
         match view {

@@ -1,11 +1,11 @@
 ghost use Rattle.std.specs.Prelude.{◌≡◌, ◌+◌, if◌then◌else◌, List, [], ◌∷◌, ◌++◌, map, IfOk};
 ghost use Rattle.std.specs.Result.{is_ok};
 ghost use Rattle.bdb_graph.specs.Tallies.{AreTallies, AreTalliesOf, IsTally, owner};
-ghost use Rattle.bdb_model.specs.File.{file_of};
-ghost use Rattle.bdb_model.specs.Graph.{Owner, is_head_reference};
+ghost use Rattle.bdb_format.specs.File.{file_of};
+ghost use Rattle.bdb_format.specs.Graph.{Owner, is_head_reference};
 
 use crate::{Formed, References, references};
-use bdb_model::{Reference, Sort, Steps};
+use bdb_format::{Reference, Sort, Steps};
 use std::alloc::{AllocError, Global};
 use std::sync::ledger::Ledger;
 

@@ -1,6 +1,5 @@
-ghost use Rattle.bdb_model.specs.Verdict.{faults_of, verdict_of};
-ghost use Rattle.bdb_model.specs.declared.kinds.Unsupported.TheVariants.{Checksum, Encryption, Heap, LargePage, Partition, Version};
-ghost use Rattle.bdb_model.specs.declared.kinds.Verdict.TheVariants.{Unsupported};
+ghost use Rattle.bdb_format.specs.Verdict.{LeftOut, faults_of, verdict_of};
+ghost use Rattle.bdb_format.specs.declared.kinds.Unsupported.TheVariants.{Checksum, Encryption, Heap, LargePage, Partition, Version};
 ghost use Rattle.bdb_graph_samples.specs.Named.{fault};
 ghost use Rattle.bdb_graph_samples.specs.Tails.{file_tail, file_tail_many};
 ghost use Rattle.bdb_samples.specs.FileFaults.{file_checksum, file_encryption, file_heap, file_large_page, file_last_page, file_magic, file_page_size, file_partition, file_ragged, file_short, file_version};
@@ -33,10 +32,10 @@ pub fn tails()
 
 /// Unsupported cases by their names.
 pub fn named()
-    ensures heap { verdict_of file_heap ≡ Some (Unsupported Heap 0) }
-    ensures version { verdict_of file_version ≡ Some (Unsupported Version 0) }
-    ensures large_page { verdict_of file_large_page ≡ Some (Unsupported LargePage 0) }
-    ensures encryption { verdict_of file_encryption ≡ Some (Unsupported Encryption 0) }
-    ensures checksum { verdict_of file_checksum ≡ Some (Unsupported Checksum 0) }
-    ensures partition { verdict_of file_partition ≡ Some (Unsupported Partition 0) }
+    ensures heap { verdict_of file_heap ≡ Some (LeftOut Heap 0) }
+    ensures version { verdict_of file_version ≡ Some (LeftOut Version 0) }
+    ensures large_page { verdict_of file_large_page ≡ Some (LeftOut LargePage 0) }
+    ensures encryption { verdict_of file_encryption ≡ Some (LeftOut Encryption 0) }
+    ensures checksum { verdict_of file_checksum ≡ Some (LeftOut Checksum 0) }
+    ensures partition { verdict_of file_partition ≡ Some (LeftOut Partition 0) }
 {}

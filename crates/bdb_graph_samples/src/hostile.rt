@@ -1,4 +1,4 @@
-ghost use Rattle.bdb_model.specs.Verdict.{faults_of};
+ghost use Rattle.bdb_format.specs.Verdict.{faults_of};
 ghost use Rattle.bdb_graph_samples.specs.Hostile.{bucket_without_a_page, chain_counted_once, free_page_in_a_ring, leaf_as_its_own_set, own_child, own_next_hash_page, own_next_overflow_page, root_is_a_recno_leaf, root_of_zero};
 ghost use Rattle.bdb_graph_samples.specs.Named.{fault};
 ghost use Rattle.bdb_graph_samples.specs.Worked.{chain_of_two_pairs};

@@ -1,6 +1,5 @@
-ghost use Rattle.bdb_model.specs.Verdict.{faults_of, verdict_of};
-ghost use Rattle.bdb_model.specs.declared.kinds.Unsupported.TheVariants.{Checksum, Compression, Encryption, Extent, OwnHash, Partition, Version, WrappedQueue};
-ghost use Rattle.bdb_model.specs.declared.kinds.Verdict.TheVariants.{Unsupported};
+ghost use Rattle.bdb_format.specs.Verdict.{LeftOut, faults_of, verdict_of};
+ghost use Rattle.bdb_format.specs.declared.kinds.Unsupported.TheVariants.{Checksum, Compression, Encryption, Extent, OwnHash, Partition, Version, WrappedQueue};
 ghost use Rattle.bdb_graph_samples.specs.MetaForms.{form_btree_flags_one, form_checksum_many, form_compression_one, form_encryption_many, form_extent_many, form_hash_buckets_many, form_hash_flags_many, form_hash_masks_many, form_meta_magic_one, form_meta_page_size_many, form_own_hash_many, form_page_number_many, form_page_type_one, form_partition_one, form_queue_first_many, form_queue_record_many, form_version_many, form_wrapped_queue_many};
 ghost use Rattle.bdb_graph_samples.specs.Named.{fault};
 ghost use Rattle.bdb_samples.specs.MetaFaults.{form_btree_flags, form_checksum, form_compression, form_encryption, form_extent, form_hash_buckets, form_hash_flags, form_hash_masks, form_meta_magic, form_meta_page_size, form_own_hash, form_page_number, form_page_type, form_partition, form_queue_first, form_queue_record, form_version, form_wrapped_queue};
@@ -68,12 +67,12 @@ pub fn queue()
 
 /// Unsupported cases by their names, with their pages.
 pub fn named()
-    ensures version { verdict_of form_version ≡ Some (Unsupported Version 1) }
-    ensures encryption { verdict_of form_encryption ≡ Some (Unsupported Encryption 3) }
-    ensures checksum { verdict_of form_checksum ≡ Some (Unsupported Checksum 1) }
-    ensures partition { verdict_of form_partition ≡ Some (Unsupported Partition 1) }
-    ensures compression { verdict_of form_compression ≡ Some (Unsupported Compression 0) }
-    ensures own_hash { verdict_of form_own_hash ≡ Some (Unsupported OwnHash 0) }
-    ensures extent { verdict_of form_extent ≡ Some (Unsupported Extent 0) }
-    ensures wrapped_queue { verdict_of form_wrapped_queue ≡ Some (Unsupported WrappedQueue 0) }
+    ensures version { verdict_of form_version ≡ Some (LeftOut Version 1) }
+    ensures encryption { verdict_of form_encryption ≡ Some (LeftOut Encryption 3) }
+    ensures checksum { verdict_of form_checksum ≡ Some (LeftOut Checksum 1) }
+    ensures partition { verdict_of form_partition ≡ Some (LeftOut Partition 1) }
+    ensures compression { verdict_of form_compression ≡ Some (LeftOut Compression 0) }
+    ensures own_hash { verdict_of form_own_hash ≡ Some (LeftOut OwnHash 0) }
+    ensures extent { verdict_of form_extent ≡ Some (LeftOut Extent 0) }
+    ensures wrapped_queue { verdict_of form_wrapped_queue ≡ Some (LeftOut WrappedQueue 0) }
 {}

@@ -1,4 +1,4 @@
-ghost use Rattle.bdb_model.specs.Verdict.{faults_of};
+ghost use Rattle.bdb_format.specs.Verdict.{faults_of};
 ghost use Rattle.bdb_graph_samples.specs.Named.{fault};
 ghost use Rattle.bdb_graph_samples.specs.Ownership.{owner_no_owner, owner_no_owner_many, owner_too_many, owner_too_many_many, reach_unreached, reach_unreached_many};
 ghost use Rattle.std.specs.Prelude.{◌≡◌, [], ◌∷◌};

@@ -1,4 +1,4 @@
-ghost use Rattle.bdb_model.specs.Verdict.{faults_of};
+ghost use Rattle.bdb_format.specs.Verdict.{faults_of};
 ghost use Rattle.bdb_graph_samples.specs.Named.{fault};
 ghost use Rattle.bdb_graph_samples.specs.PageForms.{form_entry_count_one, form_index_room_one, form_item_extent_many, form_item_offset_many, form_item_type_one, form_level_many, form_overflow_room_many};
 ghost use Rattle.bdb_samples.specs.PageFaults.{form_entry_count, form_index_room, form_item_extent, form_item_offset, form_item_type, form_level, form_overflow_room};

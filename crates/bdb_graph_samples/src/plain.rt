@@ -1,6 +1,5 @@
-ghost use Rattle.bdb_model.specs.Verdict.{faults_of, verdict_of};
-ghost use Rattle.bdb_model.specs.declared.kinds.Unsupported.TheVariants.{LargePage, Version};
-ghost use Rattle.bdb_model.specs.declared.kinds.Verdict.TheVariants.{Fault, Unsupported};
+ghost use Rattle.bdb_format.specs.Verdict.{Faulty, LeftOut, faults_of, verdict_of};
+ghost use Rattle.bdb_format.specs.declared.kinds.Unsupported.TheVariants.{LargePage, Version};
 ghost use Rattle.bdb_graph_samples.specs.Named.{fault};
 ghost use Rattle.bdb_graph_samples.specs.Worked.{empty_queue_big};
 ghost use Rattle.bdb_samples.specs.Formed.{formed_btree_big, formed_btree_little, formed_hash_big, formed_hash_free_big, formed_hash_little, formed_queue_big, formed_queue_little, formed_sets_big};
@@ -19,15 +18,15 @@ pub fn cut()
     ensures nothing { faults_of [] ≡ fault 1 0 1 ∷ [] }
     ensures ragged { faults_of (take 1023 one_pair) ≡ fault 1 0 10 ∷ [] }
     ensures half { faults_of (take 512 one_pair) ≡ fault 1 0 11 ∷ [] }
-    ensures verdict { verdict_of (take 512 one_pair) ≡ Some (Fault (fault 1 0 11)) }
+    ensures verdict { verdict_of (take 512 one_pair) ≡ Some (Faulty (fault 1 0 11)) }
 {}
 
 /// The file with another version or page size.
 pub fn unsupported()
     ensures other_version { faults_of other_version ≡ fault 1 0 4 ∷ [] }
-    ensures other_version_named { verdict_of other_version ≡ Some (Unsupported Version 0) }
+    ensures other_version_named { verdict_of other_version ≡ Some (LeftOut Version 0) }
     ensures large_page { faults_of large_page ≡ fault 1 0 6 ∷ [] }
-    ensures large_page_named { verdict_of large_page ≡ Some (Unsupported LargePage 0) }
+    ensures large_page_named { verdict_of large_page ≡ Some (LeftOut LargePage 0) }
 {}
 
 /// Sound btree files: a leaf alone; a chain and an empty sorted set; a set that is a recno tree.

@@ -1,4 +1,4 @@
-ghost use Rattle.bdb_model.specs.Verdict.{faults_of};
+ghost use Rattle.bdb_format.specs.Verdict.{faults_of};
 ghost use Rattle.bdb_graph_samples.specs.Named.{fault};
 ghost use Rattle.bdb_graph_samples.specs.References.{reference_out_of_range, reference_out_of_range_many, reference_wrong_back, reference_wrong_back_many, reference_wrong_kind, reference_wrong_kind_many, reference_wrong_level_many};
 ghost use Rattle.bdb_samples.specs.Formed.{formed_internal_little};

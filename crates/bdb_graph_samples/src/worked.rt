@@ -1,4 +1,4 @@
-ghost use Rattle.bdb_model.specs.Verdict.{faults_of};
+ghost use Rattle.bdb_format.specs.Verdict.{faults_of};
 ghost use Rattle.bdb_graph_samples.specs.Named.{fault};
 ghost use Rattle.bdb_graph_samples.specs.Worked.{child_named_twice, ring_of_overflow_pages, shared_chain, shared_chain_counted_once, small_hash_table};
 ghost use Rattle.std.specs.Prelude.{◌≡◌, [], ◌∷◌};

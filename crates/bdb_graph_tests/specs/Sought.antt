@@ -1,9 +1,9 @@
 -- What the test of a descent says of an item: an inline key is above the sought one.
 use Rattle.std.specs.Prelude.{ℕ, ◌<◌, Bool, false, List}
-use Rattle.bdb_model.specs.File.{File, page_at}
+use Rattle.bdb_format.specs.File.{File, page_at}
 use Rattle.bdb_tree.specs.Descent.{IsMonotone}
-use Rattle.bdb_model.specs.Less.{less}
-use Rattle.bdb_model.specs.Page.{InternalItem, Page, Internal, Content, Inline}
+use Rattle.bdb_format.specs.Less.{less}
+use Rattle.bdb_format.specs.Page.{InternalItem, Page, Internal, Content, Inline}
 
 abbrev pub is_above : List ℕ → Content → Bool
 is_above key (Inline bytes) = less key bytes

@@ -1,20 +1,20 @@
-//! Descents in a tree of three levels. Keys: docs/FORMAT.md, "Internal items" and "Order of keys".
+//! Descents in a tree of three levels. Keys: docs/FORMAT.md, "Internal items (type 3)" and "Order of keys".
 
 ghost use Rattle.std.specs.Prelude.{◌≡◌, ◌+◌, ◌≤◌, ◌<◌, ◌∷◌, [], IsTrue};
 ghost use Rattle.std.specs.Bool.{OnTrue};
 ghost use Rattle.bdb_form.specs.Seen.{page_seen};
 ghost use Rattle.bdb_graph.specs.Linked.{FitsTreeRoot};
 ghost use Rattle.bdb_graph_tests.specs.Sought.{AllFit, IsFit, is_above};
-ghost use Rattle.bdb_model.specs.File.{file_of, page_at, type_in};
-ghost use Rattle.bdb_model.specs.Less.{less};
-ghost use Rattle.bdb_model.specs.References.{has_type};
+ghost use Rattle.bdb_format.specs.File.{file_of, page_at, type_in};
+ghost use Rattle.bdb_format.specs.Less.{less};
+ghost use Rattle.bdb_format.specs.References.{has_type};
 ghost use Rattle.bdb_tree.specs.Descent.{IsMonotone};
 
 use crate::fields::{Field, write};
 use bdb_form::{InternalView, PageView};
+use bdb_format::{Order, Steps};
 use bdb_graph::{Linked, Meta, Ref, TreeRoot, link, open_image};
 use bdb_layout::{InternalItem, InternalKey, compare};
-use bdb_model::{Order, Steps};
 use bdb_tree::{Separate, descend_by};
 use std::alloc::Global;
 use std::cmp::Ordering;
@@ -134,7 +134,7 @@ impl<'a> Separate for Sought<'a> {
     }
 }
 
-#[tactic(auto, using(bdb_model::proofs::LessLemmas::not_less_same, bdb_model::proofs::LessLemmas::not_less_both))]
+#[tactic(auto, using(bdb_format::proofs::LessLemmas::not_less_same, bdb_format::proofs::LessLemmas::not_less_both))]
 fn is_less(a: &[u8], b: &[u8]) -> bool
     ensures { result ≡ less a.now b.now }
 {

@@ -3,8 +3,8 @@
 ghost use Rattle.std.specs.Prelude.{◌≡◌};
 
 use crate::fields::{BTREE, Field, write};
+use bdb_format::{Order, Steps};
 use bdb_graph::{References, Sort, open_image, references};
-use bdb_model::{Order, Steps};
 use std::alloc::Global;
 use std::marker::Brand;
 use std::sync::ledger::{Blank, Ledger};

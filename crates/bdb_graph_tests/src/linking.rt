@@ -3,8 +3,8 @@
 ghost use Rattle.std.specs.Prelude.{◌≡◌};
 
 use crate::fields::{Field, write};
+use bdb_format::{CheckError, Fault, Order, Steps};
 use bdb_graph::{link, open_image};
-use bdb_model::{CheckError, Fault, Order, Steps};
 use std::alloc::Global;
 use std::marker::Brand;
 use std::sync::ledger::{Blank, Ledger};

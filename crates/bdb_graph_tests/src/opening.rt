@@ -1,8 +1,8 @@
 //! The verdict of the first two stages. Values: docs/FORMAT.md, "Faults".
 
 use crate::fields::{BTREE, Field, LEAF, write};
+use bdb_format::{Fault, Order, Unsupported, Verdict};
 use bdb_graph::open_image;
-use bdb_model::{Fault, Order, Unsupported, Verdict};
 use std::alloc::Global;
 
 const SIZE: usize = 512;

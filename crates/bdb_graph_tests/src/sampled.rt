@@ -5,8 +5,8 @@ ghost use Rattle.std.specs.Prelude.{◌≡◌};
 use crate::structure_samples::{
     Piece, Sample, WRONG_LEAF, WRONG_LEAVES, WRONG_LENGTH, WRONG_LENGTH_AND_LINK, WRONG_LINK,
 };
+use bdb_format::{CheckError, Fault, Steps};
 use bdb_graph::{Linked, link, open_image};
-use bdb_model::{CheckError, Fault, Steps};
 use bdb_overflow::check_chains;
 use bdb_tree::check_trees;
 use std::alloc::Global;

@@ -1,11 +1,11 @@
-//! The leaves of trees: their types and their neighbours. Values: docs/FORMAT.md, "Stage 6".
+//! The leaves of trees: their types and their neighbours. Values: docs/FORMAT.md, "Stage 6, chains and trees".
 
 ghost use Rattle.std.specs.Prelude.{◌≡◌};
 
 use crate::fields::{Field, write};
 use bdb_form::PageView;
+use bdb_format::{CheckError, Fault, Order, Steps};
 use bdb_graph::{Linked, link, open_image};
-use bdb_model::{CheckError, Fault, Order, Steps};
 use bdb_tree::{check_trees, leaves_below, next_level};
 use std::alloc::Global;
 use std::marker::Brand;

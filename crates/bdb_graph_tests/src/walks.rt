@@ -2,12 +2,12 @@
 
 ghost use Rattle.std.specs.Prelude.{◌≡◌, [], IfSome, IsTrue};
 ghost use Rattle.bdb_graph.specs.Linked.{FitsTreeRoot};
-ghost use Rattle.bdb_model.specs.File.{file_of};
-ghost use Rattle.bdb_model.specs.Verdict.{structure_faults};
+ghost use Rattle.bdb_format.specs.File.{file_of};
+ghost use Rattle.bdb_format.specs.Verdict.{structure_faults};
 
 use crate::fields::{BTREE, Field, write};
+use bdb_format::{Order, Steps};
 use bdb_graph::{Linked, Meta, Ref, TreeRoot, link, open_image};
-use bdb_model::{Order, Steps};
 use bdb_overflow::check_chains;
 use bdb_tree::{check_trees, first_leaf, leaves};
 use std::alloc::Global;

@@ -2,47 +2,38 @@
 use Rattle.std.proofs.Common.{◌≡◌, ℕ, zero, suc, ◌+◌, ◌-◌, ◌/◌, ◌≤◌, ◌<◌, Bool, true, false, not, ◌&&◌, ◌||◌, cond, List, [], ◌∷◌, map, length, arith, refl, sym, ◌∙◌, ap, subst}
 use Rattle.std.specs.Prelude.{Some, ◌==◌, nat_lt}
 use Rattle.std.specs.List.{flat_map}
-use Rattle.std.proofs.lemmas.Bool.{eqb-false, ne_eqb, or_parts}
+use Rattle.std.proofs.lemmas.Bool.{eqb-false, ne_eqb, or_parts, not-false}
 use Rattle.std.proofs.lemmas.List.{length-map}
 use Rattle.std.proofs.lemmas.List.Elements.{Contains-append_right}
-use Rattle.bdb_model.specs.declared.metadata.FileKind.{FileKind}
-use Rattle.bdb_model.specs.declared.metadata.FileKind.TheVariants.{Queue}
-use Rattle.bdb_model.specs.declared.metadata.Head.{Head}
-use Rattle.bdb_model.specs.declared.metadata.HashMeta.{HashMeta}
-use Rattle.bdb_model.specs.declared.references.Sort.{Sort}
-use Rattle.bdb_model.specs.declared.references.Sort.TheVariants.{Bucket, HashNext}
-use Rattle.bdb_model.specs.Chains.{chain_in, next_of}
-use Rattle.bdb_model.specs.Contents.{bucket_pages, pair_at, pairs_of}
-use Rattle.bdb_model.specs.File.{File, file_of, header_in, page_at, type_in}
-use Rattle.bdb_model.specs.Graph.{Owner}
-use Rattle.bdb_model.specs.Hashing.{first_page}
-use Rattle.bdb_model.specs.HeadOf.{head_of}
-use Rattle.bdb_model.specs.Page.{BtreeFields, HashFields, QueueFields, Item, Listed, Page, Zero, Free, Meta, Hash, Internal, RecnoInternal, Leaf, RecnoLeaf, DupLeaf, Overflow, Queue as QueuePage, NoType}
-use Rattle.bdb_model.specs.References.{asked_by, content_names, fit_code, fit_rows, has_type, is_zero_page, names_of, refs, unless_zero}
-use Rattle.bdb_model.specs.Verdict.{structure_faults}
-use Rattle.bdb_model.proofs.GraphLemmas.{each_fits}
-use Rattle.bdb_model.proofs.MemberLemmas.{first_member, no_member}
-use Rattle.bdb_model.proofs.VerdictLemmas.{AllFail, none_is_first_row}
+use Rattle.bdb_format.specs.declared.metadata.FileKind.{FileKind}
+use Rattle.bdb_format.specs.declared.metadata.FileKind.TheVariants.{Queue}
+use Rattle.bdb_format.specs.declared.metadata.Head.{Head}
+use Rattle.bdb_format.specs.declared.metadata.HashMeta.{HashMeta}
+use Rattle.bdb_format.specs.declared.references.Sort.{Sort}
+use Rattle.bdb_format.specs.declared.references.Sort.TheVariants.{Bucket, HashNext}
+use Rattle.bdb_format.specs.Chains.{chain_in, next_of}
+use Rattle.bdb_format.specs.Contents.{bucket_pages, pair_at, pairs_of}
+use Rattle.bdb_format.specs.File.{File, file_of, header_in, page_at, type_in}
+use Rattle.bdb_format.specs.Graph.{Owner}
+use Rattle.bdb_format.specs.Hashing.{first_page}
+use Rattle.bdb_format.specs.HeadOf.{head_of}
+use Rattle.bdb_format.specs.Page.{BtreeFields, HashFields, QueueFields, Item, Listed, Page, Zero, Free, Meta, Hash, Internal, RecnoInternal, Leaf, RecnoLeaf, DupLeaf, Overflow, Queue as QueuePage, NoType}
+use Rattle.bdb_format.specs.References.{asked_by, fit_code, fit_rows, has_type, is_zero_page, refs, unless_zero, content_targets, contents_in, targets_of}
+use Rattle.bdb_format.specs.Verdict.{structure_faults, faults_in}
+use Rattle.bdb_format.proofs.GraphLemmas.{each_fits}
+use Rattle.bdb_format.proofs.MemberLemmas.{first_member, no_member}
+use Rattle.bdb_format.proofs.VerdictLemmas.{AllFail, none_is_first_row}
 use Rattle.bdb_graph.specs.Linked.{IsForest, IsTarget}
-use Rattle.bdb_graph.specs.Linking.{graph_faults}
 use Rattle.bdb_graph.proofs.ForestLemmas.{sound_graph}
-use Rattle.bdb_graph.proofs.LinkedLemmas.{of_all, target_inside}
+use Rattle.bdb_graph.proofs.LinkedLemmas.{target_inside}
 use Rattle.bdb_hash.specs.Told.{Told, is_of_bucket, left_on, page_told, pages_from, told}
 use Rattle.bdb_hash.specs.Views.{IsOnWay, IsTable}
 use Rattle.bdb_hash.proofs.PairLemmas.{page_names}
+use Rattle.bdb_format.proofs.ReferenceLemmas.{of_all, count_is}
+use Rattle.bdb_format.proofs.ChainLemmas.{chain_few}
+use Rattle.bdb_graph.proofs.TargetLemmas.{is_no_queue}
 
 -- Which pages a bucket has.
-
-no_names : (kind : FileKind) (p : ℕ) (page : Page) → kind ≡ Queue → names_of kind p page ≡ []
-no_names kind p page queue = ap (λ k. names_of k p page) queue
-
-no_refs : (file : File) (p : ℕ) → file.kind ≡ Queue → refs file p ≡ []
-unfolding refs
-no_refs file p queue = rw (no_names file.kind p (page_at file p) queue) refl
-
--- a file with a reference is no queue file
-pub is_no_queue : (file : File) (sort : Sort) (p : ℕ) → IsTarget file sort p → file.kind ≡ Queue → ⊥
-is_no_queue file sort p is queue = no_member (refs file is.owner.holder) is.owner.reference (no_refs file is.owner.holder queue) (of_all file is.owner is.held).1
 
 of_type : (page : Page) (or_zero : Bool) → (has_type (2 ∷ 13 ∷ []) (type_in page) || (or_zero && is_zero_page page)) ≡ true → is_of_bucket page ≡ true
 of_type Zero or_zero is = refl
@@ -72,12 +63,8 @@ of_type (QueuePage number records) false is = absurd cc
 of_type NoType true is = absurd cc
 of_type NoType false is = absurd cc
 
-not_not : (b : Bool) → not b ≡ false → b ≡ true
-not_not true is = refl
-not_not false is = absurd cc
-
 -- a target is none of the numbers that no page has
-pub target_some : (image : List ℕ) (sort : Sort) (p : ℕ) → graph_faults image ≡ [] → IsTarget (file_of image) sort p → p ≡ 0 → ⊥
+pub target_some : (image : List ℕ) (sort : Sort) (p : ℕ) → faults_in (3 ∷ 4 ∷ 5 ∷ []) image ≡ [] → IsTarget (file_of image) sort p → p ≡ 0 → ⊥
 unfolding fit_code
 target_some image sort p none is =
     let file : File = file_of image in
@@ -94,7 +81,7 @@ kind_as : (file : File) (holder p target : ℕ) (asker : Page) (sort one : Sort)
     → is_of_bucket (page_at file p) ≡ true
 kind_as file holder p target asker sort one or_zero same is types zeros fits =
     let asked : Bool → List ℕ → Page → Bool = λ z ts page. has_type ts (type_in page) || (z && is_zero_page page) in
-    let held : asked (asked_by holder asker one).or_zero (asked_by holder asker one).types (page_at file target) ≡ true = not_not _ fits in
+    let held : asked (asked_by holder asker one).or_zero (asked_by holder asker one).types (page_at file target) ≡ true = not-false _ fits in
     let by_sort : asked (asked_by holder asker sort).or_zero (asked_by holder asker sort).types (page_at file target) ≡ true =
     subst (λ s. asked (asked_by holder asker s).or_zero (asked_by holder asker s).types (page_at file target) ≡ true) same held in
     of_type (page_at file p) or_zero
@@ -102,7 +89,7 @@ kind_as file holder p target asker sort one or_zero same is types zeros fits =
     ∙ (ap (λ ts. asked or_zero ts (page_at file target)) (sym types)
     ∙ (ap (λ z. asked z (asked_by holder asker sort).types (page_at file target)) (sym zeros) ∙ by_sort)))
 
-target_kind : (image : List ℕ) (sort : Sort) (p : ℕ) (or_zero : Bool) → graph_faults image ≡ [] → IsTarget (file_of image) sort p
+target_kind : (image : List ℕ) (sort : Sort) (p : ℕ) (or_zero : Bool) → faults_in (3 ∷ 4 ∷ 5 ∷ []) image ≡ [] → IsTarget (file_of image) sort p
     → ((holder : ℕ) (page : Page) → (asked_by holder page sort).types ≡ 2 ∷ 13 ∷ []) → ((holder : ℕ) (page : Page) → (asked_by holder page sort).or_zero ≡ or_zero)
     → is_of_bucket (page_at (file_of image) p) ≡ true
 unfolding fit_code
@@ -129,7 +116,7 @@ after_hash image p page table low is = record {
   fits = λ some.
       let named : IsTarget (file_of image) HashNext page.header.next =
       page_names image p (Hash page) HashNext page.header.next table low is
-      (Contains-append_right (flat_map (λ (item : Item). content_names item.content) page.items) (unless_zero HashNext page.header.next) (HashNext, page.header.next)
+      (Contains-append_right (flat_map content_targets (contents_in (Hash page))) (unless_zero HashNext page.header.next) (HashNext, page.header.next)
       (rw (ne_eqb page.header.next 0 some) (first_member (HashNext, page.header.next) []))) in
       record { inside = target_inside image HashNext page.header.next table.forest.linked named; kind = target_kind image HashNext page.header.next false table.forest.linked named (λ holder other. refl) (λ holder other. refl) };
 }
@@ -192,19 +179,6 @@ first_page_left image (suc turns) p some turn =
     let file : File = file_of image in
     let less : suc turns - 1 ≡ turns = omega arith in
     rw (ne_eqb p 0 some, less) (ap (map (page_told image)) (pages_step turns file p))
-
-chain_few : (turns : ℕ) (file : File) (p : ℕ) → length (chain_in turns file p) ≤ turns
-unfolding chain_in
-chain_few zero file p = omega arith
-chain_few (suc turns) file p =
-    elim (next_of file p == 0) as (λ b. length (p ∷ elim b [ true ↦ [] | false ↦ chain_in turns file (next_of file p) ]) ≤ suc turns) [
-      | true ↦ omega arith
-      | false ↦ let few : length (chain_in turns file (next_of file p)) ≤ turns = chain_few turns file (next_of file p) in omega arith
-    ]
-
-count_is : (image : List ℕ) → (file_of image).count ≡ (head_of image).pages
-unfolding file_of
-count_is image = refl
 
 -- the pages from the first one of a bucket on are all of it
 pub all_pages : (image : List ℕ) (head : Head) (meta : HashMeta) (p b : ℕ) → IsForest image → head ≡ head_of image → IsTarget (file_of image) Bucket p → p ≡ first_page b meta.spares

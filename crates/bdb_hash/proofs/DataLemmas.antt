@@ -6,25 +6,23 @@ use Rattle.std.proofs.lemmas.List.{drop_all}
 use Rattle.std.proofs.lemmas.Option.{get_or_from_slice_get, slice_get_within}
 use Rattle.bdb_form.specs.declared.view.PageView.{PageView}
 use Rattle.bdb_form.specs.Seen.{page_seen}
-use Rattle.bdb_model.specs.Chains.{value_of}
-use Rattle.bdb_model.specs.Contents.{data_of, entries_in, live_values}
-use Rattle.bdb_model.specs.File.{File, file_of, page_at}
-use Rattle.bdb_model.specs.Page.{Chain, Tree, Item, Page, RecnoLeaf, DupLeaf}
-use Rattle.bdb_model.specs.References.{content_names}
-use Rattle.bdb_model.proofs.MemberLemmas.{first_member, in_flat_map, later_member, no_member}
+use Rattle.bdb_format.specs.Chains.{value_of}
+use Rattle.bdb_format.specs.Contents.{data_of, entries_in, live_values}
+use Rattle.bdb_format.specs.File.{File, file_of, page_at}
+use Rattle.bdb_format.specs.Page.{Chain, Tree, Item, Page, RecnoLeaf, DupLeaf}
+use Rattle.bdb_format.proofs.ListLemmas.{member_of}
+use Rattle.bdb_format.proofs.MemberLemmas.{first_member, in_map, later_member, no_member}
 use Rattle.bdb_hash.specs.declared.entries.EntryPage.{EntryPage}
 use Rattle.bdb_graph.specs.Linked.{FitsDupRoot}
-use Rattle.bdb_model.specs.Leaves.{leaves}
+use Rattle.bdb_format.specs.Leaves.{leaves}
+use Rattle.bdb_format.proofs.TargetLemmas.{held_named}
 use Rattle.bdb_tree.proofs.TreeLemmas.{leaf_low, root_is_tree}
 use Rattle.bdb_hash.specs.Data.{AreEntries, AreInside, AreLeft, IsWalked, entries_shown, leaf_values, live_items, values_of}
 use Rattle.bdb_overflow.specs.Datum.{FitsContent, single_value}
 use Rattle.bdb_hash.specs.Views.{IsTable}
-use Rattle.bdb_hash.proofs.PairLemmas.{content_fits, is_there as is_member, page_names}
+use Rattle.bdb_hash.proofs.PairLemmas.{content_fits, page_names}
 
 -- The live entries of a page.
-
-pub is_there : (items : List Item) (i : ℕ) (item : Item) → slice_get items i ≡ Some item → Contains items item
-is_there items i item at = is_member items i item at
 
 from_here : (items : List Item) (i : ℕ) (item : Item) → slice_get items i ≡ Some item → drop i items ≡ item ∷ drop (i + 1) items
 from_here items i item at =
@@ -57,11 +55,11 @@ entries_fit : (image : List ℕ) (p : ℕ) (page : Page) → IsTable image → p
 entries_fit image p (RecnoLeaf page) table low is item at =
     content_fits (file_of image) item.content (λ sort target named.
     page_names image p (RecnoLeaf page) sort target table low is
-    (in_flat_map (λ (one : Item). content_names one.content) page.items item (sort, target) at named))
+    (held_named p (RecnoLeaf page) item.content (sort, target) (in_map (λ (one : Item). one.content) page.items item at) named))
 entries_fit image p (DupLeaf page) table low is item at =
     content_fits (file_of image) item.content (λ sort target named.
     page_names image p (DupLeaf page) sort target table low is
-    (in_flat_map (λ (one : Item). content_names one.content) page.items item (sort, target) at named))
+    (held_named p (DupLeaf page) item.content (sort, target) (in_map (λ (one : Item). one.content) page.items item at) named))
 entries_fit image p page table low is item at = absurd (no_member [] item refl at)
 
 pub are_entries : (image : List ℕ) (p : ℕ) (view : PageView) (page : EntryPage) → IsTable image → p ≤ (file_of image).last → page_seen view ≡ page_at (file_of image) p → entries_shown page ≡ entries_in (page_seen view)

@@ -1,28 +1,30 @@
 -- The least of the faults that were noted is the first fault of a table's contents.
-use Rattle.std.proofs.Common.{◌≡◌, ◌⊎◌, ℕ, ◌+◌, ◌≤◌, Bool, true, false, cond, List, [], ◌∷◌, ◌++◌, map, arith, refl, sym, ◌∙◌, ap, subst, inl, inr}
+use Rattle.std.proofs.Common.{◌≡◌, ◌⊎◌, ℕ, ◌+◌, ◌≤◌, List, [], ◌∷◌, ◌++◌, map, arith, refl, sym, ◌∙◌, ap, subst, inl, inr}
 use Rattle.std.specs.Prelude.{Option, Some, None}
-use Rattle.std.specs.List.{Contains, flat_map, fold, list_any, range_with_len}
+use Rattle.std.specs.List.{Contains, flat_map, fold, range_with_len}
 use Rattle.std.specs.Option.{option_map}
-use Rattle.std.specs.Str.{bytes_eq}
 use Rattle.std.proofs.lemmas.List.{map-append}
 use Rattle.bdb_graph.specs.Linked.{HasMetadata}
-use Rattle.bdb_graph.specs.Linking.{first_fault}
-use Rattle.bdb_model.specs.declared.kinds.Fault.{Fault}
-use Rattle.bdb_model.specs.declared.metadata.HashMeta.{HashMeta}
-use Rattle.bdb_model.specs.ContentRows.{contents_faults, contents_rows, hash_contents, repeated_after}
-use Rattle.bdb_model.specs.Contents.{StoredPair, bucket_pages, bucket_pairs, pairs_of, table_pairs}
-use Rattle.bdb_model.specs.File.{File, file_of}
-use Rattle.bdb_model.specs.Page.{HashFields}
-use Rattle.bdb_model.specs.Table.{first_row}
-use Rattle.bdb_model.specs.Verdict.{holding}
-use Rattle.bdb_model.proofs.MemberLemmas.{first_member, in_map, later_member, member_cases, no_member, of_flat_map, of_map, of_range}
-use Rattle.bdb_model.proofs.VerdictLemmas.{ComesFirst, FirstComesFirst, IsOfStage, LeastFirst, by_page_first, holding_least, in_by_page, of_by_page}
+use Rattle.bdb_format.specs.ByPage.{ComesFirst}
+use Rattle.bdb_format.specs.declared.kinds.Fault.{Fault}
+use Rattle.bdb_format.specs.declared.metadata.HashMeta.{HashMeta}
+use Rattle.bdb_format.specs.ContentRows.{database_faults, database_rows, hash_contents, repeated}
+use Rattle.bdb_format.specs.Contents.{StoredPair, bucket_pages, bucket_pairs, pairs_of, table_pairs}
+use Rattle.bdb_format.specs.File.{File, file_of}
+use Rattle.bdb_format.specs.Page.{HashFields}
+use Rattle.bdb_format.specs.Table.{first_row}
+use Rattle.bdb_format.specs.Verdict.{holding, first_fault}
+use Rattle.bdb_format.proofs.MemberLemmas.{first_member, in_map, no_member, of_flat_map, of_map, of_range}
+use Rattle.bdb_format.proofs.VerdictLemmas.{FirstComesFirst, IsOfStage, LeastFirst, by_page_first, holding_least, in_by_page, of_by_page}
+use Rattle.bdb_format.proofs.RepeatLemmas.{of_repeated}
 use Rattle.bdb_hash.specs.Notes.{fault_at, note_bucket, note_repeat, pair_fault, pair_rows, stored}
 use Rattle.bdb_hash.specs.Told.{Told, bucket_told, joined_pages, page_told, table_told, told}
 use Rattle.bdb_hash.specs.Views.{IsTable}
-use Rattle.bdb_hash.proofs.LeastLemmas.{Given, GivenBy, IsLeast, first_through, least_given, least_given_by}
+use Rattle.bdb_hash.proofs.LeastLemmas.{Given, GivenBy, IsLeast, least_given, least_given_by}
 use Rattle.bdb_hash.proofs.PlainLemmas.{IsPlain, bucket_plain}
 use Rattle.bdb_hash.proofs.RowLemmas.{ArePlain, buckets_of, page_holds, page_table, pair_holds, repeat_holds, repeat_row, rows_are, tests_of, tests_rise}
+use Rattle.bdb_format.proofs.FaultLemmas.{comes_through}
+use Rattle.bdb_graph.proofs.LinkingLemmas.{no_first_fault}
 
 -- Told pairs.
 
@@ -76,25 +78,11 @@ table_plain image meta table has pair at =
     let found = in_table image meta pair at in
     bucket_plain image meta found.0 pair table has (few_buckets meta found.0 found.1) found.2
 
-repeat_step : (has : Bool) (pair other : StoredPair) (earlier' pairs : List StoredPair) → Contains (cond has (pair ∷ repeated_after (pair ∷ earlier') pairs) (repeated_after (pair ∷ earlier') pairs)) other
-    → (pair ≡ other) ⊎ Contains (repeated_after (pair ∷ earlier') pairs) other
-repeat_step true pair other earlier' pairs at = member_cases pair (repeated_after (pair ∷ earlier') pairs) other at
-repeat_step false pair other earlier' pairs at = inr at
-
--- a pair that repeats a key is one of the pairs
-pub of_repeated : (earlier' pairs : List StoredPair) (pair : StoredPair) → Contains (repeated_after earlier' pairs) pair → Contains pairs pair
-of_repeated earlier' [] pair at = absurd (no_member [] pair refl at)
-of_repeated earlier' (one ∷ pairs) pair at =
-    elim (repeat_step (list_any (λ (other : StoredPair). bytes_eq other.key one.key) earlier') one pair earlier' pairs at) [
-      | inl same ↦ subst (Contains (one ∷ pairs)) same (first_member one pairs)
-      | inr later ↦ later_member one pairs pair (of_repeated (one ∷ earlier') pairs pair later)
-    ]
-
 -- The least fault of a table, noted pair by pair.
 
 abbrev pub least_noted : List ℕ → HashMeta → Option Fault
 least_noted image meta =
-    fold note_repeat (fold (note_bucket image meta) None (range_with_len 0 (meta.max_bucket + 1))) (repeated_after [] (stored (table_told image meta)))
+    fold note_repeat (fold (note_bucket image meta) None (range_with_len 0 (meta.max_bucket + 1))) (repeated (stored (table_told image meta)))
 
 abbrev told_fault : HashMeta → ℕ → Told → Option Fault
 told_fault meta b t = pair_fault (file_of t.image) meta b t.pair
@@ -108,11 +96,13 @@ Nothing fault = ⊥
 -- a fault that was noted
 abbrev IsNotedFault : List ℕ → HashMeta → Fault → Type 0
 IsNotedFault image meta fault =
-    (Nothing fault ⊎ GivenBy (told_fault meta) (bucket_told image meta) (buckets_of meta) fault) ⊎ Given repeat_fault (repeated_after [] (stored (table_told image meta))) fault
+    (Nothing fault ⊎ GivenBy (told_fault meta) (bucket_told image meta) (buckets_of meta) fault)
+    ⊎ Given repeat_fault (repeated (stored (table_told image meta))) fault
 
 noted_least : (image : List ℕ) (meta : HashMeta) → IsLeast (IsNotedFault image meta) (least_noted image meta)
 noted_least image meta =
-    least_given repeat_fault (repeated_after [] (stored (table_told image meta))) (λ fault. Nothing fault ⊎ GivenBy (told_fault meta) (bucket_told image meta) (buckets_of meta) fault)
+    least_given repeat_fault (repeated (stored (table_told image meta)))
+    (λ fault. Nothing fault ⊎ GivenBy (told_fault meta) (bucket_told image meta) (buckets_of meta) fault)
     (fold (note_bucket image meta) None (buckets_of meta))
     (least_given_by (told_fault meta) (bucket_told image meta) (buckets_of meta) Nothing None (λ fault none. none))
 
@@ -123,17 +113,18 @@ some_code page (Some c) fault same = (c, refl, cc)
 -- what holds at a page
 codes_are : (image : List ℕ) (meta : HashMeta) (p : ℕ) → IsTable image → HasMetadata (file_of image) (HashFields meta)
     → holding (hash_contents (file_of image) meta p)
-    ≡ holding (page_table (bucket_pairs (file_of image) meta) (buckets_of meta) (tests_of (file_of image) meta) p ++ (repeat_row (repeated_after [] (table_pairs (file_of image) meta)) p ∷ []))
+    ≡ holding (page_table (bucket_pairs (file_of image) meta) (buckets_of meta) (tests_of (file_of image) meta) p
+    ++ (repeat_row (repeated (table_pairs (file_of image) meta)) p ∷ []))
 codes_are image meta p table has = ap holding (rows_are (file_of image) meta p (table_plain image meta table has))
 
 in_faults : (image : List ℕ) (meta : HashMeta) (page code : ℕ) → page ≤ (file_of image).last → Contains (holding (hash_contents (file_of image) meta page)) code
-    → Contains (contents_faults (file_of image) (HashFields meta)) (fault_at page code)
-unfolding contents_faults
-in_faults image meta page code low at = in_by_page 8 0 ((file_of image).last + 1) page code (λ p. holding (contents_rows (file_of image) (HashFields meta) p)) (omega arith) (omega arith) at
+    → Contains (database_faults (file_of image) (HashFields meta)) (fault_at page code)
+unfolding database_faults
+in_faults image meta page code low at = in_by_page 8 0 ((file_of image).last + 1) page code (λ p. holding (database_rows (file_of image) (HashFields meta) p)) (omega arith) (omega arith) at
 
 -- a fault that was noted is one of the table's
 noted_is : (image : List ℕ) (meta : HashMeta) (fault : Fault) → IsTable image → HasMetadata (file_of image) (HashFields meta) → IsNotedFault image meta fault
-    → Contains (contents_faults (file_of image) (HashFields meta)) fault
+    → Contains (database_faults (file_of image) (HashFields meta)) fault
 noted_is image meta fault table has (inl (inl none)) = absurd none
 noted_is image meta fault table has (inl (inr (b, listed, (t, held, given)))) =
     let file : File = file_of image in
@@ -141,19 +132,19 @@ noted_is image meta fault table has (inl (inr (b, listed, (t, held, given)))) =
     let plain : IsPlain file pair.0 = bucket_plain image meta b pair.0 table has (few_buckets meta b listed) pair.1 in
     let code : (c : ℕ) × (first_row (pair_rows file meta b pair.0) ≡ Some c) × (fault_at pair.0.page c ≡ fault) =
     some_code pair.0.page (first_row (pair_rows file meta b pair.0)) fault (ap (told_fault meta b) pair.2 ∙ given) in
-    subst (Contains (contents_faults file (HashFields meta))) code.2
+    subst (Contains (database_faults file (HashFields meta))) code.2
     (in_faults image meta pair.0.page code.0 plain.inside
     (subst (λ codes. Contains codes code.0) (sym (codes_are image meta pair.0.page table has))
-    (pair_holds (bucket_pairs file meta) (buckets_of meta) (tests_of file meta) (repeated_after [] (table_pairs file meta)) b pair.0 code.0 listed pair.1 code.1)))
+    (pair_holds (bucket_pairs file meta) (buckets_of meta) (tests_of file meta) (repeated (table_pairs file meta)) b pair.0 code.0 listed pair.1 code.1)))
 noted_is image meta fault table has (inr (pair, held, given)) =
     let file : File = file_of image in
-    let repeated : Contains (repeated_after [] (table_pairs file meta)) pair = subst (λ ps. Contains (repeated_after [] ps) pair) (table_stored image meta) held in
-    let plain : IsPlain file pair = table_plain image meta table has pair (of_repeated [] (table_pairs file meta) pair repeated) in
+    let again : Contains (repeated (table_pairs file meta)) pair = subst (λ ps. Contains (repeated ps) pair) (table_stored image meta) held in
+    let plain : IsPlain file pair = table_plain image meta table has pair (of_repeated (table_pairs file meta) pair again) in
     let same : fault_at pair.page 9 ≡ fault = cc in
-    subst (Contains (contents_faults file (HashFields meta))) same
+    subst (Contains (database_faults file (HashFields meta))) same
     (in_faults image meta pair.page 9 plain.inside
     (subst (λ codes. Contains codes 9) (sym (codes_are image meta pair.page table has))
-    (repeat_holds (bucket_pairs file meta) (buckets_of meta) (tests_of file meta) (repeated_after [] (table_pairs file meta)) pair repeated)))
+    (repeat_holds (bucket_pairs file meta) (buckets_of meta) (tests_of file meta) (repeated (table_pairs file meta)) pair again)))
 
 record IsCovered (image : List ℕ) (meta : HashMeta) (fault : Fault) : Type 0 where
   noted : Fault
@@ -161,13 +152,14 @@ record IsCovered (image : List ℕ) (meta : HashMeta) (fault : Fault) : Type 0 w
   first : ComesFirst noted fault
 
 -- a fault of the table comes after one that was noted
-covered : (image : List ℕ) (meta : HashMeta) (fault : Fault) → IsTable image → HasMetadata (file_of image) (HashFields meta) → Contains (contents_faults (file_of image) (HashFields meta)) fault
+covered : (image : List ℕ) (meta : HashMeta) (fault : Fault) → IsTable image → HasMetadata (file_of image) (HashFields meta) → Contains (database_faults (file_of image) (HashFields meta)) fault
     → IsCovered image meta fault
-unfolding contents_faults
+unfolding database_faults
 covered image meta fault table has at =
     let file : File = file_of image in
-    let of : IsOfStage 8 0 (0 + (file.last + 1)) (λ p. holding (contents_rows file (HashFields meta) p)) fault = of_by_page 8 0 (file.last + 1) (λ p. holding (contents_rows file (HashFields meta) p)) fault at in
-    elim (page_holds (bucket_pairs file meta) (buckets_of meta) (tests_of file meta) (repeated_after [] (table_pairs file meta)) fault.page fault.code (tests_rise file meta)
+    let of : IsOfStage 8 0 (0 + (file.last + 1)) (λ p. holding (database_rows file (HashFields meta) p)) fault = of_by_page 8 0 (file.last + 1) (λ p. holding (database_rows file (HashFields meta) p)) fault at in
+    elim (page_holds (bucket_pairs file meta) (buckets_of meta) (tests_of file meta) (repeated (table_pairs file meta)) fault.page fault.code
+    (tests_rise file meta)
     (subst (λ codes. Contains codes fault.code) (codes_are image meta fault.page table has) of.is_code)) [
       | inl by ↦ record {
         noted = fault_at by.pair.page by.first;
@@ -176,7 +168,7 @@ covered image meta fault table has at =
       }
       | inr by ↦ record {
         noted = fault_at by.pair.page 9;
-        is = inr (by.pair, subst (λ ps. Contains (repeated_after [] ps) by.pair) (sym (table_stored image meta)) by.held, refl);
+        is = inr (by.pair, subst (λ ps. Contains (repeated ps) by.pair) (sym (table_stored image meta)) by.held, refl);
         first = inr (by.at, (let nine : fault.code ≡ 9 = by.nine in omega arith));
       }
     ]
@@ -205,38 +197,36 @@ first_is_least P (fault ∷ faults) (Some least) comes stage is has cover =
     let at : Contains (fault ∷ faults) least = has least is.0 in
     ap (λ f. Some f)
     (same_fault fault least (stage fault least (first_member fault faults) at)
-    (both_first fault least (comes fault faults least refl at) (first_through least noted.0 fault (is.1 noted.0 noted.1) noted.2)))
+    (both_first fault least (comes fault faults least refl at) (comes_through least noted.0 fault (is.1 noted.0 noted.1) noted.2)))
 
-contents_rise : (file : File) (meta : HashMeta) (p : ℕ) → LeastFirst (holding (contents_rows file (HashFields meta) p))
-contents_rise file meta p = holding_least 1 (contents_rows file (HashFields meta) p) (omega arith, (omega arith, (omega arith, (omega arith, (omega arith, tt)))))
+contents_rise : (file : File) (meta : HashMeta) (p : ℕ) → LeastFirst (holding (database_rows file (HashFields meta) p))
+contents_rise file meta p = holding_least 1 (database_rows file (HashFields meta) p) (omega arith, (omega arith, (omega arith, (omega arith, (omega arith, tt)))))
 
-contents_first : (file : File) (meta : HashMeta) → FirstComesFirst (contents_faults file (HashFields meta))
-unfolding contents_faults
-contents_first file meta = by_page_first 8 0 (file.last + 1) (λ p. holding (contents_rows file (HashFields meta) p)) (contents_rise file meta)
+contents_first : (file : File) (meta : HashMeta) → FirstComesFirst (database_faults file (HashFields meta))
+unfolding database_faults
+contents_first file meta = by_page_first 8 0 (file.last + 1) (λ p. holding (database_rows file (HashFields meta) p)) (contents_rise file meta)
 
-contents_stage : (file : File) (meta : HashMeta) (fault : Fault) → Contains (contents_faults file (HashFields meta)) fault → fault.stage ≡ 8
-unfolding contents_faults
-contents_stage file meta fault at = (of_by_page 8 0 (file.last + 1) (λ p. holding (contents_rows file (HashFields meta) p)) fault at).same_stage
+contents_stage : (file : File) (meta : HashMeta) (fault : Fault) → Contains (database_faults file (HashFields meta)) fault → fault.stage ≡ 8
+unfolding database_faults
+contents_stage file meta fault at = (of_by_page 8 0 (file.last + 1) (λ p. holding (database_rows file (HashFields meta) p)) fault at).same_stage
 
-pub least_is_first : (image : List ℕ) (meta : HashMeta) → IsTable image → HasMetadata (file_of image) (HashFields meta) → first_fault (contents_faults (file_of image) (HashFields meta)) ≡ least_noted image meta
+pub least_is_first : (image : List ℕ) (meta : HashMeta) → IsTable image → HasMetadata (file_of image) (HashFields meta) → first_fault (database_faults (file_of image) (HashFields meta)) ≡ least_noted image meta
 least_is_first image meta table has =
-    first_is_least (IsNotedFault image meta) (contents_faults (file_of image) (HashFields meta)) (least_noted image meta) (contents_first (file_of image) meta)
+    first_is_least (IsNotedFault image meta) (database_faults (file_of image) (HashFields meta)) (least_noted image meta) (contents_first (file_of image) meta)
     (λ a b at_a at_b. contents_stage (file_of image) meta a at_a ∙ sym (contents_stage (file_of image) meta b at_b)) (noted_least image meta)
     (λ fault noted. noted_is image meta fault table has noted) (λ fault at. let by : IsCovered image meta fault = covered image meta fault table has at in (by.noted, by.is, by.first))
 
-none_first : (faults : List Fault) → first_fault faults ≡ None → faults ≡ []
-none_first [] none = refl
-none_first (fault ∷ faults) none = absurd cc
-
 noted_first : (image : List ℕ) (meta : HashMeta) (least noted : Option Fault) → IsTable image → HasMetadata (file_of image) (HashFields meta) → least ≡ fold (note_bucket image meta) None (range_with_len 0 (meta.max_bucket + 1))
-    → noted ≡ fold note_repeat least (repeated_after [] (stored (table_told image meta))) → first_fault (contents_faults (file_of image) (HashFields meta)) ≡ noted
+    → noted ≡ fold note_repeat least (repeated (stored (table_told image meta))) → first_fault (database_faults (file_of image) (HashFields meta)) ≡ noted
 noted_first image meta least noted table has least_is noted_is =
-    least_is_first image meta table has ∙ (ap (λ (l : Option Fault). fold note_repeat l (repeated_after [] (stored (table_told image meta)))) (sym least_is) ∙ sym noted_is)
+    least_is_first image meta table has
+    ∙ (ap (λ (l : Option Fault). fold note_repeat l (repeated (stored (table_told image meta)))) (sym least_is) ∙ sym noted_is)
 
 pub no_fault : (image : List ℕ) (meta : HashMeta) (least : Option Fault) → IsTable image → HasMetadata (file_of image) (HashFields meta) → least ≡ fold (note_bucket image meta) None (range_with_len 0 (meta.max_bucket + 1))
-    → None ≡ fold note_repeat least (repeated_after [] (stored (table_told image meta))) → contents_faults (file_of image) (HashFields meta) ≡ []
-no_fault image meta least table has least_is none = none_first _ (noted_first image meta least None table has least_is none)
+    → None ≡ fold note_repeat least (repeated (stored (table_told image meta))) → database_faults (file_of image) (HashFields meta) ≡ []
+no_fault image meta least table has least_is none = no_first_fault _ (noted_first image meta least None table has least_is none)
 
 pub the_fault : (image : List ℕ) (meta : HashMeta) (least : Option Fault) (fault : Fault) → IsTable image → HasMetadata (file_of image) (HashFields meta) → least ≡ fold (note_bucket image meta) None (range_with_len 0 (meta.max_bucket + 1))
-    → Some fault ≡ fold note_repeat least (repeated_after [] (stored (table_told image meta))) → first_fault (contents_faults (file_of image) (HashFields meta)) ≡ Some fault
+    → Some fault ≡ fold note_repeat least (repeated (stored (table_told image meta)))
+    → first_fault (database_faults (file_of image) (HashFields meta)) ≡ Some fault
 the_fault image meta least fault table has least_is some = noted_first image meta least (Some fault) table has least_is some

@@ -8,8 +8,8 @@ use Rattle.std.specs.Str.{bytes_eq}
 use Rattle.std.proofs.lemmas.Slice.Eq.{bytes_eq-Decides}
 use Rattle.bdb_layout.specs.Seen.{OrderingIs}
 use Rattle.bdb_layout.proofs.KeyLemmas.{slice_cmp-is}
-use Rattle.bdb_model.specs.Less.{less, Less}
-use Rattle.bdb_model.proofs.LessLemmas.{not_less_both, not_less_same}
+use Rattle.bdb_format.specs.Less.{less, Less}
+use Rattle.bdb_format.proofs.LessLemmas.{not_less_both, not_less_same}
 
 pub not_true : (b : Bool) → (b ≡ true → ⊥) → b ≡ false
 not_true true none = absurd (none refl)

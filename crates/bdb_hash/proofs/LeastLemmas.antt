@@ -4,22 +4,15 @@ use Rattle.std.specs.Prelude.{Option, Some, None, ◌==◌, nat_lt}
 use Rattle.std.specs.List.{Contains, fold, list_any}
 use Rattle.std.proofs.lemmas.Bool.{and_parts, cases_order, eq-eqb, eqb-true, ltb-false, ltb-true, or_cases, or_parts, true≢false}
 use Rattle.bdb_hash.specs.Notes.{earlier, is_before}
-use Rattle.bdb_model.specs.declared.kinds.Fault.{Fault}
-use Rattle.bdb_model.specs.Table.{Row, first_row}
-use Rattle.bdb_model.specs.Verdict.{holding}
-use Rattle.bdb_model.proofs.MemberLemmas.{first_member, later_member, member_cases, no_member}
-use Rattle.bdb_model.proofs.VerdictLemmas.{ComesFirst, Rises}
+use Rattle.bdb_format.specs.ByPage.{ComesFirst}
+use Rattle.bdb_format.specs.declared.kinds.Fault.{Fault}
+use Rattle.bdb_format.specs.Table.{Row, first_row}
+use Rattle.bdb_format.specs.Verdict.{holding}
+use Rattle.bdb_format.proofs.MemberLemmas.{first_member, later_member, member_cases, no_member}
+use Rattle.bdb_format.proofs.VerdictLemmas.{Rises}
+use Rattle.bdb_format.proofs.FaultLemmas.{comes_through, comes_itself}
 
 -- The order of faults.
-
-pub first_self : (a : Fault) → ComesFirst a a
-first_self a = inr (refl, omega arith)
-
-pub first_through : (a b c : Fault) → ComesFirst a b → ComesFirst b c → ComesFirst a c
-first_through a b c (inl p) (inl q) = inl (omega arith)
-first_through a b c (inl p) (inr q) = inl (omega (arith, q.0))
-first_through a b c (inr p) (inl q) = inl (omega (arith, p.0))
-first_through a b c (inr p) (inr q) = inr (p.0 ∙ q.0, omega (arith, p.1, q.1))
 
 before_first : (a b : Fault) → is_before b a ≡ true → ComesFirst b a
 before_first a b is =
@@ -51,7 +44,7 @@ IsLeast P (Some least) = P least × ((fault : Fault) → P fault → ComesFirst 
 
 least_alone : (P : Fault → Type 0) (found : Option Fault) → ((fault : Fault) → P fault → found ≡ Some fault) → ((fault : Fault) → found ≡ Some fault → P fault) → IsLeast P found
 least_alone P None only has = λ fault p. (let none : None ≡ Some fault = only fault p in absurd cc)
-least_alone P (Some f) only has = (has f refl, λ fault p. (let some : Some f ≡ Some fault = only fault p in let same : f ≡ fault = cc in subst (ComesFirst f) same (first_self f)))
+least_alone P (Some f) only has = (has f refl, λ fault p. (let some : Some f ≡ Some fault = only fault p in let same : f ≡ fault = cc in subst (ComesFirst f) same (comes_itself f)))
 
 least_both : (P Q : Fault → Type 0) (a b : Option Fault) → IsLeast P a → IsLeast Q b → IsLeast (λ fault. P fault ⊎ Q fault) (earlier a b)
 least_both P Q None None p q = λ fault either. elim either [ inl here ↦ p fault here | inr there ↦ q fault there ]
@@ -59,8 +52,8 @@ least_both P Q None (Some b) p q = (inr q.0, λ fault either. elim either [ inl 
 least_both P Q (Some a) None p q = (inl p.0, λ fault either. elim either [ inl here ↦ p.1 fault here | inr there ↦ absurd (q fault there) ])
 least_both P Q (Some a) (Some b) p q =
     elim (is_before b a) as (λ t. is_before b a ≡ t → IsLeast (λ fault. P fault ⊎ Q fault) (cond t (Some b) (Some a))) [
-      | true ↦ λ is. (inr q.0, λ fault either. elim either [ inl here ↦ first_through b a fault (before_first a b is) (p.1 fault here) | inr there ↦ q.1 fault there ])
-      | false ↦ λ is. (inl p.0, λ fault either. elim either [ inl here ↦ p.1 fault here | inr there ↦ first_through a b fault (not_before_first a b is) (q.1 fault there) ])
+      | true ↦ λ is. (inr q.0, λ fault either. elim either [ inl here ↦ comes_through b a fault (before_first a b is) (p.1 fault here) | inr there ↦ q.1 fault there ])
+      | false ↦ λ is. (inl p.0, λ fault either. elim either [ inl here ↦ p.1 fault here | inr there ↦ comes_through a b fault (not_before_first a b is) (q.1 fault there) ])
     ] refl
 
 least_same : (P Q : Fault → Type 0) (found : Option Fault) → ((fault : Fault) → P fault → Q fault) → ((fault : Fault) → Q fault → P fault) → IsLeast P found → IsLeast Q found
@@ -122,26 +115,6 @@ least_given_by f g (y ∷ ys) P least is =
     (least_given_by f g ys (λ fault. P fault ⊎ Given (f y) (g y) fault) (fold (λ m x. earlier m (f y x)) least (g y)) (least_given (f y) (g y) P least is))
 
 -- Tests.
-
-pub any_has : {X : Type 0} (test : X → Bool) (xs : List X) → list_any test xs ≡ true → (x : X) × Contains xs x × (test x ≡ true)
-any_has test [] any = absurd cc
-any_has test (x ∷ xs) any =
-    elim (test x) as (λ b. test x ≡ b → (b || list_any test xs) ≡ true → (y : _) × Contains (x ∷ xs) y × (test y ≡ true)) [
-      | true ↦ λ passes _. (x, first_member x xs, passes)
-      | false ↦ λ fails rest. let found : (y : _) × Contains xs y × (test y ≡ true) = any_has test xs rest in (found.0, later_member x xs found.0 found.1, found.2)
-    ] refl any
-
-or_right : (a : Bool) → (a || true) ≡ true
-or_right true = refl
-or_right false = refl
-
-pub has_any : {X : Type 0} (test : X → Bool) (xs : List X) (x : X) → Contains xs x → test x ≡ true → list_any test xs ≡ true
-has_any test [] x at passes = absurd (no_member [] x refl at)
-has_any test (y ∷ ys) x at passes =
-    elim (member_cases y ys x at) [
-      | inl same ↦ ap (λ b. b || list_any test ys) (ap test same ∙ passes)
-      | inr later ↦ ap (λ b. test y || b) (has_any test ys x later passes) ∙ or_right (test y)
-    ]
 
 -- Rows.
 

@@ -9,25 +9,27 @@ use Rattle.std.proofs.lemmas.Grind.{flat_map-append}
 use Rattle.std.proofs.lemmas.List.{append-nil, map-append}
 use Rattle.std.proofs.lemmas.List.Elements.{Contains-append_left, filter-append}
 use Rattle.std.proofs.lemmas.List.Folds.{find-append}
-use Rattle.bdb_model.specs.declared.metadata.HashMeta.{HashMeta}
-use Rattle.bdb_model.specs.ContentRows.{bucket_of_key, contents_faults, contents_rows, hash_contents, repeated_after}
-use Rattle.bdb_model.specs.Contents.{StoredPair, bucket_pairs, data_of, table_pairs}
-use Rattle.bdb_model.specs.File.{File, file_of}
-use Rattle.bdb_model.specs.Less.{less, Less}
-use Rattle.bdb_model.specs.Lists.{ListKey, BytesKey, by_key, get, hash_list, insert_pair, is_key, listed_pair}
-use Rattle.bdb_model.specs.Page.{HashFields}
-use Rattle.bdb_model.specs.Verdict.{holding}
-use Rattle.bdb_model.proofs.LessLemmas.{not_less_same}
-use Rattle.bdb_model.proofs.MemberLemmas.{first_member, in_range, is_empty, later_member, member_cases, no_member, none_passes}
-use Rattle.bdb_model.proofs.VerdictLemmas.{AllFail, all_fail, no_codes_at}
+use Rattle.bdb_format.specs.declared.metadata.HashMeta.{HashMeta}
+use Rattle.bdb_format.specs.ContentRows.{bucket_of_key, database_faults, database_rows, hash_contents, repeated}
+use Rattle.bdb_format.specs.Contents.{StoredPair, bucket_pairs, data_of, table_pairs}
+use Rattle.bdb_format.specs.File.{File, file_of}
+use Rattle.bdb_format.specs.Less.{less, Less}
+use Rattle.bdb_format.specs.Lists.{ListKey, BytesKey, by_key, get, hash_list, insert_pair, is_key, listed_pair}
+use Rattle.bdb_format.specs.Page.{HashFields}
+use Rattle.bdb_format.specs.Verdict.{holding}
+use Rattle.bdb_format.proofs.LessLemmas.{not_less_same}
+use Rattle.bdb_format.proofs.MemberLemmas.{first_member, in_range, is_empty, later_member, member_cases, no_member, none_passes}
+use Rattle.bdb_format.proofs.VerdictLemmas.{AllFail, all_fail, no_codes_at}
+use Rattle.bdb_format.proofs.RepeatLemmas.{of_repeated, repeated_after, repeated_is}
 use Rattle.bdb_graph.specs.Linked.{HasMetadata}
 use Rattle.bdb_hash.specs.Told.{IsSought, Told, bucket_told, has_key, joined_pages, told}
 use Rattle.bdb_hash.specs.Views.{IsTable}
-use Rattle.bdb_hash.proofs.FaultLemmas.{bucket_is, few_buckets, of_repeated, table_plain}
+use Rattle.bdb_hash.proofs.FaultLemmas.{bucket_is, few_buckets, table_plain}
 use Rattle.bdb_hash.proofs.KeyLemmas.{eq_same, not_true}
-use Rattle.bdb_hash.proofs.LeastLemmas.{has_any}
 use Rattle.bdb_hash.proofs.PlainLemmas.{IsPlain, bucket_plain}
 use Rattle.bdb_hash.proofs.RowLemmas.{ArePlain, buckets_of}
+use Rattle.bdb_format.proofs.ListLemmas.{passes_here, flat_map_twice}
+use Rattle.bdb_format.proofs.BoolLemmas.{second_false}
 
 -- The walk over the pages of a bucket.
 
@@ -132,10 +134,6 @@ nothing_under file key [] other = refl
 nothing_under file key (pair ∷ pairs) other =
     ap (λ vs. vs ++ flat_map (under file key) pairs) (under_other file key pair (other pair (first_member pair pairs))) ∙ nothing_under file key pairs (λ one at. other one (later_member pair pairs one at))
 
-flat_flat : {X Y Z : Type 0} (f : Y → List Z) (g : X → List Y) (xs : List X) → flat_map f (flat_map g xs) ≡ flat_map (λ x. flat_map f (g x)) xs
-flat_flat f g [] = refl
-flat_flat f g (x ∷ xs) = flat_map-append f (g x) (flat_map g xs) ∙ ap (λ zs. flat_map f (g x) ++ zs) (flat_flat f g xs)
-
 none_of_range : {X : Type 0} (f : ℕ → List X) (a n : ℕ) → ((c : ℕ) → a ≤ c → c < a + n → f c ≡ []) → flat_map f (range_with_len a n) ≡ []
 none_of_range f a zero none = refl
 none_of_range f a (suc n) none = ap (λ xs. xs ++ flat_map f (range_with_len (a + 1) n)) (none a (omega arith) (omega arith)) ∙ none_of_range f (a + 1) n (λ c low high. none c (omega arith) (omega arith))
@@ -154,17 +152,13 @@ one_of_range f a (suc n) b low high none =
 
 -- No row of the table holds.
 
-all_fail_at : (image : List ℕ) (meta : HashMeta) (p : ℕ) → contents_faults (file_of image) (HashFields meta) ≡ [] → p ≤ (file_of image).last → AllFail (hash_contents (file_of image) meta p)
-unfolding contents_faults
+all_fail_at : (image : List ℕ) (meta : HashMeta) (p : ℕ) → database_faults (file_of image) (HashFields meta) ≡ [] → p ≤ (file_of image).last → AllFail (hash_contents (file_of image) meta p)
+unfolding database_faults
 all_fail_at image meta p none low =
-    all_fail (hash_contents (file_of image) meta p) (no_codes_at 8 0 ((file_of image).last + 1) p (λ q. holding (contents_rows (file_of image) (HashFields meta) q)) none (omega arith) (omega arith))
-
-and_true : (a b : Bool) → a ≡ true → (a && b) ≡ false → b ≡ false
-and_true true b is none = none
-and_true false b is none = absurd cc
+    all_fail (hash_contents (file_of image) meta p) (no_codes_at 8 0 ((file_of image).last + 1) p (λ q. holding (database_rows (file_of image) (HashFields meta) q)) none (omega arith) (omega arith))
 
 -- each key is in its own bucket
-own_bucket : (image : List ℕ) (meta : HashMeta) (b : ℕ) (pair : StoredPair) → IsTable image → HasMetadata (file_of image) (HashFields meta) → contents_faults (file_of image) (HashFields meta) ≡ []
+own_bucket : (image : List ℕ) (meta : HashMeta) (b : ℕ) (pair : StoredPair) → IsTable image → HasMetadata (file_of image) (HashFields meta) → database_faults (file_of image) (HashFields meta) ≡ []
     → Contains (buckets_of meta) b → Contains (bucket_pairs (file_of image) meta b) pair → bucket_of_key meta pair.key ≡ b
 own_bucket image meta b pair table has none listed held =
     let file : File = file_of image in
@@ -175,18 +169,18 @@ own_bucket image meta b pair table has none listed held =
     let passes : (pair.page == pair.page && not (bucket_of_key meta pair.key == b)) ≡ false =
     none_passes (λ (one : StoredPair). one.page == pair.page && not (bucket_of_key meta one.key == b)) (bucket_pairs file meta b) pair bucket held in
     eqb-true (bucket_of_key meta pair.key) b
-    (not-false (bucket_of_key meta pair.key == b) (and_true (pair.page == pair.page) (not (bucket_of_key meta pair.key == b)) (eq-eqb pair.page pair.page refl) passes))
+    (not-false (bucket_of_key meta pair.key == b) (second_false (pair.page == pair.page) (not (bucket_of_key meta pair.key == b)) (eq-eqb pair.page pair.page refl) passes))
 
 -- no key repeats
-pub none_repeats : (image : List ℕ) (meta : HashMeta) → IsTable image → HasMetadata (file_of image) (HashFields meta) → contents_faults (file_of image) (HashFields meta) ≡ []
-    → repeated_after [] (table_pairs (file_of image) meta) ≡ []
+pub none_repeats : (image : List ℕ) (meta : HashMeta) → IsTable image → HasMetadata (file_of image) (HashFields meta) → database_faults (file_of image) (HashFields meta) ≡ []
+    → repeated (table_pairs (file_of image) meta) ≡ []
 none_repeats image meta table has none =
     let file : File = file_of image in
-    let repeated : List StoredPair = repeated_after [] (table_pairs file meta) in
-    is_empty repeated (λ pair at.
-    let plain : IsPlain file pair = table_plain image meta table has pair (of_repeated [] (table_pairs file meta) pair at) in
+    let again : List StoredPair = repeated (table_pairs file meta) in
+    is_empty again (λ pair at.
+    let plain : IsPlain file pair = table_plain image meta table has pair (of_repeated (table_pairs file meta) pair at) in
     let fail : AllFail (hash_contents file meta pair.page) = all_fail_at image meta pair.page none plain.inside in
-    true≢false (sym (has_any (λ (one : StoredPair). one.page == pair.page) repeated pair at (eq-eqb pair.page pair.page refl)) ∙ fail.1.1.1.1.0))
+    true≢false (sym (passes_here (λ (one : StoredPair). one.page == pair.page) again pair at (eq-eqb pair.page pair.page refl)) ∙ fail.1.1.1.1.0))
 
 -- each pair has another key than those after it
 abbrev pub AreApart : List StoredPair → Type 0
@@ -218,8 +212,9 @@ new_where_none earlier (pair ∷ pairs) none =
     }
 
 -- the keys of a table are apart
-pub table_apart : (image : List ℕ) (meta : HashMeta) → IsTable image → HasMetadata (file_of image) (HashFields meta) → contents_faults (file_of image) (HashFields meta) ≡ [] → AreApart (table_pairs (file_of image) meta)
-table_apart image meta table has none = (new_where_none [] (table_pairs (file_of image) meta) (none_repeats image meta table has none)).apart
+pub table_apart : (image : List ℕ) (meta : HashMeta) → IsTable image → HasMetadata (file_of image) (HashFields meta) → database_faults (file_of image) (HashFields meta) ≡ [] → AreApart (table_pairs (file_of image) meta)
+table_apart image meta table has none =
+    (new_where_none [] (table_pairs (file_of image) meta) (sym (repeated_is (table_pairs (file_of image) meta)) ∙ none_repeats image meta table has none)).apart
 
 apart_parts : (xs ys : List StoredPair) → AreApart (xs ++ ys) → AreApart xs × AreApart ys
 apart_parts [] ys apart = (tt, apart)
@@ -233,7 +228,7 @@ apart_part f (y ∷ ys) x apart at =
     let parts : AreApart (f y) × AreApart (flat_map f ys) = apart_parts (f y) (flat_map f ys) apart in
     elim (member_cases y ys x at) [ inl same ↦ subst (λ z. AreApart (f z)) same parts.0 | inr later ↦ apart_part f ys x parts.1 later ]
 
-bucket_apart : (image : List ℕ) (meta : HashMeta) (b : ℕ) → IsTable image → HasMetadata (file_of image) (HashFields meta) → contents_faults (file_of image) (HashFields meta) ≡ []
+bucket_apart : (image : List ℕ) (meta : HashMeta) (b : ℕ) → IsTable image → HasMetadata (file_of image) (HashFields meta) → database_faults (file_of image) (HashFields meta) ≡ []
     → Contains (buckets_of meta) b → AreApart (bucket_pairs (file_of image) meta b)
 unfolding table_pairs
 bucket_apart image meta b table has none listed = apart_part (bucket_pairs (file_of image) meta) (buckets_of meta) b (table_apart image meta table has none) listed
@@ -260,7 +255,7 @@ first_under file key (pair ∷ pairs) plain apart =
     ] refl
 
 -- what is listed under a key is in the key's bucket
-list_in_bucket : (image : List ℕ) (meta : HashMeta) (key : List ℕ) → IsTable image → HasMetadata (file_of image) (HashFields meta) → contents_faults (file_of image) (HashFields meta) ≡ []
+list_in_bucket : (image : List ℕ) (meta : HashMeta) (key : List ℕ) → IsTable image → HasMetadata (file_of image) (HashFields meta) → database_faults (file_of image) (HashFields meta) ≡ []
     → bucket_of_key meta key ≤ meta.max_bucket
     → get (hash_list (file_of image) meta) (BytesKey key) ≡ data_found (file_of image) (find (λ (pair : StoredPair). bytes_eq pair.key key) (bucket_pairs (file_of image) meta (bucket_of_key meta key)))
 unfolding table_pairs
@@ -269,11 +264,11 @@ list_in_bucket image meta key table has none few =
     let b : ℕ = bucket_of_key meta key in
     let listed : Contains (buckets_of meta) b = in_range 0 (meta.max_bucket + 1) b (omega arith) (omega arith) in
     list_under file meta key
-    ∙ (flat_flat (under file key) (bucket_pairs file meta) (buckets_of meta)
+    ∙ (flat_map_twice (under file key) (bucket_pairs file meta) (buckets_of meta)
     ∙ (one_of_range (λ c. flat_map (under file key) (bucket_pairs file meta c)) 0 (meta.max_bucket + 1) b (omega arith) (omega arith) (λ c low high apart. other_bucket image meta key c table has none (in_range 0 (meta.max_bucket + 1) c low high) apart)
     ∙ first_under file key (bucket_pairs file meta b) (λ pair at. bucket_plain image meta b pair table has few at) (bucket_apart image meta b table has none listed)))
   where
-    other_bucket : (image : List ℕ) (meta : HashMeta) (key : List ℕ) (c : ℕ) → IsTable image → HasMetadata (file_of image) (HashFields meta) → contents_faults (file_of image) (HashFields meta) ≡ []
+    other_bucket : (image : List ℕ) (meta : HashMeta) (key : List ℕ) (c : ℕ) → IsTable image → HasMetadata (file_of image) (HashFields meta) → database_faults (file_of image) (HashFields meta) ≡ []
         → Contains (buckets_of meta) c → (c ≡ bucket_of_key meta key → ⊥) → flat_map (under (file_of image) key) (bucket_pairs (file_of image) meta c) ≡ []
     other_bucket image meta key c table has none listed apart =
         nothing_under (file_of image) key (bucket_pairs (file_of image) meta c) (λ pair at.
@@ -300,7 +295,7 @@ told_found image (Some pair) = refl
 
 -- what is listed under a key is what the pair has that was found in the key's bucket
 pub list_found : (image : List ℕ) (meta : HashMeta) (key : List ℕ) (b : ℕ) (found : Option Told) → IsTable image → HasMetadata (file_of image) (HashFields meta)
-    → contents_faults (file_of image) (HashFields meta) ≡ [] → b ≡ bucket_of_key meta key → b ≤ meta.max_bucket → found ≡ find (has_key key) (bucket_told image meta b)
+    → database_faults (file_of image) (HashFields meta) ≡ [] → b ≡ bucket_of_key meta key → b ≤ meta.max_bucket → found ≡ find (has_key key) (bucket_told image meta b)
     → told_data found ≡ get (hash_list (file_of image) meta) (BytesKey key)
 list_found image meta key b found table has none is few same =
     let own : bucket_of_key meta key ≤ meta.max_bucket = omega (arith, is) in

@@ -4,18 +4,19 @@ use Rattle.std.specs.Prelude.{Option, Some, None, ◌==◌, ◌/◌, nat_le, nat
 use Rattle.std.proofs.lemmas.Bool.{and_parts, eqb-true, leb-true, ltb-false, ltb-true, not-false, or_cases}
 use Rattle.std.proofs.lemmas.Nat.{and_le_r}
 use Rattle.std.specs.Int.{is_power_of_two}
-use Rattle.bdb_model.specs.declared.metadata.FileKind.TheVariants.{Hash}
-use Rattle.bdb_model.specs.declared.metadata.HashMeta.{HashMeta}
-use Rattle.bdb_model.specs.declared.metadata.Head.{Head}
-use Rattle.bdb_model.specs.File.{file_of, page_bytes}
-use Rattle.bdb_model.specs.Hashing.{bucket}
-use Rattle.bdb_model.specs.HeadOf.{head_of}
-use Rattle.bdb_model.specs.Numbers.{byte_at}
-use Rattle.bdb_model.specs.Page.{HashFields, Meta, Page, PageType, HashMetaPage, Zero}
-use Rattle.bdb_model.specs.Reading.{abstract_page, hash_fields, is_zero, page_as, page_type}
-use Rattle.bdb_model.specs.Rows.{are_masks, form_code, identity_rows, may_have_type, metadata_rows, typed_code}
-use Rattle.bdb_model.specs.Table.{first_row}
-use Rattle.bdb_model.proofs.VerdictLemmas.{AllFail, none_is_first_row}
+use Rattle.bdb_format.proofs.GraphLemmas.{typed_none}
+use Rattle.bdb_format.specs.declared.metadata.FileKind.TheVariants.{Hash}
+use Rattle.bdb_format.specs.declared.metadata.HashMeta.{HashMeta}
+use Rattle.bdb_format.specs.declared.metadata.Head.{Head}
+use Rattle.bdb_format.specs.File.{file_of, page_bytes}
+use Rattle.bdb_format.specs.Hashing.{bucket}
+use Rattle.bdb_format.specs.HeadOf.{head_of}
+use Rattle.bdb_format.specs.Numbers.{byte_at}
+use Rattle.bdb_format.specs.Page.{HashFields, Meta, Page, PageType, HashMetaPage, Zero}
+use Rattle.bdb_format.specs.Reading.{abstract_page, hash_fields, is_zero, page_as, page_type}
+use Rattle.bdb_format.specs.Rows.{are_masks, field_rows, form_code, identity_rows, may_have_type, typed_code}
+use Rattle.bdb_format.specs.Table.{first_row}
+use Rattle.bdb_format.proofs.VerdictLemmas.{AllFail, none_is_first_row}
 use Rattle.bdb_graph.specs.Linked.{HasMetadata, IsForest}
 use Rattle.bdb_graph.proofs.FirstLemmas.{formed_page}
 use Rattle.bdb_graph.proofs.HeldLemmas.{last_page, page_is}
@@ -25,25 +26,14 @@ abbrev HasMasks : Page → Type 0
 HasMasks (Meta (HashFields meta)) = are_masks meta ≡ true
 HasMasks page = Unit {0}
 
-table_masks : (head : Head) (number : ℕ) (page : List ℕ) → first_row (metadata_rows head.order page number head.last Hash) ≡ None → are_masks (hash_fields head.order page) ≡ true
-unfolding metadata_rows
+table_masks : (head : Head) (number : ℕ) (page : List ℕ) → first_row (field_rows head.order page number head.last Hash) ≡ None → are_masks (hash_fields head.order page) ≡ true
 table_masks head number page none =
-    let fail : AllFail (metadata_rows head.order page number head.last Hash) = none_is_first_row (metadata_rows head.order page number head.last Hash) none in
-    not-false (are_masks (hash_fields head.order page)) fail.1.1.1.1.1.1.1.1.1.1.0
+    let fail : AllFail (field_rows head.order page number head.last Hash) = none_is_first_row (field_rows head.order page number head.last Hash) none in
+    not-false (are_masks (hash_fields head.order page)) fail.1.1.1.1.1.1.1.1.0
 
 masks_as : (head : Head) (number : ℕ) (page : List ℕ) (t : PageType) → typed_code head number page t ≡ None → HasMasks (page_as head.order page t)
 masks_as head number page HashMetaPage none = table_masks head number page none
 masks_as head number page t none = tt
-
-abbrev form_by : Bool → Option ℕ → Option ℕ → Option ℕ
-form_by empty first rest = elim empty [ true ↦ None | false ↦ elim first [ Some code ↦ Some code | None ↦ rest ] ]
-
-rest_none : (above zeros : Bool) (first rest : Option ℕ) → zeros ≡ false → form_by (above && zeros) first rest ≡ None → rest ≡ None
-rest_none above true first rest some none = absurd cc
-rest_none true false (Some code) rest some none = absurd cc
-rest_none false false (Some code) rest some none = absurd cc
-rest_none true false None rest some none = none
-rest_none false false None rest some none = none
 
 masks_of : (head : Head) (number : ℕ) (page : List ℕ) → form_code head number page ≡ None → HasMasks (abstract_page head.order page)
 unfolding abstract_page form_code
@@ -53,7 +43,7 @@ masks_of head number page none =
       | true ↦ λ _. tt
       | false ↦ λ some.
           masks_as head number page (page_type byte)
-          (rest_none (nat_lt 0 number) (is_zero page) (first_row (identity_rows head.order page number (may_have_type head.kind number))) (typed_code head number page (page_type byte)) some none)
+          (typed_none head number page some none)
     ] refl
 
 meta_masks : (image : List ℕ) (meta : HashMeta) → IsForest image → HasMetadata (file_of image) (HashFields meta) → are_masks meta ≡ true

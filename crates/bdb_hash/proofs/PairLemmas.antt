@@ -1,24 +1,26 @@
 -- What the items of a hash page name is there, and a pair is what its two items say.
 use Rattle.std.proofs.Common.{◌≡◌, ℕ, ◌+◌, ◌*◌, ◌≤◌, true, false, not, List, [], refl, sym, ◌∙◌, ap, subst}
 use Rattle.std.specs.Prelude.{Some, None}
-use Rattle.std.specs.List.{Contains, flat_map, slice_get}
-use Rattle.std.proofs.lemmas.List.Elements.{Contains-append_left}
+use Rattle.std.specs.List.{Contains, slice_get}
 use Rattle.std.proofs.lemmas.Option.{get_or_from_slice_get, slice_get_within}
-use Rattle.bdb_model.specs.declared.references.Sort.{Sort}
-use Rattle.bdb_model.specs.declared.references.Sort.TheVariants.{HashNext, OverflowHead, DuplicateRoot}
-use Rattle.bdb_model.specs.Chains.{value_of}
-use Rattle.bdb_model.specs.Contents.{StoredPair, item_at, pair_at}
-use Rattle.bdb_model.specs.File.{File, file_of, page_at}
-use Rattle.bdb_model.specs.Page.{Content, Inline, Set, Chain, Tree, Unknown, Item, Listed, Page, Hash}
-use Rattle.bdb_model.specs.References.{content_names, names_in, names_of, no_item, unless_zero}
-use Rattle.bdb_model.proofs.MemberLemmas.{first_member, in_flat_map}
+use Rattle.bdb_format.specs.declared.references.Sort.{Sort}
+use Rattle.bdb_format.specs.declared.references.Sort.TheVariants.{OverflowHead, DuplicateRoot}
+use Rattle.bdb_format.specs.Chains.{value_of}
+use Rattle.bdb_format.specs.Contents.{StoredPair, pair_at}
+use Rattle.bdb_format.specs.File.{File, file_of, page_at}
+use Rattle.bdb_format.specs.Page.{Content, Inline, Set, Chain, Tree, Unknown, Item, Listed, Page, Hash}
+use Rattle.bdb_format.specs.References.{content_targets, item_at, no_item, targets_in, targets_of}
+use Rattle.bdb_format.proofs.MemberLemmas.{first_member, in_map}
+use Rattle.bdb_format.proofs.TargetLemmas.{held_named}
 use Rattle.bdb_graph.specs.Linked.{IsTarget}
-use Rattle.bdb_graph.proofs.LinkedLemmas.{forest_names, named_target, target_inside}
+use Rattle.bdb_graph.proofs.LinkedLemmas.{named_target, target_inside}
 use Rattle.bdb_layout.specs.declared.items.HashItem.{HashItem}
 use Rattle.bdb_layout.specs.Seen.{hash_content_seen, hash_item_seen}
 use Rattle.bdb_overflow.specs.Datum.{FitsContent, single_value}
 use Rattle.bdb_hash.specs.Told.{told}
 use Rattle.bdb_hash.specs.Views.{FitsRoot, IsPair, IsTable}
+use Rattle.bdb_format.proofs.ListLemmas.{member_of}
+use Rattle.bdb_format.proofs.ReferenceLemmas.{forest_names}
 
 -- The one value of an item.
 
@@ -39,29 +41,28 @@ single file Unknown value some = absurd cc
 
 -- What items name.
 
-pub is_there : {X : Type 0} (xs : List X) (i : ℕ) (x : X) → slice_get xs i ≡ Some x → Contains xs x
-is_there xs i x at = (i, slice_get_within xs i x at, get_or_from_slice_get xs i x x at)
-
 -- what a page of a forest names is a target
 pub page_names : (image : List ℕ) (p : ℕ) (page : Page) (sort : Sort) (target : ℕ) → IsTable image → p ≤ (file_of image).last → page_at (file_of image) p ≡ page
-    → Contains (names_in p page) (sort, target) → IsTarget (file_of image) sort target
+    → Contains (targets_in p page) (sort, target) → IsTarget (file_of image) sort target
 page_names image p page sort target table low is at =
-    let names : names_of (file_of image).kind p (page_at (file_of image) p) ≡ names_in p page =
-    forest_names (file_of image).kind p (page_at (file_of image) p) table.table ∙ ap (names_in p) is in
+    let names : targets_of (file_of image).kind p (page_at (file_of image) p) ≡ targets_in p page =
+    forest_names (file_of image).kind p (page_at (file_of image) p) table.table ∙ ap (targets_in p) is in
     named_target (file_of image) p sort target low (subst (λ ns. Contains ns (sort, target)) (sym names) at)
 
 record IsNamed (file : File) (content : Content) : Type 0 where
   chain : FitsContent file content
   root : FitsRoot file content
 
-is_named : (file : File) (content : Content) → ((sort : Sort) (target : ℕ) → Contains (content_names content) (sort, target) → IsTarget file sort target) → IsNamed file content
+is_named : (file : File) (content : Content) → ((sort : Sort) (target : ℕ) → Contains (content_targets content) (sort, target) → IsTarget file sort target)
+    → IsNamed file content
 is_named file (Inline bytes) fits = record { chain = tt; root = tt }
 is_named file (Set blocks) fits = record { chain = tt; root = tt }
 is_named file (Chain head total) fits = record { chain = fits OverflowHead head (first_member (OverflowHead, head) []); root = tt }
 is_named file (Tree root) fits = record { chain = tt; root = fits DuplicateRoot root (first_member (DuplicateRoot, root) []) }
 is_named file Unknown fits = record { chain = tt; root = tt }
 
-pub content_fits : (file : File) (content : Content) → ((sort : Sort) (target : ℕ) → Contains (content_names content) (sort, target) → IsTarget file sort target) → FitsContent file content
+pub content_fits : (file : File) (content : Content)
+    → ((sort : Sort) (target : ℕ) → Contains (content_targets content) (sort, target) → IsTarget file sort target) → FitsContent file content
 content_fits file content fits = (is_named file content fits).chain
 
 hash_named : (image : List ℕ) (p i : ℕ) (page : Listed Item) (item : Item) → IsTable image → p ≤ (file_of image).last → page_at (file_of image) p ≡ Hash page
@@ -69,8 +70,7 @@ hash_named : (image : List ℕ) (p i : ℕ) (page : Listed Item) (item : Item) �
 hash_named image p i page item table low is at =
     is_named (file_of image) item.content (λ sort target named.
     page_names image p (Hash page) sort target table low is
-    (Contains-append_left (flat_map (λ (one : Item). content_names one.content) page.items) (unless_zero HashNext page.header.next) (sort, target)
-    (in_flat_map (λ (one : Item). content_names one.content) page.items item (sort, target) (is_there page.items i item at) named)))
+    (held_named p (Hash page) item.content (sort, target) (in_map (λ (one : Item). one.content) page.items item (member_of page.items i item at)) named))
 
 pub item_fits : (image : List ℕ) (p i : ℕ) (page : Listed Item) (item : HashItem) → IsTable image → p ≤ (file_of image).last → page_at (file_of image) p ≡ Hash page
     → slice_get page.items i ≡ Some (hash_item_seen item) → FitsContent (file_of image) (hash_content_seen item)

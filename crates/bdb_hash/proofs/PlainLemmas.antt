@@ -5,19 +5,19 @@ use Rattle.std.specs.List.{Contains, range_with_len}
 use Rattle.std.proofs.lemmas.Bool.{cases_lt, eqb-false}
 use Rattle.std.proofs.lemmas.List.{get_or_past}
 use Rattle.std.proofs.lemmas.List.FromFn.{get_or-map-range_with_len, length-map-range_with_len}
-use Rattle.bdb_model.specs.declared.kinds.Order.{Order}
-use Rattle.bdb_model.specs.declared.metadata.HashMeta.{HashMeta}
-use Rattle.bdb_model.specs.declared.references.Sort.TheVariants.{Bucket}
-use Rattle.bdb_model.specs.Chains.{chain_in, next_of}
-use Rattle.bdb_model.specs.Contents.{StoredPair, bucket_pages, bucket_pairs, item_at, pair_at, pairs_in, pairs_of}
-use Rattle.bdb_model.specs.File.{File, file_of, page_at, page_bytes}
-use Rattle.bdb_model.specs.Hashing.{first_page}
-use Rattle.bdb_model.specs.HeadOf.{head_of}
-use Rattle.bdb_model.specs.Numbers.{byte_at}
-use Rattle.bdb_model.specs.Page.{HashFields, Item, Listed, Page, PageType, HashPage, Zero, Hash}
-use Rattle.bdb_model.specs.Reading.{abstract_page, entries_of, hash_item_at, is_zero, listed, page_as, page_type}
-use Rattle.bdb_model.specs.References.{no_item}
-use Rattle.bdb_model.proofs.MemberLemmas.{member_cases, no_member, of_flat_map, of_map}
+use Rattle.bdb_format.specs.declared.kinds.Order.{Order}
+use Rattle.bdb_format.specs.declared.metadata.HashMeta.{HashMeta}
+use Rattle.bdb_format.specs.declared.references.Sort.TheVariants.{Bucket}
+use Rattle.bdb_format.specs.Chains.{chain_in, next_of}
+use Rattle.bdb_format.specs.Contents.{StoredPair, bucket_pages, bucket_pairs, pair_at, pairs_in, pairs_of}
+use Rattle.bdb_format.specs.File.{File, file_of, page_at, page_bytes}
+use Rattle.bdb_format.specs.Hashing.{first_page}
+use Rattle.bdb_format.specs.HeadOf.{head_of}
+use Rattle.bdb_format.specs.Numbers.{byte_at}
+use Rattle.bdb_format.specs.Page.{HashFields, Item, Listed, Page, PageType, HashPage, Zero, Hash}
+use Rattle.bdb_format.specs.Reading.{abstract_page, entries_of, hash_item_at, is_zero, listed, page_as, page_type}
+use Rattle.bdb_format.specs.References.{item_at, no_item}
+use Rattle.bdb_format.proofs.MemberLemmas.{member_cases, no_member, of_flat_map, of_map}
 use Rattle.bdb_graph.specs.Linked.{HasMetadata}
 use Rattle.bdb_graph.proofs.HeldLemmas.{last_page, page_is}
 use Rattle.bdb_graph.proofs.LinkedLemmas.{bucket_fits}

@@ -7,18 +7,19 @@ use Rattle.std.proofs.lemmas.Bool.{eqb-true, not-false}
 use Rattle.std.proofs.lemmas.List.{map-append}
 use Rattle.std.proofs.lemmas.List.Folds.{list_any-append}
 use Rattle.std.proofs.lemmas.List.Sums.{fold-append}
-use Rattle.bdb_model.specs.declared.kinds.Fault.{Fault}
-use Rattle.bdb_model.specs.declared.metadata.HashMeta.{HashMeta}
-use Rattle.bdb_model.specs.ContentRows.{bucket_of_key, repeated_after}
-use Rattle.bdb_model.specs.Contents.{StoredPair, bucket_pages}
-use Rattle.bdb_model.specs.File.{file_of}
-use Rattle.bdb_model.proofs.MemberLemmas.{first_member, in_range, later_member, none_passes, of_flat_map, of_map, of_range}
+use Rattle.bdb_format.specs.declared.kinds.Fault.{Fault}
+use Rattle.bdb_format.specs.declared.metadata.HashMeta.{HashMeta}
+use Rattle.bdb_format.specs.ContentRows.{bucket_of_key, repeated}
+use Rattle.bdb_format.specs.Contents.{StoredPair, bucket_pages}
+use Rattle.bdb_format.specs.File.{file_of}
+use Rattle.bdb_format.proofs.MemberLemmas.{first_member, in_range, later_member, none_passes, of_flat_map, of_map, of_range}
+use Rattle.bdb_format.proofs.RepeatLemmas.{repeated_after, repeated_is}
 use Rattle.bdb_hash.specs.Notes.{has_stray_in, is_stray, note_again, note_repeat, stored}
 use Rattle.bdb_hash.specs.Told.{Told, bucket_told, joined_pages, page_told, table_told}
 use Rattle.bdb_hash.proofs.KeyLemmas.{eq_same, not_true}
-use Rattle.bdb_hash.proofs.LeastLemmas.{has_any}
 use Rattle.bdb_hash.proofs.RowLemmas.{buckets_of}
 use Rattle.bdb_hash.proofs.TableLemmas.{zero_more}
+use Rattle.bdb_format.proofs.ListLemmas.{passes_here}
 
 -- Repeats after other pairs.
 
@@ -63,6 +64,11 @@ repeated_append earlier (x ∷ xs) ys before' apart =
     ap (λ (ps : List StoredPair). cond (has_same earlier x) (x ∷ ps) ps) rest
     ∙ cond_append (has_same earlier x) x (repeated_after (x ∷ earlier) xs) (repeated_after [] ys)
 
+repeated_parts : (xs ys : List StoredPair) → ((x y : StoredPair) → Contains xs x → Contains ys y → bytes_eq x.key y.key ≡ false)
+    → repeated (xs ++ ys) ≡ repeated xs ++ repeated ys
+repeated_parts xs ys apart =
+    rw (repeated_is (xs ++ ys), repeated_is xs, repeated_is ys) (repeated_append [] xs ys (λ y at. refl) apart)
+
 -- Bucket by bucket.
 
 -- each pair stands in the part that is its key's home
@@ -70,7 +76,7 @@ abbrev AreHome : (ℕ → List StoredPair) → (List ℕ → ℕ) → List ℕ �
 AreHome parts home buckets = (b : ℕ) → Contains buckets b → (pair : StoredPair) → Contains (parts b) pair → home pair.key ≡ b
 
 by_part : (parts : ℕ → List StoredPair) (home : List ℕ → ℕ) (a n : ℕ) (least : Option Fault) → AreHome parts home (range_with_len a n)
-    → fold (λ l b. fold note_repeat l (repeated_after [] (parts b))) least (range_with_len a n) ≡ fold note_repeat least (repeated_after [] (flat_map parts (range_with_len a n)))
+    → fold (λ l b. fold note_repeat l (repeated (parts b))) least (range_with_len a n) ≡ fold note_repeat least (repeated (flat_map parts (range_with_len a n)))
 by_part parts home a zero least own = refl
 by_part parts home a (suc n) least own =
     let later : List ℕ = range_with_len (a + 1) n in
@@ -80,9 +86,9 @@ by_part parts home a (suc n) least own =
     let above : (a + 1 ≤ found.0) × (found.0 < a + 1 + n) = of_range (a + 1) n found.0 found.1 in
     let one : a ≡ found.0 = sym (own a (first_member a later) x at_x) ∙ (ap home (eq_same x.key y.key same) ∙ own found.0 (later_member a later found.0 found.1) y found.2) in
     omega (arith, above.0, one)) in
-    by_part parts home (a + 1) n (fold note_repeat least (repeated_after [] (parts a))) (λ b at. own b (later_member a later b at))
-    ∙ (sym (fold-append note_repeat least (repeated_after [] (parts a)) (repeated_after [] (flat_map parts later)))
-    ∙ ap (fold note_repeat least) (sym (repeated_append [] (parts a) (flat_map parts later) (λ y at. refl) apart)))
+    by_part parts home (a + 1) n (fold note_repeat least (repeated (parts a))) (λ b at. own b (later_member a later b at))
+    ∙ (sym (fold-append note_repeat least (repeated (parts a)) (repeated (flat_map parts later)))
+    ∙ ap (fold note_repeat least) (sym (repeated_parts (parts a) (flat_map parts later) apart)))
 
 stored_parts : (parts : ℕ → List Told) (buckets : List ℕ) → stored (flat_map parts buckets) ≡ flat_map (λ b. stored (parts b)) buckets
 stored_parts parts [] = refl
@@ -98,18 +104,20 @@ home_where_none image meta none b listed pair held =
 
 -- the repeats of a table without a stray
 pub by_bucket_is : (image : List ℕ) (meta : HashMeta) (least result : Option Fault) → false ≡ list_any (has_stray_in image meta) (range_with_len 0 (meta.max_bucket + 1))
-    → result ≡ fold (note_again image meta) least (range_with_len 0 (meta.max_bucket + 1)) → result ≡ fold note_repeat least (repeated_after [] (stored (table_told image meta)))
+    → result ≡ fold (note_again image meta) least (range_with_len 0 (meta.max_bucket + 1))
+    → result ≡ fold note_repeat least (repeated (stored (table_told image meta)))
 by_bucket_is image meta least result none is =
     is
     ∙ (by_part (λ b. stored (bucket_told image meta b)) (bucket_of_key meta) 0 (meta.max_bucket + 1) least (home_where_none image meta (sym none))
-    ∙ ap (λ (ps : List StoredPair). fold note_repeat least (repeated_after [] ps)) (sym (stored_parts (bucket_told image meta) (buckets_of meta))))
+    ∙ ap (λ (ps : List StoredPair). fold note_repeat least (repeated ps)) (sym (stored_parts (bucket_told image meta) (buckets_of meta))))
 
 -- one more bucket noted
 pub again_more : (image : List ℕ) (meta : HashMeta) (b : ℕ) (start least result : Option Fault) (pairs : List Told) → least ≡ fold (note_again image meta) start (range_with_len 0 b)
-    → pairs ≡ bucket_told image meta b → result ≡ fold note_repeat least (repeated_after [] (stored pairs)) → result ≡ fold (note_again image meta) start (range_with_len 0 (b + 1))
+    → pairs ≡ bucket_told image meta b → result ≡ fold note_repeat least (repeated (stored pairs))
+    → result ≡ fold (note_again image meta) start (range_with_len 0 (b + 1))
 again_more image meta b start least result pairs before' are is =
     is
-    ∙ (ap (λ (ts : List Told). fold note_repeat least (repeated_after [] (stored ts))) are
+    ∙ (ap (λ (ts : List Told). fold note_repeat least (repeated (stored ts))) are
     ∙ (ap (λ l. note_again image meta l b) before'
     ∙ (sym (fold-append (note_again image meta) start (range_with_len 0 b) (b ∷ [])) ∙ ap (fold (note_again image meta) start) (sym (zero_more b)))))
 
@@ -130,5 +138,5 @@ pub stray_found : (image : List ℕ) (meta : HashMeta) (b : ℕ) (pages : List (
     → true ≡ list_any (is_stray meta b) (joined_pages pages) → true ≡ list_any (has_stray_in image meta) (range_with_len 0 (meta.max_bucket + 1))
 stray_found image meta b pages few are here =
     sym
-    (has_any (has_stray_in image meta) (buckets_of meta) b (in_range 0 (meta.max_bucket + 1) b (omega arith) (omega arith))
+    (passes_here (has_stray_in image meta) (buckets_of meta) b (in_range 0 (meta.max_bucket + 1) b (omega arith) (omega arith))
     (sym (here ∙ ap (λ ps. list_any (is_stray meta b) (joined_pages ps)) are)))

@@ -7,17 +7,19 @@ use Rattle.std.proofs.lemmas.List.{append-nil}
 use Rattle.std.proofs.lemmas.List.Elements.{Contains-append_cases, Contains-append_left, Contains-append_right}
 use Rattle.std.proofs.lemmas.List.Folds.{list_any-append}
 use Rattle.std.proofs.lemmas.List.Sums.{take_while-cons}
-use Rattle.bdb_model.specs.declared.metadata.HashMeta.{HashMeta}
-use Rattle.bdb_model.specs.ContentRows.{ascends, bucket_of_key, groups, hash_contents, hash_sorted, is_duplicate, is_unsorted, is_wrong_set, live_data, repeated_after}
-use Rattle.bdb_model.specs.Contents.{StoredPair, bucket_pairs, data_of, table_pairs}
-use Rattle.bdb_model.specs.File.{File}
-use Rattle.bdb_model.specs.Numbers.{has_bit}
-use Rattle.bdb_model.specs.Table.{Row, ◌:?◌, first_row}
-use Rattle.bdb_model.specs.Verdict.{holding}
-use Rattle.bdb_model.proofs.MemberLemmas.{first_member, in_map, later_member, member_cases, no_member, of_map}
-use Rattle.bdb_model.proofs.VerdictLemmas.{Rises}
-use Rattle.bdb_hash.proofs.LeastLemmas.{HoldsIn, any_has, first_least, has_any, in_holding, of_first, of_holding}
+use Rattle.bdb_format.specs.declared.metadata.HashMeta.{HashMeta}
+use Rattle.bdb_format.specs.ContentRows.{ascends, bucket_of_key, groups, hash_contents, is_duplicate, is_unsorted, is_wrong_set, live_data, repeated}
+use Rattle.bdb_format.specs.Contents.{StoredPair, bucket_pairs, data_of, table_pairs}
+use Rattle.bdb_format.specs.File.{File}
+use Rattle.bdb_format.specs.Table.{Row, ◌:?◌, first_row}
+use Rattle.bdb_format.specs.Verdict.{holding}
+use Rattle.bdb_format.proofs.MemberLemmas.{first_member, in_map, later_member, member_cases, no_member, of_map}
+use Rattle.bdb_format.proofs.VerdictLemmas.{Rises}
+use Rattle.bdb_format.specs.Flags.{has_duplicates, is_sorted}
+use Rattle.bdb_format.specs.Page.{HashFields}
+use Rattle.bdb_hash.proofs.LeastLemmas.{HoldsIn, first_least, in_holding, of_first, of_holding}
 use Rattle.bdb_hash.proofs.PlainLemmas.{IsPlain}
+use Rattle.bdb_format.proofs.ListLemmas.{any_member, passes_here}
 
 -- Tests of pairs.
 
@@ -49,17 +51,17 @@ pub record IsFound (pairs : ℕ → List StoredPair) (buckets : List ℕ) (test 
 found_at : (pairs : ℕ → List StoredPair) (buckets : List ℕ) (test : ℕ → StoredPair → Bool) (p : ℕ) → some_at pairs buckets test p ≡ true → IsFound pairs buckets test p
 found_at pairs buckets test p some =
     let bucket : (b : ℕ) × Contains buckets b × (list_any (λ (pair : StoredPair). pair.page == p && test b pair) (pairs b) ≡ true) =
-    any_has (λ b. list_any (λ (pair : StoredPair). pair.page == p && test b pair) (pairs b)) buckets some in
+    any_member (λ b. list_any (λ (pair : StoredPair). pair.page == p && test b pair) (pairs b)) buckets some in
     let pair : (one : StoredPair) × Contains (pairs bucket.0) one × ((one.page == p && test bucket.0 one) ≡ true) =
-    any_has (λ (one : StoredPair). one.page == p && test bucket.0 one) (pairs bucket.0) bucket.2 in
+    any_member (λ (one : StoredPair). one.page == p && test bucket.0 one) (pairs bucket.0) bucket.2 in
     let both : ((pair.0.page == p) ≡ true) × (test bucket.0 pair.0 ≡ true) = and_parts (pair.0.page == p) (test bucket.0 pair.0) pair.2 in
     record { bucket = bucket.0; listed = bucket.1; pair = pair.0; held = pair.1; at = eqb-true pair.0.page p both.0; passes = both.1 }
 
 at_found : (pairs : ℕ → List StoredPair) (buckets : List ℕ) (test : ℕ → StoredPair → Bool) (b : ℕ) (pair : StoredPair) → Contains buckets b → Contains (pairs b) pair → test b pair ≡ true
     → some_at pairs buckets test pair.page ≡ true
 at_found pairs buckets test b pair listed held passes =
-    has_any (λ c. list_any (λ (one : StoredPair). one.page == pair.page && test c one) (pairs c)) buckets b listed
-    (has_any (λ (one : StoredPair). one.page == pair.page && test b one) (pairs b) pair held (ap (λ t. t && test b pair) (eq-eqb pair.page pair.page refl) ∙ passes))
+    passes_here (λ c. list_any (λ (one : StoredPair). one.page == pair.page && test c one) (pairs c)) buckets b listed
+    (passes_here (λ (one : StoredPair). one.page == pair.page && test b one) (pairs b) pair held (ap (λ t. t && test b pair) (eq-eqb pair.page pair.page refl) ∙ passes))
 
 -- Tables of tests.
 
@@ -98,7 +100,7 @@ repeat_holds pairs buckets tests repeated pair at =
     in_holding (page_table pairs buckets tests pair.page ++ (repeat_row repeated pair.page ∷ [])) 9 (record {
       row = repeat_row repeated pair.page;
       listed = Contains-append_right (page_table pairs buckets tests pair.page) (repeat_row repeated pair.page ∷ []) (repeat_row repeated pair.page) (first_member (repeat_row repeated pair.page) []);
-      holds = has_any (λ (one : StoredPair). one.page == pair.page) repeated pair at (eq-eqb pair.page pair.page refl);
+      holds = passes_here (λ (one : StoredPair). one.page == pair.page) repeated pair at (eq-eqb pair.page pair.page refl);
       code_is = refl;
     })
 
@@ -137,7 +139,7 @@ page_holds pairs buckets tests repeated p code rises at =
           inl (record { bucket = found.bucket; listed = found.listed; pair = found.pair; held = found.held; at = found.at; first = first.0; first_is = first.1; low = first.2 })
       | inr last ↦
           let same : repeat_row repeated p ≡ is.row = elim (member_cases (repeat_row repeated p) [] is.row last) [ inl here ↦ here | inr none ↦ absurd (no_member [] is.row refl none) ] in
-          let pair : (one : StoredPair) × Contains repeated one × ((one.page == p) ≡ true) = any_has (λ (one : StoredPair). one.page == p) repeated (ap (λ (row : Row ℕ). row.holds) same ∙ is.holds) in
+          let pair : (one : StoredPair) × Contains repeated one × ((one.page == p) ≡ true) = any_member (λ (one : StoredPair). one.page == p) repeated (ap (λ (row : Row ℕ). row.holds) same ∙ is.holds) in
           inr (record { pair = pair.0; held = pair.1; at = eqb-true pair.0.page p pair.2; nine = sym is.code_is ∙ ap (λ (row : Row ℕ). row.code) (sym same) })
     ]
 
@@ -146,9 +148,9 @@ page_holds pairs buckets tests repeated p code rises at =
 -- what is tested of a pair by itself
 abbrev pub tests_of : File → HashMeta → List Test
 tests_of file meta =
-    record { code = 1; holds = λ b pair. not (has_bit meta.flags 0x05) && is_duplicate pair }
-    ∷ record { code = 2; holds = λ b pair. is_wrong_set file (hash_sorted meta.flags) pair.data_item }
-    ∷ record { code = 5; holds = λ b pair. hash_sorted meta.flags && not (ascends (data_of file pair.data_item)) }
+    record { code = 1; holds = λ b pair. not (has_duplicates (HashFields meta)) && is_duplicate pair }
+    ∷ record { code = 2; holds = λ b pair. is_wrong_set file (is_sorted (HashFields meta)) pair.data_item }
+    ∷ record { code = 5; holds = λ b pair. is_sorted (HashFields meta) && not (ascends (data_of file pair.data_item)) }
     ∷ record { code = 8; holds = λ b pair. not (bucket_of_key meta pair.key == b) }
     ∷ []
 
@@ -186,7 +188,8 @@ rows_eq a b c d e f two three p q r =
     ∙ (ap (λ x. 1 :? b ∷ 2 :? x ∷ 5 :? e ∷ 8 :? two ∷ 9 :? three ∷ []) q ∙ ap (λ x. 1 :? b ∷ 2 :? d ∷ 5 :? x ∷ 8 :? two ∷ 9 :? three ∷ []) r)
 
 pub rows_are : (file : File) (meta : HashMeta) (p : ℕ) → ArePlain file (table_pairs file meta)
-    → hash_contents file meta p ≡ page_table (bucket_pairs file meta) (buckets_of meta) (tests_of file meta) p ++ (repeat_row (repeated_after [] (table_pairs file meta)) p ∷ [])
+    → hash_contents file meta p ≡ page_table (bucket_pairs file meta) (buckets_of meta) (tests_of file meta) p
+    ++ (repeat_row (repeated (table_pairs file meta)) p ∷ [])
 unfolding table_pairs
 rows_are file meta p plain =
     let pairs : ℕ → List StoredPair = bucket_pairs file meta in
@@ -194,8 +197,9 @@ rows_are file meta p plain =
     let all : List StoredPair = flat_map pairs buckets in
     let at : StoredPair → Bool = λ pair. pair.page == p in
     rows_eq _ _ _ _ _ _ _ _
-    (and_any (not (has_bit meta.flags 0x05)) at is_duplicate all ∙ any_flat (λ (pair : StoredPair). pair.page == p && (not (has_bit meta.flags 0x05) && is_duplicate pair)) pairs buckets)
-    (any_flat (λ (pair : StoredPair). pair.page == p && is_wrong_set file (hash_sorted meta.flags) pair.data_item) pairs buckets)
-    (ap (λ b. hash_sorted meta.flags && b) (groups_alone file all p plain)
-    ∙ (and_any (hash_sorted meta.flags) at (λ (pair : StoredPair). not (ascends (data_of file pair.data_item))) all
-    ∙ any_flat (λ (pair : StoredPair). pair.page == p && (hash_sorted meta.flags && not (ascends (data_of file pair.data_item)))) pairs buckets))
+    (and_any (not (has_duplicates (HashFields meta))) at is_duplicate all
+    ∙ any_flat (λ (pair : StoredPair). pair.page == p && (not (has_duplicates (HashFields meta)) && is_duplicate pair)) pairs buckets)
+    (any_flat (λ (pair : StoredPair). pair.page == p && is_wrong_set file (is_sorted (HashFields meta)) pair.data_item) pairs buckets)
+    (ap (λ b. is_sorted (HashFields meta) && b) (groups_alone file all p plain)
+    ∙ (and_any (is_sorted (HashFields meta)) at (λ (pair : StoredPair). not (ascends (data_of file pair.data_item))) all
+    ∙ any_flat (λ (pair : StoredPair). pair.page == p && (is_sorted (HashFields meta) && not (ascends (data_of file pair.data_item)))) pairs buckets))

@@ -13,15 +13,15 @@ use Rattle.std.proofs.lemmas.List.Sorted.{Contains-permutation, IsPermutation-sy
 use Rattle.std.proofs.lemmas.List.Sums.{sum_by-cons}
 use Rattle.bdb_layout.specs.Seen.{OrderingIs}
 use Rattle.bdb_layout.proofs.KeyLemmas.{slice_cmp-is}
-use Rattle.bdb_model.specs.declared.metadata.HashMeta.{HashMeta}
-use Rattle.bdb_model.specs.ContentRows.{contents_faults}
-use Rattle.bdb_model.specs.Contents.{StoredPair, table_pairs}
-use Rattle.bdb_model.specs.File.{file_of}
-use Rattle.bdb_model.specs.Less.{less, Less}
-use Rattle.bdb_model.specs.Lists.{ListKey, by_key, hash_list, insert_pair}
-use Rattle.bdb_model.specs.Page.{HashFields}
-use Rattle.bdb_model.proofs.LessLemmas.{not_less_both, not_less_same}
-use Rattle.bdb_model.proofs.MemberLemmas.{first_member, in_map, later_member, member_cases, no_member, of_map}
+use Rattle.bdb_format.specs.declared.metadata.HashMeta.{HashMeta}
+use Rattle.bdb_format.specs.ContentRows.{database_faults}
+use Rattle.bdb_format.specs.Contents.{StoredPair, table_pairs}
+use Rattle.bdb_format.specs.File.{file_of}
+use Rattle.bdb_format.specs.Less.{less, Less}
+use Rattle.bdb_format.specs.Lists.{ListKey, by_key, hash_list, insert_pair}
+use Rattle.bdb_format.specs.Page.{HashFields}
+use Rattle.bdb_format.proofs.LessLemmas.{not_less_both, not_less_same}
+use Rattle.bdb_format.proofs.MemberLemmas.{first_member, in_map, later_member, member_cases, no_member, of_map}
 use Rattle.bdb_graph.specs.Linked.{HasMetadata}
 use Rattle.bdb_hash.specs.Scanned.{IsListedOn, ranked}
 use Rattle.bdb_hash.specs.Notes.{stored}
@@ -247,7 +247,7 @@ sorted_rising (t ∷ ts) sorted few = (
 )
 
 -- the pairs of a table, sorted, are in the order of its list
-pub sorted_ranked : (image : List ℕ) (meta : HashMeta) (old new : List Told) → IsTable image → HasMetadata (file_of image) (HashFields meta) → contents_faults (file_of image) (HashFields meta) ≡ []
+pub sorted_ranked : (image : List ℕ) (meta : HashMeta) (old new : List Told) → IsTable image → HasMetadata (file_of image) (HashFields meta) → database_faults (file_of image) (HashFields meta) ≡ []
     → old ≡ table_told image meta → IsPermutation old new → IsSorted told_cmp new → new ≡ ranked image meta
 sorted_ranked image meta old new table has none are moved sorted =
     let pairs : List StoredPair = table_pairs (file_of image) meta in

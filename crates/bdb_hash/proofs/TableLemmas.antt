@@ -1,7 +1,7 @@
 -- The buckets of a table one after another, and the keys that came before a pair.
 use Rattle.std.proofs.Common.{◌≡◌, ℕ, zero, suc, ◌+◌, ◌<◌, Bool, true, false, not, cond, ◌||◌, List, [], ◌∷◌, ◌++◌, map, length, take, drop, get_or, reverse, arith, refl, sym, ◌∙◌, ap, subst, drop-cons}
 use Rattle.std.specs.Prelude.{Option, None}
-use Rattle.std.specs.BTreeSet.{BTreeSet, contains, Updates}
+use Rattle.std.specs.BTreeSet.{BTreeSet, IsEmpty, contains, Updates}
 use Rattle.std.specs.Cmp.Lexicographic.{slice_cmp}
 use Rattle.std.specs.List.{flat_map, fold, list_any, range_with_len}
 use Rattle.std.specs.Ordering.{nat_cmp}
@@ -12,24 +12,23 @@ use Rattle.std.proofs.lemmas.List.Sums.{fold-append}
 use Rattle.std.proofs.lemmas.Map.Text.{is_eq-slice_cmp}
 use Rattle.bdb_graph.specs.Linked.{HasMetadata, IsForest}
 use Rattle.bdb_graph.proofs.LinkedLemmas.{bucket_fits}
-use Rattle.bdb_hash.proofs.BucketLemmas.{is_no_queue}
 use Rattle.bdb_hash.specs.Views.{IsTable}
-use Rattle.bdb_model.specs.declared.references.Sort.TheVariants.{Bucket}
-use Rattle.bdb_model.specs.Hashing.{first_page}
-use Rattle.bdb_model.specs.HeadOf.{head_of}
-use Rattle.bdb_model.specs.Page.{HashFields}
-use Rattle.bdb_model.specs.Verdict.{structure_faults}
-use Rattle.bdb_hash.specs.Notes.{IsNoted, before, note_bucket, note_repeat, note_told, repeat_noted, stored}
+use Rattle.bdb_format.specs.declared.references.Sort.TheVariants.{Bucket}
+use Rattle.bdb_format.specs.Hashing.{first_page}
+use Rattle.bdb_format.specs.HeadOf.{head_of}
+use Rattle.bdb_format.specs.Page.{HashFields}
+use Rattle.bdb_format.specs.Verdict.{structure_faults}
+use Rattle.bdb_hash.specs.Notes.{note_bucket, note_repeat, note_told, repeat_noted, stored}
 use Rattle.bdb_hash.specs.Told.{Told, bucket_told, joined_pages, page_told}
-use Rattle.bdb_model.specs.declared.kinds.Fault.{Fault}
-use Rattle.bdb_model.specs.declared.metadata.HashMeta.{HashMeta}
-use Rattle.bdb_model.specs.ContentRows.{repeated_after}
-use Rattle.bdb_model.specs.Contents.{StoredPair, bucket_pages}
-use Rattle.bdb_model.specs.File.{file_of}
-
-range_more : (a n : ℕ) → range_with_len a (n + 1) ≡ range_with_len a n ++ (a + n) ∷ []
-range_more a zero = let same : a ≡ a + 0 = omega arith in ap (λ n. n ∷ []) same
-range_more a (suc n) = let more : suc n + 1 ≡ suc (n + 1) = omega arith in let e : a + 1 + n ≡ a + suc n = omega arith in rw more (ap (λ xs. a ∷ xs) (range_more (a + 1) n ∙ ap (λ m. range_with_len (a + 1) n ++ m ∷ []) e))
+use Rattle.bdb_format.specs.declared.kinds.Fault.{Fault}
+use Rattle.bdb_format.specs.declared.metadata.HashMeta.{HashMeta}
+use Rattle.bdb_format.specs.ContentRows.{repeated}
+use Rattle.bdb_format.specs.Contents.{StoredPair, bucket_pages}
+use Rattle.bdb_format.specs.File.{file_of}
+use Rattle.bdb_format.proofs.RepeatLemmas.{has_key, repeated_after, repeated_is}
+use Rattle.bdb_format.proofs.ListLemmas.{range_more}
+use Rattle.bdb_format.proofs.BoolLemmas.{cond_or}
+use Rattle.bdb_graph.proofs.TargetLemmas.{is_no_queue}
 
 pub zero_more : (n : ℕ) → range_with_len 0 (n + 1) ≡ range_with_len 0 n ++ n ∷ []
 zero_more n = let same : 0 + n ≡ n = omega arith in range_more 0 n ∙ ap (λ m. range_with_len 0 n ++ m ∷ []) same
@@ -65,6 +64,19 @@ read_more image meta b pairs more pages before' are is =
 
 -- Keys.
 
+-- pairs that came before, the last one first
+abbrev before : List Told → List StoredPair
+before pairs = reverse (stored pairs)
+
+-- the keys are those of the pairs before one, and the pairs before it are noted
+pub record IsNoted (start least : Option Fault) (keys : BTreeSet (List ℕ)) (pairs : List Told) (i : ℕ) : Type 0 where
+  pub keys_are : (key : List ℕ) → contains (slice_cmp nat_cmp) keys key ≡ has_key key (before (take i pairs))
+  pub noted : fold note_repeat least (repeated_after (before (take i pairs)) (stored (drop i pairs))) ≡ fold note_repeat start (repeated (stored pairs))
+
+-- before the first pair
+pub none_noted : (start : Option Fault) (keys : BTreeSet (List ℕ)) (pairs : List Told) → IsEmpty keys → IsNoted start start keys pairs 0
+none_noted start keys pairs empty = record { keys_are = λ key. rw empty refl; noted = ap (fold note_repeat start) (sym (repeated_is (stored pairs))) }
+
 one_before : (pairs : List Told) (i : ℕ) (t : Told) → i < length pairs → t ≡ get_or pairs i t → before (take (i + 1) pairs) ≡ t.pair ∷ before (take i pairs)
 one_before pairs i t below is =
     let more : take (i + 1) pairs ≡ take i pairs ++ t ∷ [] = take_more pairs i t below ∙ ap (λ (one : Told). take i pairs ++ one ∷ []) (sym is) in
@@ -74,10 +86,6 @@ one_left : (pairs : List Told) (i : ℕ) (t : Told) → i < length pairs → t �
 one_left pairs i t below is =
     let next : suc i ≡ i + 1 = omega arith in
     ap stored (drop-cons pairs i t below ∙ (ap (λ (one : Told). one ∷ drop (suc i) pairs) (sym is) ∙ ap (λ n. t ∷ drop n pairs) next))
-
-cond_or : (a b : Bool) → cond a true b ≡ (a || b)
-cond_or true b = refl
-cond_or false b = refl
 
 keys_more : (keys more : BTreeSet (List ℕ)) (pairs : List StoredPair) (pair : StoredPair) → ((key : List ℕ) → contains (slice_cmp nat_cmp) keys key ≡ list_any (λ (other : StoredPair). bytes_eq other.key key) pairs)
     → Updates (slice_cmp nat_cmp) keys more pair.key true → (key : List ℕ) → contains (slice_cmp nat_cmp) more key ≡ list_any (λ (other : StoredPair). bytes_eq other.key key) (pair ∷ pairs)

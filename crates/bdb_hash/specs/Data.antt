@@ -1,13 +1,13 @@
--- The data of a pair as the code walks over them. What they are as a whole is `data_of` of bdb_model.
+-- The data of a pair as the code walks over them. What they are as a whole is `data_of` of bdb_format.
 use Rattle.std.specs.Prelude.{◌≡◌, ◌≤◌, ◌++◌, not, ℕ, List, [], map}
 use Rattle.std.specs.List.{Contains, filter, flat_map}
 use Rattle.bdb_hash.specs.declared.entries.EntryPage.{EntryPage}
 use Rattle.bdb_hash.specs.declared.entries.EntryPage.TheVariants.{Recno, Dup, Other}
 use Rattle.bdb_overflow.specs.Datum.{FitsContent}
-use Rattle.bdb_model.specs.Chains.{value_of}
-use Rattle.bdb_model.specs.Contents.{live_values}
-use Rattle.bdb_model.specs.File.{File, file_of, page_at}
-use Rattle.bdb_model.specs.Page.{Item}
+use Rattle.bdb_format.specs.Chains.{value_of}
+use Rattle.bdb_format.specs.Contents.{live_values}
+use Rattle.bdb_format.specs.File.{File, file_of, page_at}
+use Rattle.bdb_format.specs.Page.{Item}
 use Rattle.bdb_hash.specs.Views.{IsTable}
 
 -- the entries of a page of data

@@ -1,23 +1,16 @@
--- The faults of a table's contents as the code notes them, pair by pair, and the least of them. Source: docs/FORMAT.md, "Stage 8".
-use Rattle.std.specs.Prelude.{◌≡◌, ℕ, nat_lt, ◌==◌, ◌&&◌, ◌||◌, not, if◌then◌else◌, Bool, List, [], ◌∷◌, map, reverse, take, drop, Option, Some, None}
-use Rattle.std.specs.BTreeSet.{BTreeSet, contains}
-use Rattle.std.specs.Cmp.Lexicographic.{slice_cmp}
+-- The faults of a table's contents as the code notes them, pair by pair, and the least of them. Source: docs/FORMAT.md, "Stage 8, contents".
+use Rattle.std.specs.Prelude.{◌≡◌, ℕ, nat_lt, ◌==◌, ◌&&◌, ◌||◌, not, if◌then◌else◌, Bool, List, [], ◌∷◌, map, Option, Some, None}
 use Rattle.std.specs.List.{fold, list_any}
-use Rattle.std.specs.Ordering.{nat_cmp}
-use Rattle.std.specs.Str.{bytes_eq}
 use Rattle.std.specs.Option.{option_map}
-use Rattle.bdb_graph.specs.Linking.{first_fault}
 use Rattle.bdb_hash.specs.Told.{Told, bucket_told}
-use Rattle.bdb_model.specs.declared.kinds.CheckError.{CheckError}
-use Rattle.bdb_model.specs.declared.kinds.CheckError.TheVariants.{Fault as FaultError, Memory}
-use Rattle.bdb_model.specs.declared.kinds.Fault.{Fault}
-use Rattle.bdb_model.specs.declared.metadata.HashMeta.{HashMeta}
-use Rattle.bdb_model.specs.ContentRows.{ascends, bucket_of_key, contents_faults, hash_sorted, is_duplicate, is_wrong_set, repeated_after}
-use Rattle.bdb_model.specs.Contents.{StoredPair, data_of}
-use Rattle.bdb_model.specs.File.{File, file_of}
-use Rattle.bdb_model.specs.Numbers.{has_bit}
-use Rattle.bdb_model.specs.Page.{HashFields}
-use Rattle.bdb_model.specs.Table.{Row, ◌:?◌, first_row}
+use Rattle.bdb_format.specs.declared.kinds.Fault.{Fault}
+use Rattle.bdb_format.specs.declared.metadata.HashMeta.{HashMeta}
+use Rattle.bdb_format.specs.ContentRows.{ascends, bucket_of_key, is_duplicate, is_wrong_set, repeated}
+use Rattle.bdb_format.specs.Contents.{StoredPair, data_of}
+use Rattle.bdb_format.specs.File.{File, file_of}
+use Rattle.bdb_format.specs.Page.{HashFields}
+use Rattle.bdb_format.specs.Table.{Row, ◌:?◌, first_row}
+use Rattle.bdb_format.specs.Flags.{has_duplicates, is_sorted}
 
 abbrev pub fault_at : ℕ → ℕ → Fault
 fault_at page code = record { stage = 8; page = page; code = code }
@@ -35,9 +28,9 @@ earlier (Some a) (Some b) = if is_before b a then Some b else Some a
 -- what is wrong with a pair in a bucket by itself: Duplicates, DuplicateKind, DuplicateOrder, Bucket
 abbrev pub pair_rows : File → HashMeta → ℕ → StoredPair → List (Row ℕ)
 pair_rows file meta b pair =
-    1 :? (not (has_bit meta.flags 0x05) && is_duplicate pair)
-    ∷ 2 :? is_wrong_set file (hash_sorted meta.flags) pair.data_item
-    ∷ 5 :? (hash_sorted meta.flags && not (ascends (data_of file pair.data_item)))
+    1 :? (not (has_duplicates (HashFields meta)) && is_duplicate pair)
+    ∷ 2 :? is_wrong_set file (is_sorted (HashFields meta)) pair.data_item
+    ∷ 5 :? (is_sorted (HashFields meta) && not (ascends (data_of file pair.data_item)))
     ∷ 8 :? not (bucket_of_key meta pair.key == b)
     ∷ []
 
@@ -55,27 +48,13 @@ note_repeat least pair = earlier least (Some (fault_at pair.page 9))
 abbrev pub stored : List Told → List StoredPair
 stored pairs = map (λ (told : Told). told.pair) pairs
 
--- a refusal is the first fault, or want of memory
-abbrev pub IsContentsRefusal : File → HashMeta → CheckError → Type 0
-IsContentsRefusal file meta (FaultError fault) = first_fault (contents_faults file (HashFields meta)) ≡ Some fault
-IsContentsRefusal file meta Memory = Unit {0}
-
 -- the faults of the pairs of a bucket by themselves
 abbrev pub note_bucket : List ℕ → HashMeta → Option Fault → ℕ → Option Fault
 note_bucket image meta least b = fold (note_told meta b) least (bucket_told image meta b)
 
--- pairs that came before, the last one first
-abbrev pub before : List Told → List StoredPair
-before pairs = reverse (stored pairs)
-
 -- the fault of a pair, unless its key is new
 abbrev pub repeat_noted : Bool → Option Fault → ℕ → Option Fault
 repeat_noted is_new least page = if is_new then least else earlier least (Some (fault_at page 9))
-
--- the keys are those of the pairs before one, and the pairs before it are noted
-pub record IsNoted (start least : Option Fault) (keys : BTreeSet (List ℕ)) (pairs : List Told) (i : ℕ) : Type 0 where
-  pub keys_are : (key : List ℕ) → contains (slice_cmp nat_cmp) keys key ≡ list_any (λ (other : StoredPair). bytes_eq other.key key) (before (take i pairs))
-  pub noted : fold note_repeat least (repeated_after (before (take i pairs)) (stored (drop i pairs))) ≡ fold note_repeat start (repeated_after [] (stored pairs))
 
 -- a stray: a pair of this bucket that isn't in the bucket of its key
 abbrev pub is_stray : HashMeta → ℕ → Told → Bool
@@ -87,4 +66,4 @@ has_stray_in image meta b = list_any (is_stray meta b) (bucket_told image meta b
 
 -- the faults of the pairs that have the key of an earlier one of their bucket
 abbrev pub note_again : List ℕ → HashMeta → Option Fault → ℕ → Option Fault
-note_again image meta least b = fold note_repeat least (repeated_after [] (stored (bucket_told image meta b)))
+note_again image meta least b = fold note_repeat least (repeated (stored (bucket_told image meta b)))

@@ -5,10 +5,10 @@ use Rattle.bdb_overflow.specs.declared.datum.Datum.{Datum}
 use Rattle.bdb_overflow.specs.declared.datum.KeyView.{KeyView}
 use Rattle.bdb_overflow.specs.Datum.{datum_seen, key_view_seen}
 use Rattle.bdb_hash.specs.Told.{Told, entry_list, listed_told, told}
-use Rattle.bdb_model.specs.declared.metadata.HashMeta.{HashMeta}
-use Rattle.bdb_model.specs.Contents.{table_pairs}
-use Rattle.bdb_model.specs.File.{file_of}
-use Rattle.bdb_model.specs.Lists.{ListKey, by_key}
+use Rattle.bdb_format.specs.declared.metadata.HashMeta.{HashMeta}
+use Rattle.bdb_format.specs.Contents.{table_pairs}
+use Rattle.bdb_format.specs.File.{file_of}
+use Rattle.bdb_format.specs.Lists.{ListKey, by_key}
 
 -- a pair of a list
 abbrev pub entry_seen : (KeyView × Datum) → ListKey × List ℕ

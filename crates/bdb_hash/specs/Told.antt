@@ -1,12 +1,12 @@
 -- A pair of a table with the file that it stands in. Source: docs/FORMAT.md, "Items".
 use Rattle.std.specs.Prelude.{◌≡◌, ◌≤◌, ℕ, ◌+◌, ◌-◌, ◌/◌, ◌==◌, if◌then◌else◌, Bool, true, false, List, [], map, length, Option, Some, None}
 use Rattle.std.specs.List.{find, flat_map, range_with_len}
-use Rattle.bdb_model.specs.Chains.{chain_in}
-use Rattle.bdb_model.specs.Contents.{StoredPair, bucket_pages, pair_at, pairs_of}
-use Rattle.bdb_model.specs.declared.metadata.HashMeta.{HashMeta}
-use Rattle.bdb_model.specs.File.{File, file_of}
-use Rattle.bdb_model.specs.Page.{Item, Listed, Page, Zero, Hash}
-use Rattle.bdb_model.specs.Lists.{ListKey, BytesKey, listed_pair}
+use Rattle.bdb_format.specs.Chains.{chain_in}
+use Rattle.bdb_format.specs.Contents.{StoredPair, bucket_pages, pair_at, pairs_of}
+use Rattle.bdb_format.specs.declared.metadata.HashMeta.{HashMeta}
+use Rattle.bdb_format.specs.File.{File, file_of}
+use Rattle.bdb_format.specs.Page.{Item, Listed, Page, Zero, Hash}
+use Rattle.bdb_format.specs.Lists.{ListKey, BytesKey, listed_pair}
 use Rattle.std.specs.declared.cmp.Ordering.{Ordering}
 use Rattle.std.specs.Cmp.Lexicographic.{slice_cmp}
 use Rattle.std.specs.Ordering.{nat_cmp}

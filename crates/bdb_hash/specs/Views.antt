@@ -3,10 +3,10 @@ use Rattle.std.specs.Prelude.{◌≡◌, ◌≤◌, ℕ, IsTrue, List, [], Optio
 use Rattle.bdb_graph.specs.Linked.{FitsDupRoot, IsForest}
 use Rattle.bdb_overflow.specs.Datum.{FitsContent}
 use Rattle.bdb_hash.specs.Told.{is_of_bucket}
-use Rattle.bdb_model.specs.declared.metadata.FileKind.TheVariants.{Queue}
-use Rattle.bdb_model.specs.File.{File, file_of, page_at}
-use Rattle.bdb_model.specs.Page.{Content, Inline, Set, Chain, Tree, Unknown, Item, Listed, Hash}
-use Rattle.bdb_model.specs.Verdict.{structure_faults}
+use Rattle.bdb_format.specs.declared.metadata.FileKind.TheVariants.{Queue}
+use Rattle.bdb_format.specs.File.{File, file_of, page_at}
+use Rattle.bdb_format.specs.Page.{Content, Inline, Set, Chain, Tree, Unknown, Item, Listed, Hash}
+use Rattle.bdb_format.specs.Verdict.{structure_faults}
 
 -- a file with references on which no row of stages 1 to 6 holds
 pub record IsTable (image : List ℕ) : Type 0 where

@@ -2,15 +2,15 @@ ghost use Rattle.std.specs.Prelude.{◌≡◌, ◌≤◌, [], length, map};
 ghost use Rattle.std.specs.Iterator.{YieldsFirstBy, item_count};
 ghost use Rattle.bdb_graph.specs.Linked.{HasMetadata};
 ghost use Rattle.bdb_hash.specs.Told.{page_told};
-ghost use Rattle.bdb_model.specs.Contents.{bucket_pages};
-ghost use Rattle.bdb_model.specs.File.{file_of};
-ghost use Rattle.bdb_model.specs.Page.{HashFields};
-ghost use Rattle.bdb_model.specs.Verdict.{structure_faults};
+ghost use Rattle.bdb_format.specs.Contents.{bucket_pages};
+ghost use Rattle.bdb_format.specs.File.{file_of};
+ghost use Rattle.bdb_format.specs.Page.{HashFields};
+ghost use Rattle.bdb_format.specs.Verdict.{structure_faults};
 
 use crate::PagePairs;
 use crate::pairs::page_pairs;
+use bdb_format::HashMeta;
 use bdb_graph::{Forest, Linked};
-use bdb_model::HashMeta;
 use std::marker::Model;
 
 /// The pages of a bucket that are left, each as its pairs.
@@ -25,7 +25,7 @@ impl<'a> Model for BucketPages<'a> {
     ghost use Rattle.std.specs.Prelude.{List, map};
     ghost use Rattle.bdb_hash.specs.Told.{Told, page_told, pages_from};
     ghost use Rattle.bdb_hash.specs.Views.{IsOnWay};
-    ghost use Rattle.bdb_model.specs.File.{file_of};
+    ghost use Rattle.bdb_format.specs.File.{file_of};
 
     ghost Value = { List (List Told) };
 

@@ -4,8 +4,8 @@ ghost use Rattle.bdb_hash.specs.Rest.{rest_shown};
 ghost use Rattle.bdb_overflow.specs.Datum.{FitsContent, datum_seen};
 ghost use Rattle.bdb_hash.specs.Views.{FitsRoot, IsTable};
 ghost use Rattle.bdb_layout.specs.Seen.{hash_content_seen};
-ghost use Rattle.bdb_model.specs.Contents.{data_of};
-ghost use Rattle.bdb_model.specs.File.{file_of};
+ghost use Rattle.bdb_format.specs.Contents.{data_of};
+ghost use Rattle.bdb_format.specs.File.{file_of};
 
 use crate::tree::{TreeValues, tree_values};
 use bdb_graph::Forest;
@@ -61,7 +61,7 @@ impl<'a> Data<'a> {
     }
 
     /// The data that a data item holds.
-    #[tactic(auto, using(crate::proofs::DataLemmas::one_datum), unfolding(bdb_model::specs::Contents::data_of))]
+    #[tactic(auto, using(crate::proofs::DataLemmas::one_datum), unfolding(bdb_format::specs::Contents::data_of))]
     pub(crate) fn of_item(forest: &Forest<'a>, item: HashItem<'a>) -> Data<'a>
         requires table { IsTable forest.now }
         requires chain { FitsContent (file_of forest.now) (hash_content_seen item) }

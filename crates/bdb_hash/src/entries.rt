@@ -6,9 +6,9 @@ ghost use Rattle.bdb_hash.specs.Data.{entries_shown, live_items};
 ghost use Rattle.bdb_overflow.specs.Datum.{FitsContent, datum_seen};
 ghost use Rattle.bdb_hash.specs.Views.{IsTable};
 ghost use Rattle.bdb_layout.specs.Seen.{leaf_item_seen};
-ghost use Rattle.bdb_model.specs.Chains.{value_of};
-ghost use Rattle.bdb_model.specs.Contents.{entries_in, live_values};
-ghost use Rattle.bdb_model.specs.File.{file_of, page_at};
+ghost use Rattle.bdb_format.specs.Chains.{value_of};
+ghost use Rattle.bdb_format.specs.Contents.{entries_in, live_values};
+ghost use Rattle.bdb_format.specs.File.{file_of, page_at};
 
 use bdb_form::{DupLeafView, PageView, RecnoLeafView};
 use bdb_graph::Forest;
@@ -65,7 +65,7 @@ impl<'a> EntryPage<'a> {
     }
 
     /// The first live entry from a place on, and the place after it.
-    #[tactic(auto, using(crate::proofs::DataLemmas::live_here, crate::proofs::DataLemmas::live_later, crate::proofs::DataLemmas::live_past, crate::proofs::DataLemmas::is_there))]
+    #[tactic(auto, using(crate::proofs::DataLemmas::live_here, crate::proofs::DataLemmas::live_later, crate::proofs::DataLemmas::live_past, bdb_format::proofs::ListLemmas::member_of))]
     fn first_live(&self, from: u16) -> Option<(LeafItem<'a>, u16)>
         ensures first { MatchOption result (live_items (drop from (entries_shown self.now)) ≡ []) (λ found. live_items (drop from (entries_shown self.now)) ≡ leaf_item_seen found.0 ∷ live_items (drop found.1 (entries_shown self.now))) }
         ensures entry { IfSome result (λ found. Contains (entries_shown self.now) (leaf_item_seen found.0)) }
@@ -113,7 +113,7 @@ pub(crate) struct LeafValues<'a> {
 impl<'a> Model for LeafValues<'a> {
     ghost use Rattle.std.specs.Prelude.{List, ℕ, drop};
     ghost use Rattle.bdb_hash.specs.Data.{AreEntries, entries_shown, values_of};
-    ghost use Rattle.bdb_model.specs.File.{file_of};
+    ghost use Rattle.bdb_format.specs.File.{file_of};
 
     ghost Value = { List (List ℕ) };
 

@@ -1,15 +1,14 @@
 ghost use Rattle.std.specs.Prelude.{◌≡◌, [], IfErr, OnOk};
 ghost use Rattle.bdb_graph.specs.Linked.{HasMetadata};
-ghost use Rattle.bdb_hash.specs.Notes.{IsContentsRefusal};
-ghost use Rattle.bdb_model.specs.ContentRows.{contents_faults};
-ghost use Rattle.bdb_model.specs.File.{file_of};
-ghost use Rattle.bdb_model.specs.Page.{HashFields};
-ghost use Rattle.bdb_model.specs.Verdict.{structure_faults};
+ghost use Rattle.bdb_format.specs.ContentRows.{database_faults};
+ghost use Rattle.bdb_format.specs.File.{file_of};
+ghost use Rattle.bdb_format.specs.Page.{HashFields};
+ghost use Rattle.bdb_format.specs.Verdict.{structure_faults, IsFirstOf};
 
 use crate::repeats::note_table_repeats;
 use crate::table::note_table;
+use bdb_format::{CheckError, HashMeta};
 use bdb_graph::Linked;
-use bdb_model::{CheckError, HashMeta};
 use std::alloc::Global;
 
 /// No row of contents holds for the table of this metadata. A refusal is the first fault: the least page,
@@ -18,8 +17,8 @@ use std::alloc::Global;
 pub fn check(alloc: Global, linked: &Linked<'_>, meta: &HashMeta) -> Result<(), CheckError>
     requires meta { HasMetadata (file_of linked.now) (HashFields meta.now) }
     requires stage { structure_faults (file_of linked.now) ≡ [] }
-    ensures accepted { OnOk result (contents_faults (file_of linked.now) (HashFields meta.now) ≡ []) }
-    ensures refusal { IfErr result (IsContentsRefusal (file_of linked.now) meta.now) }
+    ensures accepted { OnOk result (database_faults (file_of linked.now) (HashFields meta.now) ≡ []) }
+    ensures refusal { IfErr result (IsFirstOf (database_faults (file_of linked.now) (HashFields meta.now))) }
 {
     let least = note_table(linked, meta);
     match note_table_repeats(alloc, least, linked, meta) {

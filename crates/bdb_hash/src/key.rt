@@ -1,7 +1,7 @@
 ghost use Rattle.std.specs.Prelude.{◌≡◌};
 ghost use Rattle.bdb_overflow.specs.Datum.{datum_seen};
-ghost use Rattle.bdb_model.specs.Hashing.{hash5};
-ghost use Rattle.bdb_model.specs.Less.{less};
+ghost use Rattle.bdb_format.specs.Hashing.{hash5};
+ghost use Rattle.bdb_format.specs.Less.{less};
 ghost use Rattle.std.specs.Str.{bytes_eq};
 
 use bdb_layout::{hash5, hash5_after};

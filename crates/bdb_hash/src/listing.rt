@@ -5,7 +5,7 @@ ghost use Rattle.std.specs.Vec.Iter.{into_iter_items};
 ghost use Rattle.bdb_hash.specs.Scanned.{entry_seen};
 ghost use Rattle.bdb_overflow.specs.Datum.{datum_seen};
 ghost use Rattle.bdb_hash.specs.Told.{entry_list, listed_told};
-ghost use Rattle.bdb_model.specs.Lists.{ListKey};
+ghost use Rattle.bdb_format.specs.Lists.{ListKey};
 
 use crate::{Data, Pair};
 use bdb_overflow::{Datum, KeyView};
@@ -26,7 +26,7 @@ impl<'a> Model for Scan<'a> {
     ghost use Rattle.std.specs.Vec.Iter.{into_iter_items};
     ghost use Rattle.bdb_overflow.specs.Datum.{datum_seen};
     ghost use Rattle.bdb_hash.specs.Told.{entry_list, listed_told};
-    ghost use Rattle.bdb_model.specs.Lists.{ListKey};
+    ghost use Rattle.bdb_format.specs.Lists.{ListKey};
 
     ghost Value = { List (ListKey × List ℕ) };
 

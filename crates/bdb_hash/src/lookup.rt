@@ -3,17 +3,17 @@ ghost use Rattle.std.specs.List.{find};
 ghost use Rattle.bdb_graph.specs.Linked.{HasMetadata};
 ghost use Rattle.bdb_hash.specs.Told.{bucket_told, has_key};
 ghost use Rattle.bdb_hash.specs.Views.{IsTable};
-ghost use Rattle.bdb_model.specs.ContentRows.{bucket_of_key, contents_faults};
-ghost use Rattle.bdb_model.specs.File.{file_of};
-ghost use Rattle.bdb_model.specs.Lists.{BytesKey, get, hash_list};
-ghost use Rattle.bdb_model.specs.Page.{HashFields};
-ghost use Rattle.bdb_model.specs.Verdict.{structure_faults};
+ghost use Rattle.bdb_format.specs.ContentRows.{bucket_of_key, database_faults};
+ghost use Rattle.bdb_format.specs.File.{file_of};
+ghost use Rattle.bdb_format.specs.Lists.{BytesKey, get, hash_list};
+ghost use Rattle.bdb_format.specs.Page.{HashFields};
+ghost use Rattle.bdb_format.specs.Verdict.{structure_faults};
 
 use crate::table::buckets;
 use crate::{Data, PagePairs, Pair, bucket_pages};
+use bdb_format::{HashMeta, Steps};
 use bdb_graph::Linked;
 use bdb_layout::{bucket_of, hash5};
-use bdb_model::{HashMeta, Steps};
 use std::sync::ledger::Ledger;
 
 /// The first pair of a page with this key.
@@ -74,7 +74,7 @@ pub fn find<'a, L: Ledger>(
 ) -> Data<'a>
     requires meta { HasMetadata (file_of linked.now) (HashFields meta.now) }
     requires stage { structure_faults (file_of linked.now) ≡ [] }
-    requires contents { contents_faults (file_of linked.now) (HashFields meta.now) ≡ [] }
+    requires contents { database_faults (file_of linked.now) (HashFields meta.now) ≡ [] }
     ensures data { result ≡ get (hash_list (file_of linked.now) meta.now) (BytesKey key.now) }
     ensures cost { steps.new ≤ steps.old + (file_of linked.now).count }
 {

@@ -3,11 +3,11 @@ ghost use Rattle.bdb_overflow.specs.Datum.{FitsContent, datum_seen};
 ghost use Rattle.bdb_hash.specs.Told.{entry_list, has_key, listed_told, told};
 ghost use Rattle.bdb_hash.specs.Views.{IsTable};
 ghost use Rattle.bdb_layout.specs.Seen.{hash_content_seen};
-ghost use Rattle.bdb_model.specs.Chains.{value_of};
-ghost use Rattle.bdb_model.specs.ContentRows.{is_duplicate, is_wrong_set};
-ghost use Rattle.bdb_model.specs.Contents.{data_of, pair_at};
-ghost use Rattle.bdb_model.specs.File.{file_of, page_at};
-ghost use Rattle.bdb_model.specs.Page.{Hash};
+ghost use Rattle.bdb_format.specs.Chains.{value_of};
+ghost use Rattle.bdb_format.specs.ContentRows.{is_duplicate, is_wrong_set};
+ghost use Rattle.bdb_format.specs.Contents.{data_of, pair_at};
+ghost use Rattle.bdb_format.specs.File.{file_of, page_at};
+ghost use Rattle.bdb_format.specs.Page.{Hash};
 
 use crate::Data;
 use crate::key::is_same;

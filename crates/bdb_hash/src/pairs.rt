@@ -2,9 +2,9 @@ ghost use Rattle.std.specs.Prelude.{◌≡◌, ◌≤◌, [], IsTrue};
 ghost use Rattle.std.specs.Iterator.{YieldsFirstBy, item_count};
 ghost use Rattle.bdb_hash.specs.Told.{page_told};
 ghost use Rattle.bdb_hash.specs.Views.{IsOfBucket, IsOnWay, IsTable};
-ghost use Rattle.bdb_model.specs.Chains.{next_of};
-ghost use Rattle.bdb_model.specs.File.{file_of, page_at};
-ghost use Rattle.bdb_model.specs.Page.{Hash};
+ghost use Rattle.bdb_format.specs.Chains.{next_of};
+ghost use Rattle.bdb_format.specs.File.{file_of, page_at};
+ghost use Rattle.bdb_format.specs.Page.{Hash};
 
 use crate::Pair;
 use bdb_form::{HashView, PageView};

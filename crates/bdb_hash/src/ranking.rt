@@ -1,16 +1,16 @@
 ghost use Rattle.std.specs.Prelude.{◌≡◌, [], IfOk};
 ghost use Rattle.bdb_graph.specs.Linked.{HasMetadata};
 ghost use Rattle.bdb_hash.specs.Scanned.{ranked};
-ghost use Rattle.bdb_model.specs.ContentRows.{contents_faults};
-ghost use Rattle.bdb_model.specs.File.{file_of};
-ghost use Rattle.bdb_model.specs.Lists.{hash_list};
-ghost use Rattle.bdb_model.specs.Page.{HashFields};
-ghost use Rattle.bdb_model.specs.Verdict.{structure_faults};
+ghost use Rattle.bdb_format.specs.ContentRows.{database_faults};
+ghost use Rattle.bdb_format.specs.File.{file_of};
+ghost use Rattle.bdb_format.specs.Lists.{hash_list};
+ghost use Rattle.bdb_format.specs.Page.{HashFields};
+ghost use Rattle.bdb_format.specs.Verdict.{structure_faults};
 
 use crate::table::{buckets, table_pairs};
 use crate::{Pair, Scan};
+use bdb_format::HashMeta;
 use bdb_graph::Linked;
-use bdb_model::HashMeta;
 use std::alloc::{AllocError, Global};
 
 /// All pairs of a table, in the order of their keys. An error is want of memory.
@@ -21,12 +21,12 @@ fn ranked_pairs<'a>(
 ) -> Result<Vec<Pair<'a>>, AllocError>
     requires meta { HasMetadata (file_of linked.now) (HashFields meta.now) }
     requires stage { structure_faults (file_of linked.now) ≡ [] }
-    requires contents { contents_faults (file_of linked.now) (HashFields meta.now) ≡ [] }
+    requires contents { database_faults (file_of linked.now) (HashFields meta.now) ≡ [] }
     ensures { IfOk result (λ pairs. pairs.items ≡ ranked linked.now meta.now) }
 {
     prove!(buckets(linked, meta) > 0);
     let mut pairs = table_pairs(alloc, linked, meta)?;
-    pairs.sort()?;
+    pairs.sort_unstable();
     Ok(pairs)
 }
 
@@ -36,7 +36,7 @@ fn ranked_pairs<'a>(
 pub fn scan<'a>(alloc: Global, linked: &Linked<'a>, meta: &HashMeta) -> Result<Scan<'a>, AllocError>
     requires meta { HasMetadata (file_of linked.now) (HashFields meta.now) }
     requires stage { structure_faults (file_of linked.now) ≡ [] }
-    requires contents { contents_faults (file_of linked.now) (HashFields meta.now) ≡ [] }
+    requires contents { database_faults (file_of linked.now) (HashFields meta.now) ≡ [] }
     ensures { IfOk result (λ scan. scan ≡ hash_list (file_of linked.now) meta.now) }
 {
     let pairs = ranked_pairs(alloc, linked, meta)?;

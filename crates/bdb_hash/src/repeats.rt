@@ -6,18 +6,18 @@ ghost use Rattle.std.specs.Ordering.{nat_cmp};
 ghost use Rattle.bdb_graph.specs.Linked.{HasMetadata};
 ghost use Rattle.bdb_hash.specs.Notes.{note_again, note_repeat, repeat_noted, stored};
 ghost use Rattle.bdb_hash.specs.Told.{table_told};
-ghost use Rattle.bdb_model.specs.ContentRows.{repeated_after};
-ghost use Rattle.bdb_model.specs.File.{file_of};
-ghost use Rattle.bdb_model.specs.Page.{HashFields};
-ghost use Rattle.bdb_model.specs.Verdict.{structure_faults};
+ghost use Rattle.bdb_format.specs.ContentRows.{repeated};
+ghost use Rattle.bdb_format.specs.File.{file_of};
+ghost use Rattle.bdb_format.specs.Page.{HashFields};
+ghost use Rattle.bdb_format.specs.Verdict.{structure_faults};
 
 use crate::Pair;
 use crate::key::Key;
 use crate::rows::earlier;
 use crate::strays::has_stray;
 use crate::table::{bucket_pairs, buckets, table_pairs};
+use bdb_format::{Fault, HashMeta};
 use bdb_graph::Linked;
-use bdb_model::{Fault, HashMeta};
 use std::alloc::{AllocError, Global};
 use std::collections::BTreeSet;
 
@@ -28,7 +28,7 @@ fn note_repeats(
     least: Option<Fault>,
     pairs: &[Pair<'_>],
 ) -> Result<Option<Fault>, AllocError>
-    ensures { IfOk result (λ noted. noted ≡ fold note_repeat least (repeated_after [] (stored pairs.now))) }
+    ensures { IfOk result (λ noted. noted ≡ fold note_repeat least (repeated (stored pairs.now))) }
 {
     let mut least = least;
     let mut keys = BTreeSet::new(alloc);
@@ -98,7 +98,7 @@ pub(crate) fn note_table_repeats(
 ) -> Result<Option<Fault>, AllocError>
     requires meta { HasMetadata (file_of linked.now) (HashFields meta.now) }
     requires stage { structure_faults (file_of linked.now) ≡ [] }
-    ensures { IfOk result (λ noted. noted ≡ fold note_repeat least (repeated_after [] (stored (table_told linked.now meta.now)))) }
+    ensures { IfOk result (λ noted. noted ≡ fold note_repeat least (repeated (stored (table_told linked.now meta.now)))) }
 {
     if has_stray(linked, meta) {
         let pairs = table_pairs(alloc, linked, meta)?;

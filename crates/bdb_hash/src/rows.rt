@@ -2,29 +2,31 @@ ghost use Rattle.std.specs.Prelude.{◌≡◌, Some};
 ghost use Rattle.bdb_form.specs.Seen.{page_seen};
 ghost use Rattle.bdb_hash.specs.Notes.{earlier, is_before, pair_fault, pair_rows};
 ghost use Rattle.bdb_overflow.specs.Datum.{datum_seen};
-ghost use Rattle.bdb_model.specs.ContentRows.{ascends, bucket_of_key, hash_sorted, wrong_set_types};
-ghost use Rattle.bdb_model.specs.File.{file_of, type_in};
-ghost use Rattle.bdb_model.specs.Numbers.{has_bit};
-ghost use Rattle.bdb_model.specs.References.{has_type};
-ghost use Rattle.bdb_model.specs.Table.{first_row};
+ghost use Rattle.bdb_format.specs.ContentRows.{ascends, bucket_of_key, wrong_set_types};
+ghost use Rattle.bdb_format.specs.File.{file_of, type_in};
+ghost use Rattle.bdb_format.specs.Numbers.{has_bit};
+ghost use Rattle.bdb_format.specs.References.{has_type};
+ghost use Rattle.bdb_format.specs.Table.{first_row};
+ghost use Rattle.bdb_format.specs.Flags.{has_duplicates, is_sorted};
+ghost use Rattle.bdb_format.specs.Page.{HashFields};
 
 use crate::key::{hash_of, is_less};
 use crate::{Data, Pair};
 use bdb_form::PageView;
+use bdb_format::{Fault, HashMeta};
 use bdb_layout::bucket_of;
-use bdb_model::{Fault, HashMeta};
 use bdb_overflow::Datum;
 
 /// Whether a table may hold several data of a key.
 pub(crate) fn has_duplicates(meta: &HashMeta) -> bool
-    ensures { result ≡ has_bit meta.now.flags 0x05 }
+    ensures { result ≡ has_duplicates (HashFields meta.now) }
 {
     meta.flags & 0x05 != 0
 }
 
 /// Whether the data of a key ascend in this table.
 pub(crate) fn is_sorted(meta: &HashMeta) -> bool
-    ensures { result ≡ hash_sorted meta.now.flags }
+    ensures { result ≡ is_sorted (HashFields meta.now) }
 {
     meta.flags & 0x04 != 0
 }

@@ -3,15 +3,15 @@ ghost use Rattle.std.specs.List.{list_any, range_with_len};
 ghost use Rattle.bdb_graph.specs.Linked.{HasMetadata};
 ghost use Rattle.bdb_hash.specs.Notes.{has_stray_in, is_stray};
 ghost use Rattle.bdb_hash.specs.Told.{joined_pages};
-ghost use Rattle.bdb_model.specs.File.{file_of};
-ghost use Rattle.bdb_model.specs.Page.{HashFields};
-ghost use Rattle.bdb_model.specs.Verdict.{structure_faults};
+ghost use Rattle.bdb_format.specs.File.{file_of};
+ghost use Rattle.bdb_format.specs.Page.{HashFields};
+ghost use Rattle.bdb_format.specs.Verdict.{structure_faults};
 
 use crate::rows::bucket_of_key;
 use crate::table::buckets;
 use crate::{BucketPages, PagePairs, bucket_pages};
+use bdb_format::HashMeta;
 use bdb_graph::Linked;
-use bdb_model::HashMeta;
 
 /// Whether a page of a bucket has a stray, a pair that isn't in the bucket of its key.
 fn has_stray_on(page: PagePairs<'_>, meta: &HashMeta, b: u32) -> bool

@@ -4,14 +4,14 @@ ghost use Rattle.bdb_graph.specs.Linked.{HasMetadata};
 ghost use Rattle.bdb_hash.specs.Notes.{note_bucket, note_told};
 ghost use Rattle.bdb_hash.specs.Told.{bucket_told, joined_pages, table_told};
 ghost use Rattle.bdb_hash.specs.Views.{IsTable};
-ghost use Rattle.bdb_model.specs.File.{file_of};
-ghost use Rattle.bdb_model.specs.Page.{HashFields};
-ghost use Rattle.bdb_model.specs.Verdict.{structure_faults};
+ghost use Rattle.bdb_format.specs.File.{file_of};
+ghost use Rattle.bdb_format.specs.Page.{HashFields};
+ghost use Rattle.bdb_format.specs.Verdict.{structure_faults};
 
 use crate::rows::{earlier, pair_fault};
 use crate::{BucketPages, PagePairs, Pair, bucket_pages};
+use bdb_format::{Fault, HashMeta};
 use bdb_graph::Linked;
-use bdb_model::{Fault, HashMeta};
 use std::alloc::{AllocError, Global};
 
 /// How many buckets a table has.

@@ -4,9 +4,9 @@ ghost use Rattle.bdb_graph.specs.Linked.{FitsDupRoot};
 ghost use Rattle.bdb_hash.specs.Data.{AreInside, leaf_values};
 ghost use Rattle.bdb_overflow.specs.Datum.{datum_seen};
 ghost use Rattle.bdb_hash.specs.Views.{IsTable};
-ghost use Rattle.bdb_model.specs.Contents.{data_of};
-ghost use Rattle.bdb_model.specs.File.{file_of};
-ghost use Rattle.bdb_model.specs.Page.{Tree};
+ghost use Rattle.bdb_format.specs.Contents.{data_of};
+ghost use Rattle.bdb_format.specs.File.{file_of};
+ghost use Rattle.bdb_format.specs.Page.{Tree};
 
 use crate::entries::{LeafValues, leaf_values};
 use bdb_graph::Forest;
@@ -25,7 +25,7 @@ pub(crate) struct TreeValues<'a> {
 impl<'a> Model for TreeValues<'a> {
     ghost use Rattle.std.specs.Prelude.{List, ℕ, ◌++◌};
     ghost use Rattle.bdb_hash.specs.Data.{AreLeft, leaf_values};
-    ghost use Rattle.bdb_model.specs.File.{file_of};
+    ghost use Rattle.bdb_format.specs.File.{file_of};
 
     ghost Value = { List (List ℕ) };
 

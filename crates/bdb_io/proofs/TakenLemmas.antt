@@ -2,8 +2,8 @@
 use Rattle.std.proofs.Common.{◌≡◌, ℕ, ◌+◌, ◌≤◌, List, ◌++◌, length, take, arith, length-append, length-take}
 use Rattle.std.specs.Prelude.{Option}
 use Rattle.std.specs.Io.KnownBytes.{Consumes}
-use Rattle.bdb_model.specs.Faults.{Took, TookAtMost}
-use Rattle.bdb_model.proofs.KnownLemmas.{consumes_next}
+use Rattle.bdb_format.specs.Faults.{Took, TookAtMost}
+use Rattle.bdb_format.proofs.KnownLemmas.{consumes_next}
 
 -- the bytes held came, and then a piece of the buffer
 pub took_next : (a b c : Option (List ℕ)) (held buf : List ℕ) (count n : ℕ) → Consumes a b held → count ≤ length buf → Consumes b c (take count buf)

@@ -1,9 +1,9 @@
 ghost use Rattle.std.specs.Prelude.{◌≡◌, ◌≢◌, ◌+◌, ◌^◌, ◌≤◌, ◌<◌, List, ℕ, length, Err, IfOk, IsErrOf, IsOk, ◌⊎◌};
 ghost use Rattle.std.specs.Io.KnownBytes.{Consumes, IsAtEnd};
-ghost use Rattle.bdb_model.specs.Faults.{Rose, Took, TookAtMost};
+ghost use Rattle.bdb_format.specs.Faults.{Rose, Took, TookAtMost};
 
 use crate::Source;
-use bdb_model::Bytes;
+use bdb_format::Bytes;
 use std::alloc::Global;
 use std::marker::Model;
 use thiserror::Error;
@@ -47,7 +47,7 @@ pub enum ReadError {
 const CHUNK: usize = 65536;
 
 /// Reads until a read gives nothing, or one byte more than the limit came.
-#[tactic(auto, using(bdb_model::proofs::KnownLemmas::consumes_next, bdb_model::proofs::KnownLemmas::consumes_kept, bdb_model::proofs::KnownLemmas::consumes_nothing))]
+#[tactic(auto, using(bdb_format::proofs::KnownLemmas::consumes_next, bdb_format::proofs::KnownLemmas::consumes_kept, bdb_format::proofs::KnownLemmas::consumes_nothing))]
 pub fn read_image<S: Source>(alloc: Global, source: &mut S, max: u64) -> Result<Image, ReadError>
     requires { max ≤ 2 ^ 30 }
 

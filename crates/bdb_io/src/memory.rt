@@ -1,10 +1,10 @@
 ghost use Rattle.std.specs.Prelude.{◌≡◌, ◌<◌, ◌++◌, ◌∷◌, ◌↔◌, [], length, min, Some, IsErr, OnOk, OnErr, IfOk};
-ghost use Rattle.bdb_model.specs.Faults.{HasCause, ReadsInto, WritesFrom};
+ghost use Rattle.bdb_format.specs.Faults.{HasCause, ReadsInto, WritesFrom};
 ghost use Rattle.bdb_io.specs.Memory.{IsToFail, one_more};
 
 use crate::calls::Calls;
 use crate::{Failed, PureSource, Sink, Source};
-use bdb_model::Bytes;
+use bdb_format::Bytes;
 use std::alloc::{AllocError, Global};
 use std::marker::Model;
 

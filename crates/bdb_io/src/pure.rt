@@ -1,8 +1,8 @@
 ghost use Rattle.std.specs.Prelude.{◌≡◌, ◌<◌, Ok, Some, None, length, min, take};
-ghost use Rattle.bdb_model.specs.Faults.{ReadsInto};
+ghost use Rattle.bdb_format.specs.Faults.{ReadsInto};
 
 use crate::{Failed, Sink, Source};
-use bdb_model::Bytes;
+use bdb_format::Bytes;
 use std::marker::Model;
 
 /// A source over bytes in memory, of which no call fails.

@@ -1,9 +1,10 @@
 use crate::outside::gives;
+use bdb_format::Bytes;
 use bdb_io::{
     Failed, Image, MemSink, MemSource, PureSink, PureSource, ReadError, Sink, Source, put_all,
     read_image,
 };
-use bdb_model::{Bytes, Words};
+use bdb_model::Words;
 use std::alloc::{AllocError, Global};
 use std::test::Fail;
 

@@ -5,11 +5,11 @@ use Rattle.std.specs.List.{flat_map}
 use Rattle.std.specs.Option.{option_map, unwrap_or}
 use Rattle.std.proofs.lemmas.Bool.Decides.{nat_tests}
 use Rattle.std.proofs.lemmas.List.{drop-drop, get_or-drop, take-append-drop}
-use Rattle.bdb_model.specs.declared.kinds.Order.{Order}
-use Rattle.bdb_model.specs.declared.kinds.Order.TheVariants.{Big, Little}
-use Rattle.bdb_model.specs.Numbers.{number, number_at, two_at, spelled}
-use Rattle.bdb_model.specs.Reading.{blocks_in, blocks_of}
-use Rattle.bdb_model.specs.Spelling.{block_bytes}
+use Rattle.bdb_format.specs.declared.kinds.Order.{Order}
+use Rattle.bdb_format.specs.declared.kinds.Order.TheVariants.{Big, Little}
+use Rattle.bdb_format.specs.Numbers.{number, number_at, two_at, spelled}
+use Rattle.bdb_format.specs.Reading.{blocks_in, blocks_of}
+use Rattle.bdb_format.specs.Spelling.{block_bytes}
 use Rattle.bdb_layout.specs.Blocks.{BeginsNoBlock, GoesOn, run_in}
 
 -- no block stands at the front

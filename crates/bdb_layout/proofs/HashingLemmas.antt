@@ -7,7 +7,7 @@ use Rattle.std.proofs.Math.Pow.{pow_mono}
 use Rattle.std.specs.List.{find, range_with_len}
 use Rattle.std.specs.Option.{unwrap_or}
 use Rattle.std.proofs.lemmas.Bool.Decides.{nat_tests}
-use Rattle.bdb_model.specs.Hashing.{group}
+use Rattle.bdb_format.specs.Hashing.{group}
 
 -- the first number of a range that passes isn't above one that passes
 pub first_at_most : (test : ℕ → Bool) (from n k d : ℕ) → from ≤ k → k < from + n → test k ≡ true → unwrap_or (find test (range_with_len from n)) d ≤ k

@@ -5,13 +5,13 @@ use Rattle.std.specs.Option.{option_map}
 use Rattle.std.specs.List.{All, flat_map}
 use Rattle.std.proofs.Math.Seq.{drop-append_seam}
 use Rattle.std.proofs.lemmas.List.{take_at}
-use Rattle.bdb_model.specs.declared.kinds.Order.{Order}
-use Rattle.bdb_model.specs.Numbers.{byte_at, spelled, two_at, four_at}
-use Rattle.bdb_model.specs.Page.{Content, Inline, Set, Chain, Tree, Unknown}
-use Rattle.bdb_model.specs.Reading.{offset_of, leaf_item_at, leaf_content, internal_item_at, internal_key, recno_item_at, blocks_of, hash_end, hash_content, hash_item_at}
-use Rattle.bdb_model.specs.Spelling.{leaf_bytes, leaf_content_bytes, kind_byte, IsLeafContent, LeafItemsReadBack, internal_bytes, internal_content_bytes, IsKey, InternalItemsReadBack, recno_bytes, RecnoItemsReadBack, block_bytes, hash_bytes, IsHashContent, HashItemsReadBack}
+use Rattle.bdb_format.specs.declared.kinds.Order.{Order}
+use Rattle.bdb_format.specs.Numbers.{byte_at, spelled, two_at, four_at}
+use Rattle.bdb_format.specs.Page.{Content, Inline, Set, Chain, Tree, Unknown}
+use Rattle.bdb_format.specs.Reading.{offset_of, leaf_item_at, leaf_content, internal_item_at, internal_key, recno_item_at, blocks_of, hash_end, hash_content, hash_item_at}
+use Rattle.bdb_format.specs.Spelling.{leaf_bytes, leaf_content_bytes, kind_byte, IsLeafContent, LeafItemsReadBack, internal_bytes, internal_content_bytes, IsKey, InternalItemsReadBack, recno_bytes, RecnoItemsReadBack, block_bytes, hash_bytes, IsHashContent, HashItemsReadBack}
 use Rattle.bdb_layout.proofs.BlockLemmas.{blocks_of-cons}
-use Rattle.bdb_model.proofs.SpellingLemmas.{length-spelled, drop-behind, number_at-in, byte_at-in, slice_range-in}
+use Rattle.bdb_format.proofs.SpellingLemmas.{length-spelled, drop-behind, number_at-in, byte_at-in, slice_range-in}
 
 -- the byte of a kind says the kind, and whether the item is deleted
 pub record SaysKind (kind : ℕ) (deleted : Bool) (byte : ℕ) : Type 0 where

@@ -2,14 +2,14 @@
 use Rattle.std.proofs.Common.{◌≡◌, ℕ, suc, ◌+◌, ◌<◌, ◌≤◌, Bool, List, ◌∷◌, ◌++◌, length, take, drop, get_or, Some, inl, inr, length-take, replicate, refl, sym, ap, ◌∙◌, arith, length-append, append_assoc}
 use Rattle.std.proofs.lemmas.Bool.{cases_lt}
 use Rattle.std.proofs.lemmas.List.{drop_at, get_or_append_left, get_or_past}
-use Rattle.bdb_model.specs.declared.kinds.Order.{Order}
-use Rattle.bdb_model.specs.declared.kinds.Order.TheVariants.{Big, Little}
-use Rattle.bdb_model.specs.Numbers.{spelled, overwritten}
-use Rattle.bdb_model.specs.Page.{Inline, Set, Chain, Tree}
-use Rattle.bdb_model.specs.Reading.{blocks_of}
+use Rattle.bdb_format.specs.declared.kinds.Order.{Order}
+use Rattle.bdb_format.specs.declared.kinds.Order.TheVariants.{Big, Little}
+use Rattle.bdb_format.specs.Numbers.{spelled, overwritten}
+use Rattle.bdb_format.specs.Page.{Inline, Set, Chain, Tree}
+use Rattle.bdb_format.specs.Reading.{blocks_of}
 use Rattle.bdb_layout.proofs.BlockLemmas.{blocks_spelled}
-use Rattle.bdb_model.specs.Spelling.{leaf_bytes, internal_bytes, hash_bytes, kind_byte}
-use Rattle.bdb_model.proofs.SpellingLemmas.{byte_at-from, length-spelled, length-pair, wrote, wrote_as, wrote_next}
+use Rattle.bdb_format.specs.Spelling.{leaf_bytes, internal_bytes, hash_bytes, kind_byte}
+use Rattle.bdb_format.proofs.SpellingLemmas.{byte_at-from, length-spelled, length-pair, wrote, wrote_as, wrote_next}
 
 pub length-leaf_inline : (order : Order) (bytes : List ℕ) (deleted : Bool) → length (leaf_bytes order (record { content = Inline bytes; deleted = deleted })) ≡ 3 + length bytes
 unfolding leaf_bytes

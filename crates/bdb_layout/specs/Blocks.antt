@@ -1,8 +1,8 @@
 -- A set of data on its page: a run of blocks. Source: docs/FORMAT.md, "Items".
 use Rattle.std.specs.Prelude.{◌≡◌, ℕ, List, [], ◌∷◌, ◌⊎◌, None}
 use Rattle.std.specs.Option.{option_map}
-use Rattle.bdb_model.specs.declared.kinds.Order.{Order}
-use Rattle.bdb_model.specs.Reading.{blocks_of}
+use Rattle.bdb_format.specs.declared.kinds.Order.{Order}
+use Rattle.bdb_format.specs.Reading.{blocks_of}
 
 -- blocks, and the order in which their lengths are spelled
 pub record BlockRun : Type 0 where

@@ -2,10 +2,10 @@
 use Rattle.std.specs.Prelude.{ℕ, List, false, Result, Ok, Err, ◌≡◌}
 use Rattle.std.specs.declared.cmp.Ordering.{Ordering}
 use Rattle.std.specs.declared.cmp.Ordering.TheVariants.{Less as Below, Equal, Greater}
-use Rattle.bdb_model.specs.declared.kinds.Order.{Order}
-use Rattle.bdb_model.specs.declared.pages.ItemFault.{ItemFault}
-use Rattle.bdb_model.specs.Less.{Less}
-use Rattle.bdb_model.specs.Page.{Content, Inline, Set, Chain, Tree, Item, InternalItem}
+use Rattle.bdb_format.specs.declared.kinds.Order.{Order}
+use Rattle.bdb_format.specs.declared.pages.ItemFault.{ItemFault}
+use Rattle.bdb_format.specs.Less.{Less}
+use Rattle.bdb_format.specs.Page.{Content, Inline, Set, Chain, Tree, Item, InternalItem}
 use Rattle.bdb_layout.specs.declared.items.LeafItem.{LeafItem}
 use Rattle.bdb_layout.specs.declared.items.LeafItem.TheVariants.{Inline as LeafInline, Duplicates, Overflow as LeafOverflow}
 use Rattle.bdb_layout.specs.declared.items.InternalKey.{InternalKey}

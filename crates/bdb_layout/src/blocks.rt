@@ -1,11 +1,11 @@
 ghost use Rattle.std.specs.Prelude.{◌≡◌, ◌<◌, IfSome, MatchOption, length};
 ghost use Rattle.std.specs.Iterator.{YieldsFirstBy, item_count};
 ghost use Rattle.std.specs.Option.{option_map};
-ghost use Rattle.bdb_model.specs.Reading.{blocks_of};
+ghost use Rattle.bdb_format.specs.Reading.{blocks_of};
 ghost use Rattle.bdb_layout.specs.Blocks.{BeginsNoBlock, GoesOn, run_in};
 
 use crate::u16_at;
-use bdb_model::Order;
+use bdb_format::Order;
 use std::marker::Model;
 
 /// The data of a set on its page, in order, as slices of the page.
@@ -18,7 +18,7 @@ pub struct DupBlocks<'a> {
 impl<'a> Model for DupBlocks<'a> {
     ghost use Rattle.std.specs.Prelude.{[], IsSome};
     ghost use Rattle.std.specs.Option.{unwrap_or};
-    ghost use Rattle.bdb_model.specs.Reading.{blocks_of};
+    ghost use Rattle.bdb_format.specs.Reading.{blocks_of};
     ghost use Rattle.bdb_layout.specs.Blocks.{BlockRun, run_in};
 
     ghost Value = { BlockRun };

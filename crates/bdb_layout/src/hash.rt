@@ -1,15 +1,15 @@
 ghost use Rattle.std.specs.Prelude.{◌≡◌, ◌+◌, ◌<◌, ◌≤◌, [], ◌∷◌, IfOk, false, length};
-ghost use Rattle.bdb_model.specs.Numbers.{byte_at};
-ghost use Rattle.bdb_model.specs.Reading.{entries_of, hash_content, hash_end, hash_item_at, index_end};
-ghost use Rattle.bdb_model.specs.Rows.{does_not_fall, hash_rows, is_hash_kind, misses_extent};
-ghost use Rattle.bdb_model.specs.Table.{◌:?◌, answer};
+ghost use Rattle.bdb_format.specs.Numbers.{byte_at};
+ghost use Rattle.bdb_format.specs.Reading.{entries_of, hash_content, hash_end, hash_item_at, index_end};
+ghost use Rattle.bdb_format.specs.Rows.{does_not_fall, hash_rows, is_hash_kind, misses_extent};
+ghost use Rattle.bdb_format.specs.Table.{◌:?◌, answer};
 ghost use Rattle.bdb_layout.specs.Seen.{HasOrder, answer_seen, hash_item_seen};
 
 use crate::{DupBlocks, HashItem, index_end, offset_at, u32_at};
-use bdb_model::{ItemFault, Order};
+use bdb_format::{ItemFault, Order};
 
 /// The item of a hash page at a place of its index, or the first thing that is wrong with it.
-#[tactic(auto, unfolding(bdb_model::specs::Reading::hash_item_at, bdb_model::specs::Rows::hash_rows))]
+#[tactic(auto, unfolding(bdb_format::specs::Reading::hash_item_at, bdb_format::specs::Rows::hash_rows))]
 pub fn hash_item(page: &[u8], order: Order, index: u16) -> Result<HashItem<'_>, ItemFault>
     requires room { index_end order page.now ≤ length page.now }
     requires entry { index < entries_of order page.now }

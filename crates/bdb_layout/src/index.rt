@@ -1,8 +1,8 @@
 ghost use Rattle.std.specs.Prelude.{◌≡◌, ◌+◌, ◌*◌, ◌<◌, ◌≤◌, length};
-ghost use Rattle.bdb_model.specs.Reading.{entries_of, index_end, offset_of};
+ghost use Rattle.bdb_format.specs.Reading.{entries_of, index_end, offset_of};
 
 use crate::u16_at;
-use bdb_model::Order;
+use bdb_format::Order;
 
 /// Where the index of a page ends, and items may begin.
 pub fn index_end(page: &[u8], order: Order) -> usize

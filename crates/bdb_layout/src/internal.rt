@@ -1,15 +1,15 @@
 ghost use Rattle.std.specs.Prelude.{◌≡◌, ◌+◌, ◌<◌, ◌≤◌, ◌⊎◌, length};
-ghost use Rattle.bdb_model.specs.Reading.{entries_of, index_end, internal_item_at, internal_key, kind_at};
-ghost use Rattle.bdb_model.specs.Rows.{internal_rows};
-ghost use Rattle.bdb_model.specs.Numbers.{two_at};
-ghost use Rattle.bdb_model.specs.Table.{answer};
+ghost use Rattle.bdb_format.specs.Reading.{entries_of, index_end, internal_item_at, internal_key, kind_at};
+ghost use Rattle.bdb_format.specs.Rows.{internal_rows};
+ghost use Rattle.bdb_format.specs.Numbers.{two_at};
+ghost use Rattle.bdb_format.specs.Table.{answer};
 ghost use Rattle.bdb_layout.specs.Seen.{answer_seen, internal_item_seen, key_seen};
 
 use crate::{InternalItem, InternalKey, index_end, offset_at, u16_at, u32_at};
-use bdb_model::{ItemFault, Order};
+use bdb_format::{ItemFault, Order};
 
 /// The item of an internal page with keys at a place of its index, or the first thing that is wrong with it.
-#[tactic(auto, unfolding(bdb_model::specs::Reading::internal_item_at, bdb_model::specs::Rows::internal_rows))]
+#[tactic(auto, unfolding(bdb_format::specs::Reading::internal_item_at, bdb_format::specs::Rows::internal_rows))]
 pub fn internal_item(page: &[u8], order: Order, index: u16) -> Result<InternalItem<'_>, ItemFault>
     requires room { index_end order page.now ≤ length page.now }
     requires entry { index < entries_of order page.now }

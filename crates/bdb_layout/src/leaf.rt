@@ -1,14 +1,14 @@
 ghost use Rattle.std.specs.Prelude.{◌≡◌, ◌+◌, ◌<◌, ◌≤◌, length};
-ghost use Rattle.bdb_model.specs.Reading.{entries_of, index_end, is_deleted, kind_at, leaf_content, leaf_item_at};
-ghost use Rattle.bdb_model.specs.Rows.{is_leaf_kind, leaf_end, leaf_rows};
-ghost use Rattle.bdb_model.specs.Table.{answer};
+ghost use Rattle.bdb_format.specs.Reading.{entries_of, index_end, is_deleted, kind_at, leaf_content, leaf_item_at};
+ghost use Rattle.bdb_format.specs.Rows.{is_leaf_kind, leaf_end, leaf_rows};
+ghost use Rattle.bdb_format.specs.Table.{answer};
 ghost use Rattle.bdb_layout.specs.Seen.{answer_seen, leaf_item_seen};
 
 use crate::{LeafItem, index_end, offset_at, u16_at, u32_at};
-use bdb_model::{ItemFault, Order};
+use bdb_format::{ItemFault, Order};
 
 /// The item of a leaf at a place of its index, or the first thing that is wrong with it.
-#[tactic(auto, unfolding(bdb_model::specs::Reading::leaf_item_at, bdb_model::specs::Rows::leaf_rows))]
+#[tactic(auto, unfolding(bdb_format::specs::Reading::leaf_item_at, bdb_format::specs::Rows::leaf_rows))]
 pub fn leaf_item(page: &[u8], order: Order, index: u16) -> Result<LeafItem<'_>, ItemFault>
     requires room { index_end order page.now ≤ length page.now }
     requires entry { index < entries_of order page.now }

@@ -15,7 +15,7 @@ mod page_header;
 mod recno;
 mod writing;
 
-pub use bdb_model::{Header, ItemFault, RecnoItem};
+pub use bdb_format::{Header, ItemFault, RecnoItem};
 pub use blocks::DupBlocks;
 pub use hash::hash_item;
 pub use hashing::{bucket_of, group_of, hash5, hash5_after, page_of};

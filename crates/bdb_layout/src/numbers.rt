@@ -1,7 +1,7 @@
 ghost use Rattle.std.specs.Prelude.{◌≡◌, ◌+◌, ◌≤◌, length};
-ghost use Rattle.bdb_model.specs.Numbers.{four_at, overwritten, spelled, two_at};
+ghost use Rattle.bdb_format.specs.Numbers.{four_at, overwritten, spelled, two_at};
 
-use bdb_model::Order;
+use bdb_format::Order;
 use byteorder::{BigEndian, ByteOrder, LittleEndian};
 
 /// The number in the two bytes at a place.

@@ -1,8 +1,8 @@
 ghost use Rattle.std.specs.Prelude.{◌≡◌, ◌≤◌, length};
-ghost use Rattle.bdb_model.specs.Reading.{header_of};
+ghost use Rattle.bdb_format.specs.Reading.{header_of};
 
 use crate::{u16_at, u32_at};
-use bdb_model::{Header, Order};
+use bdb_format::{Header, Order};
 
 /// The header of a page.
 pub fn header(page: &[u8], order: Order) -> Header

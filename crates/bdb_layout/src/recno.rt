@@ -1,13 +1,13 @@
 ghost use Rattle.std.specs.Prelude.{◌≡◌, ◌<◌, ◌≤◌, length};
-ghost use Rattle.bdb_model.specs.Reading.{entries_of, index_end, recno_item_at};
-ghost use Rattle.bdb_model.specs.Rows.{recno_rows};
-ghost use Rattle.bdb_model.specs.Table.{answer};
+ghost use Rattle.bdb_format.specs.Reading.{entries_of, index_end, recno_item_at};
+ghost use Rattle.bdb_format.specs.Rows.{recno_rows};
+ghost use Rattle.bdb_format.specs.Table.{answer};
 
 use crate::{index_end, offset_at, u32_at};
-use bdb_model::{ItemFault, Order, RecnoItem};
+use bdb_format::{ItemFault, Order, RecnoItem};
 
 /// The item of an internal page of a recno tree at a place of its index, or `Offset` where it isn't on the page.
-#[tactic(auto, unfolding(bdb_model::specs::Reading::recno_item_at, bdb_model::specs::Rows::recno_rows))]
+#[tactic(auto, unfolding(bdb_format::specs::Reading::recno_item_at, bdb_format::specs::Rows::recno_rows))]
 pub fn recno_item(page: &[u8], order: Order, index: u16) -> Result<RecnoItem, ItemFault>
     requires room { index_end order page.now ≤ length page.now }
     requires entry { index < entries_of order page.now }

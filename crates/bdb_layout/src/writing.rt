@@ -1,11 +1,11 @@
 ghost use Rattle.std.specs.Prelude.{◌≡◌, ◌+◌, ◌<◌, ◌≤◌, ◌^◌, ◌∷◌, ◌++◌, [], length};
-ghost use Rattle.bdb_model.specs.Numbers.{overwritten, spelled};
-ghost use Rattle.bdb_model.specs.Spelling.{hash_bytes, header_bytes, internal_bytes, kind_byte, leaf_bytes, recno_bytes, IsKey, IsLeafContent};
+ghost use Rattle.bdb_format.specs.Numbers.{overwritten, spelled};
+ghost use Rattle.bdb_format.specs.Spelling.{hash_bytes, header_bytes, internal_bytes, kind_byte, leaf_bytes, recno_bytes, IsKey, IsLeafContent};
 ghost use Rattle.bdb_layout.specs.Seen.{HasOrder, hash_content_seen, internal_item_seen, leaf_item_seen};
 
 use crate::items::{HashItem, InternalItem, InternalKey, LeafItem};
 use crate::numbers::{put_u16, put_u32};
-use bdb_model::{Header, Order, RecnoItem};
+use bdb_format::{Header, Order, RecnoItem};
 
 // The kinds of an item of a leaf, and of the key of an internal item.
 const INLINE: u8 = 1;

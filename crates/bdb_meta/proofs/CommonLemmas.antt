@@ -2,13 +2,13 @@
 use Rattle.std.proofs.Common.{◌≡◌, ℕ, ◌+◌, ◌-◌, ◌^◌, ◌<◌, ◌≤◌, List, [], ◌∷◌, ◌++◌, length, IsTrue, ap, ◌∙◌, arith, append_assoc, length-append}
 use Rattle.std.proofs.lemmas.Bool.Decides.{nat_tests}
 use Rattle.std.proofs.lemmas.List.{length-replicate}
-use Rattle.bdb_model.specs.declared.kinds.Order.{Order}
-use Rattle.bdb_model.specs.declared.metadata.FileKind.{FileKind}
-use Rattle.bdb_model.specs.HeadOf.{is_page_size}
-use Rattle.bdb_model.specs.Numbers.{spelled, four_at}
-use Rattle.bdb_model.specs.Rows.{magic_of, version_of, type_of}
-use Rattle.bdb_model.specs.Spelling.{common_bytes, zeros, lsn_bytes}
-use Rattle.bdb_model.proofs.SpellingLemmas.{length-spelled, number_at-in, number_at-behind}
+use Rattle.bdb_format.specs.declared.kinds.Order.{Order}
+use Rattle.bdb_format.specs.declared.metadata.FileKind.{FileKind}
+use Rattle.bdb_format.specs.HeadOf.{is_page_size}
+use Rattle.bdb_format.specs.Numbers.{spelled, four_at}
+use Rattle.bdb_format.specs.Rows.{magic_of, version_of, type_of}
+use Rattle.bdb_format.specs.Spelling.{common_bytes, zeros, lsn_bytes}
+use Rattle.bdb_format.proofs.SpellingLemmas.{length-spelled, number_at-in, number_at-behind}
 use Rattle.bdb_meta.proofs.FilledLemmas.{Filled, zeros-spelled}
 
 -- the pieces in the order in which they are written

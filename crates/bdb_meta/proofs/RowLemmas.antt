@@ -1,12 +1,12 @@
 -- Rows that follow one another, and the answer of a table with a value.
 use Rattle.std.proofs.Common.{◌≡◌, ℕ, Bool, true, false, List, [], ◌∷◌, ◌++◌, ◌∙◌, ◌<◌, ◌≤◌, length, refl, sym, ap, arith, append_assoc}
 use Rattle.std.specs.Prelude.{Option, Some, None, Result, Ok, Err, if◌then◌else◌, nat_lt, ◌==◌}
-use Rattle.bdb_model.specs.declared.metadata.MetaFault.{MetaFault}
-use Rattle.bdb_model.specs.declared.kinds.Order.{Order}
-use Rattle.bdb_model.specs.declared.metadata.FileKind.{FileKind}
-use Rattle.bdb_model.specs.Rows.{identity_rows, kind_rows, meta_rows, metadata_rows, type_of}
-use Rattle.bdb_model.specs.Table.{Row, answer, first_row}
-use Rattle.bdb_model.specs.HeadOf.{faulted, head_rows}
+use Rattle.bdb_format.specs.declared.metadata.MetaFault.{MetaFault}
+use Rattle.bdb_format.specs.declared.kinds.Order.{Order}
+use Rattle.bdb_format.specs.declared.metadata.FileKind.{FileKind}
+use Rattle.bdb_format.specs.Rows.{identity_rows, kind_rows, meta_rows, metadata_rows, type_of}
+use Rattle.bdb_format.specs.Table.{Row, answer, first_row}
+use Rattle.bdb_format.specs.HeadOf.{faulted, head_rows}
 use Rattle.bdb_meta.specs.RowGroups.{common_rows, length_rows, page_rows, version_rows}
 
 -- a row in front: it is passed, or it answers

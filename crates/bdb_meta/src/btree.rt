@@ -1,16 +1,16 @@
 ghost use Rattle.std.specs.Prelude.{◌≡◌, ◌≤◌, length, IsTrue};
-ghost use Rattle.bdb_model.specs.HeadOf.{faulted, form_fault, is_page_size};
-ghost use Rattle.bdb_model.specs.Reading.{btree_fields, is_zero};
-ghost use Rattle.bdb_model.specs.Rows.{are_wrong_flags, metadata_rows};
-ghost use Rattle.bdb_model.specs.Spelling.{btree_bytes};
-ghost use Rattle.bdb_model.specs.Table.{answer};
+ghost use Rattle.bdb_format.specs.HeadOf.{faulted, form_fault, is_page_size};
+ghost use Rattle.bdb_format.specs.Reading.{btree_fields, is_zero};
+ghost use Rattle.bdb_format.specs.Rows.{are_wrong_flags, metadata_rows};
+ghost use Rattle.bdb_format.specs.Spelling.{btree_bytes};
+ghost use Rattle.bdb_format.specs.Table.{answer};
 ghost use Rattle.bdb_meta.specs.RowGroups.{flag_rows};
-ghost use Rattle.bdb_model.specs.declared.metadata.FileKind.TheVariants.{Btree};
+ghost use Rattle.bdb_format.specs.declared.metadata.FileKind.TheVariants.{Btree};
 
 use crate::faults::form_fault;
 use crate::generic::{Generic, check_common, has_bit, put_generic};
+use bdb_format::{BtreeMeta, FileKind, MetaFault, Order};
 use bdb_layout::{put_u32, u32_at};
-use bdb_model::{BtreeMeta, FileKind, MetaFault, Order};
 
 /// Whether flags aren't known or don't go together.
 fn are_wrong_flags(number: u32, flags: u32) -> bool
@@ -50,7 +50,7 @@ fn btree_fields(page: &[u8], order: Order) -> BtreeMeta
 }
 
 /// The fields of this page as btree metadata. A refusal is the code of the first row that holds.
-#[tactic(auto, unfolding(bdb_model::specs::Rows::metadata_rows))]
+#[tactic(auto, unfolding(bdb_format::specs::Rows::metadata_rows))]
 fn checked_btree(page: &[u8], order: Order, number: u32) -> Result<BtreeMeta, u8>
     requires { 512 ≤ length page.now }
     ensures { result ≡ answer (metadata_rows order page.now number 0 Btree) (btree_fields order page.now) }

@@ -1,13 +1,13 @@
 ghost use Rattle.std.specs.Prelude.{◌≡◌, ◌==◌, ◌≤◌, ◌<◌, ◌^◌, ◌-◌, ◌++◌, ◌||◌, length, not, IsTrue};
-ghost use Rattle.bdb_model.specs.Numbers.{byte_at, four_at, has_bit};
-ghost use Rattle.bdb_model.specs.Reading.{is_zero};
-ghost use Rattle.bdb_model.specs.Rows.{identity_rows, magic_of, meta_rows, type_of, version_of};
-ghost use Rattle.bdb_model.specs.Spelling.{common_bytes, last_field, zeros};
-ghost use Rattle.bdb_model.specs.Table.{answer};
+ghost use Rattle.bdb_format.specs.Numbers.{byte_at, four_at, has_bit};
+ghost use Rattle.bdb_format.specs.Reading.{is_zero};
+ghost use Rattle.bdb_format.specs.Rows.{identity_rows, magic_of, meta_rows, type_of, version_of};
+ghost use Rattle.bdb_format.specs.Spelling.{common_bytes, last_field, zeros};
+ghost use Rattle.bdb_format.specs.Table.{answer};
 ghost use Rattle.bdb_meta.specs.RowGroups.{common_rows};
 
+use bdb_format::{FileKind, Order};
 use bdb_layout::{put_u32, u32_at};
-use bdb_model::{FileKind, Order};
 
 /// The magic number of a kind of file.
 pub fn magic_of(kind: FileKind) -> u32

@@ -9,7 +9,7 @@ pub mod laws;
 mod queue;
 mod table;
 
-pub use bdb_model::{BtreeMeta, FileKind, HashMeta, Head, MetaFault, QueueMeta};
+pub use bdb_format::{BtreeMeta, FileKind, HashMeta, Head, MetaFault, QueueMeta};
 pub use btree::{btree_meta, put_btree_meta};
 pub use file_head::head;
 pub use queue::{put_queue_meta, queue_meta};

@@ -1,9 +1,1 @@
-pub mod GraphLemmas
-pub mod GroupLemmas
-pub mod KnownLemmas
-pub mod LessLemmas
-pub mod MemberLemmas
-pub mod PageLemmas
-pub mod SpellingLemmas
-pub mod TurnLemmas
-pub mod VerdictLemmas
+pub mod UnitLemmas

@@ -1,23 +1,18 @@
 -- What the program answers to a command and an input. Source: README.md, "Use".
 use Rattle.std.specs.Prelude.{ℕ, nat_lt, if◌then◌else◌, Bool, true, List, [], ◌∷◌, ◌++◌, length, Option, Some, None, codes, decimal, slice_get}
 use Rattle.std.specs.List.{flat_map}
-use Rattle.bdb_model.specs.declared.kinds.Fault.{Fault}
-use Rattle.bdb_model.specs.declared.kinds.Kind.{Kind}
-use Rattle.bdb_model.specs.declared.kinds.Kind.TheVariants.{Btree, Recno, Hash, Queue}
-use Rattle.bdb_model.specs.declared.kinds.Unsupported.{Unsupported}
-use Rattle.bdb_model.specs.declared.kinds.Verdict.{Verdict}
-use Rattle.bdb_model.specs.declared.kinds.Verdict.TheVariants.{Fault as FaultVerdict, Unsupported as UnsupportedVerdict, Memory}
-use Rattle.bdb_model.specs.declared.metadata.BtreeMeta.{BtreeMeta}
-use Rattle.bdb_model.specs.Numbers.{has_bit}
-use Rattle.bdb_model.specs.HeadOf.{head_of}
-use Rattle.bdb_model.specs.Page.{Metadata, BtreeFields, HashFields, QueueFields}
-use Rattle.bdb_model.specs.File.{File, file_of}
-use Rattle.bdb_model.specs.Databases.{Database, data_under, databases, place_of}
-use Rattle.bdb_model.specs.Verdict.{verdict_of}
+use Rattle.bdb_format.specs.declared.kinds.Fault.{Fault}
+use Rattle.bdb_format.specs.declared.kinds.Unsupported.{Unsupported}
+use Rattle.bdb_format.specs.Flags.{kind_of}
+use Rattle.bdb_format.specs.HeadOf.{head_of}
+use Rattle.bdb_format.specs.File.{File, file_of}
+use Rattle.bdb_format.specs.Databases.{Database, data_under, databases, place_of}
+use Rattle.bdb_format.specs.Verdict.{Faulty, Judgement, LeftOut, verdict_of}
 use Rattle.bdb_model.specs.TextSpelling.{spelling}
-use Rattle.bdb_model.specs.Lines.{line, memory_line}
+use Rattle.bdb_model.specs.Lines.{line}
+use Rattle.bdb_model.specs.Written.{kind_text, database_text, dump_text}
 use Rattle.bdb_model.specs.FaultNames.{fault_name, unsupported_name}
-use Rattle.bdb_model.specs.Command.{Asked, Verify, ListAll, Get, Command, command_of}
+use Rattle.bdb_model.specs.Command.{Request, Verify, ListAll, Get, Dump, Command, command_of}
 
 -- a status, and what is written to the output and to the error sink
 pub record Answer : Type 0 where
@@ -55,20 +50,6 @@ sound_line pages = codes "sound, " ++ (decimal pages ++ line (codes " pages"))
 
 -- `list`: for each database its kind, and its name where it has one
 
-abbrev pub btree_kind : BtreeMeta → Kind
-btree_kind meta = if has_bit meta.flags 0x02 then Recno else Btree
-
-abbrev pub kind_of : Metadata → Kind
-kind_of (BtreeFields meta) = btree_kind meta
-kind_of (HashFields meta) = Hash
-kind_of (QueueFields meta) = Queue
-
-abbrev pub kind_text : Kind → List ℕ
-kind_text Btree = codes "btree"
-kind_text Recno = codes "recno"
-kind_text Hash = codes "hash"
-kind_text Queue = codes "queue"
-
 abbrev pub name_text : Option (List ℕ) → List ℕ
 name_text None = []
 name_text (Some name) = codes " " ++ spelling true name
@@ -103,23 +84,37 @@ abbrev pub found : Bool → List (List ℕ) → Answer
 found prints [] = not_found
 found prints (value ∷ values) = done (values_text prints (value ∷ values))
 
+-- `dump`: the text of all databases, or that of the one with the name
+
+abbrev pub database_in : List Database → Option ℕ → Option Database
+database_in all None = None
+database_in all (Some place) = slice_get all place
+
+abbrev pub section_answer : Bool → List ℕ → Option Database → Answer
+section_answer prints image None = not_found
+section_answer prints image (Some database) = done (database_text prints image database)
+
+abbrev pub dumped : Bool → List ℕ → Option (List ℕ) → Answer
+dumped prints image None = done (dump_text prints image (databases (file_of image)))
+dumped prints image (Some name) = section_answer prints image (database_in (databases (file_of image)) (place_of (Some name) (databases (file_of image))))
+
 -- what is answered over a sound file
-abbrev pub sound_answer : Asked → List ℕ → Answer
+abbrev pub sound_answer : Request → List ℕ → Answer
 sound_answer Verify image = done (sound_line (head_of image).pages)
 sound_answer ListAll image = done (list_text (databases (file_of image)))
 sound_answer (Get name key prints) image = found prints (data_named (file_of image) name key)
+sound_answer (Dump name prints) image = dumped prints image name
 
 -- what is answered by the verdict
-abbrev pub judged_answer : Option Verdict → Asked → List ℕ → Answer
-judged_answer None asked image = sound_answer asked image
-judged_answer (Some (FaultVerdict fault)) asked image = told 1 (fault_line fault)
-judged_answer (Some (UnsupportedVerdict name page)) asked image = told 3 (unsupported_line name page)
-judged_answer (Some Memory) asked image = told 7 memory_line
+abbrev pub judged_answer : Option Judgement → Request → List ℕ → Answer
+judged_answer None request image = sound_answer request image
+judged_answer (Some (Faulty fault)) request image = told 1 (fault_line fault)
+judged_answer (Some (LeftOut name page)) request image = told 3 (unsupported_line name page)
 
 -- what a command is answered over an input
 abbrev pub command_answer : Command → List ℕ → Answer
 command_answer command input =
-    if nat_lt command.limit (length input) then told 6 (too_large_line command.limit) else judged_answer (verdict_of input) command.asked input
+    if nat_lt command.limit (length input) then told 6 (too_large_line command.limit) else judged_answer (verdict_of input) command.request input
 
 abbrev pub words_answer : Option Command → List ℕ → Answer
 words_answer None input = usage

@@ -1,7 +1,9 @@
 -- What a call does to a source or a sink, as far as it can be seen from outside.
-use Rattle.std.specs.Prelude.{◌≡◌, ℕ, List, Option}
+use Rattle.std.specs.Prelude.{◌≡◌, ◌⊎◌, ℕ, List, Option, None, Some, ⊤}
+use Rattle.std.specs.Borrow.{MutBor}
+use Rattle.std.proofs.Common.{inl, inr}
 use Rattle.std.specs.Io.KnownBytes.{Appends, Keeps}
-use Rattle.bdb_model.specs.Faults.{AppendsPrefix, Rose}
+use Rattle.bdb_format.specs.Faults.{AppendsPrefix, Rose}
 
 -- the bytes that are left or were written, where they are told, and the count of faults, before the call and after it
 pub record Change : Type 0 where
@@ -31,6 +33,13 @@ Stays c = Keeps c.before c.now
 pub record IsUncalled (c : Change) : Type 0 where
   pub bytes : Stays c
   pub faults : c.faults_now ≡ c.faults_before
+
+-- an object that may be lent wasn't called: its bytes, where told, and its count of faults are as before
+abbrev pub IsUntouched : {X : Type 0} → (X → Option (List ℕ)) → (X → ℕ) → Option (MutBor X) → Unit {0} ⊎ ((MutBor X × Unit {0}) ⊎ ⊥) → Type 0
+IsUntouched bytes faults None exit = ⊤
+IsUntouched bytes faults (Some old) (inl none) = ⊥
+IsUntouched bytes faults (Some old) (inr (inl new)) = IsUncalled (change bytes faults old.now new.0.now)
+IsUntouched bytes faults (Some old) (inr (inr never)) = ⊥
 
 -- exactly these bytes were appended
 abbrev pub Gains : Change → List ℕ → Type 0

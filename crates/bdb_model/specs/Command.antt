@@ -1,20 +1,22 @@
 -- What the words of a command line ask for. Source: README.md, "Use".
-use Rattle.std.specs.Prelude.{ℕ, ◌^◌, nat_le, ◌&&◌, not, if◌then◌else◌, Bool, true, false, List, [], ◌∷◌, take, Option, Some, None, codes}
+use Rattle.std.specs.Prelude.{ℕ, ◌^◌, nat_le, ◌==◌, ◌&&◌, not, if◌then◌else◌, Bool, true, false, List, [], ◌∷◌, length, take, Option, Some, None, codes}
 use Rattle.std.specs.List.{list_any}
 use Rattle.std.specs.Str.{bytes_eq}
-use Rattle.bdb_model.specs.Digits.{number_in}
+use Rattle.bdb_format.specs.Digits.{number_in}
 use Rattle.bdb_model.specs.TextSpelling.{bytes_spelled}
 
--- what is asked of a sound file: of a key the name of its database, where one was given, and whether data are printed
-pub data Asked : Type 0 where
-  Verify : Asked
-  ListAll : Asked
-  Get : Option (List ℕ) → List ℕ → Bool → Asked
+-- what is asked of a sound file: of a key the name of its database, where one was given, and whether data are printed; of a
+-- dump the name of a database, where not all are asked for, and whether data are printed
+pub data Request : Type 0 where
+  Verify : Request
+  ListAll : Request
+  Get : Option (List ℕ) → List ℕ → Bool → Request
+  Dump : Option (List ℕ) → Bool → Request
 
 -- a command: the longest input that it takes, and what it asks
 pub record Command : Type 0 where
   pub limit : ℕ
-  pub asked : Asked
+  pub request : Request
 
 -- Options and operands.
 
@@ -35,17 +37,6 @@ hex_option = codes "--hex"
 abbrev pub print_option : List ℕ
 print_option = codes "--print"
 
-abbrev pub plain_options : List OptionRow
-plain_options = record { word = max_bytes; takes_value = true } ∷ []
-
-abbrev pub get_options : List OptionRow
-get_options =
-    record { word = max_bytes; takes_value = true }
-    ∷ record { word = name_option; takes_value = true }
-    ∷ record { word = hex_option; takes_value = false }
-    ∷ record { word = print_option; takes_value = false }
-    ∷ []
-
 -- an option that was given, with its value, which is empty where it takes none
 pub record Given : Type 0 where
   pub word : List ℕ
@@ -62,37 +53,49 @@ is_option word = bytes_eq (take 2 word) (codes "--")
 -- the row of an option
 abbrev pub row_of : List OptionRow → List ℕ → Option OptionRow
 row_of [] word = None
-row_of (row ∷ rows) word = if bytes_eq row.word word then Some row else row_of rows word
+row_of (row ∷ rows) word = if bytes_eq word row.word then Some row else row_of rows word
+
+-- what a word is among the options of a command: the end of them, an operand, an option without a value or with one, or
+-- none that the command has
+pub data WordKind : Type 0 where
+  End : WordKind
+  Operand : WordKind
+  Plain : WordKind
+  Valued : WordKind
+  Unknown : WordKind
+
+abbrev pub option_kind : Option OptionRow → WordKind
+option_kind None = Unknown
+option_kind (Some row) = if row.takes_value then Valued else Plain
+
+abbrev pub word_kind : List OptionRow → List ℕ → WordKind
+word_kind options word = if bytes_eq word (codes "--") then End else (if is_option word then option_kind (row_of options word) else Operand)
 
 -- an option before the words after it
 abbrev pub with_option : List ℕ → List ℕ → Option Arguments → Option Arguments
 with_option word value None = None
 with_option word value (Some rest) = Some (record { given = record { word = word; value = value } ∷ rest.given; operands = rest.operands })
 
--- an option takes the next word as its value, or none; one that the command hasn't, or without its value, is no option
-abbrev pub option_alone : List ℕ → Option OptionRow → Option Arguments → Option Arguments
-option_alone word None rest = None
-option_alone word (Some row) rest = if row.takes_value then None else with_option word [] rest
-
-abbrev pub option_before : List ℕ → List ℕ → Option OptionRow → Option Arguments → Option Arguments → Option Arguments
-option_before word value None after_value after_word = None
-option_before word value (Some row) after_value after_word =
-    if row.takes_value then with_option word value after_value else with_option word [] after_word
-
 abbrev pub only_operands : List (List ℕ) → Option Arguments
 only_operands words = Some (record { given = []; operands = words })
 
--- options come first; the word `--` ends them and is dropped, and the first word that doesn't begin with it ends them too
+-- the words behind an option that waits for its value, or behind none that does: the end of the options is dropped, and
+-- all words from the first operand on are operands
+abbrev pub arguments_behind : List OptionRow → Option (List ℕ) → List (List ℕ) → Option Arguments
+arguments_behind options (Some option) [] = None
+arguments_behind options (Some option) (value ∷ words) = with_option option value (arguments_behind options None words)
+arguments_behind options None [] = only_operands []
+arguments_behind options None (word ∷ words) = elim (word_kind options word) [
+  | End ↦ only_operands words
+  | Operand ↦ only_operands (word ∷ words)
+  | Plain ↦ with_option word [] (arguments_behind options None words)
+  | Valued ↦ arguments_behind options (Some word) words
+  | Unknown ↦ None
+]
+
+-- the words after the command
 abbrev pub arguments : List OptionRow → List (List ℕ) → Option Arguments
-arguments options [] = only_operands []
-arguments options (word ∷ []) =
-    if bytes_eq word (codes "--") then only_operands []
-    else (if is_option word then option_alone word (row_of options word) (only_operands [])
-    else only_operands (word ∷ []))
-arguments options (word ∷ next ∷ rest) =
-    if bytes_eq word (codes "--") then only_operands (next ∷ rest)
-    else (if is_option word then option_before word next (row_of options word) (arguments options rest) (arguments options (next ∷ rest))
-    else only_operands (word ∷ next ∷ rest))
+arguments options words = arguments_behind options None words
 
 -- no option is given twice
 abbrev pub is_given : List ℕ → List Given → Bool
@@ -127,47 +130,90 @@ abbrev pub some_name : Option (List ℕ) → Option (Option (List ℕ))
 some_name None = None
 some_name (Some name) = Some (Some name)
 
-abbrev pub name_of : Option (List ℕ) → Option (Option (List ℕ))
-name_of None = Some None
-name_of (Some text) = some_name (bytes_spelled true text)
+abbrev pub asked_name : Option (List ℕ) → Option (Option (List ℕ))
+asked_name None = Some None
+asked_name (Some text) = some_name (bytes_spelled true text)
+
+-- the first operand, by its spelling
+abbrev pub operand_spelled : Bool → List (List ℕ) → Option (List ℕ)
+operand_spelled prints [] = None
+operand_spelled prints (operand ∷ operands) = bytes_spelled prints operand
 
 -- Commands.
 
-abbrev pub within : Option ℕ → Asked → Option Command
-within None asked = None
-within (Some limit) asked = Some (record { limit = limit; asked = asked })
+-- what is asked of a key, where its name and the key are there
+abbrev pub key_request : Option (Option (List ℕ)) → Option (List ℕ) → Bool → Option Request
+key_request None key prints = None
+key_request (Some name) None prints = None
+key_request (Some name) (Some key) prints = Some (Get name key prints)
+
+-- `get` asks its operand, printed or, where that is asked for, spelled by digits
+abbrev pub get_request : Arguments → Option Request
+get_request all =
+    key_request (asked_name (value_given name_option all.given)) (operand_spelled (not (is_given hex_option all.given)) all.operands) (is_given print_option all.given)
+
+-- `dump` asks one database by its name, or all
+abbrev pub text_request : Option (Option (List ℕ)) → Bool → Option Request
+text_request None prints = None
+text_request (Some name) prints = Some (Dump name prints)
+
+abbrev pub dump_request : Arguments → Option Request
+dump_request all = text_request (asked_name (value_given name_option all.given)) (is_given print_option all.given)
+
+-- a command of the table: its word, the options and the number of operands that it has, and what it asks by them
+pub record CommandRow : Type 0 where
+  pub word : List ℕ
+  pub options : List OptionRow
+  pub operands : ℕ
+  pub asks : Arguments → Option Request
+
+abbrev pub max_bytes_row : OptionRow
+max_bytes_row = record { word = max_bytes; takes_value = true }
+
+abbrev pub name_row : OptionRow
+name_row = record { word = name_option; takes_value = true }
+
+abbrev pub hex_row : OptionRow
+hex_row = record { word = hex_option; takes_value = false }
+
+abbrev pub print_row : OptionRow
+print_row = record { word = print_option; takes_value = false }
 
 -- a command without operands and without options of its own
-abbrev pub without_operands : Asked → List Given → List (List ℕ) → Option Command
-without_operands asked given [] = within (limit_of (value_given max_bytes given)) asked
-without_operands asked given (operand ∷ operands) = None
+abbrev pub plain_row : List ℕ → Request → CommandRow
+plain_row word request = record { word = word; options = max_bytes_row ∷ []; operands = 0; asks = λ all. Some request }
 
-abbrev pub plain_command : Asked → Option Arguments → Option Command
-plain_command asked None = None
-plain_command asked (Some all) = without_operands asked all.given all.operands
+abbrev pub verify_row : CommandRow
+verify_row = plain_row (codes "verify") Verify
 
-abbrev pub get_asked : Option ℕ → Option (Option (List ℕ)) → Option (List ℕ) → Bool → Option Command
-get_asked limit None key prints = None
-get_asked limit (Some name) None prints = None
-get_asked limit (Some name) (Some key) prints = within limit (Get name key prints)
+abbrev pub list_row : CommandRow
+list_row = plain_row (codes "list") ListAll
 
--- `get` has one operand, the key: printed, or spelled by digits where that is asked for
-abbrev pub get_operand : List Given → List (List ℕ) → Option Command
-get_operand given [] = None
-get_operand given (key ∷ []) =
-    get_asked (limit_of (value_given max_bytes given)) (name_of (value_given name_option given)) (bytes_spelled (not (is_given hex_option given)) key)
-    (is_given print_option given)
-get_operand given (key ∷ other ∷ operands) = None
+abbrev pub get_row : CommandRow
+get_row = record { word = codes "get"; options = max_bytes_row ∷ name_row ∷ hex_row ∷ print_row ∷ []; operands = 1; asks = get_request }
 
-abbrev pub get_command : Option Arguments → Option Command
-get_command None = None
-get_command (Some all) = get_operand all.given all.operands
+abbrev pub dump_row : CommandRow
+dump_row = record { word = codes "dump"; options = max_bytes_row ∷ name_row ∷ print_row ∷ []; operands = 0; asks = dump_request }
 
--- the command that the words are, unless they are none: the first word names it
+abbrev pub commands : List CommandRow
+commands = verify_row ∷ list_row ∷ get_row ∷ dump_row ∷ []
+
+abbrev pub within : Option ℕ → Option Request → Option Command
+within None request = None
+within (Some limit) None = None
+within (Some limit) (Some request) = Some (record { limit = limit; request = request })
+
+-- a command of the table with its arguments, of which the operands are as many as it has
+abbrev pub command_with : CommandRow → Option Arguments → Option Command
+command_with row None = None
+command_with row (Some all) = if length all.operands == row.operands then within (limit_of (value_given max_bytes all.given)) (row.asks all) else None
+
+-- the command of a table that the first word names
+abbrev pub command_in : List CommandRow → List ℕ → List (List ℕ) → Option Command
+command_in [] word words = None
+command_in (row ∷ rows) word words = if bytes_eq word row.word then command_with row (once (arguments row.options words)) else command_in rows word words
+
+-- the command that the words are, unless they are none
 unfoldable pub command_of : List (List ℕ) → Option Command
 command_of [] = None
-command_of (word ∷ words) =
-    if bytes_eq word (codes "verify") then plain_command Verify (once (arguments plain_options words))
-    else (if bytes_eq word (codes "list") then plain_command ListAll (once (arguments plain_options words))
-    else (if bytes_eq word (codes "get") then get_command (once (arguments get_options words))
-    else None))
+command_of (word ∷ words) = command_in commands word words

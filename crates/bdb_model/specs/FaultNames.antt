@@ -1,14 +1,11 @@
 -- The names of the rows of the fault table, and of the cases that are left out. Source: docs/FORMAT.md, "Faults".
-use Rattle.std.specs.Prelude.{ℕ, zero, suc, ◌==◌, if◌then◌else◌, List, [], ◌∷◌, codes}
-use Rattle.bdb_model.specs.declared.kinds.Unsupported.{Unsupported}
-use Rattle.bdb_model.specs.declared.kinds.Unsupported.TheVariants.{Version, Heap, LargePage, Encryption, Checksum, Partition, Extent, Compression, OwnHash, WrappedQueue}
+use Rattle.std.specs.Prelude.{ℕ, ◌-◌, ◌==◌, if◌then◌else◌, List, [], ◌∷◌, codes, get_or}
+use Rattle.bdb_format.specs.declared.kinds.Unsupported.{Unsupported}
+use Rattle.bdb_format.specs.declared.kinds.Unsupported.TheVariants.{Version, Heap, LargePage, Encryption, Checksum, Partition, Extent, Compression, OwnHash, WrappedQueue}
 
 -- the name beside a number in a table of names that are numbered from one on
 abbrev pub numbered_name : List (List ℕ) → ℕ → List ℕ
-numbered_name [] n = []
-numbered_name (name ∷ names) zero = []
-numbered_name (name ∷ names) (suc zero) = name
-numbered_name (name ∷ names) (suc (suc n)) = numbered_name names (suc n)
+numbered_name names n = if n == 0 then [] else get_or names (n - 1) []
 
 abbrev pub file_names : List (List ℕ)
 file_names =
@@ -37,14 +34,14 @@ structure_names = codes "ChainLength" ∷ codes "LeafKind" ∷ codes "LeafLink" 
 abbrev pub master_names : List (List ℕ)
 master_names = codes "Unnamed" ∷ codes "EntrySize" ∷ codes "EntryTarget" ∷ codes "NameTwice" ∷ codes "MetaTwice" ∷ []
 
-abbrev pub content_names : List (List ℕ)
-content_names =
+abbrev pub contents_names : List (List ℕ)
+contents_names =
     codes "Duplicates" ∷ codes "DuplicateKind" ∷ codes "KeyOrder" ∷ codes "Separator" ∷ codes "DuplicateOrder" ∷ codes "Count" ∷ codes "RecordLength" ∷ codes "Bucket"
     ∷ codes "KeyTwice" ∷ []
 
 -- the names of a stage
-abbrev pub names_of : ℕ → List (List ℕ)
-names_of stage =
+abbrev pub row_names : ℕ → List (List ℕ)
+row_names stage =
     if stage == 1 then file_names
     else (if stage == 2 then form_names
     else (if stage == 3 then reference_names
@@ -52,11 +49,11 @@ names_of stage =
     else (if stage == 5 then reach_names
     else (if stage == 6 then structure_names
     else (if stage == 7 then master_names
-    else (if stage == 8 then content_names else [])))))))
+    else (if stage == 8 then contents_names else [])))))))
 
 -- the name of the row with this stage and code
 unfoldable pub fault_name : ℕ → ℕ → List ℕ
-fault_name stage code = numbered_name (names_of stage) code
+fault_name stage code = numbered_name (row_names stage) code
 
 -- the name of a case that is left out
 abbrev pub unsupported_name : Unsupported → List ℕ

@@ -2,7 +2,7 @@
 use Rattle.std.specs.Prelude.{◌≡◌, ◌≢◌, ◌⊎◌, ℕ, ◌+◌, List, Some, None}
 use Rattle.std.specs.Io.KnownBytes.{IsAtEnd}
 use Rattle.bdb_model.specs.Change.{Change, Gains, GainsPart, HasFailed, IsUncalled, Stays}
-use Rattle.bdb_model.specs.Faults.{Took}
+use Rattle.bdb_format.specs.Faults.{Took}
 use Rattle.bdb_model.specs.Command.{Command, command_of}
 use Rattle.bdb_model.specs.Lines.{memory_line, read_fault_line, write_fault_line}
 use Rattle.bdb_model.specs.Output.{Answers, AnswersInPart, IsInput, Output}

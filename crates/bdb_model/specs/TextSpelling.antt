@@ -1,5 +1,5 @@
 -- How bytes are spelled in a text: by two hexadecimal digits each, or printed. Source: docs/FORMAT.md, "Spellings".
-use Rattle.std.specs.Prelude.{ℕ, ◌+◌, ◌-◌, ◌*◌, ◌/◌, ◌%◌, nat_lt, nat_le, ◌==◌, ◌&&◌, if◌then◌else◌, Bool, true, false, List, [], ◌∷◌, Option, Some, None}
+use Rattle.std.specs.Prelude.{ℕ, zero, suc, ◌+◌, ◌-◌, ◌*◌, ◌/◌, ◌%◌, nat_lt, nat_le, ◌==◌, ◌&&◌, if◌then◌else◌, Bool, true, false, List, [], ◌∷◌, length, Option, Some, None}
 use Rattle.std.specs.List.{flat_map}
 
 -- the digit of a number below 16
@@ -33,29 +33,44 @@ byte_of_digits (Some high) (Some low) = Some (16 * high + low)
 byte_of_digits (Some high) None = None
 byte_of_digits None low = None
 
--- a byte before the bytes that follow, where both are there
-abbrev pub before : Option ℕ → Option (List ℕ) → Option (List ℕ)
-before (Some byte) (Some bytes) = Some (byte ∷ bytes)
-before (Some byte) None = None
-before None bytes = None
+-- a byte before a text, where it is there
+abbrev pub byte_before : Option ℕ → List ℕ → Option (ℕ × List ℕ)
+byte_before None text = None
+byte_before (Some byte) text = Some (byte, text)
 
--- two digits for each byte
-abbrev pub digits_read : List ℕ → Option (List ℕ)
-digits_read [] = Some []
-digits_read (high ∷ []) = None
-digits_read (high ∷ low ∷ rest) = before (byte_of_digits (digit_value high) (digit_value low)) (digits_read rest)
+-- the byte of the two digits that a text begins with, and the text behind them
+abbrev pub digits_unit : List ℕ → Option (ℕ × List ℕ)
+digits_unit [] = None
+digits_unit (high ∷ []) = None
+digits_unit (high ∷ low ∷ text) = byte_before (byte_of_digits (digit_value high) (digit_value low)) text
 
--- after a backslash another one or two digits; each other byte stands for itself
-abbrev pub printed_read : List ℕ → Option (List ℕ)
-printed_read [] = Some []
-printed_read (a ∷ []) = if a == 92 then None else Some (a ∷ [])
-printed_read (a ∷ b ∷ []) = if a == 92 then (if b == 92 then Some (92 ∷ []) else None) else before (Some a) (printed_read (b ∷ []))
-printed_read (a ∷ b ∷ c ∷ rest) =
-    if a == 92
-    then (if b == 92 then before (Some 92) (printed_read (c ∷ rest)) else before (byte_of_digits (digit_value b) (digit_value c)) (printed_read rest))
-    else before (Some a) (printed_read (b ∷ c ∷ rest))
+-- the unit behind a backslash: another backslash, or two digits
+abbrev pub escaped_unit : List ℕ → Option (ℕ × List ℕ)
+escaped_unit [] = None
+escaped_unit (byte ∷ text) = if byte == 92 then Some (92, text) else digits_unit (byte ∷ text)
 
--- the bytes that a text spells: printed, or by digits alone
+-- the unit that a printed text begins with: a backslash and what it escapes, or a byte that stands for itself
+abbrev pub printed_unit : List ℕ → Option (ℕ × List ℕ)
+printed_unit [] = None
+printed_unit (byte ∷ text) = if byte == 92 then escaped_unit text else Some (byte, text)
+
+-- the byte that the first unit of a text spells, printed or by digits alone, and the text behind that unit
+abbrev pub next_unit : Bool → List ℕ → Option (ℕ × List ℕ)
+next_unit true text = printed_unit text
+next_unit false text = digits_unit text
+
+-- a byte before the bytes that follow, where these are there
+abbrev pub before : ℕ → Option (List ℕ) → Option (List ℕ)
+before byte None = None
+before byte (Some bytes) = Some (byte ∷ bytes)
+
+-- the bytes of a text's units, of which there are at most so many
+abbrev pub units_read : Bool → ℕ → List ℕ → Option (List ℕ)
+units_read print most [] = Some []
+units_read print zero (byte ∷ text) = None
+units_read print (suc most) (byte ∷ text) =
+    elim (next_unit print (byte ∷ text)) [ None ↦ None | Some unit ↦ before unit.0 (units_read print most unit.1) ]
+
+-- the bytes that a text spells, printed or by digits alone: no more than it has bytes
 unfoldable pub bytes_spelled : Bool → List ℕ → Option (List ℕ)
-bytes_spelled true text = printed_read text
-bytes_spelled false text = digits_read text
+bytes_spelled print text = units_read print (length text) text

@@ -1,22 +1,18 @@
-//! Plain types of a database file, and the definitions that every contract cites.
+//! The words of a command, the sections of a dump text, and the definitions that answers cite; what bdb_format has is passed on.
 #![tactic(auto)]
 
-mod bytes;
-pub mod graph_laws;
-mod kinds;
-pub mod laws;
-mod metadata;
-mod pages;
-mod references;
-mod settings;
-mod steps;
+mod faults;
+mod keywords;
+mod pairs;
+mod sections;
 mod words;
 
-pub use bytes::Bytes;
-pub use kinds::{CheckError, Fault, Kind, Order, Unsupported, Verdict};
-pub use metadata::{BtreeMeta, FileKind, HashMeta, Head, MetaFault, QueueMeta};
-pub use pages::{Header, ItemFault, RecnoItem};
-pub use references::{Reference, Sort};
-pub use settings::Settings;
-pub use steps::Steps;
+pub use bdb_format::{
+    BtreeMeta, Bytes, CheckError, Fault, FileKind, HashMeta, Head, Header, ItemFault, Kind,
+    MetaFault, Order, QueueMeta, RecnoItem, Reference, Settings, Sort, Steps, Unsupported, Verdict,
+};
+pub use faults::TextFault;
+pub use keywords::Judged;
+pub use pairs::{Key, TextPair, TextPairs};
+pub use sections::{Section, Sections};
 pub use words::Words;

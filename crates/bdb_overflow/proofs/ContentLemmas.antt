@@ -5,26 +5,30 @@ use Rattle.std.specs.List.{Contains, flat_map, range_with_len}
 use Rattle.std.proofs.lemmas.Bool.{and_parts, cases_Bool, eqb-true, leb-true}
 use Rattle.std.proofs.lemmas.List.Elements.{Contains-append_left}
 use Rattle.std.proofs.lemmas.List.FromFn.{get_or-map-range_with_len}
-use Rattle.bdb_model.specs.declared.kinds.Order.{Order}
-use Rattle.bdb_model.specs.declared.metadata.FileKind.TheVariants.{Queue as QueueFile}
-use Rattle.bdb_model.specs.declared.metadata.Head.{Head}
-use Rattle.bdb_model.specs.declared.references.Sort.{Sort}
-use Rattle.bdb_model.specs.declared.references.Sort.TheVariants.{OverflowHead, HashNext, Child}
-use Rattle.bdb_model.specs.File.{File, file_of, page_at, page_bytes}
-use Rattle.bdb_model.specs.HeadOf.{head_of}
-use Rattle.bdb_model.specs.Numbers.{byte_at}
-use Rattle.bdb_model.specs.Page.{Content, Inline, Set, Chain, Tree, Unknown, Item, InternalItem, Listed, Page, Zero, Hash, Internal, Leaf, RecnoLeaf, DupLeaf, PageType, LeafPage}
-use Rattle.bdb_model.specs.Reading.{abstract_page, entries_of, is_deleted, is_zero, kind_at, leaf_content, leaf_item_at, listed, offset_of, page_as, page_type}
-use Rattle.bdb_model.specs.References.{content_names, is_shared_key, leaf_names, names_in, names_of, no_item, unless_zero}
-use Rattle.bdb_model.specs.Rows.{form_code, may_have_type}
-use Rattle.bdb_model.proofs.GraphLemmas.{type_fits}
-use Rattle.bdb_model.proofs.MemberLemmas.{first_member, in_flat_map, in_range, later_member}
-use Rattle.bdb_model.proofs.PageLemmas.{index_offset, length_items}
+use Rattle.bdb_format.specs.declared.kinds.Order.{Order}
+use Rattle.bdb_format.specs.declared.metadata.FileKind.TheVariants.{Queue as QueueFile}
+use Rattle.bdb_format.specs.declared.metadata.Head.{Head}
+use Rattle.bdb_format.specs.declared.references.Sort.{Sort}
+use Rattle.bdb_format.specs.declared.references.Sort.TheVariants.{OverflowHead, HashNext, Child}
+use Rattle.bdb_format.specs.File.{File, file_of, page_at, page_bytes}
+use Rattle.bdb_format.specs.HeadOf.{head_of}
+use Rattle.bdb_format.specs.Numbers.{byte_at}
+use Rattle.bdb_format.specs.Page.{Content, Inline, Set, Chain, Tree, Unknown, Item, InternalItem, Listed, Page, Zero, Hash, Internal, Leaf, RecnoLeaf, DupLeaf, PageType, LeafPage}
+use Rattle.bdb_format.specs.Reading.{abstract_page, entries_of, is_deleted, is_zero, kind_at, leaf_content, leaf_item_at, listed, offset_of, page_as, page_type}
+use Rattle.bdb_format.specs.References.{content_targets, is_shared_key, targets_in, targets_of, no_item, unless_zero, contents_in}
+use Rattle.bdb_format.specs.Rows.{form_code, may_have_type}
+use Rattle.bdb_format.proofs.GraphLemmas.{type_fits, queue_types}
+use Rattle.bdb_format.proofs.MemberLemmas.{first_member, in_flat_map, in_range, later_member, in_map}
+use Rattle.bdb_format.proofs.PageLemmas.{index_offset, later_type, length_items}
+use Rattle.bdb_format.proofs.TargetLemmas.{held_named, own_held}
 use Rattle.bdb_graph.specs.Linked.{FitsChain, IsForest}
 use Rattle.bdb_graph.proofs.FirstLemmas.{formed_page}
 use Rattle.bdb_graph.proofs.HeldLemmas.{kind_is, last_page, page_is}
-use Rattle.bdb_graph.proofs.LinkedLemmas.{forest_names, named_target}
+use Rattle.bdb_graph.proofs.LinkedLemmas.{named_target}
 use Rattle.bdb_overflow.specs.Datum.{FitsContent}
+use Rattle.bdb_format.proofs.ListLemmas.{member_of}
+use Rattle.bdb_format.proofs.ReferenceLemmas.{forest_names}
+use Rattle.bdb_format.proofs.LeafLemmas.{leaf_item_is, one_offset}
 
 -- Pages with items stand in no queue file.
 
@@ -36,10 +40,6 @@ has_items (RecnoLeaf page) = true
 has_items (DupLeaf page) = true
 has_items page = false
 
-queue_byte : (number byte : ℕ) → may_have_type QueueFile number byte ≡ true → (byte ≡ 10) ⊎ (byte ≡ 11)
-queue_byte zero byte may = inl (eqb-true byte 10 may)
-queue_byte (suc number) byte may = inr (eqb-true byte 11 may)
-
 none_of_queue : (order : Order) (page : List ℕ) (byte : ℕ) → (byte ≡ 10) ⊎ (byte ≡ 11) → has_items (page_as order page (page_type byte)) ≡ false
 none_of_queue order page byte types =
     elim types [ inl is ↦ ap (λ b. has_items (page_as order page (page_type b))) is | inr is ↦ ap (λ b. has_items (page_as order page (page_type b))) is ]
@@ -50,7 +50,7 @@ none_in_queue head number page queue none =
     let byte : ℕ = byte_at page 25 in
     elim (is_zero page) as (λ zeros. is_zero page ≡ zeros → has_items (elim zeros [ true ↦ Zero | false ↦ page_as head.order page (page_type byte) ]) ≡ false) [
       | true ↦ λ _. refl
-      | false ↦ λ some. none_of_queue head.order page byte (queue_byte number byte (ap (λ kind. may_have_type kind number byte) (sym queue) ∙ type_fits head number page some none))
+      | false ↦ λ some. none_of_queue head.order page byte (queue_types number byte (ap (λ kind. may_have_type kind number byte) (sym queue) ∙ type_fits head number page some none))
     ] refl
 
 no_queue : (image : List ℕ) (p : ℕ) → IsForest image → p ≤ (file_of image).last → has_items (page_at (file_of image) p) ≡ true → (file_of image).kind ≡ QueueFile → ⊥
@@ -62,15 +62,15 @@ no_queue image p forest low some queue =
 -- What is named as the head of a chain fits.
 
 named_chain : (image : List ℕ) (p : ℕ) (page : Page) (target : ℕ) → IsForest image → p ≤ (file_of image).last → page_at (file_of image) p ≡ page → has_items page ≡ true
-    → Contains (names_in p page) (OverflowHead, target) → FitsChain (file_of image) target
+    → Contains (targets_in p page) (OverflowHead, target) → FitsChain (file_of image) target
 named_chain image p page target forest low is some at =
-    let names : names_of (file_of image).kind p (page_at (file_of image) p) ≡ names_in p page =
-    forest_names (file_of image).kind p (page_at (file_of image) p) (no_queue image p forest low (ap has_items is ∙ some)) ∙ ap (names_in p) is in
+    let names : targets_of (file_of image).kind p (page_at (file_of image) p) ≡ targets_in p page =
+    forest_names (file_of image).kind p (page_at (file_of image) p) (no_queue image p forest low (ap has_items is ∙ some)) ∙ ap (targets_in p) is in
     named_target (file_of image) p OverflowHead target low (subst (λ ns. Contains ns (OverflowHead, target)) (sym names) at)
 
 -- all that a content names as the head of a chain fits
 abbrev NamesFit : File → Content → Type 0
-NamesFit file content = (target : ℕ) → Contains (content_names content) (OverflowHead, target) → FitsChain file target
+NamesFit file content = (target : ℕ) → Contains (content_targets content) (OverflowHead, target) → FitsChain file target
 
 content_fits : (file : File) (content : Content) → NamesFit file content → FitsContent file content
 content_fits file (Inline bytes) fit = tt
@@ -79,45 +79,37 @@ content_fits file (Chain head total) fit = fit head (first_member (OverflowHead,
 content_fits file (Tree root) fit = tt
 content_fits file Unknown fit = tt
 
-member_of : {X : Type 0} (xs : List X) (i : ℕ) (x : X) → slice_get xs i ≡ Some x → Contains xs x
-member_of [] i x at = absurd cc
-member_of (y ∷ xs) zero x at = let same : y ≡ x = cc in subst (Contains (y ∷ xs)) same (first_member y xs)
-member_of (y ∷ xs) (suc i) x at = later_member y xs x (member_of xs i x at)
-
-abbrev item_content : Item → List (Sort × ℕ)
-item_content item = content_names item.content
+-- what an item of a page holds fits
+held_fits : (image : List ℕ) (p : ℕ) (page : Page) (content : Content) → IsForest image → p ≤ (file_of image).last → page_at (file_of image) p ≡ page
+    → has_items page ≡ true
+    → Contains (contents_in page) content → FitsContent (file_of image) content
+held_fits image p page content forest low is some held =
+    content_fits (file_of image) content
+    (λ target named. named_chain image p page target forest low is some (held_named p page content (OverflowHead, target) held named))
 
 -- the items of a leaf of records
 pub recno_item_fits : (image : List ℕ) (p : ℕ) (page : Listed Item) (i : ℕ) (item : Item) → IsForest image → p ≤ (file_of image).last → page_at (file_of image) p ≡ RecnoLeaf page
     → slice_get page.items i ≡ Some item → FitsContent (file_of image) item.content
 recno_item_fits image p page i item forest low is at =
-    content_fits (file_of image) item.content (λ target named.
-    named_chain image p (RecnoLeaf page) target forest low is refl (in_flat_map item_content page.items item (OverflowHead, target) (member_of page.items i item at) named))
+    held_fits image p (RecnoLeaf page) item.content forest low is refl (in_map (λ (it : Item). it.content) page.items item (member_of page.items i item at))
 
 -- those of a leaf of sorted duplicates
 pub dup_item_fits : (image : List ℕ) (p : ℕ) (page : Listed Item) (i : ℕ) (item : Item) → IsForest image → p ≤ (file_of image).last → page_at (file_of image) p ≡ DupLeaf page
     → slice_get page.items i ≡ Some item → FitsContent (file_of image) item.content
 dup_item_fits image p page i item forest low is at =
-    content_fits (file_of image) item.content (λ target named.
-    named_chain image p (DupLeaf page) target forest low is refl (in_flat_map item_content page.items item (OverflowHead, target) (member_of page.items i item at) named))
+    held_fits image p (DupLeaf page) item.content forest low is refl (in_map (λ (it : Item). it.content) page.items item (member_of page.items i item at))
 
 -- those of a hash page
 pub hash_item_fits : (image : List ℕ) (p : ℕ) (page : Listed Item) (i : ℕ) (item : Item) → IsForest image → p ≤ (file_of image).last → page_at (file_of image) p ≡ Hash page
     → slice_get page.items i ≡ Some item → FitsContent (file_of image) item.content
 hash_item_fits image p page i item forest low is at =
-    content_fits (file_of image) item.content (λ target named.
-    named_chain image p (Hash page) target forest low is refl
-    (Contains-append_left (flat_map item_content page.items) (unless_zero HashNext page.header.next) (OverflowHead, target)
-    (in_flat_map item_content page.items item (OverflowHead, target) (member_of page.items i item at) named)))
+    held_fits image p (Hash page) item.content forest low is refl (in_map (λ (it : Item). it.content) page.items item (member_of page.items i item at))
 
 -- the keys of an internal page
 pub key_fits : (image : List ℕ) (p : ℕ) (page : Listed InternalItem) (i : ℕ) (item : InternalItem) → IsForest image → p ≤ (file_of image).last → page_at (file_of image) p ≡ Internal page
     → slice_get page.items i ≡ Some item → FitsContent (file_of image) item.key
 key_fits image p page i item forest low is at =
-    let names : InternalItem → List (Sort × ℕ) = λ it. (Child, it.child) ∷ content_names it.key in
-    content_fits (file_of image) item.key (λ target named.
-    named_chain image p (Internal page) target forest low is refl
-    (in_flat_map names page.items item (OverflowHead, target) (member_of page.items i item at) (later_member (Child, item.child) (content_names item.key) (OverflowHead, target) named)))
+    held_fits image p (Internal page) item.key forest low is refl (in_map (λ (it : InternalItem). it.key) page.items item (member_of page.items i item at))
 
 -- The items of a btree leaf, shared keys among them: entries of the index with one offset have one item.
 
@@ -132,16 +124,6 @@ leaf_of order page leaf is =
       | true ↦ λ same. absurd cc
       | false ↦ λ same. leaf_as order page (page_type (byte_at page 25)) leaf same
     ] is
-
--- an item is read from its offset alone
-one_offset : (order : Order) (page : List ℕ) (i j : ℕ) → offset_of order page i ≡ offset_of order page j → leaf_item_at order page i ≡ leaf_item_at order page j
-unfolding leaf_item_at
-one_offset order page i j same = ap (λ at. record { content = leaf_content order page at (kind_at page at); deleted = is_deleted page at }) same
-
--- an entry of the index is read as this item
-entry_is : (order : Order) (page : List ℕ) (i : ℕ) → i < entries_of order page → get_or (listed order page (leaf_item_at order page)).items i no_item ≡ leaf_item_at order page i
-unfolding listed
-entry_is order page i there = get_or-map-range_with_len (leaf_item_at order page) 0 (entries_of order page) i i no_item there (omega arith)
 
 -- a key that is shared is the item of the entry two before
 record IsShared (order : Order) (page : List ℕ) (i : ℕ) : Type 0 where
@@ -165,11 +147,8 @@ shared order page i there is =
 own_fits : (image : List ℕ) (p : ℕ) (page : Listed Item) (i : ℕ) (item : Item) → IsForest image → p ≤ (file_of image).last → page_at (file_of image) p ≡ Leaf page → i < length page.items
     → get_or page.items i no_item ≡ item → is_shared_key page.offsets i ≡ false → FitsContent (file_of image) item.content
 own_fits image p page i item forest low is there at own =
-    content_fits (file_of image) item.content (λ target named.
-    let names : leaf_names page i ≡ content_names item.content = rw (own, at) refl in
-    named_chain image p (Leaf page) target forest low is refl
-    (in_flat_map (leaf_names page) (range_with_len 0 (length page.items)) i (OverflowHead, target) (in_range 0 (length page.items) i (omega arith) (omega arith))
-    (subst (λ ns. Contains ns (OverflowHead, target)) (sym names) named)))
+    held_fits image p (Leaf page) item.content forest low is refl
+    (subst (λ (it : Item). Contains (contents_in (Leaf page)) it.content) at (own_held page i there own))
 
 -- an entry of a leaf, where a shared key is the item of an earlier entry that fits
 entry_by : (image : List ℕ) (p : ℕ) (order : Order) (bytes : List ℕ) (i : ℕ) → IsForest image → p ≤ (file_of image).last → page_at (file_of image) p ≡ Leaf (listed order bytes (leaf_item_at order bytes))
@@ -178,7 +157,7 @@ entry_by image p order bytes i forest low is there before =
     let page : Listed Item = listed order bytes (leaf_item_at order bytes) in
     elim (cases_Bool (is_shared_key page.offsets i)) [
       | inl again ↦ before (shared order bytes i there again)
-      | inr own ↦ own_fits image p page i (leaf_item_at order bytes i) forest low is (omega (arith, length_items order bytes (leaf_item_at order bytes))) (entry_is order bytes i there) own
+      | inr own ↦ own_fits image p page i (leaf_item_at order bytes i) forest low is (omega (arith, length_items order bytes (leaf_item_at order bytes))) (leaf_item_is order bytes i there) own
     ]
 
 -- back, two entries a turn, to the one whose key is shared
@@ -206,5 +185,5 @@ leaf_item_fits image p page i item forest low is at =
     let as_listed : page ≡ listed order bytes (leaf_item_at order bytes) = leaf_of order bytes page (sym (page_is image p (omega (arith, low, last_page image))) ∙ is) in
     let found : (i < length page.items) × (get_or page.items i no_item ≡ item) = got page.items i item no_item at in
     let there : i < entries_of order bytes = omega (arith, found.0, ap (λ (l : Listed Item). length l.items) as_listed, length_items order bytes (leaf_item_at order bytes)) in
-    let same : leaf_item_at order bytes i ≡ item = sym (entry_is order bytes i there) ∙ (ap (λ (l : Listed Item). get_or l.items i no_item) (sym as_listed) ∙ found.1) in
+    let same : leaf_item_at order bytes i ≡ item = sym (leaf_item_is order bytes i there) ∙ (ap (λ (l : Listed Item). get_or l.items i no_item) (sym as_listed) ∙ found.1) in
     subst (λ (it : Item). FitsContent (file_of image) it.content) same (entry_fits i image p order bytes i forest low (is ∙ ap (λ l. Leaf l) as_listed) (omega arith) there)

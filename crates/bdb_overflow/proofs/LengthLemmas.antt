@@ -1,24 +1,24 @@
 -- Chains of a wrong length, item by item, and the faults that they are.
-use Rattle.std.proofs.Common.{◌≡◌, ℕ, zero, suc, ◌+◌, ◌-◌, ◌*◌, ◌%◌, ◌<◌, ◌≤◌, Bool, true, false, cond, List, [], ◌∷◌, length, get_or, Some, None, arith, refl, sym, ◌∙◌, ap, inl, inr, zero-add}
-use Rattle.std.specs.Prelude.{◌||◌, nat_le, slice_get}
-use Rattle.std.specs.List.{flat_map, list_any, range_with_len}
+use Rattle.std.proofs.Common.{◌≡◌, ℕ, zero, suc, ◌+◌, ◌-◌, ◌*◌, ◌%◌, ◌<◌, ◌≤◌, Bool, true, false, cond, List, [], ◌∷◌, length, map, get_or, Some, None, arith, refl, sym, ◌∙◌, ap, inl, inr, zero-add}
+use Rattle.std.specs.Prelude.{◌&&◌, ◌||◌, nat_le, not, slice_get}
+use Rattle.std.specs.List.{filter, flat_map, list_any, range_with_len}
 use Rattle.std.proofs.lemmas.Bool.{cases_order, le-leb, or_from}
-use Rattle.std.proofs.lemmas.List.Folds.{list_any-append, list_any_at}
+use Rattle.std.proofs.lemmas.List.Folds.{flat_map-map, list_any-append, list_any_at}
 use Rattle.std.proofs.lemmas.List.FromFn.{get_or-range_with_len, length-range_with_len}
 use Rattle.bdb_form.specs.Formed.{shares_at}
 use Rattle.bdb_graph.specs.Slots.{no_internal_item}
-use Rattle.bdb_graph.specs.Linking.{first_fault}
 use Rattle.bdb_graph.proofs.FitLemmas.{NoneHold, first_of_stage}
-use Rattle.bdb_model.specs.Chains.{chain_rows, content_chains, is_wrong_length, leaf_chains}
-use Rattle.bdb_model.specs.File.{File, page_at}
-use Rattle.bdb_model.specs.Page.{DupLeaf, Hash, Internal, Item, InternalItem, Leaf, Listed, RecnoLeaf}
-use Rattle.bdb_model.specs.References.{is_shared_key, no_item}
-use Rattle.bdb_model.specs.Table.{first_row}
-use Rattle.bdb_model.specs.Verdict.{chain_faults, holding}
-use Rattle.bdb_model.proofs.MemberLemmas.{none_pass, of_range}
-use Rattle.bdb_model.proofs.VerdictLemmas.{no_faults, none_holds, none_is_first_row}
+use Rattle.bdb_format.specs.Chains.{chain_rows, content_chains, is_wrong_length}
+use Rattle.bdb_format.specs.File.{File, page_at}
+use Rattle.bdb_format.specs.Page.{Content, DupLeaf, Hash, Internal, Item, InternalItem, Leaf, Listed, RecnoLeaf}
+use Rattle.bdb_format.specs.References.{is_shared_key, item_at, no_item, own_entries}
+use Rattle.bdb_format.specs.Table.{first_row}
+use Rattle.bdb_format.specs.Verdict.{chain_faults, holding, first_fault}
+use Rattle.bdb_format.proofs.MemberLemmas.{none_pass, of_range}
+use Rattle.bdb_format.proofs.VerdictLemmas.{no_faults, none_holds, none_is_first_row}
 use Rattle.bdb_overflow.specs.Lengths.{has_wrong, is_wrong, is_wrong_entry, is_wrong_item, is_wrong_key}
 use Rattle.bdb_overflow.proofs.ContentLemmas.{got}
+use Rattle.bdb_format.proofs.ListLemmas.{none_of_list}
 
 -- Items.
 
@@ -69,55 +69,69 @@ any_of_all : {X C : Type 0} (wrong : C → Bool) (f : X → List C) (xs : List X
 any_of_all wrong f [] = refl
 any_of_all wrong f (x ∷ xs) = list_any-append wrong (f x) (flat_map f xs) ∙ ap (λ b. list_any wrong (f x) || b) (any_of_all wrong f xs)
 
-none_of_list : {X : Type 0} (test : X → Bool) (d : X) (xs : List X) → ((k : ℕ) → k < length xs → test (get_or xs k d) ≡ false) → list_any test xs ≡ false
-none_of_list test d [] none = refl
-none_of_list test d (x ∷ xs) none = or_from (test x) (list_any test xs) (none 0 (omega arith)) (none_of_list test d xs (λ k lt. none (suc k) (omega arith)))
+-- a chain of a wrong length among those of elements
+wrong_held : {X : Type 0} (file : File) (f : X → Content) (xs : List X)
+    → list_any (is_wrong_length file) (flat_map content_chains (map f xs)) ≡ list_any (λ x. is_wrong file (f x)) xs
+wrong_held file f xs =
+    ap (list_any (is_wrong_length file)) (flat_map-map content_chains f xs) ∙ any_of_all (is_wrong_length file) (λ x. content_chains (f x)) xs
 
--- a chain of a wrong length among those of items
-some_of : {X : Type 0} (file : File) (f : X → List (ℕ × ℕ)) (d : X) (xs : List X) (i : ℕ) → i < length xs → list_any (is_wrong_length file) (f (get_or xs i d)) ≡ true
-    → list_any (is_wrong_length file) (flat_map f xs) ≡ true
-some_of file f d xs i there is = any_of_all (is_wrong_length file) f xs ∙ list_any_at (λ x. list_any (is_wrong_length file) (f x)) xs i d there is
+some_of : {X : Type 0} (file : File) (f : X → Content) (d : X) (xs : List X) (i : ℕ) → i < length xs → is_wrong file (f (get_or xs i d)) ≡ true
+    → list_any (is_wrong_length file) (flat_map content_chains (map f xs)) ≡ true
+some_of file f d xs i there is = wrong_held file f xs ∙ list_any_at (λ x. is_wrong file (f x)) xs i d there is
 
-none_of : {X : Type 0} (file : File) (f : X → List (ℕ × ℕ)) (d : X) (xs : List X) (n : ℕ) → NoneBelow (λ k. list_any (is_wrong_length file) (f (get_or xs k d))) n → length xs ≤ n
-    → list_any (is_wrong_length file) (flat_map f xs) ≡ false
-none_of file f d xs n none all =
-    any_of_all (is_wrong_length file) f xs ∙ none_of_list (λ x. list_any (is_wrong_length file) (f x)) d xs (λ k lt. none k (omega arith))
+none_of : {X : Type 0} (file : File) (f : X → Content) (d : X) (xs : List X) (n : ℕ) → NoneBelow (λ k. is_wrong file (f (get_or xs k d))) n → length xs ≤ n
+    → list_any (is_wrong_length file) (flat_map content_chains (map f xs)) ≡ false
+none_of file f d xs n none all = wrong_held file f xs ∙ none_of_list (λ x. is_wrong file (f x)) d xs (λ k lt. none k (omega arith))
+
+any_kept : {X : Type 0} (test keeps : X → Bool) (xs : List X) → list_any test (filter keeps xs) ≡ list_any (λ x. keeps x && test x) xs
+any_kept test keeps [] = refl
+any_kept test keeps (x ∷ xs) =
+    elim (keeps x) as (λ b. list_any test (cond b (x ∷ filter keeps xs) (filter keeps xs)) ≡ ((b && test x) || list_any (λ y. keeps y && test y) xs)) [
+      | true ↦ ap (λ b. test x || b) (any_kept test keeps xs)
+      | false ↦ any_kept test keeps xs
+    ]
+
+-- a btree leaf, entry by entry
+wrong_entries : (file : File) (page : Listed Item) → has_wrong file (Leaf page) ≡ list_any (is_wrong_entry file page) (range_with_len 0 (length page.items))
+wrong_entries file page =
+    wrong_held file (λ index. (item_at page index).content) (own_entries page)
+    ∙ any_kept (is_wrong_item file page) (λ index. not (is_shared_key page.offsets index)) (range_with_len 0 (length page.items))
 
 pub records_some : (file : File) (page : Listed Item) (i : ℕ) → i < length page.items → is_wrong_item file page i ≡ true → has_wrong file (RecnoLeaf page) ≡ true
-records_some file page i there is = some_of file (λ (item : Item). content_chains item.content) no_item page.items i there is
+records_some file page i there is = some_of file (λ (item : Item). item.content) no_item page.items i there is
 
 pub records_none : (file : File) (page : Listed Item) (n : ℕ) → NoneBelow (is_wrong_item file page) n → length page.items ≤ n → has_wrong file (RecnoLeaf page) ≡ false
-records_none file page n none all = none_of file (λ (item : Item). content_chains item.content) no_item page.items n none all
+records_none file page n none all = none_of file (λ (item : Item). item.content) no_item page.items n none all
 
 pub duplicates_some : (file : File) (page : Listed Item) (i : ℕ) → i < length page.items → is_wrong_item file page i ≡ true → has_wrong file (DupLeaf page) ≡ true
-duplicates_some file page i there is = some_of file (λ (item : Item). content_chains item.content) no_item page.items i there is
+duplicates_some file page i there is = some_of file (λ (item : Item). item.content) no_item page.items i there is
 
 pub duplicates_none : (file : File) (page : Listed Item) (n : ℕ) → NoneBelow (is_wrong_item file page) n → length page.items ≤ n → has_wrong file (DupLeaf page) ≡ false
-duplicates_none file page n none all = none_of file (λ (item : Item). content_chains item.content) no_item page.items n none all
+duplicates_none file page n none all = none_of file (λ (item : Item). item.content) no_item page.items n none all
 
 pub hash_some : (file : File) (page : Listed Item) (i : ℕ) → i < length page.items → is_wrong_item file page i ≡ true → has_wrong file (Hash page) ≡ true
-hash_some file page i there is = some_of file (λ (item : Item). content_chains item.content) no_item page.items i there is
+hash_some file page i there is = some_of file (λ (item : Item). item.content) no_item page.items i there is
 
 pub hash_none : (file : File) (page : Listed Item) (n : ℕ) → NoneBelow (is_wrong_item file page) n → length page.items ≤ n → has_wrong file (Hash page) ≡ false
-hash_none file page n none all = none_of file (λ (item : Item). content_chains item.content) no_item page.items n none all
+hash_none file page n none all = none_of file (λ (item : Item). item.content) no_item page.items n none all
 
 pub keys_some : (file : File) (page : Listed InternalItem) (i : ℕ) → i < length page.items → is_wrong_key file page i ≡ true → has_wrong file (Internal page) ≡ true
-keys_some file page i there is = some_of file (λ (item : InternalItem). content_chains item.key) no_internal_item page.items i there is
+keys_some file page i there is = some_of file (λ (item : InternalItem). item.key) no_internal_item page.items i there is
 
 pub keys_none : (file : File) (page : Listed InternalItem) (n : ℕ) → NoneBelow (is_wrong_key file page) n → length page.items ≤ n → has_wrong file (Internal page) ≡ false
-keys_none file page n none all = none_of file (λ (item : InternalItem). content_chains item.key) no_internal_item page.items n none all
+keys_none file page n none all = none_of file (λ (item : InternalItem). item.key) no_internal_item page.items n none all
 
 pub leaf_some : (file : File) (page : Listed Item) (i : ℕ) → i < length page.items → is_wrong_entry file page i ≡ true → has_wrong file (Leaf page) ≡ true
 leaf_some file page i there is =
     let indices : List ℕ = range_with_len 0 (length page.items) in
-    any_of_all (is_wrong_length file) (leaf_chains page) indices
+    wrong_entries file page
     ∙ list_any_at (is_wrong_entry file page) indices i 0 (omega (arith, length-range_with_len 0 (length page.items)))
     (ap (is_wrong_entry file page) (get_or-range_with_len 0 (length page.items) i 0 there ∙ zero-add i) ∙ is)
 
 pub leaf_none : (file : File) (page : Listed Item) (n : ℕ) → NoneBelow (is_wrong_entry file page) n → length page.items ≤ n → has_wrong file (Leaf page) ≡ false
 leaf_none file page n none all =
     let indices : List ℕ = range_with_len 0 (length page.items) in
-    any_of_all (is_wrong_length file) (leaf_chains page) indices
+    wrong_entries file page
     ∙ none_pass (is_wrong_entry file page) indices (λ k at. let inside = of_range 0 (length page.items) k at in none k (omega (arith, inside.1)))
 
 -- The stage.

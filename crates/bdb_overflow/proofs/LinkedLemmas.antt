@@ -4,37 +4,38 @@ use Rattle.std.specs.Prelude.{◌==◌, ◌||◌, ◌&&◌, nat_lt}
 use Rattle.std.specs.List.{AllByRecursion, Contains, IsDistinct, list_any}
 use Rattle.std.proofs.lemmas.Bool.{cases_Bool, cases_eq, eq-eqb, eqb-false, eqb-true, ltb-false, ne_eqb, or_parts}
 use Rattle.std.proofs.lemmas.Map.Steps.{length-le_from_distinct_below}
-use Rattle.bdb_model.specs.declared.kinds.Order.{Order}
-use Rattle.bdb_model.specs.declared.metadata.FileKind.{FileKind}
-use Rattle.bdb_model.specs.declared.metadata.FileKind.TheVariants.{Btree, Hash, Queue}
-use Rattle.bdb_model.specs.declared.metadata.Head.{Head}
-use Rattle.bdb_model.specs.declared.references.Reference.{Reference}
-use Rattle.bdb_model.specs.declared.references.Sort.{Sort}
-use Rattle.bdb_model.specs.declared.references.Sort.TheVariants.{OverflowHead, OverflowNext}
-use Rattle.bdb_model.specs.Chains.{chain_in, next_of, piece_in, pieces_of}
-use Rattle.bdb_model.specs.File.{File, file_as, file_of, header_in, page_at, page_bytes, type_in}
-use Rattle.bdb_model.specs.Graph.{Owner, all_references, owners}
-use Rattle.bdb_model.specs.HeadOf.{head_of, is_page_size}
-use Rattle.bdb_model.specs.Numbers.{byte_at, two_at}
-use Rattle.bdb_model.specs.Page.{Overflow, Page}
-use Rattle.bdb_model.specs.Reading.{abstract_page, header_of, is_zero, page_type}
-use Rattle.bdb_model.specs.References.{asked_by, fit_code, fit_rows, has_type, is_zero_page, names_in, names_of, refs}
-use Rattle.bdb_model.specs.Rows.{body_code, form_code, identity_rows, is_tree_type, may_have_type, page_code}
-use Rattle.bdb_model.specs.Table.{first_row}
-use Rattle.bdb_model.proofs.GraphLemmas.{IsOwner, each_fits, is_owner, type_fits}
-use Rattle.bdb_model.proofs.MemberLemmas.{first_member}
-use Rattle.bdb_model.proofs.VerdictLemmas.{AllFail, none_is_first_row}
+use Rattle.bdb_format.specs.declared.kinds.Order.{Order}
+use Rattle.bdb_format.specs.declared.metadata.FileKind.{FileKind}
+use Rattle.bdb_format.specs.declared.metadata.FileKind.TheVariants.{Btree, Hash, Queue}
+use Rattle.bdb_format.specs.declared.metadata.Head.{Head}
+use Rattle.bdb_format.specs.declared.references.Reference.{Reference}
+use Rattle.bdb_format.specs.declared.references.Sort.{Sort}
+use Rattle.bdb_format.specs.declared.references.Sort.TheVariants.{OverflowHead, OverflowNext}
+use Rattle.bdb_format.specs.Chains.{chain_in, next_of, piece_in, pieces_of}
+use Rattle.bdb_format.specs.File.{File, file_as, file_of, header_in, page_at, page_bytes, type_in}
+use Rattle.bdb_format.specs.Graph.{Owner, all_references, owners}
+use Rattle.bdb_format.specs.HeadOf.{head_of, is_page_size}
+use Rattle.bdb_format.specs.Numbers.{byte_at, two_at}
+use Rattle.bdb_format.specs.Page.{Overflow, Page}
+use Rattle.bdb_format.specs.Reading.{abstract_page, header_of, is_zero, page_type}
+use Rattle.bdb_format.specs.References.{asked_by, fit_code, fit_rows, has_type, is_zero_page, targets_in, targets_of, refs}
+use Rattle.bdb_format.specs.Rows.{body_code, form_code, identity_rows, is_tree_type, may_have_type, page_code}
+use Rattle.bdb_format.specs.Table.{first_row}
+use Rattle.bdb_format.proofs.GraphLemmas.{IsOwner, each_fits, is_owner, type_fits}
+use Rattle.bdb_format.proofs.MemberLemmas.{first_member, in_filter}
+use Rattle.bdb_format.proofs.PageLemmas.{later_type}
+use Rattle.bdb_format.proofs.VerdictLemmas.{AllFail, none_is_first_row}
 use Rattle.bdb_graph.specs.Forest.{AllDistinct, IsWayDown, Names, NotIn}
 use Rattle.bdb_graph.specs.Linked.{FitsChain, IsForest}
 use Rattle.bdb_graph.proofs.CodeLemmas.{code_by}
 use Rattle.bdb_graph.proofs.FirstLemmas.{formed_accepted, formed_last, formed_page}
 use Rattle.bdb_graph.proofs.FitLemmas.{typed, untyped, zero_type}
-use Rattle.bdb_graph.proofs.ForestLemmas.{in_filter, no_page_twice_below, sound_graph}
+use Rattle.bdb_graph.proofs.ForestLemmas.{no_page_twice_below, sound_graph}
 use Rattle.bdb_graph.proofs.FormedLemmas.{IsPaged, accepted_paged, page_length, size_bounds}
 use Rattle.bdb_graph.proofs.HeldLemmas.{kind_is, last_page, other_formed, page_is}
-use Rattle.bdb_graph.proofs.LinkedLemmas.{forest_names}
 use Rattle.bdb_overflow.specs.Whole.{EndsIn, IsLink, IsWholeChain, next_at}
 use Rattle.bdb_overflow.proofs.WholeLemmas.{after_piece, count_as, data_at, link_next, link_piece, overflow_page, pieces_in, pieces_turn}
+use Rattle.bdb_format.proofs.ReferenceLemmas.{forest_names}
 
 -- Pages of a linked image.
 
@@ -77,7 +78,7 @@ no_queue : (kind : FileKind) (p byte : ℕ) → 1 ≤ p → byte ≡ 7 → may_h
 no_queue Btree p byte low seven may queue = cc
 no_queue Hash p byte low seven may queue = cc
 no_queue Queue zero byte low seven may queue = omega arith
-no_queue Queue (suc p) byte low seven may queue = let eleven : byte ≡ 11 = eqb-true byte 11 may in omega arith
+no_queue Queue (suc p) byte low seven may queue = let eleven : byte ≡ 11 = eqb-true byte 11 (sym (later_type Queue p byte) ∙ may) in omega arith
 
 -- where no row of a page holds, none of its type does
 body_none : (zeros : Bool) (identity body : Option ℕ) → zeros ≡ false → code_by zeros identity body ≡ None → body ≡ None
@@ -187,8 +188,8 @@ names_next image p forest on more =
     let byte : (is_zero page ≡ false) × (byte_at page 25 ≡ 7) = type_byte head.order page 7 (ap type_in (sym (page_is image p on.inside) ∙ link_is image p forest on)) in
     let formed : form_code head p page ≡ None = formed_page image p forest.formed.form on.inside in
     let kind : file.kind ≡ Queue → ⊥ = λ queue. no_queue head.kind p (byte_at page 25) on.link.low on.link.kind (type_fits head p page byte.0 formed) (sym (kind_is image) ∙ queue) in
-    let names : names_of file.kind p (page_at file p) ≡ (OverflowNext, next) ∷ [] =
-    forest_names file.kind p (page_at file p) kind ∙ (ap (names_in p) (link_is image p forest on) ∙ rw (ne_eqb next 0 more) refl) in
+    let names : targets_of file.kind p (page_at file p) ≡ (OverflowNext, next) ∷ [] =
+    forest_names file.kind p (page_at file p) kind ∙ (ap (targets_in p) (link_is image p forest on) ∙ rw (ne_eqb next 0 more) refl) in
     rw names (first_member (next_reference next) [])
 
 next_on_chain : (image : List ℕ) (p : ℕ) → IsForest image → IsOnChain image p → (next_at (head_of image).order (head_of image).page_size image p ≡ 0 → ⊥)

@@ -6,16 +6,17 @@ use Rattle.std.proofs.lemmas.List.{length-map, length-take-le}
 use Rattle.std.proofs.lemmas.List.Folds.{list_all_at}
 use Rattle.std.proofs.lemmas.List.FromFn.{get_or-map-range_with_len}
 use Rattle.std.proofs.Math.Nat.{mul-le-mul_right}
-use Rattle.bdb_model.specs.declared.kinds.Order.{Order}
-use Rattle.bdb_model.specs.Chains.{chain_in, joined, next_of, piece_in, pieces_of}
-use Rattle.bdb_model.specs.File.{File, file_as, header_in, page_at}
-use Rattle.bdb_model.specs.HeadOf.{is_page_size}
-use Rattle.bdb_model.specs.Numbers.{byte_at, two_at}
-use Rattle.bdb_model.specs.Page.{NoType, Overflow}
-use Rattle.bdb_model.specs.Reading.{abstract_page, header_of, is_zero, page_as, page_type}
-use Rattle.bdb_graph.proofs.FitLemmas.{typed_page}
+use Rattle.bdb_format.specs.declared.kinds.Order.{Order}
+use Rattle.bdb_format.specs.Chains.{chain_in, joined, next_of, piece_in, pieces_of}
+use Rattle.bdb_format.specs.File.{File, file_as, header_in, page_at}
+use Rattle.bdb_format.specs.HeadOf.{is_page_size}
+use Rattle.bdb_format.specs.Numbers.{byte_at, two_at}
+use Rattle.bdb_format.specs.Page.{NoType, Overflow}
+use Rattle.bdb_format.specs.Reading.{abstract_page, header_of, is_zero, page_as, page_type}
 use Rattle.bdb_graph.proofs.FormedLemmas.{size_bounds}
 use Rattle.bdb_overflow.specs.Whole.{EndsIn, IsLeft, IsLink, IsWholeChain, bytes_of, next_at, pieces_from}
+use Rattle.bdb_format.proofs.GraphLemmas.{typed_page}
+use Rattle.bdb_format.proofs.ChainLemmas.{chain_few}
 
 -- Pages.
 
@@ -160,15 +161,6 @@ after_left order size image p legal whole = record { legal = legal; rest = whole
 pub pieces_from_all : (order : Order) (size : ℕ) (image : List ℕ) (p : ℕ) → IsWholeChain order size image p → pieces_from order size image p ≡ pieces_of (file_as order size image) p
 unfolding pieces_from
 pieces_from_all order size image p whole = rw (ne_eqb p 0 (omega (arith, (whole_link order size image p whole).low))) refl
-
-chain_few : (turns : ℕ) (file : File) (p : ℕ) → length (chain_in turns file p) ≤ turns
-unfolding chain_in
-chain_few zero file p = omega arith
-chain_few (suc turns) file p =
-    elim (next_of file p == 0) as (λ b. length (p ∷ elim b [ true ↦ [] | false ↦ chain_in turns file (next_of file p) ]) ≤ suc turns) [
-      | true ↦ omega arith
-      | false ↦ omega (arith, chain_few turns file (next_of file p))
-    ]
 
 -- a chain has no more pieces than the file has pages
 pub pieces_few : (file : File) (p : ℕ) → length (pieces_of file p) ≤ file.count

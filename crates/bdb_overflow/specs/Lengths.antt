@@ -1,11 +1,11 @@
--- Which items name a chain whose length isn't the one that they tell. Source: docs/FORMAT.md, "Stage 6".
-use Rattle.std.specs.Prelude.{ℕ, Bool, get_or}
+-- Which items name a chain whose length isn't the one that they tell. Source: docs/FORMAT.md, "Stage 6, chains and trees".
+use Rattle.std.specs.Prelude.{ℕ, ◌&&◌, Bool, get_or, not}
 use Rattle.std.specs.List.{list_any}
 use Rattle.bdb_graph.specs.Slots.{no_internal_item}
-use Rattle.bdb_model.specs.Chains.{chains_in, content_chains, is_wrong_length, leaf_chains}
-use Rattle.bdb_model.specs.File.{File}
-use Rattle.bdb_model.specs.Page.{Content, Item, InternalItem, Listed, Page}
-use Rattle.bdb_model.specs.References.{no_item}
+use Rattle.bdb_format.specs.Chains.{chains_in, content_chains, is_wrong_length}
+use Rattle.bdb_format.specs.File.{File}
+use Rattle.bdb_format.specs.Page.{Content, Item, InternalItem, Listed, Page}
+use Rattle.bdb_format.specs.References.{is_shared_key, no_item}
 
 abbrev pub is_wrong : File → Content → Bool
 is_wrong file content = list_any (is_wrong_length file) (content_chains content)
@@ -20,7 +20,7 @@ is_wrong_key file page index = is_wrong file (get_or page.items index no_interna
 
 -- the entry of a btree leaf at an index, which names no chain where it's a shared key
 abbrev pub is_wrong_entry : File → Listed Item → ℕ → Bool
-is_wrong_entry file page index = list_any (is_wrong_length file) (leaf_chains page index)
+is_wrong_entry file page index = not (is_shared_key page.offsets index) && is_wrong_item file page index
 
 -- some chain that the items of a page name has a wrong length
 abbrev pub has_wrong : File → Page → Bool

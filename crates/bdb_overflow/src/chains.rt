@@ -1,7 +1,7 @@
 ghost use Rattle.std.specs.Prelude.{◌≡◌, ◌≤◌, length};
 ghost use Rattle.bdb_graph.specs.Linked.{FitsChain};
-ghost use Rattle.bdb_model.specs.Chains.{pieces_of};
-ghost use Rattle.bdb_model.specs.File.{file_of};
+ghost use Rattle.bdb_format.specs.Chains.{pieces_of};
+ghost use Rattle.bdb_format.specs.File.{file_of};
 
 use crate::{Pieces, pieces_at};
 use bdb_graph::{Chain, Forest, Linked, Ref};

@@ -1,19 +1,18 @@
 ghost use Rattle.std.specs.Prelude.{◌≡◌, ◌+◌, ◌*◌, ◌<◌, ◌≤◌, [], Some, IfErr, OnOk, length};
 ghost use Rattle.bdb_graph.specs.Linked.{FitsChain, IsForest};
-ghost use Rattle.bdb_graph.specs.Linking.{first_fault};
 ghost use Rattle.bdb_layout.specs.Seen.{hash_content_seen, key_seen, leaf_item_seen};
-ghost use Rattle.bdb_model.specs.Chains.{is_wrong_length};
-ghost use Rattle.bdb_model.specs.File.{file_of, page_at};
-ghost use Rattle.bdb_model.specs.Page.{DupLeaf, Hash, Internal, Leaf, RecnoLeaf};
-ghost use Rattle.bdb_model.specs.Verdict.{chain_faults};
+ghost use Rattle.bdb_format.specs.Chains.{is_wrong_length};
+ghost use Rattle.bdb_format.specs.File.{file_of, page_at};
+ghost use Rattle.bdb_format.specs.Page.{DupLeaf, Hash, Internal, Leaf, RecnoLeaf};
+ghost use Rattle.bdb_format.specs.Verdict.{chain_faults, first_fault};
 ghost use Rattle.bdb_overflow.specs.Datum.{FitsContent};
 ghost use Rattle.bdb_overflow.specs.Lengths.{has_wrong, is_wrong, is_wrong_entry, is_wrong_item, is_wrong_key};
 
 use crate::chain_pieces;
 use bdb_form::{DupLeafView, HashView, InternalView, LeafView, PageView, RecnoLeafView};
+use bdb_format::Fault;
 use bdb_graph::{Forest, Linked};
 use bdb_layout::{HashItem, InternalKey, LeafItem};
-use bdb_model::Fault;
 
 /// Whether the pages of a chain don't add up to a length.
 fn is_wrong_length(forest: &Forest<'_>, head: u32, total: u32) -> bool

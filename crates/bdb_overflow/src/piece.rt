@@ -1,13 +1,13 @@
 ghost use Rattle.std.specs.Prelude.{◌≡◌, ◌+◌, ◌/◌, ◌^◌, ◌<◌, ◌≤◌, ◌∷◌, [], IsTrue, length, take, drop};
 ghost use Rattle.std.specs.Iterator.{YieldsFirstBy, item_count};
-ghost use Rattle.bdb_model.specs.Chains.{joined, pieces_of};
-ghost use Rattle.bdb_model.specs.File.{file_as};
-ghost use Rattle.bdb_model.specs.HeadOf.{is_page_size};
-ghost use Rattle.bdb_model.specs.Numbers.{two_at};
+ghost use Rattle.bdb_format.specs.Chains.{joined, pieces_of};
+ghost use Rattle.bdb_format.specs.File.{file_as};
+ghost use Rattle.bdb_format.specs.HeadOf.{is_page_size};
+ghost use Rattle.bdb_format.specs.Numbers.{two_at};
 ghost use Rattle.bdb_overflow.specs.Whole.{IsLeft, IsWholeChain, bytes_of, pieces_from};
 
+use bdb_format::Order;
 use bdb_layout::{u16_at, u32_at};
-use bdb_model::Order;
 use std::marker::Model;
 
 /// The bytes of a page that the image has whole.

@@ -4,10 +4,10 @@ use Rattle.std.specs.List.{filter, flat_map, range_with_len}
 use Rattle.std.proofs.lemmas.Bool.{cases_eq, cases_lt}
 use Rattle.std.proofs.lemmas.List.Elements.{filter-append}
 use Rattle.std.proofs.lemmas.Nat.{div-add-mod', div-mul-add, mod-mul-add, mod_below}
-use Rattle.bdb_model.specs.declared.metadata.QueueMeta.{QueueMeta}
-use Rattle.bdb_model.specs.File.{File, file_of, page_at}
-use Rattle.bdb_model.specs.Lists.{ListKey, NumberKey, get, is_key, is_record, listed_slot, page_records, queue_list, record_number}
-use Rattle.bdb_model.specs.Page.{Page, Queue}
+use Rattle.bdb_format.specs.declared.metadata.QueueMeta.{QueueMeta}
+use Rattle.bdb_format.specs.File.{File, file_of, page_at}
+use Rattle.bdb_format.specs.Lists.{ListKey, NumberKey, get, is_key, is_record, listed_slot, page_records, queue_list, record_number}
+use Rattle.bdb_format.specs.Page.{Page, Queue}
 use Rattle.bdb_queue.specs.Records.{data_in, record_in_slot, record_of}
 use Rattle.bdb_queue.proofs.RecordLemmas.{past_last}
 

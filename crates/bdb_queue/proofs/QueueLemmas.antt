@@ -5,25 +5,26 @@ use Rattle.std.specs.List.{list_any}
 use Rattle.std.proofs.lemmas.Bool.{cases_Bool, eqb-false, eqb-true, not-false, or_parts}
 use Rattle.std.proofs.Math.Nat.{div-mul-le_self}
 use Rattle.bdb_form.specs.Formed.{QueuePage}
-use Rattle.bdb_model.specs.declared.kinds.Order.{Order}
-use Rattle.bdb_model.specs.declared.metadata.FileKind.TheVariants.{Queue as QueueKind}
-use Rattle.bdb_model.specs.declared.metadata.Head.{Head}
-use Rattle.bdb_model.specs.declared.metadata.QueueMeta.{QueueMeta}
-use Rattle.bdb_model.specs.File.{file_of, page_at, page_bytes, type_in}
-use Rattle.bdb_model.specs.HeadOf.{head_of, is_page_size}
-use Rattle.bdb_model.specs.Numbers.{byte_at, four_at, pad4}
-use Rattle.bdb_model.specs.Page.{QueueFields, Meta, Queue}
-use Rattle.bdb_model.specs.Reading.{abstract_page, is_zero, page_as, page_type, queue_fields}
-use Rattle.bdb_model.specs.Rows.{form_code, metadata_rows, records_per_page}
-use Rattle.bdb_model.specs.Table.{first_row}
-use Rattle.bdb_model.proofs.VerdictLemmas.{AllFail, none_is_first_row}
+use Rattle.bdb_format.specs.declared.kinds.Order.{Order}
+use Rattle.bdb_format.specs.declared.metadata.FileKind.TheVariants.{Queue as QueueKind}
+use Rattle.bdb_format.specs.declared.metadata.Head.{Head}
+use Rattle.bdb_format.specs.declared.metadata.QueueMeta.{QueueMeta}
+use Rattle.bdb_format.specs.File.{file_of, page_at, page_bytes, type_in}
+use Rattle.bdb_format.specs.HeadOf.{head_of, is_page_size}
+use Rattle.bdb_format.specs.Numbers.{byte_at, four_at, pad4}
+use Rattle.bdb_format.specs.Page.{QueueFields, Meta, Queue}
+use Rattle.bdb_format.specs.Reading.{abstract_page, is_zero, page_as, page_type, queue_fields}
+use Rattle.bdb_format.specs.Rows.{form_code, metadata_rows, records_per_page}
+use Rattle.bdb_format.specs.Table.{first_row}
+use Rattle.bdb_format.proofs.VerdictLemmas.{AllFail, none_is_first_row}
 use Rattle.bdb_graph.specs.Linked.{HasMetadata, IsForest}
 use Rattle.bdb_graph.proofs.FirstLemmas.{formed_accepted, formed_last, formed_page}
-use Rattle.bdb_graph.proofs.FitLemmas.{typed, typed_page, untyped, zero_type}
+use Rattle.bdb_graph.proofs.FitLemmas.{typed, untyped, zero_type}
 use Rattle.bdb_graph.proofs.FormedLemmas.{accepted_paged, page_length}
 use Rattle.bdb_graph.proofs.HeldLemmas.{last_page, page_is}
 use Rattle.bdb_graph.proofs.MetaLemmas.{queue_formed}
 use Rattle.bdb_queue.specs.Records.{HasSlots}
+use Rattle.bdb_format.proofs.GraphLemmas.{typed_page}
 
 -- the type byte of a page that has a type
 type_byte : (order : Order) (bytes : List ℕ) (t : ℕ) → type_in (abstract_page order bytes) ≡ Some t → (is_zero bytes ≡ false) × (byte_at bytes 25 ≡ t)

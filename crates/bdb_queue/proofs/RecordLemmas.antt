@@ -2,16 +2,16 @@
 use Rattle.std.proofs.Common.{◌≡◌, ℕ, suc, ◌+◌, ◌-◌, ◌*◌, ◌<◌, ◌≤◌, List, [], ◌∷◌, ◌++◌, length, map, arith, refl, sym, ◌∙◌, ap, inl, inr}
 use Rattle.std.specs.List.{flat_map, range_with_len}
 use Rattle.std.proofs.Math.Nat.{mul-le-mul_right}
-use Rattle.bdb_model.specs.declared.metadata.QueueMeta.{QueueMeta}
-use Rattle.bdb_model.specs.File.{File, file_of, page_at, page_bytes}
-use Rattle.bdb_model.specs.HeadOf.{head_of}
-use Rattle.bdb_model.specs.Lists.{ListKey, listed_slot, page_records, queue_list}
-use Rattle.bdb_model.specs.Page.{Page, Queue, NoType}
-use Rattle.bdb_model.specs.Reading.{abstract_page}
+use Rattle.bdb_format.specs.declared.metadata.QueueMeta.{QueueMeta}
+use Rattle.bdb_format.specs.File.{File, file_of, page_at, page_bytes}
+use Rattle.bdb_format.specs.HeadOf.{head_of}
+use Rattle.bdb_format.specs.Lists.{ListKey, listed_slot, page_records, queue_list}
+use Rattle.bdb_format.specs.Page.{Page, Queue, NoType}
+use Rattle.bdb_format.specs.Reading.{abstract_page}
 use Rattle.std.proofs.lemmas.Bool.{cases_lt}
 use Rattle.std.proofs.lemmas.List.{get_or_past, length-map}
 use Rattle.std.proofs.lemmas.List.FromFn.{length-range_with_len}
-use Rattle.bdb_model.specs.Numbers.{pad4}
+use Rattle.bdb_format.specs.Numbers.{pad4}
 use Rattle.bdb_queue.specs.Records.{HasSlots, left_from, records_from, slots_from}
 
 -- The slots of a page.

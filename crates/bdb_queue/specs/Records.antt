@@ -1,12 +1,12 @@
--- The records of a queue from a place on, and what its metadata keeps. Source: docs/FORMAT.md, "Databases of a file" and "Stage 2".
+-- The records of a queue from a place on, and what its metadata keeps. Source: docs/FORMAT.md, "Databases of a file" and "Stage 2, the form of a page".
 use Rattle.std.specs.Prelude.{ℕ, ◌+◌, ◌-◌, ◌*◌, ◌/◌, ◌%◌, ◌≤◌, List, [], ◌∷◌, ◌++◌, length, map, Option, Some, None}
 use Rattle.std.specs.List.{flat_map, range_with_len}
 use Rattle.bdb_graph.specs.Linked.{HasMetadata}
-use Rattle.bdb_model.specs.declared.metadata.QueueMeta.{QueueMeta}
-use Rattle.bdb_model.specs.File.{File, page_at}
-use Rattle.bdb_model.specs.Lists.{ListKey, NumberKey, listed_slot, page_records}
-use Rattle.bdb_model.specs.Numbers.{pad4}
-use Rattle.bdb_model.specs.Page.{Page, Queue, QueueFields}
+use Rattle.bdb_format.specs.declared.metadata.QueueMeta.{QueueMeta}
+use Rattle.bdb_format.specs.File.{File, page_at}
+use Rattle.bdb_format.specs.Lists.{ListKey, NumberKey, listed_slot, page_records}
+use Rattle.bdb_format.specs.Numbers.{pad4}
+use Rattle.bdb_format.specs.Page.{Page, Queue, QueueFields}
 use Rattle.bdb_queue.specs.declared.record.Record.{Record}
 
 -- a record with its number as its key

@@ -1,16 +1,16 @@
 ghost use Rattle.std.specs.Prelude.{◌≡◌, ◌+◌, ◌<◌, ◌≤◌, length};
 ghost use Rattle.std.specs.Iterator.{YieldsFirstBy, item_count};
 ghost use Rattle.bdb_graph.specs.Linked.{HasMetadata, IsForest};
-ghost use Rattle.bdb_model.specs.File.{file_of, page_at};
-ghost use Rattle.bdb_model.specs.Lists.{NumberKey, get, queue_list};
-ghost use Rattle.bdb_model.specs.Page.{QueueFields};
+ghost use Rattle.bdb_format.specs.File.{file_of, page_at};
+ghost use Rattle.bdb_format.specs.Lists.{NumberKey, get, queue_list};
+ghost use Rattle.bdb_format.specs.Page.{QueueFields};
 ghost use Rattle.bdb_overflow.specs.Datum.{datum_seen};
 ghost use Rattle.bdb_queue.specs.Records.{data_in, record_in_slot, records_seen};
 
 use crate::record::{Record, record_in};
 use bdb_form::PageView;
+use bdb_format::{QueueMeta, Steps};
 use bdb_graph::{Forest, Linked};
-use bdb_model::{QueueMeta, Steps};
 use bdb_overflow::Datum;
 use std::marker::Model;
 use std::sync::ledger::Ledger;

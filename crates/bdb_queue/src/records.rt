@@ -1,14 +1,14 @@
 ghost use Rattle.std.specs.Prelude.{◌≡◌};
 ghost use Rattle.std.specs.Iterator.{YieldsFirstBy, item_count};
 ghost use Rattle.bdb_graph.specs.Linked.{HasMetadata};
-ghost use Rattle.bdb_model.specs.File.{file_of};
-ghost use Rattle.bdb_model.specs.Lists.{queue_list};
-ghost use Rattle.bdb_model.specs.Page.{QueueFields};
+ghost use Rattle.bdb_format.specs.File.{file_of};
+ghost use Rattle.bdb_format.specs.Lists.{queue_list};
+ghost use Rattle.bdb_format.specs.Page.{QueueFields};
 ghost use Rattle.bdb_overflow.specs.Datum.{datum_seen, key_view_seen};
 
 use crate::walk::{Place, first_from};
+use bdb_format::QueueMeta;
 use bdb_graph::Forest;
-use bdb_model::QueueMeta;
 use bdb_overflow::{Datum, KeyView};
 use std::marker::Model;
 
@@ -22,8 +22,8 @@ pub struct Scan<'a> {
 
 impl<'a> Model for Scan<'a> {
     ghost use Rattle.std.specs.Prelude.{List, ℕ};
-    ghost use Rattle.bdb_model.specs.File.{file_of};
-    ghost use Rattle.bdb_model.specs.Lists.{ListKey};
+    ghost use Rattle.bdb_format.specs.File.{file_of};
+    ghost use Rattle.bdb_format.specs.Lists.{ListKey};
     ghost use Rattle.bdb_queue.specs.Records.{IsPlace, left_from};
 
     ghost Value = { List (ListKey × List ℕ) };

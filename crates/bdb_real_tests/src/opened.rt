@@ -2,13 +2,13 @@
 
 ghost use Rattle.std.specs.Prelude.{◌≡◌, [], IfSome, IsTrue, false};
 ghost use Rattle.bdb_graph.specs.Linked.{HasMetadata};
-ghost use Rattle.bdb_model.specs.File.{file_of};
-ghost use Rattle.bdb_model.specs.Numbers.{has_bit};
-ghost use Rattle.bdb_model.specs.Page.{BtreeFields};
-ghost use Rattle.bdb_model.specs.Verdict.{structure_faults};
+ghost use Rattle.bdb_format.specs.File.{file_of};
+ghost use Rattle.bdb_format.specs.Page.{BtreeFields};
+ghost use Rattle.bdb_format.specs.Verdict.{structure_faults};
+ghost use Rattle.bdb_format.specs.Flags.{is_recno};
 
+use bdb_format::BtreeMeta;
 use bdb_graph::Linked;
-use bdb_model::BtreeMeta;
 use bdb_overflow::check_chains;
 use bdb_tree::check_trees;
 use std::alloc::Global;
@@ -23,14 +23,14 @@ pub fn has_sound_trees(alloc: Global, linked: &Linked<'_>) -> bool
 
 /// Whether a btree isn't a recno.
 pub fn is_keyed(meta: &BtreeMeta) -> bool
-    ensures { IsTrue result → has_bit meta.now.flags 0x02 ≡ false }
+    ensures { IsTrue result → is_recno meta.now ≡ false }
 {
     meta.flags & 0x02 == 0
 }
 
 /// Whether it's a recno.
 pub fn is_recno(meta: &BtreeMeta) -> bool
-    ensures { IsTrue result → IsTrue (has_bit meta.now.flags 0x02) }
+    ensures { IsTrue result → IsTrue (is_recno meta.now) }
 {
     meta.flags & 0x02 != 0
 }

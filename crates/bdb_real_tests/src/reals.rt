@@ -3,17 +3,17 @@
 ghost use Rattle.std.specs.Prelude.{◌≡◌, [], IsTrue, false};
 ghost use Rattle.std.specs.Iterator.{IsFinite};
 ghost use Rattle.bdb_graph.specs.Linked.{HasMetadata};
-ghost use Rattle.bdb_model.specs.ContentRows.{contents_faults};
-ghost use Rattle.bdb_model.specs.File.{file_of};
-ghost use Rattle.bdb_model.specs.Numbers.{has_bit};
-ghost use Rattle.bdb_model.specs.Page.{BtreeFields, HashFields, QueueFields};
-ghost use Rattle.bdb_model.specs.Verdict.{structure_faults};
+ghost use Rattle.bdb_format.specs.ContentRows.{database_faults};
+ghost use Rattle.bdb_format.specs.File.{file_of};
+ghost use Rattle.bdb_format.specs.Page.{BtreeFields, HashFields, QueueFields};
+ghost use Rattle.bdb_format.specs.Verdict.{structure_faults};
+ghost use Rattle.bdb_format.specs.Flags.{is_recno};
 
 use crate::opened::{has_sound_trees, is_keyed, is_recno};
 use crate::real_images::{self, Image};
 use crate::{real_btree_lists, real_btrees, real_lists, real_set_lists};
+use bdb_format::{BtreeMeta, HashMeta, QueueMeta, Steps};
 use bdb_graph::{Linked, Meta, link, open_image};
-use bdb_model::{BtreeMeta, HashMeta, QueueMeta, Steps};
 use bdb_overflow::{Datum, KeyView, compare_datum};
 use std::alloc::Global;
 use std::cmp::Ordering;
@@ -228,8 +228,8 @@ fn recno_finds<L: Ledger>(
     steps: &mut Steps<L>,
 ) -> bool
     requires meta { HasMetadata (file_of linked.now) (BtreeFields meta.now) }
-    requires recno { IsTrue (has_bit meta.now.flags 0x02) }
-    requires contents { contents_faults (file_of linked.now) (BtreeFields meta.now) ≡ [] }
+    requires recno { IsTrue (is_recno meta.now) }
+    requires contents { database_faults (file_of linked.now) (BtreeFields meta.now) ≡ [] }
 {
     match number_of(alloc, key) {
         Some(number) => has_all(
@@ -250,7 +250,7 @@ fn recno_holds<L: Ledger>(
     steps: &mut Steps<L>,
 ) -> bool
     requires meta { HasMetadata (file_of linked.now) (BtreeFields meta.now) }
-    requires recno { IsTrue (has_bit meta.now.flags 0x02) }
+    requires recno { IsTrue (is_recno meta.now) }
     requires stage { structure_faults (file_of linked.now) ≡ [] }
 {
     let Some((first, last)) = ends(text) else {
@@ -271,9 +271,9 @@ fn btree_finds<L: Ledger>(
     steps: &mut Steps<L>,
 ) -> bool
     requires meta { HasMetadata (file_of linked.now) (BtreeFields meta.now) }
-    requires keys { has_bit meta.now.flags 0x02 ≡ false }
+    requires keys { is_recno meta.now ≡ false }
     requires stage { structure_faults (file_of linked.now) ≡ [] }
-    requires contents { contents_faults (file_of linked.now) (BtreeFields meta.now) ≡ [] }
+    requires contents { database_faults (file_of linked.now) (BtreeFields meta.now) ≡ [] }
 {
     match spelled(alloc, key) {
         Some(bytes) => has_all(
@@ -294,7 +294,7 @@ fn btree_holds<L: Ledger>(
     steps: &mut Steps<L>,
 ) -> bool
     requires meta { HasMetadata (file_of linked.now) (BtreeFields meta.now) }
-    requires keys { has_bit meta.now.flags 0x02 ≡ false }
+    requires keys { is_recno meta.now ≡ false }
     requires stage { structure_faults (file_of linked.now) ≡ [] }
 {
     let Some((first, last)) = ends(text) else {
@@ -316,7 +316,7 @@ fn hash_finds<L: Ledger>(
 ) -> bool
     requires meta { HasMetadata (file_of linked.now) (HashFields meta.now) }
     requires stage { structure_faults (file_of linked.now) ≡ [] }
-    requires contents { contents_faults (file_of linked.now) (HashFields meta.now) ≡ [] }
+    requires contents { database_faults (file_of linked.now) (HashFields meta.now) ≡ [] }
 {
     match spelled(alloc, key) {
         Some(bytes) => has_all(
@@ -332,7 +332,7 @@ fn hash_finds<L: Ledger>(
 fn hash_lists(alloc: Global, linked: &Linked<'_>, meta: &HashMeta, text: &str) -> bool
     requires meta { HasMetadata (file_of linked.now) (HashFields meta.now) }
     requires stage { structure_faults (file_of linked.now) ≡ [] }
-    requires contents { contents_faults (file_of linked.now) (HashFields meta.now) ≡ [] }
+    requires contents { database_faults (file_of linked.now) (HashFields meta.now) ≡ [] }
 {
     match bdb_hash::scan(alloc, linked, meta) {
         Ok(list) => lists(alloc, list, text),

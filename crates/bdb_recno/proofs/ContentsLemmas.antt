@@ -6,18 +6,17 @@ use Rattle.std.specs.Option.{is_some}
 use Rattle.std.proofs.lemmas.List.Elements.{All-contains, Contains-append_cases, Contains-append_left, Contains-append_right}
 use Rattle.std.proofs.lemmas.List.Sums.{fold-append}
 use Rattle.bdb_graph.specs.Linked.{HasMetadata, IsForest}
-use Rattle.bdb_graph.specs.Linking.{first_fault}
-use Rattle.bdb_model.specs.declared.kinds.Fault.{Fault}
-use Rattle.bdb_model.specs.declared.metadata.BtreeMeta.{BtreeMeta}
-use Rattle.bdb_model.specs.ContentRows.{btree_contents, contents_faults, contents_rows, has_wrong_count, has_wrong_record, inner_in, inner_pages, is_wrong_at, recno_contents}
-use Rattle.bdb_model.specs.File.{File, file_of, header_in, page_at}
-use Rattle.bdb_model.specs.Leaves.{children_in, leaves}
-use Rattle.bdb_model.specs.Numbers.{has_bit}
-use Rattle.bdb_model.specs.Page.{BtreeFields, Page}
-use Rattle.bdb_model.specs.Table.{Row, ◌:?◌}
-use Rattle.bdb_model.specs.Verdict.{by_page, holding}
-use Rattle.bdb_model.proofs.MemberLemmas.{first_member, later_member, member_cases, no_member, of_filter}
-use Rattle.bdb_model.proofs.VerdictLemmas.{IsOfStage, LeastFirst, by_page_first, holding_least, in_by_page, of_by_page}
+use Rattle.bdb_format.specs.declared.kinds.Fault.{Fault}
+use Rattle.bdb_format.specs.declared.metadata.BtreeMeta.{BtreeMeta}
+use Rattle.bdb_format.specs.ContentRows.{btree_contents, database_faults, database_rows, has_wrong_count, has_wrong_record, inner_in, inner_pages, is_wrong_at, recno_contents}
+use Rattle.bdb_format.specs.File.{File, file_of, header_in, page_at}
+use Rattle.bdb_format.specs.Leaves.{children_in, leaves}
+use Rattle.bdb_format.specs.Page.{BtreeFields, Page}
+use Rattle.bdb_format.specs.Table.{Row, ◌:?◌}
+use Rattle.bdb_format.specs.Verdict.{by_page, holding, first_fault}
+use Rattle.bdb_format.proofs.MemberLemmas.{first_member, later_member, member_cases, no_member, of_filter}
+use Rattle.bdb_format.proofs.VerdictLemmas.{IsOfStage, LeastFirst, by_page_first, holding_least, in_by_page, of_by_page}
+use Rattle.bdb_format.specs.Flags.{is_fixed, is_recno}
 use Rattle.bdb_recno.specs.Counts.{HasRightCounts}
 use Rattle.bdb_recno.specs.Noted.{faults_on, noted, noted_all}
 use Rattle.bdb_recno.specs.Pages.{IsRecnoPage}
@@ -69,13 +68,13 @@ in_seven a false is = absurd cc
 abbrev pub noted_faults : File → BtreeMeta → List Fault
 noted_faults file meta =
     count_faults file (inner_pages file meta.root)
-    ++ cond (has_bit meta.flags 0x08) (faults_on file 7 (has_wrong_record file meta) (leaves file meta.root)) []
+    ++ cond (is_fixed meta) (faults_on file 7 (has_wrong_record file meta) (leaves file meta.root)) []
 
 -- the rows of a recno at a page
 abbrev rows_at : File → BtreeMeta → ℕ → List (Row ℕ)
-rows_at file meta p = contents_rows file (BtreeFields meta) p
+rows_at file meta p = database_rows file (BtreeFields meta) p
 
-recno_rows : (file : File) (meta : BtreeMeta) (p : ℕ) → has_bit meta.flags 0x02 ≡ true → rows_at file meta p ≡ recno_contents file meta p
+recno_rows : (file : File) (meta : BtreeMeta) (p : ℕ) → is_recno meta ≡ true → rows_at file meta p ≡ recno_contents file meta p
 recno_rows file meta p recno = ap (λ b. cond b (recno_contents file meta p) (btree_contents file meta p)) recno
 
 -- the codes of a recno at a page
@@ -118,7 +117,7 @@ noted_holds image meta fault forest root at =
     let file : File = file_of image in
     let counts : List ℕ = inner_pages file meta.root in
     let lengths : List ℕ = leaves file meta.root in
-    let fixed : Bool = has_bit meta.flags 0x08 in
+    let fixed : Bool = is_fixed meta in
     elim (Contains-append_cases (count_faults file counts) (cond fixed (faults_on file 7 (has_wrong_record file meta) lengths) []) fault at) [
       | inl counted ↦
           row_holds file meta 6 (has_wrong_count file) counts fault (of_faults_on file 6 (has_wrong_count file) counts fault counted) (λ p there. inner_inside image meta.root p forest root there)
@@ -134,7 +133,7 @@ holds_noted : (file : File) (meta : BtreeMeta) (fault : Fault) → Contains (rec
 holds_noted file meta fault at =
     let counts : List ℕ = inner_pages file meta.root in
     let lengths : List ℕ = leaves file meta.root in
-    let fixed : Bool = has_bit meta.flags 0x08 in
+    let fixed : Bool = is_fixed meta in
     let count_row : Bool = is_wrong_at file (has_wrong_count file) counts fault.page in
     let length_row : Bool = is_wrong_at file (has_wrong_record file meta) lengths fault.page in
     let long : List Fault = faults_on file 7 (has_wrong_record file meta) lengths in
@@ -158,13 +157,13 @@ by_page_same stage (suc n) from codes others same =
     ap (λ cs. map (λ code. record { stage = stage; page = from; code = code }) cs ++ by_page stage (from + 1) n codes) (same from)
     ∙ ap (λ faults. map (λ code. record { stage = stage; page = from; code = code }) (others from) ++ faults) (by_page_same stage n (from + 1) codes others same)
 
-faults_are : (file : File) (meta : BtreeMeta) → has_bit meta.flags 0x02 ≡ true → contents_faults file (BtreeFields meta) ≡ recno_faults file meta
-unfolding contents_faults
+faults_are : (file : File) (meta : BtreeMeta) → is_recno meta ≡ true → database_faults file (BtreeFields meta) ≡ recno_faults file meta
+unfolding database_faults
 faults_are file meta recno = by_page_same 8 (file.last + 1) 0 (λ p. holding (rows_at file meta p)) (codes_at file meta) (λ p. ap holding (recno_rows file meta p recno))
 
 -- the first fault of the contents is the least of those that are noted
-pub all_noted : (image : List ℕ) (meta : BtreeMeta) → IsForest image → HasMetadata (file_of image) (BtreeFields meta) → has_bit meta.flags 0x02 ≡ true
-    → first_fault (contents_faults (file_of image) (BtreeFields meta)) ≡ noted_all None (noted_faults (file_of image) meta)
+pub all_noted : (image : List ℕ) (meta : BtreeMeta) → IsForest image → HasMetadata (file_of image) (BtreeFields meta) → is_recno meta ≡ true
+    → first_fault (database_faults (file_of image) (BtreeFields meta)) ≡ noted_all None (noted_faults (file_of image) meta)
 all_noted image meta forest has recno =
     let file : File = file_of image in
     let root : IsRecnoPage file meta.root = root_recno image meta forest has recno in
@@ -174,7 +173,8 @@ all_noted image meta forest has recno =
     (λ fault at. (of_by_page 8 0 (file.last + 1) (codes_at file meta) fault at).same_stage)
     (λ fault at. noted_holds image meta fault forest root at) (holds_noted file meta)
 
-noted_both : (file : File) (meta : BtreeMeta) (fixed : Bool) (counted : Option Fault) → has_bit meta.flags 0x08 ≡ fixed → counted ≡ noted_all None (count_faults file (inner_pages file meta.root))
+noted_both : (file : File) (meta : BtreeMeta) (fixed : Bool) (counted : Option Fault) → is_fixed meta ≡ fixed
+    → counted ≡ noted_all None (count_faults file (inner_pages file meta.root))
     → noted_all counted (cond fixed (faults_on file 7 (has_wrong_record file meta) (leaves file meta.root)) []) ≡ noted_all None (noted_faults file meta)
 noted_both file meta fixed counted is counts =
     let long : Bool → List Fault = λ b. cond b (faults_on file 7 (has_wrong_record file meta) (leaves file meta.root)) [] in
@@ -182,21 +182,24 @@ noted_both file meta fixed counted is counts =
     ∙ (sym (fold-append noted None (count_faults file (inner_pages file meta.root)) (long fixed)) ∙ ap (λ b. noted_all None (count_faults file (inner_pages file meta.root) ++ long b)) (sym is))
 
 -- where lengths aren't fixed, counts alone are noted
-pub counts_first : (image : List ℕ) (meta : BtreeMeta) (counted : Option Fault) → IsForest image → HasMetadata (file_of image) (BtreeFields meta) → has_bit meta.flags 0x02 ≡ true
-    → counted ≡ noted_all None (count_faults (file_of image) (inner_pages (file_of image) meta.root)) → has_bit meta.flags 0x08 ≡ false
-    → counted ≡ first_fault (contents_faults (file_of image) (BtreeFields meta))
+pub counts_first : (image : List ℕ) (meta : BtreeMeta) (counted : Option Fault) → IsForest image → HasMetadata (file_of image) (BtreeFields meta)
+    → is_recno meta ≡ true
+    → counted ≡ noted_all None (count_faults (file_of image) (inner_pages (file_of image) meta.root)) → is_fixed meta ≡ false
+    → counted ≡ first_fault (database_faults (file_of image) (BtreeFields meta))
 counts_first image meta counted forest has recno counts free = noted_both (file_of image) meta false counted free counts ∙ sym (all_noted image meta forest has recno)
 
 -- where they are, lengths are noted after the counts
-pub lengths_first : (image : List ℕ) (meta : BtreeMeta) (counted least : Option Fault) → IsForest image → HasMetadata (file_of image) (BtreeFields meta) → has_bit meta.flags 0x02 ≡ true
-    → counted ≡ noted_all None (count_faults (file_of image) (inner_pages (file_of image) meta.root)) → has_bit meta.flags 0x08 ≡ true
+pub lengths_first : (image : List ℕ) (meta : BtreeMeta) (counted least : Option Fault) → IsForest image → HasMetadata (file_of image) (BtreeFields meta)
+    → is_recno meta ≡ true
+    → counted ≡ noted_all None (count_faults (file_of image) (inner_pages (file_of image) meta.root)) → is_fixed meta ≡ true
     → least ≡ noted_all counted (faults_on (file_of image) 7 (has_wrong_record (file_of image) meta) (leaves (file_of image) meta.root))
-    → least ≡ first_fault (contents_faults (file_of image) (BtreeFields meta))
+    → least ≡ first_fault (database_faults (file_of image) (BtreeFields meta))
 lengths_first image meta counted least forest has recno counts fixed lengths =
     lengths ∙ (noted_both (file_of image) meta true counted fixed counts ∙ sym (all_noted image meta forest has recno))
 
 -- contents without a fault have right counts
-pub right_counts : (image : List ℕ) (meta : BtreeMeta) → IsForest image → HasMetadata (file_of image) (BtreeFields meta) → has_bit meta.flags 0x02 ≡ true → contents_faults (file_of image) (BtreeFields meta) ≡ []
+pub right_counts : (image : List ℕ) (meta : BtreeMeta) → IsForest image → HasMetadata (file_of image) (BtreeFields meta) → is_recno meta ≡ true
+    → database_faults (file_of image) (BtreeFields meta) ≡ []
     → HasRightCounts (file_of image) meta.root
 right_counts image meta forest has recno none =
     let file : File = file_of image in
@@ -211,7 +214,8 @@ right_counts image meta forest has recno none =
                 let is : IsFaultOn file 6 (has_wrong_count file) counts fault = record { stage_is = refl; code_is = refl; listed = there; wrong = wrong } in
                 absurd (no_member (recno_faults file meta) fault no_faults
                 (row_holds file meta 6 (has_wrong_count file) counts fault is (λ p at. inner_inside image meta.root p forest root at)
-                (in_six (is_wrong_at file (has_wrong_count file) counts q) (has_bit meta.flags 0x08 && is_wrong_at file (has_wrong_record file meta) (leaves file meta.root) q))))
+                (in_six (is_wrong_at file (has_wrong_count file) counts q)
+                (is_fixed meta && is_wrong_at file (has_wrong_record file meta) (leaves file meta.root) q))))
             | false ↦ λ _. refl
           ] refl;
     }

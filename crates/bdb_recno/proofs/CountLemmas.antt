@@ -9,22 +9,20 @@ use Rattle.std.proofs.lemmas.List.Elements.{All-contains, Contains-get_or, filte
 use Rattle.std.proofs.lemmas.List.Folds.{length-flat_map-take, list_any_at, list_any_more}
 use Rattle.std.proofs.lemmas.List.Sums.{fold-append}
 use Rattle.std.proofs.lemmas.Option.{get_or_from_slice_get, slice_get_within}
-use Rattle.bdb_model.specs.declared.kinds.Fault.{Fault}
-use Rattle.bdb_model.specs.declared.pages.RecnoItem.{RecnoItem}
-use Rattle.bdb_model.specs.ContentRows.{has_wrong_count, inner_in, inner_pages}
-use Rattle.bdb_model.specs.Page.{Listed, Page, Internal, RecnoInternal}
-use Rattle.bdb_model.proofs.MemberLemmas.{in_map, member_cases, no_member, of_flat_map}
+use Rattle.bdb_format.specs.declared.kinds.Fault.{Fault}
+use Rattle.bdb_format.specs.declared.pages.RecnoItem.{RecnoItem}
+use Rattle.bdb_format.specs.ContentRows.{has_wrong_count, inner_in, inner_pages}
+use Rattle.bdb_format.specs.Page.{Listed, Page, Internal, RecnoInternal}
+use Rattle.bdb_format.proofs.MemberLemmas.{in_map, member_cases, no_member, of_flat_map}
 use Rattle.bdb_graph.specs.Linked.{IsForest}
-use Rattle.bdb_model.specs.Contents.{entries_in, tree_entries}
-use Rattle.bdb_model.specs.File.{File, file_of, header_in, page_at}
-use Rattle.bdb_model.specs.Leaves.{children_in, leaves}
+use Rattle.bdb_format.specs.Contents.{entries_in, tree_entries}
+use Rattle.bdb_format.specs.File.{File, file_of, header_in, page_at}
+use Rattle.bdb_format.specs.Leaves.{children_in, leaves}
 use Rattle.bdb_recno.specs.Noted.{faults_on, noted, noted_all}
 use Rattle.bdb_recno.specs.Pages.{IsRecnoPage, IsRecnoLeaf}
 use Rattle.bdb_recno.specs.Entries.{entries_on}
 use Rattle.bdb_recno.proofs.PageLemmas.{child_recno, entries_are, leaves_recno, recno_cases}
-
-all_of : {X : Type 0} (P : X → Type 0) (xs : List X) → ((x : X) → Contains xs x → P x) → All P xs
-all_of P xs each k d below = each (get_or xs k d) (Contains-get_or xs k d below)
+use Rattle.bdb_format.proofs.ListLemmas.{all_of}
 
 pub all_one : (P : ℕ → Type 0) (x : ℕ) → P x → All P (x ∷ [])
 all_one P x here = all_of P (x ∷ []) (λ y at. elim (member_cases x [] y at) [ inl same ↦ subst P same here | inr later ↦ absurd (no_member [] y refl later) ])

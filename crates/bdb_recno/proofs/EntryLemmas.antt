@@ -8,11 +8,11 @@ use Rattle.std.proofs.lemmas.List.{take_all}
 use Rattle.std.proofs.lemmas.List.Folds.{list_any_at, list_any_more}
 use Rattle.std.proofs.lemmas.Option.{get_or_from_slice_get, slice_get-get_or, slice_get_within}
 use Rattle.bdb_graph.specs.Linked.{IsForest}
-use Rattle.bdb_model.specs.declared.metadata.BtreeMeta.{BtreeMeta}
-use Rattle.bdb_model.specs.Chains.{value_of}
-use Rattle.bdb_model.specs.ContentRows.{has_wrong_record, is_wrong_record}
-use Rattle.bdb_model.specs.File.{File, file_of, page_at}
-use Rattle.bdb_model.specs.Page.{Content, Inline, Set, Chain, Tree, Unknown, Item, Listed, RecnoLeaf}
+use Rattle.bdb_format.specs.declared.metadata.BtreeMeta.{BtreeMeta}
+use Rattle.bdb_format.specs.Chains.{value_of}
+use Rattle.bdb_format.specs.ContentRows.{has_wrong_record, is_wrong_record}
+use Rattle.bdb_format.specs.File.{File, file_of, page_at}
+use Rattle.bdb_format.specs.Page.{Content, Inline, Set, Chain, Tree, Unknown, Item, Listed, RecnoLeaf}
 use Rattle.bdb_overflow.specs.Datum.{FitsContent, datum_seen, single_value}
 use Rattle.bdb_overflow.specs.declared.datum.Datum.{Datum}
 use Rattle.bdb_overflow.proofs.ContentLemmas.{recno_item_fits}

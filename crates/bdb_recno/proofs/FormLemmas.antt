@@ -11,18 +11,18 @@ use Rattle.bdb_graph.proofs.FormedLemmas.{IsPaged, accepted_paged, page_length, 
 use Rattle.bdb_graph.proofs.HeldLemmas.{kind_is, last_page, page_is}
 use Rattle.bdb_graph.proofs.LinkedLemmas.{forest_code}
 use Rattle.bdb_graph.specs.Linked.{IsForest}
-use Rattle.bdb_model.specs.declared.kinds.Order.{Order}
-use Rattle.bdb_model.specs.declared.pages.ItemFault.{ItemFault}
-use Rattle.bdb_model.specs.declared.pages.ItemFault.TheVariants.{Offset, Kind, Extent}
-use Rattle.bdb_model.specs.File.{file_of, page_at, page_bytes}
-use Rattle.bdb_model.specs.HeadOf.{head_of}
-use Rattle.bdb_model.specs.Numbers.{byte_at}
-use Rattle.bdb_model.specs.Page.{Content, Inline, Set, Chain, Tree, Unknown, Item, Listed, Page, Zero, RecnoLeaf, PageType, RecnoLeafPage}
-use Rattle.bdb_model.specs.Reading.{abstract_page, entries_of, index_end, is_zero, kind_at, leaf_content, leaf_item_at, listed, offset_of, page_as, page_type}
-use Rattle.bdb_model.specs.Rows.{body_code, identity_rows, is_leaf_kind, is_tree_type, leaf_rows, page_code}
-use Rattle.bdb_model.specs.Table.{first_row}
-use Rattle.bdb_model.proofs.MemberLemmas.{of_map, of_range}
-use Rattle.bdb_model.proofs.PageLemmas.{answer_row, length_items}
+use Rattle.bdb_format.specs.declared.kinds.Order.{Order}
+use Rattle.bdb_format.specs.declared.pages.ItemFault.{ItemFault}
+use Rattle.bdb_format.specs.declared.pages.ItemFault.TheVariants.{Offset, Kind, Extent}
+use Rattle.bdb_format.specs.File.{file_of, page_at, page_bytes}
+use Rattle.bdb_format.specs.HeadOf.{head_of}
+use Rattle.bdb_format.specs.Numbers.{byte_at}
+use Rattle.bdb_format.specs.Page.{Content, Inline, Set, Chain, Tree, Unknown, Item, Listed, Page, Zero, RecnoLeaf, PageType, RecnoLeafPage}
+use Rattle.bdb_format.specs.Reading.{abstract_page, entries_of, index_end, is_zero, kind_at, leaf_content, leaf_item_at, listed, offset_of, page_as, page_type}
+use Rattle.bdb_format.specs.Rows.{body_code, identity_rows, is_leaf_kind, is_tree_type, leaf_rows, page_code}
+use Rattle.bdb_format.specs.Table.{first_row}
+use Rattle.bdb_format.proofs.MemberLemmas.{of_map, of_range}
+use Rattle.bdb_format.proofs.PageLemmas.{answer_row, length_items}
 use Rattle.bdb_tree.proofs.ShapeLemmas.{is_forest_page, no_queue}
 
 -- The bytes of a leaf.

@@ -7,17 +7,18 @@ use Rattle.std.proofs.lemmas.List.{map-append}
 use Rattle.std.proofs.lemmas.List.Elements.{filter-append}
 use Rattle.std.proofs.lemmas.Option.{get_or_from_slice_get, slice_get_within}
 use Rattle.bdb_graph.specs.Linked.{IsForest}
-use Rattle.bdb_model.specs.Chains.{value_of}
-use Rattle.bdb_model.specs.Contents.{entries_in, tree_entries}
-use Rattle.bdb_model.specs.File.{File, file_of, page_at}
-use Rattle.bdb_model.specs.Leaves.{leaves}
-use Rattle.bdb_model.specs.Lists.{ListKey, NumberKey, get, is_key, listed_entry, recno_list}
-use Rattle.bdb_model.specs.Page.{Item, Listed, RecnoLeaf}
-use Rattle.bdb_model.proofs.MemberLemmas.{of_flat_map}
+use Rattle.bdb_format.specs.Chains.{value_of}
+use Rattle.bdb_format.specs.Contents.{entries_in, tree_entries}
+use Rattle.bdb_format.specs.File.{File, file_of, page_at}
+use Rattle.bdb_format.specs.Leaves.{leaves}
+use Rattle.bdb_format.specs.Lists.{ListKey, NumberKey, get, is_key, listed_entry, recno_list}
+use Rattle.bdb_format.specs.Page.{Item, Listed, RecnoLeaf}
+use Rattle.bdb_format.proofs.MemberLemmas.{of_flat_map}
 use Rattle.bdb_tree.proofs.TreeLemmas.{recno_leaf_page}
 use Rattle.bdb_recno.specs.Pages.{IsRecnoLeaf, IsRecnoPage, IsRecord}
 use Rattle.bdb_recno.proofs.EntryLemmas.{member_is_record}
 use Rattle.bdb_recno.proofs.PageLemmas.{entries_are, leaves_recno}
+use Rattle.bdb_format.proofs.PairLemmas.{get_append}
 
 -- What a list has under a number.
 
@@ -25,11 +26,6 @@ use Rattle.bdb_recno.proofs.PageLemmas.{entries_are, leaves_recno}
 abbrev pub entry_values : File → Option Item → List (List ℕ)
 entry_values file None = []
 entry_values file (Some item) = cond item.deleted [] (value_of file item.content ∷ [])
-
-get_parts : (xs ys : List (ListKey × List ℕ)) (key : ListKey) → get (xs ++ ys) key ≡ get xs key ++ get ys key
-get_parts xs ys key =
-    ap (map (λ (entry : ListKey × List ℕ). entry.1)) (filter-append (λ (entry : ListKey × List ℕ). is_key entry.0 key) xs ys)
-    ∙ map-append (λ (entry : ListKey × List ℕ). entry.1) (filter (λ (entry : ListKey × List ℕ). is_key entry.0 key) xs) (filter (λ (entry : ListKey × List ℕ). is_key entry.0 key) ys)
 
 -- one entry under its own number, and under another one
 get_here : (file : File) (n : ℕ) (item : Item) → get (listed_entry file (n, item)) (NumberKey n) ≡ entry_values file (Some item)
@@ -50,7 +46,7 @@ get_other file n m item other =
 get_before : (file : File) (items : List Item) (n m : ℕ) → m < n → get (flat_map (listed_entry file) (enumerate_from n items)) (NumberKey m) ≡ []
 get_before file [] n m below = refl
 get_before file (item ∷ items) n m below =
-    get_parts (listed_entry file (n, item)) (flat_map (listed_entry file) (enumerate_from (n + 1) items)) (NumberKey m)
+    get_append (listed_entry file (n, item)) (flat_map (listed_entry file) (enumerate_from (n + 1) items)) (NumberKey m)
     ∙ (ap (λ vs. vs ++ get (flat_map (listed_entry file) (enumerate_from (n + 1) items)) (NumberKey m)) (get_other file n m item (λ same. omega arith))
     ∙ get_before file items (n + 1) m (omega arith))
 
@@ -58,11 +54,11 @@ get_at : (file : File) (items : List Item) (n i m : ℕ) → m ≡ n + i → get
 get_at file [] n i m is = refl
 get_at file (item ∷ items) n zero m is =
     let same : n ≡ m = omega arith in
-    get_parts (listed_entry file (n, item)) (flat_map (listed_entry file) (enumerate_from (n + 1) items)) (NumberKey m)
+    get_append (listed_entry file (n, item)) (flat_map (listed_entry file) (enumerate_from (n + 1) items)) (NumberKey m)
     ∙ (ap (λ vs. get (listed_entry file (n, item)) (NumberKey m) ++ vs) (get_before file items (n + 1) m (omega arith))
     ∙ (append-nil (get (listed_entry file (n, item)) (NumberKey m)) ∙ (ap (λ k. get (listed_entry file (n, item)) (NumberKey k)) (sym same) ∙ get_here file n item)))
 get_at file (item ∷ items) n (suc i) m is =
-    get_parts (listed_entry file (n, item)) (flat_map (listed_entry file) (enumerate_from (n + 1) items)) (NumberKey m)
+    get_append (listed_entry file (n, item)) (flat_map (listed_entry file) (enumerate_from (n + 1) items)) (NumberKey m)
     ∙ (ap (λ vs. vs ++ get (flat_map (listed_entry file) (enumerate_from (n + 1) items)) (NumberKey m)) (get_other file n m item (λ same. omega arith))
     ∙ get_at file items (n + 1) i m (omega arith))
 

@@ -5,15 +5,17 @@ use Rattle.std.specs.List.{Contains, filter, list_any}
 use Rattle.std.proofs.lemmas.Bool.{ltb-true, ltb-false, eqb-true, eqb-false, eq-eqb}
 use Rattle.std.proofs.lemmas.List.Elements.{Contains-append_left, Contains-append_right, Contains-append_cases}
 use Rattle.std.proofs.lemmas.List.Folds.{list_any_at}
-use Rattle.bdb_model.specs.declared.kinds.Fault.{Fault}
-use Rattle.bdb_model.specs.ContentRows.{is_wrong_at}
-use Rattle.bdb_model.specs.File.{File, page_at}
-use Rattle.bdb_model.specs.Page.{Page}
-use Rattle.bdb_model.proofs.MemberLemmas.{first_member, later_member, member_cases, no_member, of_map, in_map, of_filter}
-use Rattle.bdb_model.proofs.VerdictLemmas.{ComesFirst, FirstComesFirst}
-use Rattle.bdb_graph.proofs.ForestLemmas.{in_filter}
-use Rattle.bdb_graph.specs.Linking.{first_fault}
+use Rattle.bdb_format.specs.ByPage.{ComesFirst}
+use Rattle.bdb_format.specs.declared.kinds.Fault.{Fault}
+use Rattle.bdb_format.specs.ContentRows.{is_wrong_at}
+use Rattle.bdb_format.specs.File.{File, page_at}
+use Rattle.bdb_format.specs.Page.{Page}
+use Rattle.bdb_format.proofs.MemberLemmas.{first_member, in_filter, in_map, later_member, member_cases, no_member, of_filter, of_map}
+use Rattle.bdb_format.proofs.VerdictLemmas.{FirstComesFirst}
+use Rattle.bdb_format.specs.Verdict.{first_fault}
 use Rattle.bdb_recno.specs.Noted.{comes_before, noted, noted_all, faults_on}
+use Rattle.bdb_format.proofs.ListLemmas.{any_member}
+use Rattle.bdb_format.proofs.FaultLemmas.{same_fault, comes_through, comes_itself}
 
 -- Noting.
 
@@ -44,15 +46,6 @@ else_after a b after =
             | false ↦ λ other _. let differs : a.page ≡ b.page → ⊥ = eqb-false a.page b.page other in let above : b.page < a.page = omega arith in inl above
           ] refl
     ] refl after
-
-comes_itself : (a : Fault) → ComesFirst a a
-comes_itself a = inr (refl, omega arith)
-
-comes_through : (a b c : Fault) → ComesFirst a b → ComesFirst b c → ComesFirst a c
-comes_through a b c (inl p) (inl q) = inl (omega arith)
-comes_through a b c (inl p) (inr q) = inl (omega (arith, q.0))
-comes_through a b c (inr p) (inl q) = inl (omega (arith, p.0))
-comes_through a b c (inr p) (inr q) = inr (p.0 ∙ q.0, omega (arith, p.1, q.1))
 
 -- a fault that comes before one of a list, or is at its end
 above_more : (least x : Fault) (before : List Fault) → ((fault : Fault) → Contains before fault → ComesFirst least fault) → ComesFirst least x
@@ -90,18 +83,6 @@ least_noted faults = note_all [] faults None refl
 
 -- The first fault of a stage.
 
-one_place : (a b : Fault) → a.stage ≡ b.stage → ComesFirst a b → ComesFirst b a → a ≡ b
-one_place a b stage (inl p) (inl q) = absurd (omega arith)
-one_place a b stage (inl p) (inr q) = absurd (omega (arith, q.0))
-one_place a b stage (inr p) (inl q) = absurd (omega (arith, p.0))
-one_place a b stage (inr p) (inr q) =
-    let code : a.code ≡ b.code = omega (arith, p.1, q.1) in
-    let page : a.page ≡ b.page = p.0 in
-    same_fault a.stage b.stage a.page b.page a.code b.code stage page code
-  where
-    same_fault : (s t p q c d : ℕ) → s ≡ t → p ≡ q → c ≡ d → ◌≡◌ {A = Fault} (record { stage = s; page = p; code = c }) (record { stage = t; page = q; code = d })
-    same_fault s t p q c d x y z = cc
-
 -- two lists of the same faults of a stage: the least of one is the first of the other, if that comes first
 pub same_first : (stage : ℕ) (faults rows : List Fault) (least : Option Fault) → LeastOf faults least → FirstComesFirst rows
     → ((fault : Fault) → Contains rows fault → fault.stage ≡ stage)
@@ -114,17 +95,9 @@ same_first stage faults (row ∷ rows) None is first staged there back = absurd 
 same_first stage faults (row ∷ rows) (Some least) is first staged there back =
     let at : Contains (row ∷ rows) least = there least is.0 in
     ap (λ f. Some f)
-    (one_place row least (staged row (first_member row rows) ∙ sym (staged least at)) (first row rows least refl at) (is.1 row (back row (first_member row rows))))
+    (same_fault row least (staged row (first_member row rows) ∙ sym (staged least at)) (first row rows least refl at) (is.1 row (back row (first_member row rows))))
 
 -- Rows over the pages of a list.
-
-pub of_any : {X : Type 0} (test : X → Bool) (xs : List X) → list_any test xs ≡ true → (x : X) × Contains xs x × (test x ≡ true)
-of_any test [] some = absurd cc
-of_any test (x ∷ xs) some =
-    elim (test x) as (λ b. test x ≡ b → (b || list_any test xs) ≡ true → (y : _) × Contains (x ∷ xs) y × (test y ≡ true)) [
-      | true ↦ λ here _. (x, first_member x xs, here)
-      | false ↦ λ other later. let found : (y : _) × Contains xs y × (test y ≡ true) = of_any test xs later in (found.0, later_member x xs found.0 found.1, found.2)
-    ] refl some
 
 both : (a b : Bool) → (a && b) ≡ true → (a ≡ true) × (b ≡ true)
 both true b all = (refl, all)
@@ -132,7 +105,7 @@ both false b all = absurd cc
 
 pub of_wrong_at : (file : File) (test : Page → Bool) (pages : List ℕ) (p : ℕ) → is_wrong_at file test pages p ≡ true → Contains pages p × (test (page_at file p) ≡ true)
 of_wrong_at file test pages p wrong =
-    let found : (q : ℕ) × Contains pages q × ((q == p && test (page_at file q)) ≡ true) = of_any (λ q. q == p && test (page_at file q)) pages wrong in
+    let found : (q : ℕ) × Contains pages q × ((q == p && test (page_at file q)) ≡ true) = any_member (λ q. q == p && test (page_at file q)) pages wrong in
     let parts : ((found.0 == p) ≡ true) × (test (page_at file found.0) ≡ true) = both (found.0 == p) (test (page_at file found.0)) found.2 in
     let same : found.0 ≡ p = eqb-true found.0 p parts.0 in
     (subst (Contains pages) same found.1, subst (λ q. test (page_at file q) ≡ true) same parts.1)

@@ -9,28 +9,31 @@ use Rattle.bdb_form.specs.declared.view.PageView.TheVariants.{RecnoInternal as I
 use Rattle.bdb_form.specs.Seen.{page_seen}
 use Rattle.bdb_graph.proofs.ForestLemmas.{sound_graph}
 use Rattle.bdb_graph.specs.Linked.{HasMetadata, IsForest}
-use Rattle.bdb_model.specs.declared.metadata.FileKind.{FileKind}
-use Rattle.bdb_model.specs.declared.metadata.FileKind.TheVariants.{Btree, Hash as HashFile, Queue as QueueFile}
-use Rattle.bdb_model.specs.declared.references.Reference.{Reference}
-use Rattle.bdb_model.specs.declared.references.Sort.{Sort}
-use Rattle.bdb_model.specs.declared.references.Sort.TheVariants.{Root}
-use Rattle.bdb_model.specs.declared.metadata.BtreeMeta.{BtreeMeta}
-use Rattle.bdb_model.specs.declared.pages.RecnoItem.{RecnoItem}
-use Rattle.bdb_model.specs.Contents.{entries_in, tree_entries}
-use Rattle.bdb_model.specs.File.{File, file_of, page_at, type_in}
-use Rattle.bdb_model.specs.HeadOf.{head_of}
-use Rattle.bdb_model.specs.Leaves.{children_in, leaves}
-use Rattle.bdb_model.specs.Numbers.{has_bit}
-use Rattle.bdb_model.specs.Page.{Item, Listed, BtreeFields, Page, Meta, RecnoInternal, RecnoLeaf}
-use Rattle.bdb_model.specs.References.{asked_by, child_types, first_free, fit_code, fit_rows, has_type, names_in, names_of, refs, root_types}
-use Rattle.bdb_model.proofs.GraphLemmas.{each_fits}
-use Rattle.bdb_model.proofs.MemberLemmas.{first_member, in_map, later_member, member_cases, no_member}
-use Rattle.bdb_model.proofs.VerdictLemmas.{AllFail, none_is_first_row}
+use Rattle.bdb_format.specs.declared.metadata.FileKind.{FileKind}
+use Rattle.bdb_format.specs.declared.metadata.FileKind.TheVariants.{Btree, Hash as HashFile, Queue as QueueFile}
+use Rattle.bdb_format.specs.declared.references.Reference.{Reference}
+use Rattle.bdb_format.specs.declared.references.Sort.{Sort}
+use Rattle.bdb_format.specs.declared.references.Sort.TheVariants.{Root}
+use Rattle.bdb_format.specs.declared.metadata.BtreeMeta.{BtreeMeta}
+use Rattle.bdb_format.specs.declared.pages.RecnoItem.{RecnoItem}
+use Rattle.bdb_format.specs.Contents.{entries_in, tree_entries}
+use Rattle.bdb_format.specs.File.{File, file_of, page_at, type_in}
+use Rattle.bdb_format.specs.HeadOf.{head_of}
+use Rattle.bdb_format.specs.Leaves.{children_in, leaves}
+use Rattle.bdb_format.specs.Page.{Item, Listed, BtreeFields, Page, Meta, RecnoInternal, RecnoLeaf}
+use Rattle.bdb_format.specs.References.{asked_by, child_types, first_free, fit_code, fit_rows, has_type, targets_in, targets_of, refs, root_types}
+use Rattle.bdb_format.proofs.GraphLemmas.{each_fits}
+use Rattle.bdb_format.proofs.MemberLemmas.{first_member, in_map, later_member, member_cases, no_member}
+use Rattle.bdb_format.proofs.VerdictLemmas.{AllFail, none_is_first_row}
+use Rattle.bdb_format.specs.Flags.{is_recno}
 use Rattle.bdb_recno.specs.Entries.{entries_on}
 use Rattle.bdb_recno.specs.Pages.{IsRecnoPage, IsRecnoLeaf}
 use Rattle.bdb_tree.specs.Trees.{IsTreePage}
-use Rattle.bdb_tree.proofs.ShapeLemmas.{IsLeafPage, is_forest_page, no_queue, of_type}
+use Rattle.bdb_tree.proofs.ShapeLemmas.{IsLeafPage, is_forest_page, no_queue}
 use Rattle.bdb_tree.proofs.TreeLemmas.{IsChild, child_is, leaves_of_inner, leaves_of_leaf, recno_internal_page, recno_leaf, recno_leaf_page, tree_cases, typed_inside}
+use Rattle.bdb_format.proofs.ListLemmas.{in_enumerated}
+use Rattle.bdb_format.proofs.ReferenceLemmas.{forest_names}
+use Rattle.bdb_format.proofs.TypeLemmas.{of_type}
 
 -- What a page is.
 
@@ -62,19 +65,6 @@ leaf_recno file p leaf = ap (has_type (4 ∷ 6 ∷ [])) leaf
 
 -- The root.
 
-enumerated : {X : Type 0} (n : ℕ) (xs : List X) (x : X) → Contains xs x → (i : ℕ) × Contains (enumerate_from n xs) (i, x)
-enumerated n [] x at = absurd (no_member [] x refl at)
-enumerated n (y ∷ ys) x at =
-    elim (member_cases y ys x at) [
-      | inl same ↦ (n, subst (λ z. Contains ((n, y) ∷ enumerate_from (n + 1) ys) (n, z)) same (first_member (n, y) (enumerate_from (n + 1) ys)))
-      | inr later ↦ let rest = enumerated (n + 1) ys x later in (rest.0, later_member (n, y) (enumerate_from (n + 1) ys) (rest.0, x) rest.1)
-    ]
-
-tree_names : (kind : FileKind) (p : ℕ) (page : Page) → (kind ≡ QueueFile → ⊥) → names_of kind p page ≡ names_in p page
-tree_names Btree p page other = refl
-tree_names HashFile p page other = refl
-tree_names QueueFile p page other = absurd (other refl)
-
 root_held : (image : List ℕ) (meta : BtreeMeta) (has : HasMetadata (file_of image) (BtreeFields meta)) → IsForest image
     → (reference : Reference) × Contains (refs (file_of image) has.page) reference × (reference.sort ≡ Root) × (reference.target ≡ meta.root)
 unfolding refs
@@ -82,11 +72,11 @@ root_held image meta has forest =
     let file : File = file_of image in
     let free : List (Sort × ℕ) = first_free has.page meta.free in
     let other : file.kind ≡ QueueFile → ⊥ = no_queue image (head_of image) has.page forest.formed has.inside (ap is_forest_page has.is) in
-    let names : List (Sort × ℕ) = names_of file.kind has.page (page_at file has.page) in
-    let same : names ≡ free ++ ((Root, meta.root) ∷ []) = tree_names file.kind has.page (page_at file has.page) other ∙ ap (names_in has.page) has.is in
+    let names : List (Sort × ℕ) = targets_of file.kind has.page (page_at file has.page) in
+    let same : names ≡ free ++ ((Root, meta.root) ∷ []) = forest_names file.kind has.page (page_at file has.page) other ∙ ap (targets_in has.page) has.is in
     let at : Contains names (Root, meta.root) =
     subst (λ ns. Contains ns (Root, meta.root)) (sym same) (Contains-append_right free ((Root, meta.root) ∷ []) (Root, meta.root) (first_member (Root, meta.root) [])) in
-    let placed : (i : ℕ) × Contains (enumerate_from 0 names) (i, (Root, meta.root)) = enumerated 0 names (Root, meta.root) at in (
+    let placed : (i : ℕ) × Contains (enumerate_from 0 names) (i, (Root, meta.root)) = in_enumerated 0 names (Root, meta.root) at in (
       record { place = placed.0; sort = Root; target = meta.root },
       in_map (λ (named : ℕ × (Sort × ℕ)). record { place = named.0; sort = named.1.0; target = named.1.1 }) (enumerate_from 0 names) (placed.0, (Root, meta.root)) placed.1,
       refl,
@@ -108,7 +98,8 @@ root_typed file p reference meta is sort target fits =
     left_of false passed = absurd cc
 
 -- what metadata of a recno names as its root is a page of records
-pub root_recno : (image : List ℕ) (meta : BtreeMeta) → IsForest image → HasMetadata (file_of image) (BtreeFields meta) → has_bit meta.flags 0x02 ≡ true → IsRecnoPage (file_of image) meta.root
+pub root_recno : (image : List ℕ) (meta : BtreeMeta) → IsForest image → HasMetadata (file_of image) (BtreeFields meta) → is_recno meta ≡ true
+    → IsRecnoPage (file_of image) meta.root
 root_recno image meta forest has recno =
     let file : File = file_of image in
     let held = root_held image meta has forest in

@@ -9,14 +9,14 @@ use Rattle.std.proofs.Math.Nat.{mul-le-mul_right}
 use Rattle.bdb_graph.specs.Linked.{IsForest}
 use Rattle.bdb_graph.proofs.FirstLemmas.{formed_accepted}
 use Rattle.bdb_graph.proofs.FormedLemmas.{IsPaged, accepted_paged}
-use Rattle.bdb_model.specs.Chains.{value_of}
-use Rattle.bdb_model.specs.Contents.{entries_in, tree_entries}
-use Rattle.bdb_model.specs.File.{File, file_of, page_at}
-use Rattle.bdb_model.specs.HeadOf.{head_of}
-use Rattle.bdb_model.specs.Leaves.{leaves}
-use Rattle.bdb_model.specs.Lists.{ListKey, NumberKey, recno_list}
-use Rattle.bdb_model.specs.Page.{Item, Listed, RecnoLeaf}
-use Rattle.bdb_model.proofs.MemberLemmas.{first_member, later_member, member_cases, no_member}
+use Rattle.bdb_format.specs.Chains.{value_of}
+use Rattle.bdb_format.specs.Contents.{entries_in, tree_entries}
+use Rattle.bdb_format.specs.File.{File, file_of, page_at}
+use Rattle.bdb_format.specs.HeadOf.{head_of}
+use Rattle.bdb_format.specs.Leaves.{leaves}
+use Rattle.bdb_format.specs.Lists.{ListKey, NumberKey, recno_list}
+use Rattle.bdb_format.specs.Page.{Item, Listed, RecnoLeaf}
+use Rattle.bdb_format.proofs.MemberLemmas.{first_member, later_member, member_cases, no_member}
 use Rattle.bdb_tree.proofs.TreeLemmas.{recno_leaf_page}
 use Rattle.bdb_recno.specs.Entries.{AreNumbered, AreRecords, all_left, entries_on, left_on, listed_of, numbered}
 use Rattle.bdb_recno.specs.Pages.{IsRecnoLeaf, IsRecnoPage}

@@ -8,14 +8,13 @@ use Rattle.std.proofs.lemmas.List.{drop_more}
 use Rattle.std.proofs.lemmas.List.Elements.{Contains-append_cases, Contains-append_left, Contains-append_right}
 use Rattle.std.proofs.lemmas.Option.{get_or_from_slice_get, slice_get_within}
 use Rattle.bdb_graph.specs.Linked.{IsForest}
-use Rattle.bdb_graph.proofs.ForestLemmas.{in_filter}
-use Rattle.bdb_model.specs.declared.pages.RecnoItem.{RecnoItem}
-use Rattle.bdb_model.specs.ContentRows.{has_wrong_count, inner_in, inner_pages}
-use Rattle.bdb_model.specs.Contents.{tree_entries}
-use Rattle.bdb_model.specs.File.{File, file_of, header_in, page_at}
-use Rattle.bdb_model.specs.Leaves.{children_in}
-use Rattle.bdb_model.specs.Page.{Item, Listed, RecnoInternal, RecnoLeaf}
-use Rattle.bdb_model.proofs.MemberLemmas.{first_member, in_flat_map, later_member, member_cases, no_member, of_filter, of_flat_map}
+use Rattle.bdb_format.specs.declared.pages.RecnoItem.{RecnoItem}
+use Rattle.bdb_format.specs.ContentRows.{has_wrong_count, inner_in, inner_pages}
+use Rattle.bdb_format.specs.Contents.{tree_entries}
+use Rattle.bdb_format.specs.File.{File, file_of, header_in, page_at}
+use Rattle.bdb_format.specs.Leaves.{children_in}
+use Rattle.bdb_format.specs.Page.{Item, Listed, RecnoInternal, RecnoLeaf}
+use Rattle.bdb_format.proofs.MemberLemmas.{first_member, in_filter, in_flat_map, later_member, member_cases, no_member, of_filter, of_flat_map}
 use Rattle.bdb_tree.proofs.TreeLemmas.{IsChild, tree_cases}
 use Rattle.bdb_recno.specs.Counts.{HasRightCounts, child_by_count}
 use Rattle.bdb_recno.specs.Pages.{IsRecnoPage}

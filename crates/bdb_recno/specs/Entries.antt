@@ -1,10 +1,10 @@
 -- The entries of a tree of records that an iterator has left. Source: docs/FORMAT.md, "Databases of a file".
 use Rattle.std.specs.Prelude.{◌≡◌, ◌+◌, ◌^◌, ◌<◌, ℕ, List, [], ◌∷◌, ◌++◌, drop, length, Option, Some, None, MatchOption}
 use Rattle.std.specs.List.{All, enumerate_from, flat_map}
-use Rattle.bdb_model.specs.Contents.{entries_in}
-use Rattle.bdb_model.specs.File.{File, page_at}
-use Rattle.bdb_model.specs.Lists.{ListKey, listed_entry}
-use Rattle.bdb_model.specs.Page.{Item, Listed}
+use Rattle.bdb_format.specs.Contents.{entries_in}
+use Rattle.bdb_format.specs.File.{File, page_at}
+use Rattle.bdb_format.specs.Lists.{ListKey, listed_entry}
+use Rattle.bdb_format.specs.Page.{Item, Listed}
 use Rattle.bdb_recno.specs.Pages.{IsRecnoLeaf, IsRecord}
 
 -- the entries of a leaf from one on

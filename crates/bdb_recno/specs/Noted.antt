@@ -1,13 +1,9 @@
--- The least of the faults that are noted one by one, and a refusal of contents. Source: docs/FORMAT.md, "Faults".
-use Rattle.std.specs.Prelude.{◌≡◌, ℕ, nat_lt, ◌==◌, ◌&&◌, ◌||◌, if◌then◌else◌, Bool, List, map, Option, Some, None}
+-- The least of the faults that are noted one by one. Source: docs/FORMAT.md, "Faults".
+use Rattle.std.specs.Prelude.{ℕ, nat_lt, ◌==◌, ◌&&◌, ◌||◌, if◌then◌else◌, Bool, List, map, Option, Some, None}
 use Rattle.std.specs.List.{filter, fold}
-use Rattle.bdb_model.specs.declared.kinds.Fault.{Fault}
-use Rattle.bdb_model.specs.declared.kinds.CheckError.{CheckError}
-use Rattle.bdb_model.specs.declared.kinds.CheckError.TheVariants.{Fault as FaultError, Memory}
-use Rattle.bdb_graph.specs.Linking.{first_fault}
-use Rattle.bdb_model.specs.ContentRows.{contents_faults}
-use Rattle.bdb_model.specs.File.{File, page_at}
-use Rattle.bdb_model.specs.Page.{Metadata, Page}
+use Rattle.bdb_format.specs.declared.kinds.Fault.{Fault}
+use Rattle.bdb_format.specs.File.{File, page_at}
+use Rattle.bdb_format.specs.Page.{Page}
 
 -- a fault comes before another, by page and then by code
 abbrev pub comes_before : Fault → Fault → Bool
@@ -25,8 +21,3 @@ noted_all least faults = fold noted least faults
 -- a fault of stage 8 with this code, at each of these pages for which a test holds
 abbrev pub faults_on : File → ℕ → (Page → Bool) → List ℕ → List Fault
 faults_on file code test pages = map (λ p. record { stage = 8; page = p; code = code }) (filter (λ p. test (page_at file p)) pages)
-
--- a refusal of contents is their first fault, or want of memory
-abbrev pub IsContentsRefusal : File → Metadata → CheckError → Type 0
-IsContentsRefusal file fields (FaultError fault) = first_fault (contents_faults file fields) ≡ Some fault
-IsContentsRefusal file fields Memory = Unit {0}

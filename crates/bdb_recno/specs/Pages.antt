@@ -1,9 +1,9 @@
 -- The pages of a tree of records, and its records. Source: docs/FORMAT.md, "Types" and "Items".
 use Rattle.std.specs.Prelude.{◌≡◌, ℕ, IsTrue, [], ◌∷◌, Some}
 use Rattle.bdb_graph.specs.Linked.{FitsChain}
-use Rattle.bdb_model.specs.File.{File, page_at, type_in}
-use Rattle.bdb_model.specs.Page.{Content, Inline, Set, Chain, Tree, Unknown}
-use Rattle.bdb_model.specs.References.{has_type}
+use Rattle.bdb_format.specs.File.{File, page_at, type_in}
+use Rattle.bdb_format.specs.Page.{Content, Inline, Set, Chain, Tree, Unknown}
+use Rattle.bdb_format.specs.References.{has_type}
 
 -- an internal page or a leaf of records
 abbrev pub IsRecnoPage : File → ℕ → Type 0

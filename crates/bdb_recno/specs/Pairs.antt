@@ -2,8 +2,8 @@
 use Rattle.std.specs.Prelude.{ℕ, List}
 use Rattle.bdb_layout.specs.Seen.{leaf_item_seen}
 use Rattle.bdb_layout.specs.declared.items.LeafItem.{LeafItem}
-use Rattle.bdb_model.specs.Lists.{ListKey}
-use Rattle.bdb_model.specs.Page.{Item}
+use Rattle.bdb_format.specs.Lists.{ListKey}
+use Rattle.bdb_format.specs.Page.{Item}
 use Rattle.bdb_overflow.specs.Datum.{datum_seen, key_view_seen}
 use Rattle.bdb_overflow.specs.declared.datum.Datum.{Datum}
 use Rattle.bdb_overflow.specs.declared.datum.KeyView.{KeyView}

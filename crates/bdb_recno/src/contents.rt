@@ -1,18 +1,16 @@
 ghost use Rattle.std.specs.Prelude.{◌≡◌, [], IfErr, IfOk, IsTrue, OnOk};
 ghost use Rattle.bdb_graph.specs.Linked.{HasMetadata};
-ghost use Rattle.bdb_graph.specs.Linking.{first_fault};
-ghost use Rattle.bdb_model.specs.ContentRows.{contents_faults};
-ghost use Rattle.bdb_model.specs.File.{file_of};
-ghost use Rattle.bdb_model.specs.Numbers.{has_bit};
-ghost use Rattle.bdb_model.specs.Page.{BtreeFields};
-ghost use Rattle.bdb_model.specs.Verdict.{structure_faults};
-ghost use Rattle.bdb_recno.specs.Noted.{IsContentsRefusal};
+ghost use Rattle.bdb_format.specs.ContentRows.{database_faults};
+ghost use Rattle.bdb_format.specs.File.{file_of};
+ghost use Rattle.bdb_format.specs.Page.{BtreeFields};
+ghost use Rattle.bdb_format.specs.Verdict.{structure_faults, first_fault, IsFirstOf};
+ghost use Rattle.bdb_format.specs.Flags.{is_recno};
 
 use crate::counts::note_counts;
 use crate::lengths::note_lengths;
 use crate::page::pages_of;
+use bdb_format::{BtreeMeta, CheckError, Fault};
 use bdb_graph::Linked;
-use bdb_model::{BtreeMeta, CheckError, Fault};
 use std::alloc::{AllocError, Global};
 
 /// The contents of a recno: the counts of its internal pages and, where records have a fixed length, the
@@ -20,10 +18,10 @@ use std::alloc::{AllocError, Global};
 /// and while it runs as many again.
 pub fn check(alloc: Global, linked: &Linked<'_>, meta: &BtreeMeta) -> Result<(), CheckError>
     requires meta { HasMetadata (file_of linked.now) (BtreeFields meta.now) }
-    requires recno { IsTrue (has_bit meta.now.flags 0x02) }
+    requires recno { IsTrue (is_recno meta.now) }
     requires stage { structure_faults (file_of linked.now) ≡ [] }
-    ensures accepted { OnOk result (contents_faults (file_of linked.now) (BtreeFields meta.now) ≡ []) }
-    ensures refusal { IfErr result (IsContentsRefusal (file_of linked.now) (BtreeFields meta.now)) }
+    ensures accepted { OnOk result (database_faults (file_of linked.now) (BtreeFields meta.now) ≡ []) }
+    ensures refusal { IfErr result (IsFirstOf (database_faults (file_of linked.now) (BtreeFields meta.now))) }
 {
     match least_fault(alloc, linked, meta) {
         Ok(None) => Ok(()),
@@ -39,9 +37,9 @@ fn least_fault(
     meta: &BtreeMeta,
 ) -> Result<Option<Fault>, AllocError>
     requires meta { HasMetadata (file_of linked.now) (BtreeFields meta.now) }
-    requires recno { IsTrue (has_bit meta.now.flags 0x02) }
+    requires recno { IsTrue (is_recno meta.now) }
     requires stage { structure_faults (file_of linked.now) ≡ [] }
-    ensures { IfOk result (λ least. least ≡ first_fault (contents_faults (file_of linked.now) (BtreeFields meta.now))) }
+    ensures { IfOk result (λ least. least ≡ first_fault (database_faults (file_of linked.now) (BtreeFields meta.now))) }
 {
     let forest = pages_of(linked, meta);
     let counted = note_counts(alloc, &forest, meta.root)?;

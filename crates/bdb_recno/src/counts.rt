@@ -1,18 +1,18 @@
 ghost use Rattle.std.specs.Prelude.{◌≡◌, ◌==◌, not, IfOk, length, None};
 ghost use Rattle.std.specs.List.{All, list_any};
 ghost use Rattle.bdb_graph.specs.Linked.{IsForest};
-ghost use Rattle.bdb_model.specs.ContentRows.{has_wrong_count, inner_pages};
-ghost use Rattle.bdb_model.specs.Contents.{tree_entries};
-ghost use Rattle.bdb_model.specs.File.{file_of, page_at};
-ghost use Rattle.bdb_model.specs.declared.pages.RecnoItem.{RecnoItem};
+ghost use Rattle.bdb_format.specs.ContentRows.{has_wrong_count, inner_pages};
+ghost use Rattle.bdb_format.specs.Contents.{tree_entries};
+ghost use Rattle.bdb_format.specs.File.{file_of, page_at};
+ghost use Rattle.bdb_format.specs.declared.pages.RecnoItem.{RecnoItem};
 ghost use Rattle.bdb_recno.specs.Noted.{faults_on, noted_all};
 ghost use Rattle.bdb_recno.specs.Pages.{IsRecnoPage};
 
 use crate::noted::noted;
 use crate::page::{RecnoPage, entries_at, level_of, recno_page};
 use bdb_form::RecnoInternalView;
+use bdb_format::Fault;
 use bdb_graph::Forest;
-use bdb_model::Fault;
 use bdb_tree::{leaves_below, next_level};
 use std::alloc::{AllocError, Global};
 

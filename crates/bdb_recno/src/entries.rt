@@ -3,9 +3,9 @@ ghost use Rattle.std.specs.Iterator.{YieldsFirstBy, item_count};
 ghost use Rattle.std.specs.List.{All, enumerate_from};
 ghost use Rattle.bdb_graph.specs.Linked.{IsForest};
 ghost use Rattle.bdb_layout.specs.Seen.{leaf_item_seen};
-ghost use Rattle.bdb_model.specs.Contents.{tree_entries};
-ghost use Rattle.bdb_model.specs.File.{file_of};
-ghost use Rattle.bdb_model.specs.Verdict.{structure_faults};
+ghost use Rattle.bdb_format.specs.Contents.{tree_entries};
+ghost use Rattle.bdb_format.specs.File.{file_of};
+ghost use Rattle.bdb_format.specs.Verdict.{structure_faults};
 ghost use Rattle.bdb_recno.specs.Entries.{Gives, all_left};
 ghost use Rattle.bdb_recno.specs.Pages.{IsRecnoLeaf, IsRecnoPage};
 ghost use Rattle.bdb_recno.specs.Pairs.{entry_seen};
@@ -29,8 +29,8 @@ pub(crate) struct Entries<'a> {
 
 impl<'a> Model for Entries<'a> {
     ghost use Rattle.std.specs.Prelude.{List, ℕ};
-    ghost use Rattle.bdb_model.specs.File.{file_of};
-    ghost use Rattle.bdb_model.specs.Page.{Item};
+    ghost use Rattle.bdb_format.specs.File.{file_of};
+    ghost use Rattle.bdb_format.specs.Page.{Item};
     ghost use Rattle.bdb_recno.specs.Entries.{AreNumbered, all_left, numbered};
 
     ghost Value = { List (ℕ × Item) };

@@ -1,7 +1,7 @@
 ghost use Rattle.std.specs.Prelude.{◌≡◌};
 ghost use Rattle.bdb_layout.specs.Seen.{leaf_item_seen};
-ghost use Rattle.bdb_model.specs.Chains.{value_of};
-ghost use Rattle.bdb_model.specs.File.{file_of};
+ghost use Rattle.bdb_format.specs.Chains.{value_of};
+ghost use Rattle.bdb_format.specs.File.{file_of};
 ghost use Rattle.bdb_overflow.specs.Datum.{datum_seen};
 ghost use Rattle.bdb_recno.specs.Pages.{IsRecord};
 

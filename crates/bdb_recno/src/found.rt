@@ -3,11 +3,11 @@ ghost use Rattle.std.specs.Iterator.{YieldsFirstBy, item_count};
 ghost use Rattle.std.specs.List.{cons_option};
 ghost use Rattle.std.specs.Option.{option_map};
 ghost use Rattle.bdb_graph.specs.Linked.{HasMetadata, IsForest};
-ghost use Rattle.bdb_model.specs.ContentRows.{contents_faults};
-ghost use Rattle.bdb_model.specs.File.{file_of, header_in, page_at};
-ghost use Rattle.bdb_model.specs.Lists.{NumberKey, get, recno_list};
-ghost use Rattle.bdb_model.specs.Numbers.{has_bit};
-ghost use Rattle.bdb_model.specs.Page.{BtreeFields};
+ghost use Rattle.bdb_format.specs.ContentRows.{database_faults};
+ghost use Rattle.bdb_format.specs.File.{file_of, header_in, page_at};
+ghost use Rattle.bdb_format.specs.Lists.{NumberKey, get, recno_list};
+ghost use Rattle.bdb_format.specs.Page.{BtreeFields};
+ghost use Rattle.bdb_format.specs.Flags.{is_recno};
 ghost use Rattle.bdb_overflow.specs.Datum.{datum_seen};
 ghost use Rattle.bdb_recno.specs.Counts.{HasRightCounts};
 ghost use Rattle.bdb_recno.specs.Pages.{IsRecnoPage};
@@ -15,8 +15,8 @@ ghost use Rattle.bdb_recno.specs.Pages.{IsRecnoPage};
 use crate::entry::{is_deleted, value_at};
 use crate::page::pages_of;
 use crate::search::entry_below;
+use bdb_format::{BtreeMeta, Steps};
 use bdb_graph::{Forest, Linked};
-use bdb_model::{BtreeMeta, Steps};
 use bdb_overflow::Datum;
 use std::marker::Model;
 use std::sync::ledger::Ledger;
@@ -58,8 +58,8 @@ pub fn find<'a, L: Ledger>(
     steps: &mut Steps<L>,
 ) -> Found<'a>
     requires meta { HasMetadata (file_of linked.now) (BtreeFields meta.now) }
-    requires recno { IsTrue (has_bit meta.now.flags 0x02) }
-    requires contents { contents_faults (file_of linked.now) (BtreeFields meta.now) ≡ [] }
+    requires recno { IsTrue (is_recno meta.now) }
+    requires contents { database_faults (file_of linked.now) (BtreeFields meta.now) ≡ [] }
     ensures values { result ≡ get (recno_list (file_of linked.now) meta.now.root) (NumberKey number) }
     ensures cost { steps.new ≤ steps.old + (header_in (page_at (file_of linked.now) meta.now.root)).level }
 {

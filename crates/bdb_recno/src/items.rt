@@ -18,7 +18,7 @@ pub(crate) struct Items<'a> {
 
 impl<'a> Model for Items<'a> {
     ghost use Rattle.std.specs.Prelude.{List};
-    ghost use Rattle.bdb_model.specs.Page.{Item};
+    ghost use Rattle.bdb_format.specs.Page.{Item};
     ghost use Rattle.bdb_recno.specs.Entries.{left_on};
 
     ghost Value = { List Item };

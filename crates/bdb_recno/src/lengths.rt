@@ -1,10 +1,10 @@
 ghost use Rattle.std.specs.Prelude.{◌≡◌, []};
 ghost use Rattle.bdb_graph.specs.Linked.{IsForest};
 ghost use Rattle.bdb_layout.specs.Seen.{leaf_item_seen};
-ghost use Rattle.bdb_model.specs.ContentRows.{has_wrong_record, is_wrong_record};
-ghost use Rattle.bdb_model.specs.File.{file_of, page_at};
-ghost use Rattle.bdb_model.specs.Leaves.{leaves};
-ghost use Rattle.bdb_model.specs.Verdict.{structure_faults};
+ghost use Rattle.bdb_format.specs.ContentRows.{has_wrong_record, is_wrong_record};
+ghost use Rattle.bdb_format.specs.File.{file_of, page_at};
+ghost use Rattle.bdb_format.specs.Leaves.{leaves};
+ghost use Rattle.bdb_format.specs.Verdict.{structure_faults};
 ghost use Rattle.bdb_recno.specs.Noted.{faults_on, noted_all};
 ghost use Rattle.bdb_recno.specs.Pages.{IsRecnoLeaf, IsRecnoPage, IsRecord};
 ghost use Rattle.bdb_tree.specs.Trees.{IsRoot};
@@ -12,9 +12,9 @@ ghost use Rattle.bdb_tree.specs.Trees.{IsRoot};
 use crate::entry::{is_deleted, value_at};
 use crate::noted::noted;
 use crate::page::leaf_at;
+use bdb_format::{BtreeMeta, Fault};
 use bdb_graph::Forest;
 use bdb_layout::LeafItem;
-use bdb_model::{BtreeMeta, Fault};
 use bdb_tree::tree_leaves;
 
 /// Whether a record is live and hasn't the fixed length; a deleted one isn't looked at.

@@ -1,6 +1,6 @@
 ghost use Rattle.std.specs.Prelude.{◌≡◌};
 ghost use Rattle.std.specs.Iterator.{YieldsFirstBy, item_count};
-ghost use Rattle.bdb_model.specs.File.{file_of};
+ghost use Rattle.bdb_format.specs.File.{file_of};
 ghost use Rattle.bdb_recno.specs.Entries.{AreRecords, Gives, listed_of};
 ghost use Rattle.bdb_recno.specs.Pairs.{pair_seen};
 
@@ -19,8 +19,8 @@ pub struct Scan<'a> {
 
 impl<'a> Model for Scan<'a> {
     ghost use Rattle.std.specs.Prelude.{List, ℕ};
-    ghost use Rattle.bdb_model.specs.File.{file_of};
-    ghost use Rattle.bdb_model.specs.Lists.{ListKey};
+    ghost use Rattle.bdb_format.specs.File.{file_of};
+    ghost use Rattle.bdb_format.specs.Lists.{ListKey};
     ghost use Rattle.bdb_recno.specs.Entries.{AreRecords, listed_of};
 
     ghost Value = { List (ListKey × List ℕ) };

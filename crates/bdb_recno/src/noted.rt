@@ -1,7 +1,7 @@
 ghost use Rattle.std.specs.Prelude.{◌≡◌};
 ghost use Rattle.bdb_recno.specs.Noted.{comes_before, noted};
 
-use bdb_model::Fault;
+use bdb_format::Fault;
 
 // A fault comes before another, by page and then by code.
 fn comes_before(a: Fault, b: Fault) -> bool

@@ -1,20 +1,20 @@
 ghost use Rattle.std.specs.Prelude.{◌≡◌, IsTrue, length};
 ghost use Rattle.bdb_graph.specs.Linked.{FitsTreeRoot, HasMetadata, IsForest};
-ghost use Rattle.bdb_model.specs.Contents.{entries_in};
-ghost use Rattle.bdb_model.specs.File.{file_of, header_in, page_at};
-ghost use Rattle.bdb_model.specs.Numbers.{has_bit};
-ghost use Rattle.bdb_model.specs.Page.{BtreeFields, RecnoLeaf};
+ghost use Rattle.bdb_format.specs.Contents.{entries_in};
+ghost use Rattle.bdb_format.specs.File.{file_of, header_in, page_at};
+ghost use Rattle.bdb_format.specs.Page.{BtreeFields, RecnoLeaf};
+ghost use Rattle.bdb_format.specs.Flags.{is_recno};
 ghost use Rattle.bdb_recno.specs.Pages.{IsRecnoLeaf, IsRecnoPage};
 ghost use Rattle.bdb_recno.specs.Seen.{recno_page_seen};
 
 use bdb_form::{PageView, RecnoInternalView, RecnoLeafView};
+use bdb_format::BtreeMeta;
 use bdb_graph::{Forest, Linked};
-use bdb_model::BtreeMeta;
 
 /// The pages of a file, in which the root of this recno is one of records.
 pub(crate) fn pages_of<'a>(linked: &Linked<'a>, meta: &BtreeMeta) -> Forest<'a>
     requires meta { HasMetadata (file_of linked.now) (BtreeFields meta.now) }
-    requires recno { IsTrue (has_bit meta.now.flags 0x02) }
+    requires recno { IsTrue (is_recno meta.now) }
     ensures pages { result ≡ linked.now }
     ensures forest { IsForest linked.now }
     ensures root { FitsTreeRoot (file_of linked.now) meta.now.root }

@@ -1,6 +1,6 @@
 -- Short pages with one item, which ends with its page. Source: docs/FORMAT.md, "Items".
 use Rattle.std.specs.Prelude.{ℕ, List, [], ◌∷◌}
-use Rattle.bdb_model.specs.declared.kinds.Order.{Order}
+use Rattle.bdb_format.specs.declared.kinds.Order.{Order}
 use Rattle.bdb_samples.specs.Pages.{two, four, joined, header}
 
 -- a recno leaf with a chain, from 28 to 40

@@ -1,10 +1,10 @@
--- Short pages of every type, field by field in either order, and what they read as. Source: docs/FORMAT.md, "Pages", "Items" and "Metadata".
+-- Short pages of every type, field by field in either order, and what they read as. Source: docs/FORMAT.md, "Other pages", "Items" and "Metadata pages".
 use Rattle.std.specs.Prelude.{ℕ, ◌+◌, ◌*◌, true, false, List, [], ◌∷◌, ◌++◌, replicate}
 use Rattle.std.specs.List.{flat_map}
-use Rattle.bdb_model.specs.declared.kinds.Order.{Order}
-use Rattle.bdb_model.specs.declared.kinds.Order.TheVariants.{Big, Little}
-use Rattle.bdb_model.specs.declared.pages.Header.{Header}
-use Rattle.bdb_model.specs.Page.{Page, Inline, Set, Chain, Tree, Unknown, BtreeFields, HashFields, QueueFields, Free, Meta, Hash, Internal, RecnoInternal, Leaf, RecnoLeaf, DupLeaf, Overflow, Queue}
+use Rattle.bdb_format.specs.declared.kinds.Order.{Order}
+use Rattle.bdb_format.specs.declared.kinds.Order.TheVariants.{Big, Little}
+use Rattle.bdb_format.specs.declared.pages.Header.{Header}
+use Rattle.bdb_format.specs.Page.{Page, Inline, Set, Chain, Tree, Unknown, BtreeFields, HashFields, QueueFields, Free, Meta, Hash, Internal, RecnoInternal, Leaf, RecnoLeaf, DupLeaf, Overflow, Queue}
 
 -- numbers of two and of four bytes, given from the low end
 abbrev pub two : Order → ℕ → ℕ → List ℕ

@@ -1,7 +1,7 @@
-ghost use Rattle.bdb_model.specs.Numbers.{overwritten};
-ghost use Rattle.bdb_model.specs.Page.{DupLeafPage, HashPage, InternalPage, LeafPage, OverflowPage, RecnoInternalPage, RecnoLeafPage};
-ghost use Rattle.bdb_model.specs.Rows.{body_code, listed_code};
-ghost use Rattle.bdb_model.specs.declared.kinds.Order.TheVariants.{Big, Little};
+ghost use Rattle.bdb_format.specs.Numbers.{overwritten};
+ghost use Rattle.bdb_format.specs.Page.{DupLeafPage, HashPage, InternalPage, LeafPage, OverflowPage, RecnoInternalPage, RecnoLeafPage};
+ghost use Rattle.bdb_format.specs.Rows.{body_code, listed_code};
+ghost use Rattle.bdb_format.specs.declared.kinds.Order.TheVariants.{Big, Little};
 ghost use Rattle.bdb_samples.specs.Edges.{chain_key_page, chain_leaf, hash_pair, key_page};
 ghost use Rattle.bdb_samples.specs.Pages.{dup_leaf_page, hash_page, internal_page, leaf_page, overflow_page, recno_internal_page, recno_leaf_page, zeros};
 ghost use Rattle.std.specs.Prelude.{◌≡◌, take, None, Some, [], ◌∷◌};

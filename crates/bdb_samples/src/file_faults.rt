@@ -1,5 +1,5 @@
-ghost use Rattle.bdb_model.specs.declared.kinds.Unsupported.TheVariants.{Checksum, Encryption, Heap, LargePage, Partition, Version};
-ghost use Rattle.bdb_model.specs.declared.metadata.MetaFault.TheVariants.{Fault, Unsupported as LeftOut};
+ghost use Rattle.bdb_format.specs.declared.kinds.Unsupported.TheVariants.{Checksum, Encryption, Heap, LargePage, Partition, Version};
+ghost use Rattle.bdb_format.specs.declared.metadata.MetaFault.TheVariants.{Fault, Unsupported as LeftOut};
 ghost use Rattle.bdb_samples.specs.FileFaults.{file_checksum, file_encryption, file_heap, file_large_page, file_last_page, file_magic, file_page_size, file_partition, file_ragged, file_short, file_version};
 ghost use Rattle.bdb_samples.specs.Verdicts.{head_answer};
 ghost use Rattle.std.specs.Prelude.{◌≡◌, Err, [], ◌∷◌};

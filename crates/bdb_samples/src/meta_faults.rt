@@ -1,6 +1,6 @@
-ghost use Rattle.bdb_model.specs.HeadOf.{form_fault, head_fault};
-ghost use Rattle.bdb_model.specs.declared.kinds.Unsupported.TheVariants.{Checksum, Compression, Encryption, Extent, Heap, LargePage, OwnHash, Partition, Version, WrappedQueue};
-ghost use Rattle.bdb_model.specs.declared.metadata.MetaFault.TheVariants.{Fault, Unsupported as LeftOut};
+ghost use Rattle.bdb_format.specs.HeadOf.{form_fault, head_fault};
+ghost use Rattle.bdb_format.specs.declared.kinds.Unsupported.TheVariants.{Checksum, Compression, Encryption, Extent, Heap, LargePage, OwnHash, Partition, Version, WrappedQueue};
+ghost use Rattle.bdb_format.specs.declared.metadata.MetaFault.TheVariants.{Fault, Unsupported as LeftOut};
 ghost use Rattle.bdb_samples.specs.MetaFaults.{form_btree_flags, form_checksum, form_compression, form_encryption, form_extent, form_hash_buckets, form_hash_flags, form_hash_masks, form_meta_magic, form_meta_page_size, form_own_hash, form_page_number, form_page_type, form_partition, form_queue_first, form_queue_record, form_version, form_wrapped_queue};
 ghost use Rattle.bdb_samples.specs.Verdicts.{form_codes, page_codes, queue_codes};
 ghost use Rattle.std.specs.List.{range_with_len};

@@ -1,7 +1,7 @@
-ghost use Rattle.bdb_model.specs.declared.kinds.Order.TheVariants.{Big, Little};
-ghost use Rattle.bdb_model.specs.declared.kinds.Unsupported.TheVariants.{LargePage, Version};
-ghost use Rattle.bdb_model.specs.declared.metadata.FileKind.TheVariants.{Btree};
-ghost use Rattle.bdb_model.specs.declared.metadata.MetaFault.TheVariants.{Fault, Unsupported as LeftOut};
+ghost use Rattle.bdb_format.specs.declared.kinds.Order.TheVariants.{Big, Little};
+ghost use Rattle.bdb_format.specs.declared.kinds.Unsupported.TheVariants.{LargePage, Version};
+ghost use Rattle.bdb_format.specs.declared.metadata.FileKind.TheVariants.{Btree};
+ghost use Rattle.bdb_format.specs.declared.metadata.MetaFault.TheVariants.{Fault, Unsupported as LeftOut};
 ghost use Rattle.bdb_samples.specs.OnePair.{b_item, deleted, large_page, misnumbered, one_pair, one_pair_big, other_kind, other_version, pages_with, past_by_one, past_end, to_end};
 ghost use Rattle.bdb_samples.specs.Verdicts.{abstract_pages, form_codes, head_answer};
 ghost use Rattle.std.specs.Prelude.{◌≡◌, take, true, false, Ok, Err, None, Some, [], ◌∷◌};

@@ -1,6 +1,6 @@
-ghost use Rattle.bdb_model.specs.Page.{NoType, Zero};
-ghost use Rattle.bdb_model.specs.Reading.{abstract_page};
-ghost use Rattle.bdb_model.specs.declared.kinds.Order.TheVariants.{Big, Little};
+ghost use Rattle.bdb_format.specs.Page.{NoType, Zero};
+ghost use Rattle.bdb_format.specs.Reading.{abstract_page};
+ghost use Rattle.bdb_format.specs.declared.kinds.Order.TheVariants.{Big, Little};
 ghost use Rattle.bdb_samples.specs.Pages.{btree_page, btree_read, dup_leaf_page, dup_leaf_read, free_page, free_read, hash_page, hash_read, internal_page, internal_read, leaf_page, leaf_read, overflow_page, overflow_read, page_without_type, queue_meta_page, queue_meta_read, queue_page, queue_read, recno_internal_page, recno_internal_read, recno_leaf_page, recno_leaf_read, table_page, table_read, zero_page};
 ghost use Rattle.std.specs.Prelude.{◌≡◌};
 

@@ -1,12 +1,12 @@
 -- What a text begins with, and the value of digits.
-use Rattle.std.proofs.Common.{◌≡◌, ◌≢◌, ℕ, ◌+◌, ◌*◌, Bool, true, false, List, [], ◌∷◌, ◌++◌, length, slice_index, Option, Some, None, Result, Ok, Err, refl, sym, ap, ◌∙◌, arith}
+use Rattle.std.proofs.Common.{◌≡◌, ◌≢◌, ℕ, ◌+◌, ◌*◌, ◌<◌, Bool, true, false, List, [], ◌∷◌, ◌++◌, length, slice_index, ne_eqb, append_assoc, Option, Some, None, Result, Ok, Err, refl, sym, ap, ◌∙◌, arith}
 use Rattle.std.specs.Prelude.{MatchResult, is_some}
 use Rattle.std.proofs.lemmas.List.{append-nil}
 use Rattle.std.proofs.lemmas.Bool.Decides.{nat_tests}
 use Rattle.hex.specs.declared.error.FromHexError.{FromHexError}
 use Rattle.hex.specs.Hex.{decode_pairs, decode_sized, digit_or_error, hex_digit_value, ◌>>=◌}
-use Rattle.bdb_model.specs.TextSpelling.{before, byte_of_digits, bytes_spelled, digit_value, digits_read, printed_read}
-use Rattle.bdb_text.specs.Spellings.{Begins}
+use Rattle.bdb_model.specs.TextSpelling.{before, byte_before, byte_of_digits, bytes_spelled, digit_value, digits_unit, escaped_unit, next_unit, printed_unit}
+use Rattle.bdb_model.proofs.UnitLemmas.{read_empty, read_no_unit, read_unit, unit_shorter}
 
 -- The value of digits.
 
@@ -59,97 +59,85 @@ pub byte_of_err : (high low : ℕ) (out : List ℕ) (result : Result Unit FromHe
     → result ≡ Err x → None ≡ byte_of_digits (digit_value high) (digit_value low)
 byte_of_err high low out result x h e = decoded_err (decode_sized (high ∷ low ∷ []) 1) out result x h e ∙ first_byte-decode_sized high low
 
--- What a text begins with.
-
--- a byte that is no backslash stands for itself
-pub printed_read-plain : (a : ℕ) (rest : List ℕ) → a ≢ 92 → printed_read (a ∷ rest) ≡ before (Some a) (printed_read rest)
-printed_read-plain a [] h = grind (arith, nat_tests)
-printed_read-plain a (b ∷ []) h = grind (arith, nat_tests)
-printed_read-plain a (b ∷ c ∷ rest) h = grind (arith, nat_tests)
-
-pub printed_read-double : (rest : List ℕ) → printed_read (92 ∷ 92 ∷ rest) ≡ before (Some 92) (printed_read rest)
-printed_read-double [] = refl
-printed_read-double (c ∷ rest) = refl
-
-pub printed_read-digits : (b c : ℕ) (rest : List ℕ) → b ≢ 92
-    → printed_read (92 ∷ b ∷ c ∷ rest) ≡ before (byte_of_digits (digit_value b) (digit_value c)) (printed_read rest)
-printed_read-digits b c rest h = grind (arith, nat_tests)
-
--- a backslash and one byte more that is none is no spelling
-printed_read-lone : (b : ℕ) → b ≢ 92 → printed_read (92 ∷ b ∷ []) ≡ None
-printed_read-lone b h = grind (arith, nat_tests)
-
-pub begins_plain : (text : List ℕ) (a : ℕ) (rest : List ℕ) → text ≡ a ∷ rest → a ≢ 92 → Begins true text a rest
-unfolding bytes_spelled
-begins_plain text a rest e h = record {
-  spelled = ap printed_read e ∙ printed_read-plain a rest h;
-  shorter = rw e (omega arith);
-}
-
-pub begins_double : (text : List ℕ) (a : ℕ) (rest : List ℕ) → text ≡ a ∷ rest → a ≡ 92 → Begins true (92 ∷ text) a rest
-unfolding bytes_spelled
-begins_double text a rest e h = record {
-  spelled =
-      ap (λ (s : List ℕ). printed_read (92 ∷ s)) e ∙ ap (λ (x : ℕ). printed_read (92 ∷ x ∷ rest)) h
-      ∙ printed_read-double rest ∙ ap (λ (x : ℕ). before (Some x) (printed_read rest)) (sym h);
-  shorter = rw e (omega arith);
-}
-
-pub begins_escape : (text : List ℕ) (b c byte : ℕ) (behind rest : List ℕ) → text ≡ b ∷ behind → behind ≡ c ∷ rest → b ≢ 92
-    → byte_of_digits (digit_value b) (digit_value c) ≡ Some byte → Begins true (92 ∷ text) byte rest
-unfolding bytes_spelled
-begins_escape text b c byte behind rest e f h v = record {
-  spelled = rw (e, f) (printed_read-digits b c rest h ∙ ap (λ (o : Option ℕ). before o (printed_read rest)) v);
-  shorter = rw (e, f) (omega arith);
-}
-
-pub none_escape : (text : List ℕ) (b c : ℕ) (behind rest : List ℕ) → text ≡ b ∷ behind → behind ≡ c ∷ rest → b ≢ 92
-    → byte_of_digits (digit_value b) (digit_value c) ≡ None → bytes_spelled true (92 ∷ text) ≡ None
-unfolding bytes_spelled
-none_escape text b c behind rest e f h v = rw (e, f) (printed_read-digits b c rest h ∙ ap (λ (o : Option ℕ). before o (printed_read rest)) v)
+-- The first unit.
 
 -- no text has length 0 but the empty one
 nothing : (s : List ℕ) → length s ≡ 0 → s ≡ []
 nothing [] h = refl
 nothing (b ∷ s) h = absurd (omega arith)
 
-pub none_backslash : (text : List ℕ) → length text ≡ 0 → bytes_spelled true (92 ∷ text) ≡ None
-unfolding bytes_spelled
-none_backslash text h = ap (λ (s : List ℕ). printed_read (92 ∷ s)) (nothing text h)
+pub digits_none : (text : List ℕ) → length text ≡ 0 → None ≡ digits_unit text
+digits_none text none = ap digits_unit (sym (nothing text none))
 
-pub none_lone : (text : List ℕ) (b : ℕ) (behind : List ℕ) → text ≡ b ∷ behind → length behind ≡ 0 → b ≢ 92 → bytes_spelled true (92 ∷ text) ≡ None
-unfolding bytes_spelled
-none_lone text b behind e n h = rw (e, nothing behind n) (printed_read-lone b h)
+pub digits_odd : (text : List ℕ) (high : ℕ) (behind : List ℕ) → text ≡ high ∷ behind → length behind ≡ 0 → None ≡ digits_unit text
+digits_odd text high behind is none = rw (is, nothing behind none) refl
 
-pub begins_digits : (text : List ℕ) (b c byte : ℕ) (behind rest : List ℕ) → text ≡ b ∷ behind → behind ≡ c ∷ rest
-    → byte_of_digits (digit_value b) (digit_value c) ≡ Some byte → Begins false text byte rest
-unfolding bytes_spelled
-begins_digits text b c byte behind rest e f v = record {
-  spelled = rw (e, f) (ap (λ (o : Option ℕ). before o (digits_read rest)) v);
-  shorter = rw (e, f) (omega arith);
-}
+pub digits_are : (text : List ℕ) (high low : ℕ) (behind rest : List ℕ) (byte : Option ℕ) → text ≡ high ∷ behind → behind ≡ low ∷ rest
+    → byte ≡ byte_of_digits (digit_value high) (digit_value low) → byte_before byte rest ≡ digits_unit text
+digits_are text high low behind rest byte is more value = rw (is, more) (ap (λ it. byte_before it rest) value)
 
-pub none_digits : (text : List ℕ) (b c : ℕ) (behind rest : List ℕ) → text ≡ b ∷ behind → behind ≡ c ∷ rest
-    → byte_of_digits (digit_value b) (digit_value c) ≡ None → bytes_spelled false text ≡ None
-unfolding bytes_spelled
-none_digits text b c behind rest e f v = rw (e, f) (ap (λ (o : Option ℕ). before o (digits_read rest)) v)
+pub escaped_none : (text : List ℕ) → length text ≡ 0 → None ≡ escaped_unit text
+escaped_none text none = ap escaped_unit (sym (nothing text none))
 
--- one digit alone is no spelling
-pub none_odd : (text : List ℕ) (b : ℕ) (behind : List ℕ) → text ≡ b ∷ behind → length behind ≡ 0 → bytes_spelled false text ≡ None
-unfolding bytes_spelled
-none_odd text b behind e n = rw (e, nothing behind n) refl
+pub escaped_backslash : (text : List ℕ) (byte : ℕ) (rest : List ℕ) → text ≡ byte ∷ rest → byte ≡ 92 → Some (byte, rest) ≡ escaped_unit text
+escaped_backslash text byte rest is same = rw (is, same) refl
+
+pub escaped_digits : (text : List ℕ) (byte : ℕ) (rest : List ℕ) → text ≡ byte ∷ rest → byte ≢ 92 → digits_unit text ≡ escaped_unit text
+escaped_digits text byte rest is other = rw (is, ne_eqb byte 92 other) refl
+
+pub printed_none : (text : List ℕ) → length text ≡ 0 → None ≡ printed_unit text
+printed_none text none = ap printed_unit (sym (nothing text none))
+
+pub printed_escape : (text : List ℕ) (byte : ℕ) (rest : List ℕ) → text ≡ byte ∷ rest → byte ≡ 92 → escaped_unit rest ≡ printed_unit text
+printed_escape text byte rest is same = rw (is, same) refl
+
+pub printed_itself : (text : List ℕ) (byte : ℕ) (rest : List ℕ) → text ≡ byte ∷ rest → byte ≢ 92 → Some (byte, rest) ≡ printed_unit text
+printed_itself text byte rest is other = rw (is, ne_eqb byte 92 other) refl
 
 -- Reading to the end.
 
 pub spelled_empty : (print : Bool) (text : List ℕ) → length text ≡ 0 → bytes_spelled print text ≡ Some []
-unfolding bytes_spelled
-spelled_empty true text h = ap printed_read (nothing text h)
-spelled_empty false text h = ap digits_read (nothing text h)
+spelled_empty print text none = ap (bytes_spelled print) (nothing text none) ∙ read_empty print
 
 -- bytes before those that follow, where these are there
 abbrev pub joined : List ℕ → Option (List ℕ) → Option (List ℕ)
 joined bytes (Some behind) = Some (bytes ++ behind)
 joined bytes None = None
+
+joined_before : (bytes : List ℕ) (byte : ℕ) (behind : Option (List ℕ)) → joined bytes (before byte behind) ≡ joined (bytes ++ byte ∷ []) behind
+joined_before bytes byte None = refl
+joined_before bytes byte (Some behind) = ap Some (sym (append_assoc bytes (byte ∷ []) behind))
+
+is_some-before : (byte : ℕ) (behind : Option (List ℕ)) → is_some (before byte behind) ≡ is_some behind
+is_some-before byte None = refl
+is_some-before byte (Some behind) = refl
+
+-- one byte more was read
+pub joined_more : (print : Bool) (text bytes rest : List ℕ) (byte : ℕ) (behind : List ℕ) → bytes_spelled print text ≡ joined bytes (bytes_spelled print rest)
+    → Some (byte, behind) ≡ next_unit print rest → bytes_spelled print text ≡ joined (bytes ++ byte ∷ []) (bytes_spelled print behind)
+joined_more print text bytes rest byte behind e unit =
+    e ∙ ap (joined bytes) (read_unit print rest byte behind (sym unit)) ∙ joined_before bytes byte (bytes_spelled print behind)
+
+-- a text is a spelling where what stands behind its first unit is one
+pub is_some-behind : (print : Bool) (text rest : List ℕ) (byte : ℕ) (behind : List ℕ) → is_some (bytes_spelled print text) ≡ is_some (bytes_spelled print rest)
+    → Some (byte, behind) ≡ next_unit print rest → is_some (bytes_spelled print text) ≡ is_some (bytes_spelled print behind)
+is_some-behind print text rest byte behind e unit =
+    e ∙ ap is_some (read_unit print rest byte behind (sym unit)) ∙ is_some-before byte (bytes_spelled print behind)
+
+-- and none where it doesn't begin with a unit
+pub is_some-no_unit : (print : Bool) (text rest : List ℕ) → is_some (bytes_spelled print text) ≡ is_some (bytes_spelled print rest) → length rest ≢ 0
+    → None ≡ next_unit print rest → false ≡ is_some (bytes_spelled print text)
+is_some-no_unit print text rest e some none = sym (e ∙ ap is_some (read_no_unit print rest (omega arith) (sym none)))
+
+-- so the rest of a spelling begins with one
+pub always_unit : (print : Bool) (text bytes rest : List ℕ) → true ≡ is_some (bytes_spelled print text) → bytes_spelled print text ≡ joined bytes (bytes_spelled print rest) → length rest ≢ 0
+    → None ≡ next_unit print rest → ⊥
+always_unit print text bytes rest is e some none =
+    let wrong : true ≡ false = is ∙ ap is_some (e ∙ ap (joined bytes) (read_no_unit print rest (omega arith) (sym none))) in
+    cc
+
+pub shorter : (print : Bool) (rest : List ℕ) (byte : ℕ) (behind : List ℕ) → Some (byte, behind) ≡ next_unit print rest → length behind < length rest
+shorter print rest byte behind unit = unit_shorter print rest byte behind (sym unit)
 
 -- all were read
 pub joined_all : (print : Bool) (text bytes rest : List ℕ) → bytes_spelled print text ≡ joined bytes (bytes_spelled print rest) → length rest ≡ 0

@@ -1,3 +1,12 @@
 pub mod Spellings
 pub mod SpellErrors
+pub mod Headers
 pub mod Laws
+pub mod WrittenLaw
+pub mod DigitsIn
+pub mod Fields
+pub mod Runs
+pub mod DataLines
+pub mod ReadTo
+pub mod DataTo
+pub mod SectionTo

@@ -1,17 +1,17 @@
 // Bytes as two hexadecimal digits each.
-ghost use Rattle.std.specs.Prelude.{◌≡◌, ◌<◌, ◌≤◌, ◌++◌, length, OnOk, OnErr, take, true, false};
-ghost use Rattle.bdb_model.specs.TextSpelling.{byte_of_digits, digit_value, spelling, two_digits};
-ghost use Rattle.bdb_text.specs.Spellings.{AddsPart, IsFirst};
+ghost use Rattle.std.specs.Prelude.{◌≡◌, ◌≤◌, ◌++◌, length, OnOk, OnErr, take, true, false};
+ghost use Rattle.bdb_model.specs.TextSpelling.{byte_of_digits, digit_value, digits_unit, spelling, two_digits};
+ghost use Rattle.bdb_text.specs.Spellings.{AddsPart, first_seen};
 
 use crate::spellings::First;
 use bdb_model::Bytes;
 use std::alloc::AllocError;
 
 /// How many bytes are spelled at once.
-const PIECE: usize = 64;
+const PIECE: usize = 128;
 
 /// The digits of so many bytes.
-const DIGITS: usize = 128;
+const DIGITS: usize = 256;
 
 /// The two digits of a byte, in lower case.
 pub fn two_digits(byte: u8) -> [u8; 2]
@@ -61,8 +61,7 @@ pub fn byte_of(high: u8, low: u8) -> Option<u8>
 
 /// The first byte that a text of digits spells, and the text behind it.
 pub fn first_of_digits(text: &[u8]) -> Option<First<'_>>
-    requires { 0 < length text.now }
-    ensures { IsFirst false text.now result }
+    ensures { first_seen result ≡ digits_unit text.now }
 {
     let (&high, rest) = text.split_first()?;
     let (&low, rest) = rest.split_first()?;

@@ -1,10 +1,10 @@
 // Bytes as they are printed: a byte from space to tilde stands for itself, a backslash is doubled, and another byte is a
 // backslash and its two digits.
-ghost use Rattle.std.specs.Prelude.{◌≡◌, ◌<◌, ◌∷◌, ◌++◌, length, OnOk, OnErr, true};
-ghost use Rattle.bdb_model.specs.TextSpelling.{printed, spelling};
-ghost use Rattle.bdb_text.specs.Spellings.{AddsPart, IsFirst};
+ghost use Rattle.std.specs.Prelude.{◌≡◌, ◌++◌, OnOk, OnErr, true};
+ghost use Rattle.bdb_model.specs.TextSpelling.{escaped_unit, printed, printed_unit, spelling};
+ghost use Rattle.bdb_text.specs.Spellings.{AddsPart, first_seen};
 
-use crate::bytevalue::{byte_of, two_digits};
+use crate::bytevalue::{first_of_digits, two_digits};
 use crate::spellings::First;
 use bdb_model::Bytes;
 use std::alloc::AllocError;
@@ -37,26 +37,24 @@ fn push_byte(text: &mut Bytes, byte: u8) -> Result<(), AllocError>
 
 /// The first byte that a printed text spells, and the text behind it.
 pub fn first_printed(text: &[u8]) -> Option<First<'_>>
-    requires { 0 < length text.now }
-    ensures { IsFirst true text.now result }
+    ensures { first_seen result ≡ printed_unit text.now }
 {
     let (&byte, rest) = text.split_first()?;
     if byte == b'\\' {
-        first_behind(rest)
+        first_escaped(rest)
     } else {
         Some(First { byte, rest })
     }
 }
 
-// The first byte that a printed text spells, by what stands behind its backslash.
-fn first_behind(text: &[u8]) -> Option<First<'_>>
-    ensures { IsFirst true (92 ∷ text.now) result }
+// The byte that a backslash and what follows it spell, and the text behind them.
+fn first_escaped(text: &[u8]) -> Option<First<'_>>
+    ensures { first_seen result ≡ escaped_unit text.now }
 {
-    let (&high, rest) = text.split_first()?;
-    if high == b'\\' {
-        return Some(First { byte: high, rest });
+    let (&byte, rest) = text.split_first()?;
+    if byte == b'\\' {
+        Some(First { byte, rest })
+    } else {
+        first_of_digits(text)
     }
-    let (&low, rest) = rest.split_first()?;
-    let byte = byte_of(high, low)?;
-    Some(First { byte, rest })
 }

@@ -1,6 +1,6 @@
-ghost use Rattle.std.specs.Prelude.{◌≡◌, ◌<◌, length, is_some, IfOk, IfErr, None, Some};
-ghost use Rattle.bdb_model.specs.TextSpelling.{bytes_spelled};
-ghost use Rattle.bdb_text.specs.Spellings.{IsFirst};
+ghost use Rattle.std.specs.Prelude.{◌≡◌, is_some, IfOk, IfErr, None, Some};
+ghost use Rattle.bdb_model.specs.TextSpelling.{bytes_spelled, next_unit};
+ghost use Rattle.bdb_text.specs.Spellings.{first_seen};
 ghost use Rattle.bdb_text.specs.SpellErrors.{IsSpellError};
 
 use crate::bytevalue::first_of_digits;
@@ -47,7 +47,9 @@ pub fn read_spelling(alloc: Global, text: &[u8], print: bool) -> Result<Bytes, S
     let mut bytes = Bytes::new(alloc);
     let mut rest = text;
     while !rest.is_empty() {
-        let first = first_of(rest, print).ok_or(SpellError::Bad)?;
+        let Some(first) = first_of(rest, print) else {
+            unreachable!()
+        };
         bytes.push_all(&[first.byte])?;
         rest = first.rest;
     }
@@ -70,8 +72,7 @@ pub fn is_spelling(text: &[u8], print: bool) -> bool
 
 // The first byte that a text spells.
 fn first_of(text: &[u8], print: bool) -> Option<First<'_>>
-    requires { 0 < length text.now }
-    ensures { IsFirst print text.now result }
+    ensures { first_seen result ≡ next_unit print text.now }
 {
     if print {
         first_printed(text)

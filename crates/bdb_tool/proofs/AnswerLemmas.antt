@@ -1,32 +1,29 @@
 -- Answers over a sound file.
 use Rattle.std.proofs.Common.{◌≡◌, ℕ, ◌<◌, Bool, true, false, List, [], ◌∷◌, ◌++◌, length, inl, inr, refl, sym, subst, ◌∙◌, ap, arith, ◌≤◌}
-use Rattle.std.specs.Prelude.{Option, Some, None, Ok, Err, Result, ◌==◌, if◌then◌else◌}
+use Rattle.std.specs.Prelude.{Option, Some, None, Ok, Err, Result, if◌then◌else◌}
 use Rattle.std.specs.Io.KnownBytes.{Appends}
 use Rattle.std.proofs.lemmas.Option.{slice_get-get_or}
-use Rattle.bdb_model.specs.declared.kinds.Fault.{Fault as FaultAt}
-use Rattle.bdb_model.specs.declared.kinds.Kind.TheVariants.{Btree, Recno}
-use Rattle.bdb_model.specs.declared.kinds.Order.{Order}
-use Rattle.bdb_model.specs.declared.kinds.Verdict.{Verdict}
-use Rattle.bdb_model.specs.declared.kinds.Verdict.TheVariants.{Fault, Unsupported, Memory as MemoryVerdict}
-use Rattle.bdb_model.specs.declared.metadata.BtreeMeta.{BtreeMeta}
-use Rattle.bdb_model.specs.declared.metadata.MetaFault.{MetaFault}
-use Rattle.bdb_model.specs.declared.settings.Settings.{Settings}
+use Rattle.bdb_format.specs.declared.kinds.Kind.TheVariants.{Btree, Recno}
+use Rattle.bdb_format.specs.declared.kinds.Order.{Order}
+use Rattle.bdb_format.specs.declared.kinds.Verdict.{Verdict}
+use Rattle.bdb_format.specs.declared.kinds.Verdict.TheVariants.{Fault, Unsupported, Memory as MemoryVerdict}
+use Rattle.bdb_format.specs.declared.metadata.BtreeMeta.{BtreeMeta}
+use Rattle.bdb_format.specs.declared.settings.Settings.{Settings}
 use Rattle.bdb_model.specs.Lines.{line}
+use Rattle.bdb_model.specs.Written.{database_text, dump_text, kind_text}
 use Rattle.bdb_model.specs.Numbers.{has_bit}
 use Rattle.bdb_model.specs.Page.{Metadata, BtreeFields, HashFields, QueueFields}
-use Rattle.bdb_model.specs.declared.metadata.MetaFault.TheVariants.{Fault as CodeFault, Unsupported as LeftOut}
-use Rattle.bdb_model.specs.Answers.{Answer, data_at, data_named, data_of_database, fault_line, found, judged_answer, database_line, kind_of, kind_text, name_text, not_found, sound_answer, told, unsupported_line, value_line, values_text}
+use Rattle.bdb_model.specs.Answers.{Answer, data_at, data_named, data_of_database, fault_line, found, judged_answer, database_line, name_text, not_found, sound_answer, told, unsupported_line, value_line, values_text, database_in, dumped, section_answer}
+use Rattle.bdb_model.specs.Flags.{kind_of}
 use Rattle.bdb_model.specs.Change.{Change}
-use Rattle.bdb_model.specs.Command.{Asked, Verify, ListAll, Get, Command, within}
+use Rattle.bdb_model.specs.Command.{Request, Verify, ListAll, Get, Dump}
 use Rattle.bdb_model.specs.Databases.{Database, btree_settings, data_under, databases, place_of, recno_settings, settings_of}
 use Rattle.bdb_model.specs.File.{File, file_of}
-use Rattle.bdb_model.specs.HeadOf.{form_fault, head_fault}
-use Rattle.bdb_model.specs.Verdict.{faults_of, first_verdict, named_verdict, verdict_as, verdict_of}
+use Rattle.bdb_model.specs.Verdict.{Faulty, Judgement, LeftOut, verdict_of}
 use Rattle.bdb_file.specs.Named.{database_at, no_database}
 use Rattle.bdb_file.specs.Whole.{IsVerdictOf}
 use Rattle.bdb_tool.specs.Parts.{Finishes, HasOwnStatus, IsRefused, Reports, Tells}
 use Rattle.bdb_tool.proofs.FinishLemmas.{memory_finishes, told_finishes, written_finishes}
-use Rattle.bdb_tool.proofs.RequestLemmas.{made}
 use Rattle.bdb_model.specs.Faults.{AppendsPrefix, Rose}
 use Rattle.bdb_tool.specs.declared.printing.Cut.{Cut}
 use Rattle.bdb_tool.specs.declared.printing.Cut.TheVariants.{WriteFault, Memory}
@@ -53,65 +50,55 @@ pub found_own : (prints : Bool) (values : List (List ℕ)) → HasOwnStatus (fou
 found_own prints [] = record { no_read_fault = λ is. omega arith; no_write_fault = λ is. omega arith; no_memory = λ is. omega arith }
 found_own prints (value ∷ values) = low_own (found prints (value ∷ values)) (omega arith)
 
-sound_own : (asked : Asked) (image : List ℕ) → HasOwnStatus (sound_answer asked image)
+section_own : (prints : Bool) (image : List ℕ) (database : Option Database) → HasOwnStatus (section_answer prints image database)
+section_own prints image None = record { no_read_fault = λ is. omega arith; no_write_fault = λ is. omega arith; no_memory = λ is. omega arith }
+section_own prints image (Some database) = low_own (section_answer prints image (Some database)) (omega arith)
+
+dumped_own : (prints : Bool) (image : List ℕ) (name : Option (List ℕ)) → HasOwnStatus (dumped prints image name)
+dumped_own prints image None = low_own (dumped prints image None) (omega arith)
+dumped_own prints image (Some name) = section_own prints image (database_in (databases (file_of image)) (place_of (Some name) (databases (file_of image))))
+
+sound_own : (request : Request) (image : List ℕ) → HasOwnStatus (sound_answer request image)
 sound_own Verify image = low_own (sound_answer Verify image) (omega arith)
 sound_own ListAll image = low_own (sound_answer ListAll image) (omega arith)
 sound_own (Get name key prints) image = found_own prints (data_named (file_of image) name key)
+sound_own (Dump name prints) image = dumped_own prints image name
 
-judged_own : (verdict : Option Verdict) (asked : Asked) (image : List ℕ) → (verdict ≡ Some MemoryVerdict → ⊥) → HasOwnStatus (judged_answer verdict asked image)
-judged_own None asked image other = sound_own asked image
-judged_own (Some (Fault fault)) asked image other = low_own (told 1 (fault_line fault)) (omega arith)
-judged_own (Some (Unsupported name page)) asked image other = low_own (told 3 (unsupported_line name page)) (omega arith)
-judged_own (Some MemoryVerdict) asked image other = absurd (other refl)
+judged_own : (verdict : Option Judgement) (request : Request) (image : List ℕ) → HasOwnStatus (judged_answer verdict request image)
+judged_own None request image = sound_own request image
+judged_own (Some (Faulty fault)) request image = low_own (told 1 (fault_line fault)) (omega arith)
+judged_own (Some (LeftOut name page)) request image = low_own (told 3 (unsupported_line name page)) (omega arith)
 
--- No verdict of an image is want of memory.
-
-named_other : (fault : FaultAt) (given : MetaFault) → named_verdict fault given ≡ MemoryVerdict → ⊥
-named_other fault (CodeFault code) is = cc
-named_other fault (LeftOut name) is = cc
-
-chosen_other : (a b : Bool) (fault : FaultAt) (one two : MetaFault) → (if a then named_verdict fault one else (if b then named_verdict fault two else Fault fault)) ≡ MemoryVerdict → ⊥
-chosen_other true b fault one two is = named_other fault one is
-chosen_other false true fault one two is = named_other fault two is
-chosen_other false false fault one two is = cc
-
-never_memory : (faults : List FaultAt) → first_verdict faults ≡ Some MemoryVerdict → ⊥
-never_memory [] is = cc
-never_memory (fault ∷ faults) is =
-    let same : verdict_as fault ≡ MemoryVerdict = cc in chosen_other (fault.stage == 1) (fault.stage == 2) fault (head_fault fault.code) (form_fault fault.code) same
-
-pub answer_own : (asked : Asked) (image : List ℕ) → HasOwnStatus (judged_answer (verdict_of image) asked image)
-answer_own asked image = judged_own (verdict_of image) asked image (never_memory (faults_of image))
+pub answer_own : (request : Request) (image : List ℕ) → HasOwnStatus (judged_answer (verdict_of image) request image)
+answer_own request image = judged_own (verdict_of image) request image
 
 -- A file that isn't sound.
 
-pub refused_finishes : (verdict : Verdict) (asked : Asked) (image : List ℕ) (written : Option (List ℕ)) (faults : ℕ) (err : Change) (status : ℕ) → IsVerdictOf image verdict → IsRefused verdict err status
-    → Finishes (judged_answer (verdict_of image) asked image) (moved written written faults faults) err status
-refused_finishes (Fault fault) asked image written faults err status is (inl tells) =
-    subst (λ verdict. Finishes (judged_answer verdict asked image) (moved written written faults faults) err status) (sym is)
+pub refused_finishes : (verdict : Verdict) (request : Request) (image : List ℕ) (written : Option (List ℕ)) (faults : ℕ) (err : Change) (status : ℕ) → IsVerdictOf image verdict → IsRefused verdict err status
+    → Finishes (judged_answer (verdict_of image) request image) (moved written written faults faults) err status
+refused_finishes (Fault fault) request image written faults err status is (inl tells) =
+    subst (λ verdict. Finishes (judged_answer verdict request image) (moved written written faults faults) err status) (sym is)
     (told_finishes 1 (fault_line fault) written faults err status (λ five. omega arith) (λ seven. omega arith) tells)
-refused_finishes (Fault fault) asked image written faults err status is (inr tells) =
-    memory_finishes (judged_answer (verdict_of image) asked image) written faults err status (answer_own asked image) tells
-refused_finishes (Unsupported name page) asked image written faults err status is (inl tells) =
-    subst (λ verdict. Finishes (judged_answer verdict asked image) (moved written written faults faults) err status) (sym is)
+refused_finishes (Fault fault) request image written faults err status is (inr tells) =
+    memory_finishes (judged_answer (verdict_of image) request image) written faults err status (answer_own request image) tells
+refused_finishes (Unsupported name page) request image written faults err status is (inl tells) =
+    subst (λ verdict. Finishes (judged_answer verdict request image) (moved written written faults faults) err status) (sym is)
     (told_finishes 3 (unsupported_line name page) written faults err status (λ five. omega arith) (λ seven. omega arith) tells)
-refused_finishes (Unsupported name page) asked image written faults err status is (inr tells) =
-    memory_finishes (judged_answer (verdict_of image) asked image) written faults err status (answer_own asked image) tells
-refused_finishes MemoryVerdict asked image written faults err status is tells =
-    memory_finishes (judged_answer (verdict_of image) asked image) written faults err status (answer_own asked image) tells
+refused_finishes (Unsupported name page) request image written faults err status is (inr tells) =
+    memory_finishes (judged_answer (verdict_of image) request image) written faults err status (answer_own request image) tells
+refused_finishes MemoryVerdict request image written faults err status is tells =
+    memory_finishes (judged_answer (verdict_of image) request image) written faults err status (answer_own request image) tells
 
 -- A sound file.
 
-pub sound_judged : (asked : Asked) (image : List ℕ) (out err : Change) (status : ℕ) → verdict_of image ≡ None → Finishes (sound_answer asked image) out err status → Finishes (judged_answer (verdict_of image) asked image) out err status
-sound_judged asked image out err status none finishes = subst (λ verdict. Finishes (judged_answer verdict asked image) out err status) (sym none) finishes
+pub sound_judged : (request : Request) (image : List ℕ) (out err : Change) (status : ℕ) → verdict_of image ≡ None → Finishes (sound_answer request image) out err status → Finishes (judged_answer (verdict_of image) request image) out err status
+sound_judged request image out err status none finishes = subst (λ verdict. Finishes (judged_answer verdict request image) out err status) (sym none) finishes
 
 -- what is asked is seen as it is
-same_asked : (limit : ℕ) (asked : Asked) (command : Command) → within (Some limit) asked ≡ Some command → command.asked ≡ asked
-same_asked limit asked command is = let same : made limit asked ≡ command = cc in ap (λ (c : Command). c.asked) (sym same)
-
-pub asked_finishes : (asked : Asked) (image : List ℕ) (out err : Change) (status limit : ℕ) (command : Command) → within (Some limit) asked ≡ Some command → Finishes (sound_answer asked image) out err status → Finishes (sound_answer command.asked image) out err status
-asked_finishes asked image out err status limit command is finishes =
-    subst (λ a. Finishes (sound_answer a image) out err status) (sym (same_asked limit asked command is)) finishes
+pub request_finishes : (seen request : Request) (image : List ℕ) (out err : Change) (status : ℕ) → Some seen ≡ Some request → Finishes (sound_answer seen image) out err status
+    → Finishes (sound_answer request image) out err status
+request_finishes seen request image out err status is finishes =
+    let same : seen ≡ request = cc in subst (λ it. Finishes (sound_answer it image) out err status) same finishes
 
 -- `list`.
 
@@ -152,3 +139,29 @@ data_found file name key i is inside =
 pub no_data : (file : File) (name : Option (List ℕ)) (key : List ℕ) → place_of name (databases file) ≡ None → data_named file name key ≡ []
 unfolding data_named
 no_data file name key none = ap (data_at file key) none
+
+-- `dump`.
+
+-- the section of the database with the name was written
+pub section_finishes : (prints : Bool) (image name : List ℕ) (i : ℕ) (out err : Change) (written : Result Unit Cut) (status : ℕ) → place_of (Some name) (databases (file_of image)) ≡ Some i
+    → i < length (databases (file_of image)) → Writes (database_text prints image (database_at (file_of image) i)) out written → Reports written err status
+    → Finishes (dumped prints image (Some name)) out err status
+section_finishes prints image name i out err written status is inside writes reports =
+    let there = ap (database_in (databases (file_of image))) is ∙ slice_get-get_or (databases (file_of image)) i no_database inside in
+    subst (λ database. Finishes (section_answer prints image database) out err status) (sym there)
+    (written_finishes (database_text prints image (database_at (file_of image) i)) out err written status writes reports)
+
+-- no database has the name
+pub no_section : (prints : Bool) (image name : List ℕ) (written : Option (List ℕ)) (faults : ℕ) (err : Change) (status : ℕ) → place_of (Some name) (databases (file_of image)) ≡ None
+    → Tells not_found.err 9 err status → Finishes (dumped prints image (Some name)) (moved written written faults faults) err status
+no_section prints image name written faults err status none tells =
+    subst (λ place. Finishes (section_answer prints image (database_in (databases (file_of image)) place)) (moved written written faults faults) err status) (sym none)
+    (told_finishes 9 not_found.err written faults err status (λ five. omega arith) (λ seven. omega arith) tells)
+
+-- all databases were written
+pub all_finishes : (prints : Bool) (image : List ℕ) (asked : Option (Option (List ℕ))) (name : Option (List ℕ)) (out err : Change) (written : Result Unit Cut) (status : ℕ) → asked ≡ Some None
+    → asked ≡ Some name → Writes (dump_text prints image (databases (file_of image))) out written → Reports written err status → Finishes (dumped prints image name) out err status
+all_finishes prints image asked name out err written status none is writes reports =
+    let same : None ≡ name = cc in
+    subst (λ it. Finishes (dumped prints image it) out err status) same
+    (written_finishes (dump_text prints image (databases (file_of image))) out err written status writes reports)

@@ -4,7 +4,7 @@ use Rattle.std.specs.Prelude.{Option, Ok, Err, Result}
 use Rattle.std.proofs.Math.Seq.{take-length}
 use Rattle.bdb_model.specs.Answers.{Answer, done}
 use Rattle.bdb_model.specs.Change.{Change, Gains, GainsPart}
-use Rattle.bdb_model.proofs.KnownLemmas.{appends_nothing}
+use Rattle.bdb_format.proofs.KnownLemmas.{appends_nothing}
 use Rattle.bdb_model.specs.Lines.{memory_line}
 use Rattle.bdb_tool.specs.declared.printing.Cut.{Cut}
 use Rattle.bdb_tool.specs.declared.printing.Cut.TheVariants.{WriteFault, Memory}

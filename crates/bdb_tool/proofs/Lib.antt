@@ -1,4 +1,6 @@
 pub mod PrintingLemmas
+pub mod PrinterLemmas
+pub mod DumpLemmas
 pub mod NameLemmas
 pub mod FinishLemmas
 pub mod RunLemmas
@@ -6,5 +8,5 @@ pub mod CommandLemmas
 pub mod GivenLemmas
 pub mod ReadLemmas
 pub mod StepLemmas
-pub mod RequestLemmas
+pub mod TaskLemmas
 pub mod AnswerLemmas

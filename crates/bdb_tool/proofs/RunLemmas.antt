@@ -11,14 +11,14 @@ use Rattle.bdb_model.specs.Lines.{memory_line, read_fault_line, write_fault_line
 use Rattle.bdb_model.specs.Output.{AnswersInPart, IsInput, Output}
 use Rattle.bdb_model.specs.Run.{ErrorLine, IsAnswered, OfAnswer, OfMemory, OfReadFault, OfWriteFault, RunsAs}
 use Rattle.bdb_model.specs.Verdict.{verdict_of}
-use Rattle.bdb_model.proofs.KnownLemmas.{keeps_itself}
+use Rattle.bdb_format.proofs.KnownLemmas.{keeps_itself}
 use Rattle.bdb_tool.specs.Parts.{Finishes, IsToldStop, Tells}
-use Rattle.bdb_tool.specs.declared.request.Stop.{Stop}
-use Rattle.bdb_tool.specs.declared.request.Stop.TheVariants.{Usage, TooLarge, ReadFault, Memory as MemoryStop}
+use Rattle.bdb_tool.specs.declared.task.Stop.{Stop}
+use Rattle.bdb_tool.specs.declared.task.Stop.TheVariants.{Usage, TooLarge, ReadFault, Memory as MemoryStop}
 use Rattle.bdb_tool.proofs.FinishLemmas.{memory_finishes, told_finishes}
-use Rattle.bdb_tool.specs.Requests.{AreCommand, IsRequest, IsStopped, IsTaken, IsTooLong}
+use Rattle.bdb_tool.specs.Tasks.{AreCommand, IsTask, IsStopped, IsTaken, IsTooLong}
 use Rattle.bdb_tool.specs.WordsSeen.{command_seen}
-use Rattle.bdb_tool.specs.declared.request.Request.{Request}
+use Rattle.bdb_tool.specs.declared.task.Task.{Task}
 use Rattle.bdb_tool.proofs.AnswerLemmas.{answer_own}
 use Rattle.bdb_tool.proofs.PrintingLemmas.{moved}
 
@@ -55,13 +55,13 @@ some_answer : (words : List (List ℕ)) (input : List ℕ) (command : Command) �
 unfolding answer_of
 some_answer words input command is = ap (λ command. words_answer command input) is
 
-within_answer : (command : Command) (input : List ℕ) → length input ≤ command.limit → command_answer command input ≡ judged_answer (verdict_of input) command.asked input
+within_answer : (command : Command) (input : List ℕ) → length input ≤ command.limit → command_answer command input ≡ judged_answer (verdict_of input) command.request input
 within_answer command input within =
-    ap (λ beyond. if beyond then told 6 (too_large_line command.limit) else judged_answer (verdict_of input) command.asked input) (le-ltb command.limit (length input) within)
+    ap (λ beyond. if beyond then told 6 (too_large_line command.limit) else judged_answer (verdict_of input) command.request input) (le-ltb command.limit (length input) within)
 
 beyond_answer : (command : Command) (input : List ℕ) → command.limit < length input → command_answer command input ≡ told 6 (too_large_line command.limit)
 beyond_answer command input beyond =
-    ap (λ is. if is then told 6 (too_large_line command.limit) else judged_answer (verdict_of input) command.asked input) (lt-ltb command.limit (length input) beyond)
+    ap (λ is. if is then told 6 (too_large_line command.limit) else judged_answer (verdict_of input) command.request input) (lt-ltb command.limit (length input) beyond)
 
 -- The whole promise.
 
@@ -115,17 +115,17 @@ finished_runs words source out err input status is other finishes calls =
 no_command : (words : List (List ℕ)) (command : Command) → command_of words ≡ Some command → command_of words ≡ None → ⊥
 no_command words command is none = let both : Some command ≡ None = sym is ∙ none in absurd cc
 
--- a request that was answered
-pub request_runs : (words : List (List ℕ)) (source out err : Change) (command : Command) (image : List ℕ) (status : ℕ) → IsRequest words source command image
-    → Finishes (judged_answer (verdict_of image) command.asked image) out err status → RunsAs words source out err status
-request_runs words source out err command image status request finishes =
-    let is : answer_of words image ≡ judged_answer (verdict_of image) command.asked image = some_answer words image command request.command_is ∙ within_answer command image request.within in
-    finished_runs words source out err image status (whole_input source.before source.now image request.bytes request.end)
-    (subst (λ (answer : Answer). answer.status ≢ 4) (sym is) (answer_own command.asked image).no_read_fault)
+-- a task that was answered
+pub request_runs : (words : List (List ℕ)) (source out err : Change) (command : Command) (image : List ℕ) (status : ℕ) → IsTask words source command image
+    → Finishes (judged_answer (verdict_of image) command.request image) out err status → RunsAs words source out err status
+request_runs words source out err command image status task finishes =
+    let is : answer_of words image ≡ judged_answer (verdict_of image) command.request image = some_answer words image command task.command_is ∙ within_answer command image task.within in
+    finished_runs words source out err image status (whole_input source.before source.now image task.bytes task.end)
+    (subst (λ (answer : Answer). answer.status ≢ 4) (sym is) (answer_own command.request image).no_read_fault)
     (subst (λ answer. Finishes answer out err status) (sym is) finishes)
     (record {
-      usage = λ none. absurd (no_command words command request.command_is none);
-      read_whole = λ _ _ _. inl request.end;
+      usage = λ none. absurd (no_command words command task.command_is none);
+      read_whole = λ _ _ _. inl task.end;
     })
 
 -- words that are no command
@@ -179,7 +179,7 @@ read_fault_runs words source err written faults status are failed tells = record
   read_whole = λ _ _ answered. absurd (elim tells.status_is [ inl four ↦ answered.0 four | inr five ↦ answered.1 five ]);
 }
 
--- memory was wanting before there was a request
+-- memory was wanting before there was a task
 pub memory_runs : (words : List (List ℕ)) (source err : Change) (written : Option (List ℕ)) (faults status : ℕ) → AreCommand words → Tells memory_line 7 err status → RunsAs words source (moved written written faults faults) err status
 memory_runs words source err written faults status are tells = record {
   answers = λ answered. absurd (elim tells.status_is [ inl seven ↦ answered.2 seven | inr five ↦ answered.1 five ]);
@@ -207,6 +207,6 @@ stopped_runs words source err written faults (TooLarge limit) status stopped (in
 stopped_runs words source err written faults ReadFault status stopped told_line = read_fault_runs words source err written faults status stopped.0 stopped.1 told_line
 stopped_runs words source err written faults MemoryStop status stopped told_line = memory_runs words source err written faults status stopped told_line
 
-pub taken_runs : (words : List (List ℕ)) (source out err : Change) (request : Request) (status : ℕ) → IsTaken words source request
-    → ((command : Command) → command_seen request.command ≡ Some command → Finishes (judged_answer (verdict_of request.image) command.asked request.image) out err status) → RunsAs words source out err status
-taken_runs words source out err request status taken answered = request_runs words source out err taken.command request.image status taken.taken (answered taken.command taken.seen)
+pub taken_runs : (words : List (List ℕ)) (source out err : Change) (task : Task) (status : ℕ) → IsTaken words source task
+    → ((command : Command) → command_seen task.command ≡ Some command → Finishes (judged_answer (verdict_of task.image) command.request task.image) out err status) → RunsAs words source out err status
+taken_runs words source out err task status taken answered = request_runs words source out err taken.command task.image status taken.taken (answered taken.command taken.seen)

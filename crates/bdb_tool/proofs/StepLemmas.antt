@@ -1,12 +1,12 @@
 -- The words at a place among the options, and what they give.
-use Rattle.std.proofs.Common.{◌≡◌, ℕ, suc, ◌+◌, ◌<◌, ◌≤◌, Bool, true, false, List, [], ◌∷◌, length, take, drop, drop-cons, add-one, inl, inr, refl, sym, ◌∙◌, ap, arith}
-use Rattle.std.specs.Prelude.{Some, None, IsTrue, if◌then◌else◌, codes, slice_get}
+use Rattle.std.proofs.Common.{◌≡◌, ℕ, suc, ◌+◌, ◌<◌, ◌≤◌, Bool, true, false, List, [], ◌∷◌, length, get_or, take, drop, drop-cons, add-one, inl, inr, refl, sym, ◌∙◌, ap, arith}
+use Rattle.std.specs.Prelude.{Option, Some, None, map, IsTrue, if◌then◌else◌, codes, slice_get}
 use Rattle.std.specs.Str.{bytes_eq}
 use Rattle.std.proofs.lemmas.Bool.{false_from_ne_true}
 use Rattle.std.proofs.lemmas.List.{drop_all}
 use Rattle.std.proofs.lemmas.Option.{get_or_from_slice_get, slice_get_cases, slice_get_within}
 use Rattle.std.proofs.lemmas.Slice.Eq.{bytes_eq-Decides}
-use Rattle.bdb_model.specs.Command.{OptionRow, arguments, get_options, hex_option, is_option, max_bytes, name_option, only_operands, print_option, row_of, with_option}
+use Rattle.bdb_model.specs.Command.{Arguments, OptionRow, WordKind, End, Operand, Plain, Valued, Unknown, arguments, arguments_behind, is_option, only_operands, option_kind, row_of, with_option, word_kind}
 use Rattle.bdb_tool.specs.declared.options.OptionWord.{OptionWord}
 use Rattle.bdb_tool.specs.declared.options.OptionWord.TheVariants.{MaxBytes as MaxBytesWord, Name as NameWord, Hex as HexWord, Print as PrintWord}
 use Rattle.bdb_tool.specs.declared.options.GivenOption.{GivenOption}
@@ -25,16 +25,28 @@ option_test word is test = bytes_swapped (codes "--") (take 2 word) is test
 
 -- Options of a command.
 
-row_past : (row : OptionRow) (rows : List OptionRow) (word : List ℕ) → bytes_eq word row.word ≡ false → row_of (row ∷ rows) word ≡ row_of rows word
-row_past row rows word other =
-    ap (λ (same : Bool). if same then Some row else row_of rows word) (bytes_swapped word row.word false other)
+pub row_found : (row : OptionRow) (rows : List OptionRow) (word : List ℕ) → bytes_eq word row.word ≡ true → row_of (row ∷ rows) word ≡ Some row
+row_found row rows word is = rw is refl
 
-pub no_row : (word : List ℕ) → bytes_eq word max_bytes ≡ false → bytes_eq word name_option ≡ false → bytes_eq word hex_option ≡ false → bytes_eq word print_option ≡ false → row_of get_options word ≡ None
-no_row word not_max_bytes not_name not_hex not_print =
-    row_past (row_seen MaxBytesWord) (row_seen NameWord ∷ row_seen HexWord ∷ row_seen PrintWord ∷ []) word not_max_bytes
-    ∙ row_past (row_seen NameWord) (row_seen HexWord ∷ row_seen PrintWord ∷ []) word not_name
-    ∙ row_past (row_seen HexWord) (row_seen PrintWord ∷ []) word not_hex
-    ∙ row_past (row_seen PrintWord) [] word not_print
+pub row_past : (row : OptionRow) (rows : List OptionRow) (word : List ℕ) → bytes_eq word row.word ≡ false → row_of (row ∷ rows) word ≡ row_of rows word
+row_past row rows word other = rw other refl
+
+-- the options from a place on, after others that a word doesn't name
+abbrev pub IsLeft : List OptionWord → List ℕ → ℕ → Type 0
+IsLeft options word i = row_of (map row_seen options) word ≡ row_of (map row_seen (drop i options)) word
+
+left_at : (options : List OptionWord) (i : ℕ) (default : OptionWord) → i < length options → map row_seen (drop i options) ≡ row_seen (get_or options i default) ∷ map row_seen (drop (i + 1) options)
+left_at options i default within = rw add-one (ap (map row_seen) (drop-cons options i default within))
+
+pub left_more : (options : List OptionWord) (word : List ℕ) (i : ℕ) (default : OptionWord) → i < length options → IsLeft options word i → bytes_eq word (row_seen (get_or options i default)).word ≡ false → IsLeft options word (i + 1)
+left_more options word i default within left other =
+    left ∙ ap (λ rows. row_of rows word) (left_at options i default within) ∙ row_past (row_seen (get_or options i default)) (map row_seen (drop (i + 1) options)) word other
+
+pub left_first : (options : List OptionWord) (word : List ℕ) (i : ℕ) (default : OptionWord) → i < length options → IsLeft options word i → bytes_eq word (row_seen (get_or options i default)).word ≡ true → IsRowOf (map row_seen options) word (get_or options i default)
+left_first options word i default within left is = (
+  left ∙ ap (λ rows. row_of rows word) (left_at options i default within) ∙ row_found (row_seen (get_or options i default)) (map row_seen (drop (i + 1) options)) word is,
+  (bytes_eq-Decides word (row_seen (get_or options i default)).word).0 is,
+)
 
 -- Places.
 
@@ -50,27 +62,48 @@ past_place words at is =
 
 -- One word.
 
+-- what the words from one on give, by its kind
+of_kind : (options : List OptionRow) (word : List ℕ) (rest : List (List ℕ)) (kind : WordKind) → word_kind options word ≡ kind
+    → arguments options (word ∷ rest) ≡ elim kind as (λ _. Option Arguments) [
+      | End ↦ only_operands rest
+      | Operand ↦ only_operands (word ∷ rest)
+      | Plain ↦ with_option word [] (arguments options rest)
+      | Valued ↦ arguments_behind options (Some word) rest
+      | Unknown ↦ None
+    ]
+of_kind options word rest kind is =
+    ap (λ kind. elim kind as (λ _. Option Arguments) [
+      | End ↦ only_operands rest
+      | Operand ↦ only_operands (word ∷ rest)
+      | Plain ↦ with_option word [] (arguments options rest)
+      | Valued ↦ arguments_behind options (Some word) rest
+      | Unknown ↦ None
+    ]) is
+
 pub ends : (options : List OptionRow) (word : List ℕ) (rest : List (List ℕ)) → bytes_eq word (codes "--") ≡ true → arguments options (word ∷ rest) ≡ only_operands rest
-ends options word [] is = rw is refl
-ends options word (next ∷ rest) is = rw is refl
+ends options word rest is = of_kind options word rest End (rw is refl)
 
 pub operand : (options : List OptionRow) (word : List ℕ) (rest : List (List ℕ)) → bytes_eq word (codes "--") ≡ false → is_option word ≡ false → arguments options (word ∷ rest) ≡ only_operands (word ∷ rest)
-operand options word [] not_end other = rw (not_end, other) refl
-operand options word (next ∷ rest) not_end other = rw (not_end, other) refl
+operand options word rest not_end other = of_kind options word rest Operand (rw (not_end, other) refl)
+
+-- the kind of an option is that of its row
+kind_of_row : (options : List OptionRow) (word : List ℕ) (row : Option OptionRow) → bytes_eq word (codes "--") ≡ false → is_option word ≡ true → row_of options word ≡ row → word_kind options word ≡ option_kind row
+kind_of_row options word row not_end is row_is = rw (not_end, is) (ap option_kind row_is)
 
 unknown : (options : List OptionRow) (word : List ℕ) (rest : List (List ℕ)) → bytes_eq word (codes "--") ≡ false → is_option word ≡ true → row_of options word ≡ None → arguments options (word ∷ rest) ≡ None
-unknown options word [] not_end is none = rw (not_end, is, none) refl
-unknown options word (next ∷ rest) not_end is none = rw (not_end, is, none) refl
+unknown options word rest not_end is none = of_kind options word rest Unknown (kind_of_row options word None not_end is none)
+
+behind : (options : List OptionRow) (word : List ℕ) (row : OptionRow) (rest : List (List ℕ)) → bytes_eq word (codes "--") ≡ false → is_option word ≡ true → row_of options word ≡ Some row → row.takes_value ≡ true → arguments options (word ∷ rest) ≡ arguments_behind options (Some word) rest
+behind options word row rest not_end is row_is takes = of_kind options word rest Valued (kind_of_row options word (Some row) not_end is row_is ∙ rw takes refl)
 
 lacks : (options : List OptionRow) (word : List ℕ) (row : OptionRow) → bytes_eq word (codes "--") ≡ false → is_option word ≡ true → row_of options word ≡ Some row → row.takes_value ≡ true → arguments options (word ∷ []) ≡ None
-lacks options word row not_end is row_is takes = rw (not_end, is, row_is, takes) refl
+lacks options word row not_end is row_is takes = behind options word row [] not_end is row_is takes
 
 valued : (options : List OptionRow) (word : List ℕ) (row : OptionRow) (value : List ℕ) (rest : List (List ℕ)) → bytes_eq word (codes "--") ≡ false → is_option word ≡ true → row_of options word ≡ Some row → row.takes_value ≡ true → arguments options (word ∷ value ∷ rest) ≡ with_option word value (arguments options rest)
-valued options word row value rest not_end is row_is takes = rw (not_end, is, row_is, takes) refl
+valued options word row value rest not_end is row_is takes = behind options word row (value ∷ rest) not_end is row_is takes
 
 alone : (options : List OptionRow) (word : List ℕ) (row : OptionRow) (rest : List (List ℕ)) → bytes_eq word (codes "--") ≡ false → is_option word ≡ true → row_of options word ≡ Some row → row.takes_value ≡ false → arguments options (word ∷ rest) ≡ with_option word [] (arguments options rest)
-alone options word row [] not_end is row_is takes = rw (not_end, is, row_is, takes) refl
-alone options word row (next ∷ rest) not_end is row_is takes = rw (not_end, is, row_is, takes) refl
+alone options word row rest not_end is row_is takes = of_kind options word rest Plain (kind_of_row options word (Some row) not_end is row_is ∙ rw takes refl)
 
 -- Steps.
 

@@ -1,14 +1,14 @@
 -- The two halves of a run: what it takes from the words and the source, and how it writes the answer.
 use Rattle.std.specs.Prelude.{◌≡◌, ◌≢◌, ◌⊎◌, ℕ, List, [], Result, Ok, Err}
-use Rattle.bdb_model.specs.declared.kinds.Verdict.{Verdict}
-use Rattle.bdb_model.specs.declared.kinds.Verdict.TheVariants.{Fault, Unsupported, Memory as MemoryVerdict}
+use Rattle.bdb_format.specs.declared.kinds.Verdict.{Verdict}
+use Rattle.bdb_format.specs.declared.kinds.Verdict.TheVariants.{Fault, Unsupported, Memory as MemoryVerdict}
 use Rattle.bdb_model.specs.Answers.{Answer, fault_line, too_large_line, unsupported_line, usage}
 use Rattle.bdb_model.specs.Change.{Change, Gains, GainsPart, HasFailed}
 use Rattle.bdb_model.specs.Lines.{memory_line, read_fault_line, write_fault_line}
 use Rattle.bdb_tool.specs.declared.printing.Cut.{Cut}
 use Rattle.bdb_tool.specs.declared.printing.Cut.TheVariants.{WriteFault, Memory}
-use Rattle.bdb_tool.specs.declared.request.Stop.{Stop}
-use Rattle.bdb_tool.specs.declared.request.Stop.TheVariants.{Usage, TooLarge, ReadFault, Memory as MemoryStop}
+use Rattle.bdb_tool.specs.declared.task.Stop.{Stop}
+use Rattle.bdb_tool.specs.declared.task.Stop.TheVariants.{Usage, TooLarge, ReadFault, Memory as MemoryStop}
 
 -- a text was written to the error sink for this status, or that sink failed
 pub record Tells (text : List ℕ) (wanted : ℕ) (err : Change) (status : ℕ) : Type 0 where
@@ -17,7 +17,7 @@ pub record Tells (text : List ℕ) (wanted : ℕ) (err : Change) (status : ℕ) 
   pub failed : status ≡ 5 → HasFailed err
   pub part : status ≡ 5 → GainsPart err text
 
--- it was told why there is no request to answer, or that memory was wanting
+-- it was told why there is no task to answer, or that memory was wanting
 abbrev pub IsToldStop : Stop → Change → ℕ → Type 0
 IsToldStop Usage err status = Tells usage.err 2 err status
 IsToldStop (TooLarge limit) err status = Tells (too_large_line limit) 6 err status ⊎ Tells memory_line 7 err status

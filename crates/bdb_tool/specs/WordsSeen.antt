@@ -1,28 +1,25 @@
 -- What the values of the code are in the definitions of a command line's words.
 use Rattle.std.specs.Prelude.{ℕ, ◌≡◌, ◌<◌, ◌≤◌, ◌++◌, Bool, true, false, not, if◌then◌else◌, List, [], ◌∷◌, drop, length, Option, Some, IsTrue, is_some, option_copied}
-use Rattle.bdb_model.specs.Command.{Verify, ListAll, Command, OptionRow, Given, Arguments, arguments, get_asked, get_options, hex_option, is_given, max_bytes, name_of, name_option, only_operands, plain_options, print_option, row_of, value_given, with_option, within}
+use Rattle.bdb_model.specs.Command.{Request, Verify, ListAll, Command, OptionRow, Given, Arguments, arguments, asked_name, hex_option, hex_row, is_given, key_request, max_bytes, max_bytes_row, name_option, name_row, only_operands, print_option, print_row, row_of, text_request, value_given, with_option, within}
 use Rattle.bdb_model.specs.TextSpelling.{bytes_spelled}
 use Rattle.bdb_tool.specs.declared.options.OptionWord.{OptionWord}
 use Rattle.bdb_tool.specs.declared.options.OptionWord.TheVariants.{MaxBytes as MaxBytesWord, Name as NameWord, Hex as HexWord, Print as PrintWord}
 use Rattle.bdb_tool.specs.declared.options.GivenOption.{GivenOption}
 use Rattle.bdb_tool.specs.declared.options.GivenOption.TheVariants.{MaxBytes, Name, Hex, Print}
 use Rattle.bdb_tool.specs.declared.options.Arguments.{Arguments as ReadArguments}
-use Rattle.bdb_tool.specs.declared.command.Asked.{Asked as CodeAsked}
-use Rattle.bdb_tool.specs.declared.command.Asked.TheVariants.{Verify as VerifyWord, List as ListWord, Get as GetWord}
+use Rattle.bdb_tool.specs.declared.command.Request.{Request as CodeRequest}
+use Rattle.bdb_tool.specs.declared.command.Request.TheVariants.{Verify as VerifyWord, List as ListWord, Get as GetWord, Dump as DumpWord}
 use Rattle.bdb_tool.specs.declared.command.Command.{Command as CodeCommand}
 use Rattle.bdb_tool.specs.declared.options.Step.{Step}
 use Rattle.bdb_tool.specs.declared.options.Step.TheVariants.{Given as GivenStep, Operands}
 
 -- Options.
 
-abbrev pub options_of : Bool → List OptionRow
-options_of is_get = if is_get then get_options else plain_options
-
 abbrev pub row_seen : OptionWord → OptionRow
-row_seen MaxBytesWord = record { word = max_bytes; takes_value = true }
-row_seen NameWord = record { word = name_option; takes_value = true }
-row_seen HexWord = record { word = hex_option; takes_value = false }
-row_seen PrintWord = record { word = print_option; takes_value = false }
+row_seen MaxBytesWord = max_bytes_row
+row_seen NameWord = name_row
+row_seen HexWord = hex_row
+row_seen PrintWord = print_row
 
 abbrev pub given_seen : GivenOption → Given
 given_seen (MaxBytes text) = record { word = max_bytes; value = text.now }
@@ -77,15 +74,15 @@ pub record AreArguments (all : Option Arguments) (words : List (List ℕ)) (read
 
 -- Commands.
 
-abbrev pub asked_seen : ℕ → CodeAsked → Option Command
-asked_seen limit VerifyWord = within (Some limit) Verify
-asked_seen limit ListWord = within (Some limit) ListAll
-asked_seen limit (GetWord lookup) =
-    get_asked (Some limit) (name_of (option_copied lookup.name)) (bytes_spelled (not lookup.hex) lookup.key.now) lookup.print
+abbrev pub request_seen : CodeRequest → Option Request
+request_seen VerifyWord = Some Verify
+request_seen ListWord = Some ListAll
+request_seen (GetWord it) = key_request (asked_name (option_copied it.name)) (bytes_spelled (not it.hex) it.key.now) it.print
+request_seen (DumpWord it) = text_request (asked_name (option_copied it.name)) it.print
 
 abbrev pub command_seen : CodeCommand → Option Command
-command_seen command = asked_seen command.limit command.asked
+command_seen command = within (Some command.limit) (request_seen command.request)
 
 -- what is seen of a command is the command that the words are
 abbrev pub IsSeen : Option Command → CodeCommand → Type 0
-IsSeen asked command = (asked ≡ command_seen command) × IsTrue (is_some (command_seen command))
+IsSeen request command = (request ≡ command_seen command) × IsTrue (is_some (command_seen command))

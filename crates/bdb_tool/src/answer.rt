@@ -1,30 +1,29 @@
-ghost use Rattle.std.specs.Prelude.{◌≡◌, ◌⊎◌, ◌≤◌, ◌^◌, ◌++◌, [], IfOk, MatchOption, List, Option, Some, length, not, option_copied, ℕ};
-ghost use Rattle.bdb_model.specs.Answers.{data_named, found, judged_answer, fault_line, list_text, sound_answer, sound_line, unsupported_line, value_line, values_text};
+ghost use Rattle.std.specs.Prelude.{◌≡◌, ◌⊎◌, ◌≤◌, ◌^◌, [], IfOk, IsTrue, MatchOption, List, Option, Some, is_some, length, not, option_copied, ℕ};
+ghost use Rattle.bdb_model.specs.Answers.{data_named, dumped, found, judged_answer, fault_line, sound_answer, sound_line, unsupported_line};
 ghost use Rattle.bdb_model.specs.Change.{change};
-ghost use Rattle.bdb_model.specs.Command.{Command, name_of};
-ghost use Rattle.bdb_model.specs.Databases.{databases};
+ghost use Rattle.bdb_model.specs.Command.{Command, Request as ModelRequest, asked_name, key_request, text_request};
 ghost use Rattle.bdb_model.specs.File.{file_of};
 ghost use Rattle.bdb_model.specs.HeadOf.{head_of};
 ghost use Rattle.bdb_model.specs.Lines.{memory_line};
 ghost use Rattle.bdb_model.specs.TextSpelling.{bytes_spelled};
 ghost use Rattle.bdb_model.specs.Verdict.{verdict_of};
-ghost use Rattle.bdb_overflow.specs.Datum.{datum_seen};
 ghost use Rattle.bdb_tool.specs.Parts.{Finishes, IsRefused, Tells};
-ghost use Rattle.bdb_tool.specs.Printing.{Prints, Writes};
-ghost use Rattle.bdb_tool.specs.WordsSeen.{asked_seen, command_seen};
+ghost use Rattle.bdb_tool.specs.Printing.{Writes};
+ghost use Rattle.bdb_tool.specs.WordsSeen.{request_seen, command_seen};
 
-use crate::command::{Asked, Lookup};
+use crate::command::{Lookup, Request, Selection};
+use crate::dumping::{write_section, write_sections};
 use crate::finish::{report, tell, tell_memory};
-use crate::printing::{Cut, print_database_line, print_value_line, write_pending};
-use crate::request::Request;
+use crate::listing::{write_found, write_list};
+use crate::printing::Cut;
 use crate::status::{FAULT, NOT_FOUND, UNSUPPORTED};
+use crate::task::Task;
 use crate::text::{fault_line, sound_line, unsupported_line};
 use bdb_file::{Found, Sound, verify};
 use bdb_io::{Sink, put_all};
 use bdb_model::{Bytes, Fault, Steps, Unsupported, Verdict};
-use bdb_overflow::Datum;
 use bdb_text::{SpellError, read_spelling};
-use std::alloc::Global;
+use std::alloc::{AllocError, Global};
 use std::sync::ledger::Ledger;
 
 /// Writes the line of a sound file.
@@ -41,83 +40,6 @@ fn print_sound<K: Sink>(alloc: Global, sound: &Sound<'_>, out: &mut K) -> Result
     }
 }
 
-/// Prints the line of each database.
-#[tactic(auto, using(crate::proofs::PrintingLemmas::nothing_yet))]
-fn print_databases<K: Sink>(
-    alloc: Global,
-    sound: &Sound<'_>,
-    out: &mut K,
-    pending: &mut Bytes,
-) -> Result<(), Cut>
-    ensures { Prints pending.old pending.new (list_text (databases (file_of sound.now))) (change K.written K.faults out.old out.new) result }
-{
-    for i in 0..sound.databases() {
-        let db = sound.database(i);
-        let kind = sound.settings(db).kind;
-        print_database_line(alloc, out, pending, kind, sound.name(db))?;
-    }
-    Ok(())
-}
-
-/// Writes the line of each database.
-#[tactic(auto, using(crate::proofs::PrintingLemmas::then_written, crate::proofs::PrintingLemmas::cut_short))]
-fn print_list<K: Sink>(alloc: Global, sound: &Sound<'_>, out: &mut K) -> Result<(), Cut>
-    ensures { Writes (list_text (databases (file_of sound.now))) (change K.written K.faults out.old out.new) result }
-{
-    let mut pending = Bytes::new(alloc);
-    print_databases(alloc, sound, out, &mut pending)?;
-    write_pending(alloc, out, &mut pending)
-}
-
-/// Prints values, each on a line of its own.
-#[tactic(auto, using(crate::proofs::PrintingLemmas::value_printed, crate::proofs::PrintingLemmas::nothing_yet))]
-fn print_lines<K: Sink>(
-    alloc: Global,
-    values: Found<'_>,
-    out: &mut K,
-    pending: &mut Bytes,
-    print: bool,
-) -> Result<(), Cut>
-    ensures { Prints pending.old pending.new (values_text print values.entry) (change K.written K.faults out.old out.new) result }
-{
-    for value in values {
-        print_value_line(alloc, out, pending, value, print)?;
-    }
-    Ok(())
-}
-
-/// Prints a value and others, each on a line of its own.
-#[tactic(auto, using(crate::proofs::PrintingLemmas::then_prints, crate::proofs::PrintingLemmas::begins_cut), unfolding(bdb_model::specs::Answers::values_text))]
-fn print_found<K: Sink>(
-    alloc: Global,
-    first: Datum<'_>,
-    others: Found<'_>,
-    out: &mut K,
-    pending: &mut Bytes,
-    print: bool,
-) -> Result<(), Cut>
-    ensures { Prints pending.old pending.new (value_line print (datum_seen first.entry) ++ values_text print others.entry) (change K.written K.faults out.old out.new) result }
-{
-    print_value_line(alloc, out, pending, first, print)?;
-    print_lines(alloc, others, out, pending, print)
-}
-
-/// Writes a value and others, each on a line of its own.
-#[tactic(auto, using(crate::proofs::PrintingLemmas::then_written, crate::proofs::PrintingLemmas::cut_short))]
-fn write_found<K: Sink>(
-    alloc: Global,
-    first: Datum<'_>,
-    others: Found<'_>,
-    out: &mut K,
-    print: bool,
-) -> Result<(), Cut>
-    ensures { Writes (value_line print (datum_seen first.entry) ++ values_text print others.entry) (change K.written K.faults out.old out.new) result }
-{
-    let mut pending = Bytes::new(alloc);
-    print_found(alloc, first, others, out, &mut pending, print)?;
-    write_pending(alloc, out, &mut pending)
-}
-
 /// Answers with what was found under a key, or that nothing was.
 fn answer_found<K: Sink, E: Sink>(
     alloc: Global,
@@ -129,17 +51,30 @@ fn answer_found<K: Sink, E: Sink>(
     ensures { Finishes (found print values.entry) (change K.written K.faults out.old out.new) (change E.written E.faults err.old err.new) result }
 {
     match values.next() {
-        Some(first) => report(write_found(alloc, first, values, out, print), err),
+        Some(first) => report(write_found(alloc, out, first, values, print), err),
         None => tell(err, b"not found\n", NOT_FOUND),
     }
 }
 
-/// The name that a word spells, where there is one. An error is want of memory, or a word that is no spelling.
-fn name_sought(alloc: Global, word: Option<&[u8]>) -> Result<Option<Bytes>, SpellError>
-    ensures { IfOk result (λ name. name_of (option_copied word.entry) ≡ Some name) }
+/// The bytes of a spelling that was tested.
+fn spelled(alloc: Global, text: &[u8], print: bool) -> Result<Bytes, AllocError>
+    requires { IsTrue (is_some (bytes_spelled print text.now)) }
+    ensures { IfOk result (λ bytes. bytes_spelled print text.now ≡ Some bytes) }
+{
+    match read_spelling(alloc, text, print) {
+        Ok(bytes) => Ok(bytes),
+        Err(SpellError::Memory) => Err(AllocError),
+        Err(SpellError::Bad) => unreachable!(),
+    }
+}
+
+/// The name that a tested word spells, where there is one.
+fn name_sought(alloc: Global, word: Option<&[u8]>) -> Result<Option<Bytes>, AllocError>
+    requires { IsTrue (is_some (asked_name (option_copied word))) }
+    ensures { IfOk result (λ name. asked_name (option_copied word.entry) ≡ Some name) }
 {
     match word {
-        Some(word) => Ok(Some(read_spelling(alloc, word, true)?)),
+        Some(word) => Ok(Some(spelled(alloc, word, true)?)),
         None => Ok(None),
     }
 }
@@ -178,13 +113,14 @@ fn answer_lookup<K: Sink, E: Sink, L: Ledger>(
     err: &mut E,
     steps: &mut Steps<L>,
 ) -> u8
-    ensures { (name : Option (List ℕ)) (key : List ℕ) → name_of (option_copied lookup.now.name) ≡ Some name → bytes_spelled (not lookup.now.hex) lookup.now.key.now ≡ Some key
+    requires { IsTrue (is_some (key_request (asked_name (option_copied lookup.now.name)) (bytes_spelled (not lookup.now.hex) lookup.now.key.now) lookup.now.print)) }
+    ensures { (name : Option (List ℕ)) (key : List ℕ) → asked_name (option_copied lookup.now.name) ≡ Some name → bytes_spelled (not lookup.now.hex) lookup.now.key.now ≡ Some key
         → Finishes (found lookup.now.print (data_named (file_of sound.now) name key)) (change K.written K.faults out.old out.new) (change E.written E.faults err.old err.new) result }
 {
     let Ok(name) = name_sought(alloc, lookup.name) else {
         return tell_memory(err);
     };
-    let Ok(key) = read_spelling(alloc, lookup.key, !lookup.hex) else {
+    let Ok(key) = spelled(alloc, lookup.key, !lookup.hex) else {
         return tell_memory(err);
     };
     match named_data(sound, name_bytes(&name), key.as_slice(), steps) {
@@ -193,21 +129,60 @@ fn answer_lookup<K: Sink, E: Sink, L: Ledger>(
     }
 }
 
+/// Answers `dump` of the database with a name.
+fn dump_named<K: Sink, E: Sink>(
+    alloc: Global,
+    sound: &Sound<'_>,
+    name: &[u8],
+    print: bool,
+    out: &mut K,
+    err: &mut E,
+) -> u8
+    ensures { Finishes (dumped print sound.now (Some name.now)) (change K.written K.faults out.old out.new) (change E.written E.faults err.old err.new) result }
+{
+    match sound.by_name(Some(name)) {
+        Some(db) => report(write_section(alloc, out, sound, db, print), err),
+        None => tell(err, b"not found\n", NOT_FOUND),
+    }
+}
+
+/// Answers `dump`.
+fn answer_dump<K: Sink, E: Sink>(
+    alloc: Global,
+    sound: &Sound<'_>,
+    selection: &Selection<'_>,
+    out: &mut K,
+    err: &mut E,
+) -> u8
+    requires { IsTrue (is_some (text_request (asked_name (option_copied selection.now.name)) selection.now.print)) }
+    ensures { (name : Option (List ℕ)) → asked_name (option_copied selection.now.name) ≡ Some name → Finishes (dumped selection.now.print sound.now name) (change K.written K.faults out.old out.new) (change E.written E.faults err.old err.new) result }
+{
+    let Ok(name) = name_sought(alloc, selection.name) else {
+        return tell_memory(err);
+    };
+    match name {
+        Some(name) => dump_named(alloc, sound, name.as_slice(), selection.print, out, err),
+        None => report(write_sections(alloc, out, sound, selection.print), err),
+    }
+}
+
 /// Answers what is asked of a sound file.
 fn answer_sound<K: Sink, E: Sink, L: Ledger>(
     alloc: Global,
     sound: &Sound<'_>,
-    asked: &Asked<'_>,
+    request: &Request<'_>,
     out: &mut K,
     err: &mut E,
     steps: &mut Steps<L>,
 ) -> u8
-    ensures { (limit : ℕ) (command : Command) → asked_seen limit asked.now ≡ Some command → Finishes (sound_answer command.asked sound.now) (change K.written K.faults out.old out.new) (change E.written E.faults err.old err.new) result }
+    requires { IsTrue (is_some (request_seen request.now)) }
+    ensures { (asked : ModelRequest) → request_seen request.now ≡ Some asked → Finishes (sound_answer asked sound.now) (change K.written K.faults out.old out.new) (change E.written E.faults err.old err.new) result }
 {
-    match asked {
-        Asked::Verify => report(print_sound(alloc, sound, out), err),
-        Asked::List => report(print_list(alloc, sound, out), err),
-        Asked::Get(lookup) => answer_lookup(alloc, sound, lookup, out, err, steps),
+    match request {
+        Request::Verify => report(print_sound(alloc, sound, out), err),
+        Request::List => report(write_list(alloc, out, sound), err),
+        Request::Get(lookup) => answer_lookup(alloc, sound, lookup, out, err, steps),
+        Request::Dump(selection) => answer_dump(alloc, sound, selection, out, err),
     }
 }
 
@@ -242,19 +217,20 @@ fn refuse<E: Sink>(alloc: Global, verdict: Verdict, err: &mut E) -> u8
     }
 }
 
-/// Answers a request.
+/// Answers a task.
 pub(crate) fn answer<K: Sink, E: Sink, L: Ledger>(
     alloc: Global,
-    request: &Request<'_>,
+    task: &Task<'_>,
     out: &mut K,
     err: &mut E,
     steps: &mut Steps<L>,
 ) -> u8
-    requires { length request.now.image ≤ 2 ^ 30 }
-    ensures { (command : Command) → command_seen request.now.command ≡ Some command → Finishes (judged_answer (verdict_of request.now.image) command.asked request.now.image) (change K.written K.faults out.old out.new) (change E.written E.faults err.old err.new) result }
+    requires size { length task.now.image ≤ 2 ^ 30 }
+    requires seen { IsTrue (is_some (command_seen task.now.command)) }
+    ensures { (command : Command) → command_seen task.now.command ≡ Some command → Finishes (judged_answer (verdict_of task.now.image) command.request task.now.image) (change K.written K.faults out.old out.new) (change E.written E.faults err.old err.new) result }
 {
-    match verify(alloc, request.image.bytes(), steps) {
-        Ok(sound) => answer_sound(alloc, &sound, &request.command.asked, out, err, steps),
+    match verify(alloc, task.image.bytes(), steps) {
+        Ok(sound) => answer_sound(alloc, &sound, &task.command.request, out, err, steps),
         Err(verdict) => refuse(alloc, verdict, err),
     }
 }

@@ -26,7 +26,7 @@ pub(crate) fn tell_memory<E: Sink>(err: &mut E) -> u8
 }
 
 /// The status of a text that was written, with the line of what kept it from being written whole.
-#[tactic(auto, using(bdb_model::proofs::KnownLemmas::appends_nothing))]
+#[tactic(auto, using(bdb_format::proofs::KnownLemmas::appends_nothing))]
 pub(crate) fn report<E: Sink>(written: Result<(), Cut>, err: &mut E) -> u8
     ensures { Reports written (change E.written E.faults err.old err.new) result }
 {

@@ -3,14 +3,16 @@
 
 mod answer;
 mod command;
+mod dumping;
 mod finish;
 pub mod laws;
+mod listing;
 mod names;
 mod options;
 mod printing;
 mod program;
-mod request;
 pub mod status;
+mod task;
 mod text;
 
 pub use program::{run, run_counted};

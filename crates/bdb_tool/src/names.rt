@@ -1,5 +1,5 @@
 ghost use Rattle.std.specs.Prelude.{◌≡◌};
-ghost use Rattle.bdb_model.specs.FaultNames.{content_names, fault_name, file_names, form_names, master_names, numbered_name, ownership_names, reach_names, reference_names, structure_names, unsupported_name};
+ghost use Rattle.bdb_model.specs.FaultNames.{contents_names, fault_name, file_names, form_names, master_names, numbered_name, ownership_names, reach_names, reference_names, structure_names, unsupported_name};
 
 use bdb_model::{Fault, Unsupported};
 
@@ -127,8 +127,8 @@ fn master_name(code: u8) -> &'static str
 
 /// The name of a row of stage 8.
 #[tactic(auto, using(crate::proofs::NameLemmas::beyond_names))]
-fn content_name(code: u8) -> &'static str
-    ensures { result.now ≡ numbered_name content_names code }
+fn contents_name(code: u8) -> &'static str
+    ensures { result.now ≡ numbered_name contents_names code }
 {
     match code {
         1 => "Duplicates",
@@ -158,7 +158,7 @@ pub(crate) fn fault_name(fault: Fault) -> &'static str
         5 => reach_name(code),
         6 => structure_name(code),
         7 => master_name(code),
-        8 => content_name(code),
+        8 => contents_name(code),
         _ => "",
     }
 }

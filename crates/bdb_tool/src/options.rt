@@ -1,13 +1,13 @@
 //! The options before the operands of a command line.
-ghost use Rattle.std.specs.Prelude.{◌≡◌, ◌<◌, ◌^◌, [], IsTrue, List, MatchOption, OnSome, drop, length, option_copied};
+ghost use Rattle.std.specs.Prelude.{◌≡◌, ◌<◌, ◌^◌, [], IsTrue, List, MatchOption, OnSome, drop, length, map, option_copied};
 ghost use Rattle.bdb_model.specs.Command.{Given, arguments, is_given, once, row_of};
-ghost use Rattle.bdb_tool.specs.WordsSeen.{AreArguments, HasGiven, IsGivenBy, IsNew, IsRowOf, IsStep, given_seen, options_of, row_seen, word_count};
+ghost use Rattle.bdb_tool.specs.WordsSeen.{AreArguments, HasGiven, IsGivenBy, IsNew, IsRowOf, IsStep, given_seen, row_seen, word_count};
 
 use bdb_model::Words;
 
 /// An option of a command.
 #[derive(Clone, Copy)]
-enum OptionWord {
+pub enum OptionWord {
     MaxBytes,
     Name,
     Hex,
@@ -41,12 +41,12 @@ enum Step<'w> {
 }
 
 /// Reads the options after the command; `None` where one is unknown, given twice or lacks its value.
-pub fn read_arguments<'w>(words: &'w Words, is_get: bool) -> Option<Arguments<'w>>
-    ensures { MatchOption result (once (arguments (options_of is_get) (drop 1 words.now)) ≡ None) (AreArguments (once (arguments (options_of is_get) (drop 1 words.now))) words.now) }
+pub fn read_arguments<'w>(words: &'w Words, options: &[OptionWord]) -> Option<Arguments<'w>>
+    ensures { MatchOption result (once (arguments (map row_seen options.now) (drop 1 words.now)) ≡ None) (AreArguments (once (arguments (map row_seen options.now) (drop 1 words.now))) words.now) }
 {
     let mut read = no_arguments();
     while read.operands < words.len() {
-        match step_at(words, read.operands, is_get)? {
+        match step_at(words, read.operands, options)? {
             Step::Operands(place) => {
                 read.operands = place;
                 return Some(read);
@@ -58,9 +58,9 @@ pub fn read_arguments<'w>(words: &'w Words, is_get: bool) -> Option<Arguments<'w
 }
 
 // What stands at a place.
-fn step_at<'w>(words: &'w Words, at: usize, is_get: bool) -> Option<Step<'w>>
+fn step_at<'w>(words: &'w Words, at: usize, options: &[OptionWord]) -> Option<Step<'w>>
     requires { length words.now < 2 ^ 64 }
-    ensures { MatchOption result (arguments (options_of is_get) (drop at words.now) ≡ None) (IsStep (options_of is_get) words.now at) }
+    ensures { MatchOption result (arguments (map row_seen options.now) (drop at words.now) ≡ None) (IsStep (map row_seen options.now) words.now at) }
 {
     let Some(word) = words.get(at) else {
         return Some(Step::Operands(at));
@@ -71,26 +71,31 @@ fn step_at<'w>(words: &'w Words, at: usize, is_get: bool) -> Option<Step<'w>>
     if !word.starts_with(b"--") {
         return Some(Step::Operands(at));
     }
-    let option = given_option(option_word(word, is_get)?, words.get(at + 1))?;
+    let option = given_option(option_word(word, options)?, words.get(at + 1))?;
     Some(Step::Given(option, at + word_count(option)))
 }
 
-// The option that a word names: `get` has all, another command the first alone.
-fn option_word(word: &[u8], is_get: bool) -> Option<OptionWord>
-    ensures { MatchOption result (row_of (options_of is_get) word.now ≡ None) (IsRowOf (options_of is_get) word.now) }
+// The option of a command that a word names.
+fn option_word(word: &[u8], options: &[OptionWord]) -> Option<OptionWord>
+    ensures { MatchOption result (row_of (map row_seen options.now) word.now ≡ None) (IsRowOf (map row_seen options.now) word.now) }
 {
-    if word == b"--max-bytes".as_slice() {
-        Some(OptionWord::MaxBytes)
-    } else if !is_get {
-        None
-    } else if word == b"--name".as_slice() {
-        Some(OptionWord::Name)
-    } else if word == b"--hex".as_slice() {
-        Some(OptionWord::Hex)
-    } else if word == b"--print".as_slice() {
-        Some(OptionWord::Print)
-    } else {
-        None
+    for option in options {
+        if word == word_of(*option) {
+            return Some(*option);
+        }
+    }
+    None
+}
+
+// The word of an option.
+fn word_of(option: OptionWord) -> &'static [u8]
+    ensures { result.now ≡ (row_seen option).word }
+{
+    match option {
+        OptionWord::MaxBytes => b"--max-bytes",
+        OptionWord::Name => b"--name",
+        OptionWord::Hex => b"--hex",
+        OptionWord::Print => b"--print",
     }
 }
 

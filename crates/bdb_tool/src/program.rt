@@ -1,13 +1,12 @@
 ghost use Rattle.std.specs.Prelude.{◌≡◌};
-ghost use Rattle.bdb_model.specs.Change.{change};
-ghost use Rattle.bdb_model.specs.Faults.{IsUntouched};
+ghost use Rattle.bdb_model.specs.Change.{IsUntouched, change};
 ghost use Rattle.bdb_model.specs.Run.{RunsAs};
 ghost use Rattle.bdb_tool.specs.Parts.{IsToldStop};
 
 use crate::answer::answer;
 use crate::finish::{tell, tell_memory};
-use crate::request::{Stop, request_of};
 use crate::status::{READ_FAULT, TOO_LARGE, USAGE};
+use crate::task::{Stop, task_of};
 use crate::text::too_large_line;
 use bdb_io::{PureSource, Sink, Source};
 use bdb_model::{Steps, Words};
@@ -26,7 +25,7 @@ pub fn run<S: Source, B: Source, K: Sink, E: Sink, L: Ledger>(
     steps: &mut Steps<L>,
 ) -> u8
     ensures runs { RunsAs words.now (change S.left S.faults source.old source.new) (change K.written K.faults out.old out.new) (change E.written E.faults err.old err.new) result }
-    ensures base { IsUntouched B.faults base.entry base.exit }
+    ensures base { IsUntouched B.left B.faults base.entry base.exit }
 {
     let status = run_alone(alloc, words, source, out, err, steps);
     match base {
@@ -65,13 +64,13 @@ fn run_alone<S: Source, K: Sink, E: Sink, L: Ledger>(
 ) -> u8
     ensures { RunsAs words.now (change S.left S.faults source.old source.new) (change K.written K.faults out.old out.new) (change E.written E.faults err.old err.new) result }
 {
-    match request_of(alloc, words, source) {
-        Ok(request) => answer(alloc, &request, out, err, steps),
+    match task_of(alloc, words, source) {
+        Ok(task) => answer(alloc, &task, out, err, steps),
         Err(stop) => stopped(alloc, stop, err),
     }
 }
 
-// Tells why there was no request, and answers the status.
+// Tells why there was no task, and answers the status.
 fn stopped<E: Sink>(alloc: Global, stop: Stop, err: &mut E) -> u8
     ensures { IsToldStop stop (change E.written E.faults err.old err.new) result }
 {

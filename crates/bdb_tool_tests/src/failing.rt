@@ -13,7 +13,7 @@ use std::alloc::{AllocError, Global};
 use std::process::Abort;
 use std::test::Fail;
 
-const REFUSED: [Row; 6] = [
+const REFUSED: [Row; 8] = [
     (
         &["verify"],
         &OUT_OF_ORDER,
@@ -36,6 +36,12 @@ const REFUSED: [Row; 6] = [
         Line(1, b"fault: stage 8 page 1 code 1 Duplicates\n"),
     ),
     (&["get", "b"], &ONE_PAIR, NOT_FOUND),
+    (
+        &["dump"],
+        &OUT_OF_ORDER,
+        Line(1, b"fault: stage 8 page 1 code 3 KeyOrder\n"),
+    ),
+    (&["dump", "--name", "c"], &ONE_PAIR, NOT_FOUND),
 ];
 
 #[derive(Drop)]

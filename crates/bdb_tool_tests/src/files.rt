@@ -33,6 +33,26 @@ pub const ONE_PAIR: File = File {
     parts: &[&BTREE, &A_LEAF],
 };
 
+// The same numbers, each with its high byte first.
+const IN_HIGH_ORDER: [Field; 11] = [
+    (12, &[0, 0x05, 0x31, 0x62]),
+    (16, &[0, 0, 0, 9]),
+    (20, &[0, 0, 2, 0]),
+    (32, &[0, 0, 0, 1]),
+    (76, &[0, 0, 0, 2]),
+    (88, &[0, 0, 0, 1]),
+    (520, &[0, 0, 0, 1]),
+    (532, &[0, 2, 1, 0xf8]),
+    (538, &[1, 0xfc, 1, 0xf8]),
+    (1016, &[0, 1]),
+    (1020, &[0, 1]),
+];
+
+pub const ONE_PAIR_BIG: File = File {
+    length: 1024,
+    parts: &[&BTREE, &A_LEAF, &IN_HIGH_ORDER],
+};
+
 pub const ONE_PAGE: File = File {
     length: 512,
     parts: &[&BTREE, &A_LEAF],
@@ -133,6 +153,28 @@ const SPELLED: [Field; 4] = [
 pub const KEY_OF_DASHES: File = File {
     length: 1024,
     parts: &[&BTREE, &A_LEAF, &SPELLED],
+};
+
+// The key `a` with the data 5c0a41.
+const UNPRINTED: [Field; 3] = [
+    (534, &[0xf6, 1]),
+    (538, &[0xfc, 1, 0xf6, 1]), // offsets
+    (1014, &[3, 0, 1, 0x5c, 0x0a, 0x41]),
+];
+
+pub const UNPRINTED_DATA: File = File {
+    length: 1024,
+    parts: &[&BTREE, &A_LEAF, &UNPRINTED],
+};
+
+pub const NO_NAMES: File = File {
+    length: 1024,
+    parts: &[&BTREE, &A_LEAF, &[(48, &[0x20]), (532, &[0, 0])]],
+};
+
+pub const SORTED_DATA: File = File {
+    length: 1024,
+    parts: &[&BTREE, &A_LEAF, &[(48, &[0x41])]],
 };
 
 // A recno with the one record `a`.
@@ -262,7 +304,7 @@ pub const TABLE: File = File {
 
 // A master names a, whose metadata are page 2 and whose leaf is page 3, and b, a hash on pages 4 to 6. The number of a
 // page is in high order first. Both are empty.
-const MASTER: [Field; 22] = [
+const MASTER: [Field; 23] = [
     (32, &[6]), // last page
     (48, &[0x20]), // flags
     (520, &[1]), // page 1
@@ -275,6 +317,7 @@ const MASTER: [Field; 22] = [
     (1020, &[1, 0, 1, 0x61]), // key a
     (1032, &[2, 0, 0, 0, 0x62, 0x31, 0x05, 0, 9, 0, 0, 0, 0, 2]), // page 2: magic number, version, page size
     (1049, &[9]), // type
+    (1100, &[2]), // least number of keys on a page
     (1112, &[3]), // root
     (1544, &[3]), // page 3
     (1560, &[1, 5]),

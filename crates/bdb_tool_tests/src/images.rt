@@ -7,9 +7,9 @@ use std::alloc::{AllocError, Global};
 pub type Field = (usize, &'static [u8]);
 
 /// The bytes of the longest file.
-const LONGEST: usize = 7 * 512;
+const LONGEST: usize = 9 * 512;
 
-/// A file of at most seven pages of 512 bytes: its length in bytes, and its fields. A later field is written over an
+/// A file of at most nine pages of 512 bytes: its length in bytes, and its fields. A later field is written over an
 /// earlier one, and bytes without a field are 0.
 #[derive(Clone, Copy)]
 pub struct File {

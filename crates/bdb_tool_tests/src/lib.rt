@@ -4,6 +4,8 @@
 #[cfg(test)]
 mod asking;
 #[cfg(test)]
+mod dumping;
+#[cfg(test)]
 mod failing;
 #[cfg(test)]
 mod files;
@@ -11,6 +13,8 @@ mod files;
 mod images;
 #[cfg(test)]
 mod long_value;
+#[cfg(test)]
+mod made;
 #[cfg(test)]
 mod others;
 #[cfg(test)]

@@ -1,6 +1,7 @@
 //! How a source is read, and what is told where it fails.
 
-use crate::files::{DUPLICATES, ONE_PAIR, TWO_DATABASES};
+use crate::dumping::{BOTH, THE_HASH};
+use crate::files::{DUPLICATES, ONE_PAIR, PAIR_IN_A, TWO_DATABASES};
 use crate::images::{File, bytes_of};
 use crate::outside::Dripping;
 use crate::running::Told::{Done, Line};
@@ -10,10 +11,12 @@ use std::process::Abort;
 use std::test::Fail;
 
 /// A row of each command.
-pub const COMMANDS: [Row; 3] = [
+pub const COMMANDS: [Row; 5] = [
     (&["verify"], &ONE_PAIR, Done(SOUND)),
     (&["list"], &TWO_DATABASES, Done(b"btree a\nhash b\n")),
     (&["get", "a"], &DUPLICATES, Done(b"31\n32\n33\n")),
+    (&["dump"], &PAIR_IN_A, Done(BOTH)),
+    (&["dump", "--name", "b"], &PAIR_IN_A, Done(THE_HASH)),
 ];
 
 #[test]

@@ -19,6 +19,9 @@ pub enum Told {
 /// Words, the file that they're asked of, and what is told.
 pub type Row = (&'static [&'static str], &'static File, Told);
 
+/// Words, and what is told.
+pub type Question = (&'static [&'static str], Told);
+
 /// The usage line.
 pub const USAGE: Told = Told::Line(
     2,
@@ -108,6 +111,21 @@ pub fn check(rt: &impl Abort, ran: &Ran, told: Told, place: usize) {
 /// Runs each row, and compares.
 pub fn check_rows(rt: &impl Abort, alloc: Global, rows: &[Row]) -> Result<(), AllocError> {
     for (place, (given, file, told)) in rows.iter().enumerate() {
+        let mut source = source_over(alloc, file)?;
+        let ran = ran_over(alloc, given, &mut source)?;
+        check(rt, &ran, *told, place);
+    }
+    Ok(())
+}
+
+/// Runs each of these words over a file, and compares.
+pub fn check_file(
+    rt: &impl Abort,
+    alloc: Global,
+    file: &File,
+    questions: &[Question],
+) -> Result<(), AllocError> {
+    for (place, (given, told)) in questions.iter().enumerate() {
         let mut source = source_over(alloc, file)?;
         let ran = ran_over(alloc, given, &mut source)?;
         check(rt, &ran, *told, place);

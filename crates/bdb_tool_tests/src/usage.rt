@@ -7,12 +7,17 @@ use crate::running::Told::Done;
 use crate::running::{NOT_FOUND, Row, SOUND, USAGE, check, check_rows, ran_over};
 use std::test::Fail;
 
-const NO_COMMAND: [&[&str]; 44] = [
+const NO_COMMAND: [&[&str]; 49] = [
     &[],
     &[""],
     &["--"],
     &["Verify"],
-    &["dump"],
+    &["load"],
+    &["dump", "x"],
+    &["dump", "--hex"],
+    &["dump", "--name"],
+    &["dump", "--name", "\\x"],
+    &["dump", "--name", "a", "--name", "b"],
     &["dump", "--print", "--print"],
     &["--max-bytes", "1024", "verify"],
     // operands

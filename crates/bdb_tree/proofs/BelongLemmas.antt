@@ -3,32 +3,32 @@ use Rattle.std.proofs.Common.{◌≡◌, ◌⊎◌, ℕ, zero, suc, ◌≤◌, B
 use Rattle.std.specs.Prelude.{◌==◌}
 use Rattle.std.specs.List.{Contains, filter}
 use Rattle.std.proofs.lemmas.Bool.{cases_Bool, not-false, or_from}
-use Rattle.bdb_model.specs.declared.kinds.Order.{Order}
-use Rattle.bdb_model.specs.declared.metadata.FileKind.{FileKind}
-use Rattle.bdb_model.specs.declared.metadata.FileKind.TheVariants.{Btree, Hash as HashFile, Queue as QueueFile}
-use Rattle.bdb_model.specs.declared.metadata.Head.{Head}
-use Rattle.bdb_model.specs.declared.references.Reference.{Reference}
-use Rattle.bdb_model.specs.declared.references.Sort.{Sort}
-use Rattle.bdb_model.specs.declared.references.Sort.TheVariants.{Free as FreeRef, Root, Bucket, HashNext, Child, OverflowHead, OverflowNext, DuplicateRoot}
-use Rattle.bdb_model.specs.File.{File, file_of, page_at, page_bytes, type_in}
-use Rattle.bdb_model.specs.Graph.{Owner, all_references, first_holder, is_anchor, is_anchor_in, is_meta, is_reserve, is_spare, owners}
-use Rattle.bdb_model.specs.HeadOf.{head_of}
-use Rattle.bdb_model.specs.Leaves.{children_in, leaves}
-use Rattle.bdb_model.specs.Numbers.{byte_at}
-use Rattle.bdb_model.specs.Page.{BtreeFields, HashFields, QueueFields, Page, Zero, Free, Meta, Hash, Internal, RecnoInternal, Leaf, RecnoLeaf, DupLeaf, Overflow, Queue, NoType}
-use Rattle.bdb_model.specs.Reading.{abstract_page, is_zero, page_as, page_type}
-use Rattle.bdb_model.specs.References.{asked_by, child_types, fit_code, fit_rows, has_type, is_zero_page, refs}
-use Rattle.bdb_model.specs.Rows.{form_code, identity_rows, may_have_type, type_of, typed_code}
-use Rattle.bdb_model.specs.Table.{first_row}
-use Rattle.bdb_model.proofs.GraphLemmas.{IsOwner, is_owner, owner_fits, reserve_is}
-use Rattle.bdb_model.proofs.MemberLemmas.{first_member, in_flat_map, in_map, of_filter}
-use Rattle.bdb_model.proofs.VerdictLemmas.{AllFail, none_is_first_row}
+use Rattle.bdb_format.specs.declared.kinds.Order.{Order}
+use Rattle.bdb_format.specs.declared.metadata.FileKind.{FileKind}
+use Rattle.bdb_format.specs.declared.metadata.FileKind.TheVariants.{Btree, Hash as HashFile, Queue as QueueFile}
+use Rattle.bdb_format.specs.declared.metadata.Head.{Head}
+use Rattle.bdb_format.specs.declared.references.Reference.{Reference}
+use Rattle.bdb_format.specs.declared.references.Sort.{Sort}
+use Rattle.bdb_format.specs.declared.references.Sort.TheVariants.{Free as FreeRef, Root, Bucket, HashNext, Child, OverflowHead, OverflowNext, DuplicateRoot}
+use Rattle.bdb_format.specs.File.{File, file_of, page_at, page_bytes, type_in}
+use Rattle.bdb_format.specs.Graph.{Owner, all_references, first_holder, is_anchor, is_anchor_in, is_meta, is_reserve, is_spare, owners}
+use Rattle.bdb_format.specs.HeadOf.{head_of}
+use Rattle.bdb_format.specs.Leaves.{children_in, leaves}
+use Rattle.bdb_format.specs.Numbers.{byte_at}
+use Rattle.bdb_format.specs.Page.{BtreeFields, HashFields, QueueFields, Page, Zero, Free, Meta, Hash, Internal, RecnoInternal, Leaf, RecnoLeaf, DupLeaf, Overflow, Queue, NoType}
+use Rattle.bdb_format.specs.Reading.{abstract_page, is_zero, page_as, page_type}
+use Rattle.bdb_format.specs.References.{asked_by, child_types, fit_code, fit_rows, has_type, is_zero_page, refs}
+use Rattle.bdb_format.specs.Rows.{form_code, identity_rows, may_have_type, type_of, typed_code}
+use Rattle.bdb_format.specs.Table.{first_row}
+use Rattle.bdb_format.proofs.GraphLemmas.{IsOwner, is_owner, owner_fits, reserve_is}
+use Rattle.bdb_format.proofs.MemberLemmas.{first_member, in_filter, in_flat_map, in_map, of_filter}
+use Rattle.bdb_format.proofs.VerdictLemmas.{AllFail, none_is_first_row}
 use Rattle.bdb_graph.specs.Forest.{IsWayUp, LeadsUp, is_top}
 use Rattle.bdb_graph.specs.Linked.{FitsLeafPage, IsForest, IsTarget}
 use Rattle.bdb_graph.proofs.ChildLemmas.{children_are, children_of, is_child}
 use Rattle.bdb_graph.proofs.CodeLemmas.{is_same, two_none}
 use Rattle.bdb_graph.proofs.FirstLemmas.{formed_page}
-use Rattle.bdb_graph.proofs.ForestLemmas.{each_page_leads_up, in_filter, sound_graph}
+use Rattle.bdb_graph.proofs.ForestLemmas.{each_page_leads_up, sound_graph}
 use Rattle.bdb_graph.proofs.HeldLemmas.{page_is}
 use Rattle.bdb_tree.specs.Trees.{IsRoot, IsTreePage}
 use Rattle.bdb_tree.proofs.ShapeLemmas.{IsFormedPage, IsLeafPage, is_forest_page, no_queue}

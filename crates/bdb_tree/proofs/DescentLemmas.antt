@@ -1,45 +1,53 @@
 -- Search by halves on an internal page, and the way from a page down to the child that is chosen.
 use Rattle.std.proofs.Common.{◌≡◌, ℕ, zero, suc, ◌+◌, ◌-◌, ◌<◌, ◌≤◌, Bool, true, false, cond, List, [], ◌∷◌, length, map, get_or, arith, refl, sym, ◌∙◌, ap, subst, inl, inr}
-use Rattle.std.specs.Prelude.{Some, slice_get}
-use Rattle.std.specs.List.{Contains, filter, flat_map}
+use Rattle.std.specs.Prelude.{Some, not, slice_get}
+use Rattle.std.specs.List.{Contains, filter, flat_map, last_or}
 use Rattle.std.proofs.lemmas.Option.{get_or_from_slice_get}
 use Rattle.std.specs.Option.{is_some, unwrap_or}
 use Rattle.std.proofs.lemmas.List.Elements.{Contains-append_cases, Contains-append_left, Contains-append_right}
 use Rattle.bdb_graph.specs.Linked.{IsForest}
-use Rattle.bdb_graph.proofs.ForestLemmas.{in_filter}
 use Rattle.bdb_graph.specs.Slots.{no_internal_item}
-use Rattle.bdb_model.specs.ContentRows.{inner_in, inner_pages}
-use Rattle.bdb_model.specs.File.{File, file_of, header_in, page_at, type_in}
-use Rattle.bdb_model.specs.Leaves.{children_in}
-use Rattle.bdb_model.specs.Page.{InternalItem, Internal, Listed}
-use Rattle.bdb_model.proofs.MemberLemmas.{first_member, in_flat_map, member_cases, no_member, of_filter, of_flat_map}
-use Rattle.bdb_model.specs.References.{has_type}
+use Rattle.bdb_format.specs.ContentRows.{inner_in, inner_pages}
+use Rattle.bdb_format.specs.File.{File, file_of, header_in, page_at, type_in}
+use Rattle.bdb_format.specs.Leaves.{children_in}
+use Rattle.bdb_format.specs.Page.{InternalItem, Internal, Listed}
+use Rattle.bdb_format.proofs.MemberLemmas.{first_member, in_filter, in_flat_map, member_cases, no_member, of_filter, of_flat_map}
+use Rattle.bdb_format.specs.References.{has_type}
 use Rattle.bdb_tree.proofs.ShapeLemmas.{IsFormedPage}
 use Rattle.bdb_tree.proofs.TreeLemmas.{IsChild, formed_at, level, typed_inside}
-use Rattle.bdb_tree.specs.Descent.{AllMonotone, AllReadable, IsLastFalse, IsMonotone, chosen, chosen_after}
+use Rattle.bdb_tree.specs.Descent.{AllMonotone, AllReadable, AreReadable, IsLastFalse, IsMonotone, chosen}
 
 -- The item that is chosen.
 
-all_true : (test : InternalItem → Bool) (child : ℕ) (items : List InternalItem) → ((j : ℕ) → j < length items → test (get_or items j no_internal_item) ≡ true) → chosen_after test child items ≡ child
-all_true test child [] later = refl
-all_true test child (item ∷ items) later =
-    rw (later 0 (omega arith)) (all_true test child items (λ j low. later (suc j) (omega arith)))
+-- no later item is kept
+all_true : (test : InternalItem → Bool) (first : InternalItem) (items : List InternalItem)
+    → ((j : ℕ) → j < length items → test (get_or items j no_internal_item) ≡ true)
+    → last_or (Some first) (filter (λ item. not (test item)) items) ≡ Some first
+all_true test first [] later = refl
+all_true test first (item ∷ items) later = rw (later 0 (omega arith)) (all_true test first items (λ j low. later (suc j) (omega arith)))
 
-last_chosen : (test : InternalItem → Bool) (child : ℕ) (items : List InternalItem) (i : ℕ) → i < length items → test (get_or items i no_internal_item) ≡ false
+last_kept : (test : InternalItem → Bool) (first : InternalItem) (items : List InternalItem) (i : ℕ) → i < length items
+    → test (get_or items i no_internal_item) ≡ false
     → ((j : ℕ) → i < j → j < length items → test (get_or items j no_internal_item) ≡ true)
-    → chosen_after test child items ≡ (get_or items i no_internal_item).child
-last_chosen test child [] i inside is_false later = absurd (omega arith)
-last_chosen test child (item ∷ items) zero inside is_false later =
-    rw is_false (all_true test item.child items (λ j low. later (suc j) (omega arith) (omega arith)))
-last_chosen test child (item ∷ items) (suc i) inside is_false later =
-    last_chosen test (cond (test item) child item.child) items i (omega arith) is_false (λ j above low. later (suc j) (omega arith) (omega arith))
+    → last_or (Some first) (filter (λ item. not (test item)) items) ≡ Some (get_or items i no_internal_item)
+last_kept test first [] i inside is_false later = absurd (omega arith)
+last_kept test first (item ∷ items) zero inside is_false later =
+    rw is_false (all_true test item items (λ j low. later (suc j) (omega arith) (omega arith)))
+last_kept test first (item ∷ items) (suc i) inside is_false later =
+    let rest : List InternalItem = filter (λ other. not (test other)) items in
+    elim (test item) as (λ b. last_or (Some first) (cond (not b) (item ∷ rest) rest) ≡ Some (get_or items i no_internal_item)) [
+      | true ↦ last_kept test first items i (omega arith) is_false (λ j above low. later (suc j) (omega arith) (omega arith))
+      | false ↦ last_kept test item items i (omega arith) is_false (λ j above low. later (suc j) (omega arith) (omega arith))
+    ]
 
 -- the last item for which the test is false is the one whose child is chosen
 pub chosen_is : (test : InternalItem → Bool) (items : List InternalItem) (i : ℕ) → IsLastFalse test items i → chosen test items ≡ (get_or items i no_internal_item).child
 chosen_is test [] i is = absurd (omega (arith, is.inside))
-chosen_is test (item ∷ items) zero is = all_true test item.child items (λ j low. is.later (suc j) (omega arith) (omega arith))
+chosen_is test (item ∷ items) zero is =
+    ap (λ found. (unwrap_or found no_internal_item).child) (all_true test item items (λ j low. is.later (suc j) (omega arith) (omega arith)))
 chosen_is test (item ∷ items) (suc i) is =
-    last_chosen test item.child items i (omega (arith, is.inside)) (is.is_false (omega arith)) (λ j above low. is.later (suc j) (omega arith) (omega arith))
+    ap (λ found. (unwrap_or found no_internal_item).child)
+    (last_kept test item items i (omega (arith, is.inside)) (is.is_false (omega arith)) (λ j above low. is.later (suc j) (omega arith) (omega arith)))
 
 pub chosen_item : (test : InternalItem → Bool) (items : List InternalItem) (i : ℕ) (item : InternalItem) → IsLastFalse test items i → slice_get items i ≡ Some item → item.child ≡ chosen test items
 chosen_item test items i item is at = ap (λ (x : InternalItem). x.child) (sym (get_or_from_slice_get items i item no_internal_item at)) ∙ sym (chosen_is test items i is)
@@ -119,8 +127,8 @@ is_inner_here image p view forest low is =
     let high : 2 ≤ view.header.level = (internal_is image p view forest low (sym is)).0 in is_inner (file_of image) p view (omega arith) (sym is)
 
 pub readable_here : (image : List ℕ) (reads : InternalItem → Type 0) (p : ℕ) (view : Listed InternalItem) → IsForest image → p ≤ (file_of image).last → AllReadable (file_of image) reads p
-    → Internal view ≡ page_at (file_of image) p → (item : InternalItem) → Contains view.items item → reads item
-readable_here image reads p view forest low readable is item at = readable p view item (is_inner_here image p view forest low is) (sym is) at
+    → Internal view ≡ page_at (file_of image) p → AreReadable reads view.items
+readable_here image reads p view forest low readable is = readable p view (is_inner_here image p view forest low is) (sym is)
 
 pub monotone_here : (image : List ℕ) (test : InternalItem → Bool) (p : ℕ) (view : Listed InternalItem) → IsForest image → p ≤ (file_of image).last → AllMonotone (file_of image) test p
     → Internal view ≡ page_at (file_of image) p → IsMonotone test view.items

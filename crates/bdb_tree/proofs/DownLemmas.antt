@@ -1,11 +1,11 @@
 -- The way down a tree by first children ends at its first leaf.
 use Rattle.std.proofs.Common.{◌≡◌, ℕ, ◌<◌, ◌≤◌, List, [], ◌∷◌, ◌++◌, map, length, Option, Some, None, arith, refl, sym, ◌∙◌, ap, subst, inl, inr}
 use Rattle.std.specs.List.{flat_map, slice_get}
-use Rattle.bdb_model.specs.declared.pages.RecnoItem.{RecnoItem}
-use Rattle.bdb_model.specs.File.{File, file_of, header_in, page_at}
-use Rattle.bdb_model.specs.Leaves.{children_in, leaves}
-use Rattle.bdb_model.specs.Page.{InternalItem, Page, Internal, RecnoInternal}
-use Rattle.bdb_model.proofs.MemberLemmas.{first_member}
+use Rattle.bdb_format.specs.declared.pages.RecnoItem.{RecnoItem}
+use Rattle.bdb_format.specs.File.{File, file_of, header_in, page_at}
+use Rattle.bdb_format.specs.Leaves.{children_in, leaves}
+use Rattle.bdb_format.specs.Page.{InternalItem, Page, Internal, RecnoInternal}
+use Rattle.bdb_format.proofs.MemberLemmas.{first_member}
 use Rattle.bdb_graph.specs.Linked.{FitsLeafPage, IsForest}
 use Rattle.bdb_tree.specs.Links.{HasItem, first_below}
 use Rattle.bdb_tree.specs.Trees.{IsTreePage}

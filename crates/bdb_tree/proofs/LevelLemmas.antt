@@ -9,16 +9,17 @@ use Rattle.std.proofs.lemmas.List.Elements.{All-contains, Contains-get_or}
 use Rattle.std.proofs.lemmas.Option.{get_or_from_slice_get}
 use Rattle.bdb_form.specs.declared.view.PageView.{PageView}
 use Rattle.bdb_form.specs.Seen.{header_seen, page_seen}
-use Rattle.bdb_model.specs.declared.pages.Header.{Header}
-use Rattle.bdb_model.specs.File.{File, file_of, header_in, page_at, type_in}
-use Rattle.bdb_model.specs.Leaves.{children_in, leaves}
-use Rattle.bdb_model.specs.Page.{Page}
-use Rattle.bdb_model.specs.References.{has_type}
-use Rattle.bdb_model.proofs.MemberLemmas.{first_member, later_member, no_member, of_flat_map}
+use Rattle.bdb_format.specs.declared.pages.Header.{Header}
+use Rattle.bdb_format.specs.File.{File, file_of, header_in, page_at, type_in}
+use Rattle.bdb_format.specs.Leaves.{children_in, leaves}
+use Rattle.bdb_format.specs.Page.{Page}
+use Rattle.bdb_format.specs.References.{has_type}
+use Rattle.bdb_format.proofs.MemberLemmas.{first_member, later_member, no_member, of_flat_map}
 use Rattle.bdb_graph.specs.Linked.{IsForest}
 use Rattle.bdb_tree.specs.Trees.{IsTreePage, children_at}
 use Rattle.bdb_tree.proofs.ShapeLemmas.{tree_header}
-use Rattle.bdb_tree.proofs.TreeLemmas.{IsChild, child_is, flat_map_same, leaves_of_inner, leaves_of_leaf, level, only, tree_cases}
+use Rattle.bdb_tree.proofs.TreeLemmas.{IsChild, child_is, flat_map_same, leaves_of_inner, leaves_of_leaf, level, tree_cases}
+use Rattle.bdb_format.proofs.ListLemmas.{flat_map_twice, only_member, all_of}
 
 -- one item more
 pub children_more : {X : Type 0} (child : X → ℕ) (before : List ℕ) (items : List X) (i : ℕ) (item : X) → i < length items → slice_get items i ≡ Some item
@@ -35,13 +36,6 @@ seen_level file p view tree seen =
     ∙ ap (λ (page : Page). (header_in page).level) seen
 
 -- Children of pages.
-
-joined_twice : {X Y Z : Type 0} (f : Y → List Z) (g : X → List Y) (xs : List X) → flat_map f (flat_map g xs) ≡ flat_map (λ x. flat_map f (g x)) xs
-joined_twice f g [] = refl
-joined_twice f g (x ∷ xs) = flat_map-append f (g x) (flat_map g xs) ∙ ap (λ zs. flat_map f (g x) ++ zs) (joined_twice f g xs)
-
-all_of : {X : Type 0} (P : X → Type 0) (xs : List X) → ((x : X) → Contains xs x → P x) → All P xs
-all_of P xs each = λ k d below. each (get_or xs k d) (Contains-get_or xs k d below)
 
 child_at : (image : List ℕ) (p c : ℕ) → IsForest image → Contains (children_at (file_of image) p) c → IsChild (file_of image) p c
 child_at image p c forest at = of (children_in (page_at (file_of image) p)) refl
@@ -70,8 +64,8 @@ pub first_level : (file : File) (pages : List ℕ) (p top : ℕ) → IsTreePage 
 first_level file pages p top tree is alone =
     subst (λ ps. IsLevel file ps 1 top (leaves file p)) (sym alone)
     (record {
-      trees = all_of (IsTreePage file) (p ∷ []) (λ q at. subst (IsTreePage file) (only p q at) tree);
-      level = λ q at. let same : level file p ≡ level file q = ap (level file) (only p q at) in omega arith;
+      trees = all_of (IsTreePage file) (p ∷ []) (λ q at. subst (IsTreePage file) (only_member p q at) tree);
+      level = λ q at. let same : level file p ≡ level file q = ap (level file) (only_member p q at) in omega arith;
       leaves = append-nil (leaves file p);
     })
 
@@ -95,7 +89,7 @@ next_is_level image pages next all turn top forest is more next_is =
           let child : IsChild file page.0 c = child_at image page.0 c forest page.2 in
           omega (arith, child.level, is.level page.0 page.1);
       leaves =
-          joined_twice (leaves file) (children_at file) pages
+          flat_map_twice (leaves file) (children_at file) pages
           ∙ (sym
           (flat_map_same (leaves file) (λ p. flat_map (leaves file) (children_at file p)) pages (λ p at.
           leaves_by_children image p forest (All-contains (IsTreePage file) pages p is.trees at) (omega (arith, is.level p at))))

@@ -5,25 +5,26 @@ use Rattle.std.specs.List.{AllByRecursion, Contains, IsDistinct, list_any, slice
 use Rattle.std.proofs.lemmas.Bool.{and_parts, eqb-true, ne_eqb, not-false}
 use Rattle.std.proofs.lemmas.List.Elements.{Contains-append_right}
 use Rattle.std.proofs.lemmas.Map.Steps.{length-le_from_distinct_below}
-use Rattle.bdb_model.specs.declared.metadata.Head.{Head}
-use Rattle.bdb_model.specs.declared.references.Sort.{Sort}
-use Rattle.bdb_model.specs.declared.references.Sort.TheVariants.{DuplicateRoot, Root}
-use Rattle.bdb_model.specs.Chains.{chain, chain_in, next_of}
-use Rattle.bdb_model.specs.File.{File, file_of, header_in, page_at}
-use Rattle.bdb_model.specs.HeadOf.{head_of}
-use Rattle.bdb_model.specs.Leaves.{LeafPlace, first_or_zero, is_root_reference, leaf_places, leaves, places_from}
-use Rattle.bdb_model.specs.Verdict.{structure_faults}
-use Rattle.bdb_model.proofs.MemberLemmas.{first_member, later_member, member_cases, no_member}
+use Rattle.bdb_format.specs.declared.metadata.Head.{Head}
+use Rattle.bdb_format.specs.declared.references.Sort.{Sort}
+use Rattle.bdb_format.specs.declared.references.Sort.TheVariants.{DuplicateRoot, Root}
+use Rattle.bdb_format.specs.Chains.{chain, chain_in, next_of}
+use Rattle.bdb_format.specs.File.{File, file_of, header_in, page_at}
+use Rattle.bdb_format.specs.HeadOf.{head_of}
+use Rattle.bdb_format.specs.Leaves.{LeafPlace, first_or_zero, is_root_reference, leaf_places, leaves, places_from}
+use Rattle.bdb_format.specs.Verdict.{structure_faults}
+use Rattle.bdb_format.proofs.MemberLemmas.{first_member, later_member, member_cases, no_member}
 use Rattle.bdb_graph.specs.Forest.{AllDistinct, NotIn}
 use Rattle.bdb_graph.specs.Linked.{FitsLeafPage, IsForest, IsTarget}
 use Rattle.bdb_graph.proofs.FirstLemmas.{formed_last}
 use Rattle.bdb_graph.proofs.HeldLemmas.{last_page}
 use Rattle.bdb_graph.proofs.LeavesLemmas.{no_leaf_twice}
-use Rattle.bdb_graph.proofs.ReachLemmas.{count_is}
 use Rattle.bdb_tree.specs.Links.{IsLeafWalk, pages_from}
 use Rattle.bdb_tree.specs.Trees.{IsRoot, IsTreePage}
 use Rattle.bdb_tree.proofs.BelongLemmas.{Belongs, belongs, leaf_above}
 use Rattle.bdb_tree.proofs.TreeLemmas.{IsRightPlace, leaf_fits, leaf_inside, leaf_low, no_tree_fault, place_is_right, place_of_root, root_is_tree, tree_inside}
+use Rattle.bdb_format.proofs.ReferenceLemmas.{count_is}
+use Rattle.bdb_format.proofs.ChainLemmas.{chain_few}
 
 -- Next pages.
 
@@ -167,15 +168,6 @@ all_pages image root first forest none is at =
     begins : (xs : List ℕ) → slice_get xs 0 ≡ Some first → (rest : List ℕ) × (xs ≡ first ∷ rest)
     begins [] same = absurd cc
     begins (x ∷ xs) same = (xs, let here : x ≡ first = cc in ap (λ y. y ∷ xs) here)
-
-chain_few : (turns : ℕ) (file : File) (p : ℕ) → length (chain_in turns file p) ≤ turns
-unfolding chain_in
-chain_few zero file p = omega arith
-chain_few (suc turns) file p =
-    elim (next_of file p == 0) as (λ b. length (p ∷ elim b [ true ↦ [] | false ↦ chain_in turns file (next_of file p) ]) ≤ suc turns) [
-      | true ↦ omega arith
-      | false ↦ omega (arith, chain_few turns file (next_of file p))
-    ]
 
 -- a walk gives no more pages than there are
 pub pages_few : (file : File) (p : ℕ) → length (pages_from file p) ≤ file.count

@@ -2,40 +2,36 @@
 use Rattle.std.proofs.Common.{◌≡◌, ◌⊎◌, ℕ, zero, suc, ◌+◌, ◌-◌, ◌<◌, ◌≤◌, Bool, true, false, cond, List, [], ◌∷◌, ◌++◌, length, map, take, get_or, arith, refl, sym, ◌∙◌, ap, subst, append-nil, add-one, add-zero, inl, inr}
 use Rattle.std.specs.Prelude.{Option, Some, None, ◌==◌, ◌&&◌, ◌||◌, slice_index}
 use Rattle.std.specs.List.{All, Contains, filter, flat_map, list_any, range_with_len}
+use Rattle.std.specs.Option.{option_to_list}
 use Rattle.std.proofs.lemmas.Bool.{and_from, and_parts, cond-false, eq-eqb, eqb-true, ne_eqb}
 use Rattle.std.proofs.lemmas.List.{flat_map_more, take_all, take_more}
 use Rattle.std.proofs.lemmas.List.Folds.{list_any_at}
 use Rattle.std.proofs.lemmas.List.Elements.{Contains-append_cases, Contains-append_left, Contains-append_right, Contains-get_or}
-use Rattle.bdb_model.specs.declared.kinds.Fault.{Fault}
-use Rattle.bdb_model.specs.declared.references.Reference.{Reference}
-use Rattle.bdb_model.specs.declared.references.Sort.{Sort}
-use Rattle.bdb_model.specs.declared.references.Sort.TheVariants.{DuplicateRoot, Root}
-use Rattle.bdb_model.specs.File.{File, file_of}
-use Rattle.bdb_model.specs.Graph.{Owner, all_references}
-use Rattle.bdb_model.specs.Leaves.{LeafPlace, first_or_zero, is_root_reference, is_wrong_leaf, is_wrong_link, leaf_places, leaves, places_from, root_references, tree_rows}
-use Rattle.bdb_model.specs.References.{refs}
-use Rattle.bdb_model.specs.Table.{◌:?◌, first_row}
-use Rattle.bdb_model.specs.Verdict.{alone, holding, tree_faults}
-use Rattle.bdb_model.proofs.MemberLemmas.{first_member, in_flat_map, in_range, is_empty, later_member, member_cases, no_member, of_filter, of_flat_map, of_range}
-use Rattle.bdb_model.proofs.VerdictLemmas.{FirstComesFirst, IsOfStage, by_page_first, holding_least, in_by_page, of_by_page}
+use Rattle.bdb_format.specs.ByPage.{ComesFirst}
+use Rattle.bdb_format.specs.declared.kinds.Fault.{Fault}
+use Rattle.bdb_format.specs.declared.references.Reference.{Reference}
+use Rattle.bdb_format.specs.declared.references.Sort.{Sort}
+use Rattle.bdb_format.specs.declared.references.Sort.TheVariants.{DuplicateRoot, Root}
+use Rattle.bdb_format.specs.File.{File, file_of}
+use Rattle.bdb_format.specs.Graph.{Owner, all_references}
+use Rattle.bdb_format.specs.Leaves.{LeafPlace, first_or_zero, is_root_reference, is_wrong_leaf, is_wrong_link, leaf_places, leaves, places_from, root_references, tree_rows}
+use Rattle.bdb_format.specs.References.{refs}
+use Rattle.bdb_format.specs.Table.{◌:?◌, first_row}
+use Rattle.bdb_format.specs.Verdict.{holding, tree_faults, first_fault}
+use Rattle.bdb_format.proofs.MemberLemmas.{first_member, in_flat_map, in_range, is_empty, later_member, member_cases, no_member, of_filter, of_flat_map, of_range, in_filter}
+use Rattle.bdb_format.proofs.VerdictLemmas.{FirstComesFirst, IsOfStage, by_page_first, holding_least, in_by_page, of_by_page}
 use Rattle.bdb_graph.specs.Linked.{FitsLeafPage, IsForest, IsTarget}
-use Rattle.bdb_graph.specs.Linking.{first_fault}
-use Rattle.bdb_graph.proofs.ForestLemmas.{in_filter}
 use Rattle.bdb_tree.specs.Trees.{IsRoot, IsTreePage}
-use Rattle.bdb_tree.proofs.TreeLemmas.{code_of_two, held_in_all, held_of_all, leaf_fits, leaf_low, root_is_tree}
-use Rattle.bdb_tree.specs.Noted.{ComesFirst, IsLeast, IsLeastOf, held_faults, leaf_fault, place_faults, place_in, place_rows, root_faults}
+use Rattle.bdb_tree.proofs.TreeLemmas.{code_of_two, leaf_fits, leaf_low, root_is_tree}
+use Rattle.bdb_tree.specs.Noted.{IsLeast, IsLeastOf, held_faults, leaf_fault, place_faults, place_in, place_rows, root_faults}
+use Rattle.bdb_format.proofs.ListLemmas.{any_member, passes_here}
+use Rattle.bdb_format.proofs.FaultLemmas.{same_fault, comes_through, tree_rises, tree_one}
+use Rattle.bdb_format.proofs.ReferenceLemmas.{held_in_all, of_all}
 
 -- The least of some faults.
 
 same_first : (a b : Fault) → a ≡ b → ComesFirst a b
 same_first a b same = let page : a.page ≡ b.page = ap (λ (f : Fault). f.page) same in let code : a.code ≡ b.code = ap (λ (f : Fault). f.code) same in inr (page, omega arith)
-
-first_of_first : (a b c : Fault) → ComesFirst a b → ComesFirst b c → ComesFirst a c
-first_of_first a b c ab bc =
-    elim ab [
-      | inl less ↦ elim bc [ inl lesser ↦ inl (omega arith) | inr (same, low) ↦ inl (omega arith) ]
-      | inr (same, low) ↦ elim bc [ inl lesser ↦ inl (omega arith) | inr (same_too, low_too) ↦ inr (same ∙ same_too, omega arith) ]
-    ]
 
 of_one_more : {X : Type 0} (xs : List X) (x y : X) → Contains (xs ++ (x ∷ [])) y → Contains xs y ⊎ (x ≡ y)
 of_one_more xs x y at =
@@ -66,7 +62,7 @@ least_taken faults first fault is comes =
     record {
       holds = Contains-append_right faults (fault ∷ []) fault (first_member fault []);
       least = λ other at.
-          elim (of_one_more faults fault other at) [ inl here ↦ first_of_first fault first other comes (is.least other here) | inr same ↦ same_first fault other same ];
+          elim (of_one_more faults fault other at) [ inl here ↦ comes_through fault first other comes (is.least other here) | inr same ↦ same_first fault other same ];
     }
 
 -- Places.
@@ -74,11 +70,11 @@ least_taken faults first fault is comes =
 -- the fault of a leaf, where a row holds for it
 pub one_place : (file : File) (place : LeafPlace) (code : ℕ) (faults : List Fault) (least : Fault) → Some code ≡ first_row (place_rows file place) → IsLeastOf (faults ++ (leaf_fault place.leaf code ∷ [])) least
     → IsLeastOf (faults ++ place_faults file place) least
-one_place file place code faults least is = subst (λ c. IsLeastOf (faults ++ map (leaf_fault place.leaf) (alone c)) least) is
+one_place file place code faults least is = subst (λ c. IsLeastOf (faults ++ map (leaf_fault place.leaf) (option_to_list c)) least) is
 
 pub no_place : (file : File) (place : LeafPlace) (faults : List Fault) (least : Option Fault) → None ≡ first_row (place_rows file place) → IsLeast faults least → IsLeast (faults ++ place_faults file place) least
 no_place file place faults least is here =
-    subst (λ c. IsLeast (faults ++ map (leaf_fault place.leaf) (alone c)) least) is (subst (λ fs. IsLeast fs least) (sym (append-nil faults)) here)
+    subst (λ c. IsLeast (faults ++ map (leaf_fault place.leaf) (option_to_list c)) least) is (subst (λ fs. IsLeast fs least) (sym (append-nil faults)) here)
 
 length_places : (sort : Sort) (before : ℕ) (ps : List ℕ) → length (places_from sort before ps) ≡ length ps
 length_places sort before [] = refl
@@ -201,7 +197,7 @@ in_root_faults : (file : File) (reference : Reference) (place : LeafPlace) (code
 in_root_faults file reference place code root at first =
     let all : List LeafPlace = places_from reference.sort 0 (leaves file reference.target) in
     let here : Contains (place_faults file place) (leaf_fault place.leaf code) =
-    subst (λ c. Contains (map (leaf_fault place.leaf) (alone c)) (leaf_fault place.leaf code)) (sym first) (first_member (leaf_fault place.leaf code) []) in
+    subst (λ c. Contains (map (leaf_fault place.leaf) (option_to_list c)) (leaf_fault place.leaf code)) (sym first) (first_member (leaf_fault place.leaf code) []) in
     subst (λ b. Contains (cond b (flat_map (place_faults file) all) []) (leaf_fault place.leaf code)) (sym root) (in_flat_map (place_faults file) all place (leaf_fault place.leaf code) at here)
 
 -- the fault of each place is noted
@@ -212,11 +208,11 @@ in_noted file place code at first =
     of_flat_map (λ (owner : Owner). places_from owner.reference.sort 0 (leaves file owner.reference.target)) (root_references file) place at in
     let owner : Owner = found.0 in
     let root : Contains (all_references file) owner × (is_root_reference owner.reference.sort ≡ true) = of_owner file owner found.1 in
-    let held : (owner.holder ≤ file.last) × Contains (refs file owner.holder) owner.reference = held_of_all file owner root.0 in
+    let held : (owner.holder ≤ file.last) × Contains (refs file owner.holder) owner.reference = of_all file owner root.0 in
     in_flat_map (held_faults file) (range_with_len 0 (file.last + 1)) owner.holder (leaf_fault place.leaf code) (in_range 0 (file.last + 1) owner.holder (omega arith) (omega (arith, held.0)))
     (in_flat_map (root_faults file) (refs file owner.holder) owner.reference (leaf_fault place.leaf code) held.1 (in_root_faults file owner.reference place code root.1 found.2 first))
 
-of_place : (file : File) (place : LeafPlace) (fault : Fault) (code : Option ℕ) → Contains (leaf_places file) place → first_row (place_rows file place) ≡ code → Contains (map (leaf_fault place.leaf) (alone code)) fault → IsNoted file fault
+of_place : (file : File) (place : LeafPlace) (fault : Fault) (code : Option ℕ) → Contains (leaf_places file) place → first_row (place_rows file place) ≡ code → Contains (map (leaf_fault place.leaf) (option_to_list code)) fault → IsNoted file fault
 of_place file place fault None at first here = absurd (no_member [] fault refl here)
 of_place file place fault (Some code) at first here =
     elim (member_cases (leaf_fault place.leaf code) [] fault here) [
@@ -263,17 +259,6 @@ holding_three true true is = later_member 2 (3 ∷ []) 3 (first_member 3 [])
 holding_three false true is = first_member 3 []
 holding_three a false is = absurd cc
 
-some_passes : {X : Type 0} (test : X → Bool) (xs : List X) → list_any test xs ≡ true → (x : X) × Contains xs x × (test x ≡ true)
-some_passes test [] any = absurd cc
-some_passes test (x ∷ xs) any =
-    elim (test x) as (λ b. test x ≡ b → (b || list_any test xs) ≡ true → (y : _) × Contains (x ∷ xs) y × (test y ≡ true)) [
-      | true ↦ λ passes _. (x, first_member x xs, passes)
-      | false ↦ λ _ later. let found : (y : _) × Contains xs y × (test y ≡ true) = some_passes test xs later in (found.0, later_member x xs found.0 found.1, found.2)
-    ] refl any
-
-passes_here : {X : Type 0} (test : X → Bool) (xs : List X) (x : X) → Contains xs x → test x ≡ true → list_any test xs ≡ true
-passes_here test xs x at passes = list_any_at test xs at.0 x at.1 (ap test at.2 ∙ passes)
-
 -- the first row of a place is one that holds at its page
 in_tree_faults : (file : File) (place : LeafPlace) (code : ℕ) → place.leaf ≤ file.last → Contains (leaf_places file) place → first_row (place_rows file place) ≡ Some code → Contains (tree_faults file) (leaf_fault place.leaf code)
 unfolding tree_faults
@@ -319,11 +304,11 @@ of_tree_faults file fault at =
     let of : IsOfStage 6 0 (0 + (file.last + 1)) (λ page. holding (tree_rows file page)) fault = of_by_page 6 0 (file.last + 1) (λ page. holding (tree_rows file page)) fault at in
     elim (code_of_two (list_any types (leaf_places file)) (list_any links (leaf_places file)) fault.code of.is_code) [
       | inl (is, any) ↦
-          let found : (place : LeafPlace) × Contains (leaf_places file) place × (types place ≡ true) = some_passes types (leaf_places file) any in
+          let found : (place : LeafPlace) × Contains (leaf_places file) place × (types place ≡ true) = any_member types (leaf_places file) any in
           let both = and_parts (found.0.leaf == p) (is_wrong_leaf file found.0) found.2 in
           preceded file found.0 2 fault found.1 (first_wrong_type (is_wrong_leaf file found.0) (is_wrong_link file found.0) both.1) (eqb-true found.0.leaf p both.0) (omega (arith, is))
       | inr (is, any) ↦
-          let found : (place : LeafPlace) × Contains (leaf_places file) place × (links place ≡ true) = some_passes links (leaf_places file) any in
+          let found : (place : LeafPlace) × Contains (leaf_places file) place × (links place ≡ true) = any_member links (leaf_places file) any in
           let both = and_parts (found.0.leaf == p) (is_wrong_link file found.0) found.2 in
           let first : (code : ℕ) × (first_row (place_rows file found.0) ≡ Some code) × (code ≤ 3) = first_wrong_link (is_wrong_leaf file found.0) (is_wrong_link file found.0) both.1 in
           preceded file found.0 first.0 fault found.1 first.1 (eqb-true found.0.leaf p both.0) (omega (arith, is, first.2))
@@ -348,7 +333,7 @@ place_low image place forest at =
     of_flat_map (λ (owner : Owner). places_from owner.reference.sort 0 (leaves file owner.reference.target)) (root_references file) place at in
     let owner : Owner = found.0 in
     let root : Contains (all_references file) owner × (is_root_reference owner.reference.sort ≡ true) = of_owner file owner found.1 in
-    let held : (owner.holder ≤ file.last) × Contains (refs file owner.holder) owner.reference = held_of_all file owner root.0 in
+    let held : (owner.holder ≤ file.last) × Contains (refs file owner.holder) owner.reference = of_all file owner root.0 in
     leaf_low image owner.reference.target place.leaf forest (root_is_tree image owner.reference.target forest (held_root file owner.holder owner.reference held.0 held.1 root.1))
     (place_leaf owner.reference.sort 0 (leaves file owner.reference.target) place found.2)
 
@@ -358,21 +343,6 @@ noted_in_stage image fault forest at =
     let is : IsNoted file fault = of_noted file fault at in
     subst (Contains (tree_faults file)) is.is (in_tree_faults file is.place is.code (place_low image is.place forest is.at) is.at is.first)
 
-in_order : (file : File) → FirstComesFirst (tree_faults file)
-unfolding tree_faults
-in_order file = by_page_first 6 0 (file.last + 1) (λ p. holding (tree_rows file p)) (λ p. holding_least 2 (tree_rows file p) (omega arith, (omega arith, tt)))
-
-stage_of : (file : File) (fault : Fault) → Contains (tree_faults file) fault → fault.stage ≡ 6
-unfolding tree_faults
-stage_of file fault at = (of_by_page 6 0 (file.last + 1) (λ page. holding (tree_rows file page)) fault at).same_stage
-
-same_fault : (a b : Fault) → a.stage ≡ b.stage → ComesFirst a b → ComesFirst b a → a ≡ b
-same_fault a b stage ab ba =
-    let page : a.page ≡ b.page = elim ab [ inl less ↦ elim ba [ inl lesser ↦ absurd (omega arith) | inr (same, low) ↦ sym same ] | inr (same, low) ↦ same ] in
-    let code : a.code ≡ b.code = elim ab [ inl less ↦ absurd (omega (arith, page)) | inr (same, low) ↦ elim ba [ inl lesser ↦ absurd (omega (arith, same)) | inr (same_too, low_too) ↦ omega arith ] ] in
-    ap (λ s. record { stage = s; page = a.page; code = a.code }) stage
-    ∙ (ap (λ p. record { stage = b.stage; page = p; code = a.code }) page ∙ ap (λ c. record { stage = b.stage; page = b.page; code = c }) code)
-
 first_is_least : (image : List ℕ) (fault : Fault) (faults : List Fault) → IsForest image → IsLeastOf (noted (file_of image)) fault → tree_faults (file_of image) ≡ faults → Some fault ≡ first_fault faults
 first_is_least image fault [] forest is same = absurd (no_member (tree_faults (file_of image)) fault same (noted_in_stage image fault forest is.holds))
 first_is_least image fault (first ∷ rest) forest is same =
@@ -381,9 +351,9 @@ first_is_least image fault (first ∷ rest) forest is same =
     let at : Contains (tree_faults file) first = subst (λ fs. Contains fs first) (sym same) (first_member first rest) in
     let before : IsPreceded file first = of_tree_faults file first at in
     ap (λ f. Some f)
-    (same_fault fault first (stage_of file fault here ∙ sym (stage_of file first at))
-    (first_of_first fault before.earlier first (is.least before.earlier before.at) before.comes)
-    (in_order file first rest fault same here))
+    (same_fault fault first (tree_one file fault here ∙ sym (tree_one file first at))
+    (comes_through fault before.earlier first (is.least before.earlier before.at) before.comes)
+    (tree_rises file first rest fault same here))
 
 none_is_least : (image : List ℕ) → noted (file_of image) ≡ [] → tree_faults (file_of image) ≡ []
 none_is_least image none =

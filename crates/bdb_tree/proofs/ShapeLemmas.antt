@@ -3,52 +3,37 @@ use Rattle.std.proofs.Common.{◌≡◌, ◌⊎◌, ℕ, zero, suc, ◌<◌, ◌
 use Rattle.std.specs.Prelude.{Option, Some, None, ◌%◌, get_or, ◌==◌, ◌&&◌, ◌||◌, not, nat_lt}
 use Rattle.std.specs.List.{list_any}
 use Rattle.std.proofs.lemmas.Bool.{and_parts, eqb-false, eqb-true, ltb-false, not-false, true≢false}
-use Rattle.bdb_model.specs.declared.metadata.FileKind.TheVariants.{Queue as QueueFile}
-use Rattle.bdb_model.specs.declared.metadata.Head.{Head}
+use Rattle.bdb_format.specs.declared.metadata.FileKind.TheVariants.{Queue as QueueFile}
+use Rattle.bdb_format.specs.declared.metadata.Head.{Head}
 use Rattle.bdb_form.specs.declared.view.PageView.{PageView}
 use Rattle.bdb_form.specs.declared.view.PageView.TheVariants.{Zero as ZeroView, Free as FreeView, Meta as MetaView, Leaf as LeafView, Internal as InternalView, RecnoLeaf as RecnoLeafView, RecnoInternal as RecnoInternalView, DupLeaf as DupLeafView, Hash as HashView, Overflow as OverflowView, Queue as QueueView}
 use Rattle.bdb_form.specs.Seen.{header_seen, page_seen}
-use Rattle.bdb_model.specs.declared.kinds.Order.{Order}
-use Rattle.bdb_model.specs.declared.pages.RecnoItem.{RecnoItem}
-use Rattle.bdb_model.specs.File.{file_of, header_in, metadata_type, page_at, page_bytes, type_in}
-use Rattle.bdb_model.specs.HeadOf.{head_of}
-use Rattle.bdb_model.specs.declared.references.Sort.{Sort}
-use Rattle.bdb_model.specs.declared.references.Sort.TheVariants.{DuplicateRoot, Root}
-use Rattle.bdb_model.specs.Leaves.{children_in, wrong_leaf_types}
+use Rattle.bdb_format.specs.declared.kinds.Order.{Order}
+use Rattle.bdb_format.specs.declared.pages.RecnoItem.{RecnoItem}
+use Rattle.bdb_format.specs.File.{file_of, header_in, kind_in, page_at, page_bytes, type_in}
+use Rattle.bdb_format.specs.HeadOf.{head_of}
+use Rattle.bdb_format.specs.declared.references.Sort.{Sort}
+use Rattle.bdb_format.specs.declared.references.Sort.TheVariants.{DuplicateRoot, Root}
+use Rattle.bdb_format.specs.Leaves.{children_in, wrong_leaf_types}
 use Rattle.std.proofs.lemmas.List.FromFn.{get_or-map-range_with_len}
-use Rattle.bdb_model.specs.declared.pages.ItemFault.TheVariants.{Offset, Kind, Extent}
-use Rattle.bdb_model.specs.Numbers.{byte_at}
-use Rattle.bdb_model.specs.Page.{Metadata, BtreeFields, HashFields, QueueFields, Content, Inline, Chain, Tree, Unknown, Item, InternalItem, Listed, Page, Zero, Free, Meta, Hash, Internal, RecnoInternal, Leaf, RecnoLeaf, DupLeaf, Overflow, Queue, NoType, PageType, FreePage, HashPage, InternalPage, RecnoInternalPage, LeafPage, RecnoLeafPage, OverflowPage, HashMetaPage, BtreeMetaPage, QueueMetaPage, QueuePage, DupLeafPage, OtherPage}
-use Rattle.bdb_model.specs.Reading.{abstract_page, entries_of, internal_item_at, is_zero, kind_at, leaf_item_at, listed, offset_of, page_as, page_type, recno_item_at}
-use Rattle.bdb_model.specs.References.{has_type, no_item}
-use Rattle.bdb_model.specs.Rows.{form_code, identity_rows, index_rows, is_wrong_count, is_leaf_kind, is_wrong_level, item_code, item_row, leaf_rows, listed_code, may_have_type, typed_code}
-use Rattle.bdb_model.specs.Table.{first_row, least_below}
-use Rattle.bdb_model.proofs.GraphLemmas.{type_fits}
-use Rattle.bdb_model.proofs.PageLemmas.{least_below_none, length_items, map_none}
+use Rattle.bdb_format.specs.declared.pages.ItemFault.TheVariants.{Offset, Kind, Extent}
+use Rattle.bdb_format.specs.Numbers.{byte_at}
+use Rattle.bdb_format.specs.Page.{Metadata, BtreeFields, HashFields, QueueFields, Content, Inline, Chain, Tree, Unknown, Item, InternalItem, Listed, Page, Zero, Free, Meta, Hash, Internal, RecnoInternal, Leaf, RecnoLeaf, DupLeaf, Overflow, Queue, NoType, PageType, FreePage, HashPage, InternalPage, RecnoInternalPage, LeafPage, RecnoLeafPage, OverflowPage, HashMetaPage, BtreeMetaPage, QueueMetaPage, QueuePage, DupLeafPage, OtherPage}
+use Rattle.bdb_format.specs.Reading.{abstract_page, entries_of, internal_item_at, is_zero, kind_at, leaf_item_at, listed, offset_of, page_as, page_type, recno_item_at}
+use Rattle.bdb_format.specs.References.{has_type, no_item}
+use Rattle.bdb_format.specs.Rows.{form_code, identity_rows, is_leaf_kind, leaf_rows, listed_code, may_have_type, type_of, typed_code}
+use Rattle.bdb_format.specs.Table.{first_row}
+use Rattle.bdb_format.proofs.GraphLemmas.{typed_none, type_fits, queue_types}
+use Rattle.bdb_format.proofs.ItemLemmas.{IsIndexed, index_passes, no_index_row, no_item_row}
+use Rattle.bdb_format.proofs.PageLemmas.{later_type, length_items}
 use Rattle.bdb_graph.specs.Formed.{IsFormed}
 use Rattle.bdb_graph.proofs.FirstLemmas.{formed_page}
 use Rattle.bdb_tree.specs.Noted.{is_leaf_page}
 use Rattle.bdb_graph.proofs.HeldLemmas.{kind_is, last_page, page_is}
+use Rattle.bdb_format.proofs.LeafLemmas.{leaf_item_is}
+use Rattle.bdb_format.proofs.TypeLemmas.{of_type, if_type}
 
 -- Types.
-
--- a fact that holds for each of some types
-abbrev pub AllTypes : (Option ℕ → Type 0) → List ℕ → Type 0
-AllTypes P [] = Unit {0}
-AllTypes P (t ∷ ts) = P (Some t) × AllTypes P ts
-
-one_type : (P : Option ℕ → Type 0) (types : List ℕ) (t : ℕ) → AllTypes P types → list_any (λ type. type == t) types ≡ true → P (Some t)
-one_type P [] t all one = absurd cc
-one_type P (type ∷ types) t all one =
-    elim (type == t) as (λ b. (type == t) ≡ b → (b || list_any (λ other. other == t) types) ≡ true → P (Some t)) [
-      | true ↦ λ same some. subst (λ n. P (Some n)) (eqb-true type t same) all.0
-      | false ↦ λ same some. one_type P types t all.1 some
-    ] refl one
-
--- what holds for each of some types holds for one of them
-pub of_type : (P : Option ℕ → Type 0) (types : List ℕ) (type : Option ℕ) → AllTypes P types → has_type types type ≡ true → P type
-of_type P types None all has = absurd cc
-of_type P types (Some t) all has = one_type P types t all has
 
 -- Form.
 
@@ -71,10 +56,6 @@ IsFormedPage (Overflow header piece) = Unit {0}
 IsFormedPage (Queue number records) = Unit {0}
 IsFormedPage NoType = Unit {0}
 
-first_part : (first least : Option ℕ) → ◌≡◌ {A = Option ℕ} (elim first [ Some code ↦ Some code | None ↦ least ]) None → first ≡ None
-first_part None least none = refl
-first_part (Some code) least none = absurd cc
-
 three_false : {C : Type 0} (a b c : Bool) (x y z : C) → cond a (Some x) (cond b (Some y) (cond c (Some z) None)) ≡ None → (b ≡ false) × (c ≡ false)
 three_false true b c x y z none = absurd cc
 three_false false true c x y z none = absurd cc
@@ -82,10 +63,8 @@ three_false false false true x y z none = absurd cc
 three_false false false false x y z none = (refl, refl)
 
 -- no row of a page with an index holds: neither that of its level nor that of its entries
-tests : (order : Order) (page : List ℕ) (t : PageType) → listed_code order page t ≡ None → (is_wrong_level t (byte_at page 24) ≡ false) × (is_wrong_count t (entries_of order page) ≡ false)
-unfolding index_rows listed_code
-tests order page t none =
-    three_false _ (is_wrong_level t (byte_at page 24)) (is_wrong_count t (entries_of order page)) 19 20 21 (first_part (first_row (index_rows order page t)) (least_below (item_row t order page) (entries_of order page)) none)
+tests : (order : Order) (page : List ℕ) (t : PageType) → listed_code order page t ≡ None → IsIndexed t order page
+tests order page t none = index_passes order page t (no_index_row order page t none)
 
 some_items : {I : Type 0} (order : Order) (page : List ℕ) (item_at : ℕ → I) → (entries_of order page == 0) ≡ false → 0 < length (listed order page item_at).items
 some_items order page item_at some =
@@ -96,13 +75,13 @@ internal_formed : (order : Order) (page : List ℕ) → listed_code order page I
 unfolding listed
 internal_formed order page none =
     let passed = tests order page InternalPage none in
-    (ltb-false (byte_at page 24) 2 passed.0, some_items order page (internal_item_at order page) passed.1)
+    (ltb-false (byte_at page 24) 2 passed.level, some_items order page (internal_item_at order page) passed.entries)
 
 recno_internal_formed : (order : Order) (page : List ℕ) → listed_code order page RecnoInternalPage ≡ None → IsFormedPage (page_as order page RecnoInternalPage)
 unfolding listed
 recno_internal_formed order page none =
     let passed = tests order page RecnoInternalPage none in
-    (ltb-false (byte_at page 24) 2 passed.0, some_items order page (recno_item_at order page) passed.1)
+    (ltb-false (byte_at page 24) 2 passed.level, some_items order page (recno_item_at order page) passed.entries)
 
 leaf_level : (order : Order) (page : List ℕ) → not (byte_at page 24 == 1) ≡ false → (listed order page (leaf_item_at order page)).header.level ≡ 1
 unfolding listed
@@ -124,38 +103,20 @@ leaf_kind : (order : Order) (page : List ℕ) (index : ℕ) → first_row (leaf_
 unfolding leaf_rows
 leaf_kind order page index none = not-false _ (three_false _ (not (is_leaf_kind (byte_at page 25) index (kind_at page (offset_of order page index)))) _ Offset Kind Extent none).0
 
-items_none : (first least : Option ℕ) → ◌≡◌ {A = Option ℕ} (elim first [ Some code ↦ Some code | None ↦ least ]) None → least ≡ None
-items_none None least none = none
-items_none (Some code) least none = absurd cc
-
-leaf_row_none : (order : Order) (page : List ℕ) (index : ℕ) → listed_code order page LeafPage ≡ None → index < entries_of order page → first_row (leaf_rows order page index) ≡ None
-unfolding listed_code
-leaf_row_none order page index none below =
-    map_none item_code (first_row (leaf_rows order page index))
-    (least_below_none (item_row LeafPage order page) (entries_of order page) index (items_none (first_row (index_rows order page LeafPage)) (least_below (item_row LeafPage order page) (entries_of order page)) none) below)
-
 leaf_content_kind : (order : Order) (page : List ℕ) (index root : ℕ) → (leaf_item_at order page index).content ≡ Tree root → kind_at page (offset_of order page index) ≡ 2
 unfolding leaf_item_at
 leaf_content_kind order page index root is = eqb-true (kind_at page (offset_of order page index)) 2 (tree_content _ _ _ _ _ _ _ root is)
-
-leaf_items : (order : Order) (page : List ℕ) (i : ℕ) → i < entries_of order page → get_or (listed order page (leaf_item_at order page)).items i no_item ≡ leaf_item_at order page i
-unfolding listed
-leaf_items order page i below = get_or-map-range_with_len (leaf_item_at order page) 0 (entries_of order page) i i no_item below (omega arith)
 
 sets_are_data : (order : Order) (page : List ℕ) → listed_code order page LeafPage ≡ None → SetsAreData (listed order page (leaf_item_at order page))
 sets_are_data order page none i root below is =
     let inside : i < entries_of order page = omega (arith, length_items order page (leaf_item_at order page)) in
     odd_index (byte_at page 25) i (kind_at page (offset_of order page i))
-    (leaf_content_kind order page i root (ap (λ (item : Item). item.content) (sym (leaf_items order page i inside)) ∙ is))
-    (leaf_kind order page i (leaf_row_none order page i none inside))
+    (leaf_content_kind order page i root (ap (λ (item : Item). item.content) (sym (leaf_item_is order page i inside)) ∙ is))
+    (leaf_kind order page i (no_item_row order page LeafPage i none inside))
 
 hash_formed : (order : Order) (page : List ℕ) (byte : ℕ) → byte_at page 25 ≡ byte → has_type (3 ∷ 4 ∷ 5 ∷ 6 ∷ 12 ∷ []) (Some byte) ≡ false → IsFormedPage (page_as order page HashPage)
 unfolding listed
 hash_formed order page byte is other = ap (λ b. has_type (3 ∷ 4 ∷ 5 ∷ 6 ∷ 12 ∷ []) (Some b)) is ∙ other
-
-if_type : (P : PageType → Type 0) (b : Bool) (t u : PageType) → (b ≡ true → P t) → (b ≡ false → P u) → P (cond b t u)
-if_type P true t u here later = here refl
-if_type P false t u here later = later refl
 
 typed_formed : (head : Head) (number : ℕ) (page : List ℕ) → typed_code head number page (page_type (byte_at page 25)) ≡ None → IsFormedPage (page_as head.order page (page_type (byte_at page 25)))
 typed_formed head number page =
@@ -165,25 +126,15 @@ typed_formed head number page =
     if_type P (byte == 2) HashPage _ (λ is none. hash_formed head.order page 2 (eqb-true byte 2 is) refl) (λ _.
     if_type P (byte == 3) InternalPage _ (λ is none. internal_formed head.order page none) (λ _.
     if_type P (byte == 4) RecnoInternalPage _ (λ is none. recno_internal_formed head.order page none) (λ _.
-    if_type P (byte == 5) LeafPage _ (λ is none. (leaf_level head.order page (tests head.order page LeafPage none).0, sets_are_data head.order page none)) (λ _.
-    if_type P (byte == 6) RecnoLeafPage _ (λ is none. leaf_level head.order page (tests head.order page RecnoLeafPage none).0) (λ _.
+    if_type P (byte == 5) LeafPage _ (λ is none. (leaf_level head.order page (tests head.order page LeafPage none).level, sets_are_data head.order page none)) (λ _.
+    if_type P (byte == 6) RecnoLeafPage _ (λ is none. leaf_level head.order page (tests head.order page RecnoLeafPage none).level) (λ _.
     if_type P (byte == 7) OverflowPage _ (λ is none. tt) (λ _.
     if_type P (byte == 8) HashMetaPage _ (λ is none. tt) (λ _.
     if_type P (byte == 9) BtreeMetaPage _ (λ is none. tt) (λ _.
     if_type P (byte == 10) QueueMetaPage _ (λ is none. tt) (λ _.
     if_type P (byte == 11) QueuePage _ (λ is none. tt) (λ _.
-    if_type P (byte == 12) DupLeafPage _ (λ is none. leaf_level head.order page (tests head.order page DupLeafPage none).0) (λ _.
+    if_type P (byte == 12) DupLeafPage _ (λ is none. leaf_level head.order page (tests head.order page DupLeafPage none).level) (λ _.
     if_type P (byte == 13) HashPage OtherPage (λ is none. hash_formed head.order page 13 (eqb-true byte 13 is) refl) (λ _ none. tt)))))))))))))
-
-abbrev form_by : Bool → Option ℕ → Option ℕ → Option ℕ
-form_by empty first rest = elim empty [ true ↦ None | false ↦ elim first [ Some code ↦ Some code | None ↦ rest ] ]
-
-rest_none : (above zeros : Bool) (first rest : Option ℕ) → zeros ≡ false → form_by (above && zeros) first rest ≡ None → rest ≡ None
-rest_none above true first rest some none = absurd cc
-rest_none true false (Some code) rest some none = absurd cc
-rest_none false false (Some code) rest some none = absurd cc
-rest_none true false None rest some none = none
-rest_none false false None rest some none = none
 
 -- a page without a fault of form
 abstract_formed : (head : Head) (number : ℕ) (page : List ℕ) → form_code head number page ≡ None → IsFormedPage (abstract_page head.order page)
@@ -194,7 +145,7 @@ abstract_formed head number page none =
       | true ↦ λ _. tt
       | false ↦ λ some.
           typed_formed head number page
-          (rest_none (nat_lt 0 number) (is_zero page) (first_row (identity_rows head.order page number (may_have_type head.kind number))) (typed_code head number page (page_type byte)) some none)
+          (typed_none head number page some none)
     ] refl
 
 pub page_formed : (image : List ℕ) (head : Head) (p : ℕ) → IsFormed image head → p ≤ (file_of image).last → IsFormedPage (page_at (file_of image) p)
@@ -212,10 +163,6 @@ is_forest_page (Queue number records) = false
 is_forest_page NoType = false
 is_forest_page page = true
 
-queue_byte : (number byte : ℕ) → may_have_type QueueFile number byte ≡ true → (byte ≡ 10) ⊎ (byte ≡ 11)
-queue_byte zero byte may = inl (eqb-true byte 10 may)
-queue_byte (suc number) byte may = inr (eqb-true byte 11 may)
-
 queue_as : (order : Order) (page : List ℕ) (byte : ℕ) → (byte ≡ 10) ⊎ (byte ≡ 11) → is_forest_page (page_as order page (page_type byte)) ≡ false
 queue_as order page byte types =
     elim types [ inl is ↦ ap (λ b. is_forest_page (page_as order page (page_type b))) is | inr is ↦ ap (λ b. is_forest_page (page_as order page (page_type b))) is ]
@@ -226,7 +173,7 @@ queue_abstract head number page queue none =
     let byte : ℕ = byte_at page 25 in
     elim (is_zero page) as (λ zeros. is_zero page ≡ zeros → is_forest_page (elim zeros [ true ↦ Zero | false ↦ page_as head.order page (page_type byte) ]) ≡ false) [
       | true ↦ λ _. refl
-      | false ↦ λ some. queue_as head.order page byte (queue_byte number byte (ap (λ kind. may_have_type kind number byte) (sym queue) ∙ type_fits head number page some none))
+      | false ↦ λ some. queue_as head.order page byte (queue_types number byte (ap (λ kind. may_have_type kind number byte) (sym queue) ∙ type_fits head number page some none))
     ] refl
 
 pub no_queue : (image : List ℕ) (head : Head) (p : ℕ) → IsFormed image head → p ≤ (file_of image).last → is_forest_page (page_at (file_of image) p) ≡ true → (file_of image).kind ≡ QueueFile → ⊥
@@ -275,7 +222,7 @@ tree_shape NoType formed has = absurd cc
 
 -- The page of a type.
 
-same_type : (fields : Metadata) (t : ℕ) → has_type (3 ∷ 4 ∷ 5 ∷ 6 ∷ 12 ∷ []) (Some t) ≡ true → Some (metadata_type fields) ≡ Some t → ⊥
+same_type : (fields : Metadata) (t : ℕ) → has_type (3 ∷ 4 ∷ 5 ∷ 6 ∷ 12 ∷ []) (Some t) ≡ true → Some (type_of (kind_in fields)) ≡ Some t → ⊥
 same_type (BtreeFields meta) t has same = true≢false (sym has ∙ ap (has_type (3 ∷ 4 ∷ 5 ∷ 6 ∷ 12 ∷ [])) (sym same))
 same_type (HashFields meta) t has same = true≢false (sym has ∙ ap (has_type (3 ∷ 4 ∷ 5 ∷ 6 ∷ 12 ∷ [])) (sym same))
 same_type (QueueFields meta) t has same = true≢false (sym has ∙ ap (has_type (3 ∷ 4 ∷ 5 ∷ 6 ∷ 12 ∷ [])) (sym same))
@@ -332,8 +279,8 @@ leaf_shape page formed has = absurd cc
 pub tree_header : (view : PageView) → has_type (3 ∷ 4 ∷ 5 ∷ 6 ∷ 12 ∷ []) (type_in (page_seen view)) ≡ true → header_seen view ≡ header_in (page_seen view)
 tree_header (MetaView view) has = absurd (not_meta view.fields has)
   where
-    not_meta : (fields : Metadata) → has_type (3 ∷ 4 ∷ 5 ∷ 6 ∷ 12 ∷ []) (Some (metadata_type fields)) ≡ true → ⊥
-    not_meta fields has = same_type fields (metadata_type fields) has refl
+    not_meta : (fields : Metadata) → has_type (3 ∷ 4 ∷ 5 ∷ 6 ∷ 12 ∷ []) (Some (type_of (kind_in fields))) ≡ true → ⊥
+    not_meta fields has = same_type fields (type_of (kind_in fields)) has refl
 tree_header (QueueView view) has = absurd cc
 tree_header (ZeroView view) has = absurd cc
 tree_header (FreeView view) has = refl

@@ -1,10 +1,10 @@
 -- Stage 6 in its two parts.
 use Rattle.std.proofs.Common.{◌≡◌, ◌+◌, []}
-use Rattle.bdb_model.specs.Chains.{chain_rows}
-use Rattle.bdb_model.specs.File.{File}
-use Rattle.bdb_model.specs.Leaves.{tree_rows}
-use Rattle.bdb_model.specs.Verdict.{chain_faults, holding, structure_faults, structure_rows, tree_faults}
-use Rattle.bdb_model.proofs.VerdictLemmas.{AllFail, all_fail, no_codes_at, no_faults, none_holds}
+use Rattle.bdb_format.specs.Chains.{chain_rows}
+use Rattle.bdb_format.specs.File.{File}
+use Rattle.bdb_format.specs.Leaves.{tree_rows}
+use Rattle.bdb_format.specs.Verdict.{chain_faults, holding, structure_faults, structure_rows, tree_faults}
+use Rattle.bdb_format.proofs.VerdictLemmas.{AllFail, all_fail, no_codes_at, no_faults, none_holds}
 
 -- where neither a chain nor a leaf has a fault, no row of the stage holds
 pub no_structure_fault : (file : File) → chain_faults file ≡ [] → tree_faults file ≡ [] → structure_faults file ≡ []

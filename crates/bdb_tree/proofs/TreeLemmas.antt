@@ -5,42 +5,43 @@ use Rattle.std.specs.List.{Contains, enumerate_from, filter, flat_map, range_wit
 use Rattle.std.proofs.lemmas.Bool.{and_left, ne_eqb, cases_lt, eq-eqb, eqb-false, eqb-true, ltb-false, not-false, or_parts}
 use Rattle.std.proofs.lemmas.List.{get_or_past}
 use Rattle.std.proofs.lemmas.List.FromFn.{length-map-range_with_len}
-use Rattle.std.proofs.lemmas.List.Elements.{Contains-append_left, Contains-get_or}
-use Rattle.bdb_model.specs.declared.metadata.FileKind.{FileKind}
-use Rattle.bdb_model.specs.declared.metadata.FileKind.TheVariants.{Btree, Hash as HashFile, Queue as QueueFile}
-use Rattle.bdb_model.specs.declared.pages.RecnoItem.{RecnoItem}
-use Rattle.bdb_model.specs.declared.references.Reference.{Reference}
-use Rattle.bdb_model.specs.declared.references.Sort.{Sort}
-use Rattle.bdb_model.specs.declared.references.Sort.TheVariants.{Child, DuplicateRoot, Root, HashNext}
-use Rattle.bdb_model.specs.File.{File, file_of, header_in, page_at, page_bytes, type_in}
-use Rattle.bdb_model.specs.Reading.{abstract_page}
-use Rattle.bdb_model.specs.Graph.{Owner, all_references, held_by}
-use Rattle.bdb_model.specs.HeadOf.{head_of}
-use Rattle.bdb_model.specs.Leaves.{LeafPlace, children_in, is_root_reference, is_wrong_leaf, is_wrong_link, first_or_zero, leaf_places, leaves, leaves_in, leaves_under, places_from, root_references, tree_rows, wrong_leaf_types}
-use Rattle.bdb_model.specs.Numbers.{has_bit}
-use Rattle.bdb_model.specs.Page.{BtreeFields, Content, Tree, Item, InternalItem, Listed, Page, Meta, Hash, Internal, RecnoInternal, Leaf, RecnoLeaf, DupLeaf, NoType}
-use Rattle.bdb_model.specs.References.{asked_by, child_types, content_names, fit_code, fit_rows, has_type, is_asked, is_shared_key, is_zero_page, leaf_names, names_in, names_of, no_item, refs, root_types, unless_zero}
-use Rattle.bdb_model.specs.Table.{◌:?◌}
-use Rattle.bdb_model.specs.Verdict.{holding, reference_faults, structure_faults, structure_rows, tree_faults}
-use Rattle.bdb_model.proofs.GraphLemmas.{each_fits}
-use Rattle.bdb_model.proofs.MemberLemmas.{first_member, in_flat_map, in_map, in_range, later_member, member_cases, no_member, none_passes, of_flat_map, of_map, of_range}
-use Rattle.bdb_model.proofs.VerdictLemmas.{AllFail, all_fail, no_codes_at, no_faults, none_holds, none_is_first_row}
+use Rattle.std.proofs.lemmas.List.Elements.{Contains-get_or}
+use Rattle.bdb_format.specs.declared.metadata.FileKind.{FileKind}
+use Rattle.bdb_format.specs.declared.metadata.FileKind.TheVariants.{Btree, Hash as HashFile, Queue as QueueFile}
+use Rattle.bdb_format.specs.declared.pages.RecnoItem.{RecnoItem}
+use Rattle.bdb_format.specs.declared.references.Reference.{Reference}
+use Rattle.bdb_format.specs.declared.references.Sort.{Sort}
+use Rattle.bdb_format.specs.declared.references.Sort.TheVariants.{Child, DuplicateRoot, Root}
+use Rattle.bdb_format.specs.File.{File, file_of, header_in, page_at, page_bytes, type_in}
+use Rattle.bdb_format.specs.Reading.{abstract_page}
+use Rattle.bdb_format.specs.Graph.{Owner, all_references, held_by}
+use Rattle.bdb_format.specs.HeadOf.{head_of}
+use Rattle.bdb_format.specs.Leaves.{LeafPlace, children_in, is_root_reference, is_wrong_leaf, is_wrong_link, first_or_zero, leaf_places, leaves, leaves_in, leaves_under, places_from, root_references, tree_rows, wrong_leaf_types}
+use Rattle.bdb_format.specs.Page.{BtreeFields, Content, Tree, Item, InternalItem, Listed, Page, Meta, Hash, Internal, RecnoInternal, Leaf, RecnoLeaf, DupLeaf, NoType}
+use Rattle.bdb_format.specs.References.{asked_by, child_types, content_targets, fit_code, fit_rows, has_type, is_asked, is_shared_key, is_zero_page, targets_in, targets_of, no_item, refs, root_types, contents_in, internal_targets}
+use Rattle.bdb_format.specs.Table.{◌:?◌}
+use Rattle.bdb_format.specs.Verdict.{holding, reference_faults, structure_faults, structure_rows, tree_faults}
+use Rattle.bdb_format.proofs.GraphLemmas.{each_fits}
+use Rattle.bdb_format.proofs.MemberLemmas.{first_member, in_filter, in_flat_map, in_map, in_range, later_member, member_cases, no_member, none_passes, of_flat_map, of_map, of_range}
+use Rattle.bdb_format.proofs.VerdictLemmas.{AllFail, all_fail, no_codes_at, no_faults, none_holds, none_is_first_row}
+use Rattle.bdb_format.proofs.TargetLemmas.{held_named, own_held}
+use Rattle.bdb_format.specs.Flags.{is_recno}
 use Rattle.bdb_graph.specs.Linked.{FitsDupRoot, FitsLeafPage, FitsTreeRoot, IsForest, IsTarget}
-use Rattle.bdb_graph.proofs.ForestLemmas.{in_filter, sound_graph}
+use Rattle.bdb_graph.proofs.ForestLemmas.{sound_graph}
 use Rattle.bdb_form.specs.declared.view.PageView.{PageView}
 use Rattle.bdb_form.specs.Seen.{page_seen}
 use Rattle.bdb_tree.specs.Noted.{is_leaf_page}
 use Rattle.bdb_tree.specs.Trees.{IsRoot, IsTreePage}
-use Rattle.bdb_tree.proofs.ShapeLemmas.{AllTypes, IsFormedPage, IsInnerPage, IsLeafPage, SetsAreData, internal_of, dup_leaf_of, is_forest_page, leaf_of, leaf_shape, no_queue, of_type, page_formed, recno_internal_of, recno_leaf_of, tree_shape}
+use Rattle.bdb_tree.proofs.ShapeLemmas.{IsFormedPage, IsInnerPage, IsLeafPage, SetsAreData, internal_of, dup_leaf_of, is_forest_page, leaf_of, leaf_shape, no_queue, page_formed, recno_internal_of, recno_leaf_of, tree_shape}
+use Rattle.bdb_format.proofs.ListLemmas.{in_enumerated, only_member}
+use Rattle.bdb_format.proofs.BoolLemmas.{second_false, first_or_none}
+use Rattle.bdb_format.proofs.ReferenceLemmas.{forest_names, held_in_all, of_all, pages_counted}
+use Rattle.bdb_format.proofs.TypeLemmas.{AllTypes, of_type, either_types, keyed_below}
 
 abbrev pub level : File → ℕ → ℕ
 level file p = (header_in (page_at file p)).level
 
 -- Pages that are there.
-
-pages_counted : (image : List ℕ) → length (file_of image).pages ≡ (file_of image).last + 1
-unfolding file_of
-pages_counted image = length-map-range_with_len (λ p. abstract_page (head_of image).order (page_bytes (head_of image) image p)) 0 ((head_of image).last + 1)
 
 -- a page with a type is there
 pub typed_inside : (image types : List ℕ) (p : ℕ) → has_type types (type_in (page_at (file_of image) p)) ≡ true → p ≤ (file_of image).last
@@ -94,28 +95,15 @@ dup_leaf_page image p forest is =
 
 -- What a page names.
 
-forest_names : (kind : FileKind) (p : ℕ) (page : Page) → (kind ≡ QueueFile → ⊥) → names_of kind p page ≡ names_in p page
-forest_names Btree p page forest = refl
-forest_names HashFile p page forest = refl
-forest_names QueueFile p page forest = absurd (forest refl)
-
-in_enumerated : {X : Type 0} (n : ℕ) (xs : List X) (x : X) → Contains xs x → (i : ℕ) × Contains (enumerate_from n xs) (i, x)
-in_enumerated n [] x at = absurd (no_member [] x refl at)
-in_enumerated n (y ∷ ys) x at =
-    elim (member_cases y ys x at) [
-      | inl same ↦ (n, subst (λ z. Contains ((n, y) ∷ enumerate_from (n + 1) ys) (n, z)) same (first_member (n, y) (enumerate_from (n + 1) ys)))
-      | inr later ↦ let rest = in_enumerated (n + 1) ys x later in (rest.0, later_member (n, y) (enumerate_from (n + 1) ys) (rest.0, x) rest.1)
-    ]
-
 -- a reference of this sort to a page, which this page holds
 record Holds (file : File) (p : ℕ) (sort : Sort) (target : ℕ) : Type 0 where
   place : ℕ
   held : Contains (refs file p) (record { place = place; sort = sort; target = target })
 
-named_of : (file : File) (p : ℕ) (sort : Sort) (target : ℕ) → Contains (names_of file.kind p (page_at file p)) (sort, target) → Holds file p sort target
+named_of : (file : File) (p : ℕ) (sort : Sort) (target : ℕ) → Contains (targets_of file.kind p (page_at file p)) (sort, target) → Holds file p sort target
 unfolding refs
 named_of file p sort target at =
-    let names : List (Sort × ℕ) = names_of file.kind p (page_at file p) in
+    let names : List (Sort × ℕ) = targets_of file.kind p (page_at file p) in
     let found : (i : ℕ) × Contains (enumerate_from 0 names) (i, (sort, target)) = in_enumerated 0 names (sort, target) at in
     record {
       place = found.0;
@@ -124,7 +112,7 @@ named_of file p sort target at =
 
 -- a page that isn't one of a queue file holds a reference for each page that it names
 named : (image : List ℕ) (p : ℕ) (sort : Sort) (target : ℕ) → IsForest image → p ≤ (file_of image).last → is_forest_page (page_at (file_of image) p) ≡ true
-    → Contains (names_in p (page_at (file_of image) p)) (sort, target) → Holds (file_of image) p sort target
+    → Contains (targets_in p (page_at (file_of image) p)) (sort, target) → Holds (file_of image) p sort target
 named image p sort target forest low is at =
     let file : File = file_of image in
     named_of file p sort target
@@ -144,11 +132,6 @@ asks_kind Root = true
 asks_kind DuplicateRoot = true
 asks_kind sort = false
 
-or_none : (a b : Bool) → b ≡ false → not (a || b) ≡ false → a ≡ true
-or_none true b none passed = refl
-or_none false true none passed = absurd cc
-or_none false false none passed = absurd cc
-
 no_zero : (holder : ℕ) (page target : Page) (sort : Sort) → asks_kind sort ≡ true → ((asked_by holder page sort).or_zero && is_zero_page target) ≡ false
 no_zero holder page target Child is = refl
 no_zero holder page target Root is = refl
@@ -165,7 +148,7 @@ held_fits file p sort target none low kind holds =
     record {
       inside = ltb-false file.last target range.1;
       above = omega arith;
-      type = or_none _ _ (no_zero p (page_at file p) (page_at file target) sort kind) fail.1.0;
+      type = first_or_none _ _ (no_zero p (page_at file p) (page_at file target) sort kind) fail.1.0;
       level = not-false _ fail.1.1.0;
     }
 
@@ -177,11 +160,12 @@ child_named child names xs c each at =
     in_flat_map names xs found.0 (Child, c) found.1 (subst (λ n. Contains (names found.0) (Child, n)) found.2 (each found.0))
 
 -- an internal page names the pages below it
-page_names : (p : ℕ) (page : Page) (children : List ℕ) (c : ℕ) → children_in page ≡ Some children → Contains children c → Contains (names_in p page) (Child, c)
+page_names : (p : ℕ) (page : Page) (children : List ℕ) (c : ℕ) → children_in page ≡ Some children → Contains children c
+    → Contains (targets_in p page) (Child, c)
 page_names p (Internal page) children c are at =
     let same : map (λ (item : InternalItem). item.child) page.items ≡ children = cc in
-    child_named (λ (item : InternalItem). item.child) (λ (item : InternalItem). (Child, item.child) ∷ content_names item.key) page.items c
-    (λ item. first_member (Child, item.child) (content_names item.key)) (subst (λ cs. Contains cs c) (sym same) at)
+    child_named (λ (item : InternalItem). item.child) internal_targets page.items c
+    (λ item. first_member (Child, item.child) (content_targets item.key)) (subst (λ cs. Contains cs c) (sym same) at)
 page_names p (RecnoInternal page) children c are at =
     let same : map (λ (item : RecnoItem). item.child) page.items ≡ children = cc in
     let found : (item : RecnoItem) × Contains page.items item × (item.child ≡ c) = of_map (λ (item : RecnoItem). item.child) page.items c (subst (λ cs. Contains cs c) (sym same) at) in
@@ -197,10 +181,6 @@ inner_type : (page : Page) (children : List ℕ) → children_in page ≡ Some c
 inner_type (Internal page) children are = refl
 inner_type (RecnoInternal page) children are = refl
 inner_type page children are = absurd cc
-
-either_types : (P : Option ℕ → Type 0) (b : Bool) (xs ys : List ℕ) → AllTypes P xs → AllTypes P ys → AllTypes P (cond b xs ys)
-either_types P true xs ys first second = first
-either_types P false xs ys first second = second
 
 -- the types of children are types of trees
 child_tree : (page : Page) → AllTypes (λ type. has_type (3 ∷ 4 ∷ 5 ∷ 6 ∷ 12 ∷ []) type ≡ true) (child_types page)
@@ -249,7 +229,7 @@ leaves_above_none : (levels : ℕ) (file : File) (p : ℕ) → children_in (page
 unfolding leaves_in
 leaves_above_none levels file p none = ap (leaves_under (leaves_in levels file) p) none
 
--- a leaf is the only one at or below it
+-- a leaf is the only_member one at or below it
 pub leaves_of_leaf : (file : File) (p : ℕ) → IsLeafPage (page_at file p) → leaves file p ≡ p ∷ []
 leaves_of_leaf file p leaf = ap (λ n. leaves_in n file p) leaf.level ∙ leaves_above_none 0 file p leaf.none
 
@@ -284,10 +264,6 @@ tree_level image p forest tree =
 abbrev pub GoesDown : List ℕ → (ℕ → Type 0) → Type 0
 GoesDown image P = (p c : ℕ) (children : List ℕ) → P p → children_in (page_at (file_of image) p) ≡ Some children → Contains children c → P c
 
--- the one member of a list
-pub only : {X : Type 0} (x y : X) → Contains (x ∷ []) y → x ≡ y
-only x y at = elim (member_cases x [] y at) [ inl same ↦ same | inr later ↦ absurd (no_member [] y refl later) ]
-
 leaves_in_have : (levels : ℕ) (image : List ℕ) (P : ℕ → Type 0) (p q : ℕ) → IsForest image → GoesDown image P → level (file_of image) p ≡ levels → IsTreePage (file_of image) p → P p
     → Contains (leaves_in levels (file_of image) p) q → P q × FitsLeafPage (file_of image) q
 leaves_in_have zero image P p q forest down is tree here at = let high : 1 ≤ level (file_of image) p = tree_level image p forest tree in absurd (omega arith)
@@ -295,7 +271,7 @@ leaves_in_have (suc n) image P p q forest down is tree here at =
     let file : File = file_of image in
     elim (tree_cases image p forest tree) [
       | inr leaf ↦
-          let same : p ≡ q = only p q (subst (λ ps. Contains ps q) (leaves_above_none n file p leaf.none) at) in
+          let same : p ≡ q = only_member p q (subst (λ ps. Contains ps q) (leaves_above_none n file p leaf.none) at) in
           (subst P same here, subst (FitsLeafPage file) same leaf.type)
       | inl inner ↦
           let below : (c : ℕ) × Contains inner.children c × Contains (leaves_in n file c) q =
@@ -341,13 +317,6 @@ some_leaf image p forest tree = leaves_in_some (level (file_of image) p) image p
 abbrev pub HasTypeAt : File → List ℕ → ℕ → Type 0
 HasTypeAt file types p = has_type types (type_in (page_at file p)) ≡ true
 
--- the pages below one of a btree or of sorted duplicates
-keyed_below : (page : Page) (children : List ℕ) → has_type (3 ∷ 5 ∷ 12 ∷ []) (type_in page) ≡ true → children_in page ≡ Some children → AllTypes (λ type. has_type (3 ∷ 5 ∷ 12 ∷ []) type ≡ true) (child_types page)
-keyed_below (Internal page) children has are =
-    either_types (λ type. has_type (3 ∷ 5 ∷ 12 ∷ []) type ≡ true) (page.header.level == 2) (5 ∷ 12 ∷ []) (3 ∷ []) (refl, (refl, tt)) (refl, tt)
-keyed_below (RecnoInternal page) children has are = absurd cc
-keyed_below page children has are = absurd cc
-
 -- the pages below one of a recno or of unsorted duplicates
 recno_below : (page : Page) (children : List ℕ) → has_type (4 ∷ 6 ∷ []) (type_in page) ≡ true → children_in page ≡ Some children → AllTypes (λ type. has_type (4 ∷ 6 ∷ []) type ≡ true) (child_types page)
 recno_below (RecnoInternal page) children has are =
@@ -384,23 +353,6 @@ recno_leaf image p q forest has at =
 
 -- Roots.
 
--- a reference that a page holds is among all, and the other way round
-pub held_in_all : (file : File) (p : ℕ) (reference : Reference) → p ≤ file.last → Contains (refs file p) reference → Contains (all_references file) (record { holder = p; reference = reference })
-unfolding all_references
-held_in_all file p reference low held =
-    in_flat_map (held_by file) (range_with_len 0 (file.last + 1)) p (record { holder = p; reference = reference }) (in_range 0 (file.last + 1) p (omega arith) (omega arith))
-    (in_map (λ r. record { holder = p; reference = r }) (refs file p) reference held)
-
-pub held_of_all : (file : File) (owner : Owner) → Contains (all_references file) owner → (owner.holder ≤ file.last) × Contains (refs file owner.holder) owner.reference
-unfolding all_references
-held_of_all file owner at =
-    let page : (q : ℕ) × Contains (range_with_len 0 (file.last + 1)) q × Contains (held_by file q) owner = of_flat_map (held_by file) (range_with_len 0 (file.last + 1)) owner at in
-    let within : (0 ≤ page.0) × (page.0 < 0 + (file.last + 1)) = of_range 0 (file.last + 1) page.0 page.1 in
-    let held : (r : Reference) × Contains (refs file page.0) r × (record { holder = page.0; reference = r } ≡ owner) = of_map (λ r. record { holder = page.0; reference = r }) (refs file page.0) owner page.2 in (
-      subst (λ (o : Owner). o.holder ≤ file.last) held.2 (let low : page.0 ≤ file.last = omega (arith, within.1) in low),
-      subst (λ (o : Owner). Contains (refs file o.holder) o.reference) held.2 held.1,
-    )
-
 held_as : (file : File) (p : ℕ) (reference : Reference) (sort : Sort) (target : ℕ) → Contains (refs file p) reference → reference.sort ≡ sort → reference.target ≡ target → Holds file p sort target
 held_as file p reference sort target held sort_is target_is =
     record {
@@ -414,12 +366,13 @@ held_as file p reference sort target held sort_is target_is =
 root_fits : (image : List ℕ) (sort : Sort) (r : ℕ) → IsForest image → asks_kind sort ≡ true → (is : IsTarget (file_of image) sort r) → Fits (file_of image) is.owner.holder sort r
 root_fits image sort r forest kind is =
     let file : File = file_of image in
-    let held = held_of_all file is.owner is.held in
+    let held = of_all file is.owner is.held in
     held_fits file is.owner.holder sort r (sound_graph image forest.linked).references held.0 kind (held_as file is.owner.holder is.owner.reference sort r held.1 is.sort_is is.target_is)
 
 root_keyed_or_recno : (page : Page) (type : Option ℕ) → has_type (root_types page) type ≡ true → (has_type (3 ∷ 5 ∷ []) type ≡ true) ⊎ (has_type (4 ∷ 6 ∷ []) type ≡ true)
 root_keyed_or_recno (Meta (BtreeFields meta)) type has =
-    elim (has_bit meta.flags 0x02) as (λ b. has_type (cond b (4 ∷ 6 ∷ []) (3 ∷ 5 ∷ [])) type ≡ true → (has_type (3 ∷ 5 ∷ []) type ≡ true) ⊎ (has_type (4 ∷ 6 ∷ []) type ≡ true)) [
+    elim (is_recno meta) as (λ b. has_type (cond b (4 ∷ 6 ∷ []) (3 ∷ 5 ∷ [])) type ≡ true → (has_type (3 ∷ 5 ∷ []) type ≡ true)
+    ⊎ (has_type (4 ∷ 6 ∷ []) type ≡ true)) [
       | true ↦ λ recno. inr recno
       | false ↦ λ keyed. inl keyed
     ] has
@@ -450,19 +403,15 @@ root_is_tree image r forest is =
 -- the code of one of two rows that holds
 pub code_of_two : (a b : Bool) (code : ℕ) → Contains (holding (2 :? a ∷ 3 :? b ∷ [])) code → ((code ≡ 2) × (a ≡ true)) ⊎ ((code ≡ 3) × (b ≡ true))
 code_of_two true true code at =
-    elim (member_cases 2 (3 ∷ []) code at) [ inl same ↦ inl (sym same, refl) | inr later ↦ inr (sym (only 3 code later), refl) ]
-code_of_two true false code at = inl (sym (only 2 code at), refl)
-code_of_two false true code at = inr (sym (only 3 code at), refl)
+    elim (member_cases 2 (3 ∷ []) code at) [ inl same ↦ inl (sym same, refl) | inr later ↦ inr (sym (only_member 3 code later), refl) ]
+code_of_two true false code at = inl (sym (only_member 2 code at), refl)
+code_of_two false true code at = inr (sym (only_member 3 code at), refl)
 code_of_two false false code at = absurd (no_member [] code refl at)
 
 -- a place at which neither row of leaves holds
 pub record IsRightPlace (file : File) (place : LeafPlace) : Type 0 where
   pub type : is_wrong_leaf file place ≡ false
   pub link : is_wrong_link file place ≡ false
-
-false_part : (a b : Bool) → a ≡ true → (a && b) ≡ false → b ≡ false
-false_part true b is fails = fails
-false_part false b is fails = absurd cc
 
 -- where no leaf has a fault, no place of a leaf is wrong
 pub place_is_right : (file : File) (place : LeafPlace) → tree_faults file ≡ [] → place.leaf ≤ file.last → Contains (leaf_places file) place → IsRightPlace file place
@@ -472,8 +421,8 @@ place_is_right file place none low at =
     let fail : AllFail (tree_rows file p) = all_fail (tree_rows file p) (no_codes_at 6 0 (file.last + 1) p (λ page. holding (tree_rows file page)) none (omega arith) (omega arith)) in
     let here : (place.leaf == p) ≡ true = eq-eqb place.leaf p refl in
     record {
-      type = false_part (place.leaf == p) (is_wrong_leaf file place) here (none_passes (λ (other : LeafPlace). other.leaf == p && is_wrong_leaf file other) (leaf_places file) place fail.0 at);
-      link = false_part (place.leaf == p) (is_wrong_link file place) here (none_passes (λ (other : LeafPlace). other.leaf == p && is_wrong_link file other) (leaf_places file) place fail.1.0 at);
+      type = second_false (place.leaf == p) (is_wrong_leaf file place) here (none_passes (λ (other : LeafPlace). other.leaf == p && is_wrong_leaf file other) (leaf_places file) place fail.0 at);
+      link = second_false (place.leaf == p) (is_wrong_link file place) here (none_passes (λ (other : LeafPlace). other.leaf == p && is_wrong_link file other) (leaf_places file) place fail.1.0 at);
     }
 
 -- the faults of leaves are some of those of the stage
@@ -553,24 +502,31 @@ any_dup_leaf image r q forest none root at =
 -- Sets off the page.
 
 dup_named : (image : List ℕ) (p root : ℕ) → IsForest image → p ≤ (file_of image).last → is_forest_page (page_at (file_of image) p) ≡ true
-    → Contains (names_in p (page_at (file_of image) p)) (DuplicateRoot, root) → FitsDupRoot (file_of image) root
+    → Contains (targets_in p (page_at (file_of image) p)) (DuplicateRoot, root) → FitsDupRoot (file_of image) root
 dup_named image p root forest low is at =
     let file : File = file_of image in
     let holds : Holds file p DuplicateRoot root = named image p DuplicateRoot root forest low is at in
     let reference : Reference = record { place = holds.place; sort = DuplicateRoot; target = root } in
     record { owner = record { holder = p; reference = reference }; held = held_in_all file p reference low holds.held; sort_is = refl; target_is = refl }
 
-content_named : (content : Content) (root : ℕ) → content ≡ Tree root → Contains (content_names content) (DuplicateRoot, root)
-content_named content root is = subst (λ c. Contains (content_names c) (DuplicateRoot, root)) (sym is) (first_member (DuplicateRoot, root) [])
+content_named : (content : Content) (root : ℕ) → content ≡ Tree root → Contains (content_targets content) (DuplicateRoot, root)
+content_named content root is = subst (λ c. Contains (content_targets c) (DuplicateRoot, root)) (sym is) (first_member (DuplicateRoot, root) [])
+
+-- a set off the page that an item of a page is names the root of duplicates
+set_named : (image : List ℕ) (p root : ℕ) (page : Page) (content : Content) → IsForest image → p ≤ (file_of image).last → page_at (file_of image) p ≡ page
+    → is_forest_page page ≡ true
+    → Contains (contents_in page) content → content ≡ Tree root → FitsDupRoot (file_of image) root
+set_named image p root page content forest low is some held set =
+    dup_named image p root forest low (ap is_forest_page is ∙ some)
+    (subst (λ (q : Page). Contains (targets_in p q) (DuplicateRoot, root)) (sym is)
+    (held_named p page content (DuplicateRoot, root) held (content_named content root set)))
 
 -- data of a hash page that are a set off the page name the root of duplicates
 pub hash_dup_root : (image : List ℕ) (p i root : ℕ) (page : Listed Item) → IsForest image → p ≤ (file_of image).last → page_at (file_of image) p ≡ Hash page → i < length page.items
     → (get_or page.items i no_item).content ≡ Tree root → FitsDupRoot (file_of image) root
 hash_dup_root image p i root page forest low is below set =
-    let named_here : Contains (names_in p (Hash page)) (DuplicateRoot, root) =
-    Contains-append_left (flat_map (λ (item : Item). content_names item.content) page.items) (unless_zero HashNext page.header.next) (DuplicateRoot, root)
-    (in_flat_map (λ (item : Item). content_names item.content) page.items (get_or page.items i no_item) (DuplicateRoot, root) (Contains-get_or page.items i no_item below) (content_named _ root set)) in
-    dup_named image p root forest low (ap is_forest_page is) (subst (λ (q : Page). Contains (names_in p q) (DuplicateRoot, root)) (sym is) named_here)
+    set_named image p root (Hash page) (get_or page.items i no_item).content forest low is refl
+    (in_map (λ (item : Item). item.content) page.items (get_or page.items i no_item) (Contains-get_or page.items i no_item below)) set
 
 odd_not_shared : (offsets : List ℕ) (i : ℕ) → i % 2 ≡ 1 → is_shared_key offsets i ≡ false
 odd_not_shared offsets i odd =
@@ -584,8 +540,4 @@ pub leaf_dup_root : (image : List ℕ) (p i root : ℕ) (page : Listed Item) →
     → (get_or page.items i no_item).content ≡ Tree root → FitsDupRoot (file_of image) root
 leaf_dup_root image p i root page forest low is below set =
     let odd : i % 2 ≡ 1 = leaf_data (page_at (file_of image) p) page is (formed_at image p forest low) i root below set in
-    let names : leaf_names page i ≡ content_names (get_or page.items i no_item).content = ap (λ b. cond b [] (content_names (get_or page.items i no_item).content)) (odd_not_shared page.offsets i odd) in
-    let named_here : Contains (names_in p (Leaf page)) (DuplicateRoot, root) =
-    in_flat_map (leaf_names page) (range_with_len 0 (length page.items)) i (DuplicateRoot, root) (in_range 0 (length page.items) i (omega arith) (omega arith))
-    (subst (λ ns. Contains ns (DuplicateRoot, root)) (sym names) (content_named _ root set)) in
-    dup_named image p root forest low (ap is_forest_page is) (subst (λ (q : Page). Contains (names_in p q) (DuplicateRoot, root)) (sym is) named_here)
+    set_named image p root (Leaf page) (get_or page.items i no_item).content forest low is refl (own_held page i below (odd_not_shared page.offsets i odd)) set

@@ -1,19 +1,22 @@
 -- The way of a descent, page by page.
 use Rattle.std.proofs.Common.{◌≡◌, ℕ, zero, suc, ◌+◌, ◌<◌, ◌≤◌, Bool, true, false, cond, List, [], ◌∷◌, length, map, arith, refl, sym, ◌∙◌, ap, subst, inl, inr}
-use Rattle.std.specs.Prelude.{Option, Some, None, ◌==◌}
-use Rattle.std.specs.List.{Contains}
+use Rattle.std.specs.Prelude.{Option, Some, None, ◌==◌, not}
+use Rattle.std.specs.List.{Contains, filter, last_or}
+use Rattle.std.specs.Option.{unwrap_or}
+use Rattle.bdb_graph.specs.Slots.{no_internal_item}
 use Rattle.bdb_graph.specs.Linked.{FitsLeafPage, IsForest, IsTarget}
 use Rattle.bdb_graph.proofs.LinkedLemmas.{target_inside}
-use Rattle.bdb_model.specs.declared.references.Sort.TheVariants.{Root}
-use Rattle.bdb_model.specs.File.{File, file_of, page_at, type_in}
-use Rattle.bdb_model.specs.Page.{Page, InternalItem, Internal, Listed, RecnoInternal}
-use Rattle.bdb_model.specs.References.{child_types, has_type}
-use Rattle.bdb_model.proofs.MemberLemmas.{first_member, in_map, later_member}
-use Rattle.bdb_tree.specs.Descent.{AllMonotone, AllReadable, chosen, chosen_after, descent, go_on, next_below, steps_at}
+use Rattle.bdb_format.specs.declared.references.Sort.TheVariants.{Root}
+use Rattle.bdb_format.specs.File.{File, file_of, page_at, type_in}
+use Rattle.bdb_format.specs.Page.{Page, InternalItem, Internal, Listed, RecnoInternal}
+use Rattle.bdb_format.specs.References.{child_types, has_type}
+use Rattle.bdb_format.proofs.MemberLemmas.{first_member, in_map, later_member, member_cases, of_filter}
+use Rattle.bdb_tree.specs.Descent.{AllMonotone, AllReadable, chosen, descent, go_on, next_below, steps_at}
 use Rattle.bdb_tree.proofs.DescentLemmas.{internal_is, is_inner_below}
-use Rattle.bdb_model.specs.Leaves.{children_in}
-use Rattle.bdb_tree.proofs.ShapeLemmas.{IsLeafPage, of_type}
+use Rattle.bdb_format.specs.Leaves.{children_in}
+use Rattle.bdb_tree.proofs.ShapeLemmas.{IsLeafPage}
 use Rattle.bdb_tree.proofs.TreeLemmas.{HasTypeAt, IsChild, child_is, level, tree_cases}
+use Rattle.bdb_format.proofs.TypeLemmas.{of_type, tree_keyed}
 
 -- where a page has one of the types of trees with keys
 abbrev pub IsKeyed : File → ℕ → Type 0
@@ -30,30 +33,24 @@ pub record IsOnWay (file : File) (reads : InternalItem → Type 0) (test : Inter
 
 -- The child that is chosen is one of the items.
 
-chosen_among_later : (test : InternalItem → Bool) (first : InternalItem) (items : List InternalItem) → (item : InternalItem) × Contains (first ∷ items) item × (item.child ≡ chosen_after test first.child items)
-chosen_among_later test first [] = (first, first_member first [], refl)
-chosen_among_later test first (next ∷ items) =
-    elim (test next) as (λ b. (item : InternalItem) × Contains (first ∷ (next ∷ items)) item × (item.child ≡ chosen_after test (cond b first.child next.child) items)) [
-      | true ↦
-          let rest : (item : InternalItem) × Contains (first ∷ items) item × (item.child ≡ chosen_after test first.child items) = chosen_among_later test first items in
-          (rest.0, past first next items rest.0 rest.1, rest.2)
-      | false ↦
-          let rest : (item : InternalItem) × Contains (next ∷ items) item × (item.child ≡ chosen_after test next.child items) = chosen_among_later test next items in
-          (rest.0, later_member first (next ∷ items) rest.0 rest.1, rest.2)
-    ]
-  where
-    past : (x y : InternalItem) (xs : List InternalItem) (z : InternalItem) → Contains (x ∷ xs) z → Contains (x ∷ (y ∷ xs)) z
-    past x y xs z (zero, low, at) = (zero, omega arith, at)
-    past x y xs z (suc k, low, at) = (suc (suc k), omega arith, at)
+last_among : (first : InternalItem) (items : List InternalItem) → Contains (first ∷ items) (unwrap_or (last_or (Some first) items) no_internal_item)
+last_among first [] = first_member first []
+last_among first (item ∷ items) = later_member first (item ∷ items) (unwrap_or (last_or (Some item) items) no_internal_item) (last_among item items)
 
 pub chosen_among : (test : InternalItem → Bool) (items : List InternalItem) → 0 < length items → (item : InternalItem) × Contains items item × (item.child ≡ chosen test items)
 chosen_among test [] some = absurd (omega arith)
-chosen_among test (item ∷ items) some = chosen_among_later test item items
+chosen_among test (first ∷ items) some =
+    let kept : List InternalItem = filter (λ item. not (test item)) items in
+    let last : InternalItem = unwrap_or (last_or (Some first) kept) no_internal_item in
+    let held : Contains (first ∷ items) last =
+    elim (member_cases first kept last (last_among first kept)) [
+      | inl same ↦ subst (Contains (first ∷ items)) same (first_member first items)
+      | inr later ↦ later_member first items last (of_filter (λ item. not (test item)) items last later).0
+    ]
+    in
+    (last, held, refl)
 
 -- The end of a descent: a page that is no internal page with keys.
-
-keyed_is_tree : (type : Option ℕ) → has_type (3 ∷ 5 ∷ 12 ∷ []) type ≡ true → has_type (3 ∷ 4 ∷ 5 ∷ 6 ∷ 12 ∷ []) type ≡ true
-keyed_is_tree type keyed = of_type (λ t. has_type (3 ∷ 4 ∷ 5 ∷ 6 ∷ 12 ∷ []) t ≡ true) (3 ∷ 5 ∷ 12 ∷ []) type (refl, (refl, (refl, tt))) keyed
 
 no_children : (test : InternalItem → Bool) (page : Page) (children : List ℕ) → None ≡ next_below test page → has_type (3 ∷ 5 ∷ 12 ∷ []) (type_in page) ≡ true → children_in page ≡ Some children → ⊥
 no_children test (Internal page) children none keyed some = cc
@@ -62,7 +59,7 @@ no_children test page children none keyed some = cc
 
 ends_at_leaf : (image : List ℕ) (test : InternalItem → Bool) (p : ℕ) → IsForest image → IsKeyed (file_of image) p → None ≡ next_below test (page_at (file_of image) p) → IsLeafPage (page_at (file_of image) p)
 ends_at_leaf image test p forest keyed none =
-    elim (tree_cases image p forest (keyed_is_tree (type_in (page_at (file_of image) p)) keyed)) [
+    elim (tree_cases image p forest (tree_keyed (type_in (page_at (file_of image) p)) keyed)) [
       | inl inner ↦ absurd (no_children test (page_at (file_of image) p) inner.children none keyed inner.are)
       | inr leaf ↦ leaf
     ]
@@ -149,7 +146,7 @@ on_way image reads test root began page child steps after forest way some count 
       way = record {
         inside = fits.inside;
         keyed = child_keyed (page_at file page) (type_in (page_at file child)) view at.1 fits.type;
-        readable = λ p below i inner is in_it. way.readable p below i (is_inner_below file page view child p at.1 held fits inner) is in_it;
+        readable = λ p below inner is. way.readable p below (is_inner_below file page view child p at.1 held fits inner) is;
         monotone = λ p below inner is. way.monotone p below (is_inner_below file page view child p at.1 held fits inner) is;
         same = sym (goes_on (level file child) file test page child some) ∙ (ap (λ n. descent n file test page) (let up : suc (level file child) ≡ level file page = omega (arith, fits.level) in up) ∙ way.same);
         cost = omega (arith, way.cost, count, ap steps_at at.1, fits.level);

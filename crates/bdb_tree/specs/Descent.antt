@@ -1,20 +1,20 @@
--- The way from the root of a tree down to a leaf, by the keys of internal pages. Source: docs/FORMAT.md, "Internal items".
-use Rattle.std.specs.Prelude.{◌≡◌, ◌≤◌, ◌<◌, ℕ, zero, suc, Bool, true, false, if◌then◌else◌, List, [], ◌∷◌, length, get_or, Option, Some, None}
-use Rattle.std.specs.List.{Contains}
-use Rattle.bdb_model.specs.ContentRows.{inner_pages}
-use Rattle.bdb_model.specs.File.{File, page_at}
+-- The way from the root of a tree down to a leaf, by the keys of internal pages. Source: docs/FORMAT.md, "Internal items (type 3)".
+use Rattle.std.specs.Prelude.{◌≡◌, ◌≤◌, ◌<◌, ℕ, zero, suc, Bool, true, false, not, List, [], ◌∷◌, length, get_or, Option, Some, None}
+use Rattle.std.specs.List.{Contains, filter, last_or}
+use Rattle.std.specs.Option.{unwrap_or}
+use Rattle.bdb_format.specs.ContentRows.{inner_pages}
+use Rattle.bdb_format.specs.File.{File, page_at}
 use Rattle.bdb_graph.specs.Slots.{no_internal_item}
-use Rattle.bdb_model.specs.Page.{InternalItem, Listed, Page, Internal}
+use Rattle.bdb_format.specs.Page.{InternalItem, Listed, Page, Internal}
 
--- the child of the last of these items for which the test is false, or else one that is chosen already
-abbrev pub chosen_after : (InternalItem → Bool) → ℕ → List InternalItem → ℕ
-chosen_after test child [] = child
-chosen_after test child (item ∷ items) = chosen_after test (if test item then child else item.child) items
+-- the items for which the test is false, the first item always counting so
+abbrev pub candidates : (InternalItem → Bool) → List InternalItem → List InternalItem
+candidates test [] = []
+candidates test (first ∷ items) = first ∷ filter (λ item. not (test item)) items
 
--- the child of the last item for which the test is false, the first item always counting so
+-- the child of the last of them
 abbrev pub chosen : (InternalItem → Bool) → List InternalItem → ℕ
-chosen test [] = 0
-chosen test (item ∷ items) = chosen_after test item.child items
+chosen test items = (unwrap_or (last_or None (candidates test items)) no_internal_item).child
 
 -- the page that a descent goes on to from an internal page with keys; it ends at another page
 abbrev pub next_below : (InternalItem → Bool) → Page → Option ℕ
@@ -36,11 +36,14 @@ unfoldable pub descent : ℕ → File → (InternalItem → Bool) → ℕ → �
 descent zero file test p = p
 descent (suc levels) file test p = go_on (descent levels file test) p (next_below test (page_at file p))
 
--- each item of the internal pages of a tree is one that can be read
+-- each item above index 0 can be read; the test isn't asked of the first
+abbrev pub AreReadable : (InternalItem → Type 0) → List InternalItem → Type 0
+AreReadable reads items = (i : ℕ) → 1 ≤ i → i < length items → reads (get_or items i no_internal_item)
+
+-- so it is on each internal page of a tree
 abbrev pub AllReadable : File → (InternalItem → Type 0) → ℕ → Type 0
 AllReadable file reads root =
-    (p : ℕ) (page : Listed InternalItem) (item : InternalItem) → Contains (inner_pages file root) p → page_at file p ≡ Internal page → Contains page.items item
-    → reads item
+    (p : ℕ) (page : Listed InternalItem) → Contains (inner_pages file root) p → page_at file p ≡ Internal page → AreReadable reads page.items
 
 -- once the test is true for an item above index 0, it's true for the later ones
 abbrev pub IsMonotone : (InternalItem → Bool) → List InternalItem → Type 0

@@ -1,15 +1,16 @@
 -- The faults of leaves as they are noted, tree by tree, and the least of them. Source: docs/FORMAT.md, "Faults".
 use Rattle.std.specs.Prelude.{◌≡◌, ◌⊎◌, ℕ, ◌+◌, ◌-◌, ◌<◌, ◌≤◌, ◌==◌, if◌then◌else◌, Bool, true, false, List, [], ◌∷◌, map, slice_index, Option, Some, None}
 use Rattle.std.specs.List.{Contains, flat_map}
-use Rattle.bdb_model.specs.declared.kinds.Fault.{Fault}
-use Rattle.bdb_model.specs.declared.references.Reference.{Reference}
-use Rattle.bdb_model.specs.declared.references.Sort.{Sort}
-use Rattle.bdb_model.specs.File.{File}
-use Rattle.bdb_model.specs.Leaves.{LeafPlace, is_root_reference, is_wrong_leaf, is_wrong_link, leaves, places_from}
-use Rattle.bdb_model.specs.Page.{Page, Leaf, RecnoLeaf, DupLeaf}
-use Rattle.bdb_model.specs.References.{refs}
-use Rattle.bdb_model.specs.Table.{Row, ◌:?◌, first_row}
-use Rattle.bdb_model.specs.Verdict.{alone}
+use Rattle.std.specs.Option.{option_to_list}
+use Rattle.bdb_format.specs.ByPage.{ComesFirst}
+use Rattle.bdb_format.specs.declared.kinds.Fault.{Fault}
+use Rattle.bdb_format.specs.declared.references.Reference.{Reference}
+use Rattle.bdb_format.specs.declared.references.Sort.{Sort}
+use Rattle.bdb_format.specs.File.{File}
+use Rattle.bdb_format.specs.Leaves.{LeafPlace, is_root_reference, is_wrong_leaf, is_wrong_link, leaves, places_from}
+use Rattle.bdb_format.specs.Page.{Page, Leaf, RecnoLeaf, DupLeaf}
+use Rattle.bdb_format.specs.References.{refs}
+use Rattle.bdb_format.specs.Table.{Row, ◌:?◌, first_row}
 
 -- a leaf of a tree
 abbrev pub is_leaf_page : Page → Bool
@@ -36,7 +37,7 @@ leaf_fault page code = record { stage = 6; page = page; code = code }
 
 -- the fault of the first row that holds there
 abbrev pub place_faults : File → LeafPlace → List Fault
-place_faults file place = map (leaf_fault place.leaf) (alone (first_row (place_rows file place)))
+place_faults file place = map (leaf_fault place.leaf) (option_to_list (first_row (place_rows file place)))
 
 -- those of the leaves of the tree that a reference names, if it names one
 abbrev pub root_faults : File → Reference → List Fault
@@ -46,10 +47,6 @@ root_faults file reference =
 -- those of the trees that a page names
 abbrev pub held_faults : File → ℕ → List Fault
 held_faults file p = flat_map (root_faults file) (refs file p)
-
--- by page and then by code
-abbrev pub ComesFirst : Fault → Fault → Type 0
-ComesFirst a b = (a.page < b.page) ⊎ ((a.page ≡ b.page) × (a.code ≤ b.code))
 
 pub record IsLeastOf (faults : List Fault) (fault : Fault) : Type 0 where
   pub holds : Contains faults fault

@@ -1,14 +1,10 @@
--- Pages of trees and their roots, and the faults that leaves can have. Source: docs/FORMAT.md, "References" and "Faults".
-use Rattle.std.specs.Prelude.{◌≡◌, ◌⊎◌, ℕ, IsTrue, List, [], ◌∷◌, Some}
+-- Pages of trees and their roots. Source: docs/FORMAT.md, "References".
+use Rattle.std.specs.Prelude.{◌⊎◌, ℕ, IsTrue, List, [], ◌∷◌}
 use Rattle.std.specs.Option.{unwrap_or}
-use Rattle.bdb_model.specs.declared.kinds.CheckError.{CheckError}
-use Rattle.bdb_model.specs.declared.kinds.CheckError.TheVariants.{Fault as FaultError, Memory}
-use Rattle.bdb_model.specs.File.{File, page_at, type_in}
-use Rattle.bdb_model.specs.Leaves.{children_in}
-use Rattle.bdb_model.specs.References.{has_type}
-use Rattle.bdb_model.specs.Verdict.{tree_faults}
+use Rattle.bdb_format.specs.File.{File, page_at, type_in}
+use Rattle.bdb_format.specs.Leaves.{children_in}
+use Rattle.bdb_format.specs.References.{has_type}
 use Rattle.bdb_graph.specs.Linked.{FitsDupRoot, FitsTreeRoot}
-use Rattle.bdb_graph.specs.Linking.{first_fault}
 
 -- an internal page or a leaf
 abbrev pub IsTreePage : File → ℕ → Type 0
@@ -21,8 +17,3 @@ IsRoot file p = FitsTreeRoot file p ⊎ FitsDupRoot file p
 -- the pages right below a page, in order; a leaf has none
 abbrev pub children_at : File → ℕ → List ℕ
 children_at file p = unwrap_or (children_in (page_at file p)) []
-
--- a refusal of the trees of a file is the first fault of a leaf, or want of memory
-abbrev pub IsTreeRefusal : File → CheckError → Type 0
-IsTreeRefusal file (FaultError fault) = first_fault (tree_faults file) ≡ Some fault
-IsTreeRefusal file Memory = Unit {0}

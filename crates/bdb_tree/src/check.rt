@@ -1,21 +1,21 @@
-ghost use Rattle.std.specs.Prelude.{◌≡◌, ◌<◌, ◌≤◌, ◌∷◌, ◌++◌, List, [], IfErr, IfOk, IsTrue, MatchBool, OnOk, length, not, ◌&&◌, ◌==◌, slice_index};
+ghost use Rattle.std.specs.Prelude.{◌≡◌, ◌<◌, ◌≤◌, ◌∷◌, ◌++◌, List, [], IfErr, IfOk, IsTrue, MatchBool, OnOk, length, ◌&&◌, ◌==◌, slice_index};
 ghost use Rattle.std.specs.List.{All, flat_map};
 ghost use Rattle.bdb_form.specs.Seen.{page_seen};
 ghost use Rattle.bdb_graph.specs.Linked.{FitsLeafPage};
-ghost use Rattle.bdb_graph.specs.Linking.{first_fault};
-ghost use Rattle.bdb_model.specs.declared.kinds.Fault.{Fault};
-ghost use Rattle.bdb_model.specs.File.{file_of, header_in, page_at, type_in};
-ghost use Rattle.bdb_model.specs.Leaves.{is_root_reference, places_from, wrong_leaf_types};
-ghost use Rattle.bdb_model.specs.References.{has_type};
-ghost use Rattle.bdb_model.specs.Table.{first_row};
-ghost use Rattle.bdb_model.specs.Verdict.{tree_faults};
-ghost use Rattle.bdb_tree.specs.Noted.{ComesFirst, IsLeast, held_faults, is_leaf_page, place_faults, place_in, place_rows, root_faults};
-ghost use Rattle.bdb_tree.specs.Trees.{IsTreePage, IsTreeRefusal};
+ghost use Rattle.bdb_format.specs.ByPage.{ComesFirst};
+ghost use Rattle.bdb_format.specs.declared.kinds.Fault.{Fault};
+ghost use Rattle.bdb_format.specs.File.{file_of, header_in, type_in};
+ghost use Rattle.bdb_format.specs.Leaves.{is_root_reference, places_from, wrong_leaf_types};
+ghost use Rattle.bdb_format.specs.References.{has_type};
+ghost use Rattle.bdb_format.specs.Table.{first_row};
+ghost use Rattle.bdb_format.specs.Verdict.{tree_faults, first_fault, IsFirstOf};
+ghost use Rattle.bdb_tree.specs.Noted.{IsLeast, held_faults, is_leaf_page, place_faults, place_in, place_rows, root_faults};
+ghost use Rattle.bdb_tree.specs.Trees.{IsTreePage};
 
 use crate::leaves_below;
 use bdb_form::PageView;
+use bdb_format::{CheckError, Fault};
 use bdb_graph::{Forest, Linked, Reference, Sort};
-use bdb_model::{CheckError, Fault};
 use std::alloc::{AllocError, Global};
 
 /// Whether a fault comes no later than another, by page and then by code.
@@ -184,7 +184,7 @@ fn least_fault(alloc: Global, forest: &Forest<'_>) -> Result<Option<Fault>, Allo
 /// `Memory` is want of memory.
 pub fn check_trees(alloc: Global, linked: &Linked<'_>) -> Result<(), CheckError>
     ensures accepted { OnOk result (tree_faults (file_of linked.now) ≡ []) }
-    ensures refusal { IfErr result (IsTreeRefusal (file_of linked.now)) }
+    ensures refusal { IfErr result (IsFirstOf (tree_faults (file_of linked.now))) }
 {
     match least_fault(alloc, &linked.forest()) {
         Ok(None) => Ok(()),

@@ -1,20 +1,19 @@
 ghost use Rattle.std.specs.Prelude.{◌≡◌, ◌+◌, ◌<◌, ◌≤◌, ◌∷◌, [], Bool, IsTrue, Some, length};
-ghost use Rattle.std.specs.List.{Contains};
 ghost use Rattle.bdb_layout.specs.Seen.{internal_item_seen};
 ghost use Rattle.bdb_graph.specs.Linked.{FitsLeafPage, FitsTreeRoot, IsForest};
-ghost use Rattle.bdb_model.specs.File.{file_of, header_in, page_at, type_in};
-ghost use Rattle.bdb_model.specs.Page.{InternalItem};
-ghost use Rattle.bdb_model.specs.References.{has_type};
-ghost use Rattle.bdb_tree.specs.Descent.{AllMonotone, AllReadable, IsLastFalse, IsMonotone, chosen, descent, next_below, steps_at};
+ghost use Rattle.bdb_format.specs.File.{file_of, header_in, page_at, type_in};
+ghost use Rattle.bdb_format.specs.Page.{InternalItem};
+ghost use Rattle.bdb_format.specs.References.{has_type};
+ghost use Rattle.bdb_tree.specs.Descent.{AllMonotone, AllReadable, AreReadable, IsLastFalse, IsMonotone, chosen, descent, next_below, steps_at};
 
 use bdb_form::{InternalView, PageView};
+use bdb_format::Steps;
 use bdb_graph::{Forest, LeafPage, Linked, Ref, TreeRoot};
-use bdb_model::Steps;
 use std::sync::ledger::Ledger;
 
 /// A key that is sought in a tree: what a descent asks of the items of internal pages.
 pub trait Separate {
-    /// The items whose keys it can read.
+    /// The items whose keys it can read. Of the first item of a page it is never asked.
     ghost reads: { Self → InternalItem → Type 0 };
 
     /// Whether the sought key is less than the item's.
@@ -30,7 +29,7 @@ pub trait Separate {
 /// what is left at each look.
 fn last_false<T: Separate>(page: &InternalView<'_>, test: &T) -> u16
     requires some { 0 < length page.now.items }
-    requires readable { (item : InternalItem) → Contains page.now.items item → T.reads test.now item }
+    requires readable { AreReadable (T.reads test.now) page.now.items }
     requires monotone { IsMonotone (T.says test.now) page.now.items }
     ensures { IsLastFalse (T.says test.now) page.now.items result }
 {
@@ -51,7 +50,7 @@ fn last_false<T: Separate>(page: &InternalView<'_>, test: &T) -> u16
 #[tactic(auto, using(crate::proofs::DescentLemmas::chosen_item))]
 fn chosen_child<T: Separate>(page: &InternalView<'_>, test: &T) -> u32
     requires some { 0 < length page.now.items }
-    requires readable { (item : InternalItem) → Contains page.now.items item → T.reads test.now item }
+    requires readable { AreReadable (T.reads test.now) page.now.items }
     requires monotone { IsMonotone (T.says test.now) page.now.items }
     ensures { result ≡ chosen (T.says test.now) page.now.items }
 {

@@ -1,7 +1,7 @@
 use Rattle.std.proofs.Common.{subst, sym}
 use Rattle.std.specs.Prelude.{◌&&◌, IfOk}
-use Rattle.bdb_model.specs.ContentRows.{has_wrong_count, is_wrong_at}
-use Rattle.bdb_model.specs.File.{file_of}
+use Rattle.bdb_format.specs.ContentRows.{has_wrong_count, is_wrong_at}
+use Rattle.bdb_format.specs.File.{file_of}
 use Rattle.bdb_btree.specs.Least.{IsLeastPage}
 use Rattle.bdb_btree.proofs.contents.counted.Goals as goal
 

@@ -1,9 +1,9 @@
 use Rattle.std.proofs.Common.{◌∙◌, None, cond, subst}
 use Rattle.std.specs.Prelude.{◌&&◌, Bool}
-use Rattle.bdb_model.specs.ContentRows.{has_duplicate, has_unsorted, has_wrong_count, has_wrong_separator, has_wrong_set, inner_pages, is_wrong_at}
-use Rattle.bdb_model.specs.Contents.{tree_pairs}
-use Rattle.bdb_model.specs.File.{file_of}
-use Rattle.bdb_model.specs.Numbers.{has_bit}
+use Rattle.bdb_format.specs.ContentRows.{has_duplicate, has_unsorted, has_wrong_count, has_wrong_separator, has_wrong_set, inner_pages, is_wrong_at}
+use Rattle.bdb_format.specs.Contents.{tree_pairs}
+use Rattle.bdb_format.specs.File.{file_of}
+use Rattle.bdb_format.specs.Numbers.{has_bit}
 use Rattle.bdb_btree.specs.Least.{IsLeastPage}
 use Rattle.bdb_btree.proofs.CheckLemmas.{btree_first, duplicate_guarded}
 use Rattle.bdb_btree.proofs.CountLemmas.{all_are_trees, keyed_is_tree}

@@ -1,6 +1,6 @@
 use Rattle.std.proofs.Common.{◌∙◌, ap, arith}
 use Rattle.std.specs.List.{fold}
-use Rattle.bdb_model.specs.File.{file_of}
+use Rattle.bdb_format.specs.File.{file_of}
 use Rattle.bdb_btree.specs.Counts.{count_page, no_pairs_counted}
 use Rattle.bdb_btree.proofs.CountLemmas.{tree_counted}
 use Rattle.bdb_btree.proofs.SeenLemmas.{fold_end, leaf_at}

@@ -1,7 +1,7 @@
 use Rattle.std.proofs.Common.{◌∙◌, ◌<◌, ◌^◌, ap, arith, lt-ltb, le-ltb}
 use Rattle.std.specs.Prelude.{nat_lt, ◌||◌}
 use Rattle.bdb_layout.specs.Seen.{internal_item_seen}
-use Rattle.bdb_model.specs.File.{file_of}
+use Rattle.bdb_format.specs.File.{file_of}
 use Rattle.bdb_btree.proofs.CountLemmas.{count_wrong, first_of_two, second_of_two}
 use Rattle.bdb_btree.proofs.counts.is_wrong_count.Goals as goal
 

@@ -1,5 +1,5 @@
 use Rattle.std.proofs.Common.{sym}
-use Rattle.bdb_model.specs.File.{file_of}
+use Rattle.bdb_format.specs.File.{file_of}
 use Rattle.bdb_btree.proofs.CountLemmas.{keyed_is_tree}
 use Rattle.bdb_btree.proofs.SeenLemmas.{items_fit}
 use Rattle.bdb_tree.proofs.TreeLemmas.{tree_inside}
@@ -11,4 +11,4 @@ page-requires c = tree_inside c.args.forest.now c.args.number (keyed_is_tree (fi
 pub is_wrong_view-requires : goal.is_wrong_view-requires
 is_wrong_view-requires c =
     items_fit c.args.forest.now c.args.number c.in-Internal.page c.head.ensures.forest
-    (tree_inside c.args.forest.now c.args.number (keyed_is_tree (file_of c.args.forest.now) c.args.number c.requires)) (sym c.in-Internal.ensures)
+    (tree_inside c.args.forest.now c.args.number (keyed_is_tree (file_of c.args.forest.now) c.args.number c.requires)) (sym c.in-Internal.ensures.page)

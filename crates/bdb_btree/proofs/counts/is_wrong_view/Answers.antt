@@ -1,7 +1,7 @@
 use Rattle.std.proofs.Common.{◌∙◌, sym}
 use Rattle.bdb_layout.specs.Seen.{internal_item_seen}
-use Rattle.bdb_model.specs.ContentRows.{is_wrong_count}
-use Rattle.bdb_model.specs.File.{file_of}
+use Rattle.bdb_format.specs.ContentRows.{is_wrong_count}
+use Rattle.bdb_format.specs.File.{file_of}
 use Rattle.bdb_btree.proofs.CountLemmas.{none_more, some_at}
 use Rattle.bdb_btree.proofs.counts.is_wrong_view.Goals as goal
 

@@ -1,7 +1,7 @@
 use Rattle.std.proofs.Common.{◌≡◌, false, take}
 use Rattle.std.specs.List.{list_any}
-use Rattle.bdb_model.specs.ContentRows.{is_wrong_count}
-use Rattle.bdb_model.specs.File.{file_of}
+use Rattle.bdb_format.specs.ContentRows.{is_wrong_count}
+use Rattle.bdb_format.specs.File.{file_of}
 use Rattle.bdb_btree.proofs.counts.is_wrong_view.Given as goal
 
 -- The counts of the items passed are right.

@@ -1,6 +1,6 @@
 use Rattle.std.proofs.Common.{◌∙◌, ℕ, None, arith, subst, sym}
-use Rattle.bdb_model.specs.ContentRows.{has_wrong_count, is_wrong_at}
-use Rattle.bdb_model.specs.File.{file_of, page_at}
+use Rattle.bdb_format.specs.ContentRows.{has_wrong_count, is_wrong_at}
+use Rattle.bdb_format.specs.File.{file_of, page_at}
 use Rattle.bdb_btree.specs.Least.{IsLeastPage, noting}
 use Rattle.bdb_btree.proofs.SeenLemmas.{fold_end, noted_pages}
 use Rattle.bdb_btree.proofs.counts.wrong_count.Goals as goal

@@ -1,7 +1,7 @@
 use Rattle.std.proofs.Common.{◌≡◌, ℕ, None, take}
 use Rattle.std.specs.List.{fold}
-use Rattle.bdb_model.specs.ContentRows.{has_wrong_count}
-use Rattle.bdb_model.specs.File.{file_of, page_at}
+use Rattle.bdb_format.specs.ContentRows.{has_wrong_count}
+use Rattle.bdb_format.specs.File.{file_of, page_at}
 use Rattle.bdb_btree.specs.Least.{noting}
 use Rattle.bdb_btree.proofs.counts.wrong_count.Given as goal
 

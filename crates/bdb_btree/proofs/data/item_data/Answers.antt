@@ -1,5 +1,5 @@
 use Rattle.std.proofs.Common.{inl, inr}
-use Rattle.bdb_model.specs.File.{file_of}
+use Rattle.bdb_format.specs.File.{file_of}
 use Rattle.bdb_overflow.specs.Datum.{datum_seen}
 use Rattle.bdb_btree.proofs.ScanLemmas.{chain_data, inline_data}
 use Rattle.bdb_btree.proofs.data.item_data.Goals as goal

@@ -1,6 +1,6 @@
 use Rattle.std.proofs.Common.{◌∙◌, ap}
 use Rattle.std.specs.List.{flat_map}
-use Rattle.bdb_model.specs.File.{file_of}
+use Rattle.bdb_format.specs.File.{file_of}
 use Rattle.bdb_btree.specs.Pairs.{pair_seen}
 use Rattle.bdb_btree.specs.Search.{data_under, from_key}
 use Rattle.bdb_btree.proofs.FindLemmas.{found_none, found_some, key_open, page_open}

@@ -1,8 +1,8 @@
 use Rattle.std.proofs.Common.{◌∙◌, [], ◌∷◌, ◌++◌, ap, arith}
 use Rattle.std.specs.List.{filter, flat_map}
 use Rattle.std.specs.Option.{is_some}
-use Rattle.bdb_model.specs.File.{file_of, page_at}
-use Rattle.bdb_model.specs.Leaves.{children_in}
+use Rattle.bdb_format.specs.File.{file_of, page_at}
+use Rattle.bdb_format.specs.Leaves.{children_in}
 use Rattle.bdb_tree.specs.Trees.{children_at}
 use Rattle.bdb_btree.proofs.InnerLemmas.{first_inner, first_tree, more_inner}
 use Rattle.bdb_btree.proofs.inner.inner_pages.Goals as goal

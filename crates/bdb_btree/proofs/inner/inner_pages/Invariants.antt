@@ -1,7 +1,7 @@
 use Rattle.std.proofs.Common.{◌≡◌, ◌++◌, ◌-◌}
 use Rattle.std.specs.List.{All}
-use Rattle.bdb_model.specs.ContentRows.{inner_in, inner_pages}
-use Rattle.bdb_model.specs.File.{file_of}
+use Rattle.bdb_format.specs.ContentRows.{inner_in, inner_pages}
+use Rattle.bdb_format.specs.File.{file_of}
 use Rattle.bdb_tree.specs.Trees.{IsTreePage}
 use Rattle.bdb_btree.proofs.inner.inner_pages.Given as goal
 

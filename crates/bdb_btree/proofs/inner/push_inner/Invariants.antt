@@ -1,8 +1,8 @@
 use Rattle.std.proofs.Common.{◌≡◌, ◌++◌, take}
 use Rattle.std.specs.List.{filter}
 use Rattle.std.specs.Option.{is_some}
-use Rattle.bdb_model.specs.File.{file_of, page_at}
-use Rattle.bdb_model.specs.Leaves.{children_in}
+use Rattle.bdb_format.specs.File.{file_of, page_at}
+use Rattle.bdb_format.specs.Leaves.{children_in}
 use Rattle.bdb_btree.proofs.inner.push_inner.Given as goal
 
 -- The internal pages among those passed are added.

@@ -1,6 +1,6 @@
 use Rattle.std.proofs.Common.{◌∙◌, ap, subst, sym}
-use Rattle.bdb_model.specs.Contents.{tree_pairs}
-use Rattle.bdb_model.specs.File.{file_of}
+use Rattle.bdb_format.specs.Contents.{tree_pairs}
+use Rattle.bdb_format.specs.File.{file_of}
 use Rattle.bdb_btree.specs.Pairs.{AreFit}
 use Rattle.bdb_btree.proofs.RowLemmas.{tree_pairs_fit}
 use Rattle.bdb_btree.proofs.leaf_pairs.pairs.Goals as goal

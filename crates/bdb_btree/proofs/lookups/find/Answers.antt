@@ -1,7 +1,7 @@
 use Rattle.std.proofs.Common.{◌≡◌, ℕ, true, ◌∷◌, [], List, ◌∙◌, subst, sym}
-use Rattle.bdb_model.specs.File.{file_of, page_at, type_in}
-use Rattle.bdb_model.specs.Page.{InternalItem}
-use Rattle.bdb_model.specs.References.{has_type}
+use Rattle.bdb_format.specs.File.{file_of, page_at, type_in}
+use Rattle.bdb_format.specs.Page.{InternalItem}
+use Rattle.bdb_format.specs.References.{has_type}
 use Rattle.bdb_overflow.specs.Datum.{FitsContent}
 use Rattle.bdb_tree.specs.Descent.{AllMonotone, AllReadable}
 use Rattle.bdb_btree.specs.Search.{is_below}

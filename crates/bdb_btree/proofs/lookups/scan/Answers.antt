@@ -1,8 +1,8 @@
 use Rattle.std.proofs.Common.{◌∙◌, ap, subst, sym}
 use Rattle.std.specs.List.{flat_map}
-use Rattle.bdb_model.specs.Contents.{tree_pairs}
-use Rattle.bdb_model.specs.File.{file_of}
-use Rattle.bdb_model.specs.Lists.{listed_pair}
+use Rattle.bdb_format.specs.Contents.{tree_pairs}
+use Rattle.bdb_format.specs.File.{file_of}
+use Rattle.bdb_format.specs.Lists.{listed_pair}
 use Rattle.bdb_graph.specs.Linked.{FitsTreeRoot}
 use Rattle.bdb_btree.specs.Search.{AreOpen}
 use Rattle.bdb_btree.proofs.ScanLemmas.{list_of_pairs, tree_open}

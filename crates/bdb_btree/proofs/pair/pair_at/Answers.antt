@@ -1,6 +1,6 @@
 use Rattle.std.proofs.Common.{◌*◌}
 use Rattle.bdb_layout.specs.Seen.{leaf_item_seen}
-use Rattle.bdb_model.specs.File.{file_of}
+use Rattle.bdb_format.specs.File.{file_of}
 use Rattle.bdb_overflow.proofs.ContentLemmas.{leaf_item_fits}
 use Rattle.bdb_btree.proofs.WalkLemmas.{pair_is}
 use Rattle.bdb_btree.proofs.pair.pair_at.Goals as goal

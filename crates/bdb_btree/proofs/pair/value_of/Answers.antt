@@ -1,4 +1,4 @@
-use Rattle.bdb_model.specs.File.{file_of}
+use Rattle.bdb_format.specs.File.{file_of}
 use Rattle.bdb_btree.proofs.WalkLemmas.{no_bytes}
 use Rattle.bdb_btree.proofs.pair.value_of.Goals as goal
 

@@ -1,7 +1,7 @@
 use Rattle.std.proofs.Common.{◌∙◌, ◌&&◌, ap, subst, sym}
-use Rattle.bdb_model.specs.ContentRows.{has_duplicate, has_unsorted, has_wrong_set}
-use Rattle.bdb_model.specs.Contents.{tree_pairs}
-use Rattle.bdb_model.specs.File.{file_of}
+use Rattle.bdb_format.specs.ContentRows.{has_duplicate, has_unsorted, has_wrong_set}
+use Rattle.bdb_format.specs.Contents.{tree_pairs}
+use Rattle.bdb_format.specs.File.{file_of}
 use Rattle.bdb_btree.specs.Least.{IsLeastPage}
 use Rattle.bdb_btree.specs.Rows.{has_wrong_order}
 use Rattle.bdb_btree.specs.declared.pair_rows.Passed.{Passed}

@@ -1,6 +1,6 @@
 use Rattle.std.proofs.Common.{◌∙◌, ap, subst, sym}
 use Rattle.std.specs.List.{fold}
-use Rattle.bdb_model.specs.File.{file_of}
+use Rattle.bdb_format.specs.File.{file_of}
 use Rattle.bdb_btree.specs.Pairs.{AreFit, pair_seen}
 use Rattle.bdb_btree.specs.Rows.{next_pair, no_pairs_passed}
 use Rattle.bdb_btree.proofs.RowLemmas.{first_fits, rest_fit, tree_pairs_fit}

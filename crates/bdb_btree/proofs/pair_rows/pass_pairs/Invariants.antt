@@ -1,7 +1,7 @@
 use Rattle.std.proofs.Common.{◌≡◌}
 use Rattle.std.specs.List.{fold}
-use Rattle.bdb_model.specs.Contents.{tree_pairs}
-use Rattle.bdb_model.specs.File.{file_of}
+use Rattle.bdb_format.specs.Contents.{tree_pairs}
+use Rattle.bdb_format.specs.File.{file_of}
 use Rattle.bdb_btree.specs.Pairs.{AreFit}
 use Rattle.bdb_btree.specs.Rows.{next_pair, no_pairs_passed}
 use Rattle.bdb_btree.proofs.pair_rows.pass_pairs.Given as goal

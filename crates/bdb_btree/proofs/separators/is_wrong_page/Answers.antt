@@ -8,4 +8,4 @@ page-requires c = tree_inside c.args.forest.now c.args.number c.requires
 
 pub is_wrong_view-requires : goal.is_wrong_view-requires
 is_wrong_view-requires c =
-    items_fit c.args.forest.now c.args.number c.in-Internal.page c.head.ensures.forest (tree_inside c.args.forest.now c.args.number c.requires) (sym c.in-Internal.ensures)
+    items_fit c.args.forest.now c.args.number c.in-Internal.page c.head.ensures.forest (tree_inside c.args.forest.now c.args.number c.requires) (sym c.in-Internal.ensures.page)

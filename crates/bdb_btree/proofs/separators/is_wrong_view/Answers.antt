@@ -1,5 +1,5 @@
 use Rattle.std.proofs.Common.{◌∙◌, ap}
-use Rattle.bdb_model.specs.File.{file_of}
+use Rattle.bdb_format.specs.File.{file_of}
 use Rattle.bdb_btree.specs.Bounds.{Bounds, see_items}
 use Rattle.bdb_btree.proofs.SeenLemmas.{page_wrong}
 use Rattle.bdb_btree.proofs.separators.is_wrong_view.Goals as goal

@@ -1,7 +1,7 @@
 use Rattle.std.proofs.Common.{◌∙◌, ap, subst, sym}
 use Rattle.std.specs.List.{flat_map}
-use Rattle.bdb_model.specs.Contents.{pairs_of}
-use Rattle.bdb_model.specs.File.{file_of}
+use Rattle.bdb_format.specs.Contents.{pairs_of}
+use Rattle.bdb_format.specs.File.{file_of}
 use Rattle.bdb_btree.specs.Pairs.{AreLeaves}
 use Rattle.bdb_btree.proofs.WalkLemmas.{are_leaves, pairs_of_tree}
 use Rattle.bdb_btree.proofs.walk.tree_pairs.Goals as goal

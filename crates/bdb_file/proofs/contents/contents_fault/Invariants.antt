@@ -1,7 +1,7 @@
 use Rattle.std.proofs.Common.{◌≡◌}
 use Rattle.std.specs.Prelude.{take}
-use Rattle.bdb_graph.specs.Linking.{meta_pages}
-use Rattle.bdb_model.specs.File.{file_of}
+use Rattle.bdb_graph.specs.Linked.{meta_pages}
+use Rattle.bdb_format.specs.File.{file_of}
 use Rattle.bdb_file.specs.Noted.{contents_at, earliest}
 use Rattle.bdb_file.proofs.contents.contents_fault.Given as goal
 

@@ -1,7 +1,7 @@
 use Rattle.std.proofs.Common.{◌≡◌}
 use Rattle.std.specs.Prelude.{take}
-use Rattle.bdb_graph.specs.Linking.{meta_pages}
-use Rattle.bdb_model.specs.File.{file_of}
+use Rattle.bdb_graph.specs.Linked.{meta_pages}
+use Rattle.bdb_format.specs.File.{file_of}
 use Rattle.bdb_file.specs.Entries.{naming_fault}
 use Rattle.bdb_file.specs.Noted.{earliest}
 use Rattle.bdb_file.proofs.counts.naming_fault.Given as goal

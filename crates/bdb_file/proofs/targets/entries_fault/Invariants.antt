@@ -1,7 +1,7 @@
 use Rattle.std.proofs.Common.{◌≡◌}
 use Rattle.std.specs.Prelude.{drop, None}
 use Rattle.std.specs.List.{fold}
-use Rattle.bdb_model.specs.File.{file_of}
+use Rattle.bdb_format.specs.File.{file_of}
 use Rattle.bdb_file.specs.Entries.{entry_fault}
 use Rattle.bdb_file.specs.Noted.{noting}
 use Rattle.bdb_file.proofs.targets.entries_fault.Given as goal

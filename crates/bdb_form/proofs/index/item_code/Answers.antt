@@ -1,9 +1,9 @@
 use Rattle.std.proofs.Common.{◌∙◌, ap}
 use Rattle.std.specs.Option.{option_map}
 use Rattle.std.specs.Result.{result_err}
-use Rattle.bdb_model.specs.Rows.{item_code, recno_rows}
-use Rattle.bdb_model.specs.Reading.{recno_item_at}
-use Rattle.bdb_model.proofs.PageLemmas.{answer_row}
+use Rattle.bdb_format.specs.Rows.{item_code, recno_rows}
+use Rattle.bdb_format.specs.Reading.{recno_item_at}
+use Rattle.bdb_format.proofs.PageLemmas.{answer_row}
 use Rattle.bdb_form.proofs.index.item_code.Goals as goal
 
 pub returns-in-RecnoInternal : goal.returns-in-RecnoInternal

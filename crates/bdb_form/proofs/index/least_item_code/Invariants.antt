@@ -1,7 +1,7 @@
 use Rattle.std.proofs.Common.{◌≡◌}
 use Rattle.bdb_form.specs.Indexed.{type_seen}
-use Rattle.bdb_model.specs.Rows.{item_row}
-use Rattle.bdb_model.specs.Table.{least_below}
+use Rattle.bdb_format.specs.Rows.{item_row}
+use Rattle.bdb_format.proofs.ItemLemmas.{least_below}
 use Rattle.bdb_form.proofs.index.least_item_code.Given as goal
 
 -- The least code of the items so far.

@@ -1,7 +1,7 @@
 use Rattle.std.proofs.Common.{◌≡◌, ◌∙◌, ap, arith, sym}
-use Rattle.bdb_model.specs.declared.metadata.Head.{Head}
-use Rattle.bdb_model.specs.File.{file_of}
-use Rattle.bdb_model.specs.Verdict.{reference_rows}
+use Rattle.bdb_format.specs.declared.metadata.Head.{Head}
+use Rattle.bdb_format.specs.File.{file_of}
+use Rattle.bdb_format.specs.Verdict.{reference_rows}
 use Rattle.bdb_graph.proofs.FitLemmas.{first_reference_fault, no_reference_fault, none_more}
 use Rattle.bdb_graph.proofs.HeldLemmas.{last_page}
 use Rattle.bdb_graph.proofs.fits.check_references.Goals as goal

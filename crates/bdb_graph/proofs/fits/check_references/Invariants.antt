@@ -1,5 +1,5 @@
-use Rattle.bdb_model.specs.File.{file_of}
-use Rattle.bdb_model.specs.Verdict.{reference_rows}
+use Rattle.bdb_format.specs.File.{file_of}
+use Rattle.bdb_format.specs.Verdict.{reference_rows}
 use Rattle.bdb_graph.proofs.FitLemmas.{NoneHold}
 use Rattle.bdb_graph.proofs.fits.check_references.Given as goal
 

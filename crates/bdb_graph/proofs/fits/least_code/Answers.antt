@@ -1,10 +1,10 @@
 use Rattle.std.proofs.Common.{◌∙◌, ap, sym}
 use Rattle.std.proofs.lemmas.List.{map-id}
 use Rattle.std.proofs.lemmas.Iterator.Consumers.{YieldsList-end, YieldsList-from_first}
-use Rattle.bdb_model.specs.declared.references.Reference.{Reference}
-use Rattle.bdb_model.specs.File.{File, file_of}
-use Rattle.bdb_model.specs.References.{fit_code, refs}
-use Rattle.bdb_model.specs.Table.{lesser}
+use Rattle.bdb_format.specs.declared.references.Reference.{Reference}
+use Rattle.bdb_format.specs.File.{File, file_of}
+use Rattle.bdb_format.specs.References.{fit_code, refs}
+use Rattle.bdb_format.specs.Table.{lesser}
 use Rattle.bdb_graph.proofs.FitLemmas.{least_failing, more_failing}
 use Rattle.bdb_graph.proofs.fits.least_code.Goals as goal
 

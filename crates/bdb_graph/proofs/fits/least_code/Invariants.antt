@@ -1,5 +1,5 @@
 use Rattle.std.proofs.Common.{◌≡◌}
-use Rattle.bdb_model.specs.File.{file_of}
+use Rattle.bdb_format.specs.File.{file_of}
 use Rattle.bdb_graph.proofs.FitLemmas.{least_failing}
 use Rattle.bdb_graph.proofs.fits.least_code.Given as goal
 

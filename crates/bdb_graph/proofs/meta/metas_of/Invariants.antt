@@ -1,4 +1,4 @@
-use Rattle.bdb_model.specs.File.{file_of}
+use Rattle.bdb_format.specs.File.{file_of}
 use Rattle.bdb_graph.specs.Metas.{AreMetasBelow}
 use Rattle.bdb_graph.proofs.meta.metas_of.Given as goal
 

@@ -1,8 +1,8 @@
 use Rattle.std.proofs.Common.{ℕ, List, ◌+◌, ◌∙◌, ◌<◌, ap, arith, sym}
 use Rattle.std.specs.Prelude.{Some}
 use Rattle.std.specs.Option.{option_map}
-use Rattle.bdb_model.specs.HeadOf.{form_fault}
-use Rattle.bdb_model.specs.Rows.{form_code}
+use Rattle.bdb_format.specs.HeadOf.{form_fault}
+use Rattle.bdb_format.specs.Rows.{form_code}
 use Rattle.bdb_graph.proofs.FormedLemmas.{IsPaged, accepted_paged}
 use Rattle.bdb_graph.proofs.FirstLemmas.{form_first, form_none, more_formed}
 use Rattle.bdb_graph.proofs.open.check_pages.Goals as goal

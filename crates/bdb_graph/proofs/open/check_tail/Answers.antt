@@ -1,6 +1,6 @@
 use Rattle.std.proofs.Common.{◌∙◌, ap, arith, sym}
 use Rattle.std.specs.Prelude.{Some}
-use Rattle.bdb_model.specs.Reading.{is_zero}
+use Rattle.bdb_format.specs.Reading.{is_zero}
 use Rattle.bdb_graph.proofs.FormedLemmas.{IsPaged, accepted_paged}
 use Rattle.bdb_graph.proofs.FirstLemmas.{more_zeros, tail_first, tail_none}
 use Rattle.bdb_graph.proofs.open.check_tail.Goals as goal

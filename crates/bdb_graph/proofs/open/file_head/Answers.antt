@@ -1,7 +1,7 @@
 use Rattle.std.proofs.Common.{◌≡◌, ◌∙◌, ap}
 use Rattle.std.specs.Prelude.{Some, None}
-use Rattle.bdb_model.specs.HeadOf.{head_fault, head_of, head_rows}
-use Rattle.bdb_model.specs.Table.{first_row}
+use Rattle.bdb_format.specs.HeadOf.{head_fault, head_of, head_rows}
+use Rattle.bdb_format.specs.Table.{first_row}
 use Rattle.bdb_graph.proofs.FirstLemmas.{faulted_value, head_none, head_refused}
 use Rattle.bdb_graph.proofs.open.file_head.Goals as goal
 

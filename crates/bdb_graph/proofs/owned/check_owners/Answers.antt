@@ -1,6 +1,6 @@
 use Rattle.bdb_graph.proofs.FitLemmas.{none_more}
-use Rattle.bdb_model.specs.File.{file_of}
-use Rattle.bdb_model.specs.Verdict.{ownership_rows}
+use Rattle.bdb_format.specs.File.{file_of}
+use Rattle.bdb_format.specs.Verdict.{ownership_rows}
 use Rattle.bdb_graph.proofs.owned.check_owners.Goals as goal
 
 -- No row holds at this page either.

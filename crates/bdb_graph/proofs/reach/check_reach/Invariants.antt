@@ -1,6 +1,6 @@
 use Rattle.bdb_graph.proofs.FitLemmas.{NoneHold}
-use Rattle.bdb_model.specs.File.{file_of}
-use Rattle.bdb_model.specs.Verdict.{reach_rows}
+use Rattle.bdb_format.specs.File.{file_of}
+use Rattle.bdb_format.specs.Verdict.{reach_rows}
 use Rattle.bdb_graph.proofs.reach.check_reach.Given as goal
 
 -- Each page passed reaches.

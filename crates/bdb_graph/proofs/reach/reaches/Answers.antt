@@ -1,8 +1,9 @@
 use Rattle.std.proofs.Common.{◌≡◌, ◌-◌, ◌∙◌, sym, ap, arith}
-use Rattle.bdb_model.specs.File.{file_of}
-use Rattle.bdb_model.specs.declared.metadata.Head.{Head}
-use Rattle.bdb_graph.proofs.ReachLemmas.{at_end, count_is, holder_there, last_turn, step_left, stuck}
+use Rattle.bdb_format.specs.File.{file_of}
+use Rattle.bdb_format.specs.declared.metadata.Head.{Head}
+use Rattle.bdb_graph.proofs.ReachLemmas.{at_end, holder_there, last_turn, step_left, stuck}
 use Rattle.bdb_graph.proofs.reach.reaches.Goals as goal
+use Rattle.bdb_format.proofs.ReferenceLemmas.{count_is}
 
 -- An anchor or a reserve is met.
 pub returns-then-is_end : goal.returns-then-is_end

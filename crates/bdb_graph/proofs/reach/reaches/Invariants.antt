@@ -1,6 +1,6 @@
 use Rattle.std.proofs.Common.{◌≡◌, ◌-◌, ◌≤◌}
-use Rattle.bdb_model.specs.File.{file_of}
-use Rattle.bdb_model.specs.Graph.{reaches_in}
+use Rattle.bdb_format.specs.File.{file_of}
+use Rattle.bdb_format.specs.Graph.{reaches_in}
 use Rattle.bdb_graph.proofs.reach.reaches.Given as goal
 
 -- The page reaches where the holder that was followed to does so in the turns left.

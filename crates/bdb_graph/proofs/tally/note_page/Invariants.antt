@@ -1,6 +1,6 @@
 use Rattle.std.proofs.Common.{◌≡◌, List, ◌++◌, map}
 use Rattle.bdb_graph.specs.Tallies.{AreTallies, owner}
-use Rattle.bdb_model.specs.Graph.{Owner}
+use Rattle.bdb_format.specs.Graph.{Owner}
 use Rattle.bdb_graph.proofs.tally.note_page.Given as goal
 
 -- The references so far are noted, and those that are left follow them.

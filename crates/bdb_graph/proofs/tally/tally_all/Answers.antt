@@ -2,8 +2,8 @@ use Rattle.std.proofs.Common.{◌≡◌, ◌+◌, ◌∙◌, length, arith, ap, 
 use Rattle.bdb_graph.specs.Tallies.{AreTallies, owner}
 use Rattle.bdb_graph.proofs.HeldLemmas.{last_page}
 use Rattle.bdb_graph.proofs.TallyLemmas.{held_below, tallied_all, tallied_more, written_back}
-use Rattle.bdb_model.specs.File.{file_of}
-use Rattle.bdb_model.specs.declared.metadata.Head.{Head}
+use Rattle.bdb_format.specs.File.{file_of}
+use Rattle.bdb_format.specs.declared.metadata.Head.{Head}
 use Rattle.bdb_graph.proofs.tally.tally_all.Goals as goal
 
 -- The references of this page are added to those of the pages before it.

@@ -1,7 +1,7 @@
 use Rattle.std.proofs.Common.{◌≡◌, ◌+◌, length}
 use Rattle.bdb_graph.specs.Tallies.{AreTallies}
 use Rattle.bdb_graph.proofs.TallyLemmas.{held_below}
-use Rattle.bdb_model.specs.File.{file_of}
+use Rattle.bdb_format.specs.File.{file_of}
 use Rattle.bdb_graph.proofs.tally.tally_all.Given as goal
 
 -- The references of the pages passed are counted, a step for each page.

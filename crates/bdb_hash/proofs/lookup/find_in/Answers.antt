@@ -1,7 +1,7 @@
 use Rattle.std.proofs.Common.{◌+◌, ap, ◌∙◌, arith}
 use Rattle.std.specs.List.{find}
 use Rattle.bdb_hash.specs.Told.{bucket_told, has_key, joined_pages}
-use Rattle.bdb_model.specs.File.{file_of}
+use Rattle.bdb_format.specs.File.{file_of}
 use Rattle.bdb_hash.proofs.LookupLemmas.{sought_found, sought_more, sought_none, sought_on}
 use Rattle.bdb_hash.proofs.lookup.find_in.Goals as goal
 

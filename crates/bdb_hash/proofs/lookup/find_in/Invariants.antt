@@ -1,6 +1,6 @@
 use Rattle.std.proofs.Common.{◌+◌}
 use Rattle.bdb_hash.specs.Told.{IsSought, bucket_told}
-use Rattle.bdb_model.specs.File.{file_of}
+use Rattle.bdb_format.specs.File.{file_of}
 use Rattle.bdb_hash.proofs.lookup.find_in.Given as goal
 
 -- No page passed has a pair with the key, and each took a step.

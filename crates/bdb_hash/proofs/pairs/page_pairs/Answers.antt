@@ -1,5 +1,5 @@
 use Rattle.std.proofs.Common.{sym, subst}
-use Rattle.bdb_model.specs.declared.pages.Header.{Header}
+use Rattle.bdb_format.specs.declared.pages.Header.{Header}
 use Rattle.bdb_hash.specs.Views.{IsOnWay}
 use Rattle.bdb_hash.proofs.BucketLemmas.{after_hash}
 use Rattle.bdb_hash.proofs.pairs.page_pairs.Goals as goal
@@ -7,4 +7,4 @@ use Rattle.bdb_hash.proofs.pairs.page_pairs.Goals as goal
 pub returns-in-Hash-clause-way : goal.returns-in-Hash-clause-way
 returns-in-Hash-clause-way c =
     subst (λ (header : Header). IsOnWay c.args.forest.now header.next) (sym c.header-next.ensures)
-    (after_hash c.args.forest.now c.args.page c.in-Hash.view c.requires.table c.requires.bucket.inside (sym c.in-Hash.ensures))
+    (after_hash c.args.forest.now c.args.page c.in-Hash.view c.requires.table c.requires.bucket.inside (sym c.in-Hash.ensures.page))

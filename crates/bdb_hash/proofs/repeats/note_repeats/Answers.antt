@@ -1,7 +1,10 @@
 use Rattle.std.proofs.Common.{◌∙◌, ap, refl, arith}
 use Rattle.bdb_hash.specs.Notes.{repeat_noted}
-use Rattle.bdb_hash.proofs.TableLemmas.{noted_on}
+use Rattle.bdb_hash.proofs.TableLemmas.{none_noted, noted_on}
 use Rattle.bdb_hash.proofs.repeats.note_repeats.Goals as goal
+
+pub loop-pair-init : goal.loop-pair-init
+loop-pair-init c = none_noted c.args.least c.new-keys.result c.args.pairs.now c.new-keys.ensures.empty
 
 pub loop-pair-preserved : goal.loop-pair-preserved
 loop-pair-preserved c =

@@ -1,4 +1,4 @@
-use Rattle.bdb_hash.specs.Notes.{IsNoted}
+use Rattle.bdb_hash.proofs.TableLemmas.{IsNoted}
 use Rattle.bdb_hash.proofs.repeats.note_repeats.Given as goal
 
 -- The pairs before this one are noted.

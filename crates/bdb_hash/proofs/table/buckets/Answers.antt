@@ -1,8 +1,8 @@
 use Rattle.std.proofs.Common.{◌≡◌, ◌≤◌, ap, arith}
 use Rattle.bdb_graph.proofs.LinkedLemmas.{bucket_few}
 use Rattle.bdb_hash.proofs.TableLemmas.{table_is}
-use Rattle.bdb_model.specs.declared.metadata.Head.{Head}
-use Rattle.bdb_model.specs.HeadOf.{head_of}
+use Rattle.bdb_format.specs.declared.metadata.Head.{Head}
+use Rattle.bdb_format.specs.HeadOf.{head_of}
 use Rattle.bdb_hash.proofs.table.buckets.Goals as goal
 
 -- The greatest bucket has a page, whose number isn't less.

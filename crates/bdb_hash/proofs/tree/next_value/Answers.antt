@@ -1,6 +1,6 @@
 use Rattle.std.proofs.Common.{◌≡◌, []}
 use Rattle.bdb_overflow.specs.Datum.{datum_seen}
-use Rattle.bdb_model.specs.File.{file_of}
+use Rattle.bdb_format.specs.File.{file_of}
 use Rattle.bdb_hash.proofs.DataLemmas.{next_inside, walked_first, walked_on}
 use Rattle.bdb_hash.proofs.tree.next_value.Goals as goal
 

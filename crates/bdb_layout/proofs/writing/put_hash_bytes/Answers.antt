@@ -1,5 +1,5 @@
 use Rattle.std.proofs.Common.{◌+◌, ◌∷◌, [], length, arith}
-use Rattle.bdb_model.proofs.SpellingLemmas.{wrote, wrote_next}
+use Rattle.bdb_format.proofs.SpellingLemmas.{wrote, wrote_next}
 use Rattle.bdb_layout.proofs.writing.put_hash_bytes.Goals as goal
 
 -- The bytes stand right behind the kind.

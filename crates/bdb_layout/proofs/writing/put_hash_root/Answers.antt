@@ -1,5 +1,5 @@
 use Rattle.std.proofs.Common.{◌+◌, ◌∷◌, [], arith}
-use Rattle.bdb_model.proofs.SpellingLemmas.{wrote, wrote_number}
+use Rattle.bdb_format.proofs.SpellingLemmas.{wrote, wrote_number}
 use Rattle.bdb_layout.proofs.writing.put_hash_root.Goals as goal
 
 -- The root stands right behind the four bytes of the kind.

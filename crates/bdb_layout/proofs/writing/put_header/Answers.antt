@@ -1,6 +1,6 @@
 use Rattle.std.proofs.Common.{◌∷◌, [], arith, append_assoc}
-use Rattle.bdb_model.specs.Spelling.{header_bytes, lsn_bytes}
-use Rattle.bdb_model.proofs.SpellingLemmas.{length-pair, wrote, wrote_as, wrote_next, wrote_number}
+use Rattle.bdb_format.specs.Spelling.{header_bytes, lsn_bytes}
+use Rattle.bdb_format.proofs.SpellingLemmas.{length-pair, wrote, wrote_as, wrote_next, wrote_number}
 use Rattle.bdb_layout.proofs.writing.put_header.Goals as goal
 
 -- The fields were written one behind the other.

@@ -1,6 +1,6 @@
 use Rattle.std.proofs.Common.{◌+◌, ◌++◌, ◌∷◌, [], arith, append_assoc}
-use Rattle.bdb_model.specs.Numbers.{spelled}
-use Rattle.bdb_model.proofs.SpellingLemmas.{length-spelled, length-pair, wrote, wrote_as, wrote_next}
+use Rattle.bdb_format.specs.Numbers.{spelled}
+use Rattle.bdb_format.proofs.SpellingLemmas.{length-spelled, length-pair, wrote, wrote_as, wrote_next}
 use Rattle.bdb_layout.proofs.writing.put_internal_start.Goals as goal
 
 -- The length, the kind and the two numbers stand one behind the other.

@@ -1,6 +1,6 @@
 use Rattle.std.proofs.Common.{◌+◌, ◌++◌, ◌∷◌, [], arith}
-use Rattle.bdb_model.specs.Numbers.{spelled}
-use Rattle.bdb_model.proofs.SpellingLemmas.{length-pair, wrote, wrote_next}
+use Rattle.bdb_format.specs.Numbers.{spelled}
+use Rattle.bdb_format.proofs.SpellingLemmas.{length-pair, wrote, wrote_next}
 use Rattle.bdb_layout.proofs.writing.put_off_page.Goals as goal
 
 -- The numbers stand right behind the four bytes of the kind.

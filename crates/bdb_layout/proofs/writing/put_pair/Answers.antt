@@ -1,6 +1,6 @@
 use Rattle.std.proofs.Common.{◌+◌, arith}
-use Rattle.bdb_model.specs.Numbers.{spelled}
-use Rattle.bdb_model.proofs.SpellingLemmas.{length-spelled, wrote, wrote_number}
+use Rattle.bdb_format.specs.Numbers.{spelled}
+use Rattle.bdb_format.proofs.SpellingLemmas.{length-spelled, wrote, wrote_number}
 use Rattle.bdb_layout.proofs.writing.put_pair.Goals as goal
 
 -- The second number stands right behind the first.

@@ -1,6 +1,6 @@
 use Rattle.std.proofs.Common.{arith}
-use Rattle.bdb_model.specs.Spelling.{recno_bytes}
-use Rattle.bdb_model.proofs.SpellingLemmas.{length-pair}
+use Rattle.bdb_format.specs.Spelling.{recno_bytes}
+use Rattle.bdb_format.proofs.SpellingLemmas.{length-pair}
 use Rattle.bdb_layout.proofs.writing.put_recno_item.Goals as goal
 
 pub put_pair-requires : goal.put_pair-requires

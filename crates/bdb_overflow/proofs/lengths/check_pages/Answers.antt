@@ -1,7 +1,7 @@
 use Rattle.std.proofs.Common.{◌≡◌, ◌+◌, ◌∙◌, ap, arith, sym}
-use Rattle.bdb_model.specs.declared.metadata.Head.{Head}
-use Rattle.bdb_model.specs.Chains.{chain_rows}
-use Rattle.bdb_model.specs.File.{file_of}
+use Rattle.bdb_format.specs.declared.metadata.Head.{Head}
+use Rattle.bdb_format.specs.Chains.{chain_rows}
+use Rattle.bdb_format.specs.File.{file_of}
 use Rattle.bdb_graph.proofs.FitLemmas.{none_more}
 use Rattle.bdb_graph.proofs.HeldLemmas.{last_page}
 use Rattle.bdb_overflow.proofs.LengthLemmas.{chains_first, chains_none, no_row}

@@ -1,6 +1,6 @@
 use Rattle.bdb_graph.proofs.FitLemmas.{NoneHold}
-use Rattle.bdb_model.specs.Chains.{chain_rows}
-use Rattle.bdb_model.specs.File.{file_of}
+use Rattle.bdb_format.specs.Chains.{chain_rows}
+use Rattle.bdb_format.specs.File.{file_of}
 use Rattle.bdb_overflow.proofs.lengths.check_pages.Given as goal
 
 -- No row holds at a page passed.

@@ -1,5 +1,5 @@
 use Rattle.std.proofs.Common.{◌+◌, ◌*◌, arith, sym}
-use Rattle.bdb_model.specs.File.{file_of}
+use Rattle.bdb_format.specs.File.{file_of}
 use Rattle.bdb_overflow.proofs.LengthLemmas.{hash_none, hash_some}
 use Rattle.bdb_overflow.proofs.lengths.pairs_have_wrong.Goals as goal
 use Rattle.bdb_overflow.proofs.lengths.pairs_have_wrong.Goals.{then-is_wrong_hash_key-via-then-is_wrong_hash_key, then-is_wrong_hash_key-via-else-is_wrong_hash_key+then-is_wrong_hash_value}

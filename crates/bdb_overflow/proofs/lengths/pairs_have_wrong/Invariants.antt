@@ -1,5 +1,5 @@
 use Rattle.std.proofs.Common.{◌*◌}
-use Rattle.bdb_model.specs.File.{file_of}
+use Rattle.bdb_format.specs.File.{file_of}
 use Rattle.bdb_overflow.specs.Lengths.{is_wrong_item}
 use Rattle.bdb_overflow.proofs.LengthLemmas.{NoneBelow}
 use Rattle.bdb_overflow.proofs.lengths.pairs_have_wrong.Given as goal

@@ -1,8 +1,8 @@
 use Rattle.std.proofs.Common.{◌≡◌, ℕ, List, None, not, ap, subst}
 use Rattle.std.proofs.lemmas.Bool.{eq-eqb, ne_eqb}
-use Rattle.bdb_model.specs.ContentRows.{has_wrong_record, inner_pages}
-use Rattle.bdb_model.specs.File.{file_of}
-use Rattle.bdb_model.specs.Leaves.{leaves}
+use Rattle.bdb_format.specs.ContentRows.{has_wrong_record, inner_pages}
+use Rattle.bdb_format.specs.File.{file_of}
+use Rattle.bdb_format.specs.Leaves.{leaves}
 use Rattle.bdb_recno.specs.Noted.{faults_on, noted_all}
 use Rattle.bdb_recno.proofs.ContentsLemmas.{counts_first, lengths_first}
 use Rattle.bdb_recno.proofs.CountLemmas.{count_faults}

@@ -1,5 +1,5 @@
 use Rattle.std.proofs.Common.{◌∙◌, arith}
-use Rattle.bdb_model.specs.File.{file_of}
+use Rattle.bdb_format.specs.File.{file_of}
 use Rattle.bdb_recno.proofs.CountLemmas.{all_counted, listed_leaf, too_many}
 use Rattle.bdb_recno.proofs.counts.has_entries.Goals as goal
 

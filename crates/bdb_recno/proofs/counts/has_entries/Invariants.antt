@@ -1,5 +1,5 @@
 use Rattle.std.proofs.Common.{◌≡◌, ◌+◌, length, take}
-use Rattle.bdb_model.specs.File.{file_of}
+use Rattle.bdb_format.specs.File.{file_of}
 use Rattle.bdb_recno.specs.Entries.{entries_on}
 use Rattle.bdb_recno.proofs.counts.has_entries.Given as goal
 

@@ -1,4 +1,4 @@
-use Rattle.bdb_model.specs.File.{file_of}
+use Rattle.bdb_format.specs.File.{file_of}
 use Rattle.bdb_recno.proofs.CountLemmas.{none_miscounts, one_miscounts}
 use Rattle.bdb_recno.proofs.counts.has_wrong_item.Goals as goal
 

@@ -1,5 +1,5 @@
 use Rattle.std.proofs.Common.{◌∙◌, ◌++◌, ◌∷◌, [], List, ℕ, ap, arith}
-use Rattle.bdb_model.specs.File.{file_of}
+use Rattle.bdb_format.specs.File.{file_of}
 use Rattle.bdb_recno.proofs.CountLemmas.{count_faults, level_below, noted_more, noted_none}
 use Rattle.bdb_recno.specs.Noted.{noted_all}
 use Rattle.bdb_recno.proofs.counts.note_counts.Goals as goal

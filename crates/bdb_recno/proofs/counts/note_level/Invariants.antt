@@ -1,6 +1,6 @@
 use Rattle.std.proofs.Common.{◌≡◌, take}
-use Rattle.bdb_model.specs.ContentRows.{has_wrong_count}
-use Rattle.bdb_model.specs.File.{file_of}
+use Rattle.bdb_format.specs.ContentRows.{has_wrong_count}
+use Rattle.bdb_format.specs.File.{file_of}
 use Rattle.bdb_recno.specs.Noted.{faults_on, noted_all}
 use Rattle.bdb_recno.proofs.counts.note_level.Given as goal
 

@@ -1,6 +1,6 @@
 use Rattle.std.proofs.Common.{◌≡◌, ◌∙◌, ◌∷◌, List, ap, subst, sym}
-use Rattle.bdb_model.specs.File.{file_of}
-use Rattle.bdb_model.specs.Page.{Item}
+use Rattle.bdb_format.specs.File.{file_of}
+use Rattle.bdb_format.specs.Page.{Item}
 use Rattle.bdb_recno.specs.Entries.{all_left}
 use Rattle.bdb_recno.specs.Pages.{IsRecnoLeaf}
 use Rattle.bdb_recno.proofs.ScanLemmas.{next_leaf, rest_are}

@@ -1,6 +1,6 @@
 use Rattle.std.proofs.Common.{◌≡◌, length}
 use Rattle.std.specs.List.{All}
-use Rattle.bdb_model.specs.File.{file_of}
+use Rattle.bdb_format.specs.File.{file_of}
 use Rattle.bdb_recno.specs.Entries.{all_left}
 use Rattle.bdb_recno.specs.Pages.{IsRecnoLeaf}
 use Rattle.bdb_recno.proofs.entries.next_item.Given as goal

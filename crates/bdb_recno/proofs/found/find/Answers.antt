@@ -1,5 +1,5 @@
 use Rattle.std.proofs.Common.{ℕ, List, subst, sym}
-use Rattle.bdb_model.specs.File.{file_of}
+use Rattle.bdb_format.specs.File.{file_of}
 use Rattle.bdb_recno.specs.Counts.{HasRightCounts}
 use Rattle.bdb_recno.proofs.ContentsLemmas.{right_counts}
 use Rattle.bdb_recno.proofs.found.find.Goals as goal

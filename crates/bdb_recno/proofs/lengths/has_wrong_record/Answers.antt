@@ -1,5 +1,5 @@
 use Rattle.bdb_layout.specs.Seen.{leaf_item_seen}
-use Rattle.bdb_model.specs.File.{file_of}
+use Rattle.bdb_format.specs.File.{file_of}
 use Rattle.bdb_recno.proofs.EntryLemmas.{item_is_record, none_wrong, one_wrong}
 use Rattle.bdb_recno.proofs.lengths.has_wrong_record.Goals as goal
 

@@ -1,7 +1,7 @@
 use Rattle.std.proofs.Common.{◌∙◌, ℕ}
 use Rattle.std.proofs.lemmas.Iterator.Consumers.{YieldsList-turn, YieldsList-from_first}
-use Rattle.bdb_model.specs.File.{file_of}
-use Rattle.bdb_model.specs.Leaves.{leaves}
+use Rattle.bdb_format.specs.File.{file_of}
+use Rattle.bdb_format.specs.Leaves.{leaves}
 use Rattle.bdb_recno.proofs.PageLemmas.{turned_leaf}
 use Rattle.bdb_recno.proofs.lengths.note_lengths.Goals as goal
 

@@ -1,6 +1,6 @@
 use Rattle.std.proofs.Common.{◌≡◌}
-use Rattle.bdb_model.specs.ContentRows.{has_wrong_record}
-use Rattle.bdb_model.specs.File.{file_of}
+use Rattle.bdb_format.specs.ContentRows.{has_wrong_record}
+use Rattle.bdb_format.specs.File.{file_of}
 use Rattle.bdb_recno.specs.Noted.{faults_on, noted_all}
 use Rattle.bdb_recno.proofs.lengths.note_lengths.Given as goal
 

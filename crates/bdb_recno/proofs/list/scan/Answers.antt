@@ -1,7 +1,7 @@
 use Rattle.std.proofs.Common.{◌≡◌, ◌∙◌, ℕ, List, ap, subst, sym}
 use Rattle.std.specs.List.{enumerate_from}
-use Rattle.bdb_model.specs.Contents.{tree_entries}
-use Rattle.bdb_model.specs.File.{file_of}
+use Rattle.bdb_format.specs.Contents.{tree_entries}
+use Rattle.bdb_format.specs.File.{file_of}
 use Rattle.bdb_recno.specs.Entries.{AreRecords, listed_of}
 use Rattle.bdb_recno.proofs.ScanLemmas.{all_are_records, listed_all}
 use Rattle.bdb_recno.proofs.list.scan.Goals as goal

@@ -1,6 +1,6 @@
 use Rattle.std.proofs.Common.{ℕ}
-use Rattle.bdb_model.specs.File.{file_of}
-use Rattle.bdb_model.specs.Page.{Item}
+use Rattle.bdb_format.specs.File.{file_of}
+use Rattle.bdb_format.specs.Page.{Item}
 use Rattle.bdb_recno.specs.Entries.{listed_of}
 use Rattle.bdb_recno.specs.Pages.{IsRecord}
 use Rattle.bdb_recno.specs.Pairs.{entry_seen}

@@ -1,5 +1,5 @@
 use Rattle.std.proofs.Common.{◌≡◌, length}
-use Rattle.bdb_model.specs.File.{file_of}
+use Rattle.bdb_format.specs.File.{file_of}
 use Rattle.bdb_recno.specs.Entries.{AreRecords, listed_of}
 use Rattle.bdb_recno.proofs.listing.next_live.Given as goal
 

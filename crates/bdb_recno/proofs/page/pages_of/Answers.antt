@@ -1,7 +1,7 @@
 use Rattle.std.proofs.Common.{arith, ap, subst}
-use Rattle.bdb_model.specs.declared.metadata.Head.{Head}
-use Rattle.bdb_model.specs.File.{file_of}
-use Rattle.bdb_model.specs.HeadOf.{head_of}
+use Rattle.bdb_format.specs.declared.metadata.Head.{Head}
+use Rattle.bdb_format.specs.File.{file_of}
+use Rattle.bdb_format.specs.HeadOf.{head_of}
 use Rattle.bdb_graph.proofs.LinkedLemmas.{root_inside}
 use Rattle.bdb_graph.specs.Linked.{FitsTreeRoot}
 use Rattle.bdb_recno.proofs.PageLemmas.{root_recno}

@@ -1,11 +1,11 @@
 use Rattle.std.proofs.Common.{sym}
-use Rattle.bdb_tool.proofs.StepLemmas.{no_row}
+use Rattle.bdb_tool.proofs.StepLemmas.{left_first, left_more}
 use Rattle.bdb_tool.proofs.options.option_word.Goals as goal
 
-pub returns-else-eq-4 : goal.returns-else-eq-4
-returns-else-eq-4 c =
-    rw c.if-not-is_get.false (no_row c.args.word.now
-    (rw c.as_slice.ensures at (sym c.if-eq.ensures))
-    (rw c.as_slice-else-not-is_get.ensures at (sym c.if-eq-2.ensures))
-    (rw c.as_slice-else-eq-2.ensures at (sym c.if-eq-3.ensures))
-    (rw c.as_slice-else-eq-3.ensures at (sym c.if-eq-4.ensures)))
+pub loop-option-preserved : goal.loop-option-preserved
+loop-option-preserved c =
+    left_more c.args.options.now c.args.word.now c.loop-option.option-index _ c.loop-option-test.true c.loop-option.invariant (rw c.word_of.ensures at (sym c.if-eq.ensures))
+
+pub returns-then-eq : goal.returns-then-eq
+returns-then-eq c =
+    left_first c.args.options.now c.args.word.now c.loop-option.option-index _ c.loop-option-test.true c.loop-option.invariant (rw c.word_of.ensures at (sym c.if-eq.ensures))

@@ -1,7 +1,7 @@
-use Rattle.std.proofs.Common.{arith, false, refl, sym, true, ◌+◌, ◌∙◌}
+use Rattle.std.proofs.Common.{map, arith, false, refl, sym, true, ◌+◌, ◌∙◌}
 use Rattle.std.proofs.lemmas.Option.{slice_get_within}
 use Rattle.bdb_tool.specs.declared.options.Step.TheVariants.{Given}
-use Rattle.bdb_tool.specs.WordsSeen.{IsStep, options_of, word_count}
+use Rattle.bdb_tool.specs.WordsSeen.{IsStep, row_seen, word_count}
 use Rattle.bdb_tool.proofs.StepLemmas.{option_test, past_place, step_ends, step_given, step_lacks, step_operand, step_unknown}
 use Rattle.bdb_tool.proofs.options.step_at.Goals as goal
 
@@ -38,7 +38,7 @@ returns-in_err-option c =
     c.in_ok-option_word.ensures c.in_err-option.ensures.0 (sym c.in_err-option.ensures.1 ∙ c.get-2.ensures))
 
 -- the step that takes the option
-taken : (c : goal.After-word_count) → IsStep (options_of c.args.is_get) c.args.words.now c.args.at (Given c.in_ok-option.option (c.args.at + word_count c.in_ok-option.option))
+taken : (c : goal.After-word_count) → IsStep (map row_seen c.args.options.now) c.args.words.now c.args.at (Given c.in_ok-option.option (c.args.at + word_count c.in_ok-option.option))
 taken c =
     step_given _ c.args.words.now c.args.at c.in-Some.word.now c.in_ok-option_word.field-0 c.in_ok-option.option c.in-Some.ensures
     (rw c.as_slice.ensures at (sym c.if-eq.ensures))

@@ -1,7 +1,7 @@
 use Rattle.std.proofs.Common.{◌≡◌, ◌∙◌, ◌+◌, ap, arith, subst, sym}
 use Rattle.std.specs.List.{flat_map, range_with_len}
-use Rattle.bdb_model.specs.declared.metadata.Head.{Head}
-use Rattle.bdb_model.specs.File.{file_of}
+use Rattle.bdb_format.specs.declared.metadata.Head.{Head}
+use Rattle.bdb_format.specs.File.{file_of}
 use Rattle.bdb_graph.proofs.HeldLemmas.{last_page}
 use Rattle.bdb_tree.specs.Noted.{IsLeast, held_faults}
 use Rattle.bdb_tree.proofs.NotedLemmas.{least_is_first, page_noted}

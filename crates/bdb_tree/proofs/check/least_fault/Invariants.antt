@@ -1,5 +1,5 @@
 use Rattle.std.specs.List.{flat_map, range_with_len}
-use Rattle.bdb_model.specs.File.{file_of}
+use Rattle.bdb_format.specs.File.{file_of}
 use Rattle.bdb_tree.specs.Noted.{IsLeast, held_faults}
 use Rattle.bdb_tree.proofs.check.least_fault.Given as goal
 

@@ -1,4 +1,4 @@
-use Rattle.bdb_model.specs.File.{file_of}
+use Rattle.bdb_format.specs.File.{file_of}
 use Rattle.bdb_tree.specs.Noted.{place_in}
 use Rattle.bdb_tree.proofs.NotedLemmas.{one_place}
 use Rattle.bdb_tree.proofs.check.note_leaf.Goals as goal

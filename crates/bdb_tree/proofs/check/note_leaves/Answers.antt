@@ -1,5 +1,5 @@
 use Rattle.std.proofs.Common.{◌++◌, arith, subst}
-use Rattle.bdb_model.specs.File.{file_of}
+use Rattle.bdb_format.specs.File.{file_of}
 use Rattle.bdb_tree.specs.Noted.{IsLeast, place_faults}
 use Rattle.bdb_tree.proofs.NotedLemmas.{all_places, place_more}
 use Rattle.bdb_tree.proofs.check.note_leaves.Goals as goal

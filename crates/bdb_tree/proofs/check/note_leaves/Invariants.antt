@@ -1,8 +1,8 @@
 use Rattle.std.proofs.Common.{◌++◌, List, take}
 use Rattle.std.specs.List.{flat_map}
-use Rattle.bdb_model.specs.declared.kinds.Fault.{Fault}
-use Rattle.bdb_model.specs.File.{file_of}
-use Rattle.bdb_model.specs.Leaves.{places_from}
+use Rattle.bdb_format.specs.declared.kinds.Fault.{Fault}
+use Rattle.bdb_format.specs.File.{file_of}
+use Rattle.bdb_format.specs.Leaves.{places_from}
 use Rattle.bdb_tree.specs.Noted.{IsLeast, place_faults}
 use Rattle.bdb_tree.proofs.check.note_leaves.Given as goal
 

@@ -1,7 +1,7 @@
 use Rattle.std.proofs.Common.{◌≡◌, ◌∙◌, true, ap, arith, sym}
-use Rattle.bdb_model.specs.declared.metadata.Head.{Head}
-use Rattle.bdb_model.specs.File.{file_of}
-use Rattle.bdb_model.specs.Leaves.{is_root_reference}
+use Rattle.bdb_format.specs.declared.metadata.Head.{Head}
+use Rattle.bdb_format.specs.File.{file_of}
+use Rattle.bdb_format.specs.Leaves.{is_root_reference}
 use Rattle.bdb_graph.proofs.HeldLemmas.{last_page}
 use Rattle.bdb_tree.proofs.NotedLemmas.{all_leaves, tree_noted}
 use Rattle.bdb_tree.proofs.TreeLemmas.{tree_inside}

@@ -1,5 +1,5 @@
 use Rattle.std.proofs.Common.{subst, sym}
-use Rattle.bdb_model.specs.File.{file_of}
+use Rattle.bdb_format.specs.File.{file_of}
 use Rattle.bdb_tree.specs.Descent.{AllMonotone}
 use Rattle.bdb_tree.proofs.descend.descend_by.Goals as goal
 

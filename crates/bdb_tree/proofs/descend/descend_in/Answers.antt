@@ -2,7 +2,7 @@ use Rattle.std.proofs.Common.{subst, sym, ◌∙◌}
 use Rattle.bdb_tree.proofs.WayLemmas.{IsEnd, at_end, at_root, on_way}
 use Rattle.bdb_tree.proofs.descend.descend_in.Goals as goal
 use Rattle.bdb_tree.proofs.descend.descend_in.Goals.{After-at}
-use Rattle.bdb_model.specs.File.{file_of}
+use Rattle.bdb_format.specs.File.{file_of}
 
 pub loop-child-init : goal.loop-child-init
 loop-child-init g c =

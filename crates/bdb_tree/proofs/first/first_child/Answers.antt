@@ -11,4 +11,4 @@ pub page-requires : goal.page-requires
 page-requires c = tree_inside c.args.forest.now c.args.page c.requires
 
 pub first_item-requires : goal.first_item-requires
-first_item-requires c = has_item c.args.forest.now c.args.page _ c.head.ensures.forest (tree_inside c.args.forest.now c.args.page c.requires) c.page.ensures
+first_item-requires c = has_item c.args.forest.now c.args.page _ c.head.ensures.forest (tree_inside c.args.forest.now c.args.page c.requires) c.page.ensures.page

@@ -1,6 +1,6 @@
 use Rattle.std.proofs.Common.{◌≡◌, take}
 use Rattle.std.specs.List.{flat_map}
-use Rattle.bdb_model.specs.File.{file_of}
+use Rattle.bdb_format.specs.File.{file_of}
 use Rattle.bdb_tree.specs.Trees.{children_at}
 use Rattle.bdb_tree.proofs.level.next_level.Given as goal
 

@@ -1,6 +1,6 @@
 use Rattle.std.proofs.Common.{arith, ap, ◌∙◌, ◌++◌, ◌∷◌, []}
 use Rattle.bdb_layout.specs.Seen.{internal_item_seen}
-use Rattle.bdb_model.specs.Page.{InternalItem}
+use Rattle.bdb_format.specs.Page.{InternalItem}
 use Rattle.bdb_tree.proofs.LevelLemmas.{children_more}
 use Rattle.bdb_tree.proofs.level.push_internal.Goals as goal
 

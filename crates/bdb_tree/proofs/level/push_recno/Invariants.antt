@@ -1,5 +1,5 @@
 use Rattle.std.proofs.Common.{◌≡◌, ◌++◌, map, take}
-use Rattle.bdb_model.specs.declared.pages.RecnoItem.{RecnoItem}
+use Rattle.bdb_format.specs.declared.pages.RecnoItem.{RecnoItem}
 use Rattle.bdb_tree.proofs.level.push_recno.Given as goal
 
 -- The children of the items passed are added.

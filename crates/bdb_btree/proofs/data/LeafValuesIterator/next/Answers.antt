@@ -1,5 +1,5 @@
 use Rattle.std.proofs.Common.{◌∷◌, ◌∙◌, ap, sym, ◌+◌}
-use Rattle.bdb_model.specs.File.{file_of}
+use Rattle.bdb_format.specs.File.{file_of}
 use Rattle.bdb_layout.specs.Seen.{leaf_item_seen}
 use Rattle.bdb_btree.specs.Search.{set_items, values_from}
 use Rattle.bdb_btree.proofs.ScanLemmas.{value_deleted, value_live}

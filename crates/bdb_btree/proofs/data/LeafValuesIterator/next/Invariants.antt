@@ -1,5 +1,5 @@
 use Rattle.std.proofs.Common.{◌≡◌, ◌-◌, length}
-use Rattle.bdb_model.specs.File.{file_of}
+use Rattle.bdb_format.specs.File.{file_of}
 use Rattle.bdb_btree.specs.Pairs.{AllFit}
 use Rattle.bdb_btree.specs.Search.{set_items, values_from}
 use Rattle.bdb_btree.proofs.data.LeafValuesIterator.next.Given as goal

@@ -1,5 +1,5 @@
 use Rattle.std.proofs.Common.{◌∙◌}
-use Rattle.bdb_model.specs.File.{file_of}
+use Rattle.bdb_format.specs.File.{file_of}
 use Rattle.bdb_btree.proofs.ScanLemmas.{next_values}
 use Rattle.bdb_btree.proofs.WalkLemmas.{rest_are_leaves}
 use Rattle.bdb_btree.proofs.data.SetDataIterator.next.Goals as goal

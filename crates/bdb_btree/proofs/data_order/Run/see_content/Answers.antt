@@ -1,5 +1,5 @@
 use Rattle.std.proofs.Common.{◌∙◌, ap, inl, inr}
-use Rattle.bdb_model.specs.File.{file_of}
+use Rattle.bdb_format.specs.File.{file_of}
 use Rattle.bdb_btree.specs.Runs.{follow}
 use Rattle.bdb_btree.proofs.SetDataLemmas.{chain_run, inline_run}
 use Rattle.bdb_btree.proofs.data_order.Run.see_content.Goals as goal

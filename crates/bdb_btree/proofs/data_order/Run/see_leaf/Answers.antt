@@ -8,7 +8,7 @@ page-requires c = leaf_inside c.args.forest.now c.args.page c.requires
 
 pub see_records-requires : goal.see_records-requires
 see_records-requires c =
-    records_fit c.args.forest.now c.args.page c.in-RecnoLeaf.leaf c.head.ensures.forest (leaf_inside c.args.forest.now c.args.page c.requires) (sym c.in-RecnoLeaf.ensures)
+    records_fit c.args.forest.now c.args.page c.in-RecnoLeaf.leaf c.head.ensures.forest (leaf_inside c.args.forest.now c.args.page c.requires) (sym c.in-RecnoLeaf.ensures.page)
 
 pub see_data-requires : goal.see_data-requires
-see_data-requires c = data_fit c.args.forest.now c.args.page c.in-DupLeaf.leaf c.head.ensures.forest (leaf_inside c.args.forest.now c.args.page c.requires) (sym c.in-DupLeaf.ensures)
+see_data-requires c = data_fit c.args.forest.now c.args.page c.in-DupLeaf.leaf c.head.ensures.forest (leaf_inside c.args.forest.now c.args.page c.requires) (sym c.in-DupLeaf.ensures.page)

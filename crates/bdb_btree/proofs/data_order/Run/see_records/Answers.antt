@@ -1,6 +1,6 @@
 use Rattle.std.proofs.Common.{◌∙◌, ap, sym}
 use Rattle.bdb_layout.specs.Seen.{leaf_item_seen}
-use Rattle.bdb_model.specs.File.{file_of}
+use Rattle.bdb_format.specs.File.{file_of}
 use Rattle.bdb_btree.specs.Runs.{follow_item}
 use Rattle.bdb_btree.proofs.SetDataLemmas.{fold_more}
 use Rattle.bdb_btree.proofs.data_order.Run.see_records.Goals as goal

@@ -1,6 +1,6 @@
 use Rattle.std.proofs.Common.{◌∙◌, ap, sym, subst}
 use Rattle.std.specs.List.{fold}
-use Rattle.bdb_model.specs.File.{file_of}
+use Rattle.bdb_format.specs.File.{file_of}
 use Rattle.bdb_btree.specs.Pairs.{AreLeaves}
 use Rattle.bdb_btree.specs.Runs.{follow_page}
 use Rattle.bdb_btree.proofs.SetDataLemmas.{set_run}

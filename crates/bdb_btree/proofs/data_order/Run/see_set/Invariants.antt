@@ -1,7 +1,7 @@
 use Rattle.std.proofs.Common.{◌≡◌}
 use Rattle.std.specs.List.{fold}
-use Rattle.bdb_model.specs.File.{file_of}
-use Rattle.bdb_model.specs.Leaves.{leaves}
+use Rattle.bdb_format.specs.File.{file_of}
+use Rattle.bdb_format.specs.Leaves.{leaves}
 use Rattle.bdb_btree.specs.Pairs.{AreLeaves}
 use Rattle.bdb_btree.specs.Runs.{follow_page}
 use Rattle.bdb_btree.proofs.data_order.Run.see_set.Given as goal

@@ -1,5 +1,5 @@
 use Rattle.std.proofs.Common.{◌∙◌}
-use Rattle.bdb_model.specs.File.{file_of}
+use Rattle.bdb_format.specs.File.{file_of}
 use Rattle.bdb_overflow.specs.Datum.{datum_seen}
 use Rattle.bdb_btree.specs.Pairs.{pair_seen}
 use Rattle.bdb_btree.specs.Search.{left_of}

@@ -1,6 +1,6 @@
 use Rattle.std.proofs.Common.{◌∙◌, ap, arith}
 use Rattle.std.specs.List.{fold}
-use Rattle.bdb_model.specs.File.{file_of}
+use Rattle.bdb_format.specs.File.{file_of}
 use Rattle.bdb_btree.specs.Bounds.{under_page}
 use Rattle.bdb_btree.proofs.SeenLemmas.{fold_end, leaf_at, tree_under}
 use Rattle.bdb_btree.proofs.separators.Bounds.see_below.Goals as goal

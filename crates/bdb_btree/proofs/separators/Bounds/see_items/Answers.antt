@@ -1,7 +1,7 @@
 use Rattle.std.proofs.Common.{◌∙◌, ap, sym}
 use Rattle.std.specs.Prelude.{◌==◌}
 use Rattle.bdb_layout.specs.Seen.{internal_item_seen}
-use Rattle.bdb_model.specs.File.{file_of}
+use Rattle.bdb_format.specs.File.{file_of}
 use Rattle.bdb_btree.specs.Bounds.{see_item}
 use Rattle.bdb_btree.proofs.SeenLemmas.{items_more}
 use Rattle.bdb_btree.proofs.separators.Bounds.see_items.Goals as goal

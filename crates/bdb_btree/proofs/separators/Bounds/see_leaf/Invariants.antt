@@ -1,7 +1,7 @@
 use Rattle.std.proofs.Common.{◌≡◌}
 use Rattle.std.specs.List.{fold}
-use Rattle.bdb_model.specs.Contents.{pairs_of}
-use Rattle.bdb_model.specs.File.{file_of}
+use Rattle.bdb_format.specs.Contents.{pairs_of}
+use Rattle.bdb_format.specs.File.{file_of}
 use Rattle.bdb_btree.specs.Bounds.{under_pair}
 use Rattle.bdb_btree.proofs.separators.Bounds.see_leaf.Given as goal
 

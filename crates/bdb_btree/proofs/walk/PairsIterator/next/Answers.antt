@@ -1,5 +1,5 @@
 use Rattle.std.proofs.Common.{◌∙◌}
-use Rattle.bdb_model.specs.File.{file_of}
+use Rattle.bdb_format.specs.File.{file_of}
 use Rattle.bdb_btree.proofs.WalkLemmas.{next_leaf, rest_are_leaves}
 use Rattle.bdb_btree.proofs.walk.PairsIterator.next.Goals as goal
 

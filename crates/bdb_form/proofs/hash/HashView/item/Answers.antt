@@ -1,5 +1,5 @@
-use Rattle.bdb_model.specs.Page.{HashPage}
-use Rattle.bdb_model.specs.Reading.{hash_item_at}
+use Rattle.bdb_format.specs.Page.{HashPage}
+use Rattle.bdb_format.specs.Reading.{hash_item_at}
 use Rattle.bdb_layout.specs.Seen.{hash_item_seen}
 use Rattle.bdb_form.proofs.FormedLemmas.{item_is, no_refusal}
 use Rattle.bdb_form.proofs.hash.HashView.item.Goals as goal

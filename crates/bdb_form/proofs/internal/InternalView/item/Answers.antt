@@ -1,5 +1,5 @@
-use Rattle.bdb_model.specs.Page.{InternalPage}
-use Rattle.bdb_model.specs.Reading.{internal_item_at}
+use Rattle.bdb_format.specs.Page.{InternalPage}
+use Rattle.bdb_format.specs.Reading.{internal_item_at}
 use Rattle.bdb_layout.specs.Seen.{internal_item_seen}
 use Rattle.bdb_form.proofs.FormedLemmas.{item_is, no_refusal}
 use Rattle.bdb_form.proofs.internal.InternalView.item.Goals as goal

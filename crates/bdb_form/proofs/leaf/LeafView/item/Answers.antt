@@ -1,5 +1,5 @@
-use Rattle.bdb_model.specs.Page.{LeafPage}
-use Rattle.bdb_model.specs.Reading.{leaf_item_at}
+use Rattle.bdb_format.specs.Page.{LeafPage}
+use Rattle.bdb_format.specs.Reading.{leaf_item_at}
 use Rattle.bdb_layout.specs.Seen.{leaf_item_seen}
 use Rattle.bdb_form.proofs.FormedLemmas.{item_is, no_refusal}
 use Rattle.bdb_form.proofs.leaf.LeafView.item.Goals as goal

@@ -1,5 +1,5 @@
-use Rattle.bdb_model.specs.Page.{RecnoInternalPage}
-use Rattle.bdb_model.specs.Reading.{recno_item_at}
+use Rattle.bdb_format.specs.Page.{RecnoInternalPage}
+use Rattle.bdb_format.specs.Reading.{recno_item_at}
 use Rattle.bdb_form.proofs.FormedLemmas.{item_is, no_refusal}
 use Rattle.bdb_form.proofs.recno_internal.RecnoInternalView.item.Goals as goal
 

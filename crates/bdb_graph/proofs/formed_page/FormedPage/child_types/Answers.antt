@@ -1,8 +1,8 @@
 use Rattle.std.proofs.Common.{cond, [], ◌∷◌, ◌∙◌, ap, arith, sym}
 use Rattle.std.specs.Prelude.{◌==◌}
 use Rattle.std.proofs.lemmas.Bool.{ne_eqb}
-use Rattle.bdb_model.specs.Numbers.{byte_at}
-use Rattle.bdb_model.specs.References.{child_types}
+use Rattle.bdb_format.specs.Numbers.{byte_at}
+use Rattle.bdb_format.specs.References.{child_types}
 use Rattle.bdb_graph.proofs.FitLemmas.{internal_child, no_child, recno_child, zero_child}
 use Rattle.bdb_graph.proofs.formed_page.FormedPage.child_types.Goals as goal
 

@@ -1,5 +1,5 @@
 use Rattle.std.proofs.Common.{◌∙◌, ap, sym}
-use Rattle.bdb_model.specs.File.{header_in}
+use Rattle.bdb_format.specs.File.{header_in}
 use Rattle.bdb_graph.proofs.FitLemmas.{headed, unheaded, zero_header}
 use Rattle.bdb_graph.proofs.formed_page.FormedPage.header.Goals as goal
 use Rattle.bdb_graph.proofs.formed_page.FormedPage.header.Goals.{then-is_zero-via-then-is_zero, then-is_zero-via-else-is_zero+then-not-is_one_of}

@@ -1,5 +1,5 @@
 use Rattle.std.proofs.Common.{◌∙◌, ap}
-use Rattle.bdb_model.specs.References.{is_zero_page}
+use Rattle.bdb_format.specs.References.{is_zero_page}
 use Rattle.bdb_graph.proofs.FitLemmas.{is_zero_page_is}
 use Rattle.bdb_graph.proofs.formed_page.FormedPage.is_zero.Goals as goal
 

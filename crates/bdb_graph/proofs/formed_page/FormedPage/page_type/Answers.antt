@@ -1,5 +1,5 @@
 use Rattle.std.proofs.Common.{◌∙◌, ap, sym}
-use Rattle.bdb_model.specs.File.{type_in}
+use Rattle.bdb_format.specs.File.{type_in}
 use Rattle.bdb_graph.proofs.FitLemmas.{typed, untyped, zero_type}
 use Rattle.bdb_graph.proofs.formed_page.FormedPage.page_type.Goals as goal
 use Rattle.bdb_graph.proofs.formed_page.FormedPage.page_type.Goals.{then-is_zero-via-then-is_zero, then-is_zero-via-else-is_zero+then-not-is_one_of}

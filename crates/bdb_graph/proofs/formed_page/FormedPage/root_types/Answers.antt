@@ -1,8 +1,8 @@
 use Rattle.std.proofs.Common.{cond, [], ◌∷◌, ◌∙◌, ap, arith, sym}
 use Rattle.std.specs.Prelude.{not, bit_and, ◌==◌}
 use Rattle.std.proofs.lemmas.Bool.{ne_eqb}
-use Rattle.bdb_model.specs.Numbers.{has_bit}
-use Rattle.bdb_model.specs.References.{root_types}
+use Rattle.bdb_format.specs.Numbers.{has_bit}
+use Rattle.bdb_format.specs.References.{root_types}
 use Rattle.bdb_graph.proofs.FitLemmas.{no_root, tree_root, zero_root}
 use Rattle.bdb_graph.proofs.formed_page.FormedPage.root_types.Goals as goal
 

@@ -1,6 +1,6 @@
 use Rattle.std.proofs.Common.{subst, sym, length, ◌<◌, ◌≡◌}
-use Rattle.bdb_model.specs.File.{file_of}
-use Rattle.bdb_graph.specs.Linking.{meta_pages}
+use Rattle.bdb_format.specs.File.{file_of}
+use Rattle.bdb_graph.specs.Linked.{meta_pages}
 use Rattle.bdb_graph.proofs.LinkedLemmas.{meta_there, no_meta_there}
 use Rattle.bdb_graph.proofs.linked.Linked.meta.Goals as goal
 

@@ -1,8 +1,8 @@
 use Rattle.std.proofs.Common.{ap, arith, subst, sym}
-use Rattle.bdb_model.specs.declared.metadata.Head.{Head}
-use Rattle.bdb_model.specs.HeadOf.{head_of}
-use Rattle.bdb_model.specs.File.{file_of}
-use Rattle.bdb_model.specs.Page.{BtreeFields}
+use Rattle.bdb_format.specs.declared.metadata.Head.{Head}
+use Rattle.bdb_format.specs.HeadOf.{head_of}
+use Rattle.bdb_format.specs.File.{file_of}
+use Rattle.bdb_format.specs.Page.{BtreeFields}
 use Rattle.bdb_graph.specs.Linked.{HasMetadata}
 use Rattle.bdb_graph.proofs.LinkedLemmas.{root_inside}
 use Rattle.bdb_graph.proofs.linked.Linked.root.Goals as goal

@@ -1,4 +1,4 @@
-use Rattle.bdb_model.specs.Reading.{blocks_of}
+use Rattle.bdb_format.specs.Reading.{blocks_of}
 use Rattle.bdb_layout.proofs.BlockLemmas.{as_run, is_run}
 use Rattle.bdb_layout.proofs.blocks.DupBlocks.over.Goals as goal
 

@@ -1,6 +1,6 @@
 use Rattle.std.proofs.Common.{ℕ, List, ◌∙◌, ap, subst, sym}
-use Rattle.bdb_model.specs.File.{file_of}
-use Rattle.bdb_model.specs.Page.{Item}
+use Rattle.bdb_format.specs.File.{file_of}
+use Rattle.bdb_format.specs.Page.{Item}
 use Rattle.bdb_recno.specs.Entries.{AreNumbered, all_left, numbered}
 use Rattle.bdb_recno.proofs.ScanLemmas.{numbered_all, room_for_all}
 use Rattle.bdb_recno.proofs.entries.Entries.of_tree.Goals as goal

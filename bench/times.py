@@ -1,0 +1,239 @@
+#!/usr/bin/env python3
+"""Times `bdbtool` beside the original library's tools, both in one run on the same files.
+
+usage: times.py verify|dump [PROGRAM]
+
+PROGRAM is the built program; without it, crates/bdbtool/out/bdbtool. The files are made with `db5.3_load` in a temporary folder.
+Prints a Markdown table. `verify` stands beside `db5.3_verify`, on a btree and a hash of tenfold growing numbers of pairs: seconds by
+the clock, and how pages and seconds grew from the row above. A kind ends where a run takes a minute, or where ten times the pairs
+wouldn't fit into the longest input. `dump` stands beside `db5.3_dump -k`, on a file of each kind: seconds of user time, and peak
+memory. Where the program or the library's tools are missing, nothing is timed. docs/BENCH.md says how to read the tables.
+"""
+import os
+import pathlib
+import shutil
+import subprocess
+import sys
+import tempfile
+import time
+from typing import NamedTuple
+
+TOP = pathlib.Path(__file__).resolve().parent.parent
+PAGE_SIZE = 4096
+RUNS = 3
+CACHE = "set_cachesize 1 0 1\n"
+
+# `verify`
+KINDS = ("btree", "hash")
+FEWEST_PAIRS = 100
+LONGEST_INPUT = 2**30
+LONG_RUN = 60
+LONGEST_RUN = 600
+GROWTH_COLUMNS = ("Kind", "Pairs", "Pages", "`bdbtool`", "`db5.3_verify`", "Ratio", "Pages grew", "`bdbtool` grew", "`db5.3_verify` grew")
+
+# `dump`
+MILLION = 1_000_000
+LONG_VALUES, LONG_BYTES = 1_000, 100_000
+DUMP_COLUMNS = ("File", "Items", "Bytes of the file", "`bdbtool`", "`db5.3_dump -k`", "Ratio", "Peak of `bdbtool`, bytes", "Peak by file", "Bytes an item above 1.3 files")
+
+
+class Step(NamedTuple):
+    """The pages of a file, and the seconds that the program and the original take for it."""
+
+    pages: int
+    own: float
+    original: float
+
+
+class Spent(NamedTuple):
+    """What a run took: seconds of user time, and bytes of memory at its peak."""
+
+    user: float
+    peak: int
+
+
+class Sample(NamedTuple):
+    """A file to dump: what it is called, its kind, how many items it has, and their lines in a dump text."""
+
+    name: str
+    kind: str
+    items: int
+    lines: object
+
+
+def missing(program, tool):
+    """What isn't there, and where it comes from; none where all is there."""
+    if not pathlib.Path(program).is_file():
+        return f"{program} isn't there; ./bdbtool builds it"
+    lacking = [name for name in ("db5.3_load", tool) if shutil.which(name) is None]
+    return f"{' and '.join(lacking)} not found; Debian's package db5.3-util has them" if lacking else None
+
+
+def dump_text(kind, lines):
+    """A dump text with these data lines. Records of a queue have 72 bytes."""
+    length = "re_len=72\n" if kind == "queue" else ""
+    yield f"VERSION=3\nformat=print\ntype={kind}\n{length}db_pagesize={PAGE_SIZE}\nHEADER=END\n"
+    yield from lines
+    yield "DATA=END\n"
+
+
+def pairs(count, least):
+    """Keys of eight digits in scrambled order, no two the same, and data of so many letters at least and 63 more at most."""
+    for i in range(count):
+        key = i * 2654435761 % 2**32
+        yield f" {key:08x}\n {'x' * (least + key % 64)}\n"
+
+
+def records(count):
+    """Records of 72 letters."""
+    return (f" {'y' * 72}\n" for _ in range(count))
+
+
+def long_pairs(count, length):
+    """Keys of eight digits, and data of so many letters."""
+    return (f" {i:08x}\n {'z' * length}\n" for i in range(count))
+
+
+def make(name, kind, lines, folder):
+    """A new file. The library finds in the folder that its cache may hold the whole file."""
+    image = folder / f"{name}.db"
+    with subprocess.Popen(["db5.3_load", "-h", folder, image], stdin=subprocess.PIPE, text=True) as load:
+        load.stdin.writelines(dump_text(kind, lines))
+    if load.returncode != 0:
+        sys.exit(f"db5.3_load: status {load.returncode}")
+    return image
+
+
+def print_row(cells):
+    print("| " + " | ".join(cells) + " |", flush=True)
+
+
+def print_head(columns):
+    print_row(columns)
+    print("|---|" + "---:|" * (len(columns) - 1))
+
+
+def seconds(words, image):
+    """How long a run takes with the file on its standard input; the limit where it takes longer. It must find the file sound."""
+    with image.open("rb") as standard_input:
+        start = time.perf_counter()
+        try:
+            run = subprocess.run(words, stdin=standard_input, capture_output=True, timeout=LONGEST_RUN)
+        except subprocess.TimeoutExpired:
+            return float(LONGEST_RUN)
+        taken = time.perf_counter() - start
+    if run.returncode != 0:
+        sys.exit(f"{words} over {image.name}: status {run.returncode}, {run.stderr.decode()}")
+    return taken
+
+
+def one_round(program, image):
+    """The times of both on a file, one after the other."""
+    return seconds([program, "verify"], image), seconds(["db5.3_verify", image], image)
+
+
+def step(program, image):
+    """The least times of a few rounds; of a single one where a run is long."""
+    first = one_round(program, image)
+    others = [] if max(first) >= LONG_RUN else [one_round(program, image) for _ in range(RUNS - 1)]
+    return Step(image.stat().st_size // PAGE_SIZE, *(min(times) for times in zip(first, *others)))
+
+
+def last_reason(step):
+    """Why no larger file follows; none where one does."""
+    if max(step.own, step.original) >= LONG_RUN:
+        return f"a run took {LONG_RUN} seconds or more"
+    if 10 * step.pages * PAGE_SIZE > LONGEST_INPUT:
+        return f"ten times the pairs take more than {LONGEST_INPUT} bytes"
+    return None
+
+
+def growth(before, now):
+    """By how much each number of a step is larger than before."""
+    return ["–"] * len(now) if before is None else [f"× {after / number:.1f}" for number, after in zip(before, now)]
+
+
+def measure(program, kind, folder):
+    """Prints the rows of a kind; tells why the last is the last."""
+    before, count = None, FEWEST_PAIRS
+    while True:
+        image = make(f"{kind}-{count}", kind, pairs(count, 0), folder)
+        now = step(program, image)
+        image.unlink()
+        times = [f"{now.own:.3g}", f"{now.original:.3g}", f"{now.own / now.original:.3g}"]
+        print_row([kind, f"{count:,}", f"{now.pages:,}", *times, *growth(before, now)])
+        if reason := last_reason(now):
+            return reason
+        before, count = now, 10 * count
+
+
+def time_verify(program, folder):
+    """The table of `verify`."""
+    print_head(GROWTH_COLUMNS)
+    reasons = [f"{kind}: {measure(program, kind, folder)}." for kind in KINDS]
+    print("\nWhy no larger file follows:\n", *reasons, sep="\n- ")
+
+
+def spent(words, image):
+    """What a run takes whose output is thrown away. It must end with status 0."""
+    with image.open("rb") as standard_input:
+        run = subprocess.Popen(words, stdin=standard_input, stdout=subprocess.DEVNULL)
+        _, status, usage = os.wait4(run.pid, 0)
+        run.returncode = os.waitstatus_to_exitcode(status)
+    if run.returncode != 0:
+        sys.exit(f"{words} over {image.name}: status {run.returncode}")
+    return Spent(usage.ru_utime, 1024 * usage.ru_maxrss)
+
+
+def least(words, image):
+    """The least that a few runs take."""
+    runs = [spent(words, image) for _ in range(RUNS)]
+    return Spent(min(run.user for run in runs), min(run.peak for run in runs))
+
+
+def samples():
+    """The files to dump."""
+    return [
+        Sample("btree", "btree", MILLION, pairs(MILLION, 40)),
+        Sample("hash", "hash", MILLION, pairs(MILLION, 40)),
+        Sample("recno", "recno", MILLION, records(MILLION)),
+        Sample("queue", "queue", MILLION, records(MILLION)),
+        Sample("btree, long values", "btree", LONG_VALUES, long_pairs(LONG_VALUES, LONG_BYTES)),
+    ]
+
+
+def print_dump(program, sample, folder):
+    """A row of the table of `dump`."""
+    image = make(sample.name, sample.kind, sample.lines, folder)
+    size = image.stat().st_size
+    own, original = least([program, "dump"], image), least(["db5.3_dump", "-k", image], image)
+    image.unlink()
+    times = [f"{own.user:.3g}", f"{original.user:.3g}", f"{own.user / original.user:.3g}"]
+    above = max(0, own.peak - 1.3 * size) / sample.items
+    print_row([sample.name, f"{sample.items:,}", f"{size:,}", *times, f"{own.peak:,}", f"{own.peak / size:.2f}", f"{above:.1f}"])
+
+
+def time_dump(program, folder):
+    """The table of `dump`."""
+    print_head(DUMP_COLUMNS)
+    for sample in samples():
+        print_dump(program, sample, folder)
+
+
+TABLES = {"verify": ("db5.3_verify", time_verify), "dump": ("db5.3_dump", time_dump)}
+
+
+def main(table, program):
+    tool, fill = TABLES[table]
+    if lack := missing(program, tool):
+        sys.exit(f"skipped: {lack}")
+    with tempfile.TemporaryDirectory() as name:
+        folder = pathlib.Path(name)
+        (folder / "DB_CONFIG").write_text(CACHE)
+        fill(program, folder)
+
+
+if __name__ == "__main__":
+    if len(sys.argv) not in (2, 3) or sys.argv[1] not in TABLES:
+        sys.exit(__doc__)
+    main(sys.argv[1], sys.argv[2] if len(sys.argv) == 3 else TOP / "crates/bdbtool/out/bdbtool")

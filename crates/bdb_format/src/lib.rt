@@ -1,0 +1,20 @@
+//! Plain types of a database file, and the definitions that every contract cites.
+#![tactic(auto)]
+
+mod bytes;
+pub mod graph_laws;
+mod kinds;
+pub mod laws;
+mod metadata;
+mod pages;
+mod references;
+mod settings;
+mod steps;
+
+pub use bytes::Bytes;
+pub use kinds::{CheckError, Fault, Kind, Order, Unsupported, Verdict};
+pub use metadata::{BtreeMeta, FileKind, HashMeta, Head, MetaFault, QueueMeta};
+pub use pages::{Header, ItemFault, RecnoItem};
+pub use references::{Reference, Sort};
+pub use settings::Settings;
+pub use steps::Steps;

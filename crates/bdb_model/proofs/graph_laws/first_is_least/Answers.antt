@@ -1,5 +1,0 @@
-use Rattle.bdb_model.proofs.VerdictLemmas.{first_is_least}
-use Rattle.bdb_model.proofs.graph_laws.first_is_least.Goals as goal
-
-pub returns : goal.returns
-returns c = first_is_least

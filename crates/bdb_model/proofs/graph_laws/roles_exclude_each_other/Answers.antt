@@ -1,5 +1,0 @@
-use Rattle.bdb_model.proofs.GraphLemmas.{roles_exclude_each_other}
-use Rattle.bdb_model.proofs.graph_laws.roles_exclude_each_other.Goals as goal
-
-pub returns : goal.returns
-returns c = roles_exclude_each_other

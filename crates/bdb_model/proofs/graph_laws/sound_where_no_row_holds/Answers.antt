@@ -1,5 +1,0 @@
-use Rattle.bdb_model.proofs.VerdictLemmas.{sound_where_no_row_holds}
-use Rattle.bdb_model.proofs.graph_laws.sound_where_no_row_holds.Goals as goal
-
-pub returns : goal.returns
-returns c = sound_where_no_row_holds

@@ -1,0 +1,52 @@
+use Rattle.std.proofs.Common.{◌+◌, refl}
+use Rattle.bdb_text.specs.Fields.{values_in}
+use Rattle.bdb_text.specs.DataTo.{IsDataFault}
+use Rattle.bdb_text.specs.ReadTo.{IsHeaderFault}
+use Rattle.bdb_text.specs.SectionTo.{IsSectionFault, names_of}
+use Rattle.bdb_text.proofs.SectionLemmas.{data_fault_is, end_fault_is, first_fault, header_fault, on_more, section_is_read}
+use Rattle.bdb_text.proofs.dump.read_section.Goals as goal
+
+pub returns-in-Some-clause-err : goal.returns-in-Some-clause-err
+returns-in-Some-clause-err c =
+    first_fault (names_of c.args.earlier.now) c.args.text.now c.cut_line-first.result.line.now _ c.args.start c.in-Some.reason c.cut_line-first.ensures.lines
+    c.in-Some.ensures
+
+pub returns-in-Err-clause-err : goal.returns-in-Err-clause-err
+returns-in-Err-clause-err c =
+    on_more (IsHeaderFault c.cut_line-first.result.rest.now (c.args.start + 1)) (IsSectionFault (names_of c.args.earlier.now) c.args.text.now c.args.start)
+    c.in-Err.error
+    (λ fault is. header_fault (names_of c.args.earlier.now) c.args.text.now c.cut_line-first.result.line.now c.cut_line-first.result.rest.now c.args.start fault
+    c.cut_line-first.ensures.lines
+    c.in_default.ensures is)
+    c.in-Err.ensures.err
+
+pub returns-in-Some-end_reason-clause-err : goal.returns-in-Some-end_reason-clause-err
+returns-in-Some-end_reason-clause-err c =
+    let named = rw c.deref.ensures.value at c.in-Ok-name_in.ensures.ok in
+    let reason = rw c.deref-2.ensures.value at c.in-Some-end_reason.ensures in
+    end_fault_is (names_of c.args.earlier.now) c.args.text.now c.cut_line-first.result.line.now c.cut_line-first.result.rest.now c.args.start c.in-Ok.header
+    c.in-Ok-name_in.name
+    c.in-Some-end_reason.reason c.cut_line-first.ensures.lines c.in_default.ensures c.in-Ok.ensures.ok named reason
+
+pub returns-in-Err-read_pairs-clause-err : goal.returns-in-Err-read_pairs-clause-err
+returns-in-Err-read_pairs-clause-err c =
+    let named = rw c.deref.ensures.value at c.in-Ok-name_in.ensures.ok in
+    let none = rw c.deref-2.ensures.value at c.in_default-end_reason.ensures in
+    let error = rw c.deref-3.ensures.value at c.in-Err-read_pairs.ensures.err in
+    on_more (IsDataFault (values_in c.in-Ok.header.fields.items) c.in-Ok.header.rest.now (c.in-Ok.header.number + 1))
+    (IsSectionFault (names_of c.args.earlier.now) c.args.text.now c.args.start)
+    c.in-Err-read_pairs.error
+    (λ fault is. data_fault_is (names_of c.args.earlier.now) c.args.text.now c.cut_line-first.result.line.now c.cut_line-first.result.rest.now c.args.start
+    c.in-Ok.header c.in-Ok-name_in.name fault
+    c.cut_line-first.ensures.lines c.in_default.ensures c.in-Ok.ensures.ok named none is)
+    error
+
+pub returns-clause-ok : goal.returns-clause-ok
+returns-clause-ok c =
+    let named = rw c.deref.ensures.value at c.in-Ok-name_in.ensures.ok in
+    let none = rw c.deref-2.ensures.value at c.in_default-end_reason.ensures in
+    let read = rw c.deref-3.ensures.value at c.in-Ok-read_pairs.ensures.ok in
+    let settings = rw c.deref-4.ensures.value at c.settings_in.ensures in
+    section_is_read (names_of c.args.earlier.now) c.args.text.now c.cut_line-first.result.line.now c.cut_line-first.result.rest.now c.args.start c.in-Ok.header
+    c.in-Ok-name_in.name _
+    c.in-Ok-read_pairs.data c.cut_line-first.ensures.lines c.in_default.ensures c.in-Ok.ensures.ok named none read (rw settings refl) refl refl

@@ -1,0 +1,197 @@
+// A whole dump text, section by section.
+ghost use Rattle.bdb_format.specs.Databases.{is_name};
+ghost use Rattle.bdb_model.specs.Header.{name_in};
+ghost use Rattle.bdb_model.specs.Reasons.{first_line_reason, name_missing};
+ghost use Rattle.bdb_model.specs.Sections.{Reads};
+ghost use Rattle.bdb_text.specs.Fields.{values_in};
+ghost use Rattle.bdb_text.specs.ReadTo.{OnFault};
+ghost use Rattle.bdb_text.specs.SectionTo.{IsSectionFault, IsSectionRead, IsTextFault, named_end_reason, names_of};
+ghost use Rattle.std.specs.List.{list_any};
+ghost use Rattle.std.specs.Prelude.{◌≡◌, ◌+◌, ◌<◌, ◌≤◌, ◌^◌, IfOk, IfErr, is_none, length};
+
+use crate::data_pairs::read_pairs;
+use crate::fields::{Field, is_given, value_of};
+use crate::headers::read_header;
+use crate::meant::{conflicts, settings_in};
+use crate::spellings::{SpellError, read_spelling};
+use crate::text_errors::TextError;
+use crate::text_lines::cut_line;
+use bdb_model::{Bytes, Section, Sections, TextFault};
+use std::alloc::Global;
+
+const TYPE: [u8; 4] = *b"type";
+
+const DATABASE: [u8; 8] = *b"database";
+
+/// A section, the text behind it, and the number of the line behind its last.
+#[derive(Drop)]
+pub struct Read<'a> {
+    pub section: Section,
+    pub rest: &'a [u8],
+    pub number: u64,
+}
+
+/// The sections of a dump text, or its first fault.
+pub fn read_dump(alloc: Global, text: &[u8]) -> Result<Sections, TextError>
+    requires { length text.now ≤ 2 ^ 30 }
+    ensures ok { IfOk result (λ sections. Reads text.now sections) }
+    ensures err { IfErr result (OnFault (IsTextFault text.now)) }
+{
+    if text.is_empty() {
+        return Err(TextError::Fault(TextFault { line: 1, reason: 1 }));
+    }
+    let mut sections = Sections::new(alloc);
+    let mut number = 1;
+    let mut rest = text;
+    while !rest.is_empty() {
+        let read = match read_section(alloc, rest, number, &sections) {
+            Ok(read) => read,
+            Err(error) => return Err(error),
+        };
+        sections.push(read.section)?;
+        number = read.number;
+        rest = read.rest;
+    }
+    Ok(sections)
+}
+
+// The section that a text begins with, behind these others. The number is that of its first line.
+fn read_section<'a>(
+    alloc: Global,
+    text: &'a [u8],
+    start: u64,
+    earlier: &Sections,
+) -> Result<Read<'a>, TextError>
+    requires some { 0 < length text.now }
+    requires room { start + length text.now ≤ 2 ^ 31 }
+    ensures ok { IfOk result (λ read. IsSectionRead (names_of earlier.now) text.now start read) }
+    ensures shorter { IfOk result (λ read. length read.rest.now < length text.now) }
+    ensures within { IfOk result (λ read. read.number + length read.rest.now ≤ start + length text.now) }
+    ensures err { IfErr result (OnFault (IsSectionFault (names_of earlier.now) text.now start)) }
+{
+    let first = cut_line(text);
+    if let Some(reason) = first_line_reason(first.line) {
+        return Err(TextError::Fault(TextFault {
+            line: start,
+            reason,
+        }));
+    }
+    let header = match read_header(alloc, first.rest, start + 1) {
+        Ok(header) => header,
+        Err(error) => return Err(error),
+    };
+    let name = match name_in(alloc, &header.fields) {
+        Ok(name) => name,
+        Err(error) => return Err(error),
+    };
+    if let Some(reason) = end_reason(&header.fields, &name, earlier) {
+        return Err(TextError::Fault(TextFault {
+            line: header.number,
+            reason,
+        }));
+    }
+    let data = match read_pairs(alloc, header.rest, header.number + 1, &header.fields) {
+        Ok(data) => data,
+        Err(error) => return Err(error),
+    };
+    let section = Section {
+        name,
+        settings: settings_in(&header.fields),
+        header_line: header.number,
+        pairs: data.pairs,
+    };
+    Ok(Read {
+        section,
+        rest: data.rest,
+        number: data.number,
+    })
+}
+
+// The first reason of the first line of a section.
+fn first_line_reason(line: &[u8]) -> Option<u8>
+    ensures { result ≡ first_line_reason line.now }
+{
+    if !line.starts_with(b"VERSION=") {
+        Some(1)
+    } else if line != b"VERSION=3".as_slice() {
+        Some(2)
+    } else {
+        None
+    }
+}
+
+// The name that a header gives, where it gives one.
+fn name_in(alloc: Global, fields: &[Field<'_>]) -> Result<Option<Bytes>, TextError>
+    ensures ok { IfOk result (λ name. name ≡ name_in (values_in fields.now)) }
+    ensures err { IfErr result (λ error. error ≡ TextError.Memory) }
+{
+    match value_of(fields, DATABASE.as_slice()) {
+        None => Ok(None),
+        Some(value) => match read_spelling(alloc, value, true) {
+            Ok(name) => Ok(Some(name)),
+            Err(SpellError::Bad) => Ok(None),
+            Err(SpellError::Memory) => Err(TextError::Memory),
+        },
+    }
+}
+
+// The first reason of the line that ends a header, by the name that it gives and the sections before it.
+fn end_reason(fields: &[Field<'_>], name: &Option<Bytes>, earlier: &Sections) -> Option<u8>
+    ensures { result ≡ named_end_reason (names_of earlier.now) (values_in fields.now) name.now }
+{
+    if !is_given(fields, TYPE.as_slice()) {
+        return Some(6);
+    }
+    if conflicts(fields) {
+        return Some(16);
+    }
+    if is_name_missing(earlier, name) {
+        return Some(14);
+    }
+    if is_taken(earlier.as_slice(), name) {
+        return Some(15);
+    }
+    None
+}
+
+// Whether there are sections before, and one of these or the section itself has no name.
+fn is_name_missing(earlier: &Sections, name: &Option<Bytes>) -> bool
+    ensures { result ≡ name_missing (names_of earlier.now) name.now }
+{
+    !earlier.is_empty() && (name.is_none() || has_unnamed(earlier.as_slice()))
+}
+
+// Whether a section has no name.
+fn has_unnamed(sections: &[Section]) -> bool
+    ensures { result ≡ list_any is_none (names_of sections.now) }
+{
+    for section in sections {
+        if section.name.is_none() {
+            return true;
+        }
+    }
+    false
+}
+
+// Whether a section has this name.
+fn is_taken(sections: &[Section], name: &Option<Bytes>) -> bool
+    ensures { result ≡ list_any (is_name name.now) (names_of sections.now) }
+{
+    for section in sections {
+        if is_name(name, &section.name) {
+            return true;
+        }
+    }
+    false
+}
+
+// Whether a name is this one.
+fn is_name(name: &Option<Bytes>, other: &Option<Bytes>) -> bool
+    ensures { result ≡ is_name name.now other.now }
+{
+    match (name, other) {
+        (None, None) => true,
+        (Some(name), Some(other)) => name.as_slice() == other.as_slice(),
+        _ => false,
+    }
+}

@@ -1,0 +1,204 @@
+// What a header says in all: its type, its conflicts and its settings.
+ghost use Rattle.bdb_format.specs.Databases.{plain_settings};
+ghost use Rattle.bdb_model.specs.Header.{number_or, conflicts, has_keys, has_records, has_type, is_on, order_in, plain_in, prints, repeats, settings_in};
+ghost use Rattle.bdb_text.specs.Fields.{values_in};
+ghost use Rattle.std.specs.Prelude.{◌≡◌, codes};
+
+use crate::fields::{Field, gives, number_or};
+use bdb_model::{Kind, Order, Settings};
+
+const TYPE: [u8; 4] = *b"type";
+
+const ON: [u8; 1] = *b"1";
+
+/// Whether a header has this word as its type.
+fn has_type(fields: &[Field<'_>], word: &[u8]) -> bool
+    ensures { result ≡ has_type word.now (values_in fields.now) }
+{
+    gives(fields, TYPE.as_slice(), word)
+}
+
+fn is_btree(fields: &[Field<'_>]) -> bool
+    ensures { result ≡ has_type (codes "btree") (values_in fields.now) }
+{
+    has_type(fields, b"btree".as_slice())
+}
+
+fn is_hash(fields: &[Field<'_>]) -> bool
+    ensures { result ≡ has_type (codes "hash") (values_in fields.now) }
+{
+    has_type(fields, b"hash".as_slice())
+}
+
+fn is_recno(fields: &[Field<'_>]) -> bool
+    ensures { result ≡ has_type (codes "recno") (values_in fields.now) }
+{
+    has_type(fields, b"recno".as_slice())
+}
+
+fn is_queue(fields: &[Field<'_>]) -> bool
+    ensures { result ≡ has_type (codes "queue") (values_in fields.now) }
+{
+    has_type(fields, b"queue".as_slice())
+}
+
+/// Whether a header switches this keyword on.
+fn is_on(fields: &[Field<'_>], name: &[u8]) -> bool
+    ensures { result ≡ is_on name.now (values_in fields.now) }
+{
+    gives(fields, name, ON.as_slice())
+}
+
+/// Whether a key may have several data, sorted or not.
+fn repeats(fields: &[Field<'_>]) -> bool
+    ensures { result ≡ repeats (values_in fields.now) }
+{
+    is_on(fields, b"duplicates".as_slice()) | is_on(fields, b"dupsort".as_slice())
+}
+
+/// Whether a header is one of numbered records.
+pub fn has_records(fields: &[Field<'_>]) -> bool
+    ensures { result ≡ has_records (values_in fields.now) }
+{
+    is_recno(fields) | is_queue(fields)
+}
+
+/// Whether the data lines of a section are keys and data in turn.
+pub fn has_keys(fields: &[Field<'_>]) -> bool
+    ensures { result ≡ has_keys (values_in fields.now) }
+{
+    !has_records(fields) | is_on(fields, b"keys".as_slice())
+}
+
+/// Whether the data lines of a section are printed.
+pub fn prints(fields: &[Field<'_>]) -> bool
+    ensures { result ≡ prints (values_in fields.now) }
+{
+    gives(fields, b"format".as_slice(), b"print".as_slice())
+}
+
+/// The size of a page.
+fn page_size_in(fields: &[Field<'_>]) -> u32
+    ensures { result ≡ number_or 4096 (values_in fields.now (codes "db_pagesize")) }
+{
+    number_or(fields, b"db_pagesize".as_slice(), 4096)
+}
+
+/// The least number of keys for which a page has room.
+fn minkey_in(fields: &[Field<'_>]) -> u32
+    ensures { result ≡ number_or 2 (values_in fields.now (codes "bt_minkey")) }
+{
+    number_or(fields, b"bt_minkey".as_slice(), 2)
+}
+
+/// How many pairs a bucket is to hold.
+fn ffactor_in(fields: &[Field<'_>]) -> u32
+    ensures { result ≡ number_or 0 (values_in fields.now (codes "h_ffactor")) }
+{
+    number_or(fields, b"h_ffactor".as_slice(), 0)
+}
+
+/// The length of a record.
+fn re_len_in(fields: &[Field<'_>]) -> u32
+    ensures { result ≡ number_or 0 (values_in fields.now (codes "re_len")) }
+{
+    number_or(fields, b"re_len".as_slice(), 0)
+}
+
+/// The byte that fills up a short record.
+fn re_pad_in(fields: &[Field<'_>]) -> u32
+    ensures { result ≡ number_or 32 (values_in fields.now (codes "re_pad")) }
+{
+    number_or(fields, b"re_pad".as_slice(), 32)
+}
+
+/// Whether what a header says is in conflict.
+pub fn conflicts(fields: &[Field<'_>]) -> bool
+    ensures { result ≡ conflicts (values_in fields.now) }
+{
+    let no_keys = gives(fields, b"keys".as_slice(), b"0".as_slice());
+    let no_length = re_len_in(fields) == 0;
+    repeats(fields) & has_records(fields)
+        | is_on(fields, b"recnum".as_slice()) & (!is_btree(fields) | repeats(fields))
+        | is_on(fields, b"renumber".as_slice()) & !is_recno(fields)
+        | no_keys & (is_btree(fields) | is_hash(fields))
+        | is_queue(fields) & no_length
+}
+
+/// The order of bytes that a header asks for.
+fn order_in(fields: &[Field<'_>]) -> Order
+    ensures { result ≡ order_in (values_in fields.now) }
+{
+    if number_or(fields, b"db_lorder".as_slice(), 1234) == 4321 {
+        Order::Big
+    } else {
+        Order::Little
+    }
+}
+
+// The settings of a database of this kind that says nothing of its own.
+fn plain_settings(kind: Kind, page_size: u32, order: Order) -> Settings
+    ensures { result ≡ plain_settings kind page_size order }
+{
+    Settings {
+        kind,
+        page_size,
+        order,
+        duplicates: false,
+        sorted: false,
+        recnum: false,
+        renumber: false,
+        fixed: false,
+        re_len: 0,
+        re_pad: 32,
+        minkey: 2,
+        ffactor: 0,
+    }
+}
+
+// The settings of a header of this kind that says nothing of its own.
+fn plain_in(kind: Kind, fields: &[Field<'_>]) -> Settings
+    ensures { result ≡ plain_in kind (values_in fields.now) }
+{
+    plain_settings(kind, page_size_in(fields), order_in(fields))
+}
+
+/// The settings that a header says.
+pub fn settings_in(fields: &[Field<'_>]) -> Settings
+    ensures { result ≡ settings_in (values_in fields.now) }
+{
+    if is_btree(fields) {
+        return Settings {
+            duplicates: repeats(fields),
+            sorted: is_on(fields, b"dupsort".as_slice()),
+            recnum: is_on(fields, b"recnum".as_slice()),
+            minkey: minkey_in(fields),
+            ..plain_in(Kind::Btree, fields)
+        };
+    }
+    if is_hash(fields) {
+        return Settings {
+            duplicates: repeats(fields),
+            sorted: is_on(fields, b"dupsort".as_slice()),
+            ffactor: ffactor_in(fields),
+            ..plain_in(Kind::Hash, fields)
+        };
+    }
+    let re_len = re_len_in(fields);
+    let re_pad = re_pad_in(fields);
+    if is_recno(fields) {
+        return Settings {
+            renumber: is_on(fields, b"renumber".as_slice()),
+            fixed: re_len != 0,
+            re_len,
+            re_pad,
+            ..plain_in(Kind::Recno, fields)
+        };
+    }
+    Settings {
+        fixed: true,
+        re_len,
+        re_pad,
+        ..plain_in(Kind::Queue, fields)
+    }
+}
