@@ -1,0 +1,155 @@
+-- Bytes that are cut into pages.
+use Rattle.std.proofs.Common.{◌≡◌, ℕ, zero, suc, ◌+◌, ◌*◌, ◌<◌, ◌≤◌, List, [], ◌∷◌, ◌++◌, length, take, drop, get_or, set, replicate, arith, refl, sym, ◌∙◌, ap, length-append, length-drop, length-take, min, inl, inr}
+use Rattle.std.proofs.lemmas.List.{length-take-le, take-append-drop, drop-drop, drop-take, get_or_append_left, get_or_push, length-replicate, drop_all, append-nil, take-take, take_all, take-append-le, drop-append-le, take_at, drop_at}
+use Rattle.std.proofs.Math.Nat.{mul-le-mul_right}
+use Rattle.std.proofs.lemmas.Bool.{cases_lt}
+use Rattle.bdb_format.specs.Numbers.{overwritten}
+use Rattle.bdb_format.specs.declared.kinds.Order.{Order}
+use Rattle.bdb_pack.specs.Built.{AreWhole, Built, built_of, cut, joined_pages, with_page, with_zeros, written_over}
+
+pub length_cut : (size count : ℕ) (bytes : List ℕ) → length (cut size count bytes) ≡ count
+length_cut size zero bytes = refl
+length_cut size (suc n) bytes = let rest : length (cut size n (drop size bytes)) ≡ n = length_cut size n (drop size bytes) in omega arith
+
+no_length : (bytes : List ℕ) → length bytes ≡ 0 → bytes ≡ []
+no_length [] none = refl
+no_length (b ∷ bs) none = absurd (omega (arith, none))
+
+pub suc-times : (n size : ℕ) → suc n * size ≡ size + n * size
+suc-times n size = grind arith
+
+-- the pages of bytes, joined again
+pub joined_cut : (size count : ℕ) (bytes : List ℕ) → length bytes ≡ count * size → joined_pages (cut size count bytes) ≡ bytes
+joined_cut size zero bytes whole = let none : length bytes ≡ 0 = grind arith in sym (no_length bytes none)
+joined_cut size (suc n) bytes whole =
+    let long : length bytes ≡ size + n * size = whole ∙ suc-times n size in
+    let rest : length (drop size bytes) ≡ n * size = omega (arith, length-drop size bytes, long) in
+    ap (λ xs. take size bytes ++ xs) (joined_cut size n (drop size bytes) rest) ∙ take-append-drop size bytes
+
+-- a page of the bytes
+pub page_of_cut : (size count : ℕ) (bytes : List ℕ) (p : ℕ) → p < count → get_or (cut size count bytes) p [] ≡ take size (drop (p * size) bytes)
+page_of_cut size zero bytes p low = absurd (omega arith)
+page_of_cut size (suc n) bytes zero low = let e : 0 * size ≡ 0 = grind arith in ap (λ k. take size (drop k bytes)) (sym e)
+page_of_cut size (suc n) bytes (suc p) low =
+    page_of_cut size n (drop size bytes) p (omega arith)
+    ∙ (ap (take size) (drop-drop (p * size) size bytes) ∙ ap (λ k. take size (drop k bytes)) (let e = suc-times p size in omega (arith, e)))
+
+-- one page more
+pub cut_more : (size n : ℕ) (bytes page : List ℕ) → length bytes ≡ n * size → length page ≡ size
+    → cut size (n + 1) (bytes ++ page) ≡ cut size n bytes ++ (page ∷ [])
+cut_more size zero bytes page whole long =
+    let none : length bytes ≡ 0 = grind arith in
+    ap (λ bs. cut size 1 (bs ++ page)) (no_length bytes none) ∙ ap (λ p. p ∷ []) (take_all size page (omega arith))
+cut_more size (suc n) bytes page whole long =
+    let total : length bytes ≡ size + n * size = whole ∙ suc-times n size in
+    let rest : length (drop size bytes) ≡ n * size = omega (arith, length-drop size bytes, total) in
+    let e : suc n + 1 ≡ suc (n + 1) = omega arith in
+    ap (λ k. cut size k (bytes ++ page)) e
+    ∙ (ap (λ p. p ∷ cut size (n + 1) (drop size (bytes ++ page))) (take-append-le size bytes page (omega (arith, total)))
+    ∙ (ap (λ bs. take size bytes ∷ cut size (n + 1) bs) (drop-append-le size bytes page (omega (arith, total)))
+    ∙ ap (λ ps. take size bytes ∷ ps) (cut_more size n (drop size bytes) page rest long)))
+
+-- other bytes on one page
+pub cut_set : (size n : ℕ) (bytes page : List ℕ) (p : ℕ) → length bytes ≡ n * size → length page ≡ size → p < n
+    → cut size n (overwritten bytes (p * size) page) ≡ set (cut size n bytes) p page
+cut_set size zero bytes page p whole long low = absurd (omega arith)
+cut_set size (suc n) bytes page zero whole long low =
+    let total : length bytes ≡ size + n * size = whole ∙ suc-times n size in
+    let e : 0 * size ≡ 0 = grind arith in
+    let f : overwritten bytes (0 * size) page ≡ page ++ drop size bytes =
+    ap (λ k. overwritten bytes k page) e ∙ ap (λ k. page ++ drop k bytes) (let g : 0 + length page ≡ size = omega arith in g) in
+    ap (cut size (suc n)) f
+    ∙ (ap (λ q. q ∷ cut size n (drop size (page ++ drop size bytes))) (take_at page (drop size bytes) size long)
+    ∙ ap (λ bs. page ∷ cut size n bs) (drop_at page (drop size bytes) size long))
+cut_set size (suc n) bytes page (suc p) whole long low =
+    let total : length bytes ≡ size + n * size = whole ∙ suc-times n size in
+    let rest : length (drop size bytes) ≡ n * size = omega (arith, length-drop size bytes, total) in
+    let place : suc p * size ≡ size + p * size = suc-times p size in
+    let room : p * size ≤ n * size = mul-le-mul_right size (omega arith) in
+    ap (λ k. cut size (suc n) (overwritten bytes k page)) place
+    ∙ (ap (λ q. q ∷ cut size n (drop size (overwritten bytes (size + p * size) page))) (front size (p * size) bytes page (omega (arith, total)))
+    ∙ (ap (λ bs. take size bytes ∷ cut size n bs) (back size (p * size) bytes page (omega (arith, total)))
+    ∙ ap (λ ps. take size bytes ∷ ps) (cut_set size n (drop size bytes) page p rest long (omega arith))))
+  where
+    front : (a k : ℕ) (bs piece : List ℕ) → a ≤ length bs → take a (overwritten bs (a + k) piece) ≡ take a bs
+    front a k bs piece room =
+        take-append-le a (take (a + k) bs) (piece ++ drop (a + k + length piece) bs) (let e : length (take (a + k) bs) ≡ min (a + k) (length bs) = length-take (a + k) bs in omega (arith, room, e))
+        ∙ take-take a (a + k) bs (omega arith)
+
+    back : (a k : ℕ) (bs piece : List ℕ) → a ≤ length bs → drop a (overwritten bs (a + k) piece) ≡ overwritten (drop a bs) k piece
+    back a k bs piece room =
+        drop-append-le a (take (a + k) bs) (piece ++ drop (a + k + length piece) bs) (let e : length (take (a + k) bs) ≡ min (a + k) (length bs) = length-take (a + k) bs in omega (arith, room, e))
+        ∙ (ap (λ xs. xs ++ (piece ++ drop (a + k + length piece) bs)) (drop-take a k bs)
+        ∙ ap (λ xs. take k (drop a bs) ++ (piece ++ xs)) (let e : a + k + length piece ≡ a + (k + length piece) = omega arith in ap (λ n. drop n bs) e ∙ sym (drop-drop (k + length piece) a bs)))
+
+-- what is written from the beginning of a page on
+pub lent : (size count : ℕ) (bytes : List ℕ) (at : ℕ) (piece : List ℕ) → length bytes ≡ count * size
+    → cut size count (take at bytes ++ (piece ++ drop (length piece) (drop at bytes))) ≡ cut size (length (cut size count bytes)) (overwritten (joined_pages (cut size count bytes)) at piece)
+lent size count bytes at piece whole =
+    ap (λ xs. cut size count (take at bytes ++ (piece ++ xs))) (drop-drop (length piece) at bytes)
+    ∙ (ap (λ n. cut size n (overwritten bytes at piece)) (sym (length_cut size count bytes))
+    ∙ ap (λ bs. cut size (length (cut size count bytes)) (overwritten bs at piece)) (sym (joined_cut size count bytes whole)))
+
+-- only the bytes of the pages count
+pub cut_take : (size n : ℕ) (bytes : List ℕ) → cut size n (take (n * size) bytes) ≡ cut size n bytes
+cut_take size zero bytes = refl
+cut_take size (suc n) bytes =
+    let e : suc n * size ≡ size + n * size = suc-times n size in
+    ap (λ k. cut size (suc n) (take k bytes)) e
+    ∙ (ap (λ p. p ∷ cut size n (drop size (take (size + n * size) bytes))) (take-take size (size + n * size) bytes (omega arith))
+    ∙ (ap (λ bs. take size bytes ∷ cut size n bs) (drop-take size (n * size) bytes)
+    ∙ ap (λ ps. take size bytes ∷ ps) (cut_take size n (drop size bytes))))
+
+-- a vector keeps its length, whatever is written
+pub kept : (size count : ℕ) (bytes written : List ℕ) → length bytes ≡ count * size → length bytes ≤ length written
+    → cut size count (take (length bytes) (written ++ drop (length written) bytes)) ≡ cut size count written
+kept size count bytes written whole long =
+    ap (λ xs. cut size count (take (length bytes) (written ++ xs))) (drop_all (length written) bytes long)
+    ∙ (ap (λ xs. cut size count (take (length bytes) xs)) (append-nil written)
+    ∙ (ap (λ n. cut size count (take n written)) whole ∙ cut_take size count written))
+
+pub long_enough : (bytes piece : List ℕ) (at : ℕ) → length bytes ≤ length (take at bytes ++ (piece ++ drop (length piece) (drop at bytes)))
+long_enough bytes piece at =
+    omega (arith, length-append (take at bytes) (piece ++ drop (length piece) (drop at bytes)), length-append piece (drop (length piece) (drop at bytes)), length-take at bytes, length-drop at bytes, length-drop (length piece) (drop at bytes))
+
+-- the bytes written over one page are that page
+pub written_page : (size count : ℕ) (order : Order) (bytes : List ℕ) (p : ℕ) (page : List ℕ) → length bytes ≡ count * size → p < count → length page ≡ size
+    → written_over (built_of size order count bytes) p page ≡ with_page (built_of size order count bytes) p page
+written_page size count order bytes p page whole low long =
+    ap (λ pages. let b : Built = record { size = size; order = order; pages = pages } in b)
+    (ap (λ n. cut size n (overwritten (joined_pages (cut size count bytes)) (p * size) page)) (length_cut size count bytes)
+    ∙ (ap (λ bs. cut size count (overwritten bs (p * size) page)) (joined_cut size count bytes whole) ∙ cut_set size count bytes page p whole long low))
+
+pub page_length : (size count : ℕ) (bytes : List ℕ) (p : ℕ) → length bytes ≡ count * size → p < count → length (get_or (cut size count bytes) p []) ≡ size
+page_length size count bytes p whole low =
+    let room : suc p * size ≤ count * size = mul-le-mul_right size (omega arith) in
+    let e : suc p * size ≡ size + p * size = suc-times p size in
+    ap length (page_of_cut size count bytes p low) ∙ length-take-le size (drop (p * size) bytes) (omega (arith, length-drop (p * size) bytes))
+
+-- whole pages, joined and cut again
+pub all_size : (size : ℕ) (pages : List (List ℕ)) → ((p : ℕ) → p < length pages → length (get_or pages p []) ≡ size)
+    → (cut size (length pages) (joined_pages pages) ≡ pages) × (length (joined_pages pages) ≡ length pages * size)
+all_size size [] whole = (refl, (let e : 0 ≡ 0 * size = grind arith in e))
+all_size size (page ∷ pages) whole =
+    let rest = all_size size pages (λ p low. whole (suc p) (omega arith)) in
+    let long : length page ≡ size = whole 0 (omega arith) in (
+      ap (λ q. q ∷ cut size (length pages) (drop size (page ++ joined_pages pages))) (take_at page (joined_pages pages) size long)
+          ∙ (ap (λ bs. page ∷ cut size (length pages) bs) (drop_at page (joined_pages pages) size long) ∙ ap (λ ps. page ∷ ps) rest.0),
+      length-append page (joined_pages pages) ∙ (omega (arith, long, rest.1, suc-times (length pages) size)),
+    )
+
+-- the bytes written over one page of whole pages are that page
+pub written_whole : (built : Built) (p : ℕ) (page : List ℕ) → AreWhole built → p < length built.pages → length page ≡ built.size
+    → written_over built p page ≡ with_page built p page
+written_whole built p page whole low long =
+    let all = all_size built.size built.pages whole in
+    ap (λ pages. let b : Built = record { size = built.size; order = built.order; pages = pages } in b)
+    (cut_set built.size (length built.pages) (joined_pages built.pages) page p all.1 long low ∙ ap (λ ps. set ps p page) all.0)
+
+-- a zero page more is whole
+pub zeros_whole : (built : Built) → AreWhole built → AreWhole (with_zeros built)
+zeros_whole built whole p low =
+    elim (cases_lt p (length built.pages)) [
+      | inl below ↦ ap length (get_or_append_left built.pages (replicate built.size 0 ∷ []) [] p below) ∙ whole p below
+      | inr over ↦ ap length (get_or_push built.pages (replicate built.size 0) [] p (omega (arith, over, low, length-append built.pages (replicate built.size 0 ∷ [])))) ∙ length-replicate built.size 0
+    ]

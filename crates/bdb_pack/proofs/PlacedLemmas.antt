@@ -1,0 +1,114 @@
+-- What is read from a page after an entry is added, and after an item is placed.
+use Rattle.std.proofs.Common.{◌≡◌, Bool, true, false, cond, ℕ, ◌+◌, ◌*◌, ◌<◌, ◌≤◌, List, ◌++◌, length, drop, arith, refl, ◌∙◌, ap}
+use Rattle.bdb_format.specs.declared.kinds.Order.{Order}
+use Rattle.bdb_format.specs.Numbers.{byte_at, number_at, overwritten, pad4, spelled, two_at}
+use Rattle.bdb_format.specs.Reading.{entries_of, header_of, index_end, offset_of}
+use Rattle.bdb_format.proofs.SpellingLemmas.{length-overwritten, length-spelled}
+use Rattle.bdb_pack.specs.Items.{extent, is_hash_type}
+use Rattle.bdb_pack.specs.Placing.{HasRoom, IsOpen, entered, high_free_of, page_and_item, place_below, placed, with_entry}
+use Rattle.bdb_pack.proofs.PlaceLemmas.{behind, byte_before, byte_same, drop_same, from_here, number_before, number_here, number_same}
+
+-- What is read from a page after an entry is added.
+pub record IsEntered (order : Order) (page new : List ℕ) (at high : ℕ) : Type 0 where
+  pub long : length new ≡ length page
+  pub low : (n x : ℕ) → x + n ≤ 20 → number_at n order new x ≡ number_at n order page x
+  pub level : byte_at new 24 ≡ byte_at page 24
+  pub type : byte_at new 25 ≡ byte_at page 25
+  pub entries : two_at order new 20 ≡ entries_of order page + 1
+  pub top : two_at order new 22 ≡ high
+  pub index : (k : ℕ) → k < entries_of order page → offset_of order new k ≡ offset_of order page k
+  pub last : offset_of order new (entries_of order page) ≡ at
+
+pub is_entered : (order : Order) (page : List ℕ) (at high : ℕ) → IsOpen order page → index_end order page + 2 ≤ length page → at < 65536 → high < 65536
+    → IsEntered order page (entered order page at high) at high × (drop (index_end order page + 2) (entered order page at high) ≡ drop (index_end order page + 2) page)
+is_entered order page at high free room fits_at fits_high =
+    let n : ℕ = entries_of order page in
+    let end : ℕ = index_end order page in
+    let small : length page ≤ 32768 = free.most in
+    let a : List ℕ = spelled 2 order at in
+    let c : List ℕ = spelled 2 order (n + 1) in
+    let b : List ℕ = spelled 2 order high in
+    let la : length a ≡ 2 = length-spelled 2 order at in
+    let lc : length c ≡ 2 = length-spelled 2 order (n + 1) in
+    let lb : length b ≡ 2 = length-spelled 2 order high in
+    let p1 : List ℕ = overwritten page end a in
+    let p2 : List ℕ = overwritten p1 20 c in
+    let p3 : List ℕ = overwritten p2 22 b in
+    let l1 : length p1 ≡ length page = length-overwritten page end a (omega arith) in
+    let l2 : length p2 ≡ length page = length-overwritten p1 20 c (omega arith) ∙ l1 in
+    let l3 : length p3 ≡ length page = length-overwritten p2 22 b (omega arith) ∙ l2 in
+    let d3 : drop 24 p3 ≡ drop 24 p2 = behind p2 22 b 24 (omega arith) (omega arith) in
+    let d2 : drop 22 p2 ≡ drop 22 p1 = behind p1 20 c 22 (omega arith) (omega arith) in
+    let d : drop 24 p3 ≡ drop 24 p1 = d3 ∙ drop_same p2 p1 22 24 d2 (omega arith) in (
+      record {
+        long = l3;
+        low = λ k x under.
+            number_before k order p2 22 b x (omega arith) (omega arith) ∙ (number_before k order p1 20 c x (omega arith) (omega arith)
+            ∙ number_before k order page end a x (omega arith) (omega arith));
+        level = byte_same p3 p1 24 24 d (omega arith) ∙ byte_before page end a 24 (omega arith) (omega arith);
+        type = byte_same p3 p1 24 25 d (omega arith) ∙ byte_before page end a 25 (omega arith) (omega arith);
+        entries = number_before 2 order p2 22 b 20 (omega arith) (omega arith) ∙ number_here 2 order p1 20 (n + 1) (omega arith) (omega arith);
+        top = number_here 2 order p2 22 high (omega arith) (omega arith);
+        index = λ k low. number_same 2 order p3 p1 24 (26 + 2 * k) d (omega arith) ∙ number_before 2 order page end a (26 + 2 * k) (omega arith) (omega arith);
+        last = number_same 2 order p3 p1 24 end d (omega arith) ∙ number_here 2 order page end at (omega arith) (omega arith);
+      },
+      drop_same p3 p1 24 (end + 2) d (omega arith) ∙ behind page end a (end + 2) (omega arith) (omega arith),
+    )
+
+-- What is read from a page after an item is placed, whose bytes stand from `at` up to the items before it.
+pub record IsPlaced (order : Order) (page new : List ℕ) (at : ℕ) (piece : List ℕ) : Type 0 where
+  pub entry : IsEntered order page new at at
+  pub body : drop (high_free_of order page) new ≡ drop (high_free_of order page) page
+  pub here : drop at new ≡ piece ++ drop (at + length piece) page
+
+pub is_placed : (order : Order) (page : List ℕ) (at : ℕ) (piece : List ℕ) → IsOpen order page → index_end order page + 2 ≤ at
+    → at + length piece ≤ high_free_of order page
+    → IsPlaced order page (placed order page at piece) at piece
+is_placed order page at piece free room fits =
+    let end : ℕ = index_end order page in
+    let h : ℕ = high_free_of order page in
+    let high : h ≤ length page = free.high in
+    let small : length page ≤ 32768 = free.most in
+    let e : List ℕ = entered order page at at in
+    let both = is_entered order page at at free (omega arith) (omega arith) (omega arith) in
+    let is : IsEntered order page e at at = both.0 in
+    let body : drop (end + 2) e ≡ drop (end + 2) page = both.1 in
+    let long : length e ≡ length page = is.long in
+    let new : List ℕ = overwritten e at piece in
+    record {
+      entry = record {
+        long = length-overwritten e at piece (omega arith) ∙ long;
+        low = λ k x under. number_before k order e at piece x (omega arith) (omega arith) ∙ is.low k x under;
+        level = byte_before e at piece 24 (omega arith) (omega arith) ∙ is.level;
+        type = byte_before e at piece 25 (omega arith) (omega arith) ∙ is.type;
+        entries = number_before 2 order e at piece 20 (omega arith) (omega arith) ∙ is.entries;
+        top = number_before 2 order e at piece 22 (omega arith) (omega arith) ∙ is.top;
+        index = λ k low. number_before 2 order e at piece (26 + 2 * k) (omega arith) (omega arith) ∙ is.index k low;
+        last = number_before 2 order e at piece end (omega arith) (omega arith) ∙ is.last;
+      };
+      body = behind e at piece h (omega arith) (omega arith) ∙ drop_same e page (end + 2) h body (omega arith);
+      here = from_here e at piece (omega arith) ∙ ap (λ bs. piece ++ bs) (drop_same e page (end + 2) (at + length piece) body (omega arith));
+    }
+
+-- rounding up to a multiple of 4 takes nothing off
+pub pad-le : (n : ℕ) → n ≤ pad4 n
+pad-le n = grind arith
+
+pub extent-le : (type n : ℕ) → n ≤ extent type n
+extent-le type n = of (is_hash_type type) n
+  where
+    of : (b : Bool) (n : ℕ) → n ≤ cond b n (pad4 n)
+    of true n = omega arith
+    of false n = pad-le n
+
+-- an item right below the others
+pub is_below : (order : Order) (page : List ℕ) (piece : List ℕ) → IsOpen order page → HasRoom order page (length piece)
+    → IsPlaced order page (page_and_item order page piece) (place_below order page (length piece)) piece
+is_below order page piece free room =
+    let more : length piece ≤ extent (byte_at page 25) (length piece) = extent-le (byte_at page 25) (length piece) in
+    is_placed order page (place_below order page (length piece)) piece free (omega (arith, room)) (omega (arith, room))
+
+pub header_entered : (order : Order) (page new : List ℕ) (at high : ℕ) → IsEntered order page new at high
+    → header_of order new ≡ with_entry (header_of order page) high
+header_entered order page new at high is =
+    rw (is.low 4 8 (omega arith), is.low 4 12 (omega arith), is.low 4 16 (omega arith), is.entries, is.top, is.level, is.type) refl

@@ -1,0 +1,9 @@
+use Rattle.bdb_pack.specs.Placing.{page_and_shared}
+use Rattle.bdb_pack.proofs.OpenLemmas.{edited}
+use Rattle.bdb_pack.proofs.pages.Pages.append_shared.Goals as goal
+
+pub returns : goal.returns
+returns c =
+    let it = c.self.inside in
+    edited it.size it.count it.order it.bytes.items c.args.self.now c.args.number (λ order page. page_and_shared order page) _ _
+    c.self.view_is c.self.invariant.whole c.requires.number c.page_mut-page.ensures.value c.share.ensures c.share.auto.page

@@ -1,0 +1,27 @@
+-- What is asked of a page among pages that are being built, and what an item makes of them.
+use Rattle.std.specs.Prelude.{ℕ, Bool, List, length}
+use Rattle.bdb_format.specs.Numbers.{byte_at}
+use Rattle.bdb_format.specs.Reading.{entries_of}
+use Rattle.bdb_pack.specs.Built.{Built, bytes_of, with_page}
+use Rattle.bdb_pack.specs.Items.{HasPlace, PageItem, holds_item}
+use Rattle.bdb_pack.specs.Placing.{HasRoom, IsBegun, page_and_item}
+
+-- the page with this number is begun
+abbrev pub IsBegunOn : Built → ℕ → Type 0
+IsBegunOn built p = IsBegun built.order (bytes_of built p)
+
+-- it holds such items
+abbrev pub holds_on : Built → ℕ → PageItem → Bool
+holds_on built p item = holds_item (byte_at (bytes_of built p) 25) item
+
+-- the item has its place at the end of its index
+abbrev pub HasPlaceOn : Built → ℕ → PageItem → Type 0
+HasPlaceOn built p item = HasPlace (byte_at (bytes_of built p) 25) (entries_of built.order (bytes_of built p)) item
+
+-- it has room for these bytes and an entry
+abbrev pub HasRoomOn : Built → ℕ → List ℕ → Type 0
+HasRoomOn built p piece = HasRoom built.order (bytes_of built p) (length piece)
+
+-- the pages with the bytes of an item right below the others of that page
+abbrev pub with_item_on : Built → ℕ → List ℕ → Built
+with_item_on built p piece = with_page built p (page_and_item built.order (bytes_of built p) piece)

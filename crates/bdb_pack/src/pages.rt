@@ -1,0 +1,331 @@
+ghost use Rattle.std.specs.Prelude.{◌≡◌, ◌+◌, ◌-◌, ◌*◌, ◌<◌, ◌≤◌, ◌^◌, ◌∷◌, ◌++◌, [], IsTrue, OnErr, OnOk, IfOk, length, replicate, take, drop};
+ghost use Rattle.std.specs.Borrow.{sem};
+ghost use Rattle.bdb_format.specs.HeadOf.{is_page_size};
+ghost use Rattle.bdb_format.specs.Numbers.{byte_at};
+ghost use Rattle.bdb_format.specs.Reading.{entries_of, index_end, is_zero};
+ghost use Rattle.bdb_format.specs.Spelling.{IsKey, IsLeafContent, internal_bytes, leaf_bytes, recno_bytes};
+ghost use Rattle.bdb_format.specs.declared.kinds.Order.{Order as ByteOrder};
+ghost use Rattle.bdb_layout.specs.Seen.{internal_item_seen, leaf_item_seen};
+ghost use Rattle.bdb_pack.specs.Items.{OnInternal, OnLeaf, OnRecno, extent, takes_items};
+ghost use Rattle.bdb_pack.specs.OnPages.{HasPlaceOn, HasRoomOn, IsBegunOn, holds_on, with_item_on};
+ghost use Rattle.bdb_pack.specs.Placing.{CanShare, HasRoom, IsOpen, begun_page, entered, high_free_of, page_and_item, page_and_shared, place_below};
+ghost use Rattle.bdb_pack.specs.Built.{AreWhole, bytes_of, joined_pages, with_page, with_zeros};
+
+use bdb_format::{Header, Order, RecnoItem};
+use bdb_layout::{
+    InternalItem, InternalKey, LeafItem, put_header, put_internal_item, put_leaf_item,
+    put_recno_item, put_u16, u16_at,
+};
+use std::alloc::{AllocError, Global};
+use std::marker::Model;
+
+/// The pages of a file that is being built.
+#[derive(Drop)]
+pub struct Pages {
+    bytes: Vec<u8>,
+    size: usize,
+    order: Order,
+    count: u32,
+}
+
+impl Model for Pages {
+    ghost use Rattle.bdb_pack.specs.Built.{Built, IsWhole, built_of};
+
+    ghost Value = { Built };
+
+    ghost view = { λ p. built_of p.size p.order p.count p.bytes.items };
+
+    ghost invariant = { λ p. IsWhole p.size p.count p.bytes.items };
+}
+
+#[tactic(auto, using(crate::proofs::CutLemmas::length_cut))]
+impl Pages {
+    ghost use Rattle.bdb_pack.specs.Lending.{LendsPage};
+
+    /// No pages yet.
+    pub fn new(alloc: Global, page_size: u32, order: Order) -> Pages
+        requires legal { IsTrue (is_page_size page_size) }
+        ensures pages { result.pages ≡ [] }
+        ensures size { result.size ≡ page_size }
+        ensures order { result.order ≡ order }
+    {
+        Pages {
+            bytes: Vec::new(alloc),
+            size: page_size as usize,
+            order,
+            count: 0,
+        }
+    }
+
+    /// How many pages there are.
+    pub fn count(&self) -> u32
+        ensures { result ≡ length self.now.pages }
+    {
+        self.count
+    }
+
+    /// Bytes of a page.
+    pub fn size(&self) -> usize
+        ensures size { result ≡ self.now.size }
+        ensures legal { IsTrue (is_page_size result) }
+        ensures whole { AreWhole self.now }
+    {
+        self.size
+    }
+
+    /// The order of the numbers.
+    pub fn order(&self) -> Order
+        ensures { result ≡ self.now.order }
+    {
+        self.order
+    }
+
+    /// A zero page at the end, and its number.
+    pub fn add(&mut self) -> Result<u32, AllocError>
+        requires few { length self.old.pages < 2 ^ 21 }
+        ensures number { IfOk result (λ number. number ≡ length self.old.pages) }
+        ensures ok { OnOk result (self.new ≡ with_zeros self.old) }
+        ensures err { OnErr result (self.new ≡ self.old) }
+    {
+        let number = self.count;
+        let end = self.bytes.len() + self.size;
+        self.bytes.resize(end, 0)?;
+        self.count += 1;
+        Ok(number)
+    }
+
+    /// The bytes of a page.
+    pub fn page_mut(&mut self, number: u32) -> &mut [u8]
+        requires { number < length self.old.pages }
+        ensures* writes_back { sem 𝓛 (LendsPage self.entry number result) }
+        ensures value { result.now ≡ bytes_of self.old number }
+    {
+        let at = number as usize * self.size;
+        let end = at + self.size;
+        self.bytes.slice_mut(at..end)
+    }
+
+    /// Begins a page: a header, but no entries and the high free offset at the page's end.
+    pub fn begin(&mut self, number: u32, header: &Header)
+        requires number { number < length self.old.pages }
+        requires zero { IsTrue (is_zero (bytes_of self.old number)) }
+        requires takes { IsTrue (takes_items header.now.page_type) }
+        ensures { self.new ≡ with_page self.old number (begun_page self.old.order (bytes_of self.old number) header.now) }
+    {
+        let order = self.order;
+        let page = self.page_mut(number);
+        put_begun(page, order, header);
+    }
+
+    /// Adds an item at the end of a leaf: its bytes right below the other items, and its place at the end of the index.
+    pub fn append_leaf(&mut self, number: u32, item: &LeafItem<'_>)
+        requires number { number < length self.old.pages }
+        requires begun { IsBegunOn self.old number }
+        requires holds { IsTrue (holds_on self.old number (OnLeaf (leaf_item_seen item.now))) }
+        requires place { HasPlaceOn self.old number (OnLeaf (leaf_item_seen item.now)) }
+        requires fits { IsLeafContent (leaf_item_seen item.now).content }
+        requires room { HasRoomOn self.old number (leaf_bytes self.old.order (leaf_item_seen item.now)) }
+        ensures { self.new ≡ with_item_on self.old number (leaf_bytes self.old.order (leaf_item_seen item.now)) }
+    {
+        let order = self.order;
+        let page = self.page_mut(number);
+        place_leaf(page, order, item);
+    }
+
+    /// Adds an item at the end of an internal page of a btree.
+    pub fn append_internal(&mut self, number: u32, item: &InternalItem<'_>)
+        requires number { number < length self.old.pages }
+        requires begun { IsBegunOn self.old number }
+        requires holds { IsTrue (holds_on self.old number (OnInternal (internal_item_seen item.now))) }
+        requires fits { IsKey (internal_item_seen item.now).key }
+        requires room { HasRoomOn self.old number (internal_bytes self.old.order (internal_item_seen item.now)) }
+        ensures { self.new ≡ with_item_on self.old number (internal_bytes self.old.order (internal_item_seen item.now)) }
+    {
+        let order = self.order;
+        let page = self.page_mut(number);
+        place_internal(page, order, item);
+    }
+
+    /// Adds an item at the end of an internal page of a recno tree.
+    pub fn append_recno(&mut self, number: u32, item: &RecnoItem)
+        requires number { number < length self.old.pages }
+        requires begun { IsBegunOn self.old number }
+        requires holds { IsTrue (holds_on self.old number (OnRecno item.now)) }
+        requires room { HasRoomOn self.old number (recno_bytes self.old.order item.now) }
+        ensures { self.new ≡ with_item_on self.old number (recno_bytes self.old.order item.now) }
+    {
+        let order = self.order;
+        let page = self.page_mut(number);
+        place_recno(page, order, item);
+    }
+
+    /// Adds to the index of a btree leaf the offset of the entry two before: the key of the last pair again.
+    pub fn append_shared(&mut self, number: u32)
+        requires number { number < length self.old.pages }
+        requires begun { IsBegunOn self.old number }
+        requires shares { CanShare self.old.order (bytes_of self.old number) }
+        ensures { self.new ≡ with_page self.old number (page_and_shared self.old.order (bytes_of self.old number)) }
+    {
+        let order = self.order;
+        let page = self.page_mut(number);
+        share(page, order);
+    }
+
+    /// How many bytes are free between the index and the items.
+    pub fn room(&self, number: u32) -> u32
+        requires number { number < length self.now.pages }
+        requires begun { IsBegunOn self.now number }
+        ensures { result ≡ high_free_of self.now.order (bytes_of self.now number) - index_end self.now.order (bytes_of self.now number) }
+    {
+        let order = self.order;
+        let page = self.page(number);
+        u32::from(u16_at(page, 22, order)) - 2 * u32::from(u16_at(page, 20, order)) - 26
+    }
+
+    // The bytes of a page, to be read.
+    fn page(&self, number: u32) -> &[u8]
+        requires { number < length self.now.pages }
+        ensures { result.now ≡ bytes_of self.now number }
+    {
+        let from = number as usize * self.size;
+        &self.bytes[from..from + self.size]
+    }
+
+    /// All pages, joined in order.
+    pub fn into_vec(self) -> Vec<u8>
+        ensures { result.items ≡ joined_pages self.pages }
+    {
+        self.bytes
+    }
+}
+
+// Writes the header of a page without entries.
+fn put_begun(page: &mut [u8], order: Order, header: &Header)
+    requires page { 26 ≤ length page.old }
+    requires short { length page.old ≤ 32768 }
+    ensures { page.new ≡ begun_page order page.old header.now }
+{
+    let begun = Header {
+        number: header.number,
+        previous: header.previous,
+        next: header.next,
+        entries: 0,
+        high_free: page.len() as u16,
+        level: header.level,
+        page_type: header.page_type,
+    };
+    put_header(page, order, &begun);
+}
+
+// The bytes that an item of a length takes on a page of a type.
+fn extent(page_type: u8, long: usize) -> usize
+    requires { long < 2 ^ 32 }
+    ensures { result ≡ extent page_type long }
+{
+    if page_type == 2 || page_type == 13 {
+        long
+    } else {
+        (long + 3) / 4 * 4
+    }
+}
+
+// Where an item of a length goes.
+fn place_below(page: &[u8], order: Order, long: usize) -> usize
+    requires page { 26 ≤ length page.now }
+    requires short { long < 2 ^ 32 }
+    requires room { extent (byte_at page.now 25) long ≤ high_free_of order page.now }
+    ensures { result ≡ place_below order page.now long }
+{
+    usize::from(u16_at(page, 22, order)) - extent(page[25], long)
+}
+
+// Adds an entry at the end of the index, and writes the high free offset.
+fn enter(page: &mut [u8], order: Order, at: u16, high: u16)
+    requires page { 26 ≤ length page.old }
+    requires room { index_end order page.old + 2 ≤ length page.old }
+    requires few { entries_of order page.old < 65535 }
+    ensures { page.new ≡ entered order page.old at high }
+{
+    let entries = u16_at(page, 20, order);
+    let end = 26 + 2 * usize::from(entries);
+    put_u16(page, end, order, at);
+    put_u16(page, 20, order, entries + 1);
+    put_u16(page, 22, order, high);
+}
+
+// How many bytes an item of a leaf has.
+fn leaf_length(item: &LeafItem<'_>) -> usize
+    requires { IsLeafContent (leaf_item_seen item.now).content }
+    ensures { (order : ByteOrder) → result ≡ length (leaf_bytes order (leaf_item_seen item.now)) }
+{
+    match *item {
+        LeafItem::Inline { bytes, .. } => 3 + bytes.len(),
+        LeafItem::Duplicates { .. } => 12,
+        LeafItem::Overflow { .. } => 12,
+    }
+}
+
+// How many bytes an item of an internal page has.
+fn internal_length(item: &InternalItem<'_>) -> usize
+    requires { IsKey (internal_item_seen item.now).key }
+    ensures { (order : ByteOrder) → result ≡ length (internal_bytes order (internal_item_seen item.now)) }
+{
+    match item.key {
+        InternalKey::Inline(key) => 12 + key.len(),
+        InternalKey::Overflow { .. } => 24,
+    }
+}
+
+// How many bytes an item of an internal page of a recno tree has.
+fn recno_length(item: &RecnoItem) -> usize
+    ensures { (order : ByteOrder) → result ≡ length (recno_bytes order item.now) }
+{
+    8
+}
+
+// Places an item of a leaf on its page.
+fn place_leaf(page: &mut [u8], order: Order, item: &LeafItem<'_>)
+    requires free { IsOpen order page.old }
+    requires fits { IsLeafContent (leaf_item_seen item.now).content }
+    requires room { HasRoom order page.old (length (leaf_bytes order (leaf_item_seen item.now))) }
+    ensures { page.new ≡ page_and_item order page.old (leaf_bytes order (leaf_item_seen item.now)) }
+{
+    let at = place_below(page, order, leaf_length(item));
+    enter(page, order, at as u16, at as u16);
+    put_leaf_item(page, order, at, item);
+}
+
+// Places an item of an internal page of a btree on its page.
+fn place_internal(page: &mut [u8], order: Order, item: &InternalItem<'_>)
+    requires free { IsOpen order page.old }
+    requires fits { IsKey (internal_item_seen item.now).key }
+    requires room { HasRoom order page.old (length (internal_bytes order (internal_item_seen item.now))) }
+    ensures { page.new ≡ page_and_item order page.old (internal_bytes order (internal_item_seen item.now)) }
+{
+    let at = place_below(page, order, internal_length(item));
+    enter(page, order, at as u16, at as u16);
+    put_internal_item(page, order, at, item);
+}
+
+// Places an item of an internal page of a recno tree on its page.
+fn place_recno(page: &mut [u8], order: Order, item: &RecnoItem)
+    requires free { IsOpen order page.old }
+    requires room { HasRoom order page.old (length (recno_bytes order item.now)) }
+    ensures { page.new ≡ page_and_item order page.old (recno_bytes order item.now) }
+{
+    let at = place_below(page, order, recno_length(item));
+    enter(page, order, at as u16, at as u16);
+    put_recno_item(page, order, at, item);
+}
+
+// Enters the offset of the entry two before once more.
+fn share(page: &mut [u8], order: Order)
+    requires free { IsOpen order page.old }
+    requires shares { CanShare order page.old }
+    ensures { page.new ≡ page_and_shared order page.old }
+{
+    let entries = usize::from(u16_at(page, 20, order));
+    let high = u16_at(page, 22, order);
+    let at = u16_at(page, 26 + 2 * (entries - 2), order);
+    enter(page, order, at, high);
+}
