@@ -1,17 +1,19 @@
 #!/usr/bin/env python3
 """Times `bdbtool` beside the original library's tools, both in one run on the same files.
 
-usage: times.py verify|dump [PROGRAM]
+usage: times.py verify|kinds|chains|dump [PROGRAM]
 
 PROGRAM is the built program; without it, crates/bdbtool/out/bdbtool. The files are made with `db5.3_load` in a temporary folder.
 Prints a Markdown table. `verify` stands beside `db5.3_verify`, on a btree and a hash of tenfold growing numbers of pairs: seconds by
 the clock, and how pages and seconds grew from the row above. A kind ends where a run takes a minute, or where ten times the pairs
-wouldn't fit into the longest input. `dump` stands beside `db5.3_dump -k`, on a file of each kind: seconds of user time, and peak
+wouldn't fit into the longest input. `kinds` has `verify` on files of each kind of about 100 MB, and `chains` on chains of pages that
+grow longer, one by one: seconds of user time. `dump` stands beside `db5.3_dump -k`, on a file of each kind: seconds of user time, and peak
 memory. Where the program or the library's tools are missing, nothing is timed. docs/BENCH.md says how to read the tables.
 """
 import os
 import pathlib
 import shutil
+import struct
 import subprocess
 import sys
 import tempfile
@@ -30,6 +32,12 @@ LONGEST_INPUT = 2**30
 LONG_RUN = 60
 LONGEST_RUN = 600
 GROWTH_COLUMNS = ("Kind", "Pairs", "Pages", "`bdbtool`", "`db5.3_verify`", "Ratio", "Pages grew", "`bdbtool` grew", "`db5.3_verify` grew")
+
+# `kinds` and `chains`
+USER_COLUMNS = ("File", "Bytes of the file", "`bdbtool`", "`db5.3_verify`", "Ratio")
+SMALL_PAGE = 512
+CHAINS = (50_000, 100_000, 200_000, 500_000)
+FREE_PAGES = 18_000
 
 # `dump`
 MILLION = 1_000_000
@@ -69,10 +77,10 @@ def missing(program, tool):
     return f"{' and '.join(lacking)} not found; Debian's package db5.3-util has them" if lacking else None
 
 
-def dump_text(kind, lines):
+def dump_text(kind, lines, page_size=PAGE_SIZE, settings=""):
     """A dump text with these data lines. Records of a queue have 72 bytes."""
     length = "re_len=72\n" if kind == "queue" else ""
-    yield f"VERSION=3\nformat=print\ntype={kind}\n{length}db_pagesize={PAGE_SIZE}\nHEADER=END\n"
+    yield f"VERSION=3\nformat=print\ntype={kind}\n{length}{settings}db_pagesize={page_size}\nHEADER=END\n"
     yield from lines
     yield "DATA=END\n"
 
@@ -94,11 +102,23 @@ def long_pairs(count, length):
     return (f" {i:08x}\n {'z' * length}\n" for i in range(count))
 
 
-def make(name, kind, lines, folder):
+def repeated_keys(count, data):
+    """Keys of eight digits in scrambled order, each with so many data of 72 letters and digits."""
+    for i in range(count):
+        for j in range(data):
+            yield f" {i * 2654435761 % 2**32:08x}\n {j:08x}{'w' * 64}\n"
+
+
+def one_chain(pages):
+    """One pair, whose data fill so many small pages of a chain."""
+    return iter([" 61\n", f" {'c' * ((SMALL_PAGE - 26) * pages)}\n"])
+
+
+def make(name, kind, lines, folder, page_size=PAGE_SIZE, settings=""):
     """A new file. The library finds in the folder that its cache may hold the whole file."""
     image = folder / f"{name}.db"
     with subprocess.Popen(["db5.3_load", "-h", folder, image], stdin=subprocess.PIPE, text=True) as load:
-        load.stdin.writelines(dump_text(kind, lines))
+        load.stdin.writelines(dump_text(kind, lines, page_size, settings))
     if load.returncode != 0:
         sys.exit(f"db5.3_load: status {load.returncode}")
     return image
@@ -220,7 +240,56 @@ def time_dump(program, folder):
         print_dump(program, sample, folder)
 
 
-TABLES = {"verify": ("db5.3_verify", time_verify), "dump": ("db5.3_dump", time_dump)}
+def free_list(pages, folder):
+    """A new btree without pairs, and so many small pages on its free list: page 0 names page 2, and each page the next."""
+    last = pages + 1
+    metadata = bytearray(SMALL_PAGE)
+    struct.pack_into("<IIIIIIBBBBIIII", metadata, 0, 0, 1, 0, 0x53162, 9, SMALL_PAGE, 0, 9, 0, 0, 2, last, 0, 0)
+    metadata[52:72] = bytes(range(20))
+    struct.pack_into("<IIIII", metadata, 72, 0, 2, 0, 0x20, 1)
+    leaf = struct.pack("<IIIIIHHBB", 0, 1, 1, 0, 0, 0, SMALL_PAGE, 1, 5).ljust(SMALL_PAGE, b"\0")
+    image = folder / "free.db"
+    with image.open("wb") as file:
+        file.write(metadata)
+        file.write(leaf)
+        for page in range(2, last + 1):
+            following = page + 1 if page < last else 0
+            file.write(struct.pack("<IIIIIHHBB", 0, 1, page, 0, following, 0, 0, 0, 0).ljust(SMALL_PAGE, b"\0"))
+    return image
+
+
+def print_user(name, program, image):
+    """A row of user times of `verify`."""
+    size = image.stat().st_size
+    own, original = least([program, "verify"], image), least(["db5.3_verify", image], image)
+    image.unlink()
+    print_row([name, f"{size:,}", f"{own.user:.3g}", f"{original.user:.3g}", f"{own.user / max(original.user, 0.001):.3g}"])
+
+
+def time_kinds(program, folder):
+    """The table of `verify` on each kind."""
+    print_head(USER_COLUMNS)
+    for sample in samples():
+        print_user(sample.name, program, make(sample.name, sample.kind, sample.lines, folder))
+    for settings, name in (("duplicates=1\n", "btree, duplicates"), ("duplicates=1\ndupsort=1\n", "btree, sorted duplicates")):
+        print_user(name, program, make(name, "btree", repeated_keys(10_000, 100), folder, settings=settings))
+
+
+def time_chains(program, folder):
+    """The table of `verify` on chains."""
+    print_head(USER_COLUMNS)
+    for pages in CHAINS:
+        image = make(f"chain-{pages}", "btree", one_chain(pages), folder, SMALL_PAGE)
+        print_user(f"a chain of {pages:,} pages", program, image)
+    print_user(f"{FREE_PAGES:,} free pages", program, free_list(FREE_PAGES, folder))
+
+
+TABLES = {
+    "verify": ("db5.3_verify", time_verify),
+    "kinds": ("db5.3_verify", time_kinds),
+    "chains": ("db5.3_verify", time_chains),
+    "dump": ("db5.3_dump", time_dump),
+}
 
 
 def main(table, program):

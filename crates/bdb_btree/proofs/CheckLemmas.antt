@@ -2,10 +2,10 @@
 use Rattle.std.proofs.Common.{◌≡◌, ℕ, ◌+◌, ◌<◌, ◌≤◌, Bool, true, false, not, cond, List, [], ◌∷◌, Option, None, arith, refl, sym, ◌∙◌, ap, subst, inl, inr}
 use Rattle.std.specs.Prelude.{◌&&◌, ◌==◌}
 use Rattle.std.specs.List.{Contains, list_any}
-use Rattle.std.proofs.lemmas.Bool.{and_parts, eqb-true, or_cases}
+use Rattle.std.proofs.lemmas.Bool.{and_parts, eqb-true}
 use Rattle.bdb_format.specs.declared.kinds.Fault.{Fault}
 use Rattle.bdb_format.specs.declared.metadata.BtreeMeta.{BtreeMeta}
-use Rattle.bdb_format.specs.ContentRows.{btree_contents, database_faults, groups, has_duplicate, has_unsorted, has_wrong_count, has_wrong_separator, has_wrong_set, inner_pages, is_wrong_at, neighbours, neighbours_from, recno_contents}
+use Rattle.bdb_format.specs.ContentRows.{btree_contents, database_faults, groups, has_duplicate, has_unsorted, has_wrong_count, has_wrong_separator, has_wrong_set, inner_pages, is_wrong_at, neighbours, recno_contents}
 use Rattle.bdb_format.specs.Contents.{StoredPair, tree_pairs}
 use Rattle.bdb_format.specs.File.{File, file_of}
 use Rattle.bdb_format.specs.Numbers.{has_bit}

@@ -1,20 +1,18 @@
 -- Pairs that are counted, and the counts of items.
-use Rattle.std.proofs.Common.{◌≡◌, ℕ, ◌+◌, ◌-◌, ◌^◌, ◌<◌, ◌≤◌, Bool, true, false, cond, List, [], ◌∷◌, ◌++◌, length, min, get_or, take, Some, arith, refl, sym, ◌∙◌, ap, inl, inr}
+use Rattle.std.proofs.Common.{◌≡◌, ℕ, ◌+◌, ◌-◌, ◌^◌, ◌<◌, ◌≤◌, Bool, true, false, cond, List, [], ◌∷◌, ◌++◌, length, min, get_or, take, Some, arith, refl, sym, ◌∙◌, ap}
 use Rattle.std.specs.Prelude.{nat_lt, ◌||◌}
 use Rattle.std.specs.List.{All, filter, flat_map, fold, list_any, slice_get}
-use Rattle.std.proofs.lemmas.Bool.{cases_lt, le-ltb, lt-ltb, or_from}
-use Rattle.std.proofs.lemmas.List.{take_all, take_more}
+use Rattle.std.proofs.lemmas.Bool.{or_from}
+use Rattle.std.proofs.lemmas.Bool.Decides.{nat_tests}
+use Rattle.std.proofs.lemmas.List.{take_more}
 use Rattle.std.proofs.lemmas.List.Folds.{list_any_at}
 use Rattle.std.proofs.lemmas.List.Sums.{fold-append}
-use Rattle.bdb_format.specs.ContentRows.{has_wrong_count, is_wrong_count}
+use Rattle.bdb_format.specs.ContentRows.{is_wrong_count}
 use Rattle.bdb_format.specs.Contents.{StoredPair, pairs_of, tree_pairs}
 use Rattle.bdb_format.specs.File.{File, page_at, type_in}
 use Rattle.bdb_format.specs.Leaves.{leaves}
-use Rattle.bdb_format.specs.Page.{InternalItem, Listed, Page}
+use Rattle.bdb_format.specs.Page.{InternalItem}
 use Rattle.bdb_format.specs.References.{has_type}
-use Rattle.bdb_form.specs.Seen.{page_seen}
-use Rattle.bdb_form.specs.declared.view.PageView.{PageView}
-use Rattle.bdb_form.specs.declared.view.PageView.TheVariants.{Internal as InternalSeen, RecnoInternal as RecnoInternalSeen}
 use Rattle.bdb_overflow.proofs.ContentLemmas.{got}
 use Rattle.bdb_btree.specs.Counts.{IsKeyed, count_page, count_pair, no_pairs_counted, one_more}
 use Rattle.bdb_tree.specs.Trees.{IsTreePage}
@@ -49,18 +47,10 @@ live_counted (pair ∷ pairs) counts low =
 
 -- a count of an item is small enough to be compared with counts that stop
 below_counted : (count n : ℕ) → count < 2 ^ 32 → nat_lt count (min (2 ^ 64 - 1) (0 + n)) ≡ nat_lt count n
-below_counted count n small =
-    elim (cases_lt count n) [
-      | inl low ↦ lt-ltb count (min (2 ^ 64 - 1) (0 + n)) (omega arith) ∙ sym (lt-ltb count n low)
-      | inr high ↦ le-ltb count (min (2 ^ 64 - 1) (0 + n)) (omega arith) ∙ sym (le-ltb count n high)
-    ]
+below_counted count n small = grind (arith, nat_tests)
 
 above_counted : (count n : ℕ) → count < 2 ^ 32 → nat_lt (min (2 ^ 64 - 1) (0 + n)) count ≡ nat_lt n count
-above_counted count n small =
-    elim (cases_lt n count) [
-      | inl low ↦ lt-ltb (min (2 ^ 64 - 1) (0 + n)) count (omega arith) ∙ sym (lt-ltb n count low)
-      | inr high ↦ le-ltb (min (2 ^ 64 - 1) (0 + n)) count (omega arith) ∙ sym (le-ltb n count high)
-    ]
+above_counted count n small = grind (arith, nat_tests)
 
 pub count_wrong : (file : File) (item : InternalItem) (counts : Counts) → item.count < 2 ^ 32 → counts ≡ fold count_pair no_pairs_counted (tree_pairs file item.child)
     → (nat_lt item.count counts.live || nat_lt counts.all item.count) ≡ is_wrong_count file item
@@ -72,23 +62,11 @@ count_wrong file item counts small are =
     ∙ (ap (λ n. nat_lt item.count (length (live_in pairs)) || nat_lt n item.count) (all_counted pairs no_pairs_counted (omega arith))
     ∙ ap (λ b. nat_lt item.count (length (live_in pairs)) || b) (above_counted item.count (length pairs) small))))
 
-pub first_of_two : (a b : Bool) → a ≡ true → a ≡ (a || b)
-first_of_two true b is = refl
-first_of_two false b is = absurd cc
-
-pub second_of_two : (a b : Bool) → a ≡ false → b ≡ (a || b)
-second_of_two true b is = absurd cc
-second_of_two false b is = refl
-
 -- Items.
 
 any_append : {X : Type 0} (test : X → Bool) (xs : List X) (x : X) → list_any test xs ≡ false → test x ≡ false → list_any test (xs ++ (x ∷ [])) ≡ false
 any_append test [] x none fails = or_from (test x) false fails refl
-any_append test (y ∷ ys) x none fails = of (test y) (list_any test ys) (list_any test (ys ++ (x ∷ []))) none (λ rest. any_append test ys x rest fails)
-  where
-    of : (a b c : Bool) → (a || b) ≡ false → (b ≡ false → c ≡ false) → (a || c) ≡ false
-    of true b c none more = none
-    of false b c none more = more none
+any_append test (y ∷ ys) x none fails = grind (arith, nat_tests, any_append test ys x)
 
 pub none_more : {X : Type 0} (test : X → Bool) (items : List X) (i : ℕ) (item : X) → slice_get items i ≡ Some item → list_any test (take i items) ≡ false → test item ≡ false → list_any test (take (i + 1) items) ≡ false
 none_more test items i item at none fails =
@@ -99,9 +77,6 @@ pub some_at : {X : Type 0} (test : X → Bool) (items : List X) (i : ℕ) (item 
 some_at test items i item at passes =
     let found = got items i item item at in sym (list_any_at test items i item found.0 (ap test found.1 ∙ passes))
 
-pub none_at_all : {X : Type 0} (test : X → Bool) (items : List X) (i : ℕ) → length items ≤ i → list_any test (take i items) ≡ false → false ≡ list_any test items
-none_at_all test items i end none = sym (ap (list_any test) (sym (take_all i items end)) ∙ none)
-
 -- Pages.
 
 pub keyed_is_tree : (file : File) (p : ℕ) → IsKeyed file p → IsTreePage file p
@@ -109,13 +84,3 @@ keyed_is_tree file p keyed = of_type (λ type. has_type (3 ∷ 4 ∷ 5 ∷ 6 ∷
 
 pub all_are_trees : (file : File) (pages : List ℕ) → All (IsKeyed file) pages → All (IsTreePage file) pages
 all_are_trees file pages keyed = λ k d low. keyed_is_tree file (get_or pages k d) (keyed k d low)
-
-no_count : (file : File) (view : PageView) → has_type (3 ∷ 5 ∷ 12 ∷ []) (type_in (page_seen view)) ≡ true → ((page : Listed InternalItem) → view ≡ InternalSeen page → ⊥) → false ≡ has_wrong_count file (page_seen view)
-no_count file (InternalSeen page) keyed other = absurd (other page refl)
-no_count file (RecnoInternalSeen page) keyed other = absurd cc
-no_count file view keyed other = refl
-
--- a page of a tree of pairs that is no internal page has no count
-pub no_wrong_count : (file : File) (p : ℕ) (view : PageView) → IsKeyed file p → page_seen view ≡ page_at file p → ((page : Listed InternalItem) → view ≡ InternalSeen page → ⊥) → false ≡ has_wrong_count file (page_at file p)
-no_wrong_count file p view keyed is other =
-    no_count file view (ap (λ (page : Page). has_type (3 ∷ 5 ∷ 12 ∷ []) (type_in page)) is ∙ keyed) other ∙ ap (has_wrong_count file) is

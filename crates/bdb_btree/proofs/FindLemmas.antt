@@ -1,19 +1,19 @@
 -- What a key has in a btree: pairs with the sought key stand below the child that a descent chooses, and so on one leaf.
-use Rattle.std.proofs.Common.{◌≡◌, ◌⊎◌, ℕ, zero, suc, ◌+◌, ◌-◌, ◌<◌, ◌≤◌, Bool, true, false, not, cond, List, [], ◌∷◌, ◌++◌, length, map, get_or, take, drop, Option, Some, None, arith, refl, sym, ◌∙◌, ap, subst, inl, inr, append-nil}
+use Rattle.std.proofs.Common.{◌≡◌, ℕ, zero, suc, ◌+◌, ◌-◌, ◌<◌, ◌≤◌, Bool, true, false, not, cond, List, [], ◌∷◌, ◌++◌, length, map, get_or, take, drop, Option, Some, None, arith, refl, sym, ◌∙◌, ap, subst, inl, inr, append-nil}
 use Rattle.std.specs.Prelude.{◌&&◌, ◌==◌, nat_le}
 use Rattle.std.specs.List.{Contains, filter, flat_map, list_any, range_with_len}
 use Rattle.std.specs.Str.{bytes_eq}
-use Rattle.std.proofs.lemmas.Bool.{cases_Bool, cases_lt, eq-eqb, false_from_ne_true, le-leb, not-false, or_parts, true≢false}
-use Rattle.std.proofs.lemmas.List.{get_or-drop, get_or-take, length-drop, length-take}
-use Rattle.std.proofs.lemmas.List.Concat.{flat_map-append}
+use Rattle.std.proofs.lemmas.Bool.{cases_Bool, cases_lt, eq-eqb, le-leb, not-false, or_parts}
+use Rattle.std.proofs.lemmas.Bool.Decides.{nat_tests}
+use Rattle.std.proofs.lemmas.List.Folds.{flat_map-map}
+use Rattle.bdb_overflow.proofs.KeyLemmas.{eq_same}
+use Rattle.std.proofs.lemmas.List.{get_or-drop, get_or-take, length-drop, length-map, length-take}
 use Rattle.std.proofs.lemmas.List.Elements.{Contains-get_or}
 use Rattle.std.proofs.lemmas.Option.{slice_get-get_or}
 use Rattle.std.proofs.lemmas.Slice.Eq.{bytes_eq-Decides}
-use Rattle.std.specs.declared.cmp.Ordering.{Ordering}
-use Rattle.std.specs.declared.cmp.Ordering.TheVariants.{Less as Below, Equal, Greater}
 use Rattle.bdb_format.specs.declared.metadata.BtreeMeta.{BtreeMeta}
 use Rattle.bdb_format.specs.Chains.{value_of}
-use Rattle.bdb_format.specs.ContentRows.{Separated, breaks, btree_contents, database_faults, database_rows, has_wrong_separator, inner_pages, no_separator, recno_contents, separated}
+use Rattle.bdb_format.specs.ContentRows.{Separated, breaks, btree_contents, database_faults, database_rows, has_wrong_separator, inner_pages, no_separator, separated}
 use Rattle.bdb_format.specs.Contents.{StoredPair, data_of, pairs_of, tree_pairs}
 use Rattle.bdb_format.specs.File.{File, file_of, header_in, page_at, type_in}
 use Rattle.bdb_format.specs.HeadOf.{head_of}
@@ -26,7 +26,6 @@ use Rattle.bdb_format.specs.Verdict.{holding, structure_faults}
 use Rattle.bdb_format.proofs.MemberLemmas.{first_member, in_flat_map, in_map, in_range, later_member, none_passes}
 use Rattle.bdb_format.proofs.VerdictLemmas.{AllFail, all_fail, no_codes_at}
 use Rattle.bdb_format.specs.Flags.{is_recno}
-use Rattle.bdb_layout.specs.Seen.{OrderingIs}
 use Rattle.bdb_graph.specs.Linked.{FitsLeafPage, HasMetadata, IsForest}
 use Rattle.bdb_graph.specs.Slots.{no_internal_item}
 use Rattle.bdb_graph.proofs.LinkedLemmas.{root_fits}
@@ -35,9 +34,11 @@ use Rattle.bdb_overflow.proofs.ContentLemmas.{key_fits}
 use Rattle.bdb_tree.specs.Descent.{AllMonotone, AllReadable, IsLastFalse, chosen, descent, go_on, next_below}
 use Rattle.bdb_tree.proofs.DescentLemmas.{chosen_is, internal_inside, internal_is, is_inner, is_inner_below, monotone_by_neighbours}
 use Rattle.bdb_tree.proofs.WayLemmas.{chosen_among}
-use Rattle.bdb_btree.specs.Search.{AreOpen, data_under, found_left, from_key, is_below, left_of, under}
+use Rattle.bdb_btree.specs.Pairs.{AreFit, FitsPair, left_of}
+use Rattle.bdb_btree.specs.Search.{AreOpen, data_under, found_left, from_key, is_below, under}
 use Rattle.bdb_btree.proofs.LessLemmas.{less_trans}
 use Rattle.bdb_btree.proofs.PairLemmas.{pair_of_page}
+use Rattle.bdb_btree.proofs.WalkLemmas.{each_of}
 use Rattle.bdb_btree.proofs.RootLemmas.{root_keyed}
 use Rattle.bdb_tree.proofs.ShapeLemmas.{IsLeafPage}
 use Rattle.bdb_tree.proofs.TreeLemmas.{HasTypeAt, IsChild, child_is, leaves_of_inner, leaves_of_leaf, level, root_cases, tree_cases, tree_level}
@@ -45,7 +46,6 @@ use Rattle.bdb_format.proofs.ListLemmas.{flat_map_twice}
 use Rattle.bdb_format.proofs.BoolLemmas.{second_false}
 use Rattle.bdb_format.proofs.TypeLemmas.{of_type, tree_keyed}
 use Rattle.bdb_format.proofs.PairLemmas.{get_append, keyed_rows}
-use Rattle.bdb_format.proofs.LessLemmas.{less_self}
 
 -- What a list has under a key.
 
@@ -60,8 +60,7 @@ under_get k key (value ∷ values) false is =
     ∙ under_get k key values false is
 
 either_none : (b : Bool) → ◌≡◌ {A = List (List ℕ)} [] (cond b [] [])
-either_none true = refl
-either_none false = refl
+either_none b = grind (arith, nat_tests)
 
 get_pair : (file : File) (key : List ℕ) (pair : StoredPair) → get (listed_pair file pair) (BytesKey key) ≡ data_under file key pair
 get_pair file key pair =
@@ -105,18 +104,12 @@ from_key_same file key (pair ∷ pairs) =
 
 -- a key that is less than a bound isn't one that isn't
 pub other_key : (a key bound : List ℕ) → less a bound ≡ true → less key bound ≡ false → bytes_eq a key ≡ false
-other_key a key bound low high =
-    false_from_ne_true (bytes_eq a key) (λ same. let is : a ≡ key = (bytes_eq-Decides a key).0 same in true≢false (sym low ∙ (ap (λ k. less k bound) is ∙ high)))
+other_key a key bound low high = grind (arith, nat_tests, eq_same a key)
 
 pub above_key : (a key bound : List ℕ) → less a bound ≡ false → less key bound ≡ true → bytes_eq a key ≡ false
-above_key a key bound high low =
-    false_from_ne_true (bytes_eq a key) (λ same. let is : a ≡ key = (bytes_eq-Decides a key).0 same in true≢false (sym low ∙ (ap (λ k. less k bound) (sym is) ∙ high)))
+above_key a key bound high low = grind (arith, nat_tests, eq_same a key)
 
 -- Lists of pages.
-
-flat_map_over : {X Y Z : Type 0} (f : Y → List Z) (g : X → Y) (xs : List X) → flat_map f (map g xs) ≡ flat_map (λ x. f (g x)) xs
-flat_map_over f g [] = refl
-flat_map_over f g (x ∷ xs) = ap (λ rest. f (g x) ++ rest) (flat_map_over f g xs)
 
 all_empty : {X Y : Type 0} (f : X → List Y) (d : X) (xs : List X) → ((j : ℕ) → j < length xs → f (get_or xs j d) ≡ []) → flat_map f xs ≡ []
 all_empty f d [] none = refl
@@ -146,7 +139,7 @@ data_of_inner image key p page forest is =
     let file : File = file_of image in
     ap (flat_map (data_under file key)) (pairs_of_inner image p (map (λ (item : InternalItem). item.child) page.items) forest (ap children_in is))
     ∙ (flat_map_twice (data_under file key) (tree_pairs file) (map (λ (item : InternalItem). item.child) page.items)
-    ∙ flat_map_over (data_below file key) (λ (item : InternalItem). item.child) page.items)
+    ∙ flat_map-map (data_below file key) (λ (item : InternalItem). item.child) page.items)
 
 -- Separators.
 
@@ -154,10 +147,6 @@ part_at : (file : File) (items : List InternalItem) (i : ℕ) → i < length ite
 part_at file [] i low = absurd (omega arith)
 part_at file (item ∷ items) zero low = refl
 part_at file (item ∷ items) (suc i) low = part_at file items i (omega arith)
-
-parts_length : {X Y : Type 0} (f : X → Y) (xs : List X) → length (map f xs) ≡ length xs
-parts_length f [] = refl
-parts_length f (x ∷ xs) = ap suc (parts_length f xs)
 
 in_drop : {X : Type 0} (xs : List X) (m j : ℕ) (d : X) → m ≤ j → j < length xs → Contains (drop m xs) (get_or xs j d)
 in_drop xs m j d above low =
@@ -188,16 +177,14 @@ record IsApart (parts : List Separated) (m : ℕ) : Type 0 where
 apart : (file : File) (page : Listed InternalItem) (m : ℕ) → has_wrong_separator file (Internal page) ≡ false → 1 ≤ m → m < length page.items → IsApart (map (separated file) page.items) m
 apart file page m right some low =
     let parts : List Separated = map (separated file) page.items in
-    let inside : m < 1 + (length parts - 1) = omega (arith, parts_length (separated file) page.items) in
+    let inside : m < 1 + (length parts - 1) = omega (arith, length-map page.items (separated file)) in
     let none : breaks parts m ≡ false = none_passes (breaks parts) (range_with_len 1 (length parts - 1)) m right (in_range 1 (length parts - 1) m some inside) in
     let two = or_parts _ _ none in
     let one = or_parts _ _ two.0 in
     record { ascends = one.0; later = one.1; earlier = two.1 }
 
 false_later : (a b : Bool) → a ≡ true → (a && not b) ≡ false → b ≡ true
-false_later true true is none = refl
-false_later true false is none = absurd cc
-false_later false b is none = absurd cc
+false_later a b is none = grind (arith, nat_tests)
 
 -- a key below a child is one of those of its part
 key_below : (file : File) (items : List InternalItem) (j : ℕ) (pair : StoredPair) → j < length items → Contains (tree_pairs file (item_of items j).child) pair
@@ -209,7 +196,7 @@ pub are_separated : (file : File) (page : Listed InternalItem) → has_wrong_sep
 are_separated file page right =
     let items : List InternalItem = page.items in
     let parts : List Separated = map (separated file) items in
-    let count : length parts ≡ length items = parts_length (separated file) items in
+    let count : length parts ≡ length items = length-map items (separated file) in
     record {
       ascend =
           λ m two low.
@@ -383,21 +370,9 @@ found_by linked image key meta root leaf found forest has keys none same named l
 
 -- On the leaf.
 
-differ : (xs ys : List ℕ) → (xs ≡ ys → ⊥) → false ≡ bytes_eq xs ys
-differ xs ys other = sym (false_from_ne_true (bytes_eq xs ys) (λ same. other ((bytes_eq-Decides xs ys).0 same)))
-
-pub differ_by : (answer : Ordering) (xs ys : List ℕ) → OrderingIs answer xs ys → (answer ≡ Below) ⊎ (answer ≡ Greater) → false ≡ bytes_eq xs ys
-differ_by Below xs ys is other = differ xs ys (λ same. true≢false (sym is ∙ (ap (less xs) (sym same) ∙ less_self xs)))
-differ_by Equal xs ys is other = elim other [ inl same ↦ absurd cc | inr same ↦ absurd cc ]
-differ_by Greater xs ys is other = differ xs ys (λ same. true≢false (sym is ∙ (ap (less ys) same ∙ less_self ys)))
-
-from_key_part : (key : List ℕ) (pairs : List StoredPair) (pair : StoredPair) → Contains (from_key key pairs) pair → Contains pairs pair
-from_key_part key [] pair at = at
-from_key_part key (first ∷ pairs) pair at =
-    elim (bytes_eq first.key key) as (λ b. Contains (cond b (first ∷ pairs) (from_key key pairs)) pair → Contains (first ∷ pairs) pair) [
-      | true ↦ λ here. here
-      | false ↦ λ later. later_member first pairs pair (from_key_part key pairs pair later)
-    ] at
+from_key_fit : (file : File) (key : List ℕ) (pairs : List StoredPair) → AreFit file pairs → AreFit file (from_key key pairs)
+from_key_fit file key [] fit = tt
+from_key_fit file key (first ∷ pairs) fit = elim (bytes_eq first.key key) as (λ b. AreFit file (cond b (first ∷ pairs) (from_key key pairs))) [ true ↦ fit | false ↦ from_key_fit file key pairs fit.1 ]
 
 -- the first of the pairs from one with a key on has the key
 pub from_key_first : (key : List ℕ) (pairs : List StoredPair) (pair : StoredPair) (rest : List StoredPair) → from_key key pairs ≡ pair ∷ rest → pair.key ≡ key
@@ -411,10 +386,10 @@ from_key_first key (first ∷ pairs) pair rest is =
 -- the pairs of a leaf are open
 pub page_open : (image : List ℕ) (p : ℕ) (pairs : List StoredPair) → IsForest image → FitsLeafPage (file_of image) p → structure_faults (file_of image) ≡ [] → pairs ≡ pairs_of (file_of image) p → AreOpen (file_of image) pairs
 page_open image p pairs forest fits stage are =
-    record { stage = stage; fit = λ pair at. (pair_of_page image p pair forest fits (subst (λ ps. Contains ps pair) are at)).fits }
+    record { stage = stage; fit = each_of (FitsPair (file_of image)) pairs (λ pair at. (pair_of_page image p pair forest fits (subst (λ ps. Contains ps pair) are at)).fits) }
 
 pub key_open : (file : File) (key : List ℕ) (pairs : List StoredPair) → AreOpen file pairs → AreOpen file (from_key key pairs)
-key_open file key pairs opened = record { stage = opened.stage; fit = λ pair at. opened.fit pair (from_key_part key pairs pair at) }
+key_open file key pairs opened = record { stage = opened.stage; fit = from_key_fit file key pairs opened.fit }
 
 pub found_some : (file : File) (key : List ℕ) (pairs : List StoredPair) (pair : StoredPair) (rest : List StoredPair) → from_key key pairs ≡ pair ∷ rest
     → flat_map (data_under file pair.key) (pair ∷ rest) ≡ flat_map (data_under file key) pairs

@@ -1,17 +1,18 @@
 -- The internal pages of a tree, level by level.
-use Rattle.std.proofs.Common.{◌≡◌, ℕ, zero, suc, ◌+◌, ◌-◌, ◌<◌, Bool, true, false, cond, List, [], ◌∷◌, ◌++◌, get_or, arith, refl, sym, ◌∙◌, ap, subst, append_assoc, inl, inr, Option, Some, None}
-use Rattle.std.specs.Prelude.{◌==◌}
+use Rattle.std.proofs.Common.{◌≡◌, ℕ, zero, suc, ◌+◌, ◌-◌, ◌<◌, Bool, true, List, [], ◌∷◌, ◌++◌, get_or, arith, refl, sym, ◌∙◌, ap, subst, append_assoc, inl, inr, Option, Some, None}
 use Rattle.std.specs.List.{All, Contains, filter, flat_map}
 use Rattle.std.specs.Option.{is_some, unwrap_or}
-use Rattle.std.proofs.lemmas.List.Elements.{Contains-append_cases, Contains-get_or}
+use Rattle.std.proofs.lemmas.List.Elements.{Contains-append_cases}
 use Rattle.bdb_format.specs.ContentRows.{inner_in, inner_pages}
 use Rattle.bdb_format.specs.File.{File, file_of, header_in, page_at, type_in}
 use Rattle.bdb_format.specs.Leaves.{children_in}
-use Rattle.bdb_format.specs.Page.{Page, Internal, RecnoInternal}
 use Rattle.bdb_format.specs.References.{child_types, has_type}
-use Rattle.bdb_format.proofs.MemberLemmas.{member_cases, no_member, of_filter, of_flat_map}
+use Rattle.bdb_format.proofs.ListLemmas.{all_of, only_member}
+use Rattle.bdb_format.proofs.MemberLemmas.{no_member, of_filter, of_flat_map}
 use Rattle.bdb_graph.specs.Linked.{IsForest}
+use Rattle.bdb_btree.specs.Bounds.{OrderedIf}
 use Rattle.bdb_btree.specs.Counts.{IsKeyed}
+use Rattle.bdb_btree.proofs.FallLemmas.{child_ordered}
 use Rattle.bdb_tree.specs.Trees.{IsTreePage, children_at}
 use Rattle.bdb_tree.proofs.TreeLemmas.{child_is}
 use Rattle.bdb_format.proofs.TypeLemmas.{of_type, keyed_below}
@@ -39,32 +40,52 @@ more_inner file n turn found new level next all low added children left =
 
 -- Types.
 
-child_keyed : (image : List ℕ) (p c : ℕ) → IsForest image → IsKeyed (file_of image) p → Contains (children_at (file_of image) p) c → IsKeyed (file_of image) c
-child_keyed image p c forest keyed at = of (children_in (page_at (file_of image) p)) refl
-  where
-    of : (children : Option (List ℕ)) → children_in (page_at (file_of image) p) ≡ children → IsKeyed (file_of image) c
-    of None none = absurd (no_member [] c refl (subst (λ cs. Contains (unwrap_or cs []) c) none at))
-    of (Some children) are =
-        of_type (λ type. has_type (3 ∷ 5 ∷ 12 ∷ []) type ≡ true) (child_types (page_at (file_of image) p)) (type_in (page_at (file_of image) c)) (keyed_below (page_at (file_of image) p) children keyed are)
-        (child_is image p c children forest are (subst (λ cs. Contains (unwrap_or cs []) c) are at)).type
+child_keyed : (image : List ℕ) (p c : ℕ) (children : List ℕ) → IsForest image → IsKeyed (file_of image) p
+    → children_in (page_at (file_of image) p) ≡ Some children → Contains children c → IsKeyed (file_of image) c
+child_keyed image p c children forest keyed are at =
+    of_type (λ type. has_type (3 ∷ 5 ∷ 12 ∷ []) type ≡ true) (child_types (page_at (file_of image) p)) (type_in (page_at (file_of image) c))
+    (keyed_below (page_at (file_of image) p) children keyed are)
+    (child_is image p c children forest are at).type
 
-inner_keyed : (image : List ℕ) (levels : ℕ) (ps : List ℕ) (q : ℕ) → IsForest image → ((p : ℕ) → Contains ps p → IsKeyed (file_of image) p) → Contains (inner_in levels (file_of image) ps) q → IsKeyed (file_of image) q
-inner_keyed image zero ps q forest keyed at = absurd (no_member [] q refl at)
-inner_keyed image (suc levels) ps q forest keyed at =
-    let file : File = file_of image in
+-- what each child of a page that has it has too
+abbrev Passes : File → (ℕ → Type 0) → Type 0
+Passes file P = (p c : ℕ) (children : List ℕ) → P p → children_in (page_at file p) ≡ Some children → Contains children c → P c
+
+passed : (file : File) (P : ℕ → Type 0) (p c : ℕ) (children : Option (List ℕ)) → Passes file P → P p → children_in (page_at file p) ≡ children
+    → Contains (unwrap_or children []) c → P c
+passed file P p c None down has are at = absurd (no_member [] c refl at)
+passed file P p c (Some children) down has are at = down p c children has are at
+
+inner_have : (file : File) (P : ℕ → Type 0) (levels : ℕ) (ps : List ℕ) (q : ℕ) → Passes file P → ((p : ℕ) → Contains ps p → P p)
+    → Contains (inner_in levels file ps) q → P q
+inner_have file P zero ps q down has at = absurd (no_member [] q refl at)
+inner_have file P (suc levels) ps q down has at =
     elim (Contains-append_cases (filter (is_inner file) ps) (inner_in levels file (flat_map (children_at file) ps)) q at) [
-      | inl here ↦ keyed q (of_filter (is_inner file) ps q here).0
-      | inr below ↦ inner_keyed image levels (flat_map (children_at file) ps) q forest
-          (λ c child. let found = of_flat_map (children_at file) ps c child in child_keyed image found.0 c forest (keyed found.0 found.1) found.2) below
+      | inl here ↦ has q (of_filter (is_inner file) ps q here).0
+      | inr below ↦ inner_have file P levels (flat_map (children_at file) ps) q down
+          (λ c child. let found = of_flat_map (children_at file) ps c child in passed file P found.0 c (children_in (page_at file found.0)) down
+          (has found.0 found.1) refl found.2) below
     ]
+
+inner_pages_have : (file : File) (P : ℕ → Type 0) (root q : ℕ) → Passes file P → P root → Contains (inner_pages file root) q → P q
+unfolding inner_pages
+inner_pages_have file P root q down has at =
+    inner_have file P (header_in (page_at file root)).level (root ∷ []) q down (λ p one. subst P (only_member root p one) has) at
 
 -- the internal pages of a tree of pairs have its type
 pub inner_pages_keyed : (image : List ℕ) (root q : ℕ) → IsForest image → IsKeyed (file_of image) root → Contains (inner_pages (file_of image) root) q → IsKeyed (file_of image) q
-unfolding inner_pages
 inner_pages_keyed image root q forest keyed at =
-    inner_keyed image (header_in (page_at (file_of image) root)).level (root ∷ []) q forest
-    (λ p one. elim (member_cases root [] p one) [ inl same ↦ subst (IsKeyed (file_of image)) same keyed | inr later ↦ absurd (no_member [] p refl later) ]) at
+    inner_pages_have (file_of image) (IsKeyed (file_of image)) root q
+    (λ p c children has are child. child_keyed image p c children forest has are child) keyed at
 
 pub all_keyed : (image : List ℕ) (root : ℕ) (pages : List ℕ) → IsForest image → IsKeyed (file_of image) root → pages ≡ inner_pages (file_of image) root → All (IsKeyed (file_of image)) pages
 all_keyed image root pages forest keyed are =
-    λ k d low. inner_pages_keyed image root (get_or pages k d) forest keyed (subst (λ ps. Contains ps (get_or pages k d)) are (Contains-get_or pages k d low))
+    all_of (IsKeyed (file_of image)) pages (λ q at. inner_pages_keyed image root q forest keyed (subst (λ ps. Contains ps q) are at))
+
+-- below each internal page of a tree in order the keys are in order
+pub all_ordered : (image : List ℕ) (ordered : Bool) (root : ℕ) (pages : List ℕ) → IsForest image → OrderedIf ordered (file_of image) root
+    → pages ≡ inner_pages (file_of image) root → All (OrderedIf ordered (file_of image)) pages
+all_ordered image ordered root pages forest is are =
+    all_of (OrderedIf ordered (file_of image)) pages (λ q at.
+    inner_pages_have (file_of image) (OrderedIf ordered (file_of image)) root q (λ p c children has of child. child_ordered image ordered p c children forest
+    has of child) is (subst (λ ps. Contains ps q) are at))

@@ -1,8 +1,8 @@
 -- The least page of a row, and the first fault of a table.
-use Rattle.std.proofs.Common.{◌≡◌, ◌⊎◌, ℕ, ◌+◌, ◌<◌, ◌≤◌, Bool, true, false, cond, List, [], ◌∷◌, min, Option, Some, None, arith, refl, sym, ◌∙◌, ap, subst, inl, inr}
+use Rattle.std.proofs.Common.{◌≡◌, ◌⊎◌, ℕ, ◌+◌, ◌<◌, ◌≤◌, Bool, true, false, cond, List, [], ◌∷◌, Option, Some, None, arith, refl, sym, ◌∙◌, ap, subst, inl, inr}
 use Rattle.std.specs.Prelude.{◌==◌, ◌&&◌, ◌||◌, nat_le}
 use Rattle.std.specs.List.{Contains, fold, list_any}
-use Rattle.std.proofs.lemmas.Bool.{cases_eq, cases_order, eq-eqb, eqb-true, leb-true, leb-false, or_cases, or_left, or_right, true≢false}
+use Rattle.std.proofs.lemmas.Bool.{cases_eq, leb-true, leb-false, true≢false}
 use Rattle.bdb_format.specs.ByPage.{ComesFirst}
 use Rattle.bdb_format.specs.declared.kinds.Fault.{Fault}
 use Rattle.bdb_format.specs.Table.{Row, ◌:?◌, lesser}
@@ -11,7 +11,8 @@ use Rattle.bdb_format.proofs.MemberLemmas.{first_member, later_member, member_ca
 use Rattle.bdb_format.proofs.VerdictLemmas.{IsOfStage, Rises, by_page_first, holding_least, in_by_page, of_by_page}
 use Rattle.bdb_btree.specs.Least.{IsLeastPage, noting, sooner}
 use Rattle.bdb_format.proofs.FaultLemmas.{same_fault}
-use Rattle.std.proofs.Math.Bool.{and-false}
+use Rattle.std.proofs.lemmas.Bool.Decides.{nat_tests}
+use Rattle.std.proofs.Math.Bool.{and-false, and-true, or-false, or_assoc}
 
 -- The least page of a row.
 
@@ -22,36 +23,8 @@ least_same (Some least) test other same is = (sym (same least) ∙ is.0, λ p ho
 
 -- one more page
 least_more : (least : Option ℕ) (q : ℕ) (test : ℕ → Bool) → IsLeastPage least test → IsLeastPage (lesser least (Some q)) (λ p. test p || (q == p))
-least_more None q test is = (
-  or_right (test q) (q == q) (eq-eqb q q refl),
-  λ p holds. elim (or_cases (test p) (q == p) holds) [
-    | inl passes ↦ absurd (true≢false (sym passes ∙ is p))
-    | inr same ↦ let e : q ≡ p = eqb-true q p same in omega arith
-  ],
-)
-least_more (Some least) q test is = (
-  elim (cases_order least q) [
-    | inl same ↦ let e : min least q ≡ least = omega arith in rw e (or_left (test least) (q == least) is.0)
-    | inr (inl low) ↦ let e : min least q ≡ least = omega arith in rw e (or_left (test least) (q == least) is.0)
-    | inr (inr high) ↦ let e : min least q ≡ q = omega arith in rw e (or_right (test q) (q == q) (eq-eqb q q refl))
-  ],
-  λ p holds. elim (or_cases (test p) (q == p) holds) [
-    | inl passes ↦ let low : least ≤ p = is.1 p passes in omega arith
-    | inr same ↦ let e : q ≡ p = eqb-true q p same in omega arith
-  ],
-)
-
-or_assoc : (a b c : Bool) → ((a || b) || c) ≡ (a || (b || c))
-or_assoc true b c = refl
-or_assoc false b c = refl
-
-or_false : (a : Bool) → (a || false) ≡ a
-or_false true = refl
-or_false false = refl
-
-and_true : (a : Bool) → (a && true) ≡ a
-and_true true = refl
-and_true false = refl
+least_more None q test is = (grind (arith, nat_tests), λ p holds. grind (arith, nat_tests, is p, holds))
+least_more (Some least) q test is = (grind (arith, nat_tests, is.0), λ p holds. grind (arith, nat_tests, is.1 p, holds))
 
 module _ {X : Type 0} (page : X → ℕ) (test : X → Bool) where
   -- the row of one item
@@ -61,12 +34,12 @@ module _ {X : Type 0} (page : X → ℕ) (test : X → Bool) where
   note_one : (least : Option ℕ) (row : ℕ → Bool) (item : X) → IsLeastPage least row → IsLeastPage (noting page test least item) (λ p. row p || passes_at item p)
   note_one least row item is =
       elim (test item) as (λ b. IsLeastPage (cond b (lesser least (Some (page item))) least) (λ p. row p || ((page item == p) && b))) [
-        | true ↦ least_same (lesser least (Some (page item))) (λ p. row p || (page item == p)) (λ p. row p || ((page item == p) && true)) (λ p. ap (λ b. row p || b) (sym (and_true (page item == p)))) (least_more least (page item) row is)
-        | false ↦ least_same least row (λ p. row p || ((page item == p) && false)) (λ p. sym (ap (λ b. row p || b) (and-false (page item == p)) ∙ or_false (row p))) is
+        | true ↦ least_same (lesser least (Some (page item))) (λ p. row p || (page item == p)) (λ p. row p || ((page item == p) && true)) (λ p. ap (λ b. row p || b) (sym (and-true (page item == p)))) (least_more least (page item) row is)
+        | false ↦ least_same least row (λ p. row p || ((page item == p) && false)) (λ p. sym (ap (λ b. row p || b) (and-false (page item == p)) ∙ or-false (row p))) is
       ]
 
   note_more : (items : List X) (least : Option ℕ) (row : ℕ → Bool) → IsLeastPage least row → IsLeastPage (fold (noting page test) least items) (λ p. row p || list_any (λ item. passes_at item p) items)
-  note_more [] least row is = least_same least row (λ p. row p || false) (λ p. sym (or_false (row p))) is
+  note_more [] least row is = least_same least row (λ p. row p || false) (λ p. sym (or-false (row p))) is
   note_more (item ∷ items) least row is =
       least_same (fold (noting page test) (noting page test least item) items) (λ p. (row p || passes_at item p) || list_any (λ other. passes_at other p) items)
       (λ p. row p || (passes_at item p || list_any (λ other. passes_at other p) items)) (λ p. or_assoc (row p) (passes_at item p) (list_any (λ other. passes_at other p) items))
@@ -114,50 +87,38 @@ above_code (row ∷ rows) n p code above holds =
 pub no_rows : IsFirst [] None
 no_rows p code holds = holds
 
+comes_first : (page p code other : ℕ) → page ≤ p → code ≤ other → ComesFirst (record { stage = 8; page = page; code = code }) (record { stage = 8; page = p; code = other })
+comes_first page p code other from up = elim (cases_eq page p) [ inl at ↦ inr (at, up) | inr apart ↦ inl (omega arith) ]
+
 first_step : (row : PageRow) (rows : List PageRow) (page : ℕ) (later : Fault) → AreAbove row.code rows → (row.test page ≡ true) × ((p : ℕ) → row.test p ≡ true → page ≤ p) → IsFirst rows (Some later)
     → (b : Bool) → nat_le page later.page ≡ b → IsFirst (row ∷ rows) (cond b (Some (record { stage = 8; page = page; code = row.code })) (Some later))
-first_step row rows page later above least first true before =
-    let low : page ≤ later.page = leb-true page later.page before in (
-      refl,
-      inl (least.0, refl),
-      λ p code holds. elim holds [
-        | inl here ↦
-            let from : page ≤ p = least.1 p here.0 in
-            let same : row.code ≡ code = here.1 in
-            elim (cases_eq page p) [ inl at ↦ inr (at, omega arith) | inr other ↦ inl (omega arith) ]
-        | inr in_rest ↦
-            let up : row.code ≤ code = above_code rows row.code p code above in_rest in
-            elim (first.2 p code in_rest) [
-              | inl earlier ↦ inl (omega arith)
-              | inr at ↦ let same : later.page ≡ p = at.0 in elim (cases_eq page p) [ inl here ↦ inr (here, up) | inr other ↦ inl (omega arith) ]
-            ]
-      ],
-    )
+first_step row rows page later above least first true before = (
+  refl,
+  inl (least.0, refl),
+  λ p code holds. elim holds [
+    | inl here ↦ comes_first page p row.code code (least.1 p here.0) (let same : row.code ≡ code = here.1 in omega arith)
+    | inr in_rest ↦
+        let low : page ≤ later.page = leb-true page later.page before in
+        let past : later.page ≤ p = elim (first.2 p code in_rest) [ inl earlier ↦ omega arith | inr at ↦ let same : later.page ≡ p = at.0 in omega arith ] in
+        comes_first page p row.code code (omega arith) (above_code rows row.code p code above in_rest)
+  ],
+)
 first_step row rows page later above least first false before =
     let high : later.page < page = leb-false page later.page before in (
       first.0,
       inr first.1,
-      λ p code holds. elim holds [
-        | inl here ↦ let from : page ≤ p = least.1 p here.0 in inl (omega arith)
-        | inr in_rest ↦ first.2 p code in_rest
-      ],
+      λ p code holds. elim holds [ inl here ↦ let from : page ≤ p = least.1 p here.0 in inl (omega arith) | inr in_rest ↦ first.2 p code in_rest ],
     )
 
 pub first_more : (row : PageRow) (rows : List PageRow) (least : Option ℕ) (first : Option Fault) → AreAbove row.code rows → IsLeastPage least row.test → IsFirst rows first → IsFirst (row ∷ rows) (sooner row.code least first)
 first_more row rows None None above least first = λ p code holds. elim holds [ inl here ↦ true≢false (sym here.0 ∙ least p) | inr later ↦ first p code later ]
-first_more row rows None (Some later) above least first = (
-  first.0,
-  inr first.1,
-  λ p code holds. elim holds [ inl here ↦ absurd (true≢false (sym here.0 ∙ least p)) | inr in_rest ↦ first.2 p code in_rest ],
-)
+first_more row rows None (Some later) above least first =
+    (first.0, inr first.1, λ p code holds. elim holds [ inl here ↦ absurd (true≢false (sym here.0 ∙ least p)) | inr in_rest ↦ first.2 p code in_rest ])
 first_more row rows (Some page) None above least first = (
   refl,
   inl (least.0, refl),
   λ p code holds. elim holds [
-    | inl here ↦
-        let from : page ≤ p = least.1 p here.0 in
-        let same : row.code ≡ code = here.1 in
-        elim (cases_eq page p) [ inl at ↦ inr (at, omega arith) | inr other ↦ inl (omega arith) ]
+    | inl here ↦ comes_first page p row.code code (least.1 p here.0) (let same : row.code ≡ code = here.1 in omega arith)
     | inr later ↦ absurd (first p code later)
   ],
 )

@@ -1,5 +1,6 @@
 pub mod CheckLemmas
 pub mod CountLemmas
+pub mod FallLemmas
 pub mod FindLemmas
 pub mod InnerLemmas
 pub mod LeastLemmas
@@ -11,6 +12,4 @@ pub mod RowLemmas
 pub mod ScanLemmas
 pub mod SeenLemmas
 pub mod SeparatorLemmas
-pub mod SetDataLemmas
-pub mod SetLemmas
 pub mod WalkLemmas

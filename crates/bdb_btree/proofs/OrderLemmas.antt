@@ -1,8 +1,10 @@
 -- Keys of pairs, and data of pairs that share a key, gone through one after another.
-use Rattle.std.proofs.Common.{◌≡◌, ℕ, ◌+◌, Bool, true, false, not, cond, List, [], ◌∷◌, ◌++◌, take, Option, Some, None, refl, sym, ◌∙◌, ap, subst, one-add}
+use Rattle.std.proofs.Common.{◌≡◌, ℕ, ◌+◌, Bool, true, false, not, cond, List, [], ◌∷◌, ◌++◌, take, Option, Some, None, arith, refl, sym, ◌∙◌, ap, subst, one-add}
 use Rattle.std.specs.Prelude.{◌==◌, ◌&&◌, ◌||◌}
 use Rattle.std.specs.List.{flat_map, fold, list_any, prefix_len, take_while}
 use Rattle.std.proofs.lemmas.Bool.{true≢false}
+use Rattle.std.proofs.lemmas.Bool.Decides.{nat_tests}
+use Rattle.std.proofs.Math.Bool.{or-true}
 use Rattle.bdb_format.specs.Less.{less}
 use Rattle.bdb_format.specs.Table.{lesser}
 use Rattle.bdb_format.specs.File.{File}
@@ -23,8 +25,7 @@ keys_from pair [] least = refl
 keys_from pair (next ∷ pairs) least = keys_from next pairs (noting later_page is_out_of_order least (pair, next))
 
 first_key : (shares : Bool) (least other : Option ℕ) → cond (not shares && false) other least ≡ least
-first_key true least other = refl
-first_key false least other = refl
+first_key shares least other = grind (arith, nat_tests)
 
 -- the pairs that were noted are those out of order
 pub keys_in_order : (pairs : List StoredPair)
@@ -66,8 +67,7 @@ more_broken xs ys last =
     ap (λ (run : Run). run.broken) (run_append xs ys (record { last = last; broken = false })) ∙ (run_on ys (run_over last xs).last (run_over last xs).broken).1
 
 not_both : (a b : Bool) → not (a && b) ≡ (not a || not b)
-not_both true b = refl
-not_both false b = refl
+not_both a b = grind (arith, nat_tests)
 
 broken_from : (value : List ℕ) (values : List (List ℕ)) → (run_over (Some value) values).broken ≡ not (ascends_from value values)
 broken_from value [] = refl
@@ -79,20 +79,10 @@ broken_unless_ascends : (values : List (List ℕ)) → (run_over None values).br
 broken_unless_ascends [] = refl
 broken_unless_ascends (value ∷ values) = broken_from value values
 
--- values that break a run by themselves break it after another value too
-or_absorbs : (a b : Bool) → (b ≡ true → a ≡ true) → (a || b) ≡ a
-or_absorbs true b more = refl
-or_absorbs false true more = absurd (true≢false (sym (more refl)))
-or_absorbs false false more = refl
-
 still_broken : (values : List (List ℕ)) (last : Option (List ℕ)) → (run_over None values).broken ≡ true → (run_over last values).broken ≡ true
 still_broken [] last broken = broken
 still_broken (value ∷ values) last broken =
-    (run_on values (Some value) (is_not_above last value)).1 ∙ (ap (λ b. is_not_above last value || b) broken ∙ or_true (is_not_above last value))
-  where
-    or_true : (a : Bool) → (a || true) ≡ true
-    or_true true = refl
-    or_true false = refl
+    (run_on values (Some value) (is_not_above last value)).1 ∙ (ap (λ b. is_not_above last value || b) broken ∙ or-true (is_not_above last value))
 
 -- the live data of the pairs from here on that share the key
 abbrev shared_data : File → List StoredPair → List (List ℕ)
@@ -130,20 +120,11 @@ data_marks file (pair ∷ pairs) last least =
 abbrev is_marked : List (ℕ × Bool) → ℕ → Bool
 is_marked marked p = list_any (λ (mark : ℕ × Bool). (mark.0 == p) && mark.1) marked
 
-and_or : (a b c : Bool) → (a && (b || c)) ≡ ((a && b) || (a && c))
-and_or true b c = refl
-and_or false b c = refl
-
 regroup : (a b c d : Bool) → ((a && b) || ((a && c) || d)) ≡ ((a && (b || c)) || d)
-regroup true true c d = refl
-regroup true false c d = refl
-regroup false b c d = refl
+regroup a b c d = grind (arith, nat_tests)
 
 absorb : (a b c d : Bool) → (c ≡ true → b ≡ true) → ((a && b) || d) ≡ ((a && b) || ((a && c) || d))
-absorb true true c d more = refl
-absorb true false true d more = absurd (true≢false (sym (more refl)))
-absorb true false false d more = refl
-absorb false b c d more = refl
+absorb a b c d more = grind (arith, nat_tests, more)
 
 -- the data of a group from a pair on, where the pair shares its key or not
 group_step : (file : File) (q : ℕ) (last : Option (List ℕ)) (pair : StoredPair) (pairs : List StoredPair) (p : ℕ) (rest : Bool) (b : Bool) → pair.shares ≡ b → (pair.shares ≡ true → q ≡ pair.page)
@@ -168,8 +149,7 @@ group_step file q last pair pairs p rest false same on_page =
     ∙ sym (ap (λ vs. ((q == p) && (run_over last vs).broken) || others) shared ∙ nothing_first (q == p) others)
   where
     nothing_first : (a b : Bool) → ((a && false) || b) ≡ b
-    nothing_first true b = refl
-    nothing_first false b = refl
+    nothing_first a b = grind (arith, nat_tests)
 
 -- the pages that are marked are those of groups whose data don't ascend, the first of which may have begun before
 marked_groups : (file : File) (q : ℕ) (last : Option (List ℕ)) (pairs : List StoredPair) (p : ℕ) → SharesOnPage q pairs
@@ -177,8 +157,7 @@ marked_groups : (file : File) (q : ℕ) (last : Option (List ℕ)) (pairs : List
 marked_groups file q last [] p shares = sym (and_nothing (q == p))
   where
     and_nothing : (a : Bool) → ((a && false) || false) ≡ false
-    and_nothing true = refl
-    and_nothing false = refl
+    and_nothing a = grind (arith, nat_tests)
 marked_groups file q last (pair ∷ pairs) p shares =
     let here : List (List ℕ) = live_data file pair in
     let later : List (List ℕ) = shared_data file pairs in
@@ -209,9 +188,7 @@ data_in_order file (pair ∷ pairs) share =
     (note_all (λ (mark : ℕ × Bool). mark.0) (λ (mark : ℕ × Bool). mark.1) marked))
   where
     at_first : (a b c : Bool) (d : Bool) → (d ≡ true → b ≡ true) → ((a && d) || ((a && b) || c)) ≡ ((a && b) || c)
-    at_first true b c true more = ap (λ x. x || c) (sym (more refl))
-    at_first true b c false more = refl
-    at_first false b c d more = refl
+    at_first a b c d more = grind (arith, nat_tests, more)
 
     part_of : (values : List (List ℕ)) (b : Bool) → shared_data file (pair ∷ pairs) ≡ cond b values [] → (run_over None (shared_data file (pair ∷ pairs))).broken ≡ true → (run_over None values).broken ≡ true
     part_of values true same broken = ap (λ vs. (run_over None vs).broken) (sym same) ∙ broken

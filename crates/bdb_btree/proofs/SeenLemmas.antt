@@ -20,16 +20,18 @@ use Rattle.bdb_btree.specs.Least.{IsLeastPage, noting}
 use Rattle.bdb_tree.specs.Trees.{IsTreePage}
 use Rattle.bdb_btree.proofs.LeastLemmas.{note_all}
 use Rattle.bdb_btree.proofs.SeparatorLemmas.{wrong_separators}
-use Rattle.bdb_btree.proofs.SetDataLemmas.{fold_more}
 use Rattle.bdb_tree.proofs.TreeLemmas.{child_is, leaf_fits}
 
--- Lists of pages.
-
-pub fold_at : {S : Type 0} (f : S → ℕ → S) (start : S) (xs : List ℕ) (i : ℕ) → i < length xs → fold f start (take (i + 1) xs) ≡ f (fold f start (take i xs)) (get_or xs i 0)
-fold_at f start xs i low = ap (fold f start) (take_more xs i 0 low) ∙ fold-append f start (take i xs) (get_or xs i 0 ∷ [])
+-- Lists of items and of pages.
 
 pub fold_end : {S : Type 0} (f : S → ℕ → S) (start : S) (xs : List ℕ) (i : ℕ) → length xs ≤ i → fold f start (take i xs) ≡ fold f start xs
 fold_end f start xs i end = ap (fold f start) (take_all i xs end)
+
+-- one more item
+pub fold_more : {S A : Type 0} (f : S → A → S) (start : S) (items : List A) (i : ℕ) (item : A) → slice_get items i ≡ Some item → fold f start (take (i + 1) items) ≡ f (fold f start (take i items)) item
+fold_more f start items i item at =
+    let found = got items i item item at in
+    ap (fold f start) (take_more items i item found.0) ∙ (fold-append f start (take i items) _ ∙ ap (f (fold f start (take i items))) found.1)
 
 -- the pages that were noted are those at which a test holds
 pub noted_pages : (file : File) (test : Page → Bool) (pages : List ℕ) → IsLeastPage (fold (noting (λ (p : ℕ). p) (λ p. test (page_at file p))) None pages) (is_wrong_at file test pages)

@@ -1,26 +1,26 @@
 -- An internal page gone through once: what is kept decides its separators.
-use Rattle.std.proofs.Common.{◌≡◌, ℕ, zero, suc, ◌+◌, ◌-◌, ◌<◌, ◌≤◌, Bool, true, false, not, cond, List, [], ◌∷◌, ◌++◌, length, get_or, take, drop, Option, Some, None, arith, refl, sym, ◌∙◌, ap, inl, inr}
+use Rattle.std.proofs.Common.{◌≡◌, ℕ, zero, suc, ◌+◌, ◌*◌, ◌-◌, ◌/◌, ◌<◌, ◌≤◌, Bool, true, false, not, cond, List, [], ◌∷◌, ◌++◌, length, map, get_or, take, drop, Option, Some, None, arith, refl, sym, ◌∙◌, ap, subst, inl, inr, append-nil}
 use Rattle.std.specs.Prelude.{◌&&◌, ◌||◌, nat_le}
 use Rattle.std.specs.List.{flat_map, fold, list_any, range_with_len}
-use Rattle.std.proofs.lemmas.Bool.{cases_Bool, le-leb, or_from, or_parts, false_from_ne_true, true≢false}
+use Rattle.std.proofs.lemmas.Bool.{le-leb, false_from_ne_true, true≢false}
 use Rattle.std.proofs.lemmas.List.{drop_all, drop_more, take_more}
 use Rattle.std.proofs.lemmas.List.Sums.{fold-append}
 use Rattle.std.proofs.lemmas.Grind.{flat_map-append}
+use Rattle.std.proofs.lemmas.Bool.Decides.{nat_tests}
+use Rattle.std.proofs.Math.Bool.{or-false, or_assoc}
 use Rattle.bdb_format.specs.Less.{less, Less}
+use Rattle.bdb_format.specs.Contents.{StoredPair, pair_at, pairs_of}
+use Rattle.bdb_format.specs.File.{File, page_at}
+use Rattle.bdb_format.specs.Page.{Item, Listed, Leaf}
+use Rattle.bdb_format.specs.Chains.{value_of}
+use Rattle.bdb_format.specs.References.{is_shared_key, item_at}
 use Rattle.bdb_format.specs.ContentRows.{Separated, breaks, no_separator}
-use Rattle.bdb_format.proofs.MemberLemmas.{in_range, none_pass, none_passes, of_range}
-use Rattle.bdb_btree.specs.Bounds.{Bounds, beyond, bounds_of, greater_of, is_below, no_bounds, past, under}
+use Rattle.bdb_format.proofs.MemberLemmas.{first_member, in_map, in_range, member_cases, none_pass, none_passes, of_range}
+use Rattle.bdb_btree.specs.Bounds.{Bounds, DontFall, beyond, bounds_of, greater_of, is_below, no_bounds, past, under, under_pair}
 use Rattle.bdb_btree.specs.Runs.{is_not_above}
-use Rattle.bdb_btree.proofs.LessLemmas.{below_less, less_above, less_trans}
+use Rattle.bdb_btree.proofs.LessLemmas.{below_less, less_above, less_trans, same_unless_less}
+use Rattle.bdb_btree.proofs.WalkLemmas.{all_pairs}
 use Rattle.bdb_format.proofs.LessLemmas.{less_self}
-
-or_assoc : (a b c : Bool) → ((a || b) || c) ≡ (a || (b || c))
-or_assoc true b c = refl
-or_assoc false b c = refl
-
-or_false : (a : Bool) → (a || false) ≡ a
-or_false true = refl
-or_false false = refl
 
 -- Keys below an item.
 
@@ -33,31 +33,76 @@ under_greatest [] bounds = refl
 under_greatest (key ∷ keys) bounds = under_greatest keys (under bounds key)
 
 under_wrong : (keys : List (List ℕ)) (bounds : Bounds) → (fold under bounds keys).wrong ≡ (bounds.wrong || list_any (is_below bounds.separator) keys)
-under_wrong [] bounds = sym (or_false bounds.wrong)
+under_wrong [] bounds = sym (or-false bounds.wrong)
 under_wrong (key ∷ keys) bounds =
     under_wrong keys (under bounds key) ∙ or_assoc bounds.wrong (is_below bounds.separator key) (list_any (is_below bounds.separator) keys)
 
 -- a key isn't above the greater of two where it isn't above one of them
 greater_step : (bound value key : List ℕ) (b : Bool) → less bound value ≡ b → is_not_above (cond b (Some value) (Some bound)) key ≡ (not (less bound key) || not (less value key))
-greater_step bound value key true same =
-    elim (cases_Bool (less bound key)) [
-      | inl low ↦ rw low refl
-      | inr high ↦ rw high (ap not (false_from_ne_true (less value key) (λ lower. true≢false (sym (less_trans bound value key same lower) ∙ high))))
-    ]
-greater_step bound value key false same =
-    elim (cases_Bool (less bound key)) [
-      | inl low ↦ rw (low, below_less value bound key same low) refl
-      | inr high ↦ rw high refl
-    ]
+greater_step bound value key true same = grind (arith, nat_tests, less_trans bound value key)
+greater_step bound value key false same = grind (arith, nat_tests, below_less value bound key)
 
 not_above_greater : (keys : List (List ℕ)) (greatest : Option (List ℕ)) (key : List ℕ)
     → is_not_above (fold greater_of greatest keys) key ≡ (is_not_above greatest key || list_any (λ other. not (less other key)) keys)
-not_above_greater [] greatest key = sym (or_false (is_not_above greatest key))
+not_above_greater [] greatest key = sym (or-false (is_not_above greatest key))
 not_above_greater (other ∷ keys) None key = not_above_greater keys (Some other) key
 not_above_greater (other ∷ keys) (Some bound) key =
     not_above_greater keys (greater_of (Some bound) other) key
     ∙ (ap (λ b. b || list_any (λ x. not (less x key)) keys) (greater_step bound other key (less bound other) refl)
     ∙ or_assoc (not (less bound key)) (not (less other key)) (list_any (λ x. not (less x key)) keys))
+
+-- Keys that don't fall: the first and the last bound the others.
+
+greater_two : (low high : List ℕ) → less high low ≡ false → greater_of (Some low) high ≡ Some high
+greater_two low high up = grind (arith, nat_tests, same_unless_less low high)
+
+greater_skip : (greatest : Option (List ℕ)) (low high : List ℕ) → less high low ≡ false → greater_of (greater_of greatest low) high ≡ greater_of greatest high
+greater_skip None low high up = greater_two low high up
+greater_skip (Some bound) low high up = grind (arith, nat_tests, less_above bound low high, greater_two low high up)
+
+below_skip : (bound : Option (List ℕ)) (wrong : Bool) (low high : List ℕ) → less high low ≡ false → ((wrong || is_below bound low) || is_below bound high) ≡ (wrong || is_below bound low)
+below_skip None wrong low high up = or-false (wrong || false)
+below_skip (Some bound) wrong low high up = grind (arith, nat_tests, below_less low high bound)
+
+under_again : (bounds : Bounds) (key : List ℕ) → under (under bounds key) key ≡ under bounds key
+under_again bounds key = rw (greater_skip bounds.greatest key key (less_self key), below_skip bounds.separator bounds.wrong key key (less_self key)) refl
+
+under_skip : (bounds : Bounds) (low key high : List ℕ) → less key low ≡ false → less high key ≡ false
+    → under (under (under bounds low) key) high ≡ under (under bounds low) high
+under_skip bounds low key high above below =
+    rw (greater_skip (greater_of bounds.greatest low) key high below, below_skip bounds.separator bounds.wrong low key above) refl
+
+ends_bound : (pair_of : ℕ → StoredPair) (m i last : ℕ) (bounds : Bounds) → i + m ≡ last → DontFall (map pair_of (range_with_len i (suc m)))
+    → fold under_pair bounds (map pair_of (range_with_len i (suc m))) ≡ under (under bounds (pair_of i).key) (pair_of last).key
+ends_bound pair_of zero i last bounds is fall =
+    let same : i ≡ last = omega arith in sym (ap (λ j. under (under bounds (pair_of i).key) (pair_of j).key) (sym same) ∙ under_again bounds (pair_of i).key)
+ends_bound pair_of (suc m) i last bounds is fall =
+    let next : StoredPair = pair_of (i + 1) in
+    let later : List StoredPair = map pair_of (range_with_len (i + 1 + 1) m) in
+    ends_bound pair_of m (i + 1) last (under bounds (pair_of i).key) (omega arith) fall.1
+    ∙ under_skip bounds (pair_of i).key next.key (pair_of last).key (fall.0 next (first_member next later))
+    (elim (member_cases next later (pair_of last) (in_map pair_of (range_with_len (i + 1) (suc m)) last
+    (in_range (i + 1) (suc m) last (omega arith) (omega arith)))) [
+      | inl same ↦ ap (λ (pair : StoredPair). less pair.key next.key) (sym same) ∙ less_self next.key
+      | inr after ↦ fall.1.0 (pair_of last) after
+    ])
+
+pub no_ends : (file : File) (p n : ℕ) (leaf : Listed Item) (bounds : Bounds) → Leaf leaf ≡ page_at file p → 2 * n ≡ length leaf.items → n ≡ 0 → bounds ≡ fold under_pair bounds (pairs_of file p)
+no_ends file p n leaf bounds is count none =
+    let empty : length leaf.items / 2 ≡ 0 = omega arith in
+    sym (ap (fold under_pair bounds) (sym (all_pairs file p leaf is) ∙ ap (λ k. map (pair_at file p leaf (λ j. is_shared_key leaf.offsets (2 * j))) (range_with_len 0 k)) empty))
+
+-- those of a leaf that has pairs
+pub leaf_ends : (file : File) (p n : ℕ) (leaf : Listed Item) (bounds : Bounds) (first last : List ℕ) → Leaf leaf ≡ page_at file p → 2 * n ≡ length leaf.items → 0 < n → DontFall (pairs_of file p)
+    → first ≡ value_of file (item_at leaf 0).content → last ≡ value_of file (item_at leaf (2 * (n - 1))).content
+    → under (under bounds first) last ≡ fold under_pair bounds (pairs_of file p)
+leaf_ends file p n leaf bounds first last is count some fall first_is last_is =
+    let pair_of : ℕ → StoredPair = pair_at file p leaf (λ j. is_shared_key leaf.offsets (2 * j)) in
+    let more : suc (n - 1) ≡ length leaf.items / 2 = omega arith in
+    let are : map pair_of (range_with_len 0 (suc (n - 1))) ≡ pairs_of file p = ap (λ k. map pair_of (range_with_len 0 k)) more ∙ all_pairs file p leaf is in
+    ap (λ key. under (under bounds key) last) first_is
+    ∙ (ap (under (under bounds (pair_of 0).key)) last_is
+    ∙ (sym (ends_bound pair_of (n - 1) 0 (n - 1) bounds (omega arith) (subst DontFall (sym are) fall)) ∙ ap (fold under_pair bounds) are))
 
 -- Items.
 
@@ -103,11 +148,7 @@ past_wrong parts n bounds kept =
     ∙ or_assoc bounds.wrong (is_before parts n || is_reached parts n) (is_above_key parts n)))
 
 one_part : (part : Separated) → keys_below (part ∷ []) ≡ part.below
-one_part part = append_nil part.below
-  where
-    append_nil : (xs : List (List ℕ)) → xs ++ [] ≡ xs
-    append_nil [] = refl
-    append_nil (x ∷ xs) = ap (λ ys. x ∷ ys) (append_nil xs)
+one_part part = append-nil part.below
 
 keys_more : (parts : List Separated) (n : ℕ) → n < length parts → keys_below (take (n + 1) parts) ≡ keys_below (take n parts) ++ (part_at parts n).below
 keys_more parts n low =
@@ -129,7 +170,7 @@ kept_more parts n bounds some low kept =
 gone_through : (parts : List Separated) (m n : ℕ) (bounds : Bounds) → 1 ≤ n → n + m ≡ length parts → IsKept parts n bounds
     → (fold past bounds (drop n parts)).wrong ≡ (bounds.wrong || list_any (breaks_here parts) (range_with_len n m))
 gone_through parts zero n bounds some all kept =
-    ap (λ ps. (fold past bounds ps).wrong) (drop_all n parts (omega arith)) ∙ sym (or_false bounds.wrong)
+    ap (λ ps. (fold past bounds ps).wrong) (drop_all n parts (omega arith)) ∙ sym (or-false bounds.wrong)
 gone_through parts (suc m) n bounds some all kept =
     ap (λ ps. (fold past bounds ps).wrong) (drop_more parts n no_separator (omega arith))
     ∙ (gone_through parts m (n + 1) (past bounds (part_at parts n)) (omega arith) (omega arith) (kept_more parts n bounds some (omega arith) kept)
@@ -160,21 +201,16 @@ wrong_here (part ∷ parts) =
 
 none_of_append : (test : List ℕ → Bool) (xs ys : List (List ℕ)) → list_any test xs ≡ false → list_any test ys ≡ false → list_any test (xs ++ ys) ≡ false
 none_of_append test [] ys first second = second
-none_of_append test (x ∷ xs) ys first second =
-    let parts = or_parts (test x) (list_any test xs) first in or_from (test x) (list_any test (xs ++ ys)) parts.0 (none_of_append test xs ys parts.1 second)
+none_of_append test (x ∷ xs) ys first second = grind (arith, nat_tests, none_of_append test xs ys)
 
 none_of_first : (test : List ℕ → Bool) (xs ys : List (List ℕ)) → list_any test (xs ++ ys) ≡ false → list_any test xs ≡ false
 none_of_first test [] ys none = refl
-none_of_first test (x ∷ xs) ys none =
-    let parts = or_parts (test x) (list_any test (xs ++ ys)) none in or_from (test x) (list_any test xs) parts.0 (none_of_first test xs ys parts.1)
+none_of_first test (x ∷ xs) ys none = grind (arith, nat_tests, none_of_first test xs ys)
 
 -- keys that aren't less than one key aren't less than a lesser one
 none_lower : (low high : List ℕ) (keys : List (List ℕ)) → less high low ≡ false → list_any (λ other. less other high) keys ≡ false → list_any (λ other. less other low) keys ≡ false
 none_lower low high [] up none = refl
-none_lower low high (key ∷ keys) up none =
-    let parts = or_parts (less key high) (list_any (λ other. less other high) keys) none in
-    or_from (less key low) (list_any (λ other. less other low) keys) (false_from_ne_true (less key low) (λ is. true≢false (sym (less_above key low high is up) ∙ parts.0)))
-    (none_lower low high keys up parts.1)
+none_lower low high (key ∷ keys) up none = grind (arith, nat_tests, less_above key low high, none_lower low high keys)
 
 -- no condition that looks below one item alone fails at an item from index 1 on
 abbrev NoneHere : List Separated → Type 0
@@ -186,15 +222,10 @@ record IsSound (parts : List Separated) (i : ℕ) : Type 0 where
   above : is_above_key parts i ≡ false
 
 sound_at : (parts : List Separated) (i : ℕ) → breaks_here parts i ≡ false → IsSound parts i
-sound_at parts i none =
-    let two = or_parts (is_before parts i || is_reached parts i) (is_above_key parts i) none in
-    let one = or_parts (is_before parts i) (is_reached parts i) two.0 in
-    record { before = one.0; reached = one.1; above = two.1 }
+sound_at parts i none = record { before = grind (arith, nat_tests); reached = grind (arith, nat_tests); above = grind (arith, nat_tests) }
 
 less_if : (b a : Bool) → b ≡ true → (b && not a) ≡ false → a ≡ true
-less_if true true is none = refl
-less_if true false is none = sym none
-less_if false a is none = absurd (true≢false (sym is))
+less_if b a is none = grind (arith, nat_tests)
 
 keys_rise : (parts : List Separated) (i d : ℕ) → NoneHere parts → 1 ≤ i → i + d < length parts → less (key_at parts (i + d)) (key_at parts i) ≡ false
 keys_rise parts i zero none some low = let same : i + 0 ≡ i = omega arith in ap (λ n. less (key_at parts n) (key_at parts i)) same ∙ less_self (key_at parts i)
@@ -223,23 +254,18 @@ breaks_none : (parts : List Separated) → NoneHere parts → (i : ℕ) → 1 �
 breaks_none parts none i some low =
     let sound : IsSound parts i = sound_at parts i (none i some low) in
     let later : list_any (λ other. less other (key_at parts i)) (keys_below (drop i parts)) ≡ false = none_later parts i (length parts - i) i none some (omega arith) (omega arith) in
-    or_from (is_before parts i || list_any (λ other. less other (key_at parts i)) (keys_below (drop i parts))) (is_reached parts i)
-    (or_from (is_before parts i) (list_any (λ other. less other (key_at parts i)) (keys_below (drop i parts))) sound.before later) sound.reached
+    grind (arith, nat_tests, later, sound.before, sound.reached)
 
 here_none : (parts : List Separated) (i : ℕ) → i < length parts → breaks parts i ≡ false → breaks_here parts i ≡ false
 here_none parts i low none =
     let test : List ℕ → Bool = λ other. less other (key_at parts i) in
-    let two = or_parts (is_before parts i || list_any test (keys_below (drop i parts))) (is_reached parts i) none in
-    let one = or_parts (is_before parts i) (list_any test (keys_below (drop i parts))) two.0 in
-    or_from (is_before parts i || is_reached parts i) (is_above_key parts i) (or_from (is_before parts i) (is_reached parts i) one.0 two.1)
-    (none_of_first test (part_at parts i).below (keys_below (drop (i + 1) parts)) (ap (λ ps. list_any test (keys_below ps)) (sym (drop_more parts i no_separator low)) ∙ one.1))
+    let later : list_any test (keys_below (drop i parts)) ≡ false = grind (arith, nat_tests) in
+    let above : is_above_key parts i ≡ false = none_of_first test (part_at parts i).below (keys_below (drop (i + 1) parts)) (ap (λ ps. list_any test (keys_below ps)) (sym (drop_more parts i no_separator low)) ∙ later) in
+    grind (arith, nat_tests, above)
 
 -- two answers that are false together are the same
 same_bool : (a b : Bool) → (a ≡ false → b ≡ false) → (b ≡ false → a ≡ false) → a ≡ b
-same_bool true true p q = refl
-same_bool true false p q = q refl
-same_bool false true p q = sym (p refl)
-same_bool false false p q = refl
+same_bool a b p q = grind (arith, nat_tests, p, q)
 
 within : (parts : List Separated) (i : ℕ) → 1 ≤ i → i < 1 + (length parts - 1) → i < length parts
 within parts i some low = omega arith

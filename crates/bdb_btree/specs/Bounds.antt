@@ -1,6 +1,6 @@
 -- What is kept of an internal page while its items are gone through: enough to decide its separators.
 use Rattle.std.specs.Prelude.{◌≡◌, ℕ, ◌||◌, if◌then◌else◌, Bool, true, false, List, [], ◌∷◌, Option, Some, None}
-use Rattle.std.specs.List.{fold, slice_get}
+use Rattle.std.specs.List.{Contains, fold, slice_get}
 use Rattle.bdb_format.specs.Chains.{value_of}
 use Rattle.bdb_format.specs.Page.{InternalItem}
 use Rattle.bdb_overflow.specs.Datum.{FitsContent}
@@ -82,3 +82,18 @@ pub record ItemFits (file : File) (item : InternalItem) : Type 0 where
 
 abbrev pub ItemsFit : File → List InternalItem → Type 0
 ItemsFit file items = (i : ℕ) (item : InternalItem) → slice_get items i ≡ Some item → ItemFits file item
+
+-- Where keys are in order.
+
+-- no later key is less than this one
+abbrev pub NoneBelow : List ℕ → List StoredPair → Type 0
+NoneBelow key pairs = (pair : StoredPair) → Contains pairs pair → less pair.key key ≡ false
+
+-- no key is less than an earlier one
+abbrev pub DontFall : List StoredPair → Type 0
+DontFall [] = Unit {0}
+DontFall (pair ∷ pairs) = NoneBelow pair.key pairs × DontFall pairs
+
+-- the keys below a page don't fall, where this is told
+abbrev pub OrderedIf : Bool → File → ℕ → Type 0
+OrderedIf ordered file p = ordered ≡ true → DontFall (tree_pairs file p)

@@ -3,10 +3,8 @@ use Rattle.std.specs.Prelude.{ℕ, ◌&&◌, ◌||◌, not, if◌then◌else◌,
 use Rattle.std.specs.List.{fold}
 use Rattle.bdb_format.specs.Less.{less}
 use Rattle.bdb_format.specs.Table.{lesser}
-use Rattle.bdb_format.specs.Chains.{value_of}
-use Rattle.bdb_format.specs.File.{File, page_at}
-use Rattle.bdb_format.specs.Page.{Item}
-use Rattle.bdb_format.specs.Contents.{StoredPair, entries_in}
+use Rattle.bdb_format.specs.File.{File}
+use Rattle.bdb_format.specs.Contents.{StoredPair}
 use Rattle.bdb_format.specs.ContentRows.{live_data}
 
 -- a value isn't above the one before it, where there is one
@@ -21,14 +19,6 @@ pub record Run : Type 0 where
 
 abbrev pub follow : Run → List ℕ → Run
 follow run value = record { last = Some value; broken = run.broken || is_not_above run.last value }
-
--- the value of an item of a set, unless it's deleted
-abbrev pub follow_item : File → Run → Item → Run
-follow_item file run item = if item.deleted then run else follow run (value_of file item.content)
-
--- the values of a leaf of a set
-abbrev pub follow_page : File → Run → ℕ → Run
-follow_page file run p = fold (follow_item file) run (entries_in (page_at file p))
 
 -- The keys of pairs.
 

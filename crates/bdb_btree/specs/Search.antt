@@ -1,39 +1,20 @@
 -- Data and pairs as they are gone through, and what a key has. Source: docs/FORMAT.md, "Items" and "Lists of databases".
-use Rattle.std.specs.Prelude.{◌≡◌, ℕ, not, if◌then◌else◌, Bool, List, [], ◌∷◌, ◌++◌, map, drop, Option, Some, None}
-use Rattle.std.specs.List.{filter, flat_map}
+use Rattle.std.specs.Prelude.{◌≡◌, ℕ, if◌then◌else◌, Bool, List, [], ◌∷◌, ◌++◌, map, Option, Some, None}
+use Rattle.std.specs.List.{flat_map}
 use Rattle.std.specs.Str.{bytes_eq}
 use Rattle.bdb_format.specs.Chains.{value_of}
-use Rattle.bdb_format.specs.Contents.{StoredPair, data_of, live_values}
-use Rattle.bdb_format.specs.File.{File, page_at}
+use Rattle.bdb_format.specs.Contents.{StoredPair, data_of}
+use Rattle.bdb_format.specs.File.{File}
 use Rattle.bdb_format.specs.Less.{less}
 use Rattle.bdb_format.specs.Lists.{ListKey, BytesKey, listed_pair}
-use Rattle.bdb_format.specs.Page.{InternalItem, Item}
+use Rattle.bdb_format.specs.Page.{InternalItem}
 use Rattle.bdb_format.specs.Verdict.{structure_faults}
 use Rattle.bdb_overflow.specs.Datum.{datum_seen, key_view_seen}
 use Rattle.bdb_overflow.specs.declared.datum.Datum.{Datum}
 use Rattle.bdb_overflow.specs.declared.datum.KeyView.{KeyView}
-use Rattle.bdb_btree.specs.Pairs.{AreFit}
-use Rattle.bdb_btree.specs.declared.data.SetLeaf.{SetLeaf}
-use Rattle.bdb_btree.specs.declared.data.SetLeaf.TheVariants.{Records, Sorted}
+use Rattle.bdb_btree.specs.Pairs.{AreFit, left_of}
 
--- what is left of a walk, if one goes on
-abbrev pub left_of : {X : Type 0} → Option (List X) → List X
-left_of None = []
-left_of (Some left) = left
-
--- the entries of a leaf of a set off the page
-abbrev pub set_items : SetLeaf → List Item
-set_items (Records leaf) = leaf.items
-set_items (Sorted leaf) = leaf.items
-
--- the values of the live entries from one on
-abbrev pub values_from : File → List Item → ℕ → List (List ℕ)
-values_from file items i = map (λ (item : Item). value_of file item.content) (filter (λ (item : Item). not item.deleted) (drop i items))
-
--- the values that are left of a set: those of this leaf, and those of the leaves after it
-abbrev pub values_left : File → Option (List (List ℕ)) → List ℕ → List (List ℕ)
-values_left file here leaves = left_of here ++ flat_map (λ p. live_values file (page_at file p)) leaves
-
+-- the one value of an item that is no set
 abbrev pub one_value : Option Datum → List (List ℕ)
 one_value None = []
 one_value (Some datum) = datum_seen datum ∷ []

@@ -37,6 +37,7 @@ pub fn check(alloc: Global, linked: &Linked<'_>, meta: &BtreeMeta) -> Result<(),
 }
 
 /// The first fault of what a btree holds, if there is one. An error is want of memory.
+#[tactic(auto, using(crate::proofs::RootLemmas::root_keyed, crate::proofs::CountLemmas::keyed_is_tree, crate::proofs::InnerLemmas::all_ordered, crate::proofs::FallLemmas::root_ordered))]
 fn first_fault(
     alloc: Global,
     forest: &Forest<'_>,
@@ -51,7 +52,7 @@ fn first_fault(
     forest.head();
     let rows = pair_rows(forest, meta.root, has_bit(meta.flags, 0x40));
     let pages = inner_pages(alloc, forest, meta.root)?;
-    let separator = wrong_separator(alloc, forest, &pages)?;
+    let separator = wrong_separator(alloc, forest, &pages, rows.wrong_order.is_none())?;
     let count = counted(alloc, forest, has_bit(meta.flags, 0x04), &pages)?;
     Ok(first_of(has_bit(meta.flags, 0x41), &rows, separator, count))
 }

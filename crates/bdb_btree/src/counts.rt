@@ -33,7 +33,7 @@ impl Counts {
     fn see(&mut self, pair: &Pair<'_>)
         ensures { self.new ≡ count_pair self.old (pair_seen pair.now) }
     {
-        if pair.is_live() {
+        if pair.live {
             self.live = self.live.saturating_add(1);
         }
         self.all = self.all.saturating_add(1);

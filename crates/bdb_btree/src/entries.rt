@@ -4,8 +4,8 @@ ghost use Rattle.std.specs.Iterator.{YieldsFirstBy, item_count};
 ghost use Rattle.bdb_format.specs.File.{file_of};
 ghost use Rattle.bdb_format.specs.Lists.{listed_pair};
 ghost use Rattle.bdb_format.specs.Verdict.{structure_faults};
-ghost use Rattle.bdb_btree.specs.Pairs.{FitsPair, pair_seen};
-ghost use Rattle.bdb_btree.specs.Search.{AreOpen, entry_seen, left_of};
+ghost use Rattle.bdb_btree.specs.Pairs.{FitsPair, left_of, pair_seen};
+ghost use Rattle.bdb_btree.specs.Search.{AreOpen, entry_seen};
 
 use crate::data::{ItemData, item_data};
 use crate::pair::Pair;
@@ -52,7 +52,7 @@ fn pair_entries<'a>(forest: &Forest<'a>, pair: Pair<'a>) -> Option<Entries<'a>>
     requires stage { structure_faults (file_of forest.now) ≡ [] }
     ensures { left_of result ≡ listed_pair (file_of forest.now) (pair_seen pair.entry) }
 {
-    if !pair.is_live() {
+    if !pair.live {
         return None;
     }
     Some(Entries {
@@ -114,6 +114,7 @@ impl<'a> Iterator for Scan<'a> {
 
     ghost remaining = { item_count (λ left. left) };
 
+    #[tactic(auto, using(crate::proofs::ScanLemmas::next_entries))]
     fn next(&mut self) -> Option<(KeyView<'a>, Datum<'a>)> {
         loop {
             if let Some(entry) = next_entry(&mut self.here) {

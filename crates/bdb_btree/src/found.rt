@@ -1,32 +1,20 @@
 ghost use Rattle.std.specs.Prelude.{◌≡◌, ◌∷◌, [], MatchOption};
 ghost use Rattle.std.specs.Iterator.{YieldsFirstBy, item_count};
 ghost use Rattle.std.specs.List.{flat_map};
-ghost use Rattle.std.specs.Str.{bytes_eq};
 ghost use Rattle.bdb_graph.specs.Linked.{FitsLeafPage};
 ghost use Rattle.bdb_format.specs.Contents.{pairs_of};
 ghost use Rattle.bdb_format.specs.File.{file_of};
 ghost use Rattle.bdb_format.specs.Verdict.{structure_faults};
 ghost use Rattle.bdb_overflow.specs.Datum.{datum_seen};
-ghost use Rattle.bdb_btree.specs.Pairs.{FitsPair, pair_seen};
-ghost use Rattle.bdb_btree.specs.Search.{AreOpen, data_under, from_key, left_of};
+ghost use Rattle.bdb_btree.specs.Pairs.{FitsPair, left_of, pair_seen};
+ghost use Rattle.bdb_btree.specs.Search.{AreOpen, data_under, from_key};
 
 use crate::data::{ItemData, item_data};
 use crate::pair::Pair;
-use crate::walk::{PagePairs, page_pairs};
+use crate::walk::{PagePairs, next_pair, page_pairs};
 use bdb_graph::Forest;
-use bdb_overflow::{Datum, compare_datum};
-use std::cmp::Ordering;
+use bdb_overflow::{Datum, is_same};
 use std::marker::Model;
-
-/// Whether two values have the same bytes.
-fn is_same(a: &Datum<'_>, b: &Datum<'_>) -> bool
-    ensures { result ≡ bytes_eq (datum_seen a.now) (datum_seen b.now) }
-{
-    match compare_datum(a, b) {
-        Ordering::Equal => true,
-        Ordering::Less | Ordering::Greater => false,
-    }
-}
 
 /// The first of these pairs that has a key; those before it are passed.
 fn first_with<'a>(pairs: &mut PagePairs<'a>, key: &Datum<'_>) -> Option<Pair<'a>>
@@ -46,7 +34,7 @@ fn data_with<'a>(forest: &Forest<'a>, pair: &Pair<'a>, key: &Datum<'_>) -> Optio
     requires stage { structure_faults (file_of forest.now) ≡ [] }
     ensures { left_of result ≡ data_under (file_of forest.now) (datum_seen key.now) (pair_seen pair.now) }
 {
-    if is_same(&pair.key, key) && pair.is_live() {
+    if is_same(&pair.key, key) && pair.live {
         return Some(item_data(forest, &pair.item));
     }
     None
@@ -58,16 +46,6 @@ fn next_datum<'a>(here: &mut Option<ItemData<'a>>) -> Option<Datum<'a>>
 {
     match here {
         Some(data) => data.next(),
-        None => None,
-    }
-}
-
-/// The next pair of a leaf, if there is one.
-fn next_pair<'a>(pairs: &mut Option<PagePairs<'a>>) -> Option<Pair<'a>>
-    ensures { YieldsFirstBy pair_seen left_of pairs.old result pairs.new }
-{
-    match pairs {
-        Some(pairs) => pairs.next(),
         None => None,
     }
 }
@@ -88,7 +66,8 @@ impl<'a> Model for Found<'a> {
     ghost Value = { List (List ℕ) };
 
     ghost use Rattle.bdb_overflow.specs.Datum.{datum_seen};
-    ghost use Rattle.bdb_btree.specs.Search.{AreOpen, found_left, left_of};
+    ghost use Rattle.bdb_btree.specs.Pairs.{left_of};
+    ghost use Rattle.bdb_btree.specs.Search.{AreOpen, found_left};
 
     ghost view = { λ v. found_left (file_of v.forest) (datum_seen v.key) v.here (left_of v.pairs) };
 
@@ -147,6 +126,7 @@ impl<'a> Iterator for Found<'a> {
 
     ghost remaining = { item_count (λ left. left) };
 
+    #[tactic(auto, using(crate::proofs::FindLemmas::next_found))]
     fn next(&mut self) -> Option<Datum<'a>> {
         loop {
             if let Some(value) = next_datum(&mut self.here) {

@@ -70,7 +70,7 @@ impl<'a> Iterator for LeafPairs<'a> {
         let pair = self.pairs.next()?;
         Some(LeafPair {
             page: pair.page,
-            live: pair.is_live(),
+            live: pair.live,
             value: leaf_datum(&self.forest, &pair.item),
             key: pair.key,
         })

@@ -11,11 +11,10 @@ ghost use Rattle.bdb_btree.specs.Search.{is_below};
 
 use crate::entries::Scan;
 use crate::found::{Found, found_on};
-use crate::order::is_less;
 use crate::walk::tree_pairs;
 use bdb_format::{BtreeMeta, Steps};
 use bdb_graph::{Forest, Linked};
-use bdb_overflow::{Datum, key_datum};
+use bdb_overflow::{Datum, is_less, key_datum};
 use bdb_tree::{Separate, descend_in};
 use std::sync::ledger::Ledger;
 

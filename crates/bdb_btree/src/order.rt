@@ -3,12 +3,10 @@ ghost use Rattle.std.specs.Option.{option_map};
 ghost use Rattle.bdb_btree.specs.Pairs.{pair_seen};
 ghost use Rattle.bdb_btree.specs.Runs.{is_not_above, next_key};
 ghost use Rattle.bdb_overflow.specs.Datum.{datum_seen};
-ghost use Rattle.bdb_format.specs.Less.{less};
 
 use crate::least::lesser;
 use crate::pair::Pair;
-use bdb_overflow::{Datum, compare_datum};
-use std::cmp::Ordering;
+use bdb_overflow::{Datum, is_less};
 use std::marker::Model;
 
 /// Whether a value isn't above the one before it, where there is one.
@@ -18,16 +16,6 @@ pub(crate) fn is_not_above(before: &Option<Datum<'_>>, value: &Datum<'_>) -> boo
     match before {
         Some(before) => !is_less(before, value),
         None => false,
-    }
-}
-
-/// Whether a value is below another.
-pub(crate) fn is_less(a: &Datum<'_>, b: &Datum<'_>) -> bool
-    ensures { result ≡ less (datum_seen a.now) (datum_seen b.now) }
-{
-    match compare_datum(a, b) {
-        Ordering::Less => true,
-        Ordering::Equal | Ordering::Greater => false,
     }
 }
 

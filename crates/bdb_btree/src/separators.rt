@@ -8,17 +8,18 @@ ghost use Rattle.bdb_format.specs.File.{file_of, page_at};
 ghost use Rattle.bdb_format.specs.Page.{Internal};
 ghost use Rattle.bdb_overflow.specs.Datum.{FitsContent, datum_seen};
 ghost use Rattle.bdb_layout.specs.Seen.{internal_item_seen, key_seen};
-ghost use Rattle.bdb_btree.specs.Bounds.{ItemsFit, beyond, bounds_of, exceeds, is_below, no_bounds, see_item, see_items, under, under_pair};
+ghost use Rattle.bdb_btree.specs.Bounds.{DontFall, ItemsFit, OrderedIf, beyond, bounds_of, exceeds, is_below, no_bounds, see_item, see_items, under, under_pair};
 ghost use Rattle.bdb_btree.specs.Least.{IsLeastPage};
 ghost use Rattle.bdb_tree.specs.Trees.{IsTreePage};
 
 use crate::least::note;
-use crate::order::{is_less, is_not_above};
+use crate::order::is_not_above;
+use crate::pair::key_at;
 use crate::walk::page_pairs;
 use bdb_form::{InternalView, PageView};
 use bdb_graph::Forest;
 use bdb_layout::InternalItem;
-use bdb_overflow::{Datum, key_datum};
+use bdb_overflow::{Datum, is_less, key_datum};
 use bdb_tree::leaves_below;
 use std::alloc::{AllocError, Global};
 use std::marker::Model;
@@ -116,20 +117,45 @@ impl<'a> Bounds<'a> {
         }
     }
 
-    /// All keys below the last item. An error is want of memory: 4 bytes for each leaf and each page above it.
+    /// The same where the keys don't fall: the first and the last bound the others.
+    #[tactic(auto, using(bdb_tree::proofs::TreeLemmas::leaf_inside))]
+    fn see_ends(&mut self, forest: &Forest<'a>, leaf: u32)
+        requires leaf { FitsLeafPage (file_of forest.now) leaf }
+        requires order { DontFall (pairs_of (file_of forest.now) leaf) }
+        ensures { self.new ≡ fold under_pair self.old (pairs_of (file_of forest.now) leaf) }
+    {
+        forest.head();
+        if let PageView::Leaf(view) = forest.page(leaf) {
+            let pairs = view.pairs();
+            if pairs > 0 {
+                self.see_key(key_at(forest, leaf, &view, 0));
+                self.see_key(key_at(forest, leaf, &view, pairs - 1));
+            }
+        }
+    }
+
+    /// All keys below the last item, of which two of each leaf are read where they are in order. An error is
+    /// want of memory: 4 bytes for each leaf and each page above it.
+    #[tactic(auto, using(crate::proofs::SeenLemmas::leaf_at, crate::proofs::FallLemmas::leaf_ordered))]
     fn see_below(
         &mut self,
         alloc: Global,
         forest: &Forest<'a>,
         child: u32,
+        ordered: bool,
     ) -> Result<(), AllocError>
-        requires { IsTreePage (file_of forest.now) child }
+        requires tree { IsTreePage (file_of forest.now) child }
+        requires order { OrderedIf ordered (file_of forest.now) child }
         ensures { OnOk result (self.new ≡ fold under_pair self.old (tree_pairs (file_of forest.now) child)) }
     {
         forest.head();
         let leaves = leaves_below(alloc, forest, child)?;
         for leaf in &leaves {
-            self.see_leaf(forest, *leaf);
+            if ordered {
+                self.see_ends(forest, *leaf);
+            } else {
+                self.see_leaf(forest, *leaf);
+            }
         }
         Ok(())
     }
@@ -143,15 +169,17 @@ impl<'a> Bounds<'a> {
         forest: &Forest<'a>,
         item: &InternalItem<'a>,
         first: bool,
+        ordered: bool,
     ) -> Result<(), AllocError>
         requires key { FitsContent (file_of forest.now) (key_seen item.now.key) }
         requires child { IsTreePage (file_of forest.now) item.now.child }
+        requires order { OrderedIf ordered (file_of forest.now) item.now.child }
         ensures { OnOk result (self.new ≡ see_item (file_of forest.now) first self.old (internal_item_seen item.now)) }
     {
         if !first {
             self.see_separator(key_datum(forest, &item.key));
         }
-        self.see_below(alloc, forest, item.child)
+        self.see_below(alloc, forest, item.child, ordered)
     }
 
     /// All items of an internal page.
@@ -160,12 +188,14 @@ impl<'a> Bounds<'a> {
         alloc: Global,
         forest: &Forest<'a>,
         page: &InternalView<'a>,
+        ordered: bool,
     ) -> Result<(), AllocError>
-        requires { ItemsFit (file_of forest.now) page.now.items }
+        requires items { ItemsFit (file_of forest.now) page.now.items }
+        requires order { All (λ item. OrderedIf ordered (file_of forest.now) item.child) page.now.items }
         ensures { OnOk result (self.new ≡ see_items (file_of forest.now) self.old page.now.items) }
     {
         for i in 0..page.entries() {
-            self.see_item(alloc, forest, &page.item(i), i == 0)?;
+            self.see_item(alloc, forest, &page.item(i), i == 0, ordered)?;
         }
         Ok(())
     }
@@ -177,39 +207,51 @@ fn is_wrong_view(
     alloc: Global,
     forest: &Forest<'_>,
     page: &InternalView<'_>,
+    ordered: bool,
 ) -> Result<bool, AllocError>
-    requires { ItemsFit (file_of forest.now) page.now.items }
+    requires items { ItemsFit (file_of forest.now) page.now.items }
+    requires order { All (λ item. OrderedIf ordered (file_of forest.now) item.child) page.now.items }
     ensures { IfOk result (λ wrong. wrong ≡ has_wrong_separator (file_of forest.now) (Internal page.now)) }
 {
     let mut bounds = Bounds::new();
-    bounds.see_items(alloc, forest, page)?;
+    bounds.see_items(alloc, forest, page, ordered)?;
     Ok(bounds.is_wrong())
 }
 
 /// Whether a page of a tree is an internal page with a wrong separator. An error is want of memory.
-fn is_wrong_page(alloc: Global, forest: &Forest<'_>, number: u32) -> Result<bool, AllocError>
-    requires { IsTreePage (file_of forest.now) number }
+#[tactic(auto, using(bdb_tree::proofs::TreeLemmas::tree_inside, crate::proofs::FallLemmas::items_ordered))]
+fn is_wrong_page(
+    alloc: Global,
+    forest: &Forest<'_>,
+    number: u32,
+    ordered: bool,
+) -> Result<bool, AllocError>
+    requires tree { IsTreePage (file_of forest.now) number }
+    requires order { OrderedIf ordered (file_of forest.now) number }
     ensures { IfOk result (λ wrong. wrong ≡ has_wrong_separator (file_of forest.now) (page_at (file_of forest.now) number)) }
 {
     forest.head();
     match forest.page(number) {
-        PageView::Internal(page) => is_wrong_view(alloc, forest, &page),
+        PageView::Internal(page) => is_wrong_view(alloc, forest, &page, ordered),
         _ => Ok(false),
     }
 }
 
-/// The least of these pages of a tree with a wrong separator, if there is one. An error is want of memory.
+/// The least of these pages of a tree with a wrong separator, if there is one. Where the keys below them are told
+/// to be in order, few of them are read. An error is want of memory.
 pub(crate) fn wrong_separator(
     alloc: Global,
     forest: &Forest<'_>,
     pages: &[u32],
+    ordered: bool,
 ) -> Result<Option<u32>, AllocError>
-    requires { All (IsTreePage (file_of forest.now)) pages.now }
+    requires trees { All (IsTreePage (file_of forest.now)) pages.now }
+    requires order { All (OrderedIf ordered (file_of forest.now)) pages.now }
     ensures { IfOk result (λ least. IsLeastPage least (is_wrong_at (file_of forest.now) (has_wrong_separator (file_of forest.now)) pages.now)) }
 {
     let mut least = None;
     for page in pages {
-        least = note(least, *page, is_wrong_page(alloc, forest, *page)?);
+        least = note(least, *page, is_wrong_page(alloc, forest, *page, ordered)?);
     }
     Ok(least)
 }

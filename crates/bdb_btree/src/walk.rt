@@ -5,11 +5,11 @@ ghost use Rattle.bdb_format.specs.Contents.{pairs_of, tree_pairs};
 ghost use Rattle.bdb_format.specs.Verdict.{structure_faults};
 ghost use Rattle.bdb_format.specs.File.{file_of};
 ghost use Rattle.bdb_graph.specs.Linked.{FitsLeafPage};
-ghost use Rattle.bdb_btree.specs.Pairs.{AreLeaves, pair_seen, pairs_here};
+ghost use Rattle.bdb_btree.specs.Pairs.{AreLeaves, left_of, pair_seen};
 ghost use Rattle.bdb_tree.specs.Trees.{IsRoot};
 
-use crate::pair::{Pair, pair_at};
-use bdb_form::{LeafView, PageView};
+use crate::pair::Pair;
+use bdb_form::{LeafKind, PageView};
 use bdb_graph::Forest;
 use bdb_tree::{Leaves, tree_leaves};
 use std::marker::Model;
@@ -19,22 +19,21 @@ use std::marker::Model;
 pub(crate) struct PagePairs<'a> {
     forest: Forest<'a>,
     page: u32,
-    leaf: LeafView<'a>,
-    next: u16,
+    pairs: bdb_form::PagePairs<'a, LeafKind>,
 }
 
 impl<'a> Model for PagePairs<'a> {
-    ghost use Rattle.std.specs.Prelude.{List};
+    ghost use Rattle.std.specs.Prelude.{List, map};
     ghost use Rattle.bdb_format.specs.Contents.{StoredPair};
     ghost use Rattle.bdb_format.specs.File.{file_of};
 
     ghost Value = { List StoredPair };
 
-    ghost use Rattle.bdb_btree.specs.Pairs.{IsOnLeaf, pairs_from};
+    ghost use Rattle.bdb_btree.specs.Pairs.{KeysFit, stored_pair};
 
-    ghost view = { λ v. pairs_from (file_of v.forest) v.page v.leaf v.next };
+    ghost view = { λ v. map (stored_pair (file_of v.forest) v.page) v.pairs };
 
-    ghost invariant = { λ v. IsOnLeaf v.forest v.page v.leaf v.next };
+    ghost invariant = { λ v. KeysFit (file_of v.forest) v.pairs };
 }
 
 impl<'a> Iterator for PagePairs<'a> {
@@ -44,39 +43,33 @@ impl<'a> Iterator for PagePairs<'a> {
 
     ghost remaining = { item_count (λ left. left) };
 
-    #[tactic(auto, using(crate::proofs::WalkLemmas::more_pairs, crate::proofs::WalkLemmas::no_pairs_more))]
     fn next(&mut self) -> Option<Pair<'a>> {
-        let i = self.next;
-        if i >= self.leaf.pairs() {
-            return None;
-        }
-        self.next = i + 1;
-        Some(pair_at(&self.forest, self.page, &self.leaf, i))
+        let pair = self.pairs.next()?;
+        Some(Pair::of(&self.forest, self.page, pair))
     }
 }
 
 /// The pairs of a leaf, in order; none where it isn't one of pairs.
 pub(crate) fn page_pairs<'a>(forest: &Forest<'a>, page: u32) -> Option<PagePairs<'a>>
     requires { FitsLeafPage (file_of forest.now) page }
-    ensures { pairs_here result ≡ pairs_of (file_of forest.now) page }
+    ensures { left_of result ≡ pairs_of (file_of forest.now) page }
 {
     forest.head();
     match forest.page(page) {
         PageView::Leaf(leaf) => Some(PagePairs {
             forest: forest.again(),
             page,
-            leaf,
-            next: 0,
+            pairs: leaf.iter(),
         }),
         _ => None,
     }
 }
 
 /// The next pair of a leaf, if there is one.
-fn next_here<'a>(here: &mut Option<PagePairs<'a>>) -> Option<Pair<'a>>
-    ensures { YieldsFirstBy pair_seen pairs_here here.old result here.new }
+pub(crate) fn next_pair<'a>(pairs: &mut Option<PagePairs<'a>>) -> Option<Pair<'a>>
+    ensures { YieldsFirstBy pair_seen left_of pairs.old result pairs.new }
 {
-    match here {
+    match pairs {
         Some(pairs) => pairs.next(),
         None => None,
     }
@@ -133,9 +126,10 @@ impl<'a> Iterator for Pairs<'a> {
 
     ghost remaining = { item_count (λ left. left) };
 
+    #[tactic(auto, using(crate::proofs::WalkLemmas::next_leaf))]
     fn next(&mut self) -> Option<Pair<'a>> {
         loop {
-            if let Some(pair) = next_here(&mut self.here) {
+            if let Some(pair) = next_pair(&mut self.here) {
                 return Some(pair);
             }
             let leaf = self.leaves.next()?;

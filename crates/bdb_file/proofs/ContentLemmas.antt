@@ -1,8 +1,9 @@
 -- The faults of stage 8 from those of each database.
+use Rattle.bdb_format.proofs.ListLemmas.{any_member, passes_here}
 use Rattle.std.proofs.Common.{◌≡◌, ℕ, zero, suc, ◌+◌, ◌<◌, ◌≤◌, Bool, true, false, cond, List, [], ◌∷◌, map, arith, refl, sym, ◌∙◌, ap, subst, inl, inr}
 use Rattle.std.specs.Prelude.{◌==◌, ◌&&◌}
-use Rattle.std.specs.List.{Contains, flat_map, list_any, range_with_len}
-use Rattle.std.proofs.lemmas.Bool.{cases_eq, eq-eqb, eqb-true, or_cases, or_left, or_right, and_from, and_parts}
+use Rattle.std.specs.List.{Contains, flat_map, range_with_len}
+use Rattle.std.proofs.lemmas.Bool.{cases_eq, eq-eqb, eqb-true, or_cases, or_right, and_parts}
 use Rattle.bdb_format.specs.declared.kinds.Fault.{Fault}
 use Rattle.bdb_format.specs.File.{File}
 use Rattle.bdb_format.specs.Page.{Metadata, BtreeFields, HashFields, QueueFields}
@@ -15,32 +16,12 @@ use Rattle.bdb_format.specs.Flags.{is_recno}
 
 -- The codes of a table.
 
-pub list_any_at : {X : Type 0} → (test : X → Bool) (xs : List X) (x : X) → Contains xs x → test x ≡ true → list_any test xs ≡ true
-list_any_at test [] x at passes = absurd (no_member [] x refl at)
-list_any_at test (y ∷ ys) x at passes =
-    elim (member_cases y ys x at) [
-      | inl same ↦ or_left (test y) (list_any test ys) (ap test same ∙ passes)
-      | inr later ↦ or_right (test y) (list_any test ys) (list_any_at test ys x later passes)
-    ]
-
-pub any_is : {X : Type 0} → (test : X → Bool) (xs : List X) → list_any test xs ≡ true → (x : X) × Contains xs x × (test x ≡ true)
-any_is test [] passes = absurd cc
-any_is test (y ∷ ys) passes =
-    elim (or_cases (test y) (list_any test ys) passes) [
-      | inl here ↦ (y, first_member y ys, here)
-      | inr later ↦ let found = any_is test ys later in (found.0, later_member y ys found.0 found.1, found.2)
-    ]
-
 pub holding_code : (rows : List (Row ℕ)) (code : ℕ) → Contains (holding rows) code → holds_code code rows ≡ true
 holding_code [] code at = absurd (no_member [] code refl at)
 holding_code (row ∷ rows) code at = step row.holds refl (holding_code rows code) at
   where
     step : (b : Bool) → row.holds ≡ b → (Contains (holding rows) code → holds_code code rows ≡ true) → Contains (cond b (row.code ∷ holding rows) (holding rows)) code → holds_code code (row ∷ rows) ≡ true
-    step true holds deeper here =
-        elim (member_cases row.code (holding rows) code here) [
-          | inl same ↦ or_left (row.code == code && row.holds) (holds_code code rows) (and_from (row.code == code) row.holds (eq-eqb row.code code same) holds)
-          | inr later ↦ or_right (row.code == code && row.holds) (holds_code code rows) (deeper later)
-        ]
+    step true holds deeper here = grind (arith, member_cases row.code (holding rows) code here, eq-eqb row.code code)
     step false holds deeper here = or_right (row.code == code && row.holds) (holds_code code rows) (deeper here)
 
 pub code_holding : (rows : List (Row ℕ)) (code : ℕ) → holds_code code rows ≡ true → Contains (holding rows) code
@@ -69,11 +50,7 @@ of_numbered (suc n) from test code at = step (test from) refl (of_numbered n (fr
   where
     step : (b : Bool) → test from ≡ b → (Contains (holding (map (λ c. c :? test c) (range_with_len (from + 1) n))) code → test code ≡ true)
         → Contains (cond b (from ∷ holding (map (λ c. c :? test c) (range_with_len (from + 1) n))) (holding (map (λ c. c :? test c) (range_with_len (from + 1) n)))) code → test code ≡ true
-    step true holds deeper here =
-        elim (member_cases from (holding (map (λ c. c :? test c) (range_with_len (from + 1) n))) code here) [
-          | inl same ↦ ap test (sym same) ∙ holds
-          | inr later ↦ deeper later
-        ]
+    step true holds deeper here = grind (arith, member_cases from (holding (map (λ c. c :? test c) (range_with_len (from + 1) n))) code here)
     step false holds deeper here = deeper here
 
 in_numbered : (n from : ℕ) (test : ℕ → Bool) (code : ℕ) → from ≤ code → code < from + n → test code ≡ true → Contains (holding (numbered from n test)) code
@@ -101,11 +78,7 @@ holding_within [] code within at = absurd (no_member [] code refl at)
 holding_within (row ∷ rows) code within at = step row.holds (holding_within rows code within.2) at
   where
     step : (b : Bool) → (Contains (holding rows) code → (1 ≤ code) × (code < 10)) → Contains (cond b (row.code ∷ holding rows) (holding rows)) code → (1 ≤ code) × (code < 10)
-    step true deeper here =
-        elim (member_cases row.code (holding rows) code here) [
-          | inl same ↦ let low : 1 ≤ row.code = within.0 in let high : row.code < 10 = within.1 in (omega arith, omega arith)
-          | inr later ↦ deeper later
-        ]
+    step true deeper here = grind (arith, member_cases row.code (holding rows) code here, within)
     step false deeper here = deeper here
 
 contents_within : (file : File) (fields : Metadata) (p : ℕ) → Within (database_rows file fields p)
@@ -124,7 +97,7 @@ contents_within file (QueueFields meta) p = tt
 of_codes : (file : File) (p code : ℕ) → Contains (holding (contents_rows file p)) code → (fields : Metadata) × Contains (fields_of file) fields × Contains (holding (database_rows file fields p)) code
 unfolding numbered
 of_codes file p code at =
-    let found = any_is (λ fields. holds_code code (database_rows file fields p)) (fields_of file) (of_numbered 9 1 (holds_somewhere file p) code at) in
+    let found = any_member (λ fields. holds_code code (database_rows file fields p)) (fields_of file) (of_numbered 9 1 (holds_somewhere file p) code at) in
     (found.0, found.1, code_holding (database_rows file found.0 p) code found.2)
 
 in_codes : (file : File) (fields : Metadata) (p code : ℕ) → Contains (fields_of file) fields → Contains (holding (database_rows file fields p)) code → Contains (holding (contents_rows file p)) code
@@ -132,7 +105,7 @@ unfolding numbered
 in_codes file fields p code at holds =
     let within : (1 ≤ code) × (code < 10) = holding_within (database_rows file fields p) code (contents_within file fields p) holds in
     in_numbered 9 1 (holds_somewhere file p) code within.0 within.1
-    (list_any_at (λ other. holds_code code (database_rows file other p)) (fields_of file) fields at (holding_code (database_rows file fields p) code holds))
+    (passes_here (λ other. holds_code code (database_rows file other p)) (fields_of file) fields at (holding_code (database_rows file fields p) code holds))
 
 -- the faults of stage 8 are those of some database
 pub of_contents : (file : File) (fault : Fault) → Contains (contents_faults file) fault → Contains (flat_map (database_faults file) (fields_of file)) fault

@@ -1,14 +1,14 @@
 -- How many pairs of a master name each page.
-use Rattle.std.proofs.Common.{◌≡◌, ℕ, zero, suc, ◌+◌, ◌<◌, ◌≤◌, Bool, true, false, cond, List, length, Option, Some, arith, refl, sym, ◌∙◌, ap, subst}
-use Rattle.std.specs.Prelude.{◌==◌, get_or, min, nat_lt, take}
+use Rattle.std.proofs.lemmas.Bool.Decides.{nat_tests}
+use Rattle.std.proofs.Common.{◌≡◌, ℕ, ◌+◌, ◌<◌, ◌≤◌, Bool, cond, List, length, Option, Some, arith, sym, ◌∙◌, ap, subst}
+use Rattle.std.specs.Prelude.{get_or, min, take}
 use Rattle.std.specs.List.{slice_get}
-use Rattle.std.proofs.lemmas.Bool.{lt-ltb, ne_eqb}
 use Rattle.std.proofs.lemmas.List.{take_all}
 use Rattle.std.proofs.lemmas.List.Filters.{length-filter_more}
 use Rattle.bdb_format.specs.declared.kinds.Fault.{Fault}
 use Rattle.bdb_file.specs.Entries.{AreCounts, NamedPair, count_fault, entries_naming, naming_fault, one_more}
 use Rattle.bdb_format.specs.Master.{is_page}
-use Rattle.bdb_file.specs.Merged.{earlier}
+use Rattle.bdb_overflow.specs.Earlier.{earlier}
 use Rattle.bdb_file.specs.Noted.{earliest}
 use Rattle.bdb_file.proofs.NotedLemmas.{noted_more}
 
@@ -16,8 +16,7 @@ pub none_counted : (counts : List ℕ) (n : ℕ) (entries : List NamedPair) → 
 none_counted counts n entries len zeros = record { len = len; each = λ p below. zeros p below ∙ omega arith }
 
 one_counted : (b : Bool) (count n : ℕ) → count ≡ min 2 n → cond b (one_more count) count ≡ min 2 (n + cond b 1 0)
-one_counted true count n is = omega arith
-one_counted false count n is = omega arith
+one_counted b count n is = grind arith
 
 pub counted_more : (counts more : List ℕ) (n i : ℕ) (entries : List NamedPair) (e : NamedPair) → AreCounts counts n (take i entries) → i < length entries → e ≡ get_or entries i e → length more ≡ length counts
     → ((p : ℕ) → p < length counts → get_or more p 0 ≡ cond (is_page e.names p) (one_more (get_or counts p 0)) (get_or counts p 0))
@@ -39,13 +38,7 @@ all_counted counts n i entries are all = subst (AreCounts counts n) (take_all i 
 
 -- two pairs that name a page are as bad as more
 same_count : (p n : ℕ) → count_fault p (min 2 n) ≡ count_fault p n
-same_count p zero = let e : min 2 zero ≡ zero = omega arith in ap (count_fault p) e
-same_count p (suc zero) = let e : min 2 (suc zero) ≡ suc zero = omega arith in ap (count_fault p) e
-same_count p (suc (suc n)) =
-    let e : min 2 (suc (suc n)) ≡ 2 = omega arith in
-    let some : (suc (suc n) == 0) ≡ false = ne_eqb (suc (suc n)) 0 (λ none. omega arith) in
-    let many : nat_lt 1 (suc (suc n)) ≡ true = lt-ltb 1 (suc (suc n)) (omega arith) in
-    ap (count_fault p) e ∙ rw (some, many) refl
+same_count p n = grind (arith, nat_tests)
 
 pub naming_more : (pages : List ℕ) (entries : List NamedPair) (i p count : ℕ) (least : Option Fault) → slice_get pages i ≡ Some p → least ≡ earliest (naming_fault entries) (take i pages)
     → count ≡ min 2 (length (entries_naming p entries)) → earlier least (count_fault p count) ≡ earliest (naming_fault entries) (take (i + 1) pages)

@@ -1,8 +1,8 @@
 -- A sound file has no more databases than pages.
-use Rattle.std.proofs.Common.{◌≡◌, ℕ, ◌+◌, ◌<◌, ◌≤◌, true, false, cond, eqb, List, [], ◌∷◌, length, map, Option, Some, None, arith, refl, sym, ◌∙◌, ap, length-append, inl, inr}
+use Rattle.std.proofs.Common.{◌≡◌, ℕ, ◌+◌, ◌<◌, ◌≤◌, true, false, eqb, List, [], ◌∷◌, length, map, Option, Some, None, arith, refl, sym, ◌∙◌, ap, length-append, inl, inr}
 use Rattle.std.specs.Prelude.{nat_lt, unwrap_or}
 use Rattle.std.specs.List.{AllByRecursion, Contains, IsDistinct, flat_map, list_any}
-use Rattle.std.proofs.lemmas.Bool.{and_parts, cases_Bool, eq-eqb, eqb-true}
+use Rattle.std.proofs.lemmas.Bool.{and_parts, cases_Bool, eq-eqb, eqb-true, false_from_ne_true}
 use Rattle.std.proofs.lemmas.List.{length-map}
 use Rattle.std.proofs.lemmas.Map.Steps.{length-le_from_distinct_below}
 use Rattle.bdb_format.specs.declared.metadata.BtreeMeta.{BtreeMeta}
@@ -20,7 +20,7 @@ use Rattle.bdb_graph.specs.Linked.{IsForest}
 use Rattle.bdb_graph.proofs.HeldLemmas.{last_page}
 use Rattle.bdb_file.specs.Entries.{NamedPair, entries_naming, fault_at, master_entries}
 use Rattle.bdb_file.specs.Named.{entry_database}
-use Rattle.bdb_file.proofs.ContentLemmas.{any_is}
+use Rattle.bdb_format.proofs.ListLemmas.{any_member}
 use Rattle.bdb_file.proofs.MasterLemmas.{at_meta, count_five, in_naming, master_inside}
 use Rattle.bdb_file.proofs.NamedLemmas.{NamesMeta, all_named, entry_names, kind_inside, one_unnamed, with_name}
 
@@ -55,8 +55,7 @@ abbrev NameOnce : List NamedPair → List NamedPair → Type 0
 NameOnce all entries = (entry : NamedPair) → Contains entries entry → NamesOnce all entry
 
 naming_rises : (p : ℕ) (entry : NamedPair) (entries : List NamedPair) → length (entries_naming p entries) ≤ length (entries_naming p (entry ∷ entries))
-naming_rises p entry entries =
-    elim (is_page entry.names p) as (λ b. length (entries_naming p entries) ≤ length (cond b (entry ∷ entries_naming p entries) (entries_naming p entries))) [ true ↦ omega arith | false ↦ omega arith ]
+naming_rises p entry entries = grind arith
 
 all_from : {X : Type 0} (P : X → Type 0) (xs : List X) → ((x : X) → Contains xs x → P x) → AllByRecursion P xs
 all_from P [] holds = tt
@@ -89,15 +88,11 @@ distinct (entry ∷ entries) once = (all_from (λ n. eqb (number_of entry) n ≡
         let p : number_of entry ≡ here.page = ap (λ names. unwrap_or names 0) here.names_are in
         let q : number_of other ≡ there.page = ap (λ names. unwrap_or names 0) there.names_are in
         let is : number_of other ≡ n = found.2 in
-        elim (cases_Bool (eqb (number_of entry) n)) [
-          | inl same ↦
-              let equal : number_of entry ≡ n = eqb-true (number_of entry) n same in
-              let one : there.page ≡ here.page = omega arith in
-              let two : 2 ≤ length (entries_naming here.page (entry ∷ entries)) = two_name entry other entries here.page found.1 here.names_are (there.names_are ∙ ap (λ (k : ℕ). Some k) one) in
-              let few : length (entries_naming here.page (entry ∷ entries)) ≤ 1 = here.once in
-              absurd (omega arith)
-          | inr differs ↦ differs
-        ]
+        false_from_ne_true (eqb (number_of entry) n) (λ same.
+        let equal : number_of entry ≡ n = eqb-true (number_of entry) n same in
+        let one : there.page ≡ here.page = omega arith in
+        let two = two_name entry other entries here.page found.1 here.names_are (there.names_are ∙ ap (λ (k : ℕ). Some k) one) in
+        omega (arith, two, here.once))
 
 -- The entries of a master.
 
@@ -122,7 +117,7 @@ few_entries image forest none =
   where
     below : (q : ℕ) → list_any (eqb q) (map number_of (master_entries (file_of image))) ≡ true → q < (file_of image).last + 1
     below q passes =
-        let found = any_is (eqb q) (map number_of (master_entries (file_of image))) passes in
+        let found = any_member (eqb q) (map number_of (master_entries (file_of image))) passes in
         let entry = of_map number_of (master_entries (file_of image)) found.0 found.1 in
         let names : NamesMeta (file_of image) entry.0 = entry_names (file_of image) entry.0 (master_inside image forest) none entry.1 in
         let inside : names.page ≤ (file_of image).last = kind_inside image names.page names.kind in

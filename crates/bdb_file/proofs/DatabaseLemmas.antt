@@ -1,5 +1,5 @@
 -- The faults of what the databases of a file hold, by its metadata pages.
-use Rattle.std.proofs.Common.{◌≡◌, ℕ, ◌+◌, ◌<◌, ◌≤◌, true, List, [], length, append-nil, Option, Some, None, arith, refl, sym, ◌∙◌, ap, subst}
+use Rattle.std.proofs.Common.{◌≡◌, ℕ, ◌+◌, ◌≤◌, true, List, [], length, append-nil, Option, Some, None, arith, refl, sym, ◌∙◌, ap, subst}
 use Rattle.std.specs.Prelude.{take}
 use Rattle.std.specs.List.{Contains, flat_map, range_with_len, slice_get}
 use Rattle.std.proofs.lemmas.List.{take_all}
@@ -16,7 +16,7 @@ use Rattle.bdb_format.proofs.MemberLemmas.{in_flat_map, in_map, is_empty, no_mem
 use Rattle.bdb_format.proofs.VerdictLemmas.{IsOfStage, of_by_page}
 use Rattle.bdb_graph.specs.Linked.{HasMetadata, meta_pages}
 use Rattle.bdb_graph.proofs.HeldLemmas.{page_is}
-use Rattle.bdb_file.specs.Merged.{earlier}
+use Rattle.bdb_overflow.specs.Earlier.{earlier}
 use Rattle.bdb_file.specs.Noted.{contents_at, contents_in, earliest}
 use Rattle.bdb_file.proofs.ContentLemmas.{content_one, content_rises, contents_one, contents_rises, in_contents, of_contents}
 use Rattle.bdb_file.proofs.MergeLemmas.{IsFirstOrNone, first_is, first_of_list}
@@ -62,9 +62,8 @@ unfolding file_of meta_pages
 of_fields image fields at =
     let found = of_flat_map fields_in (file_of image).pages fields at in
     let page = of_map (λ p. abstract_page (head_of image).order (page_bytes (head_of image) image p)) (range_with_len 0 ((head_of image).last + 1)) found.0 found.1 in
-    let within : (0 ≤ page.0) × (page.0 < 0 + ((head_of image).last + 1)) = of_range 0 ((head_of image).last + 1) page.0 page.1 in
-    let high : page.0 < 0 + ((head_of image).last + 1) = within.1 in
-    let same : page_at (file_of image) page.0 ≡ found.0 = page_is image page.0 (omega arith) ∙ page.2 in
+    let within = of_range 0 ((head_of image).last + 1) page.0 page.1 in
+    let same : page_at (file_of image) page.0 ≡ found.0 = page_is image page.0 (omega (arith, within.1)) ∙ page.2 in
     let here : Contains (fields_in (page_at (file_of image) page.0)) fields = subst (λ q. Contains (fields_in q) fields) (sym same) found.2 in
     (page.0, in_filter (λ p. is_meta (page_at (file_of image) p)) (range_with_len 0 ((head_of image).last + 1)) page.0 page.1 (is_some_meta (page_at (file_of image) page.0) fields here), here)
 
@@ -72,11 +71,10 @@ pub in_fields : (image : List ℕ) (p : ℕ) (fields : Metadata) → Contains (m
 unfolding file_of meta_pages
 in_fields image p fields at here =
     let listed = of_filter (λ q. is_meta (page_at (file_of image) q)) (range_with_len 0 ((head_of image).last + 1)) p at in
-    let within : (0 ≤ p) × (p < 0 + ((head_of image).last + 1)) = of_range 0 ((head_of image).last + 1) p listed.0 in
-    let high : p < 0 + ((head_of image).last + 1) = within.1 in
+    let within = of_range 0 ((head_of image).last + 1) p listed.0 in
     in_flat_map fields_in (file_of image).pages (abstract_page (head_of image).order (page_bytes (head_of image) image p)) fields
     (in_map (λ q. abstract_page (head_of image).order (page_bytes (head_of image) image q)) (range_with_len 0 ((head_of image).last + 1)) p listed.0)
-    (subst (λ q. Contains (fields_in q) fields) (page_is image p (omega arith)) here)
+    (subst (λ q. Contains (fields_in q) fields) (page_is image p (omega (arith, within.1))) here)
 
 -- the faults of all metadata pages are those of stage 8
 of_pages : (image : List ℕ) (fault : Fault) → Contains (flat_map (λ p. flat_map (database_faults (file_of image)) (fields_in (page_at (file_of image) p))) (meta_pages (file_of image))) fault

@@ -11,11 +11,11 @@ use Rattle.bdb_format.specs.Contents.{StoredPair, tree_pairs}
 use Rattle.bdb_format.specs.File.{File, page_at}
 use Rattle.bdb_format.specs.Graph.{is_meta}
 use Rattle.bdb_format.specs.Numbers.{four_at, number, number_at}
-use Rattle.bdb_format.specs.Page.{Content, Inline, Set, Chain, Tree, Unknown, Page, Meta}
+use Rattle.bdb_format.specs.Page.{Content, Inline, Page, Meta}
 use Rattle.bdb_graph.specs.Linked.{meta_pages}
 use Rattle.bdb_overflow.specs.Datum.{single_value}
 use Rattle.bdb_btree.specs.ToldPair.{told_pair}
-use Rattle.bdb_file.specs.Entries.{NamedPair, entry_of, live_entries, master_entries, named, page_in}
+use Rattle.bdb_file.specs.Entries.{entry_of, live_entries, master_entries, named, page_in}
 use Rattle.bdb_format.specs.Master.{master_in, master_pairs, named_by, page_named, pairs_under}
 
 -- Values that name pages.
@@ -38,23 +38,14 @@ names_none bytes other = rw (ne_eqb (length bytes) 4 other) refl
 same_name : (file : File) (content : Content) → page_in (single_value file content) ≡ named_by file content
 unfolding value_of
 same_name file (Inline bytes) = refl
-same_name file (Set blocks) = refl
-same_name file (Chain head total) = refl
-same_name file (Tree root) = refl
-same_name file Unknown = refl
+same_name file content = refl
 
 same_entry : (file : File) (pair : StoredPair) → entry_of (told_pair file pair) ≡ named file pair
 same_entry file pair = ap (λ (n : Option ℕ). record { page = pair.page; key = pair.key; names = n }) (same_name file pair.data_item)
 
-live_step : (file : File) (live : Bool) (pair : StoredPair) (pairs : List StoredPair) (rest : List NamedPair) → rest ≡ map (named file) pairs
-    → cond live (entry_of (told_pair file pair) ∷ rest) rest ≡ map (named file) (cond live (pair ∷ pairs) pairs)
-live_step file true pair pairs rest same = ap (λ (e : NamedPair). e ∷ rest) (same_entry file pair) ∙ ap (λ es. named file pair ∷ es) same
-live_step file false pair pairs rest same = same
-
 live_are : (file : File) (pairs : List StoredPair) → live_entries (map (told_pair file) pairs) ≡ map (named file) (filter (λ (pair : StoredPair). pair.live) pairs)
 live_are file [] = refl
-live_are file (pair ∷ pairs) =
-    live_step file pair.live pair (filter (λ (one : StoredPair). one.live) pairs) (live_entries (map (told_pair file) pairs)) (live_are file pairs)
+live_are file (pair ∷ pairs) = grind (arith, same_entry file pair, live_are file pairs)
 
 pub entries_of_master : (file : File) (meta : BtreeMeta) → Some meta ≡ master_in (page_at file 0) → live_entries (map (told_pair file) (tree_pairs file meta.root)) ≡ master_entries file
 unfolding master_pairs

@@ -9,11 +9,8 @@ pub mod NameOrderLemmas
 pub mod NamedLemmas
 pub mod NotedLemmas
 pub mod PlaceLemmas
-pub mod RepeatLemmas
-pub mod ShareLemmas
 pub mod SoundLemmas
 pub mod TargetLemmas
 pub mod WholeLemmas
 pub mod VerdictLemmas
-pub mod DigitLemmas
 pub mod NumberLemmas

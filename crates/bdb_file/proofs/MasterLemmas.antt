@@ -1,9 +1,11 @@
 -- The first fault of a master is the earliest of those of its pairs and of the pages that they name.
-use Rattle.std.proofs.Common.{◌≡◌, ◌⊎◌, ℕ, suc, ◌+◌, ◌<◌, ◌≤◌, Bool, true, false, not, cond, List, [], ◌∷◌, ◌++◌, length, map, Option, Some, None, arith, refl, sym, ◌∙◌, ap, subst, inl, inr}
+use Rattle.bdb_format.proofs.ListLemmas.{any_member, only_member, passes_here}
+use Rattle.std.proofs.lemmas.Bool.Decides.{nat_tests}
+use Rattle.std.proofs.Common.{◌≡◌, ◌⊎◌, ℕ, ◌+◌, ◌≤◌, Bool, true, List, [], ◌∷◌, ◌++◌, length, map, Option, Some, None, arith, refl, sym, ◌∙◌, ap, subst, inl, inr}
 use Rattle.std.specs.Prelude.{◌==◌, ◌&&◌, ◌||◌, nat_lt}
 use Rattle.std.specs.List.{Contains, filter, flat_map, list_any, range_with_len}
 use Rattle.std.specs.Str.{bytes_eq}
-use Rattle.std.proofs.lemmas.Bool.{and_from, and_parts, cases_eq, eq-eqb, eqb-true, lt-ltb, ltb-true, ne_eqb, or_cases, true≢false}
+use Rattle.std.proofs.lemmas.Bool.{and_from, and_parts, eq-eqb, eqb-true}
 use Rattle.std.proofs.lemmas.List.Elements.{Contains-append_cases, Contains-append_left, Contains-append_right}
 use Rattle.bdb_format.specs.ByPage.{ComesFirst}
 use Rattle.bdb_format.specs.declared.kinds.Fault.{Fault}
@@ -13,21 +15,21 @@ use Rattle.bdb_format.specs.Contents.{StoredPair, tree_pairs}
 use Rattle.bdb_format.specs.File.{File, file_of, page_at}
 use Rattle.bdb_format.specs.Graph.{is_meta}
 use Rattle.bdb_format.specs.HeadOf.{head_of}
-use Rattle.bdb_format.specs.Page.{BtreeFields, HashFields, QueueFields, Page, Meta}
+use Rattle.bdb_format.specs.Page.{BtreeFields, Page, Meta}
 use Rattle.bdb_format.specs.Table.{Row, ◌:?◌}
 use Rattle.bdb_format.specs.Verdict.{holding, master_faults, first_fault}
-use Rattle.bdb_format.proofs.MemberLemmas.{first_member, in_flat_map, in_map, in_range, member_cases, no_member, of_filter, of_flat_map, of_map, of_range, in_filter}
+use Rattle.bdb_format.proofs.MemberLemmas.{first_member, in_flat_map, in_map, in_range, no_member, of_filter, of_flat_map, of_map, of_range, in_filter}
 use Rattle.bdb_format.proofs.VerdictLemmas.{FirstComesFirst, IsOfStage, by_page_first, holding_least, in_by_page, of_by_page}
 use Rattle.bdb_graph.specs.Linked.{IsForest, meta_pages}
 use Rattle.bdb_graph.proofs.LinkedLemmas.{root_fits}
 use Rattle.bdb_btree.proofs.PairLemmas.{tree_pair}
-use Rattle.bdb_file.specs.Entries.{NamedPair, count_fault, entries_naming, entry_fault, fault_at, master_entries, named, naming_fault, repeat_fault, repeated_entries, target_fault}
+use Rattle.bdb_file.specs.Entries.{NamedPair, count_fault, entries_naming, entry_fault, fault_at, master_entries, named, naming_fault, repeat_fault, key_of, target_fault}
+use Rattle.bdb_overflow.specs.Keys.{repeated_by}
 use Rattle.bdb_format.specs.Master.{is_named_kind, is_none, is_page, master_in, master_pairs, master_rows, misses_target, named_by, naming, pairs_under}
 use Rattle.bdb_format.proofs.RepeatLemmas.{of_repeated, repeated_after, repeated_is}
-use Rattle.bdb_format.specs.Flags.{names_databases}
-use Rattle.bdb_file.specs.Merged.{earlier}
+use Rattle.bdb_overflow.specs.Earlier.{earlier}
 use Rattle.bdb_file.specs.Noted.{earliest}
-use Rattle.bdb_file.proofs.ContentLemmas.{any_is, code_holding, holding_code, list_any_at}
+use Rattle.bdb_file.proofs.ContentLemmas.{code_holding, holding_code}
 use Rattle.bdb_file.proofs.DatabaseLemmas.{has_metadata}
 use Rattle.bdb_file.proofs.MergeLemmas.{IsFirstOrNone, first_is}
 use Rattle.bdb_file.proofs.NotedLemmas.{AreOf, earliest_first, first_of_parts, first_same, flat_of}
@@ -40,27 +42,13 @@ five_rows a b c d e = 1 :? a ∷ 2 :? b ∷ 3 :? c ∷ 4 :? d ∷ 5 :? e ∷ []
 abbrev OneOfFive : Bool → Bool → Bool → Bool → Bool → ℕ → Type 0
 OneOfFive a b c d e code = ((1 ≡ code) × (a ≡ true)) ⊎ (((2 ≡ code) × (b ≡ true)) ⊎ (((3 ≡ code) × (c ≡ true)) ⊎ (((4 ≡ code) × (d ≡ true)) ⊎ ((5 ≡ code) × (e ≡ true)))))
 
-row_is : (n code : ℕ) (a : Bool) → (n == code && a) ≡ true → (n ≡ code) × (a ≡ true)
-row_is n code a is = let parts = and_parts (n == code) a is in (eqb-true n code parts.0, parts.1)
-
 of_five : (a b c d e : Bool) (code : ℕ) → holds_code code (five_rows a b c d e) ≡ true → OneOfFive a b c d e code
-of_five a b c d e code holds =
-    elim (or_cases (1 == code && a) (holds_code code (2 :? b ∷ 3 :? c ∷ 4 :? d ∷ 5 :? e ∷ [])) holds) [
-      | inl here ↦ inl (row_is 1 code a here)
-      | inr after ↦ inr (elim (or_cases (2 == code && b) (holds_code code (3 :? c ∷ 4 :? d ∷ 5 :? e ∷ [])) after) [
-        | inl here ↦ inl (row_is 2 code b here)
-        | inr later ↦ inr (elim (or_cases (3 == code && c) (holds_code code (4 :? d ∷ 5 :? e ∷ [])) later) [
-          | inl here ↦ inl (row_is 3 code c here)
-          | inr rest ↦ inr (elim (or_cases (4 == code && d) (holds_code code (5 :? e ∷ [])) rest) [
-            | inl here ↦ inl (row_is 4 code d here)
-            | inr last ↦ inr (elim (or_cases (5 == code && e) false last) [ inl here ↦ row_is 5 code e here | inr none ↦ absurd (true≢false (sym none)) ])
-          ])
-        ])
-      ])
-    ]
+of_five a b c d e code holds = grind (arith, nat_tests)
 
 in_row : (rows : List (Row ℕ)) (row : Row ℕ) → Contains rows row → row.holds ≡ true → holds_code row.code rows ≡ true
-in_row rows row at holds = list_any_at (λ (other : Row ℕ). other.code == row.code && other.holds) rows row at (and_from (row.code == row.code) row.holds (eq-eqb row.code row.code refl) holds)
+in_row rows row at holds =
+    passes_here (λ (other : Row ℕ). other.code == row.code && other.holds) rows row at
+    (and_from (row.code == row.code) row.holds (eq-eqb row.code row.code refl) holds)
 
 -- Lists of at most one fault.
 
@@ -70,7 +58,7 @@ given (Some fault) = fault ∷ []
 
 of_given : (found : Option Fault) (fault : Fault) → Contains (given found) fault → found ≡ Some fault
 of_given None fault at = absurd (no_member [] fault refl at)
-of_given (Some one) fault at = elim (member_cases one [] fault at) [ inl same ↦ ap (λ (f : Fault). Some f) same | inr later ↦ absurd (no_member [] fault refl later) ]
+of_given (Some one) fault at = ap (λ (f : Fault). Some f) (only_member one fault at)
 
 in_given : (found : Option Fault) (fault : Fault) → found ≡ Some fault → Contains (given found) fault
 in_given found fault is = subst (λ f. Contains (given f) fault) (sym is) (first_member fault [])
@@ -79,8 +67,8 @@ given_first : (found : Option Fault) → IsFirstOrNone (given found) found
 given_first None = λ fault at. no_member [] fault refl at
 given_first (Some one) = record {
   at = first_member one [];
-  before = λ fault at. elim (member_cases one [] fault at) [ inl same ↦ subst (ComesFirst one) same (inr (refl, omega arith)) | inr later ↦ absurd (no_member [] fault refl later) ];
-  stage = λ fault at. elim (member_cases one [] fault at) [ inl same ↦ ap (λ (f : Fault). f.stage) same | inr later ↦ absurd (no_member [] fault refl later) ];
+  before = λ fault at. subst (ComesFirst one) (only_member one fault at) (inr (refl, omega arith));
+  stage = λ fault at. ap (λ (f : Fault). f.stage) (only_member one fault at);
 }
 
 -- a fault of stage 7, where there is one
@@ -93,63 +81,35 @@ given_of found is fault at = is fault (of_given found fault at)
 some_seven : (page code : ℕ) → IsSeven (Some (fault_at page code))
 some_seven page code fault is = let same : fault_at page code ≡ fault = cc in sym (ap (λ (f : Fault). f.stage) same)
 
-none_seven : IsSeven None
-none_seven fault is = absurd cc
-
 count_seven : (p n : ℕ) → IsSeven (count_fault p n)
-count_seven p n =
-    elim (p == 0) as (λ b. IsSeven (cond b None (cond (n == 0) (Some (fault_at p 1)) (cond (nat_lt 1 n) (Some (fault_at p 5)) None)))) [
-      | true ↦ none_seven
-      | false ↦ elim (n == 0) as (λ b. IsSeven (cond b (Some (fault_at p 1)) (cond (nat_lt 1 n) (Some (fault_at p 5)) None))) [
-        | true ↦ some_seven p 1
-        | false ↦ elim (nat_lt 1 n) as (λ b. IsSeven (cond b (Some (fault_at p 5)) None)) [ true ↦ some_seven p 5 | false ↦ none_seven ]
-      ]
-    ]
+count_seven p n fault is = grind (arith, some_seven p 1 fault, some_seven p 5 fault)
 
 target_seven : (file : File) (page : ℕ) (names : Option ℕ) → IsSeven (target_fault file page names)
-target_seven file page None = some_seven page 2
-target_seven file page (Some p) = elim (is_named_kind file p) as (λ b. IsSeven (cond b None (Some (fault_at page 3)))) [ true ↦ none_seven | false ↦ some_seven page 3 ]
+target_seven file page None fault is = some_seven page 2 fault is
+target_seven file page (Some p) fault is = grind (arith, some_seven page 3 fault)
 
 -- Entries and the pairs that they stand for.
 
-count_step : (b : Bool) (entry : NamedPair) (pair : StoredPair) (entries : List NamedPair) (pairs : List StoredPair) → length entries ≡ length pairs → length (cond b (entry ∷ entries) entries) ≡ length (cond b (pair ∷ pairs) pairs)
-count_step true entry pair entries pairs same = ap suc same
-count_step false entry pair entries pairs same = same
-
 count_of : (file : File) (p : ℕ) (pairs : List StoredPair) → length (entries_naming p (map (named file) pairs)) ≡ length (filter (λ (pair : StoredPair). is_page (named_by file pair.data_item) p) pairs)
 count_of file p [] = refl
-count_of file p (pair ∷ pairs) =
-    count_step (is_page (named_by file pair.data_item) p) (named file pair) pair (entries_naming p (map (named file) pairs)) (filter (λ (one : StoredPair). is_page (named_by file one.data_item) p) pairs) (count_of file p pairs)
+count_of file p (pair ∷ pairs) = grind (arith, count_of file p pairs)
 
 any_same : (file : File) (key : List ℕ) (pairs : List StoredPair) → list_any (λ (other : NamedPair). bytes_eq other.key key) (map (named file) pairs) ≡ list_any (λ (other : StoredPair). bytes_eq other.key key) pairs
 any_same file key [] = refl
 any_same file key (pair ∷ pairs) = ap (λ b. bytes_eq pair.key key || b) (any_same file key pairs)
 
-repeat_step : (file : File) (a b : Bool) (pair : StoredPair) (entries : List NamedPair) (pairs : List StoredPair) → a ≡ b → entries ≡ map (named file) pairs
-    → cond a (named file pair ∷ entries) entries ≡ map (named file) (cond b (pair ∷ pairs) pairs)
-repeat_step file a true pair entries pairs same are = ap (λ t. cond t (named file pair ∷ entries) entries) same ∙ ap (λ es. named file pair ∷ es) are
-repeat_step file a false pair entries pairs same are = ap (λ t. cond t (named file pair ∷ entries) entries) same ∙ are
-
-repeats_are : (file : File) (before pairs : List StoredPair) → repeated_entries (map (named file) before) (map (named file) pairs) ≡ map (named file) (repeated_after before pairs)
+repeats_are : (file : File) (before pairs : List StoredPair) → repeated_by key_of (map (named file) before) (map (named file) pairs) ≡ map (named file) (repeated_after before pairs)
 repeats_are file before [] = refl
-repeats_are file before (pair ∷ pairs) =
-    repeat_step file (list_any (λ (other : NamedPair). bytes_eq other.key pair.key) (map (named file) before)) (list_any (λ (other : StoredPair). bytes_eq other.key pair.key) before) pair
-    (repeated_entries (map (named file) (pair ∷ before)) (map (named file) pairs)) (repeated_after (pair ∷ before) pairs) (any_same file pair.key before) (repeats_are file (pair ∷ before) pairs)
+repeats_are file before (pair ∷ pairs) = grind (arith, any_same file pair.key before, repeats_are file (pair ∷ before) pairs)
 
 -- the entries that repeat a name are those of the pairs that do
-all_repeats_are : (file : File) → repeated_entries [] (master_entries file) ≡ map (named file) (repeated (master_pairs file))
+all_repeats_are : (file : File) → repeated_by key_of [] (master_entries file) ≡ map (named file) (repeated (master_pairs file))
 all_repeats_are file = repeats_are file [] (master_pairs file) ∙ ap (map (named file)) (sym (repeated_is (master_pairs file)))
 
 -- The pairs of a master stand on pages of the file.
 
 pub master_is : (page : Page) (meta : BtreeMeta) → master_in page ≡ Some meta → page ≡ Meta (BtreeFields meta)
-master_is (Meta (BtreeFields other)) meta is = step (names_databases other) is
-  where
-    step : (b : Bool) → cond b (Some other) None ≡ Some meta → ◌≡◌ {A = Page} (Meta (BtreeFields other)) (Meta (BtreeFields meta))
-    step true same = let one : other ≡ meta = cc in ap (λ (m : BtreeMeta). Meta (BtreeFields m)) one
-    step false same = absurd cc
-master_is (Meta (HashFields other)) meta is = absurd cc
-master_is (Meta (QueueFields other)) meta is = absurd cc
+master_is (Meta (BtreeFields other)) meta is = grind arith
 master_is page meta is = absurd cc
 
 abbrev pub AreInside : File → Type 0
@@ -182,8 +142,7 @@ of_master : (file : File) (fault : Fault) → Contains (master_faults file) faul
 unfolding master_faults
 of_master file fault at =
     let is : IsOfStage 7 0 (0 + (file.last + 1)) (λ p. holding (master_rows file p)) fault = of_by_page 7 0 (file.last + 1) (λ p. holding (master_rows file p)) fault at in
-    let high : fault.page < 0 + (file.last + 1) = is.below_high in
-    record { seven = is.same_stage; inside = omega arith; holds = holding_code (master_rows file fault.page) fault.code is.is_code }
+    record { seven = is.same_stage; inside = omega (arith, is.below_high); holds = holding_code (master_rows file fault.page) fault.code is.is_code }
 
 master_rises : (file : File) → FirstComesFirst (master_faults file)
 unfolding master_faults
@@ -198,9 +157,7 @@ meta_at : (file : File) (p : ℕ) → Contains (meta_pages file) p → (p ≤ fi
 unfolding meta_pages
 meta_at file p at =
     let listed = of_filter (λ q. is_meta (page_at file q)) (range_with_len 0 (file.last + 1)) p at in
-    let within : (0 ≤ p) × (p < 0 + (file.last + 1)) = of_range 0 (file.last + 1) p listed.0 in
-    let high : p < 0 + (file.last + 1) = within.1 in
-    (omega arith, listed.1)
+    (omega (arith, (of_range 0 (file.last + 1) p listed.0).1), listed.1)
 
 pub at_meta : (file : File) (p : ℕ) → p ≤ file.last → is_meta (page_at file p) ≡ true → Contains (meta_pages file) p
 unfolding meta_pages
@@ -209,27 +166,14 @@ at_meta file p low is = in_filter (λ q. is_meta (page_at file q)) (range_with_l
 abbrev CountIs : ℕ → ℕ → Fault → Type 0
 CountIs p n fault = (nat_lt 0 p ≡ true) × ((((n == 0) ≡ true) × (fault_at p 1 ≡ fault)) ⊎ ((nat_lt 1 n ≡ true) × (fault_at p 5 ≡ fault)))
 
-above_zero : (p : ℕ) → (p == 0) ≡ false → nat_lt 0 p ≡ true
-above_zero p other = elim (cases_eq p 0) [ inl same ↦ absurd (true≢false (sym (eq-eqb p 0 same) ∙ other)) | inr above ↦ lt-ltb 0 p (omega arith) ]
-
-not_zero : (p n : ℕ) → nat_lt n p ≡ true → (p == 0) ≡ false
-not_zero p n above = let low : n < p = ltb-true n p above in ne_eqb p 0 (λ none. omega (arith, low))
-
-count_step_cases : (p : ℕ) (fault : Fault) (zeroth none many : Bool) → cond zeroth None (cond none (Some (fault_at p 1)) (cond many (Some (fault_at p 5)) None)) ≡ Some fault
-    → (zeroth ≡ false) × (((none ≡ true) × (fault_at p 1 ≡ fault)) ⊎ ((many ≡ true) × (fault_at p 5 ≡ fault)))
-count_step_cases p fault true none many is = absurd cc
-count_step_cases p fault false true many is = (refl, inl (refl, cc))
-count_step_cases p fault false false true is = (refl, inr (refl, cc))
-count_step_cases p fault false false false is = absurd cc
-
 count_cases : (p n : ℕ) (fault : Fault) → count_fault p n ≡ Some fault → CountIs p n fault
-count_cases p n fault is = let found = count_step_cases p fault (p == 0) (n == 0) (nat_lt 1 n) is in (above_zero p found.0, found.1)
+count_cases p n fault is = grind (arith, nat_tests)
 
 count_one : (p n : ℕ) → nat_lt 0 p ≡ true → (n == 0) ≡ true → count_fault p n ≡ Some (fault_at p 1)
-count_one p n above none = let other : (p == 0) ≡ false = not_zero p 0 above in rw (other, none) refl
+count_one p n above none = grind (arith, nat_tests)
 
 pub count_five : (p n : ℕ) → nat_lt 0 p ≡ true → nat_lt 1 n ≡ true → count_fault p n ≡ Some (fault_at p 5)
-count_five p n above many = let other : (p == 0) ≡ false = not_zero p 0 above in let some : (n == 0) ≡ false = not_zero n 1 many in rw (other, some, many) refl
+count_five p n above many = grind (arith, nat_tests)
 
 abbrev is_unnamed : File → ℕ → Bool
 is_unnamed file p = is_named_kind file p && length (naming file p) == 0
@@ -266,11 +210,7 @@ TargetIs file page names fault = ((is_none names ≡ true) × (fault_at page 2 �
 
 target_cases : (file : File) (page : ℕ) (names : Option ℕ) (fault : Fault) → target_fault file page names ≡ Some fault → TargetIs file page names fault
 target_cases file page None fault is = inl (refl, cc)
-target_cases file page (Some p) fault is = inr (step (is_named_kind file p) is)
-  where
-    step : (b : Bool) → cond b None (Some (fault_at page 3)) ≡ Some fault → (not b ≡ true) × (fault_at page 3 ≡ fault)
-    step true same = absurd cc
-    step false same = (refl, cc)
+target_cases file page (Some p) fault is = inr (grind arith, grind arith)
 
 target_two : (file : File) (page : ℕ) (names : Option ℕ) → is_none names ≡ true → target_fault file page names ≡ Some (fault_at page 2)
 target_two file page None is = refl
@@ -278,11 +218,7 @@ target_two file page (Some p) is = absurd cc
 
 target_three : (file : File) (page : ℕ) (names : Option ℕ) → misses_target file names ≡ true → target_fault file page names ≡ Some (fault_at page 3)
 target_three file page None is = absurd cc
-target_three file page (Some p) is = step (is_named_kind file p) is
-  where
-    step : (b : Bool) → not b ≡ true → cond b None (Some (fault_at page 3)) ≡ Some (fault_at page 3)
-    step true same = absurd cc
-    step false same = refl
+target_three file page (Some p) is = grind arith
 
 pub in_targets : (file : File) (entry : NamedPair) (fault : Fault) → AreInside file → Contains (master_entries file) entry → entry_fault file entry ≡ Some fault → Contains (master_faults file) fault
 in_targets file entry fault inside at is =
@@ -293,12 +229,12 @@ in_targets file entry fault inside at is =
       | inl (none, same) ↦
           subst (Contains (master_faults file)) same
           (in_master file pair.page (2 :? has_size file pair.page) (inside pair here) (1, omega arith, refl)
-          (list_any_at (λ (other : StoredPair). other.page == pair.page && is_none (named_by file other.data_item)) (master_pairs file) pair here
+          (passes_here (λ (other : StoredPair). other.page == pair.page && is_none (named_by file other.data_item)) (master_pairs file) pair here
           (and_from (pair.page == pair.page) (is_none (named_by file pair.data_item)) (eq-eqb pair.page pair.page refl) none)))
       | inr (misses, same) ↦
           subst (Contains (master_faults file)) same
           (in_master file pair.page (3 :? has_target file pair.page) (inside pair here) (2, omega arith, refl)
-          (list_any_at (λ (other : StoredPair). other.page == pair.page && misses_target file (named_by file other.data_item)) (master_pairs file) pair here
+          (passes_here (λ (other : StoredPair). other.page == pair.page && misses_target file (named_by file other.data_item)) (master_pairs file) pair here
           (and_from (pair.page == pair.page) (misses_target file (named_by file pair.data_item)) (eq-eqb pair.page pair.page refl) misses)))
     ]
 
@@ -307,9 +243,9 @@ pub repeat_here : (file : File) (pair : StoredPair) → AreInside file → Conta
     → Contains (master_faults file) (fault_at pair.page 4)
 repeat_here file pair inside at =
     in_master file pair.page (4 :? has_repeat file pair.page) (inside pair (of_repeated (master_pairs file) pair at)) (3, omega arith, refl)
-    (list_any_at (λ (other : StoredPair). other.page == pair.page) (repeated (master_pairs file)) pair at (eq-eqb pair.page pair.page refl))
+    (passes_here (λ (other : StoredPair). other.page == pair.page) (repeated (master_pairs file)) pair at (eq-eqb pair.page pair.page refl))
 
-in_repeats : (file : File) (entry : NamedPair) (fault : Fault) → AreInside file → Contains (repeated_entries [] (master_entries file)) entry → repeat_fault entry ≡ Some fault → Contains (master_faults file) fault
+in_repeats : (file : File) (entry : NamedPair) (fault : Fault) → AreInside file → Contains (repeated_by key_of [] (master_entries file)) entry → repeat_fault entry ≡ Some fault → Contains (master_faults file) fault
 in_repeats file entry fault inside at is =
     let found = of_map (named file) (repeated (master_pairs file)) entry (subst (λ es. Contains es entry) (all_repeats_are file) at) in
     let pair : StoredPair = found.0 in
@@ -326,7 +262,7 @@ abbrev by_target : File → List NamedPair → List Fault
 by_target file entries = flat_map (λ entry. given (entry_fault file entry)) entries
 
 abbrev by_repeat : List NamedPair → List Fault
-by_repeat entries = flat_map (λ entry. given (repeat_fault entry)) (repeated_entries [] entries)
+by_repeat entries = flat_map (λ entry. given (repeat_fault entry)) (repeated_by key_of [] entries)
 
 abbrev all_noted : File → List NamedPair → List Fault
 all_noted file entries = (by_naming file entries ++ by_target file entries) ++ by_repeat entries
@@ -344,7 +280,7 @@ of_all file fault inside at =
             in_targets file found.0 fault inside found.1 (of_given (entry_fault file found.0) fault found.2)
       ]
       | inr here ↦
-          let found = of_flat_map (λ (entry : NamedPair). given (repeat_fault entry)) (repeated_entries [] entries) fault here in
+          let found = of_flat_map (λ (entry : NamedPair). given (repeat_fault entry)) (repeated_by key_of [] entries) fault here in
           in_repeats file found.0 fault inside found.1 (of_given (repeat_fault found.0) fault found.2)
     ]
 
@@ -373,7 +309,7 @@ from_repeat : (file : File) (pair : StoredPair) (fault : Fault) → Contains (re
 from_repeat file pair fault at is =
     let entries : List NamedPair = master_entries file in
     Contains-append_right (by_naming file entries ++ by_target file entries) (by_repeat entries) fault
-    (in_flat_map (λ (entry : NamedPair). given (repeat_fault entry)) (repeated_entries [] entries) (named file pair) fault
+    (in_flat_map (λ (entry : NamedPair). given (repeat_fault entry)) (repeated_by key_of [] entries) (named file pair) fault
     (subst (λ es. Contains es (named file pair)) (sym (all_repeats_are file)) (in_map (named file) (repeated (master_pairs file)) pair at))
     (in_given (repeat_fault (named file pair)) fault is))
 
@@ -390,17 +326,18 @@ in_all file fault at =
           let parts = and_parts (is_named_kind file fault.page) (length (naming file fault.page) == 0) row in
           from_naming file fault 1 is.inside parts.0 (same 1 code) (λ above. count_one fault.page (length (naming file fault.page)) above parts.1)
       | inr (inl (code, row)) ↦
-          let found = any_is (λ (pair : StoredPair). pair.page == fault.page && is_none (named_by file pair.data_item)) (master_pairs file) row in
+          let found = any_member (λ (pair : StoredPair). pair.page == fault.page && is_none (named_by file pair.data_item)) (master_pairs file) row in
           let parts = and_parts (found.0.page == fault.page) (is_none (named_by file found.0.data_item)) found.2 in
           from_target file found.0 fault found.1
           (target_two file found.0.page (named_by file found.0.data_item) parts.1 ∙ moved found.0.page fault.page 2 fault (eqb-true found.0.page fault.page parts.0) (same 2 code))
       | inr (inr (inl (code, row))) ↦
-          let found = any_is (λ (pair : StoredPair). pair.page == fault.page && misses_target file (named_by file pair.data_item)) (master_pairs file) row in
+          let found =
+          any_member (λ (pair : StoredPair). pair.page == fault.page && misses_target file (named_by file pair.data_item)) (master_pairs file) row in
           let parts = and_parts (found.0.page == fault.page) (misses_target file (named_by file found.0.data_item)) found.2 in
           from_target file found.0 fault found.1
           (target_three file found.0.page (named_by file found.0.data_item) parts.1 ∙ moved found.0.page fault.page 3 fault (eqb-true found.0.page fault.page parts.0) (same 3 code))
       | inr (inr (inr (inl (code, row)))) ↦
-          let found = any_is (λ (pair : StoredPair). pair.page == fault.page) (repeated (master_pairs file)) row in
+          let found = any_member (λ (pair : StoredPair). pair.page == fault.page) (repeated (master_pairs file)) row in
           from_repeat file found.0 fault found.1 (moved found.0.page fault.page 4 fault (eqb-true found.0.page fault.page found.2) (same 4 code))
       | inr (inr (inr (inr (code, row)))) ↦
           let parts = and_parts (is_named_kind file fault.page) (nat_lt 1 (length (naming file fault.page))) row in
@@ -410,7 +347,7 @@ in_all file fault at =
 -- The first fault of stage 7.
 
 noted_first : (file : File) (entries : List NamedPair)
-    → IsFirstOrNone (all_noted file entries) (earlier (earlier (earliest (naming_fault entries) (meta_pages file)) (earliest (entry_fault file) entries)) (earliest repeat_fault (repeated_entries [] entries)))
+    → IsFirstOrNone (all_noted file entries) (earlier (earlier (earliest (naming_fault entries) (meta_pages file)) (earliest (entry_fault file) entries)) (earliest repeat_fault (repeated_by key_of [] entries)))
 noted_first file entries =
     let names : AreOf 7 (by_naming file entries) =
     flat_of (naming_fault entries) (λ p. given (naming_fault entries p)) 7 (λ p. given_first (naming_fault entries p)) (λ p. given_of (naming_fault entries p) (count_seven p (length (entries_naming p entries)))) (meta_pages file)
@@ -419,21 +356,21 @@ noted_first file entries =
     flat_of (entry_fault file) (λ (entry : NamedPair). given (entry_fault file entry)) 7 (λ entry. given_first (entry_fault file entry)) (λ (entry : NamedPair). given_of (entry_fault file entry) (target_seven file entry.page entry.names)) entries
     in
     let repeats : AreOf 7 (by_repeat entries) =
-    flat_of repeat_fault (λ (entry : NamedPair). given (repeat_fault entry)) 7 (λ entry. given_first (repeat_fault entry)) (λ (entry : NamedPair). given_of (repeat_fault entry) (some_seven entry.page 4)) (repeated_entries [] entries)
+    flat_of repeat_fault (λ (entry : NamedPair). given (repeat_fault entry)) 7 (λ entry. given_first (repeat_fault entry)) (λ (entry : NamedPair). given_of (repeat_fault entry) (some_seven entry.page 4)) (repeated_by key_of [] entries)
     in
-    first_of_parts 7 (by_naming file entries ++ by_target file entries) (by_repeat entries) (earlier (earliest (naming_fault entries) (meta_pages file)) (earliest (entry_fault file) entries)) (earliest repeat_fault (repeated_entries [] entries))
+    first_of_parts 7 (by_naming file entries ++ by_target file entries) (by_repeat entries) (earlier (earliest (naming_fault entries) (meta_pages file)) (earliest (entry_fault file) entries)) (earliest repeat_fault (repeated_by key_of [] entries))
     (λ fault at. elim (Contains-append_cases (by_naming file entries) (by_target file entries) fault at) [ inl here ↦ names fault here | inr here ↦ targets fault here ]) repeats
     (first_of_parts 7 (by_naming file entries) (by_target file entries) (earliest (naming_fault entries) (meta_pages file)) (earliest (entry_fault file) entries) names targets
     (earliest_first (naming_fault entries) (λ p. given (naming_fault entries p)) 7 (λ p. given_first (naming_fault entries p)) (λ p. given_of (naming_fault entries p) (count_seven p (length (entries_naming p entries)))) (meta_pages file))
     (earliest_first (entry_fault file) (λ (entry : NamedPair). given (entry_fault file entry)) 7 (λ entry. given_first (entry_fault file entry)) (λ (entry : NamedPair). given_of (entry_fault file entry) (target_seven file entry.page entry.names)) entries))
-    (earliest_first repeat_fault (λ (entry : NamedPair). given (repeat_fault entry)) 7 (λ entry. given_first (repeat_fault entry)) (λ (entry : NamedPair). given_of (repeat_fault entry) (some_seven entry.page 4)) (repeated_entries [] entries))
+    (earliest_first repeat_fault (λ (entry : NamedPair). given (repeat_fault entry)) 7 (λ entry. given_first (repeat_fault entry)) (λ (entry : NamedPair). given_of (repeat_fault entry) (some_seven entry.page 4)) (repeated_by key_of [] entries))
 
 pub master_first : (image : List ℕ) → IsForest image
-    → earlier (earlier (earliest (naming_fault (master_entries (file_of image))) (meta_pages (file_of image))) (earliest (entry_fault (file_of image)) (master_entries (file_of image)))) (earliest repeat_fault (repeated_entries [] (master_entries (file_of image))))
+    → earlier (earlier (earliest (naming_fault (master_entries (file_of image))) (meta_pages (file_of image))) (earliest (entry_fault (file_of image)) (master_entries (file_of image)))) (earliest repeat_fault (repeated_by key_of [] (master_entries (file_of image))))
     ≡ first_fault (master_faults (file_of image))
 master_first image forest =
     let file : File = file_of image in
     let entries : List NamedPair = master_entries file in
-    let found : Option Fault = earlier (earlier (earliest (naming_fault entries) (meta_pages file)) (earliest (entry_fault file) entries)) (earliest repeat_fault (repeated_entries [] entries)) in
+    let found : Option Fault = earlier (earlier (earliest (naming_fault entries) (meta_pages file)) (earliest (entry_fault file) entries)) (earliest repeat_fault (repeated_by key_of [] entries)) in
     sym (first_is (master_faults file) 7 found (master_rises file) (master_one file)
     (first_same (all_noted file entries) (master_faults file) found (λ fault at. of_all file fault (master_inside image forest) at) (λ fault at. in_all file fault at) (noted_first file entries)))

@@ -1,8 +1,7 @@
 -- The first fault of a stage from those of its parts.
 use Rattle.std.proofs.Common.{◌≡◌, ◌⊎◌, ℕ, ◌+◌, ◌<◌, ◌≤◌, true, false, cond, List, [], ◌∷◌, ◌++◌, Option, Some, None, arith, refl, sym, ◌∙◌, ap, subst, inl, inr}
-use Rattle.std.specs.Prelude.{◌==◌, ◌&&◌, nat_lt, nat_le}
 use Rattle.std.specs.List.{Contains}
-use Rattle.std.proofs.lemmas.Bool.{cases_Bool, cases_order, eqb-true, leb-true, ltb-true, or_cases, and_parts}
+use Rattle.std.proofs.lemmas.Bool.{cases_Bool}
 use Rattle.std.proofs.lemmas.List.Elements.{Contains-append_cases, Contains-append_left, Contains-append_right}
 use Rattle.bdb_format.specs.ByPage.{ComesFirst}
 use Rattle.bdb_format.specs.declared.kinds.Fault.{Fault}
@@ -13,7 +12,8 @@ use Rattle.bdb_format.specs.File.{File}
 use Rattle.bdb_format.specs.Table.{Row}
 use Rattle.bdb_format.proofs.MemberLemmas.{first_member, no_member}
 use Rattle.bdb_format.proofs.VerdictLemmas.{FirstComesFirst, IsOfStage, by_page_first, holding_least, in_by_page, of_by_page}
-use Rattle.bdb_file.specs.Merged.{earlier, is_before}
+use Rattle.bdb_overflow.specs.Earlier.{earlier, is_before}
+use Rattle.bdb_overflow.proofs.EarlierLemmas.{after_is, before_is}
 use Rattle.bdb_format.proofs.FaultLemmas.{same_fault, comes_through, tree_rises, tree_one}
 
 -- The first fault of a list that rises.
@@ -46,30 +46,6 @@ first_is (a ∷ rest) stage None rises same found = absurd (found a (first_membe
 first_is (a ∷ rest) stage (Some first) rises same found =
     ap (λ (f : Fault). Some f)
     (same_fault a first (same a (first_member a rest) ∙ sym (same first found.at)) (rises a rest first refl found.at) (found.before a (first_member a rest)))
-
-before_is : (a b : Fault) → is_before a b ≡ true → ComesFirst a b
-before_is a b test =
-    elim (or_cases (nat_lt a.page b.page) (a.page == b.page && nat_le a.code b.code) test) [
-      | inl low ↦ inl (ltb-true a.page b.page low)
-      | inr both ↦ let parts = and_parts (a.page == b.page) (nat_le a.code b.code) both in inr (eqb-true a.page b.page parts.0, leb-true a.code b.code parts.1)
-    ]
-
-after_is : (a b : Fault) → is_before a b ≡ false → ComesFirst b a
-after_is a b test = elim (cases_order a.page b.page) [
-  | inl same ↦ elim (cases_order a.code b.code) [
-    | inl equal ↦ inr (sym same, omega arith)
-    | inr (inl low) ↦ absurd (impossible same low)
-    | inr (inr high) ↦ inr (sym same, omega arith)
-  ]
-  | inr (inl low) ↦ absurd (lower low)
-  | inr (inr high) ↦ inl high
-]
-  where
-    lower : a.page < b.page → ⊥
-    lower low = grind (arith, ltb-true, test)
-
-    impossible : a.page ≡ b.page → a.code < b.code → ⊥
-    impossible same low = grind (arith, test)
 
 -- The first fault of two lists together.
 
@@ -131,11 +107,7 @@ both_by_page stage from n f g h of left right = record {
 -- the codes of two tables together
 of_holding : (xs ys : List (Row ℕ)) → holding (xs ++ ys) ≡ holding xs ++ holding ys
 of_holding [] ys = refl
-of_holding (row ∷ rows) ys =
-    elim row.holds as (λ b. cond b (row.code ∷ holding (rows ++ ys)) (holding (rows ++ ys)) ≡ cond b (row.code ∷ holding rows) (holding rows) ++ holding ys) [
-      | true ↦ ap (λ codes. row.code ∷ codes) (of_holding rows ys)
-      | false ↦ of_holding rows ys
-    ]
+of_holding (row ∷ rows) ys = grind (arith, of_holding rows ys)
 
 -- Stage 6.
 

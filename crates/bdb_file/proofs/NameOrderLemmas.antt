@@ -1,14 +1,14 @@
 -- The names that a master gives ascend.
 use Rattle.std.proofs.Common.{◌≡◌, ℕ, ◌+◌, ◌<◌, ◌≤◌, Bool, true, false, not, cond, List, [], ◌∷◌, ◌++◌, length, map, Option, Some, None, arith, refl, sym, ◌∙◌, ap, subst, inl, inr, true≢false}
-use Rattle.std.specs.Prelude.{◌==◌, ◌&&◌, ◌||◌, ◌^◌, nat_lt}
+use Rattle.std.specs.Prelude.{◌==◌, ◌&&◌, ◌^◌, nat_lt, ◌||◌}
 use Rattle.std.specs.List.{Contains, filter, flat_map, list_any}
 use Rattle.std.specs.Str.{bytes_eq}
-use Rattle.std.proofs.lemmas.Bool.{and_from, and_parts, cases_Bool, cases_eq, eq-eqb, false_from_ne_true, or_parts}
+use Rattle.std.proofs.lemmas.Bool.{and_from, and_parts, cases_eq, eq-eqb, false_from_ne_true, or_parts, cases_Bool}
 use Rattle.std.proofs.lemmas.List.{map-append}
 use Rattle.bdb_format.specs.declared.kinds.Order.{Order}
 use Rattle.bdb_format.specs.declared.metadata.BtreeMeta.{BtreeMeta}
 use Rattle.bdb_format.specs.declared.metadata.FileKind.TheVariants.{Btree}
-use Rattle.bdb_format.specs.ContentRows.{ascends, ascends_from, btree_contents, database_faults, database_rows, fields_in, is_out_of_order, neighbours, neighbours_from, recno_contents, repeated}
+use Rattle.bdb_format.specs.ContentRows.{ascends, ascends_from, btree_contents, database_faults, database_rows, fields_in, is_out_of_order, neighbours, neighbours_from, repeated}
 use Rattle.bdb_format.specs.Contents.{StoredPair, tree_pairs}
 use Rattle.bdb_format.specs.Databases.{database_on, databases, databases_under, named_database}
 use Rattle.bdb_format.specs.File.{File, file_of, page_at, page_bytes}
@@ -21,7 +21,7 @@ use Rattle.bdb_format.specs.Page.{BtreeFields, HashFields, QueueFields, Page, Me
 use Rattle.bdb_format.specs.Reading.{abstract_page, btree_fields, hash_fields, queue_fields}
 use Rattle.bdb_format.specs.Rows.{are_wrong_flags, metadata_rows}
 use Rattle.bdb_format.specs.Verdict.{faults_of, holding, master_faults}
-use Rattle.bdb_format.proofs.MemberLemmas.{first_member, in_map, is_empty, later_member, member_cases, no_member, none_passes, of_filter}
+use Rattle.bdb_format.proofs.MemberLemmas.{first_member, in_map, is_empty, later_member, no_member, none_passes, of_filter}
 use Rattle.bdb_format.proofs.VerdictLemmas.{AllFail, all_fail, no_codes_at, no_stage, none_in, none_is_first_row}
 use Rattle.bdb_format.proofs.RepeatLemmas.{repeated_after, repeated_is}
 use Rattle.bdb_format.specs.Flags.{is_recno, names_databases}
@@ -33,57 +33,21 @@ use Rattle.bdb_graph.proofs.FormedLemmas.{IsPaged, accepted_paged, page_length}
 use Rattle.bdb_graph.proofs.HeldLemmas.{page_is, table_page, tree_formed, tree_page}
 use Rattle.bdb_graph.proofs.LinkedLemmas.{root_fits}
 use Rattle.bdb_graph.proofs.MetaLemmas.{no_meta, queue_page}
-use Rattle.bdb_btree.proofs.LessLemmas.{less_above, less_not_back, same_unless_less}
+use Rattle.bdb_btree.specs.Bounds.{DontFall, NoneBelow}
+use Rattle.bdb_btree.proofs.FallLemmas.{dont_fall, tree_keys}
+use Rattle.bdb_btree.proofs.LessLemmas.{same_unless_less}
 use Rattle.bdb_btree.proofs.PairLemmas.{tree_pair}
-use Rattle.bdb_hash.proofs.KeyLemmas.{eq_self}
+use Rattle.bdb_overflow.proofs.KeyLemmas.{eq_self}
 use Rattle.bdb_file.specs.Entries.{fault_at, named}
 use Rattle.bdb_file.specs.Laws.{NamesAscend, name_bytes}
 use Rattle.bdb_file.proofs.DatabaseLemmas.{has_metadata}
 use Rattle.bdb_file.proofs.MasterLemmas.{AreInside, master_inside, master_is, repeat_here}
 use Rattle.bdb_file.proofs.NamedLemmas.{NamesMeta, entry_names}
-use Rattle.bdb_file.proofs.ShareLemmas.{ShareKeys, tree_keys}
 use Rattle.bdb_file.proofs.SoundLemmas.{no_contents}
 use Rattle.bdb_format.proofs.BoolLemmas.{second_false}
 use Rattle.bdb_format.proofs.PairLemmas.{neighbour_in, keyed_rows}
-use Rattle.bdb_format.proofs.LessLemmas.{less_self}
 
 -- Lists of pairs whose keys don't fall.
-
--- no later key is less than this one
-abbrev NoneBelow : List ℕ → List StoredPair → Type 0
-NoneBelow key pairs = (pair : StoredPair) → Contains pairs pair → less pair.key key ≡ false
-
--- no key is less than an earlier one
-abbrev DontFall : List StoredPair → Type 0
-DontFall [] = Unit {0}
-DontFall (pair ∷ pairs) = NoneBelow pair.key pairs × DontFall pairs
-
--- what isn't less than something that isn't less than a third isn't less than that
-not_less_chain : (a b c : List ℕ) → less b a ≡ false → less c b ≡ false → less c a ≡ false
-not_less_chain a b c ab bc = false_from_ne_true (less c a) (λ is. true≢false (sym (less_above c a b is ab) ∙ bc))
-
-none_below_more : (key : List ℕ) (pair : StoredPair) (pairs : List StoredPair) → less pair.key key ≡ false → NoneBelow pair.key pairs → NoneBelow key (pair ∷ pairs)
-none_below_more key pair pairs here after other at =
-    elim (member_cases pair pairs other at) [
-      | inl same ↦ subst (λ (one : StoredPair). less one.key key ≡ false) same here
-      | inr later ↦ not_less_chain key pair.key other.key here (after other later)
-    ]
-
--- two pairs that follow each other, where one that shares its key has the key before it
-in_order_step : (a b : List ℕ) (shares : Bool) → (shares ≡ true → b ≡ a) → (not shares && not (less a b)) ≡ false → less b a ≡ false
-in_order_step a b true same kept = ap (λ key. less key a) (same refl) ∙ less_self a
-in_order_step a b false same kept =
-    elim (cases_Bool (less a b)) [ inl low ↦ less_not_back a b low | inr other ↦ absurd (true≢false (ap not (sym other) ∙ kept)) ]
-
-dont_fall_from : (pair : StoredPair) (pairs : List StoredPair) → ShareKeys pair.key pairs → ((two : StoredPair × StoredPair) → Contains (neighbours_from pair pairs) two → is_out_of_order two ≡ false) → NoneBelow pair.key pairs × DontFall pairs
-dont_fall_from pair [] shares kept = (λ other at. absurd (no_member [] other refl at), tt)
-dont_fall_from pair (next ∷ pairs) shares kept =
-    let after = dont_fall_from next pairs shares.1 (λ two at. kept two (later_member (pair, next) (neighbours_from next pairs) two at)) in
-    (none_below_more pair.key next pairs (in_order_step pair.key next.key next.shares shares.0 (kept (pair, next) (first_member (pair, next) (neighbours_from next pairs)))) after.0, after)
-
-dont_fall : (pairs : List StoredPair) → ShareKeys [] pairs → ((two : StoredPair × StoredPair) → Contains (neighbours pairs) two → is_out_of_order two ≡ false) → DontFall pairs
-dont_fall [] shares kept = tt
-dont_fall (pair ∷ pairs) shares kept = dont_fall_from pair pairs shares.1 kept
 
 kept_fall : (test : StoredPair → Bool) (pairs : List StoredPair) → DontFall pairs → DontFall (filter test pairs)
 kept_fall test [] fall = tt
@@ -105,12 +69,7 @@ ascend_from before earlier (pair ∷ pairs) above fall none =
     let parts = not_repeated (list_any (λ (other : StoredPair). bytes_eq other.key pair.key) (before ∷ earlier)) pair (repeated_after (pair ∷ before ∷ earlier) pairs) none in
     let apart : bytes_eq before.key pair.key ≡ false = (or_parts (bytes_eq before.key pair.key) (list_any (λ (other : StoredPair). bytes_eq other.key pair.key) earlier) parts.0).0 in
     and_from (less before.key pair.key) (ascends_from pair.key (map (λ (one : StoredPair). one.key) pairs))
-    (elim (cases_Bool (less before.key pair.key)) [
-      | inl low ↦ low
-      | inr other ↦
-          let same : before.key ≡ pair.key = same_unless_less before.key pair.key other (above pair (first_member pair pairs)) in
-          absurd (true≢false (sym (subst (λ key. bytes_eq before.key key ≡ true) same (eq_self before.key)) ∙ apart))
-    ])
+    (grind (arith, same_unless_less before.key pair.key, above pair (first_member pair pairs), eq_self before.key, apart))
     (ascend_from pair (before ∷ earlier) pairs fall.0 fall.1 parts.1)
 
 ascend : (pairs : List StoredPair) → DontFall pairs → repeated_after [] pairs ≡ [] → ascends (map (λ (pair : StoredPair). pair.key) pairs) ≡ true
@@ -154,16 +113,7 @@ page_sized image p forest low =
 
 -- flags of a master go with no records
 no_recno : (flags : ℕ) → are_wrong_flags 0 flags ≡ false → has_bit flags 0x20 ≡ true → has_bit flags 0x02 ≡ false
-no_recno flags fit master =
-    let outer = or_parts (nat_lt 0xff flags || (has_bit flags 0x02 && (has_bit flags 0x45 || (0 == 0 && has_bit flags 0x20)))) (has_bit flags 0x04 && has_bit flags 0x41) fit in
-    let inner = or_parts (nat_lt 0xff flags) (has_bit flags 0x02 && (has_bit flags 0x45 || (0 == 0 && has_bit flags 0x20))) outer.0 in
-    step (has_bit flags 0x02) (has_bit flags 0x45) (has_bit flags 0x20) master inner.1
-  where
-    step : (records counts subs : Bool) → subs ≡ true → (records && (counts || subs)) ≡ false → records ≡ false
-    step false counts subs is none = refl
-    step true true subs is none = absurd cc
-    step true false true is none = absurd cc
-    step true false false is none = absurd cc
+no_recno flags fit master = grind arith
 
 master_keys : (image : List ℕ) (meta : BtreeMeta) → IsForest image → page_at (file_of image) 0 ≡ Meta (BtreeFields meta) → names_databases meta ≡ true
     → is_recno meta ≡ false
@@ -220,11 +170,7 @@ all_names file (pair ∷ pairs) each =
     ∙ ap (λ names. pair.key ∷ names) (all_names file pairs (λ other at. each other (later_member pair pairs other at))))
 
 flags_of_master : (page : Page) (meta : BtreeMeta) → master_in page ≡ Some meta → names_databases meta ≡ true
-flags_of_master (Meta (BtreeFields other)) meta is = step (names_databases other) refl is
-  where
-    step : (b : Bool) → names_databases other ≡ b → cond b (Some other) None ≡ Some meta → names_databases meta ≡ true
-    step true flag same = let one : other ≡ meta = cc in ap (λ (m : BtreeMeta). names_databases m) (sym one) ∙ flag
-    step false flag same = absurd cc
+flags_of_master (Meta (BtreeFields other)) meta is = grind arith
 flags_of_master page meta is = absurd cc
 
 pub names_ascend : NamesAscend

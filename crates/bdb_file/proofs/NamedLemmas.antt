@@ -2,7 +2,7 @@
 use Rattle.std.proofs.Common.{◌≡◌, ℕ, ◌<◌, ◌≤◌, Bool, true, false, cond, List, [], ◌∷◌, length, map, get_or, Option, Some, None, arith, refl, sym, ◌∙◌, ap, subst, inl, inr}
 use Rattle.std.specs.List.{Contains, flat_map}
 use Rattle.std.specs.Option.{ForSome}
-use Rattle.std.proofs.lemmas.Bool.{cases_order, true≢false}
+use Rattle.std.proofs.lemmas.Bool.{true≢false, cases_lt}
 use Rattle.std.proofs.lemmas.List.Folds.{flat_map-map}
 use Rattle.bdb_format.specs.declared.metadata.BtreeMeta.{BtreeMeta}
 use Rattle.bdb_format.specs.declared.kinds.Fault.{Fault}
@@ -74,10 +74,9 @@ entry_names file entry inside none at = step entry.names refl
 -- a metadata page is up to the last one
 pub kind_inside : (image : List ℕ) (p : ℕ) → is_named_kind (file_of image) p ≡ true → p ≤ (file_of image).last
 kind_inside image p kind =
-    elim (cases_order (head_of image).last p) [
-      | inl same ↦ omega (arith, last_page image)
-      | inr (inl past) ↦ absurd (true≢false (sym kind ∙ sym (not_there image p past)))
-      | inr (inr below) ↦ omega (arith, last_page image)
+    elim (cases_lt (head_of image).last p) [
+      | inl past ↦ absurd (true≢false (sym kind ∙ sym (not_there image p past)))
+      | inr low ↦ omega (arith, last_page image)
     ]
 
 pub named_inside : (image : List ℕ) (entries : List NamedPair) (i : ℕ) (entry : NamedPair) → IsForest image → master_faults (file_of image) ≡ [] → entries ≡ master_entries (file_of image)

@@ -8,7 +8,7 @@ use Rattle.std.proofs.lemmas.List.Elements.{Contains-append_cases, Contains-appe
 use Rattle.std.proofs.lemmas.Option.{slice_get-get_or, slice_get_within}
 use Rattle.bdb_format.specs.declared.kinds.Fault.{Fault}
 use Rattle.bdb_format.proofs.MemberLemmas.{no_member}
-use Rattle.bdb_file.specs.Merged.{earlier}
+use Rattle.bdb_overflow.specs.Earlier.{earlier}
 use Rattle.bdb_file.specs.Noted.{noting, earliest}
 use Rattle.bdb_file.proofs.MergeLemmas.{AreBoth, IsFirstOrNone, first_of_both}
 

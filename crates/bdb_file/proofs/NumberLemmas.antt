@@ -1,10 +1,9 @@
 -- Numbers that no record has.
-use Rattle.std.proofs.Common.{◌≡◌, ℕ, ◌-◌, ◌<◌, ◌≤◌, ◌^◌, Bool, true, false, cond, List, [], ◌∷◌, ◌++◌, length, map, Some, None, arith, refl, sym, ◌∙◌, ap, subst, inl, ne_eqb}
-use Rattle.std.specs.Prelude.{nat_le, nat_lt, ◌&&◌, slice_get, slice_index}
-use Rattle.std.specs.List.{filter, flat_map, range_with_len}
-use Rattle.std.proofs.lemmas.Bool.{and_parts, ltb-true}
-use Rattle.std.proofs.lemmas.List.{map-append}
-use Rattle.std.proofs.lemmas.List.Elements.{filter-append}
+use Rattle.bdb_format.proofs.PairLemmas.{get_append}
+use Rattle.std.proofs.lemmas.Bool.Decides.{nat_tests}
+use Rattle.std.proofs.Common.{◌≡◌, ℕ, ◌-◌, ◌<◌, ◌≤◌, ◌^◌, true, List, [], ◌∷◌, ◌++◌, length, Some, None, arith, refl, sym, ◌∙◌, ap, subst, inl}
+use Rattle.std.specs.Prelude.{slice_get}
+use Rattle.std.specs.List.{flat_map, range_with_len}
 use Rattle.std.proofs.lemmas.Option.{slice_get_past}
 use Rattle.bdb_graph.specs.Linked.{HasMetadata, IsForest}
 use Rattle.bdb_graph.proofs.LinkedLemmas.{root_fits}
@@ -16,8 +15,7 @@ use Rattle.bdb_format.specs.Digits.{number_in}
 use Rattle.bdb_format.specs.File.{File, file_of, page_at}
 use Rattle.bdb_format.specs.HeadOf.{head_of}
 use Rattle.bdb_format.specs.Leaves.{leaves}
-use Rattle.bdb_format.specs.Lists.{ListKey, NumberKey, get, is_key, is_record, listed_slot, page_records, queue_list, recno_list, record_number, slot_at}
-use Rattle.bdb_format.specs.Numbers.{has_bit}
+use Rattle.bdb_format.specs.Lists.{ListKey, NumberKey, get, listed_slot, page_records, queue_list, recno_list}
 use Rattle.bdb_format.specs.Page.{BtreeFields, Page, Queue, QueueFields}
 use Rattle.bdb_format.specs.Verdict.{structure_faults}
 use Rattle.bdb_format.specs.Flags.{is_recno}
@@ -63,25 +61,14 @@ past_records image meta number forest stage has recno past =
 abbrev Rows : Type 0
 Rows = List (ListKey × List ℕ)
 
-get_parts : (xs ys : Rows) (key : ListKey) → get (xs ++ ys) key ≡ get xs key ++ get ys key
-get_parts xs ys key =
-    ap (map (λ (entry : ListKey × List ℕ). entry.1)) (filter-append (λ (entry : ListKey × List ℕ). is_key entry.0 key) xs ys)
-    ∙ map-append (λ (entry : ListKey × List ℕ). entry.1) (filter (λ (entry : ListKey × List ℕ). is_key entry.0 key) xs) (filter (λ (entry : ListKey × List ℕ). is_key entry.0 key) ys)
-
 in_no_part : (f : ℕ → Rows) (xs : List ℕ) (key : ListKey) → ((x : ℕ) → get (f x) key ≡ []) → get (flat_map f xs) key ≡ []
 in_no_part f [] key none = refl
-in_no_part f (x ∷ xs) key none = get_parts (f x) (flat_map f xs) key ∙ (ap (λ (vs : List (List ℕ)). vs ++ get (flat_map f xs) key) (none x) ∙ in_no_part f xs key none)
+in_no_part f (x ∷ xs) key none =
+    get_append (f x) (flat_map f xs) key
+    ∙ (ap (λ (vs : List (List ℕ)). vs ++ get (flat_map f xs) key) (none x) ∙ in_no_part f xs key none)
 
 in_no_slot : (meta : QueueMeta) (p : ℕ) (records : List ℕ) (number : ℕ) → meta.current ≤ number → (slot : ℕ) → get (listed_slot meta p records slot) (NumberKey number) ≡ []
-in_no_slot meta p records number past slot = by_test (is_record meta p records slot) refl _
-  where
-    by_test : (b : Bool) → is_record meta p records slot ≡ b → (bytes : List ℕ) → get (cond b ((NumberKey (record_number meta p slot), bytes) ∷ []) []) (NumberKey number) ≡ []
-    by_test false same bytes = refl
-    by_test true same bytes =
-        let n : ℕ = record_number meta p slot in
-        let numbered : (nat_le meta.first n && nat_lt n meta.current) ≡ true = (and_parts (nat_le meta.first n && nat_lt n meta.current) (has_bit (slice_index records (slot_at meta slot)) 0x01) same).0 in
-        let below : n < meta.current = ltb-true n meta.current (and_parts (nat_le meta.first n) (nat_lt n meta.current) numbered).1 in
-        ap (λ b. map (λ (entry : ListKey × List ℕ). entry.1) (cond b ((NumberKey n, bytes) ∷ []) [])) (ne_eqb n number (λ is. omega arith))
+in_no_slot meta p records number past slot = grind (arith, nat_tests)
 
 in_no_page : (meta : QueueMeta) (p number : ℕ) (page : Page) → meta.current ≤ number → get (page_records meta p page) (NumberKey number) ≡ []
 in_no_page meta p number (Queue n records) past = in_no_part (listed_slot meta p records) (range_with_len 0 meta.per_page) (NumberKey number) (in_no_slot meta p records number past)

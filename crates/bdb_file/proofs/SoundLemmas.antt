@@ -1,7 +1,8 @@
 -- A database of a sound file has metadata that keeps every rule.
+use Rattle.bdb_format.proofs.ListLemmas.{only_member}
 use Rattle.std.proofs.Common.{◌≡◌, ℕ, ◌<◌, ◌≤◌, List, [], length, Option, Some, None, arith, refl, sym, ◌∙◌, ap, subst, inl, inr}
 use Rattle.std.specs.List.{Contains}
-use Rattle.std.proofs.lemmas.Bool.{cases_order}
+use Rattle.std.proofs.lemmas.Bool.{cases_lt}
 use Rattle.std.proofs.lemmas.List.{get_or_default}
 use Rattle.bdb_format.specs.declared.kinds.Fault.{Fault}
 use Rattle.bdb_format.specs.declared.metadata.BtreeMeta.{BtreeMeta}
@@ -13,7 +14,7 @@ use Rattle.bdb_format.specs.HeadOf.{head_of}
 use Rattle.bdb_format.specs.Master.{master_in, master_pairs, named_by}
 use Rattle.bdb_format.specs.Page.{Metadata, NoType, Page, Meta}
 use Rattle.bdb_format.specs.Verdict.{contents_faults, faults_of, structure_faults}
-use Rattle.bdb_format.proofs.MemberLemmas.{first_member, in_flat_map, is_empty, no_member, of_flat_map, of_map, member_cases}
+use Rattle.bdb_format.proofs.MemberLemmas.{first_member, in_flat_map, is_empty, no_member, of_flat_map, of_map}
 use Rattle.bdb_format.proofs.VerdictLemmas.{no_stage}
 use Rattle.bdb_graph.specs.Linked.{HasMetadata}
 use Rattle.bdb_graph.proofs.HeldLemmas.{last_page}
@@ -30,7 +31,7 @@ abbrev OnPage : File → Database → Type 0
 OnPage file database = (p : ℕ) × (page_at file p ≡ Meta database.fields)
 
 is_of_page : (page : Page) (fields : Metadata) → Contains (fields_in page) fields → page ≡ Meta fields
-is_of_page (Meta other) fields at = elim (member_cases other [] fields at) [ inl same ↦ ap (λ (f : Metadata). Meta f) same | inr later ↦ absurd (no_member [] fields refl later) ]
+is_of_page (Meta other) fields at = ap (λ (f : Metadata). Meta f) (only_member other fields at)
 is_of_page page fields at = absurd (no_member [] fields refl at)
 
 on_page : (file : File) (name : Option (List ℕ)) (names : Option ℕ) (database : Database) → Contains (database_on file name names) database → OnPage file database
@@ -51,10 +52,9 @@ on_some_page file database at = under_master file (master_in (page_at file 0)) d
 
 page_there : (image : List ℕ) (p : ℕ) (fields : Metadata) → page_at (file_of image) p ≡ Meta fields → p ≤ (file_of image).last
 page_there image p fields is =
-    elim (cases_order (head_of image).last p) [
-      | inl same ↦ omega (arith, last_page image)
-      | inr (inl past) ↦ let none : page_at (file_of image) p ≡ NoType = past_last image p past in absurd cc
-      | inr (inr below) ↦ omega (arith, last_page image)
+    elim (cases_lt (head_of image).last p) [
+      | inl past ↦ let none : page_at (file_of image) p ≡ NoType = past_last image p past in absurd cc
+      | inr low ↦ omega (arith, last_page image)
     ]
 
 at_place : (image : List ℕ) (i : ℕ) → i < length (databases (file_of image)) → HasMetadata (file_of image) (database_at (file_of image) i).fields

@@ -1,17 +1,11 @@
 -- The live pairs of a master as the code keeps them, and the faults of stage 7 that they give. Source: docs/FORMAT.md, "Stage 7, the master".
-use Rattle.std.specs.Prelude.{◌≡◌, ℕ, ◌+◌, ◌<◌, nat_lt, ◌==◌, min, if◌then◌else◌, Bool, List, [], ◌∷◌, map, length, take, drop, reverse, get_or, Option, Some, None}
-use Rattle.std.specs.BTreeSet.{BTreeSet, contains}
-use Rattle.std.specs.Cmp.Lexicographic.{slice_cmp}
-use Rattle.std.specs.List.{filter, fold, list_any}
-use Rattle.std.specs.Ordering.{nat_cmp}
-use Rattle.std.specs.Str.{bytes_eq}
+use Rattle.std.specs.Prelude.{◌≡◌, ℕ, ◌+◌, ◌<◌, nat_lt, ◌==◌, min, if◌then◌else◌, List, [], ◌∷◌, map, length, get_or, Option, Some, None}
+use Rattle.std.specs.List.{filter}
 use Rattle.bdb_format.specs.declared.kinds.Fault.{Fault}
 use Rattle.bdb_format.specs.Contents.{StoredPair}
 use Rattle.bdb_format.specs.File.{File}
 use Rattle.bdb_btree.specs.ToldPair.{ToldPair}
 use Rattle.bdb_format.specs.Master.{is_named_kind, is_page, master_pairs, named_by, page_named}
-use Rattle.bdb_file.specs.Merged.{earlier}
-use Rattle.bdb_file.specs.Noted.{noting}
 
 -- a live pair: its leaf, its key, and the page that it names
 pub record NamedPair : Type 0 where
@@ -61,16 +55,15 @@ entries_naming p entries = filter (λ (entry : NamedPair). is_page entry.names p
 abbrev pub naming_fault : List NamedPair → ℕ → Option Fault
 naming_fault entries p = count_fault p (length (entries_naming p entries))
 
--- NameTwice: the pairs that have the key of one of these or of an earlier one
-abbrev pub repeated_entries : List NamedPair → List NamedPair → List NamedPair
-repeated_entries before [] = []
-repeated_entries before (entry ∷ entries) =
-    if list_any (λ (other : NamedPair). bytes_eq other.key entry.key) before
-    then entry ∷ repeated_entries (entry ∷ before) entries
-    else repeated_entries (entry ∷ before) entries
+-- NameTwice: the pairs that have the key of an earlier one
+abbrev pub key_of : NamedPair → List ℕ
+key_of entry = entry.key
+
+abbrev pub repeat_of : NamedPair → Fault
+repeat_of entry = fault_at entry.page 4
 
 abbrev pub repeat_fault : NamedPair → Option Fault
-repeat_fault entry = Some (fault_at entry.page 4)
+repeat_fault entry = Some (repeat_of entry)
 
 -- How the code goes through them.
 
@@ -82,12 +75,3 @@ one_more n = min 2 (n + 1)
 pub record AreCounts (counts : List ℕ) (n : ℕ) (entries : List NamedPair) : Type 0 where
   pub len : length counts ≡ n
   pub each : (p : ℕ) → p < n → get_or counts p 0 ≡ min 2 (length (entries_naming p entries))
-
--- the fault of a pair, unless its key is new
-abbrev pub repeat_noted : Bool → Option Fault → ℕ → Option Fault
-repeat_noted is_new least page = if is_new then least else earlier least (Some (fault_at page 4))
-
--- the keys are those of the pairs before one, and the pairs before it are noted
-pub record IsNoted (least : Option Fault) (keys : BTreeSet (List ℕ)) (entries : List NamedPair) (i : ℕ) : Type 0 where
-  pub keys_are : (key : List ℕ) → contains (slice_cmp nat_cmp) keys key ≡ list_any (λ (other : NamedPair). bytes_eq other.key key) (reverse (take i entries))
-  pub noted : fold (noting repeat_fault) least (repeated_entries (reverse (take i entries)) (drop i entries)) ≡ fold (noting repeat_fault) None (repeated_entries [] entries)

@@ -8,7 +8,7 @@ use Rattle.bdb_format.specs.ContentRows.{database_faults}
 use Rattle.bdb_format.specs.File.{File, page_at}
 use Rattle.bdb_format.specs.Page.{Page, Meta}
 use Rattle.bdb_format.specs.Verdict.{first_fault}
-use Rattle.bdb_file.specs.Merged.{earlier}
+use Rattle.bdb_overflow.specs.Earlier.{earlier}
 
 -- the earlier of a fault and of what one more item gives
 abbrev pub noting : {X : Type 0} → (X → Option Fault) → Option Fault → X → Option Fault

@@ -7,9 +7,10 @@ ghost use Rattle.bdb_format.specs.ContentRows.{database_faults};
 ghost use Rattle.bdb_format.specs.File.{file_of, page_at};
 ghost use Rattle.bdb_format.specs.Page.{BtreeFields, HashFields, Meta as MetaPage};
 
-use crate::merged::{earlier, refused};
+use crate::merged::refused;
 use bdb_format::{BtreeMeta, CheckError, Fault, HashMeta};
 use bdb_graph::{Linked, Meta};
+use bdb_overflow::earlier;
 use std::alloc::Global;
 
 /// The first fault of what a tree holds, of pairs or of records, if there is one. An error is want of memory.

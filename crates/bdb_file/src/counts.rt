@@ -6,9 +6,9 @@ ghost use Rattle.bdb_graph.specs.Linked.{meta_pages};
 ghost use Rattle.bdb_format.specs.File.{file_of};
 
 use crate::entry::Entry;
-use crate::merged::earlier;
 use bdb_format::Fault;
 use bdb_graph::Linked;
+use bdb_overflow::earlier;
 use std::alloc::{AllocError, Global};
 
 /// One more pair that names a page; a third counts as a second.

@@ -10,7 +10,6 @@ ghost use Rattle.bdb_format.specs.Page.{Meta as MetaPage};
 ghost use Rattle.bdb_format.specs.Verdict.{structure_faults};
 ghost use Rattle.bdb_overflow.specs.Datum.{datum_seen};
 
-use crate::key::Key;
 use bdb_btree::{LeafPair, LeafPairs, pairs};
 use bdb_format::{BtreeMeta, Bytes, Order};
 use bdb_graph::{Linked, Meta};
@@ -78,10 +77,10 @@ impl<'a> Entry<'a> {
         self.page
     }
 
-    pub(crate) fn key(&self) -> Key<'a>
-        ensures { result ≡ self.now.key }
+    pub(crate) fn key(&self) -> Datum<'a>
+        ensures { datum_seen result ≡ self.now.key }
     {
-        Key::of(self.key.again())
+        self.key.again()
     }
 
     /// The bytes of the key in a list of their own. An error is want of memory.

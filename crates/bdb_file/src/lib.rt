@@ -5,9 +5,7 @@ mod check;
 mod contents;
 mod counts;
 mod db;
-mod digits;
 mod entry;
-mod key;
 pub mod laws;
 mod listing;
 mod lookup;
@@ -24,7 +22,6 @@ mod verdict;
 
 pub use check::check_file;
 pub use db::Db;
-pub use digits::number_in;
 pub use listing::Scan;
 pub use lookup::Found;
 pub use sound::Sound;

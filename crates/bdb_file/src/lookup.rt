@@ -11,8 +11,7 @@ ghost use Rattle.bdb_format.specs.Verdict.{structure_faults};
 ghost use Rattle.bdb_format.specs.Flags.{is_recno};
 ghost use Rattle.bdb_overflow.specs.Datum.{datum_seen};
 
-use crate::digits::number_in;
-use bdb_format::{BtreeMeta, QueueMeta, Steps};
+use bdb_format::{BtreeMeta, QueueMeta, Steps, number_in};
 use bdb_graph::{Linked, Meta};
 use bdb_overflow::Datum;
 use std::marker::Model;

@@ -8,7 +8,7 @@ ghost use Rattle.std.specs.List.{flat_map};
 ghost use Rattle.bdb_format.specs.File.{file_of};
 ghost use Rattle.bdb_format.specs.Verdict.{master_faults, structure_faults};
 
-use crate::entry::{Entry, master_entries, master_of};
+use crate::entry::{Entry, master_of};
 use bdb_format::Bytes;
 use bdb_graph::{Linked, Meta};
 use std::alloc::{AllocError, Global};
@@ -97,14 +97,15 @@ fn push_named(
     alloc: Global,
     databases: &mut Vec<NamedMeta>,
     linked: &Linked<'_>,
+    entries: &[Entry<'_>],
 ) -> Result<(), AllocError>
     requires structure { structure_faults (file_of linked.now) ≡ [] }
+    requires entries { entries.now ≡ master_entries (file_of linked.now) }
     requires master { master_faults (file_of linked.now) ≡ [] }
     ensures { OnOk result (databases.new.items ≡ databases.old.items ++ flat_map (entry_database (file_of linked.now)) (master_entries (file_of linked.now))) }
 {
     linked.head();
-    let entries = master_entries(alloc, linked)?;
-    for entry in &entries {
+    for entry in entries {
         push_entry(alloc, databases, linked, entry)?;
     }
     Ok(())
@@ -113,14 +114,19 @@ fn push_named(
 /// The databases of a file without a fault of stages 6 and 7: those that its master names, in the order of its
 /// list, or the one on page 0, which has no name. An error is want of memory.
 #[tactic(auto, using(crate::proofs::NamedLemmas::all_named, crate::proofs::NamedLemmas::one_unnamed))]
-pub(crate) fn databases_of(alloc: Global, linked: &Linked<'_>) -> Result<Vec<NamedMeta>, AllocError>
+pub(crate) fn databases_of(
+    alloc: Global,
+    linked: &Linked<'_>,
+    entries: &[Entry<'_>],
+) -> Result<Vec<NamedMeta>, AllocError>
     requires structure { structure_faults (file_of linked.now) ≡ [] }
+    requires entries { entries.now ≡ master_entries (file_of linked.now) }
     requires master { master_faults (file_of linked.now) ≡ [] }
     ensures { IfOk result (λ all. all.items ≡ databases (file_of linked.now)) }
 {
     let mut databases = Vec::new(alloc);
     match master_of(linked) {
-        Some(_) => push_named(alloc, &mut databases, linked)?,
+        Some(_) => push_named(alloc, &mut databases, linked, entries)?,
         None => push_on(&mut databases, linked, None, 0)?,
     }
     Ok(databases)

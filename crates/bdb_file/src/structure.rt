@@ -3,10 +3,10 @@ ghost use Rattle.bdb_file.specs.Noted.{IsMemory};
 ghost use Rattle.bdb_format.specs.File.{file_of};
 ghost use Rattle.bdb_format.specs.Verdict.{chain_faults, structure_faults, tree_faults, first_fault, IsFirstOf};
 
-use crate::merged::{earlier, refused};
+use crate::merged::refused;
 use bdb_format::{CheckError, Fault};
 use bdb_graph::Linked;
-use bdb_overflow::check_chains;
+use bdb_overflow::{check_chains, earlier};
 use bdb_tree::check_trees;
 use std::alloc::Global;
 

@@ -7,10 +7,10 @@ ghost use Rattle.bdb_format.specs.File.{file_of};
 ghost use Rattle.bdb_format.specs.Graph.{is_meta};
 
 use crate::entry::Entry;
-use crate::merged::earlier;
 use bdb_form::PageView;
 use bdb_format::Fault;
 use bdb_graph::Linked;
+use bdb_overflow::earlier;
 
 fn is_meta(view: &PageView<'_>) -> bool
     ensures { result ≡ is_meta (page_seen view.now) }

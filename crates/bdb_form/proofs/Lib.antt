@@ -1,2 +1,3 @@
 pub mod FormedLemmas
 pub mod SlotLemmas
+pub mod WalkLemmas

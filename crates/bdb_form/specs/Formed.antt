@@ -1,9 +1,9 @@
 -- What a view keeps of its page, and what callers see of the views that are no list of items.
-use Rattle.std.specs.Prelude.{◌≡◌, ◌≤◌, ◌+◌, ◌*◌, ℕ, zero, suc, false, Bool, ◌==◌, List, length, slice_index, Option, Some, None, Result, Ok, Err}
+use Rattle.std.specs.Prelude.{◌≡◌, ◌≤◌, ◌+◌, ℕ, List, length, Option, Some, None, Result, Ok, Err}
 use Rattle.bdb_format.specs.declared.kinds.Order.{Order}
 use Rattle.bdb_format.specs.declared.pages.Header.{Header}
 use Rattle.bdb_format.specs.Numbers.{two_at}
-use Rattle.bdb_format.specs.Page.{PageType, Metadata, BtreeFields, HashFields, QueueFields, HashMetaPage, QueueMetaPage, Listed}
+use Rattle.bdb_format.specs.Page.{PageType, Metadata, BtreeFields, HashFields, QueueFields, HashMetaPage, QueueMetaPage}
 use Rattle.bdb_format.specs.Reading.{hash_fields, btree_fields, queue_fields}
 use Rattle.bdb_format.specs.Rows.{listed_code}
 
@@ -49,8 +49,3 @@ fields_as order page t = BtreeFields (btree_fields order page)
 abbrev pub unless : {T : Type 0} → Option ℕ → T → Result T ℕ
 unless None value = Ok value
 unless (Some code) value = Err code
-
--- pair i has the key offset of pair i - 1
-abbrev pub shares_at : {I : Type 0} → Listed I → ℕ → Bool
-shares_at leaf zero = false
-shares_at leaf (suc i) = slice_index leaf.offsets (2 * suc i) == slice_index leaf.offsets (2 * i)

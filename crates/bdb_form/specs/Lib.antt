@@ -1,3 +1,3 @@
 pub mod Formed
-pub mod Indexed
+pub mod Pairs
 pub mod Seen

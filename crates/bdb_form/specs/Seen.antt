@@ -4,7 +4,8 @@ use Rattle.bdb_form.specs.declared.view.PageView.{PageView}
 use Rattle.bdb_form.specs.declared.view.PageView.TheVariants.{Zero, Free, Meta, Leaf, Internal, RecnoLeaf, RecnoInternal, DupLeaf, Hash, Overflow, Queue}
 use Rattle.bdb_format.specs.declared.pages.Header.{Header}
 use Rattle.bdb_format.specs.File.{no_header}
-use Rattle.bdb_format.specs.Page.{Page, Zero as ZeroPage, Free as FreePage, Meta as AnyMeta, Leaf as AnyLeaf, Internal as AnyInternal, RecnoLeaf as AnyRecnoLeaf, RecnoInternal as AnyRecnoInternal, DupLeaf as AnyDupLeaf, Hash as AnyHash, Overflow as AnyOverflow, Queue as AnyQueue}
+use Rattle.bdb_format.specs.Page.{Page, Zero as ZeroPage, Free as FreePage, Meta as AnyMeta, Leaf as AnyLeaf, Internal as AnyInternal}
+use Rattle.bdb_format.specs.Page.{RecnoLeaf as AnyRecnoLeaf, RecnoInternal as AnyRecnoInternal, DupLeaf as AnyDupLeaf, Hash as AnyHash, Overflow as AnyOverflow, Queue as AnyQueue}
 
 abbrev pub page_seen : PageView → Page
 page_seen (Zero view) = ZeroPage

@@ -1,81 +1,52 @@
-ghost use Rattle.std.specs.Prelude.{◌≡◌, ◌<◌, ◌≤◌, length, slice_get, Some, None};
-ghost use Rattle.bdb_form.specs.Formed.{unless};
-ghost use Rattle.bdb_layout.specs.Seen.{leaf_item_seen};
 ghost use Rattle.bdb_format.specs.Page.{DupLeafPage};
-ghost use Rattle.bdb_format.specs.Reading.{listed, leaf_item_at};
-ghost use Rattle.bdb_format.specs.Rows.{listed_code};
+ghost use Rattle.bdb_format.specs.Reading.{leaf_item_at};
+ghost use Rattle.bdb_layout.specs.Seen.{leaf_item_seen};
 
-use crate::index::{Indexed, listed_code};
+use crate::{IndexedView, ItemKind, PageKind};
 use bdb_format::Order;
-use bdb_layout::{Header, LeafItem, header, leaf_item, u16_at};
+use bdb_layout::{ItemFault, LeafItem, known_leaf_item, leaf_fault};
 use std::marker::Model;
 
 /// A leaf of a tree of sorted duplicates.
+pub type DupLeafView<'a> = IndexedView<'a, DupLeafKind>;
+
+/// The leaves of a tree of sorted duplicates.
 #[derive(Drop)]
-pub struct DupLeafView<'a> {
-    page: &'a [u8],
-    order: Order,
-}
+pub struct DupLeafKind;
 
-impl<'a> Model for DupLeafView<'a> {
-    ghost use Rattle.bdb_form.specs.Formed.{IsListed};
-    ghost use Rattle.bdb_format.specs.Page.{Listed, DupLeafPage};
+impl Model for DupLeafKind {
     ghost use Rattle.bdb_format.specs.Page.{Item};
-    ghost use Rattle.bdb_format.specs.Reading.{listed, leaf_item_at};
+    ghost use Rattle.bdb_format.specs.References.{no_item};
 
-    ghost Value = { Listed Item };
+    ghost Value = { Item };
 
-    ghost view = { λ v. listed v.order v.page.now (leaf_item_at v.order v.page.now) };
-
-    ghost invariant = { λ v. IsListed DupLeafPage v.order v.page.now };
+    ghost view = { λ _. no_item };
 }
 
-#[tactic(auto, using(bdb_format::proofs::PageLemmas::header_listed, bdb_format::proofs::PageLemmas::length_items, bdb_format::proofs::PageLemmas::get_item, crate::proofs::FormedLemmas::listed_room, crate::proofs::FormedLemmas::whole_item))]
-impl<'a> DupLeafView<'a> {
-    // The view of a page of this type for which no row of form holds.
-    pub(crate) fn over(page: &'a [u8], order: Order) -> DupLeafView<'a>
-        requires header { 26 ≤ length page.now }
-        requires size { length page.now ≤ 32768 }
-        requires formed { listed_code order page.now DupLeafPage ≡ None }
-        ensures { result ≡ listed order page.now (leaf_item_at order page.now) }
-    {
-        DupLeafView { page, order }
+impl PageKind for DupLeafKind {
+    ghost page_type = { DupLeafPage };
+
+    ghost item_at = { leaf_item_at };
+
+    fn is_wrong_level(level: u8) -> bool {
+        level != 1
     }
 
-    // The view of a page of this type, or the code of the first row of form that holds for it.
-    pub(crate) fn parse(page: &'a [u8], order: Order) -> Result<DupLeafView<'a>, u8>
-        requires header { 26 ≤ length page.now }
-        requires size { length page.now ≤ 32768 }
-        ensures { result ≡ unless (listed_code order page.now DupLeafPage) (listed order page.now (leaf_item_at order page.now)) }
-    {
-        match listed_code(page, order, Indexed::DupLeaf) {
-            Some(code) => Err(code),
-            None => Ok(DupLeafView::over(page, order)),
-        }
+    fn is_wrong_entry_count(_entries: u16) -> bool {
+        false
     }
 
-    /// The fields of the page's header.
-    pub fn header(&self) -> Header
-        ensures { result ≡ self.now.header }
-    {
-        header(self.page, self.order)
+    fn item_fault(page: &[u8], order: Order, index: u16) -> Option<ItemFault> {
+        leaf_fault(page, order, index)
     }
+}
 
-    /// How many entries there are, deleted ones too.
-    pub fn entries(&self) -> u16
-        ensures { result ≡ length self.now.items }
-    {
-        u16_at(self.page, 20, self.order)
-    }
+impl<'a> ItemKind<'a> for DupLeafKind {
+    type Item = LeafItem<'a>;
 
-    /// The item of an entry.
-    pub fn item(&self, i: u16) -> LeafItem<'a>
-        requires { i < length self.now.items }
-        ensures { slice_get self.now.items i ≡ Some (leaf_item_seen result) }
-    {
-        match leaf_item(self.page, self.order, i) {
-            Ok(item) => item,
-            Err(_) => unreachable!(),
-        }
+    ghost item_seen = { leaf_item_seen };
+
+    fn known_item(page: &'a [u8], order: Order, index: u16) -> LeafItem<'a> {
+        known_leaf_item(page, order, index)
     }
 }

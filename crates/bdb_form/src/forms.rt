@@ -3,32 +3,71 @@ ghost use Rattle.bdb_form.specs.Formed.{unless};
 ghost use Rattle.bdb_form.specs.Seen.{form_seen, header_seen, page_seen};
 ghost use Rattle.bdb_format.specs.HeadOf.{is_page_size};
 ghost use Rattle.bdb_format.specs.Numbers.{byte_at};
+ghost use Rattle.bdb_format.specs.Page.{OverflowPage};
 ghost use Rattle.bdb_format.specs.Reading.{abstract_page, header_of, is_zero, page_as, page_type};
 ghost use Rattle.bdb_format.specs.Rows.{body_code, identity_rows, is_queue_type, is_tree_type, page_code, queue_code};
 ghost use Rattle.bdb_format.specs.Table.{first_row};
 
+use crate::codes::listed_code;
 use crate::{
-    DupLeafView, FreeView, HashView, InternalView, LeafView, MetaView, OverflowView, PageView,
-    QueueView, RecnoInternalView, RecnoLeafView, ZeroView,
+    DupLeafKind, FreeView, HashKind, IndexedView, InternalKind, LeafKind, MetaView, OverflowView,
+    PageView, QueueView, RecnoInternalKind, RecnoLeafKind, ZeroView,
 };
 use bdb_format::Order;
-use bdb_layout::u32_at;
+use bdb_layout::{u16_at, u32_at};
 
 /// A page above 0 of a btree or hash file as the view of its type, or the code of the first row of form
 /// that holds for it. Of a metadata page only the number is looked at: its rows are those of `bdb_meta`.
-#[tactic(auto, using(bdb_format::proofs::PageLemmas::zero_header), unfolding(bdb_format::specs::Rows::page_code, bdb_format::specs::Reading::abstract_page))]
+#[tactic(auto)]
 pub fn form(page: &[u8], number: u32, order: Order) -> Result<PageView<'_>, u8>
     requires { IsTrue (is_page_size (length page.now)) }
     ensures page { form_seen result ≡ unless (page_code order number page.now) (abstract_page order page.now) }
     ensures header { IfOk result (λ view. header_seen view ≡ header_of order page.now) }
 {
+    match page_code(page, number, order) {
+        Some(code) => Err(code),
+        None => Ok(known_form(page, number, order)),
+    }
+}
+
+/// A page above 0 of a queue file as its view, or the code of the first row of form that holds for it.
+#[tactic(auto)]
+pub fn queue_form(page: &[u8], number: u32, order: Order) -> Result<PageView<'_>, u8>
+    requires { IsTrue (is_page_size (length page.now)) }
+    ensures page { form_seen result ≡ unless (queue_code order number page.now) (abstract_page order page.now) }
+    ensures header { IfOk result (λ view. header_seen view ≡ header_of order page.now) }
+{
+    match queue_code(page, number, order) {
+        Some(code) => Err(code),
+        None => Ok(known_queue_form(page, number, order)),
+    }
+}
+
+/// The code of the first row of form that holds for a page above 0 of a btree or hash file, if one does.
+#[tactic(auto, unfolding(bdb_format::specs::Rows::page_code))]
+pub fn page_code(page: &[u8], number: u32, order: Order) -> Option<u8>
+    requires { IsTrue (is_page_size (length page.now)) }
+    ensures { result ≡ page_code order number page.now }
+{
     if is_zero(page) {
-        return Ok(PageView::Zero(ZeroView));
+        return None;
     }
-    if let Some(code) = tree_identity(page, number, order) {
-        return Err(code);
+    match tree_identity(page, number, order) {
+        Some(code) => Some(code),
+        None => body_code(page, order),
     }
-    typed(page, order)
+}
+
+/// The code of the first row of form that holds for a page above 0 of a queue file, if one does.
+#[tactic(auto, unfolding(bdb_format::specs::Rows::queue_code))]
+pub fn queue_code(page: &[u8], number: u32, order: Order) -> Option<u8>
+    requires { IsTrue (is_page_size (length page.now)) }
+    ensures { result ≡ queue_code order number page.now }
+{
+    if is_zero(page) {
+        return None;
+    }
+    queue_identity(page, number, order)
 }
 
 /// The view of a page above 0 of a btree or hash file for which no row of form is known to hold, without
@@ -62,26 +101,13 @@ pub fn known_queue_form(page: &[u8], number: u32, order: Order) -> PageView<'_>
     PageView::Queue(QueueView::over(page, order))
 }
 
-/// A page above 0 of a queue file as its view, or the code of the first row of form that holds for it.
-#[tactic(auto, using(bdb_format::proofs::PageLemmas::zero_header), unfolding(bdb_format::specs::Rows::queue_code, bdb_format::specs::Reading::abstract_page))]
-pub fn queue_form(page: &[u8], number: u32, order: Order) -> Result<PageView<'_>, u8>
-    requires { IsTrue (is_page_size (length page.now)) }
-    ensures page { form_seen result ≡ unless (queue_code order number page.now) (abstract_page order page.now) }
-    ensures header { IfOk result (λ view. header_seen view ≡ header_of order page.now) }
-{
-    if is_zero(page) {
-        return Ok(PageView::Zero(ZeroView));
-    }
-    if let Some(code) = queue_identity(page, number, order) {
-        return Err(code);
-    }
-    Ok(PageView::Queue(QueueView::over(page, order)))
-}
-
+// Whether all bytes are 0. The type of most pages tells that at a glance.
+#[tactic(auto, using(crate::proofs::FormedLemmas::zero_type))]
 fn is_zero(page: &[u8]) -> bool
+    requires { 26 ≤ length page.now }
     ensures { result ≡ is_zero page.now }
 {
-    page.iter().all(|byte| *byte == 0)
+    page[25] == 0 && page.iter().all(|byte| *byte == 0)
 }
 
 // The code of the first row that holds of those on the number and the type of a page.
@@ -111,30 +137,39 @@ fn queue_identity(page: &[u8], number: u32, order: Order) -> Option<u8>
     None
 }
 
-// The view of a page whose type is one of a btree or hash file.
-#[tactic(auto, using(crate::proofs::FormedLemmas::header_parsed))]
-fn typed(page: &[u8], order: Order) -> Result<PageView<'_>, u8>
+// The code of the row that holds for a page of a type of a btree or hash file, its number and type aside.
+fn body_code(page: &[u8], order: Order) -> Option<u8>
     requires header { 26 ≤ length page.now }
     requires size { length page.now ≤ 32768 }
     requires of_tree { IsTrue (is_tree_type (byte_at page.now 25)) }
-    ensures page { form_seen result ≡ unless (body_code order page.now (page_type (byte_at page.now 25))) (page_as order page.now (page_type (byte_at page.now 25))) }
-    ensures header { IfOk result (λ view. header_seen view ≡ header_of order page.now) }
+    ensures { result ≡ body_code order page.now (page_type (byte_at page.now 25)) }
 {
     match page[25] {
-        0 => Ok(PageView::Free(FreeView::over(page, order))),
-        3 => Ok(PageView::Internal(InternalView::parse(page, order)?)),
-        4 => Ok(PageView::RecnoInternal(RecnoInternalView::parse(page, order)?)),
-        5 => Ok(PageView::Leaf(LeafView::parse(page, order)?)),
-        6 => Ok(PageView::RecnoLeaf(RecnoLeafView::parse(page, order)?)),
-        7 => Ok(PageView::Overflow(OverflowView::parse(page, order)?)),
-        8 | 9 => Ok(PageView::Meta(MetaView::over(page, order))),
-        12 => Ok(PageView::DupLeaf(DupLeafView::parse(page, order)?)),
-        _ => Ok(PageView::Hash(HashView::parse(page, order)?)),
+        0 | 8 | 9 => None,
+        3 => listed_code::<InternalKind>(page, order),
+        4 => listed_code::<RecnoInternalKind>(page, order),
+        5 => listed_code::<LeafKind>(page, order),
+        6 => listed_code::<RecnoLeafKind>(page, order),
+        7 => data_code(page, order),
+        12 => listed_code::<DupLeafKind>(page, order),
+        _ => listed_code::<HashKind>(page, order),
+    }
+}
+
+// The code of the row that holds for an overflow page whose data don't lie on it.
+fn data_code(page: &[u8], order: Order) -> Option<u8>
+    requires { 26 ≤ length page.now }
+    ensures { result ≡ body_code order page.now OverflowPage }
+{
+    if page.len() < 26 + usize::from(u16_at(page, 22, order)) {
+        Some(25)
+    } else {
+        None
     }
 }
 
 // The view of a page of a known type, for which no row of form holds.
-#[tactic(auto, using(crate::proofs::FormedLemmas::holds_data, crate::proofs::FormedLemmas::header_over))]
+#[tactic(auto, using(crate::proofs::FormedLemmas::holds_data))]
 fn known_type(page: &[u8], order: Order) -> PageView<'_>
     requires header { 26 ≤ length page.now }
     requires size { length page.now ≤ 32768 }
@@ -145,13 +180,13 @@ fn known_type(page: &[u8], order: Order) -> PageView<'_>
 {
     match page[25] {
         0 => PageView::Free(FreeView::over(page, order)),
-        3 => PageView::Internal(InternalView::over(page, order)),
-        4 => PageView::RecnoInternal(RecnoInternalView::over(page, order)),
-        5 => PageView::Leaf(LeafView::over(page, order)),
-        6 => PageView::RecnoLeaf(RecnoLeafView::over(page, order)),
+        3 => PageView::Internal(IndexedView::over(page, order)),
+        4 => PageView::RecnoInternal(IndexedView::over(page, order)),
+        5 => PageView::Leaf(IndexedView::over(page, order)),
+        6 => PageView::RecnoLeaf(IndexedView::over(page, order)),
         7 => PageView::Overflow(OverflowView::over(page, order)),
         8 | 9 => PageView::Meta(MetaView::over(page, order)),
-        12 => PageView::DupLeaf(DupLeafView::over(page, order)),
-        _ => PageView::Hash(HashView::over(page, order)),
+        12 => PageView::DupLeaf(IndexedView::over(page, order)),
+        _ => PageView::Hash(IndexedView::over(page, order)),
     }
 }

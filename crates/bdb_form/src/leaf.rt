@@ -1,112 +1,65 @@
-ghost use Rattle.std.specs.Prelude.{◌≡◌, ◌+◌, ◌*◌, ◌<◌, ◌≤◌, length, slice_get, slice_index, Some, None};
-ghost use Rattle.bdb_form.specs.Formed.{shares_at, unless};
-ghost use Rattle.bdb_layout.specs.Seen.{leaf_item_seen};
 ghost use Rattle.bdb_format.specs.Page.{LeafPage};
-ghost use Rattle.bdb_format.specs.Reading.{listed, leaf_item_at};
-ghost use Rattle.bdb_format.specs.Rows.{listed_code};
+ghost use Rattle.bdb_format.specs.Reading.{leaf_item_at};
+ghost use Rattle.bdb_layout.specs.Seen.{leaf_item_seen};
 
-use crate::index::{Indexed, listed_code};
+use crate::{IndexedView, ItemKind, PageKind, PairKind};
 use bdb_format::Order;
-use bdb_layout::{Header, LeafItem, header, leaf_item, u16_at};
+use bdb_layout::{ItemFault, LeafItem, known_leaf_item, leaf_fault};
 use std::marker::Model;
 
 /// A leaf of a btree: pairs of a key and its data.
+pub type LeafView<'a> = IndexedView<'a, LeafKind>;
+
+/// The leaves of a btree.
 #[derive(Drop)]
-pub struct LeafView<'a> {
-    page: &'a [u8],
-    order: Order,
+pub struct LeafKind;
+
+impl Model for LeafKind {
+    ghost use Rattle.bdb_format.specs.Page.{Item};
+    ghost use Rattle.bdb_format.specs.References.{no_item};
+
+    ghost Value = { Item };
+
+    ghost view = { λ _. no_item };
 }
 
-impl<'a> Model for LeafView<'a> {
-    ghost use Rattle.bdb_form.specs.Formed.{IsListed};
-    ghost use Rattle.bdb_format.specs.Page.{Item, Listed, LeafPage};
-    ghost use Rattle.bdb_format.specs.Reading.{listed, leaf_item_at};
+impl PageKind for LeafKind {
+    ghost page_type = { LeafPage };
 
-    ghost Value = { Listed Item };
+    ghost item_at = { leaf_item_at };
 
-    ghost view = { λ v. listed v.order v.page.now (leaf_item_at v.order v.page.now) };
+    fn is_wrong_level(level: u8) -> bool {
+        level != 1
+    }
 
-    ghost invariant = { λ v. IsListed LeafPage v.order v.page.now };
+    fn is_wrong_entry_count(entries: u16) -> bool {
+        entries % 2 == 1
+    }
+
+    fn item_fault(page: &[u8], order: Order, index: u16) -> Option<ItemFault> {
+        leaf_fault(page, order, index)
+    }
 }
 
-#[tactic(auto, using(bdb_format::proofs::PageLemmas::header_listed, bdb_format::proofs::PageLemmas::length_items, bdb_format::proofs::PageLemmas::get_item, bdb_format::proofs::PageLemmas::index_offset, crate::proofs::FormedLemmas::listed_room, crate::proofs::FormedLemmas::listed_even, crate::proofs::FormedLemmas::whole_item))]
-impl<'a> LeafView<'a> {
-    // The view of a page of this type for which no row of form holds.
-    pub(crate) fn over(page: &'a [u8], order: Order) -> LeafView<'a>
-        requires header { 26 ≤ length page.now }
-        requires size { length page.now ≤ 32768 }
-        requires formed { listed_code order page.now LeafPage ≡ None }
-        ensures { result ≡ listed order page.now (leaf_item_at order page.now) }
-    {
-        LeafView { page, order }
-    }
+impl<'a> ItemKind<'a> for LeafKind {
+    type Item = LeafItem<'a>;
 
-    // The view of a page of this type, or the code of the first row of form that holds for it.
-    pub(crate) fn parse(page: &'a [u8], order: Order) -> Result<LeafView<'a>, u8>
-        requires header { 26 ≤ length page.now }
-        requires size { length page.now ≤ 32768 }
-        ensures { result ≡ unless (listed_code order page.now LeafPage) (listed order page.now (leaf_item_at order page.now)) }
-    {
-        match listed_code(page, order, Indexed::Leaf) {
-            Some(code) => Err(code),
-            None => Ok(LeafView::over(page, order)),
-        }
-    }
+    ghost item_seen = { leaf_item_seen };
 
-    /// The fields of the page's header.
-    pub fn header(&self) -> Header
-        ensures { result ≡ self.now.header }
-    {
-        header(self.page, self.order)
+    fn known_item(page: &'a [u8], order: Order, index: u16) -> LeafItem<'a> {
+        known_leaf_item(page, order, index)
     }
+}
 
-    /// How many pairs there are.
-    pub fn pairs(&self) -> u16
-        ensures { 2 * result ≡ length self.now.items }
-    {
-        u16_at(self.page, 20, self.order) / 2
-    }
+impl PairKind for LeafKind {
+    ghost use Rattle.std.specs.Prelude.{refl, true};
+    ghost use Rattle.bdb_format.specs.References.{no_item};
 
-    /// The key of a pair.
-    pub fn key(&self, i: u16) -> LeafItem<'a>
-        requires { 2 * i < length self.now.items }
-        ensures { slice_get self.now.items (2 * i) ≡ Some (leaf_item_seen result) }
-    {
-        self.item(2 * usize::from(i))
-    }
+    const SHARES: bool = true;
 
-    /// The data of a pair.
-    pub fn value(&self, i: u16) -> LeafItem<'a>
-        requires { 2 * i + 1 < length self.now.items }
-        ensures { slice_get self.now.items (2 * i + 1) ≡ Some (leaf_item_seen result) }
-    {
-        self.item(2 * usize::from(i) + 1)
-    }
+    ghost SHARES = { true };
 
-    /// Whether a pair has the key of the pair before it: both entries of the index name one offset.
-    pub fn shares(&self, i: u16) -> bool
-        requires { 2 * i < length self.now.items }
-        ensures { result ≡ shares_at self.now i }
-    {
-        let i = usize::from(i);
-        i > 0 && self.offset(2 * i) == self.offset(2 * i - 2)
-    }
+    ghost no_item = { no_item };
 
-    // An entry of the index.
-    fn offset(&self, index: usize) -> u16
-        requires { index < length self.now.items }
-        ensures { result ≡ slice_index self.now.offsets index }
-    {
-        u16_at(self.page, 26 + 2 * index, self.order)
-    }
-
-    fn item(&self, index: usize) -> LeafItem<'a>
-        requires { index < length self.now.items }
-        ensures { slice_get self.now.items index ≡ Some (leaf_item_seen result) }
-    {
-        match leaf_item(self.page, self.order, index as u16) {
-            Ok(item) => item,
-            Err(_) => unreachable!(),
-        }
-    }
+    ghost stands_in_pairs = { λ entries. refl };
 }

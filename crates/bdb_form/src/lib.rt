@@ -1,31 +1,39 @@
 //! Typed views of one page. A view is made by the test of its page's form, and is then read without refusal.
 #![tactic(auto)]
 
+mod codes;
 mod dup_leaf;
 mod forms;
 mod free;
 mod hash;
-mod index;
+mod indexed;
 mod internal;
+mod items;
 mod leaf;
 mod metadata;
 mod overflow;
+mod page_pairs;
+mod pairs;
 mod queue;
 mod recno_internal;
 mod recno_leaf;
 mod view;
 mod zero;
 
-pub use dup_leaf::DupLeafView;
-pub use forms::{form, known_form, known_queue_form, queue_form};
+pub use dup_leaf::{DupLeafKind, DupLeafView};
+pub use forms::{form, known_form, known_queue_form, page_code, queue_code, queue_form};
 pub use free::FreeView;
-pub use hash::HashView;
-pub use internal::InternalView;
-pub use leaf::LeafView;
+pub use hash::{HashKind, HashView};
+pub use indexed::{IndexedView, ItemKind, PageKind};
+pub use internal::{InternalKind, InternalView};
+pub use items::Items;
+pub use leaf::{LeafKind, LeafView};
 pub use metadata::MetaView;
 pub use overflow::OverflowView;
+pub use page_pairs::{PagePairs, Pair};
+pub use pairs::PairKind;
 pub use queue::QueueView;
-pub use recno_internal::RecnoInternalView;
-pub use recno_leaf::RecnoLeafView;
+pub use recno_internal::{RecnoInternalKind, RecnoInternalView};
+pub use recno_leaf::{RecnoLeafKind, RecnoLeafView};
 pub use view::PageView;
 pub use zero::ZeroView;

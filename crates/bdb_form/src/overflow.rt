@@ -38,18 +38,6 @@ impl<'a> OverflowView<'a> {
         OverflowView { page, order }
     }
 
-    // The view of a page of this type, or the code of the row of form that holds for it.
-    pub(crate) fn parse(page: &'a [u8], order: Order) -> Result<OverflowView<'a>, u8>
-        requires header { 26 ≤ length page.now }
-        requires size { length page.now ≤ 32768 }
-        ensures { result ≡ unless (body_code order page.now OverflowPage) (record { header = header_of order page.now; bytes = take (two_at order page.now 22) (drop 26 page.now) }) }
-    {
-        if page.len() < 26 + usize::from(u16_at(page, 22, order)) {
-            return Err(25);
-        }
-        Ok(OverflowView::over(page, order))
-    }
-
     /// The fields of the page's header: its entries are the references to the chain that it heads.
     pub fn header(&self) -> Header
         ensures { result ≡ self.now.header }

@@ -1,80 +1,50 @@
-ghost use Rattle.std.specs.Prelude.{◌≡◌, ◌<◌, ◌≤◌, length, slice_get, Some, None};
-ghost use Rattle.bdb_form.specs.Formed.{unless};
 ghost use Rattle.bdb_format.specs.Page.{RecnoInternalPage};
-ghost use Rattle.bdb_format.specs.Reading.{listed, recno_item_at};
-ghost use Rattle.bdb_format.specs.Rows.{listed_code};
+ghost use Rattle.bdb_format.specs.Reading.{recno_item_at};
 
-use crate::index::{Indexed, listed_code};
+use crate::{IndexedView, ItemKind, PageKind};
 use bdb_format::Order;
-use bdb_layout::{Header, RecnoItem, header, recno_item, u16_at};
+use bdb_layout::{ItemFault, RecnoItem, known_recno_item, recno_fault};
 use std::marker::Model;
 
 /// An internal page of a recno tree, or of a tree of unsorted duplicates.
+pub type RecnoInternalView<'a> = IndexedView<'a, RecnoInternalKind>;
+
+/// The internal pages of a recno tree, and of a tree of unsorted duplicates.
 #[derive(Drop)]
-pub struct RecnoInternalView<'a> {
-    page: &'a [u8],
-    order: Order,
-}
+pub struct RecnoInternalKind;
 
-impl<'a> Model for RecnoInternalView<'a> {
-    ghost use Rattle.bdb_form.specs.Formed.{IsListed};
-    ghost use Rattle.bdb_format.specs.Page.{Listed, RecnoInternalPage};
+impl Model for RecnoInternalKind {
     ghost use Rattle.bdb_format.specs.declared.pages.RecnoItem.{RecnoItem};
-    ghost use Rattle.bdb_format.specs.Reading.{listed, recno_item_at};
 
-    ghost Value = { Listed RecnoItem };
+    ghost Value = { RecnoItem };
 
-    ghost view = { λ v. listed v.order v.page.now (recno_item_at v.order v.page.now) };
-
-    ghost invariant = { λ v. IsListed RecnoInternalPage v.order v.page.now };
+    ghost view = { λ _. record { child = 0; count = 0 } };
 }
 
-#[tactic(auto, using(bdb_format::proofs::PageLemmas::header_listed, bdb_format::proofs::PageLemmas::length_items, bdb_format::proofs::PageLemmas::get_item, crate::proofs::FormedLemmas::listed_room, crate::proofs::FormedLemmas::whole_item))]
-impl<'a> RecnoInternalView<'a> {
-    // The view of a page of this type for which no row of form holds.
-    pub(crate) fn over(page: &'a [u8], order: Order) -> RecnoInternalView<'a>
-        requires header { 26 ≤ length page.now }
-        requires size { length page.now ≤ 32768 }
-        requires formed { listed_code order page.now RecnoInternalPage ≡ None }
-        ensures { result ≡ listed order page.now (recno_item_at order page.now) }
-    {
-        RecnoInternalView { page, order }
+impl PageKind for RecnoInternalKind {
+    ghost page_type = { RecnoInternalPage };
+
+    ghost item_at = { recno_item_at };
+
+    fn is_wrong_level(level: u8) -> bool {
+        level < 2
     }
 
-    // The view of a page of this type, or the code of the first row of form that holds for it.
-    pub(crate) fn parse(page: &'a [u8], order: Order) -> Result<RecnoInternalView<'a>, u8>
-        requires header { 26 ≤ length page.now }
-        requires size { length page.now ≤ 32768 }
-        ensures { result ≡ unless (listed_code order page.now RecnoInternalPage) (listed order page.now (recno_item_at order page.now)) }
-    {
-        match listed_code(page, order, Indexed::RecnoInternal) {
-            Some(code) => Err(code),
-            None => Ok(RecnoInternalView::over(page, order)),
-        }
+    fn is_wrong_entry_count(entries: u16) -> bool {
+        entries == 0
     }
 
-    /// The fields of the page's header.
-    pub fn header(&self) -> Header
-        ensures { result ≡ self.now.header }
-    {
-        header(self.page, self.order)
+    fn item_fault(page: &[u8], order: Order, index: u16) -> Option<ItemFault> {
+        recno_fault(page, order, index)
     }
+}
 
-    /// How many items there are, at least one.
-    pub fn entries(&self) -> u16
-        ensures { result ≡ length self.now.items }
-    {
-        u16_at(self.page, 20, self.order)
-    }
+impl<'a> ItemKind<'a> for RecnoInternalKind {
+    type Item = RecnoItem;
 
-    /// An item.
-    pub fn item(&self, i: u16) -> RecnoItem
-        requires { i < length self.now.items }
-        ensures { slice_get self.now.items i ≡ Some result }
-    {
-        match recno_item(self.page, self.order, i) {
-            Ok(item) => item,
-            Err(_) => unreachable!(),
-        }
+    ghost item_seen = { λ item. item };
+
+    fn known_item(page: &'a [u8], order: Order, index: u16) -> RecnoItem {
+        known_recno_item(page, order, index)
     }
 }

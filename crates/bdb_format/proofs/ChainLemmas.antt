@@ -1,6 +1,5 @@
 -- Laws that several crates use.
-use Rattle.std.proofs.Common.{ℕ, zero, suc, ◌≤◌, true, false, [], ◌∷◌, length, arith}
-use Rattle.std.specs.Prelude.{◌==◌}
+use Rattle.std.proofs.Common.{ℕ, zero, suc, ◌≤◌, length, arith}
 use Rattle.bdb_format.specs.Chains.{chain_in, next_of}
 use Rattle.bdb_format.specs.File.{File}
 
@@ -8,8 +7,4 @@ use Rattle.bdb_format.specs.File.{File}
 pub chain_few : (turns : ℕ) (file : File) (p : ℕ) → length (chain_in turns file p) ≤ turns
 unfolding chain_in
 chain_few zero file p = omega arith
-chain_few (suc turns) file p =
-    elim (next_of file p == 0) as (λ b. length (p ∷ elim b [ true ↦ [] | false ↦ chain_in turns file (next_of file p) ]) ≤ suc turns) [
-      | true ↦ omega arith
-      | false ↦ omega (arith, chain_few turns file (next_of file p))
-    ]
+chain_few (suc turns) file p = grind (arith, chain_few turns file (next_of file p))

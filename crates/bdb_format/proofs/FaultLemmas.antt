@@ -10,14 +10,7 @@ use Rattle.std.specs.List.{Contains}
 
 -- two faults of a stage that come before each other are one
 pub same_fault : (a b : Fault) → a.stage ≡ b.stage → ComesFirst a b → ComesFirst b a → a ≡ b
-same_fault a b stage ab ba =
-    elim ab [
-      | inl low ↦ elim ba [ inl high ↦ absurd (omega arith) | inr (same, code) ↦ absurd (omega arith) ]
-      | inr (page, code) ↦ elim ba [
-        | inl high ↦ absurd (omega arith)
-        | inr (other, back) ↦ let equal : a.code ≡ b.code = omega arith in whole a.stage b.stage a.page b.page a.code b.code stage page equal
-      ]
-    ]
+same_fault a b stage ab ba = whole a.stage b.stage a.page b.page a.code b.code stage (grind arith) (grind arith)
   where
     whole : (s t p q c d : ℕ) → s ≡ t → p ≡ q → c ≡ d → ◌≡◌ {A = Fault} (record { stage = s; page = p; code = c }) (record { stage = t; page = q; code = d })
     whole s t p q c d stages pages codes = cc

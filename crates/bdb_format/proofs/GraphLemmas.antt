@@ -1,29 +1,31 @@
 -- Laws of references that fit, owners and roles.
-use Rattle.std.proofs.Common.{◌≡◌, ◌⊎◌, ℕ, zero, suc, ◌+◌, ◌<◌, ◌≤◌, Bool, true, false, not, ◌&&◌, ◌||◌, cond, List, [], ◌∷◌, map, length, Option, Some, None, arith, refl, sym, ◌∙◌, ap, subst, inl, inr, true≢false}
+use Rattle.std.proofs.Common.{◌≡◌, ◌⊎◌, ℕ, zero, suc, ◌+◌, ◌<◌, ◌≤◌, Bool, true, false, not, ◌&&◌, ◌||◌, List, [], ◌∷◌, map, length, Option, None, arith, refl, sym, ◌∙◌, ap, inl, inr, true≢false}
 use Rattle.std.specs.Prelude.{nat_lt, ◌==◌}
-use Rattle.std.specs.List.{Contains, list_any, range_with_len, enumerate_from}
+use Rattle.std.specs.List.{Contains, list_any, range_with_len}
 use Rattle.std.specs.Option.{option_to_list}
-use Rattle.std.proofs.lemmas.Bool.{cases_Bool, not-false, eqb-true, eqb-false, ltb-false, le-ltb, ne_eqb, and_parts, and_left, and_right, or_parts, or_from}
+use Rattle.std.proofs.lemmas.Bool.{cases_Bool, not-false, eqb-true, and_parts, and_right}
 use Rattle.bdb_format.specs.declared.kinds.Order.{Order}
 use Rattle.bdb_format.specs.declared.metadata.Head.{Head}
 use Rattle.bdb_format.specs.declared.metadata.FileKind.{FileKind}
 use Rattle.bdb_format.specs.declared.metadata.FileKind.TheVariants.{Btree, Hash as HashFile, Queue as QueueFile}
 use Rattle.bdb_format.specs.declared.references.Sort.{Sort}
-use Rattle.bdb_format.specs.declared.references.Sort.TheVariants.{Free as FreeRef, Root, Bucket, HashNext, Child, OverflowHead, OverflowNext, DuplicateRoot}
+use Rattle.bdb_format.specs.declared.references.Sort.TheVariants.{Root, Child}
 use Rattle.bdb_format.specs.declared.references.Reference.{Reference}
-use Rattle.bdb_format.specs.Numbers.{byte_at, has_bit}
+use Rattle.bdb_format.specs.Numbers.{byte_at}
 use Rattle.bdb_format.specs.Table.{Row, ◌:?◌, first_row}
 use Rattle.bdb_format.specs.Page.{Metadata, BtreeFields, HashFields, QueueFields, Page, PageType, Zero, Meta, Internal, RecnoInternal}
 use Rattle.bdb_format.specs.Reading.{is_zero, page_type, page_as, abstract_page}
-use Rattle.bdb_format.specs.Rows.{code_of, identity_rows, may_have_type, type_of, typed_code, form_code}
+use Rattle.bdb_format.specs.Rows.{code_of, identity_rows, may_have_type, typed_code, form_code}
 use Rattle.bdb_format.specs.HeadOf.{head_of}
-use Rattle.bdb_format.specs.File.{File, file_of, page_bytes, page_at, header_in, kind_in, type_in}
-use Rattle.bdb_format.specs.References.{refs, Asked, asked_by, root_types, child_types, is_zero_page, has_type, fit_rows, fit_code, targets_of}
-use Rattle.bdb_format.specs.Graph.{Owner, held_by, all_references, owners, is_meta, is_hash_meta, is_anchor_in, is_anchor, is_spare, is_unowned, is_reserve, has_heads_alone, reaches, HasRole}
+use Rattle.bdb_format.specs.File.{File, file_of, page_bytes, page_at, header_in, type_in}
+use Rattle.bdb_format.specs.References.{refs, Asked, asked_by, root_types, child_types, is_zero_page, has_type, fit_rows, fit_code}
+use Rattle.bdb_format.specs.Graph.{Owner, all_references, owners, is_meta, is_hash_meta, is_anchor_in, is_anchor, is_spare, is_unowned, is_reserve, has_heads_alone, reaches, HasRole}
 use Rattle.bdb_format.specs.Verdict.{holding, fails_as, some_fails, reference_rows, reference_faults, ownership_rows, ownership_faults, reach_rows, reach_faults, form_faults, RolesExclude, RolesExcludeEachOther, EachPageHasOneRole}
 use Rattle.bdb_format.proofs.PageLemmas.{later_type}
-use Rattle.bdb_format.proofs.MemberLemmas.{is_empty, no_member, none_passes, none_pass, of_map, of_flat_map, of_filter, of_range}
-use Rattle.bdb_format.proofs.VerdictLemmas.{AllFail, all_fail, none_holds, none_is_first_row, no_code, no_codes_at, no_faults, none_within}
+use Rattle.bdb_format.proofs.ReferenceLemmas.{no_refs, of_all}
+use Rattle.std.proofs.lemmas.Bool.Decides.{nat_tests}
+use Rattle.bdb_format.proofs.MemberLemmas.{is_empty, no_member, none_passes, none_pass, of_map, of_filter, of_range}
+use Rattle.bdb_format.proofs.VerdictLemmas.{AllFail, none_holds, none_is_first_row, no_code, no_codes_at, no_rows_at, no_faults, none_within}
 
 -- References that fit.
 
@@ -36,11 +38,7 @@ none_of_four : (a b c d : Bool)
     → fails_as 3 (first_of_four a b c d) ≡ false
     → fails_as 4 (first_of_four a b c d) ≡ false
     → first_of_four a b c d ≡ None
-none_of_four true b c d not_1 not_2 not_3 not_4 = absurd cc
-none_of_four false true c d not_1 not_2 not_3 not_4 = absurd cc
-none_of_four false false true d not_1 not_2 not_3 not_4 = absurd cc
-none_of_four false false false true not_1 not_2 not_3 not_4 = absurd cc
-none_of_four false false false false not_1 not_2 not_3 not_4 = refl
+none_of_four a b c d not_1 not_2 not_3 not_4 = grind arith
 
 -- a reference that fails as none of the codes fits
 fails_as_none : (file : File) (p : ℕ) (reference : Reference)
@@ -56,8 +54,7 @@ fails_as_none file p reference = none_of_four _ _ _ _
 pub each_fits : (file : File) (p : ℕ) (reference : Reference) → reference_faults file ≡ [] → p ≤ file.last → Contains (refs file p) reference → fit_code file p reference ≡ None
 unfolding reference_faults
 each_fits file p reference none inside at =
-    let codes : holding (reference_rows file p) ≡ [] = no_codes_at 3 0 (file.last + 1) p (λ page. holding (reference_rows file page)) none (omega arith) (omega arith) in
-    let fail : AllFail (reference_rows file p) = all_fail (reference_rows file p) codes in
+    let fail = no_rows_at 3 0 (file.last + 1) p (reference_rows file) none (omega arith) (omega arith) in
     let passes : (code : ℕ) → some_fails file p code ≡ false → fails_as code (fit_code file p reference) ≡ false =
     λ code fails. none_passes (λ r. fails_as code (fit_code file p r)) (refs file p) reference fails at in
     fails_as_none file p reference (passes 1 fail.0) (passes 2 fail.1.0) (passes 3 fail.1.1.0) (passes 4 fail.1.1.1.0)
@@ -70,24 +67,12 @@ pub record IsOwner (file : File) (p : ℕ) (owner : Owner) : Type 0 where
   pub held : Contains (refs file owner.holder) owner.reference
   pub names : owner.reference.target ≡ p
 
-owner_of : (file : File) (p q : ℕ) (reference : Reference) (owner : Owner) → record { holder = q; reference = reference } ≡ owner → q ≤ file.last → Contains (refs file q) reference → owner.reference.target ≡ p → IsOwner file p owner
-owner_of file p q reference owner same inside held names =
-    record {
-      inside = subst (λ (o : Owner). o.holder ≤ file.last) same inside;
-      held = subst (λ (o : Owner). Contains (refs file o.holder) o.reference) same held;
-      names = names;
-    }
-
 pub is_owner : (file : File) (p : ℕ) (owner : Owner) → Contains (owners file p) owner → IsOwner file p owner
-unfolding owners all_references
+unfolding owners
 is_owner file p owner at =
-    let passed : Contains (all_references file) owner × ((owner.reference.target == p) ≡ true) = of_filter (λ (o : Owner). o.reference.target == p) (all_references file) owner at in
-    let page : (q : ℕ) × Contains (range_with_len 0 (file.last + 1)) q × Contains (held_by file q) owner =
-    of_flat_map (held_by file) (range_with_len 0 (file.last + 1)) owner passed.0 in
-    let within : (0 ≤ page.0) × (page.0 < 0 + (file.last + 1)) = of_range 0 (file.last + 1) page.0 page.1 in
-    let held : (r : Reference) × Contains (refs file page.0) r × (record { holder = page.0; reference = r } ≡ owner) =
-    of_map (λ r. record { holder = page.0; reference = r }) (refs file page.0) owner page.2 in
-    owner_of file p page.0 held.0 owner held.2 (omega arith) held.1 (eqb-true owner.reference.target p passed.1)
+    let passed = of_filter (λ (o : Owner). o.reference.target == p) (all_references file) owner at in
+    let all = of_all file owner passed.0 in
+    record { inside = all.0; held = all.1; names = eqb-true owner.reference.target p passed.1 }
 
 pub owner_fits : (file : File) (p : ℕ) (owner : Owner) → reference_faults file ≡ [] → Contains (owners file p) owner → fit_code file owner.holder owner.reference ≡ None
 owner_fits file p owner none at =
@@ -99,46 +84,28 @@ owner_fits file p owner none at =
 abbrev is_metadata_type : ℕ → Bool
 is_metadata_type type = type == 8 || type == 9 || type == 10
 
-either : (b : Bool) (xs ys : List ℕ) → list_any is_metadata_type xs ≡ false → list_any is_metadata_type ys ≡ false → list_any is_metadata_type (cond b xs ys) ≡ false
-either true xs ys p q = p
-either false xs ys p q = q
-
 root_is_no_metadata : (page : Page) → list_any is_metadata_type (root_types page) ≡ false
-root_is_no_metadata (Meta (BtreeFields meta)) = either (has_bit meta.flags 2) (4 ∷ 6 ∷ []) (3 ∷ 5 ∷ []) refl refl
-root_is_no_metadata (Meta (HashFields meta)) = refl
-root_is_no_metadata (Meta (QueueFields meta)) = refl
+root_is_no_metadata (Meta (BtreeFields meta)) = grind arith
 root_is_no_metadata page = refl
 
 child_is_no_metadata : (page : Page) → list_any is_metadata_type (child_types page) ≡ false
-child_is_no_metadata (Internal page) = either (page.header.level == 2) (5 ∷ 12 ∷ []) (3 ∷ []) refl refl
-child_is_no_metadata (RecnoInternal page) = either (page.header.level == 2) (6 ∷ []) (4 ∷ []) refl refl
+child_is_no_metadata (Internal page) = grind arith
+child_is_no_metadata (RecnoInternal page) = grind arith
 child_is_no_metadata page = refl
 
 asks_no_metadata : (holder : ℕ) (page : Page) (sort : Sort) → list_any is_metadata_type (asked_by holder page sort).types ≡ false
-asks_no_metadata holder page FreeRef = refl
 asks_no_metadata holder page Root = root_is_no_metadata page
-asks_no_metadata holder page Bucket = refl
-asks_no_metadata holder page HashNext = refl
 asks_no_metadata holder page Child = child_is_no_metadata page
-asks_no_metadata holder page OverflowHead = refl
-asks_no_metadata holder page OverflowNext = refl
-asks_no_metadata holder page DuplicateRoot = refl
+asks_no_metadata holder page sort = refl
 
 no_metadata_among : (types : List ℕ) (meta : Metadata) → list_any is_metadata_type types ≡ false → has_type types (type_in (Meta meta)) ≡ false
 no_metadata_among [] meta none = refl
-no_metadata_among (type ∷ types) meta none =
-    let parts : (is_metadata_type type ≡ false) × (list_any is_metadata_type types ≡ false) = or_parts (is_metadata_type type) (list_any is_metadata_type types) none in
-    let low : ((type == 8 || type == 9) ≡ false) × ((type == 10) ≡ false) = or_parts (type == 8 || type == 9) (type == 10) parts.0 in
-    let lower : ((type == 8) ≡ false) × ((type == 9) ≡ false) = or_parts (type == 8) (type == 9) low.0 in
-    or_from (type == type_of (kind_in meta)) (list_any (λ t. t == type_of (kind_in meta)) types)
-    (elim meta as (λ m. (type == type_of (kind_in m)) ≡ false) [ BtreeFields fields ↦ lower.1 | HashFields fields ↦ lower.0 | QueueFields fields ↦ low.1 ])
-    (no_metadata_among types meta parts.1)
+no_metadata_among (type ∷ types) (BtreeFields fields) none = grind (arith, no_metadata_among types (BtreeFields fields))
+no_metadata_among (type ∷ types) (HashFields fields) none = grind (arith, no_metadata_among types (HashFields fields))
+no_metadata_among (type ∷ types) (QueueFields fields) none = grind (arith, no_metadata_among types (QueueFields fields))
 
 metadata_misfits : (asked : Asked) (page : Page) → list_any is_metadata_type asked.types ≡ false → is_meta page ≡ true → not (has_type asked.types (type_in page) || (asked.or_zero && is_zero_page page)) ≡ true
-metadata_misfits asked (Meta meta) none is =
-    let no_type : has_type asked.types (type_in (Meta meta)) ≡ false = no_metadata_among asked.types meta none in
-    let no_zero : (asked.or_zero && false) ≡ false = and_right asked.or_zero false refl in
-    ap not (or_from (has_type asked.types (type_in (Meta meta))) (asked.or_zero && false) no_type no_zero)
+metadata_misfits asked (Meta meta) none is = grind (arith, no_metadata_among asked.types meta none)
 metadata_misfits asked page none is = absurd cc
 
 -- a reference that fits doesn't name metadata
@@ -146,16 +113,8 @@ fits_no_metadata : (file : File) (p : ℕ) (reference : Reference) → fit_code 
 unfolding fit_code
 fits_no_metadata file p reference fits is =
     let asked : Asked = asked_by p (page_at file p) reference.sort in
-    let misfits : not (has_type asked.types (type_in (page_at file reference.target)) || (asked.or_zero && is_zero_page (page_at file reference.target))) ≡ true =
-    metadata_misfits asked (page_at file reference.target) (asks_no_metadata p (page_at file p) reference.sort) is in
-    let fail : AllFail (fit_rows file asked reference.target) = none_is_first_row (fit_rows file asked reference.target) fits in
-    true≢false (sym misfits ∙ fail.1.0)
-
-queue_refs : (file : File) (p : ℕ) → file.kind ≡ QueueFile → refs file p ≡ []
-unfolding refs
-queue_refs file p queue =
-    ap (λ kind. map (λ (named : ℕ × (Sort × ℕ)). let r : Reference = record { place = named.0; sort = named.1.0; target = named.1.1 } in r)
-    (enumerate_from 0 (targets_of kind p (page_at file p)))) queue
+    true≢false (sym (metadata_misfits asked (page_at file reference.target) (asks_no_metadata p (page_at file p) reference.sort) is)
+    ∙ (none_is_first_row (fit_rows file asked reference.target) fits).1.0)
 
 -- Roles.
 
@@ -175,7 +134,7 @@ anchor_unowned file p none is =
     is_empty (owners file p) (λ owner at.
     let owns : IsOwner file p owner = is_owner file p owner at in
     elim (anchor_is file p is) [
-      | inl queue ↦ no_member (refs file owner.holder) owner.reference (queue_refs file owner.holder queue) owns.held
+      | inl queue ↦ no_member (refs file owner.holder) owner.reference (no_refs file owner.holder queue) owns.held
       | inr meta ↦ fits_no_metadata file owner.holder owner.reference (owner_fits file p owner none at) (ap (λ target. is_meta (page_at file target)) owns.names ∙ meta)
     ])
 
@@ -208,39 +167,15 @@ abbrev RoleBy : Bool → Bool → Bool → ℕ → ℕ → Type 0
 RoleBy anchor reserve heads n counted =
     (anchor ≡ true) ⊎ ((reserve ≡ true) ⊎ (((n ≡ 1) × (heads ≡ true → 1 ≤ counted)) ⊎ ((heads ≡ true) × (0 < n) × (n ≤ counted))))
 
-not_zero : (n : ℕ) → (n == 0) ≡ false → 0 < n
-not_zero n some = let other : n ≡ 0 → ⊥ = eqb-false n 0 some in omega arith
-
 role_by_rows : (anchor reserve heads : Bool) (n counted : ℕ) → has_no_owner anchor reserve n ≡ false → has_too_many heads n counted ≡ false → RoleBy anchor reserve heads n counted
 role_by_rows true reserve heads n counted owned few = inl refl
 role_by_rows false true heads n counted owned few = inr (inl refl)
-role_by_rows false false true n counted owned few =
-    let parts : (nat_lt counted n ≡ false) × (false ≡ false) = or_parts (nat_lt counted n) false few in
-    inr (inr (inr (refl, not_zero n owned, ltb-false counted n parts.0)))
-role_by_rows false false false n counted owned few =
-    let some : 0 < n = not_zero n owned in
-    let one : n ≤ 1 = ltb-false 1 n few in
-    inr (inr (inl (omega arith, λ is. absurd cc)))
-
-few_enough : (heads : Bool) (n counted : ℕ) → (heads ≡ true → n ≤ counted) → (heads ≡ false → n ≤ 1) → has_too_many heads n counted ≡ false
-few_enough true n counted shared once = or_from (nat_lt counted n) false (le-ltb counted n (shared refl)) refl
-few_enough false n counted shared once = le-ltb 1 n (once refl)
+role_by_rows false false true n counted owned few = inr (inr (inr (refl, grind (arith, nat_tests), grind (arith, nat_tests))))
+role_by_rows false false false n counted owned few = inr (inr (inl (grind (arith, nat_tests), λ is. absurd cc)))
 
 rows_by_role : (anchor reserve heads : Bool) (n counted : ℕ) → (anchor ≡ true → n ≡ 0) → (reserve ≡ true → n ≡ 0) → RoleBy anchor reserve heads n counted
     → (has_no_owner anchor reserve n ≡ false) × (has_too_many heads n counted ≡ false)
-rows_by_role anchor reserve heads n counted unowned unnamed role =
-    elim role [
-      | inl is ↦
-          let none : n ≡ 0 = unowned is in
-          (and_left (not anchor && not reserve) (n == 0) (and_left (not anchor) (not reserve) (ap not is)), few_enough heads n counted (λ shared. omega arith) (λ once. omega arith))
-      | inr (inl is) ↦
-          let none : n ≡ 0 = unnamed is in
-          (and_left (not anchor && not reserve) (n == 0) (and_right (not anchor) (not reserve) (ap not is)), few_enough heads n counted (λ shared. omega arith) (λ once. omega arith))
-      | inr (inr (inl (one, counts))) ↦
-          (and_right (not anchor && not reserve) (n == 0) (ne_eqb n 0 (λ zero. omega arith)), few_enough heads n counted (λ shared. let more : 1 ≤ counted = counts shared in omega arith) (λ once. omega arith))
-      | inr (inr (inr (is, some, few))) ↦
-          (and_right (not anchor && not reserve) (n == 0) (ne_eqb n 0 (λ zero. omega arith)), few_enough heads n counted (λ shared. few) (λ other. absurd cc))
-    ]
+rows_by_role anchor reserve heads n counted unowned unnamed role = (grind (arith, nat_tests), grind (arith, nat_tests))
 
 -- The laws.
 
@@ -248,15 +183,12 @@ rows_by_role anchor reserve heads n counted unowned unnamed role =
 role_of : (file : File) (p : ℕ) → ownership_faults file ≡ [] → 1 ≤ p → p ≤ file.last → HasRole file p
 unfolding ownership_faults
 role_of file p none low high =
-    let codes : holding (ownership_rows file p) ≡ [] = no_codes_at 4 1 file.last p (λ page. holding (ownership_rows file page)) none low (omega arith) in
-    let fail : AllFail (ownership_rows file p) = all_fail (ownership_rows file p) codes in
+    let fail = no_rows_at 4 1 file.last p (ownership_rows file) none low (omega arith) in
     role_by_rows (is_anchor file p) (is_reserve file p) (has_heads_alone file p) (length (owners file p)) (header_in (page_at file p)).entries fail.0 fail.1.0
 
 pub reached_of : (file : File) (p : ℕ) → reach_faults file ≡ [] → 1 ≤ p → p ≤ file.last → reaches file p ≡ true
 unfolding reach_faults
-reached_of file p none low high =
-    let codes : holding (reach_rows file p) ≡ [] = no_codes_at 5 1 file.last p (λ page. holding (reach_rows file page)) none low (omega arith) in
-    not-false (reaches file p) (all_fail (reach_rows file p) codes).0
+reached_of file p none low high = not-false (reaches file p) (no_rows_at 5 1 file.last p (reach_rows file) none low (omega arith)).0
 
 -- where each page has a role, no row of ownership holds
 no_ownership_fault : (file : File) → reference_faults file ≡ [] → ((p : ℕ) → 1 ≤ p → p ≤ file.last → HasRole file p) → ownership_faults file ≡ []
@@ -301,11 +233,7 @@ of_no_code : (empty : Bool) (order : Order) (number : ℕ) (page : List ℕ) (is
     → (first_row (identity_rows order page number is_type) ≡ None) × (rest (page_type (byte_at page 25)) ≡ None)
 of_no_code true order number page is_type rest some none = absurd cc
 of_no_code false order number page is_type rest some none =
-    elim (first_row (identity_rows order page number is_type))
-    as (λ first. elim first [ Some code ↦ Some code | None ↦ rest (page_type (byte_at page 25)) ] ≡ None → (first ≡ None) × (rest (page_type (byte_at page 25)) ≡ None)) [
-      | Some code ↦ λ same. absurd cc
-      | None ↦ λ same. (refl, same)
-    ] none
+    (grind arith, grind arith)
 
 -- a page of sound form that isn't a zero page: no row of its number and type holds, and none of a page of its type
 formed_rows : (head : Head) (number : ℕ) (page : List ℕ) → is_zero page ≡ false → form_code head number page ≡ None
@@ -331,11 +259,8 @@ queue_types zero byte may = inl (eqb-true byte 10 may)
 queue_types (suc number) byte may = inr (eqb-true byte 11 (sym (later_type QueueFile number byte) ∙ may))
 
 no_table_of_type : (order : Order) (page : List ℕ) (byte : ℕ) → (byte ≡ 10) ⊎ (byte ≡ 11) → is_hash_meta (page_as order page (page_type byte)) ≡ false
-no_table_of_type order page byte types =
-    elim types [
-      | inl metadata ↦ subst (λ b. is_hash_meta (page_as order page (page_type b)) ≡ false) (sym metadata) refl
-      | inr records ↦ subst (λ b. is_hash_meta (page_as order page (page_type b)) ≡ false) (sym records) refl
-    ]
+no_table_of_type order page byte (inl metadata) = rw metadata refl
+no_table_of_type order page byte (inr records) = rw records refl
 
 pub zero_page : (order : Order) (page : List ℕ) → is_zero page ≡ true → abstract_page order page ≡ Zero
 unfolding abstract_page

@@ -1,5 +1,5 @@
 -- Laws of the members of a list.
-use Rattle.std.proofs.Common.{◌≡◌, ◌⊎◌, ℕ, zero, suc, ◌+◌, ◌<◌, ◌≤◌, Bool, true, false, cond, List, [], ◌∷◌, ◌++◌, map, length, arith, refl, sym, ◌∙◌, ap, subst, inl, inr, true≢false}
+use Rattle.std.proofs.Common.{◌≡◌, ◌⊎◌, ℕ, zero, suc, ◌+◌, ◌<◌, ◌≤◌, Bool, true, false, cond, List, [], ◌∷◌, ◌++◌, map, length, arith, refl, sym, ◌∙◌, ap, subst, inl, inr}
 use Rattle.std.specs.List.{Contains, filter, flat_map, list_any, range_with_len}
 use Rattle.std.proofs.lemmas.List.Elements.{Contains-append_left, Contains-append_right, Contains-append_cases}
 use Rattle.std.proofs.lemmas.List.Folds.{list_any_at}
@@ -62,9 +62,8 @@ in_flat_map f (w ∷ xs) x y at of =
       | inr later ↦ Contains-append_right (f w) (flat_map f xs) y (in_flat_map f xs x y later of)
     ]
 
-filter_step : {X : Type 0} (y x : X) (xs : List X) (b : Bool) → Contains (cond b (y ∷ xs) xs) x → ((b ≡ true) × (y ≡ x)) ⊎ Contains xs x
-filter_step y x xs true at =
-    elim (member_cases y xs x at) [ inl here ↦ inl (refl, here) | inr later ↦ inr later ]
+pub filter_step : {X : Type 0} (y x : X) (xs : List X) (b : Bool) → Contains (cond b (y ∷ xs) xs) x → ((b ≡ true) × (y ≡ x)) ⊎ Contains xs x
+filter_step y x xs true at = grind (arith, member_cases y xs x at)
 filter_step y x xs false at = inr at
 
 pub of_filter : {X : Type 0} (test : X → Bool) (xs : List X) (x : X) → Contains (filter test xs) x → Contains xs x × (test x ≡ true)
@@ -91,11 +90,7 @@ in_filter test (y ∷ ys) x at passes =
 
 pub of_range : (a n x : ℕ) → Contains (range_with_len a n) x → (a ≤ x) × (x < a + n)
 of_range a zero x at = absurd (no_member [] x refl at)
-of_range a (suc n) x at =
-    elim (member_cases a (range_with_len (a + 1) n) x at) [
-      | inl here ↦ (omega arith, omega arith)
-      | inr later ↦ let within : (a + 1 ≤ x) × (x < a + 1 + n) = of_range (a + 1) n x later in (omega arith, omega arith)
-    ]
+of_range a (suc n) x at = grind (arith, member_cases a (range_with_len (a + 1) n) x at, of_range (a + 1) n x)
 
 pub in_range : (a n x : ℕ) → a ≤ x → x < a + n → Contains (range_with_len a n) x
 in_range a zero x low high = absurd (omega arith)
@@ -107,11 +102,7 @@ in_range a (suc n) x low high =
 
 -- no member passes a test that the list fails
 pub none_passes : {X : Type 0} (test : X → Bool) (xs : List X) (x : X) → list_any test xs ≡ false → Contains xs x → test x ≡ false
-none_passes test xs x none at =
-    elim (test x) as (λ b. test x ≡ b → b ≡ false) [
-      | true ↦ λ passes. absurd (true≢false (sym (list_any_at test xs at.0 x at.1 (ap test at.2 ∙ passes)) ∙ none))
-      | false ↦ λ fails. refl
-    ] refl
+none_passes test xs x none at = grind (arith, at.2, list_any_at test xs at.0 x at.1)
 
 pub none_pass : {X : Type 0} (test : X → Bool) (xs : List X) → ((x : X) → Contains xs x → test x ≡ false) → list_any test xs ≡ false
 none_pass test [] none = refl

@@ -1,10 +1,10 @@
 -- Laws of a page with an index, and of the rows of its items.
-use Rattle.std.proofs.Common.{◌≡◌, ℕ, suc, ◌+◌, ◌-◌, ◌<◌, ◌≤◌, List, [], ◌∷◌, length, take, arith, refl, sym, ◌∙◌, ap, eq-eqb, eqb-true}
-use Rattle.std.specs.Prelude.{Bool, cond, not, slice_get, slice_index, replicate, ◌==◌, ◌&&◌, true, false, Option, Some, None, Ok, Err}
+use Rattle.std.proofs.lemmas.Bool.Decides.{nat_tests}
+use Rattle.std.proofs.Common.{◌≡◌, ℕ, suc, ◌+◌, ◌-◌, ◌<◌, ◌≤◌, List, [], ◌∷◌, length, take, arith, refl, sym, ◌∙◌, ap, eq-eqb}
+use Rattle.std.specs.Prelude.{Bool, cond, slice_get, slice_index, replicate, ◌==◌, true, Option, Some, None, Ok}
 use Rattle.std.specs.Option.{option_map}
 use Rattle.std.proofs.lemmas.List.{drop-replicate, get_or-replicate, take-replicate}
 use Rattle.std.proofs.Math.Dec.{eqb-suc-zero}
-use Rattle.std.specs.Result.{result_err}
 use Rattle.std.proofs.lemmas.List.FromFn.{length-map-range_with_len, get_or-map-range_with_len}
 use Rattle.std.proofs.lemmas.Option.{slice_get-get_or}
 use Rattle.bdb_format.specs.declared.kinds.Order.{Order}
@@ -14,7 +14,7 @@ use Rattle.bdb_format.specs.File.{no_header}
 use Rattle.bdb_format.specs.Numbers.{byte_at, four_at, number, number_at, two_at}
 use Rattle.bdb_format.specs.Reading.{listed, entries_of, offset_of, header_of, is_zero}
 use Rattle.bdb_format.specs.Rows.{field_rows, identity_rows, metadata_rows, is_queue, is_queue_type, is_tree_type, may_have_type, type_of}
-use Rattle.bdb_format.specs.Table.{Row, ◌:?◌, first_row, answer}
+use Rattle.bdb_format.specs.Table.{Row, first_row, answer}
 
 pub header_listed : {I : Type 0} (order : Order) (page : List ℕ) (item_at : ℕ → I) → (listed order page item_at).header ≡ header_of order page
 unfolding listed
@@ -39,11 +39,7 @@ index_offset order page item_at i lt = get_or-map-range_with_len (offset_of orde
 
 zeros_are : (page : List ℕ) → is_zero page ≡ true → page ≡ replicate (length page) 0
 zeros_are [] zeros = refl
-zeros_are (byte ∷ bytes) zeros =
-    elim (byte == 0) as (λ b. (byte == 0) ≡ b → (b && is_zero bytes) ≡ true → byte ∷ bytes ≡ 0 ∷ replicate (length bytes) 0) [
-      | true ↦ λ is rest. let same : byte ≡ 0 = eqb-true byte 0 is in cc (zeros_are bytes rest)
-      | false ↦ λ is rest. absurd cc
-    ] refl zeros
+zeros_are (byte ∷ bytes) zeros = grind (arith, nat_tests, zeros_are bytes)
 
 zero_number : (n : ℕ) (order : Order) (k at : ℕ) → at + n ≤ k → number_at n order (replicate k 0) at ≡ number order (replicate n 0)
 unfolding number_at
@@ -64,34 +60,22 @@ zero_header order page long zeros = sym (ap (header_of order) (zeros_are page ze
   where
     of : (k : ℕ) → 26 ≤ k → header_of order (replicate k 0) ≡ no_header
     of k room =
-        let a : four_at order (replicate k 0) 8 ≡ 0 = zero_four order k 8 (omega arith) in
-        let b : four_at order (replicate k 0) 12 ≡ 0 = zero_four order k 12 (omega arith) in
-        let c : four_at order (replicate k 0) 16 ≡ 0 = zero_four order k 16 (omega arith) in
-        let d : two_at order (replicate k 0) 20 ≡ 0 = zero_two order k 20 (omega arith) in
-        let e : two_at order (replicate k 0) 22 ≡ 0 = zero_two order k 22 (omega arith) in
-        let f : byte_at (replicate k 0) 24 ≡ 0 = get_or-replicate k 24 0 0 (omega arith) in
-        let g : byte_at (replicate k 0) 25 ≡ 0 = get_or-replicate k 25 0 0 (omega arith) in
-        rw (a, b, c, d, e, f, g) refl
+        rw (
+          zero_four order k 8 (omega arith),
+          zero_four order k 12 (omega arith),
+          zero_four order k 16 (omega arith),
+          zero_two order k 20 (omega arith),
+          zero_two order k 22 (omega arith),
+          get_or-replicate {A = ℕ} k 24 0 0 (omega arith),
+          get_or-replicate {A = ℕ} k 25 0 0 (omega arith),
+        ) refl
 
 -- Tables.
 
 -- where no row holds, the answer is the value
 pub answer_value : {Code T : Type 0} (rows : List (Row Code)) (value : T) → first_row rows ≡ None → answer rows value ≡ Ok value
 answer_value [] value none = refl
-answer_value (row ∷ rows) value none =
-    elim row.holds as (λ b. cond b (Some row.code) (first_row rows) ≡ None → cond b (Err row.code) (answer rows value) ≡ Ok value) [
-      | true ↦ λ same. absurd cc
-      | false ↦ λ same. answer_value rows value same
-    ] none
-
--- the row of an answer is the first that holds
-pub answer_row : {Code T : Type 0} (rows : List (Row Code)) (value : T) → result_err (answer rows value) ≡ first_row rows
-answer_row [] value = refl
-answer_row (row ∷ rows) value =
-    elim row.holds as (λ b. result_err (cond b (Err row.code) (answer rows value)) ≡ cond b (Some row.code) (first_row rows)) [
-      | true ↦ refl
-      | false ↦ answer_row rows value
-    ]
+answer_value (row ∷ rows) value none = grind (arith, answer_value rows value)
 
 -- a code that was mapped from nothing
 pub map_none : {A B : Type 0} (f : A → B) (x : Option A) → option_map f x ≡ None → x ≡ None
@@ -106,11 +90,4 @@ later_type kind n byte = ap (λ b. cond b (byte == type_of kind) (cond (is_queue
 pub metadata_code : (order : Order) (page : List ℕ) (number last : ℕ) (kind : FileKind) (is_type : ℕ → Bool) → first_row (identity_rows order page number is_type) ≡ None
     → byte_at page 25 ≡ type_of kind → first_row (metadata_rows order page number last kind) ≡ first_row (field_rows order page number last kind)
 unfolding metadata_rows
-metadata_code order page number last kind is_type passed is =
-    of (not (four_at order page 8 == number)) (not (is_type (byte_at page 25))) (not (byte_at page 25 == type_of kind)) _ passed (ap not (eq-eqb (byte_at page 25) (type_of kind) is))
-  where
-    of : (a b own : Bool) (rest : Option ℕ) → first_row {Code = ℕ} (1 :? a ∷ 2 :? b ∷ []) ≡ None → own ≡ false → cond {A = Option ℕ} a (Some 1) (cond own (Some 2) rest) ≡ rest
-    of true b own rest passed same = absurd cc
-    of false true own rest passed same = absurd cc
-    of false false true rest passed same = absurd cc
-    of false false false rest passed same = refl
+metadata_code order page number last kind is_type passed is = grind (arith, eq-eqb (byte_at page 25) (type_of kind) is)

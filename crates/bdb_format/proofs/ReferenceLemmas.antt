@@ -1,5 +1,5 @@
 -- Laws that several crates use.
-use Rattle.std.proofs.Common.{◌≡◌, ℕ, refl, [], ap, ◌+◌, ◌≤◌, arith, ◌<◌, subst, List, length}
+use Rattle.std.proofs.Common.{◌≡◌, ℕ, refl, [], ap, ◌+◌, ◌≤◌, arith, subst, List, length}
 use Rattle.bdb_format.specs.declared.metadata.FileKind.{FileKind}
 use Rattle.bdb_format.specs.declared.metadata.FileKind.TheVariants.{Btree, Hash as HashFile, Queue as QueueFile, Queue}
 use Rattle.bdb_format.specs.Page.{Page}
@@ -39,13 +39,11 @@ held_in_all file p reference low held =
 pub of_all : (file : File) (owner : Owner) → Contains (all_references file) owner → (owner.holder ≤ file.last) × Contains (refs file owner.holder) owner.reference
 unfolding all_references
 of_all file owner at =
-    let page : (q : ℕ) × Contains (range_with_len 0 (file.last + 1)) q × Contains (held_by file q) owner = of_flat_map (held_by file) (range_with_len 0 (file.last + 1)) owner at in
-    let within : (0 ≤ page.0) × (page.0 < 0 + (file.last + 1)) = of_range 0 (file.last + 1) page.0 page.1 in
-    let held : (r : Reference) × Contains (refs file page.0) r × (record { holder = page.0; reference = r } ≡ owner) =
-    of_map (λ r. record { holder = page.0; reference = r }) (refs file page.0) owner page.2 in (
-      subst (λ (o : Owner). o.holder ≤ file.last) held.2 (let low : page.0 ≤ file.last = omega (arith, within.1) in low),
-      subst (λ (o : Owner). Contains (refs file o.holder) o.reference) held.2 held.1,
-    )
+    let page = of_flat_map (held_by file) (range_with_len 0 (file.last + 1)) owner at in
+    let within = of_range 0 (file.last + 1) page.0 page.1 in
+    let held = of_map (λ r. record { holder = page.0; reference = r }) (refs file page.0) owner page.2 in
+    let low : page.0 ≤ file.last = omega (arith, within.1) in
+    subst (λ (o : Owner). (o.holder ≤ file.last) × Contains (refs file o.holder) o.reference) held.2 (low, held.1)
 
 -- a file has as many pages as its head says
 pub count_is : (image : List ℕ) → (file_of image).count ≡ (head_of image).pages

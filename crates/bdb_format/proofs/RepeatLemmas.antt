@@ -1,5 +1,5 @@
 -- The pairs that repeat a key, found by going through the pairs with those seen so far.
-use Rattle.std.proofs.Common.{◌≡◌, ℕ, ◌+◌, true, false, Bool, cond, List, [], ◌∷◌, ◌++◌, map, length, arith, refl, sym, ◌∙◌, ap, subst, append_assoc, length-append, inl, inr, ◌⊎◌}
+use Rattle.std.proofs.Common.{◌≡◌, ℕ, ◌+◌, true, false, Bool, cond, List, [], ◌∷◌, ◌++◌, map, length, arith, refl, sym, ◌∙◌, ap, subst, append_assoc, length-append, inl, inr}
 use Rattle.std.specs.Prelude.{◌||◌}
 use Rattle.std.specs.List.{Contains, enumerate_from, filter, list_any}
 use Rattle.std.specs.Str.{bytes_eq}
@@ -7,7 +7,7 @@ use Rattle.std.proofs.Math.Seq.{take-append_seam}
 use Rattle.std.proofs.lemmas.List.Folds.{list_any-append}
 use Rattle.bdb_format.specs.ContentRows.{repeated, repeats}
 use Rattle.bdb_format.specs.Contents.{StoredPair}
-use Rattle.bdb_format.proofs.MemberLemmas.{first_member, later_member, member_cases, no_member}
+use Rattle.bdb_format.proofs.MemberLemmas.{first_member, later_member, no_member, filter_step}
 
 -- one of these has this key
 abbrev pub has_key : List ℕ → List StoredPair → Bool
@@ -26,10 +26,7 @@ kept true b n pair placed pairs same rest = rw (← same) (ap (λ ps. pair ∷ p
 kept false b n pair placed pairs same rest = rw (← same) rest
 
 either : (a b : Bool) → (a || b) ≡ (b || (a || false))
-either true true = refl
-either true false = refl
-either false true = refl
-either false false = refl
+either a b = grind arith
 
 -- from a place on, behind pairs that are done
 repeated_from : (all done pairs earlier : List StoredPair) (n : ℕ) → all ≡ done ++ pairs → n ≡ length done
@@ -49,16 +46,11 @@ repeated_from all done (pair ∷ pairs) earlier n are place same =
 pub repeated_is : (pairs : List StoredPair) → repeated pairs ≡ repeated_after [] pairs
 repeated_is pairs = repeated_from pairs [] pairs [] 0 refl refl (λ key. refl)
 
-after_step : (has : Bool) (pair other : StoredPair) (rest : List StoredPair) → Contains (cond has (pair ∷ rest) rest) other
-    → (pair ≡ other) ⊎ Contains rest other
-after_step true pair other rest at = member_cases pair rest other at
-after_step false pair other rest at = inr at
-
 of_after : (earlier pairs : List StoredPair) (pair : StoredPair) → Contains (repeated_after earlier pairs) pair → Contains pairs pair
 of_after earlier [] pair at = absurd (no_member [] pair refl at)
 of_after earlier (one ∷ pairs) pair at =
-    elim (after_step (has_key one.key earlier) one pair (repeated_after (one ∷ earlier) pairs) at) [
-      | inl same ↦ subst (Contains (one ∷ pairs)) same (first_member one pairs)
+    elim (filter_step one pair (repeated_after (one ∷ earlier) pairs) (has_key one.key earlier) at) [
+      | inl (has, same) ↦ subst (Contains (one ∷ pairs)) same (first_member one pairs)
       | inr later ↦ later_member one pairs pair (of_after (one ∷ earlier) pairs pair later)
     ]
 

@@ -1,5 +1,5 @@
 -- What the items of pages hold, item by item, and the pages that they name.
-use Rattle.std.proofs.Common.{◌≡◌, ℕ, ◌<◌, true, false, Bool, cond, List, [], ◌∷◌, ◌++◌, map, length, arith, refl, sym, ◌∙◌, ap, subst}
+use Rattle.std.proofs.Common.{◌≡◌, ℕ, ◌<◌, false, Bool, cond, List, [], ◌∷◌, map, length, arith, refl, sym, ◌∙◌, ap, subst}
 use Rattle.std.specs.Prelude.{not}
 use Rattle.std.specs.List.{Contains, filter, flat_map, range_with_len}
 use Rattle.std.proofs.lemmas.List.Elements.{Contains-append_left}
@@ -19,12 +19,7 @@ each_content f items = flat_map-map f (λ (item : Item). item.content) items
 flat_kept : {X Y : Type 0} (f : X → List Y) (drops : X → Bool) (xs : List X)
     → flat_map f (filter (λ x. not (drops x)) xs) ≡ flat_map (λ x. cond (drops x) [] (f x)) xs
 flat_kept f drops [] = refl
-flat_kept f drops (x ∷ xs) =
-    let rest : List _ = filter (λ y. not (drops y)) xs in
-    elim (drops x) as (λ b. flat_map f (cond (not b) (x ∷ rest) rest) ≡ cond b [] (f x) ++ flat_map (λ y. cond (drops y) [] (f y)) xs) [
-      | true ↦ flat_kept f drops xs
-      | false ↦ ap (λ ys. f x ++ ys) (flat_kept f drops xs)
-    ]
+flat_kept f drops (x ∷ xs) = grind (arith, flat_kept f drops xs)
 
 -- what is taken from the contents of a btree leaf is taken entry by entry, nothing from a shared key
 pub each_own : {X : Type 0} (f : Content → List X) (page : Listed Item)

@@ -69,29 +69,24 @@ header-turned_pieces order lsn own previous next entries high rest l0 l1 l2 l3 l
     let t2 : List ℕ = reverse previous ++ t3 in
     let t1 : List ℕ = reverse own ++ t2 in
     let page : List ℕ = lsn ++ t1 in
-    let e1 : number_at 4 other page 8 ≡ number order own =
-    number_at_past 4 other lsn t1 8 8 0 l0 refl ∙ number_at_front_turned 4 order own t2 l1 in
-    let e2 : number_at 4 other page 12 ≡ number order previous =
-    number_at_past 4 other lsn t1 8 12 4 l0 refl ∙ (number_at_past 4 other (reverse own) t2 4 4 0 r1 refl
-    ∙ number_at_front_turned 4 order previous t3 l2) in
-    let e3 : number_at 4 other page 16 ≡ number order next =
-    number_at_past 4 other lsn t1 8 16 8 l0 refl ∙ (number_at_past 4 other (reverse own) t2 4 8 4 r1 refl
-    ∙ (number_at_past 4 other (reverse previous) t3 4 4 0 r2 refl ∙ number_at_front_turned 4 order next t4 l3)) in
-    let e4 : number_at 2 other page 20 ≡ number order entries =
-    number_at_past 2 other lsn t1 8 20 12 l0 refl ∙ (number_at_past 2 other (reverse own) t2 4 12 8 r1 refl
-    ∙ (number_at_past 2 other (reverse previous) t3 4 8 4 r2 refl ∙ (number_at_past 2 other (reverse next) t4 4 4 0 r3 refl
-    ∙ number_at_front_turned 2 order entries t5 l4))) in
-    let e5 : number_at 2 other page 22 ≡ number order high =
-    number_at_past 2 other lsn t1 8 22 14 l0 refl ∙ (number_at_past 2 other (reverse own) t2 4 14 10 r1 refl
-    ∙ (number_at_past 2 other (reverse previous) t3 4 10 6 r2 refl ∙ (number_at_past 2 other (reverse next) t4 4 6 2 r3 refl
-    ∙ (number_at_past 2 other (reverse entries) t5 2 2 0 r4 refl ∙ number_at_front_turned 2 order high rest l5)))) in
     let past : (at : ℕ) → byte_at page (24 + at) ≡ byte_at rest at =
     λ at. byte_at_past lsn t1 8 (24 + at) (16 + at) l0 (omega arith) ∙ (byte_at_past (reverse own) t2 4 (16 + at) (12 + at) r1 (omega arith)
     ∙ (byte_at_past (reverse previous) t3 4 (12 + at) (8 + at) r2 (omega arith) ∙ (byte_at_past (reverse next) t4 4 (8 + at) (4 + at) r3 (omega arith)
     ∙ (byte_at_past (reverse entries) t5 2 (4 + at) (2 + at) r4 (omega arith) ∙ byte_at_past (reverse high) rest 2 (2 + at) at r5 (omega arith))))) in
-    let e6 : byte_at page 24 ≡ byte_at rest 0 = past 0 in
-    let e7 : byte_at page 25 ≡ byte_at rest 1 = past 1 in
-    rw (e1, e2, e3, e4, e5, e6, e7) refl
+    rw (
+      number_at_past 4 other lsn t1 8 8 0 l0 refl ∙ number_at_front_turned 4 order own t2 l1,
+      number_at_past 4 other lsn t1 8 12 4 l0 refl ∙ (number_at_past 4 other (reverse own) t2 4 4 0 r1 refl ∙ number_at_front_turned 4 order previous t3 l2),
+      number_at_past 4 other lsn t1 8 16 8 l0 refl ∙ (number_at_past 4 other (reverse own) t2 4 8 4 r1 refl
+          ∙ (number_at_past 4 other (reverse previous) t3 4 4 0 r2 refl ∙ number_at_front_turned 4 order next t4 l3)),
+      number_at_past 2 other lsn t1 8 20 12 l0 refl ∙ (number_at_past 2 other (reverse own) t2 4 12 8 r1 refl
+          ∙ (number_at_past 2 other (reverse previous) t3 4 8 4 r2 refl ∙ (number_at_past 2 other (reverse next) t4 4 4 0 r3 refl
+          ∙ number_at_front_turned 2 order entries t5 l4))),
+      number_at_past 2 other lsn t1 8 22 14 l0 refl ∙ (number_at_past 2 other (reverse own) t2 4 14 10 r1 refl
+          ∙ (number_at_past 2 other (reverse previous) t3 4 10 6 r2 refl ∙ (number_at_past 2 other (reverse next) t4 4 6 2 r3 refl
+          ∙ (number_at_past 2 other (reverse entries) t5 2 2 0 r4 refl ∙ number_at_front_turned 2 order high rest l5)))),
+      past 0,
+      past 1,
+    ) refl
 
 -- a page with each number of its header turned round has the same header in the other order
 pub header-turned : (order : Order) (page : List ℕ) → 26 ≤ length page → header_of (turned order) (turned_header page) ≡ header_of order page

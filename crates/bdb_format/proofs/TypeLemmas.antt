@@ -6,7 +6,7 @@ use Rattle.std.proofs.lemmas.Bool.{eqb-true}
 use Rattle.bdb_format.specs.References.{has_type, child_types}
 use Rattle.bdb_format.specs.File.{type_in}
 use Rattle.bdb_format.specs.Leaves.{children_in}
-use Rattle.bdb_format.specs.Page.{Page, Internal, RecnoInternal, PageType}
+use Rattle.bdb_format.specs.Page.{Page, Internal, PageType}
 
 -- what holds of each of these types
 abbrev pub AllTypes : (Option ℕ → Type 0) → List ℕ → Type 0
@@ -35,7 +35,6 @@ either_types P false xs ys p q = q
 -- below a page with keys are pages with keys
 pub keyed_below : (page : Page) (children : List ℕ) → has_type (3 ∷ 5 ∷ 12 ∷ []) (type_in page) ≡ true → children_in page ≡ Some children → AllTypes (λ type. has_type (3 ∷ 5 ∷ 12 ∷ []) type ≡ true) (child_types page)
 keyed_below (Internal page) children keyed are = either_types (λ type. has_type (3 ∷ 5 ∷ 12 ∷ []) type ≡ true) (page.header.level == 2) (5 ∷ 12 ∷ []) (3 ∷ []) (refl, (refl, tt)) (refl, tt)
-keyed_below (RecnoInternal page) children keyed are = absurd cc
 keyed_below page children keyed are = absurd cc
 
 -- a page with keys is one of a tree

@@ -18,6 +18,7 @@ use Rattle.bdb_format.specs.Rows.{form_code}
 use Rattle.bdb_format.specs.Master.{master_rows}
 use Rattle.bdb_format.specs.ContentRows.{contents_rows, holds_somewhere}
 use Rattle.bdb_format.specs.File.{File, file_of, page_bytes}
+use Rattle.bdb_format.proofs.ListLemmas.{only_member}
 use Rattle.bdb_format.proofs.MemberLemmas.{first_member, member_cases, no_member, is_empty, first_of_parts, of_map, in_map, of_flat_map, in_flat_map, of_range, in_range}
 
 abbrev named : ℕ → ℕ → ℕ → Fault
@@ -31,11 +32,7 @@ LeastFirst codes = (c : ℕ) (cs : List ℕ) (x : ℕ) → codes ≡ c ∷ cs �
 
 pub one_code_least : (code : Option ℕ) → LeastFirst (option_to_list code)
 one_code_least None c cs x same at = absurd cc
-one_code_least (Some code) c cs x same at =
-    elim (member_cases code [] x at) [
-      | inl here ↦ let first : code ≡ c = cc in omega arith
-      | inr later ↦ absurd (no_member [] x refl later)
-    ]
+one_code_least (Some code) c cs x same at = grind (arith, only_member code x at)
 
 -- the codes of a table rise, from one on
 abbrev pub Rises : ℕ → List (Row ℕ) → Type 0
@@ -44,24 +41,15 @@ Rises n (row ∷ rows) = (n ≤ row.code) × Rises row.code rows
 
 -- a row whose code doesn't hold counts for nothing
 holding_step : (n code x : ℕ) (rest : List ℕ) (holds : Bool) → n ≤ code → (Contains rest x → code ≤ x) → Contains (cond holds (code ∷ rest) rest) x → n ≤ x
-holding_step n code x rest true low above at =
-    elim (member_cases code rest x at) [
-      | inl here ↦ omega arith
-      | inr later ↦ let more : code ≤ x = above later in omega arith
-    ]
-holding_step n code x rest false low above at = let more : code ≤ x = above at in omega arith
+holding_step n code x rest true low above at = grind (arith, member_cases code rest x at)
+holding_step n code x rest false low above at = omega (arith, above at)
 
 pub holding_above : (n : ℕ) (rows : List (Row ℕ)) (x : ℕ) → Rises n rows → Contains (holding rows) x → n ≤ x
 holding_above n [] x rises at = absurd (no_member [] x refl at)
 holding_above n (row ∷ rows) x rises at = holding_step n row.code x (holding rows) row.holds rises.0 (holding_above row.code rows x rises.1) at
 
 least_step : (code : ℕ) (rest : List ℕ) (holds : Bool) → ((x : ℕ) → Contains rest x → code ≤ x) → LeastFirst rest → LeastFirst (cond holds (code ∷ rest) rest)
-least_step code rest true above least c cs x same at =
-    let first : code ≡ c = cc in
-    elim (member_cases code rest x at) [
-      | inl here ↦ omega arith
-      | inr later ↦ let more : code ≤ x = above x later in omega arith
-    ]
+least_step code rest true above least c cs x same at = grind (arith, member_cases code rest x at, above x)
 least_step code rest false above least c cs x same at = least c cs x same at
 
 pub holding_least : (n : ℕ) (rows : List (Row ℕ)) → Rises n rows → LeastFirst (holding rows)
@@ -77,11 +65,7 @@ AllFail (row ∷ rows) = (row.holds ≡ false) × AllFail rows
 -- no row holds where no code does
 pub all_fail : (rows : List (Row ℕ)) → holding rows ≡ [] → AllFail rows
 all_fail [] none = tt
-all_fail (row ∷ rows) none =
-    elim row.holds as (λ b. cond b (row.code ∷ holding rows) (holding rows) ≡ [] → (b ≡ false) × AllFail rows) [
-      | true ↦ λ same. absurd cc
-      | false ↦ λ same. (refl, all_fail rows same)
-    ] none
+all_fail (row ∷ rows) none = (grind arith, all_fail rows (grind arith))
 
 -- a table of which no row holds has no code
 pub none_holds : (rows : List (Row ℕ)) → AllFail rows → holding rows ≡ []
@@ -91,11 +75,7 @@ none_holds (row ∷ rows) fail = ap (λ b. cond b (row.code ∷ holding rows) (h
 -- no row holds where none is the first to
 pub none_is_first_row : (rows : List (Row ℕ)) → first_row rows ≡ None → AllFail rows
 none_is_first_row [] none = tt
-none_is_first_row (row ∷ rows) none =
-    elim row.holds as (λ b. cond b (Some row.code) (first_row rows) ≡ None → (b ≡ false) × AllFail rows) [
-      | true ↦ λ same. absurd cc
-      | false ↦ λ same. (refl, none_is_first_row rows same)
-    ] none
+none_is_first_row (row ∷ rows) none = (grind arith, none_is_first_row rows (grind arith))
 
 pub no_code : (code : Option ℕ) → option_to_list code ≡ [] → code ≡ None
 no_code None none = refl
@@ -110,17 +90,13 @@ pub record IsOfStage (stage low high : ℕ) (codes : ℕ → List ℕ) (fault : 
   pub below_high : fault.page < high
   pub is_code : Contains (codes fault.page) fault.code
 
-of_stage : (stage low high page code : ℕ) (codes : ℕ → List ℕ) (fault : Fault) → named stage page code ≡ fault → low ≤ page → page < high → Contains (codes page) code → IsOfStage stage low high codes fault
-of_stage stage low high page code codes fault same from below at =
-    subst (IsOfStage stage low high codes) same (record { same_stage = refl; from_low = from; below_high = below; is_code = at })
-
 pub of_by_page : (stage from n : ℕ) (codes : ℕ → List ℕ) (fault : Fault) → Contains (by_page stage from n codes) fault → IsOfStage stage from (from + n) codes fault
 of_by_page stage from n codes fault at =
-    let page : (p : ℕ) × Contains (range_with_len from n) p × Contains (map (named stage p) (codes p)) fault =
-    of_flat_map (λ p. map (named stage p) (codes p)) (range_with_len from n) fault at in
-    let code : (c : ℕ) × Contains (codes page.0) c × (named stage page.0 c ≡ fault) = of_map (named stage page.0) (codes page.0) fault page.2 in
-    let within : (from ≤ page.0) × (page.0 < from + n) = of_range from n page.0 page.1 in
-    of_stage stage from (from + n) page.0 code.0 codes fault code.2 within.0 within.1 code.1
+    let page = of_flat_map (λ p. map (named stage p) (codes p)) (range_with_len from n) fault at in
+    let code = of_map (named stage page.0) (codes page.0) fault page.2 in
+    let within = of_range from n page.0 page.1 in
+    subst (IsOfStage stage from (from + n) codes) code.2
+    (record { same_stage = refl; from_low = within.0; below_high = within.1; is_code = code.1 })
 
 pub in_by_page : (stage from n page code : ℕ) (codes : ℕ → List ℕ) → from ≤ page → page < from + n → Contains (codes page) code → Contains (by_page stage from n codes) (record { stage = stage; page = page; code = code })
 in_by_page stage from n page code codes low high at =
@@ -131,6 +107,11 @@ in_by_page stage from n page code codes low high at =
 pub no_codes_at : (stage from n page : ℕ) (codes : ℕ → List ℕ) → by_page stage from n codes ≡ [] → from ≤ page → page < from + n → codes page ≡ []
 no_codes_at stage from n page codes none low high =
     is_empty (codes page) (λ code at. no_member (by_page stage from n codes) (named stage page code) none (in_by_page stage from n page code codes low high at))
+
+-- no fault of a stage, no row of its table holds at any of its pages
+pub no_rows_at : (stage from n page : ℕ) (rows : ℕ → List (Row ℕ)) → by_page stage from n (λ p. holding (rows p)) ≡ [] → from ≤ page → page < from + n
+    → AllFail (rows page)
+no_rows_at stage from n page rows none low high = all_fail (rows page) (no_codes_at stage from n page (λ p. holding (rows p)) none low high)
 
 -- no code at any of its pages, no fault of a stage
 pub no_faults : (stage from n : ℕ) (codes : ℕ → List ℕ) → ((page : ℕ) → from ≤ page → page < from + n → codes page ≡ []) → by_page stage from n codes ≡ []
@@ -157,18 +138,14 @@ two_parts stage page high codes later least comes above first rest fault same at
     let here : List Fault = map (named stage page) (codes page) in
     elim (first_of_parts here later first rest same) [
       | inl (more, begins) ↦
-          let first_is : (first.page ≡ page) × ((x : ℕ) → Contains (codes page) x → first.code ≤ x) = first_of_page stage page (codes page) first more least begins in
+          let first_is = first_of_page stage page (codes page) first more least begins in
           elim (Contains-append_cases here later fault at) [
             | inl at_page ↦
-                let code : (c : ℕ) × Contains (codes page) c × (named stage page c ≡ fault) = of_map (named stage page) (codes page) fault at_page in
+                let code = of_map (named stage page) (codes page) fault at_page in
                 inr (first_is.0 ∙ ap (λ (f : Fault). f.page) code.2, subst (λ (f : Fault). first.code ≤ f.code) code.2 (first_is.1 code.0 code.1))
-            | inr at_later ↦ let of : IsOfStage stage (page + 1) high codes fault = above fault at_later in let same_page : first.page ≡ page = first_is.0 in inl (omega (arith, of.from_low))
+            | inr at_later ↦ inl (omega (arith, (above fault at_later).from_low, first_is.0))
           ]
-      | inr (nothing, begins) ↦
-          elim (Contains-append_cases here later fault at) [
-            | inl at_page ↦ absurd (no_member here fault nothing at_page)
-            | inr at_later ↦ comes first rest fault begins at_later
-          ]
+      | inr (nothing, begins) ↦ comes first rest fault begins (subst (λ fs. Contains (fs ++ later) fault) nothing at)
     ]
 
 pub by_page_first : (stage from n : ℕ) (codes : ℕ → List ℕ) → ((page : ℕ) → LeastFirst (codes page)) → FirstComesFirst (by_page stage from n codes)
@@ -203,66 +180,17 @@ by_page_in_order stage from n codes least = record {
   rises = by_page_first stage from n codes least;
 }
 
+-- those of a table whose codes rise
+table_in_order : (stage from n : ℕ) (rows : ℕ → List (Row ℕ)) → ((p : ℕ) → Rises 1 (rows p)) → InOrder stage (by_page stage from n (λ p. holding (rows p)))
+table_in_order stage from n rows rise = by_page_in_order stage from n (λ p. holding (rows p)) (λ p. holding_least 1 (rows p) (rise p))
+
 nothing_in_order : (stage : ℕ) → InOrder stage []
-nothing_in_order stage = record {
-  one_stage = λ fault at. absurd (no_member [] fault refl at);
-  rises = λ first rest fault same at. absurd (no_member [] fault refl at);
-}
-
-head_in_order : (image : List ℕ) → InOrder 1 (head_faults image)
-unfolding head_faults
-head_in_order image = by_page_in_order 1 0 1 (λ p. option_to_list (first_row (head_rows image))) (λ p. one_code_least (first_row (head_rows image)))
-
-tail_in_order : (image : List ℕ) → InOrder 1 (tail_faults image)
-unfolding tail_faults
-tail_in_order image =
-    let head : Head = head_of image in
-    by_page_in_order 1 (head.last + 1) (head.pages - (head.last + 1)) (λ p. holding (tail_rows head image p)) (λ p. holding_least 12 (tail_rows head image p) (omega arith, tt))
-
-form_in_order : (image : List ℕ) → InOrder 2 (form_faults image)
-unfolding form_faults
-form_in_order image =
-    let head : Head = head_of image in
-    let code : ℕ → Option ℕ = λ p. form_code head p (page_bytes head image p) in
-    by_page_in_order 2 0 (head.last + 1) (λ p. option_to_list (code p)) (λ p. one_code_least (code p))
-
-references_in_order : (file : File) → InOrder 3 (reference_faults file)
-unfolding reference_faults
-references_in_order file =
-    by_page_in_order 3 0 (file.last + 1) (λ p. holding (reference_rows file p))
-    (λ p. holding_least 1 (reference_rows file p) (omega arith, (omega arith, (omega arith, (omega arith, tt)))))
-
-ownership_in_order : (file : File) → InOrder 4 (ownership_faults file)
-unfolding ownership_faults
-ownership_in_order file =
-    by_page_in_order 4 1 file.last (λ p. holding (ownership_rows file p)) (λ p. holding_least 1 (ownership_rows file p) (omega arith, (omega arith, tt)))
-
-reach_in_order : (file : File) → InOrder 5 (reach_faults file)
-unfolding reach_faults
-reach_in_order file = by_page_in_order 5 1 file.last (λ p. holding (reach_rows file p)) (λ p. holding_least 1 (reach_rows file p) (omega arith, tt))
-
-structure_in_order : (file : File) → InOrder 6 (structure_faults file)
-unfolding structure_faults
-structure_in_order file =
-    by_page_in_order 6 0 (file.last + 1) (λ p. holding (structure_rows file p))
-    (λ p. holding_least 1 (structure_rows file p) (omega arith, (omega arith, (omega arith, tt))))
-
-master_in_order : (file : File) → InOrder 7 (master_faults file)
-unfolding master_faults
-master_in_order file =
-    by_page_in_order 7 0 (file.last + 1) (λ p. holding (master_rows file p))
-    (λ p. holding_least 1 (master_rows file p) (omega arith, (omega arith, (omega arith, (omega arith, (omega arith, tt))))))
+nothing_in_order stage = by_page_in_order stage 0 0 (λ p. []) (λ p. one_code_least None)
 
 -- a table whose codes are numbers that follow each other
 numbered_rise : (from n low : ℕ) (test : ℕ → Bool) → low ≤ from → Rises low (map (λ code. code :? test code) (range_with_len from n))
 numbered_rise from zero low test below = tt
 numbered_rise from (suc n) low test below = (below, numbered_rise (from + 1) n from test (omega arith))
-
-contents_in_order : (file : File) → InOrder 8 (contents_faults file)
-unfolding contents_faults
-contents_in_order file =
-    by_page_in_order 8 0 (file.last + 1) (λ p. holding (contents_rows file p))
-    (λ p. holding_least 1 (contents_rows file p) (numbered_rise 1 9 1 (holds_somewhere file p) (omega arith)))
 
 -- what holds of a stage and of all others holds of the choice between them
 chosen : (P : ℕ → (List ℕ → List Fault) → Type 0) (stage k : ℕ) (here others : List ℕ → List Fault) → P k here → P stage others
@@ -290,17 +218,29 @@ each_stage P one two three four five six seven eight others stage =
     chosen P stage 5 _ _ five (chosen P stage 6 _ _ six (chosen P stage 7 _ _ seven (chosen P stage 8 _ _ eight (others stage))))))))
 
 pub stage_in_order : (image : List ℕ) (stage : ℕ) → InOrder stage (stage_faults image stage)
+unfolding head_faults tail_faults form_faults reference_faults ownership_faults reach_faults structure_faults master_faults contents_faults
 stage_in_order image =
+    let head : Head = head_of image in
+    let file : File = file_of image in
     each_stage (λ stage faults. InOrder stage (faults image))
-    (or_else_both (InOrder 1) (head_faults image) (tail_faults image) (head_in_order image) (tail_in_order image))
-    (form_in_order image)
-    (references_in_order (file_of image))
-    (ownership_in_order (file_of image))
-    (reach_in_order (file_of image))
-    (structure_in_order (file_of image))
-    (master_in_order (file_of image))
-    (contents_in_order (file_of image))
+    (or_else_both (InOrder 1) (head_faults image) (tail_faults image)
+    (by_page_in_order 1 0 1 (λ p. option_to_list (first_row (head_rows image))) (λ p. one_code_least (first_row (head_rows image))))
+    (table_in_order 1 (head.last + 1) (head.pages - (head.last + 1)) (tail_rows head image) (λ p. (omega arith, tt))))
+    (by_page_in_order 2 0 (head.last + 1) _ (λ p. one_code_least (form_code head p (page_bytes head image p))))
+    (table_in_order 3 0 (file.last + 1) (reference_rows file) (λ p. (omega arith, (omega arith, (omega arith, (omega arith, tt))))))
+    (table_in_order 4 1 file.last (ownership_rows file) (λ p. (omega arith, (omega arith, tt))))
+    (table_in_order 5 1 file.last (reach_rows file) (λ p. (omega arith, tt)))
+    (table_in_order 6 0 (file.last + 1) (structure_rows file) (λ p. (omega arith, (omega arith, (omega arith, tt)))))
+    (table_in_order 7 0 (file.last + 1) (master_rows file) (λ p. (omega arith, (omega arith, (omega arith, (omega arith, (omega arith, tt)))))))
+    (table_in_order 8 0 (file.last + 1) (contents_rows file) (λ p. numbered_rise 1 9 1 (holds_somewhere file p) (omega arith)))
     nothing_in_order
+
+first_in : (faults : List Fault) (fault : Fault) → first_fault faults ≡ Some fault → Contains faults fault
+first_in [] fault is = absurd cc
+first_in (first ∷ faults) fault is = let same : first ≡ fault = cc in subst (Contains (first ∷ faults)) same (first_member first faults)
+
+first_is_of : (image : List ℕ) (stage : ℕ) (fault : Fault) → first_fault (stage_faults image stage) ≡ Some fault → fault.stage ≡ stage
+first_is_of image stage fault is = (stage_in_order image stage).one_stage fault (first_in (stage_faults image stage) fault is)
 
 -- the faults are those of one stage, and no earlier stage has any
 pub record IsFirstStage (image : List ℕ) (stage : ℕ) (faults : List Fault) : Type 0 where
@@ -315,17 +255,18 @@ one_more image stage before none = below_more (λ s. stage_faults image s ≡ []
 
 -- of stages that follow each other, the first one that has faults
 first_of_stages : (n from : ℕ) (image : List ℕ) (first : Fault) (rest : List Fault) → no_faults_before image from
-    → faults_in (range_with_len from n) image ≡ first ∷ rest
-    → (stage : ℕ) × IsFirstStage image stage (first ∷ rest)
+    → faults_in (range_with_len from n) image ≡ first ∷ rest → IsFirstStage image first.stage (first ∷ rest)
 unfolding faults_in
 first_of_stages zero from image first rest before same = absurd cc
 first_of_stages (suc n) from image first rest before same =
     elim (or_else_first (stage_faults image from) (faults_in (range_with_len (from + 1) n) image) first rest same) [
-      | inl here ↦ (from, record { before = before; faults_are = here })
+      | inl here ↦
+          let stage = first_is_of image from first (ap first_fault here) in
+          subst (λ s. IsFirstStage image s (first ∷ rest)) (sym stage) (record { before = before; faults_are = here })
       | inr (none, later) ↦ first_of_stages n (from + 1) image first rest (one_more image from before none) later
     ]
 
-pub first_stage : (image : List ℕ) (first : Fault) (rest : List Fault) → faults_of image ≡ first ∷ rest → (stage : ℕ) × IsFirstStage image stage (first ∷ rest)
+first_stage : (image : List ℕ) (first : Fault) (rest : List Fault) → faults_of image ≡ first ∷ rest → IsFirstStage image first.stage (first ∷ rest)
 unfolding faults_of
 first_stage image first rest same = first_of_stages 8 1 image first rest (one_more image 0 (below_none (λ s. stage_faults image s ≡ [])) refl) same
 
@@ -334,11 +275,8 @@ none_of : (stages : List ℕ) (image : List ℕ) (stage : ℕ) → faults_in sta
 unfolding faults_in
 none_of [] image stage none at = absurd (no_member [] stage refl at)
 none_of (first ∷ stages) image stage none at =
-    let parts : (stage_faults image first ≡ []) × (faults_in stages image ≡ []) = or_else_none (stage_faults image first) (faults_in stages image) none in
-    elim (member_cases first stages stage at) [
-      | inl same ↦ subst (λ s. stage_faults image s ≡ []) same parts.0
-      | inr later ↦ none_of stages image stage parts.1 later
-    ]
+    let parts = or_else_none (stage_faults image first) (faults_in stages image) none in
+    elim (member_cases first stages stage at) [ inl same ↦ ap (stage_faults image) (sym same) ∙ parts.0 | inr later ↦ none_of stages image stage parts.1 later ]
 
 pub none_within : (from n : ℕ) (image : List ℕ) (stage : ℕ) → faults_in (range_with_len from n) image ≡ [] → from ≤ stage → stage < from + n
     → stage_faults image stage ≡ []
@@ -348,18 +286,9 @@ none_within from n image stage none low high = none_of (range_with_len from n) i
 pub no_stage : (image : List ℕ) (stage : ℕ) → faults_of image ≡ [] → stage_faults image stage ≡ []
 unfolding faults_of
 no_stage image stage none =
-    let here : (s : ℕ) → 1 ≤ s → s < 9 → stage_faults image s ≡ [] = λ s. none_within 1 8 image s none in
-    each_stage (λ s faults. faults image ≡ [])
-    (here 1 (omega arith) (omega arith))
-    (here 2 (omega arith) (omega arith))
-    (here 3 (omega arith) (omega arith))
-    (here 4 (omega arith) (omega arith))
-    (here 5 (omega arith) (omega arith))
-    (here 6 (omega arith) (omega arith))
-    (here 7 (omega arith) (omega arith))
-    (here 8 (omega arith) (omega arith))
-    (λ s. refl)
-    stage
+    let here : (k : ℕ) → k < 8 → stage_faults image (k + 1) ≡ [] = λ k low. none_within 1 8 image (k + 1) none (omega arith) (omega arith) in
+    each_stage (λ s faults. faults image ≡ []) (here 0 (omega arith)) (here 1 (omega arith)) (here 2 (omega arith)) (here 3 (omega arith))
+    (here 4 (omega arith)) (here 5 (omega arith)) (here 6 (omega arith)) (here 7 (omega arith)) (λ s. refl) stage
 
 -- Some of the stages.
 
@@ -373,7 +302,7 @@ pub skip_stages : (image : List ℕ) (passed stages : List ℕ) → faults_in pa
 unfolding faults_in
 skip_stages image [] stages none = refl
 skip_stages image (stage ∷ passed) stages none =
-    let parts : (stage_faults image stage ≡ []) × (faults_in passed image ≡ []) = or_else_none (stage_faults image stage) (faults_in passed image) none in
+    let parts = or_else_none (stage_faults image stage) (faults_in passed image) none in
     skip_stage image stage (passed ++ stages) parts.0 ∙ skip_stages image passed stages parts.1
 
 -- each of these stages has no faults
@@ -419,20 +348,7 @@ refused_after image passed stage more MemoryError none is = tt
 -- a verdict on some stages is the one on more stages after them
 pub verdict_in_more : (image : List ℕ) (stages more : List ℕ) (judgement : Judgement) → verdict_in stages image ≡ Some judgement
     → verdict_in (stages ++ more) image ≡ Some judgement
-verdict_in_more image stages more judgement =
-    by_first (first_fault (faults_in stages image)) (first_fault (faults_in (stages ++ more) image)) (first_in_more image stages more)
-  where
-    by_first : (some all : Option Fault) → ((fault : Fault) → some ≡ Some fault → all ≡ Some fault) → option_map judgement_of some ≡ Some judgement
-        → option_map judgement_of all ≡ Some judgement
-    by_first None all more is = absurd cc
-    by_first (Some fault) all more is = ap (option_map judgement_of) (more fault refl) ∙ is
-
-first_is_of : (image : List ℕ) (stage : ℕ) (fault : Fault) → first_fault (stage_faults image stage) ≡ Some fault → fault.stage ≡ stage
-first_is_of image stage fault = of_list (stage_faults image stage) (stage_in_order image stage).one_stage
-  where
-    of_list : (faults : List Fault) → ((f : Fault) → Contains faults f → f.stage ≡ stage) → first_fault faults ≡ Some fault → fault.stage ≡ stage
-    of_list [] one is = absurd cc
-    of_list (first ∷ faults) one is = let same : first ≡ fault = cc in subst (λ (f : Fault). f.stage ≡ stage) same (one first (first_member first faults))
+verdict_in_more image stages more judgement is = grind (arith, first_in_more image stages more)
 
 -- the first fault of stages from one on is of such a stage
 first_from : (n from : ℕ) (image : List ℕ) (fault : Fault) → first_fault (faults_in (range_with_len from n) image) ≡ Some fault → from ≤ fault.stage
@@ -440,44 +356,37 @@ unfolding faults_in
 first_from zero from image fault is = absurd cc
 first_from (suc n) from image fault is =
     elim (first_of_two (stage_faults image from) (faults_in (range_with_len (from + 1) n) image) fault is) [
-      | inl here ↦ let same : fault.stage ≡ from = first_is_of image from fault here in omega arith
-      | inr (none, later) ↦ let above : from + 1 ≤ fault.stage = first_from n (from + 1) image fault later in omega arith
+      | inl here ↦ omega (arith, first_is_of image from fault here)
+      | inr (none, later) ↦ omega (arith, first_from n (from + 1) image fault later)
     ]
 
 -- from stage 3 on a fault is judged as it is
 late_fault : (fault : Fault) → 3 ≤ fault.stage → judgement_of fault ≡ Faulty fault
-late_fault fault late =
-    let one : (fault.stage == 1) ≡ false = ne_eqb fault.stage 1 (λ same. absurd (omega arith)) in
-    let two : (fault.stage == 2) ≡ false = ne_eqb fault.stage 2 (λ same. absurd (omega arith)) in
-    rw (one, two) refl
+late_fault fault late = grind (arith, ne_eqb fault.stage 1, ne_eqb fault.stage 2)
 
 -- the verdict is the first fault of stages from 3 on, after stages without faults
 pub verdict_after : (image passed : List ℕ) (from n : ℕ) (more : List ℕ) (fault : Fault) → faults_in passed image ≡ [] → 3 ≤ from
     → first_fault (faults_in (range_with_len from n) image) ≡ Some fault
     → verdict_in (passed ++ (range_with_len from n ++ more)) image ≡ Some (Faulty fault)
 verdict_after image passed from n more fault none late is =
-    let above : from ≤ fault.stage = first_from n from image fault is in
     ap (λ faults. option_map judgement_of (first_fault faults)) (skip_stages image passed (range_with_len from n ++ more) none)
     ∙ (ap (option_map judgement_of) (first_in_more image (range_with_len from n) more fault is)
-    ∙ ap (λ (j : Judgement). Some j) (late_fault fault (omega arith)))
+    ∙ ap (λ (j : Judgement). Some j) (late_fault fault (omega (arith, first_from n from image fault is))))
 
 -- The laws.
 
 -- the first of the faults is a row that holds
-pub first_holds : (image : List ℕ) (stage : ℕ) (fault : Fault) (faults : List Fault) → IsFirstStage image stage (fault ∷ faults) → (fault.stage ≡ stage) × Holds image fault.stage fault.page fault.code
-first_holds image stage fault faults is =
-    let at : Contains (stage_faults image stage) fault = subst (λ fs. Contains fs fault) (sym is.faults_are) (first_member fault faults) in
-    let same : fault.stage ≡ stage = (stage_in_order image stage).one_stage fault at in (
-      same,
-      subst (λ s. Holds image s fault.page fault.code) (sym same)
-          (record { earlier = is.before; row = subst (λ s. Contains (stage_faults image stage) (record { stage = s; page = fault.page; code = fault.code })) same at }),
-    )
+first_holds : (image : List ℕ) (fault : Fault) (faults : List Fault) → IsFirstStage image fault.stage (fault ∷ faults)
+    → Holds image fault.stage fault.page fault.code
+first_holds image fault faults is = record {
+  earlier = is.before;
+  row = subst (λ fs. Contains fs fault) (sym is.faults_are) (first_member fault faults);
+}
 
 none_is_first : (image : List ℕ) (faults : List Fault) → faults_of image ≡ faults → ((stage page code : ℕ) → Holds image stage page code → ⊥) → faults_of image ≡ []
 none_is_first image [] same none = same
 none_is_first image (fault ∷ faults) same none =
-    let found : (stage : ℕ) × IsFirstStage image stage (fault ∷ faults) = first_stage image fault faults same in
-    absurd (none fault.stage fault.page fault.code (first_holds image found.0 fault faults found.1).1)
+    absurd (none fault.stage fault.page fault.code (first_holds image fault faults (first_stage image fault faults same)))
 
 pub sound_where_no_row_holds : SoundWhereNoRowHolds
 sound_where_no_row_holds image = (
@@ -496,11 +405,10 @@ same_stage image stage page code fault first holds =
 
 pub first_is_least : FirstIsLeast
 first_is_least image fault faults same =
-    let found : (stage : ℕ) × IsFirstStage image stage (fault ∷ faults) = first_stage image fault faults same in
-    let holds : (fault.stage ≡ found.0) × Holds image fault.stage fault.page fault.code = first_holds image found.0 fault faults found.1 in
-    let begins : stage_faults image fault.stage ≡ fault ∷ faults = ap (stage_faults image) holds.0 ∙ found.1.faults_are in
+    let found : IsFirstStage image fault.stage (fault ∷ faults) = first_stage image fault faults same in
+    let holds = first_holds image fault faults found in
     record {
-      holds = holds.1;
-      first = λ stage page code other. same_stage image stage page code fault holds.1 other;
-      least = λ page code other. (stage_in_order image fault.stage).rises fault faults _ begins other.row;
+      holds = holds;
+      first = λ stage page code other. same_stage image stage page code fault holds other;
+      least = λ page code other. (stage_in_order image fault.stage).rises fault faults _ found.faults_are other.row;
     }

@@ -2,6 +2,7 @@
 #![tactic(auto)]
 
 mod bytes;
+mod digits;
 pub mod graph_laws;
 mod kinds;
 pub mod laws;
@@ -12,6 +13,7 @@ mod settings;
 mod steps;
 
 pub use bytes::Bytes;
+pub use digits::number_in;
 pub use kinds::{CheckError, Fault, Kind, Order, Unsupported, Verdict};
 pub use metadata::{BtreeMeta, FileKind, HashMeta, Head, MetaFault, QueueMeta};
 pub use pages::{Header, ItemFault, RecnoItem};

@@ -1,10 +1,8 @@
 -- The children of an internal page are the targets of its references to children, and a queue file has no such page.
-use Rattle.std.proofs.Common.{◌≡◌, ◌⊎◌, ℕ, zero, suc, ◌+◌, ◌≤◌, Bool, true, false, cond, List, [], ◌∷◌, ◌++◌, map, Some, None, arith, refl, sym, ◌∙◌, ap, inl, inr, true≢false}
+use Rattle.std.proofs.Common.{◌≡◌, ◌⊎◌, ℕ, ◌+◌, ◌≤◌, Bool, true, false, cond, List, [], ◌∷◌, ◌++◌, map, Some, None, arith, refl, sym, ◌∙◌, ap, inl, inr, true≢false}
 use Rattle.std.specs.List.{Contains, enumerate_from, filter, flat_map}
-use Rattle.std.proofs.lemmas.Bool.{eqb-true}
 use Rattle.bdb_format.specs.declared.kinds.Order.{Order}
-use Rattle.bdb_format.specs.declared.metadata.FileKind.{FileKind}
-use Rattle.bdb_format.specs.declared.metadata.FileKind.TheVariants.{Btree, Hash as HashFile, Queue as QueueFile}
+use Rattle.bdb_format.specs.declared.metadata.FileKind.TheVariants.{Queue as QueueFile}
 use Rattle.bdb_format.specs.declared.metadata.Head.{Head}
 use Rattle.bdb_format.specs.declared.pages.RecnoItem.{RecnoItem}
 use Rattle.bdb_format.specs.declared.references.Reference.{Reference}
@@ -20,7 +18,6 @@ use Rattle.bdb_format.specs.References.{content_targets, internal_targets, targe
 use Rattle.bdb_format.specs.Rows.{form_code, may_have_type}
 use Rattle.bdb_format.proofs.GraphLemmas.{type_fits, queue_types}
 use Rattle.bdb_format.proofs.MemberLemmas.{of_filter, of_map}
-use Rattle.bdb_format.proofs.PageLemmas.{later_type}
 use Rattle.bdb_graph.specs.Formed.{IsFormed}
 use Rattle.bdb_graph.specs.Linked.{IsForest}
 use Rattle.bdb_graph.proofs.FirstLemmas.{formed_page}

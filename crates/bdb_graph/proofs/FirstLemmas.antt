@@ -10,7 +10,7 @@ use Rattle.bdb_format.specs.declared.metadata.Head.{Head}
 use Rattle.bdb_format.specs.declared.metadata.MetaFault.{MetaFault}
 use Rattle.bdb_format.specs.declared.metadata.MetaFault.TheVariants.{Fault as CodeFault}
 use Rattle.bdb_format.specs.File.{page_bytes}
-use Rattle.bdb_format.specs.HeadOf.{faulted, form_fault, head_fault, head_of, head_rows, left_out_as}
+use Rattle.bdb_format.specs.HeadOf.{faulted, form_fault, head_fault, head_of, head_rows}
 use Rattle.bdb_format.specs.Reading.{is_zero}
 use Rattle.bdb_format.specs.Rows.{form_code}
 use Rattle.bdb_format.specs.Table.{Row, answer, first_row}

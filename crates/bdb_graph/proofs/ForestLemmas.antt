@@ -1,14 +1,14 @@
 -- In a file that linking accepts each page leads up, and no way has a page twice: the turns that a page takes fall on the way up.
-use Rattle.std.proofs.Common.{◌≡◌, ◌⊎◌, ℕ, zero, suc, ◌+◌, ◌<◌, ◌≤◌, Bool, true, false, not, ◌&&◌, ◌||◌, cond, List, [], ◌∷◌, length, Option, Some, None, arith, refl, sym, ◌∙◌, ap, subst, inl, inr, true≢false}
+use Rattle.std.proofs.Common.{◌≡◌, ◌⊎◌, ℕ, zero, suc, ◌+◌, ◌<◌, ◌≤◌, Bool, true, false, not, ◌&&◌, ◌||◌, List, [], ◌∷◌, length, Option, Some, None, arith, refl, sym, ◌∙◌, ap, inl, inr, true≢false}
 use Rattle.std.specs.Prelude.{nat_lt, ◌==◌}
-use Rattle.std.specs.List.{Contains, list_all, filter, range_with_len}
-use Rattle.std.proofs.lemmas.Bool.{cases_Bool, not-false, eqb-false, eq-eqb, ltb-false, or_parts, or_from}
+use Rattle.std.specs.List.{Contains, list_all, range_with_len}
+use Rattle.std.proofs.lemmas.Bool.{cases_Bool, eqb-false, eq-eqb, ltb-false, or_parts, or_from}
 use Rattle.bdb_format.specs.File.{File, file_of, page_at}
 use Rattle.bdb_format.specs.References.{refs, asked_by, fit_rows, fit_code}
-use Rattle.bdb_format.specs.Graph.{Owner, all_references, first_holder, has_heads_alone, held_by, if_some, is_anchor, is_head_reference, is_reserve, owners, reaches, reaches_in}
-use Rattle.bdb_format.specs.Verdict.{holding, stage_faults, ownership_faults, ownership_rows, reach_faults, reach_rows, reference_faults, faults_in}
+use Rattle.bdb_format.specs.Graph.{Owner, all_references, first_holder, has_heads_alone, held_by, if_some, is_anchor, is_head_reference, is_reserve, owners, reaches_in}
+use Rattle.bdb_format.specs.Verdict.{holding, stage_faults, ownership_faults, ownership_rows, reach_faults, reference_faults, faults_in}
 use Rattle.bdb_format.proofs.GraphLemmas.{IsOwner, anchor_unowned, is_owner, owner_fits, reserve_is, reached_of}
-use Rattle.bdb_format.proofs.MemberLemmas.{first_member, in_flat_map, in_map, in_range, later_member, member_cases, no_member, in_filter}
+use Rattle.bdb_format.proofs.MemberLemmas.{first_member, in_flat_map, in_map, in_range, member_cases, no_member, in_filter}
 use Rattle.bdb_format.proofs.VerdictLemmas.{AllFail, all_fail, no_codes_at, none_is_first_row, none_within}
 use Rattle.bdb_graph.specs.Forest.{AllDistinct, EachPageLeadsUp, IsWayDown, IsWayUp, LeadsUp, Names, NoPageTwiceBelow, NotIn, is_top}
 
@@ -35,7 +35,7 @@ empty_holder [] h none some = cc
 empty_holder (owner ∷ os) h none some = omega (arith, none)
 
 -- a page with an owner is no anchor and no reserve
-no_top : (file : File) (p h : ℕ) → reference_faults file ≡ [] → first_holder (owners file p) ≡ Some h → is_top file p ≡ false
+pub no_top : (file : File) (p h : ℕ) → reference_faults file ≡ [] → first_holder (owners file p) ≡ Some h → is_top file p ≡ false
 no_top file p h none some =
     or_from (is_anchor file p) (is_reserve file p)
     (elim (cases_Bool (is_anchor file p)) [
@@ -48,7 +48,7 @@ no_top file p h none some =
     ])
 
 -- an owned page is there, and isn't page 0
-owned_inside : (file : File) (p h : ℕ) → reference_faults file ≡ [] → first_holder (owners file p) ≡ Some h → (1 ≤ p) × (p ≤ file.last)
+pub owned_inside : (file : File) (p h : ℕ) → reference_faults file ≡ [] → first_holder (owners file p) ≡ Some h → (1 ≤ p) × (p ≤ file.last)
 unfolding fit_code
 owned_inside file p h none some =
     elim (some_or_none (owners file p)) [
@@ -65,7 +65,7 @@ owned_inside file p h none some =
 
 -- Turns.
 
-fewer : (t : ℕ) (file : File) (p : ℕ) → reaches_in (suc t) file p ≡ false → reaches_in t file p ≡ false
+pub fewer : (t : ℕ) (file : File) (p : ℕ) → reaches_in (suc t) file p ≡ false → reaches_in t file p ≡ false
 unfolding reaches_in
 fewer t file p no' = (or_parts (reaches_in t file p) (if_some (first_holder (owners file p)) (reaches_in t file)) no').0
 
@@ -83,7 +83,7 @@ onward t file p no' does = of (first_holder (owners file p)) refl
         of_some false b no' does same = sym same ∙ does
 
 -- an owned page reaches a turn after the holder of its first reference
-step : (t : ℕ) (file : File) (p h : ℕ) → reference_faults file ≡ [] → first_holder (owners file p) ≡ Some h → reaches_in (suc t) file p ≡ reaches_in t file h
+pub step : (t : ℕ) (file : File) (p h : ℕ) → reference_faults file ≡ [] → first_holder (owners file p) ≡ Some h → reaches_in (suc t) file p ≡ reaches_in t file h
 unfolding reaches_in
 step zero file p h none some = rw (no_top file p h none some, some) refl
 step (suc t) file p h none some =
@@ -95,7 +95,7 @@ step (suc t) file p h none some =
 
 -- Ways up.
 
-way_of : (t : ℕ) (file : File) (p : ℕ) → reaches_in t file p ≡ true → (hs : List ℕ) × IsWayUp file p hs × (length hs ≤ t)
+pub way_of : (t : ℕ) (file : File) (p : ℕ) → reaches_in t file p ≡ true → (hs : List ℕ) × IsWayUp file p hs × (length hs ≤ t)
 unfolding reaches_in
 way_of zero file p does = ([], does, omega arith)
 way_of (suc t) file p does =
@@ -107,7 +107,7 @@ way_of (suc t) file p does =
           (next.0 ∷ way.0, (next.1, way.1), omega (arith, way.2))
     ]
 
-way_reaches : (file : File) (p : ℕ) (hs : List ℕ) → reference_faults file ≡ [] → IsWayUp file p hs → reaches_in (length hs) file p ≡ true
+pub way_reaches : (file : File) (p : ℕ) (hs : List ℕ) → reference_faults file ≡ [] → IsWayUp file p hs → reaches_in (length hs) file p ≡ true
 unfolding reaches_in
 way_reaches file p [] none way = way
 way_reaches file p (h ∷ hs) none way = step (length hs) file p h none way.0 ∙ way_reaches file h hs none way.1
@@ -127,7 +127,7 @@ not_on file q p [] none no' way = (differ 0 file q p no' (way_reaches file p [] 
 not_on file q p (h ∷ hs) none no' way =
     (differ (length (h ∷ hs)) file q p no' (way_reaches file p (h ∷ hs) none way), not_on file q h hs none (fewer (length hs) file q no') way.1)
 
-way_distinct : (file : File) (p : ℕ) (hs : List ℕ) → reference_faults file ≡ [] → IsWayUp file p hs → AllDistinct (p ∷ hs)
+pub way_distinct : (file : File) (p : ℕ) (hs : List ℕ) → reference_faults file ≡ [] → IsWayUp file p hs → AllDistinct (p ∷ hs)
 way_distinct file p [] none way = (tt, tt)
 way_distinct file p (h ∷ hs) none way = (not_on file p h hs none (way_exact file p h hs none way) way.1, way_distinct file h hs none way.1)
 

@@ -1,6 +1,6 @@
 -- What a page without a fault of form is, by its type.
 use Rattle.std.proofs.Common.{◌≡◌, ℕ, zero, suc, ◌+◌, ◌≤◌, Bool, true, false, cond, List, length, arith, refl, sym, ◌∙◌, ap}
-use Rattle.std.specs.Prelude.{Option, Some, None, Ok, ◌==◌, ◌&&◌, nat_lt}
+use Rattle.std.specs.Prelude.{Option, Some, None, ◌==◌, ◌&&◌, nat_lt}
 use Rattle.std.proofs.lemmas.Bool.{ltb-false, or_parts}
 use Rattle.std.proofs.lemmas.List.FromFn.{get_or-map-range_with_len}
 use Rattle.bdb_form.specs.declared.view.PageView.{PageView}
@@ -11,15 +11,15 @@ use Rattle.bdb_format.specs.declared.metadata.FileKind.{FileKind}
 use Rattle.bdb_format.specs.declared.metadata.FileKind.TheVariants.{Btree, Hash, Queue}
 use Rattle.bdb_format.specs.declared.metadata.Head.{Head}
 use Rattle.bdb_format.specs.File.{file_of, page_at, page_bytes}
-use Rattle.bdb_format.specs.HeadOf.{faulted, form_fault, head_of, is_page_size}
+use Rattle.bdb_format.specs.HeadOf.{head_of, is_page_size}
 use Rattle.bdb_format.specs.Numbers.{byte_at}
 use Rattle.bdb_format.specs.Page.{Zero, Meta, BtreeFields, HashFields, NoType, PageType, FreePage, HashPage, InternalPage, RecnoInternalPage, LeafPage, RecnoLeafPage, OverflowPage, HashMetaPage, BtreeMetaPage, QueueMetaPage, QueuePage, DupLeafPage, OtherPage}
 use Rattle.bdb_format.specs.Reading.{abstract_page, btree_fields, hash_fields, is_zero, page_as, page_type}
 use Rattle.bdb_format.specs.References.{targets_of, refs}
 use Rattle.bdb_format.specs.Rows.{body_code, form_code, identity_rows, is_tree_type, lacks_spare, may_have_type, metadata_rows, page_code, type_of, typed_code}
-use Rattle.bdb_format.specs.Table.{Row, answer, first_row}
+use Rattle.bdb_format.specs.Table.{first_row}
 use Rattle.bdb_format.specs.Graph.{is_meta}
-use Rattle.bdb_format.proofs.PageLemmas.{answer_value, metadata_code}
+use Rattle.bdb_format.proofs.PageLemmas.{metadata_code}
 use Rattle.bdb_format.proofs.VerdictLemmas.{AllFail, none_is_first_row}
 use Rattle.bdb_graph.specs.Slots.{IsNoMetadata, placed}
 use Rattle.bdb_graph.proofs.CodeLemmas.{btree_last, code_by, code_same, differs, is_body, is_same, no_queue_type, not_zero, tree_code, two_none, typed_metadata}
@@ -80,10 +80,6 @@ table_page order page size is = rw (not_zero page Hash size is, abstract_page) (
 pub tree_page : (order : Order) (page : List ℕ) → is_page_size (length page) ≡ true → byte_at page 25 ≡ 9 → abstract_page order page ≡ Meta (BtreeFields (btree_fields order page))
 unfolding abstract_page
 tree_page order page size is = rw (not_zero page Btree size is, abstract_page) (ap (λ byte. page_as order page (page_type byte)) is)
-
--- metadata that isn't refused is what is read
-pub read_meta : {T : Type 0} (rows : List (Row ℕ)) (fields meta : T) → first_row rows ≡ None → Ok meta ≡ faulted form_fault (answer rows fields) → meta ≡ fields
-read_meta rows fields meta none read = let value : answer rows fields ≡ Ok fields = answer_value rows fields none in cc (ap (faulted form_fault) value, read)
 
 -- the buckets are no more than the pages
 pub few_buckets : (order : Order) (page : List ℕ) (number last : ℕ) → first_row (metadata_rows order page number last Hash) ≡ None → (hash_fields order page).max_bucket ≤ last

@@ -7,7 +7,9 @@ pub mod FormedLemmas
 pub mod HeldLemmas
 pub mod LeavesLemmas
 pub mod LinkLemmas
+pub mod LinkingLemmas
 pub mod LinkedLemmas
+pub mod MarkLemmas
 pub mod MetaLemmas
 pub mod ReachLemmas
 pub mod RoleLemmas
@@ -16,4 +18,3 @@ pub mod SourceLemmas
 pub mod StageLemmas
 pub mod TallyLemmas
 pub mod TargetLemmas
-pub mod LinkingLemmas

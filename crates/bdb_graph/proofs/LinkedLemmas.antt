@@ -1,14 +1,12 @@
 -- What the pages of a linked image are, and which pages its metadata names.
 use Rattle.std.proofs.Common.{◌≡◌, ◌⊎◌, ℕ, zero, suc, ◌+◌, ◌<◌, ◌≤◌, Bool, true, false, not, cond, List, [], ◌∷◌, length, map, arith, refl, sym, ◌∙◌, ap, subst, inl, inr}
 use Rattle.std.specs.Prelude.{Option, Some, None, ◌==◌, get_or, nat_lt, slice_index_or}
-use Rattle.std.specs.Option.{is_some, option_map}
-use Rattle.std.specs.List.{Contains, enumerate_from, filter, range_with_len, slice_get}
+use Rattle.std.specs.Option.{option_map}
+use Rattle.std.specs.List.{Contains, enumerate_from, filter, range_with_len}
 use Rattle.std.proofs.lemmas.Bool.{eqb-true, ltb-false, or_parts, true≢false}
 use Rattle.std.proofs.lemmas.List.Elements.{Contains-append_right, Contains-get_or}
 use Rattle.std.proofs.lemmas.List.FromFn.{length-range_with_len}
 use Rattle.std.proofs.lemmas.List.Sums.{count_by-le-length, length-filter}
-use Rattle.std.proofs.lemmas.Grind.{get_or_default_zero}
-use Rattle.std.proofs.lemmas.Option.{slice_get-get_or}
 use Rattle.bdb_format.specs.declared.kinds.Order.{Order}
 use Rattle.bdb_format.specs.declared.metadata.BtreeMeta.{BtreeMeta}
 use Rattle.bdb_format.specs.declared.metadata.HashMeta.{HashMeta}
@@ -19,7 +17,7 @@ use Rattle.bdb_format.specs.declared.references.Reference.{Reference}
 use Rattle.bdb_format.specs.declared.references.Sort.{Sort}
 use Rattle.bdb_format.specs.declared.references.Sort.TheVariants.{Root, Bucket}
 use Rattle.bdb_format.specs.File.{File, file_of, page_at, page_bytes}
-use Rattle.bdb_format.specs.Graph.{Owner, all_references, held_by, is_meta}
+use Rattle.bdb_format.specs.Graph.{Owner, is_meta}
 use Rattle.bdb_format.specs.Hashing.{first_page}
 use Rattle.bdb_format.specs.HeadOf.{form_fault, head_of}
 use Rattle.bdb_format.specs.Numbers.{byte_at, four_at}
@@ -30,18 +28,19 @@ use Rattle.bdb_format.specs.HeadOf.{is_page_size}
 use Rattle.bdb_format.specs.Rows.{body_code, form_code, identity_rows, is_tree_type, may_have_type, page_code, queue_code, type_of}
 use Rattle.bdb_format.specs.Table.{first_row}
 use Rattle.bdb_format.proofs.GraphLemmas.{each_fits, type_fits}
-use Rattle.bdb_format.proofs.MemberLemmas.{first_member, in_flat_map, in_map, in_range, later_member, member_cases, no_member, of_filter, of_flat_map, of_map, of_range}
+use Rattle.bdb_format.proofs.MemberLemmas.{first_member, in_map, in_range, of_filter, of_range}
 use Rattle.bdb_format.proofs.PageLemmas.{later_type}
 use Rattle.bdb_format.proofs.VerdictLemmas.{AllFail, none_is_first_row}
 use Rattle.bdb_graph.specs.Formed.{IsFormed}
 use Rattle.bdb_graph.specs.Linked.{HasMetadata, IsTarget, meta_pages}
 use Rattle.bdb_format.specs.Verdict.{faults_in}
-use Rattle.bdb_graph.specs.Metas.{meta_in}
+use Rattle.bdb_graph.specs.declared.meta.NumberedMeta.{NumberedMeta}
+use Rattle.bdb_graph.specs.Metas.{AreMetas}
+use Rattle.std.proofs.lemmas.List.{get_or-map, length-map}
 use Rattle.bdb_form.specs.Formed.{fields_as}
 use Rattle.bdb_graph.proofs.CodeLemmas.{code_by, form_queue, is_same, not_zero, tree_refused, two_none}
 use Rattle.bdb_graph.proofs.FirstLemmas.{formed_page}
 use Rattle.bdb_graph.proofs.ForestLemmas.{sound_graph}
-use Rattle.bdb_graph.proofs.MetaLemmas.{is_by_fields}
 use Rattle.bdb_graph.proofs.HeldLemmas.{identity_none, kind_is, last_page, page_is}
 use Rattle.bdb_format.proofs.ListLemmas.{in_enumerated}
 use Rattle.bdb_format.proofs.ReferenceLemmas.{forest_names, held_in_all, of_all}
@@ -205,38 +204,28 @@ bucket_few image head meta b formed none has few = omega (arith, first_of_bucket
 
 -- The metadata pages.
 
-pub few_metas : (image : List ℕ) → length (meta_pages (file_of image)) ≤ (head_of image).last + 1
+-- they are listed, each once
+pub as_many_metas : (image : List ℕ) (metas : List NumberedMeta) → AreMetas (file_of image) metas → length metas ≡ length (meta_pages (file_of image))
+as_many_metas image metas are = sym (length-map metas (λ (meta : NumberedMeta). meta.number)) ∙ ap length are.numbers
+
+pub few_metas : (image : List ℕ) (metas : List NumberedMeta) → AreMetas (file_of image) metas → length metas ≤ (head_of image).last + 1
 unfolding meta_pages
-few_metas image =
+few_metas image metas are =
     let test : ℕ → Bool = λ p. is_meta (page_at (file_of image) p) in
     let pages : List ℕ = range_with_len 0 ((file_of image).last + 1) in
     let few : length (filter test pages) ≤ length pages = rw (length-filter test pages) (count_by-le-length test pages) in
-    omega (arith, few, length-range_with_len 0 ((file_of image).last + 1), last_page image)
+    omega (arith, as_many_metas image metas are, few, length-range_with_len 0 ((file_of image).last + 1), last_page image)
 
--- a metadata page, by its place among them
-pub record IsMetaAt (image : List ℕ) (i p : ℕ) : Type 0 where
-  pub number : slice_get (meta_pages (file_of image)) i ≡ Some p
-  pub inside : p ≤ (file_of image).last
-  pub is : is_meta (page_at (file_of image) p) ≡ true
-
-meta_of : (image : List ℕ) (i : ℕ) → i < length (meta_pages (file_of image)) → IsMetaAt image i (get_or (meta_pages (file_of image)) i 0)
+-- they are pages of the file
+pub meta_inside : (image : List ℕ) (metas : List NumberedMeta) (i : ℕ) (meta : NumberedMeta) → AreMetas (file_of image) metas → i < length (meta_pages (file_of image))
+    → meta ≡ slice_index_or metas i meta → meta.number ≤ (file_of image).last
 unfolding meta_pages
-meta_of image i below =
+meta_inside image metas i meta are below is =
     let test : ℕ → Bool = λ p. is_meta (page_at (file_of image) p) in
     let pages : List ℕ = range_with_len 0 ((file_of image).last + 1) in
-    let p : ℕ = get_or (filter test pages) i 0 in
-    let passed : Contains pages p × (test p ≡ true) = of_filter test pages p (Contains-get_or (filter test pages) i 0 below) in
-    record {
-      number = slice_get-get_or (filter test pages) i 0 below;
-      inside = (let within = of_range 0 ((file_of image).last + 1) p passed.0 in omega (arith, within.1));
-      is = passed.1;
-    }
-
-pub meta_there : (image metas : List ℕ) (i p : ℕ) → metas ≡ meta_pages (file_of image) → i < length (meta_pages (file_of image)) → p ≡ slice_index_or metas i p → IsMetaAt image i p
-meta_there image metas i p listed below is =
-    let at : get_or (meta_pages (file_of image)) i 0 ≡ p = sym (get_or_default_zero (meta_pages (file_of image)) i p below) ∙ (ap (λ ms. slice_index_or ms i p) (sym listed) ∙ sym is) in
-    subst (IsMetaAt image i) at (meta_of image i below)
-
--- a page that shows no fields is no metadata
-pub no_meta_there : (image : List ℕ) (i p : ℕ) → IsMetaAt image i p → None ≡ meta_in (page_at (file_of image) p) → ⊥
-no_meta_there image i p at none = true≢false (sym at.is ∙ (is_by_fields (page_at (file_of image) p) ∙ ap is_some (sym none)))
+    let at : get_or (filter test pages) i 0 ≡ meta.number =
+    ap (λ ps. get_or ps i 0) (sym are.numbers)
+    ∙ (get_or-map (λ (m : NumberedMeta). m.number) metas i meta 0 (rw (as_many_metas image metas are) below) ∙ ap (λ (m : NumberedMeta). m.number) (sym is)) in
+    let passed = of_filter test pages (get_or (filter test pages) i 0) (Contains-get_or (filter test pages) i 0 below) in
+    let within = of_range 0 ((file_of image).last + 1) (get_or (filter test pages) i 0) passed.0 in
+    omega (arith, within.1, at)

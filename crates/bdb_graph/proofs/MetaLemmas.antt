@@ -1,9 +1,9 @@
 -- What a page without a fault of form is, where it's metadata.
-use Rattle.std.proofs.Common.{◌≡◌, ℕ, zero, suc, ◌+◌, ◌≤◌, Bool, true, false, cond, List, [], ◌∷◌, ◌++◌, length, arith, refl, sym, ◌∙◌, ap, subst, append-nil}
-use Rattle.std.specs.Prelude.{Option, Some, None}
+use Rattle.std.proofs.Common.{◌≡◌, ℕ, zero, suc, ◌+◌, ◌≤◌, Bool, true, false, cond, inl, inr, map, List, [], ◌∷◌, ◌++◌, length, arith, refl, sym, ◌∙◌, ap, subst, append-nil}
+use Rattle.std.specs.Prelude.{Some, None}
 use Rattle.std.specs.Option.{is_some}
 use Rattle.std.specs.List.{filter, range_with_len}
-use Rattle.std.proofs.lemmas.Bool.{true≢false}
+use Rattle.std.proofs.lemmas.Bool.{true≢false, cases_eq}
 use Rattle.bdb_format.specs.declared.kinds.Order.{Order}
 use Rattle.bdb_format.specs.declared.metadata.FileKind.{FileKind}
 use Rattle.bdb_format.specs.declared.metadata.FileKind.TheVariants.{Btree, Hash, Queue}
@@ -12,17 +12,20 @@ use Rattle.bdb_format.specs.File.{File, file_of, page_at, page_bytes}
 use Rattle.bdb_format.specs.Graph.{is_meta}
 use Rattle.bdb_format.specs.HeadOf.{head_of, is_page_size}
 use Rattle.bdb_format.specs.Numbers.{byte_at}
-use Rattle.bdb_format.specs.Page.{Metadata, Page, Zero, Meta, QueueFields}
-use Rattle.bdb_format.specs.Reading.{abstract_page, is_zero, page_as, page_type, queue_fields}
+use Rattle.bdb_format.specs.Page.{Metadata, Page, Zero, Meta, HashFields, QueueFields}
+use Rattle.bdb_format.specs.Reading.{abstract_page, hash_fields, is_zero, page_as, page_type, queue_fields}
 use Rattle.bdb_format.specs.Rows.{form_code, may_have_type, metadata_rows}
 use Rattle.bdb_format.specs.Table.{first_row}
 use Rattle.bdb_format.proofs.GraphLemmas.{type_fits}
 use Rattle.bdb_format.proofs.PageLemmas.{later_type}
-use Rattle.std.proofs.lemmas.List.Elements.{filter-append}
+use Rattle.std.proofs.lemmas.List.{map-append}
+use Rattle.std.proofs.lemmas.List.Elements.{All-nil, All-push, filter-append}
+use Rattle.bdb_graph.specs.declared.meta.NumberedMeta.{NumberedMeta}
 use Rattle.bdb_graph.specs.Linked.{meta_pages}
-use Rattle.bdb_graph.specs.Metas.{AreMetasBelow, meta_in}
+use Rattle.bdb_graph.specs.Metas.{AreMetas, AreMetasBelow, meta_in, meta_seen}
+use Rattle.bdb_format.specs.declared.metadata.HashMeta.{HashMeta}
 use Rattle.bdb_graph.proofs.CodeLemmas.{differs, not_zero, queue_last}
-use Rattle.bdb_graph.proofs.HeldLemmas.{metadata_formed, other_page, other_type, page_is}
+use Rattle.bdb_graph.proofs.HeldLemmas.{few_buckets, metadata_formed, table_formed, table_page, tree_page, other_page, other_type, page_is}
 use Rattle.bdb_format.proofs.ListLemmas.{range_more}
 
 -- Queue metadata.
@@ -69,26 +72,70 @@ pub is_by_fields : (page : Page) → is_meta page ≡ is_some (meta_in page)
 is_by_fields (Meta fields) = refl
 is_by_fields page = refl
 
+-- The fields that are read.
+
+-- a page that shows fields is metadata with these
+pub is_fields : (page : Page) (fields : Metadata) → Some fields ≡ meta_in page → page ≡ Meta fields
+is_fields (Meta found) fields some = cc
+is_fields Zero fields some = absurd cc
+is_fields page fields some = absurd cc
+
+pub no_table : (order : Order) (page : List ℕ) → is_page_size (length page) ≡ true → None ≡ meta_in (abstract_page order page) → byte_at page 25 ≡ 8 → ⊥
+no_table order page size none is = let e = ap meta_in (table_page order page size is) in cc (e, none)
+
+pub no_tree : (order : Order) (page : List ℕ) → is_page_size (length page) ≡ true → None ≡ meta_in (abstract_page order page) → byte_at page 25 ≡ 9 → ⊥
+no_tree order page size none is = let e = ap meta_in (tree_page order page size is) in cc (e, none)
+
+-- the buckets of a table are no more than the pages
+pub few_buckets_known : (head : Head) (number : ℕ) (page : List ℕ) (meta : HashMeta) → is_page_size (length page) ≡ true → form_code head number page ≡ None
+    → Some (HashFields meta) ≡ meta_in (abstract_page head.order page) → meta.max_bucket ≤ head.last
+few_buckets_known head number page meta size none some =
+    elim (cases_eq (byte_at page 25) 8) [
+      | inl table ↦
+          let same : HashFields meta ≡ HashFields (hash_fields head.order page) = (let e = ap meta_in (table_page head.order page size table) in cc (e, some)) in
+          let few : (hash_fields head.order page).max_bucket ≤ head.last = few_buckets head.order page number head.last (table_formed head number page size table none) in
+          (let is : meta ≡ hash_fields head.order page = cc same in rw is few)
+      | inr no_table' ↦
+          elim (cases_eq (byte_at page 25) 9) [
+            | inl tree ↦ absurd (let e = ap meta_in (tree_page head.order page size tree) in cc (e, some))
+            | inr no_tree' ↦
+                elim (cases_eq (byte_at page 25) 10) [
+                  | inl queue ↦ absurd (let e = ap meta_in (queue_page head.order page size queue) in cc (e, some))
+                  | inr no_queue ↦ absurd (let e = no_meta head.order page no_table' no_tree' no_queue in cc (e, some))
+                ]
+          ]
+    ]
+
 -- The metadata pages.
 
-more : (file : File) (n : ℕ) (metas : List ℕ) → AreMetasBelow file n metas
-    → filter (λ p. is_meta (page_at file p)) (range_with_len 0 (n + 1)) ≡ metas ++ cond (is_meta (page_at file n)) (n ∷ []) []
+pub no_metas : (file : File) → AreMetasBelow file 0 []
+no_metas file = record { numbers = refl; fields = All-nil _ }
+
+more : (file : File) (n : ℕ) (metas : List NumberedMeta) → AreMetasBelow file n metas
+    → filter (λ p. is_meta (page_at file p)) (range_with_len 0 (n + 1)) ≡ map (λ (m : NumberedMeta). m.number) metas ++ cond (is_meta (page_at file n)) (n ∷ []) []
 more file n metas below =
     let test : ℕ → Bool = λ p. is_meta (page_at file p) in
     let same : 0 + n ≡ n = omega arith in
     ap (filter test) (range_more 0 n ∙ ap (λ m. range_with_len 0 n ++ m ∷ []) same)
-    ∙ (filter-append test (range_with_len 0 n) (n ∷ []) ∙ ap (λ ms. ms ++ cond (test n) (n ∷ []) []) (sym below))
+    ∙ (filter-append test (range_with_len 0 n) (n ∷ []) ∙ ap (λ ms. ms ++ cond (test n) (n ∷ []) []) (sym below.numbers))
 
-is_by : (page : Page) (found : Option Metadata) → found ≡ meta_in page → is_meta page ≡ is_some found
-is_by page found same = is_by_fields page ∙ ap is_some (sym same)
+pub one_more_meta : (file : File) (n : ℕ) (metas : List NumberedMeta) (meta : NumberedMeta) → AreMetasBelow file n metas → meta.number ≡ n
+    → Some (meta_seen meta.fields) ≡ meta_in (page_at file n) → AreMetasBelow file (n + 1) (metas ++ meta ∷ [])
+one_more_meta file n metas meta below is some =
+    let here : page_at file n ≡ Meta (meta_seen meta.fields) = is_fields (page_at file n) (meta_seen meta.fields) some in
+    record {
+      numbers =
+          map-append (λ (m : NumberedMeta). m.number) metas (meta ∷ []) ∙ (ap (λ m. map (λ (m : NumberedMeta). m.number) metas ++ m ∷ []) is ∙ sym (more file n metas below ∙ ap (λ page. map (λ (m : NumberedMeta). m.number) metas ++ cond (is_meta page) (n ∷ []) []) here));
+      fields = All-push (λ (m : NumberedMeta). page_at file m.number ≡ Meta (meta_seen m.fields)) metas meta below.fields (ap (page_at file) is ∙ here);
+    }
 
-pub one_more_meta : (file : File) (n : ℕ) (metas : List ℕ) (fields : Metadata) → AreMetasBelow file n metas → Some fields ≡ meta_in (page_at file n) → AreMetasBelow file (n + 1) (metas ++ n ∷ [])
-one_more_meta file n metas fields below same = sym (more file n metas below ∙ ap (λ b. metas ++ cond b (n ∷ []) []) (is_by (page_at file n) (Some fields) same))
-
-pub no_more_meta : (file : File) (n : ℕ) (metas : List ℕ) → AreMetasBelow file n metas → None ≡ meta_in (page_at file n) → AreMetasBelow file (n + 1) metas
-no_more_meta file n metas below same = sym (more file n metas below ∙ (ap (λ b. metas ++ cond b (n ∷ []) []) (is_by (page_at file n) None same) ∙ append-nil metas))
+pub no_more_meta : (file : File) (n : ℕ) (metas : List NumberedMeta) → AreMetasBelow file n metas → None ≡ meta_in (page_at file n) → AreMetasBelow file (n + 1) metas
+no_more_meta file n metas below none = record {
+  numbers = sym (more file n metas below ∙ (ap (λ b. map (λ (m : NumberedMeta). m.number) metas ++ cond b (n ∷ []) []) (is_by_fields (page_at file n) ∙ ap is_some (sym none)) ∙ append-nil (map (λ (m : NumberedMeta). m.number) metas)));
+  fields = below.fields;
+}
 
 -- all of them
-pub all_metas : (file : File) (n : ℕ) (metas : List ℕ) → n ≡ file.last + 1 → AreMetasBelow file n metas → metas ≡ meta_pages file
+pub all_metas : (file : File) (n : ℕ) (metas : List NumberedMeta) → n ≡ file.last + 1 → AreMetasBelow file n metas → AreMetas file metas
 unfolding meta_pages
-all_metas file n metas all below = below ∙ ap (λ m. filter (λ p. is_meta (page_at file p)) (range_with_len 0 m)) all
+all_metas file n metas all below = record { numbers = below.numbers ∙ ap (λ m. filter (λ p. is_meta (page_at file p)) (range_with_len 0 m)) all; fields = below.fields }

@@ -5,6 +5,8 @@ use Rattle.std.proofs.lemmas.Grind.{common_steps}
 use Rattle.std.proofs.lemmas.List.Concat.{flat_map-append}
 use Rattle.bdb_graph.specs.declared.tally.Tally.{Tally}
 use Rattle.bdb_graph.specs.Tallies.{AreTallies, AreTalliesOf, owner}
+use Rattle.bdb_graph.specs.Walked.{AreKinds}
+use Rattle.bdb_graph.specs.declared.tally.Kinds.{Kinds}
 use Rattle.bdb_format.specs.File.{File}
 use Rattle.bdb_format.specs.Graph.{Owner, all_references, held_by, owners}
 use Rattle.bdb_format.specs.References.{refs}
@@ -32,6 +34,11 @@ unfolding owners all_references
 tallied_all file n tallies all len are =
     let whole : AreTallies tallies (held_below file (file.last + 1)) = subst (λ k. AreTallies tallies (held_below file k)) all are in
     record { len = omega arith; each = λ p low. whole.each p (omega arith) }
+
+-- and so are the kinds of what is named
+pub kinds_all : (file : File) (n : ℕ) (kinds : Kinds) → n ≡ file.last + 1 → AreKinds kinds (held_below file n) → AreKinds kinds (all_references file)
+unfolding all_references
+kinds_all file n kinds all are = subst (λ k. AreKinds kinds (held_below file k)) all are
 
 -- a slice that is lent and written is the whole list again
 pub written_back : {A : Type 0} (n : ℕ) (new old : List A) → length new ≡ n → length old ≡ n → take n (new ++ drop (length new) old) ≡ new

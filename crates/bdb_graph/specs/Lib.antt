@@ -2,6 +2,8 @@ pub mod Fits
 pub mod Forest
 pub mod Formed
 pub mod Linked
+pub mod Marks
 pub mod Metas
 pub mod Slots
 pub mod Tallies
+pub mod Walked

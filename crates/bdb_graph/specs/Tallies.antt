@@ -1,10 +1,10 @@
 -- What is counted of the references to each page. Who owns a page is `owners` of bdb_format.
-use Rattle.std.specs.Prelude.{◌≡◌, ℕ, ◌+◌, ◌-◌, ◌^◌, ◌<◌, ◌≤◌, ◌==◌, min, Bool, false, List, length, get_or, None}
-use Rattle.std.specs.List.{filter, list_all}
+use Rattle.std.specs.Prelude.{◌≡◌, ℕ, ◌+◌, ◌-◌, ◌^◌, ◌<◌, ◌≤◌, ◌==◌, min, if◌then◌else◌, Bool, false, List, length, get_or, Option, Some, None}
+use Rattle.std.specs.List.{filter, list_all, list_any}
 use Rattle.bdb_graph.specs.declared.tally.Tally.{Tally}
 use Rattle.bdb_format.specs.declared.references.Reference.{Reference}
 use Rattle.bdb_format.specs.File.{File}
-use Rattle.bdb_format.specs.Graph.{Owner, first_holder, is_head_reference, owners}
+use Rattle.bdb_format.specs.Graph.{Owner, first_holder, is_hash_meta, is_head_reference, owners}
 
 abbrev pub owner : ℕ → Reference → Owner
 owner holder reference = record { holder = holder; reference = reference }
@@ -12,15 +12,19 @@ owner holder reference = record { holder = holder; reference = reference }
 abbrev pub names_page : ℕ → Owner → Bool
 names_page p owner = owner.reference.target == p
 
+-- the page that holds the first reference, if there is one
+abbrev pub first_of : Tally → Option ℕ
+first_of tally = if tally.count == 0 then None else Some tally.first
+
 -- what a tally says of the owners so far; the count stands still at its type's end
 pub record IsTally (tally : Tally) (os : List Owner) : Type 0 where
   pub counted : tally.count ≡ min (2 ^ 32 - 1) (length os)
-  pub led : tally.first ≡ first_holder os
+  pub led : first_of tally ≡ first_holder os
   pub heads : tally.heads_alone ≡ list_all (λ (owner : Owner). is_head_reference owner.reference.sort) os
 
 -- what stands for the tally of a page that isn't there
 abbrev pub no_tally : Tally
-no_tally = record { count = 0; first = None; heads_alone = false }
+no_tally = record { count = 0; first = 0; heads_alone = false }
 
 -- each page has the tally of its owners among these
 pub record AreTallies (tallies : List Tally) (os : List Owner) : Type 0 where
@@ -30,3 +34,8 @@ pub record AreTallies (tallies : List Tally) (os : List Owner) : Type 0 where
 pub record AreTalliesOf (file : File) (tallies : List Tally) : Type 0 where
   pub len : length tallies ≡ file.last + 1
   pub each : (p : ℕ) → p ≤ file.last → IsTally (get_or tallies p no_tally) (owners file p)
+
+-- and it's known whether the file has a hash table
+pub record AreCounted (file : File) (tallies : List Tally) (has_table : Bool) : Type 0 where
+  pub tallied : AreTalliesOf file tallies
+  pub table : has_table ≡ list_any is_hash_meta file.pages

@@ -1,16 +1,13 @@
 ghost use Rattle.std.specs.Prelude.{◌≡◌, ◌≤◌};
-ghost use Rattle.std.specs.Result.{result_err};
 ghost use Rattle.bdb_graph.specs.Fits.{asks_previous, is_of_type, page_rows};
 ghost use Rattle.bdb_format.specs.File.{file_of};
 ghost use Rattle.bdb_format.specs.References.{asked_by, asks_type, fit_code, has_type, is_asked};
 ghost use Rattle.bdb_format.specs.Table.{first_row, lesser};
-ghost use Rattle.bdb_format.specs.Verdict.{reference_faults, reference_rows, first_fault};
 
+use crate::Formed;
 use crate::formed_page::{FormedPage, is_one_of, page_at};
-use crate::{Formed, references};
-use bdb_format::{Fault, Reference, Sort, Steps};
+use bdb_format::{Reference, Sort};
 use std::marker::Model;
-use std::sync::ledger::Ledger;
 
 /// What a reference asks of its target: one of these types, or a zero page; a level; a previous page.
 #[derive(Drop)]
@@ -121,7 +118,7 @@ fn asked_by(holder: u32, page: &FormedPage, sort: Sort) -> Demand
 
 /// The code of the first row that holds for a reference of this page; none where it fits.
 #[tactic(auto, using(crate::proofs::HeldLemmas::last_page))]
-fn fit_code(formed: &Formed, holder: u32, reference: Reference) -> Option<u8>
+pub(crate) fn fit_code(formed: &Formed, holder: u32, reference: Reference) -> Option<u8>
     requires { holder ≤ (file_of formed.now).last }
     ensures { result ≡ fit_code (file_of formed.now) holder reference }
 {
@@ -133,7 +130,7 @@ fn fit_code(formed: &Formed, holder: u32, reference: Reference) -> Option<u8>
 }
 
 /// The lesser of two codes, where there are any.
-fn lesser(a: Option<u8>, b: Option<u8>) -> Option<u8>
+pub(crate) fn lesser(a: Option<u8>, b: Option<u8>) -> Option<u8>
     ensures { result ≡ lesser a b }
 {
     match (a, b) {
@@ -141,37 +138,4 @@ fn lesser(a: Option<u8>, b: Option<u8>) -> Option<u8>
         (a, None) => a,
         (Some(a), Some(b)) => Some(a.min(b)),
     }
-}
-
-/// The least code with which a reference of this page fails, if one does: one step.
-fn least_code<L: Ledger>(formed: &Formed, page: u32, steps: &mut Steps<L>) -> Option<u8>
-    requires { page ≤ (file_of formed.now).last }
-    ensures { result ≡ first_row (reference_rows (file_of formed.now) page) }
-{
-    let mut least = None;
-    for reference in references(formed, page, steps) {
-        least = lesser(least, fit_code(formed, page, reference));
-    }
-    least
-}
-
-/// Each reference fits its target. A refusal is the first fault: the least page that holds one which
-/// doesn't, and there the least code. No memory is taken.
-pub(crate) fn check_references<L: Ledger>(
-    formed: &Formed<'_>,
-    steps: &mut Steps<L>,
-) -> Result<(), Fault>
-    ensures { result_err result ≡ first_fault (reference_faults (file_of formed.now)) }
-{
-    let last = formed.head().last;
-    for page in 0..=last {
-        if let Some(code) = least_code(formed, page, steps) {
-            return Err(Fault {
-                stage: 3,
-                page,
-                code,
-            });
-        }
-    }
-    Ok(())
 }

@@ -1,19 +1,21 @@
 ghost use Rattle.std.specs.Prelude.{◌≡◌, ◌≢◌, ◌^◌, ◌<◌, ◌≤◌, [], None, IsTrue, length, ◌∷◌};
 ghost use Rattle.bdb_form.specs.Seen.{header_seen, page_seen};
 ghost use Rattle.bdb_graph.specs.Linked.{IsForest};
+ghost use Rattle.std.specs.List.{list_any};
+ghost use Rattle.bdb_format.specs.Graph.{all_references};
+ghost use Rattle.bdb_graph.specs.Walked.{AreKinds, names_head, names_set};
 ghost use Rattle.bdb_format.specs.Verdict.{faults_in};
 ghost use Rattle.bdb_graph.specs.Metas.{meta_in, meta_seen};
 ghost use Rattle.std.specs.Option.{option_map};
 ghost use Rattle.bdb_format.specs.File.{file_of, page_at, page_bytes};
 ghost use Rattle.bdb_format.specs.HeadOf.{head_of, is_page_size};
 ghost use Rattle.bdb_format.specs.Reading.{abstract_page, header_of};
-ghost use Rattle.bdb_format.specs.References.{refs};
 ghost use Rattle.bdb_format.specs.Rows.{form_code};
 ghost use Rattle.bdb_format.specs.declared.metadata.FileKind.TheVariants.{Queue};
 
-use crate::held::references_of;
 use crate::meta::meta_at;
-use crate::{Formed, Meta, References};
+use crate::tally::Kinds;
+use crate::{Formed, Meta};
 use bdb_form::{MetaView, PageView, known_form, known_queue_form};
 use bdb_format::{FileKind, Head};
 use std::marker::Model;
@@ -23,26 +25,28 @@ use std::marker::Model;
 #[derive(Drop)]
 pub struct Forest<'a> {
     formed: Formed<'a>,
+    kinds: Kinds,
 }
 
 impl<'a> Model for Forest<'a> {
-    ghost use Rattle.std.specs.Prelude.{◌≡◌, List, ℕ, [], ◌∷◌};
-    ghost use Rattle.bdb_format.specs.Verdict.{faults_in};
+    ghost use Rattle.std.specs.Prelude.{List, ℕ};
+    ghost use Rattle.bdb_graph.specs.Walked.{IsWalked};
 
     ghost Value = { List ℕ };
 
     ghost view = { λ v. v.formed };
 
-    ghost invariant = { λ v. faults_in (3 ∷ 4 ∷ 5 ∷ []) v.formed ≡ [] };
+    ghost invariant = { λ v. IsWalked v.formed v.kinds };
 }
 
 impl<'a> Forest<'a> {
     // An image for which the stages are decided.
-    pub(crate) fn over(formed: Formed<'a>) -> Forest<'a>
-        requires { faults_in (3 ∷ 4 ∷ 5 ∷ []) formed ≡ [] }
+    pub(crate) fn over(formed: Formed<'a>, kinds: Kinds) -> Forest<'a>
+        requires linked { faults_in (3 ∷ 4 ∷ 5 ∷ []) formed ≡ [] }
+        requires kinds { AreKinds kinds (all_references (file_of formed)) }
         ensures { result ≡ formed.entry }
     {
-        Forest { formed }
+        Forest { formed, kinds }
     }
 
     /// Another handle to the same pages.
@@ -50,8 +54,29 @@ impl<'a> Forest<'a> {
         ensures { result ≡ self.now }
     {
         Forest {
-            formed: Formed::over(self.formed.image(), self.formed.head()),
+            formed: self.formed.again(),
+            kinds: self.kinds,
         }
+    }
+
+    /// Whether some item names a chain.
+    pub fn has_chains(&self) -> bool
+        ensures chains { result ≡ list_any names_head (all_references (file_of self.now)) }
+        ensures forest { IsForest self.now }
+    {
+        // What it ensures is half of what a forest is.
+        self.formed.head();
+        self.kinds.chains()
+    }
+
+    /// Whether some item names the root of a set off the page.
+    pub fn has_sets(&self) -> bool
+        ensures sets { result ≡ list_any names_set (all_references (file_of self.now)) }
+        ensures forest { IsForest self.now }
+    {
+        // What it ensures is half of what a forest is.
+        self.formed.head();
+        self.kinds.sets()
     }
 
     /// What page 0 says of the whole file.
@@ -86,15 +111,6 @@ impl<'a> Forest<'a> {
         ensures { option_map meta_seen result ≡ meta_in (page_at (file_of self.now) number) }
     {
         meta_at(&self.formed, number)
-    }
-
-    /// The references that a page up to the last one holds, in order. Whoever counts steps takes them from
-    /// `references`.
-    pub fn references(&self, page: u32) -> References<'a>
-        requires { page ≤ (file_of self.now).last }
-        ensures { result ≡ refs (file_of self.now) page }
-    {
-        references_of(&self.formed, page)
     }
 }
 

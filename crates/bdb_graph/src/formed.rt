@@ -36,6 +36,16 @@ impl<'a> Formed<'a> {
         Formed { image, head }
     }
 
+    // Another handle to the same image.
+    pub(crate) fn again(&self) -> Formed<'a>
+        ensures { result ≡ self.now }
+    {
+        Formed {
+            image: self.image,
+            head: self.head,
+        }
+    }
+
     /// What page 0 says of the whole file.
     pub fn head(&self) -> Head
         ensures head { result ≡ head_of self.now }

@@ -3,20 +3,19 @@ ghost use Rattle.bdb_graph.specs.Slots.{placed};
 ghost use Rattle.bdb_format.specs.File.{file_of};
 ghost use Rattle.bdb_format.specs.HeadOf.{is_page_size};
 ghost use Rattle.bdb_format.specs.Numbers.{byte_at};
-ghost use Rattle.bdb_format.specs.Page.{BtreeFields, HashFields, Meta};
-ghost use Rattle.bdb_format.specs.Reading.{abstract_page, btree_fields, hash_fields};
+ghost use Rattle.bdb_format.specs.Reading.{abstract_page};
 ghost use Rattle.bdb_format.specs.References.{targets_in, targets_of, refs};
-ghost use Rattle.bdb_format.specs.Rows.{form_code, metadata_rows, page_code};
-ghost use Rattle.bdb_format.specs.Table.{first_row};
-ghost use Rattle.bdb_format.specs.declared.metadata.FileKind.TheVariants.{Btree, Hash, Queue};
+ghost use Rattle.bdb_format.specs.Rows.{form_code, page_code};
+ghost use Rattle.bdb_format.specs.declared.metadata.FileKind.TheVariants.{Queue};
 
-use crate::{Formed, References};
+use crate::meta::meta_on;
+use crate::{Formed, Meta, References};
 use bdb_form::known_form;
 use bdb_format::{FileKind, Head, Order, Steps};
-use bdb_meta::{btree_meta, hash_meta};
 use std::sync::ledger::Ledger;
 
-/// The references that a page holds, in order: one step, whatever they are. No memory is taken.
+/// The references that a page holds, in order: one step, whatever they are. No memory is taken. No other
+/// function reads the references of a page.
 pub fn references<'a, L: Ledger>(
     formed: &Formed<'a>,
     page: u32,
@@ -32,7 +31,7 @@ pub fn references<'a, L: Ledger>(
 
 /// The references that a page holds, without a step.
 #[tactic(auto, using(crate::proofs::HeldLemmas::refs_of_page, crate::proofs::HeldLemmas::last_page))]
-pub(crate) fn references_of<'a>(formed: &Formed<'a>, page: u32) -> References<'a>
+fn references_of<'a>(formed: &Formed<'a>, page: u32) -> References<'a>
     requires { page ≤ (file_of formed.now).last }
     ensures { result ≡ refs (file_of formed.now) page }
 {
@@ -53,7 +52,7 @@ fn held_by<'a>(page: &'a [u8], head: &Head, number: u32) -> References<'a>
 }
 
 /// The references of a page of a btree or hash file.
-#[tactic(auto, using(crate::proofs::HeldLemmas::table_page, crate::proofs::HeldLemmas::tree_page, crate::proofs::HeldLemmas::table_formed, crate::proofs::HeldLemmas::tree_formed, crate::proofs::HeldLemmas::other_formed))]
+#[tactic(auto, using(crate::proofs::MetaLemmas::is_fields, crate::proofs::MetaLemmas::few_buckets_known, crate::proofs::MetaLemmas::no_table, crate::proofs::MetaLemmas::no_tree, crate::proofs::HeldLemmas::other_formed))]
 fn held_in_forest<'a>(page: &'a [u8], head: &Head, number: u32) -> References<'a>
     requires size { IsTrue (is_page_size (length page.now)) }
     requires last { head.now.last < 2 ^ 21 }
@@ -61,37 +60,11 @@ fn held_in_forest<'a>(page: &'a [u8], head: &Head, number: u32) -> References<'a
     requires forest { head.now.kind ≢ Queue }
     ensures { result ≡ placed 0 (targets_in number (abstract_page head.now.order page.now)) }
 {
-    match page[25] {
-        8 => held_by_table(page, head, number),
-        9 => held_by_tree(page, head.order, number),
-        _ => held_by_other(page, head.order, number),
-    }
-}
-
-/// The references of hash metadata.
-#[tactic(auto, using(bdb_format::proofs::PageLemmas::answer_value, crate::proofs::HeldLemmas::few_buckets))]
-fn held_by_table<'a>(page: &'a [u8], head: &Head, number: u32) -> References<'a>
-    requires size { IsTrue (is_page_size (length page.now)) }
-    requires last { head.now.last < 2 ^ 21 }
-    requires form { first_row (metadata_rows head.now.order page.now number head.now.last Hash) ≡ None }
-    ensures { result ≡ placed 0 (targets_in number (Meta (HashFields (hash_fields head.now.order page.now)))) }
-{
-    match hash_meta(page, head.order, number, head.last) {
-        Ok(meta) => References::of_hash(number, &meta),
-        Err(_) => unreachable!(),
-    }
-}
-
-/// The references of btree metadata.
-#[tactic(auto, using(bdb_format::proofs::PageLemmas::answer_value))]
-fn held_by_tree<'a>(page: &'a [u8], order: Order, number: u32) -> References<'a>
-    requires size { IsTrue (is_page_size (length page.now)) }
-    requires form { first_row (metadata_rows order page.now number 0 Btree) ≡ None }
-    ensures { result ≡ placed 0 (targets_in number (Meta (BtreeFields (btree_fields order page.now)))) }
-{
-    match btree_meta(page, order, number) {
-        Ok(meta) => References::of_btree(number, &meta),
-        Err(_) => unreachable!(),
+    match meta_on(page, head.order) {
+        Some(Meta::Hash(meta)) => References::of_hash(number, &meta),
+        Some(Meta::Btree(meta)) => References::of_btree(number, &meta),
+        Some(Meta::Queue(_)) => References::none(),
+        None => held_by_other(page, head.order, number),
     }
 }
 

@@ -2,13 +2,14 @@ ghost use Rattle.std.specs.Prelude.{◌≡◌, ◌+◌, ◌^◌, ◌<◌, ◌≤
 ghost use Rattle.std.specs.List.{slice_get};
 ghost use Rattle.bdb_form.specs.Seen.{header_seen, page_seen};
 ghost use Rattle.bdb_graph.specs.Linked.{IsForest, FitsBucket, FitsChain, FitsDupRoot, FitsTreeRoot, HasMetadata, meta_pages};
-ghost use Rattle.bdb_graph.specs.Metas.{meta_seen};
+ghost use Rattle.bdb_graph.specs.Metas.{AreMetas, meta_seen};
 ghost use Rattle.bdb_format.specs.File.{file_of, page_at, page_bytes};
 ghost use Rattle.bdb_format.specs.Hashing.{first_page};
 ghost use Rattle.bdb_format.specs.HeadOf.{head_of};
 ghost use Rattle.bdb_format.specs.Page.{BtreeFields, HashFields, Meta as MetaPage};
 ghost use Rattle.bdb_format.specs.Reading.{header_of};
 
+use crate::meta::NumberedMeta;
 use crate::{Bucket, Chain, DupRoot, Forest, Meta, Ref, TreeRoot};
 use bdb_form::PageView;
 use bdb_format::{BtreeMeta, HashMeta, Head};
@@ -20,25 +21,25 @@ use std::marker::Model;
 #[derive(Drop)]
 pub struct Linked<'a> {
     forest: Forest<'a>,
-    metas: Vec<u32>,
+    metas: Vec<NumberedMeta>,
 }
 
 impl<'a> Model for Linked<'a> {
     ghost use Rattle.std.specs.Prelude.{◌≡◌, List, ℕ};
-    ghost use Rattle.bdb_graph.specs.Linked.{meta_pages};
+    ghost use Rattle.bdb_graph.specs.Metas.{AreMetas};
     ghost use Rattle.bdb_format.specs.File.{file_of};
 
     ghost Value = { List ℕ };
 
     ghost view = { λ v. v.forest };
 
-    ghost invariant = { λ v. v.metas.items ≡ meta_pages (file_of v.forest) };
+    ghost invariant = { λ v. AreMetas (file_of v.forest) v.metas.items };
 }
 
 impl<'a> Linked<'a> {
     // An image for which the stages are decided, with its metadata pages.
-    pub(crate) fn over(forest: Forest<'a>, metas: Vec<u32>) -> Linked<'a>
-        requires { metas.items ≡ meta_pages (file_of forest) }
+    pub(crate) fn over(forest: Forest<'a>, metas: Vec<NumberedMeta>) -> Linked<'a>
+        requires { AreMetas (file_of forest) metas.items }
         ensures { result ≡ forest.entry }
     {
         Linked { forest, metas }
@@ -70,7 +71,7 @@ impl<'a> Linked<'a> {
     }
 
     /// How many metadata pages there are.
-    #[tactic(auto, using(crate::proofs::LinkedLemmas::few_metas))]
+    #[tactic(auto, using(crate::proofs::LinkedLemmas::few_metas, crate::proofs::LinkedLemmas::as_many_metas))]
     pub fn metas(&self) -> u32
         ensures { result ≡ length (meta_pages (file_of self.now)) }
     {
@@ -85,11 +86,8 @@ impl<'a> Linked<'a> {
         ensures inside { result.0 ≤ (file_of self.now).last }
         ensures fields { page_at (file_of self.now) result.0 ≡ MetaPage (meta_seen result.1) }
     {
-        let number = self.metas[i as usize];
-        match self.forest.meta(number) {
-            Some(meta) => (number, meta),
-            None => unreachable!(),
-        }
+        let meta = self.metas[i as usize];
+        (meta.number, meta.fields)
     }
 
     /// The root of the tree of this metadata.

@@ -1,19 +1,23 @@
-ghost use Rattle.std.specs.Prelude.{◌≡◌, [], ◌∷◌, IfErr, IfOk, OnOk};
+ghost use Rattle.std.specs.Prelude.{◌≡◌, ◌≤◌, ◌+◌, [], ◌∷◌, IfErr, IfOk, OnOk};
+ghost use Rattle.bdb_format.specs.File.{file_of};
+ghost use Rattle.bdb_format.specs.Graph.{all_references};
+ghost use Rattle.bdb_graph.specs.Walked.{AreKinds};
 ghost use Rattle.bdb_format.specs.Verdict.{faults_in, IsFirstOf};
 
-use crate::fits::check_references;
 use crate::meta::metas_of;
 use crate::owned::check_owners;
 use crate::reach::check_reach;
-use crate::tally::tally_all;
+use crate::roles::Roles;
+use crate::tally::{Kinds, tally_all};
 use crate::{Forest, Formed, Linked};
 use bdb_format::{CheckError, Steps};
 use std::alloc::{AllocError, Global};
 use std::sync::ledger::Ledger;
 
 /// The image as one whose pages are a forest, or else the first fault of stages 3 to 5: a reference that
-/// doesn't fit, a page without an owner or with too many, or one that isn't reached. The answer keeps 4
-/// bytes for each metadata page; `Memory` is want of memory.
+/// doesn't fit, a page without an owner or with too many, or one that isn't reached. It takes at most a step for
+/// each page up to the last, which are no more than the whole pages of the image, and 13 bytes for each while it
+/// runs. The answer keeps the number and the fields of each metadata page, in 160 bytes. `Memory` is want of memory.
 pub fn link<'a, L: Ledger>(
     alloc: Global,
     formed: Formed<'a>,
@@ -22,36 +26,36 @@ pub fn link<'a, L: Ledger>(
     ensures linked { IfOk result (λ linked. linked ≡ formed.entry) }
     ensures accepted { OnOk result (faults_in (3 ∷ 4 ∷ 5 ∷ []) formed.entry ≡ []) }
     ensures refusal { IfErr result (IsFirstOf (faults_in (3 ∷ 4 ∷ 5 ∷ []) formed.entry)) }
+    ensures cost { steps.new ≤ steps.old + ((file_of formed.entry).last + 1) }
 {
-    check_graph(alloc, &formed, steps)?;
+    let kinds = check_graph(alloc, &formed, steps)?;
     match metas_of(alloc, &formed) {
-        Ok(metas) => Ok(Linked::over(Forest::over(formed), metas)),
+        Ok(metas) => Ok(Linked::over(Forest::over(formed, kinds), metas)),
         Err(_) => Err(CheckError::Memory),
     }
 }
 
-/// No row of stages 3 to 5 holds. A refusal is the first fault, or want of memory.
-#[tactic(auto, using(crate::proofs::LinkLemmas::no_fault, crate::proofs::LinkLemmas::references_first, crate::proofs::LinkLemmas::owners_first, crate::proofs::LinkLemmas::reach_first))]
+/// No row of stages 3 to 5 holds, in one step for each page, and what the references name. A refusal is the first fault, or want of memory.
+/// It takes 13 bytes for each page.
+#[tactic(auto, using(crate::proofs::LinkLemmas::no_first, crate::proofs::LinkLemmas::no_fault, crate::proofs::LinkLemmas::references_first, crate::proofs::LinkLemmas::owners_first, crate::proofs::LinkLemmas::reach_first))]
 fn check_graph<L: Ledger>(
     alloc: Global,
     formed: &Formed<'_>,
     steps: &mut Steps<L>,
-) -> Result<(), CheckError>
+) -> Result<Kinds, CheckError>
+    ensures kinds { IfOk result (λ kinds. AreKinds kinds (all_references (file_of formed.now))) }
     ensures accepted { OnOk result (faults_in (3 ∷ 4 ∷ 5 ∷ []) formed.now ≡ []) }
     ensures refusal { IfErr result (IsFirstOf (faults_in (3 ∷ 4 ∷ 5 ∷ []) formed.now)) }
+    ensures cost { steps.new ≤ steps.old + ((file_of formed.now).last + 1) }
 {
-    if let Err(fault) = check_references(formed, steps) {
-        return Err(CheckError::Fault(fault));
-    }
-    let tallies = match tally_all(alloc, formed, steps) {
-        Ok(tallies) => tallies,
-        Err(_) => return Err(CheckError::Memory),
+    let (tallies, kinds) = match tally_all(alloc, formed, steps) {
+        Ok(walk) => walk,
+        Err(error) => return Err(error),
     };
-    if let Err(fault) = check_owners(formed, &tallies) {
+    let roles = Roles::of(formed.again(), tallies);
+    if let Err(fault) = check_owners(&roles) {
         return Err(CheckError::Fault(fault));
     }
-    if let Err(fault) = check_reach(formed, &tallies) {
-        return Err(CheckError::Fault(fault));
-    }
-    Ok(())
+    check_reach(alloc, &roles)?;
+    Ok(kinds)
 }

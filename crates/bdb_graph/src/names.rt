@@ -1,11 +1,11 @@
 ghost use Rattle.std.specs.Prelude.{◌≡◌, ◌+◌, ◌*◌, ◌<◌, length, option_to_list};
 ghost use Rattle.bdb_graph.specs.Slots.{child_names, entry_names, hash_names, internal_names, item_names};
-ghost use Rattle.bdb_layout.specs.Seen.{hash_content_seen, key_seen, leaf_item_seen};
+ghost use Rattle.bdb_layout.specs.Seen.{content_seen};
 ghost use Rattle.bdb_format.specs.References.{content_targets, unless_zero};
 
 use bdb_form::{DupLeafView, HashView, InternalView, LeafView, RecnoInternalView, RecnoLeafView};
 use bdb_format::Sort;
-use bdb_layout::{HashItem, InternalKey, LeafItem};
+use bdb_layout::Content;
 
 /// What a page names: for what, and the number of a page, which need not be there.
 pub(crate) type Name = (Sort, u64);
@@ -20,35 +20,14 @@ pub(crate) fn unless_zero(sort: Sort, target: u32) -> Option<Name>
     Some((sort, u64::from(target)))
 }
 
-/// The page that an item of a leaf names.
-fn item_name(item: &LeafItem) -> Option<Name>
-    ensures { option_to_list result ≡ content_targets (leaf_item_seen item.now).content }
+/// The page that an item names by what it holds.
+fn content_name(content: &Content) -> Option<Name>
+    ensures { option_to_list result ≡ content_targets (content_seen content.now) }
 {
-    match item {
-        LeafItem::Inline { .. } => None,
-        LeafItem::Duplicates { root, .. } => Some((Sort::DuplicateRoot, u64::from(*root))),
-        LeafItem::Overflow { head, .. } => Some((Sort::OverflowHead, u64::from(*head))),
-    }
-}
-
-/// The page that the key of an item of an internal page names.
-fn key_name(key: &InternalKey) -> Option<Name>
-    ensures { option_to_list result ≡ content_targets (key_seen key.now) }
-{
-    match key {
-        InternalKey::Inline(_) => None,
-        InternalKey::Overflow { head, .. } => Some((Sort::OverflowHead, u64::from(*head))),
-    }
-}
-
-/// The page that an item of a hash page names.
-fn hash_item_name(item: &HashItem) -> Option<Name>
-    ensures { option_to_list result ≡ content_targets (hash_content_seen item.now) }
-{
-    match item {
-        HashItem::Inline(_) | HashItem::Set(_) => None,
-        HashItem::Overflow { head, .. } => Some((Sort::OverflowHead, u64::from(*head))),
-        HashItem::OffPage { root } => Some((Sort::DuplicateRoot, u64::from(*root))),
+    match content {
+        Content::Inline(_) | Content::Set(_) => None,
+        Content::Overflow { head, .. } => Some((Sort::OverflowHead, u64::from(*head))),
+        Content::OffPage { root } => Some((Sort::DuplicateRoot, u64::from(*root))),
     }
 }
 
@@ -60,12 +39,12 @@ pub(crate) fn leaf_name(page: &LeafView, slot: u32) -> Option<Name>
     prove!(slot < 2 * u32::from(page.pairs()));
     let pair = (slot / 2) as u16;
     if slot % 2 == 1 {
-        return item_name(&page.value(pair));
+        return content_name(&page.value(pair).content());
     }
     if page.shares(pair) {
         return None;
     }
-    item_name(&page.key(pair))
+    content_name(&page.key(pair).content())
 }
 
 /// The page that an item of a leaf of records names.
@@ -74,7 +53,7 @@ pub(crate) fn recno_leaf_name(page: &RecnoLeafView, slot: u32) -> Option<Name>
     ensures { option_to_list result ≡ item_names page.now slot }
 {
     prove!(slot < u32::from(page.entries()));
-    item_name(&page.item(slot as u16))
+    content_name(&page.item(slot as u16).content())
 }
 
 /// The page that an item of a leaf of duplicates names.
@@ -83,7 +62,7 @@ pub(crate) fn dup_leaf_name(page: &DupLeafView, slot: u32) -> Option<Name>
     ensures { option_to_list result ≡ item_names page.now slot }
 {
     prove!(slot < u32::from(page.entries()));
-    item_name(&page.item(slot as u16))
+    content_name(&page.item(slot as u16).content())
 }
 
 /// The page below, which an item of an internal page of records names.
@@ -103,7 +82,7 @@ pub(crate) fn internal_name(page: &InternalView, slot: u32) -> Option<Name>
     prove!(slot < 2 * u32::from(page.entries()));
     let item = page.item((slot / 2) as u16);
     if slot % 2 == 1 {
-        return key_name(&item.key);
+        return content_name(&item.key.content());
     }
     Some((Sort::Child, u64::from(item.child)))
 }
@@ -119,7 +98,7 @@ pub(crate) fn hash_name(page: &HashView, slot: u32) -> Option<Name>
         return unless_zero(Sort::HashNext, page.header().next);
     }
     if slot % 2 == 1 {
-        return hash_item_name(&page.value(pair));
+        return content_name(&page.value(pair).content());
     }
-    hash_item_name(&page.key(pair))
+    content_name(&page.key(pair).content())
 }

@@ -1,17 +1,118 @@
-ghost use Rattle.std.specs.Prelude.{◌≡◌, ◌≤◌};
+ghost use Rattle.std.specs.Prelude.{◌≡◌, ◌≤◌, ◌+◌, ◌^◌, ◌<◌, ◌||◌, IsTrue};
 ghost use Rattle.std.specs.List.{list_any};
-ghost use Rattle.bdb_graph.specs.Tallies.{IsTally};
-ghost use Rattle.bdb_format.specs.File.{file_of};
-ghost use Rattle.bdb_format.specs.Graph.{is_anchor, is_hash_meta, is_reserve, owners};
+ghost use Rattle.bdb_graph.specs.Formed.{IsFormed};
+ghost use Rattle.bdb_graph.specs.Tallies.{AreTalliesOf, IsTally};
+ghost use Rattle.bdb_graph.specs.Forest.{is_top};
+ghost use Rattle.bdb_format.specs.File.{file_of, page_at};
+ghost use Rattle.bdb_format.specs.HeadOf.{head_of};
+ghost use Rattle.bdb_format.specs.Graph.{first_holder, is_anchor, is_hash_meta, is_reserve, owners};
 
 use crate::Formed;
-use crate::formed_page::page_at;
+use crate::formed_page::{FormedPage, page_at};
 use crate::tally::Tally;
-use bdb_format::FileKind;
+use bdb_format::{FileKind, Head};
+use std::marker::Model;
+
+/// The pages of an image with the tallies of their owners, by which they have their roles.
+#[derive(Drop)]
+pub(crate) struct Roles<'a> {
+    formed: Formed<'a>,
+    tallies: Vec<Tally>,
+    has_table: bool,
+}
+
+impl<'a> Model for Roles<'a> {
+    ghost use Rattle.std.specs.Prelude.{List, ℕ};
+    ghost use Rattle.bdb_graph.specs.Tallies.{AreCounted};
+    ghost use Rattle.bdb_format.specs.File.{file_of};
+
+    ghost Value = { List ℕ };
+
+    ghost view = { λ v. v.formed };
+
+    ghost invariant = { λ v. AreCounted (file_of v.formed) v.tallies.items v.has_table };
+}
+
+impl<'a> Roles<'a> {
+    /// The pages of an image with these tallies.
+    pub(crate) fn of(formed: Formed<'a>, tallies: Vec<Tally>) -> Roles<'a>
+        requires { AreTalliesOf (file_of formed) tallies.items }
+        ensures { result ≡ formed.entry }
+    {
+        let has_table = has_table(&formed);
+        Roles {
+            formed,
+            tallies,
+            has_table,
+        }
+    }
+
+    /// What page 0 says of the whole file.
+    pub(crate) fn head(&self) -> Head
+        ensures head { result ≡ head_of self.now }
+        ensures few { result.last < 2 ^ 21 }
+        ensures formed { IsFormed self.now result }
+    {
+        self.formed.head()
+    }
+
+    /// A page up to the last one.
+    pub(crate) fn page(&self, number: u32) -> FormedPage<'a>
+        requires { number ≤ (file_of self.now).last }
+        ensures { result ≡ page_at (file_of self.now) number }
+    {
+        page_at(&self.formed, number)
+    }
+
+    /// The tally of the owners of a page.
+    pub(crate) fn tally(&self, page: u32) -> Tally
+        requires { page ≤ (file_of self.now).last }
+        ensures { IsTally result (owners (file_of self.now) page) }
+    {
+        self.tallies[page as usize]
+    }
+
+    /// The page that holds the first reference to a page, if there is one.
+    pub(crate) fn first_holder(&self, page: u32) -> Option<u32>
+        requires { page ≤ (file_of self.now).last }
+        ensures { result ≡ first_holder (owners (file_of self.now) page) }
+    {
+        self.tally(page).first()
+    }
+
+    /// Whether a page needs no owner: it's metadata, or a page of a queue file.
+    #[tactic(auto, using(crate::proofs::HeldLemmas::kind_is), unfolding(bdb_format::specs::Graph::is_anchor))]
+    fn is_anchor(&self, page: u32) -> bool
+        requires { page ≤ (file_of self.now).last }
+        ensures { result ≡ is_anchor (file_of self.now) page }
+    {
+        match self.head().kind {
+            FileKind::Btree | FileKind::Hash => self.page(page).is_meta(),
+            FileKind::Queue => true,
+        }
+    }
+
+    /// Whether a table holds a page in reserve.
+    #[tactic(auto, using(crate::proofs::RoleLemmas::counts_none), unfolding(bdb_format::specs::Graph::is_reserve))]
+    fn is_reserve(&self, page: u32) -> bool
+        requires { page ≤ (file_of self.now).last }
+        ensures { result ≡ is_reserve (file_of self.now) page }
+    {
+        self.has_table && self.tally(page).count == 0 && self.page(page).is_spare()
+    }
+
+    /// Whether a page is an anchor or a reserve: it needs no owner, and no holder is followed from there.
+    pub(crate) fn is_top(&self, page: u32) -> bool
+        requires { page ≤ (file_of self.now).last }
+        ensures { result ≡ is_top (file_of self.now) page }
+    {
+        self.is_anchor(page) || self.is_reserve(page)
+    }
+}
 
 /// Whether a page is the metadata of a hash table.
 #[tactic(auto, using(crate::proofs::HeldLemmas::last_page, crate::proofs::RoleLemmas::some_table, crate::proofs::RoleLemmas::no_table))]
-pub(crate) fn has_table(formed: &Formed<'_>) -> bool
+fn has_table(formed: &Formed<'_>) -> bool
     ensures { result ≡ list_any is_hash_meta (file_of formed.now).pages }
 {
     for page in 0..formed.head().last + 1 {
@@ -20,27 +121,4 @@ pub(crate) fn has_table(formed: &Formed<'_>) -> bool
         }
     }
     false
-}
-
-/// Whether a page needs no owner: it's metadata, or a page of a queue file.
-#[tactic(auto, using(crate::proofs::HeldLemmas::kind_is), unfolding(bdb_format::specs::Graph::is_anchor))]
-pub(crate) fn is_anchor(formed: &Formed<'_>, page: u32) -> bool
-    requires { page ≤ (file_of formed.now).last }
-    ensures { result ≡ is_anchor (file_of formed.now) page }
-{
-    match formed.head().kind {
-        FileKind::Btree | FileKind::Hash => page_at(formed, page).is_meta(),
-        FileKind::Queue => true,
-    }
-}
-
-/// Whether a table holds a page in reserve.
-#[tactic(auto, using(crate::proofs::RoleLemmas::counts_none), unfolding(bdb_format::specs::Graph::is_reserve))]
-pub(crate) fn is_reserve(formed: &Formed<'_>, page: u32, tally: Tally, has_table: bool) -> bool
-    requires page { page ≤ (file_of formed.now).last }
-    requires tally { IsTally tally (owners (file_of formed.now) page) }
-    requires table { has_table ≡ list_any is_hash_meta (file_of formed.now).pages }
-    ensures { result ≡ is_reserve (file_of formed.now) page }
-{
-    has_table && tally.count == 0 && page_at(formed, page).is_spare()
 }

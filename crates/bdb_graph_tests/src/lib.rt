@@ -14,6 +14,8 @@ mod linking;
 #[cfg(test)]
 mod opening;
 #[cfg(test)]
+mod rings;
+#[cfg(test)]
 mod sampled;
 #[cfg(test)]
 mod structure_samples;

@@ -1,6 +1,6 @@
 //! The verdict of references, ownership and reach. Values: docs/FORMAT.md, "Faults".
 
-ghost use Rattle.std.specs.Prelude.{◌≡◌};
+ghost use Rattle.std.specs.Prelude.{◌≡◌, ◌≤◌, ◌^◌, length};
 
 use crate::fields::{Field, write};
 use bdb_format::{CheckError, Fault, Order, Steps};
@@ -19,16 +19,17 @@ struct Case {
     told: Told,
 }
 
+/// What comes of linking an image.
 #[derive(Clone, Copy, Debug, PartialEq, Eq)]
-enum Told {
+pub enum Told {
     Accepted,
     Fault { stage: u8, page: u32, code: u8 },
     Memory,
     Refused,
 }
 
-// A btree file with the pair `a`, `b` on leaf 1.
-const PAIR: [Field; 17] = [
+/// A btree file with the pair `a`, `b` on leaf 1.
+pub const PAIR: [Field; 17] = [
     Field::Four(12, 0x053162), // magic number
     Field::Four(16, 9), // version
     Field::Four(20, 512), // page size
@@ -77,8 +78,8 @@ const TREE: [Field; 25] = [
     Field::Byte(0, 0),
 ];
 
-// A hash file with three buckets on pages 1 to 3, and page 4 in reserve.
-const TABLE: [Field; 17] = [
+/// A hash file with three buckets on pages 1 to 3, and page 4 in reserve.
+pub const TABLE: [Field; 17] = [
     Field::Four(12, 0x061561),
     Field::Four(16, 9),
     Field::Four(20, 512),
@@ -98,7 +99,8 @@ const TABLE: [Field; 17] = [
     Field::Byte(0, 0),
 ];
 
-const THIRD_BUCKET: [Field; 2] = [Field::Four(1544, 3), Field::Byte(1561, 13)];
+/// The third of them.
+pub const THIRD_BUCKET: [Field; 2] = [Field::Four(1544, 3), Field::Byte(1561, 13)];
 
 // A queue file without records.
 const QUEUE: [Field; 8] = [
@@ -416,7 +418,9 @@ const CASES: [Case; 21] = [
     },
 ];
 
-fn verdict_of<L: Ledger>(alloc: Global, image: &[u8; SIZE], steps: &mut Steps<L>) -> Told {
+fn verdict_of<L: Ledger>(alloc: Global, image: &[u8], steps: &mut Steps<L>) -> Told
+    requires { length image.now ≤ 2 ^ 30 }
+{
     let Ok(formed) = open_image(alloc, image) else {
         return Told::Refused;
     };
@@ -427,7 +431,16 @@ fn verdict_of<L: Ledger>(alloc: Global, image: &[u8; SIZE], steps: &mut Steps<L>
     }
 }
 
-fn told_counted<L: Ledger>(alloc: Global, image: &[u8; SIZE], blank: Blank) -> Told
+/// What comes of linking an image of 1 MB at most.
+pub fn told_by(alloc: Global, image: &[u8]) -> Told {
+    if image.len() > 1 << 20 {
+        return Told::Refused;
+    }
+    told_counted::<Brand>(alloc, image, Blank::new(1))
+}
+
+fn told_counted<L: Ledger>(alloc: Global, image: &[u8], blank: Blank) -> Told
+    requires size { length image.now ≤ 2 ^ 30 }
     requires name { blank.name ≡ L.name }
     requires parts { blank.parts ≡ L.parts }
     requires one { L.parts ≡ 1 }
@@ -440,7 +453,7 @@ fn told_of(alloc: Global, case: &Case, order: Order) -> Told {
     let mut image = [0u8; SIZE];
     write(&mut image, case.base, order);
     write(&mut image, case.fields, order);
-    told_counted::<Brand>(alloc, &image, Blank::new(1))
+    told_by(alloc, &image)
 }
 
 #[test]

@@ -5,8 +5,6 @@ use Rattle.std.specs.List.{flat_map}
 use Rattle.std.proofs.lemmas.Bool.{eqb-false, ne_eqb, or_parts, not-false}
 use Rattle.std.proofs.lemmas.List.{length-map}
 use Rattle.std.proofs.lemmas.List.Elements.{Contains-append_right}
-use Rattle.bdb_format.specs.declared.metadata.FileKind.{FileKind}
-use Rattle.bdb_format.specs.declared.metadata.FileKind.TheVariants.{Queue}
 use Rattle.bdb_format.specs.declared.metadata.Head.{Head}
 use Rattle.bdb_format.specs.declared.metadata.HashMeta.{HashMeta}
 use Rattle.bdb_format.specs.declared.references.Sort.{Sort}
@@ -17,11 +15,11 @@ use Rattle.bdb_format.specs.File.{File, file_of, header_in, page_at, type_in}
 use Rattle.bdb_format.specs.Graph.{Owner}
 use Rattle.bdb_format.specs.Hashing.{first_page}
 use Rattle.bdb_format.specs.HeadOf.{head_of}
-use Rattle.bdb_format.specs.Page.{BtreeFields, HashFields, QueueFields, Item, Listed, Page, Zero, Free, Meta, Hash, Internal, RecnoInternal, Leaf, RecnoLeaf, DupLeaf, Overflow, Queue as QueuePage, NoType}
-use Rattle.bdb_format.specs.References.{asked_by, fit_code, fit_rows, has_type, is_zero_page, refs, unless_zero, content_targets, contents_in, targets_of}
+use Rattle.bdb_format.specs.Page.{BtreeFields, HashFields, QueueFields, Item, Listed, Page, Zero, Meta, Hash}
+use Rattle.bdb_format.specs.References.{asked_by, fit_code, fit_rows, has_type, is_zero_page, unless_zero, content_targets, contents_in}
 use Rattle.bdb_format.specs.Verdict.{structure_faults, faults_in}
 use Rattle.bdb_format.proofs.GraphLemmas.{each_fits}
-use Rattle.bdb_format.proofs.MemberLemmas.{first_member, no_member}
+use Rattle.bdb_format.proofs.MemberLemmas.{first_member}
 use Rattle.bdb_format.proofs.VerdictLemmas.{AllFail, none_is_first_row}
 use Rattle.bdb_graph.specs.Linked.{IsForest, IsTarget}
 use Rattle.bdb_graph.proofs.ForestLemmas.{sound_graph}
@@ -37,31 +35,15 @@ use Rattle.bdb_graph.proofs.TargetLemmas.{is_no_queue}
 
 of_type : (page : Page) (or_zero : Bool) → (has_type (2 ∷ 13 ∷ []) (type_in page) || (or_zero && is_zero_page page)) ≡ true → is_of_bucket page ≡ true
 of_type Zero or_zero is = refl
-of_type (Free header) true is = absurd cc
-of_type (Free header) false is = absurd cc
+of_type (Hash page) or_zero is = refl
 of_type (Meta (BtreeFields meta)) true is = absurd cc
 of_type (Meta (BtreeFields meta)) false is = absurd cc
 of_type (Meta (HashFields meta)) true is = absurd cc
 of_type (Meta (HashFields meta)) false is = absurd cc
 of_type (Meta (QueueFields meta)) true is = absurd cc
 of_type (Meta (QueueFields meta)) false is = absurd cc
-of_type (Hash page) or_zero is = refl
-of_type (Internal page) true is = absurd cc
-of_type (Internal page) false is = absurd cc
-of_type (RecnoInternal page) true is = absurd cc
-of_type (RecnoInternal page) false is = absurd cc
-of_type (Leaf page) true is = absurd cc
-of_type (Leaf page) false is = absurd cc
-of_type (RecnoLeaf page) true is = absurd cc
-of_type (RecnoLeaf page) false is = absurd cc
-of_type (DupLeaf page) true is = absurd cc
-of_type (DupLeaf page) false is = absurd cc
-of_type (Overflow header piece) true is = absurd cc
-of_type (Overflow header piece) false is = absurd cc
-of_type (QueuePage number records) true is = absurd cc
-of_type (QueuePage number records) false is = absurd cc
-of_type NoType true is = absurd cc
-of_type NoType false is = absurd cc
+of_type page true is = absurd cc
+of_type page false is = absurd cc
 
 -- a target is none of the numbers that no page has
 pub target_some : (image : List ℕ) (sort : Sort) (p : ℕ) → faults_in (3 ∷ 4 ∷ 5 ∷ []) image ≡ [] → IsTarget (file_of image) sort p → p ≡ 0 → ⊥
@@ -165,8 +147,7 @@ pub no_turn : (image : List ℕ) (turns p : ℕ) → turns ≡ 0 → map (page_t
 no_turn image turns p none = ap (map (page_told image)) (no_page_in turns (file_of image) p (p == 0) none)
 
 or_else_same : {X : Type 0} (b : Bool) (x y : X) → ◌≡◌ {A = X} (elim b [ true ↦ x | false ↦ y ]) (cond b x y)
-or_else_same true x y = refl
-or_else_same false x y = refl
+or_else_same b x y = grind arith
 
 pub pages_step : (turns : ℕ) (file : File) (p : ℕ) → chain_in (suc turns) file p ≡ p ∷ pages_from turns file (next_of file p)
 unfolding chain_in

@@ -1,7 +1,7 @@
 -- The least of the faults that were noted is the first fault of a table's contents.
-use Rattle.std.proofs.Common.{◌≡◌, ◌⊎◌, ℕ, ◌+◌, ◌≤◌, List, [], ◌∷◌, ◌++◌, map, arith, refl, sym, ◌∙◌, ap, subst, inl, inr}
+use Rattle.std.proofs.Common.{◌≡◌, ◌⊎◌, ℕ, ◌+◌, ◌≤◌, Bool, true, false, List, [], ◌∷◌, ◌++◌, map, arith, refl, sym, ◌∙◌, ap, subst, inl, inr}
 use Rattle.std.specs.Prelude.{Option, Some, None}
-use Rattle.std.specs.List.{Contains, flat_map, fold, range_with_len}
+use Rattle.std.specs.List.{Contains, flat_map, fold, list_any, range_with_len}
 use Rattle.std.specs.Option.{option_map}
 use Rattle.std.proofs.lemmas.List.{map-append}
 use Rattle.bdb_graph.specs.Linked.{HasMetadata}
@@ -12,18 +12,19 @@ use Rattle.bdb_format.specs.ContentRows.{database_faults, database_rows, hash_co
 use Rattle.bdb_format.specs.Contents.{StoredPair, bucket_pages, bucket_pairs, pairs_of, table_pairs}
 use Rattle.bdb_format.specs.File.{File, file_of}
 use Rattle.bdb_format.specs.Page.{HashFields}
-use Rattle.bdb_format.specs.Table.{first_row}
+use Rattle.bdb_format.specs.Table.{◌:?◌, first_row}
 use Rattle.bdb_format.specs.Verdict.{holding, first_fault}
-use Rattle.bdb_format.proofs.MemberLemmas.{first_member, in_map, no_member, of_flat_map, of_map, of_range}
+use Rattle.bdb_format.proofs.MemberLemmas.{first_member, in_map, no_member, none_pass, of_flat_map, of_map, of_range}
 use Rattle.bdb_format.proofs.VerdictLemmas.{FirstComesFirst, IsOfStage, LeastFirst, by_page_first, holding_least, in_by_page, of_by_page}
 use Rattle.bdb_format.proofs.RepeatLemmas.{of_repeated}
-use Rattle.bdb_hash.specs.Notes.{fault_at, note_bucket, note_repeat, pair_fault, pair_rows, stored}
+use Rattle.bdb_hash.specs.Notes.{fault_at, has_stray_in, is_stray, note_bucket, note_repeat, pair_fault, pair_rows, stored}
 use Rattle.bdb_hash.specs.Told.{Told, bucket_told, joined_pages, page_told, table_told, told}
 use Rattle.bdb_hash.specs.Views.{IsTable}
 use Rattle.bdb_hash.proofs.LeastLemmas.{Given, GivenBy, IsLeast, least_given, least_given_by}
 use Rattle.bdb_hash.proofs.PlainLemmas.{IsPlain, bucket_plain}
 use Rattle.bdb_hash.proofs.RowLemmas.{ArePlain, buckets_of, page_holds, page_table, pair_holds, repeat_holds, repeat_row, rows_are, tests_of, tests_rise}
 use Rattle.bdb_format.proofs.FaultLemmas.{comes_through}
+use Rattle.bdb_overflow.proofs.KeyLemmas.{not_true}
 use Rattle.bdb_graph.proofs.LinkingLemmas.{no_first_fault}
 
 -- Told pairs.
@@ -41,18 +42,6 @@ stored_told : (image : List ℕ) (pairs : List StoredPair) → stored (map (told
 stored_told image [] = refl
 stored_told image (pair ∷ pairs) = ap (λ ps. pair ∷ ps) (stored_told image pairs)
 
-stored_flat : (image : List ℕ) (meta : HashMeta) (bs : List ℕ) → stored (flat_map (bucket_told image meta) bs) ≡ flat_map (bucket_pairs (file_of image) meta) bs
-stored_flat image meta [] = refl
-stored_flat image meta (b ∷ bs) =
-    map-append (λ (t : Told). t.pair) (bucket_told image meta b) (flat_map (bucket_told image meta) bs)
-    ∙ (ap (λ ps. ps ++ stored (flat_map (bucket_told image meta) bs)) (ap stored (bucket_is image meta b) ∙ stored_told image (bucket_pairs (file_of image) meta b))
-    ∙ ap (λ ps. bucket_pairs (file_of image) meta b ++ ps) (stored_flat image meta bs))
-
--- the pairs of a table
-pub table_stored : (image : List ℕ) (meta : HashMeta) → stored (table_told image meta) ≡ table_pairs (file_of image) meta
-unfolding table_pairs
-table_stored image meta = stored_flat image meta (buckets_of meta)
-
 told_flat : (image : List ℕ) (meta : HashMeta) (bs : List ℕ) → flat_map (bucket_told image meta) bs ≡ map (told image) (flat_map (bucket_pairs (file_of image) meta) bs)
 told_flat image meta [] = refl
 told_flat image meta (b ∷ bs) =
@@ -63,6 +52,10 @@ told_flat image meta (b ∷ bs) =
 pub table_is_told : (image : List ℕ) (meta : HashMeta) → table_told image meta ≡ map (told image) (table_pairs (file_of image) meta)
 unfolding table_pairs
 table_is_told image meta = told_flat image meta (buckets_of meta)
+
+-- the pairs of a table
+pub table_stored : (image : List ℕ) (meta : HashMeta) → stored (table_told image meta) ≡ table_pairs (file_of image) meta
+table_stored image meta = ap stored (table_is_told image meta) ∙ stored_told image (table_pairs (file_of image) meta)
 
 -- Which pairs there are.
 
@@ -105,6 +98,31 @@ noted_least image meta =
     (λ fault. Nothing fault ⊎ GivenBy (told_fault meta) (bucket_told image meta) (buckets_of meta) fault)
     (fold (note_bucket image meta) None (buckets_of meta))
     (least_given_by (told_fault meta) (bucket_told image meta) (buckets_of meta) Nothing None (λ fault none. none))
+
+-- a pair one of whose rows holds has a fault
+row_fault : (a b c d : Bool) (page : ℕ) → d ≡ true
+    → (fault : Fault) × (option_map (fault_at page) (first_row (1 :? a ∷ 2 :? b ∷ 5 :? c ∷ 8 :? d ∷ [])) ≡ Some fault)
+row_fault true b c d page is = (fault_at page 1, refl)
+row_fault false true c d page is = (fault_at page 2, refl)
+row_fault false false true d page is = (fault_at page 5, refl)
+row_fault false false false true page is = (fault_at page 8, refl)
+row_fault false false false false page is = absurd cc
+
+stray_fault : (meta : HashMeta) (b : ℕ) (t : Told) → is_stray meta b t ≡ true → (fault : Fault) × (told_fault meta b t ≡ Some fault)
+stray_fault meta b t stray = row_fault _ _ _ (is_stray meta b t) t.pair.page stray
+
+-- where no fault of a pair by itself was noted, there is no stray
+pub no_strays : (image : List ℕ) (meta : HashMeta) → None ≡ fold (note_bucket image meta) None (range_with_len 0 (meta.max_bucket + 1))
+    → false ≡ list_any (has_stray_in image meta) (range_with_len 0 (meta.max_bucket + 1))
+no_strays image meta none =
+    let nothing : IsLeast (λ fault. Nothing fault ⊎ GivenBy (told_fault meta) (bucket_told image meta) (buckets_of meta) fault) None =
+    subst (IsLeast (λ fault. Nothing fault ⊎ GivenBy (told_fault meta) (bucket_told image meta) (buckets_of meta) fault)) (sym none)
+    (least_given_by (told_fault meta) (bucket_told image meta) (buckets_of meta) Nothing None (λ fault none. none)) in
+    sym
+    (none_pass (has_stray_in image meta) (buckets_of meta)
+    (λ b listed. none_pass (is_stray meta b) (bucket_told image meta b) (λ t held. not_true (is_stray meta b t) (λ stray.
+    let found : (fault : Fault) × (told_fault meta b t ≡ Some fault) = stray_fault meta b t stray in
+    nothing found.0 (inr (b, listed, (t, held, found.1)))))))
 
 some_code : (page : ℕ) (code : Option ℕ) (fault : Fault) → option_map (fault_at page) code ≡ Some fault → (c : ℕ) × (code ≡ Some c) × (fault_at page c ≡ fault)
 some_code page None fault same = absurd cc

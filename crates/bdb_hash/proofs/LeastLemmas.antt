@@ -1,9 +1,10 @@
 -- The first of some faults, noted one after another, and rows that hold for one of some pairs.
-use Rattle.std.proofs.Common.{◌≡◌, ◌⊎◌, ℕ, ◌≤◌, ◌<◌, Bool, true, false, ◌&&◌, ◌||◌, cond, List, [], ◌∷◌, arith, refl, sym, ◌∙◌, ap, subst, inl, inr}
-use Rattle.std.specs.Prelude.{Option, Some, None, ◌==◌, nat_lt}
-use Rattle.std.specs.List.{Contains, fold, list_any}
-use Rattle.std.proofs.lemmas.Bool.{and_parts, cases_order, eq-eqb, eqb-true, ltb-false, ltb-true, or_cases, or_parts, true≢false}
-use Rattle.bdb_hash.specs.Notes.{earlier, is_before}
+use Rattle.std.proofs.Common.{◌≡◌, ◌⊎◌, ℕ, ◌≤◌, true, false, cond, List, [], ◌∷◌, arith, refl, sym, ◌∙◌, ap, subst, inl, inr}
+use Rattle.std.specs.Prelude.{Option, Some, None}
+use Rattle.std.specs.List.{Contains, fold}
+use Rattle.std.proofs.lemmas.Bool.{true≢false}
+use Rattle.bdb_overflow.specs.Earlier.{earlier, is_before}
+use Rattle.bdb_overflow.proofs.EarlierLemmas.{after_is, before_is}
 use Rattle.bdb_format.specs.ByPage.{ComesFirst}
 use Rattle.bdb_format.specs.declared.kinds.Fault.{Fault}
 use Rattle.bdb_format.specs.Table.{Row, first_row}
@@ -11,29 +12,6 @@ use Rattle.bdb_format.specs.Verdict.{holding}
 use Rattle.bdb_format.proofs.MemberLemmas.{first_member, later_member, member_cases, no_member}
 use Rattle.bdb_format.proofs.VerdictLemmas.{Rises}
 use Rattle.bdb_format.proofs.FaultLemmas.{comes_through, comes_itself}
-
--- The order of faults.
-
-before_first : (a b : Fault) → is_before b a ≡ true → ComesFirst b a
-before_first a b is =
-    elim (or_cases (nat_lt b.page a.page) (b.page == a.page && nat_lt b.code a.code) is) [
-      | inl less ↦ inl (ltb-true b.page a.page less)
-      | inr both ↦
-          let parts : ((b.page == a.page) ≡ true) × (nat_lt b.code a.code ≡ true) = and_parts (b.page == a.page) (nat_lt b.code a.code) both in
-          let less : b.code < a.code = ltb-true b.code a.code parts.1 in
-          inr (eqb-true b.page a.page parts.0, omega arith)
-    ]
-
-not_before_first : (a b : Fault) → is_before b a ≡ false → ComesFirst a b
-not_before_first a b is =
-    let parts : (nat_lt b.page a.page ≡ false) × ((b.page == a.page && nat_lt b.code a.code) ≡ false) = or_parts (nat_lt b.page a.page) (b.page == a.page && nat_lt b.code a.code) is in
-    elim (cases_order a.page b.page) [
-      | inl same ↦
-          let code : nat_lt b.code a.code ≡ false = ap (λ t. t && nat_lt b.code a.code) (sym (eq-eqb b.page a.page (sym same))) ∙ parts.1 in
-          inr (same, ltb-false b.code a.code code)
-      | inr (inl less) ↦ inl less
-      | inr (inr more) ↦ let not_more : a.page ≤ b.page = ltb-false b.page a.page parts.0 in absurd (omega arith)
-    ]
 
 -- The first of faults.
 
@@ -51,9 +29,9 @@ least_both P Q None None p q = λ fault either. elim either [ inl here ↦ p fau
 least_both P Q None (Some b) p q = (inr q.0, λ fault either. elim either [ inl here ↦ absurd (p fault here) | inr there ↦ q.1 fault there ])
 least_both P Q (Some a) None p q = (inl p.0, λ fault either. elim either [ inl here ↦ p.1 fault here | inr there ↦ absurd (q fault there) ])
 least_both P Q (Some a) (Some b) p q =
-    elim (is_before b a) as (λ t. is_before b a ≡ t → IsLeast (λ fault. P fault ⊎ Q fault) (cond t (Some b) (Some a))) [
-      | true ↦ λ is. (inr q.0, λ fault either. elim either [ inl here ↦ comes_through b a fault (before_first a b is) (p.1 fault here) | inr there ↦ q.1 fault there ])
-      | false ↦ λ is. (inl p.0, λ fault either. elim either [ inl here ↦ p.1 fault here | inr there ↦ comes_through a b fault (not_before_first a b is) (q.1 fault there) ])
+    elim (is_before a b) as (λ t. is_before a b ≡ t → IsLeast (λ fault. P fault ⊎ Q fault) (cond t (Some a) (Some b))) [
+      | true ↦ λ is. (inl p.0, λ fault either. elim either [ inl here ↦ p.1 fault here | inr there ↦ comes_through a b fault (before_is a b is) (q.1 fault there) ])
+      | false ↦ λ is. (inr q.0, λ fault either. elim either [ inl here ↦ comes_through b a fault (after_is a b is) (p.1 fault here) | inr there ↦ q.1 fault there ])
     ] refl
 
 least_same : (P Q : Fault → Type 0) (found : Option Fault) → ((fault : Fault) → P fault → Q fault) → ((fault : Fault) → Q fault → P fault) → IsLeast P found → IsLeast Q found

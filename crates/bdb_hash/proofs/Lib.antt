@@ -1,11 +1,11 @@
 pub mod BucketLemmas
 pub mod DataLemmas
 pub mod FaultLemmas
-pub mod KeyLemmas
 pub mod LeastLemmas
 pub mod LookupLemmas
 pub mod MaskLemmas
 pub mod PairLemmas
+pub mod PlaceLemmas
 pub mod PlainLemmas
 pub mod RepeatLemmas
 pub mod RowLemmas

@@ -5,7 +5,6 @@ use Rattle.std.specs.List.{Contains, filter, find, flat_map, list_any, range_wit
 use Rattle.std.specs.Option.{option_map, option_or}
 use Rattle.std.specs.Str.{bytes_eq}
 use Rattle.std.proofs.lemmas.Bool.{cases_Bool, cases_eq, eq-eqb, eqb-true, not-false, or_parts, true≢false}
-use Rattle.std.proofs.lemmas.Grind.{flat_map-append}
 use Rattle.std.proofs.lemmas.List.{append-nil, map-append}
 use Rattle.std.proofs.lemmas.List.Elements.{Contains-append_left, filter-append}
 use Rattle.std.proofs.lemmas.List.Folds.{find-append}
@@ -25,7 +24,7 @@ use Rattle.bdb_graph.specs.Linked.{HasMetadata}
 use Rattle.bdb_hash.specs.Told.{IsSought, Told, bucket_told, has_key, joined_pages, told}
 use Rattle.bdb_hash.specs.Views.{IsTable}
 use Rattle.bdb_hash.proofs.FaultLemmas.{bucket_is, few_buckets, table_plain}
-use Rattle.bdb_hash.proofs.KeyLemmas.{eq_same, not_true}
+use Rattle.bdb_overflow.proofs.KeyLemmas.{eq_same, not_true}
 use Rattle.bdb_hash.proofs.PlainLemmas.{IsPlain, bucket_plain}
 use Rattle.bdb_hash.proofs.RowLemmas.{ArePlain, buckets_of}
 use Rattle.bdb_format.proofs.ListLemmas.{passes_here, flat_map_twice}

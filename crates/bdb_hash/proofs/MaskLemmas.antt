@@ -1,9 +1,9 @@
 -- The bucket of a hash is one of the table's: its masks are as form leaves them.
-use Rattle.std.proofs.Common.{◌≡◌, ℕ, ◌+◌, ◌≤◌, ◌<◌, Bool, true, false, ◌&&◌, cond, List, arith, refl, sym, ◌∙◌, subst, inl, inr}
-use Rattle.std.specs.Prelude.{Option, Some, None, ◌==◌, ◌/◌, nat_le, nat_lt, bit_and}
-use Rattle.std.proofs.lemmas.Bool.{and_parts, eqb-true, leb-true, ltb-false, ltb-true, not-false, or_cases}
+use Rattle.std.proofs.Common.{◌≡◌, ℕ, ◌≤◌, true, false, cond, List, arith, refl, sym, ◌∙◌, subst}
+use Rattle.std.specs.Prelude.{None, nat_lt, bit_and}
+use Rattle.std.proofs.lemmas.Bool.Decides.{nat_tests}
+use Rattle.std.proofs.lemmas.Bool.{ltb-false, not-false}
 use Rattle.std.proofs.lemmas.Nat.{and_le_r}
-use Rattle.std.specs.Int.{is_power_of_two}
 use Rattle.bdb_format.proofs.GraphLemmas.{typed_none}
 use Rattle.bdb_format.specs.declared.metadata.FileKind.TheVariants.{Hash}
 use Rattle.bdb_format.specs.declared.metadata.HashMeta.{HashMeta}
@@ -14,7 +14,7 @@ use Rattle.bdb_format.specs.HeadOf.{head_of}
 use Rattle.bdb_format.specs.Numbers.{byte_at}
 use Rattle.bdb_format.specs.Page.{HashFields, Meta, Page, PageType, HashMetaPage, Zero}
 use Rattle.bdb_format.specs.Reading.{abstract_page, hash_fields, is_zero, page_as, page_type}
-use Rattle.bdb_format.specs.Rows.{are_masks, field_rows, form_code, identity_rows, may_have_type, typed_code}
+use Rattle.bdb_format.specs.Rows.{are_masks, field_rows, form_code, typed_code}
 use Rattle.bdb_format.specs.Table.{first_row}
 use Rattle.bdb_format.proofs.VerdictLemmas.{AllFail, none_is_first_row}
 use Rattle.bdb_graph.specs.Linked.{HasMetadata, IsForest}
@@ -54,22 +54,7 @@ meta_masks image meta forest has =
 -- The bucket of a hash.
 
 within : (meta : HashMeta) (hash : ℕ) → are_masks meta ≡ true → nat_lt meta.max_bucket (bit_and hash meta.high_mask) ≡ true → bit_and hash meta.low_mask ≤ meta.max_bucket
-within meta hash masks above =
-    let over : meta.max_bucket < bit_and hash meta.high_mask = ltb-true meta.max_bucket (bit_and hash meta.high_mask) above in
-    let high : bit_and hash meta.high_mask ≤ meta.high_mask = and_le_r hash meta.high_mask in
-    let low : bit_and hash meta.low_mask ≤ meta.low_mask = and_le_r hash meta.low_mask in
-    elim (or_cases (meta.max_bucket == 0 && meta.high_mask == 0)
-    (nat_le 1 meta.high_mask && is_power_of_two (meta.high_mask + 1) && meta.low_mask == meta.high_mask / 2 && nat_le meta.low_mask meta.max_bucket && nat_le meta.max_bucket meta.high_mask) masks) [
-      | inl one ↦
-          let parts : ((meta.max_bucket == 0) ≡ true) × ((meta.high_mask == 0) ≡ true) = and_parts (meta.max_bucket == 0) (meta.high_mask == 0) one in
-          let none : meta.high_mask ≡ 0 = eqb-true meta.high_mask 0 parts.1 in
-          absurd (omega arith)
-      | inr many ↦
-          let last = and_parts (nat_le 1 meta.high_mask && is_power_of_two (meta.high_mask + 1) && meta.low_mask == meta.high_mask / 2 && nat_le meta.low_mask meta.max_bucket) (nat_le meta.max_bucket meta.high_mask) many in
-          let middle = and_parts (nat_le 1 meta.high_mask && is_power_of_two (meta.high_mask + 1) && meta.low_mask == meta.high_mask / 2) (nat_le meta.low_mask meta.max_bucket) last.0 in
-          let below : meta.low_mask ≤ meta.max_bucket = leb-true meta.low_mask meta.max_bucket middle.1 in
-          omega arith
-    ]
+within meta hash masks above = grind (arith, nat_tests, masks, above, and_le_r hash meta.high_mask, and_le_r hash meta.low_mask)
 
 pub bucket_within : (image : List ℕ) (meta : HashMeta) (hash : ℕ) → IsForest image → HasMetadata (file_of image) (HashFields meta) → bucket hash meta.max_bucket meta.high_mask meta.low_mask ≤ meta.max_bucket
 bucket_within image meta hash forest has =

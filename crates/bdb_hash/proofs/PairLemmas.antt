@@ -2,7 +2,7 @@
 use Rattle.std.proofs.Common.{◌≡◌, ℕ, ◌+◌, ◌*◌, ◌≤◌, true, false, not, List, [], refl, sym, ◌∙◌, ap, subst}
 use Rattle.std.specs.Prelude.{Some, None}
 use Rattle.std.specs.List.{Contains, slice_get}
-use Rattle.std.proofs.lemmas.Option.{get_or_from_slice_get, slice_get_within}
+use Rattle.std.proofs.lemmas.Option.{get_or_from_slice_get}
 use Rattle.bdb_format.specs.declared.references.Sort.{Sort}
 use Rattle.bdb_format.specs.declared.references.Sort.TheVariants.{OverflowHead, DuplicateRoot}
 use Rattle.bdb_format.specs.Chains.{value_of}
@@ -26,18 +26,15 @@ use Rattle.bdb_format.proofs.ReferenceLemmas.{forest_names}
 
 pub no_single : (file : File) (content : Content) → None ≡ single_value file content → [] ≡ value_of file content
 unfolding value_of
-no_single file (Inline bytes) none = absurd cc
 no_single file (Set blocks) none = refl
-no_single file (Chain head total) none = absurd cc
 no_single file (Tree root) none = refl
 no_single file Unknown none = refl
+no_single file content none = absurd cc
 
 pub single : (file : File) (content : Content) (value : List ℕ) → Some value ≡ single_value file content → value ≡ value_of file content
 single file (Inline bytes) value some = cc
-single file (Set blocks) value some = absurd cc
 single file (Chain head total) value some = cc
-single file (Tree root) value some = absurd cc
-single file Unknown value some = absurd cc
+single file content value some = absurd cc
 
 -- What items name.
 
@@ -55,15 +52,9 @@ record IsNamed (file : File) (content : Content) : Type 0 where
 
 is_named : (file : File) (content : Content) → ((sort : Sort) (target : ℕ) → Contains (content_targets content) (sort, target) → IsTarget file sort target)
     → IsNamed file content
-is_named file (Inline bytes) fits = record { chain = tt; root = tt }
-is_named file (Set blocks) fits = record { chain = tt; root = tt }
 is_named file (Chain head total) fits = record { chain = fits OverflowHead head (first_member (OverflowHead, head) []); root = tt }
 is_named file (Tree root) fits = record { chain = tt; root = fits DuplicateRoot root (first_member (DuplicateRoot, root) []) }
-is_named file Unknown fits = record { chain = tt; root = tt }
-
-pub content_fits : (file : File) (content : Content)
-    → ((sort : Sort) (target : ℕ) → Contains (content_targets content) (sort, target) → IsTarget file sort target) → FitsContent file content
-content_fits file content fits = (is_named file content fits).chain
+is_named file content fits = record { chain = tt; root = tt }
 
 hash_named : (image : List ℕ) (p i : ℕ) (page : Listed Item) (item : Item) → IsTable image → p ≤ (file_of image).last → page_at (file_of image) p ≡ Hash page
     → slice_get page.items i ≡ Some item → IsNamed (file_of image) item.content

@@ -1,12 +1,20 @@
 -- Where each key is in its own bucket, the pairs that repeat a key are those of each bucket, one bucket after another.
-use Rattle.std.proofs.Common.{◌≡◌, ℕ, zero, suc, ◌+◌, ◌≤◌, ◌<◌, Bool, true, false, ◌||◌, cond, List, [], ◌∷◌, ◌++◌, map, arith, refl, sym, ◌∙◌, ap}
+use Rattle.std.proofs.Common.{◌≡◌, ℕ, zero, suc, ◌+◌, ◌≤◌, ◌<◌, Bool, true, false, ◌||◌, cond, List, [], ◌∷◌, ◌++◌, map, arith, refl, sym, ◌∙◌, ap, subst, not}
 use Rattle.std.specs.Prelude.{Option, ◌==◌}
+use Rattle.std.specs.BTreeSet.{BTreeSet, IsEmpty, Updates}
+use Rattle.std.specs.Cmp.Lexicographic.{slice_cmp}
+use Rattle.std.specs.Ordering.{nat_cmp}
 use Rattle.std.specs.List.{Contains, flat_map, fold, list_any, range_with_len}
 use Rattle.std.specs.Str.{bytes_eq}
-use Rattle.std.proofs.lemmas.Bool.{eqb-true, not-false}
+use Rattle.std.proofs.Math.Bool.{or-false}
+use Rattle.std.proofs.lemmas.Bool.{eqb-true, not-false, or_from}
 use Rattle.std.proofs.lemmas.List.{map-append}
 use Rattle.std.proofs.lemmas.List.Folds.{list_any-append}
 use Rattle.std.proofs.lemmas.List.Sums.{fold-append}
+use Rattle.std.proofs.lemmas.Map.Text.{is_eq-slice_cmp}
+use Rattle.bdb_format.proofs.BoolLemmas.{cond_or}
+use Rattle.bdb_overflow.specs.Earlier.{unless_new}
+use Rattle.bdb_overflow.specs.Keys.{has_item, has_key, repeated_by}
 use Rattle.bdb_format.specs.declared.kinds.Fault.{Fault}
 use Rattle.bdb_format.specs.declared.metadata.HashMeta.{HashMeta}
 use Rattle.bdb_format.specs.ContentRows.{bucket_of_key, repeated}
@@ -14,11 +22,11 @@ use Rattle.bdb_format.specs.Contents.{StoredPair, bucket_pages}
 use Rattle.bdb_format.specs.File.{file_of}
 use Rattle.bdb_format.proofs.MemberLemmas.{first_member, in_range, later_member, none_passes, of_flat_map, of_map, of_range}
 use Rattle.bdb_format.proofs.RepeatLemmas.{repeated_after, repeated_is}
-use Rattle.bdb_hash.specs.Notes.{has_stray_in, is_stray, note_again, note_repeat, stored}
+use Rattle.bdb_hash.specs.Notes.{AreKeysOf, IsNoting, Notes, behind, fault_at, has_stray_in, is_stray, key_of, note_again, note_repeat, stored}
 use Rattle.bdb_hash.specs.Told.{Told, bucket_told, joined_pages, page_told, table_told}
-use Rattle.bdb_hash.proofs.KeyLemmas.{eq_same, not_true}
+use Rattle.bdb_overflow.proofs.KeyLemmas.{eq_same, not_true}
 use Rattle.bdb_hash.proofs.RowLemmas.{buckets_of}
-use Rattle.bdb_hash.proofs.TableLemmas.{zero_more}
+use Rattle.bdb_hash.proofs.TableLemmas.{told_more, zero_more}
 use Rattle.bdb_format.proofs.ListLemmas.{passes_here}
 
 -- Repeats after other pairs.
@@ -31,13 +39,6 @@ has_same earlier pair = list_any (λ (other : StoredPair). bytes_eq other.key pa
 abbrev AreOther : List StoredPair → List StoredPair → Type 0
 AreOther earlier pairs = (pair : StoredPair) → Contains pairs pair → has_same earlier pair ≡ false
 
-or_false : (a b : Bool) → b ≡ false → (a || b) ≡ a
-or_false true b none = refl
-or_false false b none = none
-
-both_false : (a b : Bool) → a ≡ false → b ≡ false → (a || b) ≡ false
-both_false a b first second = or_false a b second ∙ first
-
 -- pairs with other keys may be dropped
 drop_other : (earlier others pairs : List StoredPair) → AreOther others pairs → repeated_after (earlier ++ others) pairs ≡ repeated_after earlier pairs
 drop_other earlier others [] other = refl
@@ -45,13 +46,13 @@ drop_other earlier others (pair ∷ pairs) other =
     let rest : repeated_after (pair ∷ earlier ++ others) pairs ≡ repeated_after (pair ∷ earlier) pairs =
     drop_other (pair ∷ earlier) others pairs (λ one at. other one (later_member pair pairs one at)) in
     let same : has_same (earlier ++ others) pair ≡ has_same earlier pair =
-    list_any-append (λ (one : StoredPair). bytes_eq one.key pair.key) earlier others ∙ or_false (has_same earlier pair) (has_same others pair) (other pair (first_member pair pairs)) in
+    list_any-append (λ (one : StoredPair). bytes_eq one.key pair.key) earlier others
+    ∙ (ap (λ b. has_same earlier pair || b) (other pair (first_member pair pairs)) ∙ or-false (has_same earlier pair)) in
     ap (λ (ps : List StoredPair). cond (has_same (earlier ++ others) pair) (pair ∷ ps) ps) rest
     ∙ ap (λ b. cond b (pair ∷ repeated_after (pair ∷ earlier) pairs) (repeated_after (pair ∷ earlier) pairs)) same
 
 cond_append : (b : Bool) (pair : StoredPair) (xs ys : List StoredPair) → cond b (pair ∷ xs ++ ys) (xs ++ ys) ≡ cond b (pair ∷ xs) xs ++ ys
-cond_append true pair xs ys = refl
-cond_append false pair xs ys = refl
+cond_append b pair xs ys = grind arith
 
 -- the repeats of pairs, and of others behind them with other keys
 repeated_append : (earlier xs ys : List StoredPair) → AreOther earlier ys → ((x y : StoredPair) → Contains xs x → Contains ys y → bytes_eq x.key y.key ≡ false)
@@ -59,7 +60,7 @@ repeated_append : (earlier xs ys : List StoredPair) → AreOther earlier ys → 
 repeated_append earlier [] ys before' apart = drop_other [] earlier ys before'
 repeated_append earlier (x ∷ xs) ys before' apart =
     let rest : repeated_after (x ∷ earlier) (xs ++ ys) ≡ repeated_after (x ∷ earlier) xs ++ repeated_after [] ys =
-    repeated_append (x ∷ earlier) xs ys (λ y at. both_false (bytes_eq x.key y.key) (has_same earlier y) (apart x y (first_member x xs) at) (before' y at))
+    repeated_append (x ∷ earlier) xs ys (λ y at. or_from (bytes_eq x.key y.key) (has_same earlier y) (apart x y (first_member x xs) at) (before' y at))
     (λ z y at_z at_y. apart z y (later_member x xs z at_z) at_y) in
     ap (λ (ps : List StoredPair). cond (has_same earlier x) (x ∷ ps) ps) rest
     ∙ cond_append (has_same earlier x) x (repeated_after (x ∷ earlier) xs) (repeated_after [] ys)
@@ -111,15 +112,114 @@ by_bucket_is image meta least result none is =
     ∙ (by_part (λ b. stored (bucket_told image meta b)) (bucket_of_key meta) 0 (meta.max_bucket + 1) least (home_where_none image meta (sym none))
     ∙ ap (λ (ps : List StoredPair). fold note_repeat least (repeated ps)) (sym (stored_parts (bucket_told image meta) (buckets_of meta))))
 
+-- Pairs noted one after another.
+
+pub none_noted : (keys : BTreeSet (List ℕ)) (least : Option Fault) → Notes keys keys least least []
+none_noted keys least = record { after = λ before are. (are, refl) }
+
+keys_more : (keys more : BTreeSet (List ℕ)) (before : List StoredPair) (pair : StoredPair) → AreKeysOf keys before
+    → Updates (slice_cmp nat_cmp) keys more pair.key true → AreKeysOf more (pair ∷ before)
+keys_more keys more before pair are updates sought =
+    updates.0 sought
+    ∙ (ap (λ b. cond b true (has_key keys sought)) (is_eq-slice_cmp pair.key sought)
+    ∙ (ap (λ b. cond (bytes_eq pair.key sought) true b) (are sought) ∙ cond_or (bytes_eq pair.key sought) (has_item key_of before sought)))
+
+noted_here : (has : Bool) (least : Option Fault) (pair : StoredPair)
+    → unless_new (not has) least (fault_at pair.page 9) ≡ fold note_repeat least (cond has (pair ∷ []) [])
+noted_here has least pair = grind arith
+
+one_noted : (keys more : BTreeSet (List ℕ)) (least noted : Option Fault) (pair : StoredPair)
+    → noted ≡ unless_new (not (has_key keys pair.key)) least (fault_at pair.page 9)
+    → Updates (slice_cmp nat_cmp) keys more pair.key true → Notes keys more least noted (pair ∷ [])
+one_noted keys more least noted pair is updates = record {
+  after = λ before are. (
+    keys_more keys more before pair are updates,
+    is ∙ (ap (λ b. unless_new (not b) least (fault_at pair.page 9)) (are pair.key) ∙ noted_here (has_item key_of before pair.key) least pair),
+  );
+}
+
+repeats_append : (before xs ys : List StoredPair)
+    → repeated_by key_of before (xs ++ ys) ≡ repeated_by key_of before xs ++ repeated_by key_of (behind before xs) ys
+repeats_append before [] ys = refl
+repeats_append before (x ∷ xs) ys =
+    ap (λ (ps : List StoredPair). cond (has_item key_of before x.key) (x ∷ ps) ps) (repeats_append (x ∷ before) xs ys)
+    ∙ cond_append (has_item key_of before x.key) x (repeated_by key_of (x ∷ before) xs) (repeated_by key_of (behind (x ∷ before) xs) ys)
+
+both_noted : (a b c : BTreeSet (List ℕ)) (k l m : Option Fault) (xs ys : List StoredPair) → Notes a b k l xs → Notes b c l m ys → Notes a c k m (xs ++ ys)
+both_noted a b c k l m xs ys first second = record {
+  after = λ before are.
+      let here : AreKeysOf b (behind before xs) × (l ≡ fold note_repeat k (repeated_by key_of before xs)) = first.after before are in
+      let there : AreKeysOf c (behind (behind before xs) ys) × (m ≡ fold note_repeat l (repeated_by key_of (behind before xs) ys)) =
+      second.after (behind before xs) here.0 in (
+        λ sought. there.0 sought ∙ ap (λ ps. has_item key_of ps sought)
+            (sym (fold-append (λ (ps : List StoredPair) (pair : StoredPair). pair ∷ ps) before xs ys)),
+        there.1
+            ∙ (ap (λ (n : Option Fault). fold note_repeat n (repeated_by key_of (behind before xs) ys)) here.1
+            ∙ (sym (fold-append note_repeat k (repeated_by key_of before xs) (repeated_by key_of (behind before xs) ys))
+            ∙ ap (fold note_repeat k) (sym (repeats_append before xs ys)))),
+      );
+}
+
+told_noted : (a b c : BTreeSet (List ℕ)) (k l m : Option Fault) (xs ys : List Told) → Notes a b k l (stored xs) → Notes b c l m (stored ys)
+    → Notes a c k m (stored (xs ++ ys))
+told_noted a b c k l m xs ys first second =
+    subst (Notes a c k m) (sym (map-append (λ (t : Told). t.pair) xs ys)) (both_noted a b c k l m (stored xs) (stored ys) first second)
+
+pub none_noting : (keys : BTreeSet (List ℕ)) (least : Option Fault) (all : List Told) → IsNoting keys keys least least all all
+none_noting keys least all = record { rest = λ new last notes. notes }
+
+pub more_noting : (old now more : BTreeSet (List ℕ)) (least noted next : Option Fault) (all left here rest : List Told)
+    → IsNoting old now least noted all left → left ≡ here ++ rest
+    → Notes now more noted next (stored here) → IsNoting old more least next all rest
+more_noting old now more least noted next all left here rest noting is notes = record {
+  rest = λ new last others.
+      noting.rest new last (subst (λ ps. Notes now new noted last (stored ps)) (sym is) (told_noted now more new noted next last here rest notes others));
+}
+
+pub one_noting : (old now more : BTreeSet (List ℕ)) (least noted next : Option Fault) (all left rest : List Told) (t : Told) (key : List ℕ)
+    → IsNoting old now least noted all left → left ≡ t ∷ rest
+    → key ≡ t.pair.key → next ≡ unless_new (not (has_key now key)) noted (fault_at t.pair.page 9) → Updates (slice_cmp nat_cmp) now more key true
+    → IsNoting old more least next all rest
+one_noting old now more least noted next all left rest t key noting is same next_is updates =
+    more_noting old now more least noted next all left (t ∷ []) rest noting is
+    (one_noted now more noted next t.pair (next_is ∙ ap (λ k. unless_new (not (has_key now k)) noted (fault_at t.pair.page 9)) same)
+    (subst (λ k. Updates (slice_cmp nat_cmp) now more k true) same updates))
+
+pub all_noting : (old now : BTreeSet (List ℕ)) (least noted : Option Fault) (all left : List Told) → IsNoting old now least noted all left → left ≡ []
+    → Notes old now least noted (stored all)
+all_noting old now least noted all left noting none =
+    noting.rest now noted (subst (λ ps. Notes now now noted noted (stored ps)) (sym none) (none_noted now noted))
+
+-- What was noted after no pair.
+
+same_repeated : (before pairs : List StoredPair) → repeated_by key_of before pairs ≡ repeated_after before pairs
+same_repeated before [] = refl
+same_repeated before (pair ∷ pairs) = ap (λ (ps : List StoredPair). cond (has_item key_of before pair.key) (pair ∷ ps) ps) (same_repeated (pair ∷ before) pairs)
+
+pub noted_anew : (empty keys : BTreeSet (List ℕ)) (least noted : Option Fault) (pairs : List StoredPair) → IsEmpty empty → Notes empty keys least noted pairs
+    → noted ≡ fold note_repeat least (repeated pairs)
+noted_anew empty keys least noted pairs none notes =
+    (notes.after [] (λ sought. rw none refl)).1 ∙ ap (fold note_repeat least) (same_repeated [] pairs ∙ sym (repeated_is pairs))
+
 -- one more bucket noted
-pub again_more : (image : List ℕ) (meta : HashMeta) (b : ℕ) (start least result : Option Fault) (pairs : List Told) → least ≡ fold (note_again image meta) start (range_with_len 0 b)
-    → pairs ≡ bucket_told image meta b → result ≡ fold note_repeat least (repeated (stored pairs))
-    → result ≡ fold (note_again image meta) start (range_with_len 0 (b + 1))
-again_more image meta b start least result pairs before' are is =
-    is
-    ∙ (ap (λ (ts : List Told). fold note_repeat least (repeated (stored ts))) are
+pub again_more : (image : List ℕ) (meta : HashMeta) (b : ℕ) (empty keys : BTreeSet (List ℕ)) (start least next : Option Fault) (pages : List (List Told))
+    → least ≡ fold (note_again image meta) start (range_with_len 0 b) → pages ≡ map (page_told image) (bucket_pages (file_of image) meta b) → IsEmpty empty
+    → Notes empty keys least next (stored (joined_pages pages)) → next ≡ fold (note_again image meta) start (range_with_len 0 (b + 1))
+again_more image meta b empty keys start least next pages before' are none notes =
+    noted_anew empty keys least next (stored (joined_pages pages)) none notes
+    ∙ (ap (λ (ps : List (List Told)). fold note_repeat least (repeated (stored (joined_pages ps)))) are
     ∙ (ap (λ l. note_again image meta l b) before'
     ∙ (sym (fold-append (note_again image meta) start (range_with_len 0 b) (b ∷ [])) ∙ ap (fold (note_again image meta) start) (sym (zero_more b)))))
+
+-- the pairs of one more bucket noted with those before
+pub table_more : (image : List ℕ) (meta : HashMeta) (b : ℕ) (old now new : BTreeSet (List ℕ)) (start least next : Option Fault) (pages : List (List Told))
+    → Notes old now start least (stored (flat_map (bucket_told image meta) (range_with_len 0 b)))
+    → pages ≡ map (page_told image) (bucket_pages (file_of image) meta b)
+    → Notes now new least next (stored (joined_pages pages)) → Notes old new start next (stored (flat_map (bucket_told image meta) (range_with_len 0 (b + 1))))
+table_more image meta b old now new start least next pages done are notes =
+    subst (λ ps. Notes old new start next (stored ps)) (sym (told_more image meta b))
+    (told_noted old now new start least next (flat_map (bucket_told image meta) (range_with_len 0 b)) (bucket_told image meta b) done
+    (subst (λ ps. Notes now new least next (stored (joined_pages ps))) are notes))
 
 -- Strays.
 
@@ -131,7 +231,8 @@ no_stray_more image meta b pages none are here =
     let last : has_stray_in image meta b ≡ false = sym (here ∙ ap (λ ps. list_any (is_stray meta b) (joined_pages ps)) are) in
     ap (list_any (has_stray_in image meta)) (zero_more b)
     ∙ (list_any-append (has_stray_in image meta) (range_with_len 0 b) (b ∷ [])
-    ∙ both_false (list_any (has_stray_in image meta) (range_with_len 0 b)) (has_stray_in image meta b || false) none (both_false (has_stray_in image meta b) false last refl))
+    ∙ or_from (list_any (has_stray_in image meta) (range_with_len 0 b)) (has_stray_in image meta b || false) none
+    (or_from (has_stray_in image meta b) false last refl))
 
 -- a bucket has a stray
 pub stray_found : (image : List ℕ) (meta : HashMeta) (b : ℕ) (pages : List (List Told)) → b ≤ meta.max_bucket → pages ≡ map (page_told image) (bucket_pages (file_of image) meta b)

@@ -2,6 +2,7 @@
 use Rattle.std.proofs.Common.{◌≡◌, ◌⊎◌, ℕ, ◌+◌, ◌≤◌, Bool, true, false, not, ◌&&◌, ◌||◌, cond, List, [], ◌∷◌, ◌++◌, map, arith, refl, sym, ◌∙◌, ap, inl, inr}
 use Rattle.std.specs.Prelude.{Some, ◌==◌}
 use Rattle.std.specs.List.{Contains, flat_map, list_any, range_with_len, take_while}
+use Rattle.std.proofs.Math.Bool.{and-false}
 use Rattle.std.proofs.lemmas.Bool.{and_parts, eq-eqb, eqb-true}
 use Rattle.std.proofs.lemmas.List.{append-nil}
 use Rattle.std.proofs.lemmas.List.Elements.{Contains-append_cases, Contains-append_left, Contains-append_right}
@@ -27,14 +28,10 @@ any_flat : {X Y : Type 0} (test : Y → Bool) (f : X → List Y) (xs : List X) �
 any_flat test f [] = refl
 any_flat test f (x ∷ xs) = list_any-append test (f x) (flat_map f xs) ∙ ap (λ b. list_any test (f x) || b) (any_flat test f xs)
 
-and_false : (b : Bool) → (b && false) ≡ false
-and_false true = refl
-and_false false = refl
-
 and_any : {X : Type 0} (given : Bool) (at test : X → Bool) (xs : List X) → (given && list_any (λ x. at x && test x) xs) ≡ list_any (λ x. at x && (given && test x)) xs
 and_any true at test xs = refl
 and_any false at test [] = refl
-and_any false at test (x ∷ xs) = and_any false at test xs ∙ ap (λ b. b || list_any (λ y. at y && false) xs) (sym (and_false (at x)))
+and_any false at test (x ∷ xs) = and_any false at test xs ∙ ap (λ b. b || list_any (λ y. at y && false) xs) (sym (and-false (at x)))
 
 -- a test holds for a pair on this page, in its bucket
 abbrev pub some_at : (ℕ → List StoredPair) → List ℕ → (ℕ → StoredPair → Bool) → ℕ → Bool
@@ -183,9 +180,7 @@ groups_alone file (pair ∷ pairs) p plain =
 
 rows_eq : (a b c d e f : Bool) (two three : Bool) → a ≡ b → c ≡ d → e ≡ f
     → ◌≡◌ {A = List (Row ℕ)} (1 :? a ∷ 2 :? c ∷ 5 :? e ∷ 8 :? two ∷ 9 :? three ∷ []) (1 :? b ∷ 2 :? d ∷ 5 :? f ∷ 8 :? two ∷ 9 :? three ∷ [])
-rows_eq a b c d e f two three p q r =
-    ap (λ x. 1 :? x ∷ 2 :? c ∷ 5 :? e ∷ 8 :? two ∷ 9 :? three ∷ []) p
-    ∙ (ap (λ x. 1 :? b ∷ 2 :? x ∷ 5 :? e ∷ 8 :? two ∷ 9 :? three ∷ []) q ∙ ap (λ x. 1 :? b ∷ 2 :? d ∷ 5 :? x ∷ 8 :? two ∷ 9 :? three ∷ []) r)
+rows_eq a b c d e f two three p q r = rw (p, q, r) refl
 
 pub rows_are : (file : File) (meta : HashMeta) (p : ℕ) → ArePlain file (table_pairs file meta)
     → hash_contents file meta p ≡ page_table (bucket_pairs file meta) (buckets_of meta) (tests_of file meta) p

@@ -1,5 +1,6 @@
 -- A table's pairs, sorted by their keys, are its list.
-use Rattle.std.proofs.Common.{◌≡◌, ◌⊎◌, ℕ, suc, ◌+◌, ◌≤◌, ◌<◌, Bool, true, false, cond, List, [], ◌∷◌, ◌++◌, map, length, get_or, arith, refl, sym, ◌∙◌, ap, subst, inl, inr}
+use Rattle.std.proofs.Common.{◌≡◌, ◌⊎◌, ℕ, suc, ◌+◌, ◌≤◌, ◌<◌, true, false, cond, List, [], ◌∷◌, ◌++◌, map, length}
+use Rattle.std.proofs.Common.{get_or, arith, refl, sym, ◌∙◌, ap, subst, inl, inr}
 use Rattle.std.specs.declared.cmp.Ordering.{Ordering}
 use Rattle.std.specs.declared.cmp.Ordering.TheVariants.{Less as Below, Equal, Greater}
 use Rattle.std.specs.Cmp.Lexicographic.{nat_list_cmp_total, slice_cmp}
@@ -9,7 +10,8 @@ use Rattle.std.specs.Ordering.{is_lt, nat_cmp}
 use Rattle.std.specs.Str.{bytes_eq}
 use Rattle.std.proofs.lemmas.Bool.{cases_Bool, true≢false}
 use Rattle.std.proofs.lemmas.List.Folds.{flat_map-map}
-use Rattle.std.proofs.lemmas.List.Sorted.{Contains-permutation, IsPermutation-sym, ranks_by, sorted_far, sum_by-IsPermutation}
+use Rattle.std.proofs.lemmas.List.Sorted.{Contains-permutation, IsPermutation-cons, IsPermutation-map, IsPermutation-middle, IsPermutation-refl}
+use Rattle.std.proofs.lemmas.List.Sorted.{IsPermutation-sym, IsPermutation-trans, ranks_by, sorted_far, sum_by-IsPermutation}
 use Rattle.std.proofs.lemmas.List.Sums.{sum_by-cons}
 use Rattle.bdb_layout.specs.Seen.{OrderingIs}
 use Rattle.bdb_layout.proofs.KeyLemmas.{slice_cmp-is}
@@ -21,14 +23,14 @@ use Rattle.bdb_format.specs.Less.{less, Less}
 use Rattle.bdb_format.specs.Lists.{ListKey, by_key, hash_list, insert_pair}
 use Rattle.bdb_format.specs.Page.{HashFields}
 use Rattle.bdb_format.proofs.LessLemmas.{not_less_both, not_less_same}
-use Rattle.bdb_format.proofs.MemberLemmas.{first_member, in_map, later_member, member_cases, no_member, of_map}
+use Rattle.bdb_format.proofs.MemberLemmas.{first_member, later_member, member_cases, no_member, of_map}
 use Rattle.bdb_graph.specs.Linked.{HasMetadata}
 use Rattle.bdb_hash.specs.Scanned.{IsListedOn, ranked}
-use Rattle.bdb_hash.specs.Notes.{stored}
+use Rattle.bdb_hash.specs.Notes.{key_of, stored}
 use Rattle.bdb_hash.specs.Told.{Told, entry_list, listed_told, table_told, told, told_cmp}
 use Rattle.bdb_hash.specs.Views.{IsTable}
 use Rattle.bdb_hash.proofs.FaultLemmas.{table_is_told, table_stored}
-use Rattle.bdb_hash.proofs.KeyLemmas.{eq_self, is_order}
+use Rattle.bdb_overflow.proofs.KeyLemmas.{eq_self, is_order}
 use Rattle.bdb_hash.proofs.LookupLemmas.{AreApart, same_key, table_apart}
 
 -- The order of keys.
@@ -91,63 +93,33 @@ one_rising {X = X} key (x ∷ xs) (y ∷ ys) first second on back =
 
 -- Pairs in the order of their keys.
 
-insert_cond : (b : Bool) (pair other q : StoredPair) (rest others : List StoredPair) → Contains (cond b (other ∷ rest) (pair ∷ other ∷ others)) q → (Contains rest q → (pair ≡ q) ⊎ Contains others q)
-    → (pair ≡ q) ⊎ Contains (other ∷ others) q
-insert_cond true pair other q rest others at more =
-    elim (member_cases other rest q at) [
-      | inl same ↦ inr (subst (Contains (other ∷ others)) same (first_member other others))
-      | inr later ↦ elim (more later) [ inl here ↦ inl here | inr there ↦ inr (later_member other others q there) ]
-    ]
-insert_cond false pair other q rest others at more = member_cases pair (other ∷ others) q at
-
-of_insert : (pair : StoredPair) (pairs : List StoredPair) (q : StoredPair) → Contains (insert_pair pair pairs) q → (pair ≡ q) ⊎ Contains pairs q
-of_insert pair [] q at = member_cases pair [] q at
-of_insert pair (other ∷ others) q at = insert_cond (less other.key pair.key) pair other q (insert_pair pair others) others at (of_insert pair others q)
-
-in_insert_cond : (b : Bool) (pair other q : StoredPair) (rest others : List StoredPair) → (pair ≡ q) ⊎ Contains (other ∷ others) q → ((pair ≡ q) ⊎ Contains others q → Contains rest q)
-    → Contains (cond b (other ∷ rest) (pair ∷ other ∷ others)) q
-in_insert_cond true pair other q rest others (inl same) more = later_member other rest q (more (inl same))
-in_insert_cond true pair other q rest others (inr at) more =
-    elim (member_cases other others q at) [
-      | inl same ↦ subst (Contains (other ∷ rest)) same (first_member other rest)
-      | inr later ↦ later_member other rest q (more (inr later))
-    ]
-in_insert_cond false pair other q rest others (inl same) more = subst (Contains (pair ∷ other ∷ others)) same (first_member pair (other ∷ others))
-in_insert_cond false pair other q rest others (inr at) more = later_member pair (other ∷ others) q at
-
-in_insert : (pair : StoredPair) (pairs : List StoredPair) (q : StoredPair) → (pair ≡ q) ⊎ Contains pairs q → Contains (insert_pair pair pairs) q
-in_insert pair [] q (inl same) = subst (Contains (pair ∷ [])) same (first_member pair [])
-in_insert pair [] q (inr at) = absurd (no_member [] q refl at)
-in_insert pair (other ∷ others) q either = in_insert_cond (less other.key pair.key) pair other q (insert_pair pair others) others either (in_insert pair others q)
-
-of_by_key : (pairs : List StoredPair) (q : StoredPair) → Contains (by_key pairs) q → Contains pairs q
-of_by_key [] q at = at
-of_by_key (pair ∷ pairs) q at =
-    elim (of_insert pair (by_key pairs) q at) [
-      | inl same ↦ subst (Contains (pair ∷ pairs)) same (first_member pair pairs)
-      | inr later ↦ later_member pair pairs q (of_by_key pairs q later)
+insert_moved : (pair : StoredPair) (pairs : List StoredPair) → IsPermutation (pair ∷ pairs) (insert_pair pair pairs)
+insert_moved pair [] = IsPermutation-refl (pair ∷ [])
+insert_moved pair (other ∷ others) =
+    elim (less other.key pair.key) as (λ b. IsPermutation (pair ∷ other ∷ others) (cond b (other ∷ insert_pair pair others) (pair ∷ other ∷ others))) [
+      | true ↦ IsPermutation-trans (pair ∷ other ∷ others) (other ∷ pair ∷ others) (other ∷ insert_pair pair others)
+          (IsPermutation-middle (pair ∷ []) other others) (IsPermutation-cons other (pair ∷ others) (insert_pair pair others) (insert_moved pair others))
+      | false ↦ IsPermutation-refl (pair ∷ other ∷ others)
     ]
 
-in_by_key : (pairs : List StoredPair) (q : StoredPair) → Contains pairs q → Contains (by_key pairs) q
-in_by_key [] q at = at
-in_by_key (pair ∷ pairs) q at =
-    elim (member_cases pair pairs q at) [
-      | inl same ↦ in_insert pair (by_key pairs) q (inl same)
-      | inr later ↦ in_insert pair (by_key pairs) q (inr (in_by_key pairs q later))
-    ]
+by_key_moved : (pairs : List StoredPair) → IsPermutation pairs (by_key pairs)
+by_key_moved [] = IsPermutation-refl []
+by_key_moved (pair ∷ pairs) =
+    IsPermutation-trans (pair ∷ pairs) (pair ∷ by_key pairs) (by_key (pair ∷ pairs)) (IsPermutation-cons pair pairs (by_key pairs) (by_key_moved pairs))
+    (insert_moved pair (by_key pairs))
 
-abbrev pair_key : StoredPair → List ℕ
-pair_key pair = pair.key
-
-insert_rising : (pair : StoredPair) (pairs : List StoredPair) → IsRising pair_key pairs → ((q : StoredPair) → Contains pairs q → bytes_eq pair.key q.key ≡ false) → IsRising pair_key (insert_pair pair pairs)
+insert_rising : (pair : StoredPair) (pairs : List StoredPair) → IsRising key_of pairs
+    → ((q : StoredPair) → Contains pairs q → bytes_eq pair.key q.key ≡ false) → IsRising key_of (insert_pair pair pairs)
 insert_rising pair [] rising apart = (λ q at. absurd (no_member [] q refl at), tt)
 insert_rising pair (other ∷ others) rising apart =
-    elim (less other.key pair.key) as (λ b. less other.key pair.key ≡ b → IsRising pair_key (cond b (other ∷ insert_pair pair others) (pair ∷ other ∷ others))) [
+    elim (less other.key pair.key) as (λ b. less other.key pair.key ≡ b → IsRising key_of (cond b (other ∷ insert_pair pair others) (pair ∷ other ∷ others))) [
       | true ↦ λ below. (
-        λ q at. elim (of_insert pair others q at) [
-          | inl same ↦ subst (λ (p : StoredPair). Less other.key p.key) same below
-          | inr later ↦ rising.0 q later
-        ],
+        λ q at. elim (member_cases pair others q
+            (Contains-permutation (insert_pair pair others) (pair ∷ others) q
+            (IsPermutation-sym (pair ∷ others) (insert_pair pair others) (insert_moved pair others)) at)) [
+              | inl same ↦ subst (λ (p : StoredPair). Less other.key p.key) same below
+              | inr later ↦ rising.0 q later
+            ],
         insert_rising pair others rising.1 (λ q at. apart q (later_member other others q at)),
       )
       | false ↦ λ not_below.
@@ -161,14 +133,16 @@ insert_rising pair (other ∷ others) rising apart =
           )
     ] refl
 
-by_key_rising : (pairs : List StoredPair) → AreApart pairs → IsRising pair_key (by_key pairs)
+by_key_rising : (pairs : List StoredPair) → AreApart pairs → IsRising key_of (by_key pairs)
 by_key_rising [] apart = tt
-by_key_rising (pair ∷ pairs) apart = insert_rising pair (by_key pairs) (by_key_rising pairs apart.1) (λ q at. apart.0 q (of_by_key pairs q at))
+by_key_rising (pair ∷ pairs) apart =
+    insert_rising pair (by_key pairs) (by_key_rising pairs apart.1)
+    (λ q at. apart.0 q (Contains-permutation (by_key pairs) pairs q (IsPermutation-sym pairs (by_key pairs) (by_key_moved pairs)) at))
 
 abbrev told_key : Told → List ℕ
 told_key t = t.pair.key
 
-told_rising : (image : List ℕ) (pairs : List StoredPair) → IsRising pair_key pairs → IsRising told_key (map (told image) pairs)
+told_rising : (image : List ℕ) (pairs : List StoredPair) → IsRising key_of pairs → IsRising told_key (map (told image) pairs)
 told_rising image [] rising = tt
 told_rising image (pair ∷ pairs) rising = (
   λ t at.
@@ -258,13 +232,12 @@ sorted_ranked image meta old new table has none are moved sorted =
     let same : sum_by (has_count key) new ≡ sum_by (has_count key) old = sum_by-IsPermutation (has_count key) old new moved in
     let most : sum_by (has_count key) old ≤ 1 = count_few key old (subst AreApart (sym old_stored) apart) in
     omega arith in
+    let same : IsPermutation new (ranked image meta) =
+    IsPermutation-trans new old (ranked image meta) (IsPermutation-sym old new moved)
+    (subst (λ ts. IsPermutation ts (ranked image meta)) (sym old_told) (IsPermutation-map (told image) pairs (by_key pairs) (by_key_moved pairs))) in
     one_rising told_key new (ranked image meta) (sorted_rising new sorted few) (told_rising image (by_key pairs) (by_key_rising pairs apart))
-    (λ t at.
-    let found : (q : StoredPair) × Contains pairs q × (told image q ≡ t) = of_map (told image) pairs t (subst (λ ts. Contains ts t) old_told (Contains-permutation new old t (IsPermutation-sym old new moved) at)) in
-    subst (Contains (ranked image meta)) found.2 (in_map (told image) (by_key pairs) found.0 (in_by_key pairs found.0 found.1)))
-    (λ t at.
-    let found : (q : StoredPair) × Contains (by_key pairs) q × (told image q ≡ t) = of_map (told image) (by_key pairs) t at in
-    Contains-permutation old new t moved (subst (λ ts. Contains ts t) (sym old_told) (subst (Contains (map (told image) pairs)) found.2 (in_map (told image) pairs found.0 (of_by_key pairs found.0 found.1)))))
+    (λ t at. Contains-permutation new (ranked image meta) t same at)
+    (λ t at. Contains-permutation (ranked image meta) new t (IsPermutation-sym new (ranked image meta) same) at)
 
 -- The list.
 

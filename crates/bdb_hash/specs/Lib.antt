@@ -1,5 +1,5 @@
-pub mod Data
 pub mod Notes
+pub mod Places
 pub mod Rest
 pub mod Scanned
 pub mod Told

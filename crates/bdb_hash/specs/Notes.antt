@@ -1,8 +1,11 @@
 -- The faults of a table's contents as the code notes them, pair by pair, and the least of them. Source: docs/FORMAT.md, "Stage 8, contents".
-use Rattle.std.specs.Prelude.{◌≡◌, ℕ, nat_lt, ◌==◌, ◌&&◌, ◌||◌, not, if◌then◌else◌, Bool, List, [], ◌∷◌, map, Option, Some, None}
+use Rattle.std.specs.Prelude.{◌≡◌, ℕ, ◌==◌, ◌&&◌, not, Bool, List, [], ◌∷◌, map, Option}
+use Rattle.std.specs.BTreeSet.{BTreeSet}
 use Rattle.std.specs.List.{fold, list_any}
 use Rattle.std.specs.Option.{option_map}
 use Rattle.bdb_hash.specs.Told.{Told, bucket_told}
+use Rattle.bdb_overflow.specs.Earlier.{earlier}
+use Rattle.bdb_overflow.specs.Keys.{has_item, has_key, noting_by, repeated_by}
 use Rattle.bdb_format.specs.declared.kinds.Fault.{Fault}
 use Rattle.bdb_format.specs.declared.metadata.HashMeta.{HashMeta}
 use Rattle.bdb_format.specs.ContentRows.{ascends, bucket_of_key, is_duplicate, is_wrong_set, repeated}
@@ -14,16 +17,6 @@ use Rattle.bdb_format.specs.Flags.{has_duplicates, is_sorted}
 
 abbrev pub fault_at : ℕ → ℕ → Fault
 fault_at page code = record { stage = 8; page = page; code = code }
-
--- a fault comes before another, by page and then by code
-abbrev pub is_before : Fault → Fault → Bool
-is_before a b = nat_lt a.page b.page || (a.page == b.page && nat_lt a.code b.code)
-
--- the first of two faults, where there are any
-abbrev pub earlier : Option Fault → Option Fault → Option Fault
-earlier None b = b
-earlier (Some a) None = Some a
-earlier (Some a) (Some b) = if is_before b a then Some b else Some a
 
 -- what is wrong with a pair in a bucket by itself: Duplicates, DuplicateKind, DuplicateOrder, Bucket
 abbrev pub pair_rows : File → HashMeta → ℕ → StoredPair → List (Row ℕ)
@@ -42,8 +35,11 @@ abbrev pub note_told : HashMeta → ℕ → Option Fault → Told → Option Fau
 note_told meta b least told = earlier least (pair_fault (file_of told.image) meta b told.pair)
 
 -- a pair that has the key of an earlier one
+abbrev pub repeat_fault : StoredPair → Fault
+repeat_fault pair = fault_at pair.page 9
+
 abbrev pub note_repeat : Option Fault → StoredPair → Option Fault
-note_repeat least pair = earlier least (Some (fault_at pair.page 9))
+note_repeat = noting_by repeat_fault
 
 abbrev pub stored : List Told → List StoredPair
 stored pairs = map (λ (told : Told). told.pair) pairs
@@ -51,10 +47,6 @@ stored pairs = map (λ (told : Told). told.pair) pairs
 -- the faults of the pairs of a bucket by themselves
 abbrev pub note_bucket : List ℕ → HashMeta → Option Fault → ℕ → Option Fault
 note_bucket image meta least b = fold (note_told meta b) least (bucket_told image meta b)
-
--- the fault of a pair, unless its key is new
-abbrev pub repeat_noted : Bool → Option Fault → ℕ → Option Fault
-repeat_noted is_new least page = if is_new then least else earlier least (Some (fault_at page 9))
 
 -- a stray: a pair of this bucket that isn't in the bucket of its key
 abbrev pub is_stray : HashMeta → ℕ → Told → Bool
@@ -67,3 +59,23 @@ has_stray_in image meta b = list_any (is_stray meta b) (bucket_told image meta b
 -- the faults of the pairs that have the key of an earlier one of their bucket
 abbrev pub note_again : List ℕ → HashMeta → Option Fault → ℕ → Option Fault
 note_again image meta least b = fold note_repeat least (repeated (stored (bucket_told image meta b)))
+
+abbrev pub key_of : StoredPair → List ℕ
+key_of pair = pair.key
+
+-- the keys are those of these pairs
+abbrev pub AreKeysOf : BTreeSet (List ℕ) → List StoredPair → Type 0
+AreKeysOf keys pairs = (sought : List ℕ) → has_key keys sought ≡ has_item key_of pairs sought
+
+-- pairs after others, the last one first
+abbrev pub behind : List StoredPair → List StoredPair → List StoredPair
+behind before pairs = fold (λ (ps : List StoredPair) (pair : StoredPair). pair ∷ ps) before pairs
+
+-- after any pairs whose keys there were, these were noted
+pub record Notes (old new : BTreeSet (List ℕ)) (least noted : Option Fault) (pairs : List StoredPair) : Type 0 where
+  pub after : (before : List StoredPair) → AreKeysOf old before
+      → AreKeysOf new (behind before pairs) × (noted ≡ fold note_repeat least (repeated_by key_of before pairs))
+
+-- once those that are left are noted, all are
+pub record IsNoting (old now : BTreeSet (List ℕ)) (least noted : Option Fault) (all left : List Told) : Type 0 where
+  pub rest : (new : BTreeSet (List ℕ)) (last : Option Fault) → Notes now new noted last (stored left) → Notes old new least last (stored all)

@@ -7,10 +7,10 @@ ghost use Rattle.bdb_layout.specs.Seen.{hash_content_seen};
 ghost use Rattle.bdb_format.specs.Contents.{data_of};
 ghost use Rattle.bdb_format.specs.File.{file_of};
 
-use crate::tree::{TreeValues, tree_values};
 use bdb_graph::Forest;
 use bdb_layout::{DupBlocks, HashItem};
 use bdb_overflow::{Datum, hash_datum};
+use bdb_tree::{SetValues, set_values};
 use std::marker::Model;
 
 /// What is left of the data of a pair.
@@ -18,7 +18,7 @@ use std::marker::Model;
 pub(crate) enum Rest<'a> {
     One(Option<Datum<'a>>),
     Blocks(DupBlocks<'a>),
-    Leaves(TreeValues<'a>),
+    Leaves(SetValues<'a>),
 }
 
 impl<'a> Rest<'a> {
@@ -70,7 +70,7 @@ impl<'a> Data<'a> {
     {
         let rest = match item {
             HashItem::Set(blocks) => Rest::Blocks(blocks),
-            HashItem::OffPage { root } => Rest::Leaves(tree_values(forest, root)),
+            HashItem::OffPage { root } => Rest::Leaves(set_values(forest, root)),
             HashItem::Inline(bytes) => Rest::One(Some(Datum::Inline(bytes))),
             HashItem::Overflow { head, total } => {
                 Rest::One(hash_datum(forest, &HashItem::Overflow { head, total }))

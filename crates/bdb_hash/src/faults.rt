@@ -12,8 +12,9 @@ use bdb_graph::Linked;
 use std::alloc::Global;
 
 /// No row of contents holds for the table of this metadata. A refusal is the first fault: the least page,
-/// and there the least code; or want of memory. It takes memory for the pairs of one bucket at a time,
-/// and for all pairs of the table where one isn't in the bucket of its key.
+/// and there the least code; or want of memory. It takes memory for the keys of one bucket at a time,
+/// and for all keys of the table where a pair isn't in the bucket of its key.
+#[tactic(auto, using(crate::proofs::FaultLemmas::no_fault, crate::proofs::FaultLemmas::the_fault))]
 pub fn check(alloc: Global, linked: &Linked<'_>, meta: &HashMeta) -> Result<(), CheckError>
     requires meta { HasMetadata (file_of linked.now) (HashFields meta.now) }
     requires stage { structure_faults (file_of linked.now) ≡ [] }

@@ -3,19 +3,19 @@
 
 mod bucket;
 mod data;
-mod entries;
 mod faults;
 mod key;
 mod listing;
 mod lookup;
 mod pair;
 mod pairs;
+mod place;
+mod ranked;
 mod ranking;
 mod repeats;
 mod rows;
 mod strays;
 mod table;
-mod tree;
 
 pub(crate) use bucket::{BucketPages, bucket_pages};
 pub use data::Data as Found;

@@ -1,21 +1,20 @@
 ghost use Rattle.std.specs.Prelude.{◌≡◌, ◌++◌, List, ℕ};
 ghost use Rattle.std.specs.Iterator.{YieldsFirstBy, item_count};
 ghost use Rattle.std.specs.List.{flat_map};
-ghost use Rattle.std.specs.Vec.Iter.{into_iter_items};
 ghost use Rattle.bdb_hash.specs.Scanned.{entry_seen};
 ghost use Rattle.bdb_overflow.specs.Datum.{datum_seen};
 ghost use Rattle.bdb_hash.specs.Told.{entry_list, listed_told};
 ghost use Rattle.bdb_format.specs.Lists.{ListKey};
 
-use crate::{Data, Pair};
+use crate::Data;
+use crate::ranked::Ranked;
 use bdb_overflow::{Datum, KeyView};
 use std::marker::Model;
-use std::vec::IntoIter;
 
 /// The list of a table that is left, in the order of its keys: each key with each of its data.
 #[derive(Drop)]
 pub struct Scan<'a> {
-    rest: IntoIter<Pair<'a>>,
+    rest: Ranked<'a>,
     key: Datum<'a>,
     values: Data<'a>,
 }
@@ -23,23 +22,22 @@ pub struct Scan<'a> {
 impl<'a> Model for Scan<'a> {
     ghost use Rattle.std.specs.Prelude.{◌++◌, List, ℕ};
     ghost use Rattle.std.specs.List.{flat_map};
-    ghost use Rattle.std.specs.Vec.Iter.{into_iter_items};
     ghost use Rattle.bdb_overflow.specs.Datum.{datum_seen};
     ghost use Rattle.bdb_hash.specs.Told.{entry_list, listed_told};
     ghost use Rattle.bdb_format.specs.Lists.{ListKey};
 
     ghost Value = { List (ListKey × List ℕ) };
 
-    ghost view = { λ it. entry_list (datum_seen it.key) it.values ++ flat_map listed_told (into_iter_items it.rest) };
+    ghost view = { λ it. entry_list (datum_seen it.key) it.values ++ flat_map listed_told it.rest };
 }
 
 impl<'a> Scan<'a> {
     /// The list of these pairs.
-    pub(crate) fn over(pairs: Vec<Pair<'a>>) -> Scan<'a>
-        ensures { result ≡ flat_map listed_told pairs.entry.items }
+    pub(crate) fn over(pairs: Ranked<'a>) -> Scan<'a>
+        ensures { result ≡ flat_map listed_told pairs.entry }
     {
         Scan {
-            rest: pairs.into_iter(),
+            rest: pairs,
             key: Datum::Inline(&[]),
             values: Data::none(),
         }
@@ -48,11 +46,11 @@ impl<'a> Scan<'a> {
 
 /// The first of the data that are left, of this key and of the pairs after it, with its key.
 fn next_entry<'a>(
-    rest: &mut IntoIter<Pair<'a>>,
+    rest: &mut Ranked<'a>,
     key: &mut Datum<'a>,
     values: &mut Data<'a>,
 ) -> Option<(KeyView<'a>, Datum<'a>)>
-    ensures { YieldsFirstBy entry_seen (λ (left : List (ListKey × List ℕ)). left) (entry_list (datum_seen key.old) values.old ++ flat_map listed_told (into_iter_items rest.old)) result (entry_list (datum_seen key.new) values.new ++ flat_map listed_told (into_iter_items rest.new)) }
+    ensures { YieldsFirstBy entry_seen (λ (left : List (ListKey × List ℕ)). left) (entry_list (datum_seen key.old) values.old ++ flat_map listed_told rest.old) result (entry_list (datum_seen key.new) values.new ++ flat_map listed_told rest.new) }
 {
     loop {
         if let Some(value) = values.next() {

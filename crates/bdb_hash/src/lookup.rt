@@ -42,6 +42,7 @@ fn bucket_of_bytes(linked: &Linked<'_>, meta: &HashMeta, key: &[u8]) -> u32
 }
 
 /// The first pair of a bucket with this key: one step for each page that is looked into.
+#[tactic(auto, using(crate::proofs::LookupLemmas::sought_more, crate::proofs::LookupLemmas::sought_none))]
 fn find_in<'a, L: Ledger>(
     linked: &Linked<'a>,
     meta: &HashMeta,

@@ -1,5 +1,6 @@
 ghost use Rattle.std.specs.Prelude.{◌≡◌, ◌+◌, ◌*◌, ◌/◌, ◌<◌, ◌≤◌, false, length};
 ghost use Rattle.bdb_overflow.specs.Datum.{FitsContent, datum_seen};
+ghost use Rattle.bdb_hash.specs.Places.{IsAt};
 ghost use Rattle.bdb_hash.specs.Told.{entry_list, has_key, listed_told, told};
 ghost use Rattle.bdb_hash.specs.Views.{IsTable};
 ghost use Rattle.bdb_layout.specs.Seen.{hash_content_seen};
@@ -10,13 +11,12 @@ ghost use Rattle.bdb_format.specs.File.{file_of, page_at};
 ghost use Rattle.bdb_format.specs.Page.{Hash};
 
 use crate::Data;
-use crate::key::is_same;
+use crate::place::Place;
 use crate::rows::is_wrong_root;
 use bdb_form::HashView;
 use bdb_graph::Forest;
 use bdb_layout::HashItem;
-use bdb_overflow::{Datum, compare_datum, hash_datum};
-use std::cmp::Ordering;
+use bdb_overflow::{Datum, hash_datum, is_same, prefix};
 use std::marker::Model;
 
 /// A pair of a hash page, with its key.
@@ -24,6 +24,7 @@ use std::marker::Model;
 pub(crate) struct Pair<'a> {
     forest: Forest<'a>,
     page: u32,
+    index: u16,
     key: Datum<'a>,
     item: HashItem<'a>,
 }
@@ -32,79 +33,19 @@ impl<'a> Model for Pair<'a> {
     ghost use Rattle.std.specs.Prelude.{true, false};
     ghost use Rattle.bdb_overflow.specs.Datum.{datum_seen};
     ghost use Rattle.bdb_hash.specs.Told.{Told, told};
-    ghost use Rattle.bdb_hash.specs.Views.{IsPair};
+    ghost use Rattle.bdb_hash.specs.Places.{IsRead};
     ghost use Rattle.bdb_layout.specs.Seen.{hash_content_seen};
 
     ghost Value = { Told };
 
     ghost view = { λ it. told it.forest (record { page = it.page; key = datum_seen it.key; data_item = hash_content_seen it.item; live = true; shares = false }) };
 
-    ghost invariant = { λ it. IsPair it.forest (hash_content_seen it.item) };
-}
-
-impl<'a> PartialEq for Pair<'a> {
-    ghost use Rattle.bdb_hash.specs.Told.{Told};
-    ghost use Rattle.std.specs.Cmp;
-    ghost use Rattle.std.specs.Cmp.{on_per};
-    ghost use Rattle.std.specs.Cmp.Lexicographic.{nat_list_eq_equiv};
-    ghost use Rattle.std.specs.Str.{bytes_eq};
-
-    ghost eq = { λ x y. bytes_eq x.pair.key y.pair.key };
-
-    ghost laws = { on_per (λ (it : Told). it.pair.key) (Cmp.partial_equiv_from_equiv nat_list_eq_equiv) };
-
-    fn eq(&self, other: &Self) -> bool {
-        is_same(&self.key, &other.key)
-    }
-}
-
-impl<'a> Eq for Pair<'a> {
-    ghost use Rattle.bdb_hash.specs.Told.{Told};
-    ghost use Rattle.std.specs.Cmp.{on_equiv};
-    ghost use Rattle.std.specs.Cmp.Lexicographic.{nat_list_eq_equiv};
-
-    ghost laws = { on_equiv (λ (it : Told). it.pair.key) nat_list_eq_equiv };
-}
-
-impl<'a> PartialOrd for Pair<'a> {
-    ghost use Rattle.bdb_hash.specs.Told.{Told, told_cmp};
-    ghost use Rattle.std.specs.Cmp.{on_po};
-    ghost use Rattle.std.specs.Cmp.Lexicographic.{texts_po};
-    ghost use Rattle.std.specs.Prelude.{Some};
-
-    ghost partial_cmp = { λ x y. Some (told_cmp x y) };
-
-    ghost laws = { on_po (λ (it : Told). it.pair.key) texts_po };
-
-    fn partial_cmp(&self, other: &Self) -> Option<Ordering> {
-        Some(self.cmp(other))
-    }
-}
-
-/// Pairs are compared by their keys alone.
-impl<'a> Ord for Pair<'a> {
-    ghost use Rattle.bdb_hash.specs.Told.{Told, told_cmp};
-    ghost use Rattle.std.specs.Cmp.{on_total};
-    ghost use Rattle.std.specs.Cmp.Lexicographic.{nat_list_cmp_total, texts_ties};
-    ghost use Rattle.std.proofs.Common.{refl};
-
-    ghost cmp = { told_cmp };
-
-    ghost total = { on_total (λ (it : Told). it.pair.key) nat_list_cmp_total };
-
-    ghost matches_partial_cmp = { λ x y. refl };
-
-    ghost matches_eq = { λ x y. texts_ties x.pair.key y.pair.key };
-
-    #[tactic(auto, using(crate::proofs::KeyLemmas::is_order))]
-    fn cmp(&self, other: &Self) -> Ordering {
-        compare_datum(&self.key, &other.key)
-    }
+    ghost invariant = { λ it. IsRead it.page it.index (told it.forest (record { page = it.page; key = datum_seen it.key; data_item = hash_content_seen it.item; live = true; shares = false })) (hash_content_seen it.item) };
 }
 
 /// The value of a key, which is never a set.
 #[tactic(auto, using(crate::proofs::PairLemmas::no_single, crate::proofs::PairLemmas::single))]
-fn key_of<'a>(forest: &Forest<'a>, item: &HashItem<'a>) -> Datum<'a>
+pub(crate) fn key_of<'a>(forest: &Forest<'a>, item: &HashItem<'a>) -> Datum<'a>
     requires { FitsContent (file_of forest.now) (hash_content_seen item.now) }
     ensures { datum_seen result ≡ value_of (file_of forest.now) (hash_content_seen item.now) }
 {
@@ -116,7 +57,7 @@ fn key_of<'a>(forest: &Forest<'a>, item: &HashItem<'a>) -> Datum<'a>
 
 impl<'a> Pair<'a> {
     /// A pair of a hash page.
-    #[tactic(auto, using(crate::proofs::PairLemmas::item_fits, crate::proofs::PairLemmas::item_root, crate::proofs::PairLemmas::pair_is))]
+    #[tactic(auto, using(crate::proofs::PairLemmas::item_fits))]
     pub(crate) fn read(forest: &Forest<'a>, page: u32, view: &HashView<'a>, i: u16) -> Pair<'a>
         requires table { IsTable forest.now }
         requires inside { page ≤ (file_of forest.now).last }
@@ -128,6 +69,7 @@ impl<'a> Pair<'a> {
         Pair {
             forest: forest.again(),
             page,
+            index: i,
             key,
             item: view.value(i),
         }
@@ -138,6 +80,17 @@ impl<'a> Pair<'a> {
         ensures { result ≡ self.now.pair.page }
     {
         self.page
+    }
+
+    /// Where it stands.
+    pub(crate) fn place(&self) -> Place
+        ensures { IsAt result self.now }
+    {
+        Place {
+            first: prefix(&self.key),
+            page: self.page,
+            index: self.index,
+        }
     }
 
     /// Its key.

@@ -1,4 +1,4 @@
-ghost use Rattle.std.specs.Prelude.{◌≡◌, ◌≤◌, [], IsTrue};
+ghost use Rattle.std.specs.Prelude.{◌≡◌, ◌≤◌, [], IsTrue, length};
 ghost use Rattle.std.specs.Iterator.{YieldsFirstBy, item_count};
 ghost use Rattle.bdb_hash.specs.Told.{page_told};
 ghost use Rattle.bdb_hash.specs.Views.{IsOfBucket, IsOnWay, IsTable};
@@ -60,6 +60,19 @@ impl<'a> PagePairs<'a> {
             page,
             view: Some(view),
             index: 0,
+        }
+    }
+}
+
+#[tactic(auto, using(crate::proofs::PlaceLemmas::left_is))]
+impl<'a> PagePairs<'a> {
+    /// How many pairs are left.
+    pub(crate) fn left(&self) -> u16
+        ensures { result ≡ length self.now }
+    {
+        match &self.view {
+            Some(view) => view.pairs().saturating_sub(self.index),
+            None => 0,
         }
     }
 }

@@ -1,21 +1,20 @@
 ghost use Rattle.std.specs.Prelude.{◌≡◌, Some};
 ghost use Rattle.bdb_form.specs.Seen.{page_seen};
-ghost use Rattle.bdb_hash.specs.Notes.{earlier, is_before, pair_fault, pair_rows};
+ghost use Rattle.bdb_hash.specs.Notes.{pair_fault, pair_rows};
 ghost use Rattle.bdb_overflow.specs.Datum.{datum_seen};
-ghost use Rattle.bdb_format.specs.ContentRows.{ascends, bucket_of_key, wrong_set_types};
-ghost use Rattle.bdb_format.specs.File.{file_of, type_in};
+ghost use Rattle.bdb_format.specs.ContentRows.{ascends, bucket_of_key};
+ghost use Rattle.bdb_format.specs.File.{file_of};
 ghost use Rattle.bdb_format.specs.Numbers.{has_bit};
-ghost use Rattle.bdb_format.specs.References.{has_type};
 ghost use Rattle.bdb_format.specs.Table.{first_row};
 ghost use Rattle.bdb_format.specs.Flags.{has_duplicates, is_sorted};
 ghost use Rattle.bdb_format.specs.Page.{HashFields};
 
-use crate::key::{hash_of, is_less};
+use crate::key::hash_of;
 use crate::{Data, Pair};
-use bdb_form::PageView;
 use bdb_format::{Fault, HashMeta};
 use bdb_layout::bucket_of;
-use bdb_overflow::Datum;
+use bdb_overflow::{Datum, is_less};
+pub(crate) use bdb_tree::is_wrong_root;
 
 /// Whether a table may hold several data of a key.
 pub(crate) fn has_duplicates(meta: &HashMeta) -> bool
@@ -56,33 +55,6 @@ pub(crate) fn bucket_of_key(meta: &HashMeta, key: &Datum<'_>) -> u32
     bucket_of(hash_of(key), meta.max_bucket, meta.high_mask, meta.low_mask)
 }
 
-/// Whether a set whose root is this page isn't of the kind that the table has.
-pub(crate) fn is_wrong_root(view: &PageView<'_>, sorted: bool) -> bool
-    ensures { result ≡ has_type (wrong_set_types sorted) (type_in (page_seen view.now)) }
-{
-    match view {
-        PageView::Hash(page) => is_wrong_type(page.header().page_type, sorted),
-        PageView::RecnoInternal(_) | PageView::RecnoLeaf(_) => sorted,
-        PageView::Internal(_) | PageView::DupLeaf(_) => !sorted,
-        PageView::Zero(_)
-        | PageView::Free(_)
-        | PageView::Meta(_)
-        | PageView::Leaf(_)
-        | PageView::Overflow(_)
-        | PageView::Queue(_) => false,
-    }
-}
-
-fn is_wrong_type(page_type: u8, sorted: bool) -> bool
-    ensures { result ≡ has_type (wrong_set_types sorted) (Some page_type) }
-{
-    if sorted {
-        page_type == 4 || page_type == 6
-    } else {
-        page_type == 3 || page_type == 12
-    }
-}
-
 /// The code of the first row that holds for a pair by itself, in this bucket.
 fn pair_code(pair: Pair<'_>, meta: &HashMeta, b: u32) -> Option<u8>
     ensures { result ≡ first_row (pair_rows (file_of pair.entry.image) meta.now b pair.entry.pair) }
@@ -115,22 +87,5 @@ pub(crate) fn pair_fault(pair: Pair<'_>, meta: &HashMeta, b: u32) -> Option<Faul
             code,
         }),
         None => None,
-    }
-}
-
-fn is_before(a: &Fault, b: &Fault) -> bool
-    ensures { result ≡ is_before a.now b.now }
-{
-    a.page < b.page || (a.page == b.page && a.code < b.code)
-}
-
-/// The first of two faults, where there are any.
-pub(crate) fn earlier(a: Option<Fault>, b: Option<Fault>) -> Option<Fault>
-    ensures { result ≡ earlier a b }
-{
-    match (a, b) {
-        (None, b) => b,
-        (Some(a), None) => Some(a),
-        (Some(a), Some(b)) => Some(if is_before(&b, &a) { b } else { a }),
     }
 }

@@ -1,18 +1,18 @@
-ghost use Rattle.std.specs.Prelude.{◌≡◌, ◌≤◌, ◌+◌, ◌++◌, [], None, OnOk, IfOk};
+ghost use Rattle.std.specs.Prelude.{◌≡◌, ◌≤◌, ◌+◌, [], None};
 ghost use Rattle.std.specs.List.{fold, range_with_len};
 ghost use Rattle.bdb_graph.specs.Linked.{HasMetadata};
 ghost use Rattle.bdb_hash.specs.Notes.{note_bucket, note_told};
-ghost use Rattle.bdb_hash.specs.Told.{bucket_told, joined_pages, table_told};
+ghost use Rattle.bdb_hash.specs.Told.{joined_pages};
 ghost use Rattle.bdb_hash.specs.Views.{IsTable};
 ghost use Rattle.bdb_format.specs.File.{file_of};
 ghost use Rattle.bdb_format.specs.Page.{HashFields};
 ghost use Rattle.bdb_format.specs.Verdict.{structure_faults};
 
-use crate::rows::{earlier, pair_fault};
-use crate::{BucketPages, PagePairs, Pair, bucket_pages};
+use crate::rows::pair_fault;
+use crate::{BucketPages, PagePairs, bucket_pages};
 use bdb_format::{Fault, HashMeta};
 use bdb_graph::Linked;
-use std::alloc::{AllocError, Global};
+use bdb_overflow::earlier;
 
 /// How many buckets a table has.
 #[tactic(auto, using(bdb_graph::proofs::LinkedLemmas::bucket_few, crate::proofs::TableLemmas::table_is))]
@@ -24,61 +24,6 @@ pub(crate) fn buckets(linked: &Linked<'_>, meta: &HashMeta) -> u32
 {
     prove!(meta.max_bucket <= linked.head().last);
     meta.max_bucket + 1
-}
-
-/// Adds the pairs of a page.
-fn push_page<'a>(pairs: &mut Vec<Pair<'a>>, page: PagePairs<'a>) -> Result<(), AllocError>
-    ensures { OnOk result (pairs.new.items ≡ pairs.old.items ++ page.entry) }
-{
-    for pair in page {
-        pairs.push(pair)?;
-    }
-    Ok(())
-}
-
-/// Adds the pairs of the pages of a bucket.
-fn push_bucket<'a>(pairs: &mut Vec<Pair<'a>>, pages: BucketPages<'a>) -> Result<(), AllocError>
-    ensures { OnOk result (pairs.new.items ≡ pairs.old.items ++ joined_pages pages.entry) }
-{
-    for page in pages {
-        push_page(pairs, page)?;
-    }
-    Ok(())
-}
-
-/// The pairs of a bucket, in the order of chains and indexes. An error is want of memory.
-pub(crate) fn bucket_pairs<'a>(
-    alloc: Global,
-    linked: &Linked<'a>,
-    meta: &HashMeta,
-    b: u32,
-) -> Result<Vec<Pair<'a>>, AllocError>
-    requires meta { HasMetadata (file_of linked.now) (HashFields meta.now) }
-    requires bucket { b ≤ meta.now.max_bucket }
-    requires stage { structure_faults (file_of linked.now) ≡ [] }
-    ensures { IfOk result (λ pairs. pairs.items ≡ bucket_told linked.now meta.now b) }
-{
-    let mut pairs = Vec::new(alloc);
-    push_bucket(&mut pairs, bucket_pages(linked, meta, b))?;
-    Ok(pairs)
-}
-
-/// All pairs of a table, in the order of buckets, chains and indexes. An error is want of memory.
-#[tactic(auto, using(crate::proofs::TableLemmas::read_more))]
-pub(crate) fn table_pairs<'a>(
-    alloc: Global,
-    linked: &Linked<'a>,
-    meta: &HashMeta,
-) -> Result<Vec<Pair<'a>>, AllocError>
-    requires meta { HasMetadata (file_of linked.now) (HashFields meta.now) }
-    requires stage { structure_faults (file_of linked.now) ≡ [] }
-    ensures { IfOk result (λ pairs. pairs.items ≡ table_told linked.now meta.now) }
-{
-    let mut pairs = Vec::new(alloc);
-    for b in 0..buckets(linked, meta) {
-        push_bucket(&mut pairs, bucket_pages(linked, meta, b))?;
-    }
-    Ok(pairs)
 }
 
 /// The first of a fault and of those of the pairs of a page by themselves.

@@ -1,8 +1,9 @@
 -- A run goes on after its first block, in any number of turns that is enough; its blocks, spelled, are its bytes.
-use Rattle.std.proofs.Common.{◌≡◌, ℕ, ◌+◌, ◌*◌, ◌/◌, ◌%◌, ◌<◌, ◌≤◌, zero, suc, List, [], ◌∷◌, ◌++◌, length, take, drop, get_or, refl, sym, ap, inl, inr, arith, ◌∙◌, length-drop, length-take, drop-cons, append_assoc}
+use Rattle.std.proofs.Common.{◌≡◌, ℕ, ◌+◌, ◌*◌, ◌/◌, ◌%◌, ◌<◌, ◌≤◌, zero, suc, List, [], ◌∷◌, ◌++◌, length, take, drop, get_or, refl, ap, inl, inr, arith, ◌∙◌, length-drop, length-take, drop-cons, append_assoc}
 use Rattle.std.specs.Prelude.{Bool, true, false, not, ◌||◌, nat_lt, ◌==◌, if◌then◌else◌, Option, Some, None, IsSome, is_some}
 use Rattle.std.specs.List.{flat_map}
 use Rattle.std.specs.Option.{option_map, unwrap_or}
+use Rattle.std.proofs.Math.Dec.{eqb-suc-zero}
 use Rattle.std.proofs.lemmas.Bool.Decides.{nat_tests}
 use Rattle.std.proofs.lemmas.List.{drop-drop, get_or-drop, take-append-drop}
 use Rattle.bdb_format.specs.declared.kinds.Order.{Order}
@@ -10,7 +11,7 @@ use Rattle.bdb_format.specs.declared.kinds.Order.TheVariants.{Big, Little}
 use Rattle.bdb_format.specs.Numbers.{number, number_at, two_at, spelled}
 use Rattle.bdb_format.specs.Reading.{blocks_in, blocks_of}
 use Rattle.bdb_format.specs.Spelling.{block_bytes}
-use Rattle.bdb_layout.specs.Blocks.{BeginsNoBlock, GoesOn, run_in}
+use Rattle.bdb_layout.specs.Blocks.{BeginsNoBlock, GoesOn}
 
 -- no block stands at the front
 abbrev pub lacks_block : Order → List ℕ → Bool
@@ -42,7 +43,7 @@ blocks_of-cons order b bytes =
     let shorter : length rest ≤ length bytes = omega (arith, length-drop (two_at order (b ∷ bytes) 0 + 4) (b ∷ bytes)) in
     ap (with_first order (b ∷ bytes)) (more_turns (length bytes) (length rest) order rest shorter (omega arith))
 
-pub no_block : (order : Order) (bytes : List ℕ) → lacks_block order bytes ≡ true → BeginsNoBlock order bytes
+no_block : (order : Order) (bytes : List ℕ) → lacks_block order bytes ≡ true → BeginsNoBlock order bytes
 no_block order [] lacks = inl refl
 no_block order (b ∷ bytes) lacks = inr (blocks_of-cons order b bytes ∙ rw lacks)
 
@@ -67,15 +68,12 @@ unfolding blocks_of
 none_left order bytes run (inl empty) = rw empty
 none_left order bytes run (inr none) = rw none
 
--- at the end of what was a run all along
-pub is_run : (order : Order) (rest bytes : List ℕ) (empty : Bool) → empty ≡ (length rest == 0) → empty ≡ true → is_some (blocks_of order rest) ≡ is_some (blocks_of order bytes) → IsSome (blocks_of order bytes)
+-- where no block begins, a run is at its end
+pub run_ends : (order : Order) (rest : List ℕ) → BeginsNoBlock order rest → (length rest == 0) ≡ is_some (blocks_of order rest)
 unfolding blocks_of
-is_run order [] bytes empty tells is same = sym same
-is_run order (b ∷ rest) bytes empty tells is same = absurd (grind (arith, nat_tests))
-
-pub as_run : (order : Order) (blocks : Option (List (List ℕ))) → IsSome blocks → Some (run_in order (unwrap_or blocks [])) ≡ option_map (run_in order) blocks
-as_run order None some = cc
-as_run order (Some blocks) some = refl
+run_ends order [] ends = refl
+run_ends order (b ∷ rest) (inl empty) = absurd cc
+run_ends order (b ∷ rest) (inr none) = rw none (eqb-suc-zero (length rest))
 
 pub some_left : (blocks : Option (List (List ℕ))) → IsSome blocks → blocks ≡ Some (unwrap_or blocks [])
 some_left None some = cc
@@ -109,7 +107,7 @@ spelled_pair Little = spelled_little
 spelled_pair Big = spelled_big
 
 -- two bytes spell the number that they are
-pub spelled-two_at : (order : Order) (bytes : List ℕ) (at : ℕ) → ((i : ℕ) → get_or bytes i 0 < 256) → at + 2 ≤ length bytes → spelled 2 order (two_at order bytes at) ≡ take 2 (drop at bytes)
+spelled-two_at : (order : Order) (bytes : List ℕ) (at : ℕ) → ((i : ℕ) → get_or bytes i 0 < 256) → at + 2 ≤ length bytes → spelled 2 order (two_at order bytes at) ≡ take 2 (drop at bytes)
 unfolding number_at
 spelled-two_at order bytes at fit room = rw (two_bytes at bytes room) (spelled_pair order (get_or bytes at 0) (get_or bytes (suc at) 0) (fit at) (fit (suc at)))
 

@@ -3,4 +3,5 @@ pub mod HashingLemmas
 pub mod KeyLemmas
 pub mod NumberLemmas
 pub mod ReadBackLemmas
+pub mod RowLemmas
 pub mod WritingLemmas

@@ -77,8 +77,7 @@ leaf_content-back order (Chain head total) deleted page after index at fits o e 
     let b : byte_at page (at + 2) ≡ kind_byte 3 deleted = byte_at-in page at (at + 2) (0 ∷ 0 ∷ []) (kind_byte 3 deleted) (0 ∷ ((spelled 4 order head ++ spelled 4 order total) ++ after)) e (omega arith) in
     let both = pair-in order head total page at (at + 4) (at + 8) (0 ∷ 0 ∷ kind_byte 3 deleted ∷ 0 ∷ []) after e (omega arith) (omega arith) fits.0 fits.1 in
     leaf_item-at order page index at (kind_byte 3 deleted) 3 (Chain head total) deleted o b (says_kind_3 deleted) (rw (both.first, both.second) refl)
-leaf_content-back order (Set blocks) deleted page after index at fits o e = absurd fits
-leaf_content-back order Unknown deleted page after index at fits o e = absurd fits
+leaf_content-back order content deleted page after index at fits o e = absurd fits
 
 pub leaf_items_read_back : LeafItemsReadBack
 unfolding leaf_bytes
@@ -132,9 +131,7 @@ internal_content-back order (Chain head total) child count page after index at f
     let sixteen : length whole ≡ 16 = omega (arith, length-append size (3 ∷ 0 ∷ inner), length-append names (0 ∷ 0 ∷ 3 ∷ 0 ∷ [])) in
     let ends = pair-in order head total page at (at + 16) (at + 20) whole after e3 (omega arith) (omega arith) fits.0 fits.1 in
     internal_item-at order page index at 3 child count (Chain head total) o b both (rw (ends.first, ends.second) refl)
-internal_content-back order (Set blocks) child count page after index at fits p q o e = absurd fits
-internal_content-back order (Tree root) child count page after index at fits p q o e = absurd fits
-internal_content-back order Unknown child count page after index at fits p q o e = absurd fits
+internal_content-back order content child count page after index at fits p q o e = absurd fits
 
 pub internal_items_read_back : InternalItemsReadBack
 unfolding internal_bytes

@@ -6,6 +6,8 @@ use Rattle.bdb_format.specs.declared.kinds.Order.{Order}
 use Rattle.bdb_format.specs.declared.pages.ItemFault.{ItemFault}
 use Rattle.bdb_format.specs.Less.{Less}
 use Rattle.bdb_format.specs.Page.{Content, Inline, Set, Chain, Tree, Item, InternalItem}
+use Rattle.bdb_layout.specs.declared.items.Content.{Content as CodeContent}
+use Rattle.bdb_layout.specs.declared.items.Content.TheVariants.{Inline as OnPage, Set as SetOnPage, Overflow as OnChain, OffPage as OnTree}
 use Rattle.bdb_layout.specs.declared.items.LeafItem.{LeafItem}
 use Rattle.bdb_layout.specs.declared.items.LeafItem.TheVariants.{Inline as LeafInline, Duplicates, Overflow as LeafOverflow}
 use Rattle.bdb_layout.specs.declared.items.InternalKey.{InternalKey}
@@ -13,6 +15,12 @@ use Rattle.bdb_layout.specs.declared.items.InternalKey.TheVariants.{Inline as Ke
 use Rattle.bdb_layout.specs.declared.items.InternalItem.{InternalItem as CodeInternalItem}
 use Rattle.bdb_layout.specs.declared.items.HashItem.{HashItem}
 use Rattle.bdb_layout.specs.declared.items.HashItem.TheVariants.{Inline as HashInline, Set as HashSet, Overflow as HashOverflow, OffPage}
+
+abbrev pub content_seen : CodeContent → Content
+content_seen (OnPage bytes) = Inline bytes.now
+content_seen (SetOnPage set) = Set set.blocks
+content_seen (OnChain head total) = Chain head total
+content_seen (OnTree root) = Tree root
 
 abbrev pub leaf_item_seen : LeafItem → Item
 leaf_item_seen (LeafInline bytes deleted) = record { content = Inline bytes.now; deleted = deleted }
@@ -41,6 +49,13 @@ HasOrder order (HashSet set) = set.order ≡ order
 HasOrder order (HashInline bytes) = Unit {0}
 HasOrder order (HashOverflow head total) = Unit {0}
 HasOrder order (OffPage root) = Unit {0}
+
+-- the same of what an item holds
+abbrev pub HoldsOrder : Order → CodeContent → Type 0
+HoldsOrder order (SetOnPage set) = set.order ≡ order
+HoldsOrder order (OnPage bytes) = Unit {0}
+HoldsOrder order (OnChain head total) = Unit {0}
+HoldsOrder order (OnTree root) = Unit {0}
 
 -- an answer with its item as it is seen
 abbrev pub answer_seen : {T S : Type 0} → (T → S) → Result T ItemFault → Result S ItemFault

@@ -1,6 +1,6 @@
-ghost use Rattle.std.specs.Prelude.{◌≡◌, ◌<◌, IfSome, MatchOption, length};
+ghost use Rattle.std.specs.Prelude.{Some, IsSome, is_some, [], ◌≡◌, ◌<◌, IfSome, MatchOption, length};
 ghost use Rattle.std.specs.Iterator.{YieldsFirstBy, item_count};
-ghost use Rattle.std.specs.Option.{option_map};
+ghost use Rattle.std.specs.Option.{option_map, unwrap_or};
 ghost use Rattle.bdb_format.specs.Reading.{blocks_of};
 ghost use Rattle.bdb_layout.specs.Blocks.{BeginsNoBlock, GoesOn, run_in};
 
@@ -33,22 +33,39 @@ impl<'a> DupBlocks<'a> {
     pub fn over(blocks: &'a [u8], order: Order) -> Option<DupBlocks<'a>>
         ensures { result ≡ option_map (run_in order) (blocks_of order blocks.now) }
     {
-        let mut rest = blocks;
-        while !rest.is_empty() {
-            let (_, after) = first_block(rest, order)?;
-            rest = after;
+        if is_run(blocks, order) {
+            Some(DupBlocks::known(blocks, order))
+        } else {
+            None
         }
-        Some(DupBlocks {
-            rest: blocks,
-            order,
-        })
     }
 
-    // The bytes of the blocks that are left.
-    pub(crate) fn bytes(&self) -> &'a [u8]
+    // The set that bytes are which are known to be a run of blocks.
+    pub(crate) fn known(blocks: &'a [u8], order: Order) -> DupBlocks<'a>
+        requires { IsSome (blocks_of order blocks.now) }
+        ensures { result ≡ run_in order (unwrap_or (blocks_of order blocks.now) []) }
+    {
+        DupBlocks {
+            rest: blocks,
+            order,
+        }
+    }
+
+    /// The bytes of the blocks that are left, as they stand on the page.
+    pub fn bytes(&self) -> &'a [u8]
         ensures { blocks_of self.now.order result.now ≡ Some self.now.blocks }
     {
         self.rest
+    }
+
+    /// The blocks that are left, once more.
+    pub fn again(&self) -> DupBlocks<'a>
+        ensures { result ≡ self.now }
+    {
+        DupBlocks {
+            rest: self.rest,
+            order: self.order,
+        }
     }
 }
 
@@ -64,6 +81,18 @@ impl<'a> Iterator for DupBlocks<'a> {
         self.rest = rest;
         Some(block)
     }
+}
+
+// Whether bytes are a run of blocks.
+#[tactic(auto, using(crate::proofs::BlockLemmas::run_ends))]
+pub(crate) fn is_run(bytes: &[u8], order: Order) -> bool
+    ensures { result ≡ is_some (blocks_of order bytes.now) }
+{
+    let mut rest = bytes;
+    while let Some((_, after)) = first_block(rest, order) {
+        rest = after;
+    }
+    rest.is_empty()
 }
 
 // The first block of a run and what comes after it, where a block is complete.

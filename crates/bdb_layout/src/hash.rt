@@ -1,32 +1,61 @@
-ghost use Rattle.std.specs.Prelude.{◌≡◌, ◌+◌, ◌<◌, ◌≤◌, [], ◌∷◌, IfOk, false, length};
+ghost use Rattle.std.specs.Prelude.{◌≡◌, ◌+◌, ◌<◌, ◌≤◌, [], ◌∷◌, IfOk, false, length, None};
 ghost use Rattle.bdb_format.specs.Numbers.{byte_at};
 ghost use Rattle.bdb_format.specs.Reading.{entries_of, hash_content, hash_end, hash_item_at, index_end};
 ghost use Rattle.bdb_format.specs.Rows.{does_not_fall, hash_rows, is_hash_kind, misses_extent};
-ghost use Rattle.bdb_format.specs.Table.{◌:?◌, answer};
-ghost use Rattle.bdb_layout.specs.Seen.{HasOrder, answer_seen, hash_item_seen};
+ghost use Rattle.bdb_format.specs.Table.{answer, first_row};
+ghost use Rattle.bdb_layout.specs.Fits.{FitsHash};
+ghost use Rattle.bdb_layout.specs.Seen.{HasOrder, hash_content_seen, answer_seen, hash_item_seen};
 
+use crate::blocks::is_run;
 use crate::{DupBlocks, HashItem, index_end, offset_at, u32_at};
 use bdb_format::{ItemFault, Order};
 
 /// The item of a hash page at a place of its index, or the first thing that is wrong with it.
-#[tactic(auto, unfolding(bdb_format::specs::Reading::hash_item_at, bdb_format::specs::Rows::hash_rows))]
+#[tactic(auto, using(bdb_format::proofs::PageLemmas::answer_value, crate::proofs::RowLemmas::answer_error))]
 pub fn hash_item(page: &[u8], order: Order, index: u16) -> Result<HashItem<'_>, ItemFault>
     requires room { index_end order page.now ≤ length page.now }
     requires entry { index < entries_of order page.now }
     ensures item { answer_seen hash_item_seen result ≡ answer (hash_rows order page.now index) (hash_item_at order page.now index) }
     ensures order { IfOk result (λ item. HasOrder order item) }
 {
+    match hash_fault(page, order, index) {
+        Some(fault) => Err(fault),
+        None => Ok(known_hash_item(page, order, index)),
+    }
+}
+
+/// The first thing that is wrong with the item of a hash page at a place of its index, if anything is.
+#[tactic(auto, unfolding(bdb_format::specs::Rows::hash_rows))]
+pub fn hash_fault(page: &[u8], order: Order, index: u16) -> Option<ItemFault>
+    requires room { index_end order page.now ≤ length page.now }
+    requires entry { index < entries_of order page.now }
+    ensures { result ≡ first_row (hash_rows order page.now index) }
+{
     let at = usize::from(offset_at(page, order, index));
     if at < index_end(page, order) || page.len() <= at || does_not_fall(page, order, index) {
-        return Err(ItemFault::Offset);
+        return Some(ItemFault::Offset);
     }
     if !is_hash_kind(index, page[at]) {
-        return Err(ItemFault::Kind);
+        return Some(ItemFault::Kind);
     }
+    if misses_extent(page, order, at, hash_end(page, order, index)) {
+        return Some(ItemFault::Extent);
+    }
+    None
+}
+
+/// The item of a hash page at a place of its index, with which nothing is known to be wrong: it isn't tested
+/// again, and the blocks of a set aren't walked.
+#[tactic(auto, using(crate::proofs::RowLemmas::hash_fits), unfolding(bdb_format::specs::Reading::hash_item_at))]
+pub fn known_hash_item(page: &[u8], order: Order, index: u16) -> HashItem<'_>
+    requires room { index_end order page.now ≤ length page.now }
+    requires entry { index < entries_of order page.now }
+    requires sound { first_row (hash_rows order page.now index) ≡ None }
+    ensures item { hash_item_seen result ≡ hash_item_at order page.now index }
+    ensures order { HasOrder order result }
+{
+    let at = usize::from(offset_at(page, order, index));
     let end = hash_end(page, order, index);
-    if page.len() < end {
-        return Err(ItemFault::Extent);
-    }
     hash_item_from(page, order, at, end)
 }
 
@@ -59,33 +88,38 @@ fn hash_end(page: &[u8], order: Order, index: u16) -> usize
     }
 }
 
-// The item between two offsets, or `Extent` where it hasn't the length of its kind.
-fn hash_item_from(
-    page: &[u8],
-    order: Order,
-    at: usize,
-    end: usize,
-) -> Result<HashItem<'_>, ItemFault>
+// Whether an item hasn't the extent of its kind.
+fn misses_extent(page: &[u8], order: Order, at: usize, end: usize) -> bool
     requires begins { at < end }
-    requires ends { end ≤ length page.now }
-    requires least { 1 ≤ byte_at page.now at }
-    requires most { byte_at page.now at ≤ 4 }
-    ensures item { answer_seen hash_item_seen result ≡ answer (ItemFault.Extent :? misses_extent order page.now at end (byte_at page.now at) ∷ []) (record { content = hash_content order page.now at end (byte_at page.now at); deleted = false }) }
-    ensures order { IfOk result (λ item. HasOrder order item) }
+    requires on_page { at < length page.now }
+    ensures { result ≡ misses_extent order page.now at end (byte_at page.now at) }
+{
+    if page.len() < end {
+        return true;
+    }
+    match page[at] {
+        2 => !is_run(&page[at + 1..end], order),
+        3 => end != at + 12,
+        4 => end != at + 8,
+        _ => false,
+    }
+}
+
+// The item between two offsets.
+fn hash_item_from(page: &[u8], order: Order, at: usize, end: usize) -> HashItem<'_>
+    requires { FitsHash order page.now at end }
+    ensures item { hash_content_seen result ≡ hash_content order page.now at end (byte_at page.now at) }
+    ensures order { HasOrder order result }
 {
     match page[at] {
-        1 => Ok(HashItem::Inline(&page[at + 1..end])),
-        2 => {
-            let blocks = DupBlocks::over(&page[at + 1..end], order).ok_or(ItemFault::Extent)?;
-            Ok(HashItem::Set(blocks))
-        }
-        3 if end == at + 12 => Ok(HashItem::Overflow {
+        1 => HashItem::Inline(&page[at + 1..end]),
+        2 => HashItem::Set(DupBlocks::known(&page[at + 1..end], order)),
+        3 => HashItem::Overflow {
             head: u32_at(page, at + 4, order),
             total: u32_at(page, at + 8, order),
-        }),
-        4 if end == at + 8 => Ok(HashItem::OffPage {
+        },
+        _ => HashItem::OffPage {
             root: u32_at(page, at + 4, order),
-        }),
-        _ => Err(ItemFault::Extent),
+        },
     }
 }

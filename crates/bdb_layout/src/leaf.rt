@@ -1,31 +1,57 @@
-ghost use Rattle.std.specs.Prelude.{◌≡◌, ◌+◌, ◌<◌, ◌≤◌, length};
+ghost use Rattle.std.specs.Prelude.{◌≡◌, ◌+◌, ◌<◌, ◌≤◌, length, None};
 ghost use Rattle.bdb_format.specs.Reading.{entries_of, index_end, is_deleted, kind_at, leaf_content, leaf_item_at};
 ghost use Rattle.bdb_format.specs.Rows.{is_leaf_kind, leaf_end, leaf_rows};
-ghost use Rattle.bdb_format.specs.Table.{answer};
+ghost use Rattle.bdb_format.specs.Table.{answer, first_row};
+ghost use Rattle.bdb_layout.specs.Fits.{FitsLeaf};
 ghost use Rattle.bdb_layout.specs.Seen.{answer_seen, leaf_item_seen};
 
 use crate::{LeafItem, index_end, offset_at, u16_at, u32_at};
 use bdb_format::{ItemFault, Order};
 
 /// The item of a leaf at a place of its index, or the first thing that is wrong with it.
-#[tactic(auto, unfolding(bdb_format::specs::Reading::leaf_item_at, bdb_format::specs::Rows::leaf_rows))]
+#[tactic(auto, using(bdb_format::proofs::PageLemmas::answer_value, crate::proofs::RowLemmas::answer_error))]
 pub fn leaf_item(page: &[u8], order: Order, index: u16) -> Result<LeafItem<'_>, ItemFault>
     requires room { index_end order page.now ≤ length page.now }
     requires entry { index < entries_of order page.now }
     ensures { answer_seen leaf_item_seen result ≡ answer (leaf_rows order page.now index) (leaf_item_at order page.now index) }
 {
+    match leaf_fault(page, order, index) {
+        Some(fault) => Err(fault),
+        None => Ok(known_leaf_item(page, order, index)),
+    }
+}
+
+/// The first thing that is wrong with the item of a leaf at a place of its index, if anything is.
+#[tactic(auto, unfolding(bdb_format::specs::Rows::leaf_rows))]
+pub fn leaf_fault(page: &[u8], order: Order, index: u16) -> Option<ItemFault>
+    requires room { index_end order page.now ≤ length page.now }
+    requires entry { index < entries_of order page.now }
+    ensures { result ≡ first_row (leaf_rows order page.now index) }
+{
     let at = usize::from(offset_at(page, order, index));
     if at < index_end(page, order) || page.len() < at + 3 {
-        return Err(ItemFault::Offset);
+        return Some(ItemFault::Offset);
     }
     let kind = page[at + 2] % 128;
     if !is_leaf_kind(page[25], index, kind) {
-        return Err(ItemFault::Kind);
+        return Some(ItemFault::Kind);
     }
     if page.len() < leaf_end(page, order, at) {
-        return Err(ItemFault::Extent);
+        return Some(ItemFault::Extent);
     }
-    Ok(leaf_item_from(page, order, at))
+    None
+}
+
+/// The item of a leaf at a place of its index, with which nothing is known to be wrong: it isn't tested again.
+#[tactic(auto, using(crate::proofs::RowLemmas::leaf_fits), unfolding(bdb_format::specs::Reading::leaf_item_at))]
+pub fn known_leaf_item(page: &[u8], order: Order, index: u16) -> LeafItem<'_>
+    requires room { index_end order page.now ≤ length page.now }
+    requires entry { index < entries_of order page.now }
+    requires sound { first_row (leaf_rows order page.now index) ≡ None }
+    ensures { leaf_item_seen result ≡ leaf_item_at order page.now index }
+{
+    let at = usize::from(offset_at(page, order, index));
+    leaf_item_from(page, order, at)
 }
 
 // Whether an item of this kind may stand at a place of a leaf's index.
@@ -48,9 +74,7 @@ fn leaf_end(page: &[u8], order: Order, at: usize) -> usize
 
 // The item at an offset.
 fn leaf_item_from(page: &[u8], order: Order, at: usize) -> LeafItem<'_>
-    requires within { leaf_end order page.now at ≤ length page.now }
-    requires least { 1 ≤ kind_at page.now at }
-    requires most { kind_at page.now at ≤ 3 }
+    requires { FitsLeaf order page.now at }
     ensures { leaf_item_seen result ≡ record { content = leaf_content order page.now at (kind_at page.now at); deleted = is_deleted page.now at } }
 {
     let deleted = page[at + 2] >= 128;

@@ -1,6 +1,7 @@
 -- Rows that follow one another, and the answer of a table with a value.
-use Rattle.std.proofs.Common.{◌≡◌, ℕ, Bool, true, false, List, [], ◌∷◌, ◌++◌, ◌∙◌, ◌<◌, ◌≤◌, length, refl, sym, ap, arith, append_assoc}
-use Rattle.std.specs.Prelude.{Option, Some, None, Result, Ok, Err, if◌then◌else◌, nat_lt, ◌==◌}
+use Rattle.bdb_format.proofs.PageLemmas.{answer_value}
+use Rattle.std.proofs.Common.{◌≡◌, ℕ, true, false, List, [], ◌∷◌, ◌++◌, ◌∙◌, ◌<◌, ◌≤◌, length, refl, sym, ap, arith, append_assoc}
+use Rattle.std.specs.Prelude.{None, Ok, Err, nat_lt, ◌==◌}
 use Rattle.bdb_format.specs.declared.metadata.MetaFault.{MetaFault}
 use Rattle.bdb_format.specs.declared.kinds.Order.{Order}
 use Rattle.bdb_format.specs.declared.metadata.FileKind.{FileKind}
@@ -9,36 +10,25 @@ use Rattle.bdb_format.specs.Table.{Row, answer, first_row}
 use Rattle.bdb_format.specs.HeadOf.{faulted, head_rows}
 use Rattle.bdb_meta.specs.RowGroups.{common_rows, length_rows, page_rows, version_rows}
 
--- a row in front: it is passed, or it answers
-row_passed : {T : Type 0} → (holds : Bool) (code : ℕ) (rest : Result (Unit {0}) ℕ) (all after : Result T ℕ) → (if holds then Err code else rest) ≡ Ok tt → (rest ≡ Ok tt → all ≡ after) → (if holds then Err code else all) ≡ after
-row_passed true code rest all after h next = cc
-row_passed false code rest all after h next = next h
-
-row_answers : {T : Type 0} → (holds : Bool) (code c : ℕ) (rest : Result (Unit {0}) ℕ) (all : Result T ℕ) → (if holds then Err code else rest) ≡ Err c → (rest ≡ Err c → all ≡ Err c) → (if holds then Err code else all) ≡ Err c
-row_answers true code c rest all h next = cc
-row_answers false code c rest all h next = next h
-
 -- rows that hold nowhere are passed
 pub answer-passed : {T : Type 0} → (xs ys : List (Row ℕ)) (value : T) → answer {T = Unit {0}} xs tt ≡ Ok tt → answer (xs ++ ys) value ≡ answer ys value
 answer-passed [] ys value h = refl
-answer-passed (row ∷ xs) ys value h =
-    row_passed row.holds row.code (answer xs tt) (answer (xs ++ ys) value) (answer ys value) h (answer-passed xs ys value)
+answer-passed (row ∷ xs) ys value h = grind (arith, answer-passed xs ys value)
 
 -- the first row that holds answers, whatever follows
 pub answer-first : {T : Type 0} → (xs ys : List (Row ℕ)) (value : T) (code : ℕ) → answer {T = Unit {0}} xs tt ≡ Err code → answer (xs ++ ys) value ≡ Err code
 answer-first [] ys value code h = cc
-answer-first (row ∷ xs) ys value code h =
-    row_answers row.holds row.code code (answer xs tt) (answer (xs ++ ys) value) h (answer-first xs ys value code)
+answer-first (row ∷ xs) ys value code h = grind (arith, answer-first xs ys value code)
 
 -- the value where no row holds
 pub answer-value : {T : Type 0} → (xs : List (Row ℕ)) (value : T) → answer {T = Unit {0}} xs tt ≡ Ok tt → answer xs value ≡ Ok value
 answer-value [] value h = refl
-answer-value (row ∷ xs) value h = row_passed row.holds row.code (answer xs tt) (answer xs value) (Ok value) h (answer-value xs value)
+answer-value (row ∷ xs) value h = grind (arith, answer-value xs value)
 
 -- a row that holds, whatever the value
 pub answer-code : {T : Type 0} → (xs : List (Row ℕ)) (value : T) (code : ℕ) → answer {T = Unit {0}} xs tt ≡ Err code → answer xs value ≡ Err code
 answer-code [] value code h = cc
-answer-code (row ∷ xs) value code h = row_answers row.holds row.code code (answer xs tt) (answer xs value) h (answer-code xs value code)
+answer-code (row ∷ xs) value code h = grind (arith, answer-code xs value code)
 
 -- the rows of page 0, group by group, where it is long enough
 head_rows-groups : {T : Type 0} → (image : List ℕ) (value : T) → 512 ≤ length image → answer (head_rows image) value ≡ answer (version_rows image ++ (page_rows image ++ length_rows image)) value
@@ -73,18 +63,8 @@ head_rows-short image value h =
     let short : nat_lt (length image) 512 ≡ true = grind arith in
     rw short
 
--- where no row holds, the value is the answer
-none_holds : {T : Type 0} → (holds : Bool) (code : ℕ) (rest : Option ℕ) (all : Result T ℕ) (value : T) → (if holds then Some code else rest) ≡ None
-    → (rest ≡ None → all ≡ Ok value) → (if holds then Err code else all) ≡ Ok value
-none_holds true code rest all value h next = cc
-none_holds false code rest all value h next = next h
-
-answer-none : {T : Type 0} → (xs : List (Row ℕ)) (value : T) → first_row xs ≡ None → answer xs value ≡ Ok value
-answer-none [] value h = refl
-answer-none (row ∷ xs) value h = none_holds row.holds row.code (first_row xs) (answer xs value) value h (answer-none xs value)
-
 pub faulted-none : {T : Type 0} → (fault : ℕ → MetaFault) (xs : List (Row ℕ)) (value : T) → first_row xs ≡ None → faulted fault (answer xs value) ≡ Ok value
-faulted-none fault xs value h = rw (answer-none xs value h)
+faulted-none fault xs value h = rw (answer_value xs value h)
 
 -- an image that is too short
 pub ruleset short_head = (head_rows-short)

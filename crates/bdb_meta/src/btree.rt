@@ -34,8 +34,8 @@ fn check_btree(number: u32, meta: &BtreeMeta) -> Result<(), u8>
     Ok(())
 }
 
-/// The fields of btree metadata, taken as they are.
-fn btree_fields(page: &[u8], order: Order) -> BtreeMeta
+/// The fields of btree metadata, taken as they are: for a page on which no row of the fault table holds.
+pub fn btree_fields(page: &[u8], order: Order) -> BtreeMeta
     requires { 92 ≤ length page.now }
     ensures { result ≡ btree_fields order page.now }
 {

@@ -43,8 +43,8 @@ fn check_queue(page: &[u8], order: Order, meta: &QueueMeta) -> Result<(), u8>
     Ok(())
 }
 
-/// The fields of queue metadata, taken as they are.
-fn queue_fields(page: &[u8], order: Order) -> QueueMeta
+/// The fields of queue metadata, taken as they are: for a page on which no row of the fault table holds.
+pub fn queue_fields(page: &[u8], order: Order) -> QueueMeta
     requires { 92 ≤ length page.now }
     ensures { result ≡ queue_fields order page.now }
 {

@@ -81,8 +81,8 @@ fn spares(page: &[u8], order: Order) -> [u32; 32]
     spares
 }
 
-/// The fields of hash metadata, taken as they are.
-fn hash_fields(page: &[u8], order: Order) -> HashMeta
+/// The fields of hash metadata, taken as they are: for a page on which no row of the fault table holds.
+pub fn hash_fields(page: &[u8], order: Order) -> HashMeta
     requires { 224 ≤ length page.now }
     ensures { result ≡ hash_fields order page.now }
 {

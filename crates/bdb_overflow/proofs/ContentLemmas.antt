@@ -1,29 +1,23 @@
 -- On a linked image each item that names a chain names one that fits.
-use Rattle.std.proofs.Common.{◌≡◌, ◌⊎◌, ℕ, zero, suc, ◌-◌, ◌<◌, ◌≤◌, Bool, true, false, List, [], ◌∷◌, length, get_or, Some, None, arith, refl, sym, ◌∙◌, ap, subst, inl, inr, true≢false}
+use Rattle.std.proofs.Common.{◌≡◌, ℕ, zero, suc, ◌-◌, ◌<◌, ◌≤◌, true, false, List, [], ◌∷◌, length, get_or, Some, arith, refl, sym, ◌∙◌, ap, subst, inl, inr, true≢false}
 use Rattle.std.specs.Prelude.{◌==◌, ◌&&◌, ◌%◌, nat_le, slice_get, slice_index}
-use Rattle.std.specs.List.{Contains, flat_map, range_with_len}
+use Rattle.std.specs.List.{Contains}
 use Rattle.std.proofs.lemmas.Bool.{and_parts, cases_Bool, eqb-true, leb-true}
-use Rattle.std.proofs.lemmas.List.Elements.{Contains-append_left}
-use Rattle.std.proofs.lemmas.List.FromFn.{get_or-map-range_with_len}
 use Rattle.bdb_format.specs.declared.kinds.Order.{Order}
 use Rattle.bdb_format.specs.declared.metadata.FileKind.TheVariants.{Queue as QueueFile}
-use Rattle.bdb_format.specs.declared.metadata.Head.{Head}
-use Rattle.bdb_format.specs.declared.references.Sort.{Sort}
-use Rattle.bdb_format.specs.declared.references.Sort.TheVariants.{OverflowHead, HashNext, Child}
+use Rattle.bdb_format.specs.declared.references.Sort.TheVariants.{OverflowHead}
 use Rattle.bdb_format.specs.File.{File, file_of, page_at, page_bytes}
 use Rattle.bdb_format.specs.HeadOf.{head_of}
 use Rattle.bdb_format.specs.Numbers.{byte_at}
 use Rattle.bdb_format.specs.Page.{Content, Inline, Set, Chain, Tree, Unknown, Item, InternalItem, Listed, Page, Zero, Hash, Internal, Leaf, RecnoLeaf, DupLeaf, PageType, LeafPage}
-use Rattle.bdb_format.specs.Reading.{abstract_page, entries_of, is_deleted, is_zero, kind_at, leaf_content, leaf_item_at, listed, offset_of, page_as, page_type}
-use Rattle.bdb_format.specs.References.{content_targets, is_shared_key, targets_in, targets_of, no_item, unless_zero, contents_in}
-use Rattle.bdb_format.specs.Rows.{form_code, may_have_type}
-use Rattle.bdb_format.proofs.GraphLemmas.{type_fits, queue_types}
-use Rattle.bdb_format.proofs.MemberLemmas.{first_member, in_flat_map, in_range, later_member, in_map}
-use Rattle.bdb_format.proofs.PageLemmas.{index_offset, later_type, length_items}
+use Rattle.bdb_format.specs.Reading.{abstract_page, entries_of, is_zero, leaf_item_at, listed, page_as, page_type}
+use Rattle.bdb_format.specs.References.{content_targets, is_shared_key, targets_in, targets_of, no_item, contents_in}
+use Rattle.bdb_format.proofs.MemberLemmas.{first_member, in_map}
+use Rattle.bdb_format.proofs.PageLemmas.{index_offset, length_items}
 use Rattle.bdb_format.proofs.TargetLemmas.{held_named, own_held}
 use Rattle.bdb_graph.specs.Linked.{FitsChain, IsForest}
-use Rattle.bdb_graph.proofs.FirstLemmas.{formed_page}
-use Rattle.bdb_graph.proofs.HeldLemmas.{kind_is, last_page, page_is}
+use Rattle.bdb_graph.proofs.ChildLemmas.{is_queue_page, queue_page}
+use Rattle.bdb_graph.proofs.HeldLemmas.{last_page, page_is}
 use Rattle.bdb_graph.proofs.LinkedLemmas.{named_target}
 use Rattle.bdb_overflow.specs.Datum.{FitsContent}
 use Rattle.bdb_format.proofs.ListLemmas.{member_of}
@@ -32,40 +26,16 @@ use Rattle.bdb_format.proofs.LeafLemmas.{leaf_item_is, one_offset}
 
 -- Pages with items stand in no queue file.
 
-abbrev has_items : Page → Bool
-has_items (Hash page) = true
-has_items (Internal page) = true
-has_items (Leaf page) = true
-has_items (RecnoLeaf page) = true
-has_items (DupLeaf page) = true
-has_items page = false
-
-none_of_queue : (order : Order) (page : List ℕ) (byte : ℕ) → (byte ≡ 10) ⊎ (byte ≡ 11) → has_items (page_as order page (page_type byte)) ≡ false
-none_of_queue order page byte types =
-    elim types [ inl is ↦ ap (λ b. has_items (page_as order page (page_type b))) is | inr is ↦ ap (λ b. has_items (page_as order page (page_type b))) is ]
-
-none_in_queue : (head : Head) (number : ℕ) (page : List ℕ) → head.kind ≡ QueueFile → form_code head number page ≡ None → has_items (abstract_page head.order page) ≡ false
-unfolding abstract_page
-none_in_queue head number page queue none =
-    let byte : ℕ = byte_at page 25 in
-    elim (is_zero page) as (λ zeros. is_zero page ≡ zeros → has_items (elim zeros [ true ↦ Zero | false ↦ page_as head.order page (page_type byte) ]) ≡ false) [
-      | true ↦ λ _. refl
-      | false ↦ λ some. none_of_queue head.order page byte (queue_types number byte (ap (λ kind. may_have_type kind number byte) (sym queue) ∙ type_fits head number page some none))
-    ] refl
-
-no_queue : (image : List ℕ) (p : ℕ) → IsForest image → p ≤ (file_of image).last → has_items (page_at (file_of image) p) ≡ true → (file_of image).kind ≡ QueueFile → ⊥
-no_queue image p forest low some queue =
-    let inside : p ≤ (head_of image).last = omega (arith, low, last_page image) in
-    let none : form_code (head_of image) p (page_bytes (head_of image) image p) ≡ None = formed_page image p forest.formed.form inside in
-    true≢false (sym some ∙ (ap has_items (page_is image p inside) ∙ none_in_queue (head_of image) p (page_bytes (head_of image) image p) (sym (kind_is image) ∙ queue) none))
+no_queue : (image : List ℕ) (p : ℕ) → IsForest image → p ≤ (file_of image).last → is_queue_page (page_at (file_of image) p) ≡ false → (file_of image).kind ≡ QueueFile → ⊥
+no_queue image p forest low other queue = true≢false (sym (queue_page image (head_of image) p forest.formed low queue) ∙ other)
 
 -- What is named as the head of a chain fits.
 
-named_chain : (image : List ℕ) (p : ℕ) (page : Page) (target : ℕ) → IsForest image → p ≤ (file_of image).last → page_at (file_of image) p ≡ page → has_items page ≡ true
+named_chain : (image : List ℕ) (p : ℕ) (page : Page) (target : ℕ) → IsForest image → p ≤ (file_of image).last → page_at (file_of image) p ≡ page → is_queue_page page ≡ false
     → Contains (targets_in p page) (OverflowHead, target) → FitsChain (file_of image) target
 named_chain image p page target forest low is some at =
     let names : targets_of (file_of image).kind p (page_at (file_of image) p) ≡ targets_in p page =
-    forest_names (file_of image).kind p (page_at (file_of image) p) (no_queue image p forest low (ap has_items is ∙ some)) ∙ ap (targets_in p) is in
+    forest_names (file_of image).kind p (page_at (file_of image) p) (no_queue image p forest low (ap is_queue_page is ∙ some)) ∙ ap (targets_in p) is in
     named_target (file_of image) p OverflowHead target low (subst (λ ns. Contains ns (OverflowHead, target)) (sym names) at)
 
 -- all that a content names as the head of a chain fits
@@ -80,8 +50,8 @@ content_fits file (Tree root) fit = tt
 content_fits file Unknown fit = tt
 
 -- what an item of a page holds fits
-held_fits : (image : List ℕ) (p : ℕ) (page : Page) (content : Content) → IsForest image → p ≤ (file_of image).last → page_at (file_of image) p ≡ page
-    → has_items page ≡ true
+pub held_fits : (image : List ℕ) (p : ℕ) (page : Page) (content : Content) → IsForest image → p ≤ (file_of image).last → page_at (file_of image) p ≡ page
+    → is_queue_page page ≡ false
     → Contains (contents_in page) content → FitsContent (file_of image) content
 held_fits image p page content forest low is some held =
     content_fits (file_of image) content

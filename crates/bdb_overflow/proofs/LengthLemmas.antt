@@ -1,11 +1,10 @@
 -- Chains of a wrong length, item by item, and the faults that they are.
-use Rattle.std.proofs.Common.{◌≡◌, ℕ, zero, suc, ◌+◌, ◌-◌, ◌*◌, ◌%◌, ◌<◌, ◌≤◌, Bool, true, false, cond, List, [], ◌∷◌, length, map, get_or, Some, None, arith, refl, sym, ◌∙◌, ap, inl, inr, zero-add}
-use Rattle.std.specs.Prelude.{◌&&◌, ◌||◌, nat_le, not, slice_get}
+use Rattle.std.proofs.Common.{◌≡◌, ℕ, ◌+◌, ◌*◌, ◌%◌, ◌<◌, ◌≤◌, Bool, true, false, cond, List, [], ◌∷◌, length, map, get_or, Some, None, arith, refl, sym, ◌∙◌, ap, inl, inr, zero-add}
+use Rattle.std.specs.Prelude.{◌&&◌, ◌||◌, not, slice_get}
 use Rattle.std.specs.List.{filter, flat_map, list_any, range_with_len}
-use Rattle.std.proofs.lemmas.Bool.{cases_order, le-leb, or_from}
+use Rattle.std.proofs.lemmas.Bool.{cases_order}
 use Rattle.std.proofs.lemmas.List.Folds.{flat_map-map, list_any-append, list_any_at}
 use Rattle.std.proofs.lemmas.List.FromFn.{get_or-range_with_len, length-range_with_len}
-use Rattle.bdb_form.specs.Formed.{shares_at}
 use Rattle.bdb_graph.specs.Slots.{no_internal_item}
 use Rattle.bdb_graph.proofs.FitLemmas.{NoneHold, first_of_stage}
 use Rattle.bdb_format.specs.Chains.{chain_rows, content_chains, is_wrong_length}
@@ -28,22 +27,13 @@ item_is_wrong file page i item at = ap (λ (it : Item). is_wrong file it.content
 pub key_is_wrong : (file : File) (page : Listed InternalItem) (i : ℕ) (item : InternalItem) → slice_get page.items i ≡ Some item → is_wrong_key file page i ≡ is_wrong file item.key
 key_is_wrong file page i item at = ap (λ (it : InternalItem). is_wrong file it.key) (got page.items i item no_internal_item at).1
 
--- a pair that has the key of the pair before it, by the entries of the index
-shared_by : (page : Listed Item) (i : ℕ) → is_shared_key page.offsets (2 * i) ≡ shares_at page i
-shared_by page zero = refl
-shared_by page (suc i) =
-    let even : (2 * suc i) % 2 ≡ 0 = omega arith in
-    let above : nat_le 2 (2 * suc i) ≡ true = le-leb 2 (2 * suc i) (omega arith) in
-    let before : 2 * suc i - 2 ≡ 2 * i = omega arith in
-    rw (even, above, before) refl
-
 -- a key that isn't shared
-pub own_is_wrong : (file : File) (page : Listed Item) (i : ℕ) (item : Item) → slice_get page.items (2 * i) ≡ Some item → shares_at page i ≡ false
+pub own_is_wrong : (file : File) (page : Listed Item) (i : ℕ) (item : Item) → slice_get page.items (2 * i) ≡ Some item → is_shared_key page.offsets (2 * i) ≡ false
     → is_wrong_entry file page (2 * i) ≡ is_wrong file item.content
-own_is_wrong file page i item at own = rw (shared_by page i, own) (item_is_wrong file page (2 * i) item at)
+own_is_wrong file page i item at own = rw own (item_is_wrong file page (2 * i) item at)
 
-pub shared_is_right : (file : File) (page : Listed Item) (i : ℕ) → shares_at page i ≡ true → is_wrong_entry file page (2 * i) ≡ false
-shared_is_right file page i shared = rw (shared_by page i, shared) refl
+pub shared_is_right : (file : File) (page : Listed Item) (i : ℕ) → is_shared_key page.offsets (2 * i) ≡ true → is_wrong_entry file page (2 * i) ≡ false
+shared_is_right file page i shared = rw shared refl
 
 odd_is_own : (offsets : List ℕ) (i : ℕ) → is_shared_key offsets (2 * i + 1) ≡ false
 odd_is_own offsets i = let odd : (2 * i + 1) % 2 ≡ 1 = omega arith in rw odd refl
@@ -65,7 +55,7 @@ pair_more test i none key value k below =
       | inr (inr above) ↦ let last : k ≡ 2 * i + 1 = omega arith in ap test last ∙ value
     ]
 
-any_of_all : {X C : Type 0} (wrong : C → Bool) (f : X → List C) (xs : List X) → list_any wrong (flat_map f xs) ≡ list_any (λ x. list_any wrong (f x)) xs
+pub any_of_all : {X C : Type 0} (wrong : C → Bool) (f : X → List C) (xs : List X) → list_any wrong (flat_map f xs) ≡ list_any (λ x. list_any wrong (f x)) xs
 any_of_all wrong f [] = refl
 any_of_all wrong f (x ∷ xs) = list_any-append wrong (f x) (flat_map f xs) ∙ ap (λ b. list_any wrong (f x) || b) (any_of_all wrong f xs)
 

@@ -1,9 +1,8 @@
 -- The chains of a linked image are whole: each page of one names the next, and a way down has no page twice.
 use Rattle.std.proofs.Common.{◌≡◌, ◌⊎◌, ℕ, zero, suc, ◌+◌, ◌/◌, ◌<◌, ◌≤◌, Bool, true, false, not, cond, List, [], ◌∷◌, length, Option, Some, None, arith, refl, sym, ◌∙◌, ap, subst, inl, inr, true≢false}
 use Rattle.std.specs.Prelude.{◌==◌, ◌||◌, ◌&&◌, nat_lt}
-use Rattle.std.specs.List.{AllByRecursion, Contains, IsDistinct, list_any}
+use Rattle.std.specs.List.{Contains, list_any}
 use Rattle.std.proofs.lemmas.Bool.{cases_Bool, cases_eq, eq-eqb, eqb-false, eqb-true, ltb-false, ne_eqb, or_parts}
-use Rattle.std.proofs.lemmas.Map.Steps.{length-le_from_distinct_below}
 use Rattle.bdb_format.specs.declared.kinds.Order.{Order}
 use Rattle.bdb_format.specs.declared.metadata.FileKind.{FileKind}
 use Rattle.bdb_format.specs.declared.metadata.FileKind.TheVariants.{Btree, Hash, Queue}
@@ -25,7 +24,8 @@ use Rattle.bdb_format.proofs.GraphLemmas.{IsOwner, each_fits, is_owner, type_fit
 use Rattle.bdb_format.proofs.MemberLemmas.{first_member, in_filter}
 use Rattle.bdb_format.proofs.PageLemmas.{later_type}
 use Rattle.bdb_format.proofs.VerdictLemmas.{AllFail, none_is_first_row}
-use Rattle.bdb_graph.specs.Forest.{AllDistinct, IsWayDown, Names, NotIn}
+use Rattle.bdb_graph.proofs.ReachLemmas.{AllUpTo, few_distinct}
+use Rattle.bdb_graph.specs.Forest.{AllDistinct, IsWayDown, Names}
 use Rattle.bdb_graph.specs.Linked.{FitsChain, IsForest}
 use Rattle.bdb_graph.proofs.CodeLemmas.{code_by}
 use Rattle.bdb_graph.proofs.FirstLemmas.{formed_accepted, formed_last, formed_page}
@@ -205,10 +205,6 @@ next_named image p forest on more =
 
 -- A chain ends.
 
-abbrev AllUpTo : ℕ → List ℕ → Type 0
-AllUpTo n [] = Unit {0}
-AllUpTo n (x ∷ xs) = (x ≤ n) × AllUpTo n xs
-
 -- that many pages follow each other on a chain
 record IsLong (turns : ℕ) (image : List ℕ) (p : ℕ) : Type 0 where
   after : List ℕ
@@ -230,26 +226,6 @@ ends_or_long (suc turns) image p forest on =
             | inr long ↦ inr (record { after = next ∷ long.after; way = (next_named image p forest on more, long.way); long = omega (arith, long.long); inside = (on_next.inside, long.inside) })
           ]
     ]
-
-apart : (x : ℕ) (xs : List ℕ) → NotIn x xs → AllByRecursion (λ y. (x == y) ≡ false) xs
-apart x [] out = tt
-apart x (y ∷ ys) out = (ne_eqb x y out.0, apart x ys out.1)
-
-distinct : (xs : List ℕ) → AllDistinct xs → IsDistinct (λ x y. x == y) xs
-unfolding IsDistinct
-distinct [] all = tt
-distinct (x ∷ xs) all = (apart x xs all.0, distinct xs all.1)
-
-below : (n : ℕ) (xs : List ℕ) (q : ℕ) → AllUpTo n xs → list_any (λ x. q == x) xs ≡ true → q < n + 1
-below n [] q all one = absurd cc
-below n (x ∷ xs) q all one =
-    elim (cases_Bool (q == x)) [
-      | inl same ↦ omega (arith, all.0, eqb-true q x same)
-      | inr other ↦ below n xs q all.1 (rw other at one)
-    ]
-
-few_distinct : (n : ℕ) (xs : List ℕ) → AllDistinct xs → AllUpTo n xs → length xs ≤ n + 1
-few_distinct n xs all inside = length-le_from_distinct_below xs (n + 1) (distinct xs all) (λ q one. below n xs q inside one)
 
 not_long : (turns : ℕ) (image : List ℕ) (p : ℕ) → IsForest image → IsOnChain image p → (head_of image).last < turns → IsLong turns image p → ⊥
 not_long turns image p forest on many long =

@@ -64,9 +64,6 @@ order_at_end answer a b (x ∷ xs) (y ∷ ys) rest_a rest_b is is_a is_b end_a e
 
 -- Steps of a comparison.
 
-pub begin : (a b : List ℕ) → HaveOrderOf a b a b
-begin a b = record { order = λ answer is. is }
-
 pub step : (front a b c d zs ws : List ℕ) → HaveOrderOf a b c d → a ≡ front ++ zs → b ≡ front ++ ws → HaveOrderOf zs ws c d
 step front a b c d zs ws have is_a is_b =
     record { order = λ answer is. have.order answer (subst (λ x. OrderingIs answer x b) (sym is_a) (subst (OrderingIs answer (front ++ zs)) (sym is_b) (order_after answer front zs ws is))) }

@@ -1,4 +1,7 @@
 pub mod Datum
+pub mod Earlier
+pub mod Keys
 pub mod Lengths
+pub mod Prefix
 pub mod Runs
 pub mod Whole

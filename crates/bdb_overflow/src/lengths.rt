@@ -1,6 +1,6 @@
 ghost use Rattle.std.specs.Prelude.{◌≡◌, ◌+◌, ◌*◌, ◌<◌, ◌≤◌, [], Some, IfErr, OnOk, length};
 ghost use Rattle.bdb_graph.specs.Linked.{FitsChain, IsForest};
-ghost use Rattle.bdb_layout.specs.Seen.{hash_content_seen, key_seen, leaf_item_seen};
+ghost use Rattle.bdb_layout.specs.Seen.{content_seen};
 ghost use Rattle.bdb_format.specs.Chains.{is_wrong_length};
 ghost use Rattle.bdb_format.specs.File.{file_of, page_at};
 ghost use Rattle.bdb_format.specs.Page.{DupLeaf, Hash, Internal, Leaf, RecnoLeaf};
@@ -12,7 +12,7 @@ use crate::chain_pieces;
 use bdb_form::{DupLeafView, HashView, InternalView, LeafView, PageView, RecnoLeafView};
 use bdb_format::Fault;
 use bdb_graph::{Forest, Linked};
-use bdb_layout::{HashItem, InternalKey, LeafItem};
+use bdb_layout::Content;
 
 /// Whether the pages of a chain don't add up to a length.
 fn is_wrong_length(forest: &Forest<'_>, head: u32, total: u32) -> bool
@@ -22,36 +22,14 @@ fn is_wrong_length(forest: &Forest<'_>, head: u32, total: u32) -> bool
     chain_pieces(forest, head).length() != u64::from(total)
 }
 
-/// Whether an item of a leaf names a chain of another length.
-fn tells_wrong(forest: &Forest<'_>, item: &LeafItem<'_>) -> bool
-    requires { FitsContent (file_of forest.now) (leaf_item_seen item.now).content }
-    ensures { result ≡ is_wrong (file_of forest.now) (leaf_item_seen item.now).content }
+/// Whether an item names a chain of another length, by what it holds.
+fn tells_wrong(forest: &Forest<'_>, content: &Content<'_>) -> bool
+    requires { FitsContent (file_of forest.now) (content_seen content.now) }
+    ensures { result ≡ is_wrong (file_of forest.now) (content_seen content.now) }
 {
-    match item {
-        LeafItem::Overflow { head, total, .. } => is_wrong_length(forest, *head, *total),
-        LeafItem::Inline { .. } | LeafItem::Duplicates { .. } => false,
-    }
-}
-
-/// Whether the key of an item of an internal page does.
-fn key_tells_wrong(forest: &Forest<'_>, key: &InternalKey<'_>) -> bool
-    requires { FitsContent (file_of forest.now) (key_seen key.now) }
-    ensures { result ≡ is_wrong (file_of forest.now) (key_seen key.now) }
-{
-    match key {
-        InternalKey::Overflow { head, total } => is_wrong_length(forest, *head, *total),
-        InternalKey::Inline(_) => false,
-    }
-}
-
-/// Whether an item of a hash page does.
-fn hash_item_tells_wrong(forest: &Forest<'_>, item: &HashItem<'_>) -> bool
-    requires { FitsContent (file_of forest.now) (hash_content_seen item.now) }
-    ensures { result ≡ is_wrong (file_of forest.now) (hash_content_seen item.now) }
-{
-    match item {
-        HashItem::Overflow { head, total } => is_wrong_length(forest, *head, *total),
-        HashItem::Inline(_) | HashItem::Set(_) | HashItem::OffPage { .. } => false,
+    match content {
+        Content::Overflow { head, total } => is_wrong_length(forest, *head, *total),
+        Content::Inline(_) | Content::Set(_) | Content::OffPage { .. } => false,
     }
 }
 
@@ -64,7 +42,7 @@ fn is_wrong_record(forest: &Forest<'_>, number: u32, page: &RecnoLeafView<'_>, i
     requires item { i < length page.now.items }
     ensures { result ≡ is_wrong_item (file_of forest.now) page.now i }
 {
-    tells_wrong(forest, &page.item(i))
+    tells_wrong(forest, &page.item(i).content())
 }
 
 /// Whether some entry of a leaf of records does.
@@ -91,7 +69,7 @@ fn is_wrong_duplicate(forest: &Forest<'_>, number: u32, page: &DupLeafView<'_>, 
     requires item { i < length page.now.items }
     ensures { result ≡ is_wrong_item (file_of forest.now) page.now i }
 {
-    tells_wrong(forest, &page.item(i))
+    tells_wrong(forest, &page.item(i).content())
 }
 
 /// Whether some entry of a leaf of sorted duplicates does.
@@ -118,7 +96,7 @@ fn is_wrong_key(forest: &Forest<'_>, number: u32, page: &InternalView<'_>, i: u1
     requires item { i < length page.now.items }
     ensures { result ≡ is_wrong_key (file_of forest.now) page.now i }
 {
-    key_tells_wrong(forest, &page.item(i).key)
+    tells_wrong(forest, &page.item(i).key.content())
 }
 
 /// Whether some key of an internal page does.
@@ -138,39 +116,25 @@ fn keys_have_wrong(forest: &Forest<'_>, number: u32, page: &InternalView<'_>) ->
 
 /// Whether an item of a hash page names a chain of another length: a key, or data.
 #[tactic(auto, using(crate::proofs::ContentLemmas::hash_item_fits, crate::proofs::LengthLemmas::item_is_wrong))]
-fn is_wrong_hash_key(forest: &Forest<'_>, number: u32, page: &HashView<'_>, i: u16) -> bool
+fn is_wrong_hash_item(forest: &Forest<'_>, number: u32, page: &HashView<'_>, i: u16) -> bool
     requires forest { IsForest forest.now }
     requires there { number ≤ (file_of forest.now).last }
     requires page { page_at (file_of forest.now) number ≡ Hash page.now }
-    requires pair { 2 * i < length page.now.items }
-    ensures { result ≡ is_wrong_item (file_of forest.now) page.now (2 * i) }
+    requires item { i < length page.now.items }
+    ensures { result ≡ is_wrong_item (file_of forest.now) page.now i }
 {
-    hash_item_tells_wrong(forest, &page.key(i))
-}
-
-/// Whether data of a hash page do.
-#[tactic(auto, using(crate::proofs::ContentLemmas::hash_item_fits, crate::proofs::LengthLemmas::item_is_wrong))]
-fn is_wrong_hash_value(forest: &Forest<'_>, number: u32, page: &HashView<'_>, i: u16) -> bool
-    requires forest { IsForest forest.now }
-    requires there { number ≤ (file_of forest.now).last }
-    requires page { page_at (file_of forest.now) number ≡ Hash page.now }
-    requires pair { 2 * i + 1 < length page.now.items }
-    ensures { result ≡ is_wrong_item (file_of forest.now) page.now (2 * i + 1) }
-{
-    hash_item_tells_wrong(forest, &page.value(i))
+    tells_wrong(forest, &page.item(i).content())
 }
 
 /// Whether some item of a hash page does.
-fn pairs_have_wrong(forest: &Forest<'_>, number: u32, page: &HashView<'_>) -> bool
+fn hash_items_have_wrong(forest: &Forest<'_>, number: u32, page: &HashView<'_>) -> bool
     requires forest { IsForest forest.now }
     requires there { number ≤ (file_of forest.now).last }
     requires page { page_at (file_of forest.now) number ≡ Hash page.now }
     ensures { result ≡ has_wrong (file_of forest.now) (Hash page.now) }
 {
-    for i in 0..page.pairs() {
-        if is_wrong_hash_key(forest, number, page, i)
-            || is_wrong_hash_value(forest, number, page, i)
-        {
+    for i in 0..page.entries() {
+        if is_wrong_hash_item(forest, number, page, i) {
             return true;
         }
     }
@@ -186,7 +150,7 @@ fn is_wrong_leaf_key(forest: &Forest<'_>, number: u32, page: &LeafView<'_>, i: u
     requires pair { 2 * i < length page.now.items }
     ensures { result ≡ is_wrong_entry (file_of forest.now) page.now (2 * i) }
 {
-    !page.shares(i) && tells_wrong(forest, &page.key(i))
+    !page.shares(i) && tells_wrong(forest, &page.key(i).content())
 }
 
 /// Whether the data of a pair of a btree leaf do.
@@ -198,7 +162,7 @@ fn is_wrong_leaf_value(forest: &Forest<'_>, number: u32, page: &LeafView<'_>, i:
     requires pair { 2 * i + 1 < length page.now.items }
     ensures { result ≡ is_wrong_entry (file_of forest.now) page.now (2 * i + 1) }
 {
-    tells_wrong(forest, &page.value(i))
+    tells_wrong(forest, &page.value(i).content())
 }
 
 /// Whether some item of a btree leaf does.
@@ -225,7 +189,7 @@ fn has_wrong(forest: &Forest<'_>, number: u32) -> bool
     ensures { result ≡ has_wrong (file_of forest.now) (page_at (file_of forest.now) number) }
 {
     match forest.page(number) {
-        PageView::Hash(page) => pairs_have_wrong(forest, number, &page),
+        PageView::Hash(page) => hash_items_have_wrong(forest, number, &page),
         PageView::Internal(page) => keys_have_wrong(forest, number, &page),
         PageView::Leaf(page) => leaf_has_wrong(forest, number, &page),
         PageView::RecnoLeaf(page) => records_have_wrong(forest, number, &page),
@@ -259,9 +223,15 @@ fn check_pages(forest: &Forest<'_>) -> Result<(), Fault>
 
 /// Each chain has the length that the items which name it tell. A refusal is the first fault: the least
 /// page of which an item tells another. No memory is taken.
+#[tactic(auto, using(crate::proofs::UnchainedLemmas::no_chains))]
 pub fn check_chains(linked: &Linked<'_>) -> Result<(), Fault>
     ensures accepted { OnOk result (chain_faults (file_of linked.now) ≡ []) }
     ensures refusal { IfErr result (λ fault. first_fault (chain_faults (file_of linked.now)) ≡ Some fault) }
 {
-    check_pages(&linked.forest())
+    let forest = linked.forest();
+    // Most files have no chain, and then no item needs another look.
+    if !forest.has_chains() {
+        return Ok(());
+    }
+    check_pages(&forest)
 }

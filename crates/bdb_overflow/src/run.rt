@@ -74,9 +74,13 @@ fn compare_runs(mut a: Run<'_>, mut b: Run<'_>) -> Ordering
     }
 }
 
-/// The order of two values: bytewise, a proper prefix is less. Pieces are compared where they lie.
+/// The order of two values: bytewise, a proper prefix is less. Pieces are compared where they lie; bytes of
+/// pages, which most keys are, at once.
 pub fn compare_datum(a: &Datum<'_>, b: &Datum<'_>) -> Ordering
     ensures { OrderingIs result (datum_seen a.now) (datum_seen b.now) }
 {
-    compare_runs(Run::of(a), Run::of(b))
+    match (a, b) {
+        (Datum::Inline(a), Datum::Inline(b)) => compare(a, b),
+        _ => compare_runs(Run::of(a), Run::of(b)),
+    }
 }

@@ -1,15 +1,19 @@
 -- A page that takes an item goes on to take items.
-use Rattle.std.proofs.Common.{◌≡◌, ◌⊎◌, ℕ, ◌+◌, ◌-◌, ◌<◌, ◌≤◌, true, cond, List, length, drop, None, arith, sym, ◌∙◌, ap, subst, inl, inr}
+use Rattle.std.proofs.Common.{◌≡◌, ◌⊎◌, ℕ, ◌+◌, ◌-◌, ◌<◌, ◌≤◌, true, cond, List, [], length, drop, None, arith, sym, ◌∙◌, ap, subst, inl, inr}
 use Rattle.std.proofs.lemmas.Bool.{cases_order, eqb-true}
 use Rattle.bdb_format.specs.declared.kinds.Order.{Order}
 use Rattle.bdb_format.specs.HeadOf.{is_page_size}
 use Rattle.bdb_format.specs.Numbers.{byte_at, pad4}
 use Rattle.bdb_format.specs.Reading.{entries_of, hash_end, index_end, offset_of, page_type}
 use Rattle.bdb_format.specs.Rows.{item_row}
+use Rattle.std.proofs.lemmas.List.{get_or-set_same}
+use Rattle.bdb_grove.proofs.GroveLemmas.{above}
+use Rattle.bdb_pack.specs.Built.{Built, bytes_of, with_page}
+use Rattle.bdb_pack.specs.OnPages.{HasPlaceOn, HasRoomOn, IsBegunOn, holds_on, with_item_on}
 use Rattle.bdb_pack.specs.Items.{HasPlace, IsWritable, OnHash, OnInternal, OnLeaf, OnRecno, PageItem, extent, holds_item, is_hash_type, item_bytes, takes_items}
 use Rattle.bdb_pack.specs.Placing.{BegunStays, IsBegun, high_free_of, page_and_item, place_below}
 use Rattle.bdb_pack.proofs.KeptLemmas.{IsKept, rows_same}
-use Rattle.bdb_pack.proofs.NewRowLemmas.{IsNew, hash_least, hash_row_none, internal_row_none, leaf_row_none, not_below, recno_row_none}
+use Rattle.bdb_pack.proofs.NewRowLemmas.{IsNew, hash_least, hash_row_none, internal_row_none, leaf_row_none, recno_row_none}
 use Rattle.bdb_pack.proofs.OpenLemmas.{open_is}
 use Rattle.bdb_pack.proofs.PlacedLemmas.{IsEntered, IsPlaced, extent-le, is_below}
 use Rattle.bdb_pack.proofs.RowsLemmas.{least_is_last}
@@ -31,8 +35,8 @@ still_none order page new at high i begun is body end low =
       low = up;
       offset = is.index i low;
       before = is.index (i - 1) (omega (arith, low));
-      now = not_below (offset_of order page i) (index_end order new) (omega (arith, up, end));
-      once = not_below (offset_of order page i) (index_end order page) (omega (arith, up, room));
+      now = above (offset_of order page i) (index_end order new) (omega (arith, up, end));
+      once = above (offset_of order page i) (index_end order page) (omega (arith, up, room));
     } in
     ap (λ b. item_row (page_type b) order new i) is.type ∙ (rows_same order page new i (page_type (byte_at page 25)) kept ∙ begun.items i low)
 
@@ -40,7 +44,8 @@ still_none order page new at high i begun is body end low =
 new_none : (order : Order) (page new : List ℕ) (index at : ℕ) (item : PageItem) (rest : List ℕ) → byte_at new 25 ≡ byte_at page 25
     → holds_item (byte_at page 25) item ≡ true → IsWritable item
     → HasPlace (byte_at page 25) index item → IsNew order new index at (item_bytes order item) rest
-    → (is_hash_type (byte_at page 25) ≡ true → (hash_end order new index ≡ at + length (item_bytes order item)) × (0 < index → at + length (item_bytes order item) ≤ offset_of order new (index - 1)))
+    → (is_hash_type (byte_at page 25) ≡ true → (hash_end order new index ≡ at + length (item_bytes order item))
+    × (0 < index → at + length (item_bytes order item) ≤ offset_of order new (index - 1)))
     → item_row (page_type (byte_at page 25)) order new index ≡ None
 new_none order page new index at (OnLeaf item) rest type holds fits place is ends =
     let none = leaf_row_none order new index at item rest is fits (subst (λ b. HasPlace b index (OnLeaf item)) (sym type) place) in
@@ -106,3 +111,17 @@ begun_stays order page item begun holds fits place room =
     record { here = is.here; offset = is.entry.last; end = end; room = omega (arith, is.entry.long, room) } in
     grown_stays order page new at at begun is.entry is.body end (omega arith) (omega arith) (n, (omega (arith, is.entry.entries)), is.entry.last)
     (ap (λ b. item_row (page_type b) order new n) is.entry.type ∙ new_none order page new n at item _ is.entry.type holds fits place fresh ends)
+
+-- Pages among others.
+
+-- a page that is written over by a begun one
+pub begun_on : (built : Built) (p : ℕ) (page : List ℕ) → p < length built.pages → IsBegun built.order page → IsBegunOn (with_page built p page) p
+begun_on built p page low begun = subst (IsBegun built.order) (sym (get_or-set_same built.pages p page [] low)) begun
+
+-- a page that takes an item in its place
+pub begun_with : (built : Built) (p : ℕ) (item : PageItem) → p < length built.pages → IsBegunOn built p → holds_on built p item ≡ true
+    → IsWritable item → HasPlaceOn built p item → HasRoomOn built p (item_bytes built.order item)
+    → IsBegunOn (with_item_on built p (item_bytes built.order item)) p
+begun_with built p item low begun holds fits place room =
+    begun_on built p (page_and_item built.order (bytes_of built p) (item_bytes built.order item)) low
+    (begun_stays built.order (bytes_of built p) item begun holds fits place room)

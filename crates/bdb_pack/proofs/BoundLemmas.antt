@@ -46,7 +46,8 @@ hash_bound : (order : Order) (page : List ℕ) (i : ℕ) → item_row HashPage o
 unfolding hash_rows
 hash_bound order page i none =
     let both =
-    first_two (nat_lt (offset_of order page i) (index_end order page)) (nat_le (length page) (offset_of order page i)) (does_not_fall order page i) (none_of_three _ _ _ none).0 in
+    first_two (nat_lt (offset_of order page i) (index_end order page)) (nat_le (length page) (offset_of order page i)) (does_not_fall order page i)
+    (none_of_three _ _ _ none).0 in
     record { low = at_least _ _ both.0; high = above _ _ both.1 }
 
 leaf_bound : (order : Order) (page : List ℕ) (i : ℕ) → item_row LeafPage order page i ≡ None → Bound order page (offset_of order page i)

@@ -73,18 +73,22 @@ cut_set size (suc n) bytes page (suc p) whole long low =
   where
     front : (a k : ℕ) (bs piece : List ℕ) → a ≤ length bs → take a (overwritten bs (a + k) piece) ≡ take a bs
     front a k bs piece room =
-        take-append-le a (take (a + k) bs) (piece ++ drop (a + k + length piece) bs) (let e : length (take (a + k) bs) ≡ min (a + k) (length bs) = length-take (a + k) bs in omega (arith, room, e))
+        take-append-le a (take (a + k) bs) (piece ++ drop (a + k + length piece) bs)
+        (let e : length (take (a + k) bs) ≡ min (a + k) (length bs) = length-take (a + k) bs in omega (arith, room, e))
         ∙ take-take a (a + k) bs (omega arith)
 
     back : (a k : ℕ) (bs piece : List ℕ) → a ≤ length bs → drop a (overwritten bs (a + k) piece) ≡ overwritten (drop a bs) k piece
     back a k bs piece room =
-        drop-append-le a (take (a + k) bs) (piece ++ drop (a + k + length piece) bs) (let e : length (take (a + k) bs) ≡ min (a + k) (length bs) = length-take (a + k) bs in omega (arith, room, e))
+        drop-append-le a (take (a + k) bs) (piece ++ drop (a + k + length piece) bs)
+        (let e : length (take (a + k) bs) ≡ min (a + k) (length bs) = length-take (a + k) bs in omega (arith, room, e))
         ∙ (ap (λ xs. xs ++ (piece ++ drop (a + k + length piece) bs)) (drop-take a k bs)
-        ∙ ap (λ xs. take k (drop a bs) ++ (piece ++ xs)) (let e : a + k + length piece ≡ a + (k + length piece) = omega arith in ap (λ n. drop n bs) e ∙ sym (drop-drop (k + length piece) a bs)))
+        ∙ ap (λ xs. take k (drop a bs) ++ (piece ++ xs))
+        (let e : a + k + length piece ≡ a + (k + length piece) = omega arith in ap (λ n. drop n bs) e ∙ sym (drop-drop (k + length piece) a bs)))
 
 -- what is written from the beginning of a page on
 pub lent : (size count : ℕ) (bytes : List ℕ) (at : ℕ) (piece : List ℕ) → length bytes ≡ count * size
-    → cut size count (take at bytes ++ (piece ++ drop (length piece) (drop at bytes))) ≡ cut size (length (cut size count bytes)) (overwritten (joined_pages (cut size count bytes)) at piece)
+    → cut size count (take at bytes ++ (piece ++ drop (length piece) (drop at bytes)))
+    ≡ cut size (length (cut size count bytes)) (overwritten (joined_pages (cut size count bytes)) at piece)
 lent size count bytes at piece whole =
     ap (λ xs. cut size count (take at bytes ++ (piece ++ xs))) (drop-drop (length piece) at bytes)
     ∙ (ap (λ n. cut size n (overwritten bytes at piece)) (sym (length_cut size count bytes))
@@ -110,7 +114,14 @@ kept size count bytes written whole long =
 
 pub long_enough : (bytes piece : List ℕ) (at : ℕ) → length bytes ≤ length (take at bytes ++ (piece ++ drop (length piece) (drop at bytes)))
 long_enough bytes piece at =
-    omega (arith, length-append (take at bytes) (piece ++ drop (length piece) (drop at bytes)), length-append piece (drop (length piece) (drop at bytes)), length-take at bytes, length-drop at bytes, length-drop (length piece) (drop at bytes))
+    omega (
+      arith,
+      length-append (take at bytes) (piece ++ drop (length piece) (drop at bytes)),
+      length-append piece (drop (length piece) (drop at bytes)),
+      length-take at bytes,
+      length-drop at bytes,
+      length-drop (length piece) (drop at bytes),
+    )
 
 -- the bytes written over one page are that page
 pub written_page : (size count : ℕ) (order : Order) (bytes : List ℕ) (p : ℕ) (page : List ℕ) → length bytes ≡ count * size → p < count → length page ≡ size
@@ -151,5 +162,6 @@ pub zeros_whole : (built : Built) → AreWhole built → AreWhole (with_zeros bu
 zeros_whole built whole p low =
     elim (cases_lt p (length built.pages)) [
       | inl below ↦ ap length (get_or_append_left built.pages (replicate built.size 0 ∷ []) [] p below) ∙ whole p below
-      | inr over ↦ ap length (get_or_push built.pages (replicate built.size 0) [] p (omega (arith, over, low, length-append built.pages (replicate built.size 0 ∷ [])))) ∙ length-replicate built.size 0
+      | inr over ↦ ap length (get_or_push built.pages (replicate built.size 0) [] p
+          (omega (arith, over, low, length-append built.pages (replicate built.size 0 ∷ [])))) ∙ length-replicate built.size 0
     ]

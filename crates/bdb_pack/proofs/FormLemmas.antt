@@ -9,8 +9,8 @@ use Rattle.bdb_format.specs.Reading.{entries_of, index_end, is_zero, page_type}
 use Rattle.bdb_format.specs.Rows.{body_code, code_of, identity_rows, index_rows, is_tree_type, is_wrong_entry_count, is_wrong_level, item_row, page_code}
 use Rattle.bdb_format.specs.Table.{first_row, lesser}
 use Rattle.bdb_format.proofs.ItemLemmas.{items_next, least_below, least_items}
+use Rattle.bdb_grove.proofs.GroveLemmas.{above}
 use Rattle.bdb_pack.specs.Placing.{BegunIsFormed}
-use Rattle.bdb_pack.proofs.NewRowLemmas.{not_below}
 use Rattle.bdb_pack.proofs.OpenLemmas.{open_is}
 use Rattle.bdb_pack.proofs.StandingLemmas.{not_zero}
 use Rattle.bdb_pack.proofs.TypeLemmas.{Takes, takes}
@@ -23,7 +23,7 @@ index_none : (order : Order) (page : List ℕ) (t : PageType) → index_end orde
     → is_wrong_entry_count t (entries_of order page) ≡ false
     → first_row (index_rows order page t) ≡ None
 unfolding index_rows
-index_none order page t room level entries = rw (not_below (length page) (index_end order page) room, level, entries) refl
+index_none order page t room level entries = rw (above (length page) (index_end order page) room, level, entries) refl
 
 pub code_none : (order : Order) (number : ℕ) (page : List ℕ) → is_zero page ≡ false → first_row (identity_rows order page number is_tree_type) ≡ None
     → body_code order page (page_type (byte_at page 25)) ≡ None

@@ -6,7 +6,7 @@ use Rattle.bdb_format.specs.declared.kinds.Order.{Order}
 use Rattle.bdb_format.specs.declared.pages.Header.{Header}
 use Rattle.bdb_format.specs.HeadOf.{is_page_size}
 use Rattle.bdb_format.specs.Numbers.{byte_at, number_at, spelled, two_at}
-use Rattle.bdb_format.specs.Page.{DupLeaf, Hash, Internal, Leaf, Listed, RecnoInternal, RecnoLeaf}
+use Rattle.bdb_format.specs.Page.{DupLeaf, Hash, Internal, Leaf, RecnoInternal, RecnoLeaf}
 use Rattle.bdb_format.specs.Reading.{entries_of, header_of, listed, offset_of, page_as, page_type}
 use Rattle.bdb_format.specs.Spelling.{header_bytes, lsn_bytes}
 use Rattle.bdb_format.proofs.SpellingLemmas.{length-overwritten, length-spelled, number_at-first}
@@ -14,7 +14,7 @@ use Rattle.bdb_format.proofs.TurnLemmas.{byte_at_past, number_at_past}
 use Rattle.bdb_pack.specs.Items.{takes_items}
 use Rattle.bdb_pack.specs.Placing.{BegunPagesTakeItems, begun_header, begun_page, empty_listed, empty_page}
 use Rattle.bdb_graph.proofs.FormedLemmas.{size_bounds}
-use Rattle.bdb_pack.proofs.StandingLemmas.{typed}
+use Rattle.bdb_pack.proofs.StandingLemmas.{listing, typed}
 use Rattle.bdb_pack.proofs.TypeLemmas.{Takes, by_type, takes}
 
 pub length-header : (order : Order) (header : Header) → length (header_bytes order header) ≡ 26
@@ -60,7 +60,8 @@ header_read order h rest fits =
     ∙ (ap (λ xs. spelled 4 order h.previous ++ xs) (append_assoc (spelled 4 order h.next) _ rest
     ∙ (ap (λ xs. spelled 4 order h.next ++ xs) (append_assoc (spelled 2 order h.entries) _ rest
     ∙ (ap (λ xs. spelled 2 order h.entries ++ xs) (append_assoc (spelled 2 order h.high_free) _ rest)))))))))) in
-    let e1 : number_at 4 order page 8 ≡ h.number = number_at_past 4 order (lsn_bytes order) t5 8 8 0 lsn refl ∙ number_at-first 4 order h.number t4 fits.number in
+    let e1 : number_at 4 order page 8 ≡ h.number =
+    number_at_past 4 order (lsn_bytes order) t5 8 8 0 lsn refl ∙ number_at-first 4 order h.number t4 fits.number in
     let e2 : number_at 4 order page 12 ≡ h.previous =
     number_at_past 4 order (lsn_bytes order) t5 8 12 4 lsn refl
     ∙ (number_at_past 4 order (spelled 4 order h.number) t4 4 4 0 (s 4 h.number) refl ∙ number_at-first 4 order h.previous t3 fits.previous) in
@@ -69,16 +70,20 @@ header_read order h rest fits =
     ∙ (number_at_past 4 order (spelled 4 order h.previous) t3 4 4 0 (s 4 h.previous) refl ∙ number_at-first 4 order h.next t2 fits.next)) in
     let e4 : number_at 2 order page 20 ≡ h.entries =
     number_at_past 2 order (lsn_bytes order) t5 8 20 12 lsn refl ∙ (number_at_past 2 order (spelled 4 order h.number) t4 4 12 8 (s 4 h.number) refl
-    ∙ (number_at_past 2 order (spelled 4 order h.previous) t3 4 8 4 (s 4 h.previous) refl ∙ (number_at_past 2 order (spelled 4 order h.next) t2 4 4 0 (s 4 h.next) refl ∙ number_at-first 2 order h.entries t1 fits.entries))) in
+    ∙ (number_at_past 2 order (spelled 4 order h.previous) t3 4 8 4 (s 4 h.previous) refl
+    ∙ (number_at_past 2 order (spelled 4 order h.next) t2 4 4 0 (s 4 h.next) refl ∙ number_at-first 2 order h.entries t1 fits.entries))) in
     let e5 : number_at 2 order page 22 ≡ h.high_free =
     number_at_past 2 order (lsn_bytes order) t5 8 22 14 lsn refl ∙ (number_at_past 2 order (spelled 4 order h.number) t4 4 14 10 (s 4 h.number) refl
-    ∙ (number_at_past 2 order (spelled 4 order h.previous) t3 4 10 6 (s 4 h.previous) refl ∙ (number_at_past 2 order (spelled 4 order h.next) t2 4 6 2 (s 4 h.next) refl
+    ∙ (number_at_past 2 order (spelled 4 order h.previous) t3 4 10 6 (s 4 h.previous) refl
+    ∙ (number_at_past 2 order (spelled 4 order h.next) t2 4 6 2 (s 4 h.next) refl
     ∙ (number_at_past 2 order (spelled 2 order h.entries) t1 2 2 0 (s 2 h.entries) refl ∙ number_at-first 2 order h.high_free t0 fits.high)))) in
     let past : (at : ℕ) → byte_at page (24 + at) ≡ byte_at t0 at =
     λ at. byte_at_past (lsn_bytes order) t5 8 (24 + at) (16 + at) lsn (omega arith)
     ∙ (byte_at_past (spelled 4 order h.number) t4 4 (16 + at) (12 + at) (s 4 h.number) (omega arith)
-    ∙ (byte_at_past (spelled 4 order h.previous) t3 4 (12 + at) (8 + at) (s 4 h.previous) (omega arith) ∙ (byte_at_past (spelled 4 order h.next) t2 4 (8 + at) (4 + at) (s 4 h.next) (omega arith)
-    ∙ (byte_at_past (spelled 2 order h.entries) t1 2 (4 + at) (2 + at) (s 2 h.entries) (omega arith) ∙ byte_at_past (spelled 2 order h.high_free) t0 2 (2 + at) at (s 2 h.high_free) (omega arith))))) in
+    ∙ (byte_at_past (spelled 4 order h.previous) t3 4 (12 + at) (8 + at) (s 4 h.previous) (omega arith)
+    ∙ (byte_at_past (spelled 4 order h.next) t2 4 (8 + at) (4 + at) (s 4 h.next) (omega arith)
+    ∙ (byte_at_past (spelled 2 order h.entries) t1 2 (4 + at) (2 + at) (s 2 h.entries) (omega arith)
+    ∙ byte_at_past (spelled 2 order h.high_free) t0 2 (2 + at) at (s 2 h.high_free) (omega arith))))) in
     let e6 : byte_at page 24 ≡ h.level = past 0 in
     let e7 : byte_at page 25 ≡ h.page_type = past 1 in
     ap (header_of order) whole ∙ rw (e1, e2, e3, e4, e5, e6, e7) refl
@@ -89,8 +94,8 @@ listed_none : {I : Type 0} (order : Order) (page : List ℕ) (item_at : ℕ → 
     → listed order page item_at ≡ empty_listed header
 unfolding listed
 listed_none {I} order page item_at header is none =
-    ap (λ n. let l : Listed I = record { header = header_of order page; offsets = map (offset_of order page) (range_with_len 0 n); items = map item_at (range_with_len 0 n) } in l) none
-    ∙ ap (λ h. let l : Listed I = record { header = h; offsets = []; items = [] } in l) is
+    ap (λ n. listing (header_of order page) (map (offset_of order page) (range_with_len 0 n)) (map item_at (range_with_len 0 n))) none
+    ∙ ap (λ h. listing h [] (map item_at [])) is
 
 pub begun_pages_take_items : BegunPagesTakeItems
 begun_pages_take_items order page header legal kind fits =
@@ -103,7 +108,8 @@ begun_pages_take_items order page header legal kind fits =
     let written : length bytes ≡ 26 = length-header order h in
     let long : length new ≡ length page = length-overwritten page 0 bytes (omega (arith, least, written)) in
     let is : header_of order new ≡ h =
-    header_read order h (drop (0 + length bytes) page) (record { number = fits.number; previous = fits.previous; next = fits.next; entries = omega arith; high = omega (arith, most) }) in
+    header_read order h (drop (0 + length bytes) page)
+    (record { number = fits.number; previous = fits.previous; next = fits.next; entries = omega arith; high = omega (arith, most) }) in
     let none : entries_of order new ≡ 0 = ap (λ (x : Header). x.entries) is in
     let high : two_at order new 22 ≡ length page = ap (λ (x : Header). x.high_free) is in
     let type : byte_at new 25 ≡ header.page_type = ap (λ (x : Header). x.page_type) is in

@@ -14,13 +14,11 @@ use Rattle.bdb_format.specs.Rows.{hash_rows, internal_rows, is_hash_kind, is_lea
 use Rattle.bdb_format.specs.Spelling.{IsHashContent, IsKey, IsLeafContent, block_bytes, hash_bytes, internal_bytes, kind_byte, leaf_bytes, recno_bytes, zeros}
 use Rattle.bdb_format.proofs.SpellingLemmas.{byte_at-in, length-spelled, number_at-in, slice_range-in}
 use Rattle.bdb_layout.proofs.WritingLemmas.{length-hash_chain, length-hash_tree, length-internal_chain, length-internal_inline, length-leaf_chain, length-leaf_tree}
+use Rattle.bdb_grove.proofs.GroveLemmas.{above}
 use Rattle.bdb_pack.specs.Items.{IsHashPlace, IsLeafPlace}
 use Rattle.bdb_pack.proofs.OpenLemmas.{length-recno}
 use Rattle.bdb_pack.proofs.RowsLemmas.{three_none}
 use Rattle.bdb_pack.proofs.StandingLemmas.{hash_here}
-
-pub not_below : (more target : ℕ) → target ≤ more → nat_lt more target ≡ false
-not_below more target low = grind arith
 
 -- an item that was placed
 pub record IsNew (order : Order) (new : List ℕ) (index at : ℕ) (piece rest : List ℕ) : Type 0 where
@@ -94,9 +92,10 @@ leaf_row_none order new index at item rest is fits place =
     let end = is.end in
     let room = is.room in
     let offset : (nat_lt at (index_end order new) || nat_lt (length new) (at + 3)) ≡ false =
-    or_from (nat_lt at (index_end order new)) (nat_lt (length new) (at + 3)) (not_below at (index_end order new) end) (not_below (length new) (at + 3) (omega (arith, least, room))) in
+    or_from (nat_lt at (index_end order new)) (nat_lt (length new) (at + 3)) (above at (index_end order new) end)
+    (above (length new) (at + 3) (omega (arith, least, room))) in
     let kind : not (is_leaf_kind (byte_at new 25) index (kind_at new at)) ≡ false = ap not says.kind in
-    let extent : nat_lt (length new) (leaf_end order new at) ≡ false = not_below (length new) (leaf_end order new at) (omega (arith, says.end, room)) in
+    let extent : nat_lt (length new) (leaf_end order new at) ≡ false = above (length new) (leaf_end order new at) (omega (arith, says.end, room)) in
     rw is.offset (three_none _ _ _ offset kind extent)
 
 -- Internal pages.
@@ -121,9 +120,10 @@ internal_tests : (order : Order) (new : List ℕ) (index at kind n : ℕ) → of
 unfolding internal_rows
 internal_tests order new index at kind n offset says right twelve end room =
     let first : (nat_lt at (index_end order new) || nat_lt (length new) (at + 12)) ≡ false =
-    or_from (nat_lt at (index_end order new)) (nat_lt (length new) (at + 12)) (not_below at (index_end order new) end) (not_below (length new) (at + 12) (omega (arith, room))) in
+    or_from (nat_lt at (index_end order new)) (nat_lt (length new) (at + 12)) (above at (index_end order new) end)
+    (above (length new) (at + 12) (omega (arith, room))) in
     let third : (nat_lt (length new) (at + 12 + n) || (kind == 3 && not (n == 12))) ≡ false =
-    or_from (nat_lt (length new) (at + 12 + n)) (kind == 3 && not (n == 12)) (not_below (length new) (at + 12 + n) room) twelve in
+    or_from (nat_lt (length new) (at + 12 + n)) (kind == 3 && not (n == 12)) (above (length new) (at + 12 + n) room) twelve in
     rw (offset, says.kind_is, says.size) (three_none _ _ _ first (ap not right) third)
 
 pub internal_row_none : (order : Order) (new : List ℕ) (index at child count : ℕ) (key : Content) (rest : List ℕ)
@@ -136,7 +136,8 @@ internal_row_none order new index at child count (Inline key) rest is fits =
     let here : drop at new ≡ spelled 2 order (length key) ++ (1 ∷ (0 ∷ ((names ++ key) ++ rest))) =
     is.here ∙ append_assoc (spelled 2 order (length key)) (1 ∷ 0 ∷ (names ++ key)) rest in
     let room = is.room in
-    internal_tests order new index at 1 (length key) is.offset (says_key order new at 1 (length key) _ (omega arith) (omega (arith, fits)) here) refl refl is.end (omega (arith, room, long))
+    internal_tests order new index at 1 (length key) is.offset (says_key order new at 1 (length key) _ (omega arith) (omega (arith, fits)) here)
+    refl refl is.end (omega (arith, room, long))
 internal_row_none order new index at child count (Chain head total) rest is fits =
     let long = length-internal_chain order child count head total in
     let names : List ℕ = spelled 4 order child ++ spelled 4 order count in
@@ -144,7 +145,8 @@ internal_row_none order new index at child count (Chain head total) rest is fits
     let here : drop at new ≡ spelled 2 order 12 ++ (3 ∷ (0 ∷ ((names ++ chain) ++ rest))) =
     is.here ∙ append_assoc (spelled 2 order 12) (3 ∷ 0 ∷ (names ++ chain)) rest in
     let room = is.room in
-    internal_tests order new index at 3 12 is.offset (says_key order new at 3 12 _ (omega arith) (omega arith) here) refl refl is.end (omega (arith, room, long))
+    internal_tests order new index at 3 12 is.offset (says_key order new at 3 12 _ (omega arith) (omega arith) here) refl refl is.end
+    (omega (arith, room, long))
 internal_row_none order new index at child count (Set blocks) rest is fits = absurd fits
 internal_row_none order new index at child count (Tree root) rest is fits = absurd fits
 internal_row_none order new index at child count Unknown rest is fits = absurd fits
@@ -156,7 +158,8 @@ recno_row_none order new index at item rest is =
     let long = length-recno order item in
     let room = is.room in
     let first : (nat_lt at (index_end order new) || nat_lt (length new) (at + 8)) ≡ false =
-    or_from (nat_lt at (index_end order new)) (nat_lt (length new) (at + 8)) (not_below at (index_end order new) is.end) (not_below (length new) (at + 8) (omega (arith, room, long))) in
+    or_from (nat_lt at (index_end order new)) (nat_lt (length new) (at + 8)) (above at (index_end order new) is.end)
+    (above (length new) (at + 8) (omega (arith, room, long))) in
     rw is.offset (rw first refl)
 
 -- Hash pages.
@@ -177,7 +180,8 @@ not_at_least a b low = grind arith
 not_fallen : (order : Order) (new : List ℕ) (index at : ℕ) → (0 < index → at < offset_of order new (index - 1))
     → (not (index == 0) && nat_le (offset_of order new (index - 1)) at) ≡ false
 not_fallen order new zero at apart = refl
-not_fallen order new (suc k) at apart = and_false (not (suc k == 0)) (nat_le (offset_of order new (suc k - 1)) at) (not_at_least (offset_of order new (suc k - 1)) at (apart (omega arith)))
+not_fallen order new (suc k) at apart =
+    and_false (not (suc k == 0)) (nat_le (offset_of order new (suc k - 1)) at) (not_at_least (offset_of order new (suc k - 1)) at (apart (omega arith)))
 
 -- what the bytes of an item say of its kind, and that it has the extent of its kind
 record SaysHash (order : Order) (new : List ℕ) (index at kind end : ℕ) : Type 0 where
@@ -196,10 +200,11 @@ hash_tests order new index at kind end says offset ends index_ends room apart =
     let some = says.some in
     let first : (nat_lt at (index_end order new) || nat_le (length new) at || (not (index == 0) && nat_le (offset_of order new (index - 1)) at)) ≡ false =
     three_or (nat_lt at (index_end order new)) (nat_le (length new) at) (not (index == 0) && nat_le (offset_of order new (index - 1)) at)
-    (not_below at (index_end order new) index_ends) (not_at_least (length new) at (omega (arith, some, room))) (not_fallen order new index at apart) in
+    (above at (index_end order new) index_ends) (not_at_least (length new) at (omega (arith, some, room))) (not_fallen order new index at apart) in
     let third : misses_extent order new at end kind ≡ false =
-    four_or (nat_lt (length new) end) (kind == 2 && is_none (blocks_of order (slice_range new (at + 1) end))) (kind == 3 && not (end == at + 12)) (kind == 4 && not (end == at + 8))
-    (not_below (length new) end room) says.set says.chain says.root in
+    four_or (nat_lt (length new) end) (kind == 2 && is_none (blocks_of order (slice_range new (at + 1) end))) (kind == 3 && not (end == at + 12))
+    (kind == 4 && not (end == at + 8))
+    (above (length new) end room) says.set says.chain says.root in
     rw (offset, ends, says.is) (three_none _ _ _ first (ap not says.right) third)
 
 no_blocks : (order : Order) → blocks_of order [] ≡ Some []

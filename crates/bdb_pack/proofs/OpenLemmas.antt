@@ -35,12 +35,15 @@ edited size count order bytes built p f page new seen whole low page_is new_is s
     low page_is
 
 -- a page of whole pages has their size
+pub page_size : (size count : ℕ) (order : Order) (bytes : List ℕ) (built : Built) (p : ℕ) (page : List ℕ) → built_of size order count bytes ≡ built
+    → length bytes ≡ count * size → p < length built.pages → page ≡ bytes_of built p → length page ≡ size
+page_size size count order bytes built p page seen whole low page_is =
+    subst (λ (b : Built). (p < length b.pages) → page ≡ bytes_of b p → length page ≡ size) seen
+    (λ below is. ap length is ∙ page_length size count bytes p whole (omega (arith, below, length_cut size count bytes))) low page_is
+
 pub page_bounds : (size count : ℕ) (order : Order) (bytes : List ℕ) (built : Built) (p : ℕ) (page : List ℕ) → built_of size order count bytes ≡ built
     → length bytes ≡ count * size → is_page_size size ≡ true
     → p < length built.pages → page ≡ bytes_of built p → (26 ≤ length page) × (length page ≤ 32768)
 page_bounds size count order bytes built p page seen whole legal low page_is =
-    subst (λ (b : Built). (p < length b.pages) → page ≡ bytes_of b p → (26 ≤ length page) × (length page ≤ 32768)) seen
-    (λ below is.
-    let long : length page ≡ size = ap length is ∙ page_length size count bytes p whole (omega (arith, below, length_cut size count bytes)) in
-    let bounds = size_bounds size legal in (omega (arith, long, bounds.0), omega (arith, long, bounds.1)))
-    low page_is
+    let long = page_size size count order bytes built p page seen whole low page_is in
+    let bounds = size_bounds size legal in (omega (arith, long, bounds.0), omega (arith, long, bounds.1))

@@ -10,17 +10,18 @@ use Rattle.bdb_format.specs.Page.{Overflow}
 use Rattle.bdb_format.specs.Reading.{header_of, page_type}
 use Rattle.bdb_format.specs.Rows.{body_code}
 use Rattle.bdb_format.specs.Spelling.{header_bytes}
+use Rattle.bdb_grove.proofs.GroveLemmas.{above}
 use Rattle.bdb_pack.specs.Values.{ChainPagesAreFormed, chain_page, piece_header, piece_length, piece_next}
 use Rattle.bdb_pack.proofs.FormLemmas.{code_none}
 use Rattle.bdb_pack.proofs.HeaderLemmas.{Fits, header_read, length-header}
-use Rattle.bdb_pack.proofs.NewRowLemmas.{not_below}
 use Rattle.bdb_graph.proofs.FormedLemmas.{size_bounds}
 use Rattle.bdb_pack.proofs.StandingLemmas.{not_zero, typed}
 use Rattle.bdb_pack.proofs.ValueLemmas.{length-chain_page}
 
 -- the bytes of a page of a chain: its header, what it holds of the value, and zeros
 page_parts : (order : Order) (size number previous : ℕ) (rest : List ℕ) → 26 ≤ size
-    → (tail : List ℕ) × (chain_page order size number previous rest ≡ header_bytes order (piece_header number previous (piece_next size number rest) (piece_length size rest)) ++ (take (piece_length size rest) rest ++ tail))
+    → (tail : List ℕ) × (chain_page order size number previous rest
+    ≡ header_bytes order (piece_header number previous (piece_next size number rest) (piece_length size rest)) ++ (take (piece_length size rest) rest ++ tail))
 page_parts order size number previous rest room =
     let hb : List ℕ = header_bytes order (piece_header number previous (piece_next size number rest) (piece_length size rest)) in
     let first : List ℕ = overwritten (replicate size 0) 0 hb in
@@ -51,9 +52,10 @@ chain_pages_are_formed order size number previous rest legal low before =
     let enough : 25 < length page = omega (arith, size_is, bounds.0) in
     let numbered : not (four_at order page 8 == number) ≡ false = ap not (eq-eqb (four_at order page 8) number own) in
     let room : nat_lt (length page) (26 + two_at order page 22) ≡ false =
-    not_below (length page) (26 + two_at order page 22) (omega (arith, high, size_is, bounds.0)) in (
+    above (length page) (26 + two_at order page 22) (omega (arith, high, size_is, bounds.0)) in (
       typed order page 7 enough refl seven ∙ (ap (λ x. Overflow x (take (two_at order page 22) (drop 26 page))) header ∙ ap (Overflow h) body),
-      code_none order number page (not_zero page enough (ap (λ b. b == 0) seven)) (rw (numbered, seven) refl) (ap (λ b. body_code order page (page_type b)) seven ∙ (rw room refl)),
+      code_none order number page (not_zero page enough (ap (λ b. b == 0) seven)) (rw (numbered, seven) refl)
+          (ap (λ b. body_code order page (page_type b)) seven ∙ (rw room refl)),
     )
   where
     next_fits : (b : Bool) (number : ℕ) → number + 1 < 2 ^ 32 → cond b (number + 1) 0 < 2 ^ 32

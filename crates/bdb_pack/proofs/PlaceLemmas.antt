@@ -54,7 +54,8 @@ pub number_same : (n : ℕ) (order : Order) (a b : List ℕ) (h x : ℕ) → dro
 number_same n order a b h x same low =
     let e : x ≡ h + (x - h) = omega (arith, low) in
     ap (number_at n order a) e
-    ∙ (number_at-from n order a h (x - h) ∙ (ap (λ bs. number_at n order bs (x - h)) same ∙ (sym (number_at-from n order b h (x - h)) ∙ ap (number_at n order b) (sym e))))
+    ∙ (number_at-from n order a h (x - h)
+    ∙ (ap (λ bs. number_at n order bs (x - h)) same ∙ (sym (number_at-from n order b h (x - h)) ∙ ap (number_at n order b) (sym e))))
 
 pub byte_same : (a b : List ℕ) (h x : ℕ) → drop h a ≡ drop h b → h ≤ x → byte_at a x ≡ byte_at b x
 byte_same a b h x same low =

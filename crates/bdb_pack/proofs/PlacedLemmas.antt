@@ -20,7 +20,8 @@ pub record IsEntered (order : Order) (page new : List ℕ) (at high : ℕ) : Typ
   pub last : offset_of order new (entries_of order page) ≡ at
 
 pub is_entered : (order : Order) (page : List ℕ) (at high : ℕ) → IsOpen order page → index_end order page + 2 ≤ length page → at < 65536 → high < 65536
-    → IsEntered order page (entered order page at high) at high × (drop (index_end order page + 2) (entered order page at high) ≡ drop (index_end order page + 2) page)
+    → IsEntered order page (entered order page at high) at high
+    × (drop (index_end order page + 2) (entered order page at high) ≡ drop (index_end order page + 2) page)
 is_entered order page at high free room fits_at fits_high =
     let n : ℕ = entries_of order page in
     let end : ℕ = index_end order page in

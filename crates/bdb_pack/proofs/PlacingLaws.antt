@@ -37,7 +37,8 @@ leaf_grows order page new at item grown fits =
     let is = grown.is in
     listed_more order page new at at (leaf_item_at order new) (leaf_item_at order page) item is.entry
     (λ k low. leaf_item_same order new page (high_free_of order page) k is.body (is.entry.index k low) (grown.begun.above k low))
-    (leaf_here order new (entries_of order page) at item _ fits (let high = grown.begun.high in let room = grown.room in omega (arith, is.entry.long)) is.here is.entry.last)
+    (leaf_here order new (entries_of order page) at item _ fits (let high = grown.begun.high in let room = grown.room in omega (arith, is.entry.long))
+    is.here is.entry.last)
 
 internal_grows : (order : Order) (page new : List ℕ) (at : ℕ) (item : InternalItem) → Grown order page new at (item_bytes order (OnInternal item))
     → IsWritable (OnInternal item)
@@ -46,7 +47,8 @@ internal_grows order page new at item grown fits =
     let is = grown.is in
     listed_more order page new at at (internal_item_at order new) (internal_item_at order page) item is.entry
     (λ k low. internal_item_same order new page (high_free_of order page) k is.body (is.entry.index k low) (grown.begun.above k low))
-    (internal_here order new (entries_of order page) at item _ fits.0 fits.1 fits.2 (let high = grown.begun.high in let room = grown.room in omega (arith, is.entry.long)) is.here is.entry.last)
+    (internal_here order new (entries_of order page) at item _ fits.0 fits.1 fits.2
+    (let high = grown.begun.high in let room = grown.room in omega (arith, is.entry.long)) is.here is.entry.last)
 
 recno_grows : (order : Order) (page new : List ℕ) (at : ℕ) (item : RecnoItem) → Grown order page new at (item_bytes order (OnRecno item))
     → IsWritable (OnRecno item)
@@ -55,7 +57,8 @@ recno_grows order page new at item grown fits =
     let is = grown.is in
     listed_more order page new at at (recno_item_at order new) (recno_item_at order page) item is.entry
     (λ k low. recno_item_same order new page (high_free_of order page) k is.body (is.entry.index k low) (grown.begun.above k low))
-    (recno_here order new (entries_of order page) at item _ fits.0 fits.1 (let high = grown.begun.high in let room = grown.room in omega (arith, is.entry.long)) is.here is.entry.last)
+    (recno_here order new (entries_of order page) at item _ fits.0 fits.1 (let high = grown.begun.high in let room = grown.room in omega (arith, is.entry.long))
+    is.here is.entry.last)
 
 hash_grows : (order : Order) (page new : List ℕ) (at : ℕ) (content : Content) → Grown order page new at (item_bytes order (OnHash content))
     → IsWritable (OnHash content)
@@ -64,8 +67,10 @@ hash_grows : (order : Order) (page new : List ℕ) (at : ℕ) (content : Content
 hash_grows order page new at content grown fits end =
     let is = grown.is in
     listed_more order page new at at (hash_item_at order new) (hash_item_at order page) (record { content = content; deleted = false }) is.entry
-    (λ k low. hash_item_same order new page (high_free_of order page) k is.body (is.entry.index k low) (end_same order new page k (entries_of order page) is.entry.long is.entry.index (omega (arith, low))) (grown.begun.above k low))
-    (hash_here order new (entries_of order page) at content _ fits (let high = grown.begun.high in let room = grown.room in omega (arith, is.entry.long)) is.here is.entry.last
+    (λ k low. hash_item_same order new page (high_free_of order page) k is.body (is.entry.index k low)
+    (end_same order new page k (entries_of order page) is.entry.long is.entry.index (omega (arith, low))) (grown.begun.above k low))
+    (hash_here order new (entries_of order page) at content _ fits (let high = grown.begun.high in let room = grown.room in omega (arith, is.entry.long))
+    is.here is.entry.last
     (end_same order new page (entries_of order page) (entries_of order page) is.entry.long is.entry.index (omega arith) ∙ end))
 
 leaf_type_placed : (order : Order) (page new : List ℕ) (at : ℕ) (item : Item) → Grown order page new at (item_bytes order (OnLeaf item))
@@ -120,4 +125,6 @@ items_are_placed order page item begun holds fits room =
       room = omega (arith, room);
       long = let least = bounds.least in omega (arith, least);
     } in
-    placed_by order page (page_and_item order page piece) at item grown holds fits (λ hash. let e : extent (byte_at page 25) (length piece) ≡ length piece = ap (λ b. cond b (length piece) (pad4 (length piece))) hash in omega (arith, room, e))
+    placed_by order page (page_and_item order page piece)
+    at item grown holds fits (λ hash. let e : extent (byte_at page 25) (length piece) ≡ length piece =
+    ap (λ b. cond b (length piece) (pad4 (length piece))) hash in omega (arith, room, e))

@@ -39,7 +39,8 @@ falls : (order : Order) (page : List ℕ) (i : ℕ) → item_row HashPage order 
 unfolding hash_rows
 falls order page i none =
     let fall : does_not_fall order page (suc i) ≡ false =
-    third (nat_lt (offset_of order page (suc i)) (index_end order page)) (nat_le (length page) (offset_of order page (suc i))) (does_not_fall order page (suc i)) (none_of_three _ _ _ none).0 in
+    third (nat_lt (offset_of order page (suc i)) (index_end order page)) (nat_le (length page) (offset_of order page (suc i)))
+    (does_not_fall order page (suc i)) (none_of_three _ _ _ none).0 in
     let some : not (suc i == 0) ≡ true = ap not (ne_eqb (suc i) 0 (λ z. omega arith)) in
     let low : nat_le (offset_of order page (suc i - 1)) (offset_of order page (suc i)) ≡ false =
     second_false (not (suc i == 0)) (nat_le (offset_of order page (suc i - 1)) (offset_of order page (suc i))) some fall in

@@ -75,6 +75,8 @@ entries_are_shared order page begun can =
     ∙ (ap (λ rows. option_map item_code (first_row rows)) (rows_again order new n (n - 2) same (even_before n can.even some))
     ∙ (ap (λ b. item_row (page_type b) order new (n - 2)) (sym five_now) ∙ still_none order page new at h (n - 2) begun is body end (omega (arith, some)))) in (
       typed order new 5 (omega (arith, least, is.long)) refl five_now
-          ∙ (ap (λ l. Leaf l) grows ∙ ap (λ p. page_again p at h (leaf_item_at order page (n - 2))) (sym (typed order page 5 (omega (arith, least)) refl can.type))),
-      grown_stays order page new at h begun is body end (omega arith) up (once.0, (let low = once.1 in omega (arith, low, is.entries)), is.index once.0 once.1 ∙ once.2) none,
+          ∙ (ap (λ l. Leaf l) grows ∙ ap (λ p. page_again p at h (leaf_item_at order page (n - 2)))
+          (sym (typed order page 5 (omega (arith, least)) refl can.type))),
+      grown_stays order page new at h begun is body end (omega arith) up
+          (once.0, (let low = once.1 in omega (arith, low, is.entries)), is.index once.0 once.1 ∙ once.2) none,
     )

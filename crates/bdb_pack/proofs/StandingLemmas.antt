@@ -6,6 +6,7 @@ use Rattle.std.proofs.lemmas.Bool.{ne_eqb}
 use Rattle.std.proofs.lemmas.List.{length-take-le, map-append, take-append-drop}
 use Rattle.std.proofs.lemmas.List.Folds.{list_all_at}
 use Rattle.bdb_format.specs.declared.kinds.Order.{Order}
+use Rattle.bdb_format.specs.declared.pages.Header.{Header}
 use Rattle.bdb_format.specs.declared.pages.RecnoItem.{RecnoItem}
 use Rattle.bdb_format.specs.Numbers.{byte_at, four_at, two_at}
 use Rattle.bdb_format.specs.Page.{Chain, Content, Inline, InternalItem, Item, Listed, Tree}
@@ -159,7 +160,8 @@ hash_here order new k at content rest is room here offset end =
 
 map_same : {X : Type 0} (f g : ℕ → X) (a n : ℕ) → ((k : ℕ) → a ≤ k → k < a + n → f k ≡ g k) → map f (range_with_len a n) ≡ map g (range_with_len a n)
 map_same f g a zero same = refl
-map_same f g a (suc n) same = ap (λ x. x ∷ map f (range_with_len (a + 1) n)) (same a (omega arith) (omega arith)) ∙ ap (λ xs. g a ∷ xs) (map_same f g (a + 1) n (λ k low high. same k (omega arith) (omega arith)))
+map_same f g a (suc n) same = ap (λ x. x ∷ map f (range_with_len (a + 1) n)) (same a (omega arith) (omega arith))
+    ∙ ap (λ xs. g a ∷ xs) (map_same f g (a + 1) n (λ k low high. same k (omega arith) (omega arith)))
 
 map_more : {X : Type 0} (f g : ℕ → X) (n : ℕ) (x : X) → ((k : ℕ) → k < n → f k ≡ g k) → f n ≡ x
     → map f (range_with_len 0 (n + 1)) ≡ map g (range_with_len 0 n) ++ (x ∷ [])
@@ -168,6 +170,10 @@ map_more f g n x same last =
     ∙ (map-append f (range_with_len 0 n) ((0 + n) ∷ [])
     ∙ (ap (λ xs. xs ++ (f (0 + n) ∷ [])) (map_same f g 0 n (λ k low high. same k (omega arith)))
     ∙ ap (λ y. map g (range_with_len 0 n) ++ (y ∷ [])) (let e : 0 + n ≡ n = omega arith in ap f e ∙ last)))
+
+-- items with their offsets, under a header
+abbrev pub listing : {I : Type 0} → Header → List ℕ → List I → Listed I
+listing header offsets items = record { header = header; offsets = offsets; items = items }
 
 -- one more entry, whose item is read as this one
 pub listed_more : {I : Type 0} (order : Order) (page new : List ℕ) (at high : ℕ) (read before : ℕ → I) (item : I) → IsEntered order page new at high
@@ -179,10 +185,11 @@ listed_more {I} order page new at high read before item is same here =
     let offsets : map (offset_of order new) (range_with_len 0 (n + 1)) ≡ map (offset_of order page) (range_with_len 0 n) ++ (at ∷ []) =
     map_more (offset_of order new) (offset_of order page) n at is.index is.last in
     let items : map read (range_with_len 0 (n + 1)) ≡ map before (range_with_len 0 n) ++ (item ∷ []) = map_more read before n item same here in
-    ap (λ m. let l : Listed I = record { header = header_of order new; offsets = map (offset_of order new) (range_with_len 0 m); items = map read (range_with_len 0 m) } in l) is.entries
-    ∙ (ap (λ hd. let l : Listed I = record { header = hd; offsets = map (offset_of order new) (range_with_len 0 (n + 1)); items = map read (range_with_len 0 (n + 1)) } in l) (header_entered order page new at high is)
-    ∙ (ap (λ os. let l : Listed I = record { header = with_entry (header_of order page) high; offsets = os; items = map read (range_with_len 0 (n + 1)) } in l) offsets
-    ∙ ap (λ xs. let l : Listed I = record { header = with_entry (header_of order page) high; offsets = map (offset_of order page) (range_with_len 0 n) ++ (at ∷ []); items = xs } in l) items))
+    ap (λ m. listing (header_of order new) (map (offset_of order new) (range_with_len 0 m)) (map read (range_with_len 0 m))) is.entries
+    ∙ (ap (λ hd. listing hd (map (offset_of order new) (range_with_len 0 (n + 1))) (map read (range_with_len 0 (n + 1))))
+    (header_entered order page new at high is)
+    ∙ (ap (λ os. listing (with_entry (header_of order page) high) os (map read (range_with_len 0 (n + 1)))) offsets
+    ∙ ap (listing (with_entry (header_of order page) high) (map (offset_of order page) (range_with_len 0 n) ++ (at ∷ []))) items))
 
 -- Types.
 

@@ -21,7 +21,8 @@ pub cases_leaf : (byte : ℕ) → is_leaf_type byte ≡ true → (byte ≡ 5) �
 cases_leaf byte is =
     elim (step byte 5 (6 ∷ 12 ∷ []) is) [
       | inl five ↦ inl five
-      | inr later ↦ elim (step byte 6 (12 ∷ []) later) [ inl six ↦ inr (inl six) | inr last ↦ elim (step byte 12 [] last) [ inl twelve ↦ inr (inr twelve) | inr none ↦ absurd cc ] ]
+      | inr later ↦ elim (step byte 6 (12 ∷ []) later)
+          [ inl six ↦ inr (inl six) | inr last ↦ elim (step byte 12 [] last) [ inl twelve ↦ inr (inr twelve) | inr none ↦ absurd cc ] ]
     ]
 
 pub cases_hash : (byte : ℕ) → is_hash_type byte ≡ true → (byte ≡ 2) ⊎ (byte ≡ 13)
@@ -48,5 +49,19 @@ pub record Takes (byte : ℕ) : Type 0 where
 
 pub takes : (byte : ℕ) → takes_items byte ≡ true → Takes byte
 takes byte is =
-    by_type Takes (2 ∷ 3 ∷ 4 ∷ 5 ∷ 6 ∷ 12 ∷ 13 ∷ []) byte is
-    (record { some = refl; tree = refl; listed = λ order page. refl }, (record { some = refl; tree = refl; listed = λ order page. refl }, (record { some = refl; tree = refl; listed = λ order page. refl }, (record { some = refl; tree = refl; listed = λ order page. refl }, (record { some = refl; tree = refl; listed = λ order page. refl }, (record { some = refl; tree = refl; listed = λ order page. refl }, (record { some = refl; tree = refl; listed = λ order page. refl }, tt)))))))
+    by_type Takes (2 ∷ 3 ∷ 4 ∷ 5 ∷ 6 ∷ 12 ∷ 13 ∷ []) byte is (
+      record { some = refl; tree = refl; listed = λ order page. refl },
+      (
+        record { some = refl; tree = refl; listed = λ order page. refl },
+        (
+          record { some = refl; tree = refl; listed = λ order page. refl },
+          (
+            record { some = refl; tree = refl; listed = λ order page. refl },
+            (
+              record { some = refl; tree = refl; listed = λ order page. refl },
+              (record { some = refl; tree = refl; listed = λ order page. refl }, (record { some = refl; tree = refl; listed = λ order page. refl }, tt)),
+            ),
+          ),
+        ),
+      ),
+    )

@@ -15,12 +15,13 @@ use Rattle.bdb_pack.proofs.CutLemmas.{suc-times, written_whole, zeros_whole}
 pub length-chain_page : (order : Order) (size number previous : ℕ) (rest : List ℕ) → 26 ≤ size → length (chain_page order size number previous rest) ≡ size
 length-chain_page order size number previous rest room =
     let header : List ℕ = header_bytes order (piece_header number previous (piece_next size number rest) (piece_length size rest)) in
-    let zeros : length (replicate size 0) ≡ size = length-replicate size 0 in
+    let blank : List ℕ = replicate size 0 in
+    let zeros : length blank ≡ size = length-replicate size 0 in
     let h : length header ≡ 26 = length-header order (piece_header number previous (piece_next size number rest) (piece_length size rest)) in
-    let first : length (overwritten (replicate size 0) 0 header) ≡ length (replicate size 0) =
-    length-overwritten (replicate size 0) 0 header (omega (arith, zeros, h)) in
+    let start : List ℕ = overwritten blank 0 header in
+    let long : length start ≡ size = length-overwritten blank 0 header (omega (arith, zeros, h)) ∙ zeros in
     let piece : length (take (piece_length size rest) rest) ≡ piece_length size rest = length-take-le (piece_length size rest) rest (omega arith) in
-    length-overwritten (overwritten (replicate size 0) 0 header) 26 (take (piece_length size rest) rest) (omega (arith, first, zeros, piece)) ∙ (first ∙ zeros)
+    length-overwritten start 26 (take (piece_length size rest) rest) (omega (arith, long, piece)) ∙ long
 
 -- a zero page was added, and a page of a chain written on it
 pub piece_added : (old added : Built) (number previous next n : ℕ) (order : Order) (rest page new : List ℕ) → added ≡ with_zeros old
@@ -35,10 +36,12 @@ piece_added old added number previous next n order rest page new zeros at_end wh
     let blank : bytes_of (with_zeros old) here ≡ replicate size 0 = get_or_push old.pages (replicate size 0) [] here refl in
     let same : new ≡ laid =
     is
-    ∙ (ap (λ p. overwritten (overwritten p 0 (header_bytes order (piece_header number previous next n))) 26 (take n rest)) (lent ∙ (ap (λ (b : Built). bytes_of b number) zeros ∙ (ap (bytes_of (with_zeros old)) at_end ∙ blank)))
+    ∙ (ap (λ p. overwritten (overwritten p 0 (header_bytes order (piece_header number previous next n))) 26 (take n rest))
+    (lent ∙ (ap (λ (b : Built). bytes_of b number) zeros ∙ (ap (bytes_of (with_zeros old)) at_end ∙ blank)))
     ∙ (ap (λ o. overwritten (overwritten (replicate size 0) 0 (header_bytes o (piece_header number previous next n))) 26 (take n rest)) ordered
     ∙ (ap (λ x. overwritten (overwritten (replicate size 0) 0 (header_bytes old.order (piece_header number previous x n))) 26 (take n rest)) after
-    ∙ (ap (λ x. overwritten (overwritten (replicate size 0) 0 (header_bytes old.order (piece_header number previous (piece_next size number rest) x))) 26 (take x rest)) taken
+    ∙ (ap (λ x. overwritten (overwritten (replicate size 0) 0 (header_bytes old.order (piece_header number previous (piece_next size number rest) x))) 26
+    (take x rest)) taken
     ∙ ap (λ x. chain_page old.order size x previous rest) at_end)))) in
     let low : here < length (with_zeros old).pages = omega (arith, length-append old.pages (replicate size 0 ∷ [])) in
     ap (λ (b : Built). written_over b number new) zeros

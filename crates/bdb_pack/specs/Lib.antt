@@ -1,7 +1,8 @@
 pub mod Built
-pub mod Lending
 pub mod Items
-pub mod Placing
+pub mod Lending
 pub mod OnPages
-pub mod Values
+pub mod Placing
+pub mod Stored
 pub mod ValueLoop
+pub mod Values

@@ -4,7 +4,7 @@ use Rattle.bdb_format.specs.Numbers.{byte_at}
 use Rattle.bdb_format.specs.Reading.{entries_of}
 use Rattle.bdb_pack.specs.Built.{Built, bytes_of, with_page}
 use Rattle.bdb_pack.specs.Items.{HasPlace, PageItem, holds_item}
-use Rattle.bdb_pack.specs.Placing.{HasRoom, IsBegun, page_and_item}
+use Rattle.bdb_pack.specs.Placing.{HasRoom, IsBegun, has_room, page_and_item}
 
 -- the page with this number is begun
 abbrev pub IsBegunOn : Built → ℕ → Type 0
@@ -21,6 +21,10 @@ HasPlaceOn built p item = HasPlace (byte_at (bytes_of built p) 25) (entries_of b
 -- it has room for these bytes and an entry
 abbrev pub HasRoomOn : Built → ℕ → List ℕ → Type 0
 HasRoomOn built p piece = HasRoom built.order (bytes_of built p) (length piece)
+
+-- whether it has
+abbrev pub has_room_on : Built → ℕ → List ℕ → Bool
+has_room_on built p piece = has_room built.order (bytes_of built p) (length piece)
 
 -- the pages with the bytes of an item right below the others of that page
 abbrev pub with_item_on : Built → ℕ → List ℕ → Built

@@ -1,5 +1,5 @@
 -- Pages that take items, and what placing one does. Source: docs/FORMAT.md, "Other pages" and "Items".
-use Rattle.std.specs.Prelude.{◌≡◌, ℕ, ◌+◌, ◌-◌, ◌%◌, ◌≤◌, ◌<◌, ◌^◌, true, false, List, [], ◌∷◌, ◌++◌, length, None}
+use Rattle.std.specs.Prelude.{◌≡◌, ℕ, ◌+◌, ◌-◌, ◌%◌, ◌≤◌, ◌<◌, ◌^◌, nat_le, Bool, true, false, List, [], ◌∷◌, ◌++◌, length, None}
 use Rattle.bdb_format.specs.declared.kinds.Order.{Order}
 use Rattle.bdb_format.specs.declared.pages.Header.{Header}
 use Rattle.bdb_format.specs.HeadOf.{is_page_size}
@@ -61,6 +61,10 @@ placed order page at piece = overwritten (entered order page at at) at piece
 -- there is room for an item of so many bytes and its entry
 abbrev pub HasRoom : Order → List ℕ → ℕ → Type 0
 HasRoom order page n = index_end order page + 2 + extent (byte_at page 25) n ≤ high_free_of order page
+
+-- whether there is
+abbrev pub has_room : Order → List ℕ → ℕ → Bool
+has_room order page n = nat_le (index_end order page + 2 + extent (byte_at page 25) n) (high_free_of order page)
 
 -- where an item of so many bytes goes: right below the others
 abbrev pub place_below : Order → List ℕ → ℕ → ℕ
@@ -141,19 +145,22 @@ abbrev pub EntriesAreShared : Type 0
 EntriesAreShared =
     (order : Order) (page : List ℕ) → IsBegun order page → CanShare order page
     → let index : ℕ = entries_of order page - 2 in
-    (abstract_page order (page_and_shared order page) ≡ page_again (abstract_page order page) (offset_of order page index) (high_free_of order page) (leaf_item_at order page index))
+    (abstract_page order (page_and_shared order page)
+    ≡ page_again (abstract_page order page) (offset_of order page index) (high_free_of order page) (leaf_item_at order page index))
     × IsBegun order (page_and_shared order page)
 
 -- a page with a header is one that takes items, and has none yet
 abbrev pub BegunPagesTakeItems : Type 0
 BegunPagesTakeItems =
     (order : Order) (page : List ℕ) (header : Header) → is_page_size (length page) ≡ true → takes_items header.page_type ≡ true → FitsFields header
-    → (abstract_page order (begun_page order page header) ≡ empty_page (page_type header.page_type) (begun_header page header)) × IsBegun order (begun_page order page header)
+    → (abstract_page order (begun_page order page header) ≡ empty_page (page_type header.page_type) (begun_header page header))
+    × IsBegun order (begun_page order page header)
 
 -- a page that takes items has no row of form, where it has its number, its level is that of its type, and its entries are as many as its type asks
 abbrev pub BegunIsFormed : Type 0
 BegunIsFormed =
-    (order : Order) (number : ℕ) (page : List ℕ) → IsBegun order page → four_at order page 8 ≡ number → is_wrong_level (page_type (byte_at page 25)) (byte_at page 24) ≡ false
+    (order : Order) (number : ℕ) (page : List ℕ) → IsBegun order page → four_at order page 8 ≡ number
+    → is_wrong_level (page_type (byte_at page 25)) (byte_at page 24) ≡ false
     → is_wrong_entry_count (page_type (byte_at page 25)) (entries_of order page) ≡ false → page_code order number page ≡ None
 
 -- a page of a type that takes items is begun where no row of its items holds, and its high free offset is the least offset of its index, or its end

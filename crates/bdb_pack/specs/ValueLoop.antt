@@ -10,4 +10,5 @@ pub record IsBegunChain (old now : Built) (value : List ℕ) (head previous : �
   pub few : length rest ≤ (2 ^ 21 - length now.pages) * (old.size - 26)
   pub added : List (List ℕ)
   pub pages : now.pages ≡ old.pages ++ added
-  pub chain : (later : List (List ℕ)) → AreChainPages old.order old.size (length now.pages) previous rest later → AreChainPages old.order old.size head 0 value (added ++ later)
+  pub chain : (later : List (List ℕ)) → AreChainPages old.order old.size (length now.pages) previous rest later
+      → AreChainPages old.order old.size head 0 value (added ++ later)

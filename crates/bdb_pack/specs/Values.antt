@@ -1,4 +1,4 @@
--- Values that are stored in chains of their own. Source: docs/FORMAT.md, "Fill rules".
+-- Values that are stored in chains of their own. Source: docs/FORMAT.md, "Stored values".
 use Rattle.std.specs.Prelude.{◌≡◌, ℕ, true, None, ◌+◌, ◌-◌, ◌*◌, ◌/◌, ◌^◌, ◌<◌, ◌≤◌, nat_lt, if◌then◌else◌, List, [], ◌∷◌, ◌++◌, length, min, take, drop, replicate}
 use Rattle.bdb_format.specs.declared.kinds.Order.{Order}
 use Rattle.bdb_format.specs.declared.pages.Header.{Header}
@@ -37,7 +37,8 @@ with_piece built previous rest = record built { pages = built.pages ++ (chain_pa
 abbrev pub AreChainPages : Order → ℕ → ℕ → ℕ → List ℕ → List (List ℕ) → Type 0
 AreChainPages order size number previous rest [] = rest ≡ []
 AreChainPages order size number previous rest (page ∷ pages) =
-    (0 < length rest) × (page ≡ chain_page order size number previous rest) × AreChainPages order size (number + 1) number (drop (piece_length size rest) rest) pages
+    (0 < length rest) × (page ≡ chain_page order size number previous rest)
+    × AreChainPages order size (number + 1) number (drop (piece_length size rest) rest) pages
 
 -- pages with the pages of a chain of a value after them
 pub record HasChain (old new : Built) (value : List ℕ) (head : ℕ) : Type 0 where

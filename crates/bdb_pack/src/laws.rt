@@ -1,5 +1,6 @@
 // Laws of pages that take items.
 ghost use Rattle.bdb_pack.specs.Placing.{BegunIsFormed, BegunPagesTakeItems, BegunStays, EntriesAreShared, ItemsArePlaced, RowsBegin};
+ghost use Rattle.bdb_pack.specs.Stored.{ImagesAreLater, StoredValuesStand};
 ghost use Rattle.bdb_pack.specs.Values.{ChainPagesAreFormed, ChainsAreCounted};
 
 /// An item of any sort that is placed stands at the end of the page's items.
@@ -40,4 +41,14 @@ pub fn rows_begin()
 /// A chain has as many pages as its bytes fill.
 pub fn chains_are_counted()
     ensures { ChainsAreCounted }
+{}
+
+/// In each later file the pages of a stored value are a grove of their own, entered by the head of the chain, and hold the value.
+pub fn stored_values_stand()
+    ensures { StoredValuesStand }
+{}
+
+/// The bytes of all pages are the image of a later file, where its page 0 says so.
+pub fn images_are_later()
+    ensures { ImagesAreLater }
 {}

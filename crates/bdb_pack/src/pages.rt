@@ -1,20 +1,21 @@
-ghost use Rattle.std.specs.Prelude.{◌≡◌, ◌+◌, ◌-◌, ◌*◌, ◌<◌, ◌≤◌, ◌^◌, ◌∷◌, ◌++◌, [], IsTrue, OnErr, OnOk, IfOk, length, replicate, take, drop};
+ghost use Rattle.std.specs.Prelude.{◌≡◌, ℕ, ◌+◌, ◌-◌, ◌*◌, ◌<◌, ◌≤◌, ◌^◌, ◌∷◌, ◌++◌, [], IsTrue, OnErr, OnOk, IfOk, length, replicate, take, drop};
 ghost use Rattle.std.specs.Borrow.{sem};
+ghost use Rattle.std.specs.Bool.{OnTrue};
 ghost use Rattle.bdb_format.specs.HeadOf.{is_page_size};
 ghost use Rattle.bdb_format.specs.Numbers.{byte_at};
 ghost use Rattle.bdb_format.specs.Reading.{entries_of, index_end, is_zero};
-ghost use Rattle.bdb_format.specs.Spelling.{IsKey, IsLeafContent, internal_bytes, leaf_bytes, recno_bytes};
+ghost use Rattle.bdb_format.specs.Spelling.{IsHashContent, IsKey, IsLeafContent, hash_bytes, internal_bytes, leaf_bytes, recno_bytes};
 ghost use Rattle.bdb_format.specs.declared.kinds.Order.{Order as ByteOrder};
-ghost use Rattle.bdb_layout.specs.Seen.{internal_item_seen, leaf_item_seen};
-ghost use Rattle.bdb_pack.specs.Items.{OnInternal, OnLeaf, OnRecno, extent, takes_items};
-ghost use Rattle.bdb_pack.specs.OnPages.{HasPlaceOn, HasRoomOn, IsBegunOn, holds_on, with_item_on};
-ghost use Rattle.bdb_pack.specs.Placing.{CanShare, HasRoom, IsOpen, begun_page, entered, high_free_of, page_and_item, page_and_shared, place_below};
+ghost use Rattle.bdb_layout.specs.Seen.{HasOrder, hash_content_seen, internal_item_seen, leaf_item_seen};
+ghost use Rattle.bdb_pack.specs.Items.{IsWritable, OnHash, OnInternal, OnLeaf, OnRecno, extent, takes_items};
+ghost use Rattle.bdb_pack.specs.OnPages.{HasPlaceOn, HasRoomOn, IsBegunOn, has_room_on, holds_on, with_item_on};
+ghost use Rattle.bdb_pack.specs.Placing.{CanShare, HasRoom, IsOpen, begun_page, entered, has_room, high_free_of, page_and_item, page_and_shared, place_below};
 ghost use Rattle.bdb_pack.specs.Built.{AreWhole, bytes_of, joined_pages, with_page, with_zeros};
 
-use bdb_format::{Header, Order, RecnoItem};
+use bdb_format::{Bytes, Header, Order, RecnoItem};
 use bdb_layout::{
-    InternalItem, InternalKey, LeafItem, put_header, put_internal_item, put_leaf_item,
-    put_recno_item, put_u16, u16_at,
+    HashItem, InternalItem, InternalKey, LeafItem, put_hash_item, put_header, put_internal_item,
+    put_leaf_item, put_recno_item, put_u16, u16_at,
 };
 use std::alloc::{AllocError, Global};
 use std::marker::Model;
@@ -123,7 +124,6 @@ impl Pages {
         requires begun { IsBegunOn self.old number }
         requires holds { IsTrue (holds_on self.old number (OnLeaf (leaf_item_seen item.now))) }
         requires place { HasPlaceOn self.old number (OnLeaf (leaf_item_seen item.now)) }
-        requires fits { IsLeafContent (leaf_item_seen item.now).content }
         requires room { HasRoomOn self.old number (leaf_bytes self.old.order (leaf_item_seen item.now)) }
         ensures { self.new ≡ with_item_on self.old number (leaf_bytes self.old.order (leaf_item_seen item.now)) }
     {
@@ -137,7 +137,6 @@ impl Pages {
         requires number { number < length self.old.pages }
         requires begun { IsBegunOn self.old number }
         requires holds { IsTrue (holds_on self.old number (OnInternal (internal_item_seen item.now))) }
-        requires fits { IsKey (internal_item_seen item.now).key }
         requires room { HasRoomOn self.old number (internal_bytes self.old.order (internal_item_seen item.now)) }
         ensures { self.new ≡ with_item_on self.old number (internal_bytes self.old.order (internal_item_seen item.now)) }
     {
@@ -157,6 +156,21 @@ impl Pages {
         let order = self.order;
         let page = self.page_mut(number);
         place_recno(page, order, item);
+    }
+
+    /// Adds an item at the end of a hash page. A set must be spelled in the order of the pages.
+    pub fn append_hash(&mut self, number: u32, item: &HashItem<'_>)
+        requires number { number < length self.old.pages }
+        requires begun { IsBegunOn self.old number }
+        requires holds { IsTrue (holds_on self.old number (OnHash (hash_content_seen item.now))) }
+        requires place { HasPlaceOn self.old number (OnHash (hash_content_seen item.now)) }
+        requires same_order { HasOrder self.old.order item.now }
+        requires room { HasRoomOn self.old number (hash_bytes self.old.order (hash_content_seen item.now)) }
+        ensures { self.new ≡ with_item_on self.old number (hash_bytes self.old.order (hash_content_seen item.now)) }
+    {
+        let order = self.order;
+        let page = self.page_mut(number);
+        place_hash(page, order, item);
     }
 
     /// Adds to the index of a btree leaf the offset of the entry two before: the key of the last pair again.
@@ -182,20 +196,87 @@ impl Pages {
         u32::from(u16_at(page, 22, order)) - 2 * u32::from(u16_at(page, 20, order)) - 26
     }
 
-    // The bytes of a page, to be read.
-    fn page(&self, number: u32) -> &[u8]
+    /// Whether a leaf has room for an item and its entry. The lengths and numbers of an item for which there is room fit
+    /// their fields.
+    pub fn has_room_for_leaf(&self, number: u32, item: &LeafItem<'_>) -> bool
+        requires number { number < length self.now.pages }
+        requires begun { IsBegunOn self.now number }
+        ensures room { result ≡ has_room_on self.now number (leaf_bytes self.now.order (leaf_item_seen item.now)) }
+        ensures fits { OnTrue result (IsWritable (OnLeaf (leaf_item_seen item.now))) }
+    {
+        let order = self.order;
+        let page = self.page(number);
+        if !has_room(page, order, leaf_length(item)) {
+            return false;
+        }
+        fit_leaf(item, order);
+        true
+    }
+
+    /// Whether an internal page of a btree has room for an item and its entry.
+    pub fn has_room_for_internal(&self, number: u32, item: &InternalItem<'_>) -> bool
+        requires number { number < length self.now.pages }
+        requires begun { IsBegunOn self.now number }
+        ensures room { result ≡ has_room_on self.now number (internal_bytes self.now.order (internal_item_seen item.now)) }
+        ensures fits { OnTrue result (IsWritable (OnInternal (internal_item_seen item.now))) }
+    {
+        let order = self.order;
+        let page = self.page(number);
+        if !has_room(page, order, internal_length(item)) {
+            return false;
+        }
+        fit_internal(item, order);
+        prove!(item.child <= u32::MAX);
+        prove!(item.count <= u32::MAX);
+        true
+    }
+
+    /// Whether an internal page of a recno tree has room for one more item and its entry.
+    pub fn has_room_for_recno(&self, number: u32, item: &RecnoItem) -> bool
+        requires number { number < length self.now.pages }
+        requires begun { IsBegunOn self.now number }
+        ensures room { result ≡ has_room_on self.now number (recno_bytes self.now.order item.now) }
+        ensures fits { IsWritable (OnRecno item.now) }
+    {
+        let order = self.order;
+        let page = self.page(number);
+        prove!(item.child <= u32::MAX);
+        prove!(item.count <= u32::MAX);
+        has_room(page, order, recno_length(item))
+    }
+
+    /// Whether a hash page has room for an item and its entry. A set must be spelled in the order of the pages.
+    pub fn has_room_for_hash(&self, number: u32, item: &HashItem<'_>) -> bool
+        requires number { number < length self.now.pages }
+        requires begun { IsBegunOn self.now number }
+        requires same_order { HasOrder self.now.order item.now }
+        ensures room { result ≡ has_room_on self.now number (hash_bytes self.now.order (hash_content_seen item.now)) }
+        ensures fits { OnTrue result (IsWritable (OnHash (hash_content_seen item.now))) }
+    {
+        let order = self.order;
+        let page = self.page(number);
+        if !has_room(page, order, hash_length(item, order)) {
+            return false;
+        }
+        fit_hash(item, order);
+        true
+    }
+
+    /// The bytes of a page, to be read.
+    pub fn page(&self, number: u32) -> &[u8]
         requires { number < length self.now.pages }
-        ensures { result.now ≡ bytes_of self.now number }
+        ensures bytes { result.now ≡ bytes_of self.now number }
+        ensures size { IsTrue (is_page_size (length result.now)) }
     {
         let from = number as usize * self.size;
         &self.bytes[from..from + self.size]
     }
 
-    /// All pages, joined in order.
-    pub fn into_vec(self) -> Vec<u8>
-        ensures { result.items ≡ joined_pages self.pages }
+    /// All pages, joined in order, without a copy and without memory.
+    pub fn into_bytes(self) -> Bytes
+        ensures { result ≡ joined_pages self.pages }
     {
-        self.bytes
+        Bytes::from_vec(self.bytes)
     }
 }
 
@@ -239,6 +320,16 @@ fn place_below(page: &[u8], order: Order, long: usize) -> usize
     usize::from(u16_at(page, 22, order)) - extent(page[25], long)
 }
 
+// Whether a page has room for an item of a length and its entry.
+fn has_room(page: &[u8], order: Order, long: usize) -> bool
+    requires { 26 ≤ length page.now }
+    ensures { result ≡ has_room order page.now long }
+{
+    let end = 26 + 2 * usize::from(u16_at(page, 20, order));
+    let high = usize::from(u16_at(page, 22, order));
+    long < 65536 && end + 2 + extent(page[25], long) <= high
+}
+
 // Adds an entry at the end of the index, and writes the high free offset.
 fn enter(page: &mut [u8], order: Order, at: u16, high: u16)
     requires page { 26 ≤ length page.old }
@@ -253,25 +344,61 @@ fn enter(page: &mut [u8], order: Order, at: u16, high: u16)
     put_u16(page, 22, order, high);
 }
 
+// An item of a leaf that has room on a page fits: its length and its numbers are those of their fields.
+fn fit_leaf(item: &LeafItem<'_>, order: Order)
+    requires { length (leaf_bytes order (leaf_item_seen item.now)) ≤ 32768 }
+    ensures { IsLeafContent (leaf_item_seen item.now).content }
+{
+    match *item {
+        LeafItem::Inline { .. } => {}
+        LeafItem::Duplicates { root, .. } => prove!(root <= u32::MAX),
+        LeafItem::Overflow { head, total, .. } => {
+            prove!(head <= u32::MAX);
+            prove!(total <= u32::MAX);
+        }
+    }
+}
+
+// How many bytes an item has that is so many bytes and then these.
+fn followed(before: usize, bytes: &[u8]) -> usize
+    requires { before ≤ 12 }
+    ensures long { result ≡ before + length bytes.now }
+    ensures bytes { (i : ℕ) → byte_at bytes.now i < 256 }
+{
+    before + bytes.len()
+}
+
 // How many bytes an item of a leaf has.
 fn leaf_length(item: &LeafItem<'_>) -> usize
-    requires { IsLeafContent (leaf_item_seen item.now).content }
     ensures { (order : ByteOrder) → result ≡ length (leaf_bytes order (leaf_item_seen item.now)) }
 {
     match *item {
-        LeafItem::Inline { bytes, .. } => 3 + bytes.len(),
+        LeafItem::Inline { bytes, .. } => followed(3, bytes),
         LeafItem::Duplicates { .. } => 12,
         LeafItem::Overflow { .. } => 12,
     }
 }
 
+// An item of an internal page that has room there fits: the length and the numbers of its key are those of their fields.
+fn fit_internal(item: &InternalItem<'_>, order: Order)
+    requires { length (internal_bytes order (internal_item_seen item.now)) ≤ 32768 }
+    ensures { IsKey (internal_item_seen item.now).key }
+{
+    match item.key {
+        InternalKey::Inline(_) => {}
+        InternalKey::Overflow { head, total } => {
+            prove!(head <= u32::MAX);
+            prove!(total <= u32::MAX);
+        }
+    }
+}
+
 // How many bytes an item of an internal page has.
 fn internal_length(item: &InternalItem<'_>) -> usize
-    requires { IsKey (internal_item_seen item.now).key }
     ensures { (order : ByteOrder) → result ≡ length (internal_bytes order (internal_item_seen item.now)) }
 {
     match item.key {
-        InternalKey::Inline(key) => 12 + key.len(),
+        InternalKey::Inline(key) => followed(12, key),
         InternalKey::Overflow { .. } => 24,
     }
 }
@@ -283,13 +410,45 @@ fn recno_length(item: &RecnoItem) -> usize
     8
 }
 
+// How many bytes an item of a hash page has.
+fn hash_length(item: &HashItem<'_>, order: Order) -> usize
+    requires { HasOrder order item.now }
+    ensures { result ≡ length (hash_bytes order (hash_content_seen item.now)) }
+{
+    match item {
+        HashItem::Inline(bytes) => followed(1, bytes),
+        HashItem::Set(set) => {
+            let run = set.bytes();
+            followed(1, run)
+        }
+        HashItem::Overflow { .. } => 12,
+        HashItem::OffPage { .. } => 8,
+    }
+}
+
+// An item of a hash page that has room there fits: its numbers and the lengths of its blocks are those of their fields.
+fn fit_hash(item: &HashItem<'_>, order: Order)
+    requires { length (hash_bytes order (hash_content_seen item.now)) ≤ 32768 }
+    ensures { IsHashContent (hash_content_seen item.now) }
+{
+    match item {
+        HashItem::Inline(_) => {}
+        HashItem::Set(_) => {}
+        HashItem::Overflow { head, total } => {
+            prove!(*head <= u32::MAX);
+            prove!(*total <= u32::MAX);
+        }
+        HashItem::OffPage { root } => prove!(*root <= u32::MAX),
+    }
+}
+
 // Places an item of a leaf on its page.
 fn place_leaf(page: &mut [u8], order: Order, item: &LeafItem<'_>)
     requires free { IsOpen order page.old }
-    requires fits { IsLeafContent (leaf_item_seen item.now).content }
     requires room { HasRoom order page.old (length (leaf_bytes order (leaf_item_seen item.now))) }
     ensures { page.new ≡ page_and_item order page.old (leaf_bytes order (leaf_item_seen item.now)) }
 {
+    fit_leaf(item, order);
     let at = place_below(page, order, leaf_length(item));
     enter(page, order, at as u16, at as u16);
     put_leaf_item(page, order, at, item);
@@ -298,10 +457,10 @@ fn place_leaf(page: &mut [u8], order: Order, item: &LeafItem<'_>)
 // Places an item of an internal page of a btree on its page.
 fn place_internal(page: &mut [u8], order: Order, item: &InternalItem<'_>)
     requires free { IsOpen order page.old }
-    requires fits { IsKey (internal_item_seen item.now).key }
     requires room { HasRoom order page.old (length (internal_bytes order (internal_item_seen item.now))) }
     ensures { page.new ≡ page_and_item order page.old (internal_bytes order (internal_item_seen item.now)) }
 {
+    fit_internal(item, order);
     let at = place_below(page, order, internal_length(item));
     enter(page, order, at as u16, at as u16);
     put_internal_item(page, order, at, item);
@@ -316,6 +475,18 @@ fn place_recno(page: &mut [u8], order: Order, item: &RecnoItem)
     let at = place_below(page, order, recno_length(item));
     enter(page, order, at as u16, at as u16);
     put_recno_item(page, order, at, item);
+}
+
+// Places an item of a hash page on its page.
+fn place_hash(page: &mut [u8], order: Order, item: &HashItem<'_>)
+    requires free { IsOpen order page.old }
+    requires same_order { HasOrder order item.now }
+    requires room { HasRoom order page.old (length (hash_bytes order (hash_content_seen item.now))) }
+    ensures { page.new ≡ page_and_item order page.old (hash_bytes order (hash_content_seen item.now)) }
+{
+    let at = place_below(page, order, hash_length(item, order));
+    enter(page, order, at as u16, at as u16);
+    put_hash_item(page, order, at, item);
 }
 
 // Enters the offset of the entry two before once more.

@@ -1,6 +1,6 @@
 //! Each row of form first on a page of each type that can have it, in both orders, and good pages read back.
 
-use bdb_form::{PageView, form, queue_form};
+use bdb_form::{HashView, LeafView, PageView, RecnoLeafView, form, queue_form};
 use bdb_format::Order;
 use bdb_layout::{HashItem, InternalKey, LeafItem, put_u16, put_u32};
 use std::process::Abort;
@@ -387,6 +387,84 @@ fn reads_good_pages_back(rt: HostRuntime) {
             let page = good_page(page_type, order);
             assert!(rt; is_read_back(&page, page_type, order), "type {page_type}");
         }
+    }
+}
+
+// A third and a fourth entry of the index: the key of the first pair again, and its data again.
+const SHARED: [Field; 3] = [
+    Field::Two(20, 4), // entries
+    Field::Two(30, 508),
+    Field::Two(32, 504),
+];
+
+// Whether a leaf gives its only pair, and then none.
+fn gives_pair(leaf: &LeafView<'_>) -> bool {
+    let mut pairs = leaf.iter();
+    let Some(pair) = pairs.next() else {
+        return false;
+    };
+    is_inline(&pair.key, b"a")
+        && is_inline(&pair.value, b"b")
+        && !pair.shares
+        && pairs.next().is_none()
+}
+
+fn gives_hash_pair(page: &HashView<'_>) -> bool {
+    let mut pairs = page.iter();
+    let Some(pair) = pairs.next() else {
+        return false;
+    };
+    is_inline_data(&pair.key, b"a") && is_inline_data(&pair.value, b"b") && pairs.next().is_none()
+}
+
+// Whether a leaf gives its two items, and then none.
+fn gives_items(leaf: &RecnoLeafView<'_>) -> bool {
+    let mut items = leaf.items();
+    let (Some(first), Some(second)) = (items.next(), items.next()) else {
+        return false;
+    };
+    is_inline(&first, b"a") && is_inline(&second, b"b") && items.next().is_none()
+}
+
+fn gives_all(page: &[u8; SIZE], order: Order) -> bool {
+    match form(page, 1, order) {
+        Ok(PageView::Leaf(leaf)) => gives_pair(&leaf),
+        Ok(PageView::Hash(page)) => gives_hash_pair(&page),
+        Ok(PageView::RecnoLeaf(leaf)) => gives_items(&leaf),
+        _ => false,
+    }
+}
+
+#[test]
+fn gives_items_one_by_one(rt: HostRuntime) {
+    for order in [Order::Little, Order::Big] {
+        for page_type in [2, 5, 6, 13] {
+            assert!(rt;
+                gives_all(&good_page(page_type, order), order),
+                "type {page_type}"
+            );
+        }
+    }
+}
+
+// Whether the second pair of a leaf that is given shares its key.
+fn second_shares(page: &[u8; SIZE], order: Order) -> Option<bool> {
+    let Ok(PageView::Leaf(leaf)) = form(page, 1, order) else {
+        return None;
+    };
+    let mut pairs = leaf.iter();
+    pairs.next()?;
+    let pair = pairs.next()?;
+    Some(pair.shares)
+}
+
+#[test]
+fn tells_the_pairs_that_share_their_key(rt: HostRuntime) {
+    for order in [Order::Little, Order::Big] {
+        let mut page = good_page(5, order);
+        assert_eq!(rt; second_shares(&page, order), None);
+        write(&mut page, &SHARED, order);
+        assert_eq!(rt; second_shares(&page, order), Some(true));
     }
 }
 

@@ -1,12 +1,12 @@
 -- What a queue has under a number: the record of the one slot that has this number, where it's live.
-use Rattle.std.proofs.Common.{◌≡◌, ℕ, zero, suc, ◌+◌, ◌-◌, ◌*◌, ◌/◌, ◌%◌, ◌<◌, ◌≤◌, Bool, true, false, cond, List, [], ◌∷◌, ◌++◌, arith, refl, sym, ◌∙◌, ap, inl, inr, ne_eqb, eq-eqb, append-nil}
+use Rattle.std.proofs.Common.{◌≡◌, ℕ, zero, suc, ◌+◌, ◌-◌, ◌*◌, ◌/◌, ◌%◌, ◌<◌, ◌≤◌, Bool, List, [], ◌∷◌, ◌++◌, arith, refl, sym, ◌∙◌, ap, inl, inr, ne_eqb, eq-eqb, append-nil}
 use Rattle.std.specs.List.{filter, flat_map, range_with_len}
 use Rattle.std.proofs.lemmas.Bool.{cases_eq, cases_lt}
 use Rattle.std.proofs.lemmas.List.Elements.{filter-append}
 use Rattle.std.proofs.lemmas.Nat.{div-add-mod', div-mul-add, mod-mul-add, mod_below}
 use Rattle.bdb_format.specs.declared.metadata.QueueMeta.{QueueMeta}
 use Rattle.bdb_format.specs.File.{File, file_of, page_at}
-use Rattle.bdb_format.specs.Lists.{ListKey, NumberKey, get, is_key, is_record, listed_slot, page_records, queue_list, record_number}
+use Rattle.bdb_format.specs.Lists.{ListKey, NumberKey, get, is_key, listed_slot, page_records, queue_list, record_number}
 use Rattle.bdb_format.specs.Page.{Page, Queue}
 use Rattle.bdb_queue.specs.Records.{data_in, record_in_slot, record_of}
 use Rattle.bdb_queue.proofs.RecordLemmas.{past_last}
@@ -44,19 +44,10 @@ abbrev has_number : ℕ → (ListKey × List ℕ) → Bool
 has_number number entry = is_key entry.0 (NumberKey number)
 
 other_slot : (meta : QueueMeta) (p : ℕ) (records : List ℕ) (slot number : ℕ) → (record_number meta p slot ≡ number → ⊥) → filter (has_number number) (listed_slot meta p records slot) ≡ []
-other_slot meta p records slot number other =
-    elim (is_record meta p records slot) as (λ b. (bytes : List ℕ) → filter (has_number number) (cond b ((NumberKey (record_number meta p slot), bytes) ∷ []) []) ≡ []) [
-      | true ↦ λ bytes. rw (ne_eqb (record_number meta p slot) number other) refl
-      | false ↦ λ bytes. refl
-    ] _
+other_slot meta p records slot number other = grind (arith, ne_eqb (record_number meta p slot) number other)
 
 own_slot : (meta : QueueMeta) (p : ℕ) (records : List ℕ) (slot number : ℕ) → record_number meta p slot ≡ number → filter (has_number number) (listed_slot meta p records slot) ≡ listed_slot meta p records slot
-own_slot meta p records slot number own =
-    elim (is_record meta p records slot) as (λ b. (bytes : List ℕ)
-    → filter (has_number number) (cond b ((NumberKey (record_number meta p slot), bytes) ∷ []) []) ≡ cond b ((NumberKey (record_number meta p slot), bytes) ∷ []) []) [
-      | true ↦ λ bytes. rw (eq-eqb (record_number meta p slot) number own) refl
-      | false ↦ λ bytes. refl
-    ] _
+own_slot meta p records slot number own = grind (arith, eq-eqb (record_number meta p slot) number own)
 
 -- Pages.
 

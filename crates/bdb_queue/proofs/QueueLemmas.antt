@@ -1,8 +1,9 @@
 -- What the metadata of a queue keeps, and that its pages have room for their slots.
+use Rattle.std.proofs.lemmas.Bool.Decides.{nat_tests}
 use Rattle.std.proofs.Common.{◌≡◌, ℕ, ◌+◌, ◌-◌, ◌*◌, ◌<◌, ◌≤◌, true, false, not, List, [], ◌∷◌, length, drop, arith, sym, ◌∙◌, ap, subst, inl, inr, length-drop}
 use Rattle.std.specs.Prelude.{Some, None, ◌==◌}
 use Rattle.std.specs.List.{list_any}
-use Rattle.std.proofs.lemmas.Bool.{cases_Bool, eqb-false, eqb-true, not-false, or_parts}
+use Rattle.std.proofs.lemmas.Bool.{cases_Bool, eqb-true, not-false, or_parts}
 use Rattle.std.proofs.Math.Nat.{div-mul-le_self}
 use Rattle.bdb_form.specs.Formed.{QueuePage}
 use Rattle.bdb_format.specs.declared.kinds.Order.{Order}
@@ -62,7 +63,7 @@ pub record IsQueue (image : List ℕ) (meta : QueueMeta) : Type 0 where
   pub first : 1 ≤ meta.first
 
 unequal : (n : ℕ) → (n == 0) ≡ false → 1 ≤ n
-unequal n some = let other : n ≡ 0 → ⊥ = eqb-false n 0 some in omega arith
+unequal n some = grind (arith, nat_tests)
 
 -- what no row of the metadata of a queue leaves of its fields
 record IsKept (size : ℕ) (meta : QueueMeta) : Type 0 where

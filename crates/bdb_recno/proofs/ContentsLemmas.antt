@@ -1,5 +1,7 @@
 -- The first fault of the contents of a recno, by the faults that are noted.
-use Rattle.std.proofs.Common.{◌≡◌, ◌⊎◌, ℕ, zero, suc, ◌+◌, ◌≤◌, Bool, true, false, cond, List, [], ◌∷◌, ◌++◌, map, Option, None, arith, refl, sym, ◌∙◌, ap, subst, inl, inr}
+use Rattle.std.proofs.lemmas.Bool.{and_parts, and_from, false_from_ne_true}
+use Rattle.bdb_format.proofs.ListLemmas.{only_member}
+use Rattle.std.proofs.Common.{◌≡◌, ◌⊎◌, ℕ, zero, suc, ◌+◌, ◌≤◌, Bool, true, false, cond, List, [], ◌∷◌, ◌++◌, Option, None, arith, refl, sym, ◌∙◌, ap, subst, inl, inr}
 use Rattle.std.specs.Prelude.{◌&&◌}
 use Rattle.std.specs.List.{All, Contains, filter}
 use Rattle.std.specs.Option.{is_some}
@@ -43,14 +45,11 @@ inner_inside image root p forest recno at =
 
 -- The codes of a page.
 
-only : (x y : ℕ) → Contains (x ∷ []) y → x ≡ y
-only x y at = elim (member_cases x [] y at) [ inl here ↦ here | inr later ↦ absurd (no_member [] y refl later) ]
-
 of_two : (a b : Bool) (code : ℕ) → Contains (holding (6 :? a ∷ 7 :? b ∷ [])) code → ((code ≡ 6) × (a ≡ true)) ⊎ ((code ≡ 7) × (b ≡ true))
 of_two true true code at =
-    elim (member_cases 6 (7 ∷ []) code at) [ inl here ↦ inl (sym here, refl) | inr later ↦ inr (sym (only 7 code later), refl) ]
-of_two true false code at = inl (sym (only 6 code at), refl)
-of_two false true code at = inr (sym (only 7 code at), refl)
+    elim (member_cases 6 (7 ∷ []) code at) [ inl here ↦ inl (sym here, refl) | inr later ↦ inr (sym (only_member 7 code later), refl) ]
+of_two true false code at = inl (sym (only_member 6 code at), refl)
+of_two false true code at = inr (sym (only_member 7 code at), refl)
 of_two false false code at = absurd (no_member [] code refl at)
 
 in_six : (a b : Bool) → a ≡ true → Contains (holding (6 :? a ∷ 7 :? b ∷ [])) 6
@@ -105,13 +104,6 @@ of_lengths : (b : Bool) (faults : List Fault) (fault : Fault) → Contains (cond
 of_lengths true faults fault at = (refl, at)
 of_lengths false faults fault at = absurd (no_member [] fault refl at)
 
-and_true : (a b : Bool) → a ≡ true → b ≡ true → (a && b) ≡ true
-and_true a b p q = rw (p, q) refl
-
-both_true : (a b : Bool) → (a && b) ≡ true → (a ≡ true) × (b ≡ true)
-both_true true b is = (refl, is)
-both_true false b is = absurd cc
-
 noted_holds : (image : List ℕ) (meta : BtreeMeta) (fault : Fault) → IsForest image → IsRecnoPage (file_of image) meta.root → Contains (noted_faults (file_of image) meta) fault → Contains (recno_faults (file_of image) meta) fault
 noted_holds image meta fault forest root at =
     let file : File = file_of image in
@@ -126,7 +118,8 @@ noted_holds image meta fault forest root at =
           let of : (fixed ≡ true) × Contains (faults_on file 7 (has_wrong_record file meta) lengths) fault = of_lengths fixed _ fault long in
           row_holds file meta 7 (has_wrong_record file meta) lengths fault (of_faults_on file 7 (has_wrong_record file meta) lengths fault of.1)
           (λ p there. leaf_inside image p (leaves_recno image meta.root p forest root there))
-          (λ wrong. in_seven (is_wrong_at file (has_wrong_count file) counts fault.page) (fixed && is_wrong_at file (has_wrong_record file meta) lengths fault.page) (and_true fixed _ of.0 wrong))
+          (λ wrong. in_seven (is_wrong_at file (has_wrong_count file) counts fault.page)
+          (fixed && is_wrong_at file (has_wrong_record file meta) lengths fault.page) (and_from fixed _ of.0 wrong))
     ]
 
 holds_noted : (file : File) (meta : BtreeMeta) (fault : Fault) → Contains (recno_faults file meta) fault → Contains (noted_faults file meta) fault
@@ -144,7 +137,7 @@ holds_noted file meta fault at =
           Contains-append_left (count_faults file counts) (cond fixed long []) fault
           (subst (Contains (count_faults file counts)) (same_fault fault 6 of.same_stage six) (in_faults_on file 6 (has_wrong_count file) counts fault.page parts.0 parts.1))
       | inr (seven, wrong) ↦
-          let flags : (fixed ≡ true) × (length_row ≡ true) = both_true fixed length_row wrong in
+          let flags : (fixed ≡ true) × (length_row ≡ true) = and_parts fixed length_row wrong in
           let parts : Contains lengths fault.page × (has_wrong_record file meta (page_at file fault.page) ≡ true) = of_wrong_at file (has_wrong_record file meta) lengths fault.page flags.1 in
           let there : Contains long fault =
           subst (Contains long) (same_fault fault 7 of.same_stage seven) (in_faults_on file 7 (has_wrong_record file meta) lengths fault.page parts.0 parts.1) in
@@ -153,9 +146,7 @@ holds_noted file meta fault at =
 
 by_page_same : (stage n : ℕ) (from : ℕ) (codes others : ℕ → List ℕ) → ((p : ℕ) → codes p ≡ others p) → by_page stage from n codes ≡ by_page stage from n others
 by_page_same stage zero from codes others same = refl
-by_page_same stage (suc n) from codes others same =
-    ap (λ cs. map (λ code. record { stage = stage; page = from; code = code }) cs ++ by_page stage (from + 1) n codes) (same from)
-    ∙ ap (λ faults. map (λ code. record { stage = stage; page = from; code = code }) (others from) ++ faults) (by_page_same stage n (from + 1) codes others same)
+by_page_same stage (suc n) from codes others same = rw (same from, by_page_same stage n (from + 1) codes others same) refl
 
 faults_are : (file : File) (meta : BtreeMeta) → is_recno meta ≡ true → database_faults file (BtreeFields meta) ≡ recno_faults file meta
 unfolding database_faults
@@ -208,14 +199,11 @@ right_counts image meta forest has recno none =
     let no_faults : recno_faults file meta ≡ [] = sym (faults_are file meta recno) ∙ none in
     record {
       right = λ q there.
-          elim (has_wrong_count file (page_at file q)) as (λ b. has_wrong_count file (page_at file q) ≡ b → b ≡ false) [
-            | true ↦ λ wrong.
-                let fault : Fault = record { stage = 8; page = q; code = 6 } in
-                let is : IsFaultOn file 6 (has_wrong_count file) counts fault = record { stage_is = refl; code_is = refl; listed = there; wrong = wrong } in
-                absurd (no_member (recno_faults file meta) fault no_faults
-                (row_holds file meta 6 (has_wrong_count file) counts fault is (λ p at. inner_inside image meta.root p forest root at)
-                (in_six (is_wrong_at file (has_wrong_count file) counts q)
-                (is_fixed meta && is_wrong_at file (has_wrong_record file meta) (leaves file meta.root) q))))
-            | false ↦ λ _. refl
-          ] refl;
+          false_from_ne_true (has_wrong_count file (page_at file q)) (λ wrong.
+          let fault : Fault = record { stage = 8; page = q; code = 6 } in
+          let is : IsFaultOn file 6 (has_wrong_count file) counts fault = record { stage_is = refl; code_is = refl; listed = there; wrong = wrong } in
+          no_member (recno_faults file meta) fault no_faults
+          (row_holds file meta 6 (has_wrong_count file) counts fault is (λ p at. inner_inside image meta.root p forest root at)
+          (in_six (is_wrong_at file (has_wrong_count file) counts q)
+          (is_fixed meta && is_wrong_at file (has_wrong_record file meta) (leaves file meta.root) q))));
     }

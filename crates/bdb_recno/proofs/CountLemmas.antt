@@ -1,10 +1,11 @@
 -- Counting the entries below a page, and noting the internal pages whose counts are wrong.
-use Rattle.std.proofs.Common.{◌≡◌, ℕ, suc, ◌+◌, ◌-◌, ◌<◌, ◌≤◌, Bool, true, false, cond, not, List, [], ◌∷◌, ◌++◌, length, map, take, Option, Some, None, arith, refl, sym, ◌∙◌, ap, subst, inl, inr}
-use Rattle.std.specs.Prelude.{◌==◌, get_or, nat_eq, slice_get, slice_index_or}
+use Rattle.std.proofs.lemmas.Bool.Decides.{nat_tests}
+use Rattle.std.proofs.Common.{◌≡◌, ℕ, suc, ◌+◌, ◌-◌, ◌<◌, ◌≤◌, Bool, true, false, not, List, [], ◌∷◌, ◌++◌, length, map, take, Option, Some, None, arith, refl, sym, ◌∙◌, ap, subst, inl, inr, cond}
+use Rattle.std.specs.Prelude.{◌==◌, nat_eq, slice_get, slice_index_or}
 use Rattle.std.specs.List.{All, Contains, filter, flat_map, list_any}
 use Rattle.std.specs.Option.{is_some, unwrap_or}
-use Rattle.std.proofs.lemmas.Bool.{eq-eqb, eqb-true, eqb-false, ne_eqb, or_from, true≢false}
-use Rattle.std.proofs.lemmas.List.{map-append, take_all, take_more}
+use Rattle.std.proofs.lemmas.Bool.{ne_eqb, or_from}
+use Rattle.std.proofs.lemmas.List.{map-append, take_all}
 use Rattle.std.proofs.lemmas.List.Elements.{All-contains, Contains-get_or, filter-append}
 use Rattle.std.proofs.lemmas.List.Folds.{length-flat_map-take, list_any_at, list_any_more}
 use Rattle.std.proofs.lemmas.List.Sums.{fold-append}
@@ -13,7 +14,7 @@ use Rattle.bdb_format.specs.declared.kinds.Fault.{Fault}
 use Rattle.bdb_format.specs.declared.pages.RecnoItem.{RecnoItem}
 use Rattle.bdb_format.specs.ContentRows.{has_wrong_count, inner_in, inner_pages}
 use Rattle.bdb_format.specs.Page.{Listed, Page, Internal, RecnoInternal}
-use Rattle.bdb_format.proofs.MemberLemmas.{in_map, member_cases, no_member, of_flat_map}
+use Rattle.bdb_format.proofs.MemberLemmas.{in_map, no_member, of_flat_map}
 use Rattle.bdb_graph.specs.Linked.{IsForest}
 use Rattle.bdb_format.specs.Contents.{entries_in, tree_entries}
 use Rattle.bdb_format.specs.File.{File, file_of, header_in, page_at}
@@ -22,10 +23,10 @@ use Rattle.bdb_recno.specs.Noted.{faults_on, noted, noted_all}
 use Rattle.bdb_recno.specs.Pages.{IsRecnoPage, IsRecnoLeaf}
 use Rattle.bdb_recno.specs.Entries.{entries_on}
 use Rattle.bdb_recno.proofs.PageLemmas.{child_recno, entries_are, leaves_recno, recno_cases}
-use Rattle.bdb_format.proofs.ListLemmas.{all_of}
+use Rattle.bdb_format.proofs.ListLemmas.{all_of, only_member}
 
 pub all_one : (P : ℕ → Type 0) (x : ℕ) → P x → All P (x ∷ [])
-all_one P x here = all_of P (x ∷ []) (λ y at. elim (member_cases x [] y at) [ inl same ↦ subst P same here | inr later ↦ absurd (no_member [] y refl later) ])
+all_one P x here = all_of P (x ∷ []) (λ y at. subst P (only_member x y at) here)
 
 -- Entries below a page.
 
@@ -43,11 +44,7 @@ too_many file p ps i left count is below sum over =
     sym (ne_eqb count (length (tree_entries file p)) (λ same. omega arith))
 
 same_zero : (left n count : ℕ) → left + n ≡ count → nat_eq left 0 ≡ (count == n)
-same_zero left n count sum =
-    elim (nat_eq left 0) as (λ b. nat_eq left 0 ≡ b → b ≡ (count == n)) [
-      | true ↦ λ none. let zero_left : left ≡ 0 = eqb-true left 0 none in sym (eq-eqb count n (omega arith))
-      | false ↦ λ some. let more : left ≡ 0 → ⊥ = eqb-false left 0 some in sym (ne_eqb count n (λ same. more (omega arith)))
-    ] refl
+same_zero left n count sum = grind (arith, nat_tests)
 
 -- what is left of a count once all leaves are passed
 pub all_counted : (file : File) (p : ℕ) (ps : List ℕ) (i left count : ℕ) → ps ≡ leaves file p → length ps ≤ i → left + length (entries_on file (take i ps)) ≡ count
@@ -61,10 +58,6 @@ all_counted file p ps i left count is all sum =
 -- an item of an internal page with another count than entries stand below its child
 abbrev pub miscounts : File → RecnoItem → Bool
 miscounts file item = not (item.count == length (tree_entries file item.child))
-
-pub item_recno : (file : File) (items : List RecnoItem) (i : ℕ) (item : RecnoItem) → All (λ (it : RecnoItem). IsRecnoPage file it.child) items → slice_get items i ≡ Some item → IsRecnoPage file item.child
-item_recno file items i item all is =
-    All-contains (λ (it : RecnoItem). IsRecnoPage file it.child) items item all (i, slice_get_within items i item is, get_or_from_slice_get items i item item is)
 
 pub one_miscounts : (file : File) (items : List RecnoItem) (i : ℕ) (item : RecnoItem) (same : Bool) → slice_get items i ≡ Some item → same ≡ (item.count == length (tree_entries file item.child)) → same ≡ false
     → true ≡ list_any (miscounts file) items
@@ -93,14 +86,7 @@ wrong_is_inner file page wrong = absurd cc
 -- a test that holds for internal pages alone
 filter_inner : (test inner : ℕ → Bool) (ps : List ℕ) → ((p : ℕ) → test p ≡ true → inner p ≡ true) → filter test (filter inner ps) ≡ filter test ps
 filter_inner test inner [] is = refl
-filter_inner test inner (p ∷ ps) is =
-    elim (inner p) as (λ b. inner p ≡ b → filter test (cond b (p ∷ filter inner ps) (filter inner ps)) ≡ cond (test p) (p ∷ filter test ps) (filter test ps)) [
-      | true ↦ λ _. ap (λ qs. cond (test p) (p ∷ qs) qs) (filter_inner test inner ps is)
-      | false ↦ λ leaf. filter_inner test inner ps is ∙ ap (λ b. cond b (p ∷ filter test ps) (filter test ps)) (sym (fails leaf))
-    ] refl
-  where
-    fails : inner p ≡ false → test p ≡ false
-    fails leaf = elim (test p) as (λ b. test p ≡ b → b ≡ false) [ true ↦ λ passes. absurd (true≢false (sym (is p passes) ∙ leaf)) | false ↦ λ _. refl ] refl
+filter_inner test inner (p ∷ ps) is = grind (arith, filter_inner test inner ps is, is p)
 
 -- the faults of counts at these pages
 abbrev pub count_faults : File → List ℕ → List Fault
@@ -140,7 +126,7 @@ pub next_recno : (image : List ℕ) (pages : List ℕ) → IsForest image → Al
 next_recno image pages forest all =
     let file : File = file_of image in
     all_of (IsRecnoPage file) (level_below file pages) (λ c at.
-    let found : (p : ℕ) × Contains pages p × Contains (unwrap_or (children_in (page_at file p)) []) c = of_flat_map (λ p. unwrap_or (children_in (page_at file p)) []) pages c at in
+    let found = of_flat_map (λ p. unwrap_or (children_in (page_at file p)) []) pages c at in
     elim (recno_cases image found.0 forest (All-contains (IsRecnoPage file) pages found.0 all found.1)) [
       | inl internal ↦ child_recno image found.0 internal.0 c forest internal.1 (subst (λ q. Contains (unwrap_or (children_in q) []) c) internal.1 found.2)
       | inr leaf ↦ absurd (no_member [] c refl (subst (λ q. Contains (unwrap_or (children_in q) []) c) leaf.1 found.2))
@@ -159,25 +145,3 @@ noted_more image root levels pages next least after forest so_far below is_after
       recno = next_recno image pages forest so_far.recno;
       rest = sym (level_noted left file pages least) ∙ (ap (λ n. noted_all least (count_faults file (inner_in n file pages))) one ∙ so_far.rest);
     }))
-
-pub noted_end : (file : File) (root levels : ℕ) (pages : List ℕ) (least : Option Fault) → IsNotedSoFar file root levels pages least → (header_in (page_at file root)).level ≤ levels
-    → least ≡ noted_all None (count_faults file (inner_pages file root))
-noted_end file root levels pages least so_far all =
-    let none : 0 ≡ (header_in (page_at file root)).level - levels = omega arith in
-    ap (λ n. noted_all least (count_faults file (inner_in n file pages))) none ∙ so_far.rest
-
--- One page more of a list.
-
-pub noted_here : (least : Option Fault) (file : File) (code : ℕ) (test : Page → Bool) (ps : List ℕ) (i : ℕ) (before : Option Fault) → i < length ps → before ≡ noted_all least (faults_on file code test (take i ps))
-    → noted_all before (faults_on file code test (slice_index_or ps i 0 ∷ [])) ≡ noted_all least (faults_on file code test (take (i + 1) ps))
-noted_here least file code test ps i before below is =
-    ap (λ l. noted_all l (faults_on file code test (slice_index_or ps i 0 ∷ []))) is
-    ∙ (sym (noted_parts least file code test (take i ps) (slice_index_or ps i 0 ∷ [])) ∙ ap (λ qs. noted_all least (faults_on file code test qs)) (sym (take_more ps i 0 below)))
-
-pub one_fault : (file : File) (code p : ℕ) (test : Page → Bool) (before : Option Fault) (wrong : Bool) → wrong ≡ test (page_at file p) → wrong ≡ true
-    → noted before (record { stage = 8; page = p; code = code }) ≡ noted_all before (faults_on file code test (p ∷ []))
-one_fault file code p test before wrong is wrongly =
-    ap (λ b. noted_all before (map (λ q. record { stage = 8; page = q; code = code }) (cond b (p ∷ []) []))) (sym wrongly ∙ is)
-
-pub no_fault : (file : File) (code p : ℕ) (test : Page → Bool) (before : Option Fault) (wrong : Bool) → wrong ≡ test (page_at file p) → wrong ≡ false → before ≡ noted_all before (faults_on file code test (p ∷ []))
-no_fault file code p test before wrong is right = ap (λ b. noted_all before (map (λ q. record { stage = 8; page = q; code = code }) (cond b (p ∷ []) []))) (sym right ∙ is)

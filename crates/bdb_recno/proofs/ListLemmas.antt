@@ -1,22 +1,21 @@
 -- The list of a recno, by its entries.
-use Rattle.std.proofs.Common.{◌≡◌, ℕ, zero, suc, ◌+◌, ◌<◌, Bool, true, false, cond, List, [], ◌∷◌, ◌++◌, map, Option, Some, None, arith, refl, sym, ◌∙◌, ap, subst, append-nil}
+use Rattle.std.proofs.Common.{◌≡◌, ℕ, zero, suc, ◌+◌, ◌<◌, Bool, true, false, cond, List, [], ◌∷◌, ◌++◌, Option, Some, None, arith, refl, sym, ◌∙◌, ap, subst, append-nil}
 use Rattle.std.specs.Prelude.{slice_get}
-use Rattle.std.specs.List.{Contains, enumerate_from, filter, flat_map}
+use Rattle.std.specs.List.{Contains, enumerate_from, flat_map}
 use Rattle.std.proofs.lemmas.Bool.{eq-eqb, ne_eqb}
-use Rattle.std.proofs.lemmas.List.{map-append}
-use Rattle.std.proofs.lemmas.List.Elements.{filter-append}
 use Rattle.std.proofs.lemmas.Option.{get_or_from_slice_get, slice_get_within}
 use Rattle.bdb_graph.specs.Linked.{IsForest}
 use Rattle.bdb_format.specs.Chains.{value_of}
 use Rattle.bdb_format.specs.Contents.{entries_in, tree_entries}
 use Rattle.bdb_format.specs.File.{File, file_of, page_at}
 use Rattle.bdb_format.specs.Leaves.{leaves}
-use Rattle.bdb_format.specs.Lists.{ListKey, NumberKey, get, is_key, listed_entry, recno_list}
+use Rattle.bdb_format.specs.Lists.{NumberKey, get, listed_entry, recno_list, ListKey}
 use Rattle.bdb_format.specs.Page.{Item, Listed, RecnoLeaf}
 use Rattle.bdb_format.proofs.MemberLemmas.{of_flat_map}
 use Rattle.bdb_tree.proofs.TreeLemmas.{recno_leaf_page}
-use Rattle.bdb_recno.specs.Pages.{IsRecnoLeaf, IsRecnoPage, IsRecord}
-use Rattle.bdb_recno.proofs.EntryLemmas.{member_is_record}
+use Rattle.bdb_overflow.specs.Datum.{FitsContent}
+use Rattle.bdb_recno.specs.Pages.{IsRecnoLeaf, IsRecnoPage}
+use Rattle.bdb_recno.proofs.EntryLemmas.{member_fits}
 use Rattle.bdb_recno.proofs.PageLemmas.{entries_are, leaves_recno}
 use Rattle.bdb_format.proofs.PairLemmas.{get_append}
 
@@ -29,18 +28,10 @@ entry_values file (Some item) = cond item.deleted [] (value_of file item.content
 
 -- one entry under its own number, and under another one
 get_here : (file : File) (n : ℕ) (item : Item) → get (listed_entry file (n, item)) (NumberKey n) ≡ entry_values file (Some item)
-get_here file n item =
-    elim item.deleted as (λ b. get (cond b [] ((NumberKey n, value_of file item.content) ∷ [])) (NumberKey n) ≡ cond b [] (value_of file item.content ∷ [])) [
-      | true ↦ refl
-      | false ↦ ap (λ b. map (λ (entry : ListKey × List ℕ). entry.1) (cond b ((NumberKey n, value_of file item.content) ∷ []) [])) (eq-eqb n n refl)
-    ]
+get_here file n item = grind (arith, eq-eqb n n refl)
 
 get_other : (file : File) (n m : ℕ) (item : Item) → (n ≡ m → ⊥) → get (listed_entry file (n, item)) (NumberKey m) ≡ []
-get_other file n m item other =
-    elim item.deleted as (λ b. get (cond b [] ((NumberKey n, value_of file item.content) ∷ [])) (NumberKey m) ≡ []) [
-      | true ↦ refl
-      | false ↦ ap (λ b. map (λ (entry : ListKey × List ℕ). entry.1) (cond b ((NumberKey n, value_of file item.content) ∷ []) [])) (ne_eqb n m other)
-    ]
+get_other file n m item other = grind (arith, ne_eqb n m other)
 
 -- entries from a number on, in which a lesser number isn't
 get_before : (file : File) (items : List Item) (n m : ℕ) → m < n → get (flat_map (listed_entry file) (enumerate_from n items)) (NumberKey m) ≡ []
@@ -74,14 +65,14 @@ get_number file root number place is = sym (get_at file (tree_entries file root)
 
 -- Entries are records.
 
-pub entry_is_record : (image : List ℕ) (root : ℕ) (item : Item) → IsForest image → IsRecnoPage (file_of image) root → Contains (tree_entries (file_of image) root) item → IsRecord (file_of image) item.content
-entry_is_record image root item forest recno at =
+pub entry_fits : (image : List ℕ) (root : ℕ) (item : Item) → IsForest image → IsRecnoPage (file_of image) root → Contains (tree_entries (file_of image) root) item → FitsContent (file_of image) item.content
+entry_fits image root item forest recno at =
     let file : File = file_of image in
     let found : (p : ℕ) × Contains (leaves file root) p × Contains (entries_in (page_at file p)) item =
     of_flat_map (λ p. entries_in (page_at file p)) (leaves file root) item (subst (λ items. Contains items item) (entries_are file root) at) in
     let leaf : IsRecnoLeaf file found.0 = leaves_recno image root found.0 forest recno found.1 in
     let page : (l : Listed Item) × (page_at file found.0 ≡ RecnoLeaf l) = recno_leaf_page image found.0 forest leaf in
-    member_is_record image found.0 page.0 item forest leaf page.1 (subst (λ p. Contains (entries_in p) item) page.1 found.2)
+    member_fits image found.0 page.0 item forest leaf page.1 (subst (λ p. Contains (entries_in p) item) page.1 found.2)
 
 -- The record with a number.
 
@@ -99,7 +90,7 @@ live_there file root number place item deleted value is at same live holds =
     ap (λ v. v ∷ []) holds ∙ (ap (λ b. cond b [] (value_of file item.content ∷ [])) (sym live ∙ same) ∙ (ap (entry_values file) at ∙ get_number file root number place is))
 
 -- an entry at a place is a record
-pub place_is_record : (image : List ℕ) (root place : ℕ) (item : Item) → IsForest image → IsRecnoPage (file_of image) root → Some item ≡ slice_get (tree_entries (file_of image) root) place → IsRecord (file_of image) item.content
-place_is_record image root place item forest recno at =
+pub place_fits : (image : List ℕ) (root place : ℕ) (item : Item) → IsForest image → IsRecnoPage (file_of image) root → Some item ≡ slice_get (tree_entries (file_of image) root) place → FitsContent (file_of image) item.content
+place_fits image root place item forest recno at =
     let entries : List Item = tree_entries (file_of image) root in
-    entry_is_record image root item forest recno (place, slice_get_within entries place item (sym at), get_or_from_slice_get entries place item item (sym at))
+    entry_fits image root item forest recno (place, slice_get_within entries place item (sym at), get_or_from_slice_get entries place item item (sym at))

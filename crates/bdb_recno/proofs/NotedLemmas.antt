@@ -1,8 +1,9 @@
 -- The least of the noted faults is the first fault of a stage.
-use Rattle.std.proofs.Common.{◌≡◌, ℕ, ◌<◌, ◌≤◌, Bool, true, false, cond, List, [], ◌∷◌, ◌++◌, Option, Some, None, arith, refl, sym, ◌∙◌, ap, subst, inl, inr, append-nil, append_assoc}
-use Rattle.std.specs.Prelude.{nat_lt, ◌==◌, ◌&&◌, ◌||◌}
-use Rattle.std.specs.List.{Contains, filter, list_any}
-use Rattle.std.proofs.lemmas.Bool.{ltb-true, ltb-false, eqb-true, eqb-false, eq-eqb}
+use Rattle.std.proofs.lemmas.Bool.Decides.{nat_tests}
+use Rattle.std.proofs.Common.{◌≡◌, ℕ, Bool, true, false, cond, List, [], ◌∷◌, ◌++◌, Option, Some, None, arith, refl, sym, ◌∙◌, ap, subst, inl, inr, append-nil, append_assoc, ◌<◌, ◌≤◌}
+use Rattle.std.specs.Prelude.{◌==◌, ◌&&◌, nat_lt, ◌||◌}
+use Rattle.std.specs.List.{Contains, filter}
+use Rattle.std.proofs.lemmas.Bool.{eqb-true, eq-eqb, and_parts, ltb-true, ltb-false, eqb-false}
 use Rattle.std.proofs.lemmas.List.Elements.{Contains-append_left, Contains-append_right, Contains-append_cases}
 use Rattle.std.proofs.lemmas.List.Folds.{list_any_at}
 use Rattle.bdb_format.specs.ByPage.{ComesFirst}
@@ -10,11 +11,11 @@ use Rattle.bdb_format.specs.declared.kinds.Fault.{Fault}
 use Rattle.bdb_format.specs.ContentRows.{is_wrong_at}
 use Rattle.bdb_format.specs.File.{File, page_at}
 use Rattle.bdb_format.specs.Page.{Page}
-use Rattle.bdb_format.proofs.MemberLemmas.{first_member, in_filter, in_map, later_member, member_cases, no_member, of_filter, of_map}
+use Rattle.bdb_format.proofs.MemberLemmas.{first_member, in_filter, in_map, no_member, of_filter, of_map, member_cases}
 use Rattle.bdb_format.proofs.VerdictLemmas.{FirstComesFirst}
 use Rattle.bdb_format.specs.Verdict.{first_fault}
 use Rattle.bdb_recno.specs.Noted.{comes_before, noted, noted_all, faults_on}
-use Rattle.bdb_format.proofs.ListLemmas.{any_member}
+use Rattle.bdb_format.proofs.ListLemmas.{any_member, only_member}
 use Rattle.bdb_format.proofs.FaultLemmas.{same_fault, comes_through, comes_itself}
 
 -- Noting.
@@ -25,27 +26,10 @@ LeastOf faults None = faults ≡ []
 LeastOf faults (Some least) = Contains faults least × ((fault : Fault) → Contains faults fault → ComesFirst least fault)
 
 first_before : (a b : Fault) → comes_before a b ≡ true → ComesFirst a b
-first_before a b before =
-    elim (nat_lt a.page b.page) as (λ t. nat_lt a.page b.page ≡ t → (t || (a.page == b.page && nat_lt a.code b.code)) ≡ true → ComesFirst a b) [
-      | true ↦ λ less _. inl (ltb-true a.page b.page less)
-      | false ↦ λ less.
-          elim (a.page == b.page) as (λ t. (a.page == b.page) ≡ t → (t && nat_lt a.code b.code) ≡ true → ComesFirst a b) [
-            | true ↦ λ same code. let below : a.code < b.code = ltb-true a.code b.code code in inr (eqb-true a.page b.page same, omega arith)
-            | false ↦ λ same none. absurd cc
-          ] refl
-    ] refl before
+first_before a b before = grind (arith, nat_tests)
 
 else_after : (a b : Fault) → comes_before a b ≡ false → ComesFirst b a
-else_after a b after =
-    elim (nat_lt a.page b.page) as (λ t. nat_lt a.page b.page ≡ t → (t || (a.page == b.page && nat_lt a.code b.code)) ≡ false → ComesFirst b a) [
-      | true ↦ λ less none. absurd cc
-      | false ↦ λ less.
-          let high : b.page ≤ a.page = ltb-false a.page b.page less in
-          elim (a.page == b.page) as (λ t. (a.page == b.page) ≡ t → (t && nat_lt a.code b.code) ≡ false → ComesFirst b a) [
-            | true ↦ λ same code. inr (sym (eqb-true a.page b.page same), ltb-false a.code b.code code)
-            | false ↦ λ other _. let differs : a.page ≡ b.page → ⊥ = eqb-false a.page b.page other in let above : b.page < a.page = omega arith in inl above
-          ] refl
-    ] refl after
+else_after a b after = grind (arith, nat_tests)
 
 -- a fault that comes before one of a list, or is at its end
 above_more : (least x : Fault) (before : List Fault) → ((fault : Fault) → Contains before fault → ComesFirst least fault) → ComesFirst least x
@@ -53,10 +37,7 @@ above_more : (least x : Fault) (before : List Fault) → ((fault : Fault) → Co
 above_more least x before all last fault at =
     elim (Contains-append_cases before (x ∷ []) fault at) [
       | inl earlier ↦ all fault earlier
-      | inr here ↦ elim (member_cases x [] fault here) [
-        | inl same ↦ subst (ComesFirst least) same last
-        | inr later ↦ absurd (no_member [] fault refl later)
-      ]
+      | inr here ↦ subst (ComesFirst least) (only_member x fault here) last
     ]
 
 note_step : (before : List Fault) (least : Option Fault) (x : Fault) → LeastOf before least → LeastOf (before ++ (x ∷ [])) (noted least x)
@@ -99,16 +80,11 @@ same_first stage faults (row ∷ rows) (Some least) is first staged there back =
 
 -- Rows over the pages of a list.
 
-both : (a b : Bool) → (a && b) ≡ true → (a ≡ true) × (b ≡ true)
-both true b all = (refl, all)
-both false b all = absurd cc
-
 pub of_wrong_at : (file : File) (test : Page → Bool) (pages : List ℕ) (p : ℕ) → is_wrong_at file test pages p ≡ true → Contains pages p × (test (page_at file p) ≡ true)
 of_wrong_at file test pages p wrong =
-    let found : (q : ℕ) × Contains pages q × ((q == p && test (page_at file q)) ≡ true) = any_member (λ q. q == p && test (page_at file q)) pages wrong in
-    let parts : ((found.0 == p) ≡ true) × (test (page_at file found.0) ≡ true) = both (found.0 == p) (test (page_at file found.0)) found.2 in
-    let same : found.0 ≡ p = eqb-true found.0 p parts.0 in
-    (subst (Contains pages) same found.1, subst (λ q. test (page_at file q) ≡ true) same parts.1)
+    let found = any_member (λ q. q == p && test (page_at file q)) pages wrong in
+    let parts = and_parts (found.0 == p) (test (page_at file found.0)) found.2 in
+    subst (λ q. Contains pages q × (test (page_at file q) ≡ true)) (eqb-true found.0 p parts.0) (found.1, parts.1)
 
 pub in_wrong_at : (file : File) (test : Page → Bool) (pages : List ℕ) (p : ℕ) → Contains pages p → test (page_at file p) ≡ true → is_wrong_at file test pages p ≡ true
 in_wrong_at file test pages p at wrong =
@@ -124,9 +100,8 @@ pub record IsFaultOn (file : File) (code : ℕ) (test : Page → Bool) (pages : 
 
 pub of_faults_on : (file : File) (code : ℕ) (test : Page → Bool) (pages : List ℕ) (fault : Fault) → Contains (faults_on file code test pages) fault → IsFaultOn file code test pages fault
 of_faults_on file code test pages fault at =
-    let found : (p : ℕ) × Contains (filter (λ q. test (page_at file q)) pages) p × (◌≡◌ {A = Fault} (record { stage = 8; page = p; code = code }) fault) =
-    of_map (λ p. record { stage = 8; page = p; code = code }) (filter (λ q. test (page_at file q)) pages) fault at in
-    let passed : Contains pages found.0 × (test (page_at file found.0) ≡ true) = of_filter (λ q. test (page_at file q)) pages found.0 found.1 in
+    let found = of_map (λ p. record { stage = 8; page = p; code = code }) (filter (λ q. test (page_at file q)) pages) fault at in
+    let passed = of_filter (λ q. test (page_at file q)) pages found.0 found.1 in
     subst (IsFaultOn file code test pages) found.2 (record { stage_is = refl; code_is = refl; listed = passed.0; wrong = passed.1 })
 
 pub in_faults_on : (file : File) (code : ℕ) (test : Page → Bool) (pages : List ℕ) (p : ℕ) → Contains pages p → test (page_at file p) ≡ true

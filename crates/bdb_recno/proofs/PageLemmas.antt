@@ -1,38 +1,25 @@
 -- The pages of a tree of records, and the entries below a page.
-use Rattle.std.proofs.Common.{◌≡◌, ◌⊎◌, ℕ, ◌+◌, ◌<◌, ◌≤◌, Bool, true, false, cond, not, List, [], ◌∷◌, ◌++◌, length, map, Option, Some, None, refl, sym, ◌∙◌, ap, subst, inl, inr, append-nil}
-use Rattle.std.specs.Prelude.{◌==◌, ◌||◌, get_or}
+use Rattle.std.proofs.Common.{◌≡◌, ◌⊎◌, ℕ, ◌<◌, ◌≤◌, Bool, true, false, cond, List, [], ◌∷◌, ◌++◌, length, map, Option, Some, None, refl, sym, ◌∙◌, ap, subst, inl, inr, append-nil, arith, not}
+use Rattle.std.specs.Prelude.{◌==◌, get_or, ◌||◌}
 use Rattle.std.specs.List.{Contains, enumerate_from, flat_map}
 use Rattle.std.proofs.lemmas.List.Concat.{flat_map-append}
-use Rattle.std.proofs.lemmas.List.Elements.{Contains-append_right}
 use Rattle.bdb_form.specs.declared.view.PageView.{PageView}
 use Rattle.bdb_form.specs.declared.view.PageView.TheVariants.{RecnoInternal as InternalView, RecnoLeaf as LeafView}
 use Rattle.bdb_form.specs.Seen.{page_seen}
-use Rattle.bdb_graph.proofs.ForestLemmas.{sound_graph}
 use Rattle.bdb_graph.specs.Linked.{HasMetadata, IsForest}
-use Rattle.bdb_format.specs.declared.metadata.FileKind.{FileKind}
-use Rattle.bdb_format.specs.declared.metadata.FileKind.TheVariants.{Btree, Hash as HashFile, Queue as QueueFile}
-use Rattle.bdb_format.specs.declared.references.Reference.{Reference}
-use Rattle.bdb_format.specs.declared.references.Sort.{Sort}
-use Rattle.bdb_format.specs.declared.references.Sort.TheVariants.{Root}
 use Rattle.bdb_format.specs.declared.metadata.BtreeMeta.{BtreeMeta}
 use Rattle.bdb_format.specs.declared.pages.RecnoItem.{RecnoItem}
 use Rattle.bdb_format.specs.Contents.{entries_in, tree_entries}
 use Rattle.bdb_format.specs.File.{File, file_of, page_at, type_in}
-use Rattle.bdb_format.specs.HeadOf.{head_of}
 use Rattle.bdb_format.specs.Leaves.{children_in, leaves}
-use Rattle.bdb_format.specs.Page.{Item, Listed, BtreeFields, Page, Meta, RecnoInternal, RecnoLeaf}
-use Rattle.bdb_format.specs.References.{asked_by, child_types, first_free, fit_code, fit_rows, has_type, targets_in, targets_of, refs, root_types}
-use Rattle.bdb_format.proofs.GraphLemmas.{each_fits}
-use Rattle.bdb_format.proofs.MemberLemmas.{first_member, in_map, later_member, member_cases, no_member}
-use Rattle.bdb_format.proofs.VerdictLemmas.{AllFail, none_is_first_row}
+use Rattle.bdb_format.specs.Page.{Item, Listed, BtreeFields, RecnoInternal, RecnoLeaf}
+use Rattle.bdb_format.specs.References.{child_types, has_type}
 use Rattle.bdb_format.specs.Flags.{is_recno}
 use Rattle.bdb_recno.specs.Entries.{entries_on}
 use Rattle.bdb_recno.specs.Pages.{IsRecnoPage, IsRecnoLeaf}
 use Rattle.bdb_tree.specs.Trees.{IsTreePage}
-use Rattle.bdb_tree.proofs.ShapeLemmas.{IsLeafPage, is_forest_page, no_queue}
-use Rattle.bdb_tree.proofs.TreeLemmas.{IsChild, child_is, leaves_of_inner, leaves_of_leaf, recno_internal_page, recno_leaf, recno_leaf_page, tree_cases, typed_inside}
-use Rattle.bdb_format.proofs.ListLemmas.{in_enumerated}
-use Rattle.bdb_format.proofs.ReferenceLemmas.{forest_names}
+use Rattle.bdb_tree.proofs.ShapeLemmas.{IsLeafPage}
+use Rattle.bdb_tree.proofs.TreeLemmas.{IsChild, child_is, leaves_of_inner, leaves_of_leaf, meta_root_type, recno_internal_page, recno_leaf, recno_leaf_page, tree_cases, typed_inside}
 use Rattle.bdb_format.proofs.TypeLemmas.{of_type}
 
 -- What a page is.
@@ -65,47 +52,11 @@ leaf_recno file p leaf = ap (has_type (4 ∷ 6 ∷ [])) leaf
 
 -- The root.
 
-root_held : (image : List ℕ) (meta : BtreeMeta) (has : HasMetadata (file_of image) (BtreeFields meta)) → IsForest image
-    → (reference : Reference) × Contains (refs (file_of image) has.page) reference × (reference.sort ≡ Root) × (reference.target ≡ meta.root)
-unfolding refs
-root_held image meta has forest =
-    let file : File = file_of image in
-    let free : List (Sort × ℕ) = first_free has.page meta.free in
-    let other : file.kind ≡ QueueFile → ⊥ = no_queue image (head_of image) has.page forest.formed has.inside (ap is_forest_page has.is) in
-    let names : List (Sort × ℕ) = targets_of file.kind has.page (page_at file has.page) in
-    let same : names ≡ free ++ ((Root, meta.root) ∷ []) = forest_names file.kind has.page (page_at file has.page) other ∙ ap (targets_in has.page) has.is in
-    let at : Contains names (Root, meta.root) =
-    subst (λ ns. Contains ns (Root, meta.root)) (sym same) (Contains-append_right free ((Root, meta.root) ∷ []) (Root, meta.root) (first_member (Root, meta.root) [])) in
-    let placed : (i : ℕ) × Contains (enumerate_from 0 names) (i, (Root, meta.root)) = in_enumerated 0 names (Root, meta.root) at in (
-      record { place = placed.0; sort = Root; target = meta.root },
-      in_map (λ (named : ℕ × (Sort × ℕ)). record { place = named.0; sort = named.1.0; target = named.1.1 }) (enumerate_from 0 names) (placed.0, (Root, meta.root)) placed.1,
-      refl,
-      refl,
-    )
-
-root_typed : (file : File) (p : ℕ) (reference : Reference) (meta : BtreeMeta) → page_at file p ≡ Meta (BtreeFields meta) → reference.sort ≡ Root → reference.target ≡ meta.root → fit_code file p reference ≡ None
-    → has_type (root_types (Meta (BtreeFields meta))) (type_in (page_at file meta.root)) ≡ true
-unfolding fit_code
-root_typed file p reference meta is sort target fits =
-    let rows : AllFail (fit_rows file (asked_by p (page_at file p) reference.sort) reference.target) = none_is_first_row (fit_rows file (asked_by p (page_at file p) reference.sort) reference.target) fits in
-    let by_sort : AllFail (fit_rows file (asked_by p (page_at file p) Root) reference.target) = subst (λ s. AllFail (fit_rows file (asked_by p (page_at file p) s) reference.target)) sort rows in
-    let by_target : AllFail (fit_rows file (asked_by p (page_at file p) Root) meta.root) = subst (λ t. AllFail (fit_rows file (asked_by p (page_at file p) Root) t)) target by_sort in
-    let by_page : AllFail (fit_rows file (asked_by p (Meta (BtreeFields meta)) Root) meta.root) = subst (λ q. AllFail (fit_rows file (asked_by p q Root) meta.root)) is by_target in
-    left_of (has_type (root_types (Meta (BtreeFields meta))) (type_in (page_at file meta.root))) by_page.1.0
-  where
-    left_of : (b : Bool) → not (b || false) ≡ false → b ≡ true
-    left_of true passed = refl
-    left_of false passed = absurd cc
-
 -- what metadata of a recno names as its root is a page of records
 pub root_recno : (image : List ℕ) (meta : BtreeMeta) → IsForest image → HasMetadata (file_of image) (BtreeFields meta) → is_recno meta ≡ true
     → IsRecnoPage (file_of image) meta.root
 root_recno image meta forest has recno =
-    let file : File = file_of image in
-    let held = root_held image meta has forest in
-    let type : has_type (root_types (Meta (BtreeFields meta))) (type_in (page_at file meta.root)) ≡ true =
-    root_typed file has.page held.0 meta has.is held.2 held.3 (each_fits file has.page held.0 (sound_graph image forest.linked).references has.inside held.1) in
-    subst (λ b. has_type (cond b (4 ∷ 6 ∷ []) (3 ∷ 5 ∷ [])) (type_in (page_at file meta.root)) ≡ true) recno type
+    subst (λ b. has_type (cond b (4 ∷ 6 ∷ []) (3 ∷ 5 ∷ [])) (type_in (page_at (file_of image) meta.root)) ≡ true) recno (meta_root_type image meta forest has)
 
 -- The pages right below a page.
 

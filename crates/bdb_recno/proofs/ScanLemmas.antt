@@ -1,10 +1,8 @@
 -- The entries that an iterator has left, and the list that they give.
-use Rattle.std.proofs.Common.{◌≡◌, ℕ, suc, ◌+◌, ◌*◌, ◌^◌, ◌<◌, ◌≤◌, Bool, true, false, cond, List, [], ◌∷◌, ◌++◌, drop, length, Option, Some, None, arith, refl, sym, ◌∙◌, ap, subst, inl, inr, length-append}
+use Rattle.std.proofs.Common.{◌≡◌, ℕ, suc, ◌+◌, ◌*◌, ◌^◌, ◌≤◌, Bool, true, cond, List, [], ◌∷◌, ◌++◌, drop, length, Option, Some, None, arith, refl, sym, ◌∙◌, ap, subst, inl, inr, length-append, ◌<◌, false}
 use Rattle.std.specs.Prelude.{slice_get, get_or}
 use Rattle.std.specs.List.{All, Contains, enumerate_from}
-use Rattle.std.proofs.lemmas.List.{drop_all, drop_more}
 use Rattle.std.proofs.lemmas.List.Elements.{All-contains, Contains-get_or}
-use Rattle.std.proofs.lemmas.Option.{get_or_from_slice_get, slice_get_within, slice_get_cases}
 use Rattle.std.proofs.Math.Nat.{mul-le-mul_right}
 use Rattle.bdb_graph.specs.Linked.{IsForest}
 use Rattle.bdb_graph.proofs.FirstLemmas.{formed_accepted}
@@ -17,48 +15,31 @@ use Rattle.bdb_format.specs.Leaves.{leaves}
 use Rattle.bdb_format.specs.Lists.{ListKey, NumberKey, recno_list}
 use Rattle.bdb_format.specs.Page.{Item, Listed, RecnoLeaf}
 use Rattle.bdb_format.proofs.MemberLemmas.{first_member, later_member, member_cases, no_member}
+use Rattle.bdb_tree.proofs.SetLemmas.{drop_at, drop_past}
 use Rattle.bdb_tree.proofs.TreeLemmas.{recno_leaf_page}
-use Rattle.bdb_recno.specs.Entries.{AreNumbered, AreRecords, all_left, entries_on, left_on, listed_of, numbered}
+use Rattle.bdb_recno.specs.Entries.{AreNumbered, AreFit, all_left, entries_on, left_on, listed_of, numbered}
 use Rattle.bdb_recno.specs.Pages.{IsRecnoLeaf, IsRecnoPage}
 use Rattle.bdb_recno.proofs.FormLemmas.{leaf_entries}
-use Rattle.bdb_recno.proofs.ListLemmas.{entry_is_record}
+use Rattle.bdb_recno.proofs.ListLemmas.{entry_fits}
 use Rattle.bdb_recno.proofs.PageLemmas.{entries_are, leaf_inside, leaves_recno}
 
 -- One leaf.
 
-none_left : (items : List Item) (at : ℕ) → None ≡ slice_get items at → drop at items ≡ []
-none_left items at none =
-    elim (slice_get_cases items at).1 [
-      | inl some ↦ absurd (let same : None ≡ Some some.0 = none ∙ some.2 in cc)
-      | inr past ↦ drop_all at items past.0
-    ]
-
-one_left : (items : List Item) (at : ℕ) (item : Item) → Some item ≡ slice_get items at → drop at items ≡ item ∷ drop (at + 1) items
-one_left items at item some =
-    drop_more items at item (slice_get_within items at item (sym some)) ∙ ap (λ x. x ∷ drop (at + 1) items) (get_or_from_slice_get items at item item (sym some))
-
 pub leaf_done : (leaf : Option (Listed Item)) (at : ℕ) → None ≡ slice_get (left_on leaf 0) at → left_on leaf at ≡ []
 leaf_done None at none = refl
-leaf_done (Some leaf) at none = none_left leaf.items at none
+leaf_done (Some leaf) at none = drop_past leaf.items at (sym none)
 
 pub leaf_gives : (leaf : Option (Listed Item)) (at : ℕ) (item : Item) → Some item ≡ slice_get (left_on leaf 0) at → left_on leaf at ≡ item ∷ left_on leaf (at + 1)
 leaf_gives None at item some = absurd cc
-leaf_gives (Some leaf) at item some = one_left leaf.items at item some
+leaf_gives (Some leaf) at item some = drop_at leaf.items at item (sym some)
 
 -- The leaves.
-
--- the leaf at hand gives its next entry
-pub all_gives : (file : File) (before : List Item) (items rest : List Item) (leaves : List ℕ) (item : Item) → all_left file items leaves ≡ before → items ≡ item ∷ rest → before ≡ item ∷ all_left file rest leaves
-all_gives file before items rest leaves item same is = sym same ∙ ap (λ its. its ++ entries_on file leaves) is
 
 -- and then the next leaf is at hand
 pub next_leaf : (file : File) (before : List Item) (items : List Item) (leaves rest : List ℕ) (p : ℕ) (page : Listed Item) → all_left file items leaves ≡ before → items ≡ [] → leaves ≡ p ∷ rest → page_at file p ≡ RecnoLeaf page
     → all_left file page.items rest ≡ before
 next_leaf file before items leaves rest p page same none is at =
     ap (λ q. entries_in q ++ entries_on file rest) (sym at) ∙ (ap (λ ps. entries_on file ps) (sym is) ∙ (ap (λ its. its ++ entries_on file leaves) (sym none) ∙ same))
-
-pub no_leaf : (file : File) (before : List Item) (items : List Item) (leaves : List ℕ) → all_left file items leaves ≡ before → items ≡ [] → leaves ≡ [] → before ≡ []
-no_leaf file before items leaves same none gone = sym same ∙ (ap (λ its. its ++ entries_on file leaves) none ∙ ap (entries_on file) gone)
 
 -- what holds of all holds of the first and of the others
 pub first_is : {X : Type 0} (P : X → Type 0) (xs rest : List X) (x : X) → All P xs → xs ≡ x ∷ rest → P x
@@ -106,20 +87,6 @@ room_for_all image root pages forest recno are few =
     let bytes : file.count * (head_of image).page_size ≤ 2 ^ 30 = few_bytes image forest in
     record { leaves_are = λ k d below. each (get_or pages k d) (Contains-get_or pages k d below); room = omega arith }
 
--- one entry more is passed
-pub one_passed : (file : File) (items rest : List Item) (pages more : List ℕ) (passed : ℕ) (item : Item) → AreNumbered file items pages passed → all_left file items pages ≡ item ∷ all_left file rest more → All (IsRecnoLeaf file) more
-    → AreNumbered file rest more (passed + 1)
-one_passed file items rest pages more passed item are gives leaves_are =
-    record { leaves_are = leaves_are; room = (let one : length (all_left file items pages) ≡ suc (length (all_left file rest more)) = ap length gives in omega (arith, are.room)) }
-
-pub passed_fits : (file : File) (items rest : List Item) (pages more : List ℕ) (passed : ℕ) (item : Item) → AreNumbered file items pages passed → all_left file items pages ≡ item ∷ all_left file rest more → passed + 1 < 2 ^ 32
-passed_fits file items rest pages more passed item are gives =
-    let one : length (all_left file items pages) ≡ suc (length (all_left file rest more)) = ap length gives in omega (arith, are.room)
-
-pub numbered_gives : (file : File) (items rest : List Item) (pages more : List ℕ) (passed : ℕ) (item : Item) → all_left file items pages ≡ item ∷ all_left file rest more
-    → numbered passed (all_left file items pages) ≡ (passed + 1, item) ∷ numbered (passed + 1) (all_left file rest more)
-numbered_gives file items rest pages more passed item gives = ap (numbered passed) gives
-
 -- The list.
 
 pub numbered_all : (image : List ℕ) (root : ℕ) (pages : List ℕ) → pages ≡ leaves (file_of image) root → numbered 0 (all_left (file_of image) [] pages) ≡ enumerate_from 1 (tree_entries (file_of image) root)
@@ -133,10 +100,10 @@ of_enumerated n (x ∷ xs) entry at =
       | inr later ↦ later_member x xs entry.1 (of_enumerated (n + 1) xs entry later)
     ]
 
-pub all_are_records : (image : List ℕ) (root : ℕ) (entries : List (ℕ × Item)) → IsForest image → IsRecnoPage (file_of image) root → entries ≡ enumerate_from 1 (tree_entries (file_of image) root) → AreRecords (file_of image) entries
-all_are_records image root entries forest recno are k d below =
+pub all_fit : (image : List ℕ) (root : ℕ) (entries : List (ℕ × Item)) → IsForest image → IsRecnoPage (file_of image) root → entries ≡ enumerate_from 1 (tree_entries (file_of image) root) → AreFit (file_of image) entries
+all_fit image root entries forest recno are k d below =
     let entry : ℕ × Item = get_or entries k d in
-    entry_is_record image root entry.1 forest recno
+    entry_fits image root entry.1 forest recno
     (of_enumerated 1 (tree_entries (file_of image) root) entry (subst (λ es. Contains es entry) are (Contains-get_or entries k d below)))
 
 pub listed_all : (file : File) (root : ℕ) (entries : List (ℕ × Item)) → entries ≡ enumerate_from 1 (tree_entries file root) → listed_of file entries ≡ recno_list file root
@@ -148,11 +115,3 @@ pub skips_deleted : (file : File) (before : List (ListKey × List ℕ)) (entries
     → deleted ≡ entry.1.deleted → deleted ≡ true → listed_of file rest ≡ before
 skips_deleted file before entries rest entry deleted same is judged gone =
     ap (λ b. cond b [] ((NumberKey entry.0, value_of file entry.1.content) ∷ []) ++ listed_of file rest) (sym gone ∙ judged) ∙ (ap (listed_of file) (sym is) ∙ same)
-
-pub gives_live : (file : File) (before : List (ListKey × List ℕ)) (entries rest : List (ℕ × Item)) (entry : ℕ × Item) (deleted : Bool) (value : List ℕ) → listed_of file entries ≡ before → entries ≡ entry ∷ rest
-    → deleted ≡ entry.1.deleted → deleted ≡ false → value ≡ value_of file entry.1.content → before ≡ (NumberKey entry.0, value) ∷ listed_of file rest
-gives_live file before entries rest entry deleted value same is judged live holds =
-    sym same
-    ∙ (ap (listed_of file) is
-    ∙ (ap (λ b. cond b [] ((NumberKey entry.0, value_of file entry.1.content) ∷ []) ++ listed_of file rest) (sym judged ∙ live)
-    ∙ ap (λ v. (NumberKey entry.0, v) ∷ listed_of file rest) (sym holds)))

@@ -1,4 +1,5 @@
 -- How the counts of internal pages lead to an entry.
+use Rattle.bdb_format.proofs.ListLemmas.{only_member}
 use Rattle.std.proofs.Common.{◌≡◌, ℕ, zero, suc, ◌+◌, ◌-◌, ◌<◌, ◌≤◌, Bool, true, false, cond, List, [], ◌∷◌, ◌++◌, drop, length, map, Option, Some, None, arith, refl, sym, ◌∙◌, ap, subst, inl, inr}
 use Rattle.std.specs.Prelude.{nat_lt, slice_get}
 use Rattle.std.specs.List.{Contains, filter, flat_map, list_any}
@@ -14,7 +15,7 @@ use Rattle.bdb_format.specs.Contents.{tree_entries}
 use Rattle.bdb_format.specs.File.{File, file_of, header_in, page_at}
 use Rattle.bdb_format.specs.Leaves.{children_in}
 use Rattle.bdb_format.specs.Page.{Item, Listed, RecnoInternal, RecnoLeaf}
-use Rattle.bdb_format.proofs.MemberLemmas.{first_member, in_filter, in_flat_map, later_member, member_cases, no_member, of_filter, of_flat_map}
+use Rattle.bdb_format.proofs.MemberLemmas.{first_member, in_filter, in_flat_map, later_member, of_filter, of_flat_map}
 use Rattle.bdb_tree.proofs.TreeLemmas.{IsChild, tree_cases}
 use Rattle.bdb_recno.specs.Counts.{HasRightCounts, child_by_count}
 use Rattle.bdb_recno.specs.Pages.{IsRecnoPage}
@@ -34,20 +35,16 @@ inner_among (suc n) file ps qs among p at =
     let below : ℕ → List ℕ = λ q. unwrap_or (children_in (page_at file q)) [] in
     elim (Contains-append_cases (filter inner ps) (inner_in n file (level_below file ps)) p at) [
       | inl here ↦
-          let passed : Contains ps p × (inner p ≡ true) = of_filter inner ps p here in
+          let passed = of_filter inner ps p here in
           Contains-append_left (filter inner qs) (inner_in n file (level_below file qs)) p (in_filter inner qs p (among p passed.0) passed.1)
       | inr later ↦
           Contains-append_right (filter inner qs) (inner_in n file (level_below file qs)) p
           (inner_among n file (level_below file ps) (level_below file qs)
-          (λ c there.
-          let found : (q : ℕ) × Contains ps q × Contains (below q) c = of_flat_map below ps c there in
-          in_flat_map below qs found.0 c (among found.0 found.1) found.2)
-          p later)
+          (λ c there. let found = of_flat_map below ps c there in in_flat_map below qs found.0 c (among found.0 found.1) found.2) p later)
     ]
 
 one_among : (p : ℕ) (qs : List ℕ) → Contains qs p → AreAmong (p ∷ []) qs
-one_among p qs at q there =
-    elim (member_cases p [] q there) [ inl same ↦ subst (Contains qs) same at | inr later ↦ absurd (no_member [] q refl later) ]
+one_among p qs at q there = subst (Contains qs) (only_member p q there) at
 
 -- the internal pages of a child are some of its parent's
 child_among : (n : ℕ) (file : File) (p c : ℕ) (page : Listed RecnoItem) → page_at file p ≡ RecnoInternal page → Contains (children_of page) c → (header_in (page_at file c)).level ≡ n → (header_in (page_at file p)).level ≡ suc n
@@ -77,10 +74,7 @@ child_counts image p c page forest is at counts =
 
 pub some_level : (image : List ℕ) (p : ℕ) → IsForest image → IsRecnoPage (file_of image) p → 1 ≤ (header_in (page_at (file_of image) p)).level
 some_level image p forest recno =
-    elim (tree_cases image p forest (recno_tree (file_of image) p recno)) [
-      | inl inner ↦ let high : 2 ≤ (header_in (page_at (file_of image) p)).level = inner.level in omega arith
-      | inr leaf ↦ let one : (header_in (page_at (file_of image) p)).level ≡ 1 = leaf.level in omega arith
-    ]
+    elim (tree_cases image p forest (recno_tree (file_of image) p recno)) [ inl inner ↦ omega (arith, inner.level) | inr leaf ↦ omega (arith, leaf.level) ]
 
 -- the counts of a page's own items
 pub own_counts : (image : List ℕ) (p : ℕ) (page : Listed RecnoItem) → IsForest image → IsRecnoPage (file_of image) p → page_at (file_of image) p ≡ RecnoInternal page → HasRightCounts (file_of image) p
@@ -187,9 +181,6 @@ way_ends image root place page left inner forest way is found =
     let leads : LeadsTo file inner.items left None =
     subst (LeadsTo file inner.items left) (sym found) (count_leads file inner.items left (own_counts image page inner forest way.recno (sym is) way.counts)) in
     sym leads ∙ (ap (λ entries. slice_get entries left) (sym (entries_below image page inner forest (sym is))) ∙ way.same)
-
-pub way_begins : (file : File) (root place : ℕ) → IsRecnoPage file root → HasRightCounts file root → IsOnTheWay file root place root place
-way_begins file root place recno counts = record { recno = recno; counts = counts; same = refl }
 
 -- the leaf that has the entry
 pub way_leaf : (image : List ℕ) (root place page left : ℕ) (leaf : Listed Item) (found : Option Item) → IsForest image → IsOnTheWay (file_of image) root place page left → RecnoLeaf leaf ≡ page_at (file_of image) page

@@ -5,7 +5,8 @@ use Rattle.bdb_format.specs.Contents.{entries_in}
 use Rattle.bdb_format.specs.File.{File, page_at}
 use Rattle.bdb_format.specs.Lists.{ListKey, listed_entry}
 use Rattle.bdb_format.specs.Page.{Item, Listed}
-use Rattle.bdb_recno.specs.Pages.{IsRecnoLeaf, IsRecord}
+use Rattle.bdb_overflow.specs.Datum.{FitsContent}
+use Rattle.bdb_recno.specs.Pages.{IsRecnoLeaf}
 
 -- the entries of a leaf from one on
 abbrev pub left_on : Option (Listed Item) → ℕ → List Item
@@ -29,9 +30,9 @@ pub record AreNumbered (file : File) (items : List Item) (leaves : List ℕ) (pa
   pub leaves_are : All (IsRecnoLeaf file) leaves
   pub room : passed + length (all_left file items leaves) < 2 ^ 32
 
--- entries hold records
-abbrev pub AreRecords : File → List (ℕ × Item) → Type 0
-AreRecords file entries = All (λ (entry : ℕ × Item). IsRecord file entry.1.content) entries
+-- what entries name is there
+abbrev pub AreFit : File → List (ℕ × Item) → Type 0
+AreFit file entries = All (λ (entry : ℕ × Item). FitsContent file entry.1.content) entries
 
 -- the live ones as pairs of the list
 abbrev pub listed_of : File → List (ℕ × Item) → List (ListKey × List ℕ)

@@ -12,12 +12,11 @@ ghost use Rattle.bdb_overflow.specs.Datum.{datum_seen};
 ghost use Rattle.bdb_recno.specs.Counts.{HasRightCounts};
 ghost use Rattle.bdb_recno.specs.Pages.{IsRecnoPage};
 
-use crate::entry::{is_deleted, value_at};
 use crate::page::pages_of;
 use crate::search::entry_below;
 use bdb_format::{BtreeMeta, Steps};
 use bdb_graph::{Forest, Linked};
-use bdb_overflow::Datum;
+use bdb_overflow::{Datum, is_deleted, value_of};
 use std::marker::Model;
 use std::sync::ledger::Ledger;
 
@@ -87,5 +86,5 @@ fn record_of<'a, L: Ledger>(
     if is_deleted(&entry) {
         return None;
     }
-    Some(value_at(forest, &entry))
+    Some(value_of(forest, &entry))
 }

@@ -5,24 +5,25 @@ ghost use Rattle.bdb_format.specs.ContentRows.{has_wrong_record, is_wrong_record
 ghost use Rattle.bdb_format.specs.File.{file_of, page_at};
 ghost use Rattle.bdb_format.specs.Leaves.{leaves};
 ghost use Rattle.bdb_format.specs.Verdict.{structure_faults};
+ghost use Rattle.bdb_overflow.specs.Datum.{FitsContent};
 ghost use Rattle.bdb_recno.specs.Noted.{faults_on, noted_all};
-ghost use Rattle.bdb_recno.specs.Pages.{IsRecnoLeaf, IsRecnoPage, IsRecord};
+ghost use Rattle.bdb_recno.specs.Pages.{IsRecnoLeaf, IsRecnoPage};
 ghost use Rattle.bdb_tree.specs.Trees.{IsRoot};
 
-use crate::entry::{is_deleted, value_at};
 use crate::noted::noted;
 use crate::page::leaf_at;
 use bdb_format::{BtreeMeta, Fault};
 use bdb_graph::Forest;
 use bdb_layout::LeafItem;
+use bdb_overflow::{is_deleted, value_of};
 use bdb_tree::tree_leaves;
 
 /// Whether a record is live and hasn't the fixed length; a deleted one isn't looked at.
 fn is_wrong_record(forest: &Forest<'_>, meta: &BtreeMeta, item: &LeafItem<'_>) -> bool
-    requires { IsRecord (file_of forest.now) (leaf_item_seen item.now).content }
+    requires { FitsContent (file_of forest.now) (leaf_item_seen item.now).content }
     ensures { result ≡ is_wrong_record (file_of forest.now) meta.now (leaf_item_seen item.now) }
 {
-    !is_deleted(item) && value_at(forest, item).len() != u64::from(meta.re_len)
+    !is_deleted(item) && value_of(forest, item).len() != u64::from(meta.re_len)
 }
 
 /// Whether a live record of a leaf hasn't the fixed length.

@@ -4,7 +4,6 @@
 mod contents;
 mod counts;
 mod entries;
-mod entry;
 mod found;
 mod items;
 mod lengths;

@@ -1,13 +1,12 @@
 ghost use Rattle.std.specs.Prelude.{◌≡◌};
 ghost use Rattle.std.specs.Iterator.{YieldsFirstBy, item_count};
 ghost use Rattle.bdb_format.specs.File.{file_of};
-ghost use Rattle.bdb_recno.specs.Entries.{AreRecords, Gives, listed_of};
+ghost use Rattle.bdb_recno.specs.Entries.{AreFit, Gives, listed_of};
 ghost use Rattle.bdb_recno.specs.Pairs.{pair_seen};
 
 use crate::entries::Entries;
-use crate::entry::{is_deleted, value_at};
 use bdb_graph::Forest;
-use bdb_overflow::{Datum, KeyView};
+use bdb_overflow::{Datum, KeyView, is_deleted, value_of};
 use std::marker::Model;
 
 /// The live records of a recno that are left, in order, each with its number as key.
@@ -21,19 +20,19 @@ impl<'a> Model for Scan<'a> {
     ghost use Rattle.std.specs.Prelude.{List, ℕ};
     ghost use Rattle.bdb_format.specs.File.{file_of};
     ghost use Rattle.bdb_format.specs.Lists.{ListKey};
-    ghost use Rattle.bdb_recno.specs.Entries.{AreRecords, listed_of};
+    ghost use Rattle.bdb_recno.specs.Entries.{AreFit, listed_of};
 
     ghost Value = { List (ListKey × List ℕ) };
 
     ghost view = { λ it. listed_of (file_of it.forest) it.entries };
 
-    ghost invariant = { λ it. AreRecords (file_of it.forest) it.entries };
+    ghost invariant = { λ it. AreFit (file_of it.forest) it.entries };
 }
 
 impl<'a> Scan<'a> {
     // The live ones of these entries.
     pub(crate) fn over(forest: Forest<'a>, entries: Entries<'a>) -> Scan<'a>
-        requires { AreRecords (file_of forest) entries }
+        requires { AreFit (file_of forest) entries }
         ensures { result ≡ listed_of (file_of forest.entry) entries.entry }
     {
         Scan { forest, entries }
@@ -42,14 +41,14 @@ impl<'a> Scan<'a> {
 
 /// The next live record.
 fn next_live<'a>(forest: &Forest<'a>, entries: &mut Entries<'a>) -> Option<(KeyView<'a>, Datum<'a>)>
-    requires { AreRecords (file_of forest.now) entries.old }
+    requires { AreFit (file_of forest.now) entries.old }
     ensures gives { Gives pair_seen (listed_of (file_of forest.now) entries.old) result (listed_of (file_of forest.now) entries.new) }
-    ensures records { AreRecords (file_of forest.now) entries.new }
+    ensures records { AreFit (file_of forest.now) entries.new }
 {
     loop {
         let (number, item) = entries.next()?;
         if !is_deleted(&item) {
-            return Some((KeyView::Number(number), value_at(forest, &item)));
+            return Some((KeyView::Number(number), value_of(forest, &item)));
         }
     }
 }

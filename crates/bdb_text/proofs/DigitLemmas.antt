@@ -21,9 +21,6 @@ digit_more base n text i value below is small =
     let one : i + 1 ≡ suc i = omega arith in
     ap (digits_from base n) (drop-cons text i 0 below) ∙ rw (is, small, one) refl
 
-pub not_digit : (base n : ℕ) (text : List ℕ) (i : ℕ) → i < length text → is_digit_of base (get_or text i 0) ≡ false → digits_from base n (drop i text) ≡ None
-not_digit base n text i below other = ap (digits_from base n) (drop-cons text i 0 below) ∙ rw other refl
-
 -- i digits of a base of at most 16 say a number below 16 ^ i
 pub next_below : (base n i value : ℕ) → base ≤ 16 → n < 16 ^ i → value < base → base * n + value < 16 ^ (i + 1)
 next_below base n i value small below low =
@@ -42,30 +39,8 @@ next_fits base n i value small few below low =
 
 -- The two bases.
 
-decimal_digit : (byte : ℕ) → is_digit_of 10 byte ≡ is_digit byte
-decimal_digit byte = grind (arith, nat_tests)
-
-decimal_value : (byte : ℕ) → is_digit byte ≡ true → or_zero (digit_value byte) ≡ byte - 48
-decimal_value byte is = grind (arith, nat_tests)
-
 hex_digit_below : (byte : ℕ) → is_digit_of 16 byte ≡ is_some (digit_value byte)
 hex_digit_below byte = grind (arith, nat_tests)
-
-abbrev decimal_fold : ℕ → List ℕ → ℕ
-decimal_fold n text = fold (λ (n byte : ℕ). 10 * n + (byte - 48)) n text
-
-decimal_by : (n byte : ℕ) (text : List ℕ) (digit : Bool) → is_digit byte ≡ digit
-    → ((m : ℕ) → digits_from 10 m text ≡ (if list_all is_digit text then Some (decimal_fold m text) else None))
-    → digits_from 10 n (byte ∷ text) ≡ (if is_digit byte && list_all is_digit text then Some (decimal_fold (10 * n + (byte - 48)) text) else None)
-decimal_by n byte text true is more = rw (decimal_digit byte, decimal_value byte is, is) (more (10 * n + (byte - 48)))
-decimal_by n byte text false is more = rw (decimal_digit byte, is) refl
-
-decimal_all : (n : ℕ) (text : List ℕ) → digits_from 10 n text ≡ (if list_all is_digit text then Some (decimal_fold n text) else None)
-decimal_all n [] = refl
-decimal_all n (byte ∷ text) = decimal_by n byte text (is_digit byte) refl (λ m. decimal_all m text)
-
-pub number_in-digits : (text : List ℕ) → (nat_le 1 (length text) && nat_le (length text) 10) ≡ true → digits_in 10 text ≡ number_in text
-number_in-digits text room = decimal_all 0 text ∙ rw room refl
 
 abbrev hex_fold : ℕ → List ℕ → ℕ
 hex_fold n text = fold (λ (n digit : ℕ). 16 * n + or_zero (digit_value digit)) n text

@@ -16,10 +16,6 @@ list_any-append test (x ∷ a) b h k =
     let both = or_parts (test x) (list_any test a) h in
     rw (both.0, list_any-append test a b both.1 k) refl
 
--- what holds of no line of a table holds of none that is written
-any_row : (List ℕ → Bool) → List (Row Entry) → Bool
-any_row test rows = list_any (λ (row : Row Entry). test (entry_line row.code)) rows
-
 any-written_by : (test : List ℕ → Bool) (row : Row Entry) (holds : Bool) (others : List Entry) → row.holds ≡ holds → test (entry_line row.code) ≡ false
     → list_any test (map entry_line others) ≡ false → list_any test (map entry_line (if row.holds then row.code ∷ others else others)) ≡ false
 any-written_by test row true others h t o = rw (h, t) o

@@ -3,9 +3,9 @@ ghost use Rattle.bdb_model.specs.Sections.{data_read, key_read};
 ghost use Rattle.bdb_text.specs.DataLines.{IsLineError, record_number};
 ghost use Rattle.std.specs.Prelude.{◌≡◌, if◌then◌else◌, Bool, IfOk, IfErr, Some};
 
-use crate::digits::number_in;
 use crate::runs::read_run;
 use crate::spellings::SpellError;
+use bdb_format::number_in;
 use bdb_model::{Bytes, Key};
 use std::alloc::Global;
 

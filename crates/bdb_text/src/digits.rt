@@ -1,8 +1,9 @@
 ghost use Rattle.bdb_model.specs.Keywords.{number_read};
-ghost use Rattle.bdb_format.specs.Digits.{number_in};
 ghost use Rattle.bdb_model.specs.TextSpelling.{digit_value};
 ghost use Rattle.bdb_text.specs.DigitsIn.{digits_in, hexadecimal};
 ghost use Rattle.std.specs.Prelude.{◌≡◌, ◌<◌, ◌≤◌, ◌^◌, IfSome, length};
+
+use bdb_format::number_in;
 
 /// The value of a digit, in either case.
 fn digit_value(byte: u8) -> Option<u64>
@@ -31,16 +32,6 @@ fn digits_in(text: &[u8], base: u64) -> Option<u64>
         }
     }
     Some(number)
-}
-
-/// The number that one to ten decimal digits say.
-pub fn number_in(text: &[u8]) -> Option<u64>
-    ensures { result ≡ number_in text.now }
-{
-    if text.is_empty() || text.len() > 10 {
-        return None;
-    }
-    digits_in(text, 10)
 }
 
 /// The number that a value of a header line says: one to ten decimal digits, or `0x` and one to eight hexadecimal digits, below 2^32.

@@ -16,7 +16,7 @@ use Rattle.bdb_model.specs.Page.{Metadata, BtreeFields, HashFields, QueueFields}
 use Rattle.bdb_model.specs.Answers.{Answer, data_at, data_named, data_of_database, fault_line, found, judged_answer, database_line, name_text, not_found, sound_answer, told, unsupported_line, value_line, values_text, database_in, dumped, section_answer}
 use Rattle.bdb_model.specs.Flags.{kind_of}
 use Rattle.bdb_model.specs.Change.{Change}
-use Rattle.bdb_model.specs.Command.{Request, Verify, ListAll, Get, Dump}
+use Rattle.bdb_model.specs.Command.{Command, Request, Verify, ListAll, Get, Dump, within}
 use Rattle.bdb_model.specs.Databases.{Database, btree_settings, data_under, databases, place_of, recno_settings, settings_of}
 use Rattle.bdb_model.specs.File.{File, file_of}
 use Rattle.bdb_model.specs.Verdict.{Faulty, Judgement, LeftOut, verdict_of}
@@ -72,6 +72,19 @@ judged_own (Some (LeftOut name page)) request image = low_own (told 3 (unsupport
 pub answer_own : (request : Request) (image : List ℕ) → HasOwnStatus (judged_answer (verdict_of image) request image)
 answer_own request image = judged_own (verdict_of image) request image
 
+-- A sound file.
+
+request_is : (limit : ℕ) (asked : Option Request) (command : Command) → within (Some limit) asked ≡ Some command → asked ≡ Some command.request
+request_is limit None command is = absurd cc
+request_is limit (Some request) command is = let same : record { limit = limit; request = request } ≡ command = cc in ap (λ (c : Command). Some c.request) same
+
+pub sound_finishes : (limit : ℕ) (asked : Option Request) (command : Command) (image file : List ℕ) (out err : Change) (status : ℕ)
+    → ((request : Request) → asked ≡ Some request → Finishes (sound_answer request file) out err status) → within (Some limit) asked ≡ Some command
+    → verdict_of image ≡ None → file ≡ image → Finishes (judged_answer (verdict_of image) command.request image) out err status
+sound_finishes limit asked command image file out err status finishes is sound same =
+    subst (λ verdict. Finishes (judged_answer verdict command.request image) out err status) (sym sound)
+    (subst (λ bytes. Finishes (sound_answer command.request bytes) out err status) same (finishes command.request (request_is limit asked command is)))
+
 -- A file that isn't sound.
 
 pub refused_finishes : (verdict : Verdict) (request : Request) (image : List ℕ) (written : Option (List ℕ)) (faults : ℕ) (err : Change) (status : ℕ) → IsVerdictOf image verdict → IsRefused verdict err status
@@ -90,9 +103,6 @@ refused_finishes MemoryVerdict request image written faults err status is tells 
     memory_finishes (judged_answer (verdict_of image) request image) written faults err status (answer_own request image) tells
 
 -- A sound file.
-
-pub sound_judged : (request : Request) (image : List ℕ) (out err : Change) (status : ℕ) → verdict_of image ≡ None → Finishes (sound_answer request image) out err status → Finishes (judged_answer (verdict_of image) request image) out err status
-sound_judged request image out err status none finishes = subst (λ verdict. Finishes (judged_answer verdict request image) out err status) (sym none) finishes
 
 -- what is asked is seen as it is
 pub request_finishes : (seen request : Request) (image : List ℕ) (out err : Change) (status : ℕ) → Some seen ≡ Some request → Finishes (sound_answer seen image) out err status
@@ -125,11 +135,6 @@ pub found_finishes : (prints : Bool) (values : List (List ℕ)) (first : List �
 unfolding values_text
 found_finishes prints values first others out err written status is writes reports =
     subst (λ data_found. Finishes (found prints data_found) out err status) (sym is) (written_finishes (values_text prints (first ∷ others)) out err written status writes reports)
-
-pub nothing_found : (prints : Bool) (values : List (List ℕ)) (written : Option (List ℕ)) (faults : ℕ) (err : Change) (status : ℕ) → values ≡ [] → Tells not_found.err 9 err status → Finishes (found prints values) (moved written written faults faults) err status
-nothing_found prints values written faults err status none tells =
-    subst (λ data_found. Finishes (found prints data_found) (moved written written faults faults) err status) (sym none)
-    (told_finishes 9 not_found.err written faults err status (λ five. omega arith) (λ seven. omega arith) tells)
 
 pub data_found : (file : File) (name : Option (List ℕ)) (key : List ℕ) (i : ℕ) → place_of name (databases file) ≡ Some i → i < length (databases file) → data_named file name key ≡ data_under file (database_at file i).fields key
 unfolding data_named

@@ -4,7 +4,7 @@ use Rattle.std.specs.Prelude.{Some, None, codes, slice_get}
 use Rattle.std.specs.Str.{bytes_eq}
 use Rattle.std.proofs.lemmas.List.{drop_all}
 use Rattle.std.proofs.lemmas.Option.{slice_get_within}
-use Rattle.bdb_model.specs.Command.{Request, Arguments, Given, arguments, command_of, command_with, dump_request, dump_row, get_row, limit_of, list_row, max_bytes, once, plain_row, value_given, verify_row, within}
+use Rattle.bdb_model.specs.Command.{Request, Arguments, Given, arguments, command_of, command_with, dump_row, get_row, limit_of, list_row, max_bytes, once, plain_row, value_given, verify_row, within}
 use Rattle.bdb_tool.proofs.StepLemmas.{from_place, past_place}
 
 -- Operands.
@@ -45,10 +45,6 @@ plain_without word request given words place past = rw (drop_all place words pas
 pub dump_with : (given : List Given) (words : List (List ℕ)) (place : ℕ) → place < length words → command_with dump_row (Some (given_with given (drop place words))) ≡ None
 dump_with given words place within =
     let some : (length (drop place words) == 0) ≡ false = ne_eqb _ _ (λ none. omega (arith, length-drop place words)) in rw some refl
-
-pub dump_without : (given : List Given) (words : List (List ℕ)) (place : ℕ) → length words ≤ place
-    → command_with dump_row (Some (given_with given (drop place words))) ≡ within (limit_of (value_given max_bytes given)) (dump_request (given_with given []))
-dump_without given words place past = rw (drop_all place words past) refl
 
 -- The first word.
 

@@ -1,5 +1,5 @@
 -- Names of numbered rows.
-use Rattle.std.proofs.Common.{◌≡◌, ℕ, ◌-◌, ◌<◌, List, [], length, get_or, ne_eqb, refl, arith}
+use Rattle.std.proofs.Common.{◌≡◌, ℕ, ◌-◌, ◌<◌, List, [], length, ne_eqb, arith}
 use Rattle.std.proofs.lemmas.List.{get_or_past}
 use Rattle.bdb_model.specs.FaultNames.{numbered_name}
 

@@ -1,20 +1,16 @@
 -- Texts that are printed one after another, and what is written of them.
-use Rattle.std.proofs.Common.{◌≡◌, ◌∙◌, ℕ, suc, ◌+◌, ◌≤◌, ◌<◌, Bool, true, false, List, [], ◌∷◌, ◌++◌, length, take, drop, ap, sym, refl, subst, arith, inl, inr, append-nil}
-use Rattle.std.specs.Prelude.{Option, Ok, Err, OnOk, Result, get_or}
+use Rattle.std.proofs.Common.{◌≡◌, ◌∙◌, ℕ, ◌+◌, ◌≤◌, Bool, true, false, List, [], ◌++◌, length, take, ap, sym, refl, subst, arith, inl, inr, append-nil}
+use Rattle.std.specs.Prelude.{Option, Ok, Err, OnOk, Result}
 use Rattle.std.specs.Io.KnownBytes.{Appends}
 use Rattle.std.proofs.KnownBytes.{Appends-nil, Appends-trans}
-use Rattle.std.proofs.Math.Seq.{drop-cons, take-append_seam, take-append-add}
+use Rattle.std.proofs.Math.Seq.{take-append_seam, take-append-add}
 use Rattle.std.proofs.lemmas.Bool.{cases_lt}
-use Rattle.std.proofs.lemmas.List.{append_assoc, drop_all, take-append-le, take_all}
+use Rattle.std.proofs.lemmas.List.{append_assoc, take-append-le, take_all}
 use Rattle.std.proofs.lemmas.Grind.{flat_map-append}
-use Rattle.bdb_model.specs.Answers.{database_line, list_text, value_line, values_text}
-use Rattle.bdb_model.specs.Databases.{Database}
-use Rattle.bdb_model.specs.Chains.{joined}
 use Rattle.bdb_model.specs.Change.{Change, GainsPart}
 use Rattle.bdb_model.specs.Faults.{AppendsPrefix, Rose}
 use Rattle.bdb_model.specs.TextSpelling.{spelling, printed, two_digits}
 use Rattle.bdb_tool.specs.declared.printing.Cut.{Cut}
-use Rattle.bdb_tool.specs.declared.printing.Cut.TheVariants.{WriteFault, Memory}
 use Rattle.bdb_tool.specs.Printing.{IsCutOff, IsOnItsWay, Prints, Writes}
 
 abbrev pub moved : Option (List ℕ) → Option (List ℕ) → ℕ → ℕ → Change

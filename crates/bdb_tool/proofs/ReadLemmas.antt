@@ -1,11 +1,11 @@
 -- The options that were read so far, and those from a place on.
-use Rattle.std.proofs.Common.{◌≡◌, Bool, true, false, List, [], ◌∷◌, ◌++◌, append-nil, append_assoc, drop, inl, inr, refl, sym, ◌∙◌, ap}
+use Rattle.std.proofs.Common.{◌≡◌, Bool, true, false, List, [], ◌∷◌, ◌++◌, append_assoc, drop, inl, inr, refl, sym, ◌∙◌, ap}
 use Rattle.std.specs.Prelude.{ℕ, Option, Some, None}
 use Rattle.std.specs.Str.{bytes_eq}
 use Rattle.std.proofs.lemmas.Bool.{or_cases, or_left, or_parts, or_right}
-use Rattle.bdb_model.specs.Command.{Arguments, Given, OptionRow, arguments, has_repeated, is_given, once, only_operands, with_option}
+use Rattle.bdb_model.specs.Command.{Arguments, Given, OptionRow, arguments, has_repeated, is_given, once, with_option}
 use Rattle.bdb_tool.specs.declared.options.Arguments.{Arguments as ReadArguments}
-use Rattle.bdb_tool.specs.WordsSeen.{AreArguments, HasGiven, IsNew}
+use Rattle.bdb_tool.specs.WordsSeen.{HasGiven, IsNew}
 use Rattle.bdb_tool.proofs.GivenLemmas.{given_other, is_given-push}
 use Rattle.bdb_tool.proofs.StepLemmas.{bytes_swapped}
 
@@ -86,25 +86,6 @@ reads_more options words read more option next reading new at step = record {
   split =
       rw at (reading.split ∙ ap (λ (rest : Option Arguments). after reading.before rest) step ∙ after_option reading.before option (arguments options (drop next words)));
 }
-
-pub reads_end : (options : List OptionRow) (words : List (List ℕ)) (read : ReadArguments) (place : ℕ) → IsReading options words read → arguments options (drop read.operands words) ≡ only_operands (drop place words) → AreArguments (once (arguments options (drop 1 words))) words (record read { operands = place })
-reads_end options words read place reading is = record {
-  given = reading.before;
-  all_is =
-      ap once (reading.split ∙ ap (λ (rest : Option Arguments). after reading.before rest) is
-      ∙ ap (λ (given : List Given). Some (record { given = given; operands = drop place words })) (append-nil reading.before))
-      ∙ rw reading.once_each refl;
-  options_are = record {
-    max_bytes_is = reading.has.max_bytes_is;
-    name_is = reading.has.name_is;
-    hex_is = reading.has.hex_is;
-    print_is = reading.has.print_is;
-  };
-}
-
-pub reads_none : (options : List OptionRow) (words : List (List ℕ)) (read : ReadArguments) → IsReading options words read → arguments options (drop read.operands words) ≡ None → once (arguments options (drop 1 words)) ≡ None
-reads_none options words read reading is =
-    ap once (reading.split ∙ ap (λ (rest : Option Arguments). after reading.before rest) is)
 
 pub reads_twice : (options : List OptionRow) (words : List (List ℕ)) (read : ReadArguments) (option : Given) (rest : Option Arguments) (reading : IsReading options words read) → is_given option.word reading.before ≡ true → arguments options (drop read.operands words) ≡ with_option option.word option.value rest → once (arguments options (drop 1 words)) ≡ None
 reads_twice options words read option rest reading is step =

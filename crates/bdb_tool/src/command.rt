@@ -4,7 +4,7 @@ ghost use Rattle.bdb_model.specs.Command.{Request as ModelRequest, arguments, as
 ghost use Rattle.bdb_tool.specs.WordsSeen.{IsSeen};
 
 use crate::options::{OptionWord, read_arguments};
-use bdb_file::number_in;
+use bdb_format::number_in;
 use bdb_model::Words;
 use bdb_text::is_spelling;
 

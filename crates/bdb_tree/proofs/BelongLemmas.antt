@@ -31,7 +31,8 @@ use Rattle.bdb_graph.proofs.FirstLemmas.{formed_page}
 use Rattle.bdb_graph.proofs.ForestLemmas.{each_page_leads_up, sound_graph}
 use Rattle.bdb_graph.proofs.HeldLemmas.{page_is}
 use Rattle.bdb_tree.specs.Trees.{IsRoot, IsTreePage}
-use Rattle.bdb_tree.proofs.ShapeLemmas.{IsFormedPage, IsLeafPage, is_forest_page, no_queue}
+use Rattle.bdb_graph.proofs.ChildLemmas.{is_queue_page}
+use Rattle.bdb_tree.proofs.ShapeLemmas.{IsFormedPage, IsLeafPage, no_queue}
 use Rattle.bdb_tree.proofs.TreeLemmas.{formed_at, leaf_is_tree, leaves_of_inner, leaves_of_leaf, tree_cases, tree_inside}
 
 -- Which pages have the type of a tree.
@@ -50,7 +51,7 @@ tree_in (Free header) formed has = absurd cc
 tree_in (Meta (BtreeFields meta)) formed has = absurd cc
 tree_in (Meta (HashFields meta)) formed has = absurd cc
 tree_in (Meta (QueueFields meta)) formed has = absurd cc
-tree_in (Hash page) formed has = absurd (true≢false (sym has ∙ formed))
+tree_in (Hash page) formed has = absurd (true≢false (sym has ∙ formed.0))
 tree_in (Internal page) formed has = refl
 tree_in (RecnoInternal page) formed has = refl
 tree_in (Leaf page) formed has = refl
@@ -65,29 +66,13 @@ tree_is image p forest tree = tree_in (page_at (file_of image) p) (formed_at ima
 
 -- A page of a tree is neither an anchor nor a reserve.
 
-forest_page : (page : Page) → is_tree_in page ≡ true → is_forest_page page ≡ true
-forest_page (Internal page) is = refl
-forest_page (RecnoInternal page) is = refl
-forest_page (Leaf page) is = refl
-forest_page (RecnoLeaf page) is = refl
-forest_page (DupLeaf page) is = refl
-forest_page page is = absurd cc
-
-no_meta : (page : Page) → is_tree_in page ≡ true → is_meta page ≡ false
-no_meta (Internal page) is = refl
-no_meta (RecnoInternal page) is = refl
-no_meta (Leaf page) is = refl
-no_meta (RecnoLeaf page) is = refl
-no_meta (DupLeaf page) is = refl
-no_meta page is = absurd cc
-
-no_spare : (page : Page) → is_tree_in page ≡ true → is_spare page ≡ false
-no_spare (Internal page) is = refl
-no_spare (RecnoInternal page) is = refl
-no_spare (Leaf page) is = refl
-no_spare (RecnoLeaf page) is = refl
-no_spare (DupLeaf page) is = refl
-no_spare page is = absurd cc
+plain : (page : Page) → is_tree_in page ≡ true → (is_queue_page page ≡ false) × (is_meta page ≡ false) × (is_spare page ≡ false)
+plain (Internal page) is = (refl, refl, refl)
+plain (RecnoInternal page) is = (refl, refl, refl)
+plain (Leaf page) is = (refl, refl, refl)
+plain (RecnoLeaf page) is = (refl, refl, refl)
+plain (DupLeaf page) is = (refl, refl, refl)
+plain page is = absurd cc
 
 no_anchor_in : (kind : FileKind) (page : Page) → (kind ≡ QueueFile → ⊥) → is_meta page ≡ false → is_anchor_in kind page ≡ false
 no_anchor_in Btree page other none = none
@@ -98,12 +83,12 @@ no_anchor : (image : List ℕ) (p : ℕ) → IsForest image → p ≤ (file_of i
 unfolding is_anchor
 no_anchor image p forest low is =
     let file : File = file_of image in
-    no_anchor_in file.kind (page_at file p) (no_queue image (head_of image) p forest.formed low (forest_page (page_at file p) is)) (no_meta (page_at file p) is)
+    no_anchor_in file.kind (page_at file p) (no_queue image (head_of image) p forest.formed low (plain (page_at file p) is).0) (plain (page_at file p) is).1
 
 no_reserve : (file : File) (p : ℕ) → is_tree_in (page_at file p) ≡ true → is_reserve file p ≡ false
 no_reserve file p is =
     elim (cases_Bool (is_reserve file p)) [
-      | inl reserve ↦ absurd (true≢false (sym (reserve_is file p reserve).spare ∙ no_spare (page_at file p) is))
+      | inl reserve ↦ absurd (true≢false (sym (reserve_is file p reserve).spare ∙ (plain (page_at file p) is).2))
       | inr other ↦ other
     ]
 

@@ -4,6 +4,8 @@ pub mod DownLemmas
 pub mod LevelLemmas
 pub mod LinkLemmas
 pub mod NotedLemmas
+pub mod RootLemmas
+pub mod SetLemmas
 pub mod ShapeLemmas
 pub mod StageLemmas
 pub mod TreeLemmas

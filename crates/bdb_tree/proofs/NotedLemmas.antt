@@ -1,32 +1,33 @@
 -- The faults of leaves as they are noted: the least of them is the first of the stage.
-use Rattle.std.proofs.Common.{◌≡◌, ◌⊎◌, ℕ, zero, suc, ◌+◌, ◌-◌, ◌<◌, ◌≤◌, Bool, true, false, cond, List, [], ◌∷◌, ◌++◌, length, map, take, get_or, arith, refl, sym, ◌∙◌, ap, subst, append-nil, add-one, add-zero, inl, inr}
-use Rattle.std.specs.Prelude.{Option, Some, None, ◌==◌, ◌&&◌, ◌||◌, slice_index}
-use Rattle.std.specs.List.{All, Contains, filter, flat_map, list_any, range_with_len}
+use Rattle.std.proofs.Common.{◌≡◌, ◌⊎◌, ℕ, zero, suc, ◌+◌, ◌-◌, ◌*◌, ◌/◌, ◌<◌, ◌≤◌, Bool, true, false, cond, List, [], ◌∷◌, ◌++◌, length, map, take, get_or, arith, refl, sym, ◌∙◌, ap, subst, append-nil, zero-add, inl, inr}
+use Rattle.std.specs.Prelude.{Option, Some, None, ◌==◌, ◌&&◌, slice_index}
+use Rattle.std.specs.List.{All, Contains, flat_map, list_any, range_with_len}
 use Rattle.std.specs.Option.{option_to_list}
 use Rattle.std.proofs.lemmas.Bool.{and_from, and_parts, cond-false, eq-eqb, eqb-true, ne_eqb}
 use Rattle.std.proofs.lemmas.List.{flat_map_more, take_all, take_more}
-use Rattle.std.proofs.lemmas.List.Folds.{list_any_at}
 use Rattle.std.proofs.lemmas.List.Elements.{Contains-append_cases, Contains-append_left, Contains-append_right, Contains-get_or}
 use Rattle.bdb_format.specs.ByPage.{ComesFirst}
 use Rattle.bdb_format.specs.declared.kinds.Fault.{Fault}
 use Rattle.bdb_format.specs.declared.references.Reference.{Reference}
 use Rattle.bdb_format.specs.declared.references.Sort.{Sort}
 use Rattle.bdb_format.specs.declared.references.Sort.TheVariants.{DuplicateRoot, Root}
-use Rattle.bdb_format.specs.File.{File, file_of}
+use Rattle.bdb_format.specs.File.{File, file_of, page_at}
 use Rattle.bdb_format.specs.Graph.{Owner, all_references}
 use Rattle.bdb_format.specs.Leaves.{LeafPlace, first_or_zero, is_root_reference, is_wrong_leaf, is_wrong_link, leaf_places, leaves, places_from, root_references, tree_rows}
+use Rattle.bdb_format.specs.Page.{Page}
 use Rattle.bdb_format.specs.References.{refs}
 use Rattle.bdb_format.specs.Table.{◌:?◌, first_row}
 use Rattle.bdb_format.specs.Verdict.{holding, tree_faults, first_fault}
-use Rattle.bdb_format.proofs.MemberLemmas.{first_member, in_flat_map, in_range, is_empty, later_member, member_cases, no_member, of_filter, of_flat_map, of_range, in_filter}
-use Rattle.bdb_format.proofs.VerdictLemmas.{FirstComesFirst, IsOfStage, by_page_first, holding_least, in_by_page, of_by_page}
+use Rattle.bdb_format.proofs.MemberLemmas.{first_member, in_flat_map, in_range, is_empty, later_member, member_cases, no_member, of_filter, of_flat_map, of_range}
+use Rattle.bdb_format.proofs.VerdictLemmas.{IsOfStage, in_by_page, of_by_page}
 use Rattle.bdb_graph.specs.Linked.{FitsLeafPage, IsForest, IsTarget}
-use Rattle.bdb_tree.specs.Trees.{IsRoot, IsTreePage}
-use Rattle.bdb_tree.proofs.TreeLemmas.{code_of_two, leaf_fits, leaf_low, root_is_tree}
-use Rattle.bdb_tree.specs.Noted.{IsLeast, IsLeastOf, held_faults, leaf_fault, place_faults, place_in, place_rows, root_faults}
-use Rattle.bdb_format.proofs.ListLemmas.{any_member, passes_here}
+use Rattle.bdb_tree.specs.Trees.{IsTreePage}
+use Rattle.bdb_tree.proofs.TreeLemmas.{code_of_two, leaf_fits, leaf_low, place_of_root}
+use Rattle.bdb_tree.proofs.RootLemmas.{data_root_fits, meta_root_fits, reference_is_tree, reference_root}
+use Rattle.bdb_tree.specs.Noted.{IsLeast, IsLeastOf, data_faults, data_root, held_faults, leaf_fault, meta_root, paired, place_faults, place_in, place_rows, root_faults}
+use Rattle.bdb_format.proofs.ListLemmas.{any_member, passes_here, range_more}
 use Rattle.bdb_format.proofs.FaultLemmas.{same_fault, comes_through, tree_rises, tree_one}
-use Rattle.bdb_format.proofs.ReferenceLemmas.{held_in_all, of_all}
+use Rattle.bdb_format.proofs.ReferenceLemmas.{of_all}
 
 -- The least of some faults.
 
@@ -131,24 +132,6 @@ of_owner : (file : File) (owner : Owner) → Contains (root_references file) own
 unfolding root_references
 of_owner file owner at = of_filter (λ (o : Owner). is_root_reference o.reference.sort) (all_references file) owner at
 
-root_by_sort : (file : File) (sort : Sort) (p : ℕ) → is_root_reference sort ≡ true → IsTarget file sort p → IsRoot file p
-root_by_sort file Root p root is = inl is
-root_by_sort file DuplicateRoot p root is = inr is
-root_by_sort file sort p root is = absurd cc
-
--- a reference to a root that some page holds names a root
-pub held_root : (file : File) (p : ℕ) (reference : Reference) → p ≤ file.last → Contains (refs file p) reference → is_root_reference reference.sort ≡ true → IsRoot file reference.target
-held_root file p reference low held root =
-    root_by_sort file reference.sort reference.target root
-    (record { owner = record { holder = p; reference = reference }; held = held_in_all file p reference low held; sort_is = refl; target_is = refl })
-
--- and so a page of a tree
-pub held_tree : (image : List ℕ) (p : ℕ) (before after : List Reference) (reference : Reference) → IsForest image → p ≤ (file_of image).last → before ++ (reference ∷ after) ≡ refs (file_of image) p
-    → is_root_reference reference.sort ≡ true → IsTreePage (file_of image) reference.target
-held_tree image p before after reference forest low parts root =
-    let held : Contains (refs (file_of image) p) reference = subst (λ rs. Contains rs reference) parts (Contains-append_right before (reference ∷ after) reference (first_member reference after)) in
-    root_is_tree image reference.target forest (held_root (file_of image) p reference low held root)
-
 -- the leaves of a tree are leaves
 pub all_leaves : (image ps : List ℕ) (p : ℕ) → IsForest image → IsTreePage (file_of image) p → ps ≡ leaves (file_of image) p → All (FitsLeafPage (file_of image)) ps
 all_leaves image ps p forest tree is =
@@ -156,29 +139,21 @@ all_leaves image ps p forest tree is =
 
 -- Trees.
 
--- the faults of the leaves of a tree are those of the reference to its root
-pub tree_noted : (file : File) (reference : Reference) (ps : List ℕ) (faults : List Fault) (least : Option Fault) → is_root_reference reference.sort ≡ true → ps ≡ leaves file reference.target
-    → IsLeast (faults ++ flat_map (place_faults file) (places_from reference.sort 0 ps)) least → IsLeast (faults ++ root_faults file reference) least
-tree_noted file reference ps faults least root is here =
-    let all : List LeafPlace = places_from reference.sort 0 (leaves file reference.target) in
-    subst (λ b. IsLeast (faults ++ cond b (flat_map (place_faults file) all) []) least) (sym root)
-    (subst (λ qs. IsLeast (faults ++ flat_map (place_faults file) (places_from reference.sort 0 qs)) least) is here)
+-- the faults of the leaves of a tree are those of its root
+pub tree_noted : (file : File) (sort : Sort) (root : Option ℕ) (r : ℕ) (ps : List ℕ) (faults : List Fault) (least : Option Fault) → root ≡ Some r
+    → ps ≡ leaves file r
+    → IsLeast (faults ++ flat_map (place_faults file) (places_from sort 0 ps)) least → IsLeast (faults ++ root_faults file sort root) least
+tree_noted file sort root r ps faults least is all here =
+    subst (λ q. IsLeast (faults ++ root_faults file sort q) least) (sym is)
+    (subst (λ qs. IsLeast (faults ++ flat_map (place_faults file) (places_from sort 0 qs)) least) all here)
 
--- one reference more
-pub reference_noted : (file : File) (before : List Reference) (reference : Reference) (faults : List Fault) (least : Option Fault)
-    → IsLeast ((faults ++ flat_map (root_faults file) before) ++ root_faults file reference) least → IsLeast (faults ++ flat_map (root_faults file) (before ++ (reference ∷ []))) least
-reference_noted file before reference faults least = subst (λ fs. IsLeast fs least) (flat_map_more (root_faults file) faults before reference)
-
-range_more : (a n : ℕ) → range_with_len a (suc n) ≡ range_with_len a n ++ ((a + n) ∷ [])
-range_more a zero = rw (add-zero a) refl
-range_more a (suc n) = ap (λ xs. a ∷ xs) (range_more (a + 1) n ∙ ap (λ k. range_with_len (a + 1) n ++ (k ∷ [])) (omega arith))
-
--- one page more
-pub page_noted : (file : File) (n : ℕ) (least : Option Fault) → IsLeast (flat_map (held_faults file) (range_with_len 0 n) ++ held_faults file n) least → IsLeast (flat_map (held_faults file) (range_with_len 0 (n + 1))) least
-page_noted file n least =
-    let next : range_with_len 0 (n + 1) ≡ range_with_len 0 n ++ (n ∷ []) =
-    ap (range_with_len 0) (add-one n) ∙ (range_more 0 n ∙ ap (λ k. range_with_len 0 n ++ (k ∷ [])) (omega arith)) in
-    subst (λ fs. IsLeast fs least) (flat_map_more (held_faults file) [] (range_with_len 0 n) n ∙ ap (flat_map (held_faults file)) (sym next))
+-- one page or pair more
+pub one_more : (f : ℕ → List Fault) (before : List Fault) (n : ℕ) (least : Option Fault) → IsLeast ((before ++ flat_map f (range_with_len 0 n)) ++ f n) least
+    → IsLeast (before ++ flat_map f (range_with_len 0 (n + 1))) least
+one_more f before n least =
+    subst (λ fs. IsLeast fs least)
+    (flat_map_more f before (range_with_len 0 n) n ∙ ap (λ ks. before ++ flat_map f ks)
+    (sym (range_more 0 n ∙ ap (λ k. range_with_len 0 n ++ (k ∷ [])) (zero-add n))))
 
 -- all faults that are noted
 abbrev pub noted : File → List Fault
@@ -192,25 +167,54 @@ record IsNoted (file : File) (fault : Fault) : Type 0 where
   first : first_row (place_rows file place) ≡ Some code
   is : leaf_fault place.leaf code ≡ fault
 
-in_root_faults : (file : File) (reference : Reference) (place : LeafPlace) (code : ℕ) → is_root_reference reference.sort ≡ true → Contains (places_from reference.sort 0 (leaves file reference.target)) place
-    → first_row (place_rows file place) ≡ Some code → Contains (root_faults file reference) (leaf_fault place.leaf code)
-in_root_faults file reference place code root at first =
-    let all : List LeafPlace = places_from reference.sort 0 (leaves file reference.target) in
-    let here : Contains (place_faults file place) (leaf_fault place.leaf code) =
-    subst (λ c. Contains (map (leaf_fault place.leaf) (option_to_list c)) (leaf_fault place.leaf code)) (sym first) (first_member (leaf_fault place.leaf code) []) in
-    subst (λ b. Contains (cond b (flat_map (place_faults file) all) []) (leaf_fault place.leaf code)) (sym root) (in_flat_map (place_faults file) all place (leaf_fault place.leaf code) at here)
+-- the fault of a place of a tree
+in_root_faults : (file : File) (sort : Sort) (root : ℕ) (place : LeafPlace) (code : ℕ) → Contains (places_from sort 0 (leaves file root)) place
+    → first_row (place_rows file place) ≡ Some code → Contains (root_faults file sort (Some root)) (leaf_fault place.leaf code)
+in_root_faults file sort root place code at first =
+    in_flat_map (place_faults file) (places_from sort 0 (leaves file root)) place (leaf_fault place.leaf code) at
+    (subst (λ c. Contains (map (leaf_fault place.leaf) (option_to_list c)) (leaf_fault place.leaf code)) (sym first)
+    (first_member (leaf_fault place.leaf code) []))
+
+-- the faults of the tree of a reference are among those that its page holds
+in_held : (image : List ℕ) (p : ℕ) (reference : Reference) (fault : Fault) → IsForest image → p ≤ (file_of image).last
+    → Contains (refs (file_of image) p) reference
+    → is_root_reference reference.sort ≡ true → Contains (root_faults (file_of image) reference.sort (Some reference.target)) fault
+    → Contains (held_faults (file_of image) p) fault
+in_held image p reference fault forest low held root at =
+    let file : File = file_of image in
+    let page : Page = page_at file p in
+    let metas : List Fault = root_faults file Root (meta_root page) in
+    let sets : List Fault = flat_map (data_faults file page) (range_with_len 0 (length (paired page) / 2)) in
+    elim (reference_root image p reference forest low held root) [
+      | inl named ↦
+          Contains-append_left metas sets fault
+          (subst (λ s. Contains (root_faults file s (meta_root page)) fault) named.0
+          (subst (λ r. Contains (root_faults file reference.sort r) fault) (sym named.1) at))
+      | inr set ↦
+          let i : ℕ = set.1.0 in
+          let inside : 2 * i + 1 < length (paired page) = set.1.1 in
+          Contains-append_right metas sets fault
+          (in_flat_map (data_faults file page) (range_with_len 0 (length (paired page) / 2)) i fault
+          (in_range 0 (length (paired page) / 2) i (omega arith) (omega arith))
+          (subst (λ s. Contains (root_faults file s (data_root page i)) fault) set.0
+          (subst (λ r. Contains (root_faults file reference.sort r) fault) (sym set.1.2) at)))
+    ]
 
 -- the fault of each place is noted
-in_noted : (file : File) (place : LeafPlace) (code : ℕ) → Contains (leaf_places file) place → first_row (place_rows file place) ≡ Some code → Contains (noted file) (leaf_fault place.leaf code)
+in_noted : (image : List ℕ) (place : LeafPlace) (code : ℕ) → IsForest image → Contains (leaf_places (file_of image)) place
+    → first_row (place_rows (file_of image) place) ≡ Some code
+    → Contains (noted (file_of image)) (leaf_fault place.leaf code)
 unfolding leaf_places
-in_noted file place code at first =
+in_noted image place code forest at first =
+    let file : File = file_of image in
     let found : (owner : Owner) × Contains (root_references file) owner × Contains (places_from owner.reference.sort 0 (leaves file owner.reference.target)) place =
     of_flat_map (λ (owner : Owner). places_from owner.reference.sort 0 (leaves file owner.reference.target)) (root_references file) place at in
     let owner : Owner = found.0 in
     let root : Contains (all_references file) owner × (is_root_reference owner.reference.sort ≡ true) = of_owner file owner found.1 in
     let held : (owner.holder ≤ file.last) × Contains (refs file owner.holder) owner.reference = of_all file owner root.0 in
     in_flat_map (held_faults file) (range_with_len 0 (file.last + 1)) owner.holder (leaf_fault place.leaf code) (in_range 0 (file.last + 1) owner.holder (omega arith) (omega (arith, held.0)))
-    (in_flat_map (root_faults file) (refs file owner.holder) owner.reference (leaf_fault place.leaf code) held.1 (in_root_faults file owner.reference place code root.1 found.2 first))
+    (in_held image owner.holder owner.reference (leaf_fault place.leaf code) forest held.0 held.1 root.1
+    (in_root_faults file owner.reference.sort owner.reference.target place code found.2 first))
 
 of_place : (file : File) (place : LeafPlace) (fault : Fault) (code : Option ℕ) → Contains (leaf_places file) place → first_row (place_rows file place) ≡ code → Contains (map (leaf_fault place.leaf) (option_to_list code)) fault → IsNoted file fault
 of_place file place fault None at first here = absurd (no_member [] fault refl here)
@@ -220,28 +224,33 @@ of_place file place fault (Some code) at first here =
       | inr later ↦ absurd (no_member [] fault refl later)
     ]
 
-of_root_faults : (file : File) (p : ℕ) (reference : Reference) (fault : Fault) → p ≤ file.last → Contains (refs file p) reference → Contains (root_faults file reference) fault → IsNoted file fault
-unfolding leaf_places root_references
-of_root_faults file p reference fault low held =
-    let all : List LeafPlace = places_from reference.sort 0 (leaves file reference.target) in
-    let owner : Owner = record { holder = p; reference = reference } in
-    elim (is_root_reference reference.sort) as (λ b. is_root_reference reference.sort ≡ b → Contains (cond b (flat_map (place_faults file) all) []) fault → IsNoted file fault) [
-      | false ↦ λ other at. absurd (no_member [] fault refl at)
-      | true ↦ λ root at.
-          let found : (place : LeafPlace) × Contains all place × Contains (place_faults file place) fault = of_flat_map (place_faults file) all fault at in
-          of_place file found.0 fault (first_row (place_rows file found.0))
-          (in_flat_map (λ (o : Owner). places_from o.reference.sort 0 (leaves file o.reference.target)) (filter (λ (o : Owner). is_root_reference o.reference.sort) (all_references file)) owner found.0
-          (in_filter (λ (o : Owner). is_root_reference o.reference.sort) (all_references file) owner (held_in_all file p reference low held) root) found.1)
-          refl found.2
-    ] refl
+of_root_faults : (file : File) (sort : Sort) (root : Option ℕ) (fault : Fault) → is_root_reference sort ≡ true
+    → ((r : ℕ) → root ≡ Some r → IsTarget file sort r)
+    → Contains (root_faults file sort root) fault → IsNoted file fault
+of_root_faults file sort None fault is fits at = absurd (no_member [] fault refl at)
+of_root_faults file sort (Some r) fault is fits at =
+    let found : (place : LeafPlace) × Contains (places_from sort 0 (leaves file r)) place × Contains (place_faults file place) fault =
+    of_flat_map (place_faults file) (places_from sort 0 (leaves file r)) fault at in
+    of_place file found.0 fault (first_row (place_rows file found.0)) (place_of_root file sort r found.0 is (fits r refl) found.1) refl found.2
 
 -- a fault that is noted is that of a place
-of_noted : (file : File) (fault : Fault) → Contains (noted file) fault → IsNoted file fault
-of_noted file fault at =
-    let page : (p : ℕ) × Contains (range_with_len 0 (file.last + 1)) p × Contains (held_faults file p) fault = of_flat_map (held_faults file) (range_with_len 0 (file.last + 1)) fault at in
-    let within : (0 ≤ page.0) × (page.0 < 0 + (file.last + 1)) = of_range 0 (file.last + 1) page.0 page.1 in
-    let found : (r : Reference) × Contains (refs file page.0) r × Contains (root_faults file r) fault = of_flat_map (root_faults file) (refs file page.0) fault page.2 in
-    of_root_faults file page.0 found.0 fault (omega (arith, within.1)) found.1 found.2
+of_noted : (image : List ℕ) (fault : Fault) → IsForest image → Contains (noted (file_of image)) fault → IsNoted (file_of image) fault
+of_noted image fault forest at =
+    let file : File = file_of image in
+    let found : (p : ℕ) × Contains (range_with_len 0 (file.last + 1)) p × Contains (held_faults file p) fault =
+    of_flat_map (held_faults file) (range_with_len 0 (file.last + 1)) fault at in
+    let page : Page = page_at file found.0 in
+    let within : (0 ≤ found.0) × (found.0 < 0 + (file.last + 1)) = of_range 0 (file.last + 1) found.0 found.1 in
+    let low : found.0 ≤ file.last = omega (arith, within.1) in
+    let n : ℕ = length (paired page) / 2 in
+    elim (Contains-append_cases (root_faults file Root (meta_root page)) (flat_map (data_faults file page) (range_with_len 0 n)) fault found.2) [
+      | inl of_meta ↦ of_root_faults file Root (meta_root page) fault refl (meta_root_fits image found.0 forest low) of_meta
+      | inr of_sets ↦
+          let set : (i : ℕ) × Contains (range_with_len 0 n) i × Contains (data_faults file page i) fault =
+          of_flat_map (data_faults file page) (range_with_len 0 n) fault of_sets in
+          let inside : (0 ≤ set.0) × (set.0 < 0 + n) = of_range 0 n set.0 set.1 in
+          of_root_faults file DuplicateRoot (data_root page set.0) fault refl (data_root_fits image found.0 set.0 forest low (omega (arith, inside.1))) set.2
+    ]
 
 -- The faults of the stage.
 
@@ -291,13 +300,17 @@ first_wrong_link true b is = (2, refl, omega arith)
 first_wrong_link false true is = (3, refl, omega arith)
 first_wrong_link false false is = absurd cc
 
-preceded : (file : File) (place : LeafPlace) (code : ℕ) (fault : Fault) → Contains (leaf_places file) place → first_row (place_rows file place) ≡ Some code → place.leaf ≡ fault.page → code ≤ fault.code → IsPreceded file fault
-preceded file place code fault at first same low = record { earlier = leaf_fault place.leaf code; at = in_noted file place code at first; comes = inr (same, low) }
+preceded : (image : List ℕ) (place : LeafPlace) (code : ℕ) (fault : Fault) → IsForest image → Contains (leaf_places (file_of image)) place
+    → first_row (place_rows (file_of image) place) ≡ Some code
+    → place.leaf ≡ fault.page → code ≤ fault.code → IsPreceded (file_of image) fault
+preceded image place code fault forest at first same low =
+    record { earlier = leaf_fault place.leaf code; at = in_noted image place code forest at first; comes = inr (same, low) }
 
 -- a fault of the stage is no earlier than one that is noted
-of_tree_faults : (file : File) (fault : Fault) → Contains (tree_faults file) fault → IsPreceded file fault
+of_tree_faults : (image : List ℕ) (fault : Fault) → IsForest image → Contains (tree_faults (file_of image)) fault → IsPreceded (file_of image) fault
 unfolding tree_faults
-of_tree_faults file fault at =
+of_tree_faults image fault forest at =
+    let file : File = file_of image in
     let p : ℕ = fault.page in
     let types : LeafPlace → Bool = λ other. other.leaf == p && is_wrong_leaf file other in
     let links : LeafPlace → Bool = λ other. other.leaf == p && is_wrong_link file other in
@@ -306,12 +319,13 @@ of_tree_faults file fault at =
       | inl (is, any) ↦
           let found : (place : LeafPlace) × Contains (leaf_places file) place × (types place ≡ true) = any_member types (leaf_places file) any in
           let both = and_parts (found.0.leaf == p) (is_wrong_leaf file found.0) found.2 in
-          preceded file found.0 2 fault found.1 (first_wrong_type (is_wrong_leaf file found.0) (is_wrong_link file found.0) both.1) (eqb-true found.0.leaf p both.0) (omega (arith, is))
+          preceded image found.0 2 fault forest found.1 (first_wrong_type (is_wrong_leaf file found.0) (is_wrong_link file found.0) both.1)
+          (eqb-true found.0.leaf p both.0) (omega (arith, is))
       | inr (is, any) ↦
           let found : (place : LeafPlace) × Contains (leaf_places file) place × (links place ≡ true) = any_member links (leaf_places file) any in
           let both = and_parts (found.0.leaf == p) (is_wrong_link file found.0) found.2 in
           let first : (code : ℕ) × (first_row (place_rows file found.0) ≡ Some code) × (code ≤ 3) = first_wrong_link (is_wrong_leaf file found.0) (is_wrong_link file found.0) both.1 in
-          preceded file found.0 first.0 fault found.1 first.1 (eqb-true found.0.leaf p both.0) (omega (arith, is, first.2))
+          preceded image found.0 first.0 fault forest found.1 first.1 (eqb-true found.0.leaf p both.0) (omega (arith, is, first.2))
     ]
 
 -- The least is the first.
@@ -334,13 +348,13 @@ place_low image place forest at =
     let owner : Owner = found.0 in
     let root : Contains (all_references file) owner × (is_root_reference owner.reference.sort ≡ true) = of_owner file owner found.1 in
     let held : (owner.holder ≤ file.last) × Contains (refs file owner.holder) owner.reference = of_all file owner root.0 in
-    leaf_low image owner.reference.target place.leaf forest (root_is_tree image owner.reference.target forest (held_root file owner.holder owner.reference held.0 held.1 root.1))
+    leaf_low image owner.reference.target place.leaf forest (reference_is_tree image owner.holder owner.reference forest held.0 held.1 root.1)
     (place_leaf owner.reference.sort 0 (leaves file owner.reference.target) place found.2)
 
 noted_in_stage : (image : List ℕ) (fault : Fault) → IsForest image → Contains (noted (file_of image)) fault → Contains (tree_faults (file_of image)) fault
 noted_in_stage image fault forest at =
     let file : File = file_of image in
-    let is : IsNoted file fault = of_noted file fault at in
+    let is : IsNoted file fault = of_noted image fault forest at in
     subst (Contains (tree_faults file)) is.is (in_tree_faults file is.place is.code (place_low image is.place forest is.at) is.at is.first)
 
 first_is_least : (image : List ℕ) (fault : Fault) (faults : List Fault) → IsForest image → IsLeastOf (noted (file_of image)) fault → tree_faults (file_of image) ≡ faults → Some fault ≡ first_fault faults
@@ -349,19 +363,19 @@ first_is_least image fault (first ∷ rest) forest is same =
     let file : File = file_of image in
     let here : Contains (tree_faults file) fault = noted_in_stage image fault forest is.holds in
     let at : Contains (tree_faults file) first = subst (λ fs. Contains fs first) (sym same) (first_member first rest) in
-    let before : IsPreceded file first = of_tree_faults file first at in
+    let before : IsPreceded file first = of_tree_faults image first forest at in
     ap (λ f. Some f)
     (same_fault fault first (tree_one file fault here ∙ sym (tree_one file first at))
     (comes_through fault before.earlier first (is.least before.earlier before.at) before.comes)
     (tree_rises file first rest fault same here))
 
-none_is_least : (image : List ℕ) → noted (file_of image) ≡ [] → tree_faults (file_of image) ≡ []
-none_is_least image none =
+none_is_least : (image : List ℕ) → IsForest image → noted (file_of image) ≡ [] → tree_faults (file_of image) ≡ []
+none_is_least image forest none =
     is_empty (tree_faults (file_of image)) (λ fault at.
-    let before : IsPreceded (file_of image) fault = of_tree_faults (file_of image) fault at in
+    let before : IsPreceded (file_of image) fault = of_tree_faults image fault forest at in
     no_member (noted (file_of image)) before.earlier none before.at)
 
 -- the least of all faults that are noted is the first of the stage
 pub least_is_first : (image : List ℕ) (least : Option Fault) → IsForest image → IsLeast (noted (file_of image)) least → least ≡ first_fault (tree_faults (file_of image))
-least_is_first image None forest is = sym (ap first_fault (none_is_least image is))
+least_is_first image None forest is = sym (ap first_fault (none_is_least image forest is))
 least_is_first image (Some fault) forest is = first_is_least image fault (tree_faults (file_of image)) forest is refl

@@ -1,7 +1,6 @@
 -- What a page of a formed image is, by its type: form has looked at its level and its items.
-use Rattle.std.proofs.Common.{◌≡◌, ◌⊎◌, ℕ, zero, suc, ◌<◌, ◌≤◌, Bool, true, false, cond, List, [], ◌∷◌, length, map, arith, refl, sym, ◌∙◌, ap, subst, inl, inr}
-use Rattle.std.specs.Prelude.{Option, Some, None, ◌%◌, get_or, ◌==◌, ◌&&◌, ◌||◌, not, nat_lt}
-use Rattle.std.specs.List.{list_any}
+use Rattle.std.proofs.Common.{◌≡◌, ◌⊎◌, ℕ, ◌<◌, ◌≤◌, Bool, true, false, cond, List, [], ◌∷◌, length, map, arith, refl, sym, ◌∙◌, ap, subst, inl, inr, Contains}
+use Rattle.std.specs.Prelude.{Some, None, ◌%◌, get_or, ◌==◌, ◌&&◌, ◌||◌, not}
 use Rattle.std.proofs.lemmas.Bool.{and_parts, eqb-false, eqb-true, ltb-false, not-false, true≢false}
 use Rattle.bdb_format.specs.declared.metadata.FileKind.TheVariants.{Queue as QueueFile}
 use Rattle.bdb_format.specs.declared.metadata.Head.{Head}
@@ -15,40 +14,58 @@ use Rattle.bdb_format.specs.HeadOf.{head_of}
 use Rattle.bdb_format.specs.declared.references.Sort.{Sort}
 use Rattle.bdb_format.specs.declared.references.Sort.TheVariants.{DuplicateRoot, Root}
 use Rattle.bdb_format.specs.Leaves.{children_in, wrong_leaf_types}
-use Rattle.std.proofs.lemmas.List.FromFn.{get_or-map-range_with_len}
+use Rattle.std.proofs.lemmas.List.FromFn.{get_or-map-range_with_len, length-map-range_with_len}
 use Rattle.bdb_format.specs.declared.pages.ItemFault.TheVariants.{Offset, Kind, Extent}
 use Rattle.bdb_format.specs.Numbers.{byte_at}
-use Rattle.bdb_format.specs.Page.{Metadata, BtreeFields, HashFields, QueueFields, Content, Inline, Chain, Tree, Unknown, Item, InternalItem, Listed, Page, Zero, Free, Meta, Hash, Internal, RecnoInternal, Leaf, RecnoLeaf, DupLeaf, Overflow, Queue, NoType, PageType, FreePage, HashPage, InternalPage, RecnoInternalPage, LeafPage, RecnoLeafPage, OverflowPage, HashMetaPage, BtreeMetaPage, QueueMetaPage, QueuePage, DupLeafPage, OtherPage}
-use Rattle.bdb_format.specs.Reading.{abstract_page, entries_of, internal_item_at, is_zero, kind_at, leaf_item_at, listed, offset_of, page_as, page_type, recno_item_at}
+use Rattle.bdb_format.specs.Page.{Metadata, BtreeFields, HashFields, QueueFields, Content, Inline, Chain, Tree, Unknown, Item, InternalItem, Listed, Page, Zero, Free, Meta, Hash, Internal, RecnoInternal, Leaf, RecnoLeaf, DupLeaf, Overflow, Queue, NoType, PageType, FreePage, HashPage, InternalPage, RecnoInternalPage, LeafPage, RecnoLeafPage, OverflowPage, HashMetaPage, BtreeMetaPage, QueueMetaPage, QueuePage, DupLeafPage, OtherPage, Set}
+use Rattle.bdb_format.specs.Reading.{abstract_page, entries_of, internal_item_at, is_zero, kind_at, leaf_item_at, listed, offset_of, page_as, page_type, recno_item_at, hash_item_at, leaf_content, hash_content, hash_end}
 use Rattle.bdb_format.specs.References.{has_type, no_item}
-use Rattle.bdb_format.specs.Rows.{form_code, identity_rows, is_leaf_kind, leaf_rows, listed_code, may_have_type, type_of, typed_code}
+use Rattle.bdb_format.specs.Rows.{form_code, is_leaf_kind, leaf_rows, listed_code, type_of, typed_code, hash_rows, item_rows, is_hash_kind}
 use Rattle.bdb_format.specs.Table.{first_row}
-use Rattle.bdb_format.proofs.GraphLemmas.{typed_none, type_fits, queue_types}
+use Rattle.bdb_format.proofs.GraphLemmas.{typed_none}
 use Rattle.bdb_format.proofs.ItemLemmas.{IsIndexed, index_passes, no_index_row, no_item_row}
-use Rattle.bdb_format.proofs.PageLemmas.{later_type, length_items}
+use Rattle.bdb_format.proofs.MemberLemmas.{of_map}
+use Rattle.bdb_format.proofs.PageLemmas.{length_items}
 use Rattle.bdb_graph.specs.Formed.{IsFormed}
+use Rattle.bdb_graph.proofs.ChildLemmas.{is_queue_page, queue_page}
 use Rattle.bdb_graph.proofs.FirstLemmas.{formed_page}
 use Rattle.bdb_tree.specs.Noted.{is_leaf_page}
-use Rattle.bdb_graph.proofs.HeldLemmas.{kind_is, last_page, page_is}
-use Rattle.bdb_format.proofs.LeafLemmas.{leaf_item_is}
+use Rattle.bdb_graph.proofs.HeldLemmas.{last_page, page_is}
 use Rattle.bdb_format.proofs.TypeLemmas.{of_type, if_type}
 
 -- Types.
 
 -- Form.
 
--- an item that is a set off the page is no key
-abbrev pub SetsAreData : Listed Item → Type 0
-SetsAreData page = (i root : ℕ) → i < length page.items → (get_or page.items i no_item).content ≡ Tree root → i % 2 ≡ 1
+-- a value by itself: bytes, or a chain
+abbrev pub IsAlone : Content → Type 0
+IsAlone (Inline bytes) = Unit {0}
+IsAlone (Chain head total) = Unit {0}
+IsAlone (Set blocks) = ⊥
+IsAlone (Tree root) = ⊥
+IsAlone Unknown = ⊥
 
--- a page as form leaves it: internal pages have an item and stand above level 1, at which leaves stand; a hash page has no type of a tree
+-- no item is a set
+abbrev pub AreAlone : List Item → Type 0
+AreAlone items = (i : ℕ) → i < length items → IsAlone (get_or items i no_item).content
+
+-- an item that is a set is no key
+abbrev pub SetsAreData : List Item → Type 0
+SetsAreData items = (i : ℕ) → i < length items → IsAlone (get_or items i no_item).content ⊎ (i % 2 ≡ 1)
+
+-- no key of an internal page is a set off the page
+abbrev pub KeysAreNoTrees : List InternalItem → Type 0
+KeysAreNoTrees items = (root : ℕ) → Contains (map (λ (item : InternalItem). item.key) items) (Tree root) → ⊥
+
+-- a page as form leaves it: internal pages have an item and stand above level 1, at which leaves stand; a hash page has no type of a tree;
+-- sets are data of pairs
 abbrev pub IsFormedPage : Page → Type 0
-IsFormedPage (Hash page) = has_type (3 ∷ 4 ∷ 5 ∷ 6 ∷ 12 ∷ []) (Some page.header.page_type) ≡ false
-IsFormedPage (Internal page) = (2 ≤ page.header.level) × (0 < length page.items)
+IsFormedPage (Hash page) = (has_type (3 ∷ 4 ∷ 5 ∷ 6 ∷ 12 ∷ []) (Some page.header.page_type) ≡ false) × SetsAreData page.items
+IsFormedPage (Internal page) = (2 ≤ page.header.level) × (0 < length page.items) × KeysAreNoTrees page.items
 IsFormedPage (RecnoInternal page) = (2 ≤ page.header.level) × (0 < length page.items)
-IsFormedPage (Leaf page) = (page.header.level ≡ 1) × SetsAreData page
-IsFormedPage (RecnoLeaf page) = page.header.level ≡ 1
-IsFormedPage (DupLeaf page) = page.header.level ≡ 1
+IsFormedPage (Leaf page) = (page.header.level ≡ 1) × SetsAreData page.items
+IsFormedPage (RecnoLeaf page) = (page.header.level ≡ 1) × AreAlone page.items
+IsFormedPage (DupLeaf page) = (page.header.level ≡ 1) × AreAlone page.items
 IsFormedPage Zero = Unit {0}
 IsFormedPage (Free header) = Unit {0}
 IsFormedPage (Meta fields) = Unit {0}
@@ -56,11 +73,10 @@ IsFormedPage (Overflow header piece) = Unit {0}
 IsFormedPage (Queue number records) = Unit {0}
 IsFormedPage NoType = Unit {0}
 
-three_false : {C : Type 0} (a b c : Bool) (x y z : C) → cond a (Some x) (cond b (Some y) (cond c (Some z) None)) ≡ None → (b ≡ false) × (c ≡ false)
-three_false true b c x y z none = absurd cc
-three_false false true c x y z none = absurd cc
-three_false false false true x y z none = absurd cc
-three_false false false false x y z none = (refl, refl)
+second_fails : {C : Type 0} (a b c : Bool) (x y z : C) → cond a (Some x) (cond b (Some y) (cond c (Some z) None)) ≡ None → b ≡ false
+second_fails true b c x y z none = absurd cc
+second_fails false true c x y z none = absurd cc
+second_fails false false c x y z none = refl
 
 -- no row of a page with an index holds: neither that of its level nor that of its entries
 tests : (order : Order) (page : List ℕ) (t : PageType) → listed_code order page t ≡ None → IsIndexed t order page
@@ -71,11 +87,27 @@ some_items order page item_at some =
     let other : entries_of order page ≡ 0 → ⊥ = eqb-false (entries_of order page) 0 some in
     omega (arith, length_items order page item_at)
 
+no_tree : (a b : Bool) (bytes : List ℕ) (head total root : ℕ) → ◌≡◌ {A = Content} (cond a (Inline bytes) (cond b (Chain head total) Unknown)) (Tree root) → ⊥
+no_tree true b bytes head total root same = cc
+no_tree false true bytes head total root same = cc
+no_tree false false bytes head total root same = cc
+
+no_key_tree : (order : Order) (page : List ℕ) (i root : ℕ) → (internal_item_at order page i).key ≡ Tree root → ⊥
+unfolding internal_item_at
+no_key_tree order page i root same = no_tree _ _ _ _ _ root same
+
+keys_are_no_trees : (order : Order) (page : List ℕ) → KeysAreNoTrees (listed order page (internal_item_at order page)).items
+unfolding listed
+keys_are_no_trees order page root at =
+    let key = of_map (λ (item : InternalItem). item.key) _ (Tree root) at in
+    let item = of_map (internal_item_at order page) _ key.0 key.1 in
+    no_key_tree order page item.0 root (ap (λ (i : InternalItem). i.key) item.2 ∙ key.2)
+
 internal_formed : (order : Order) (page : List ℕ) → listed_code order page InternalPage ≡ None → IsFormedPage (page_as order page InternalPage)
 unfolding listed
 internal_formed order page none =
     let passed = tests order page InternalPage none in
-    (ltb-false (byte_at page 24) 2 passed.level, some_items order page (internal_item_at order page) passed.entries)
+    (ltb-false (byte_at page 24) 2 passed.level, some_items order page (internal_item_at order page) passed.entries, keys_are_no_trees order page)
 
 recno_internal_formed : (order : Order) (page : List ℕ) → listed_code order page RecnoInternalPage ≡ None → IsFormedPage (page_as order page RecnoInternalPage)
 unfolding listed
@@ -87,54 +119,105 @@ leaf_level : (order : Order) (page : List ℕ) → not (byte_at page 24 == 1) �
 unfolding listed
 leaf_level order page right = eqb-true (byte_at page 24) 1 (not-false (byte_at page 24 == 1) right)
 
-tree_content : (a b c : Bool) (bytes : List ℕ) (root head total set : ℕ) → ◌≡◌ {A = Content} (cond a (Inline bytes) (cond b (Tree root) (cond c (Chain head total) Unknown))) (Tree set) → b ≡ true
-tree_content true b c bytes root head total set same = absurd cc
-tree_content false true c bytes root head total set same = refl
-tree_content false false true bytes root head total set same = absurd cc
-tree_content false false false bytes root head total set same = absurd cc
+-- an item is a value by itself where it has one of two kinds; else it may have the others
+alone_or : (content : ℕ → Content) (kind : ℕ) (other : Bool) → IsAlone (content 1) → IsAlone (content 3) → (kind == 1 || kind == 3 || other) ≡ true
+    → IsAlone (content kind) ⊎ (other ≡ true)
+alone_or content kind other one three may =
+    elim (kind == 1) as (λ b. (kind == 1) ≡ b → (b || kind == 3 || other) ≡ true → IsAlone (content kind) ⊎ (other ≡ true)) [
+      | true ↦ λ is _. inl (subst (λ k. IsAlone (content k)) (sym (eqb-true kind 1 is)) one)
+      | false ↦ λ _ later.
+          elim (kind == 3) as (λ b. (kind == 3) ≡ b → (b || other) ≡ true → IsAlone (content kind) ⊎ (other ≡ true)) [
+            | true ↦ λ is _. inl (subst (λ k. IsAlone (content k)) (sym (eqb-true kind 3 is)) three)
+            | false ↦ λ _ rest. inr rest
+          ] refl later
+    ] refl may
 
-odd_index : (type index kind : ℕ) → kind ≡ 2 → is_leaf_kind type index kind ≡ true → index % 2 ≡ 1
-odd_index type index kind is passed =
-    let both : (type == 5 && index % 2 == 1) ≡ true = subst (λ k. is_leaf_kind type index k ≡ true) is passed in
-    eqb-true (index % 2) 1 (and_parts (type == 5) (index % 2 == 1) both).1
+-- an item of a leaf for which no row holds: another than a value by itself is data of a btree
+leaf_alone : (order : Order) (page : List ℕ) (i : ℕ) → first_row (leaf_rows order page i) ≡ None
+    → IsAlone (leaf_item_at order page i).content ⊎ (((byte_at page 25 == 5) ≡ true) × (i % 2 ≡ 1))
+unfolding leaf_rows leaf_item_at
+leaf_alone order page i none =
+    let at : ℕ = offset_of order page i in
+    let kind : ℕ = kind_at page at in
+    elim (alone_or (leaf_content order page at) kind (kind == 2 && byte_at page 25 == 5 && i % 2 == 1) tt tt
+    (not-false _ (second_fails _ (not (is_leaf_kind (byte_at page 25) i kind)) _ Offset Kind Extent none))) [
+      | inl alone ↦ inl alone
+      | inr set ↦
+          let both : ((kind == 2 && byte_at page 25 == 5) ≡ true) × ((i % 2 == 1) ≡ true) = and_parts (kind == 2 && byte_at page 25 == 5) (i % 2 == 1) set in
+          inr ((and_parts (kind == 2) (byte_at page 25 == 5) both.0).1, eqb-true (i % 2) 1 both.1)
+    ]
 
--- no row of an item of a leaf holds
-leaf_kind : (order : Order) (page : List ℕ) (index : ℕ) → first_row (leaf_rows order page index) ≡ None → is_leaf_kind (byte_at page 25) index (kind_at page (offset_of order page index)) ≡ true
-unfolding leaf_rows
-leaf_kind order page index none = not-false _ (three_false _ (not (is_leaf_kind (byte_at page 25) index (kind_at page (offset_of order page index)))) _ Offset Kind Extent none).0
+hash_alone : (order : Order) (page : List ℕ) (i : ℕ) → first_row (hash_rows order page i) ≡ None → IsAlone (hash_item_at order page i).content ⊎ (i % 2 ≡ 1)
+unfolding hash_rows hash_item_at
+hash_alone order page i none =
+    let at : ℕ = offset_of order page i in
+    let kind : ℕ = byte_at page at in
+    elim (alone_or (hash_content order page at (hash_end order page i)) kind (i % 2 == 1 && (kind == 2 || kind == 4)) tt tt
+    (not-false _ (second_fails _ (not (is_hash_kind i kind)) _ Offset Kind Extent none))) [
+      | inl alone ↦ inl alone
+      | inr set ↦ inr (eqb-true (i % 2) 1 (and_parts (i % 2 == 1) (kind == 2 || kind == 4) set).0)
+    ]
 
-leaf_content_kind : (order : Order) (page : List ℕ) (index root : ℕ) → (leaf_item_at order page index).content ≡ Tree root → kind_at page (offset_of order page index) ≡ 2
-unfolding leaf_item_at
-leaf_content_kind order page index root is = eqb-true (kind_at page (offset_of order page index)) 2 (tree_content _ _ _ _ _ _ _ root is)
-
-sets_are_data : (order : Order) (page : List ℕ) → listed_code order page LeafPage ≡ None → SetsAreData (listed order page (leaf_item_at order page))
-sets_are_data order page none i root below is =
-    let inside : i < entries_of order page = omega (arith, length_items order page (leaf_item_at order page)) in
-    odd_index (byte_at page 25) i (kind_at page (offset_of order page i))
-    (leaf_content_kind order page i root (ap (λ (item : Item). item.content) (sym (leaf_item_is order page i inside)) ∙ is))
-    (leaf_kind order page i (no_item_row order page LeafPage i none inside))
-
-hash_formed : (order : Order) (page : List ℕ) (byte : ℕ) → byte_at page 25 ≡ byte → has_type (3 ∷ 4 ∷ 5 ∷ 6 ∷ 12 ∷ []) (Some byte) ≡ false → IsFormedPage (page_as order page HashPage)
+-- what follows of an item from its rows holds for each item of a page
+each_item : (order : Order) (page : List ℕ) (t : PageType) (item_at : ℕ → Item) (P : ℕ → Item → Type 0) → listed_code order page t ≡ None
+    → ((i : ℕ) → first_row (item_rows t order page i) ≡ None → P i (item_at i))
+    → (i : ℕ) → i < length (listed order page item_at).items → P i (get_or (listed order page item_at).items i no_item)
 unfolding listed
-hash_formed order page byte is other = ap (λ b. has_type (3 ∷ 4 ∷ 5 ∷ 6 ∷ 12 ∷ []) (Some b)) is ∙ other
+each_item order page t item_at P none each i below =
+    let inside : i < entries_of order page = omega (arith, length-map-range_with_len item_at 0 (entries_of order page)) in
+    subst (P i) (sym (get_or-map-range_with_len item_at 0 (entries_of order page) i i no_item inside (omega arith)))
+    (each i (no_item_row order page t i none inside))
+
+leaf_formed : (order : Order) (page : List ℕ) → listed_code order page LeafPage ≡ None → IsFormedPage (page_as order page LeafPage)
+leaf_formed order page none = (
+  leaf_level order page (tests order page LeafPage none).level,
+  each_item order page LeafPage (leaf_item_at order page) (λ i item. IsAlone item.content ⊎ (i % 2 ≡ 1)) none (λ i row.
+      elim (leaf_alone order page i row) [ inl alone ↦ inl alone | inr other ↦ inr other.1 ]),
+)
+
+-- the items of a leaf that isn't one of a btree
+all_alone : (order : Order) (page : List ℕ) (t : PageType) (byte : ℕ) → byte_at page 25 ≡ byte → (byte == 5) ≡ false → listed_code order page t ≡ None
+    → ((i : ℕ) → item_rows t order page i ≡ leaf_rows order page i) → AreAlone (listed order page (leaf_item_at order page)).items
+all_alone order page t byte is other none rows =
+    each_item order page t (leaf_item_at order page) (λ i item. IsAlone item.content) none (λ i row.
+    elim (leaf_alone order page i (ap first_row (sym (rows i)) ∙ row)) [
+      | inl alone ↦ alone
+      | inr five ↦ absurd
+          (true≢false (sym five.0 ∙ (ap (λ b. b == 5) is ∙ other)))
+    ])
+
+hash_formed : (order : Order) (page : List ℕ) (byte : ℕ) → byte_at page 25 ≡ byte → has_type (3 ∷ 4 ∷ 5 ∷ 6 ∷ 12 ∷ []) (Some byte) ≡ false
+    → listed_code order page HashPage ≡ None
+    → IsFormedPage (page_as order page HashPage)
+unfolding listed
+hash_formed order page byte is other none = (
+  ap (λ b. has_type (3 ∷ 4 ∷ 5 ∷ 6 ∷ 12 ∷ []) (Some b)) is ∙ other,
+  each_item order page HashPage (hash_item_at order page) (λ i item. IsAlone item.content ⊎ (i % 2 ≡ 1)) none (hash_alone order page),
+)
 
 typed_formed : (head : Head) (number : ℕ) (page : List ℕ) → typed_code head number page (page_type (byte_at page 25)) ≡ None → IsFormedPage (page_as head.order page (page_type (byte_at page 25)))
 typed_formed head number page =
     let byte : ℕ = byte_at page 25 in
     let P : PageType → Type 0 = λ t. typed_code head number page t ≡ None → IsFormedPage (page_as head.order page t) in
     if_type P (byte == 0) FreePage _ (λ is none. tt) (λ _.
-    if_type P (byte == 2) HashPage _ (λ is none. hash_formed head.order page 2 (eqb-true byte 2 is) refl) (λ _.
+    if_type P (byte == 2) HashPage _ (λ is none. hash_formed head.order page 2 (eqb-true byte 2 is) refl none) (λ _.
     if_type P (byte == 3) InternalPage _ (λ is none. internal_formed head.order page none) (λ _.
     if_type P (byte == 4) RecnoInternalPage _ (λ is none. recno_internal_formed head.order page none) (λ _.
-    if_type P (byte == 5) LeafPage _ (λ is none. (leaf_level head.order page (tests head.order page LeafPage none).level, sets_are_data head.order page none)) (λ _.
-    if_type P (byte == 6) RecnoLeafPage _ (λ is none. leaf_level head.order page (tests head.order page RecnoLeafPage none).level) (λ _.
+    if_type P (byte == 5) LeafPage _ (λ is none. leaf_formed head.order page none) (λ _.
+    if_type P (byte == 6) RecnoLeafPage _ (λ is none. (
+      leaf_level head.order page (tests head.order page RecnoLeafPage none).level,
+      all_alone head.order page RecnoLeafPage 6 (eqb-true byte 6 is) refl none (λ i. refl),
+    )) (λ _.
     if_type P (byte == 7) OverflowPage _ (λ is none. tt) (λ _.
     if_type P (byte == 8) HashMetaPage _ (λ is none. tt) (λ _.
     if_type P (byte == 9) BtreeMetaPage _ (λ is none. tt) (λ _.
     if_type P (byte == 10) QueueMetaPage _ (λ is none. tt) (λ _.
     if_type P (byte == 11) QueuePage _ (λ is none. tt) (λ _.
-    if_type P (byte == 12) DupLeafPage _ (λ is none. leaf_level head.order page (tests head.order page DupLeafPage none).level) (λ _.
-    if_type P (byte == 13) HashPage OtherPage (λ is none. hash_formed head.order page 13 (eqb-true byte 13 is) refl) (λ _ none. tt)))))))))))))
+    if_type P (byte == 12) DupLeafPage _ (λ is none. (
+      leaf_level head.order page (tests head.order page DupLeafPage none).level,
+      all_alone head.order page DupLeafPage 12 (eqb-true byte 12 is) refl none (λ i. refl),
+    )) (λ _.
+    if_type P (byte == 13) HashPage OtherPage (λ is none. hash_formed head.order page 13 (eqb-true byte 13 is) refl none) (λ _ none. tt)))))))))))))
 
 -- a page without a fault of form
 abstract_formed : (head : Head) (number : ℕ) (page : List ℕ) → form_code head number page ≡ None → IsFormedPage (abstract_page head.order page)
@@ -155,32 +238,10 @@ page_formed image head p formed low =
 
 -- Queue files.
 
--- a page that no queue file has
-abbrev pub is_forest_page : Page → Bool
-is_forest_page Zero = false
-is_forest_page (Meta (QueueFields meta)) = false
-is_forest_page (Queue number records) = false
-is_forest_page NoType = false
-is_forest_page page = true
-
-queue_as : (order : Order) (page : List ℕ) (byte : ℕ) → (byte ≡ 10) ⊎ (byte ≡ 11) → is_forest_page (page_as order page (page_type byte)) ≡ false
-queue_as order page byte types =
-    elim types [ inl is ↦ ap (λ b. is_forest_page (page_as order page (page_type b))) is | inr is ↦ ap (λ b. is_forest_page (page_as order page (page_type b))) is ]
-
-queue_abstract : (head : Head) (number : ℕ) (page : List ℕ) → head.kind ≡ QueueFile → form_code head number page ≡ None → is_forest_page (abstract_page head.order page) ≡ false
-unfolding abstract_page
-queue_abstract head number page queue none =
-    let byte : ℕ = byte_at page 25 in
-    elim (is_zero page) as (λ zeros. is_zero page ≡ zeros → is_forest_page (elim zeros [ true ↦ Zero | false ↦ page_as head.order page (page_type byte) ]) ≡ false) [
-      | true ↦ λ _. refl
-      | false ↦ λ some. queue_as head.order page byte (queue_types number byte (ap (λ kind. may_have_type kind number byte) (sym queue) ∙ type_fits head number page some none))
-    ] refl
-
-pub no_queue : (image : List ℕ) (head : Head) (p : ℕ) → IsFormed image head → p ≤ (file_of image).last → is_forest_page (page_at (file_of image) p) ≡ true → (file_of image).kind ≡ QueueFile → ⊥
-no_queue image head p formed low is queue =
-    let inside : p ≤ (head_of image).last = omega (arith, low, last_page image) in
-    let none : form_code (head_of image) p (page_bytes (head_of image) image p) ≡ None = formed_page image p formed.form inside in
-    true≢false (sym is ∙ (ap is_forest_page (page_is image p inside) ∙ queue_abstract (head_of image) p (page_bytes (head_of image) image p) (sym (kind_is image) ∙ queue) none))
+-- a page that a queue file hasn't
+pub no_queue : (image : List ℕ) (head : Head) (p : ℕ) → IsFormed image head → p ≤ (file_of image).last → is_queue_page (page_at (file_of image) p) ≡ false
+    → (file_of image).kind ≡ QueueFile → ⊥
+no_queue image head p formed low other queue = true≢false (sym (queue_page image head p formed low queue) ∙ other)
 
 -- Shapes.
 
@@ -208,14 +269,14 @@ tree_shape (Free header) formed has = absurd cc
 tree_shape (Meta (BtreeFields meta)) formed has = absurd cc
 tree_shape (Meta (HashFields meta)) formed has = absurd cc
 tree_shape (Meta (QueueFields meta)) formed has = absurd cc
-tree_shape (Hash page) formed has = absurd (true≢false (sym has ∙ formed))
+tree_shape (Hash page) formed has = absurd (true≢false (sym has ∙ formed.0))
 tree_shape (Internal page) formed has =
     inl (record { children = map (λ (item : InternalItem). item.child) page.items; are = refl; some = some_children (λ (item : InternalItem). item.child) page.items formed.1; level = formed.0 })
 tree_shape (RecnoInternal page) formed has =
     inl (record { children = map (λ (item : RecnoItem). item.child) page.items; are = refl; some = some_children (λ (item : RecnoItem). item.child) page.items formed.1; level = formed.0 })
 tree_shape (Leaf page) formed has = inr (record { none = refl; level = formed.0; type = refl })
-tree_shape (RecnoLeaf page) formed has = inr (record { none = refl; level = formed; type = refl })
-tree_shape (DupLeaf page) formed has = inr (record { none = refl; level = formed; type = refl })
+tree_shape (RecnoLeaf page) formed has = inr (record { none = refl; level = formed.0; type = refl })
+tree_shape (DupLeaf page) formed has = inr (record { none = refl; level = formed.0; type = refl })
 tree_shape (Overflow header piece) formed has = absurd cc
 tree_shape (Queue number records) formed has = absurd cc
 tree_shape NoType formed has = absurd cc
@@ -230,33 +291,27 @@ same_type (QueueFields meta) t has same = true≢false (sym has ∙ ap (has_type
 hash_type : (n t : ℕ) → has_type (3 ∷ 4 ∷ 5 ∷ 6 ∷ 12 ∷ []) (Some t) ≡ true → has_type (3 ∷ 4 ∷ 5 ∷ 6 ∷ 12 ∷ []) (Some n) ≡ false → Some n ≡ Some t → ⊥
 hash_type n t has formed same = true≢false (sym has ∙ (ap (has_type (3 ∷ 4 ∷ 5 ∷ 6 ∷ 12 ∷ [])) (sym same) ∙ formed))
 
-pub internal_of : (page : Page) → IsFormedPage page → type_in page ≡ Some 3 → (inner : Listed InternalItem) × (page ≡ Internal inner)
-internal_of (Internal page) formed is = (page, refl)
-internal_of (Hash page) formed is = absurd (hash_type page.header.page_type 3 refl formed is)
-internal_of (Meta fields) formed is = absurd (same_type fields 3 refl is)
-internal_of page formed is = absurd cc
-
 pub recno_internal_of : (page : Page) → IsFormedPage page → type_in page ≡ Some 4 → (inner : Listed RecnoItem) × (page ≡ RecnoInternal inner)
 recno_internal_of (RecnoInternal page) formed is = (page, refl)
-recno_internal_of (Hash page) formed is = absurd (hash_type page.header.page_type 4 refl formed is)
+recno_internal_of (Hash page) formed is = absurd (hash_type page.header.page_type 4 refl formed.0 is)
 recno_internal_of (Meta fields) formed is = absurd (same_type fields 4 refl is)
 recno_internal_of page formed is = absurd cc
 
 pub leaf_of : (page : Page) → IsFormedPage page → type_in page ≡ Some 5 → (leaf : Listed Item) × (page ≡ Leaf leaf)
 leaf_of (Leaf page) formed is = (page, refl)
-leaf_of (Hash page) formed is = absurd (hash_type page.header.page_type 5 refl formed is)
+leaf_of (Hash page) formed is = absurd (hash_type page.header.page_type 5 refl formed.0 is)
 leaf_of (Meta fields) formed is = absurd (same_type fields 5 refl is)
 leaf_of page formed is = absurd cc
 
 pub recno_leaf_of : (page : Page) → IsFormedPage page → type_in page ≡ Some 6 → (leaf : Listed Item) × (page ≡ RecnoLeaf leaf)
 recno_leaf_of (RecnoLeaf page) formed is = (page, refl)
-recno_leaf_of (Hash page) formed is = absurd (hash_type page.header.page_type 6 refl formed is)
+recno_leaf_of (Hash page) formed is = absurd (hash_type page.header.page_type 6 refl formed.0 is)
 recno_leaf_of (Meta fields) formed is = absurd (same_type fields 6 refl is)
 recno_leaf_of page formed is = absurd cc
 
 pub dup_leaf_of : (page : Page) → IsFormedPage page → type_in page ≡ Some 12 → (leaf : Listed Item) × (page ≡ DupLeaf leaf)
 dup_leaf_of (DupLeaf page) formed is = (page, refl)
-dup_leaf_of (Hash page) formed is = absurd (hash_type page.header.page_type 12 refl formed is)
+dup_leaf_of (Hash page) formed is = absurd (hash_type page.header.page_type 12 refl formed.0 is)
 dup_leaf_of (Meta fields) formed is = absurd (same_type fields 12 refl is)
 dup_leaf_of page formed is = absurd cc
 
@@ -269,7 +324,7 @@ leaf_shape (Hash page) formed has =
     (true≢false
     (sym
     (of_type (λ type. has_type (3 ∷ 4 ∷ 5 ∷ 6 ∷ 12 ∷ []) type ≡ true) (5 ∷ 6 ∷ 12 ∷ []) (Some page.header.page_type) (refl, (refl, (refl, tt))) has)
-    ∙ formed))
+    ∙ formed.0))
 leaf_shape (Meta (BtreeFields meta)) formed has = absurd cc
 leaf_shape (Meta (HashFields meta)) formed has = absurd cc
 leaf_shape (Meta (QueueFields meta)) formed has = absurd cc

@@ -1,42 +1,43 @@
 -- The pages of trees in a file that linking accepts: children are pages of trees a level below, so the leaves are had level by level.
 use Rattle.std.proofs.Common.{◌≡◌, ◌⊎◌, ℕ, zero, suc, ◌+◌, ◌-◌, ◌<◌, ◌≤◌, Bool, true, false, cond, List, [], ◌∷◌, ◌++◌, length, map, arith, refl, sym, ◌∙◌, ap, subst, inl, inr, length-append}
-use Rattle.std.specs.Prelude.{Option, Some, None, ◌==◌, ◌&&◌, ◌||◌, not, nat_lt, nat_le, ◌%◌, slice_index, get_or}
-use Rattle.std.specs.List.{Contains, enumerate_from, filter, flat_map, range_with_len}
+use Rattle.std.specs.Prelude.{Option, Some, None, ◌==◌, ◌&&◌, nat_lt, nat_le, ◌%◌, slice_index, get_or}
+use Rattle.std.specs.List.{Contains, enumerate_from, filter, flat_map}
 use Rattle.std.proofs.lemmas.Bool.{and_left, ne_eqb, cases_lt, eq-eqb, eqb-false, eqb-true, ltb-false, not-false, or_parts}
 use Rattle.std.proofs.lemmas.List.{get_or_past}
-use Rattle.std.proofs.lemmas.List.FromFn.{length-map-range_with_len}
-use Rattle.std.proofs.lemmas.List.Elements.{Contains-get_or}
-use Rattle.bdb_format.specs.declared.metadata.FileKind.{FileKind}
-use Rattle.bdb_format.specs.declared.metadata.FileKind.TheVariants.{Btree, Hash as HashFile, Queue as QueueFile}
+use Rattle.std.proofs.lemmas.List.Elements.{Contains-append_right, Contains-get_or}
+use Rattle.bdb_format.specs.declared.metadata.BtreeMeta.{BtreeMeta}
+use Rattle.bdb_format.specs.declared.metadata.FileKind.TheVariants.{Queue as QueueFile}
 use Rattle.bdb_format.specs.declared.pages.RecnoItem.{RecnoItem}
 use Rattle.bdb_format.specs.declared.references.Reference.{Reference}
 use Rattle.bdb_format.specs.declared.references.Sort.{Sort}
 use Rattle.bdb_format.specs.declared.references.Sort.TheVariants.{Child, DuplicateRoot, Root}
-use Rattle.bdb_format.specs.File.{File, file_of, header_in, page_at, page_bytes, type_in}
-use Rattle.bdb_format.specs.Reading.{abstract_page}
-use Rattle.bdb_format.specs.Graph.{Owner, all_references, held_by}
+use Rattle.bdb_format.specs.File.{File, file_of, header_in, page_at, type_in}
+use Rattle.bdb_format.specs.Graph.{Owner, all_references}
 use Rattle.bdb_format.specs.HeadOf.{head_of}
-use Rattle.bdb_format.specs.Leaves.{LeafPlace, children_in, is_root_reference, is_wrong_leaf, is_wrong_link, first_or_zero, leaf_places, leaves, leaves_in, leaves_under, places_from, root_references, tree_rows, wrong_leaf_types}
+use Rattle.bdb_format.specs.Leaves.{LeafPlace, children_in, is_root_reference, is_wrong_leaf, is_wrong_link, leaf_places, leaves, leaves_in, leaves_under, places_from, root_references, tree_rows}
 use Rattle.bdb_format.specs.Page.{BtreeFields, Content, Tree, Item, InternalItem, Listed, Page, Meta, Hash, Internal, RecnoInternal, Leaf, RecnoLeaf, DupLeaf, NoType}
-use Rattle.bdb_format.specs.References.{asked_by, child_types, content_targets, fit_code, fit_rows, has_type, is_asked, is_shared_key, is_zero_page, targets_in, targets_of, no_item, refs, root_types, contents_in, internal_targets}
+use Rattle.bdb_format.specs.References.{asked_by, child_types, content_targets, first_free, fit_code, fit_rows, has_type, is_asked, is_shared_key, is_zero_page, targets_in, targets_of, no_item, refs, root_types, contents_in, internal_targets}
 use Rattle.bdb_format.specs.Table.{◌:?◌}
 use Rattle.bdb_format.specs.Verdict.{holding, reference_faults, structure_faults, structure_rows, tree_faults}
 use Rattle.bdb_format.proofs.GraphLemmas.{each_fits}
-use Rattle.bdb_format.proofs.MemberLemmas.{first_member, in_filter, in_flat_map, in_map, in_range, later_member, member_cases, no_member, none_passes, of_flat_map, of_map, of_range}
+use Rattle.bdb_format.proofs.MemberLemmas.{first_member, in_filter, in_flat_map, in_map, later_member, member_cases, no_member, none_passes, of_flat_map, of_map}
 use Rattle.bdb_format.proofs.VerdictLemmas.{AllFail, all_fail, no_codes_at, no_faults, none_holds, none_is_first_row}
 use Rattle.bdb_format.proofs.TargetLemmas.{held_named, own_held}
 use Rattle.bdb_format.specs.Flags.{is_recno}
-use Rattle.bdb_graph.specs.Linked.{FitsDupRoot, FitsLeafPage, FitsTreeRoot, IsForest, IsTarget}
+use Rattle.bdb_graph.specs.Linked.{FitsDupRoot, FitsLeafPage, FitsTreeRoot, HasMetadata, IsForest, IsTarget}
+use Rattle.bdb_graph.proofs.ChildLemmas.{is_queue_page}
 use Rattle.bdb_graph.proofs.ForestLemmas.{sound_graph}
+use Rattle.bdb_graph.proofs.LinkedLemmas.{named_target, root_fits as target_fits}
+use Rattle.bdb_graph.proofs.TargetLemmas.{is_no_queue}
 use Rattle.bdb_form.specs.declared.view.PageView.{PageView}
 use Rattle.bdb_form.specs.Seen.{page_seen}
 use Rattle.bdb_tree.specs.Noted.{is_leaf_page}
 use Rattle.bdb_tree.specs.Trees.{IsRoot, IsTreePage}
-use Rattle.bdb_tree.proofs.ShapeLemmas.{IsFormedPage, IsInnerPage, IsLeafPage, SetsAreData, internal_of, dup_leaf_of, is_forest_page, leaf_of, leaf_shape, no_queue, page_formed, recno_internal_of, recno_leaf_of, tree_shape}
+use Rattle.bdb_tree.proofs.ShapeLemmas.{IsFormedPage, IsInnerPage, IsLeafPage, SetsAreData, dup_leaf_of, leaf_of, leaf_shape, no_queue, page_formed, recno_internal_of, recno_leaf_of, tree_shape, IsAlone}
 use Rattle.bdb_format.proofs.ListLemmas.{in_enumerated, only_member}
 use Rattle.bdb_format.proofs.BoolLemmas.{second_false, first_or_none}
-use Rattle.bdb_format.proofs.ReferenceLemmas.{forest_names, held_in_all, of_all, pages_counted}
-use Rattle.bdb_format.proofs.TypeLemmas.{AllTypes, of_type, either_types, keyed_below}
+use Rattle.bdb_format.proofs.ReferenceLemmas.{forest_names, of_all, pages_counted}
+use Rattle.bdb_format.proofs.TypeLemmas.{AllTypes, of_type, either_types}
 
 abbrev pub level : File → ℕ → ℕ
 level file p = (header_in (page_at file p)).level
@@ -73,10 +74,6 @@ tree_cases image p forest tree = tree_shape (page_at (file_of image) p) (formed_
 
 -- a page by its type
 
-pub internal_page : (image : List ℕ) (p : ℕ) → IsForest image → type_in (page_at (file_of image) p) ≡ Some 3 → (page : Listed InternalItem) × (page_at (file_of image) p ≡ Internal page)
-internal_page image p forest is =
-    internal_of (page_at (file_of image) p) (formed_at image p forest (typed_inside image (3 ∷ []) p (ap (has_type (3 ∷ [])) is))) is
-
 pub recno_internal_page : (image : List ℕ) (p : ℕ) → IsForest image → type_in (page_at (file_of image) p) ≡ Some 4 → (page : Listed RecnoItem) × (page_at (file_of image) p ≡ RecnoInternal page)
 recno_internal_page image p forest is =
     recno_internal_of (page_at (file_of image) p) (formed_at image p forest (typed_inside image (4 ∷ []) p (ap (has_type (4 ∷ [])) is))) is
@@ -110,13 +107,10 @@ named_of file p sort target at =
       held = in_map (λ (named : ℕ × (Sort × ℕ)). record { place = named.0; sort = named.1.0; target = named.1.1 }) (enumerate_from 0 names) (found.0, (sort, target)) found.1;
     }
 
--- a page that isn't one of a queue file holds a reference for each page that it names
-named : (image : List ℕ) (p : ℕ) (sort : Sort) (target : ℕ) → IsForest image → p ≤ (file_of image).last → is_forest_page (page_at (file_of image) p) ≡ true
-    → Contains (targets_in p (page_at (file_of image) p)) (sort, target) → Holds (file_of image) p sort target
-named image p sort target forest low is at =
-    let file : File = file_of image in
-    named_of file p sort target
-    (subst (λ names. Contains names (sort, target)) (sym (forest_names file.kind p (page_at file p) (no_queue image (head_of image) p forest.formed low is))) at)
+-- in a file that is no queue a page holds a reference for each page that it names
+named : (file : File) (p : ℕ) (sort : Sort) (target : ℕ) → (file.kind ≡ QueueFile → ⊥) → Contains (targets_in p (page_at file p)) (sort, target) → Holds file p sort target
+named file p sort target other at =
+    named_of file p sort target (subst (λ names. Contains names (sort, target)) (sym (forest_names file.kind p (page_at file p) other)) at)
 
 -- what a reference of a sort to a page asks, and finds
 record Fits (file : File) (holder : ℕ) (sort : Sort) (target : ℕ) : Type 0 where
@@ -172,7 +166,7 @@ page_names p (RecnoInternal page) children c are at =
     subst (λ n. Contains {X = Sort × ℕ} (map (λ (item : RecnoItem). (Child, item.child)) page.items) (Child, n)) found.2 (in_map (λ (item : RecnoItem). (Child, item.child)) page.items found.0 found.1)
 page_names p page children c are at = absurd cc
 
-inner_of_forest : (page : Page) (children : List ℕ) → children_in page ≡ Some children → is_forest_page page ≡ true
+inner_of_forest : (page : Page) (children : List ℕ) → children_in page ≡ Some children → is_queue_page page ≡ false
 inner_of_forest (Internal page) children are = refl
 inner_of_forest (RecnoInternal page) children are = refl
 inner_of_forest page children are = absurd cc
@@ -206,7 +200,7 @@ child_is image p c children forest are at =
     let file : File = file_of image in
     let page : Page = page_at file p in
     let low : p ≤ file.last = typed_inside image (3 ∷ 4 ∷ []) p (inner_type page children are) in
-    let holds : Holds file p Child c = named image p Child c forest low (inner_of_forest page children are) (page_names p page children c are at) in
+    let holds : Holds file p Child c = named file p Child c (no_queue image (head_of image) p forest.formed low (inner_of_forest page children are)) (page_names p page children c are at) in
     let fits : Fits file p Child c = held_fits file p Child c (sound_graph image forest.linked).references low refl holds in
     let high : 2 ≤ level file p = inner_level page children (formed_at image p forest low) are in
     let below : level file p - 1 ≡ level file c = eqb-true (level file p - 1) (level file c) fits.level in
@@ -327,18 +321,6 @@ recno_below page children has are = absurd cc
 wider : (small big : List ℕ) (file : File) (p : ℕ) → AllTypes (λ type. has_type big type ≡ true) small → HasTypeAt file small p → HasTypeAt file big p
 wider small big file p all has = of_type (λ type. has_type big type ≡ true) small (type_in (page_at file p)) all has
 
--- a leaf below a page of a btree or of sorted duplicates is one of pairs or of sorted data
-pub keyed_leaf : (image : List ℕ) (p q : ℕ) → IsForest image → HasTypeAt (file_of image) (3 ∷ 5 ∷ 12 ∷ []) p → Contains (leaves (file_of image) p) q → HasTypeAt (file_of image) (5 ∷ 12 ∷ []) q
-keyed_leaf image p q forest has at =
-    let file : File = file_of image in
-    let tree : IsTreePage file p = wider (3 ∷ 5 ∷ 12 ∷ []) (3 ∷ 4 ∷ 5 ∷ 6 ∷ 12 ∷ []) file p (refl, (refl, (refl, tt))) has in
-    let keyed : HasTypeAt file (3 ∷ 5 ∷ 12 ∷ []) q =
-    leaves_have image (HasTypeAt file (3 ∷ 5 ∷ 12 ∷ [])) p q forest
-    (λ p c children here are below. of_type (λ type. has_type (3 ∷ 5 ∷ 12 ∷ []) type ≡ true) (child_types (page_at file p)) (type_in (page_at file c)) (keyed_below (page_at file p) children here are) (child_is image p c children forest are below).type)
-    tree has at in
-    of_type (λ type. has_type (3 ∷ 5 ∷ 12 ∷ []) type ≡ true → has_type (5 ∷ 12 ∷ []) type ≡ true) (5 ∷ 6 ∷ 12 ∷ []) (type_in (page_at file q))
-    (λ _. refl, (λ other. absurd cc, (λ _. refl, tt))) (leaf_fits image p q forest tree at) keyed
-
 -- a leaf below a page of a recno or of unsorted duplicates is one of records
 pub recno_leaf : (image : List ℕ) (p q : ℕ) → IsForest image → HasTypeAt (file_of image) (4 ∷ 6 ∷ []) p → Contains (leaves (file_of image) p) q → type_in (page_at (file_of image) q) ≡ Some 6
 recno_leaf image p q forest has at =
@@ -382,6 +364,19 @@ root_keyed_or_recno page (Some t) has = absurd cc
 -- the root that metadata names is one of a btree or one of a recno
 pub root_cases : (image : List ℕ) (r : ℕ) → IsForest image → FitsTreeRoot (file_of image) r → HasTypeAt (file_of image) (3 ∷ 5 ∷ []) r ⊎ HasTypeAt (file_of image) (4 ∷ 6 ∷ []) r
 root_cases image r forest is = root_keyed_or_recno (page_at (file_of image) is.owner.holder) (type_in (page_at (file_of image) r)) (root_fits image Root r forest refl is).type
+
+-- the root that metadata names has one of the types that it asks for
+pub meta_root_type : (image : List ℕ) (meta : BtreeMeta) → IsForest image → HasMetadata (file_of image) (BtreeFields meta)
+    → has_type (root_types (Meta (BtreeFields meta))) (type_in (page_at (file_of image) meta.root)) ≡ true
+meta_root_type image meta forest has =
+    let file : File = file_of image in
+    let at : Contains (targets_in has.page (Meta (BtreeFields meta))) (Root, meta.root) =
+    Contains-append_right (first_free has.page meta.free) ((Root, meta.root) ∷ []) (Root, meta.root) (first_member (Root, meta.root) []) in
+    let holds : Holds file has.page Root meta.root =
+    named file has.page Root meta.root (is_no_queue file Root meta.root (target_fits image (head_of image) meta forest.formed has))
+    (subst (λ page. Contains (targets_in has.page page) (Root, meta.root)) (sym has.is) at) in
+    subst (λ page. has_type (root_types page) (type_in (page_at file meta.root)) ≡ true) has.is
+    (held_fits file has.page Root meta.root (sound_graph image forest.linked).references has.inside refl holds).type
 
 -- the root of duplicates is one of sorted or of unsorted ones
 pub dup_root_type : (image : List ℕ) (r : ℕ) → IsForest image → FitsDupRoot (file_of image) r → HasTypeAt (file_of image) (3 ∷ 4 ∷ 6 ∷ 12 ∷ []) r
@@ -443,83 +438,20 @@ place_of_root file sort r place root is at =
     (in_filter (λ (o : Owner). is_root_reference o.reference.sort) (all_references file) owner is.held (ap is_root_reference is.sort_is ∙ root))
     (subst (λ places. Contains places place) (sym same) at)
 
--- each leaf has a place
-pub leaf_has_place : (sort : Sort) (before : ℕ) (ps : List ℕ) (q : ℕ) → Contains ps q → (place : LeafPlace) × Contains (places_from sort before ps) place × (place.leaf ≡ q) × (place.tree ≡ sort)
-leaf_has_place sort before [] q at = absurd (no_member [] q refl at)
-leaf_has_place sort before (p ∷ ps) q at =
-    let first : LeafPlace = record { tree = sort; before = before; leaf = p; after = first_or_zero ps } in
-    elim (member_cases p ps q at) [
-      | inl same ↦ (first, first_member first (places_from sort p ps), same, refl)
-      | inr later ↦ let found = leaf_has_place sort p ps q later in (found.0, later_member first (places_from sort p ps) found.0 found.1, found.2, found.3)
-    ]
-
--- where no leaf has a fault, a leaf below a root hasn't a type that is wrong there
-right_type : (image : List ℕ) (sort : Sort) (r q : ℕ) → IsForest image → tree_faults (file_of image) ≡ [] → is_root_reference sort ≡ true → IsTarget (file_of image) sort r → IsTreePage (file_of image) r
-    → Contains (leaves (file_of image) r) q → has_type (wrong_leaf_types sort) (type_in (page_at (file_of image) q)) ≡ false
-right_type image sort r q forest none root is tree at =
-    let file : File = file_of image in
-    let found = leaf_has_place sort 0 (leaves file r) q at in
-    let low : found.0.leaf ≤ file.last = omega (arith, found.2, leaf_low image r q forest tree at) in
-    let right : IsRightPlace file found.0 = place_is_right file found.0 none low (place_of_root file sort r found.0 root is found.1) in
-    subst (λ s. has_type (wrong_leaf_types s) (type_in (page_at file q)) ≡ false) found.3
-    (subst (λ p. has_type (wrong_leaf_types found.0.tree) (type_in (page_at file p)) ≡ false) found.2 right.type)
-
--- each leaf below the root of a btree is a leaf of pairs
-pub root_leaf : (image : List ℕ) (r q : ℕ) → IsForest image → tree_faults (file_of image) ≡ [] → FitsTreeRoot (file_of image) r → HasTypeAt (file_of image) (3 ∷ 5 ∷ []) r
-    → Contains (leaves (file_of image) r) q → type_in (page_at (file_of image) q) ≡ Some 5
-root_leaf image r q forest none root keyed at =
-    let file : File = file_of image in
-    of_type (λ type. has_type (12 ∷ []) type ≡ false → type ≡ Some 5) (5 ∷ 12 ∷ []) (type_in (page_at file q)) (λ _. refl, (λ wrong. absurd cc, tt))
-    (keyed_leaf image r q forest (wider (3 ∷ 5 ∷ []) (3 ∷ 5 ∷ 12 ∷ []) file r (refl, (refl, tt)) keyed) at)
-    (right_type image Root r q forest none refl root (root_is_tree image r forest (inl root)) at)
-
--- each leaf below the root of sorted duplicates is one of sorted data
-pub dup_leaf : (image : List ℕ) (r q : ℕ) → IsForest image → tree_faults (file_of image) ≡ [] → FitsDupRoot (file_of image) r → HasTypeAt (file_of image) (3 ∷ 12 ∷ []) r
-    → Contains (leaves (file_of image) r) q → type_in (page_at (file_of image) q) ≡ Some 12
-dup_leaf image r q forest none root keyed at =
-    let file : File = file_of image in
-    of_type (λ type. has_type (5 ∷ []) type ≡ false → type ≡ Some 12) (5 ∷ 12 ∷ []) (type_in (page_at file q)) (λ wrong. absurd cc, (λ _. refl, tt))
-    (keyed_leaf image r q forest (wider (3 ∷ 12 ∷ []) (3 ∷ 5 ∷ 12 ∷ []) file r (refl, (refl, tt)) keyed) at)
-    (right_type image DuplicateRoot r q forest none refl root (root_is_tree image r forest (inr root)) at)
-
-dup_cases : (type : Option ℕ) → has_type (3 ∷ 4 ∷ 6 ∷ 12 ∷ []) type ≡ true → (has_type (3 ∷ 12 ∷ []) type ≡ true) ⊎ (has_type (4 ∷ 6 ∷ []) type ≡ true)
-dup_cases type has =
-    of_type (λ t. (has_type (3 ∷ 12 ∷ []) t ≡ true) ⊎ (has_type (4 ∷ 6 ∷ []) t ≡ true)) (3 ∷ 4 ∷ 6 ∷ 12 ∷ []) type (inl refl, (inr refl, (inr refl, (inl refl, tt)))) has
-
--- the root of duplicates is one of sorted or one of unsorted ones
-pub dup_root_cases : (image : List ℕ) (r : ℕ) → IsForest image → FitsDupRoot (file_of image) r → HasTypeAt (file_of image) (3 ∷ 12 ∷ []) r ⊎ HasTypeAt (file_of image) (4 ∷ 6 ∷ []) r
-dup_root_cases image r forest is = dup_cases (type_in (page_at (file_of image) r)) (dup_root_type image r forest is)
-
--- each leaf below the root of duplicates is one of sorted data or of records
-pub any_dup_leaf : (image : List ℕ) (r q : ℕ) → IsForest image → tree_faults (file_of image) ≡ [] → FitsDupRoot (file_of image) r
-    → Contains (leaves (file_of image) r) q → HasTypeAt (file_of image) (6 ∷ 12 ∷ []) q
-any_dup_leaf image r q forest none root at =
-    elim (dup_root_cases image r forest root) [
-      | inl keyed ↦ ap (has_type (6 ∷ 12 ∷ [])) (dup_leaf image r q forest none root keyed at)
-      | inr recno ↦ ap (has_type (6 ∷ 12 ∷ [])) (recno_leaf image r q forest recno at)
-    ]
-
 -- Sets off the page.
-
-dup_named : (image : List ℕ) (p root : ℕ) → IsForest image → p ≤ (file_of image).last → is_forest_page (page_at (file_of image) p) ≡ true
-    → Contains (targets_in p (page_at (file_of image) p)) (DuplicateRoot, root) → FitsDupRoot (file_of image) root
-dup_named image p root forest low is at =
-    let file : File = file_of image in
-    let holds : Holds file p DuplicateRoot root = named image p DuplicateRoot root forest low is at in
-    let reference : Reference = record { place = holds.place; sort = DuplicateRoot; target = root } in
-    record { owner = record { holder = p; reference = reference }; held = held_in_all file p reference low holds.held; sort_is = refl; target_is = refl }
 
 content_named : (content : Content) (root : ℕ) → content ≡ Tree root → Contains (content_targets content) (DuplicateRoot, root)
 content_named content root is = subst (λ c. Contains (content_targets c) (DuplicateRoot, root)) (sym is) (first_member (DuplicateRoot, root) [])
 
 -- a set off the page that an item of a page is names the root of duplicates
 set_named : (image : List ℕ) (p root : ℕ) (page : Page) (content : Content) → IsForest image → p ≤ (file_of image).last → page_at (file_of image) p ≡ page
-    → is_forest_page page ≡ true
+    → is_queue_page page ≡ false
     → Contains (contents_in page) content → content ≡ Tree root → FitsDupRoot (file_of image) root
-set_named image p root page content forest low is some held set =
-    dup_named image p root forest low (ap is_forest_page is ∙ some)
-    (subst (λ (q : Page). Contains (targets_in p q) (DuplicateRoot, root)) (sym is)
-    (held_named p page content (DuplicateRoot, root) held (content_named content root set)))
+set_named image p root page content forest low is other held set =
+    let file : File = file_of image in
+    let names = forest_names file.kind p (page_at file p) (no_queue image (head_of image) p forest.formed low (ap is_queue_page is ∙ other)) ∙ ap (targets_in p) is in
+    named_target file p DuplicateRoot root low
+    (subst (λ ns. Contains ns (DuplicateRoot, root)) (sym names) (held_named p page content (DuplicateRoot, root) held (content_named content root set)))
 
 -- data of a hash page that are a set off the page name the root of duplicates
 pub hash_dup_root : (image : List ℕ) (p i root : ℕ) (page : Listed Item) → IsForest image → p ≤ (file_of image).last → page_at (file_of image) p ≡ Hash page → i < length page.items
@@ -532,12 +464,18 @@ odd_not_shared : (offsets : List ℕ) (i : ℕ) → i % 2 ≡ 1 → is_shared_ke
 odd_not_shared offsets i odd =
     and_left (i % 2 == 0 && nat_le 2 i) (slice_index offsets i == slice_index offsets (i - 2)) (and_left (i % 2 == 0) (nat_le 2 i) (ne_eqb (i % 2) 0 (λ even. omega arith)))
 
-leaf_data : (page : Page) (leaf : Listed Item) → page ≡ Leaf leaf → IsFormedPage page → SetsAreData leaf
-leaf_data page leaf is formed = let here : IsFormedPage (Leaf leaf) = subst IsFormedPage is formed in here.1
+pub set_alone : (content : Content) (root : ℕ) → content ≡ Tree root → IsAlone content → ⊥
+set_alone content root is alone = subst IsAlone is alone
+
+-- a set off the page is at an odd index
+pub odd_set : (items : List Item) (i root : ℕ) → SetsAreData items → i < length items → (get_or items i no_item).content ≡ Tree root → i % 2 ≡ 1
+odd_set items i root sets below is =
+    elim (sets i below) [ inl alone ↦ absurd (set_alone (get_or items i no_item).content root is alone) | inr odd ↦ odd ]
 
 -- data of a leaf that are a set off the page name the root of duplicates
 pub leaf_dup_root : (image : List ℕ) (p i root : ℕ) (page : Listed Item) → IsForest image → p ≤ (file_of image).last → page_at (file_of image) p ≡ Leaf page → i < length page.items
     → (get_or page.items i no_item).content ≡ Tree root → FitsDupRoot (file_of image) root
 leaf_dup_root image p i root page forest low is below set =
-    let odd : i % 2 ≡ 1 = leaf_data (page_at (file_of image) p) page is (formed_at image p forest low) i root below set in
+    let formed : IsFormedPage (Leaf page) = subst IsFormedPage is (formed_at image p forest low) in
+    let odd : i % 2 ≡ 1 = odd_set page.items i root formed.1 below set in
     set_named image p root (Leaf page) (get_or page.items i no_item).content forest low is refl (own_held page i below (odd_not_shared page.offsets i odd)) set

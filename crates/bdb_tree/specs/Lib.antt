@@ -1,4 +1,5 @@
 pub mod Descent
 pub mod Links
 pub mod Noted
+pub mod Sets
 pub mod Trees

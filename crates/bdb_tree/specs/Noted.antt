@@ -1,15 +1,15 @@
 -- The faults of leaves as they are noted, tree by tree, and the least of them. Source: docs/FORMAT.md, "Faults".
-use Rattle.std.specs.Prelude.{◌≡◌, ◌⊎◌, ℕ, ◌+◌, ◌-◌, ◌<◌, ◌≤◌, ◌==◌, if◌then◌else◌, Bool, true, false, List, [], ◌∷◌, map, slice_index, Option, Some, None}
-use Rattle.std.specs.List.{Contains, flat_map}
+use Rattle.std.specs.Prelude.{◌≡◌, ℕ, ◌+◌, ◌-◌, ◌*◌, ◌/◌, ◌==◌, if◌then◌else◌, Bool, true, false, List, [], ◌∷◌, ◌++◌, get_or, length, map, slice_index, Option, Some, None}
+use Rattle.std.specs.List.{Contains, flat_map, range_with_len}
 use Rattle.std.specs.Option.{option_to_list}
 use Rattle.bdb_format.specs.ByPage.{ComesFirst}
 use Rattle.bdb_format.specs.declared.kinds.Fault.{Fault}
-use Rattle.bdb_format.specs.declared.references.Reference.{Reference}
 use Rattle.bdb_format.specs.declared.references.Sort.{Sort}
-use Rattle.bdb_format.specs.File.{File}
-use Rattle.bdb_format.specs.Leaves.{LeafPlace, is_root_reference, is_wrong_leaf, is_wrong_link, leaves, places_from}
-use Rattle.bdb_format.specs.Page.{Page, Leaf, RecnoLeaf, DupLeaf}
-use Rattle.bdb_format.specs.References.{refs}
+use Rattle.bdb_format.specs.declared.references.Sort.TheVariants.{DuplicateRoot, Root}
+use Rattle.bdb_format.specs.File.{File, page_at}
+use Rattle.bdb_format.specs.Leaves.{LeafPlace, is_wrong_leaf, is_wrong_link, leaves, places_from}
+use Rattle.bdb_format.specs.Page.{Content, Tree, Item, BtreeFields, Page, Meta, Hash, Leaf, RecnoLeaf, DupLeaf}
+use Rattle.bdb_format.specs.References.{no_item}
 use Rattle.bdb_format.specs.Table.{Row, ◌:?◌, first_row}
 
 -- a leaf of a tree
@@ -39,14 +39,39 @@ leaf_fault page code = record { stage = 6; page = page; code = code }
 abbrev pub place_faults : File → LeafPlace → List Fault
 place_faults file place = map (leaf_fault place.leaf) (option_to_list (first_row (place_rows file place)))
 
--- those of the leaves of the tree that a reference names, if it names one
-abbrev pub root_faults : File → Reference → List Fault
-root_faults file reference =
-    if is_root_reference reference.sort then flat_map (place_faults file) (places_from reference.sort 0 (leaves file reference.target)) else []
+-- those of the leaves of the tree with this root, if there is one
+abbrev pub root_faults : File → Sort → Option ℕ → List Fault
+root_faults file sort None = []
+root_faults file sort (Some root) = flat_map (place_faults file) (places_from sort 0 (leaves file root))
 
--- those of the trees that a page names
+-- the items of a page that stand in pairs
+abbrev pub paired : Page → List Item
+paired (Leaf page) = page.items
+paired (Hash page) = page.items
+paired page = []
+
+-- the root of a set off the page
+abbrev pub set_root : Content → Option ℕ
+set_root (Tree root) = Some root
+set_root content = None
+
+-- the root that the data of pair i name, and the root that metadata names
+abbrev pub data_root : Page → ℕ → Option ℕ
+data_root page i = set_root (get_or (paired page) (2 * i + 1) no_item).content
+
+abbrev pub meta_root : Page → Option ℕ
+meta_root (Meta (BtreeFields meta)) = Some meta.root
+meta_root page = None
+
+-- the faults of the trees that a page names
+abbrev pub data_faults : File → Page → ℕ → List Fault
+data_faults file page i = root_faults file DuplicateRoot (data_root page i)
+
+abbrev pub page_faults : File → Page → List Fault
+page_faults file page = root_faults file Root (meta_root page) ++ flat_map (data_faults file page) (range_with_len 0 (length (paired page) / 2))
+
 abbrev pub held_faults : File → ℕ → List Fault
-held_faults file p = flat_map (root_faults file) (refs file p)
+held_faults file p = page_faults file (page_at file p)
 
 pub record IsLeastOf (faults : List Fault) (fault : Fault) : Type 0 where
   pub holds : Contains faults fault

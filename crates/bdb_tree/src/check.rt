@@ -1,21 +1,22 @@
-ghost use Rattle.std.specs.Prelude.{◌≡◌, ◌<◌, ◌≤◌, ◌∷◌, ◌++◌, List, [], IfErr, IfOk, IsTrue, MatchBool, OnOk, length, ◌&&◌, ◌==◌, slice_index};
-ghost use Rattle.std.specs.List.{All, flat_map};
+ghost use Rattle.std.specs.Prelude.{◌≡◌, ◌<◌, ◌≤◌, ◌∷◌, ◌++◌, List, [], IfErr, IfOk, IsTrue, MatchBool, OnOk, length, ◌&&◌, ◌==◌, slice_index, IfSome, ◌*◌, ◌/◌, ◌+◌};
+ghost use Rattle.std.specs.List.{All, flat_map, range_with_len};
 ghost use Rattle.bdb_form.specs.Seen.{page_seen};
-ghost use Rattle.bdb_graph.specs.Linked.{FitsLeafPage};
+ghost use Rattle.bdb_graph.specs.Linked.{FitsLeafPage, IsForest};
 ghost use Rattle.bdb_format.specs.ByPage.{ComesFirst};
 ghost use Rattle.bdb_format.specs.declared.kinds.Fault.{Fault};
-ghost use Rattle.bdb_format.specs.File.{file_of, header_in, type_in};
+ghost use Rattle.bdb_format.specs.File.{file_of, header_in, type_in, page_at};
 ghost use Rattle.bdb_format.specs.Leaves.{is_root_reference, places_from, wrong_leaf_types};
 ghost use Rattle.bdb_format.specs.References.{has_type};
 ghost use Rattle.bdb_format.specs.Table.{first_row};
 ghost use Rattle.bdb_format.specs.Verdict.{tree_faults, first_fault, IsFirstOf};
-ghost use Rattle.bdb_tree.specs.Noted.{IsLeast, held_faults, is_leaf_page, place_faults, place_in, place_rows, root_faults};
+ghost use Rattle.bdb_tree.specs.Noted.{IsLeast, held_faults, is_leaf_page, place_faults, place_in, place_rows, root_faults, meta_root, paired, data_faults, data_root};
 ghost use Rattle.bdb_tree.specs.Trees.{IsTreePage};
 
 use crate::leaves_below;
 use bdb_form::PageView;
 use bdb_format::{CheckError, Fault};
-use bdb_graph::{Forest, Linked, Reference, Sort};
+use bdb_graph::{Forest, Linked, Meta, Sort};
+use bdb_layout::{HashItem, LeafItem};
 use std::alloc::{AllocError, Global};
 
 /// Whether a fault comes no later than another, by page and then by code.
@@ -62,12 +63,11 @@ fn has_wrong_type(page: &PageView<'_>, sort: Sort) -> bool
 /// The first row that holds for leaf `i` of a tree: 2 for a wrong type, 3 for a wrong neighbour.
 #[tactic(auto, using(crate::proofs::TreeLemmas::leaf_inside, crate::proofs::TreeLemmas::leaf_view))]
 fn leaf_code(forest: &Forest<'_>, sort: Sort, leaves: &[u32], i: usize) -> Option<u8>
+    requires forest { IsForest forest.now }
     requires there { i < length leaves.now }
     requires leaf { FitsLeafPage (file_of forest.now) (slice_index leaves.now i) }
     ensures { result ≡ first_row (place_rows (file_of forest.now) (place_in sort leaves.now i)) }
 {
-    // What it ensures: the laws of linked files hold.
-    forest.head();
     let page = forest.page(leaves[i]);
     if has_wrong_type(&page, sort) {
         return Some(2);
@@ -89,6 +89,7 @@ fn note_leaf(
     i: usize,
     least: Option<Fault>,
 ) -> Option<Fault>
+    requires forest { IsForest forest.now }
     requires there { i < length leaves.now }
     requires leaf { FitsLeafPage (file_of forest.now) (slice_index leaves.now i) }
     ensures { (faults : List Fault) → IsLeast faults least → IsLeast (faults ++ place_faults (file_of forest.now) (place_in sort leaves.now i)) result }
@@ -113,7 +114,8 @@ fn note_leaves(
     leaves: &[u32],
     least: Option<Fault>,
 ) -> Option<Fault>
-    requires { All (FitsLeafPage (file_of forest.now)) leaves.now }
+    requires forest { IsForest forest.now }
+    requires leaves { All (FitsLeafPage (file_of forest.now)) leaves.now }
     ensures { (faults : List Fault) → IsLeast faults least → IsLeast (faults ++ flat_map (place_faults (file_of forest.now)) (places_from sort 0 leaves.now)) result }
 {
     let mut found = least;
@@ -123,46 +125,100 @@ fn note_leaves(
     found
 }
 
-/// A reference of this sort is to the root of a tree.
-fn is_root_reference(sort: Sort) -> bool
-    ensures { result ≡ is_root_reference sort }
-{
-    matches!(sort, Sort::Root | Sort::DuplicateRoot)
-}
-
-/// The least of the faults so far and those of the tree that a reference names, if it names one.
+/// The least of the faults so far and those of the leaves of the tree with this root, if there is one.
+#[tactic(auto, using(crate::proofs::NotedLemmas::all_leaves))]
 fn note_tree(
     alloc: Global,
     forest: &Forest<'_>,
-    reference: Reference,
+    sort: Sort,
+    root: Option<u32>,
     least: Option<Fault>,
 ) -> Result<Option<Fault>, AllocError>
-    requires { IsTrue (is_root_reference reference.sort) → IsTreePage (file_of forest.now) reference.target }
-    ensures { IfOk result (λ found. (faults : List Fault) → IsLeast faults least → IsLeast (faults ++ root_faults (file_of forest.now) reference) found) }
+    requires forest { IsForest forest.now }
+    requires root { IfSome root (IsTreePage (file_of forest.now)) }
+    ensures { IfOk result (λ found. (faults : List Fault) → IsLeast faults least → IsLeast (faults ++ root_faults (file_of forest.now) sort root) found) }
 {
-    if !is_root_reference(reference.sort) {
+    let Some(root) = root else {
         return Ok(least);
-    }
-    prove!(reference.target <= u64::from(forest.head().last));
-    let leaves = leaves_below(alloc, forest, reference.target as u32)?;
-    Ok(note_leaves(forest, reference.sort, &leaves, least))
+    };
+    let leaves = leaves_below(alloc, forest, root)?;
+    Ok(note_leaves(forest, sort, &leaves, least))
 }
 
-/// The least of the faults so far and those of the trees that a page names.
+/// The root of the tree of a page that is metadata of a btree.
+fn meta_root(forest: &Forest<'_>, page: u32) -> Option<u32>
+    requires { page ≤ (file_of forest.now).last }
+    ensures { result ≡ meta_root (page_at (file_of forest.now) page) }
+{
+    match forest.meta(page) {
+        Some(Meta::Btree(meta)) => Some(meta.root),
+        _ => None,
+    }
+}
+
+/// The root of the set that the data of a pair are.
+fn data_root(page: &PageView<'_>, i: u16) -> Option<u32>
+    requires { 2 * i + 1 < length (paired (page_seen page.now)) }
+    ensures { result ≡ data_root (page_seen page.now) i }
+{
+    match page {
+        PageView::Leaf(page) => match page.value(i) {
+            LeafItem::Duplicates { root, .. } => Some(root),
+            _ => None,
+        },
+        PageView::Hash(page) => match page.value(i) {
+            HashItem::OffPage { root } => Some(root),
+            _ => None,
+        },
+        _ => None,
+    }
+}
+
+/// How many pairs a page has.
+fn pairs(page: &PageView<'_>) -> u16
+    ensures { result ≡ length (paired (page_seen page.now)) / 2 }
+{
+    match page {
+        PageView::Leaf(page) => page.pairs(),
+        PageView::Hash(page) => page.pairs(),
+        _ => 0,
+    }
+}
+
+/// How many pairs of a page have data to look at for a set: none where no reference names one.
+#[tactic(auto, using(crate::proofs::RootLemmas::no_sets))]
+fn pairs_to_see(forest: &Forest<'_>, number: u32, page: &PageView<'_>) -> u16
+    requires there { number ≤ (file_of forest.now).last }
+    requires page { page_seen page.now ≡ page_at (file_of forest.now) number }
+    ensures few { result ≤ length (paired (page_seen page.now)) / 2 }
+    ensures all { flat_map (data_faults (file_of forest.now) (page_seen page.now)) (range_with_len 0 result) ≡ flat_map (data_faults (file_of forest.now) (page_seen page.now)) (range_with_len 0 (length (paired (page_seen page.now)) / 2)) }
+{
+    if forest.has_sets() { pairs(page) } else { 0 }
+}
+
+/// The least of the faults so far and those of the trees that a page names: metadata one, and data of pairs
+/// those of their sets.
+#[tactic(auto, using(crate::proofs::RootLemmas::meta_root_tree))]
 fn note_page(
     alloc: Global,
     forest: &Forest<'_>,
     page: u32,
     least: Option<Fault>,
 ) -> Result<Option<Fault>, AllocError>
-    requires { page ≤ (file_of forest.now).last }
+    requires forest { IsForest forest.now }
+    requires there { page ≤ (file_of forest.now).last }
     ensures { IfOk result (λ found. (faults : List Fault) → IsLeast faults least → IsLeast (faults ++ held_faults (file_of forest.now) page) found) }
 {
-    // What it ensures: the laws of linked files hold.
-    forest.head();
-    let mut found = least;
-    for reference in forest.references(page) {
-        found = note_tree(alloc, forest, reference, found)?;
+    let mut found = note_tree(alloc, forest, Sort::Root, meta_root(forest, page), least)?;
+    let view = forest.page(page);
+    for i in 0..pairs_to_see(forest, page, &view) {
+        found = note_tree(
+            alloc,
+            forest,
+            Sort::DuplicateRoot,
+            data_root(&view, i),
+            found,
+        )?;
     }
     Ok(found)
 }

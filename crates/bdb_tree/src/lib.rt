@@ -6,6 +6,8 @@ mod descend;
 mod first;
 mod level;
 mod links;
+mod root;
+mod set;
 mod walk;
 
 pub use check::check_trees;
@@ -13,4 +15,6 @@ pub use descend::{Separate, descend_by, descend_in};
 pub use first::{dup_first, first_leaf, leftmost};
 pub use level::{leaves_below, next_level};
 pub use links::{leaves, tree_leaves};
+pub use root::is_wrong_root;
+pub use set::{SetValues, set_values};
 pub use walk::Leaves;

@@ -6,17 +6,13 @@ use Rattle.bdb_format.specs.File.{file_of}
 use Rattle.bdb_format.specs.Numbers.{has_bit}
 use Rattle.bdb_btree.specs.Least.{IsLeastPage}
 use Rattle.bdb_btree.proofs.CheckLemmas.{btree_first, duplicate_guarded}
-use Rattle.bdb_btree.proofs.CountLemmas.{all_are_trees, keyed_is_tree}
+use Rattle.bdb_btree.proofs.CountLemmas.{all_are_trees}
 use Rattle.bdb_btree.proofs.InnerLemmas.{all_keyed}
 use Rattle.bdb_btree.proofs.RootLemmas.{root_keyed}
 use Rattle.bdb_btree.proofs.contents.first_fault.Goals as goal
 
-pub inner_pages-requires : goal.inner_pages-requires
-inner_pages-requires c =
-    keyed_is_tree (file_of c.args.forest.now) c.args.meta.now.root (root_keyed c.args.forest.now c.args.meta.now c.head.ensures.forest c.requires.meta c.requires.keyed)
-
-pub wrong_separator-requires : goal.wrong_separator-requires
-wrong_separator-requires c =
+pub wrong_separator-requires-clause-trees : goal.wrong_separator-requires-clause-trees
+wrong_separator-requires-clause-trees c =
     all_are_trees (file_of c.args.forest.now) c.deref.result.now
     (all_keyed c.args.forest.now c.args.meta.now.root c.deref.result.now c.head.ensures.forest (root_keyed c.args.forest.now c.args.meta.now c.head.ensures.forest c.requires.meta c.requires.keyed)
     (c.deref.ensures.value ∙ c.in_ok-pages.ensures))

@@ -1,25 +1,22 @@
-use Rattle.std.proofs.Common.{◌∙◌, ap}
+use Rattle.std.proofs.Common.{◌∙◌, ap, subst}
 use Rattle.std.specs.List.{flat_map}
 use Rattle.bdb_format.specs.File.{file_of}
-use Rattle.bdb_btree.specs.Pairs.{pair_seen}
-use Rattle.bdb_btree.specs.Search.{data_under, from_key}
+use Rattle.bdb_btree.specs.Pairs.{AreFit, pair_seen}
+use Rattle.bdb_btree.specs.Search.{data_under}
 use Rattle.bdb_btree.proofs.FindLemmas.{found_none, found_some, key_open, page_open}
-use Rattle.bdb_btree.proofs.RowLemmas.{first_fits, rest_fit}
 use Rattle.bdb_btree.proofs.found.found_on.Goals as goal
 
 pub from-requires-clause-pair : goal.from-requires-clause-pair
 from-requires-clause-pair c =
-    first_fits (file_of c.args.forest.now) (from_key c.args.key.now c.in-Some.pairs) c.first_with.new.pairs (pair_seen c.in-Some-first_with.pair) c.in-Some-first_with.ensures
-    (key_open (file_of c.args.forest.now) c.args.key.now c.in-Some.pairs (page_open c.args.forest.now c.args.page c.in-Some.pairs c.head.ensures.forest c.requires.page c.requires.stage c.in-Some.ensures)).fit
+    (subst (AreFit (file_of c.args.forest.now)) c.in-Some-first_with.ensures
+    (key_open (file_of c.args.forest.now) c.args.key.now c.in-Some.pairs (page_open c.args.forest.now c.args.page c.in-Some.pairs c.head.ensures.forest c.requires.page c.requires.stage c.in-Some.ensures)).fit).0
 
 pub from-requires-clause-pairs : goal.from-requires-clause-pairs
-from-requires-clause-pairs c =
-    record {
-      stage = c.requires.stage;
-      fit =
-          rest_fit (file_of c.args.forest.now) (from_key c.args.key.now c.in-Some.pairs) c.first_with.new.pairs (pair_seen c.in-Some-first_with.pair) c.in-Some-first_with.ensures
-          (key_open (file_of c.args.forest.now) c.args.key.now c.in-Some.pairs (page_open c.args.forest.now c.args.page c.in-Some.pairs c.head.ensures.forest c.requires.page c.requires.stage c.in-Some.ensures)).fit;
-    }
+from-requires-clause-pairs c = record {
+  stage = c.requires.stage;
+  fit = (subst (AreFit (file_of c.args.forest.now)) c.in-Some-first_with.ensures
+      (key_open (file_of c.args.forest.now) c.args.key.now c.in-Some.pairs (page_open c.args.forest.now c.args.page c.in-Some.pairs c.head.ensures.forest c.requires.page c.requires.stage c.in-Some.ensures)).fit).1;
+}
 
 pub returns-in-Some-first_with : goal.returns-in-Some-first_with
 returns-in-Some-first_with c =

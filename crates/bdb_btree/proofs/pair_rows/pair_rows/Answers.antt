@@ -1,29 +1,25 @@
-use Rattle.std.proofs.Common.{◌∙◌, ◌&&◌, ap, subst, sym}
-use Rattle.bdb_format.specs.ContentRows.{has_duplicate, has_unsorted, has_wrong_set}
+use Rattle.std.proofs.Common.{subst, sym}
+use Rattle.std.specs.Prelude.{◌&&◌}
+use Rattle.bdb_format.specs.ContentRows.{has_unsorted}
 use Rattle.bdb_format.specs.Contents.{tree_pairs}
 use Rattle.bdb_format.specs.File.{file_of}
 use Rattle.bdb_btree.specs.Least.{IsLeastPage}
 use Rattle.bdb_btree.specs.Rows.{has_wrong_order}
-use Rattle.bdb_btree.specs.declared.pair_rows.Passed.{Passed}
 use Rattle.bdb_btree.proofs.RowLemmas.{data_row, duplicate_row, order_row, set_row}
 use Rattle.bdb_btree.proofs.pair_rows.pair_rows.Goals as goal
 
 pub returns-clause-duplicate : goal.returns-clause-duplicate
-returns-clause-duplicate c =
-    subst (λ (passed : Passed). IsLeastPage passed.duplicate (has_duplicate (tree_pairs (file_of c.args.forest.now) c.args.root))) (sym c.pass_pairs-passed.ensures)
-    (duplicate_row (file_of c.args.forest.now) c.args.sorted (tree_pairs (file_of c.args.forest.now) c.args.root))
+returns-clause-duplicate c = duplicate_row (file_of c.args.forest.now) c.args.sorted (tree_pairs (file_of c.args.forest.now) c.args.root) _ c.pass_pairs-passed.ensures
 
 pub returns-clause-wrong_set : goal.returns-clause-wrong_set
-returns-clause-wrong_set c =
-    subst (λ (passed : Passed). IsLeastPage passed.wrong_set (has_wrong_set (file_of c.args.forest.now) c.args.sorted (tree_pairs (file_of c.args.forest.now) c.args.root))) (sym c.pass_pairs-passed.ensures)
-    (set_row (file_of c.args.forest.now) c.args.sorted (tree_pairs (file_of c.args.forest.now) c.args.root))
+returns-clause-wrong_set c = set_row (file_of c.args.forest.now) c.args.sorted (tree_pairs (file_of c.args.forest.now) c.args.root) _ c.pass_pairs-passed.ensures
 
 pub returns-clause-wrong_order : goal.returns-clause-wrong_order
 returns-clause-wrong_order c =
-    subst (λ least. IsLeastPage least (has_wrong_order (tree_pairs (file_of c.args.forest.now) c.args.root)))
-    (sym (c.least.ensures ∙ ap (λ (passed : Passed). passed.keys.least) c.pass_pairs-passed.ensures)) (order_row (file_of c.args.forest.now) c.args.sorted (tree_pairs (file_of c.args.forest.now) c.args.root))
+    subst (λ least. IsLeastPage least (has_wrong_order (tree_pairs (file_of c.args.forest.now) c.args.root))) (sym c.least.ensures)
+    (order_row (file_of c.args.forest.now) c.args.sorted (tree_pairs (file_of c.args.forest.now) c.args.root) _ c.pass_pairs-passed.ensures)
 
 pub returns-clause-unsorted : goal.returns-clause-unsorted
 returns-clause-unsorted c =
-    subst (λ least. IsLeastPage least (λ p. c.args.sorted && has_unsorted (file_of c.args.forest.now) (tree_pairs (file_of c.args.forest.now) c.args.root) p))
-    (sym (c.least-2.ensures ∙ ap (λ (passed : Passed). passed.values.least) c.pass_pairs-passed.ensures)) (data_row (file_of c.args.forest.now) c.args.sorted c.args.root)
+    subst (λ least. IsLeastPage least (λ p. c.args.sorted && has_unsorted (file_of c.args.forest.now) (tree_pairs (file_of c.args.forest.now) c.args.root) p)) (sym c.least-2.ensures)
+    (data_row (file_of c.args.forest.now) c.args.sorted c.args.root _ c.pass_pairs-passed.ensures)

@@ -1,9 +1,9 @@
 use Rattle.std.proofs.Common.{◌∙◌, ap, subst, sym}
 use Rattle.std.specs.List.{fold}
 use Rattle.bdb_format.specs.File.{file_of}
-use Rattle.bdb_btree.specs.Pairs.{AreFit, pair_seen}
+use Rattle.bdb_btree.specs.Pairs.{AreFit}
 use Rattle.bdb_btree.specs.Rows.{next_pair, no_pairs_passed}
-use Rattle.bdb_btree.proofs.RowLemmas.{first_fits, rest_fit, tree_pairs_fit}
+use Rattle.bdb_btree.proofs.RowLemmas.{tree_pairs_fit}
 use Rattle.bdb_btree.proofs.pair_rows.pass_pairs.Goals as goal
 
 pub loop-pair-init : goal.loop-pair-init
@@ -12,17 +12,3 @@ loop-pair-init c =
       left = ap (λ passed. fold (next_pair (file_of c.args.forest.now) c.args.sorted) passed c.into_iter-pair-iterator.result) c.new-passed.ensures ∙ ap (fold (next_pair (file_of c.args.forest.now) c.args.sorted) no_pairs_passed) starts;
       fit = subst (AreFit (file_of c.args.forest.now)) (sym starts) (tree_pairs_fit c.args.forest.now c.args.root c.head.ensures.forest c.requires.root);
     }
-
-pub see-requires-clause-fits : goal.see-requires-clause-fits
-see-requires-clause-fits c = first_fits (file_of c.args.forest.now) c.loop-pair.pair-iterator c.next.new.self (pair_seen c.in-Some.pair) c.in-Some.ensures.steps c.loop-pair.invariant.fit
-
-pub loop-pair-preserved : goal.loop-pair-preserved
-loop-pair-preserved c = record {
-  left =
-      ap (λ passed. fold (next_pair (file_of c.args.forest.now) c.args.sorted) passed c.next.new.self) c.see.ensures
-      ∙ (sym (ap (fold (next_pair (file_of c.args.forest.now) c.args.sorted) c.loop-pair.passed) c.in-Some.ensures.steps) ∙ c.loop-pair.invariant.left);
-  fit = rest_fit (file_of c.args.forest.now) c.loop-pair.pair-iterator c.next.new.self (pair_seen c.in-Some.pair) c.in-Some.ensures.steps c.loop-pair.invariant.fit;
-}
-
-pub returns : goal.returns
-returns c = sym (ap (fold (next_pair (file_of c.args.forest.now) c.args.sorted) c.loop-pair.passed) c.in-None.ensures.steps.0) ∙ c.loop-pair.invariant.left

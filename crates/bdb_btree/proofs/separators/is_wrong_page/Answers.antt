@@ -3,9 +3,7 @@ use Rattle.bdb_btree.proofs.SeenLemmas.{items_fit}
 use Rattle.bdb_tree.proofs.TreeLemmas.{tree_inside}
 use Rattle.bdb_btree.proofs.separators.is_wrong_page.Goals as goal
 
-pub page-requires : goal.page-requires
-page-requires c = tree_inside c.args.forest.now c.args.number c.requires
-
-pub is_wrong_view-requires : goal.is_wrong_view-requires
-is_wrong_view-requires c =
-    items_fit c.args.forest.now c.args.number c.in-Internal.page c.head.ensures.forest (tree_inside c.args.forest.now c.args.number c.requires) (sym c.in-Internal.ensures.page)
+pub is_wrong_view-requires-clause-items : goal.is_wrong_view-requires-clause-items
+is_wrong_view-requires-clause-items c =
+    items_fit c.args.forest.now c.args.number c.in-Internal.page c.head.ensures.forest (tree_inside c.args.forest.now c.args.number c.requires.tree)
+    (sym c.in-Internal.ensures.page)

@@ -7,4 +7,4 @@ use Rattle.bdb_file.proofs.named.push_named.Given as goal
 
 -- The databases of the entries so far are added.
 abbrev pub invariant-loop-entry : goal.invariant-loop-entry
-invariant-loop-entry l = l.databases.items ≡ l.fn.databases.items ++ flat_map (entry_database (file_of l.linked)) (take l.entry-index l.entry-items)
+invariant-loop-entry l = l.databases.items ≡ l.fn.databases.items ++ flat_map (entry_database (file_of l.linked)) (take l.entry-index l.entries)

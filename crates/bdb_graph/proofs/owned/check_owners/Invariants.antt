@@ -5,4 +5,4 @@ use Rattle.bdb_graph.proofs.owned.check_owners.Given as goal
 
 -- No row of ownership holds at a page passed.
 abbrev pub invariant-loop-page : goal.invariant-loop-page
-invariant-loop-page l = NoneHold (ownership_rows (file_of l.formed)) 1 l.page
+invariant-loop-page l = NoneHold (ownership_rows (file_of l.roles)) 1 l.page

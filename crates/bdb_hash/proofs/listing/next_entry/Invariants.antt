@@ -1,6 +1,5 @@
 use Rattle.std.proofs.Common.{◌++◌, length}
 use Rattle.std.specs.List.{flat_map}
-use Rattle.std.specs.Vec.Iter.{into_iter_items}
 use Rattle.bdb_hash.specs.Scanned.{IsListedOn}
 use Rattle.bdb_overflow.specs.Datum.{datum_seen}
 use Rattle.bdb_hash.specs.Told.{entry_list, listed_told}
@@ -8,7 +7,7 @@ use Rattle.bdb_hash.proofs.listing.next_entry.Given as goal
 
 -- The pairs that are left are all that were left at first.
 abbrev pub invariant-loop-value : goal.invariant-loop-value
-invariant-loop-value l = IsListedOn (entry_list (datum_seen l.fn.key) l.fn.values ++ flat_map listed_told (into_iter_items l.fn.rest)) (datum_seen l.key) l.values (into_iter_items l.rest)
+invariant-loop-value l = IsListedOn (entry_list (datum_seen l.fn.key) l.fn.values ++ flat_map listed_told l.fn.rest) (datum_seen l.key) l.values l.rest
 
 abbrev pub decreases-loop-value : goal.decreases-loop-value
-decreases-loop-value l = length (into_iter_items l.rest)
+decreases-loop-value l = length l.rest

@@ -6,7 +6,7 @@ use Rattle.bdb_pack.proofs.pages.internal_length.Goals as goal
 
 pub returns-in-Inline : goal.returns-in-Inline
 returns-in-Inline c = λ order.
-    sym (length-internal_inline order c.args.item.now.child c.args.item.now.count c.in-Inline.key.now)
+    c.followed.ensures.long ∙ sym (length-internal_inline order c.args.item.now.child c.args.item.now.count c.in-Inline.key.now)
     ∙ ap (λ k. length (internal_bytes order (record { child = c.args.item.now.child; count = c.args.item.now.count; key = key_seen k }))) (sym c.in-Inline.is)
 
 pub returns-in-Overflow : goal.returns-in-Overflow

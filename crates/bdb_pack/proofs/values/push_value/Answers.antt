@@ -26,7 +26,8 @@ loop-rest-preserved c =
     let bounds = size_bounds c.size.result c.size.ensures.legal in
     let room : 26 < c.args.pages.now.size = omega (arith, bounds.0, c.size.ensures.size) in
     let some : length rest ≡ 0 → ⊥ = eqb-false (length rest) 0 (sym c.is_empty.ensures ∙ c.loop-rest-test.true) in
-    next_piece c.args.pages.now c.loop-rest.pages c.push_piece.new.pages c.args.value.now c.count-head.result c.loop-rest.previous c.in_ok-number.number n rest _ c.loop-rest.invariant room (omega arith) c.in_ok-number.ensures.page
+    next_piece c.args.pages.now c.loop-rest.pages c.push_piece.new.pages c.args.value.now c.count-head.result c.loop-rest.previous
+    c.in_ok-number.number n rest _ c.loop-rest.invariant room (omega arith) c.in_ok-number.ensures.page
     c.in_ok-number.ensures.number c.in_ok-number.ensures.taken (take_all (length rest - n) (drop n rest) (omega (arith, length-drop n rest)))
 
 pub returns : goal.returns
@@ -34,5 +35,6 @@ returns c =
     let none = no_rest c.loop-rest.rest.now (eqb-true (length c.loop-rest.rest.now) 0 (sym c.is_empty.ensures ∙ c.loop-rest-test.false)) in (
       omega (arith, c.if-value-size.false, ap (λ s. s / 8) c.size.ensures.size),
       refl,
-      whole_chain c.args.pages.now c.loop-rest.pages c.args.value.now c.count-head.result c.loop-rest.previous c.loop-rest.rest.now c.loop-rest.invariant none c.count-head.ensures,
+      whole_chain c.args.pages.now c.loop-rest.pages c.args.value.now c.count-head.result c.loop-rest.previous c.loop-rest.rest.now
+          c.loop-rest.invariant none c.count-head.ensures,
     )

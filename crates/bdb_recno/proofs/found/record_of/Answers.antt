@@ -4,7 +4,7 @@ use Rattle.std.specs.Option.{option_map}
 use Rattle.bdb_layout.specs.Seen.{leaf_item_seen}
 use Rattle.bdb_format.specs.File.{file_of}
 use Rattle.bdb_overflow.specs.Datum.{datum_seen}
-use Rattle.bdb_recno.proofs.ListLemmas.{deleted_there, get_zero, live_there, none_there, place_is_record}
+use Rattle.bdb_recno.proofs.ListLemmas.{deleted_there, get_zero, live_there, none_there, place_fits}
 use Rattle.bdb_recno.proofs.found.record_of.Goals as goal
 
 pub returns-in_err-place-clause-value : goal.returns-in_err-place-clause-value
@@ -22,11 +22,11 @@ returns-then-is_deleted-clause-value g c =
     deleted_there (file_of c.args.forest.now) c.args.root c.args.number c.in_ok-place.place (leaf_item_seen c.in_ok-entry.entry) c.is_deleted.result (omega (arith, c.in_ok-place.ensures)) c.in_ok-entry.ensures.entry
     c.is_deleted.ensures c.if-is_deleted.true
 
-pub value_at-requires : goal.value_at-requires
-value_at-requires g c =
-    place_is_record c.args.forest.now c.args.root c.in_ok-place.place (leaf_item_seen c.in_ok-entry.entry) c.requires.forest c.requires.root c.in_ok-entry.ensures.entry
+pub value_of-requires : goal.value_of-requires
+value_of-requires g c =
+    place_fits c.args.forest.now c.args.root c.in_ok-place.place (leaf_item_seen c.in_ok-entry.entry) c.requires.forest c.requires.root c.in_ok-entry.ensures.entry
 
 pub returns-clause-value : goal.returns-clause-value
 returns-clause-value g c =
-    live_there (file_of c.args.forest.now) c.args.root c.args.number c.in_ok-place.place (leaf_item_seen c.in_ok-entry.entry) c.is_deleted.result (datum_seen c.value_at.result) (omega (arith, c.in_ok-place.ensures))
-    c.in_ok-entry.ensures.entry c.is_deleted.ensures c.if-is_deleted.false c.value_at.ensures
+    live_there (file_of c.args.forest.now) c.args.root c.args.number c.in_ok-place.place (leaf_item_seen c.in_ok-entry.entry) c.is_deleted.result (datum_seen c.value_of.result) (omega (arith, c.in_ok-place.ensures))
+    c.in_ok-entry.ensures.entry c.is_deleted.ensures c.if-is_deleted.false c.value_of.ensures

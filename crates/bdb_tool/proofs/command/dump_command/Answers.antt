@@ -1,5 +1,5 @@
 use Rattle.std.proofs.Common.{arith}
-use Rattle.bdb_tool.proofs.CommandLemmas.{dump_with, dump_without}
+use Rattle.bdb_tool.proofs.CommandLemmas.{dump_with}
 use Rattle.bdb_tool.proofs.command.dump_command.Goals as goal
 
 pub returns-then-read-len-clause-command : goal.returns-then-read-len-clause-command

@@ -1,14 +1,15 @@
-use Rattle.std.proofs.Common.{◌≡◌, ◌∙◌, ◌+◌, ap, arith, subst, sym}
+use Rattle.std.proofs.Common.{[], ◌≡◌, ◌∙◌, ◌+◌, ap, arith, subst, sym}
 use Rattle.std.specs.List.{flat_map, range_with_len}
 use Rattle.bdb_format.specs.declared.metadata.Head.{Head}
 use Rattle.bdb_format.specs.File.{file_of}
 use Rattle.bdb_graph.proofs.HeldLemmas.{last_page}
 use Rattle.bdb_tree.specs.Noted.{IsLeast, held_faults}
-use Rattle.bdb_tree.proofs.NotedLemmas.{least_is_first, page_noted}
+use Rattle.bdb_tree.proofs.NotedLemmas.{least_is_first, one_more}
 use Rattle.bdb_tree.proofs.check.least_fault.Goals as goal
 
 pub loop-page-preserved : goal.loop-page-preserved
-loop-page-preserved c = page_noted (file_of c.args.forest.now) c.loop-page.page c.in_ok-least.least (c.in_ok-least.ensures _ c.loop-page.invariant)
+loop-page-preserved c =
+    one_more (held_faults (file_of c.args.forest.now)) [] c.loop-page.page c.in_ok-least.least (c.in_ok-least.ensures _ c.loop-page.invariant)
 
 -- The last page is passed.
 pub returns : goal.returns

@@ -1,7 +1,8 @@
 use Rattle.std.proofs.Common.{◌≡◌, length}
 use Rattle.bdb_format.specs.File.{file_of}
 use Rattle.bdb_overflow.specs.Datum.{datum_seen}
-use Rattle.bdb_btree.specs.Search.{AreOpen, found_left, left_of}
+use Rattle.bdb_btree.specs.Pairs.{left_of}
+use Rattle.bdb_btree.specs.Search.{AreOpen, found_left}
 use Rattle.bdb_btree.proofs.found.FoundIterator.next.Given as goal
 
 -- As many data are left as at the beginning.

@@ -2,12 +2,8 @@ use Rattle.std.proofs.Common.{◌∙◌, ap, arith}
 use Rattle.std.specs.List.{fold}
 use Rattle.bdb_format.specs.File.{file_of}
 use Rattle.bdb_btree.specs.Bounds.{under_page}
-use Rattle.bdb_btree.proofs.SeenLemmas.{fold_end, leaf_at, tree_under}
+use Rattle.bdb_btree.proofs.SeenLemmas.{fold_end, tree_under}
 use Rattle.bdb_btree.proofs.separators.Bounds.see_below.Goals as goal
-
-pub see_leaf-requires : goal.see_leaf-requires
-see_leaf-requires c =
-    leaf_at c.args.forest.now c.args.child c.deref-leaf-items.result.now c.loop-leaf.leaf-index c.head.ensures.forest c.requires (c.deref-leaf-items.ensures.value ∙ c.in_ok-leaves.ensures) (omega arith)
 
 pub returns : goal.returns
 returns c =

@@ -7,10 +7,10 @@ use Rattle.bdb_btree.proofs.SeenLemmas.{items_more}
 use Rattle.bdb_btree.proofs.separators.Bounds.see_items.Goals as goal
 
 pub see_item-requires-clause-key : goal.see_item-requires-clause-key
-see_item-requires-clause-key c = (c.requires c.loop-i.i (internal_item_seen c.item.result) c.item.ensures).key
+see_item-requires-clause-key c = (c.requires.items c.loop-i.i (internal_item_seen c.item.result) c.item.ensures).key
 
 pub see_item-requires-clause-child : goal.see_item-requires-clause-child
-see_item-requires-clause-child c = (c.requires c.loop-i.i (internal_item_seen c.item.result) c.item.ensures).child
+see_item-requires-clause-child c = (c.requires.items c.loop-i.i (internal_item_seen c.item.result) c.item.ensures).child
 
 pub loop-i-preserved : goal.loop-i-preserved
 loop-i-preserved c =

@@ -7,5 +7,6 @@ use Rattle.bdb_pack.proofs.pages.Pages.append_internal.Goals as goal
 pub returns : goal.returns
 returns c =
     let it = c.self.inside in
-    edited it.size it.count it.order it.bytes.items c.args.self.now c.args.number (λ order page. page_and_item order page (internal_bytes order (internal_item_seen c.args.item.now))) _ _
+    edited it.size it.count it.order it.bytes.items c.args.self.now c.args.number
+    (λ order page. page_and_item order page (internal_bytes order (internal_item_seen c.args.item.now))) _ _
     c.self.view_is c.self.invariant.whole c.requires.number c.page_mut-page.ensures.value c.place_internal.ensures c.place_internal.auto.page

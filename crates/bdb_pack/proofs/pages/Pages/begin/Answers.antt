@@ -11,9 +11,11 @@ returns c =
 pub put_begun-requires-clause-page : goal.put_begun-requires-clause-page
 put_begun-requires-clause-page c =
     let it = c.self.inside in
-    (page_bounds it.size it.count it.order it.bytes.items c.args.self.now c.args.number _ c.self.view_is c.self.invariant.whole c.self.invariant.legal c.requires.number c.page_mut-page.ensures.value).0
+    (page_bounds it.size it.count it.order it.bytes.items c.args.self.now c.args.number _ c.self.view_is
+    c.self.invariant.whole c.self.invariant.legal c.requires.number c.page_mut-page.ensures.value).0
 
 pub put_begun-requires-clause-short : goal.put_begun-requires-clause-short
 put_begun-requires-clause-short c =
     let it = c.self.inside in
-    (page_bounds it.size it.count it.order it.bytes.items c.args.self.now c.args.number _ c.self.view_is c.self.invariant.whole c.self.invariant.legal c.requires.number c.page_mut-page.ensures.value).1
+    (page_bounds it.size it.count it.order it.bytes.items c.args.self.now c.args.number _ c.self.view_is
+    c.self.invariant.whole c.self.invariant.legal c.requires.number c.page_mut-page.ensures.value).1

@@ -17,11 +17,16 @@ returns c =
         λ w.
             let at = c.args.number * size in
             let long = c.self.inside.bytes.ok.0 in
-            ap (λ pages. let b : Built = record { size = size; order = c.self.inside.order; pages = pages } in b) (ap (λ n. cut size count (take n ((take at bytes ++ (w ++ drop (length w) (drop at bytes))) ++ drop (length (take at bytes ++ (w ++ drop (length w) (drop at bytes)))) bytes))) long ∙ (kept size count bytes (take at bytes ++ (w ++ drop (length w) (drop at bytes))) whole (long_enough bytes w at) ∙ lent size count bytes at w whole)) ∙ ap (λ (b : Built). written_over b c.args.number w) seen,
+            ap (λ pages. let b : Built = record { size = size; order = c.self.inside.order; pages = pages } in b)
+            (ap (λ n. cut size count (take n
+            ((take at bytes ++ (w ++ drop (length w) (drop at bytes))) ++ drop (length (take at bytes ++ (w ++ drop (length w) (drop at bytes)))) bytes))) long
+            ∙ (kept size count bytes (take at bytes ++ (w ++ drop (length w) (drop at bytes))) whole (long_enough bytes w at)
+            ∙ lent size count bytes at w whole)) ∙ ap (λ (b : Built). written_over b c.args.number w) seen,
       ),
       record {
         writes_back = tt;
         value = c.slice_mut.ensures.value
-            ∙ (ap (λ n. take n (drop (c.args.number * size) bytes)) (omega arith) ∙ (sym (page_of_cut size count bytes c.args.number (omega (arith, low, seen_count))) ∙ ap (λ (b : Built). bytes_of b c.args.number) seen));
+            ∙ (ap (λ n. take n (drop (c.args.number * size) bytes)) (omega arith)
+            ∙ (sym (page_of_cut size count bytes c.args.number (omega (arith, low, seen_count))) ∙ ap (λ (b : Built). bytes_of b c.args.number) seen));
       },
     )

@@ -1,0 +1,206 @@
+-- Pairs whose keys don't fall: those of a tree where none is out of order, and so those below each of its pages.
+use Rattle.std.proofs.Common.{◌≡◌, ℕ, zero, suc, ◌+◌, ◌*◌, ◌-◌, ◌/◌, ◌<◌, ◌≤◌, true, false, List, [], ◌∷◌, ◌++◌, length, map, get_or, arith, refl, sym, ◌∙◌, ap, subst, inl, inr, true≢false, add-one, Bool, not, Option, Some, None}
+use Rattle.std.specs.Prelude.{◌==◌, ◌&&◌, slice_index}
+use Rattle.std.specs.List.{flat_map, range_with_len, All, Contains}
+use Rattle.std.proofs.lemmas.Bool.{cases_lt, eq-eqb, eqb-true, false_from_ne_true}
+use Rattle.std.proofs.lemmas.List.{get_or_past}
+use Rattle.bdb_format.specs.declared.kinds.Order.{Order}
+use Rattle.bdb_format.specs.Contents.{StoredPair, pair_at, pairs_in, pairs_of, tree_pairs}
+use Rattle.bdb_format.specs.File.{File, file_of, page_at, page_bytes}
+use Rattle.bdb_format.specs.HeadOf.{head_of}
+use Rattle.bdb_format.specs.Chains.{value_of}
+use Rattle.bdb_format.specs.Leaves.{leaves, children_in}
+use Rattle.bdb_format.specs.Numbers.{byte_at}
+use Rattle.bdb_format.specs.Page.{Item, Listed, Page, Zero, Hash, Leaf, NoType, PageType, LeafPage, InternalItem, Internal}
+use Rattle.bdb_format.specs.Reading.{abstract_page, entries_of, is_zero, leaf_item_at, listed, page_as, page_type}
+use Rattle.bdb_format.specs.References.{is_shared_key, no_item}
+use Rattle.bdb_format.proofs.PageLemmas.{index_offset, length_items}
+use Rattle.bdb_graph.proofs.HeldLemmas.{last_page, page_is}
+use Rattle.bdb_format.proofs.ReferenceLemmas.{pages_counted}
+use Rattle.bdb_format.proofs.LeafLemmas.{leaf_item_is, one_offset}
+use Rattle.std.specs.Option.{is_some}
+use Rattle.std.proofs.lemmas.List.Elements.{Contains-append_left, Contains-get_or}
+use Rattle.bdb_format.specs.ContentRows.{is_out_of_order, neighbours, neighbours_from}
+use Rattle.bdb_format.specs.Less.{less}
+use Rattle.bdb_format.proofs.BoolLemmas.{second_false}
+use Rattle.bdb_format.proofs.LessLemmas.{less_self}
+use Rattle.bdb_format.proofs.ListLemmas.{all_of, flat_map_twice}
+use Rattle.bdb_format.proofs.MemberLemmas.{first_member, in_map, later_member, member_cases, no_member, none_passes}
+use Rattle.bdb_graph.specs.Linked.{IsForest}
+use Rattle.bdb_tree.proofs.TreeLemmas.{leaves_of_inner}
+use Rattle.bdb_btree.specs.Bounds.{DontFall, NoneBelow, OrderedIf}
+use Rattle.bdb_btree.specs.Least.{IsLeastPage}
+use Rattle.bdb_btree.specs.Rows.{has_wrong_order}
+use Rattle.bdb_btree.proofs.LessLemmas.{less_above, less_not_back}
+use Rattle.bdb_form.proofs.FormedLemmas.{shared_after}
+
+-- Entries of a leaf with one offset are one item.
+
+abbrev OffsetsTell : Listed Item → Type 0
+OffsetsTell leaf =
+    (i j : ℕ) → i < length leaf.items → j < length leaf.items → slice_index leaf.offsets i ≡ slice_index leaf.offsets j
+    → get_or leaf.items i no_item ≡ get_or leaf.items j no_item
+
+abbrev OffsetsTellIn : Page → Type 0
+OffsetsTellIn (Leaf leaf) = OffsetsTell leaf
+OffsetsTellIn page = Unit {0}
+
+leaf_tells : (order : Order) (page : List ℕ) → OffsetsTell (listed order page (leaf_item_at order page))
+leaf_tells order page i j low also same =
+    let count : length (listed order page (leaf_item_at order page)).items ≡ entries_of order page = length_items order page (leaf_item_at order page) in
+    let here : i < entries_of order page = omega arith in
+    let there : j < entries_of order page = omega arith in
+    leaf_item_is order page i here
+    ∙ (one_offset order page i j (sym (index_offset order page (leaf_item_at order page) i here) ∙
+    (same ∙ index_offset order page (leaf_item_at order page) j there))
+    ∙ sym (leaf_item_is order page j there))
+
+type_tells : (order : Order) (page : List ℕ) (t : PageType) → OffsetsTellIn (page_as order page t)
+type_tells order page LeafPage = leaf_tells order page
+type_tells order page t = tt
+
+page_tells : (order : Order) (page : List ℕ) → OffsetsTellIn (abstract_page order page)
+unfolding abstract_page
+page_tells order page =
+    elim (is_zero page) as (λ zeros. OffsetsTellIn (elim zeros [ true ↦ Zero | false ↦ page_as order page (page_type (byte_at page 25)) ])) [
+      | true ↦ tt
+      | false ↦ type_tells order page (page_type (byte_at page 25))
+    ]
+
+file_tells : (image : List ℕ) (p : ℕ) → OffsetsTellIn (page_at (file_of image) p)
+file_tells image p =
+    elim (cases_lt (head_of image).last p) [
+      | inl past ↦ subst OffsetsTellIn (sym (get_or_past (file_of image).pages p NoType (omega (arith, pages_counted image, last_page image)))) tt
+      | inr low ↦ subst OffsetsTellIn (sym (page_is image p low)) (page_tells (head_of image).order (page_bytes (head_of image) image p))
+    ]
+
+-- Pairs that share their key.
+
+-- each pair that shares its key has the key before it
+abbrev pub ShareKeys : List ℕ → List StoredPair → Type 0
+ShareKeys key [] = Unit {0}
+ShareKeys key (pair ∷ pairs) = (pair.shares ≡ true → pair.key ≡ key) × ShareKeys pair.key pairs
+
+abbrev leaf_pair : File → ℕ → Listed Item → ℕ → StoredPair
+leaf_pair file p leaf i = pair_at file p leaf (λ j. is_shared_key leaf.offsets (2 * j)) i
+
+same_key : (file : File) (p : ℕ) (leaf : Listed Item) (i j : ℕ) → OffsetsTell leaf → i < length leaf.items / 2 → i ≡ suc j
+    → is_shared_key leaf.offsets (2 * i) ≡ true → (leaf_pair file p leaf i).key ≡ (leaf_pair file p leaf j).key
+same_key file p leaf i j tell low next shares =
+    let one : slice_index leaf.offsets (2 * i) ≡ slice_index leaf.offsets (2 * i - 2) = eqb-true _ _ (sym (shared_after leaf.offsets i (omega arith)) ∙ shares) in
+    let before : 2 * i - 2 ≡ 2 * j = omega arith in
+    ap (λ (item : Item). value_of file item.content) (tell (2 * i) (2 * j) (omega arith) (omega arith) (one ∙ ap (slice_index leaf.offsets) before))
+
+later_keys : (file : File) (p : ℕ) (leaf : Listed Item) (n i : ℕ) (rest : List StoredPair) → OffsetsTell leaf → i + 1 + n ≤ length leaf.items / 2
+    → ((other : List ℕ) → ShareKeys other rest)
+    → ShareKeys (leaf_pair file p leaf i).key (map (leaf_pair file p leaf) (range_with_len (i + 1) n) ++ rest)
+later_keys file p leaf zero i rest tell low after = after (leaf_pair file p leaf i).key
+later_keys file p leaf (suc n) i rest tell low after =
+    (λ shares. same_key file p leaf (i + 1) i tell (omega arith) (add-one i) shares, later_keys file p leaf n (i + 1) rest tell (omega arith) after)
+
+leaf_keys : (file : File) (p : ℕ) (leaf : Listed Item) (n : ℕ) (key : List ℕ) (rest : List StoredPair) → OffsetsTell leaf → n ≤ length leaf.items / 2
+    → ((other : List ℕ) → ShareKeys other rest)
+    → ShareKeys key (map (leaf_pair file p leaf) (range_with_len 0 n) ++ rest)
+leaf_keys file p leaf zero key rest tell low after = after key
+leaf_keys file p leaf (suc n) key rest tell low after = (λ shares. absurd (true≢false (sym shares)), later_keys file p leaf n 0 rest tell (omega arith) after)
+
+hash_keys : (file : File) (p : ℕ) (page : Listed Item) (is : List ℕ) (key : List ℕ) (rest : List StoredPair) → ((other : List ℕ) → ShareKeys other rest)
+    → ShareKeys key (map (pair_at file p page (λ i. false)) is ++ rest)
+hash_keys file p page [] key rest after = after key
+hash_keys file p page (i ∷ is) key rest after =
+    (λ shares. absurd (true≢false (sym shares)), hash_keys file p page is (pair_at file p page (λ i. false) i).key rest after)
+
+page_keys : (file : File) (p : ℕ) (page : Page) (key : List ℕ) (rest : List StoredPair) → OffsetsTellIn page → ((other : List ℕ) → ShareKeys other rest)
+    → ShareKeys key (pairs_in file p page ++ rest)
+page_keys file p (Leaf leaf) key rest tell after = leaf_keys file p leaf (length leaf.items / 2) key rest tell (omega arith) after
+page_keys file p (Hash page) key rest tell after = hash_keys file p page (range_with_len 0 (length page.items / 2)) key rest after
+page_keys file p page key rest tell after = after key
+
+pages_keys : (image : List ℕ) (ps : List ℕ) (key : List ℕ) → ShareKeys key (flat_map (pairs_of (file_of image)) ps)
+unfolding pairs_of
+pages_keys image [] key = tt
+pages_keys image (p ∷ ps) key =
+    page_keys (file_of image) p (page_at (file_of image) p) key (flat_map (pairs_of (file_of image)) ps) (file_tells image p) (pages_keys image ps)
+
+pub tree_keys : (image : List ℕ) (root : ℕ) (key : List ℕ) → ShareKeys key (tree_pairs (file_of image) root)
+unfolding tree_pairs
+tree_keys image root key = pages_keys image (leaves (file_of image) root) key
+
+-- Pairs whose keys don't fall.
+
+-- what isn't less than something that isn't less than a third isn't less than that
+not_less_chain : (a b c : List ℕ) → less b a ≡ false → less c b ≡ false → less c a ≡ false
+not_less_chain a b c ab bc = false_from_ne_true (less c a) (λ is. true≢false (sym (less_above c a b is ab) ∙ bc))
+
+none_below_more : (key : List ℕ) (pair : StoredPair) (pairs : List StoredPair) → less pair.key key ≡ false → NoneBelow pair.key pairs
+    → NoneBelow key (pair ∷ pairs)
+none_below_more key pair pairs here after other at =
+    elim (member_cases pair pairs other at) [
+      | inl same ↦ subst (λ (one : StoredPair). less one.key key ≡ false) same here
+      | inr later ↦ not_less_chain key pair.key other.key here (after other later)
+    ]
+
+-- two pairs that follow each other, where one that shares its key has the key before it
+in_order_step : (a b : List ℕ) (shares : Bool) → (shares ≡ true → b ≡ a) → (not shares && not (less a b)) ≡ false → less b a ≡ false
+in_order_step a b true same kept = ap (λ key. less key a) (same refl) ∙ less_self a
+in_order_step a b false same kept = grind (arith, less_not_back a b)
+
+dont_fall_from : (pair : StoredPair) (pairs : List StoredPair) → ShareKeys pair.key pairs
+    → ((two : StoredPair × StoredPair) → Contains (neighbours_from pair pairs) two → is_out_of_order two ≡ false) → NoneBelow pair.key pairs × DontFall pairs
+dont_fall_from pair [] shares kept = (λ other at. absurd (no_member [] other refl at), tt)
+dont_fall_from pair (next ∷ pairs) shares kept =
+    let after = dont_fall_from next pairs shares.1 (λ two at. kept two (later_member (pair, next) (neighbours_from next pairs) two at)) in (
+      none_below_more pair.key next pairs (in_order_step pair.key next.key next.shares shares.0
+          (kept (pair, next) (first_member (pair, next) (neighbours_from next pairs)))) after.0,
+      after,
+    )
+
+pub dont_fall : (pairs : List StoredPair) → ShareKeys [] pairs
+    → ((two : StoredPair × StoredPair) → Contains (neighbours pairs) two → is_out_of_order two ≡ false) → DontFall pairs
+dont_fall [] shares kept = tt
+dont_fall (pair ∷ pairs) shares kept = dont_fall_from pair pairs shares.1 kept
+
+-- where no page has a pair out of order
+pub root_ordered : (image : List ℕ) (root : ℕ) (least : Option ℕ) (ordered : Bool) → IsLeastPage least (has_wrong_order (tree_pairs (file_of image) root))
+    → is_some least ≡ not ordered → OrderedIf ordered (file_of image) root
+root_ordered image root None ordered none told is =
+    let pairs : List StoredPair = tree_pairs (file_of image) root in
+    dont_fall pairs (tree_keys image root []) (λ two at.
+    second_false (two.1.page == two.1.page) (is_out_of_order two) (eq-eqb two.1.page two.1.page refl)
+    (none_passes (λ (other : StoredPair × StoredPair). (other.1.page == two.1.page) && is_out_of_order other) (neighbours pairs) two (none two.1.page) at))
+root_ordered image root (Some p) ordered some told is = absurd (true≢false (told ∙ ap not is))
+
+-- Parts of a list.
+
+fall_parts : (xs ys : List StoredPair) → DontFall (xs ++ ys) → DontFall xs × DontFall ys
+fall_parts [] ys fall = (tt, fall)
+fall_parts (x ∷ xs) ys fall = let rest = fall_parts xs ys fall.1 in ((λ pair at. fall.0 pair (Contains-append_left xs ys pair at), rest.0), rest.1)
+
+part_falls : (f : ℕ → List StoredPair) (ps : List ℕ) (p : ℕ) → DontFall (flat_map f ps) → Contains ps p → DontFall (f p)
+part_falls f [] p fall at = absurd (no_member [] p refl at)
+part_falls f (q ∷ ps) p fall at =
+    let parts = fall_parts (f q) (flat_map f ps) fall in
+    elim (member_cases q ps p at) [ inl same ↦ subst (λ r. DontFall (f r)) same parts.0 | inr later ↦ part_falls f ps p parts.1 later ]
+
+pub leaf_ordered : (file : File) (child : ℕ) (items : List ℕ) (i : ℕ) → DontFall (tree_pairs file child) → items ≡ leaves file child → i < length items
+    → DontFall (pairs_of file (get_or items i 0))
+unfolding tree_pairs
+leaf_ordered file child items i fall are low =
+    part_falls (pairs_of file) (leaves file child) (get_or items i 0) fall (subst (λ ps. Contains ps (get_or items i 0)) are (Contains-get_or items i 0 low))
+
+pub child_ordered : (image : List ℕ) (ordered : Bool) (p c : ℕ) (children : List ℕ) → IsForest image → OrderedIf ordered (file_of image) p
+    → children_in (page_at (file_of image) p) ≡ Some children → Contains children c
+    → OrderedIf ordered (file_of image) c
+unfolding tree_pairs
+child_ordered image ordered p c children forest is are at told =
+    part_falls (tree_pairs (file_of image)) children c
+    (subst DontFall (ap (flat_map (pairs_of (file_of image))) (leaves_of_inner image p children forest are) ∙ flat_map_twice (pairs_of (file_of image))
+    (leaves (file_of image)) children) (is told)) at
+
+pub items_ordered : (image : List ℕ) (ordered : Bool) (p : ℕ) (page : Listed InternalItem) → IsForest image → OrderedIf ordered (file_of image) p
+    → page_at (file_of image) p ≡ Internal page
+    → All (λ (item : InternalItem). OrderedIf ordered (file_of image) item.child) page.items
+items_ordered image ordered p page forest is here =
+    all_of (λ (item : InternalItem). OrderedIf ordered (file_of image) item.child) page.items (λ item at.
+    child_ordered image ordered p item.child (map (λ (other : InternalItem). other.child) page.items) forest is (ap children_in here)
+    (in_map (λ (other : InternalItem). other.child) page.items item at))

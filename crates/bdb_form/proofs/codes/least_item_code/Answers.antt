@@ -1,0 +1,12 @@
+use Rattle.std.proofs.Common.{ℕ, Option, ◌≡◌, ◌∙◌, rules}
+use Rattle.bdb_format.specs.Reading.{entries_of}
+use Rattle.bdb_format.specs.Rows.{item_row}
+use Rattle.bdb_format.proofs.ItemLemmas.{least_below, least_items}
+use Rattle.bdb_form.proofs.codes.least_item_code.Goals as goal
+
+-- The least of all items is the first of the rows on all of them.
+pub returns : goal.returns
+returns g c =
+    let row : ℕ → Option ℕ = item_row g.K.PageKind.page_type c.args.order c.args.page.now in
+    let least : c.loop-index.least ≡ least_below row (entries_of c.args.order c.args.page.now) = search rules in
+    least ∙ least_items g.K.PageKind.page_type c.args.order c.args.page.now

@@ -1,9 +1,0 @@
-use Rattle.std.proofs.Common.{◌≡◌}
-use Rattle.bdb_form.specs.Indexed.{type_seen}
-use Rattle.bdb_format.specs.Rows.{item_row}
-use Rattle.bdb_format.proofs.ItemLemmas.{least_below}
-use Rattle.bdb_form.proofs.index.least_item_code.Given as goal
-
--- The least code of the items so far.
-abbrev pub invariant-loop-index : goal.invariant-loop-index
-invariant-loop-index l = l.least ≡ least_below (item_row (type_seen l.kind) l.order l.page) l.index

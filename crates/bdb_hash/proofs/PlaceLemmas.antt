@@ -1,0 +1,261 @@
+-- The pairs of a table stand at places, and these in the order of their keys are the pairs in the order of theirs.
+use Rattle.std.proofs.Common.{◌≡◌, ℕ, ◌+◌, ◌-◌, ◌*◌, ◌/◌, ◌≤◌, ◌<◌, Bool, true, false, cond, List, [], ◌∷◌, ◌++◌, map, length, get_or, min}
+use Rattle.std.proofs.Common.{length-append, arith, refl, sym, ◌∙◌, ap, Bor, subst, append_assoc, inl, inr}
+use Rattle.std.specs.Prelude.{Some}
+use Rattle.std.specs.Cmp.{IsStrictWeakOrder, nat_cmp_total, on_total, then_total}
+use Rattle.std.specs.Cmp.Lexicographic.{nat_list_cmp_total, slice_cmp}
+use Rattle.std.specs.Fn.{Called, ComparesAs, Mut}
+use Rattle.std.specs.declared.cmp.Ordering.{Ordering}
+use Rattle.std.specs.List.{Contains, flat_map, range_with_len, slice_get}
+use Rattle.std.specs.List.Sorted.{IsPermutation, IsSorted, IsSortedBy}
+use Rattle.std.specs.Ordering.{is_lt, nat_cmp, ordering_then}
+use Rattle.std.proofs.lemmas.Bool.{le-ltb, lt-ltb}
+use Rattle.std.proofs.lemmas.List.{append-nil, get_or-map, length-map}
+use Rattle.std.proofs.lemmas.Option.{get_or_from_slice_get}
+use Rattle.std.proofs.lemmas.Fn.{always_returns_same}
+use Rattle.std.proofs.lemmas.List.FromFn.{length-map-range_with_len}
+use Rattle.std.proofs.lemmas.List.Elements.{Contains-get_or}
+use Rattle.std.proofs.lemmas.List.Sorted.{Contains-permutation, IsPermutation-map, IsPermutation-sym, ranks_by}
+use Rattle.bdb_format.specs.declared.metadata.HashMeta.{HashMeta}
+use Rattle.bdb_format.specs.Chains.{value_of}
+use Rattle.bdb_format.specs.ContentRows.{database_faults}
+use Rattle.bdb_format.specs.Contents.{StoredPair, bucket_pages, pair_at, table_pairs}
+use Rattle.bdb_format.specs.File.{File, file_of, page_at}
+use Rattle.bdb_format.specs.Page.{Hash, HashFields, Item}
+use Rattle.bdb_format.specs.Page.{Listed, Page}
+use Rattle.bdb_format.specs.References.{item_at, no_item}
+use Rattle.bdb_format.proofs.MemberLemmas.{later_member, member_cases, no_member}
+use Rattle.bdb_graph.specs.Linked.{HasMetadata}
+use Rattle.bdb_layout.specs.declared.items.HashItem.{HashItem}
+use Rattle.bdb_layout.specs.Seen.{hash_content_seen, hash_item_seen}
+use Rattle.bdb_overflow.specs.Prefix.{prefix_of}
+use Rattle.bdb_overflow.proofs.PrefixLemmas.{prefix_order}
+use Rattle.bdb_hash.specs.declared.place.Place.{Place}
+use Rattle.bdb_hash.specs.Places.{Adds, AreAt, ArePlaces, IsAt, IsCollected, IsRead, has_pair, key_at, key_in, pair_on, place_cmp, place_less}
+use Rattle.bdb_hash.specs.Places.{told_at}
+use Rattle.bdb_hash.specs.Scanned.{ranked}
+use Rattle.bdb_hash.specs.Told.{Told, bucket_told, joined_pages, left_on, page_told, table_told, told, told_cmp}
+use Rattle.bdb_hash.specs.Views.{IsTable}
+use Rattle.bdb_hash.proofs.FaultLemmas.{table_is_told}
+use Rattle.bdb_hash.proofs.PairLemmas.{item_fits, item_root, pair_is}
+use Rattle.bdb_hash.proofs.ScanLemmas.{sorted_ranked}
+use Rattle.bdb_hash.proofs.TableLemmas.{told_more}
+
+-- A pair that is read.
+
+pub read_is : (image : List ℕ) (p i : ℕ) (page : Listed Item) (key data' : HashItem) (bytes : List ℕ) → IsTable image → p ≤ (file_of image).last
+    → page_at (file_of image) p ≡ Hash page → 2 * i + 1 < length page.items → slice_get page.items (2 * i) ≡ Some (hash_item_seen key)
+    → slice_get page.items (2 * i + 1) ≡ Some (hash_item_seen data') → bytes ≡ value_of (file_of image) (hash_content_seen key)
+    → IsRead p i (told image (record { page = p; key = bytes; data_item = hash_content_seen data'; live = true; shares = false })) (hash_content_seen data')
+read_is image p i page key data' bytes table low shows there first second same = record {
+  pair = record {
+    forest = table;
+    chain = item_fits image p (2 * i + 1) page data' table low shows second;
+    root = item_root image p (2 * i + 1) page data' table low shows second;
+  };
+  stands = record {
+    inside = low;
+    there = ap (λ (q : Page). has_pair q i) shows ∙ lt-ltb (2 * i + 1) (length page.items) there;
+    is = pair_is image p i page key data' bytes first second same ∙ sym (ap (λ (q : Page). told image (pair_on (file_of image) p q i)) shows);
+  };
+}
+
+-- A place whose key is read.
+
+pub no_page : (image : List ℕ) (place : Place) → (file_of image).last < place.page → [] ≡ key_at image place
+no_page image place above =
+    sym (ap (λ b. cond b [] (key_in (file_of image) (page_at (file_of image) place.page) place.index)) (lt-ltb (file_of image).last place.page above))
+
+pub on_page : (image : List ℕ) (place : Place) → place.page ≤ (file_of image).last
+    → key_at image place ≡ key_in (file_of image) (page_at (file_of image) place.page) place.index
+on_page image place low =
+    ap (λ b. cond b [] (key_in (file_of image) (page_at (file_of image) place.page) place.index)) (le-ltb (file_of image).last place.page low)
+
+-- the key on a hash page
+pub key_here : (image : List ℕ) (place : Place) (page : Listed Item) (item : HashItem) (bytes : List ℕ) → place.page ≤ (file_of image).last
+    → page_at (file_of image) place.page ≡ Hash page
+    → 2 * place.index + 1 < length page.items → slice_get page.items (2 * place.index) ≡ Some (hash_item_seen item)
+    → bytes ≡ value_of (file_of image) (hash_content_seen item) → bytes ≡ key_at image place
+key_here image place page item bytes low shows there at is =
+    is
+    ∙ (ap (λ (one : Item). value_of (file_of image) one.content) (sym (get_or_from_slice_get page.items (2 * place.index) (hash_item_seen item) no_item at))
+    ∙ (ap (λ b. cond b (value_of (file_of image) (item_at page (2 * place.index)).content) []) (sym (lt-ltb (2 * place.index + 1) (length page.items) there))
+    ∙ (ap (λ (q : Page). key_in (file_of image) q place.index) (sym shows) ∙ sym (on_page image place low))))
+
+-- Places of a file.
+
+pub places_rest : (image : List ℕ) (place : Place) (places rest : List Place) → ArePlaces image places → places ≡ place ∷ rest → ArePlaces image rest
+places_rest image place places rest are is =
+    record { table = are.table; each = λ other at. are.each other (subst (λ ps. Contains ps other) (sym is) (later_member place rest other at)) }
+
+-- Places are collected.
+
+pub none_added : (places : List Place) → Adds places places []
+none_added places = record { after = λ before at. subst (AreAt places) (sym (append-nil before)) at }
+
+pub more_added : (a b c : List Place) (xs ys : List Told) → Adds a b xs → Adds b c ys → Adds a c (xs ++ ys)
+more_added a b c xs ys first second =
+    record { after = λ before at. subst (AreAt c) (append_assoc before xs ys) (second.after (before ++ xs) (first.after before at)) }
+
+at_end : (places : List Place) (place : Place) (ts : List Told) (t : Told) → AreAt places ts → IsAt place t → AreAt (places ++ place ∷ []) (ts ++ t ∷ [])
+at_end [] place [] t all one = (one, tt)
+at_end [] place (u ∷ ts) t all one = absurd all
+at_end (other ∷ places) place [] t all one = absurd all
+at_end (other ∷ places) place (u ∷ ts) t all one = (all.0, at_end places place ts t all.1 one)
+
+one_added : (places new : List Place) (place : Place) (t : Told) → IsAt place t → new ≡ places ++ place ∷ [] → Adds places new (t ∷ [])
+one_added places new place t is more =
+    record { after = λ before at. subst (λ ps. AreAt ps (before ++ t ∷ [])) (sym more) (at_end places place before t at is) }
+
+pub none_collected : (places : List Place) (all : List Told) → IsCollected places places all all
+none_collected places all = record { done = []; whole = refl; adds = none_added places }
+
+pub more_collected : (old now new : List Place) (all left here rest : List Told) → IsCollected old now all left → left ≡ here ++ rest → Adds now new here
+    → IsCollected old new all rest
+more_collected old now new all left here rest collected is adds = record {
+  done = collected.done ++ here;
+  whole = collected.whole ∙ (ap (λ ts. collected.done ++ ts) is ∙ sym (append_assoc collected.done here rest));
+  adds = more_added old now new collected.done here collected.adds adds;
+}
+
+pub one_collected : (old now new : List Place) (place : Place) (all left rest : List Told) (t : Told) → IsCollected old now all left → left ≡ t ∷ rest
+    → IsAt place t
+    → new ≡ now ++ place ∷ [] → IsCollected old new all rest
+one_collected old now new place all left rest t collected is at more =
+    more_collected old now new all left (t ∷ []) rest collected is (one_added now new place t at more)
+
+pub all_collected : (old now : List Place) (all left : List Told) → IsCollected old now all left → left ≡ [] → Adds old now all
+all_collected old now all left collected none =
+    subst (Adds old now) (sym (collected.whole ∙ (ap (λ ts. collected.done ++ ts) none ∙ append-nil collected.done))) collected.adds
+
+-- the places of one more bucket
+pub bucket_added : (image : List ℕ) (meta : HashMeta) (b : ℕ) (old new : List Place) (pages : List (List Told))
+    → AreAt old (flat_map (bucket_told image meta) (range_with_len 0 b))
+    → pages ≡ map (page_told image) (bucket_pages (file_of image) meta b) → Adds old new (joined_pages pages)
+    → AreAt new (flat_map (bucket_told image meta) (range_with_len 0 (b + 1)))
+bucket_added image meta b old new pages at are adds =
+    subst (AreAt new) (ap (λ ps. flat_map (bucket_told image meta) (range_with_len 0 b) ++ joined_pages ps) are ∙ sym (told_more image meta b))
+    (adds.after (flat_map (bucket_told image meta) (range_with_len 0 b)) at)
+
+-- Pairs are counted.
+
+pub left_is : (image : List ℕ) (p i n : ℕ) (page : Listed Item) → 2 * n ≡ length page.items → n - i ≡ length (left_on image p (Some page) i)
+left_is image p i n page is =
+    let half : length page.items / 2 ≡ n = omega (arith, is) in
+    sym
+    (length-map (map (pair_at (file_of image) p page (λ m. false)) (range_with_len i (length page.items / 2 - i))) (told image)
+    ∙ (length-map-range_with_len (pair_at (file_of image) p page (λ m. false)) i (length page.items / 2 - i) ∙ ap (λ m. m - i) half))
+
+-- one more page counted
+pub page_counted : (count more here whole most : ℕ) (page : List Told) (rest : List (List Told)) → more ≡ min (count + here) most → here ≡ length page
+    → min (count + length (joined_pages (page ∷ rest))) most ≡ whole → min (more + length (joined_pages rest)) most ≡ whole
+page_counted count more here whole most page rest is are before =
+    let both : length (page ++ joined_pages rest) ≡ length page + length (joined_pages rest) = length-append page (joined_pages rest) in
+    omega (arith, is, are, before, both)
+
+-- one more bucket counted
+pub bucket_counted : (image : List ℕ) (meta : HashMeta) (b count more most : ℕ) (pages : List (List Told))
+    → count ≡ min (length (flat_map (bucket_told image meta) (range_with_len 0 b))) most
+    → pages ≡ map (page_told image) (bucket_pages (file_of image) meta b) → more ≡ min (count + length (joined_pages pages)) most
+    → more ≡ min (length (flat_map (bucket_told image meta) (range_with_len 0 (b + 1)))) most
+bucket_counted image meta b count more most pages before are is =
+    let same : length (flat_map (bucket_told image meta) (range_with_len 0 (b + 1))) ≡ length (flat_map (bucket_told image meta) (range_with_len 0 b))
+    + length (joined_pages pages) =
+    ap length (told_more image meta b)
+    ∙ (length-append (flat_map (bucket_told image meta) (range_with_len 0 b)) (bucket_told image meta b)
+    ∙ ap (λ ps. length (flat_map (bucket_told image meta) (range_with_len 0 b)) + length (joined_pages ps)) (sym are)) in
+    omega (arith, before, is, same)
+
+-- Places of pairs of one file.
+
+told_all : (image : List ℕ) (pairs : List StoredPair) (places : List Place) → AreAt places (map (told image) pairs)
+    → map (told_at image) places ≡ map (told image) pairs
+told_all image [] [] at = refl
+told_all image [] (place ∷ places) at = absurd at
+told_all image (pair ∷ pairs) [] at = absurd at
+told_all image (pair ∷ pairs) (place ∷ places) at =
+    ap (λ (t : Told). t ∷ map (told_at image) places) (sym at.0.stands.is) ∙ ap (λ ts. told image pair ∷ ts) (told_all image pairs places at.1)
+
+told_each : (image : List ℕ) (pairs : List StoredPair) (places : List Place) → AreAt places (map (told image) pairs) → (place : Place)
+    → Contains places place → IsAt place (told_at image place)
+told_each image [] [] at place in' = absurd (no_member [] place refl in')
+told_each image [] (one ∷ places) at place in' = absurd at
+told_each image (pair ∷ pairs) [] at place in' = absurd at
+told_each image (pair ∷ pairs) (one ∷ places) at place in' =
+    elim (member_cases one places place in') [
+      | inl same ↦ subst (λ (p : Place). IsAt p (told_at image p)) same (subst (IsAt one) at.0.stands.is at.0)
+      | inr later ↦ told_each image pairs places at.1 place later
+    ]
+
+-- Their order.
+
+key_is : (file : File) (p i : ℕ) (page : Page) → has_pair page i ≡ true → key_in file page i ≡ (pair_on file p page i).key
+key_is file p i (Hash page) there = ap (λ b. cond b (value_of file (item_at page (2 * i)).content) []) there
+key_is file p i page there = absurd cc
+
+-- the key at a place is that of its pair
+key_told : (image : List ℕ) (place : Place) → IsAt place (told_at image place) → key_at image place ≡ (told_at image place).pair.key
+key_told image place is =
+    on_page image place is.stands.inside ∙ key_is (file_of image) place.page place.index (page_at (file_of image) place.page) is.stands.there
+
+-- places have the order of their pairs
+cmp_told : (image : List ℕ) (a b : Place) → IsAt a (told_at image a) → IsAt b (told_at image b)
+    → place_cmp image a b ≡ told_cmp (told_at image a) (told_at image b)
+cmp_told image a b is_a is_b =
+    let key_a : List ℕ = (told_at image a).pair.key in
+    let key_b : List ℕ = (told_at image b).pair.key in
+    ap (λ key. ordering_then (nat_cmp a.first b.first) (slice_cmp nat_cmp key (key_at image b))) (key_told image a is_a)
+    ∙ (ap (λ key. ordering_then (nat_cmp a.first b.first) (slice_cmp nat_cmp key_a key)) (key_told image b is_b)
+    ∙ (ap (λ n. ordering_then (nat_cmp n b.first) (slice_cmp nat_cmp key_a key_b)) is_a.first
+    ∙ (ap (λ n. ordering_then (nat_cmp (prefix_of 8 key_a) n) (slice_cmp nat_cmp key_a key_b)) is_b.first ∙ prefix_order 8 key_a key_b is_a.bytes is_b.bytes)))
+
+places_rank : (image : List ℕ) → IsStrictWeakOrder (place_less image)
+places_rank image =
+    ranks_by (then_total (on_total (λ (place : Place). place.first) nat_cmp_total) (on_total (key_at image) nat_list_cmp_total)) (λ place. place)
+
+-- a sort by a closure that answers by the order of places
+pub sorted_by : (image : List ℕ) {F : Type 0} {g : Mut F (Bor Place × (Bor Place × Unit {0})) Ordering} {f : F} (places : List Place)
+    → ((lt : Place → Place → Bool) → IsStrictWeakOrder lt → ComparesAs g lt f → IsSortedBy lt places)
+    → ((a : Bor Place × (Bor Place × Unit {0})) (r : Ordering) (f' : F) → Called g f a r f' → (r ≡ place_cmp image a.0.now a.1.0.now) × (f' ≡ f))
+    → IsSortedBy (place_less image) places
+sorted_by image {g = g} {f = f} places up answers =
+    up (place_less image) (places_rank image)
+    (always_returns_same g (λ a r. is_lt r ≡ place_less image a.0.now a.1.0.now) f
+    (λ a r f' called. (ap is_lt (answers a r f' called).0, (answers a r f' called).1)))
+
+no_place : Place
+no_place = record { first = 0; page = 0; index = 0 }
+
+sorted_told : (image : List ℕ) (places : List Place) → ArePlaces image places → IsSortedBy (place_less image) places
+    → IsSorted told_cmp (map (told_at image) places)
+sorted_told image places are sorted = λ k d low high.
+    let few : k + 1 < length places = omega (arith, high, length-map places (told_at image)) in
+    let here : Place = get_or places k no_place in
+    let next : Place = get_or places (k + 1) no_place in
+    let order : place_cmp image next here ≡ told_cmp (told_at image next) (told_at image here) =
+    cmp_told image next here (are.each next (Contains-get_or places (k + 1) no_place few)) (are.each here (Contains-get_or places k no_place (omega arith))) in
+    ap (λ (t : Told). is_lt (told_cmp t (get_or (map (told_at image) places) k d))) (get_or-map (told_at image) places (k + 1) no_place d few)
+    ∙ (ap (λ (t : Told). is_lt (told_cmp (told_at image next) t)) (get_or-map (told_at image) places k no_place d (omega arith))
+    ∙ (ap is_lt (sym order) ∙ sorted k no_place low few))
+
+-- the places of the pairs of a table in the order of its list
+pub record AreRanked (image : List ℕ) (meta : HashMeta) (forest : List ℕ) (places : List Place) : Type 0 where
+  pub are : ArePlaces forest places
+  pub told : map (told_at forest) places ≡ ranked image meta
+
+pub sorted_places : (image : List ℕ) (meta : HashMeta) (forest : List ℕ) (old new : List Place) → forest ≡ image → IsTable image
+    → HasMetadata (file_of image) (HashFields meta)
+    → database_faults (file_of image) (HashFields meta) ≡ [] → AreAt old (table_told image meta) → IsPermutation old new → IsSortedBy (place_less forest) new
+    → AreRanked image meta forest new
+sorted_places image meta forest old new same table has none at moved sorted =
+    let pairs : List StoredPair = table_pairs (file_of image) meta in
+    let own : AreAt old (map (told image) pairs) = subst (AreAt old) (table_is_told image meta) at in
+    let are : ArePlaces image new =
+    record {
+      table = table;
+      each = λ place in'. told_each image pairs old own place (Contains-permutation new old place (IsPermutation-sym old new moved) in');
+    } in
+    let told' : map (told_at image) new ≡ ranked image meta =
+    sorted_ranked image meta (map (told_at image) old) (map (told_at image) new) table has none (told_all image pairs old own ∙ sym (table_is_told image meta))
+    (IsPermutation-map (told_at image) old new moved) (sorted_told image new are (subst (λ f. IsSortedBy (place_less f) new) same sorted)) in
+    subst (λ f. AreRanked image meta f new) (sym same) (record { are = are; told = told' })

@@ -1,0 +1,71 @@
+ghost use Rattle.std.specs.Prelude.{◌≡◌, ◌≤◌, true, map};
+ghost use Rattle.std.specs.Iterator.{YieldsFirstBy, item_count};
+ghost use Rattle.bdb_hash.specs.Places.{ArePlaces, has_pair, told_at, told_on};
+ghost use Rattle.bdb_hash.specs.Views.{IsTable};
+ghost use Rattle.bdb_format.specs.File.{file_of, page_at};
+
+use crate::Pair;
+use crate::place::Place;
+use bdb_form::PageView;
+use bdb_graph::Forest;
+use std::marker::Model;
+use std::vec::IntoIter;
+
+/// The pairs at places that are left, each read where it stands.
+#[derive(Drop)]
+pub(crate) struct Ranked<'a> {
+    forest: Forest<'a>,
+    rest: IntoIter<Place>,
+}
+
+impl<'a> Model for Ranked<'a> {
+    ghost use Rattle.std.specs.Prelude.{List, map};
+    ghost use Rattle.std.specs.Vec.Iter.{into_iter_items};
+    ghost use Rattle.bdb_hash.specs.Places.{ArePlaces, told_at};
+    ghost use Rattle.bdb_hash.specs.Told.{Told};
+
+    ghost Value = { List Told };
+
+    ghost view = { λ it. map (told_at it.forest) (into_iter_items it.rest) };
+
+    ghost invariant = { λ it. ArePlaces it.forest (into_iter_items it.rest) };
+}
+
+impl<'a> Ranked<'a> {
+    /// The pairs at these places.
+    pub(crate) fn over(forest: &Forest<'a>, places: Vec<Place>) -> Ranked<'a>
+        requires { ArePlaces forest.now places.items }
+        ensures { result ≡ map (told_at forest.now) places.items }
+    {
+        Ranked {
+            forest: forest.again(),
+            rest: places.into_iter(),
+        }
+    }
+}
+
+/// The pair with this index of a hash page.
+fn read_at<'a>(forest: &Forest<'a>, page: u32, index: u16) -> Pair<'a>
+    requires table { IsTable forest.now }
+    requires inside { page ≤ (file_of forest.now).last }
+    requires there { has_pair (page_at (file_of forest.now) page) index ≡ true }
+    ensures { result ≡ told_on forest.now page index }
+{
+    match forest.page(page) {
+        PageView::Hash(view) => Pair::read(forest, page, &view, index),
+        _ => unreachable!(),
+    }
+}
+
+impl<'a> Iterator for Ranked<'a> {
+    type Item = Pair<'a>;
+
+    ghost next_gives = { YieldsFirstBy (λ pair. pair) (λ left. left) };
+
+    ghost remaining = { item_count (λ left. left) };
+
+    fn next(&mut self) -> Option<Pair<'a>> {
+        let place = self.rest.next()?;
+        Some(read_at(&self.forest, place.page, place.index))
+    }
+}

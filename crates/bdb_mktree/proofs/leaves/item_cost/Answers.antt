@@ -1,0 +1,19 @@
+use Rattle.std.proofs.Common.{sym, ◌∙◌, ap}
+use Rattle.bdb_format.specs.Numbers.{pad4}
+use Rattle.bdb_layout.specs.Seen.{leaf_item_seen}
+use Rattle.bdb_layout.proofs.WritingLemmas.{length-leaf_chain, length-leaf_tree}
+use Rattle.bdb_mktree.specs.LeafPairs.{item_cost}
+use Rattle.bdb_mktree.proofs.PairLemmas.{inline_cost}
+use Rattle.bdb_mktree.proofs.leaves.item_cost.Goals as goal
+
+pub returns-in-Inline : goal.returns-in-Inline
+returns-in-Inline c = λ order. inline_cost order c.in-Inline.bytes.now c.in-Inline.deleted
+    ∙ ap (λ i. item_cost order (leaf_item_seen i)) (sym c.in-Inline.is)
+
+pub returns-in-Duplicates : goal.returns-in-Duplicates
+returns-in-Duplicates c = λ order. sym (ap pad4 (length-leaf_tree order c.in-Duplicates.root c.in-Duplicates.deleted))
+    ∙ ap (λ i. item_cost order (leaf_item_seen i)) (sym c.in-Duplicates.is)
+
+pub returns-in-Overflow : goal.returns-in-Overflow
+returns-in-Overflow c = λ order. sym (ap pad4 (length-leaf_chain order c.in-Overflow.head c.in-Overflow.total c.in-Overflow.deleted))
+    ∙ ap (λ i. item_cost order (leaf_item_seen i)) (sym c.in-Overflow.is)

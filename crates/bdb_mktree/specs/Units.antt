@@ -1,0 +1,61 @@
+-- What a tree is built of: units, each of which stands on one leaf. Source: docs/FORMAT.md, "Built trees".
+use Rattle.std.specs.Prelude.{ℕ, ◌+◌, ◌-◌, ◌/◌, ◌<◌, ◌≤◌, nat_le, nat_lt, ◌&&◌, not, if◌then◌else◌, Bool, List, [], ◌∷◌, length, map}
+use Rattle.std.specs.List.{filter, flat_map, sum_by}
+use Rattle.bdb_format.specs.declared.kinds.Kind.{Kind}
+use Rattle.bdb_format.specs.declared.kinds.Kind.TheVariants.{Btree, Recno, Hash, Queue}
+use Rattle.bdb_format.specs.Numbers.{pad4}
+use Rattle.bdb_format.specs.Page.{Item}
+use Rattle.bdb_format.specs.File.{File, page_at}
+use Rattle.bdb_format.specs.Chains.{value_of}
+use Rattle.bdb_format.specs.Contents.{StoredPair, data_of, entries_in, pairs_of}
+use Rattle.bdb_format.specs.ContentRows.{groups}
+
+-- a key with all its data, or a record and whether it's deleted
+pub data TreeUnit : Type 0 where
+  KeyedUnit : List ℕ → List (List ℕ) → TreeUnit
+  EntryUnit : List ℕ → Bool → TreeUnit
+
+-- The units that leaves hold.
+
+-- a pair with those after it that share its key
+abbrev pub group_unit : File → (StoredPair × List StoredPair) → TreeUnit
+group_unit file group = KeyedUnit group.0.key (flat_map (λ (pair : StoredPair). data_of file pair.data_item) (group.0 ∷ group.1))
+
+abbrev pub keyed_units : File → List StoredPair → List TreeUnit
+keyed_units file pairs = map (group_unit file) (filter (λ (group : StoredPair × List StoredPair). not group.0.shares) (groups pairs))
+
+abbrev pub entry_unit : File → Item → TreeUnit
+entry_unit file item = EntryUnit (value_of file item.content) item.deleted
+
+-- the units of one leaf
+abbrev pub units_on : File → Kind → ℕ → List TreeUnit
+units_on file Btree p = keyed_units file (pairs_of file p)
+units_on file Recno p = map (entry_unit file) (entries_in (page_at file p))
+units_on file Hash p = []
+units_on file Queue p = []
+
+-- What a unit takes of a leaf of a page size.
+
+-- the bytes of a value's item: it stands in it where it's at most an eighth of a page long, and else in a chain
+abbrev pub value_cost : ℕ → List ℕ → ℕ
+value_cost size value = if nat_le (length value) (size / 8) then pad4 (3 + length value) else 12
+
+-- a key and its data on the leaf: each datum has two entries and its item
+abbrev pub set_cost : ℕ → List ℕ → List (List ℕ) → ℕ
+set_cost size key values = value_cost size key + sum_by (λ value. 4 + value_cost size value) values
+
+-- several data that would take more than a quarter of a leaf have a tree of their own
+abbrev pub has_own_tree : ℕ → List ℕ → List (List ℕ) → Bool
+has_own_tree size key values = nat_lt 1 (length values) && nat_lt ((size - 26) / 4) (set_cost size key values)
+
+abbrev pub unit_cost : ℕ → TreeUnit → ℕ
+unit_cost size (KeyedUnit key values) = if has_own_tree size key values then value_cost size key + 16 else set_cost size key values
+unit_cost size (EntryUnit value deleted) = 2 + value_cost size value
+
+-- Units are spread over leaves from left to right: each leaf has room for its units, and the first unit of a leaf had none on the leaf before it.
+abbrev pub AreSpread : ℕ → ℕ → List (List TreeUnit) → Type 0
+AreSpread size room [] = ⊥
+AreSpread size room (units ∷ []) = sum_by (unit_cost size) units ≤ room
+AreSpread size room (units ∷ [] ∷ leaves) = ⊥
+AreSpread size room (units ∷ (unit ∷ more) ∷ leaves) =
+    (sum_by (unit_cost size) units ≤ room) × (room < sum_by (unit_cost size) units + unit_cost size unit) × AreSpread size room ((unit ∷ more) ∷ leaves)

@@ -1,0 +1,49 @@
+-- A file whose references name no chain has no chain of a wrong length.
+use Rattle.std.proofs.Common.{◌≡◌, ℕ, ◌+◌, ◌≤◌, true, false, true≢false, List, [], arith, refl, sym, ◌∙◌, ap, inl, inr}
+use Rattle.std.specs.List.{list_any}
+use Rattle.std.proofs.lemmas.Bool.{cases_Bool}
+use Rattle.bdb_format.specs.Chains.{content_chains, is_wrong_length}
+use Rattle.bdb_format.specs.File.{File, file_of, page_at}
+use Rattle.bdb_format.specs.Graph.{all_references, is_head_reference}
+use Rattle.bdb_format.specs.Page.{Chain, Content, Inline, Meta, Page, Queue, Set, Tree, Unknown, Zero}
+use Rattle.bdb_format.specs.References.{contents_in}
+use Rattle.bdb_format.specs.Verdict.{chain_faults}
+use Rattle.bdb_format.proofs.MemberLemmas.{none_pass, none_passes}
+use Rattle.bdb_graph.proofs.ChildLemmas.{is_queue_page}
+use Rattle.bdb_graph.specs.Linked.{IsForest}
+use Rattle.bdb_graph.specs.Walked.{names_head}
+use Rattle.bdb_overflow.specs.Datum.{FitsContent}
+use Rattle.bdb_overflow.specs.Lengths.{has_wrong, is_wrong}
+use Rattle.bdb_overflow.proofs.ContentLemmas.{held_fits}
+use Rattle.bdb_overflow.proofs.LengthLemmas.{any_of_all, chains_none, no_row}
+
+-- what fits names no chain where no reference does
+no_wrong : (file : File) (content : Content) → list_any names_head (all_references file) ≡ false → FitsContent file content → is_wrong file content ≡ false
+no_wrong file (Chain head total) none fits =
+    absurd (true≢false (sym (ap is_head_reference fits.sort_is) ∙ none_passes names_head (all_references file) fits.owner none fits.held))
+no_wrong file (Inline bytes) none fits = refl
+no_wrong file (Set blocks) none fits = refl
+no_wrong file (Tree root) none fits = refl
+no_wrong file Unknown none fits = refl
+
+in_a_queue : (file : File) (page : Page) → is_queue_page page ≡ true → has_wrong file page ≡ false
+in_a_queue file Zero is = refl
+in_a_queue file (Queue number records) is = refl
+in_a_queue file (Meta fields) is = refl
+in_a_queue file page is = absurd cc
+
+unchained : (image : List ℕ) (p : ℕ) → IsForest image → list_any names_head (all_references (file_of image)) ≡ false → p ≤ (file_of image).last
+    → has_wrong (file_of image) (page_at (file_of image) p) ≡ false
+unchained image p forest none low =
+    let file : File = file_of image in
+    let page : Page = page_at file p in
+    elim (cases_Bool (is_queue_page page)) [
+      | inl queue ↦ in_a_queue file page queue
+      | inr other ↦ any_of_all (is_wrong_length file) content_chains (contents_in page)
+          ∙ none_pass (is_wrong file) (contents_in page) (λ content held. no_wrong file content none (held_fits image p page content forest low refl other held))
+    ]
+
+pub no_chains : (image : List ℕ) → IsForest image → list_any names_head (all_references (file_of image)) ≡ false → chain_faults (file_of image) ≡ []
+no_chains image forest none =
+    let file : File = file_of image in
+    chains_none file (file.last + 1) (omega arith) (λ p low high. no_row file p (unchained image p forest none (omega (arith, high))))

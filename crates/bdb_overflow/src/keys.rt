@@ -1,0 +1,63 @@
+ghost use Rattle.std.specs.Prelude.{◌≡◌, true, not, IfOk, OnOk};
+ghost use Rattle.std.specs.BTreeSet.{IsEmpty, Updates};
+ghost use Rattle.std.specs.Cmp.Lexicographic.{slice_cmp};
+ghost use Rattle.std.specs.Ordering.{nat_cmp};
+ghost use Rattle.bdb_overflow.specs.Datum.{datum_seen};
+ghost use Rattle.bdb_overflow.specs.Earlier.{unless_new};
+ghost use Rattle.bdb_overflow.specs.Keys.{has_key};
+
+use crate::faults::unless_new;
+use crate::{Datum, Key};
+use bdb_format::Fault;
+use std::alloc::{AllocError, Global};
+use std::collections::BTreeSet;
+use std::marker::Model;
+
+/// The keys seen so far.
+#[derive(Drop)]
+pub struct Keys<'a> {
+    set: BTreeSet<Key<'a>>,
+}
+
+impl<'a> Model for Keys<'a> {
+    ghost use Rattle.std.specs.Prelude.{List, ℕ};
+    ghost use Rattle.std.specs.BTreeSet.{BTreeSet};
+
+    ghost Value = { BTreeSet (List ℕ) };
+
+    ghost view = { λ it. it.set };
+}
+
+impl<'a> Keys<'a> {
+    /// No key.
+    pub fn new(alloc: Global) -> Keys<'a>
+        ensures { IsEmpty result }
+    {
+        Keys {
+            set: BTreeSet::new(alloc),
+        }
+    }
+
+    /// Adds a key, and says whether it's new. An error is want of memory.
+    pub fn add(&mut self, key: Datum<'a>) -> Result<bool, AllocError>
+        ensures added { IfOk result (λ is_new. is_new ≡ not (has_key self.old (datum_seen key.entry))) }
+        ensures updates { OnOk result (Updates (slice_cmp nat_cmp) self.old self.new (datum_seen key.entry) true) }
+    {
+        let is_new = self.set.insert(Key::of(key))?;
+        Ok(is_new)
+    }
+
+    /// Adds a key: the earlier of a fault and of this one, unless the key is new. An error is want of memory.
+    pub fn note(
+        &mut self,
+        least: Option<Fault>,
+        key: Datum<'a>,
+        fault: Fault,
+    ) -> Result<Option<Fault>, AllocError>
+        ensures noted { IfOk result (λ noted. noted ≡ unless_new (not (has_key self.old (datum_seen key.entry))) least fault) }
+        ensures updates { OnOk result (Updates (slice_cmp nat_cmp) self.old self.new (datum_seen key.entry) true) }
+    {
+        let is_new = self.add(key)?;
+        Ok(unless_new(is_new, least, fault))
+    }
+}

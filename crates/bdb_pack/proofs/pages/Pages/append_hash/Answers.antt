@@ -1,0 +1,12 @@
+use Rattle.bdb_format.specs.Spelling.{hash_bytes}
+use Rattle.bdb_layout.specs.Seen.{hash_content_seen}
+use Rattle.bdb_pack.specs.Placing.{page_and_item}
+use Rattle.bdb_pack.proofs.OpenLemmas.{edited}
+use Rattle.bdb_pack.proofs.pages.Pages.append_hash.Goals as goal
+
+pub returns : goal.returns
+returns c =
+    let it = c.self.inside in
+    edited it.size it.count it.order it.bytes.items c.args.self.now c.args.number
+    (λ order page. page_and_item order page (hash_bytes order (hash_content_seen c.args.item.now))) _ _
+    c.self.view_is c.self.invariant.whole c.requires.number c.page_mut-page.ensures.value c.place_hash.ensures c.place_hash.auto.page

@@ -1,0 +1,13 @@
+use Rattle.std.proofs.Common.{sym, subst}
+use Rattle.bdb_layout.specs.Seen.{leaf_item_seen}
+use Rattle.bdb_pack.specs.Items.{OnLeaf}
+use Rattle.bdb_pack_tests.specs.Sheet.{IsSheet}
+use Rattle.bdb_pack_tests.proofs.SheetLemmas.{with_taken}
+use Rattle.bdb_pack_tests.proofs.sheet.Sheet.add_leaf.Goals as goal
+
+pub invariant_of-self : goal.invariant_of-self
+invariant_of-self c =
+    subst IsSheet (sym c.append_leaf.ensures)
+    (with_taken c.self.inside.pages c.order-order.result c.page.result.now (OnLeaf (leaf_item_seen c.args.item.now))
+    c.self.invariant c.order-order.ensures c.page.ensures.bytes
+    c.if-not-takes_leaf.ensures c.if-not-has_room_for_leaf.ensures.fits c.if-not-has_room_for_leaf.ensures.room)

@@ -1,0 +1,194 @@
+//! Items of internal pages in both orders: the bytes of the page, how much is free, and what the views read.
+//! Values: docs/FORMAT.md, "Internal items" and "Internal recno items".
+
+ghost use Rattle.std.specs.Prelude.{◌≤◌};
+
+use crate::Sheet;
+use crate::spelled::{FILLING, Spelled, header};
+use bdb_form::{PageView, form};
+use bdb_format::{Order, RecnoItem};
+use bdb_layout::{InternalItem, InternalKey};
+use std::test::Fail;
+
+const FIRST: InternalItem<'static> = InternalItem {
+    child: 0x0203,
+    count: 7,
+    key: InternalKey::Inline(b"ab"),
+};
+
+const SECOND: InternalItem<'static> = InternalItem {
+    child: 4,
+    count: 0,
+    key: InternalKey::Overflow {
+        head: 5,
+        total: 0x0600,
+    },
+};
+
+// An internal page with the key `ab` and a key in a chain.
+const KEYS: [Spelled; 2] = [
+    Spelled {
+        order: Order::Little,
+        front: &[
+            0, 0, 0, 0, 1, 0, 0, 0, // LSN
+            1, 0, 0, 0, // page number
+            2, 1, 0, 0, // previous page
+            6, 5, 4, 3, // next page
+            2, 0, // entries
+            0xd8, 1, // high free offset: 472
+            2, 3, // level, page type
+            0xf0, 1, 0xd8, 1, // 496, 472
+        ],
+        back: &[
+            12, 0, 3, 0, 4, 0, 0, 0, 0, 0, 0, 0, // a length, a chain, child 4, count 0
+            0, 0, 3, 0, 5, 0, 0, 0, 0, 6, 0, 0, // the chain
+            2, 0, 1, 0, 3, 2, 0, 0, 7, 0, 0, 0, 0x61, 0x62, 0, 0, // a length, inline, child, count 7, ab
+        ],
+    },
+    Spelled {
+        order: Order::Big,
+        front: &[
+            0, 0, 0, 0, 0, 0, 0, 1, // LSN
+            0, 0, 0, 1, // page number
+            0, 0, 1, 2, // previous page
+            3, 4, 5, 6, // next page
+            0, 2, // entries
+            1, 0xd8, // high free offset: 472
+            2, 3, // level, page type
+            1, 0xf0, 1, 0xd8, // 496, 472
+        ],
+        back: &[
+            0, 12, 3, 0, 0, 0, 0, 4, 0, 0, 0, 0, // a length, a chain, child 4, count 0
+            0, 0, 3, 0, 0, 0, 0, 5, 0, 0, 6, 0, // the chain
+            0, 2, 1, 0, 0, 0, 2, 3, 0, 0, 0, 7, 0x61, 0x62, 0, 0, // a length, inline, child, count 7, ab
+        ],
+    },
+];
+
+fn takes_keys(sheet: &mut Sheet, rows: &[(InternalItem<'_>, u32)]) -> bool {
+    for (item, room) in rows {
+        if !sheet.add_internal(item) || sheet.room() != *room {
+            return false;
+        }
+    }
+    true
+}
+
+fn reads_key(sheet: &Sheet, order: Order, i: u16, item: &InternalItem<'_>) -> bool {
+    match form(sheet.page(), 1, order) {
+        Ok(PageView::Internal(page)) => i < page.entries() && page.item(i) == *item,
+        _ => false,
+    }
+}
+
+// An item with a key of so many bytes.
+fn last(long: usize) -> InternalItem<'static>
+    requires { long ≤ 512 }
+{
+    InternalItem {
+        child: 8,
+        count: 1,
+        key: InternalKey::Inline(&FILLING[..long]),
+    }
+}
+
+#[test]
+fn fills_internal_pages(rt: HostRuntime) -> Result<(), Fail> {
+    for spelled in &KEYS {
+        let mut sheet = Sheet::new(rt.alloc(), 512, spelled.order, &header(3, 2))?;
+        assert!(rt; takes_keys(&mut sheet, &[(FIRST, 468), (SECOND, 442)]));
+        assert!(rt; spelled.is(sheet.page()));
+        assert!(rt; !sheet.add_internal(&last(429)), "a byte too many");
+        assert!(rt; takes_keys(&mut sheet, &[(last(428), 0)]));
+        assert!(rt; reads_key(&sheet, spelled.order, 0, &FIRST));
+        assert!(rt; reads_key(&sheet, spelled.order, 1, &SECOND));
+        assert!(rt; reads_key(&sheet, spelled.order, 2, &last(428)));
+    }
+    Ok(())
+}
+
+// An internal page of a recno tree with two items.
+const COUNTS: [Spelled; 2] = [
+    Spelled {
+        order: Order::Little,
+        front: &[
+            0, 0, 0, 0, 1, 0, 0, 0, // LSN
+            1, 0, 0, 0, // page number
+            2, 1, 0, 0, // previous page
+            6, 5, 4, 3, // next page
+            2, 0, // entries
+            0xf0, 1, // high free offset: 496
+            2, 4, // level, page type
+            0xf8, 1, 0xf0, 1, // 504, 496
+        ],
+        back: &[
+            4, 0, 0, 0, 6, 5, 0, 0, // child 4, count
+            3, 2, 0, 0, 7, 0, 0, 0, // child, count 7
+        ],
+    },
+    Spelled {
+        order: Order::Big,
+        front: &[
+            0, 0, 0, 0, 0, 0, 0, 1, // LSN
+            0, 0, 0, 1, // page number
+            0, 0, 1, 2, // previous page
+            3, 4, 5, 6, // next page
+            0, 2, // entries
+            1, 0xf0, // high free offset: 496
+            2, 4, // level, page type
+            1, 0xf8, 1, 0xf0, // 504, 496
+        ],
+        back: &[
+            0, 0, 0, 4, 0, 0, 5, 6, // child 4, count
+            0, 0, 2, 3, 0, 0, 0, 7, // child, count 7
+        ],
+    },
+];
+
+fn takes_count(sheet: &mut Sheet, child: u32, count: u32, room: u32) -> bool {
+    sheet.add_recno(&RecnoItem { child, count }) && sheet.room() == room
+}
+
+fn reads_count(sheet: &Sheet, order: Order, i: u16, item: RecnoItem) -> bool {
+    match form(sheet.page(), 1, order) {
+        Ok(PageView::RecnoInternal(page)) => i < page.entries() && page.item(i) == item,
+        _ => false,
+    }
+}
+
+#[test]
+fn places_counts(rt: HostRuntime) -> Result<(), Fail> {
+    for spelled in &COUNTS {
+        let mut sheet = Sheet::new(rt.alloc(), 512, spelled.order, &header(4, 2))?;
+        assert!(rt; takes_count(&mut sheet, 0x0203, 7, 476));
+        assert!(rt; takes_count(&mut sheet, 4, 0x0506, 466));
+        assert!(rt; spelled.is(sheet.page()));
+    }
+    Ok(())
+}
+
+// 407 items of ten bytes each fill a page of 4096 bytes.
+#[test]
+fn fills_a_page_with_counts(rt: HostRuntime) -> Result<(), Fail> {
+    for order in [Order::Little, Order::Big] {
+        let mut sheet = Sheet::new(rt.alloc(), 4096, order, &header(4, 2))?;
+        for i in 0..407u32 {
+            assert!(rt;
+                takes_count(&mut sheet, i, 1000 + i, 4060 - 10 * i),
+                "item {i}"
+            );
+        }
+        assert!(rt;
+            !sheet.add_recno(&RecnoItem { child: 1, count: 1 }),
+            "no byte is free"
+        );
+        for i in 0..407u16 {
+            let item = RecnoItem {
+                child: u32::from(i),
+                count: 1000 + u32::from(i),
+            };
+            assert!(rt; reads_count(&sheet, order, i, item), "item {i}");
+        }
+    }
+    Ok(())
+}

@@ -1,0 +1,35 @@
+ghost use Rattle.std.specs.Prelude.{◌≡◌, Some};
+ghost use Rattle.bdb_form.specs.Seen.{page_seen};
+ghost use Rattle.bdb_format.specs.ContentRows.{wrong_set_types};
+ghost use Rattle.bdb_format.specs.File.{type_in};
+ghost use Rattle.bdb_format.specs.References.{has_type};
+
+use bdb_form::PageView;
+
+/// Whether the root of a set off the page has a type that it hasn't where sets are sorted, or where they aren't.
+pub fn is_wrong_root(view: &PageView<'_>, sorted: bool) -> bool
+    ensures { result ≡ has_type (wrong_set_types sorted) (type_in (page_seen view.now)) }
+{
+    match view {
+        PageView::Hash(page) => is_wrong_type(page.header().page_type, sorted),
+        PageView::RecnoInternal(_) | PageView::RecnoLeaf(_) => sorted,
+        PageView::Internal(_) | PageView::DupLeaf(_) => !sorted,
+        PageView::Zero(_)
+        | PageView::Free(_)
+        | PageView::Meta(_)
+        | PageView::Leaf(_)
+        | PageView::Overflow(_)
+        | PageView::Queue(_) => false,
+    }
+}
+
+// The same for the type of a page.
+fn is_wrong_type(page_type: u8, sorted: bool) -> bool
+    ensures { result ≡ has_type (wrong_set_types sorted) (Some page_type) }
+{
+    if sorted {
+        page_type == 4 || page_type == 6
+    } else {
+        page_type == 3 || page_type == 12
+    }
+}
