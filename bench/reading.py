@@ -13,6 +13,8 @@ import shutil
 import sys
 import tempfile
 
+from laying import once
+
 TOP = pathlib.Path(__file__).resolve().parent.parent
 RUNS = 3
 
@@ -26,25 +28,12 @@ def write_text(path, pairs):
         text.write(b"DATA=END\n")
 
 
-def once(words, text):
-    """User seconds and peak memory in megabytes of one run on the text."""
-    child = os.fork()
-    if child == 0:
-        os.dup2(os.open(text, os.O_RDONLY), 0)
-        os.dup2(os.open(os.devnull, os.O_WRONLY), 1)
-        os.execvp(words[0], words)
-    _, status, usage = os.wait4(child, 0)
-    if status != 0:
-        sys.exit(f"{words[0]} ended with {status}")
-    return usage.ru_utime, usage.ru_maxrss / 1024
-
-
 def least(words, text, before=lambda: None):
     runs = []
     for _ in range(RUNS):
         before()
         runs.append(once(words, text))
-    return min(run[0] for run in runs), min(run[1] for run in runs)
+    return min(run[0] for run in runs), min(run[2] for run in runs)
 
 
 def main():
