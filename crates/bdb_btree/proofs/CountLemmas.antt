@@ -1,10 +1,11 @@
 -- Pairs that are counted, and the counts of items.
-use Rattle.std.proofs.Common.{◌≡◌, ℕ, ◌+◌, ◌-◌, ◌^◌, ◌<◌, ◌≤◌, Bool, true, false, cond, List, [], ◌∷◌, ◌++◌, length, min, get_or, take, Some, arith, refl, sym, ◌∙◌, ap}
+use Rattle.std.proofs.Common.{◌≡◌, ℕ, ◌+◌, ◌-◌, ◌^◌, ◌<◌, ◌≤◌, Bool, true, false, cond, List, [], ◌∷◌, ◌++◌, length, min, get_or, take, Some, arith}
+use Rattle.std.proofs.Common.{refl, sym, ◌∙◌, ap}
 use Rattle.std.specs.Prelude.{nat_lt, ◌||◌}
 use Rattle.std.specs.List.{All, filter, flat_map, fold, list_any, slice_get}
 use Rattle.std.proofs.lemmas.Bool.{or_from}
 use Rattle.std.proofs.lemmas.Bool.Decides.{nat_tests}
-use Rattle.std.proofs.lemmas.List.{take_more}
+use Rattle.std.proofs.lemmas.List.{take_all, take_more}
 use Rattle.std.proofs.lemmas.List.Folds.{list_any_at}
 use Rattle.std.proofs.lemmas.List.Sums.{fold-append}
 use Rattle.bdb_format.specs.ContentRows.{is_wrong_count}
@@ -21,26 +22,32 @@ use Rattle.bdb_format.proofs.TypeLemmas.{of_type}
 
 -- Pairs.
 
-pages_counted : (file : File) (ps : List ℕ) (counts : Counts) → fold (count_page file) counts ps ≡ fold count_pair counts (flat_map (pairs_of file) ps)
+pages_counted : (file : File) (ps : List ℕ) (counts : Counts)
+    → fold (count_page file) counts ps ≡ fold count_pair counts (flat_map (pairs_of file) ps)
 pages_counted file [] counts = refl
-pages_counted file (p ∷ ps) counts = pages_counted file ps (count_page file counts p) ∙ sym (fold-append count_pair counts (pairs_of file p) (flat_map (pairs_of file) ps))
+pages_counted file (p ∷ ps) counts =
+    pages_counted file ps (count_page file counts p) ∙ sym (fold-append count_pair counts (pairs_of file p) (flat_map (pairs_of file) ps))
 
-pub tree_counted : (file : File) (page : ℕ) (counts : Counts) → fold (count_page file) counts (leaves file page) ≡ fold count_pair counts (tree_pairs file page)
+pub tree_counted : (file : File) (page : ℕ) (counts : Counts) (pages : List ℕ) (i : ℕ) → pages ≡ leaves file page → length pages ≤ i
+    → fold (count_page file) counts (take i pages) ≡ fold count_pair counts (tree_pairs file page)
 unfolding tree_pairs
-tree_counted file page counts = pages_counted file (leaves file page) counts
+tree_counted file page counts pages i are end = rw (take_all i pages end, are) (pages_counted file (leaves file page) counts)
 
 abbrev live_in : List StoredPair → List StoredPair
 live_in pairs = filter (λ (pair : StoredPair). pair.live) pairs
 
-all_counted : (pairs : List StoredPair) (counts : Counts) → counts.all ≤ 2 ^ 64 - 1 → (fold count_pair counts pairs).all ≡ min (2 ^ 64 - 1) (counts.all + length pairs)
+all_counted : (pairs : List StoredPair) (counts : Counts) → counts.all ≤ 2 ^ 64 - 1
+    → (fold count_pair counts pairs).all ≡ min (2 ^ 64 - 1) (counts.all + length pairs)
 all_counted [] counts low = omega arith
 all_counted (pair ∷ pairs) counts low =
     let rest = all_counted pairs (count_pair counts pair) (omega arith) in rest ∙ omega arith
 
-live_counted : (pairs : List StoredPair) (counts : Counts) → counts.live ≤ 2 ^ 64 - 1 → (fold count_pair counts pairs).live ≡ min (2 ^ 64 - 1) (counts.live + length (live_in pairs))
+live_counted : (pairs : List StoredPair) (counts : Counts) → counts.live ≤ 2 ^ 64 - 1
+    → (fold count_pair counts pairs).live ≡ min (2 ^ 64 - 1) (counts.live + length (live_in pairs))
 live_counted [] counts low = omega arith
 live_counted (pair ∷ pairs) counts low =
-    elim pair.live as (λ b. (fold count_pair (record { live = cond b (one_more counts.live) counts.live; all = one_more counts.all }) pairs).live ≡ min (2 ^ 64 - 1) (counts.live + length (cond b (pair ∷ live_in pairs) (live_in pairs)))) [
+    elim pair.live as (λ b. (fold count_pair (record { live = cond b (one_more counts.live) counts.live; all = one_more counts.all }) pairs).live
+    ≡ min (2 ^ 64 - 1) (counts.live + length (cond b (pair ∷ live_in pairs) (live_in pairs)))) [
       | true ↦ live_counted pairs (record { live = one_more counts.live; all = one_more counts.all }) (omega arith) ∙ omega arith
       | false ↦ live_counted pairs (record { live = counts.live; all = one_more counts.all }) low
     ]
@@ -52,12 +59,14 @@ below_counted count n small = grind (arith, nat_tests)
 above_counted : (count n : ℕ) → count < 2 ^ 32 → nat_lt (min (2 ^ 64 - 1) (0 + n)) count ≡ nat_lt n count
 above_counted count n small = grind (arith, nat_tests)
 
-pub count_wrong : (file : File) (item : InternalItem) (counts : Counts) → item.count < 2 ^ 32 → counts ≡ fold count_pair no_pairs_counted (tree_pairs file item.child)
+pub count_wrong : (file : File) (item : InternalItem) (counts : Counts) → item.count < 2 ^ 32
+    → counts ≡ fold count_pair no_pairs_counted (tree_pairs file item.child)
     → (nat_lt item.count counts.live || nat_lt counts.all item.count) ≡ is_wrong_count file item
 count_wrong file item counts small are =
     let pairs : List StoredPair = tree_pairs file item.child in
     ap (λ (c : Counts). nat_lt item.count c.live || nat_lt c.all item.count) are
-    ∙ (ap (λ n. nat_lt item.count n || nat_lt (fold count_pair no_pairs_counted pairs).all item.count) (live_counted pairs no_pairs_counted (omega arith))
+    ∙ (ap (λ n. nat_lt item.count n || nat_lt (fold count_pair no_pairs_counted pairs).all item.count)
+    (live_counted pairs no_pairs_counted (omega arith))
     ∙ (ap (λ b. b || nat_lt (fold count_pair no_pairs_counted pairs).all item.count) (below_counted item.count (length (live_in pairs)) small)
     ∙ (ap (λ n. nat_lt item.count (length (live_in pairs)) || nat_lt n item.count) (all_counted pairs no_pairs_counted (omega arith))
     ∙ ap (λ b. nat_lt item.count (length (live_in pairs)) || b) (above_counted item.count (length pairs) small))))
@@ -68,19 +77,22 @@ any_append : {X : Type 0} (test : X → Bool) (xs : List X) (x : X) → list_any
 any_append test [] x none fails = or_from (test x) false fails refl
 any_append test (y ∷ ys) x none fails = grind (arith, nat_tests, any_append test ys x)
 
-pub none_more : {X : Type 0} (test : X → Bool) (items : List X) (i : ℕ) (item : X) → slice_get items i ≡ Some item → list_any test (take i items) ≡ false → test item ≡ false → list_any test (take (i + 1) items) ≡ false
+pub none_more : {X : Type 0} (test : X → Bool) (items : List X) (i : ℕ) (item : X) → slice_get items i ≡ Some item
+    → list_any test (take i items) ≡ false → test item ≡ false → list_any test (take (i + 1) items) ≡ false
 none_more test items i item at none fails =
     let found = got items i item item at in
     ap (list_any test) (take_more items i item found.0 ∙ ap (λ x. take i items ++ (x ∷ [])) found.1) ∙ any_append test (take i items) item none fails
 
-pub some_at : {X : Type 0} (test : X → Bool) (items : List X) (i : ℕ) (item : X) → slice_get items i ≡ Some item → test item ≡ true → true ≡ list_any test items
+pub some_at : {X : Type 0} (test : X → Bool) (items : List X) (i : ℕ) (item : X) → slice_get items i ≡ Some item → test item ≡ true
+    → true ≡ list_any test items
 some_at test items i item at passes =
     let found = got items i item item at in sym (list_any_at test items i item found.0 (ap test found.1 ∙ passes))
 
 -- Pages.
 
 pub keyed_is_tree : (file : File) (p : ℕ) → IsKeyed file p → IsTreePage file p
-keyed_is_tree file p keyed = of_type (λ type. has_type (3 ∷ 4 ∷ 5 ∷ 6 ∷ 12 ∷ []) type ≡ true) (3 ∷ 5 ∷ 12 ∷ []) (type_in (page_at file p)) (refl, (refl, (refl, tt))) keyed
+keyed_is_tree file p keyed =
+    of_type (λ type. has_type (3 ∷ 4 ∷ 5 ∷ 6 ∷ 12 ∷ []) type ≡ true) (3 ∷ 5 ∷ 12 ∷ []) (type_in (page_at file p)) (refl, (refl, (refl, tt))) keyed
 
 pub all_are_trees : (file : File) (pages : List ℕ) → All (IsKeyed file) pages → All (IsTreePage file) pages
 all_are_trees file pages keyed = λ k d low. keyed_is_tree file (get_or pages k d) (keyed k d low)

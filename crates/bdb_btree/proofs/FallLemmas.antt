@@ -1,5 +1,6 @@
 -- Pairs whose keys don't fall: those of a tree where none is out of order, and so those below each of its pages.
-use Rattle.std.proofs.Common.{◌≡◌, ℕ, zero, suc, ◌+◌, ◌*◌, ◌-◌, ◌/◌, ◌<◌, ◌≤◌, true, false, List, [], ◌∷◌, ◌++◌, length, map, get_or, arith, refl, sym, ◌∙◌, ap, subst, inl, inr, true≢false, add-one, Bool, not, Option, Some, None}
+use Rattle.std.proofs.Common.{◌≡◌, ℕ, zero, suc, ◌+◌, ◌*◌, ◌-◌, ◌/◌, ◌<◌, ◌≤◌, true, false, List, [], ◌∷◌, ◌++◌, length, map, get_or, arith, refl}
+use Rattle.std.proofs.Common.{sym, ◌∙◌, ap, subst, inl, inr, true≢false, add-one, Bool, not, Option, Some, None}
 use Rattle.std.specs.Prelude.{◌==◌, ◌&&◌, slice_index}
 use Rattle.std.specs.List.{flat_map, range_with_len, All, Contains}
 use Rattle.std.proofs.lemmas.Bool.{cases_lt, eq-eqb, eqb-true, false_from_ne_true}
@@ -47,7 +48,8 @@ OffsetsTellIn page = Unit {0}
 
 leaf_tells : (order : Order) (page : List ℕ) → OffsetsTell (listed order page (leaf_item_at order page))
 leaf_tells order page i j low also same =
-    let count : length (listed order page (leaf_item_at order page)).items ≡ entries_of order page = length_items order page (leaf_item_at order page) in
+    let count : length (listed order page (leaf_item_at order page)).items ≡ entries_of order page =
+    length_items order page (leaf_item_at order page) in
     let here : i < entries_of order page = omega arith in
     let there : j < entries_of order page = omega arith in
     leaf_item_is order page i here
@@ -87,7 +89,8 @@ leaf_pair file p leaf i = pair_at file p leaf (λ j. is_shared_key leaf.offsets 
 same_key : (file : File) (p : ℕ) (leaf : Listed Item) (i j : ℕ) → OffsetsTell leaf → i < length leaf.items / 2 → i ≡ suc j
     → is_shared_key leaf.offsets (2 * i) ≡ true → (leaf_pair file p leaf i).key ≡ (leaf_pair file p leaf j).key
 same_key file p leaf i j tell low next shares =
-    let one : slice_index leaf.offsets (2 * i) ≡ slice_index leaf.offsets (2 * i - 2) = eqb-true _ _ (sym (shared_after leaf.offsets i (omega arith)) ∙ shares) in
+    let one : slice_index leaf.offsets (2 * i) ≡ slice_index leaf.offsets (2 * i - 2) =
+    eqb-true _ _ (sym (shared_after leaf.offsets i (omega arith)) ∙ shares) in
     let before : 2 * i - 2 ≡ 2 * j = omega arith in
     ap (λ (item : Item). value_of file item.content) (tell (2 * i) (2 * j) (omega arith) (omega arith) (one ∙ ap (slice_index leaf.offsets) before))
 
@@ -102,15 +105,18 @@ leaf_keys : (file : File) (p : ℕ) (leaf : Listed Item) (n : ℕ) (key : List �
     → ((other : List ℕ) → ShareKeys other rest)
     → ShareKeys key (map (leaf_pair file p leaf) (range_with_len 0 n) ++ rest)
 leaf_keys file p leaf zero key rest tell low after = after key
-leaf_keys file p leaf (suc n) key rest tell low after = (λ shares. absurd (true≢false (sym shares)), later_keys file p leaf n 0 rest tell (omega arith) after)
+leaf_keys file p leaf (suc n) key rest tell low after =
+    (λ shares. absurd (true≢false (sym shares)), later_keys file p leaf n 0 rest tell (omega arith) after)
 
-hash_keys : (file : File) (p : ℕ) (page : Listed Item) (is : List ℕ) (key : List ℕ) (rest : List StoredPair) → ((other : List ℕ) → ShareKeys other rest)
+hash_keys : (file : File) (p : ℕ) (page : Listed Item) (is : List ℕ) (key : List ℕ) (rest : List StoredPair)
+    → ((other : List ℕ) → ShareKeys other rest)
     → ShareKeys key (map (pair_at file p page (λ i. false)) is ++ rest)
 hash_keys file p page [] key rest after = after key
 hash_keys file p page (i ∷ is) key rest after =
     (λ shares. absurd (true≢false (sym shares)), hash_keys file p page is (pair_at file p page (λ i. false) i).key rest after)
 
-page_keys : (file : File) (p : ℕ) (page : Page) (key : List ℕ) (rest : List StoredPair) → OffsetsTellIn page → ((other : List ℕ) → ShareKeys other rest)
+page_keys : (file : File) (p : ℕ) (page : Page) (key : List ℕ) (rest : List StoredPair) → OffsetsTellIn page
+    → ((other : List ℕ) → ShareKeys other rest)
     → ShareKeys key (pairs_in file p page ++ rest)
 page_keys file p (Leaf leaf) key rest tell after = leaf_keys file p leaf (length leaf.items / 2) key rest tell (omega arith) after
 page_keys file p (Hash page) key rest tell after = hash_keys file p page (range_with_len 0 (length page.items / 2)) key rest after
@@ -146,7 +152,8 @@ in_order_step a b true same kept = ap (λ key. less key a) (same refl) ∙ less_
 in_order_step a b false same kept = grind (arith, less_not_back a b)
 
 dont_fall_from : (pair : StoredPair) (pairs : List StoredPair) → ShareKeys pair.key pairs
-    → ((two : StoredPair × StoredPair) → Contains (neighbours_from pair pairs) two → is_out_of_order two ≡ false) → NoneBelow pair.key pairs × DontFall pairs
+    → ((two : StoredPair × StoredPair) → Contains (neighbours_from pair pairs) two → is_out_of_order two ≡ false)
+    → NoneBelow pair.key pairs × DontFall pairs
 dont_fall_from pair [] shares kept = (λ other at. absurd (no_member [] other refl at), tt)
 dont_fall_from pair (next ∷ pairs) shares kept =
     let after = dont_fall_from next pairs shares.1 (λ two at. kept two (later_member (pair, next) (neighbours_from next pairs) two at)) in (
@@ -161,13 +168,15 @@ dont_fall [] shares kept = tt
 dont_fall (pair ∷ pairs) shares kept = dont_fall_from pair pairs shares.1 kept
 
 -- where no page has a pair out of order
-pub root_ordered : (image : List ℕ) (root : ℕ) (least : Option ℕ) (ordered : Bool) → IsLeastPage least (has_wrong_order (tree_pairs (file_of image) root))
+pub root_ordered : (image : List ℕ) (root : ℕ) (least : Option ℕ) (ordered : Bool)
+    → IsLeastPage least (has_wrong_order (tree_pairs (file_of image) root))
     → is_some least ≡ not ordered → OrderedIf ordered (file_of image) root
 root_ordered image root None ordered none told is =
     let pairs : List StoredPair = tree_pairs (file_of image) root in
     dont_fall pairs (tree_keys image root []) (λ two at.
     second_false (two.1.page == two.1.page) (is_out_of_order two) (eq-eqb two.1.page two.1.page refl)
-    (none_passes (λ (other : StoredPair × StoredPair). (other.1.page == two.1.page) && is_out_of_order other) (neighbours pairs) two (none two.1.page) at))
+    (none_passes (λ (other : StoredPair × StoredPair). (other.1.page == two.1.page) && is_out_of_order other) (neighbours pairs) two
+    (none two.1.page) at))
 root_ordered image root (Some p) ordered some told is = absurd (true≢false (told ∙ ap not is))
 
 -- Parts of a list.
@@ -182,11 +191,13 @@ part_falls f (q ∷ ps) p fall at =
     let parts = fall_parts (f q) (flat_map f ps) fall in
     elim (member_cases q ps p at) [ inl same ↦ subst (λ r. DontFall (f r)) same parts.0 | inr later ↦ part_falls f ps p parts.1 later ]
 
-pub leaf_ordered : (file : File) (child : ℕ) (items : List ℕ) (i : ℕ) → DontFall (tree_pairs file child) → items ≡ leaves file child → i < length items
+pub leaf_ordered : (file : File) (child : ℕ) (items : List ℕ) (i : ℕ) → DontFall (tree_pairs file child)
+    → items ≡ leaves file child → i < length items
     → DontFall (pairs_of file (get_or items i 0))
 unfolding tree_pairs
 leaf_ordered file child items i fall are low =
-    part_falls (pairs_of file) (leaves file child) (get_or items i 0) fall (subst (λ ps. Contains ps (get_or items i 0)) are (Contains-get_or items i 0 low))
+    part_falls (pairs_of file) (leaves file child) (get_or items i 0) fall
+    (subst (λ ps. Contains ps (get_or items i 0)) are (Contains-get_or items i 0 low))
 
 pub child_ordered : (image : List ℕ) (ordered : Bool) (p c : ℕ) (children : List ℕ) → IsForest image → OrderedIf ordered (file_of image) p
     → children_in (page_at (file_of image) p) ≡ Some children → Contains children c
@@ -194,7 +205,8 @@ pub child_ordered : (image : List ℕ) (ordered : Bool) (p c : ℕ) (children : 
 unfolding tree_pairs
 child_ordered image ordered p c children forest is are at told =
     part_falls (tree_pairs (file_of image)) children c
-    (subst DontFall (ap (flat_map (pairs_of (file_of image))) (leaves_of_inner image p children forest are) ∙ flat_map_twice (pairs_of (file_of image))
+    (subst DontFall (ap (flat_map (pairs_of (file_of image))) (leaves_of_inner image p children forest are)
+    ∙ flat_map_twice (pairs_of (file_of image))
     (leaves (file_of image)) children) (is told)) at
 
 pub items_ordered : (image : List ℕ) (ordered : Bool) (p : ℕ) (page : Listed InternalItem) → IsForest image → OrderedIf ordered (file_of image) p

@@ -1,5 +1,6 @@
 -- What a key has in a btree: pairs with the sought key stand below the child that a descent chooses, and so on one leaf.
-use Rattle.std.proofs.Common.{◌≡◌, ℕ, zero, suc, ◌+◌, ◌-◌, ◌<◌, ◌≤◌, Bool, true, false, not, cond, List, [], ◌∷◌, ◌++◌, length, map, get_or, take, drop, Option, Some, None, arith, refl, sym, ◌∙◌, ap, subst, inl, inr, append-nil}
+use Rattle.std.proofs.Common.{◌≡◌, ℕ, zero, suc, ◌+◌, ◌-◌, ◌<◌, ◌≤◌, Bool, true, false, not, cond, List, [], ◌∷◌, ◌++◌, length, map, get_or, take}
+use Rattle.std.proofs.Common.{drop, Option, Some, None, arith, refl, sym, ◌∙◌, ap, subst, inl, inr, append-nil}
 use Rattle.std.specs.Prelude.{◌&&◌, ◌==◌, nat_le}
 use Rattle.std.specs.List.{Contains, filter, flat_map, list_any, range_with_len}
 use Rattle.std.specs.Str.{bytes_eq}
@@ -13,7 +14,8 @@ use Rattle.std.proofs.lemmas.Option.{slice_get-get_or}
 use Rattle.std.proofs.lemmas.Slice.Eq.{bytes_eq-Decides}
 use Rattle.bdb_format.specs.declared.metadata.BtreeMeta.{BtreeMeta}
 use Rattle.bdb_format.specs.Chains.{value_of}
-use Rattle.bdb_format.specs.ContentRows.{Separated, breaks, btree_contents, database_faults, database_rows, has_wrong_separator, inner_pages, no_separator, separated}
+use Rattle.bdb_format.specs.ContentRows.{Separated, breaks, btree_contents, database_faults, database_rows, has_wrong_separator, inner_pages}
+use Rattle.bdb_format.specs.ContentRows.{no_separator, separated}
 use Rattle.bdb_format.specs.Contents.{StoredPair, data_of, pairs_of, tree_pairs}
 use Rattle.bdb_format.specs.File.{File, file_of, header_in, page_at, type_in}
 use Rattle.bdb_format.specs.HeadOf.{head_of}
@@ -53,10 +55,14 @@ under_get : (k key : List ℕ) (values : List (List ℕ)) (b : Bool) → bytes_e
 under_get k key [] true is = refl
 under_get k key [] false is = refl
 under_get k key (value ∷ values) true is =
-    ap (λ c. map (λ (entry : ListKey × List ℕ). entry.1) (cond c ((BytesKey k, value) ∷ filter (λ (entry : ListKey × List ℕ). is_key entry.0 (BytesKey key)) (under k values)) (filter (λ (entry : ListKey × List ℕ). is_key entry.0 (BytesKey key)) (under k values)))) is
+    ap (λ c. map (λ (entry : ListKey × List ℕ). entry.1)
+    (cond c ((BytesKey k, value) ∷ filter (λ (entry : ListKey × List ℕ). is_key entry.0 (BytesKey key)) (under k values))
+    (filter (λ (entry : ListKey × List ℕ). is_key entry.0 (BytesKey key)) (under k values)))) is
     ∙ ap (λ rest. value ∷ rest) (under_get k key values true is)
 under_get k key (value ∷ values) false is =
-    ap (λ c. map (λ (entry : ListKey × List ℕ). entry.1) (cond c ((BytesKey k, value) ∷ filter (λ (entry : ListKey × List ℕ). is_key entry.0 (BytesKey key)) (under k values)) (filter (λ (entry : ListKey × List ℕ). is_key entry.0 (BytesKey key)) (under k values)))) is
+    ap (λ c. map (λ (entry : ListKey × List ℕ). entry.1)
+    (cond c ((BytesKey k, value) ∷ filter (λ (entry : ListKey × List ℕ). is_key entry.0 (BytesKey key)) (under k values))
+    (filter (λ (entry : ListKey × List ℕ). is_key entry.0 (BytesKey key)) (under k values)))) is
     ∙ under_get k key values false is
 
 either_none : (b : Bool) → ◌≡◌ {A = List (List ℕ)} [] (cond b [] [])
@@ -70,11 +76,13 @@ get_pair file key pair =
       | false ↦ either_none (bytes_eq pair.key key)
     ]
 
-get_pairs : (file : File) (key : List ℕ) (pairs : List StoredPair) → get (flat_map (listed_pair file) pairs) (BytesKey key) ≡ flat_map (data_under file key) pairs
+get_pairs : (file : File) (key : List ℕ) (pairs : List StoredPair)
+    → get (flat_map (listed_pair file) pairs) (BytesKey key) ≡ flat_map (data_under file key) pairs
 get_pairs file key [] = refl
 get_pairs file key (pair ∷ pairs) =
     get_append (listed_pair file pair) (flat_map (listed_pair file) pairs) (BytesKey key)
-    ∙ (ap (λ first. first ++ get (flat_map (listed_pair file) pairs) (BytesKey key)) (get_pair file key pair) ∙ ap (λ rest. data_under file key pair ++ rest) (get_pairs file key pairs))
+    ∙ (ap (λ first. first ++ get (flat_map (listed_pair file) pairs) (BytesKey key)) (get_pair file key pair)
+    ∙ ap (λ rest. data_under file key pair ++ rest) (get_pairs file key pairs))
 
 -- the data below a page that a key has
 abbrev pub data_below : File → List ℕ → ℕ → List (List ℕ)
@@ -86,18 +94,23 @@ get_tree file root key = get_pairs file key (tree_pairs file root)
 
 -- pairs of other keys give nothing
 
-nothing_under : (file : File) (key : List ℕ) (pairs : List StoredPair) → ((pair : StoredPair) → Contains pairs pair → bytes_eq pair.key key ≡ false) → flat_map (data_under file key) pairs ≡ []
+nothing_under : (file : File) (key : List ℕ) (pairs : List StoredPair) → ((pair : StoredPair) → Contains pairs pair → bytes_eq pair.key key ≡ false)
+    → flat_map (data_under file key) pairs ≡ []
 nothing_under file key [] other = refl
 nothing_under file key (pair ∷ pairs) other =
-    ap (λ b. cond b (cond pair.live (data_of file pair.data_item) []) [] ++ flat_map (data_under file key) pairs) (other pair (first_member pair pairs))
+    ap (λ b. cond b (cond pair.live (data_of file pair.data_item) []) [] ++ flat_map (data_under file key) pairs)
+    (other pair (first_member pair pairs))
     ∙ nothing_under file key pairs (λ next at. other next (later_member pair pairs next at))
 
-pub from_key_same : (file : File) (key : List ℕ) (pairs : List StoredPair) → flat_map (data_under file key) (from_key key pairs) ≡ flat_map (data_under file key) pairs
+pub from_key_same : (file : File) (key : List ℕ) (pairs : List StoredPair)
+    → flat_map (data_under file key) (from_key key pairs) ≡ flat_map (data_under file key) pairs
 from_key_same file key [] = refl
 from_key_same file key (pair ∷ pairs) =
-    elim (bytes_eq pair.key key) as (λ b. bytes_eq pair.key key ≡ b → flat_map (data_under file key) (cond b (pair ∷ pairs) (from_key key pairs)) ≡ flat_map (data_under file key) (pair ∷ pairs)) [
+    elim (bytes_eq pair.key key) as (λ b. bytes_eq pair.key key ≡ b
+    → flat_map (data_under file key) (cond b (pair ∷ pairs) (from_key key pairs)) ≡ flat_map (data_under file key) (pair ∷ pairs)) [
       | true ↦ λ is. refl
-      | false ↦ λ is. from_key_same file key pairs ∙ sym (ap (λ b. cond b (cond pair.live (data_of file pair.data_item) []) [] ++ flat_map (data_under file key) pairs) is)
+      | false ↦ λ is. from_key_same file key pairs
+          ∙ sym (ap (λ b. cond b (cond pair.live (data_of file pair.data_item) []) [] ++ flat_map (data_under file key) pairs) is)
     ] refl
 
 -- Keys.
@@ -116,11 +129,14 @@ all_empty f d [] none = refl
 all_empty f d (x ∷ xs) none = ap (λ first. first ++ flat_map f xs) (none 0 (omega arith)) ∙ all_empty f d xs (λ j low. none (suc j) (omega arith))
 
 -- where each place but one gives nothing
-only_one : {X Y : Type 0} (f : X → List Y) (d : X) (xs : List X) (i : ℕ) → i < length xs → ((j : ℕ) → j < length xs → (j ≡ i → ⊥) → f (get_or xs j d) ≡ []) → flat_map f xs ≡ f (get_or xs i d)
+only_one : {X Y : Type 0} (f : X → List Y) (d : X) (xs : List X) (i : ℕ) → i < length xs
+    → ((j : ℕ) → j < length xs → (j ≡ i → ⊥) → f (get_or xs j d) ≡ []) → flat_map f xs ≡ f (get_or xs i d)
 only_one f d [] i low none = absurd (omega arith)
-only_one f d (x ∷ xs) zero low none = ap (λ rest. f x ++ rest) (all_empty f d xs (λ j inside. none (suc j) (omega arith) (λ same. omega arith))) ∙ append-nil (f x)
+only_one f d (x ∷ xs) zero low none =
+    ap (λ rest. f x ++ rest) (all_empty f d xs (λ j inside. none (suc j) (omega arith) (λ same. omega arith))) ∙ append-nil (f x)
 only_one f d (x ∷ xs) (suc i) low none =
-    ap (λ first. first ++ flat_map f xs) (none 0 (omega arith) (λ same. omega arith)) ∙ only_one f d xs i (omega arith) (λ j inside other. none (suc j) (omega arith) (λ same. other (omega arith)))
+    ap (λ first. first ++ flat_map f xs) (none 0 (omega arith) (λ same. omega arith))
+    ∙ only_one f d xs i (omega arith) (λ j inside other. none (suc j) (omega arith) (λ same. other (omega arith)))
 
 -- The pairs below a page.
 
@@ -128,10 +144,12 @@ pairs_of_leaf : (file : File) (p : ℕ) → IsLeafPage (page_at file p) → tree
 unfolding tree_pairs
 pairs_of_leaf file p leaf = ap (flat_map (pairs_of file)) (leaves_of_leaf file p leaf) ∙ append-nil (pairs_of file p)
 
-pairs_of_inner : (image : List ℕ) (p : ℕ) (children : List ℕ) → IsForest image → children_in (page_at (file_of image) p) ≡ Some children → tree_pairs (file_of image) p ≡ flat_map (tree_pairs (file_of image)) children
+pairs_of_inner : (image : List ℕ) (p : ℕ) (children : List ℕ) → IsForest image → children_in (page_at (file_of image) p) ≡ Some children
+    → tree_pairs (file_of image) p ≡ flat_map (tree_pairs (file_of image)) children
 unfolding tree_pairs
 pairs_of_inner image p children forest are =
-    ap (flat_map (pairs_of (file_of image))) (leaves_of_inner image p children forest are) ∙ flat_map_twice (pairs_of (file_of image)) (leaves (file_of image)) children
+    ap (flat_map (pairs_of (file_of image))) (leaves_of_inner image p children forest are)
+    ∙ flat_map_twice (pairs_of (file_of image)) (leaves (file_of image)) children
 
 data_of_inner : (image : List ℕ) (key : List ℕ) (p : ℕ) (page : Listed InternalItem) → IsForest image → page_at (file_of image) p ≡ Internal page
     → data_below (file_of image) key p ≡ flat_map (λ (item : InternalItem). data_below (file_of image) key item.child) page.items
@@ -143,7 +161,8 @@ data_of_inner image key p page forest is =
 
 -- Separators.
 
-part_at : (file : File) (items : List InternalItem) (i : ℕ) → i < length items → get_or (map (separated file) items) i no_separator ≡ separated file (get_or items i no_internal_item)
+part_at : (file : File) (items : List InternalItem) (i : ℕ) → i < length items
+    → get_or (map (separated file) items) i no_separator ≡ separated file (get_or items i no_internal_item)
 part_at file [] i low = absurd (omega arith)
 part_at file (item ∷ items) zero low = refl
 part_at file (item ∷ items) (suc i) low = part_at file items i (omega arith)
@@ -154,7 +173,8 @@ in_drop xs m j d above low =
     (Contains-get_or (drop m xs) (j - m) d (simp length-drop (omega arith)))
 
 in_take : {X : Type 0} (xs : List X) (m j : ℕ) (d : X) → j < m → j < length xs → Contains (take m xs) (get_or xs j d)
-in_take xs m j d below low = subst (Contains (take m xs)) (get_or-take m xs j d below) (Contains-get_or (take m xs) j d (simp length-take (omega arith)))
+in_take xs m j d below low =
+    subst (Contains (take m xs)) (get_or-take m xs j d below) (Contains-get_or (take m xs) j d (simp length-take (omega arith)))
 
 abbrev item_of : List InternalItem → ℕ → InternalItem
 item_of items i = get_or items i no_internal_item
@@ -164,21 +184,28 @@ key_of file items i = value_of file (item_of items i).key
 
 -- the separators of an internal page ascend, and keep the keys below its children apart
 pub record AreSeparated (file : File) (items : List InternalItem) : Type 0 where
-  pub ascend : (m : ℕ) → 2 ≤ m → m < length items → less (value_of file (get_or items (m - 1) no_internal_item).key) (value_of file (get_or items m no_internal_item).key) ≡ true
-  pub later : (m j : ℕ) (pair : StoredPair) → 1 ≤ m → m ≤ j → j < length items → Contains (tree_pairs file (get_or items j no_internal_item).child) pair → less pair.key (value_of file (get_or items m no_internal_item).key) ≡ false
-  pub earlier : (m j : ℕ) (pair : StoredPair) → m < length items → j < m → Contains (tree_pairs file (get_or items j no_internal_item).child) pair → less pair.key (value_of file (get_or items m no_internal_item).key) ≡ true
+  pub ascend : (m : ℕ) → 2 ≤ m → m < length items
+      → less (value_of file (get_or items (m - 1) no_internal_item).key) (value_of file (get_or items m no_internal_item).key) ≡ true
+  pub later : (m j : ℕ) (pair : StoredPair) → 1 ≤ m → m ≤ j → j < length items
+      → Contains (tree_pairs file (get_or items j no_internal_item).child) pair
+      → less pair.key (value_of file (get_or items m no_internal_item).key) ≡ false
+  pub earlier : (m j : ℕ) (pair : StoredPair) → m < length items → j < m → Contains (tree_pairs file (get_or items j no_internal_item).child) pair
+      → less pair.key (value_of file (get_or items m no_internal_item).key) ≡ true
 
 -- what a separator at which the row doesn't hold says
 record IsApart (parts : List Separated) (m : ℕ) : Type 0 where
   ascends : (nat_le 2 m && not (less (get_or parts (m - 1) no_separator).key (get_or parts m no_separator).key)) ≡ false
   later : list_any (λ other. less other (get_or parts m no_separator).key) (flat_map (λ (part : Separated). part.below) (drop m parts)) ≡ false
-  earlier : list_any (λ other. not (less other (get_or parts m no_separator).key)) (flat_map (λ (part : Separated). part.below) (take m parts)) ≡ false
+  earlier : list_any (λ other. not (less other (get_or parts m no_separator).key))
+      (flat_map (λ (part : Separated). part.below) (take m parts)) ≡ false
 
-apart : (file : File) (page : Listed InternalItem) (m : ℕ) → has_wrong_separator file (Internal page) ≡ false → 1 ≤ m → m < length page.items → IsApart (map (separated file) page.items) m
+apart : (file : File) (page : Listed InternalItem) (m : ℕ) → has_wrong_separator file (Internal page) ≡ false → 1 ≤ m → m < length page.items
+    → IsApart (map (separated file) page.items) m
 apart file page m right some low =
     let parts : List Separated = map (separated file) page.items in
     let inside : m < 1 + (length parts - 1) = omega (arith, length-map page.items (separated file)) in
-    let none : breaks parts m ≡ false = none_passes (breaks parts) (range_with_len 1 (length parts - 1)) m right (in_range 1 (length parts - 1) m some inside) in
+    let none : breaks parts m ≡ false =
+    none_passes (breaks parts) (range_with_len 1 (length parts - 1)) m right (in_range 1 (length parts - 1) m some inside) in
     let two = or_parts _ _ none in
     let one = or_parts _ _ two.0 in
     record { ascends = one.0; later = one.1; earlier = two.1 }
@@ -187,10 +214,12 @@ false_later : (a b : Bool) → a ≡ true → (a && not b) ≡ false → b ≡ t
 false_later a b is none = grind (arith, nat_tests)
 
 -- a key below a child is one of those of its part
-key_below : (file : File) (items : List InternalItem) (j : ℕ) (pair : StoredPair) → j < length items → Contains (tree_pairs file (item_of items j).child) pair
+key_below : (file : File) (items : List InternalItem) (j : ℕ) (pair : StoredPair) → j < length items
+    → Contains (tree_pairs file (item_of items j).child) pair
     → Contains (get_or (map (separated file) items) j no_separator).below pair.key
 key_below file items j pair low at =
-    subst (λ (part : Separated). Contains part.below pair.key) (sym (part_at file items j low)) (in_map (λ (other : StoredPair). other.key) (tree_pairs file (item_of items j).child) pair at)
+    subst (λ (part : Separated). Contains part.below pair.key) (sym (part_at file items j low))
+    (in_map (λ (other : StoredPair). other.key) (tree_pairs file (item_of items j).child) pair at)
 
 pub are_separated : (file : File) (page : Listed InternalItem) → has_wrong_separator file (Internal page) ≡ false → AreSeparated file page.items
 are_separated file page right =
@@ -209,28 +238,37 @@ are_separated file page right =
           let here : IsApart parts m = apart file page m right some (omega arith) in
           let inside : j < length parts = omega arith in
           ap (λ (part : Separated). less pair.key part.key) (sym (part_at file items m (omega arith)))
-          ∙ none_passes (λ other. less other (get_or parts m no_separator).key) (flat_map (λ (part : Separated). part.below) (drop m parts)) pair.key here.later
-          (in_flat_map (λ (part : Separated). part.below) (drop m parts) (get_or parts j no_separator) pair.key (in_drop parts m j no_separator above inside) (key_below file items j pair low at));
+          ∙ none_passes (λ other. less other (get_or parts m no_separator).key)
+          (flat_map (λ (part : Separated). part.below) (drop m parts)) pair.key here.later
+          (in_flat_map (λ (part : Separated). part.below) (drop m parts) (get_or parts j no_separator) pair.key
+          (in_drop parts m j no_separator above inside) (key_below file items j pair low at));
       earlier =
           λ m j pair low below at.
           let here : IsApart parts m = apart file page m right (omega arith) low in
           let inside : j < length parts = omega arith in
           ap (λ (part : Separated). less pair.key part.key) (sym (part_at file items m low))
           ∙ not-false (less pair.key (get_or parts m no_separator).key)
-          (none_passes (λ other. not (less other (get_or parts m no_separator).key)) (flat_map (λ (part : Separated). part.below) (take m parts)) pair.key here.earlier
-          (in_flat_map (λ (part : Separated). part.below) (take m parts) (get_or parts j no_separator) pair.key (in_take parts m j no_separator below inside) (key_below file items j pair (omega arith) at)));
+          (none_passes (λ other. not (less other (get_or parts m no_separator).key)) (flat_map (λ (part : Separated). part.below) (take m parts))
+          pair.key here.earlier
+          (in_flat_map (λ (part : Separated). part.below) (take m parts) (get_or parts j no_separator) pair.key
+          (in_take parts m j no_separator below inside) (key_below file items j pair (omega arith) at)));
     }
 
 -- The child that is chosen.
 
-last_from : (test : InternalItem → Bool) (items : List InternalItem) (n : ℕ) → n < length items → ((j : ℕ) → n < j → j < length items → test (item_of items j) ≡ true)
+last_from : (test : InternalItem → Bool) (items : List InternalItem) (n : ℕ) → n < length items
+    → ((j : ℕ) → n < j → j < length items → test (item_of items j) ≡ true)
     → (i : ℕ) × IsLastFalse test items i
 last_from test items zero low later = (0, record { inside = low; is_false = λ some. absurd (omega arith); later = later })
 last_from test items (suc n) low later =
     elim (cases_Bool (test (item_of items (suc n)))) [
       | inl is ↦
           last_from test items n (omega arith) (λ j above inside.
-          elim (cases_lt (suc n) j) [ inl past ↦ later j past inside | inr here ↦ ap (λ m. test (item_of items m)) (let same : j ≡ suc n = omega arith in same) ∙ is ])
+          elim (cases_lt (suc n) j) [
+            | inl past ↦ later j past inside
+            | inr here ↦
+                ap (λ m. test (item_of items m)) (let same : j ≡ suc n = omega arith in same) ∙ is
+          ])
       | inr is ↦ (suc n, record { inside = low; is_false = λ some. is; later = later })
     ]
 
@@ -250,7 +288,8 @@ chosen_data file key items some apart =
       | inr after ↦
           let past : i < j = omega (arith, other) in
           nothing_under file key (tree_pairs file (item_of items j).child) (λ pair at.
-          above_key pair.key key (key_of file items (i + 1)) (apart.later (i + 1) j pair (omega arith) (omega arith) low at) (last.1.later (i + 1) (omega arith) (omega arith)))
+          above_key pair.key key (key_of file items (i + 1)) (apart.later (i + 1) j pair (omega arith) (omega arith) low at)
+          (last.1.later (i + 1) (omega arith) (omega arith)))
     ])
     ∙ ap (data_below file key) (sym (chosen_is test items i last.1))
 
@@ -260,36 +299,45 @@ no_inner : (test : InternalItem → Bool) (page : Page) → children_in page ≡
 no_inner test (Internal page) none = absurd cc
 no_inner test page none = refl
 
-keyed_inner : (page : Page) (children : List ℕ) → children_in page ≡ Some children → has_type (3 ∷ 5 ∷ 12 ∷ []) (type_in page) ≡ true → (view : Listed InternalItem) × (page ≡ Internal view)
+keyed_inner : (page : Page) (children : List ℕ) → children_in page ≡ Some children → has_type (3 ∷ 5 ∷ 12 ∷ []) (type_in page) ≡ true
+    → (view : Listed InternalItem) × (page ≡ Internal view)
 keyed_inner (Internal page) children are keyed = (page, refl)
 keyed_inner (RecnoInternal page) children are keyed = absurd cc
 keyed_inner page children are keyed = absurd cc
 
-child_keyed : (view : Listed InternalItem) (page : Page) (type : Option ℕ) → page ≡ Internal view → has_type (child_types page) type ≡ true → has_type (3 ∷ 5 ∷ 12 ∷ []) type ≡ true
+child_keyed : (view : Listed InternalItem) (page : Page) (type : Option ℕ) → page ≡ Internal view → has_type (child_types page) type ≡ true
+    → has_type (3 ∷ 5 ∷ 12 ∷ []) type ≡ true
 child_keyed view page type is has = of (view.header.level == 2) (ap (λ q. has_type (child_types q) type) (sym is) ∙ has)
   where
     of : (low : Bool) → has_type (cond low (5 ∷ 12 ∷ []) (3 ∷ [])) type ≡ true → has_type (3 ∷ 5 ∷ 12 ∷ []) type ≡ true
     of true one = of_type (λ t. has_type (3 ∷ 5 ∷ 12 ∷ []) t ≡ true) (5 ∷ 12 ∷ []) type (refl, (refl, tt)) one
     of false one = of_type (λ t. has_type (3 ∷ 5 ∷ 12 ∷ []) t ≡ true) (3 ∷ []) type (refl, tt) one
 
-step_down : (levels : ℕ) (file : File) (test : InternalItem → Bool) (p : ℕ) (next : Option ℕ) → next_below test (page_at file p) ≡ next → descent (suc levels) file test p ≡ go_on (descent levels file test) p next
+step_down : (levels : ℕ) (file : File) (test : InternalItem → Bool) (p : ℕ) (next : Option ℕ) → next_below test (page_at file p) ≡ next
+    → descent (suc levels) file test p ≡ go_on (descent levels file test) p next
 unfolding descent
 step_down levels file test p next is = ap (go_on (descent levels file test) p) is
 
 -- each internal page of a tree keeps its keys apart
 abbrev pub AllSeparated : File → ℕ → Type 0
-AllSeparated file root = (q : ℕ) (page : Listed InternalItem) → Contains (inner_pages file root) q → page_at file q ≡ Internal page → AreSeparated file page.items
+AllSeparated file root =
+    (q : ℕ) (page : Listed InternalItem) → Contains (inner_pages file root) q → page_at file q ≡ Internal page → AreSeparated file page.items
 
 -- all that a key has below a page it has on the leaf to which a descent leads
-data_of_descent : (levels : ℕ) (image key : List ℕ) (p : ℕ) → IsForest image → level (file_of image) p ≡ levels → HasTypeAt (file_of image) (3 ∷ 5 ∷ 12 ∷ []) p → AllSeparated (file_of image) p
-    → data_below (file_of image) key p ≡ flat_map (data_under (file_of image) key) (pairs_of (file_of image) (descent levels (file_of image) (is_below (file_of image) key) p))
-data_of_descent zero image key p forest is keyed apart = let high : 1 ≤ level (file_of image) p = tree_level image p forest (tree_keyed (type_in (page_at (file_of image) p)) keyed) in absurd (omega arith)
+data_of_descent : (levels : ℕ) (image key : List ℕ) (p : ℕ) → IsForest image → level (file_of image) p ≡ levels
+    → HasTypeAt (file_of image) (3 ∷ 5 ∷ 12 ∷ []) p → AllSeparated (file_of image) p
+    → data_below (file_of image) key p ≡ flat_map (data_under (file_of image) key)
+    (pairs_of (file_of image) (descent levels (file_of image) (is_below (file_of image) key) p))
+data_of_descent zero image key p forest is keyed apart =
+    let high : 1 ≤ level (file_of image) p =
+    tree_level image p forest (tree_keyed (type_in (page_at (file_of image) p)) keyed) in absurd (omega arith)
 data_of_descent (suc n) image key p forest is keyed apart =
     let file : File = file_of image in
     let test : InternalItem → Bool = is_below file key in
     elim (tree_cases image p forest (tree_keyed (type_in (page_at (file_of image) p)) keyed)) [
       | inr leaf ↦
-          ap (flat_map (data_under file key)) (pairs_of_leaf file p leaf ∙ ap (pairs_of file) (sym (step_down n file test p None (no_inner test (page_at file p) leaf.none))))
+          ap (flat_map (data_under file key)) (pairs_of_leaf file p leaf
+          ∙ ap (pairs_of file) (sym (step_down n file test p None (no_inner test (page_at file p) leaf.none))))
       | inl inner ↦
           let view : (view : Listed InternalItem) × (page_at file p ≡ Internal view) = keyed_inner (page_at file p) inner.children inner.are keyed in
           let page : Listed InternalItem = view.0 in
@@ -297,27 +345,34 @@ data_of_descent (suc n) image key p forest is keyed apart =
           let formed = internal_is image p page forest (internal_inside image p page here) here in
           let c : ℕ = chosen test page.items in
           let found : (item : InternalItem) × Contains page.items item × (item.child ≡ c) = chosen_among test page.items formed.1 in
-          let member : Contains (map (λ (item : InternalItem). item.child) page.items) c = subst (Contains (map (λ (item : InternalItem). item.child) page.items)) found.2 (in_map (λ (item : InternalItem). item.child) page.items found.0 found.1) in
-          let child : IsChild file p c = child_is image p c (map (λ (item : InternalItem). item.child) page.items) forest (ap children_in here) member in
+          let member : Contains (map (λ (item : InternalItem). item.child) page.items) c =
+          subst (Contains (map (λ (item : InternalItem). item.child) page.items)) found.2
+          (in_map (λ (item : InternalItem). item.child) page.items found.0 found.1) in
+          let child : IsChild file p c =
+          child_is image p c (map (λ (item : InternalItem). item.child) page.items) forest (ap children_in here) member in
           data_of_inner image key p page forest here
           ∙ (chosen_data file key page.items formed.1 (apart p page (is_inner file p page (omega (arith, formed.0)) here) here)
-          ∙ (data_of_descent n image key c forest (omega (arith, child.level)) (child_keyed page (page_at file p) (type_in (page_at file c)) here child.type)
+          ∙ (data_of_descent n image key c forest (omega (arith, child.level))
+          (child_keyed page (page_at file p) (type_in (page_at file c)) here child.type)
           (λ q other at its. apart q other (is_inner_below file p page c q here member child at) its)
           ∙ ap (λ q. flat_map (data_under file key) (pairs_of file q)) (sym (step_down n file test p (Some c) (ap (next_below test) here)))))
     ]
 
 -- What sound contents give.
 
-pub all_separated : (image : List ℕ) (meta : BtreeMeta) → is_recno meta ≡ false → database_faults (file_of image) (BtreeFields meta) ≡ [] → AllSeparated (file_of image) meta.root
+pub all_separated : (image : List ℕ) (meta : BtreeMeta) → is_recno meta ≡ false → database_faults (file_of image) (BtreeFields meta) ≡ []
+    → AllSeparated (file_of image) meta.root
 unfolding database_faults
 all_separated image meta keys none q page at is =
     let file : File = file_of image in
     let low : q ≤ file.last = internal_inside image q page is in
-    let codes : holding (database_rows file (BtreeFields meta) q) ≡ [] = no_codes_at 8 0 (file.last + 1) q (λ p. holding (database_rows file (BtreeFields meta) p)) none (omega arith) (omega arith) in
+    let codes : holding (database_rows file (BtreeFields meta) q) ≡ [] =
+    no_codes_at 8 0 (file.last + 1) q (λ p. holding (database_rows file (BtreeFields meta) p)) none (omega arith) (omega arith) in
     let fail : AllFail (btree_contents file meta q) = all_fail (btree_contents file meta q) (keyed_rows file meta q (is_recno meta) keys codes) in
     let passed : ((q == q) && has_wrong_separator file (page_at file q)) ≡ false =
     none_passes (λ r. (r == q) && has_wrong_separator file (page_at file r)) (inner_pages file meta.root) q fail.1.1.1.0 at in
-    are_separated file page (ap (has_wrong_separator file) (sym is) ∙ second_false (q == q) (has_wrong_separator file (page_at file q)) (eq-eqb q q refl) passed)
+    are_separated file page (ap (has_wrong_separator file) (sym is)
+    ∙ second_false (q == q) (has_wrong_separator file (page_at file q)) (eq-eqb q q refl) passed)
 
 -- What a descent with the sought key asks.
 
@@ -328,11 +383,13 @@ root_typed image meta forest has keys =
     elim (root_cases image meta.root forest (root_fits image (head_of image) meta forest.formed has)) [
       | inl keyed ↦ keyed
       | inr recno ↦
-          of_type (λ type. has_type (4 ∷ 6 ∷ []) type ≡ true → has_type (3 ∷ 5 ∷ []) type ≡ true) (3 ∷ 5 ∷ 12 ∷ []) (type_in (page_at (file_of image) meta.root)) (λ _. refl, (λ _. refl, (λ other. absurd cc, tt)))
+          of_type (λ type. has_type (4 ∷ 6 ∷ []) type ≡ true → has_type (3 ∷ 5 ∷ []) type ≡ true) (3 ∷ 5 ∷ 12 ∷ [])
+          (type_in (page_at (file_of image) meta.root)) (λ _. refl, (λ _. refl, (λ other. absurd cc, tt)))
           (root_keyed image meta forest has keys) recno
     ]
 
-pub keys_readable : (image : List ℕ) (root : ℕ) → IsForest image → AllReadable (file_of image) (λ (item : InternalItem). FitsContent (file_of image) item.key) root
+pub keys_readable : (image : List ℕ) (root : ℕ) → IsForest image
+    → AllReadable (file_of image) (λ (item : InternalItem). FitsContent (file_of image) item.key) root
 keys_readable image root forest p page inner is i above low =
     key_fits image p page i (get_or page.items i no_internal_item) forest (internal_inside image p page is) is
     (slice_get-get_or page.items i no_internal_item low)
@@ -341,13 +398,16 @@ pub keys_monotone : (file : File) (key : List ℕ) (root : ℕ) → AllSeparated
 keys_monotone file key root apart p page inner is =
     monotone_by_neighbours (is_below file key) page.items (λ i some low holds.
     less_trans key (key_of file page.items i) (key_of file page.items (i + 1)) holds
-    (ap (λ m. less (key_of file page.items m) (key_of file page.items (i + 1))) (let same : i ≡ i + 1 - 1 = omega arith in same) ∙ (apart p page inner is).ascend (i + 1) (omega arith) low))
+    (ap (λ m. less (key_of file page.items m) (key_of file page.items (i + 1))) (let same : i ≡ i + 1 - 1 = omega arith in same)
+    ∙ (apart p page inner is).ascend (i + 1) (omega arith) low))
 
 -- a key has in a list what it has on the leaf to which a descent leads
 pub found_on_leaf : (image key : List ℕ) (meta : BtreeMeta) → IsForest image → HasMetadata (file_of image) (BtreeFields meta) → is_recno meta ≡ false
     → database_faults (file_of image) (BtreeFields meta) ≡ []
     → get (btree_list (file_of image) meta.root) (BytesKey key)
-    ≡ flat_map (data_under (file_of image) key) (pairs_of (file_of image) (descent (header_in (page_at (file_of image) meta.root)).level (file_of image) (is_below (file_of image) key) meta.root))
+    ≡ flat_map (data_under (file_of image) key)
+    (pairs_of (file_of image) (descent (header_in (page_at (file_of image) meta.root)).level (file_of image)
+    (is_below (file_of image) key) meta.root))
 found_on_leaf image key meta forest has keys none =
     let file : File = file_of image in
     get_tree file meta.root key
@@ -363,7 +423,8 @@ pub found_by : (linked image key : List ℕ) (meta : BtreeMeta) (root leaf : ℕ
     → found ≡ get (btree_list (file_of linked) meta.root) (BytesKey key)
 found_by linked image key meta root leaf found forest has keys none same named leads is =
     let F : List ℕ → ℕ → List (List ℕ) =
-    λ other r. flat_map (data_under (file_of other) key) (pairs_of (file_of other) (descent (header_in (page_at (file_of other) r)).level (file_of other) (is_below (file_of other) key) r)) in
+    λ other r. flat_map (data_under (file_of other) key)
+    (pairs_of (file_of other) (descent (header_in (page_at (file_of other) r)).level (file_of other) (is_below (file_of other) key) r)) in
     is
     ∙ (ap (λ p. flat_map (data_under (file_of image) key) (pairs_of (file_of image) p)) leads
     ∙ (ap (λ other. F other root) same ∙ (ap (F linked) named ∙ sym (found_on_leaf linked key meta forest has keys none))))
@@ -372,10 +433,16 @@ found_by linked image key meta root leaf found forest has keys none same named l
 
 from_key_fit : (file : File) (key : List ℕ) (pairs : List StoredPair) → AreFit file pairs → AreFit file (from_key key pairs)
 from_key_fit file key [] fit = tt
-from_key_fit file key (first ∷ pairs) fit = elim (bytes_eq first.key key) as (λ b. AreFit file (cond b (first ∷ pairs) (from_key key pairs))) [ true ↦ fit | false ↦ from_key_fit file key pairs fit.1 ]
+from_key_fit file key (first ∷ pairs) fit =
+    elim (bytes_eq first.key key) as (λ b. AreFit file (cond b (first ∷ pairs) (from_key key pairs))) [
+      | true ↦ fit
+      | false ↦
+          from_key_fit file key pairs fit.1
+    ]
 
 -- the first of the pairs from one with a key on has the key
-pub from_key_first : (key : List ℕ) (pairs : List StoredPair) (pair : StoredPair) (rest : List StoredPair) → from_key key pairs ≡ pair ∷ rest → pair.key ≡ key
+pub from_key_first : (key : List ℕ) (pairs : List StoredPair) (pair : StoredPair) (rest : List StoredPair)
+    → from_key key pairs ≡ pair ∷ rest → pair.key ≡ key
 from_key_first key [] pair rest is = absurd cc
 from_key_first key (first ∷ pairs) pair rest is =
     elim (bytes_eq first.key key) as (λ b. bytes_eq first.key key ≡ b → cond b (first ∷ pairs) (from_key key pairs) ≡ pair ∷ rest → pair.key ≡ key) [
@@ -384,23 +451,32 @@ from_key_first key (first ∷ pairs) pair rest is =
     ] refl is
 
 -- the pairs of a leaf are open
-pub page_open : (image : List ℕ) (p : ℕ) (pairs : List StoredPair) → IsForest image → FitsLeafPage (file_of image) p → structure_faults (file_of image) ≡ [] → pairs ≡ pairs_of (file_of image) p → AreOpen (file_of image) pairs
+pub page_open : (image : List ℕ) (p : ℕ) (pairs : List StoredPair) → IsForest image → FitsLeafPage (file_of image) p
+    → structure_faults (file_of image) ≡ [] → pairs ≡ pairs_of (file_of image) p → AreOpen (file_of image) pairs
 page_open image p pairs forest fits stage are =
-    record { stage = stage; fit = each_of (FitsPair (file_of image)) pairs (λ pair at. (pair_of_page image p pair forest fits (subst (λ ps. Contains ps pair) are at)).fits) }
+    record {
+      stage = stage;
+      fit = each_of (FitsPair (file_of image)) pairs
+          (λ pair at. (pair_of_page image p pair forest fits (subst (λ ps. Contains ps pair) are at)).fits);
+    }
 
 pub key_open : (file : File) (key : List ℕ) (pairs : List StoredPair) → AreOpen file pairs → AreOpen file (from_key key pairs)
 key_open file key pairs opened = record { stage = opened.stage; fit = from_key_fit file key pairs opened.fit }
 
-pub found_some : (file : File) (key : List ℕ) (pairs : List StoredPair) (pair : StoredPair) (rest : List StoredPair) → from_key key pairs ≡ pair ∷ rest
+pub found_some : (file : File) (key : List ℕ) (pairs : List StoredPair) (pair : StoredPair) (rest : List StoredPair)
+    → from_key key pairs ≡ pair ∷ rest
     → flat_map (data_under file pair.key) (pair ∷ rest) ≡ flat_map (data_under file key) pairs
 found_some file key pairs pair rest is =
-    ap (λ k. flat_map (data_under file k) (pair ∷ rest)) (from_key_first key pairs pair rest is) ∙ (ap (flat_map (data_under file key)) (sym is) ∙ from_key_same file key pairs)
+    ap (λ k. flat_map (data_under file k) (pair ∷ rest)) (from_key_first key pairs pair rest is)
+    ∙ (ap (flat_map (data_under file key)) (sym is) ∙ from_key_same file key pairs)
 
 pub found_none : (file : File) (key : List ℕ) (pairs : List StoredPair) → from_key key pairs ≡ [] → [] ≡ flat_map (data_under file key) pairs
 found_none file key pairs none = ap (flat_map (data_under file key)) (sym none) ∙ from_key_same file key pairs
 
 -- the data that are left where a search goes on to the next pair
-pub next_found : (file : File) (key : List ℕ) (here after : Option (List (List ℕ))) (old new : List StoredPair) (pair : StoredPair) → left_of here ≡ [] → old ≡ pair ∷ new → left_of after ≡ data_under file key pair
+pub next_found : (file : File) (key : List ℕ) (here after : Option (List (List ℕ))) (old new : List StoredPair) (pair : StoredPair)
+    → left_of here ≡ [] → old ≡ pair ∷ new → left_of after ≡ data_under file key pair
     → found_left file key after new ≡ found_left file key here old
 next_found file key here after old new pair none more are =
-    ap (λ values. values ++ flat_map (data_under file key) new) are ∙ sym (ap (λ values. values ++ flat_map (data_under file key) old) none ∙ ap (flat_map (data_under file key)) more)
+    ap (λ values. values ++ flat_map (data_under file key) new) are
+    ∙ sym (ap (λ values. values ++ flat_map (data_under file key) old) none ∙ ap (flat_map (data_under file key)) more)

@@ -1,5 +1,6 @@
 -- The internal pages of a tree, level by level.
-use Rattle.std.proofs.Common.{◌≡◌, ℕ, zero, suc, ◌+◌, ◌-◌, ◌<◌, Bool, true, List, [], ◌∷◌, ◌++◌, get_or, arith, refl, sym, ◌∙◌, ap, subst, append_assoc, inl, inr, Option, Some, None}
+use Rattle.std.proofs.Common.{◌≡◌, ℕ, zero, suc, ◌+◌, ◌-◌, ◌<◌, Bool, true, List, [], ◌∷◌, ◌++◌, get_or, arith, refl, sym, ◌∙◌, ap, subst}
+use Rattle.std.proofs.Common.{append_assoc, inl, inr, Option, Some, None}
 use Rattle.std.specs.List.{All, Contains, filter, flat_map}
 use Rattle.std.specs.Option.{is_some, unwrap_or}
 use Rattle.std.proofs.lemmas.List.Elements.{Contains-append_cases}
@@ -20,16 +21,20 @@ use Rattle.bdb_format.proofs.TypeLemmas.{of_type, keyed_below}
 abbrev is_inner : File → ℕ → Bool
 is_inner file p = is_some (children_in (page_at file p))
 
-pub first_inner : (file : File) (root n : ℕ) (found level : List ℕ) → found ≡ [] → level ≡ root ∷ [] → n ≡ (header_in (page_at file root)).level → found ++ inner_in (n - 0) file level ≡ inner_pages file root
+pub first_inner : (file : File) (root n : ℕ) (found level : List ℕ) → found ≡ [] → level ≡ root ∷ [] → n ≡ (header_in (page_at file root)).level
+    → found ++ inner_in (n - 0) file level ≡ inner_pages file root
 unfolding inner_pages
 first_inner file root n found level none one is =
     let whole : n - 0 ≡ (header_in (page_at file root)).level = omega arith in
     ap (λ ps. ps ++ inner_in (n - 0) file level) none ∙ (ap (λ ps. inner_in (n - 0) file ps) one ∙ ap (λ k. inner_in k file (root ∷ [])) whole)
 
 pub first_tree : (file : File) (root : ℕ) (level : List ℕ) → level ≡ root ∷ [] → IsTreePage file root → All (IsTreePage file) level
-first_tree file root level one tree = subst (All (IsTreePage file)) (sym one) (λ k d low. let first : k ≡ 0 = omega arith in subst (λ i. IsTreePage file (get_or (root ∷ []) i d)) (sym first) tree)
+first_tree file root level one tree =
+    subst (All (IsTreePage file)) (sym one) (λ k d low. let first : k ≡ 0 = omega arith in
+    subst (λ i. IsTreePage file (get_or (root ∷ []) i d)) (sym first) tree)
 
-pub more_inner : (file : File) (n turn : ℕ) (found new level next all : List ℕ) → turn < n → new ≡ found ++ filter (is_inner file) level → next ≡ flat_map (children_at file) level
+pub more_inner : (file : File) (n turn : ℕ) (found new level next all : List ℕ) → turn < n → new ≡ found ++ filter (is_inner file) level
+    → next ≡ flat_map (children_at file) level
     → found ++ inner_in (n - turn) file level ≡ all → new ++ inner_in (n - (turn + 1)) file next ≡ all
 more_inner file n turn found new level next all low added children left =
     let more : n - turn ≡ suc (n - (turn + 1)) = omega arith in
@@ -73,12 +78,14 @@ inner_pages_have file P root q down has at =
     inner_have file P (header_in (page_at file root)).level (root ∷ []) q down (λ p one. subst P (only_member root p one) has) at
 
 -- the internal pages of a tree of pairs have its type
-pub inner_pages_keyed : (image : List ℕ) (root q : ℕ) → IsForest image → IsKeyed (file_of image) root → Contains (inner_pages (file_of image) root) q → IsKeyed (file_of image) q
+pub inner_pages_keyed : (image : List ℕ) (root q : ℕ) → IsForest image → IsKeyed (file_of image) root → Contains (inner_pages (file_of image) root) q
+    → IsKeyed (file_of image) q
 inner_pages_keyed image root q forest keyed at =
     inner_pages_have (file_of image) (IsKeyed (file_of image)) root q
     (λ p c children has are child. child_keyed image p c children forest has are child) keyed at
 
-pub all_keyed : (image : List ℕ) (root : ℕ) (pages : List ℕ) → IsForest image → IsKeyed (file_of image) root → pages ≡ inner_pages (file_of image) root → All (IsKeyed (file_of image)) pages
+pub all_keyed : (image : List ℕ) (root : ℕ) (pages : List ℕ) → IsForest image → IsKeyed (file_of image) root
+    → pages ≡ inner_pages (file_of image) root → All (IsKeyed (file_of image)) pages
 all_keyed image root pages forest keyed are =
     all_of (IsKeyed (file_of image)) pages (λ q at. inner_pages_keyed image root q forest keyed (subst (λ ps. Contains ps q) are at))
 
@@ -87,5 +94,6 @@ pub all_ordered : (image : List ℕ) (ordered : Bool) (root : ℕ) (pages : List
     → pages ≡ inner_pages (file_of image) root → All (OrderedIf ordered (file_of image)) pages
 all_ordered image ordered root pages forest is are =
     all_of (OrderedIf ordered (file_of image)) pages (λ q at.
-    inner_pages_have (file_of image) (OrderedIf ordered (file_of image)) root q (λ p c children has of child. child_ordered image ordered p c children forest
+    inner_pages_have (file_of image) (OrderedIf ordered (file_of image)) root q
+    (λ p c children has of child. child_ordered image ordered p c children forest
     has of child) is (subst (λ ps. Contains ps q) are at))

@@ -1,5 +1,6 @@
 -- The least page of a row, and the first fault of a table.
-use Rattle.std.proofs.Common.{◌≡◌, ◌⊎◌, ℕ, ◌+◌, ◌<◌, ◌≤◌, Bool, true, false, cond, List, [], ◌∷◌, Option, Some, None, arith, refl, sym, ◌∙◌, ap, subst, inl, inr}
+use Rattle.std.proofs.Common.{◌≡◌, ◌⊎◌, ℕ, ◌+◌, ◌<◌, ◌≤◌, Bool, true, false, cond, List, [], ◌∷◌, Option, Some, None, arith, refl, sym, ◌∙◌, ap}
+use Rattle.std.proofs.Common.{subst, inl, inr}
 use Rattle.std.specs.Prelude.{◌==◌, ◌&&◌, ◌||◌, nat_le}
 use Rattle.std.specs.List.{Contains, fold, list_any}
 use Rattle.std.proofs.lemmas.Bool.{cases_eq, leb-true, leb-false, true≢false}
@@ -31,18 +32,24 @@ module _ {X : Type 0} (page : X → ℕ) (test : X → Bool) where
   abbrev passes_at : X → ℕ → Bool
   passes_at item p = (page item == p) && test item
 
-  note_one : (least : Option ℕ) (row : ℕ → Bool) (item : X) → IsLeastPage least row → IsLeastPage (noting page test least item) (λ p. row p || passes_at item p)
+  note_one : (least : Option ℕ) (row : ℕ → Bool) (item : X) → IsLeastPage least row
+      → IsLeastPage (noting page test least item) (λ p. row p || passes_at item p)
   note_one least row item is =
       elim (test item) as (λ b. IsLeastPage (cond b (lesser least (Some (page item))) least) (λ p. row p || ((page item == p) && b))) [
-        | true ↦ least_same (lesser least (Some (page item))) (λ p. row p || (page item == p)) (λ p. row p || ((page item == p) && true)) (λ p. ap (λ b. row p || b) (sym (and-true (page item == p)))) (least_more least (page item) row is)
-        | false ↦ least_same least row (λ p. row p || ((page item == p) && false)) (λ p. sym (ap (λ b. row p || b) (and-false (page item == p)) ∙ or-false (row p))) is
+        | true ↦ least_same (lesser least (Some (page item))) (λ p. row p || (page item == p)) (λ p. row p || ((page item == p) && true))
+            (λ p. ap (λ b. row p || b) (sym (and-true (page item == p)))) (least_more least (page item) row is)
+        | false ↦ least_same least row (λ p. row p || ((page item == p) && false))
+            (λ p. sym (ap (λ b. row p || b) (and-false (page item == p)) ∙ or-false (row p))) is
       ]
 
-  note_more : (items : List X) (least : Option ℕ) (row : ℕ → Bool) → IsLeastPage least row → IsLeastPage (fold (noting page test) least items) (λ p. row p || list_any (λ item. passes_at item p) items)
+  note_more : (items : List X) (least : Option ℕ) (row : ℕ → Bool) → IsLeastPage least row
+      → IsLeastPage (fold (noting page test) least items) (λ p. row p || list_any (λ item. passes_at item p) items)
   note_more [] least row is = least_same least row (λ p. row p || false) (λ p. sym (or-false (row p))) is
   note_more (item ∷ items) least row is =
-      least_same (fold (noting page test) (noting page test least item) items) (λ p. (row p || passes_at item p) || list_any (λ other. passes_at other p) items)
-      (λ p. row p || (passes_at item p || list_any (λ other. passes_at other p) items)) (λ p. or_assoc (row p) (passes_at item p) (list_any (λ other. passes_at other p) items))
+      least_same (fold (noting page test) (noting page test least item) items)
+      (λ p. (row p || passes_at item p) || list_any (λ other. passes_at other p) items)
+      (λ p. row p || (passes_at item p || list_any (λ other. passes_at other p) items))
+      (λ p. or_assoc (row p) (passes_at item p) (list_any (λ other. passes_at other p) items))
       (note_more items (noting page test least item) (λ p. row p || passes_at item p) (note_one least row item is))
 
   -- the items that were noted are those of the row
@@ -69,7 +76,8 @@ HoldsAt (row ∷ rows) p code = ((row.test p ≡ true) × (row.code ≡ code)) �
 abbrev pub IsFirst : List PageRow → Option Fault → Type 0
 IsFirst rows None = (p code : ℕ) → HoldsAt rows p code → ⊥
 IsFirst rows (Some first) =
-    (first.stage ≡ 8) × HoldsAt rows first.page first.code × ((p code : ℕ) → HoldsAt rows p code → ComesFirst first (record { stage = 8; page = p; code = code }))
+    (first.stage ≡ 8) × HoldsAt rows first.page first.code
+    × ((p code : ℕ) → HoldsAt rows p code → ComesFirst first (record { stage = 8; page = p; code = code }))
 
 -- all codes of a table are at least this
 abbrev pub AreAbove : ℕ → List PageRow → Type 0
@@ -87,10 +95,12 @@ above_code (row ∷ rows) n p code above holds =
 pub no_rows : IsFirst [] None
 no_rows p code holds = holds
 
-comes_first : (page p code other : ℕ) → page ≤ p → code ≤ other → ComesFirst (record { stage = 8; page = page; code = code }) (record { stage = 8; page = p; code = other })
+comes_first : (page p code other : ℕ) → page ≤ p → code ≤ other
+    → ComesFirst (record { stage = 8; page = page; code = code }) (record { stage = 8; page = p; code = other })
 comes_first page p code other from up = elim (cases_eq page p) [ inl at ↦ inr (at, up) | inr apart ↦ inl (omega arith) ]
 
-first_step : (row : PageRow) (rows : List PageRow) (page : ℕ) (later : Fault) → AreAbove row.code rows → (row.test page ≡ true) × ((p : ℕ) → row.test p ≡ true → page ≤ p) → IsFirst rows (Some later)
+first_step : (row : PageRow) (rows : List PageRow) (page : ℕ) (later : Fault) → AreAbove row.code rows
+    → (row.test page ≡ true) × ((p : ℕ) → row.test p ≡ true → page ≤ p) → IsFirst rows (Some later)
     → (b : Bool) → nat_le page later.page ≡ b → IsFirst (row ∷ rows) (cond b (Some (record { stage = 8; page = page; code = row.code })) (Some later))
 first_step row rows page later above least first true before = (
   refl,
@@ -99,7 +109,8 @@ first_step row rows page later above least first true before = (
     | inl here ↦ comes_first page p row.code code (least.1 p here.0) (let same : row.code ≡ code = here.1 in omega arith)
     | inr in_rest ↦
         let low : page ≤ later.page = leb-true page later.page before in
-        let past : later.page ≤ p = elim (first.2 p code in_rest) [ inl earlier ↦ omega arith | inr at ↦ let same : later.page ≡ p = at.0 in omega arith ] in
+        let past : later.page ≤ p =
+        elim (first.2 p code in_rest) [ inl earlier ↦ omega arith | inr at ↦ let same : later.page ≡ p = at.0 in omega arith ] in
         comes_first page p row.code code (omega arith) (above_code rows row.code p code above in_rest)
   ],
 )
@@ -110,10 +121,19 @@ first_step row rows page later above least first false before =
       λ p code holds. elim holds [ inl here ↦ let from : page ≤ p = least.1 p here.0 in inl (omega arith) | inr in_rest ↦ first.2 p code in_rest ],
     )
 
-pub first_more : (row : PageRow) (rows : List PageRow) (least : Option ℕ) (first : Option Fault) → AreAbove row.code rows → IsLeastPage least row.test → IsFirst rows first → IsFirst (row ∷ rows) (sooner row.code least first)
-first_more row rows None None above least first = λ p code holds. elim holds [ inl here ↦ true≢false (sym here.0 ∙ least p) | inr later ↦ first p code later ]
-first_more row rows None (Some later) above least first =
-    (first.0, inr first.1, λ p code holds. elim holds [ inl here ↦ absurd (true≢false (sym here.0 ∙ least p)) | inr in_rest ↦ first.2 p code in_rest ])
+pub first_more : (row : PageRow) (rows : List PageRow) (least : Option ℕ) (first : Option Fault) → AreAbove row.code rows → IsLeastPage least row.test
+    → IsFirst rows first → IsFirst (row ∷ rows) (sooner row.code least first)
+first_more row rows None None above least first =
+    λ p code holds. elim holds [ inl here ↦ true≢false (sym here.0 ∙ least p) | inr later ↦ first p code later ]
+first_more row rows None (Some later) above least first = (
+  first.0,
+  inr first.1,
+  λ p code holds. elim holds [
+    | inl here ↦ absurd (true≢false (sym here.0 ∙ least p))
+    | inr in_rest ↦
+        first.2 p code in_rest
+  ],
+)
 first_more row rows (Some page) None above least first = (
   refl,
   inl (least.0, refl),
@@ -145,8 +165,13 @@ is_code (row ∷ rows) p code holds =
 of_code : (rows : List PageRow) (p code : ℕ) → Contains (holding (rows_at rows p)) code → HoldsAt rows p code
 of_code [] p code at = absurd (no_member [] code refl at)
 of_code (row ∷ rows) p code at =
-    elim (row.test p) as (λ b. Contains (cond b (row.code ∷ holding (rows_at rows p)) (holding (rows_at rows p))) code → ((b ≡ true) × (row.code ≡ code)) ⊎ HoldsAt rows p code) [
-      | true ↦ λ in_codes. elim (member_cases row.code (holding (rows_at rows p)) code in_codes) [ inl here ↦ inl (refl, here) | inr later ↦ inr (of_code rows p code later) ]
+    elim (row.test p) as (λ b. Contains (cond b (row.code ∷ holding (rows_at rows p)) (holding (rows_at rows p))) code
+    → ((b ≡ true) × (row.code ≡ code)) ⊎ HoldsAt rows p code) [
+      | true ↦ λ in_codes. elim (member_cases row.code (holding (rows_at rows p)) code in_codes) [
+        | inl here ↦ inl (refl, here)
+        | inr later ↦
+            inr (of_code rows p code later)
+      ]
       | false ↦ λ in_codes. inr (of_code rows p code in_codes)
     ] at
 
@@ -163,25 +188,32 @@ inside_at : (rows : List PageRow) (high p code : ℕ) → AreInside high rows �
 inside_at [] high p code inside holds = absurd holds
 inside_at (row ∷ rows) high p code inside holds = elim holds [ inl here ↦ inside.0 p here.0 | inr later ↦ inside_at rows high p code inside.1 later ]
 
-first_is : (rows : List PageRow) (n high : ℕ) (first : Option Fault) (faults : List Fault) → AreAbove n rows → AreInside high rows → IsFirst rows first → by_page 8 0 high (λ p. holding (rows_at rows p)) ≡ faults → first_fault faults ≡ first
+first_is : (rows : List PageRow) (n high : ℕ) (first : Option Fault) (faults : List Fault) → AreAbove n rows → AreInside high rows
+    → IsFirst rows first → by_page 8 0 high (λ p. holding (rows_at rows p)) ≡ faults → first_fault faults ≡ first
 first_is rows n high None [] above inside is same = refl
 first_is rows n high (Some first) [] above inside is same =
     absurd (no_member (by_page 8 0 high (λ p. holding (rows_at rows p))) (record { stage = 8; page = first.page; code = first.code }) same
-    (in_by_page 8 0 high first.page first.code (λ p. holding (rows_at rows p)) (omega arith) (let low : first.page < high = inside_at rows high first.page first.code inside is.1 in omega arith)
+    (in_by_page 8 0 high first.page first.code (λ p. holding (rows_at rows p)) (omega arith)
+    (let low : first.page < high = inside_at rows high first.page first.code inside is.1 in omega arith)
     (is_code rows first.page first.code is.1)))
 first_is rows n high None (fault ∷ faults) above inside is same =
-    let at : IsOfStage 8 0 (0 + high) (λ p. holding (rows_at rows p)) fault = of_by_page 8 0 high (λ p. holding (rows_at rows p)) fault (subst (λ fs. Contains fs fault) (sym same) (first_member fault faults)) in
+    let at : IsOfStage 8 0 (0 + high) (λ p. holding (rows_at rows p)) fault =
+    of_by_page 8 0 high (λ p. holding (rows_at rows p)) fault (subst (λ fs. Contains fs fault) (sym same) (first_member fault faults)) in
     absurd (is fault.page fault.code (of_code rows fault.page fault.code at.is_code))
 first_is rows n high (Some first) (fault ∷ faults) above inside is same =
-    let at : IsOfStage 8 0 (0 + high) (λ p. holding (rows_at rows p)) fault = of_by_page 8 0 high (λ p. holding (rows_at rows p)) fault (subst (λ fs. Contains fs fault) (sym same) (first_member fault faults)) in
+    let at : IsOfStage 8 0 (0 + high) (λ p. holding (rows_at rows p)) fault =
+    of_by_page 8 0 high (λ p. holding (rows_at rows p)) fault (subst (λ fs. Contains fs fault) (sym same) (first_member fault faults)) in
     let holds : HoldsAt rows fault.page fault.code = of_code rows fault.page fault.code at.is_code in
     let back : ComesFirst first (record { stage = 8; page = fault.page; code = fault.code }) = is.2 fault.page fault.code holds in
     let member : Contains (by_page 8 0 high (λ p. holding (rows_at rows p))) (record { stage = 8; page = first.page; code = first.code }) =
-    in_by_page 8 0 high first.page first.code (λ p. holding (rows_at rows p)) (omega arith) (let low : first.page < high = inside_at rows high first.page first.code inside is.1 in omega arith) (is_code rows first.page first.code is.1) in
+    in_by_page 8 0 high first.page first.code (λ p. holding (rows_at rows p)) (omega arith)
+    (let low : first.page < high = inside_at rows high first.page first.code inside is.1 in omega arith) (is_code rows first.page first.code is.1) in
     let front : ComesFirst fault (record { stage = 8; page = first.page; code = first.code }) =
-    by_page_first 8 0 high (λ p. holding (rows_at rows p)) (λ p. holding_least n (rows_at rows p) (rises rows n p above)) fault faults (record { stage = 8; page = first.page; code = first.code }) same member in
+    by_page_first 8 0 high (λ p. holding (rows_at rows p)) (λ p. holding_least n (rows_at rows p) (rises rows n p above)) fault faults
+    (record { stage = 8; page = first.page; code = first.code }) same member in
     ap (λ f. Some f) (same_fault fault first (at.same_stage ∙ sym is.0) front back)
 
 -- the first fault that was noted is the first of the table
-pub first_of_table : (rows : List PageRow) (n high : ℕ) (first : Option Fault) → AreAbove n rows → AreInside high rows → IsFirst rows first → first_fault (by_page 8 0 high (λ p. holding (rows_at rows p))) ≡ first
+pub first_of_table : (rows : List PageRow) (n high : ℕ) (first : Option Fault) → AreAbove n rows → AreInside high rows → IsFirst rows first
+    → first_fault (by_page 8 0 high (λ p. holding (rows_at rows p))) ≡ first
 first_of_table rows n high first above inside is = first_is rows n high first (by_page 8 0 high (λ p. holding (rows_at rows p))) above inside is refl

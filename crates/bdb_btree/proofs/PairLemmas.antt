@@ -1,5 +1,6 @@
 -- What the pairs of a tree keep: what they name is there, and a pair shares its key on its page alone.
-use Rattle.std.proofs.Common.{◌≡◌, ◌⊎◌, ℕ, zero, suc, ◌+◌, ◌*◌, ◌/◌, ◌<◌, ◌≤◌, false, List, [], ◌∷◌, ◌++◌, length, map, arith, refl, sym, ◌∙◌, ap, subst, inl, inr, true≢false}
+use Rattle.std.proofs.Common.{◌≡◌, ◌⊎◌, ℕ, zero, suc, ◌+◌, ◌*◌, ◌/◌, ◌<◌, ◌≤◌, false, List, [], ◌∷◌, ◌++◌, length, map, arith, refl, sym, ◌∙◌, ap}
+use Rattle.std.proofs.Common.{subst, inl, inr, true≢false}
 use Rattle.std.specs.List.{Contains, flat_map, range_with_len}
 use Rattle.std.proofs.lemmas.Option.{slice_get-get_or}
 use Rattle.bdb_format.specs.Contents.{StoredPair, pair_at, pairs_in, pairs_of, tree_pairs}
@@ -30,27 +31,33 @@ pub record IsPairOf (file : File) (p : ℕ) (pair : StoredPair) : Type 0 where
   pub page : pair.page ≡ p
   pub fits : FitsPair file pair
 
-pair_of_leaf : (image : List ℕ) (p : ℕ) (leaf : Listed Item) (pair : StoredPair) → IsForest image → p ≤ (file_of image).last → page_at (file_of image) p ≡ Leaf leaf → Contains (pairs_in (file_of image) p (Leaf leaf)) pair
+pair_of_leaf : (image : List ℕ) (p : ℕ) (leaf : Listed Item) (pair : StoredPair) → IsForest image → p ≤ (file_of image).last
+    → page_at (file_of image) p ≡ Leaf leaf → Contains (pairs_in (file_of image) p (Leaf leaf)) pair
     → IsPairOf (file_of image) p pair
 pair_of_leaf image p leaf pair forest low is at =
     let file : File = file_of image in
     let from : ℕ → StoredPair = pair_at file p leaf (λ i. is_shared_key leaf.offsets (2 * i)) in
-    let found : (i : ℕ) × Contains (range_with_len 0 (length leaf.items / 2)) i × (from i ≡ pair) = of_map from (range_with_len 0 (length leaf.items / 2)) pair at in
+    let found : (i : ℕ) × Contains (range_with_len 0 (length leaf.items / 2)) i × (from i ≡ pair) =
+    of_map from (range_with_len 0 (length leaf.items / 2)) pair at in
     let within : (0 ≤ found.0) × (found.0 < 0 + length leaf.items / 2) = of_range 0 (length leaf.items / 2) found.0 found.1 in
     let below : 2 * found.0 + 1 < length leaf.items = omega arith in
     subst (IsPairOf file p) found.2 (record {
       page = refl;
       fits = record {
-        content = leaf_item_fits image p leaf (2 * found.0 + 1) (item_at leaf (2 * found.0 + 1)) forest low is (slice_get-get_or leaf.items (2 * found.0 + 1) no_item below);
-        set = set_fits file (item_at leaf (2 * found.0 + 1)).content (λ root is_set. leaf_dup_root image p (2 * found.0 + 1) root leaf forest low is below is_set);
+        content = leaf_item_fits image p leaf (2 * found.0 + 1) (item_at leaf (2 * found.0 + 1)) forest low is
+            (slice_get-get_or leaf.items (2 * found.0 + 1) no_item below);
+        set = set_fits file (item_at leaf (2 * found.0 + 1)).content
+            (λ root is_set. leaf_dup_root image p (2 * found.0 + 1) root leaf forest low is below is_set);
       };
     })
 
-pub pair_of_page : (image : List ℕ) (p : ℕ) (pair : StoredPair) → IsForest image → FitsLeafPage (file_of image) p → Contains (pairs_of (file_of image) p) pair → IsPairOf (file_of image) p pair
+pub pair_of_page : (image : List ℕ) (p : ℕ) (pair : StoredPair) → IsForest image → FitsLeafPage (file_of image) p
+    → Contains (pairs_of (file_of image) p) pair → IsPairOf (file_of image) p pair
 unfolding pairs_of
 pair_of_page image p pair forest fits at =
     elim (leaf_pairs image p forest fits) [
-      | inl (leaf, is) ↦ pair_of_leaf image p leaf pair forest (leaf_inside image p fits) is (subst (λ page. Contains (pairs_in (file_of image) p page) pair) is at)
+      | inl (leaf, is) ↦ pair_of_leaf image p leaf pair forest (leaf_inside image p fits) is
+          (subst (λ page. Contains (pairs_in (file_of image) p page) pair) is at)
       | inr none ↦ absurd (no_member (pairs_in (file_of image) p (page_at (file_of image) p)) pair none at)
     ]
 
@@ -59,7 +66,8 @@ pub record IsTreePair (file : File) (pair : StoredPair) : Type 0 where
   pub inside : pair.page ≤ file.last
   pub fits : FitsPair file pair
 
-pub tree_pair : (image : List ℕ) (root : ℕ) (pair : StoredPair) → IsForest image → IsRoot (file_of image) root → Contains (tree_pairs (file_of image) root) pair → IsTreePair (file_of image) pair
+pub tree_pair : (image : List ℕ) (root : ℕ) (pair : StoredPair) → IsForest image → IsRoot (file_of image) root
+    → Contains (tree_pairs (file_of image) root) pair → IsTreePair (file_of image) pair
 unfolding tree_pairs
 tree_pair image root pair forest is at =
     let file : File = file_of image in
@@ -81,11 +89,13 @@ leaf_shares file p leaf (suc n) i q rest begins after = (
   leaf_shares file p leaf n (i + 1) p rest (inr refl) after,
 )
 
-hash_shares : (file : File) (p : ℕ) (page : Listed Item) (is : List ℕ) (q : ℕ) (rest : List StoredPair) → ((r : ℕ) → SharesOnPage r rest) → SharesOnPage q (map (pair_at file p page (λ i. false)) is ++ rest)
+hash_shares : (file : File) (p : ℕ) (page : Listed Item) (is : List ℕ) (q : ℕ) (rest : List StoredPair) → ((r : ℕ) → SharesOnPage r rest)
+    → SharesOnPage q (map (pair_at file p page (λ i. false)) is ++ rest)
 hash_shares file p page [] q rest after = after q
 hash_shares file p page (i ∷ is) q rest after = (λ shares. absurd (true≢false (sym shares)), hash_shares file p page is p rest after)
 
-page_shares : (file : File) (p : ℕ) (page : Page) (q : ℕ) (rest : List StoredPair) → ((r : ℕ) → SharesOnPage r rest) → SharesOnPage q (pairs_in file p page ++ rest)
+page_shares : (file : File) (p : ℕ) (page : Page) (q : ℕ) (rest : List StoredPair) → ((r : ℕ) → SharesOnPage r rest)
+    → SharesOnPage q (pairs_in file p page ++ rest)
 page_shares file p (Leaf leaf) q rest after = leaf_shares file p leaf (length leaf.items / 2) 0 q rest (inl refl) after
 page_shares file p (Hash page) q rest after = hash_shares file p page (range_with_len 0 (length page.items / 2)) q rest after
 page_shares file p page q rest after = after q

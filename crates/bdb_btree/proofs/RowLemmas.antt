@@ -24,7 +24,8 @@ of_rows file sorted passed pairs = record {
   values = fold (λ (values : DataOrder) (pair : StoredPair). cond sorted (next_data file values pair) values) passed.values pairs;
 }
 
-row_by_row : (file : File) (sorted : Bool) (pairs : List StoredPair) (passed : Passed) → fold (next_pair file sorted) passed pairs ≡ of_rows file sorted passed pairs
+row_by_row : (file : File) (sorted : Bool) (pairs : List StoredPair) (passed : Passed)
+    → fold (next_pair file sorted) passed pairs ≡ of_rows file sorted passed pairs
 row_by_row file sorted [] passed = refl
 row_by_row file sorted (pair ∷ pairs) passed = row_by_row file sorted pairs (next_pair file sorted passed pair)
 
@@ -32,7 +33,8 @@ unseen : (pairs : List StoredPair) (values : DataOrder) → fold (λ (values : D
 unseen [] values = refl
 unseen (pair ∷ pairs) values = unseen pairs values
 
-module _ (file : File) (sorted : Bool) (pairs : List StoredPair) (passed : Passed) (all : passed ≡ fold (next_pair file sorted) no_pairs_passed pairs) where
+module _ (file : File) (sorted : Bool) (pairs : List StoredPair) (passed : Passed)
+    (all : passed ≡ fold (next_pair file sorted) no_pairs_passed pairs) where
   rows_are : of_rows file sorted no_pairs_passed pairs ≡ passed
   rows_are = sym (all ∙ row_by_row file sorted pairs no_pairs_passed)
 
@@ -41,15 +43,18 @@ module _ (file : File) (sorted : Bool) (pairs : List StoredPair) (passed : Passe
 
   pub set_row : IsLeastPage passed.wrong_set (has_wrong_set file sorted pairs)
   set_row =
-      subst (λ (rows : Passed). IsLeastPage rows.wrong_set (has_wrong_set file sorted pairs)) rows_are (note_all page_of (λ (pair : StoredPair). is_wrong_set file sorted pair.data_item) pairs)
+      subst (λ (rows : Passed). IsLeastPage rows.wrong_set (has_wrong_set file sorted pairs)) rows_are
+      (note_all page_of (λ (pair : StoredPair). is_wrong_set file sorted pair.data_item) pairs)
 
   pub order_row : IsLeastPage passed.keys.least (has_wrong_order pairs)
   order_row = subst (λ (rows : Passed). IsLeastPage rows.keys.least (has_wrong_order pairs)) rows_are (keys_in_order pairs)
 
-pub data_row : (file : File) (sorted : Bool) (root : ℕ) (passed : Passed) → passed ≡ fold (next_pair file sorted) no_pairs_passed (tree_pairs file root)
+pub data_row : (file : File) (sorted : Bool) (root : ℕ) (passed : Passed)
+    → passed ≡ fold (next_pair file sorted) no_pairs_passed (tree_pairs file root)
     → IsLeastPage passed.values.least (λ p. sorted && has_unsorted file (tree_pairs file root) p)
 data_row file true root passed all =
-    subst (λ (rows : Passed). IsLeastPage rows.values.least (has_unsorted file (tree_pairs file root))) (rows_are file true (tree_pairs file root) passed all)
+    subst (λ (rows : Passed). IsLeastPage rows.values.least (has_unsorted file (tree_pairs file root)))
+    (rows_are file true (tree_pairs file root) passed all)
     (data_in_order file (tree_pairs file root) (tree_shares file root))
 data_row file false root passed all =
     subst (λ (rows : Passed). IsLeastPage rows.values.least (λ p. false)) (rows_are file false (tree_pairs file root) passed all)
@@ -57,5 +62,7 @@ data_row file false root passed all =
 
 -- What pairs name.
 
-pub tree_pairs_fit : (image : List ℕ) (root : ℕ) → IsForest image → FitsTreeRoot (file_of image) root → AreFit (file_of image) (tree_pairs (file_of image) root)
-tree_pairs_fit image root forest fits = each_of (FitsPair (file_of image)) (tree_pairs (file_of image) root) (λ pair at. (tree_pair image root pair forest (inl fits) at).fits)
+pub tree_pairs_fit : (image : List ℕ) (root : ℕ) → IsForest image → FitsTreeRoot (file_of image) root
+    → AreFit (file_of image) (tree_pairs (file_of image) root)
+tree_pairs_fit image root forest fits =
+    each_of (FitsPair (file_of image)) (tree_pairs (file_of image) root) (λ pair at. (tree_pair image root pair forest (inl fits) at).fits)

@@ -1,6 +1,7 @@
 -- Pages and items seen one after another.
-use Rattle.std.proofs.Common.{◌≡◌, ℕ, zero, suc, ◌+◌, ◌<◌, ◌≤◌, Bool, true, false, List, [], ◌∷◌, length, map, get_or, take, Some, None, arith, refl, sym, ◌∙◌, ap, subst, add-one}
-use Rattle.std.specs.Prelude.{◌==◌}
+use Rattle.std.proofs.Common.{◌≡◌, ℕ, zero, suc, ◌+◌, ◌<◌, ◌≤◌, Bool, true, false, List, [], ◌∷◌, length, map, get_or, take, Some, None, arith, refl}
+use Rattle.std.proofs.Common.{sym, ◌∙◌, ap, subst, add-one}
+use Rattle.std.specs.Prelude.{◌==◌, Option}
 use Rattle.std.specs.List.{Contains, flat_map, fold, slice_get}
 use Rattle.std.proofs.lemmas.Bool.{ne_eqb}
 use Rattle.std.proofs.lemmas.List.{take_all, take_more}
@@ -24,35 +25,40 @@ use Rattle.bdb_tree.proofs.TreeLemmas.{child_is, leaf_fits}
 
 -- Lists of items and of pages.
 
-pub fold_end : {S : Type 0} (f : S → ℕ → S) (start : S) (xs : List ℕ) (i : ℕ) → length xs ≤ i → fold f start (take i xs) ≡ fold f start xs
-fold_end f start xs i end = ap (fold f start) (take_all i xs end)
-
 -- one more item
-pub fold_more : {S A : Type 0} (f : S → A → S) (start : S) (items : List A) (i : ℕ) (item : A) → slice_get items i ≡ Some item → fold f start (take (i + 1) items) ≡ f (fold f start (take i items)) item
+pub fold_more : {S A : Type 0} (f : S → A → S) (start : S) (items : List A) (i : ℕ) (item : A) → slice_get items i ≡ Some item
+    → fold f start (take (i + 1) items) ≡ f (fold f start (take i items)) item
 fold_more f start items i item at =
     let found = got items i item item at in
     ap (fold f start) (take_more items i item found.0) ∙ (fold-append f start (take i items) _ ∙ ap (f (fold f start (take i items))) found.1)
 
 -- the pages that were noted are those at which a test holds
-pub noted_pages : (file : File) (test : Page → Bool) (pages : List ℕ) → IsLeastPage (fold (noting (λ (p : ℕ). p) (λ p. test (page_at file p))) None pages) (is_wrong_at file test pages)
-noted_pages file test pages = note_all (λ (p : ℕ). p) (λ p. test (page_at file p)) pages
+pub all_noted : (file : File) (test : Page → Bool) (pages : List ℕ) (i : ℕ) (least : Option ℕ)
+    → least ≡ fold (noting (λ (p : ℕ). p) (λ p. test (page_at file p))) None (take i pages) → length pages ≤ i
+    → IsLeastPage least (is_wrong_at file test pages)
+all_noted file test pages i least is end = rw (is, take_all i pages end) (note_all (λ (p : ℕ). p) (λ p. test (page_at file p)) pages)
 
 -- Keys below an item.
 
 pages_under : (file : File) (ps : List ℕ) (bounds : Bounds) → fold (under_page file) bounds ps ≡ fold under_pair bounds (flat_map (pairs_of file) ps)
 pages_under file [] bounds = refl
-pages_under file (p ∷ ps) bounds = pages_under file ps (under_page file bounds p) ∙ sym (fold-append under_pair bounds (pairs_of file p) (flat_map (pairs_of file) ps))
+pages_under file (p ∷ ps) bounds =
+    pages_under file ps (under_page file bounds p) ∙ sym (fold-append under_pair bounds (pairs_of file p) (flat_map (pairs_of file) ps))
 
-pub tree_under : (file : File) (child : ℕ) (bounds : Bounds) → fold (under_page file) bounds (leaves file child) ≡ fold under_pair bounds (tree_pairs file child)
+pub tree_under : (file : File) (child : ℕ) (bounds : Bounds) (pages : List ℕ) (i : ℕ) → pages ≡ leaves file child → length pages ≤ i
+    → fold (under_page file) bounds (take i pages) ≡ fold under_pair bounds (tree_pairs file child)
 unfolding tree_pairs
-tree_under file child bounds = pages_under file (leaves file child) bounds
+tree_under file child bounds pages i are end = rw (take_all i pages end, are) (pages_under file (leaves file child) bounds)
 
-pub leaf_at : (image : List ℕ) (child : ℕ) (items : List ℕ) (i : ℕ) → IsForest image → IsTreePage (file_of image) child → items ≡ leaves (file_of image) child → i < length items → FitsLeafPage (file_of image) (get_or items i 0)
-leaf_at image child items i forest tree are low = leaf_fits image child (get_or items i 0) forest tree (subst (λ ps. Contains ps (get_or items i 0)) are (Contains-get_or items i 0 low))
+pub leaf_at : (image : List ℕ) (child : ℕ) (items : List ℕ) (i : ℕ) → IsForest image → IsTreePage (file_of image) child
+    → items ≡ leaves (file_of image) child → i < length items → FitsLeafPage (file_of image) (get_or items i 0)
+leaf_at image child items i forest tree are low =
+    leaf_fits image child (get_or items i 0) forest tree (subst (λ ps. Contains ps (get_or items i 0)) are (Contains-get_or items i 0 low))
 
 -- Items.
 
-tail_at : (item other : InternalItem) (items : List InternalItem) (i : ℕ) → slice_get (other ∷ items) (suc i) ≡ Some item → slice_get items i ≡ Some item
+tail_at : (item other : InternalItem) (items : List InternalItem) (i : ℕ) → slice_get (other ∷ items) (suc i) ≡ Some item
+    → slice_get items i ≡ Some item
 tail_at item other items i at = at
 
 pub items_more : (file : File) (bounds : Bounds) (items : List InternalItem) (i : ℕ) (item : InternalItem) → slice_get items i ≡ Some item
@@ -67,7 +73,8 @@ items_more file bounds (first ∷ items) (suc i) item at =
     ∙ ap (λ b. see_item file b (fold (see_item file false) (see_item file true bounds first) (take i items)) item) (sym later)))
 
 -- what the items of an internal page name is there
-pub items_fit : (image : List ℕ) (p : ℕ) (page : Listed InternalItem) → IsForest image → p ≤ (file_of image).last → page_at (file_of image) p ≡ Internal page → ItemsFit (file_of image) page.items
+pub items_fit : (image : List ℕ) (p : ℕ) (page : Listed InternalItem) → IsForest image → p ≤ (file_of image).last
+    → page_at (file_of image) p ≡ Internal page → ItemsFit (file_of image) page.items
 items_fit image p page forest low is i item at =
     let found = got page.items i item item at in
     let member : Contains page.items item = (i, found.0, found.1) in
@@ -80,19 +87,23 @@ items_fit image p page forest low is i item at =
 
 -- What is kept is that of the page's separators.
 
-pairs_under : (pairs : List StoredPair) (bounds : Bounds) → fold under_pair bounds pairs ≡ fold under bounds (map (λ (pair : StoredPair). pair.key) pairs)
+pairs_under : (pairs : List StoredPair) (bounds : Bounds)
+    → fold under_pair bounds pairs ≡ fold under bounds (map (λ (pair : StoredPair). pair.key) pairs)
 pairs_under [] bounds = refl
 pairs_under (pair ∷ pairs) bounds = pairs_under pairs (under bounds pair.key)
 
-items_past : (file : File) (items : List InternalItem) (bounds : Bounds) → fold (see_item file false) bounds items ≡ fold past bounds (map (separated file) items)
+items_past : (file : File) (items : List InternalItem) (bounds : Bounds)
+    → fold (see_item file false) bounds items ≡ fold past bounds (map (separated file) items)
 items_past file [] bounds = refl
 items_past file (item ∷ items) bounds =
-    items_past file items (see_item file false bounds item) ∙ ap (λ b. fold past b (map (separated file) items)) (pairs_under (tree_pairs file item.child) (beyond bounds (value_of file item.key)))
+    items_past file items (see_item file false bounds item)
+    ∙ ap (λ b. fold past b (map (separated file) items)) (pairs_under (tree_pairs file item.child) (beyond bounds (value_of file item.key)))
 
 page_bounds : (file : File) (items : List InternalItem) → see_items file no_bounds items ≡ bounds_of (map (separated file) items)
 page_bounds file [] = refl
 page_bounds file (item ∷ items) =
-    items_past file items (see_item file true no_bounds item) ∙ ap (λ b. fold past b (map (separated file) items)) (pairs_under (tree_pairs file item.child) no_bounds)
+    items_past file items (see_item file true no_bounds item)
+    ∙ ap (λ b. fold past b (map (separated file) items)) (pairs_under (tree_pairs file item.child) no_bounds)
 
 pub page_wrong : (file : File) (page : Listed InternalItem) → (see_items file no_bounds page.items).wrong ≡ has_wrong_separator file (Internal page)
 page_wrong file page = ap (λ (b : Bounds). b.wrong) (page_bounds file page.items) ∙ wrong_separators (map (separated file) page.items)

@@ -1,5 +1,6 @@
 -- An internal page gone through once: what is kept decides its separators.
-use Rattle.std.proofs.Common.{◌≡◌, ℕ, zero, suc, ◌+◌, ◌*◌, ◌-◌, ◌/◌, ◌<◌, ◌≤◌, Bool, true, false, not, cond, List, [], ◌∷◌, ◌++◌, length, map, get_or, take, drop, Option, Some, None, arith, refl, sym, ◌∙◌, ap, subst, inl, inr, append-nil}
+use Rattle.std.proofs.Common.{◌≡◌, ℕ, zero, suc, ◌+◌, ◌*◌, ◌-◌, ◌/◌, ◌<◌, ◌≤◌, Bool, true, false, not, cond, List, [], ◌∷◌, ◌++◌, length, map, get_or}
+use Rattle.std.proofs.Common.{take, drop, Option, Some, None, arith, refl, sym, ◌∙◌, ap, subst, inl, inr, append-nil}
 use Rattle.std.specs.Prelude.{◌&&◌, ◌||◌, nat_le}
 use Rattle.std.specs.List.{flat_map, fold, list_any, range_with_len}
 use Rattle.std.proofs.lemmas.Bool.{le-leb, false_from_ne_true, true≢false}
@@ -38,7 +39,8 @@ under_wrong (key ∷ keys) bounds =
     under_wrong keys (under bounds key) ∙ or_assoc bounds.wrong (is_below bounds.separator key) (list_any (is_below bounds.separator) keys)
 
 -- a key isn't above the greater of two where it isn't above one of them
-greater_step : (bound value key : List ℕ) (b : Bool) → less bound value ≡ b → is_not_above (cond b (Some value) (Some bound)) key ≡ (not (less bound key) || not (less value key))
+greater_step : (bound value key : List ℕ) (b : Bool) → less bound value ≡ b
+    → is_not_above (cond b (Some value) (Some bound)) key ≡ (not (less bound key) || not (less value key))
 greater_step bound value key true same = grind (arith, nat_tests, less_trans bound value key)
 greater_step bound value key false same = grind (arith, nat_tests, below_less value bound key)
 
@@ -56,16 +58,19 @@ not_above_greater (other ∷ keys) (Some bound) key =
 greater_two : (low high : List ℕ) → less high low ≡ false → greater_of (Some low) high ≡ Some high
 greater_two low high up = grind (arith, nat_tests, same_unless_less low high)
 
-greater_skip : (greatest : Option (List ℕ)) (low high : List ℕ) → less high low ≡ false → greater_of (greater_of greatest low) high ≡ greater_of greatest high
+greater_skip : (greatest : Option (List ℕ)) (low high : List ℕ) → less high low ≡ false
+    → greater_of (greater_of greatest low) high ≡ greater_of greatest high
 greater_skip None low high up = greater_two low high up
 greater_skip (Some bound) low high up = grind (arith, nat_tests, less_above bound low high, greater_two low high up)
 
-below_skip : (bound : Option (List ℕ)) (wrong : Bool) (low high : List ℕ) → less high low ≡ false → ((wrong || is_below bound low) || is_below bound high) ≡ (wrong || is_below bound low)
+below_skip : (bound : Option (List ℕ)) (wrong : Bool) (low high : List ℕ) → less high low ≡ false
+    → ((wrong || is_below bound low) || is_below bound high) ≡ (wrong || is_below bound low)
 below_skip None wrong low high up = or-false (wrong || false)
 below_skip (Some bound) wrong low high up = grind (arith, nat_tests, below_less low high bound)
 
 under_again : (bounds : Bounds) (key : List ℕ) → under (under bounds key) key ≡ under bounds key
-under_again bounds key = rw (greater_skip bounds.greatest key key (less_self key), below_skip bounds.separator bounds.wrong key key (less_self key)) refl
+under_again bounds key =
+    rw (greater_skip bounds.greatest key key (less_self key), below_skip bounds.separator bounds.wrong key key (less_self key)) refl
 
 under_skip : (bounds : Bounds) (low key high : List ℕ) → less key low ≡ false → less high key ≡ false
     → under (under (under bounds low) key) high ≡ under (under bounds low) high
@@ -75,7 +80,8 @@ under_skip bounds low key high above below =
 ends_bound : (pair_of : ℕ → StoredPair) (m i last : ℕ) (bounds : Bounds) → i + m ≡ last → DontFall (map pair_of (range_with_len i (suc m)))
     → fold under_pair bounds (map pair_of (range_with_len i (suc m))) ≡ under (under bounds (pair_of i).key) (pair_of last).key
 ends_bound pair_of zero i last bounds is fall =
-    let same : i ≡ last = omega arith in sym (ap (λ j. under (under bounds (pair_of i).key) (pair_of j).key) (sym same) ∙ under_again bounds (pair_of i).key)
+    let same : i ≡ last =
+    omega arith in sym (ap (λ j. under (under bounds (pair_of i).key) (pair_of j).key) (sym same) ∙ under_again bounds (pair_of i).key)
 ends_bound pair_of (suc m) i last bounds is fall =
     let next : StoredPair = pair_of (i + 1) in
     let later : List StoredPair = map pair_of (range_with_len (i + 1 + 1) m) in
@@ -87,19 +93,23 @@ ends_bound pair_of (suc m) i last bounds is fall =
       | inr after ↦ fall.1.0 (pair_of last) after
     ])
 
-pub no_ends : (file : File) (p n : ℕ) (leaf : Listed Item) (bounds : Bounds) → Leaf leaf ≡ page_at file p → 2 * n ≡ length leaf.items → n ≡ 0 → bounds ≡ fold under_pair bounds (pairs_of file p)
+pub no_ends : (file : File) (p n : ℕ) (leaf : Listed Item) (bounds : Bounds) → Leaf leaf ≡ page_at file p → 2 * n ≡ length leaf.items → n ≡ 0
+    → bounds ≡ fold under_pair bounds (pairs_of file p)
 no_ends file p n leaf bounds is count none =
     let empty : length leaf.items / 2 ≡ 0 = omega arith in
-    sym (ap (fold under_pair bounds) (sym (all_pairs file p leaf is) ∙ ap (λ k. map (pair_at file p leaf (λ j. is_shared_key leaf.offsets (2 * j))) (range_with_len 0 k)) empty))
+    sym (ap (fold under_pair bounds) (sym (all_pairs file p leaf is)
+    ∙ ap (λ k. map (pair_at file p leaf (λ j. is_shared_key leaf.offsets (2 * j))) (range_with_len 0 k)) empty))
 
 -- those of a leaf that has pairs
-pub leaf_ends : (file : File) (p n : ℕ) (leaf : Listed Item) (bounds : Bounds) (first last : List ℕ) → Leaf leaf ≡ page_at file p → 2 * n ≡ length leaf.items → 0 < n → DontFall (pairs_of file p)
+pub leaf_ends : (file : File) (p n : ℕ) (leaf : Listed Item) (bounds : Bounds) (first last : List ℕ) → Leaf leaf ≡ page_at file p
+    → 2 * n ≡ length leaf.items → 0 < n → DontFall (pairs_of file p)
     → first ≡ value_of file (item_at leaf 0).content → last ≡ value_of file (item_at leaf (2 * (n - 1))).content
     → under (under bounds first) last ≡ fold under_pair bounds (pairs_of file p)
 leaf_ends file p n leaf bounds first last is count some fall first_is last_is =
     let pair_of : ℕ → StoredPair = pair_at file p leaf (λ j. is_shared_key leaf.offsets (2 * j)) in
     let more : suc (n - 1) ≡ length leaf.items / 2 = omega arith in
-    let are : map pair_of (range_with_len 0 (suc (n - 1))) ≡ pairs_of file p = ap (λ k. map pair_of (range_with_len 0 k)) more ∙ all_pairs file p leaf is in
+    let are : map pair_of (range_with_len 0 (suc (n - 1))) ≡ pairs_of file p =
+    ap (λ k. map pair_of (range_with_len 0 k)) more ∙ all_pairs file p leaf is in
     ap (λ key. under (under bounds key) last) first_is
     ∙ (ap (under (under bounds (pair_of 0).key)) last_is
     ∙ (sym (ends_bound pair_of (n - 1) 0 (n - 1) bounds (omega arith) (subst DontFall (sym are) fall)) ∙ ap (fold under_pair bounds) are))
@@ -137,11 +147,14 @@ not_above_if : (b : Bool) (before key : List ℕ) → is_not_above (cond b (Some
 not_above_if true before key = refl
 not_above_if false before key = refl
 
-past_wrong : (parts : List Separated) (n : ℕ) (bounds : Bounds) → IsKept parts n bounds → (past bounds (part_at parts n)).wrong ≡ (bounds.wrong || breaks_here parts n)
+past_wrong : (parts : List Separated) (n : ℕ) (bounds : Bounds) → IsKept parts n bounds
+    → (past bounds (part_at parts n)).wrong ≡ (bounds.wrong || breaks_here parts n)
 past_wrong parts n bounds kept =
     let part : Separated = part_at parts n in
-    let first : is_not_above bounds.separator part.key ≡ is_before parts n = ap (λ b. is_not_above b part.key) kept.separator ∙ not_above_if (nat_le 2 n) (key_at parts (n - 1)) part.key in
-    let third : is_not_above bounds.greatest part.key ≡ is_reached parts n = ap (λ b. is_not_above b part.key) kept.greatest ∙ not_above_greater (keys_below (take n parts)) None part.key in
+    let first : is_not_above bounds.separator part.key ≡ is_before parts n =
+    ap (λ b. is_not_above b part.key) kept.separator ∙ not_above_if (nat_le 2 n) (key_at parts (n - 1)) part.key in
+    let third : is_not_above bounds.greatest part.key ≡ is_reached parts n =
+    ap (λ b. is_not_above b part.key) kept.greatest ∙ not_above_greater (keys_below (take n parts)) None part.key in
     under_wrong part.below (beyond bounds part.key)
     ∙ (ap (λ b. (bounds.wrong || (b || is_not_above bounds.greatest part.key)) || is_above_key parts n) first
     ∙ (ap (λ b. (bounds.wrong || (is_before parts n || b)) || is_above_key parts n) third
@@ -150,17 +163,21 @@ past_wrong parts n bounds kept =
 one_part : (part : Separated) → keys_below (part ∷ []) ≡ part.below
 one_part part = append-nil part.below
 
-keys_more : (parts : List Separated) (n : ℕ) → n < length parts → keys_below (take (n + 1) parts) ≡ keys_below (take n parts) ++ (part_at parts n).below
+keys_more : (parts : List Separated) (n : ℕ) → n < length parts
+    → keys_below (take (n + 1) parts) ≡ keys_below (take n parts) ++ (part_at parts n).below
 keys_more parts n low =
     ap keys_below (take_more parts n no_separator low)
-    ∙ (flat_map-append (λ (part : Separated). part.below) (take n parts) (part_at parts n ∷ []) ∙ ap (λ ks. keys_below (take n parts) ++ ks) (one_part (part_at parts n)))
+    ∙ (flat_map-append (λ (part : Separated). part.below) (take n parts) (part_at parts n ∷ [])
+    ∙ ap (λ ks. keys_below (take n parts) ++ ks) (one_part (part_at parts n)))
 
-kept_more : (parts : List Separated) (n : ℕ) (bounds : Bounds) → 1 ≤ n → n < length parts → IsKept parts n bounds → IsKept parts (n + 1) (past bounds (part_at parts n))
+kept_more : (parts : List Separated) (n : ℕ) (bounds : Bounds) → 1 ≤ n → n < length parts → IsKept parts n bounds
+    → IsKept parts (n + 1) (past bounds (part_at parts n))
 kept_more parts n bounds some low kept =
     let part : Separated = part_at parts n in
     let before : n + 1 - 1 ≡ n = omega arith in
     record {
-      separator = under_separator part.below (beyond bounds part.key) ∙ sym (ap (λ b. cond b (Some (key_at parts (n + 1 - 1))) None) (le-leb 2 (n + 1) (omega arith)) ∙ ap (λ i. Some (key_at parts i)) before);
+      separator = under_separator part.below (beyond bounds part.key)
+          ∙ sym (ap (λ b. cond b (Some (key_at parts (n + 1 - 1))) None) (le-leb 2 (n + 1) (omega arith)) ∙ ap (λ i. Some (key_at parts i)) before);
       greatest =
           under_greatest part.below (beyond bounds part.key)
           ∙ (ap (λ g. fold greater_of g part.below) kept.greatest
@@ -188,7 +205,8 @@ wrong_here (part ∷ parts) =
       separator = under_separator part.below no_bounds;
       greatest = under_greatest part.below no_bounds ∙ ap (fold greater_of None) (sym (one_part part));
     })
-    ∙ ap (λ b. b || list_any (breaks_here (part ∷ parts)) (range_with_len 1 (length (part ∷ parts) - 1))) (under_wrong part.below no_bounds ∙ none_below part.below))
+    ∙ ap (λ b. b || list_any (breaks_here (part ∷ parts)) (range_with_len 1 (length (part ∷ parts) - 1)))
+    (under_wrong part.below no_bounds ∙ none_below part.below))
   where
     none_below : (keys : List (List ℕ)) → list_any (is_below None) keys ≡ false
     none_below [] = refl
@@ -199,7 +217,8 @@ wrong_here (part ∷ parts) =
 
 -- Looking below one item alone finds what looking below all later ones does, since the keys of the items rise.
 
-none_of_append : (test : List ℕ → Bool) (xs ys : List (List ℕ)) → list_any test xs ≡ false → list_any test ys ≡ false → list_any test (xs ++ ys) ≡ false
+none_of_append : (test : List ℕ → Bool) (xs ys : List (List ℕ)) → list_any test xs ≡ false → list_any test ys ≡ false
+    → list_any test (xs ++ ys) ≡ false
 none_of_append test [] ys first second = second
 none_of_append test (x ∷ xs) ys first second = grind (arith, nat_tests, none_of_append test xs ys)
 
@@ -208,7 +227,8 @@ none_of_first test [] ys none = refl
 none_of_first test (x ∷ xs) ys none = grind (arith, nat_tests, none_of_first test xs ys)
 
 -- keys that aren't less than one key aren't less than a lesser one
-none_lower : (low high : List ℕ) (keys : List (List ℕ)) → less high low ≡ false → list_any (λ other. less other high) keys ≡ false → list_any (λ other. less other low) keys ≡ false
+none_lower : (low high : List ℕ) (keys : List (List ℕ)) → less high low ≡ false → list_any (λ other. less other high) keys ≡ false
+    → list_any (λ other. less other low) keys ≡ false
 none_lower low high [] up none = refl
 none_lower low high (key ∷ keys) up none = grind (arith, nat_tests, less_above key low high, none_lower low high keys)
 
@@ -228,18 +248,23 @@ less_if : (b a : Bool) → b ≡ true → (b && not a) ≡ false → a ≡ true
 less_if b a is none = grind (arith, nat_tests)
 
 keys_rise : (parts : List Separated) (i d : ℕ) → NoneHere parts → 1 ≤ i → i + d < length parts → less (key_at parts (i + d)) (key_at parts i) ≡ false
-keys_rise parts i zero none some low = let same : i + 0 ≡ i = omega arith in ap (λ n. less (key_at parts n) (key_at parts i)) same ∙ less_self (key_at parts i)
+keys_rise parts i zero none some low =
+    let same : i + 0 ≡ i = omega arith in ap (λ n. less (key_at parts n) (key_at parts i)) same ∙ less_self (key_at parts i)
 keys_rise parts i (suc d) none some low =
     let sound : IsSound parts (i + suc d) = sound_at parts (i + suc d) (none (i + suc d) (omega arith) low) in
     let back : i + suc d - 1 ≡ i + d = omega arith in
     let rises : Less (key_at parts (i + d)) (key_at parts (i + suc d)) =
     ap (λ n. less (key_at parts n) (key_at parts (i + suc d))) (sym back)
-    ∙ less_if (nat_le 2 (i + suc d)) (less (key_at parts (i + suc d - 1)) (key_at parts (i + suc d))) (le-leb 2 (i + suc d) (omega arith)) sound.before in
+    ∙ less_if (nat_le 2 (i + suc d)) (less (key_at parts (i + suc d - 1)) (key_at parts (i + suc d)))
+    (le-leb 2 (i + suc d) (omega arith)) sound.before in
     false_from_ne_true (less (key_at parts (i + suc d)) (key_at parts i)) (λ is.
-    true≢false (sym (less_trans (key_at parts (i + d)) (key_at parts (i + suc d)) (key_at parts i) rises is) ∙ keys_rise parts i d none some (omega arith)))
+    true≢false (sym (less_trans (key_at parts (i + d)) (key_at parts (i + suc d)) (key_at parts i) rises is)
+    ∙ keys_rise parts i d none some (omega arith)))
 
-none_later : (parts : List Separated) (i m n : ℕ) → NoneHere parts → 1 ≤ i → i ≤ n → n + m ≡ length parts → list_any (λ other. less other (key_at parts i)) (keys_below (drop n parts)) ≡ false
-none_later parts i zero n none some up all = ap (λ ps. list_any (λ other. less other (key_at parts i)) (keys_below ps)) (drop_all n parts (omega arith))
+none_later : (parts : List Separated) (i m n : ℕ) → NoneHere parts → 1 ≤ i → i ≤ n → n + m ≡ length parts
+    → list_any (λ other. less other (key_at parts i)) (keys_below (drop n parts)) ≡ false
+none_later parts i zero n none some up all =
+    ap (λ ps. list_any (λ other. less other (key_at parts i)) (keys_below ps)) (drop_all n parts (omega arith))
 none_later parts i (suc m) n none some up all =
     let test : List ℕ → Bool = λ other. less other (key_at parts i) in
     let gap : i + (n - i) ≡ n = omega arith in
@@ -253,14 +278,17 @@ none_later parts i (suc m) n none some up all =
 breaks_none : (parts : List Separated) → NoneHere parts → (i : ℕ) → 1 ≤ i → i < length parts → breaks parts i ≡ false
 breaks_none parts none i some low =
     let sound : IsSound parts i = sound_at parts i (none i some low) in
-    let later : list_any (λ other. less other (key_at parts i)) (keys_below (drop i parts)) ≡ false = none_later parts i (length parts - i) i none some (omega arith) (omega arith) in
+    let later : list_any (λ other. less other (key_at parts i)) (keys_below (drop i parts)) ≡ false =
+    none_later parts i (length parts - i) i none some (omega arith) (omega arith) in
     grind (arith, nat_tests, later, sound.before, sound.reached)
 
 here_none : (parts : List Separated) (i : ℕ) → i < length parts → breaks parts i ≡ false → breaks_here parts i ≡ false
 here_none parts i low none =
     let test : List ℕ → Bool = λ other. less other (key_at parts i) in
     let later : list_any test (keys_below (drop i parts)) ≡ false = grind (arith, nat_tests) in
-    let above : is_above_key parts i ≡ false = none_of_first test (part_at parts i).below (keys_below (drop (i + 1) parts)) (ap (λ ps. list_any test (keys_below ps)) (sym (drop_more parts i no_separator low)) ∙ later) in
+    let above : is_above_key parts i ≡ false =
+    none_of_first test (part_at parts i).below (keys_below (drop (i + 1) parts))
+    (ap (λ ps. list_any test (keys_below ps)) (sym (drop_more parts i no_separator low)) ∙ later) in
     grind (arith, nat_tests, above)
 
 -- two answers that are false together are the same
@@ -278,7 +306,8 @@ wrong_separators parts =
     (λ none.
     none_pass (breaks parts) (range_with_len 1 (length parts - 1)) (λ i at.
     let inside : (1 ≤ i) × (i < 1 + (length parts - 1)) = of_range 1 (length parts - 1) i at in
-    breaks_none parts (λ j some low. none_passes (breaks_here parts) (range_with_len 1 (length parts - 1)) j none (in_range 1 (length parts - 1) j some (omega arith))) i inside.0 (within parts i inside.0 inside.1)))
+    breaks_none parts (λ j some low. none_passes (breaks_here parts) (range_with_len 1 (length parts - 1)) j none
+    (in_range 1 (length parts - 1) j some (omega arith))) i inside.0 (within parts i inside.0 inside.1)))
     (λ none.
     none_pass (breaks_here parts) (range_with_len 1 (length parts - 1)) (λ i at.
     let inside : (1 ≤ i) × (i < 1 + (length parts - 1)) = of_range 1 (length parts - 1) i at in

@@ -1,5 +1,6 @@
 -- The pairs of a leaf, and those of a tree, one after another.
-use Rattle.std.proofs.Common.{◌≡◌, ◌⊎◌, ℕ, zero, suc, ◌+◌, ◌*◌, ◌-◌, ◌/◌, ◌<◌, true, List, [], ◌∷◌, ◌++◌, length, map, Option, arith, refl, sym, ◌∙◌, ap, inl, inr}
+use Rattle.std.proofs.Common.{◌≡◌, ◌⊎◌, ℕ, zero, suc, ◌+◌, ◌*◌, ◌-◌, ◌/◌, ◌<◌, true, List, [], ◌∷◌, ◌++◌, length, map, Option, arith, refl, sym, ◌∙◌}
+use Rattle.std.proofs.Common.{ap, inl, inr}
 use Rattle.std.specs.List.{Contains, flat_map, range_with_len}
 use Rattle.std.proofs.lemmas.Option.{slice_get-get_or}
 use Rattle.std.proofs.lemmas.Simd.{map-map}
@@ -34,33 +35,45 @@ unfolding pairs_of
 all_pairs file p leaf is = ap (pairs_in file p) is
 
 -- as its view gives them
-pub view_pairs : (file : File) (p : ℕ) (leaf : Listed Item) → Leaf leaf ≡ page_at file p → map (stored_pair file p) (pairs_from no_item true leaf 0) ≡ pairs_of file p
+pub view_pairs : (file : File) (p : ℕ) (leaf : Listed Item) → Leaf leaf ≡ page_at file p
+    → map (stored_pair file p) (pairs_from no_item true leaf 0) ≡ pairs_of file p
 view_pairs file p leaf is =
     let whole : length leaf.items / 2 - 0 ≡ length leaf.items / 2 = omega arith in
     map-map (stored_pair file p) (pair_of no_item true leaf) (range_with_len 0 (length leaf.items / 2 - 0))
     ∙ ap (λ n. map (pair_at file p leaf (λ j. is_shared_key leaf.offsets (2 * j))) (range_with_len 0 n)) whole ∙ all_pairs file p leaf is
 
-keys_from : (file : File) (leaf : Listed Item) (n i : ℕ) → ((j : ℕ) → j < i + n → FitsContent file (item_at leaf (2 * j)).content) → KeysFit file (map (pair_of no_item true leaf) (range_with_len i n))
+keys_from : (file : File) (leaf : Listed Item) (n i : ℕ) → ((j : ℕ) → j < i + n → FitsContent file (item_at leaf (2 * j)).content)
+    → KeysFit file (map (pair_of no_item true leaf) (range_with_len i n))
 keys_from file leaf zero i fits = tt
 keys_from file leaf (suc n) i fits = (fits i (omega arith), keys_from file leaf n (i + 1) (λ j low. fits j (omega arith)))
 
-pub keys_fit : (image : List ℕ) (p : ℕ) (leaf : Listed Item) → IsForest image → FitsLeafPage (file_of image) p → Leaf leaf ≡ page_at (file_of image) p → KeysFit (file_of image) (pairs_from no_item true leaf 0)
+pub keys_fit : (image : List ℕ) (p : ℕ) (leaf : Listed Item) → IsForest image → FitsLeafPage (file_of image) p → Leaf leaf ≡ page_at (file_of image) p
+    → KeysFit (file_of image) (pairs_from no_item true leaf 0)
 keys_fit image p leaf forest fits is =
     keys_from (file_of image) leaf (length leaf.items / 2 - 0) 0 (λ j low.
-    leaf_item_fits image p leaf (2 * j) (item_at leaf (2 * j)) forest (leaf_inside image p fits) (sym is) (slice_get-get_or leaf.items (2 * j) no_item (omega arith)))
+    leaf_item_fits image p leaf (2 * j) (item_at leaf (2 * j)) forest (leaf_inside image p fits) (sym is)
+    (slice_get-get_or leaf.items (2 * j) no_item (omega arith)))
 
 -- a leaf has pairs, or none
-pub leaf_pairs : (image : List ℕ) (p : ℕ) → IsForest image → FitsLeafPage (file_of image) p → ((leaf : Listed Item) × (page_at (file_of image) p ≡ Leaf leaf)) ⊎ (pairs_in (file_of image) p (page_at (file_of image) p) ≡ [])
+pub leaf_pairs : (image : List ℕ) (p : ℕ) → IsForest image → FitsLeafPage (file_of image) p
+    → ((leaf : Listed Item) × (page_at (file_of image) p ≡ Leaf leaf)) ⊎ (pairs_in (file_of image) p (page_at (file_of image) p) ≡ [])
 leaf_pairs image p forest fits =
     let file : File = file_of image in
-    of_type (λ type. type_in (page_at file p) ≡ type → ((leaf : Listed Item) × (page_at file p ≡ Leaf leaf)) ⊎ (pairs_in file p (page_at file p) ≡ [])) (5 ∷ 6 ∷ 12 ∷ []) (type_in (page_at file p))
-    (λ is. inl (leaf_page image p forest is), (λ is. inr (ap (pairs_in file p) (recno_leaf_page image p forest is).1), (λ is. inr (ap (pairs_in file p) (dup_leaf_page image p forest is).1), tt))) fits refl
+    of_type (λ type. type_in (page_at file p) ≡ type
+    → ((leaf : Listed Item) × (page_at file p ≡ Leaf leaf)) ⊎ (pairs_in file p (page_at file p) ≡ [])) (5 ∷ 6 ∷ 12 ∷ []) (type_in (page_at file p)) (
+      λ is. inl (leaf_page image p forest is),
+      (
+        λ is. inr (ap (pairs_in file p) (recno_leaf_page image p forest is).1),
+        (λ is. inr (ap (pairs_in file p) (dup_leaf_page image p forest is).1), tt),
+      ),
+    ) fits refl
 
 seen_leaf : (view : PageView) (leaf : Listed Item) → page_seen view ≡ Leaf leaf → (seen : Listed Item) × (view ≡ LeafSeen seen)
 seen_leaf (LeafSeen seen) leaf is = (seen, refl)
 seen_leaf view leaf is = absurd cc
 
-pub no_pairs : (image : List ℕ) (p : ℕ) (view : PageView) → IsForest image → FitsLeafPage (file_of image) p → page_seen view ≡ page_at (file_of image) p → ((leaf : Listed Item) → view ≡ LeafSeen leaf → ⊥) → [] ≡ pairs_of (file_of image) p
+pub no_pairs : (image : List ℕ) (p : ℕ) (view : PageView) → IsForest image → FitsLeafPage (file_of image) p
+    → page_seen view ≡ page_at (file_of image) p → ((leaf : Listed Item) → view ≡ LeafSeen leaf → ⊥) → [] ≡ pairs_of (file_of image) p
 unfolding pairs_of
 no_pairs image p view forest fits is other =
     elim (leaf_pairs image p forest fits) [
@@ -71,14 +84,17 @@ no_pairs image p view forest fits is other =
 -- The pairs of a tree.
 
 pub are_leaves : (image : List ℕ) (root : ℕ) → IsForest image → IsRoot (file_of image) root → AreLeaves (file_of image) (leaves (file_of image) root)
-are_leaves image root forest is = each_of (FitsLeafPage (file_of image)) (leaves (file_of image) root) (λ p at. leaf_fits image root p forest (root_is_tree image root forest is) at)
+are_leaves image root forest is =
+    each_of (FitsLeafPage (file_of image)) (leaves (file_of image) root)
+    (λ p at. leaf_fits image root p forest (root_is_tree image root forest is) at)
 
 pub pairs_of_tree : (file : File) (root : ℕ) → flat_map (pairs_of file) (leaves file root) ≡ tree_pairs file root
 unfolding tree_pairs
 pairs_of_tree file root = refl
 
 -- the pairs that are left where a walk goes on to the next leaf
-pub next_leaf : (file : File) (here after : Option (List StoredPair)) (old new : List ℕ) (leaf p : ℕ) → left_of here ≡ [] → old ≡ leaf ∷ new → p ≡ leaf → left_of after ≡ pairs_of file p
+pub next_leaf : (file : File) (here after : Option (List StoredPair)) (old new : List ℕ) (leaf p : ℕ) → left_of here ≡ [] → old ≡ leaf ∷ new
+    → p ≡ leaf → left_of after ≡ pairs_of file p
     → pairs_left file after new ≡ pairs_left file here old
 next_leaf file here after old new leaf p none more same are =
     ap (λ pairs. pairs ++ flat_map (pairs_of file) new) (are ∙ ap (pairs_of file) same)

@@ -12,7 +12,8 @@ abbrev pub page_of : StoredPair → ℕ
 page_of pair = pair.page
 
 abbrev pub no_pairs_passed : Passed
-no_pairs_passed = record { duplicate = None; wrong_set = None; keys = record { before = None; least = None }; values = record { last = None; least = None } }
+no_pairs_passed =
+    record { duplicate = None; wrong_set = None; keys = record { before = None; least = None }; values = record { last = None; least = None } }
 
 -- one more pair; data are looked at only where they are sorted
 abbrev pub next_pair : File → Bool → Passed → StoredPair → Passed

@@ -1,6 +1,6 @@
 ghost use Rattle.std.specs.Prelude.{◌≡◌, ◌&&◌, [], IfErr, IfOk, None, OnOk, false, if◌then◌else◌};
 ghost use Rattle.std.specs.List.{All};
-ghost use Rattle.bdb_graph.specs.Linked.{FitsTreeRoot, HasMetadata};
+ghost use Rattle.bdb_graph.specs.Linked.{FitsTreeRoot, HasMetadata, IsForest};
 ghost use Rattle.bdb_format.specs.ContentRows.{database_faults, has_wrong_count, is_wrong_at};
 ghost use Rattle.bdb_format.specs.File.{file_of};
 ghost use Rattle.bdb_format.specs.Numbers.{has_bit};
@@ -43,13 +43,13 @@ fn first_fault(
     forest: &Forest<'_>,
     meta: &BtreeMeta,
 ) -> Result<Option<Fault>, AllocError>
+    requires forest { IsForest forest.now }
     requires meta { HasMetadata (file_of forest.now) (BtreeFields meta.now) }
     requires keyed { is_recno meta.now ≡ false }
     requires root { FitsTreeRoot (file_of forest.now) meta.now.root }
     requires stage { structure_faults (file_of forest.now) ≡ [] }
     ensures { IfOk result (λ first. first ≡ first_fault (database_faults (file_of forest.now) (BtreeFields meta.now))) }
 {
-    forest.head();
     let rows = pair_rows(forest, meta.root, has_bit(meta.flags, 0x40));
     let pages = inner_pages(alloc, forest, meta.root)?;
     let separator = wrong_separator(alloc, forest, &pages, rows.wrong_order.is_none())?;
@@ -72,7 +72,8 @@ fn counted(
     pages: &[u32],
 ) -> Result<Option<u32>, AllocError>
     requires { All (IsKeyed (file_of forest.now)) pages.now }
-    ensures { IfOk result (λ least. IsLeastPage least (λ p. keeps_counts && is_wrong_at (file_of forest.now) (has_wrong_count (file_of forest.now)) pages.now p)) }
+    ensures { IfOk result (λ least.
+        IsLeastPage least (λ p. keeps_counts && is_wrong_at (file_of forest.now) (has_wrong_count (file_of forest.now)) pages.now p)) }
 {
     if keeps_counts {
         wrong_count(alloc, forest, pages)
@@ -88,7 +89,8 @@ fn first_of(
     separator: Option<u32>,
     count: Option<u32>,
 ) -> Option<Fault>
-    ensures { result ≡ sooner 1 (if duplicates then None else rows.now.duplicate) (sooner 2 rows.now.wrong_set (sooner 3 rows.now.wrong_order (sooner 4 separator (sooner 5 rows.now.unsorted (sooner 6 count None))))) }
+    ensures { result ≡ sooner 1 (if duplicates then None else rows.now.duplicate) (sooner 2 rows.now.wrong_set
+        (sooner 3 rows.now.wrong_order (sooner 4 separator (sooner 5 rows.now.unsorted (sooner 6 count None))))) }
 {
     let first = sooner(6, count, None);
     let first = sooner(5, rows.unsorted, first);

@@ -1,4 +1,4 @@
-ghost use Rattle.std.specs.Prelude.{◌≡◌, IfOk, OnOk};
+ghost use Rattle.std.specs.Prelude.{◌≡◌, IfOk};
 ghost use Rattle.std.specs.List.{All, fold};
 ghost use Rattle.bdb_graph.specs.Linked.{FitsLeafPage};
 ghost use Rattle.bdb_layout.specs.Seen.{internal_item_seen};
@@ -53,11 +53,11 @@ impl Counts {
 }
 
 /// The pairs below a page of a tree. An error is want of memory: 4 bytes for each leaf and each page above it.
+#[tactic(auto, using(crate::proofs::SeenLemmas::leaf_at, crate::proofs::CountLemmas::tree_counted))]
 fn count_below(alloc: Global, forest: &Forest<'_>, page: u32) -> Result<Counts, AllocError>
     requires { IsTreePage (file_of forest.now) page }
     ensures { IfOk result (λ counts. counts ≡ fold count_pair no_pairs_counted (tree_pairs (file_of forest.now) page)) }
 {
-    forest.head();
     let mut counts = Counts { live: 0, all: 0 };
     let leaves = leaves_below(alloc, forest, page)?;
     for leaf in &leaves {
@@ -81,6 +81,7 @@ fn is_wrong_count(
 }
 
 /// Whether some item of an internal page has a wrong count.
+#[tactic(auto, using(crate::proofs::CountLemmas::some_at))]
 fn is_wrong_view(
     alloc: Global,
     forest: &Forest<'_>,
@@ -102,7 +103,6 @@ fn is_wrong_page(alloc: Global, forest: &Forest<'_>, number: u32) -> Result<bool
     requires { IsKeyed (file_of forest.now) number }
     ensures { IfOk result (λ wrong. wrong ≡ has_wrong_count (file_of forest.now) (page_at (file_of forest.now) number)) }
 {
-    forest.head();
     match forest.page(number) {
         PageView::Internal(page) => is_wrong_view(alloc, forest, &page),
         _ => Ok(false),

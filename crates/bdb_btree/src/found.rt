@@ -18,7 +18,8 @@ use std::marker::Model;
 
 /// The first of these pairs that has a key; those before it are passed.
 fn first_with<'a>(pairs: &mut PagePairs<'a>, key: &Datum<'_>) -> Option<Pair<'a>>
-    ensures { MatchOption result (from_key (datum_seen key.now) pairs.old ≡ []) (λ pair. from_key (datum_seen key.now) pairs.old ≡ pair_seen pair ∷ pairs.new) }
+    ensures { MatchOption result (from_key (datum_seen key.now) pairs.old ≡ [])
+        (λ pair. from_key (datum_seen key.now) pairs.old ≡ pair_seen pair ∷ pairs.new) }
 {
     while let Some(pair) = pairs.next() {
         if is_same(&pair.key, key) {
@@ -109,7 +110,6 @@ pub(crate) fn found_on<'a>(forest: &Forest<'a>, page: u32, key: &[u8]) -> Found<
     requires stage { structure_faults (file_of forest.now) ≡ [] }
     ensures { result ≡ flat_map (data_under (file_of forest.now) key.now) (pairs_of (file_of forest.now) page) }
 {
-    forest.head();
     let Some(mut pairs) = page_pairs(forest, page) else {
         return Found::none(forest);
     };

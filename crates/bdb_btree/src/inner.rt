@@ -37,7 +37,6 @@ fn level_of(forest: &Forest<'_>, page: u32) -> u8
     requires { IsTreePage (file_of forest.now) page }
     ensures { result ≡ (header_in (page_at (file_of forest.now) page)).level }
 {
-    forest.head();
     forest.page(page).header().level
 }
 

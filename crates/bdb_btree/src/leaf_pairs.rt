@@ -53,7 +53,6 @@ pub fn pairs<'a>(linked: &Linked<'a>, meta: &BtreeMeta) -> LeafPairs<'a>
     requires stage { structure_faults (file_of linked.now) ≡ [] }
     ensures { result ≡ map (told_pair (file_of linked.now)) (tree_pairs (file_of linked.now) meta.now.root) }
 {
-    linked.head();
     let forest = linked.forest();
     let pairs = tree_pairs(&forest, linked.root(meta).number());
     LeafPairs { forest, pairs }

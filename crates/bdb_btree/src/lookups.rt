@@ -25,7 +25,6 @@ pub fn scan<'a>(linked: &Linked<'a>, meta: &BtreeMeta) -> Scan<'a>
     requires stage { structure_faults (file_of linked.now) ≡ [] }
     ensures { result ≡ btree_list (file_of linked.now) meta.now.root }
 {
-    linked.head();
     let forest = linked.forest();
     let pairs = tree_pairs(&forest, linked.root(meta).number());
     Scan::over(forest, pairs)
@@ -63,7 +62,6 @@ pub fn find<'a, L: Ledger>(
     ensures found { result ≡ get (btree_list (file_of linked.now) meta.now.root) (BytesKey key.now) }
     ensures cost { steps.new ≡ steps.old + (header_in (page_at (file_of linked.now) meta.now.root)).level }
 {
-    linked.head();
     let forest = linked.forest();
     let sought = Sought {
         forest: &forest,

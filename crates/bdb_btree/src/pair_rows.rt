@@ -72,6 +72,7 @@ pub(crate) struct PairRows {
 }
 
 /// The rows on the pairs of a btree: one walk over its leaves, which takes no memory.
+#[tactic(auto, using(crate::proofs::RowLemmas::duplicate_row, crate::proofs::RowLemmas::set_row, crate::proofs::RowLemmas::order_row, crate::proofs::RowLemmas::data_row))]
 pub(crate) fn pair_rows(forest: &Forest<'_>, root: u32, sorted: bool) -> PairRows
     requires root { FitsTreeRoot (file_of forest.now) root }
     requires stage { structure_faults (file_of forest.now) ≡ [] }

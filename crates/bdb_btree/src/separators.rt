@@ -8,7 +8,8 @@ ghost use Rattle.bdb_format.specs.File.{file_of, page_at};
 ghost use Rattle.bdb_format.specs.Page.{Internal};
 ghost use Rattle.bdb_overflow.specs.Datum.{FitsContent, datum_seen};
 ghost use Rattle.bdb_layout.specs.Seen.{internal_item_seen, key_seen};
-ghost use Rattle.bdb_btree.specs.Bounds.{DontFall, ItemsFit, OrderedIf, beyond, bounds_of, exceeds, is_below, no_bounds, see_item, see_items, under, under_pair};
+ghost use Rattle.bdb_btree.specs.Bounds.{DontFall, ItemsFit, OrderedIf, beyond, exceeds, is_below, no_bounds};
+ghost use Rattle.bdb_btree.specs.Bounds.{see_item, see_items, under, under_pair};
 ghost use Rattle.bdb_btree.specs.Least.{IsLeastPage};
 ghost use Rattle.bdb_tree.specs.Trees.{IsTreePage};
 
@@ -118,13 +119,12 @@ impl<'a> Bounds<'a> {
     }
 
     /// The same where the keys don't fall: the first and the last bound the others.
-    #[tactic(auto, using(bdb_tree::proofs::TreeLemmas::leaf_inside))]
+    #[tactic(auto, using(bdb_tree::proofs::TreeLemmas::leaf_inside, crate::proofs::SeparatorLemmas::no_ends))]
     fn see_ends(&mut self, forest: &Forest<'a>, leaf: u32)
         requires leaf { FitsLeafPage (file_of forest.now) leaf }
         requires order { DontFall (pairs_of (file_of forest.now) leaf) }
         ensures { self.new ≡ fold under_pair self.old (pairs_of (file_of forest.now) leaf) }
     {
-        forest.head();
         if let PageView::Leaf(view) = forest.page(leaf) {
             let pairs = view.pairs();
             if pairs > 0 {
@@ -136,7 +136,7 @@ impl<'a> Bounds<'a> {
 
     /// All keys below the last item, of which two of each leaf are read where they are in order. An error is
     /// want of memory: 4 bytes for each leaf and each page above it.
-    #[tactic(auto, using(crate::proofs::SeenLemmas::leaf_at, crate::proofs::FallLemmas::leaf_ordered))]
+    #[tactic(auto, using(crate::proofs::SeenLemmas::leaf_at, crate::proofs::SeenLemmas::tree_under, crate::proofs::FallLemmas::leaf_ordered))]
     fn see_below(
         &mut self,
         alloc: Global,
@@ -148,7 +148,6 @@ impl<'a> Bounds<'a> {
         requires order { OrderedIf ordered (file_of forest.now) child }
         ensures { OnOk result (self.new ≡ fold under_pair self.old (tree_pairs (file_of forest.now) child)) }
     {
-        forest.head();
         let leaves = leaves_below(alloc, forest, child)?;
         for leaf in &leaves {
             if ordered {
@@ -203,6 +202,7 @@ impl<'a> Bounds<'a> {
 
 /// Whether a condition on separators fails at some item of an internal page: one pass over its items and the
 /// keys below them, each compared twice. An error is want of memory.
+#[tactic(auto, using(crate::proofs::SeenLemmas::page_wrong))]
 fn is_wrong_view(
     alloc: Global,
     forest: &Forest<'_>,
@@ -230,7 +230,6 @@ fn is_wrong_page(
     requires order { OrderedIf ordered (file_of forest.now) number }
     ensures { IfOk result (λ wrong. wrong ≡ has_wrong_separator (file_of forest.now) (page_at (file_of forest.now) number)) }
 {
-    forest.head();
     match forest.page(number) {
         PageView::Internal(page) => is_wrong_view(alloc, forest, &page, ordered),
         _ => Ok(false),

@@ -1,10 +1,10 @@
-ghost use Rattle.std.specs.Prelude.{◌≡◌, ◌≤◌, []};
+ghost use Rattle.std.specs.Prelude.{◌≡◌, []};
 ghost use Rattle.std.specs.List.{flat_map};
 ghost use Rattle.std.specs.Iterator.{YieldsFirstBy, item_count};
 ghost use Rattle.bdb_format.specs.Contents.{pairs_of, tree_pairs};
 ghost use Rattle.bdb_format.specs.Verdict.{structure_faults};
 ghost use Rattle.bdb_format.specs.File.{file_of};
-ghost use Rattle.bdb_graph.specs.Linked.{FitsLeafPage};
+ghost use Rattle.bdb_graph.specs.Linked.{FitsLeafPage, IsForest};
 ghost use Rattle.bdb_btree.specs.Pairs.{AreLeaves, left_of, pair_seen};
 ghost use Rattle.bdb_tree.specs.Trees.{IsRoot};
 
@@ -52,9 +52,9 @@ impl<'a> Iterator for PagePairs<'a> {
 /// The pairs of a leaf, in order; none where it isn't one of pairs.
 pub(crate) fn page_pairs<'a>(forest: &Forest<'a>, page: u32) -> Option<PagePairs<'a>>
     requires { FitsLeafPage (file_of forest.now) page }
-    ensures { left_of result ≡ pairs_of (file_of forest.now) page }
+    ensures pairs { left_of result ≡ pairs_of (file_of forest.now) page }
+    ensures forest { IsForest forest.now }
 {
-    forest.head();
     match forest.page(page) {
         PageView::Leaf(leaf) => Some(PagePairs {
             forest: forest.again(),
@@ -110,12 +110,12 @@ pub(crate) fn pairs_over<'a>(forest: &Forest<'a>, leaves: Leaves<'a>) -> Pairs<'
 }
 
 /// All pairs of a tree, from left to right.
+#[tactic(auto, using(crate::proofs::WalkLemmas::are_leaves, crate::proofs::WalkLemmas::pairs_of_tree))]
 pub(crate) fn tree_pairs<'a>(forest: &Forest<'a>, root: u32) -> Pairs<'a>
     requires root { IsRoot (file_of forest.now) root }
     requires stage { structure_faults (file_of forest.now) ≡ [] }
     ensures { result ≡ tree_pairs (file_of forest.now) root }
 {
-    forest.head();
     pairs_over(forest, tree_leaves(forest, root))
 }
 

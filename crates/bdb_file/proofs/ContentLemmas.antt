@@ -1,6 +1,7 @@
 -- The faults of stage 8 from those of each database.
 use Rattle.bdb_format.proofs.ListLemmas.{any_member, passes_here}
-use Rattle.std.proofs.Common.{◌≡◌, ℕ, zero, suc, ◌+◌, ◌<◌, ◌≤◌, Bool, true, false, cond, List, [], ◌∷◌, map, arith, refl, sym, ◌∙◌, ap, subst, inl, inr}
+use Rattle.std.proofs.Common.{◌≡◌, ℕ, zero, suc, ◌+◌, ◌<◌, ◌≤◌, Bool, true, false, cond, List, [], ◌∷◌, map, arith, refl, sym, ◌∙◌, ap, subst, inl}
+use Rattle.std.proofs.Common.{inr}
 use Rattle.std.specs.Prelude.{◌==◌, ◌&&◌}
 use Rattle.std.specs.List.{Contains, flat_map, range_with_len}
 use Rattle.std.proofs.lemmas.Bool.{cases_eq, eq-eqb, eqb-true, or_cases, or_right, and_parts}
@@ -9,7 +10,8 @@ use Rattle.bdb_format.specs.File.{File}
 use Rattle.bdb_format.specs.Page.{Metadata, BtreeFields, HashFields, QueueFields}
 use Rattle.bdb_format.specs.Table.{Row, ◌:?◌}
 use Rattle.bdb_format.specs.Verdict.{by_page, holding, contents_faults}
-use Rattle.bdb_format.specs.ContentRows.{fields_of, contents_rows, holds_code, holds_somewhere, btree_contents, database_faults, database_rows, recno_contents}
+use Rattle.bdb_format.specs.ContentRows.{fields_of, contents_rows, holds_code, holds_somewhere, btree_contents, database_faults, database_rows}
+use Rattle.bdb_format.specs.ContentRows.{recno_contents}
 use Rattle.bdb_format.proofs.MemberLemmas.{first_member, later_member, member_cases, no_member, of_flat_map, in_flat_map}
 use Rattle.bdb_format.proofs.VerdictLemmas.{FirstComesFirst, IsOfStage, Rises, by_page_first, holding_least, in_by_page, of_by_page}
 use Rattle.bdb_format.specs.Flags.{is_recno}
@@ -20,7 +22,8 @@ pub holding_code : (rows : List (Row ℕ)) (code : ℕ) → Contains (holding ro
 holding_code [] code at = absurd (no_member [] code refl at)
 holding_code (row ∷ rows) code at = step row.holds refl (holding_code rows code) at
   where
-    step : (b : Bool) → row.holds ≡ b → (Contains (holding rows) code → holds_code code rows ≡ true) → Contains (cond b (row.code ∷ holding rows) (holding rows)) code → holds_code code (row ∷ rows) ≡ true
+    step : (b : Bool) → row.holds ≡ b → (Contains (holding rows) code → holds_code code rows ≡ true)
+        → Contains (cond b (row.code ∷ holding rows) (holding rows)) code → holds_code code (row ∷ rows) ≡ true
     step true holds deeper here = grind (arith, member_cases row.code (holding rows) code here, eq-eqb row.code code)
     step false holds deeper here = or_right (row.code == code && row.holds) (holds_code code rows) (deeper here)
 
@@ -49,21 +52,25 @@ of_numbered zero from test code at = absurd (no_member [] code refl at)
 of_numbered (suc n) from test code at = step (test from) refl (of_numbered n (from + 1) test code) at
   where
     step : (b : Bool) → test from ≡ b → (Contains (holding (map (λ c. c :? test c) (range_with_len (from + 1) n))) code → test code ≡ true)
-        → Contains (cond b (from ∷ holding (map (λ c. c :? test c) (range_with_len (from + 1) n))) (holding (map (λ c. c :? test c) (range_with_len (from + 1) n)))) code → test code ≡ true
+        → Contains (cond b (from ∷ holding (map (λ c. c :? test c) (range_with_len (from + 1) n)))
+        (holding (map (λ c. c :? test c) (range_with_len (from + 1) n)))) code → test code ≡ true
     step true holds deeper here = grind (arith, member_cases from (holding (map (λ c. c :? test c) (range_with_len (from + 1) n))) code here)
     step false holds deeper here = deeper here
 
-in_numbered : (n from : ℕ) (test : ℕ → Bool) (code : ℕ) → from ≤ code → code < from + n → test code ≡ true → Contains (holding (numbered from n test)) code
+in_numbered : (n from : ℕ) (test : ℕ → Bool) (code : ℕ) → from ≤ code → code < from + n → test code ≡ true
+    → Contains (holding (numbered from n test)) code
 unfolding numbered
 in_numbered zero from test code low high holds = absurd (omega arith)
 in_numbered (suc n) from test code low high holds =
     elim (cases_eq from code) [
-      | inl same ↦ rw (ap test same ∙ holds) (subst (λ c. Contains (from ∷ holding (map (λ k. k :? test k) (range_with_len (from + 1) n))) c) same (first_member from _))
+      | inl same ↦ rw (ap test same ∙ holds) (subst (λ c. Contains (from ∷ holding (map (λ k. k :? test k) (range_with_len (from + 1) n))) c) same
+          (first_member from _))
       | inr other ↦ deeper (test from) (in_numbered n (from + 1) test code (omega arith) (omega arith) holds)
     ]
   where
     deeper : (b : Bool) → Contains (holding (map (λ c. c :? test c) (range_with_len (from + 1) n))) code
-        → Contains (cond b (from ∷ holding (map (λ c. c :? test c) (range_with_len (from + 1) n))) (holding (map (λ c. c :? test c) (range_with_len (from + 1) n)))) code
+        → Contains (cond b (from ∷ holding (map (λ c. c :? test c) (range_with_len (from + 1) n)))
+        (holding (map (λ c. c :? test c) (range_with_len (from + 1) n)))) code
     deeper true at = later_member from (holding (map (λ c. c :? test c) (range_with_len (from + 1) n))) code at
     deeper false at = at
 
@@ -77,7 +84,8 @@ holding_within : (rows : List (Row ℕ)) (code : ℕ) → Within rows → Contai
 holding_within [] code within at = absurd (no_member [] code refl at)
 holding_within (row ∷ rows) code within at = step row.holds (holding_within rows code within.2) at
   where
-    step : (b : Bool) → (Contains (holding rows) code → (1 ≤ code) × (code < 10)) → Contains (cond b (row.code ∷ holding rows) (holding rows)) code → (1 ≤ code) × (code < 10)
+    step : (b : Bool) → (Contains (holding rows) code → (1 ≤ code) × (code < 10)) → Contains (cond b (row.code ∷ holding rows) (holding rows)) code
+        → (1 ≤ code) × (code < 10)
     step true deeper here = grind (arith, member_cases row.code (holding rows) code here, within)
     step false deeper here = deeper here
 
@@ -85,7 +93,15 @@ contents_within : (file : File) (fields : Metadata) (p : ℕ) → Within (databa
 contents_within file (BtreeFields meta) p =
     elim (is_recno meta) as (λ b. Within (cond b (recno_contents file meta p) (btree_contents file meta p))) [
       | true ↦ (omega arith, omega arith, (omega arith, omega arith, tt))
-      | false ↦ (omega arith, omega arith, (omega arith, omega arith, (omega arith, omega arith, (omega arith, omega arith, (omega arith, omega arith, (omega arith, omega arith, tt))))))
+      | false ↦ (
+        omega arith,
+        omega arith,
+        (
+          omega arith,
+          omega arith,
+          (omega arith, omega arith, (omega arith, omega arith, (omega arith, omega arith, (omega arith, omega arith, tt)))),
+        ),
+      )
     ]
 contents_within file (HashFields meta) p =
     (omega arith, omega arith, (omega arith, omega arith, (omega arith, omega arith, (omega arith, omega arith, (omega arith, omega arith, tt)))))
@@ -94,37 +110,47 @@ contents_within file (QueueFields meta) p = tt
 -- The faults of all databases.
 
 -- a code that holds at a page holds there for some database
-of_codes : (file : File) (p code : ℕ) → Contains (holding (contents_rows file p)) code → (fields : Metadata) × Contains (fields_of file) fields × Contains (holding (database_rows file fields p)) code
+of_codes : (file : File) (p code : ℕ) → Contains (holding (contents_rows file p)) code
+    → (fields : Metadata) × Contains (fields_of file) fields × Contains (holding (database_rows file fields p)) code
 unfolding numbered
 of_codes file p code at =
-    let found = any_member (λ fields. holds_code code (database_rows file fields p)) (fields_of file) (of_numbered 9 1 (holds_somewhere file p) code at) in
+    let found =
+    any_member (λ fields. holds_code code (database_rows file fields p)) (fields_of file) (of_numbered 9 1 (holds_somewhere file p) code at) in
     (found.0, found.1, code_holding (database_rows file found.0 p) code found.2)
 
-in_codes : (file : File) (fields : Metadata) (p code : ℕ) → Contains (fields_of file) fields → Contains (holding (database_rows file fields p)) code → Contains (holding (contents_rows file p)) code
+in_codes : (file : File) (fields : Metadata) (p code : ℕ) → Contains (fields_of file) fields → Contains (holding (database_rows file fields p)) code
+    → Contains (holding (contents_rows file p)) code
 unfolding numbered
 in_codes file fields p code at holds =
     let within : (1 ≤ code) × (code < 10) = holding_within (database_rows file fields p) code (contents_within file fields p) holds in
     in_numbered 9 1 (holds_somewhere file p) code within.0 within.1
-    (passes_here (λ other. holds_code code (database_rows file other p)) (fields_of file) fields at (holding_code (database_rows file fields p) code holds))
+    (passes_here (λ other. holds_code code (database_rows file other p)) (fields_of file) fields at
+    (holding_code (database_rows file fields p) code holds))
 
 -- the faults of stage 8 are those of some database
-pub of_contents : (file : File) (fault : Fault) → Contains (contents_faults file) fault → Contains (flat_map (database_faults file) (fields_of file)) fault
+pub of_contents : (file : File) (fault : Fault) → Contains (contents_faults file) fault
+    → Contains (flat_map (database_faults file) (fields_of file)) fault
 unfolding contents_faults database_faults
 of_contents file fault at =
-    let is : IsOfStage 8 0 (0 + (file.last + 1)) (λ p. holding (contents_rows file p)) fault = of_by_page 8 0 (file.last + 1) (λ p. holding (contents_rows file p)) fault at in
+    let is : IsOfStage 8 0 (0 + (file.last + 1)) (λ p. holding (contents_rows file p)) fault =
+    of_by_page 8 0 (file.last + 1) (λ p. holding (contents_rows file p)) fault at in
     let found = of_codes file fault.page fault.code is.is_code in
     in_flat_map (database_faults file) (fields_of file) found.0 fault found.1
-    (subst (λ s. Contains (by_page 8 0 (file.last + 1) (λ p. holding (database_rows file found.0 p))) (record { stage = s; page = fault.page; code = fault.code })) (sym is.same_stage)
+    (subst (λ s. Contains (by_page 8 0 (file.last + 1) (λ p. holding (database_rows file found.0 p)))
+    (record { stage = s; page = fault.page; code = fault.code })) (sym is.same_stage)
     (in_by_page 8 0 (file.last + 1) fault.page fault.code (λ p. holding (database_rows file found.0 p)) is.from_low is.below_high found.2))
 
-pub in_contents : (file : File) (fault : Fault) → Contains (flat_map (database_faults file) (fields_of file)) fault → Contains (contents_faults file) fault
+pub in_contents : (file : File) (fault : Fault) → Contains (flat_map (database_faults file) (fields_of file)) fault
+    → Contains (contents_faults file) fault
 unfolding contents_faults database_faults
 in_contents file fault at =
     let found = of_flat_map (database_faults file) (fields_of file) fault at in
     let codes : ℕ → List ℕ = λ p. holding (database_rows file found.0 p) in
     let is : IsOfStage 8 0 (0 + (file.last + 1)) codes fault = of_by_page 8 0 (file.last + 1) codes fault found.2 in
-    subst (λ s. Contains (by_page 8 0 (file.last + 1) (λ p. holding (contents_rows file p))) (record { stage = s; page = fault.page; code = fault.code })) (sym is.same_stage)
-    (in_by_page 8 0 (file.last + 1) fault.page fault.code (λ p. holding (contents_rows file p)) is.from_low is.below_high (in_codes file found.0 fault.page fault.code found.1 is.is_code))
+    subst (λ s. Contains (by_page 8 0 (file.last + 1) (λ p. holding (contents_rows file p)))
+    (record { stage = s; page = fault.page; code = fault.code })) (sym is.same_stage)
+    (in_by_page 8 0 (file.last + 1) fault.page fault.code (λ p. holding (contents_rows file p)) is.from_low is.below_high
+    (in_codes file found.0 fault.page fault.code found.1 is.is_code))
 
 -- Both lists rise.
 
@@ -139,7 +165,9 @@ within_rises file (QueueFields meta) p = tt
 
 pub contents_rises : (file : File) (fields : Metadata) → FirstComesFirst (database_faults file fields)
 unfolding database_faults
-contents_rises file fields = by_page_first 8 0 (file.last + 1) (λ p. holding (database_rows file fields p)) (λ p. holding_least 1 (database_rows file fields p) (within_rises file fields p))
+contents_rises file fields =
+    by_page_first 8 0 (file.last + 1) (λ p. holding (database_rows file fields p))
+    (λ p. holding_least 1 (database_rows file fields p) (within_rises file fields p))
 
 pub contents_one : (file : File) (fields : Metadata) (fault : Fault) → Contains (database_faults file fields) fault → fault.stage ≡ 8
 unfolding database_faults
@@ -149,7 +177,8 @@ pub content_rises : (file : File) → FirstComesFirst (contents_faults file)
 unfolding contents_faults
 content_rises file =
     by_page_first 8 0 (file.last + 1) (λ p. holding (contents_rows file p))
-    (λ p. holding_least 1 (contents_rows file p) (omega arith, (omega arith, (omega arith, (omega arith, (omega arith, (omega arith, (omega arith, (omega arith, (omega arith, tt))))))))))
+    (λ p. holding_least 1 (contents_rows file p)
+    (omega arith, (omega arith, (omega arith, (omega arith, (omega arith, (omega arith, (omega arith, (omega arith, (omega arith, tt))))))))))
 
 pub content_one : (file : File) (fault : Fault) → Contains (contents_faults file) fault → fault.stage ≡ 8
 unfolding contents_faults

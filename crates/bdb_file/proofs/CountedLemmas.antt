@@ -1,5 +1,6 @@
 -- A sound file has no more databases than pages.
-use Rattle.std.proofs.Common.{◌≡◌, ℕ, ◌+◌, ◌<◌, ◌≤◌, true, false, eqb, List, [], ◌∷◌, length, map, Option, Some, None, arith, refl, sym, ◌∙◌, ap, length-append, inl, inr}
+use Rattle.std.proofs.Common.{◌≡◌, ℕ, ◌+◌, ◌<◌, ◌≤◌, true, false, eqb, List, [], ◌∷◌, length, map, Option, Some, None, arith, refl, sym, ◌∙◌, ap}
+use Rattle.std.proofs.Common.{length-append, inl, inr}
 use Rattle.std.specs.Prelude.{nat_lt, unwrap_or}
 use Rattle.std.specs.List.{AllByRecursion, Contains, IsDistinct, flat_map, list_any}
 use Rattle.std.proofs.lemmas.Bool.{and_parts, cases_Bool, eq-eqb, eqb-true, false_from_ne_true}
@@ -38,7 +39,12 @@ one_database file name (Some p) =
 few_in : (file : File) (entries : List NamedPair) → length (flat_map (entry_database file) entries) ≤ length entries
 few_in file [] = omega arith
 few_in file (entry ∷ entries) =
-    omega (arith, few_in file entries, one_database file (Some entry.key) entry.names, length-append (entry_database file entry) (flat_map (entry_database file) entries))
+    omega (
+      arith,
+      few_in file entries,
+      one_database file (Some entry.key) entry.names,
+      length-append (entry_database file entry) (flat_map (entry_database file) entries),
+    )
 
 -- Entries that name pages of which each is named once name distinct pages.
 
@@ -54,7 +60,8 @@ record NamesOnce (entries : List NamedPair) (entry : NamedPair) : Type 0 where
 abbrev NameOnce : List NamedPair → List NamedPair → Type 0
 NameOnce all entries = (entry : NamedPair) → Contains entries entry → NamesOnce all entry
 
-naming_rises : (p : ℕ) (entry : NamedPair) (entries : List NamedPair) → length (entries_naming p entries) ≤ length (entries_naming p (entry ∷ entries))
+naming_rises : (p : ℕ) (entry : NamedPair) (entries : List NamedPair)
+    → length (entries_naming p entries) ≤ length (entries_naming p (entry ∷ entries))
 naming_rises p entry entries = grind arith
 
 all_from : {X : Type 0} (P : X → Type 0) (xs : List X) → ((x : X) → Contains xs x → P x) → AllByRecursion P xs
@@ -65,19 +72,26 @@ is_named : (entry : NamedPair) (p : ℕ) → entry.names ≡ Some p → is_page 
 is_named entry p names = ap (λ n. is_page n p) names ∙ eq-eqb p p refl
 
 -- two entries that name one page are two of those that name it
-two_name : (entry other : NamedPair) (entries : List NamedPair) (p : ℕ) → Contains entries other → entry.names ≡ Some p → other.names ≡ Some p → 2 ≤ length (entries_naming p (entry ∷ entries))
+two_name : (entry other : NamedPair) (entries : List NamedPair) (p : ℕ) → Contains entries other → entry.names ≡ Some p → other.names ≡ Some p
+    → 2 ≤ length (entries_naming p (entry ∷ entries))
 two_name entry other entries p at here there =
-    let kept : Contains (entries_naming p entries) other = in_filter (λ (one : NamedPair). is_page one.names p) entries other at (is_named other p there) in
+    let kept : Contains (entries_naming p entries) other =
+    in_filter (λ (one : NamedPair). is_page one.names p) entries other at (is_named other p there) in
     let some : kept.0 < length (entries_naming p entries) = kept.1 in
     rw (is_named entry p here) (omega arith)
 
 distinct : (entries : List NamedPair) → NameOnce entries entries → IsDistinct eqb (map number_of entries)
 unfolding IsDistinct
 distinct [] once = tt
-distinct (entry ∷ entries) once = (all_from (λ n. eqb (number_of entry) n ≡ false) (map number_of entries) apart, distinct entries (λ other at. later other (once other (later_member entry entries other at))))
+distinct (entry ∷ entries) once = (
+  all_from (λ n. eqb (number_of entry) n ≡ false) (map number_of entries) apart,
+  distinct entries (λ other at. later other (once other (later_member entry entries other at))),
+)
   where
     later : (other : NamedPair) → NamesOnce (entry ∷ entries) other → NamesOnce entries other
-    later other names = let few : length (entries_naming names.page (entry ∷ entries)) ≤ 1 = names.once in record { page = names.page; names_are = names.names_are; once = omega (arith, naming_rises names.page entry entries) }
+    later other names =
+        let few : length (entries_naming names.page (entry ∷ entries)) ≤ 1 = names.once in
+        record { page = names.page; names_are = names.names_are; once = omega (arith, naming_rises names.page entry entries) }
 
     apart : (n : ℕ) → Contains (map number_of entries) n → eqb (number_of entry) n ≡ false
     apart n at =
@@ -97,23 +111,37 @@ distinct (entry ∷ entries) once = (all_from (λ n. eqb (number_of entry) n ≡
 -- The entries of a master.
 
 -- no page is named twice
-named_once : (file : File) (p : ℕ) → master_faults file ≡ [] → p ≤ file.last → is_named_kind file p ≡ true → length (entries_naming p (master_entries file)) ≤ 1
+named_once : (file : File) (p : ℕ) → master_faults file ≡ [] → p ≤ file.last → is_named_kind file p ≡ true
+    → length (entries_naming p (master_entries file)) ≤ 1
 named_once file p none low kind =
     let parts = and_parts (nat_lt 0 p) (is_meta (page_at file p)) kind in
     elim (cases_Bool (nat_lt 1 (length (entries_naming p (master_entries file))))) [
-      | inl many ↦ absurd (no_member (master_faults file) (fault_at p 5) none (in_naming file p (fault_at p 5) (at_meta file p low parts.1) (count_five p (length (entries_naming p (master_entries file))) parts.0 many)))
+      | inl many ↦ absurd (no_member (master_faults file) (fault_at p 5) none
+          (in_naming file p (fault_at p 5) (at_meta file p low parts.1)
+          (count_five p (length (entries_naming p (master_entries file))) parts.0 many)))
       | inr few ↦ grind (arith, few)
     ]
 
-names_once : (image : List ℕ) → IsForest image → master_faults (file_of image) ≡ [] → NameOnce (master_entries (file_of image)) (master_entries (file_of image))
+names_once : (image : List ℕ) → IsForest image → master_faults (file_of image) ≡ []
+    → NameOnce (master_entries (file_of image)) (master_entries (file_of image))
 names_once image forest none entry at =
     let names : NamesMeta (file_of image) entry = entry_names (file_of image) entry (master_inside image forest) none at in
-    record { page = names.page; names_are = names.names_are; once = named_once (file_of image) names.page none (kind_inside image names.page names.kind) names.kind }
+    record {
+      page = names.page;
+      names_are = names.names_are;
+      once =
+          named_once (file_of image) names.page none (kind_inside image names.page names.kind) names.kind;
+    }
 
-few_entries : (image : List ℕ) → IsForest image → master_faults (file_of image) ≡ [] → length (master_entries (file_of image)) ≤ (file_of image).last + 1
+few_entries : (image : List ℕ) → IsForest image → master_faults (file_of image) ≡ []
+    → length (master_entries (file_of image)) ≤ (file_of image).last + 1
 few_entries image forest none =
     let entries : List NamedPair = master_entries (file_of image) in
-    omega (arith, length-map entries number_of, length-le_from_distinct_below (map number_of entries) ((file_of image).last + 1) (distinct entries (names_once image forest none)) below)
+    omega (
+      arith,
+      length-map entries number_of,
+      length-le_from_distinct_below (map number_of entries) ((file_of image).last + 1) (distinct entries (names_once image forest none)) below,
+    )
   where
     below : (q : ℕ) → list_any (eqb q) (map number_of (master_entries (file_of image))) ≡ true → q < (file_of image).last + 1
     below q passes =
@@ -132,5 +160,10 @@ few_databases image forest sound = step (master_in (page_at (file_of image) 0)) 
     step : (found : Option BtreeMeta) → master_in (page_at (file_of image) 0) ≡ found → length (databases (file_of image)) ≤ (head_of image).last + 1
     step None is = omega (arith, ap length (one_unnamed (file_of image) (sym is)), one_database (file_of image) None (Some 0))
     step (Some meta) is =
-        omega
-        (arith, ap length (all_named (file_of image) meta (sym is)), few_in (file_of image) (master_entries (file_of image)), few_entries image forest (no_stage image 7 sound), last_page image)
+        omega (
+          arith,
+          ap length (all_named (file_of image) meta (sym is)),
+          few_in (file_of image) (master_entries (file_of image)),
+          few_entries image forest (no_stage image 7 sound),
+          last_page image,
+        )

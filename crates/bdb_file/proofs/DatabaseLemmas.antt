@@ -32,7 +32,8 @@ no_queue_fault file meta = ap first_fault (is_empty (database_faults file (Queue
   where
     none : (fault : Fault) → Contains (database_faults file (QueueFields meta)) fault → ⊥
     none fault at =
-        let is : IsOfStage 8 0 (0 + (file.last + 1)) (λ p. holding (database_rows file (QueueFields meta) p)) fault = of_by_page 8 0 (file.last + 1) (λ p. holding (database_rows file (QueueFields meta) p)) fault at in
+        let is : IsOfStage 8 0 (0 + (file.last + 1)) (λ p. holding (database_rows file (QueueFields meta) p)) fault =
+        of_by_page 8 0 (file.last + 1) (λ p. holding (database_rows file (QueueFields meta) p)) fault at in
         no_member [] fault.code refl is.is_code
 
 -- The faults of the metadata on a page.
@@ -46,7 +47,8 @@ first_of_page file (Meta fields) =
     (first_of_list (database_faults file fields) 8 (contents_rises file fields) (contents_one file fields))
 first_of_page file page = λ fault at. no_member [] fault refl at
 
-pub contents_more : (file : File) (i p : ℕ) (least : Option Fault) → slice_get (meta_pages file) i ≡ Some p → least ≡ earliest (contents_at file) (take i (meta_pages file))
+pub contents_more : (file : File) (i p : ℕ) (least : Option Fault) → slice_get (meta_pages file) i ≡ Some p
+    → least ≡ earliest (contents_at file) (take i (meta_pages file))
     → earlier least (contents_at file p) ≡ earliest (contents_at file) (take (i + 1) (meta_pages file))
 contents_more file i p least is noted = noted_more (contents_at file) (meta_pages file) i p least is noted
 
@@ -61,13 +63,20 @@ of_fields : (image : List ℕ) (fields : Metadata) → Contains (fields_of (file
 unfolding file_of meta_pages
 of_fields image fields at =
     let found = of_flat_map fields_in (file_of image).pages fields at in
-    let page = of_map (λ p. abstract_page (head_of image).order (page_bytes (head_of image) image p)) (range_with_len 0 ((head_of image).last + 1)) found.0 found.1 in
+    let page =
+    of_map (λ p. abstract_page (head_of image).order (page_bytes (head_of image) image p))
+    (range_with_len 0 ((head_of image).last + 1)) found.0 found.1 in
     let within = of_range 0 ((head_of image).last + 1) page.0 page.1 in
     let same : page_at (file_of image) page.0 ≡ found.0 = page_is image page.0 (omega (arith, within.1)) ∙ page.2 in
-    let here : Contains (fields_in (page_at (file_of image) page.0)) fields = subst (λ q. Contains (fields_in q) fields) (sym same) found.2 in
-    (page.0, in_filter (λ p. is_meta (page_at (file_of image) p)) (range_with_len 0 ((head_of image).last + 1)) page.0 page.1 (is_some_meta (page_at (file_of image) page.0) fields here), here)
+    let here : Contains (fields_in (page_at (file_of image) page.0)) fields = subst (λ q. Contains (fields_in q) fields) (sym same) found.2 in (
+      page.0,
+      in_filter (λ p. is_meta (page_at (file_of image) p)) (range_with_len 0 ((head_of image).last + 1)) page.0 page.1
+          (is_some_meta (page_at (file_of image) page.0) fields here),
+      here,
+    )
 
-pub in_fields : (image : List ℕ) (p : ℕ) (fields : Metadata) → Contains (meta_pages (file_of image)) p → Contains (fields_in (page_at (file_of image) p)) fields → Contains (fields_of (file_of image)) fields
+pub in_fields : (image : List ℕ) (p : ℕ) (fields : Metadata) → Contains (meta_pages (file_of image)) p
+    → Contains (fields_in (page_at (file_of image) p)) fields → Contains (fields_of (file_of image)) fields
 unfolding file_of meta_pages
 in_fields image p fields at here =
     let listed = of_filter (λ q. is_meta (page_at (file_of image) q)) (range_with_len 0 ((head_of image).last + 1)) p at in
@@ -77,7 +86,8 @@ in_fields image p fields at here =
     (subst (λ q. Contains (fields_in q) fields) (page_is image p (omega (arith, within.1))) here)
 
 -- the faults of all metadata pages are those of stage 8
-of_pages : (image : List ℕ) (fault : Fault) → Contains (flat_map (λ p. flat_map (database_faults (file_of image)) (fields_in (page_at (file_of image) p))) (meta_pages (file_of image))) fault
+of_pages : (image : List ℕ) (fault : Fault)
+    → Contains (flat_map (λ p. flat_map (database_faults (file_of image)) (fields_in (page_at (file_of image) p))) (meta_pages (file_of image))) fault
     → Contains (contents_faults (file_of image)) fault
 of_pages image fault at =
     let file : File = file_of image in
@@ -94,12 +104,16 @@ in_pages image fault at =
     in_flat_map (λ p. flat_map (database_faults file) (fields_in (page_at file p))) (meta_pages file) page.0 fault page.1
     (in_flat_map (database_faults file) (fields_in (page_at file page.0)) found.0 fault page.2 found.2)
 
-pub contents_first : (image : List ℕ) (i : ℕ) (least : Option Fault) → i ≡ length (meta_pages (file_of image)) → least ≡ earliest (contents_at (file_of image)) (take i (meta_pages (file_of image)))
+pub contents_first : (image : List ℕ) (i : ℕ) (least : Option Fault) → i ≡ length (meta_pages (file_of image))
+    → least ≡ earliest (contents_at (file_of image)) (take i (meta_pages (file_of image)))
     → least ≡ first_fault (contents_faults (file_of image))
 contents_first image i least all noted =
     let file : File = file_of image in
-    let whole : least ≡ earliest (contents_at file) (meta_pages file) = noted ∙ ap (earliest (contents_at file)) (take_all i (meta_pages file) (omega arith)) in
+    let whole : least ≡ earliest (contents_at file) (meta_pages file) =
+    noted ∙ ap (earliest (contents_at file)) (take_all i (meta_pages file) (omega arith)) in
     whole
     ∙ sym (first_is (contents_faults file) 8 (earliest (contents_at file) (meta_pages file)) (content_rises file) (content_one file)
-    (first_same (flat_map (λ p. flat_map (database_faults file) (fields_in (page_at file p))) (meta_pages file)) (contents_faults file) (earliest (contents_at file) (meta_pages file)) (of_pages image) (in_pages image)
-    (earliest_first (contents_at file) (λ p. flat_map (database_faults file) (fields_in (page_at file p))) 8 (λ p. first_of_page file (page_at file p)) (λ p. one_of file (page_at file p)) (meta_pages file))))
+    (first_same (flat_map (λ p. flat_map (database_faults file) (fields_in (page_at file p))) (meta_pages file)) (contents_faults file)
+    (earliest (contents_at file) (meta_pages file)) (of_pages image) (in_pages image)
+    (earliest_first (contents_at file) (λ p. flat_map (database_faults file) (fields_in (page_at file p))) 8
+    (λ p. first_of_page file (page_at file p)) (λ p. one_of file (page_at file p)) (meta_pages file))))

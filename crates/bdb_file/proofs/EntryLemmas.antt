@@ -43,11 +43,13 @@ same_name file content = refl
 same_entry : (file : File) (pair : StoredPair) → entry_of (told_pair file pair) ≡ named file pair
 same_entry file pair = ap (λ (n : Option ℕ). record { page = pair.page; key = pair.key; names = n }) (same_name file pair.data_item)
 
-live_are : (file : File) (pairs : List StoredPair) → live_entries (map (told_pair file) pairs) ≡ map (named file) (filter (λ (pair : StoredPair). pair.live) pairs)
+live_are : (file : File) (pairs : List StoredPair)
+    → live_entries (map (told_pair file) pairs) ≡ map (named file) (filter (λ (pair : StoredPair). pair.live) pairs)
 live_are file [] = refl
 live_are file (pair ∷ pairs) = grind (arith, same_entry file pair, live_are file pairs)
 
-pub entries_of_master : (file : File) (meta : BtreeMeta) → Some meta ≡ master_in (page_at file 0) → live_entries (map (told_pair file) (tree_pairs file meta.root)) ≡ master_entries file
+pub entries_of_master : (file : File) (meta : BtreeMeta) → Some meta ≡ master_in (page_at file 0)
+    → live_entries (map (told_pair file) (tree_pairs file meta.root)) ≡ master_entries file
 unfolding master_pairs
 entries_of_master file meta is = live_are file (tree_pairs file meta.root) ∙ ap (λ m. map (named file) (pairs_under file m)) is
 

@@ -1,7 +1,8 @@
 -- The first fault of a master is the earliest of those of its pairs and of the pages that they name.
 use Rattle.bdb_format.proofs.ListLemmas.{any_member, only_member, passes_here}
 use Rattle.std.proofs.lemmas.Bool.Decides.{nat_tests}
-use Rattle.std.proofs.Common.{◌≡◌, ◌⊎◌, ℕ, ◌+◌, ◌≤◌, Bool, true, List, [], ◌∷◌, ◌++◌, length, map, Option, Some, None, arith, refl, sym, ◌∙◌, ap, subst, inl, inr}
+use Rattle.std.proofs.Common.{◌≡◌, ◌⊎◌, ℕ, ◌+◌, ◌≤◌, Bool, true, List, [], ◌∷◌, ◌++◌, length, map, Option, Some, None, arith, refl, sym, ◌∙◌, ap}
+use Rattle.std.proofs.Common.{subst, inl, inr}
 use Rattle.std.specs.Prelude.{◌==◌, ◌&&◌, ◌||◌, nat_lt}
 use Rattle.std.specs.List.{Contains, filter, flat_map, list_any, range_with_len}
 use Rattle.std.specs.Str.{bytes_eq}
@@ -18,14 +19,17 @@ use Rattle.bdb_format.specs.HeadOf.{head_of}
 use Rattle.bdb_format.specs.Page.{BtreeFields, Page, Meta}
 use Rattle.bdb_format.specs.Table.{Row, ◌:?◌}
 use Rattle.bdb_format.specs.Verdict.{holding, master_faults, first_fault}
-use Rattle.bdb_format.proofs.MemberLemmas.{first_member, in_flat_map, in_map, in_range, no_member, of_filter, of_flat_map, of_map, of_range, in_filter}
+use Rattle.bdb_format.proofs.MemberLemmas.{first_member, in_flat_map, in_map, in_range, no_member, of_filter, of_flat_map, of_map, of_range}
+use Rattle.bdb_format.proofs.MemberLemmas.{in_filter}
 use Rattle.bdb_format.proofs.VerdictLemmas.{FirstComesFirst, IsOfStage, by_page_first, holding_least, in_by_page, of_by_page}
 use Rattle.bdb_graph.specs.Linked.{IsForest, meta_pages}
 use Rattle.bdb_graph.proofs.LinkedLemmas.{root_fits}
 use Rattle.bdb_btree.proofs.PairLemmas.{tree_pair}
-use Rattle.bdb_file.specs.Entries.{NamedPair, count_fault, entries_naming, entry_fault, fault_at, master_entries, named, naming_fault, repeat_fault, key_of, target_fault}
+use Rattle.bdb_file.specs.Entries.{NamedPair, count_fault, entries_naming, entry_fault, fault_at, master_entries, named, naming_fault, repeat_fault}
+use Rattle.bdb_file.specs.Entries.{key_of, target_fault}
 use Rattle.bdb_overflow.specs.Keys.{repeated_by}
-use Rattle.bdb_format.specs.Master.{is_named_kind, is_none, is_page, master_in, master_pairs, master_rows, misses_target, named_by, naming, pairs_under}
+use Rattle.bdb_format.specs.Master.{is_named_kind, is_none, is_page, master_in, master_pairs, master_rows, misses_target, named_by, naming}
+use Rattle.bdb_format.specs.Master.{pairs_under}
 use Rattle.bdb_format.proofs.RepeatLemmas.{of_repeated, repeated_after, repeated_is}
 use Rattle.bdb_overflow.specs.Earlier.{earlier}
 use Rattle.bdb_file.specs.Noted.{earliest}
@@ -40,7 +44,8 @@ abbrev five_rows : Bool → Bool → Bool → Bool → Bool → List (Row ℕ)
 five_rows a b c d e = 1 :? a ∷ 2 :? b ∷ 3 :? c ∷ 4 :? d ∷ 5 :? e ∷ []
 
 abbrev OneOfFive : Bool → Bool → Bool → Bool → Bool → ℕ → Type 0
-OneOfFive a b c d e code = ((1 ≡ code) × (a ≡ true)) ⊎ (((2 ≡ code) × (b ≡ true)) ⊎ (((3 ≡ code) × (c ≡ true)) ⊎ (((4 ≡ code) × (d ≡ true)) ⊎ ((5 ≡ code) × (e ≡ true)))))
+OneOfFive a b c d e code =
+    ((1 ≡ code) × (a ≡ true)) ⊎ (((2 ≡ code) × (b ≡ true)) ⊎ (((3 ≡ code) × (c ≡ true)) ⊎ (((4 ≡ code) × (d ≡ true)) ⊎ ((5 ≡ code) × (e ≡ true)))))
 
 of_five : (a b c d e : Bool) (code : ℕ) → holds_code code (five_rows a b c d e) ≡ true → OneOfFive a b c d e code
 of_five a b c d e code holds = grind (arith, nat_tests)
@@ -90,15 +95,19 @@ target_seven file page (Some p) fault is = grind (arith, some_seven page 3 fault
 
 -- Entries and the pairs that they stand for.
 
-count_of : (file : File) (p : ℕ) (pairs : List StoredPair) → length (entries_naming p (map (named file) pairs)) ≡ length (filter (λ (pair : StoredPair). is_page (named_by file pair.data_item) p) pairs)
+count_of : (file : File) (p : ℕ) (pairs : List StoredPair)
+    → length (entries_naming p (map (named file) pairs)) ≡ length (filter (λ (pair : StoredPair). is_page (named_by file pair.data_item) p) pairs)
 count_of file p [] = refl
 count_of file p (pair ∷ pairs) = grind (arith, count_of file p pairs)
 
-any_same : (file : File) (key : List ℕ) (pairs : List StoredPair) → list_any (λ (other : NamedPair). bytes_eq other.key key) (map (named file) pairs) ≡ list_any (λ (other : StoredPair). bytes_eq other.key key) pairs
+any_same : (file : File) (key : List ℕ) (pairs : List StoredPair)
+    → list_any (λ (other : NamedPair). bytes_eq other.key key) (map (named file) pairs)
+    ≡ list_any (λ (other : StoredPair). bytes_eq other.key key) pairs
 any_same file key [] = refl
 any_same file key (pair ∷ pairs) = ap (λ b. bytes_eq pair.key key || b) (any_same file key pairs)
 
-repeats_are : (file : File) (before pairs : List StoredPair) → repeated_by key_of (map (named file) before) (map (named file) pairs) ≡ map (named file) (repeated_after before pairs)
+repeats_are : (file : File) (before pairs : List StoredPair)
+    → repeated_by key_of (map (named file) before) (map (named file) pairs) ≡ map (named file) (repeated_after before pairs)
 repeats_are file before [] = refl
 repeats_are file before (pair ∷ pairs) = grind (arith, any_same file pair.key before, repeats_are file (pair ∷ before) pairs)
 
@@ -115,11 +124,15 @@ master_is page meta is = absurd cc
 abbrev pub AreInside : File → Type 0
 AreInside file = (pair : StoredPair) → Contains (master_pairs file) pair → pair.page ≤ file.last
 
-under_inside : (image : List ℕ) (found : Option BtreeMeta) → master_in (page_at (file_of image) 0) ≡ found → IsForest image → (pair : StoredPair) → Contains (pairs_under (file_of image) found) pair → pair.page ≤ (file_of image).last
+under_inside : (image : List ℕ) (found : Option BtreeMeta) → master_in (page_at (file_of image) 0) ≡ found → IsForest image → (pair : StoredPair)
+    → Contains (pairs_under (file_of image) found) pair → pair.page ≤ (file_of image).last
 under_inside image None is forest pair at = absurd (no_member [] pair refl at)
 under_inside image (Some meta) is forest pair at =
-    let one : Contains (tree_pairs (file_of image) meta.root) pair = (of_filter (λ (other : StoredPair). other.live) (tree_pairs (file_of image) meta.root) pair at).0 in
-    let fits = root_fits image (head_of image) meta forest.formed (has_metadata (file_of image) 0 (BtreeFields meta) (omega arith) (master_is (page_at (file_of image) 0) meta is)) in
+    let one : Contains (tree_pairs (file_of image) meta.root) pair =
+    (of_filter (λ (other : StoredPair). other.live) (tree_pairs (file_of image) meta.root) pair at).0 in
+    let fits =
+    root_fits image (head_of image) meta forest.formed
+    (has_metadata (file_of image) 0 (BtreeFields meta) (omega arith) (master_is (page_at (file_of image) 0) meta is)) in
     (tree_pair image meta.root pair forest (inl fits) one).inside
 
 pub master_inside : (image : List ℕ) → IsForest image → AreInside (file_of image)
@@ -128,10 +141,12 @@ master_inside image forest pair at = under_inside image (master_in (page_at (fil
 
 -- Rows that hold.
 
-in_master : (file : File) (p : ℕ) (row : Row ℕ) → p ≤ file.last → Contains (master_rows file p) row → row.holds ≡ true → Contains (master_faults file) (fault_at p row.code)
+in_master : (file : File) (p : ℕ) (row : Row ℕ) → p ≤ file.last → Contains (master_rows file p) row → row.holds ≡ true
+    → Contains (master_faults file) (fault_at p row.code)
 unfolding master_faults
 in_master file p row low at holds =
-    in_by_page 7 0 (file.last + 1) p row.code (λ q. holding (master_rows file q)) (omega arith) (omega arith) (code_holding (master_rows file p) row.code (in_row (master_rows file p) row at holds))
+    in_by_page 7 0 (file.last + 1) p row.code (λ q. holding (master_rows file q)) (omega arith) (omega arith)
+    (code_holding (master_rows file p) row.code (in_row (master_rows file p) row at holds))
 
 pub record IsMasterFault (file : File) (fault : Fault) : Type 0 where
   pub seven : fault.stage ≡ 7
@@ -141,12 +156,15 @@ pub record IsMasterFault (file : File) (fault : Fault) : Type 0 where
 of_master : (file : File) (fault : Fault) → Contains (master_faults file) fault → IsMasterFault file fault
 unfolding master_faults
 of_master file fault at =
-    let is : IsOfStage 7 0 (0 + (file.last + 1)) (λ p. holding (master_rows file p)) fault = of_by_page 7 0 (file.last + 1) (λ p. holding (master_rows file p)) fault at in
+    let is : IsOfStage 7 0 (0 + (file.last + 1)) (λ p. holding (master_rows file p)) fault =
+    of_by_page 7 0 (file.last + 1) (λ p. holding (master_rows file p)) fault at in
     record { seven = is.same_stage; inside = omega (arith, is.below_high); holds = holding_code (master_rows file fault.page) fault.code is.is_code }
 
 master_rises : (file : File) → FirstComesFirst (master_faults file)
 unfolding master_faults
-master_rises file = by_page_first 7 0 (file.last + 1) (λ p. holding (master_rows file p)) (λ p. holding_least 1 (master_rows file p) (omega arith, (omega arith, (omega arith, (omega arith, (omega arith, tt))))))
+master_rises file =
+    by_page_first 7 0 (file.last + 1) (λ p. holding (master_rows file p))
+    (λ p. holding_least 1 (master_rows file p) (omega arith, (omega arith, (omega arith, (omega arith, (omega arith, tt))))))
 
 master_one : (file : File) (fault : Fault) → Contains (master_faults file) fault → fault.stage ≡ 7
 master_one file fault at = (of_master file fault at).seven
@@ -161,7 +179,8 @@ meta_at file p at =
 
 pub at_meta : (file : File) (p : ℕ) → p ≤ file.last → is_meta (page_at file p) ≡ true → Contains (meta_pages file) p
 unfolding meta_pages
-at_meta file p low is = in_filter (λ q. is_meta (page_at file q)) (range_with_len 0 (file.last + 1)) p (in_range 0 (file.last + 1) p (omega arith) (omega arith)) is
+at_meta file p low is =
+    in_filter (λ q. is_meta (page_at file q)) (range_with_len 0 (file.last + 1)) p (in_range 0 (file.last + 1) p (omega arith) (omega arith)) is
 
 abbrev CountIs : ℕ → ℕ → Fault → Type 0
 CountIs p n fault = (nat_lt 0 p ≡ true) × ((((n == 0) ≡ true) × (fault_at p 1 ≡ fault)) ⊎ ((nat_lt 1 n ≡ true) × (fault_at p 5 ≡ fault)))
@@ -193,22 +212,30 @@ is_twice file p = is_named_kind file p && nat_lt 1 (length (naming file p))
 count_same : (file : File) (p : ℕ) → length (entries_naming p (master_entries file)) ≡ length (naming file p)
 count_same file p = count_of file p (master_pairs file)
 
-pub in_naming : (file : File) (p : ℕ) (fault : Fault) → Contains (meta_pages file) p → naming_fault (master_entries file) p ≡ Some fault → Contains (master_faults file) fault
+pub in_naming : (file : File) (p : ℕ) (fault : Fault) → Contains (meta_pages file) p → naming_fault (master_entries file) p ≡ Some fault
+    → Contains (master_faults file) fault
 in_naming file p fault at is =
     let meta = meta_at file p at in
-    let cases : CountIs p (length (naming file p)) fault = count_cases p (length (naming file p)) fault (ap (count_fault p) (sym (count_same file p)) ∙ is) in
+    let cases : CountIs p (length (naming file p)) fault =
+    count_cases p (length (naming file p)) fault (ap (count_fault p) (sym (count_same file p)) ∙ is) in
     let kind : is_named_kind file p ≡ true = and_from (nat_lt 0 p) (is_meta (page_at file p)) cases.0 meta.1 in
     elim cases.1 [
-      | inl (none, same) ↦ subst (Contains (master_faults file)) same (in_master file p (1 :? is_unnamed file p) meta.0 (0, omega arith, refl) (and_from (is_named_kind file p) (length (naming file p) == 0) kind none))
-      | inr (more, same) ↦ subst (Contains (master_faults file)) same (in_master file p (5 :? is_twice file p) meta.0 (4, omega arith, refl) (and_from (is_named_kind file p) (nat_lt 1 (length (naming file p))) kind more))
+      | inl (none, same) ↦ subst (Contains (master_faults file)) same
+          (in_master file p (1 :? is_unnamed file p) meta.0 (0, omega arith, refl)
+          (and_from (is_named_kind file p) (length (naming file p) == 0) kind none))
+      | inr (more, same) ↦ subst (Contains (master_faults file)) same
+          (in_master file p (5 :? is_twice file p) meta.0 (4, omega arith, refl)
+          (and_from (is_named_kind file p) (nat_lt 1 (length (naming file p))) kind more))
     ]
 
 -- Pairs and what they name.
 
 abbrev TargetIs : File → ℕ → Option ℕ → Fault → Type 0
-TargetIs file page names fault = ((is_none names ≡ true) × (fault_at page 2 ≡ fault)) ⊎ ((misses_target file names ≡ true) × (fault_at page 3 ≡ fault))
+TargetIs file page names fault =
+    ((is_none names ≡ true) × (fault_at page 2 ≡ fault)) ⊎ ((misses_target file names ≡ true) × (fault_at page 3 ≡ fault))
 
-target_cases : (file : File) (page : ℕ) (names : Option ℕ) (fault : Fault) → target_fault file page names ≡ Some fault → TargetIs file page names fault
+target_cases : (file : File) (page : ℕ) (names : Option ℕ) (fault : Fault) → target_fault file page names ≡ Some fault
+    → TargetIs file page names fault
 target_cases file page None fault is = inl (refl, cc)
 target_cases file page (Some p) fault is = inr (grind arith, grind arith)
 
@@ -220,7 +247,8 @@ target_three : (file : File) (page : ℕ) (names : Option ℕ) → misses_target
 target_three file page None is = absurd cc
 target_three file page (Some p) is = grind arith
 
-pub in_targets : (file : File) (entry : NamedPair) (fault : Fault) → AreInside file → Contains (master_entries file) entry → entry_fault file entry ≡ Some fault → Contains (master_faults file) fault
+pub in_targets : (file : File) (entry : NamedPair) (fault : Fault) → AreInside file → Contains (master_entries file) entry
+    → entry_fault file entry ≡ Some fault → Contains (master_faults file) fault
 in_targets file entry fault inside at is =
     let found = of_map (named file) (master_pairs file) entry at in
     let pair : StoredPair = found.0 in
@@ -234,7 +262,8 @@ in_targets file entry fault inside at is =
       | inr (misses, same) ↦
           subst (Contains (master_faults file)) same
           (in_master file pair.page (3 :? has_target file pair.page) (inside pair here) (2, omega arith, refl)
-          (passes_here (λ (other : StoredPair). other.page == pair.page && misses_target file (named_by file other.data_item)) (master_pairs file) pair here
+          (passes_here (λ (other : StoredPair). other.page == pair.page && misses_target file (named_by file other.data_item))
+          (master_pairs file) pair here
           (and_from (pair.page == pair.page) (misses_target file (named_by file pair.data_item)) (eq-eqb pair.page pair.page refl) misses)))
     ]
 
@@ -245,7 +274,8 @@ repeat_here file pair inside at =
     in_master file pair.page (4 :? has_repeat file pair.page) (inside pair (of_repeated (master_pairs file) pair at)) (3, omega arith, refl)
     (passes_here (λ (other : StoredPair). other.page == pair.page) (repeated (master_pairs file)) pair at (eq-eqb pair.page pair.page refl))
 
-in_repeats : (file : File) (entry : NamedPair) (fault : Fault) → AreInside file → Contains (repeated_by key_of [] (master_entries file)) entry → repeat_fault entry ≡ Some fault → Contains (master_faults file) fault
+in_repeats : (file : File) (entry : NamedPair) (fault : Fault) → AreInside file → Contains (repeated_by key_of [] (master_entries file)) entry
+    → repeat_fault entry ≡ Some fault → Contains (master_faults file) fault
 in_repeats file entry fault inside at is =
     let found = of_map (named file) (repeated (master_pairs file)) entry (subst (λ es. Contains es entry) (all_repeats_are file) at) in
     let pair : StoredPair = found.0 in
@@ -287,24 +317,31 @@ of_all file fault inside at =
 whole : (s p c d : ℕ) → s ≡ 7 → d ≡ c → ◌≡◌ {A = Fault} (fault_at p d) (record { stage = s; page = p; code = c })
 whole s p c d seven same = cc
 
-from_naming : (file : File) (fault : Fault) (code : ℕ) → fault.page ≤ file.last → is_named_kind file fault.page ≡ true → fault_at fault.page code ≡ fault
-    → (nat_lt 0 fault.page ≡ true → count_fault fault.page (length (naming file fault.page)) ≡ Some (fault_at fault.page code)) → Contains (all_noted file (master_entries file)) fault
+from_naming : (file : File) (fault : Fault) (code : ℕ) → fault.page ≤ file.last → is_named_kind file fault.page ≡ true
+    → fault_at fault.page code ≡ fault
+    → (nat_lt 0 fault.page ≡ true → count_fault fault.page (length (naming file fault.page)) ≡ Some (fault_at fault.page code))
+    → Contains (all_noted file (master_entries file)) fault
 from_naming file fault code low kind same gives =
     let entries : List NamedPair = master_entries file in
     let parts = and_parts (nat_lt 0 fault.page) (is_meta (page_at file fault.page)) kind in
-    let given_here : naming_fault entries fault.page ≡ Some fault = ap (count_fault fault.page) (count_same file fault.page) ∙ (gives parts.0 ∙ ap (λ (f : Fault). Some f) same) in
+    let given_here : naming_fault entries fault.page ≡ Some fault =
+    ap (count_fault fault.page) (count_same file fault.page) ∙ (gives parts.0 ∙ ap (λ (f : Fault). Some f) same) in
     Contains-append_left (by_naming file entries ++ by_target file entries) (by_repeat entries) fault
     (Contains-append_left (by_naming file entries) (by_target file entries) fault
-    (in_flat_map (λ p. given (naming_fault entries p)) (meta_pages file) fault.page fault (at_meta file fault.page low parts.1) (in_given (naming_fault entries fault.page) fault given_here)))
+    (in_flat_map (λ p. given (naming_fault entries p)) (meta_pages file) fault.page fault (at_meta file fault.page low parts.1)
+    (in_given (naming_fault entries fault.page) fault given_here)))
 
-from_target : (file : File) (pair : StoredPair) (fault : Fault) → Contains (master_pairs file) pair → target_fault file pair.page (named_by file pair.data_item) ≡ Some fault → Contains (all_noted file (master_entries file)) fault
+from_target : (file : File) (pair : StoredPair) (fault : Fault) → Contains (master_pairs file) pair
+    → target_fault file pair.page (named_by file pair.data_item) ≡ Some fault → Contains (all_noted file (master_entries file)) fault
 from_target file pair fault at is =
     let entries : List NamedPair = master_entries file in
     Contains-append_left (by_naming file entries ++ by_target file entries) (by_repeat entries) fault
     (Contains-append_right (by_naming file entries) (by_target file entries) fault
-    (in_flat_map (λ (entry : NamedPair). given (entry_fault file entry)) entries (named file pair) fault (in_map (named file) (master_pairs file) pair at) (in_given (entry_fault file (named file pair)) fault is)))
+    (in_flat_map (λ (entry : NamedPair). given (entry_fault file entry)) entries (named file pair) fault
+    (in_map (named file) (master_pairs file) pair at) (in_given (entry_fault file (named file pair)) fault is)))
 
-from_repeat : (file : File) (pair : StoredPair) (fault : Fault) → Contains (repeated (master_pairs file)) pair → Some (fault_at pair.page 4) ≡ Some fault
+from_repeat : (file : File) (pair : StoredPair) (fault : Fault) → Contains (repeated (master_pairs file)) pair
+    → Some (fault_at pair.page 4) ≡ Some fault
     → Contains (all_noted file (master_entries file)) fault
 from_repeat file pair fault at is =
     let entries : List NamedPair = master_entries file in
@@ -321,7 +358,8 @@ in_all file fault at =
     let is : IsMasterFault file fault = of_master file fault at in
     let p : ℕ = fault.page in
     let same : (d : ℕ) → d ≡ fault.code → fault_at fault.page d ≡ fault = λ d code. whole fault.stage fault.page fault.code d is.seven code in
-    elim (of_five (is_unnamed file fault.page) (has_size file fault.page) (has_target file fault.page) (has_repeat file fault.page) (is_twice file fault.page) fault.code is.holds) [
+    elim (of_five (is_unnamed file fault.page) (has_size file fault.page) (has_target file fault.page) (has_repeat file fault.page)
+    (is_twice file fault.page) fault.code is.holds) [
       | inl (code, row) ↦
           let parts = and_parts (is_named_kind file fault.page) (length (naming file fault.page) == 0) row in
           from_naming file fault 1 is.inside parts.0 (same 1 code) (λ above. count_one fault.page (length (naming file fault.page)) above parts.1)
@@ -329,13 +367,15 @@ in_all file fault at =
           let found = any_member (λ (pair : StoredPair). pair.page == fault.page && is_none (named_by file pair.data_item)) (master_pairs file) row in
           let parts = and_parts (found.0.page == fault.page) (is_none (named_by file found.0.data_item)) found.2 in
           from_target file found.0 fault found.1
-          (target_two file found.0.page (named_by file found.0.data_item) parts.1 ∙ moved found.0.page fault.page 2 fault (eqb-true found.0.page fault.page parts.0) (same 2 code))
+          (target_two file found.0.page (named_by file found.0.data_item) parts.1
+          ∙ moved found.0.page fault.page 2 fault (eqb-true found.0.page fault.page parts.0) (same 2 code))
       | inr (inr (inl (code, row))) ↦
           let found =
           any_member (λ (pair : StoredPair). pair.page == fault.page && misses_target file (named_by file pair.data_item)) (master_pairs file) row in
           let parts = and_parts (found.0.page == fault.page) (misses_target file (named_by file found.0.data_item)) found.2 in
           from_target file found.0 fault found.1
-          (target_three file found.0.page (named_by file found.0.data_item) parts.1 ∙ moved found.0.page fault.page 3 fault (eqb-true found.0.page fault.page parts.0) (same 3 code))
+          (target_three file found.0.page (named_by file found.0.data_item) parts.1
+          ∙ moved found.0.page fault.page 3 fault (eqb-true found.0.page fault.page parts.0) (same 3 code))
       | inr (inr (inr (inl (code, row)))) ↦
           let found = any_member (λ (pair : StoredPair). pair.page == fault.page) (repeated (master_pairs file)) row in
           from_repeat file found.0 fault found.1 (moved found.0.page fault.page 4 fault (eqb-true found.0.page fault.page found.2) (same 4 code))
@@ -347,30 +387,50 @@ in_all file fault at =
 -- The first fault of stage 7.
 
 noted_first : (file : File) (entries : List NamedPair)
-    → IsFirstOrNone (all_noted file entries) (earlier (earlier (earliest (naming_fault entries) (meta_pages file)) (earliest (entry_fault file) entries)) (earliest repeat_fault (repeated_by key_of [] entries)))
+    → IsFirstOrNone (all_noted file entries)
+    (earlier (earlier (earliest (naming_fault entries) (meta_pages file)) (earliest (entry_fault file) entries))
+    (earliest repeat_fault (repeated_by key_of [] entries)))
 noted_first file entries =
     let names : AreOf 7 (by_naming file entries) =
-    flat_of (naming_fault entries) (λ p. given (naming_fault entries p)) 7 (λ p. given_first (naming_fault entries p)) (λ p. given_of (naming_fault entries p) (count_seven p (length (entries_naming p entries)))) (meta_pages file)
+    flat_of (naming_fault entries) (λ p. given (naming_fault entries p)) 7 (λ p. given_first (naming_fault entries p))
+    (λ p. given_of (naming_fault entries p) (count_seven p (length (entries_naming p entries)))) (meta_pages file)
     in
     let targets : AreOf 7 (by_target file entries) =
-    flat_of (entry_fault file) (λ (entry : NamedPair). given (entry_fault file entry)) 7 (λ entry. given_first (entry_fault file entry)) (λ (entry : NamedPair). given_of (entry_fault file entry) (target_seven file entry.page entry.names)) entries
+    flat_of (entry_fault file) (λ (entry : NamedPair). given (entry_fault file entry)) 7 (λ entry. given_first (entry_fault file entry))
+    (λ (entry : NamedPair). given_of (entry_fault file entry) (target_seven file entry.page entry.names)) entries
     in
     let repeats : AreOf 7 (by_repeat entries) =
-    flat_of repeat_fault (λ (entry : NamedPair). given (repeat_fault entry)) 7 (λ entry. given_first (repeat_fault entry)) (λ (entry : NamedPair). given_of (repeat_fault entry) (some_seven entry.page 4)) (repeated_by key_of [] entries)
+    flat_of repeat_fault (λ (entry : NamedPair). given (repeat_fault entry)) 7 (λ entry. given_first (repeat_fault entry))
+    (λ (entry : NamedPair). given_of (repeat_fault entry) (some_seven entry.page 4)) (repeated_by key_of [] entries)
     in
-    first_of_parts 7 (by_naming file entries ++ by_target file entries) (by_repeat entries) (earlier (earliest (naming_fault entries) (meta_pages file)) (earliest (entry_fault file) entries)) (earliest repeat_fault (repeated_by key_of [] entries))
-    (λ fault at. elim (Contains-append_cases (by_naming file entries) (by_target file entries) fault at) [ inl here ↦ names fault here | inr here ↦ targets fault here ]) repeats
-    (first_of_parts 7 (by_naming file entries) (by_target file entries) (earliest (naming_fault entries) (meta_pages file)) (earliest (entry_fault file) entries) names targets
-    (earliest_first (naming_fault entries) (λ p. given (naming_fault entries p)) 7 (λ p. given_first (naming_fault entries p)) (λ p. given_of (naming_fault entries p) (count_seven p (length (entries_naming p entries)))) (meta_pages file))
-    (earliest_first (entry_fault file) (λ (entry : NamedPair). given (entry_fault file entry)) 7 (λ entry. given_first (entry_fault file entry)) (λ (entry : NamedPair). given_of (entry_fault file entry) (target_seven file entry.page entry.names)) entries))
-    (earliest_first repeat_fault (λ (entry : NamedPair). given (repeat_fault entry)) 7 (λ entry. given_first (repeat_fault entry)) (λ (entry : NamedPair). given_of (repeat_fault entry) (some_seven entry.page 4)) (repeated_by key_of [] entries))
+    first_of_parts 7 (by_naming file entries ++ by_target file entries) (by_repeat entries)
+    (earlier (earliest (naming_fault entries) (meta_pages file)) (earliest (entry_fault file) entries))
+    (earliest repeat_fault (repeated_by key_of [] entries))
+    (λ fault at. elim (Contains-append_cases (by_naming file entries) (by_target file entries) fault at) [
+      | inl here ↦ names fault here
+      | inr here ↦
+          targets fault here
+    ]) repeats
+    (first_of_parts 7 (by_naming file entries) (by_target file entries) (earliest (naming_fault entries) (meta_pages file))
+    (earliest (entry_fault file) entries) names targets
+    (earliest_first (naming_fault entries) (λ p. given (naming_fault entries p)) 7 (λ p. given_first (naming_fault entries p))
+    (λ p. given_of (naming_fault entries p) (count_seven p (length (entries_naming p entries)))) (meta_pages file))
+    (earliest_first (entry_fault file) (λ (entry : NamedPair). given (entry_fault file entry)) 7 (λ entry. given_first (entry_fault file entry))
+    (λ (entry : NamedPair). given_of (entry_fault file entry) (target_seven file entry.page entry.names)) entries))
+    (earliest_first repeat_fault (λ (entry : NamedPair). given (repeat_fault entry)) 7 (λ entry. given_first (repeat_fault entry))
+    (λ (entry : NamedPair). given_of (repeat_fault entry) (some_seven entry.page 4)) (repeated_by key_of [] entries))
 
 pub master_first : (image : List ℕ) → IsForest image
-    → earlier (earlier (earliest (naming_fault (master_entries (file_of image))) (meta_pages (file_of image))) (earliest (entry_fault (file_of image)) (master_entries (file_of image)))) (earliest repeat_fault (repeated_by key_of [] (master_entries (file_of image))))
+    → earlier (earlier (earliest (naming_fault (master_entries (file_of image))) (meta_pages (file_of image)))
+    (earliest (entry_fault (file_of image)) (master_entries (file_of image))))
+    (earliest repeat_fault (repeated_by key_of [] (master_entries (file_of image))))
     ≡ first_fault (master_faults (file_of image))
 master_first image forest =
     let file : File = file_of image in
     let entries : List NamedPair = master_entries file in
-    let found : Option Fault = earlier (earlier (earliest (naming_fault entries) (meta_pages file)) (earliest (entry_fault file) entries)) (earliest repeat_fault (repeated_by key_of [] entries)) in
+    let found : Option Fault =
+    earlier (earlier (earliest (naming_fault entries) (meta_pages file)) (earliest (entry_fault file) entries))
+    (earliest repeat_fault (repeated_by key_of [] entries)) in
     sym (first_is (master_faults file) 7 found (master_rises file) (master_one file)
-    (first_same (all_noted file entries) (master_faults file) found (λ fault at. of_all file fault (master_inside image forest) at) (λ fault at. in_all file fault at) (noted_first file entries)))
+    (first_same (all_noted file entries) (master_faults file) found (λ fault at. of_all file fault (master_inside image forest) at)
+    (λ fault at. in_all file fault at) (noted_first file entries)))

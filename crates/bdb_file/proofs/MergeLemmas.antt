@@ -1,5 +1,5 @@
 -- The first fault of a stage from those of its parts.
-use Rattle.std.proofs.Common.{◌≡◌, ◌⊎◌, ℕ, ◌+◌, ◌<◌, ◌≤◌, true, false, cond, List, [], ◌∷◌, ◌++◌, Option, Some, None, arith, refl, sym, ◌∙◌, ap, subst, inl, inr}
+use Rattle.std.proofs.Common.{◌≡◌, ◌⊎◌, ℕ, ◌+◌, ◌<◌, ◌≤◌, List, [], ◌∷◌, ◌++◌, Option, Some, None, arith, refl, sym, ◌∙◌, ap, subst, inl, inr}
 use Rattle.std.specs.List.{Contains}
 use Rattle.std.proofs.lemmas.Bool.{cases_Bool}
 use Rattle.std.proofs.lemmas.List.Elements.{Contains-append_cases, Contains-append_left, Contains-append_right}
@@ -29,7 +29,8 @@ abbrev pub IsFirstOrNone : List Fault → Option Fault → Type 0
 IsFirstOrNone faults None = (fault : Fault) → Contains faults fault → ⊥
 IsFirstOrNone faults (Some first) = IsFirstIn faults first
 
-pub first_of_list : (faults : List Fault) (stage : ℕ) → FirstComesFirst faults → ((fault : Fault) → Contains faults fault → fault.stage ≡ stage) → IsFirstOrNone faults (first_fault faults)
+pub first_of_list : (faults : List Fault) (stage : ℕ) → FirstComesFirst faults → ((fault : Fault) → Contains faults fault → fault.stage ≡ stage)
+    → IsFirstOrNone faults (first_fault faults)
 first_of_list [] stage rises same = λ fault at. no_member [] fault refl at
 first_of_list (first ∷ rest) stage rises same = record {
   at = first_member first rest;
@@ -38,14 +39,16 @@ first_of_list (first ∷ rest) stage rises same = record {
 }
 
 -- what comes first in a list that rises is its first
-pub first_is : (faults : List Fault) (stage : ℕ) (found : Option Fault) → FirstComesFirst faults → ((fault : Fault) → Contains faults fault → fault.stage ≡ stage) → IsFirstOrNone faults found
+pub first_is : (faults : List Fault) (stage : ℕ) (found : Option Fault) → FirstComesFirst faults
+    → ((fault : Fault) → Contains faults fault → fault.stage ≡ stage) → IsFirstOrNone faults found
     → first_fault faults ≡ found
 first_is [] stage None rises same found = refl
 first_is [] stage (Some first) rises same found = absurd (no_member [] first refl found.at)
 first_is (a ∷ rest) stage None rises same found = absurd (found a (first_member a rest))
 first_is (a ∷ rest) stage (Some first) rises same found =
     ap (λ (f : Fault). Some f)
-    (same_fault a first (same a (first_member a rest) ∙ sym (same first found.at)) (rises a rest first refl found.at) (found.before a (first_member a rest)))
+    (same_fault a first (same a (first_member a rest) ∙ sym (same first found.at)) (rises a rest first refl found.at)
+    (found.before a (first_member a rest)))
 
 -- The first fault of two lists together.
 
@@ -55,9 +58,11 @@ pub record AreBoth (xs ys zs : List Fault) : Type 0 where
   pub left : (fault : Fault) → Contains xs fault → Contains zs fault
   pub right : (fault : Fault) → Contains ys fault → Contains zs fault
 
-pub first_of_both : (xs ys zs : List Fault) (a b : Option Fault) → AreBoth xs ys zs → ((fault : Fault) (other : Fault) → Contains zs fault → Contains zs other → fault.stage ≡ other.stage)
+pub first_of_both : (xs ys zs : List Fault) (a b : Option Fault) → AreBoth xs ys zs
+    → ((fault : Fault) (other : Fault) → Contains zs fault → Contains zs other → fault.stage ≡ other.stage)
     → IsFirstOrNone xs a → IsFirstOrNone ys b → IsFirstOrNone zs (earlier a b)
-first_of_both xs ys zs None None both same first second = λ fault at. elim (both.of fault at) [ inl left ↦ first fault left | inr right ↦ second fault right ]
+first_of_both xs ys zs None None both same first second =
+    λ fault at. elim (both.of fault at) [ inl left ↦ first fault left | inr right ↦ second fault right ]
 first_of_both xs ys zs None (Some b) both same first second = record {
   at = both.right b second.at;
   before = λ fault at. elim (both.of fault at) [ inl left ↦ absurd (first fault left) | inr right ↦ second.before fault right ];
@@ -72,12 +77,20 @@ first_of_both xs ys zs (Some a) (Some b) both same first second =
     elim (cases_Bool (is_before a b)) [
       | inl before ↦ rw before (record {
         at = both.left a first.at;
-        before = λ fault at. elim (both.of fault at) [ inl left ↦ first.before fault left | inr right ↦ comes_through a b fault (before_is a b before) (second.before fault right) ];
+        before = λ fault at. elim (both.of fault at) [
+          | inl left ↦ first.before fault left
+          | inr right ↦
+              comes_through a b fault (before_is a b before) (second.before fault right)
+        ];
         stage = λ fault at. same a fault (both.left a first.at) at;
       })
       | inr after ↦ rw after (record {
         at = both.right b second.at;
-        before = λ fault at. elim (both.of fault at) [ inl left ↦ comes_through b a fault (after_is a b after) (first.before fault left) | inr right ↦ second.before fault right ];
+        before = λ fault at. elim (both.of fault at) [
+          | inl left ↦ comes_through b a fault (after_is a b after) (first.before fault left)
+          | inr right ↦
+              second.before fault right
+        ];
         stage = λ fault at. same b fault (both.right b second.at) at;
       })
     ]
@@ -96,13 +109,17 @@ both_by_page stage from n f g h of left right = record {
         | inl code ↦ inl (at_page f fault is.same_stage is.from_low is.below_high code)
         | inr code ↦ inr (at_page g fault is.same_stage is.from_low is.below_high code)
       ];
-  left = λ fault at. let is : IsOfStage stage from (from + n) f fault = of_by_page stage from n f fault at in at_page h fault is.same_stage is.from_low is.below_high (left fault.page fault.code is.is_code);
-  right = λ fault at. let is : IsOfStage stage from (from + n) g fault = of_by_page stage from n g fault at in at_page h fault is.same_stage is.from_low is.below_high (right fault.page fault.code is.is_code);
+  left = λ fault at. let is : IsOfStage stage from (from + n) f fault = of_by_page stage from n f fault at in
+      at_page h fault is.same_stage is.from_low is.below_high (left fault.page fault.code is.is_code);
+  right = λ fault at. let is : IsOfStage stage from (from + n) g fault = of_by_page stage from n g fault at in
+      at_page h fault is.same_stage is.from_low is.below_high (right fault.page fault.code is.is_code);
 }
   where
-    at_page : (codes : ℕ → List ℕ) (fault : Fault) → fault.stage ≡ stage → from ≤ fault.page → fault.page < from + n → Contains (codes fault.page) fault.code → Contains (by_page stage from n codes) fault
+    at_page : (codes : ℕ → List ℕ) (fault : Fault) → fault.stage ≡ stage → from ≤ fault.page → fault.page < from + n
+        → Contains (codes fault.page) fault.code → Contains (by_page stage from n codes) fault
     at_page codes fault same low high code =
-        subst (λ s. Contains (by_page stage from n codes) (record { stage = s; page = fault.page; code = fault.code })) (sym same) (in_by_page stage from n fault.page fault.code codes low high code)
+        subst (λ s. Contains (by_page stage from n codes) (record { stage = s; page = fault.page; code = fault.code })) (sym same)
+        (in_by_page stage from n fault.page fault.code codes low high code)
 
 -- the codes of two tables together
 of_holding : (xs ys : List (Row ℕ)) → holding (xs ++ ys) ≡ holding xs ++ holding ys
@@ -115,9 +132,12 @@ structure_both : (file : File) → AreBoth (chain_faults file) (tree_faults file
 unfolding chain_faults tree_faults structure_faults
 structure_both file =
     both_by_page 6 0 (file.last + 1) (λ p. holding (chain_rows file p)) (λ p. holding (tree_rows file p)) (λ p. holding (structure_rows file p))
-    (λ p code at. Contains-append_cases (holding (chain_rows file p)) (holding (tree_rows file p)) code (subst (λ codes. Contains codes code) (of_holding (chain_rows file p) (tree_rows file p)) at))
-    (λ p code at. subst (λ codes. Contains codes code) (sym (of_holding (chain_rows file p) (tree_rows file p))) (Contains-append_left (holding (chain_rows file p)) (holding (tree_rows file p)) code at))
-    (λ p code at. subst (λ codes. Contains codes code) (sym (of_holding (chain_rows file p) (tree_rows file p))) (Contains-append_right (holding (chain_rows file p)) (holding (tree_rows file p)) code at))
+    (λ p code at. Contains-append_cases (holding (chain_rows file p)) (holding (tree_rows file p)) code
+    (subst (λ codes. Contains codes code) (of_holding (chain_rows file p) (tree_rows file p)) at))
+    (λ p code at. subst (λ codes. Contains codes code) (sym (of_holding (chain_rows file p) (tree_rows file p)))
+    (Contains-append_left (holding (chain_rows file p)) (holding (tree_rows file p)) code at))
+    (λ p code at. subst (λ codes. Contains codes code) (sym (of_holding (chain_rows file p) (tree_rows file p)))
+    (Contains-append_right (holding (chain_rows file p)) (holding (tree_rows file p)) code at))
 
 structure_one : (file : File) (fault : Fault) → Contains (structure_faults file) fault → fault.stage ≡ 6
 unfolding structure_faults
@@ -133,12 +153,16 @@ chain_rises file = by_page_first 6 0 (file.last + 1) (λ p. holding (chain_rows 
 
 structure_rises : (file : File) → FirstComesFirst (structure_faults file)
 unfolding structure_faults
-structure_rises file = by_page_first 6 0 (file.last + 1) (λ p. holding (structure_rows file p)) (λ p. holding_least 1 (structure_rows file p) (omega arith, (omega arith, (omega arith, tt))))
+structure_rises file =
+    by_page_first 6 0 (file.last + 1) (λ p. holding (structure_rows file p))
+    (λ p. holding_least 1 (structure_rows file p) (omega arith, (omega arith, (omega arith, tt))))
 
 -- the first fault of stage 6 is the earlier of those of its parts
 pub structure_first : (file : File) → first_fault (structure_faults file) ≡ earlier (first_fault (chain_faults file)) (first_fault (tree_faults file))
 structure_first file =
-    first_is (structure_faults file) 6 (earlier (first_fault (chain_faults file)) (first_fault (tree_faults file))) (structure_rises file) (structure_one file)
-    (first_of_both (chain_faults file) (tree_faults file) (structure_faults file) (first_fault (chain_faults file)) (first_fault (tree_faults file)) (structure_both file)
+    first_is (structure_faults file) 6 (earlier (first_fault (chain_faults file)) (first_fault (tree_faults file)))
+    (structure_rises file) (structure_one file)
+    (first_of_both (chain_faults file) (tree_faults file) (structure_faults file) (first_fault (chain_faults file)) (first_fault (tree_faults file))
+    (structure_both file)
     (λ fault other at also. structure_one file fault at ∙ sym (structure_one file other also))
     (first_of_list (chain_faults file) 6 (chain_rises file) (chain_one file)) (first_of_list (tree_faults file) 6 (tree_rises file) (tree_one file)))

@@ -1,14 +1,16 @@
 -- The names that a master gives ascend.
-use Rattle.std.proofs.Common.{◌≡◌, ℕ, ◌+◌, ◌<◌, ◌≤◌, Bool, true, false, not, cond, List, [], ◌∷◌, ◌++◌, length, map, Option, Some, None, arith, refl, sym, ◌∙◌, ap, subst, inl, inr, true≢false}
-use Rattle.std.specs.Prelude.{◌==◌, ◌&&◌, ◌^◌, nat_lt, ◌||◌}
+use Rattle.std.proofs.Common.{◌≡◌, ℕ, ◌+◌, ◌<◌, ◌≤◌, Bool, true, false, cond, List, [], ◌∷◌, ◌++◌, length, map, Option, Some, None, arith, refl, sym}
+use Rattle.std.proofs.Common.{◌∙◌, ap, subst, inl, inr}
+use Rattle.std.specs.Prelude.{◌==◌, ◌&&◌, ◌^◌, nat_lt}
 use Rattle.std.specs.List.{Contains, filter, flat_map, list_any}
 use Rattle.std.specs.Str.{bytes_eq}
-use Rattle.std.proofs.lemmas.Bool.{and_from, and_parts, cases_eq, eq-eqb, false_from_ne_true, or_parts, cases_Bool}
+use Rattle.std.proofs.lemmas.Bool.{and_from, and_parts, cases_eq, eq-eqb, or_parts}
 use Rattle.std.proofs.lemmas.List.{map-append}
 use Rattle.bdb_format.specs.declared.kinds.Order.{Order}
 use Rattle.bdb_format.specs.declared.metadata.BtreeMeta.{BtreeMeta}
 use Rattle.bdb_format.specs.declared.metadata.FileKind.TheVariants.{Btree}
-use Rattle.bdb_format.specs.ContentRows.{ascends, ascends_from, btree_contents, database_faults, database_rows, fields_in, is_out_of_order, neighbours, neighbours_from, repeated}
+use Rattle.bdb_format.specs.ContentRows.{ascends, ascends_from, btree_contents, database_faults, database_rows, fields_in, is_out_of_order}
+use Rattle.bdb_format.specs.ContentRows.{neighbours, repeated}
 use Rattle.bdb_format.specs.Contents.{StoredPair, tree_pairs}
 use Rattle.bdb_format.specs.Databases.{database_on, databases, databases_under, named_database}
 use Rattle.bdb_format.specs.File.{File, file_of, page_at, page_bytes}
@@ -63,11 +65,15 @@ not_repeated : (b : Bool) (pair : StoredPair) (rest : List StoredPair) → cond 
 not_repeated true pair rest none = absurd cc
 not_repeated false pair rest none = (refl, none)
 
-ascend_from : (before : StoredPair) (earlier pairs : List StoredPair) → NoneBelow before.key pairs → DontFall pairs → repeated_after (before ∷ earlier) pairs ≡ [] → ascends_from before.key (map (λ (pair : StoredPair). pair.key) pairs) ≡ true
+ascend_from : (before : StoredPair) (earlier pairs : List StoredPair) → NoneBelow before.key pairs → DontFall pairs
+    → repeated_after (before ∷ earlier) pairs ≡ [] → ascends_from before.key (map (λ (pair : StoredPair). pair.key) pairs) ≡ true
 ascend_from before earlier [] above fall none = refl
 ascend_from before earlier (pair ∷ pairs) above fall none =
-    let parts = not_repeated (list_any (λ (other : StoredPair). bytes_eq other.key pair.key) (before ∷ earlier)) pair (repeated_after (pair ∷ before ∷ earlier) pairs) none in
-    let apart : bytes_eq before.key pair.key ≡ false = (or_parts (bytes_eq before.key pair.key) (list_any (λ (other : StoredPair). bytes_eq other.key pair.key) earlier) parts.0).0 in
+    let parts =
+    not_repeated (list_any (λ (other : StoredPair). bytes_eq other.key pair.key) (before ∷ earlier)) pair
+    (repeated_after (pair ∷ before ∷ earlier) pairs) none in
+    let apart : bytes_eq before.key pair.key ≡ false =
+    (or_parts (bytes_eq before.key pair.key) (list_any (λ (other : StoredPair). bytes_eq other.key pair.key) earlier) parts.0).0 in
     and_from (less before.key pair.key) (ascends_from pair.key (map (λ (one : StoredPair). one.key) pairs))
     (grind (arith, same_unless_less before.key pair.key, above pair (first_member pair pairs), eq_self before.key, apart))
     (ascend_from pair (before ∷ earlier) pairs fall.0 fall.1 parts.1)
@@ -91,14 +97,18 @@ record IsTreeMeta (order : Order) (page : List ℕ) (meta : BtreeMeta) : Type 0 
   byte : byte_at page 25 ≡ 9
   fields : btree_fields order page ≡ meta
 
-tree_meta : (order : Order) (page : List ℕ) (meta : BtreeMeta) → is_page_size (length page) ≡ true → abstract_page order page ≡ Meta (BtreeFields meta) → IsTreeMeta order page meta
+tree_meta : (order : Order) (page : List ℕ) (meta : BtreeMeta) → is_page_size (length page) ≡ true
+    → abstract_page order page ≡ Meta (BtreeFields meta) → IsTreeMeta order page meta
 tree_meta order page meta size is =
     elim (cases_eq (byte_at page 25) 9) [
-      | inl tree ↦ let same : ◌≡◌ {A = Page} (Meta (BtreeFields (btree_fields order page))) (Meta (BtreeFields meta)) = sym (tree_page order page size tree) ∙ is in record { byte = tree; fields = cc }
+      | inl tree ↦ let same : ◌≡◌ {A = Page} (Meta (BtreeFields (btree_fields order page))) (Meta (BtreeFields meta)) =
+          sym (tree_page order page size tree) ∙ is in record { byte = tree; fields = cc }
       | inr no_tree ↦ elim (cases_eq (byte_at page 25) 8) [
-        | inl table ↦ let same : ◌≡◌ {A = Page} (Meta (HashFields (hash_fields order page))) (Meta (BtreeFields meta)) = sym (table_page order page size table) ∙ is in absurd cc
+        | inl table ↦ let same : ◌≡◌ {A = Page} (Meta (HashFields (hash_fields order page))) (Meta (BtreeFields meta)) =
+            sym (table_page order page size table) ∙ is in absurd cc
         | inr no_table ↦ elim (cases_eq (byte_at page 25) 10) [
-          | inl queue ↦ let same : ◌≡◌ {A = Page} (Meta (QueueFields (queue_fields order page))) (Meta (BtreeFields meta)) = sym (queue_page order page size queue) ∙ is in absurd cc
+          | inl queue ↦ let same : ◌≡◌ {A = Page} (Meta (QueueFields (queue_fields order page))) (Meta (BtreeFields meta)) =
+              sym (queue_page order page size queue) ∙ is in absurd cc
           | inr no_queue ↦ let none : Some (BtreeFields meta) ≡ None = sym (ap meta_in is) ∙ no_meta order page no_table no_tree no_queue in absurd cc
         ]
       ]
@@ -123,21 +133,26 @@ master_keys image meta forest is master =
     let page : List ℕ = page_bytes (head_of image) image 0 in
     let size : is_page_size (length page) ≡ true = page_sized image 0 forest (omega arith) in
     let read : IsTreeMeta order page meta = tree_meta order page meta size (sym (page_is image 0 (omega arith)) ∙ is) in
-    let fail : AllFail (metadata_rows order page 0 0 Btree) = none_is_first_row (metadata_rows order page 0 0 Btree) (tree_formed (head_of image) 0 page size read.byte (formed_page image 0 forest.formed.form (omega arith))) in
+    let fail : AllFail (metadata_rows order page 0 0 Btree) =
+    none_is_first_row (metadata_rows order page 0 0 Btree)
+    (tree_formed (head_of image) 0 page size read.byte (formed_page image 0 forest.formed.form (omega arith))) in
     let flags : four_at order page 48 ≡ meta.flags = ap (λ (m : BtreeMeta). m.flags) read.fields in
     no_recno meta.flags (subst (λ n. are_wrong_flags 0 n ≡ false) flags fail.1.1.1.1.1.1.1.1.1.0) master
 
 -- The pairs of a master.
 
-keys_kept : (image : List ℕ) (meta : BtreeMeta) → IsForest image → HasMetadata (file_of image) (BtreeFields meta) → is_recno meta ≡ false → database_faults (file_of image) (BtreeFields meta) ≡ []
+keys_kept : (image : List ℕ) (meta : BtreeMeta) → IsForest image → HasMetadata (file_of image) (BtreeFields meta) → is_recno meta ≡ false
+    → database_faults (file_of image) (BtreeFields meta) ≡ []
     → (two : StoredPair × StoredPair) → Contains (neighbours (tree_pairs (file_of image) meta.root)) two → is_out_of_order two ≡ false
 unfolding database_faults
 keys_kept image meta forest has keys none two at =
     let file : File = file_of image in
     let pairs : List StoredPair = tree_pairs file meta.root in
     let p : ℕ = two.1.page in
-    let low : p ≤ file.last = (tree_pair image meta.root two.1 forest (inl (root_fits image (head_of image) meta forest.formed has)) (neighbour_in pairs two at)).inside in
-    let codes : holding (database_rows file (BtreeFields meta) p) ≡ [] = no_codes_at 8 0 (file.last + 1) p (λ q. holding (database_rows file (BtreeFields meta) q)) none (omega arith) (omega arith) in
+    let low : p ≤ file.last =
+    (tree_pair image meta.root two.1 forest (inl (root_fits image (head_of image) meta forest.formed has)) (neighbour_in pairs two at)).inside in
+    let codes : holding (database_rows file (BtreeFields meta) p) ≡ [] =
+    no_codes_at 8 0 (file.last + 1) p (λ q. holding (database_rows file (BtreeFields meta) q)) none (omega arith) (omega arith) in
     let fail : AllFail (btree_contents file meta p) = all_fail (btree_contents file meta p) (keyed_rows file meta p (is_recno meta) keys codes) in
     second_false (p == p) (is_out_of_order two) (eq-eqb p p refl)
     (none_passes (λ (other : StoredPair × StoredPair). other.1.page == p && is_out_of_order other) (neighbours pairs) two fail.1.1.0 at)
@@ -149,19 +164,24 @@ none_repeats file inside none =
 
 -- The databases of a master have the keys of its pairs as names.
 
-one_name : (file : File) (key : List ℕ) (names : Option ℕ) (p : ℕ) → names ≡ Some p → is_meta (page_at file p) ≡ true → map name_bytes (database_on file (Some key) names) ≡ key ∷ []
+one_name : (file : File) (key : List ℕ) (names : Option ℕ) (p : ℕ) → names ≡ Some p → is_meta (page_at file p) ≡ true
+    → map name_bytes (database_on file (Some key) names) ≡ key ∷ []
 one_name file key names p is meta = ap (λ n. map name_bytes (database_on file (Some key) n)) is ∙ step (page_at file p) meta
   where
-    step : (page : Page) → is_meta page ≡ true → map name_bytes (map (λ fields. record { name = Some key; fields = fields }) (fields_in page)) ≡ key ∷ []
+    step : (page : Page) → is_meta page ≡ true
+        → map name_bytes (map (λ fields. record { name = Some key; fields = fields }) (fields_in page)) ≡ key ∷ []
     step (Meta fields) meta = refl
     step page other = absurd cc
 
-pair_name : (file : File) (pair : StoredPair) → AreInside file → master_faults file ≡ [] → Contains (master_pairs file) pair → map name_bytes (named_database file pair) ≡ pair.key ∷ []
+pair_name : (file : File) (pair : StoredPair) → AreInside file → master_faults file ≡ [] → Contains (master_pairs file) pair
+    → map name_bytes (named_database file pair) ≡ pair.key ∷ []
 pair_name file pair inside none at =
     let names : NamesMeta file (named file pair) = entry_names file (named file pair) inside none (in_map (named file) (master_pairs file) pair at) in
-    one_name file pair.key (named_by file pair.data_item) names.page names.names_are (and_parts (nat_lt 0 names.page) (is_meta (page_at file names.page)) names.kind).1
+    one_name file pair.key (named_by file pair.data_item) names.page names.names_are
+    (and_parts (nat_lt 0 names.page) (is_meta (page_at file names.page)) names.kind).1
 
-all_names : (file : File) (pairs : List StoredPair) → ((pair : StoredPair) → Contains pairs pair → map name_bytes (named_database file pair) ≡ pair.key ∷ [])
+all_names : (file : File) (pairs : List StoredPair)
+    → ((pair : StoredPair) → Contains pairs pair → map name_bytes (named_database file pair) ≡ pair.key ∷ [])
     → map name_bytes (flat_map (named_database file) pairs) ≡ map (λ (pair : StoredPair). pair.key) pairs
 all_names file [] each = refl
 all_names file (pair ∷ pairs) each =
@@ -184,9 +204,11 @@ names_ascend image meta size sound is =
     let has : HasMetadata file (BtreeFields meta) = has_metadata file 0 (BtreeFields meta) (omega arith) page in
     let keys : is_recno meta ≡ false = master_keys image meta forest page (flags_of_master (page_at file 0) meta is) in
     let pairs : List StoredPair = tree_pairs file meta.root in
-    let fall : DontFall pairs = dont_fall pairs (tree_keys image meta.root []) (keys_kept image meta forest has keys (no_contents image (BtreeFields meta) sound has)) in
+    let fall : DontFall pairs =
+    dont_fall pairs (tree_keys image meta.root []) (keys_kept image meta forest has keys (no_contents image (BtreeFields meta) sound has)) in
     let live : master_pairs file ≡ filter (λ (pair : StoredPair). pair.live) pairs = ap (pairs_under file) is in
     let master_fall : DontFall (master_pairs file) = subst DontFall (sym live) (kept_fall (λ (pair : StoredPair). pair.live) pairs fall) in
     let names : map name_bytes (databases file) ≡ map (λ (pair : StoredPair). pair.key) (master_pairs file) =
-    ap (λ found. map name_bytes (databases_under file found)) is ∙ all_names file (master_pairs file) (λ pair at. pair_name file pair inside none at) in
+    ap (λ found. map name_bytes (databases_under file found)) is
+    ∙ all_names file (master_pairs file) (λ pair at. pair_name file pair inside none at) in
     ap ascends names ∙ ascend (master_pairs file) master_fall (sym (repeated_is (master_pairs file)) ∙ none_repeats file inside none)

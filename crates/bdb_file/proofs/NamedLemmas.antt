@@ -1,5 +1,6 @@
 -- The databases of a file are on pages that are metadata, and a master names each of them by one entry.
-use Rattle.std.proofs.Common.{◌≡◌, ℕ, ◌<◌, ◌≤◌, Bool, true, false, cond, List, [], ◌∷◌, length, map, get_or, Option, Some, None, arith, refl, sym, ◌∙◌, ap, subst, inl, inr}
+use Rattle.std.proofs.Common.{◌≡◌, ℕ, ◌<◌, ◌≤◌, Bool, true, false, cond, List, [], ◌∷◌, length, map, get_or, Option, Some, None, arith, refl, sym}
+use Rattle.std.proofs.Common.{◌∙◌, ap, subst, inl, inr}
 use Rattle.std.specs.List.{Contains, flat_map}
 use Rattle.std.specs.Option.{ForSome}
 use Rattle.std.proofs.lemmas.Bool.{true≢false, cases_lt}
@@ -35,13 +36,15 @@ no_fields page is = refl
 abbrev pub with_name : Option (List ℕ) → Metadata → Database
 with_name name fields = record { name = name; fields = fields }
 
-pub database_there : (file : File) (name : Option (List ℕ)) (p : ℕ) (fields : Metadata) → Some fields ≡ meta_in (page_at file p) → database_on file name (Some p) ≡ record { name = name; fields = fields } ∷ []
+pub database_there : (file : File) (name : Option (List ℕ)) (p : ℕ) (fields : Metadata) → Some fields ≡ meta_in (page_at file p)
+    → database_on file name (Some p) ≡ record { name = name; fields = fields } ∷ []
 database_there file name p fields is = ap (map (with_name name)) (some_fields (page_at file p) fields is)
 
 pub no_database_there : (file : File) (name : Option (List ℕ)) (p : ℕ) → None ≡ meta_in (page_at file p) → database_on file name (Some p) ≡ []
 no_database_there file name p is = ap (map (with_name name)) (no_fields (page_at file p) is)
 
-pub all_named : (file : File) (meta : BtreeMeta) → Some meta ≡ master_in (page_at file 0) → flat_map (entry_database file) (master_entries file) ≡ databases file
+pub all_named : (file : File) (meta : BtreeMeta) → Some meta ≡ master_in (page_at file 0)
+    → flat_map (entry_database file) (master_entries file) ≡ databases file
 unfolding databases
 all_named file meta is = flat_map-map (entry_database file) (named file) (master_pairs file) ∙ ap (databases_under file) is
 
@@ -56,7 +59,8 @@ pub record NamesMeta (file : File) (entry : NamedPair) : Type 0 where
   pub names_are : entry.names ≡ Some page
   pub kind : is_named_kind file page ≡ true
 
-pub entry_names : (file : File) (entry : NamedPair) → AreInside file → master_faults file ≡ [] → Contains (master_entries file) entry → NamesMeta file entry
+pub entry_names : (file : File) (entry : NamedPair) → AreInside file → master_faults file ≡ [] → Contains (master_entries file) entry
+    → NamesMeta file entry
 entry_names file entry inside none at = step entry.names refl
   where
     refused : (fault : Fault) → target_fault file entry.page entry.names ≡ Some fault → ⊥
@@ -79,11 +83,13 @@ kind_inside image p kind =
       | inr low ↦ omega (arith, last_page image)
     ]
 
-pub named_inside : (image : List ℕ) (entries : List NamedPair) (i : ℕ) (entry : NamedPair) → IsForest image → master_faults (file_of image) ≡ [] → entries ≡ master_entries (file_of image)
+pub named_inside : (image : List ℕ) (entries : List NamedPair) (i : ℕ) (entry : NamedPair) → IsForest image → master_faults (file_of image) ≡ []
+    → entries ≡ master_entries (file_of image)
     → i < length entries → entry ≡ get_or entries i entry → ForSome entry.names (λ page. page ≤ (file_of image).last)
 named_inside image entries i entry forest none are below is page named =
     let at : Contains entries entry = (i, below, sym is) in
-    let names : NamesMeta (file_of image) entry = entry_names (file_of image) entry (master_inside image forest) none (subst (λ es. Contains es entry) are at) in
+    let names : NamesMeta (file_of image) entry =
+    entry_names (file_of image) entry (master_inside image forest) none (subst (λ es. Contains es entry) are at) in
     let both : Some page ≡ Some names.page = sym named ∙ names.names_are in
     let same : page ≡ names.page = cc in
     let inside : names.page ≤ (file_of image).last = kind_inside image names.page names.kind in

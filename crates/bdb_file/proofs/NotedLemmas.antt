@@ -28,17 +28,21 @@ parts_of : (stage : ℕ) (xs ys : List Fault) → AreOf stage xs → AreOf stage
 parts_of stage xs ys left right fault at = elim (Contains-append_cases xs ys fault at) [ inl here ↦ left fault here | inr later ↦ right fault later ]
 
 -- the first of two lists, one behind the other
-pub first_of_parts : (stage : ℕ) (xs ys : List Fault) (a b : Option Fault) → AreOf stage xs → AreOf stage ys → IsFirstOrNone xs a → IsFirstOrNone ys b → IsFirstOrNone (xs ++ ys) (earlier a b)
+pub first_of_parts : (stage : ℕ) (xs ys : List Fault) (a b : Option Fault) → AreOf stage xs → AreOf stage ys → IsFirstOrNone xs a → IsFirstOrNone ys b
+    → IsFirstOrNone (xs ++ ys) (earlier a b)
 first_of_parts stage xs ys a b left right first second =
     first_of_both xs ys (xs ++ ys) a b (both_parts xs ys)
     (λ fault other at also. parts_of stage xs ys left right fault at ∙ sym (parts_of stage xs ys left right other also)) first second
 
-module _ {X : Type 0} (give : X → Option Fault) (faults : X → List Fault) (stage : ℕ) (first : (x : X) → IsFirstOrNone (faults x) (give x)) (of : (x : X) → AreOf stage (faults x)) where
-  after : (xs : List X) (before : List Fault) (least : Option Fault) → AreOf stage before → IsFirstOrNone before least → IsFirstOrNone (before ++ flat_map faults xs) (fold (noting give) least xs)
+module _ {X : Type 0} (give : X → Option Fault) (faults : X → List Fault) (stage : ℕ) (first : (x : X) → IsFirstOrNone (faults x) (give x))
+    (of : (x : X) → AreOf stage (faults x)) where
+  after : (xs : List X) (before : List Fault) (least : Option Fault) → AreOf stage before → IsFirstOrNone before least
+      → IsFirstOrNone (before ++ flat_map faults xs) (fold (noting give) least xs)
   after [] before least are is = subst (λ fs. IsFirstOrNone fs least) (sym (append-nil before)) is
   after (x ∷ xs) before least are is =
       subst (λ fs. IsFirstOrNone fs (fold (noting give) (earlier least (give x)) xs)) (append_assoc before (faults x) (flat_map faults xs))
-      (after xs (before ++ faults x) (earlier least (give x)) (parts_of stage before (faults x) are (of x)) (first_of_parts stage before (faults x) least (give x) are (of x) is (first x)))
+      (after xs (before ++ faults x) (earlier least (give x)) (parts_of stage before (faults x) are (of x))
+      (first_of_parts stage before (faults x) least (give x) are (of x) is (first x)))
 
   pub earliest_first : (xs : List X) → IsFirstOrNone (flat_map faults xs) (earliest give xs)
   earliest_first xs = after xs [] None (λ fault at. absurd (no_member [] fault refl at)) (λ fault at. no_member [] fault refl at)
@@ -48,7 +52,8 @@ module _ {X : Type 0} (give : X → Option Fault) (faults : X → List Fault) (s
   flat_of (x ∷ xs) fault at = parts_of stage (faults x) (flat_map faults xs) (of x) (flat_of xs) fault at
 
 -- the same faults have the same first
-pub first_same : (xs ys : List Fault) (found : Option Fault) → ((fault : Fault) → Contains xs fault → Contains ys fault) → ((fault : Fault) → Contains ys fault → Contains xs fault)
+pub first_same : (xs ys : List Fault) (found : Option Fault) → ((fault : Fault) → Contains xs fault → Contains ys fault)
+    → ((fault : Fault) → Contains ys fault → Contains xs fault)
     → IsFirstOrNone xs found → IsFirstOrNone ys found
 first_same xs ys None on back first = λ fault at. first fault (back fault at)
 first_same xs ys (Some found) on back first = record {
@@ -58,7 +63,8 @@ first_same xs ys (Some found) on back first = record {
 }
 
 -- one item more
-pub noted_more : {X : Type 0} (give : X → Option Fault) (xs : List X) (i : ℕ) (x : X) (least : Option Fault) → slice_get xs i ≡ Some x → least ≡ earliest give (take i xs)
+pub noted_more : {X : Type 0} (give : X → Option Fault) (xs : List X) (i : ℕ) (x : X) (least : Option Fault) → slice_get xs i ≡ Some x
+    → least ≡ earliest give (take i xs)
     → earlier least (give x) ≡ earliest give (take (i + 1) xs)
 noted_more give xs i x least is noted =
     let here : Some (get_or xs i x) ≡ Some x = sym (slice_get-get_or xs i x (slice_get_within xs i x is)) ∙ is in

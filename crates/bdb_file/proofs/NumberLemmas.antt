@@ -1,8 +1,7 @@
 -- Numbers that no record has.
 use Rattle.bdb_format.proofs.PairLemmas.{get_append}
 use Rattle.std.proofs.lemmas.Bool.Decides.{nat_tests}
-use Rattle.std.proofs.Common.{◌≡◌, ℕ, ◌-◌, ◌<◌, ◌≤◌, ◌^◌, true, List, [], ◌∷◌, ◌++◌, length, Some, None, arith, refl, sym, ◌∙◌, ap, subst, inl}
-use Rattle.std.specs.Prelude.{slice_get}
+use Rattle.std.proofs.Common.{◌≡◌, ℕ, ◌-◌, ◌≤◌, ◌^◌, true, List, [], ◌∷◌, ◌++◌, Some, None, arith, refl, sym, ◌∙◌, ap, inl}
 use Rattle.std.specs.List.{flat_map, range_with_len}
 use Rattle.std.proofs.lemmas.Option.{slice_get_past}
 use Rattle.bdb_graph.specs.Linked.{HasMetadata, IsForest}
@@ -14,47 +13,25 @@ use Rattle.bdb_format.specs.Databases.{data_under, get_number}
 use Rattle.bdb_format.specs.Digits.{number_in}
 use Rattle.bdb_format.specs.File.{File, file_of, page_at}
 use Rattle.bdb_format.specs.HeadOf.{head_of}
-use Rattle.bdb_format.specs.Leaves.{leaves}
 use Rattle.bdb_format.specs.Lists.{ListKey, NumberKey, get, listed_slot, page_records, queue_list, recno_list}
 use Rattle.bdb_format.specs.Page.{BtreeFields, Page, Queue, QueueFields}
 use Rattle.bdb_format.specs.Verdict.{structure_faults}
 use Rattle.bdb_format.specs.Flags.{is_recno}
 use Rattle.bdb_tree.specs.Trees.{IsRoot}
-use Rattle.bdb_tree.proofs.LinkLemmas.{all_pages, pages_few}
-use Rattle.bdb_recno.specs.Entries.{AreNumbered, entries_on}
-use Rattle.bdb_recno.specs.Pages.{IsRecnoPage}
 use Rattle.bdb_recno.proofs.ListLemmas.{none_there}
-use Rattle.bdb_recno.proofs.PageLemmas.{entries_are, root_recno}
-use Rattle.bdb_recno.proofs.ScanLemmas.{room_for_all}
+use Rattle.bdb_recno.proofs.PageLemmas.{root_recno}
+use Rattle.bdb_recno.proofs.ScanLemmas.{few_records}
 
 -- Recnos.
-
-few_leaves : (image : List ℕ) (root : ℕ) → IsForest image → structure_faults (file_of image) ≡ [] → IsRoot (file_of image) root → length (leaves (file_of image) root) ≤ (file_of image).count
-few_leaves image root forest stage is = by_first (leaves (file_of image) root) refl
-  where
-    by_first : (pages : List ℕ) → leaves (file_of image) root ≡ pages → length pages ≤ (file_of image).count
-    by_first [] same = omega arith
-    by_first (first ∷ rest) same =
-        let whole = all_pages image root first forest stage is (ap (λ (ps : List ℕ). slice_get ps 0) same) in
-        subst (λ (ps : List ℕ). length ps ≤ (file_of image).count) (whole ∙ same) (pages_few (file_of image) first)
-
-few_entries : (image : List ℕ) (meta : BtreeMeta) → IsForest image → structure_faults (file_of image) ≡ [] → HasMetadata (file_of image) (BtreeFields meta)
-    → is_recno meta ≡ true
-    → length (tree_entries (file_of image) meta.root) < 2 ^ 32
-few_entries image meta forest stage has recno =
-    let file : File = file_of image in
-    let is : IsRoot file meta.root = inl (root_fits image (head_of image) meta forest.formed has) in
-    let page : IsRecnoPage file meta.root = root_recno image meta forest has recno in
-    let are : AreNumbered file [] (leaves file meta.root) 0 = room_for_all image meta.root (leaves file meta.root) forest page refl (few_leaves image meta.root forest stage is) in
-    let all : length (tree_entries file meta.root) ≡ length (entries_on file (leaves file meta.root)) = ap length (entries_are file meta.root) in
-    omega (arith, are.room, all)
 
 pub past_records : (image : List ℕ) (meta : BtreeMeta) (number : ℕ) → IsForest image → structure_faults (file_of image) ≡ []
     → HasMetadata (file_of image) (BtreeFields meta) → is_recno meta ≡ true → 2 ^ 32 ≤ number
     → [] ≡ get (recno_list (file_of image) meta.root) (NumberKey number)
 past_records image meta number forest stage has recno past =
-    let few = few_entries image meta forest stage has recno in
-    none_there (file_of image) meta.root number (number - 1) (omega arith) (sym (slice_get_past (tree_entries (file_of image) meta.root) (number - 1) (omega arith)))
+    let is : IsRoot (file_of image) meta.root = inl (root_fits image (head_of image) meta forest.formed has) in
+    let few = few_records image meta.root forest is (root_recno image meta forest has recno) in
+    none_there (file_of image) meta.root number (number - 1) (omega arith)
+    (sym (slice_get_past (tree_entries (file_of image) meta.root) (number - 1) (omega arith)))
 
 -- Queues.
 
@@ -67,17 +44,20 @@ in_no_part f (x ∷ xs) key none =
     get_append (f x) (flat_map f xs) key
     ∙ (ap (λ (vs : List (List ℕ)). vs ++ get (flat_map f xs) key) (none x) ∙ in_no_part f xs key none)
 
-in_no_slot : (meta : QueueMeta) (p : ℕ) (records : List ℕ) (number : ℕ) → meta.current ≤ number → (slot : ℕ) → get (listed_slot meta p records slot) (NumberKey number) ≡ []
+in_no_slot : (meta : QueueMeta) (p : ℕ) (records : List ℕ) (number : ℕ) → meta.current ≤ number → (slot : ℕ)
+    → get (listed_slot meta p records slot) (NumberKey number) ≡ []
 in_no_slot meta p records number past slot = grind (arith, nat_tests)
 
 in_no_page : (meta : QueueMeta) (p number : ℕ) (page : Page) → meta.current ≤ number → get (page_records meta p page) (NumberKey number) ≡ []
-in_no_page meta p number (Queue n records) past = in_no_part (listed_slot meta p records) (range_with_len 0 meta.per_page) (NumberKey number) (in_no_slot meta p records number past)
+in_no_page meta p number (Queue n records) past =
+    in_no_part (listed_slot meta p records) (range_with_len 0 meta.per_page) (NumberKey number) (in_no_slot meta p records number past)
 in_no_page meta p number page past = refl
 
 pub past_queue : (file : File) (meta : QueueMeta) (number : ℕ) → meta.current ≤ number → [] ≡ get (queue_list file meta) (NumberKey number)
 unfolding queue_list
 past_queue file meta number past =
-    sym (in_no_part (λ p. page_records meta p (page_at file p)) (range_with_len 1 file.last) (NumberKey number) (λ p. in_no_page meta p number (page_at file p) past))
+    sym (in_no_part (λ p. page_records meta p (page_at file p)) (range_with_len 1 file.last) (NumberKey number)
+    (λ p. in_no_page meta p number (page_at file p) past))
 
 -- What a key that says a number asks for.
 
@@ -89,7 +69,8 @@ pub no_record_named : (file : File) (meta : BtreeMeta) (key : List ℕ) → is_r
     → [] ≡ data_under file (BtreeFields meta) key
 no_record_named file meta key recno none = ap (get_number (recno_list file meta.root)) none ∙ recno_asked file meta key recno
 
-pub record_named : (file : File) (meta : BtreeMeta) (key : List ℕ) (number : ℕ) (found : List (List ℕ)) → is_recno meta ≡ true → Some number ≡ number_in key
+pub record_named : (file : File) (meta : BtreeMeta) (key : List ℕ) (number : ℕ) (found : List (List ℕ)) → is_recno meta ≡ true
+    → Some number ≡ number_in key
     → found ≡ get (recno_list file meta.root) (NumberKey number)
     → found ≡ data_under file (BtreeFields meta) key
 record_named file meta key number found recno says is = is ∙ (ap (get_number (recno_list file meta.root)) says ∙ recno_asked file meta key recno)
@@ -97,5 +78,6 @@ record_named file meta key number found recno says is = is ∙ (ap (get_number (
 pub no_number_queued : (file : File) (meta : QueueMeta) (key : List ℕ) → None ≡ number_in key → [] ≡ data_under file (QueueFields meta) key
 no_number_queued file meta key none = ap (get_number (queue_list file meta)) none
 
-pub number_queued : (file : File) (meta : QueueMeta) (key : List ℕ) (number : ℕ) (found : List (List ℕ)) → Some number ≡ number_in key → found ≡ get (queue_list file meta) (NumberKey number) → found ≡ data_under file (QueueFields meta) key
+pub number_queued : (file : File) (meta : QueueMeta) (key : List ℕ) (number : ℕ) (found : List (List ℕ)) → Some number ≡ number_in key
+    → found ≡ get (queue_list file meta) (NumberKey number) → found ≡ data_under file (QueueFields meta) key
 number_queued file meta key number found says is = is ∙ ap (get_number (queue_list file meta)) says

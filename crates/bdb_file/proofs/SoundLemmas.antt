@@ -34,7 +34,8 @@ is_of_page : (page : Page) (fields : Metadata) → Contains (fields_in page) fie
 is_of_page (Meta other) fields at = ap (λ (f : Metadata). Meta f) (only_member other fields at)
 is_of_page page fields at = absurd (no_member [] fields refl at)
 
-on_page : (file : File) (name : Option (List ℕ)) (names : Option ℕ) (database : Database) → Contains (database_on file name names) database → OnPage file database
+on_page : (file : File) (name : Option (List ℕ)) (names : Option ℕ) (database : Database) → Contains (database_on file name names) database
+    → OnPage file database
 on_page file name None database at = absurd (no_member [] database refl at)
 on_page file name (Some p) database at =
     let found = of_map (with_name name) (fields_in (page_at file p)) database at in
@@ -65,7 +66,8 @@ at_place image i below =
     let on : OnPage file database = on_some_page file database at in
     record { page = on.0; inside = page_there image on.0 database.fields on.1; is = on.1 }
 
-pub has_metadata_at : (image : List ℕ) (i : ℕ) (fields : Metadata) → i < length (databases (file_of image)) → fields ≡ (database_at (file_of image) i).fields → HasMetadata (file_of image) fields
+pub has_metadata_at : (image : List ℕ) (i : ℕ) (fields : Metadata) → i < length (databases (file_of image))
+    → fields ≡ (database_at (file_of image) i).fields → HasMetadata (file_of image) fields
 has_metadata_at image i fields below same = subst (HasMetadata (file_of image)) (sym same) (at_place image i below)
 
 -- What a sound file keeps.
@@ -73,7 +75,8 @@ has_metadata_at image i fields below same = subst (HasMetadata (file_of image)) 
 pub no_structure : (image : List ℕ) → faults_of image ≡ [] → structure_faults (file_of image) ≡ []
 no_structure image sound = no_stage image 6 sound
 
-pub no_contents : (image : List ℕ) (fields : Metadata) → faults_of image ≡ [] → HasMetadata (file_of image) fields → database_faults (file_of image) fields ≡ []
+pub no_contents : (image : List ℕ) (fields : Metadata) → faults_of image ≡ [] → HasMetadata (file_of image) fields
+    → database_faults (file_of image) fields ≡ []
 no_contents image fields sound has = is_empty (database_faults file fields) none
   where
     file : File
@@ -85,8 +88,11 @@ no_contents image fields sound has = is_empty (database_faults file fields) none
         (subst (λ page. Contains (fields_in page) fields) (sym has.is) (first_member fields []))
 
     none : (fault : Fault) → Contains (database_faults file fields) fault → ⊥
-    none fault at = no_member (contents_faults file) fault (no_stage image 8 sound) (in_contents file fault (in_flat_map (database_faults file) (fields_of file) fields fault listed at))
+    none fault at =
+        no_member (contents_faults file) fault (no_stage image 8 sound)
+        (in_contents file fault (in_flat_map (database_faults file) (fields_of file) fields fault listed at))
 
-pub no_contents_at : (image : List ℕ) (i : ℕ) (fields : Metadata) → faults_of image ≡ [] → i < length (databases (file_of image)) → fields ≡ (database_at (file_of image) i).fields
+pub no_contents_at : (image : List ℕ) (i : ℕ) (fields : Metadata) → faults_of image ≡ [] → i < length (databases (file_of image))
+    → fields ≡ (database_at (file_of image) i).fields
     → database_faults (file_of image) fields ≡ []
 no_contents_at image i fields sound below same = no_contents image fields sound (has_metadata_at image i fields below same)

@@ -13,7 +13,8 @@ use Rattle.std.proofs.Math.Bool.{and-false}
 
 pages_counted : (image : List ℕ) → length (file_of image).pages ≡ (head_of image).last + 1
 unfolding file_of
-pages_counted image = length-map-range_with_len (λ p. abstract_page (head_of image).order (page_bytes (head_of image) image p)) 0 ((head_of image).last + 1)
+pages_counted image =
+    length-map-range_with_len (λ p. abstract_page (head_of image).order (page_bytes (head_of image) image p)) 0 ((head_of image).last + 1)
 
 pub past_last : (image : List ℕ) (p : ℕ) → (head_of image).last < p → page_at (file_of image) p ≡ NoType
 past_last image p past = get_or_past (file_of image).pages p NoType (omega (arith, pages_counted image))

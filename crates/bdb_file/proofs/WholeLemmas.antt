@@ -16,9 +16,11 @@ master_refused image error structure first = refused_after image (6 ∷ []) 7 (8
 pub contents_refused : (image : List ℕ) (error : CheckError) → structure_faults (file_of image) ≡ [] → master_faults (file_of image) ≡ []
     → IsFirstOf (contents_faults (file_of image)) error
     → IsFirstOf (faults_in (6 ∷ 7 ∷ 8 ∷ []) image) error
-contents_refused image error structure master first = refused_after image (6 ∷ 7 ∷ []) 8 [] error (none_in image (6 ∷ 7 ∷ []) (structure, (master, tt))) first
+contents_refused image error structure master first =
+    refused_after image (6 ∷ 7 ∷ []) 8 [] error (none_in image (6 ∷ 7 ∷ []) (structure, (master, tt))) first
 
-pub no_whole_fault : (image : List ℕ) → structure_faults (file_of image) ≡ [] → master_faults (file_of image) ≡ [] → contents_faults (file_of image) ≡ []
+pub no_whole_fault : (image : List ℕ) → structure_faults (file_of image) ≡ [] → master_faults (file_of image) ≡ []
+    → contents_faults (file_of image) ≡ []
     → faults_in (6 ∷ 7 ∷ 8 ∷ []) image ≡ []
 no_whole_fault image structure master contents = none_in image (6 ∷ 7 ∷ 8 ∷ []) (structure, (master, (contents, tt)))
 

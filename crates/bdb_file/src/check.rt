@@ -35,8 +35,6 @@ pub fn check_file(alloc: Global, linked: &Linked<'_>) -> Result<(), CheckError>
     ensures accepted { OnOk result (faults_in (6 ∷ 7 ∷ 8 ∷ []) linked.now ≡ []) }
     ensures refusal { IfErr result (IsFirstOf (faults_in (6 ∷ 7 ∷ 8 ∷ []) linked.now)) }
 {
-    match checked_entries(alloc, linked) {
-        Ok(_) => Ok(()),
-        Err(error) => Err(error),
-    }
+    checked_entries(alloc, linked)?;
+    Ok(())
 }

@@ -1,58 +1,15 @@
 ghost use Rattle.std.specs.Prelude.{◌≡◌, ◌≤◌, IfErr, IfOk, OnOk, []};
 ghost use Rattle.bdb_file.specs.Noted.{IsMemory, contents_at};
 ghost use Rattle.bdb_format.specs.Verdict.{contents_faults, structure_faults, first_fault, IsFirstOf};
-ghost use Rattle.bdb_graph.specs.Linked.{HasMetadata};
 ghost use Rattle.bdb_graph.specs.Metas.{meta_seen};
-ghost use Rattle.bdb_format.specs.ContentRows.{database_faults};
 ghost use Rattle.bdb_format.specs.File.{file_of, page_at};
-ghost use Rattle.bdb_format.specs.Page.{BtreeFields, HashFields, Meta as MetaPage};
+ghost use Rattle.bdb_format.specs.Page.{Meta as MetaPage};
 
-use crate::merged::refused;
-use bdb_format::{BtreeMeta, CheckError, Fault, HashMeta};
+use crate::merged::{found, refused};
+use bdb_format::{CheckError, Fault};
 use bdb_graph::{Linked, Meta};
 use bdb_overflow::earlier;
 use std::alloc::Global;
-
-/// The first fault of what a tree holds, of pairs or of records, if there is one. An error is want of memory.
-fn tree_fault(
-    alloc: Global,
-    linked: &Linked<'_>,
-    meta: &BtreeMeta,
-) -> Result<Option<Fault>, CheckError>
-    requires meta { HasMetadata (file_of linked.now) (BtreeFields meta.now) }
-    requires stage { structure_faults (file_of linked.now) ≡ [] }
-    ensures first { IfOk result (λ found. found ≡ first_fault (database_faults (file_of linked.now) (BtreeFields meta.now))) }
-    ensures only { IfErr result IsMemory }
-{
-    let checked = if meta.flags & 0x02 == 0 {
-        bdb_btree::check(alloc, linked, meta)
-    } else {
-        bdb_recno::check(alloc, linked, meta)
-    };
-    match checked {
-        Ok(()) => Ok(None),
-        Err(CheckError::Fault(fault)) => Ok(Some(fault)),
-        Err(CheckError::Memory) => Err(CheckError::Memory),
-    }
-}
-
-/// The first fault of what a table holds, if there is one. An error is want of memory.
-fn table_fault(
-    alloc: Global,
-    linked: &Linked<'_>,
-    meta: &HashMeta,
-) -> Result<Option<Fault>, CheckError>
-    requires meta { HasMetadata (file_of linked.now) (HashFields meta.now) }
-    requires stage { structure_faults (file_of linked.now) ≡ [] }
-    ensures first { IfOk result (λ found. found ≡ first_fault (database_faults (file_of linked.now) (HashFields meta.now))) }
-    ensures only { IfErr result IsMemory }
-{
-    match bdb_hash::check(alloc, linked, meta) {
-        Ok(()) => Ok(None),
-        Err(CheckError::Fault(fault)) => Ok(Some(fault)),
-        Err(CheckError::Memory) => Err(CheckError::Memory),
-    }
-}
 
 /// The first fault of what the database with the metadata on a page holds, if there is one. An error is want
 /// of memory.
@@ -69,11 +26,12 @@ fn fault_at(
     ensures first { IfOk result (λ found. found ≡ contents_at (file_of linked.now) number) }
     ensures only { IfErr result IsMemory }
 {
-    match meta {
-        Meta::Btree(meta) => tree_fault(alloc, linked, meta),
-        Meta::Hash(meta) => table_fault(alloc, linked, meta),
-        Meta::Queue(_) => Ok(None),
-    }
+    found(match meta {
+        Meta::Btree(meta) if meta.flags & 0x02 == 0 => bdb_btree::check(alloc, linked, meta),
+        Meta::Btree(meta) => bdb_recno::check(alloc, linked, meta),
+        Meta::Hash(meta) => bdb_hash::check(alloc, linked, meta),
+        Meta::Queue(_) => Ok(()),
+    })
 }
 
 /// The first fault of what the databases of a file hold, if there is one. An error is want of memory.

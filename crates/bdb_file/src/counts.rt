@@ -2,7 +2,7 @@ ghost use Rattle.std.specs.Prelude.{◌≡◌, ◌<◌, ℕ, IfOk, if◌then◌e
 ghost use Rattle.bdb_file.specs.Entries.{AreCounts, count_fault, naming_fault, one_more};
 ghost use Rattle.bdb_format.specs.Master.{is_page};
 ghost use Rattle.bdb_file.specs.Noted.{earliest};
-ghost use Rattle.bdb_graph.specs.Linked.{meta_pages};
+ghost use Rattle.bdb_graph.specs.Linked.{IsForest, meta_pages};
 ghost use Rattle.bdb_format.specs.File.{file_of};
 
 use crate::entry::Entry;
@@ -21,7 +21,8 @@ fn one_more(count: u8) -> u8
 /// Counts a pair at the page that it names, if that page is there.
 fn count(counts: &mut Vec<u8>, names: Option<u32>)
     ensures len { length counts.new.items ≡ length counts.old.items }
-    ensures each { (p : ℕ) → p < length counts.old.items → get_or counts.new.items p 0 ≡ (if is_page names p then one_more (get_or counts.old.items p 0) else get_or counts.old.items p 0) }
+    ensures each { (p : ℕ) → p < length counts.old.items → get_or counts.new.items p 0
+        ≡ (if is_page names p then one_more (get_or counts.old.items p 0) else get_or counts.old.items p 0) }
 {
     if let Some(page) = names {
         let page = page as usize;
@@ -70,7 +71,8 @@ pub(crate) fn naming_fault(
     linked: &Linked<'_>,
     entries: &[Entry<'_>],
 ) -> Result<Option<Fault>, AllocError>
-    ensures { IfOk result (λ found. found ≡ earliest (naming_fault entries.now) (meta_pages (file_of linked.now))) }
+    ensures first { IfOk result (λ found. found ≡ earliest (naming_fault entries.now) (meta_pages (file_of linked.now))) }
+    ensures forest { IsForest linked.now }
 {
     let counts = counts_of(alloc, linked.head().last + 1, entries)?;
     let mut least = None;

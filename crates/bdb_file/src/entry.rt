@@ -1,7 +1,6 @@
-ghost use Rattle.std.specs.Prelude.{◌≡◌, ◌++◌, [], IfOk, OnOk, length, map};
+ghost use Rattle.std.specs.Prelude.{◌≡◌, ◌++◌, [], IfOk, OnOk, map};
 ghost use Rattle.std.specs.Option.{option_map};
 ghost use Rattle.bdb_btree.specs.Told.{leaf_pair_seen};
-ghost use Rattle.bdb_btree.specs.ToldPair.{told_pair};
 ghost use Rattle.bdb_file.specs.Entries.{entry_of, live_entries, master_entries, page_in};
 ghost use Rattle.bdb_format.specs.Master.{master_in, page_named};
 ghost use Rattle.bdb_graph.specs.Metas.{meta_seen};

@@ -24,7 +24,6 @@ fn master_fault(
     requires entries { entries.now ≡ master_entries (file_of linked.now) }
     ensures { IfOk result (λ found. found ≡ first_fault (master_faults (file_of linked.now))) }
 {
-    linked.head();
     let naming = naming_fault(alloc, linked, entries)?;
     let repeats = repeat_fault(alloc, entries)?;
     let targets = entries_fault(linked, entries);
@@ -43,13 +42,8 @@ pub(crate) fn check_master<'a>(
     ensures accepted { OnOk result (master_faults (file_of linked.now) ≡ []) }
     ensures refusal { IfErr result (IsFirstOf (master_faults (file_of linked.now))) }
 {
-    let entries = match master_entries(alloc, linked) {
-        Ok(entries) => entries,
-        Err(_) => return Err(CheckError::Memory),
-    };
-    match master_fault(alloc, linked, &entries) {
-        Ok(found) => refused(found)?,
-        Err(_) => return Err(CheckError::Memory),
-    }
+    let entries = master_entries(alloc, linked).map_err(|_| CheckError::Memory)?;
+    let found = master_fault(alloc, linked, &entries).map_err(|_| CheckError::Memory)?;
+    refused(found)?;
     Ok(entries)
 }

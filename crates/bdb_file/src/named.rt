@@ -102,7 +102,8 @@ fn push_named(
     requires structure { structure_faults (file_of linked.now) ≡ [] }
     requires entries { entries.now ≡ master_entries (file_of linked.now) }
     requires master { master_faults (file_of linked.now) ≡ [] }
-    ensures { OnOk result (databases.new.items ≡ databases.old.items ++ flat_map (entry_database (file_of linked.now)) (master_entries (file_of linked.now))) }
+    ensures { OnOk result (databases.new.items
+        ≡ databases.old.items ++ flat_map (entry_database (file_of linked.now)) (master_entries (file_of linked.now))) }
 {
     linked.head();
     for entry in entries {

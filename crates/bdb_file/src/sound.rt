@@ -115,13 +115,13 @@ impl<'a> Sound<'a> {
         ensures structure { structure_faults (file_of self.now) ≡ [] }
         ensures contents { database_faults (file_of self.now) (meta_seen result.now) ≡ [] }
     {
-        self.linked();
         self.named(db).meta()
     }
 
     fn named(&self, db: Db) -> &NamedMeta
         requires { db < length (databases (file_of self.now)) }
-        ensures { result.now ≡ database_at (file_of self.now) db }
+        ensures database { result.now ≡ database_at (file_of self.now) db }
+        ensures sound { faults_of self.now ≡ [] }
     {
         &self.databases[db.place() as usize]
     }

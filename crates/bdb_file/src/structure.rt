@@ -1,36 +1,14 @@
 ghost use Rattle.std.specs.Prelude.{◌≡◌, IfErr, IfOk, OnOk, []};
 ghost use Rattle.bdb_file.specs.Noted.{IsMemory};
 ghost use Rattle.bdb_format.specs.File.{file_of};
-ghost use Rattle.bdb_format.specs.Verdict.{chain_faults, structure_faults, tree_faults, first_fault, IsFirstOf};
+ghost use Rattle.bdb_format.specs.Verdict.{structure_faults, first_fault, IsFirstOf};
 
-use crate::merged::refused;
+use crate::merged::{found, refused};
 use bdb_format::{CheckError, Fault};
 use bdb_graph::Linked;
 use bdb_overflow::{check_chains, earlier};
 use bdb_tree::check_trees;
 use std::alloc::Global;
-
-/// The first fault of chains, if there is one.
-fn chain_fault(linked: &Linked<'_>) -> Option<Fault>
-    ensures { result ≡ first_fault (chain_faults (file_of linked.now)) }
-{
-    match check_chains(linked) {
-        Ok(()) => None,
-        Err(fault) => Some(fault),
-    }
-}
-
-/// The first fault of the leaves of trees, if there is one. An error is want of memory.
-fn leaf_fault(alloc: Global, linked: &Linked<'_>) -> Result<Option<Fault>, CheckError>
-    ensures first { IfOk result (λ found. found ≡ first_fault (tree_faults (file_of linked.now))) }
-    ensures only { IfErr result IsMemory }
-{
-    match check_trees(alloc, linked) {
-        Ok(()) => Ok(None),
-        Err(CheckError::Fault(fault)) => Ok(Some(fault)),
-        Err(CheckError::Memory) => Err(CheckError::Memory),
-    }
-}
 
 /// The first fault of stage 6, if there is one. An error is want of memory.
 #[tactic(auto, using(crate::proofs::MergeLemmas::structure_first))]
@@ -38,8 +16,8 @@ fn structure_fault(alloc: Global, linked: &Linked<'_>) -> Result<Option<Fault>, 
     ensures first { IfOk result (λ found. found ≡ first_fault (structure_faults (file_of linked.now))) }
     ensures only { IfErr result IsMemory }
 {
-    let leaves = leaf_fault(alloc, linked)?;
-    Ok(earlier(chain_fault(linked), leaves))
+    let leaves = found(check_trees(alloc, linked))?;
+    Ok(earlier(check_chains(linked).err(), leaves))
 }
 
 /// No row of stage 6 holds: chains have their lengths, and leaves their kinds and neighbours. A refusal is the

@@ -1,7 +1,9 @@
 -- What is left of a page's items and pairs as they are given one by one.
-use Rattle.std.proofs.Common.{◌≡◌, ℕ, suc, ◌+◌, ◌-◌, ◌/◌, ◌<◌, ◌≤◌, Bool, List, [], ◌∷◌, length, drop, get_or, arith, refl, ◌∙◌, drop-cons}
+use Rattle.std.proofs.Common.{◌≡◌, ℕ, suc, ◌+◌, ◌-◌, ◌/◌, ◌<◌, ◌≤◌, Bool, List, [], ◌∷◌, length, drop, get_or, arith, refl, sym}
+use Rattle.std.proofs.Common.{ap, ◌∙◌, drop-cons, ◌*◌}
 use Rattle.std.specs.Prelude.{Some, slice_get}
 use Rattle.std.proofs.lemmas.List.{drop_all}
+use Rattle.std.proofs.lemmas.List.FromFn.{length-map-range_with_len}
 use Rattle.std.proofs.lemmas.Option.{slice_get-get_or}
 use Rattle.bdb_format.specs.Page.{Listed}
 use Rattle.bdb_form.specs.Pairs.{pair_of, pairs_from}
@@ -25,7 +27,14 @@ next_pair none may_share page i low =
     let more : length page.items / 2 - i ≡ suc (length page.items / 2 - (i + 1)) = omega arith in
     rw more refl
 
-pub no_pair_left : {I : Type 0} (none : I) (may_share : Bool) (page : Listed I) (i : ℕ) → length page.items / 2 ≤ i → pairs_from none may_share page i ≡ []
+pub no_pair_left : {I : Type 0} (none : I) (may_share : Bool) (page : Listed I) (i : ℕ) → length page.items / 2 ≤ i
+    → pairs_from none may_share page i ≡ []
 no_pair_left none may_share page i past =
     let over : length page.items / 2 - i ≡ 0 = omega arith in
     rw over refl
+
+pub pairs_left : {I : Type 0} (none : I) (may_share : Bool) (page : Listed I) (i n : ℕ) → 2 * n ≡ length page.items
+    → n - i ≡ length (pairs_from none may_share page i)
+pairs_left none may_share page i n is =
+    let half : length page.items / 2 ≡ n = omega (arith, is) in
+    sym (length-map-range_with_len (pair_of none may_share page) i (length page.items / 2 - i) ∙ ap (λ m. m - i) half)

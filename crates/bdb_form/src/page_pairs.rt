@@ -77,3 +77,10 @@ impl<'a, K: PairKind + ItemKind<'a>> Iterator for PagePairs<'a, K> {
         Some(self.view.pair(i))
     }
 }
+
+impl<'a, K: PairKind + ItemKind<'a>> ExactSizeIterator for PagePairs<'a, K> {
+    #[tactic(auto, using(crate::proofs::WalkLemmas::pairs_left))]
+    fn len(&self) -> usize {
+        usize::from(self.view.pairs().saturating_sub(self.next))
+    }
+}

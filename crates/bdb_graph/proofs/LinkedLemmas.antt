@@ -1,6 +1,6 @@
 -- What the pages of a linked image are, and which pages its metadata names.
 use Rattle.std.proofs.Common.{◌≡◌, ◌⊎◌, ℕ, zero, suc, ◌+◌, ◌<◌, ◌≤◌, Bool, true, false, not, cond, List, [], ◌∷◌, length, map, arith, refl, sym, ◌∙◌, ap, subst, inl, inr}
-use Rattle.std.specs.Prelude.{Option, Some, None, ◌==◌, get_or, nat_lt, slice_index_or}
+use Rattle.std.specs.Prelude.{Option, Some, None, ◌==◌, get_or, nat_lt}
 use Rattle.std.specs.Option.{option_map}
 use Rattle.std.specs.List.{Contains, enumerate_from, filter, range_with_len}
 use Rattle.std.proofs.lemmas.Bool.{eqb-true, ltb-false, or_parts, true≢false}
@@ -34,14 +34,13 @@ use Rattle.bdb_format.proofs.VerdictLemmas.{AllFail, none_is_first_row}
 use Rattle.bdb_graph.specs.Formed.{IsFormed}
 use Rattle.bdb_graph.specs.Linked.{HasMetadata, IsTarget, meta_pages}
 use Rattle.bdb_format.specs.Verdict.{faults_in}
-use Rattle.bdb_graph.specs.declared.meta.NumberedMeta.{NumberedMeta}
-use Rattle.bdb_graph.specs.Metas.{AreMetas}
-use Rattle.std.proofs.lemmas.List.{get_or-map, length-map}
 use Rattle.bdb_form.specs.Formed.{fields_as}
 use Rattle.bdb_graph.proofs.CodeLemmas.{code_by, form_queue, is_same, not_zero, tree_refused, two_none}
 use Rattle.bdb_graph.proofs.FirstLemmas.{formed_page}
 use Rattle.bdb_graph.proofs.ForestLemmas.{sound_graph}
 use Rattle.bdb_graph.proofs.HeldLemmas.{identity_none, kind_is, last_page, page_is}
+use Rattle.bdb_graph.proofs.MetaLemmas.{is_by_fields}
+use Rattle.bdb_graph.specs.Metas.{meta_in}
 use Rattle.bdb_format.proofs.ListLemmas.{in_enumerated}
 use Rattle.bdb_format.proofs.ReferenceLemmas.{forest_names, held_in_all, of_all}
 
@@ -205,27 +204,25 @@ bucket_few image head meta b formed none has few = omega (arith, first_of_bucket
 -- The metadata pages.
 
 -- they are listed, each once
-pub as_many_metas : (image : List ℕ) (metas : List NumberedMeta) → AreMetas (file_of image) metas → length metas ≡ length (meta_pages (file_of image))
-as_many_metas image metas are = sym (length-map metas (λ (meta : NumberedMeta). meta.number)) ∙ ap length are.numbers
-
-pub few_metas : (image : List ℕ) (metas : List NumberedMeta) → AreMetas (file_of image) metas → length metas ≤ (head_of image).last + 1
+pub few_metas : (image : List ℕ) → length (meta_pages (file_of image)) ≤ (head_of image).last + 1
 unfolding meta_pages
-few_metas image metas are =
+few_metas image =
     let test : ℕ → Bool = λ p. is_meta (page_at (file_of image) p) in
     let pages : List ℕ = range_with_len 0 ((file_of image).last + 1) in
     let few : length (filter test pages) ≤ length pages = rw (length-filter test pages) (count_by-le-length test pages) in
-    omega (arith, as_many_metas image metas are, few, length-range_with_len 0 ((file_of image).last + 1), last_page image)
+    omega (arith, few, length-range_with_len 0 ((file_of image).last + 1), last_page image)
 
--- they are pages of the file
-pub meta_inside : (image : List ℕ) (metas : List NumberedMeta) (i : ℕ) (meta : NumberedMeta) → AreMetas (file_of image) metas → i < length (meta_pages (file_of image))
-    → meta ≡ slice_index_or metas i meta → meta.number ≤ (file_of image).last
+-- a number that is listed is that of a metadata page
+listed : (file : File) (i number : ℕ) → i < length (meta_pages file) → number ≡ get_or (meta_pages file) i number → (number ≤ file.last) × (is_meta (page_at file number) ≡ true)
 unfolding meta_pages
-meta_inside image metas i meta are below is =
-    let test : ℕ → Bool = λ p. is_meta (page_at (file_of image) p) in
-    let pages : List ℕ = range_with_len 0 ((file_of image).last + 1) in
-    let at : get_or (filter test pages) i 0 ≡ meta.number =
-    ap (λ ps. get_or ps i 0) (sym are.numbers)
-    ∙ (get_or-map (λ (m : NumberedMeta). m.number) metas i meta 0 (rw (as_many_metas image metas are) below) ∙ ap (λ (m : NumberedMeta). m.number) (sym is)) in
-    let passed = of_filter test pages (get_or (filter test pages) i 0) (Contains-get_or (filter test pages) i 0 below) in
-    let within = of_range 0 ((file_of image).last + 1) (get_or (filter test pages) i 0) passed.0 in
-    omega (arith, within.1, at)
+listed file i number below is =
+    let test : ℕ → Bool = λ p. is_meta (page_at file p) in
+    let passed = of_filter test (range_with_len 0 (file.last + 1)) number (subst (Contains (meta_pages file)) (sym is) (Contains-get_or (meta_pages file) i number below)) in
+    let within = of_range 0 (file.last + 1) number passed.0 in
+    (omega (arith, within.1), passed.1)
+
+pub meta_inside : (file : File) (i number : ℕ) → i < length (meta_pages file) → number ≡ get_or (meta_pages file) i number → number ≤ file.last
+meta_inside file i number below is = (listed file i number below is).0
+
+pub meta_there : (file : File) (i number : ℕ) → i < length (meta_pages file) → number ≡ get_or (meta_pages file) i number → None ≡ meta_in (page_at file number) → ⊥
+meta_there file i number below is none = true≢false (sym (listed file i number below is).1 ∙ is_by_fields (page_at file number) none)

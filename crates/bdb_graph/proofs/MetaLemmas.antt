@@ -1,7 +1,6 @@
 -- What a page without a fault of form is, where it's metadata.
-use Rattle.std.proofs.Common.{◌≡◌, ℕ, zero, suc, ◌+◌, ◌≤◌, Bool, true, false, cond, inl, inr, map, List, [], ◌∷◌, ◌++◌, length, arith, refl, sym, ◌∙◌, ap, subst, append-nil}
+use Rattle.std.proofs.Common.{◌≡◌, ℕ, zero, suc, ◌+◌, ◌≤◌, Bool, true, false, cond, inl, inr, List, [], ◌∷◌, ◌++◌, length, arith, refl, sym, ◌∙◌, ap, subst, append-nil}
 use Rattle.std.specs.Prelude.{Some, None}
-use Rattle.std.specs.Option.{is_some}
 use Rattle.std.specs.List.{filter, range_with_len}
 use Rattle.std.proofs.lemmas.Bool.{true≢false, cases_eq}
 use Rattle.bdb_format.specs.declared.kinds.Order.{Order}
@@ -18,11 +17,9 @@ use Rattle.bdb_format.specs.Rows.{form_code, may_have_type, metadata_rows}
 use Rattle.bdb_format.specs.Table.{first_row}
 use Rattle.bdb_format.proofs.GraphLemmas.{type_fits}
 use Rattle.bdb_format.proofs.PageLemmas.{later_type}
-use Rattle.std.proofs.lemmas.List.{map-append}
-use Rattle.std.proofs.lemmas.List.Elements.{All-nil, All-push, filter-append}
-use Rattle.bdb_graph.specs.declared.meta.NumberedMeta.{NumberedMeta}
-use Rattle.bdb_graph.specs.Linked.{meta_pages}
-use Rattle.bdb_graph.specs.Metas.{AreMetas, AreMetasBelow, meta_in, meta_seen}
+use Rattle.std.proofs.lemmas.List.Elements.{filter-append}
+use Rattle.bdb_graph.specs.Linked.{meta_pages, metas_below}
+use Rattle.bdb_graph.specs.Metas.{meta_in}
 use Rattle.bdb_format.specs.declared.metadata.HashMeta.{HashMeta}
 use Rattle.bdb_graph.proofs.CodeLemmas.{differs, not_zero, queue_last}
 use Rattle.bdb_graph.proofs.HeldLemmas.{few_buckets, metadata_formed, table_formed, table_page, tree_page, other_page, other_type, page_is}
@@ -68,9 +65,10 @@ no_meta order page table tree queue =
 pub meta_of_page : (image : List ℕ) (p : ℕ) → p ≤ (head_of image).last → meta_in (page_at (file_of image) p) ≡ meta_in (abstract_page (head_of image).order (page_bytes (head_of image) image p))
 meta_of_page image p low = ap meta_in (page_is image p low)
 
-pub is_by_fields : (page : Page) → is_meta page ≡ is_some (meta_in page)
-is_by_fields (Meta fields) = refl
-is_by_fields page = refl
+-- a page that shows none is no metadata
+pub is_by_fields : (page : Page) → None ≡ meta_in page → is_meta page ≡ false
+is_by_fields (Meta fields) none = absurd cc
+is_by_fields page none = refl
 
 -- The fields that are read.
 
@@ -108,34 +106,19 @@ few_buckets_known head number page meta size none some =
 
 -- The metadata pages.
 
-pub no_metas : (file : File) → AreMetasBelow file 0 []
-no_metas file = record { numbers = refl; fields = All-nil _ }
-
-more : (file : File) (n : ℕ) (metas : List NumberedMeta) → AreMetasBelow file n metas
-    → filter (λ p. is_meta (page_at file p)) (range_with_len 0 (n + 1)) ≡ map (λ (m : NumberedMeta). m.number) metas ++ cond (is_meta (page_at file n)) (n ∷ []) []
-more file n metas below =
+one_page_more : (file : File) (n : ℕ) → metas_below file (n + 1) ≡ metas_below file n ++ cond (is_meta (page_at file n)) (n ∷ []) []
+one_page_more file n =
     let test : ℕ → Bool = λ p. is_meta (page_at file p) in
     let same : 0 + n ≡ n = omega arith in
-    ap (filter test) (range_more 0 n ∙ ap (λ m. range_with_len 0 n ++ m ∷ []) same)
-    ∙ (filter-append test (range_with_len 0 n) (n ∷ []) ∙ ap (λ ms. ms ++ cond (test n) (n ∷ []) []) (sym below.numbers))
+    ap (filter test) (range_more 0 n ∙ ap (λ m. range_with_len 0 n ++ m ∷ []) same) ∙ filter-append test (range_with_len 0 n) (n ∷ [])
 
-pub one_more_meta : (file : File) (n : ℕ) (metas : List NumberedMeta) (meta : NumberedMeta) → AreMetasBelow file n metas → meta.number ≡ n
-    → Some (meta_seen meta.fields) ≡ meta_in (page_at file n) → AreMetasBelow file (n + 1) (metas ++ meta ∷ [])
-one_more_meta file n metas meta below is some =
-    let here : page_at file n ≡ Meta (meta_seen meta.fields) = is_fields (page_at file n) (meta_seen meta.fields) some in
-    record {
-      numbers =
-          map-append (λ (m : NumberedMeta). m.number) metas (meta ∷ []) ∙ (ap (λ m. map (λ (m : NumberedMeta). m.number) metas ++ m ∷ []) is ∙ sym (more file n metas below ∙ ap (λ page. map (λ (m : NumberedMeta). m.number) metas ++ cond (is_meta page) (n ∷ []) []) here));
-      fields = All-push (λ (m : NumberedMeta). page_at file m.number ≡ Meta (meta_seen m.fields)) metas meta below.fields (ap (page_at file) is ∙ here);
-    }
+pub one_more_meta : (file : File) (n : ℕ) (metas : List ℕ) → metas ≡ metas_below file n → true ≡ is_meta (page_at file n) → metas ++ n ∷ [] ≡ metas_below file (n + 1)
+one_more_meta file n metas below is = ap (λ ms. ms ++ n ∷ []) below ∙ sym (one_page_more file n ∙ ap (λ b. metas_below file n ++ cond b (n ∷ []) []) (sym is))
 
-pub no_more_meta : (file : File) (n : ℕ) (metas : List NumberedMeta) → AreMetasBelow file n metas → None ≡ meta_in (page_at file n) → AreMetasBelow file (n + 1) metas
-no_more_meta file n metas below none = record {
-  numbers = sym (more file n metas below ∙ (ap (λ b. map (λ (m : NumberedMeta). m.number) metas ++ cond b (n ∷ []) []) (is_by_fields (page_at file n) ∙ ap is_some (sym none)) ∙ append-nil (map (λ (m : NumberedMeta). m.number) metas)));
-  fields = below.fields;
-}
+pub no_more_meta : (file : File) (n : ℕ) (metas : List ℕ) → metas ≡ metas_below file n → false ≡ is_meta (page_at file n) → metas ≡ metas_below file (n + 1)
+no_more_meta file n metas below other = below ∙ sym (one_page_more file n ∙ ap (λ b. metas_below file n ++ cond b (n ∷ []) []) (sym other) ∙ append-nil (metas_below file n))
 
 -- all of them
-pub all_metas : (file : File) (n : ℕ) (metas : List NumberedMeta) → n ≡ file.last + 1 → AreMetasBelow file n metas → AreMetas file metas
+pub all_metas : (file : File) (n : ℕ) (metas : List ℕ) → n ≡ file.last + 1 → metas ≡ metas_below file n → metas ≡ meta_pages file
 unfolding meta_pages
-all_metas file n metas all below = record { numbers = below.numbers ∙ ap (λ m. filter (λ p. is_meta (page_at file p)) (range_with_len 0 m)) all; fields = below.fields }
+all_metas file n metas all below = below ∙ ap (metas_below file) all

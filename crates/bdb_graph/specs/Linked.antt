@@ -16,9 +16,13 @@ pub record IsForest (image : List ℕ) : Type 0 where
   pub formed : IsFormed image (head_of image)
   pub linked : faults_in (3 ∷ 4 ∷ 5 ∷ []) image ≡ []
 
+-- the metadata pages below a number, ascending
+abbrev pub metas_below : File → ℕ → List ℕ
+metas_below file n = filter (λ p. is_meta (page_at file p)) (range_with_len 0 n)
+
 -- the metadata pages, ascending
 unfoldable pub meta_pages : File → List ℕ
-meta_pages file = filter (λ p. is_meta (page_at file p)) (range_with_len 0 (file.last + 1))
+meta_pages file = metas_below file (file.last + 1)
 
 -- some page is metadata with these fields
 pub record HasMetadata (file : File) (fields : Metadata) : Type 0 where

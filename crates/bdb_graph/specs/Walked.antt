@@ -1,12 +1,12 @@
 -- What one walk over the references of a file gathers beside tallies.
-use Rattle.std.specs.Prelude.{◌≡◌, ℕ, Bool, true, false, List, [], ◌∷◌}
+use Rattle.std.specs.Prelude.{◌≡◌, ℕ, Bool, true, false, List}
 use Rattle.std.specs.List.{list_any}
 use Rattle.bdb_graph.specs.declared.tally.Kinds.{Kinds}
 use Rattle.bdb_format.specs.declared.references.Sort.{Sort}
 use Rattle.bdb_format.specs.declared.references.Sort.TheVariants.{DuplicateRoot}
 use Rattle.bdb_format.specs.File.{file_of}
 use Rattle.bdb_format.specs.Graph.{Owner, all_references, is_head_reference}
-use Rattle.bdb_format.specs.Verdict.{faults_in}
+use Rattle.bdb_graph.specs.Linked.{IsForest}
 
 abbrev pub is_set_reference : Sort → Bool
 is_set_reference DuplicateRoot = true
@@ -27,5 +27,5 @@ pub record AreKinds (kinds : Kinds) (os : List Owner) : Type 0 where
 
 -- an image for which the stages of references are decided, with what its references name
 pub record IsWalked (image : List ℕ) (kinds : Kinds) : Type 0 where
-  pub linked : faults_in (3 ∷ 4 ∷ 5 ∷ []) image ≡ []
+  pub forest : IsForest image
   pub named : AreKinds kinds (all_references (file_of image))

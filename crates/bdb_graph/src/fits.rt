@@ -117,7 +117,7 @@ fn asked_by(holder: u32, page: &FormedPage, sort: Sort) -> Demand
 }
 
 /// The code of the first row that holds for a reference of this page; none where it fits.
-#[tactic(auto, using(crate::proofs::HeldLemmas::last_page))]
+#[tactic(auto, using(crate::proofs::FitLemmas::names_zero, crate::proofs::FitLemmas::names_above, crate::proofs::HeldLemmas::last_page, crate::proofs::HeldLemmas::last_page))]
 pub(crate) fn fit_code(formed: &Formed, holder: u32, reference: Reference) -> Option<u8>
     requires { holder ≤ (file_of formed.now).last }
     ensures { result ≡ fit_code (file_of formed.now) holder reference }

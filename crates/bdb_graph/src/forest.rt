@@ -1,10 +1,9 @@
-ghost use Rattle.std.specs.Prelude.{◌≡◌, ◌≢◌, ◌^◌, ◌<◌, ◌≤◌, [], None, IsTrue, length, ◌∷◌};
+ghost use Rattle.std.specs.Prelude.{◌≡◌, ◌≢◌, ◌^◌, ◌<◌, ◌≤◌, None, IsTrue, length};
 ghost use Rattle.bdb_form.specs.Seen.{header_seen, page_seen};
 ghost use Rattle.bdb_graph.specs.Linked.{IsForest};
 ghost use Rattle.std.specs.List.{list_any};
 ghost use Rattle.bdb_format.specs.Graph.{all_references};
-ghost use Rattle.bdb_graph.specs.Walked.{AreKinds, names_head, names_set};
-ghost use Rattle.bdb_format.specs.Verdict.{faults_in};
+ghost use Rattle.bdb_graph.specs.Walked.{IsWalked, names_head, names_set};
 ghost use Rattle.bdb_graph.specs.Metas.{meta_in, meta_seen};
 ghost use Rattle.std.specs.Option.{option_map};
 ghost use Rattle.bdb_format.specs.File.{file_of, page_at, page_bytes};
@@ -42,8 +41,7 @@ impl<'a> Model for Forest<'a> {
 impl<'a> Forest<'a> {
     // An image for which the stages are decided.
     pub(crate) fn over(formed: Formed<'a>, kinds: Kinds) -> Forest<'a>
-        requires linked { faults_in (3 ∷ 4 ∷ 5 ∷ []) formed ≡ [] }
-        requires kinds { AreKinds kinds (all_references (file_of formed)) }
+        requires { IsWalked formed kinds }
         ensures { result ≡ formed.entry }
     {
         Forest { formed, kinds }
@@ -64,8 +62,6 @@ impl<'a> Forest<'a> {
         ensures chains { result ≡ list_any names_head (all_references (file_of self.now)) }
         ensures forest { IsForest self.now }
     {
-        // What it ensures is half of what a forest is.
-        self.formed.head();
         self.kinds.chains()
     }
 
@@ -74,8 +70,6 @@ impl<'a> Forest<'a> {
         ensures sets { result ≡ list_any names_set (all_references (file_of self.now)) }
         ensures forest { IsForest self.now }
     {
-        // What it ensures is half of what a forest is.
-        self.formed.head();
         self.kinds.sets()
     }
 
@@ -101,6 +95,7 @@ impl<'a> Forest<'a> {
         requires { number ≤ (file_of self.now).last }
         ensures page { page_seen result ≡ page_at (file_of self.now) number }
         ensures header { header_seen result ≡ header_of (head_of self.now).order (page_bytes (head_of self.now) self.now number) }
+        ensures forest { IsForest self.now }
     {
         view_of(self.formed.page_bytes(number), &self.formed.head(), number)
     }
@@ -108,7 +103,8 @@ impl<'a> Forest<'a> {
     /// The fields of a page up to the last one, if it's metadata.
     pub fn meta(&self, number: u32) -> Option<Meta>
         requires { number ≤ (file_of self.now).last }
-        ensures { option_map meta_seen result ≡ meta_in (page_at (file_of self.now) number) }
+        ensures meta { option_map meta_seen result ≡ meta_in (page_at (file_of self.now) number) }
+        ensures forest { IsForest self.now }
     {
         meta_at(&self.formed, number)
     }

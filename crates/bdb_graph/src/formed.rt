@@ -38,7 +38,8 @@ impl<'a> Formed<'a> {
 
     // Another handle to the same image.
     pub(crate) fn again(&self) -> Formed<'a>
-        ensures { result ≡ self.now }
+        ensures same { result ≡ self.now }
+        ensures formed { IsFormed self.now (head_of self.now) }
     {
         Formed {
             image: self.image,

@@ -60,6 +60,7 @@ pub(crate) fn is_one_of(types: &[u8], byte: u8) -> bool
 
 impl<'a> FormedPage<'a> {
     /// Whether all its bytes are 0.
+    #[tactic(auto, using(crate::proofs::FitLemmas::is_zero_page_is))]
     pub(crate) fn is_zero(&self) -> bool
         ensures { result ≡ is_zero_page self.now }
     {
@@ -67,6 +68,7 @@ impl<'a> FormedPage<'a> {
     }
 
     /// Its type; a zero page has none.
+    #[tactic(auto, using(crate::proofs::FitLemmas::typed, crate::proofs::FitLemmas::untyped, crate::proofs::FitLemmas::zero_type))]
     pub(crate) fn page_type(&self) -> Option<u8>
         ensures { result ≡ type_in self.now }
     {
@@ -78,6 +80,7 @@ impl<'a> FormedPage<'a> {
     }
 
     /// Its header; all 0 where it has none.
+    #[tactic(auto, using(crate::proofs::FitLemmas::headed, crate::proofs::FitLemmas::unheaded, crate::proofs::FitLemmas::zero_header))]
     pub(crate) fn header(&self) -> Header
         ensures { result ≡ header_in self.now }
     {
@@ -88,6 +91,7 @@ impl<'a> FormedPage<'a> {
     }
 
     /// The types that the root of a tree may have, where this is btree metadata: those of a recno where it is one.
+    #[tactic(auto, using(crate::proofs::FitLemmas::zero_root, crate::proofs::FitLemmas::no_root))]
     pub(crate) fn root_types(&self) -> &'static [u8]
         ensures { result.now ≡ root_types self.now }
     {
@@ -102,6 +106,7 @@ impl<'a> FormedPage<'a> {
     }
 
     /// The types that a page below may have, where this is an internal page: those of a leaf where this has level 2.
+    #[tactic(auto, using(crate::proofs::FitLemmas::zero_child, crate::proofs::FitLemmas::no_child, crate::proofs::FitLemmas::internal_child, crate::proofs::FitLemmas::recno_child))]
     pub(crate) fn child_types(&self) -> &'static [u8]
         ensures { result.now ≡ child_types self.now }
     {

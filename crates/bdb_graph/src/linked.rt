@@ -2,14 +2,13 @@ ghost use Rattle.std.specs.Prelude.{◌≡◌, ◌+◌, ◌^◌, ◌<◌, ◌≤
 ghost use Rattle.std.specs.List.{slice_get};
 ghost use Rattle.bdb_form.specs.Seen.{header_seen, page_seen};
 ghost use Rattle.bdb_graph.specs.Linked.{IsForest, FitsBucket, FitsChain, FitsDupRoot, FitsTreeRoot, HasMetadata, meta_pages};
-ghost use Rattle.bdb_graph.specs.Metas.{AreMetas, meta_seen};
+ghost use Rattle.bdb_graph.specs.Metas.{meta_seen};
 ghost use Rattle.bdb_format.specs.File.{file_of, page_at, page_bytes};
 ghost use Rattle.bdb_format.specs.Hashing.{first_page};
 ghost use Rattle.bdb_format.specs.HeadOf.{head_of};
 ghost use Rattle.bdb_format.specs.Page.{BtreeFields, HashFields, Meta as MetaPage};
 ghost use Rattle.bdb_format.specs.Reading.{header_of};
 
-use crate::meta::NumberedMeta;
 use crate::{Bucket, Chain, DupRoot, Forest, Meta, Ref, TreeRoot};
 use bdb_form::PageView;
 use bdb_format::{BtreeMeta, HashMeta, Head};
@@ -21,25 +20,25 @@ use std::marker::Model;
 #[derive(Drop)]
 pub struct Linked<'a> {
     forest: Forest<'a>,
-    metas: Vec<NumberedMeta>,
+    metas: Vec<u32>,
 }
 
 impl<'a> Model for Linked<'a> {
     ghost use Rattle.std.specs.Prelude.{◌≡◌, List, ℕ};
-    ghost use Rattle.bdb_graph.specs.Metas.{AreMetas};
+    ghost use Rattle.bdb_graph.specs.Linked.{meta_pages};
     ghost use Rattle.bdb_format.specs.File.{file_of};
 
     ghost Value = { List ℕ };
 
     ghost view = { λ v. v.forest };
 
-    ghost invariant = { λ v. AreMetas (file_of v.forest) v.metas.items };
+    ghost invariant = { λ v. v.metas.items ≡ meta_pages (file_of v.forest) };
 }
 
 impl<'a> Linked<'a> {
     // An image for which the stages are decided, with its metadata pages.
-    pub(crate) fn over(forest: Forest<'a>, metas: Vec<NumberedMeta>) -> Linked<'a>
-        requires { AreMetas (file_of forest) metas.items }
+    pub(crate) fn over(forest: Forest<'a>, metas: Vec<u32>) -> Linked<'a>
+        requires { metas.items ≡ meta_pages (file_of forest) }
         ensures { result ≡ forest.entry }
     {
         Linked { forest, metas }
@@ -66,28 +65,35 @@ impl<'a> Linked<'a> {
         requires { number ≤ (file_of self.now).last }
         ensures page { page_seen result ≡ page_at (file_of self.now) number }
         ensures header { header_seen result ≡ header_of (head_of self.now).order (page_bytes (head_of self.now) self.now number) }
+        ensures forest { IsForest self.now }
     {
         self.forest.page(number)
     }
 
     /// How many metadata pages there are.
-    #[tactic(auto, using(crate::proofs::LinkedLemmas::few_metas, crate::proofs::LinkedLemmas::as_many_metas))]
+    #[tactic(auto, using(crate::proofs::LinkedLemmas::few_metas))]
     pub fn metas(&self) -> u32
-        ensures { result ≡ length (meta_pages (file_of self.now)) }
+        ensures metas { result ≡ length (meta_pages (file_of self.now)) }
+        ensures forest { IsForest self.now }
     {
         prove!(self.metas.len() <= self.forest.head().last as usize + 1);
         self.metas.len() as u32
     }
 
     /// The number and the fields of a metadata page, by its place among them, from 0.
+    #[tactic(auto, using(crate::proofs::LinkedLemmas::meta_inside, crate::proofs::LinkedLemmas::meta_there, crate::proofs::MetaLemmas::is_fields))]
     pub fn meta(&self, i: u32) -> (u32, Meta)
         requires { i < length (meta_pages (file_of self.now)) }
         ensures number { slice_get (meta_pages (file_of self.now)) i ≡ Some result.0 }
         ensures inside { result.0 ≤ (file_of self.now).last }
         ensures fields { page_at (file_of self.now) result.0 ≡ MetaPage (meta_seen result.1) }
+        ensures forest { IsForest self.now }
     {
-        let meta = self.metas[i as usize];
-        (meta.number, meta.fields)
+        let number = self.metas[i as usize];
+        match self.forest.meta(number) {
+            Some(fields) => (number, fields),
+            None => unreachable!(),
+        }
     }
 
     /// The root of the tree of this metadata.
@@ -96,6 +102,7 @@ impl<'a> Linked<'a> {
         requires { HasMetadata (file_of self.now) (BtreeFields meta.now) }
         ensures number { result ≡ meta.now.root }
         ensures fits { FitsTreeRoot (file_of self.now) result }
+        ensures forest { IsForest self.now }
     {
         prove!(meta.root <= self.forest.head().last);
         Ref::at(meta.root)
@@ -108,6 +115,7 @@ impl<'a> Linked<'a> {
         requires bucket { b ≤ meta.now.max_bucket }
         ensures number { result ≡ first_page b meta.now.spares }
         ensures fits { FitsBucket (file_of self.now) result }
+        ensures forest { IsForest self.now }
     {
         prove!(b <= self.forest.head().last);
         let page = page_of(b, &meta.spares);

@@ -1,7 +1,6 @@
 ghost use Rattle.std.specs.Prelude.{◌≡◌, ◌≤◌, ◌+◌, [], ◌∷◌, IfErr, IfOk, OnOk};
 ghost use Rattle.bdb_format.specs.File.{file_of};
-ghost use Rattle.bdb_format.specs.Graph.{all_references};
-ghost use Rattle.bdb_graph.specs.Walked.{AreKinds};
+ghost use Rattle.bdb_graph.specs.Walked.{IsWalked};
 ghost use Rattle.bdb_format.specs.Verdict.{faults_in, IsFirstOf};
 
 use crate::meta::metas_of;
@@ -17,7 +16,7 @@ use std::sync::ledger::Ledger;
 /// The image as one whose pages are a forest, or else the first fault of stages 3 to 5: a reference that
 /// doesn't fit, a page without an owner or with too many, or one that isn't reached. It takes at most a step for
 /// each page up to the last, which are no more than the whole pages of the image, and 13 bytes for each while it
-/// runs. The answer keeps the number and the fields of each metadata page, in 160 bytes. `Memory` is want of memory.
+/// runs. The answer keeps the number of each metadata page, in 4 bytes. `Memory` is want of memory.
 pub fn link<'a, L: Ledger>(
     alloc: Global,
     formed: Formed<'a>,
@@ -29,10 +28,8 @@ pub fn link<'a, L: Ledger>(
     ensures cost { steps.new ≤ steps.old + ((file_of formed.entry).last + 1) }
 {
     let kinds = check_graph(alloc, &formed, steps)?;
-    match metas_of(alloc, &formed) {
-        Ok(metas) => Ok(Linked::over(Forest::over(formed, kinds), metas)),
-        Err(_) => Err(CheckError::Memory),
-    }
+    let metas = metas_of(alloc, &formed).map_err(|_| CheckError::Memory)?;
+    Ok(Linked::over(Forest::over(formed, kinds), metas))
 }
 
 /// No row of stages 3 to 5 holds, in one step for each page, and what the references name. A refusal is the first fault, or want of memory.
@@ -43,19 +40,13 @@ fn check_graph<L: Ledger>(
     formed: &Formed<'_>,
     steps: &mut Steps<L>,
 ) -> Result<Kinds, CheckError>
-    ensures kinds { IfOk result (λ kinds. AreKinds kinds (all_references (file_of formed.now))) }
-    ensures accepted { OnOk result (faults_in (3 ∷ 4 ∷ 5 ∷ []) formed.now ≡ []) }
+    ensures accepted { IfOk result (IsWalked formed.now) }
     ensures refusal { IfErr result (IsFirstOf (faults_in (3 ∷ 4 ∷ 5 ∷ []) formed.now)) }
     ensures cost { steps.new ≤ steps.old + ((file_of formed.now).last + 1) }
 {
-    let (tallies, kinds) = match tally_all(alloc, formed, steps) {
-        Ok(walk) => walk,
-        Err(error) => return Err(error),
-    };
+    let (tallies, kinds) = tally_all(alloc, formed, steps)?;
     let roles = Roles::of(formed.again(), tallies);
-    if let Err(fault) = check_owners(&roles) {
-        return Err(CheckError::Fault(fault));
-    }
+    check_owners(&roles).map_err(CheckError::Fault)?;
     check_reach(alloc, &roles)?;
     Ok(kinds)
 }

@@ -33,6 +33,7 @@ impl<'a> Model for References<'a> {
 
 impl<'a> References<'a> {
     /// No reference.
+    #[tactic(auto, using(crate::proofs::SourceLemmas::of_nothing))]
     pub(crate) fn none() -> References<'a>
         ensures { result ≡ [] }
     {
@@ -48,6 +49,7 @@ impl<'a> References<'a> {
     }
 
     /// The references of btree metadata on page `p`: the first free page, which page 0 alone names, and the root.
+    #[tactic(auto, using(crate::proofs::SourceLemmas::of_tree))]
     pub(crate) fn of_btree(p: u32, meta: &BtreeMeta) -> References<'a>
         ensures { result ≡ placed 0 (targets_in p (Meta (BtreeFields meta.now))) }
     {
@@ -59,6 +61,7 @@ impl<'a> References<'a> {
     }
 
     /// The references of hash metadata on page `p`: the first free page, which page 0 alone names, and the buckets.
+    #[tactic(auto, using(crate::proofs::SourceLemmas::of_table))]
     pub(crate) fn of_hash(p: u32, meta: &HashMeta) -> References<'a>
         requires { meta.now.max_bucket < 2 ^ 31 }
         ensures { result ≡ placed 0 (targets_in p (Meta (HashFields meta.now))) }

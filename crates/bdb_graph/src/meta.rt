@@ -1,11 +1,13 @@
-ghost use Rattle.std.specs.Prelude.{◌≡◌, ◌+◌, ◌≤◌, IfOk, IsTrue, OnOk, length};
+ghost use Rattle.std.specs.Prelude.{◌≡◌, ◌≤◌, IfOk, IsTrue, length};
 ghost use Rattle.std.specs.Option.{option_map};
-ghost use Rattle.bdb_graph.specs.Metas.{AreMetas, AreMetasBelow, meta_in, meta_seen};
+ghost use Rattle.bdb_graph.specs.Linked.{meta_pages};
+ghost use Rattle.bdb_graph.specs.Metas.{meta_in, meta_seen};
 ghost use Rattle.bdb_format.specs.File.{file_of, page_at};
 ghost use Rattle.bdb_format.specs.HeadOf.{is_page_size};
 ghost use Rattle.bdb_format.specs.Reading.{abstract_page};
 
 use crate::Formed;
+use crate::formed_page::page_at;
 use bdb_format::{BtreeMeta, HashMeta, Order, QueueMeta};
 use bdb_meta::{btree_fields, hash_fields, queue_fields};
 use std::alloc::{AllocError, Global};
@@ -18,37 +20,18 @@ pub enum Meta {
     Queue(QueueMeta),
 }
 
-/// A metadata page by its number, with its fields.
-#[derive(Clone, Copy, Debug)]
-pub(crate) struct NumberedMeta {
-    pub(crate) number: u32,
-    pub(crate) fields: Meta,
-}
-
-/// The metadata pages of an image, ascending.
-#[tactic(auto, using(crate::proofs::MetaLemmas::no_metas, crate::proofs::MetaLemmas::all_metas, crate::proofs::HeldLemmas::last_page))]
-pub(crate) fn metas_of(alloc: Global, formed: &Formed) -> Result<Vec<NumberedMeta>, AllocError>
-    ensures { IfOk result (λ metas. AreMetas (file_of formed.now) metas.items) }
+/// The numbers of the metadata pages of an image, ascending, 4 bytes for each in a list that grows.
+#[tactic(auto, using(crate::proofs::HeldLemmas::last_page))]
+pub(crate) fn metas_of(alloc: Global, formed: &Formed) -> Result<Vec<u32>, AllocError>
+    ensures { IfOk result (λ metas. metas.items ≡ meta_pages (file_of formed.now)) }
 {
     let mut metas = Vec::new(alloc);
-    let last = formed.head().last;
-    for number in 0..last + 1 {
-        push_meta(&mut metas, formed, number)?;
+    for number in 0..formed.head().last + 1 {
+        if page_at(formed, number).is_meta() {
+            metas.push(number)?;
+        }
     }
     Ok(metas)
-}
-
-/// One page more, where it's metadata.
-#[tactic(auto, using(crate::proofs::MetaLemmas::one_more_meta, crate::proofs::MetaLemmas::no_more_meta))]
-fn push_meta(metas: &mut Vec<NumberedMeta>, formed: &Formed, number: u32) -> Result<(), AllocError>
-    requires there { number ≤ (file_of formed.now).last }
-    requires below { AreMetasBelow (file_of formed.now) number metas.old.items }
-    ensures { OnOk result (AreMetasBelow (file_of formed.now) (number + 1) metas.new.items) }
-{
-    if let Some(fields) = meta_at(formed, number) {
-        metas.push(NumberedMeta { number, fields })?;
-    }
-    Ok(())
 }
 
 /// The fields of a page, if it's metadata.

@@ -1,8 +1,8 @@
-ghost use Rattle.std.specs.Prelude.{◌≡◌, ◌≤◌, ◌^◌, [], ◌∷◌, IfOk, length, option_map};
+ghost use Rattle.std.specs.Prelude.{◌≡◌, ◌≤◌, ◌^◌, [], ◌∷◌, IfOk, OnOk, length, option_map};
 ghost use Rattle.std.specs.Result.{result_err};
 ghost use Rattle.bdb_graph.specs.Formed.{IsAccepted};
 ghost use Rattle.bdb_format.specs.Reading.{is_zero};
-ghost use Rattle.bdb_format.specs.Verdict.{as_verdict, first_judgement, form_faults, head_faults, judged, tail_faults, verdict_in};
+ghost use Rattle.bdb_format.specs.Verdict.{as_verdict, faults_in, first_judgement, form_faults, head_faults, judged, tail_faults, verdict_in};
 
 use crate::Formed;
 use crate::formed::page_bytes;
@@ -16,6 +16,7 @@ use std::alloc::Global;
 pub fn open_image<'a>(_alloc: Global, image: &'a [u8]) -> Result<Formed<'a>, Verdict>
     requires { length image.now ≤ 2 ^ 30 }
     ensures formed { IfOk result (λ formed. formed ≡ image.now) }
+    ensures accepted { OnOk result (faults_in (1 ∷ 2 ∷ []) image.now ≡ []) }
     ensures verdict { result_err result ≡ option_map as_verdict (verdict_in (1 ∷ 2 ∷ []) image.now) }
 {
     let head = file_head(image)?;

@@ -1,4 +1,4 @@
-ghost use Rattle.std.specs.Prelude.{◌≡◌, ◌≤◌, ◌+◌, ◌^◌, ◌<◌, ◌||◌, IsTrue};
+ghost use Rattle.std.specs.Prelude.{◌≡◌, ◌≤◌, ◌+◌, ◌^◌, ◌<◌, ◌||◌};
 ghost use Rattle.std.specs.List.{list_any};
 ghost use Rattle.bdb_graph.specs.Formed.{IsFormed};
 ghost use Rattle.bdb_graph.specs.Tallies.{AreTalliesOf, IsTally};

@@ -96,10 +96,8 @@ pub(crate) fn tally_all<L: Ledger>(
     ensures cost { steps.new ≤ steps.old + ((file_of formed.now).last + 1) }
 {
     let pages = formed.head().last + 1;
-    let mut tallies = match vec![in alloc; no_owner(); pages as usize] {
-        Ok(tallies) => tallies,
-        Err(_) => return Err(CheckError::Memory),
-    };
+    let tallies = vec![in alloc; no_owner(); pages as usize];
+    let mut tallies = tallies.map_err(|_| CheckError::Memory)?;
     let mut kinds = Kinds::none();
     for page in 0..pages {
         if let Some(code) = note_page(formed, &mut tallies, &mut kinds, page, steps) {

@@ -2,16 +2,19 @@
 use Rattle.std.proofs.Common.{◌≡◌, ◌⊎◌, ℕ, ◌+◌, ◌≤◌, Bool, true, false, cond, List, [], ◌∷◌, ◌++◌, Some, refl, sym, ◌∙◌, ap, subst, inl, inr, true≢false}
 use Rattle.std.specs.Prelude.{◌==◌, ◌||◌}
 use Rattle.std.specs.List.{Contains, filter, flat_map, range_with_len}
+use Rattle.std.proofs.Math.Path.{fun_ext}
 use Rattle.std.proofs.lemmas.Bool.{cases_Bool, eqb-true, eq-eqb, or_left, or_right}
 use Rattle.std.proofs.lemmas.List.Elements.{Contains-append_cases, Contains-append_left, Contains-append_right}
 use Rattle.bdb_format.specs.declared.references.Reference.{Reference}
 use Rattle.bdb_format.specs.File.{File, page_at, header_in}
 use Rattle.bdb_format.specs.References.{refs}
 use Rattle.bdb_format.specs.Graph.{Owner, first_holder, held_by}
-use Rattle.bdb_format.proofs.MemberLemmas.{first_member, member_cases, no_member, of_filter, of_flat_map, of_map}
+use Rattle.bdb_format.proofs.MemberLemmas.{first_member, no_member, of_filter}
 use Rattle.bdb_grove.specs.Part.{IsGrove, IsOwnedBy, IsWayIn, owners_among}
 use Rattle.bdb_grove.specs.Growing.{GrovesStandTogether, PageAlone}
-use Rattle.bdb_grove.proofs.OwnerLemmas.{NamesNot, filter_first, held_none, names_page}
+use Rattle.bdb_grove.specs.Standing.{GroveIsKnown}
+use Rattle.bdb_format.proofs.ListLemmas.{only_member}
+use Rattle.bdb_grove.proofs.OwnerLemmas.{NamesNot, filter_first, held_none, names_page, owner_among}
 
 -- a set within another
 filter_within : (small large : ℕ → Bool) (xs : List ℕ) → ((x : ℕ) → small x ≡ true → large x ≡ true) → filter small (filter large xs) ≡ filter small xs
@@ -32,7 +35,7 @@ filter_within small large (x ∷ xs) within =
     fails (inr no') out = no'
 
 -- the owners of a page are of the set that alone names it
-owners_within : (small large : ℕ → Bool) (f : File) (x : ℕ) → ((q : ℕ) → small q ≡ true → large q ≡ true)
+pub owners_within : (small large : ℕ → Bool) (f : File) (x : ℕ) → ((q : ℕ) → small q ≡ true → large q ≡ true)
     → ((q : ℕ) → large q ≡ true → small q ≡ false → NamesNot f x q)
     → owners_among large f x ≡ owners_among small f x
 owners_within small large f x within none =
@@ -72,7 +75,7 @@ page_alone f p low high none =
       high = λ q is. subst (λ (x : ℕ). x ≤ f.last) (sym (eqb-true q p is)) high;
       fits = λ q r is at. absurd (nothing q r is at);
       closed = λ q r is at. absurd (nothing q r is at);
-      entered = λ e at. elim (member_cases p [] e at) [ inl here ↦ eq-eqb e p (sym here) | inr later ↦ absurd (no_member [] e refl later) ];
+      entered = λ e at. eq-eqb e p (sym (only_member p e at));
       apart = λ q r is at entrance. nothing q r is at;
       owned = λ q is inner. absurd (inner (subst (Contains (p ∷ [])) (sym (eqb-true q p is)) (first_member p [])));
       led = λ q is. ([], subst (Contains (p ∷ [])) (sym (eqb-true q p is)) (first_member p []));
@@ -84,20 +87,16 @@ page_alone f p low high none =
 -- an owner among some pages is one of them
 owner_inside : (pages : ℕ → Bool) (f : File) (x : ℕ) (owner : Owner) → Contains (owners_among pages f x) owner → pages owner.holder ≡ true
 owner_inside pages f x owner at =
-    let passed = of_filter (names_page x) (flat_map (held_by f) (filter pages (range_with_len 0 (f.last + 1)))) owner at in
-    let page = of_flat_map (held_by f) (filter pages (range_with_len 0 (f.last + 1))) owner passed.0 in
-    let held : (r : Reference) × Contains (refs f page.0) r × (record { holder = page.0; reference = r } ≡ owner) =
-    of_map (λ r. record { holder = page.0; reference = r }) (refs f page.0) owner page.2 in
-    subst (λ (o : Owner). pages o.holder ≡ true) held.2 (of_filter pages (range_with_len 0 (f.last + 1)) page.0 page.1).1
+    let found = owner_among pages f x owner at in subst (λ (o : Owner). pages o.holder ≡ true) found.4 found.1
 
-first_inside : (pages : ℕ → Bool) (f : File) (q h : ℕ) → first_holder (owners_among pages f q) ≡ Some h → pages h ≡ true
+pub first_inside : (pages : ℕ → Bool) (f : File) (q h : ℕ) → first_holder (owners_among pages f q) ≡ Some h → pages h ≡ true
 first_inside pages f q h first = of (owners_among pages f q) (owner_inside pages f q) first
   where
     of : (os : List Owner) → ((owner : Owner) → Contains os owner → pages owner.holder ≡ true) → first_holder os ≡ Some h → pages h ≡ true
     of [] inside some = absurd cc
     of (owner ∷ os) inside some = let same : owner.holder ≡ h = cc in subst (λ (k : ℕ). pages k ≡ true) same (inside owner (first_member owner os))
 
-in_either : (a b : Bool) → (a || b) ≡ true → (a ≡ true) ⊎ (b ≡ true)
+pub in_either : (a b : Bool) → (a || b) ≡ true → (a ≡ true) ⊎ (b ≡ true)
 in_either true b is = inl refl
 in_either false b is = inr is
 
@@ -160,3 +159,22 @@ stand_together f one two both es gs union apart first second =
       entered = λ e at. Contains-append_right es gs e at;
       own = λ e at is. elim (Contains-append_cases es gs e at) [ inl a ↦ absurd (apart e (first.entered e a) is) | inr b ↦ b ];
     }
+
+way_known : (g : File) (pages : ℕ → Bool) (es fs : List ℕ) (p : ℕ) (hs : List ℕ) → ((e : ℕ) → Contains es e → Contains fs e) → IsWayIn g pages es p hs
+    → IsWayIn g pages fs p hs
+way_known g pages es fs p [] to way = to p way
+way_known g pages es fs p (h ∷ hs) to way = (way.0, way_known g pages es fs h hs to way.1)
+
+pub grove_is_known : GroveIsKnown
+grove_is_known g pages same es fs set to from grove =
+    subst (λ (qs : ℕ → Bool). IsGrove g qs fs) (sym (fun_ext set))
+    (record {
+      low = grove.low;
+      high = grove.high;
+      fits = grove.fits;
+      closed = grove.closed;
+      entered = λ e at. grove.entered e (from e at);
+      apart = λ p r is at entrance. grove.apart p r is at (from r.target entrance);
+      owned = λ p is inner. grove.owned p is (λ at. inner (to p at));
+      led = λ p is. let way = grove.led p is in (way.0, way_known g pages es fs p way.0 to way.1);
+    })

@@ -1,38 +1,28 @@
 -- The pages of a chain are a grove that is entered by its first page, and hold the value.
-use Rattle.std.proofs.Common.{◌≡◌, ◌⊎◌, ℕ, zero, suc, ◌+◌, ◌<◌, ◌≤◌, Bool, true, false, not, cond, List, [], ◌∷◌, map, length, Some, None, arith, refl, sym, ◌∙◌, ap, subst, inl, inr}
+use Rattle.std.proofs.Common.{◌≡◌, ℕ, zero, suc, ◌+◌, ◌<◌, ◌≤◌, Bool, true, false, cond, List, [], ◌∷◌, map, length, None, arith, refl, sym, ◌∙◌, ap, subst, inl, inr}
 use Rattle.std.specs.Prelude.{◌==◌, ◌||◌, ◌&&◌, nat_le, nat_lt}
-use Rattle.std.specs.List.{enumerate_from}
+use Rattle.std.specs.List.{Contains, enumerate_from}
 use Rattle.std.proofs.Math.Path.{fun_ext}
-use Rattle.std.proofs.lemmas.Bool.{cases_Bool, cases_eq, and_parts, eqb-true, eq-eqb, ne_eqb, leb-true, ltb-true, le-leb, lt-ltb, or_from, or_left, or_right}
+use Rattle.std.proofs.lemmas.Bool.{cases_Bool, cases_eq, and_parts, eqb-true, eq-eqb, ne_eqb, leb-true, ltb-true, le-leb, lt-ltb, or_left, or_right}
 use Rattle.bdb_format.specs.declared.references.Reference.{Reference}
-use Rattle.bdb_format.specs.declared.references.Sort.{Sort}
-use Rattle.bdb_format.specs.declared.references.Sort.TheVariants.{Free as FreeRef, Root, Bucket, HashNext, Child, OverflowHead, OverflowNext, DuplicateRoot}
+use Rattle.bdb_format.specs.declared.references.Sort.TheVariants.{OverflowNext}
 use Rattle.bdb_format.specs.declared.pages.Header.{Header}
 use Rattle.bdb_format.specs.declared.metadata.FileKind.TheVariants.{Queue as QueueFile}
 use Rattle.bdb_format.specs.Page.{Overflow, Page}
 use Rattle.bdb_format.specs.File.{File, page_at, header_in, type_in}
-use Rattle.bdb_format.specs.References.{asked_by, fit_code, has_type, targets_in, targets_of, refs, unless_zero}
+use Rattle.bdb_format.specs.References.{asked_by, fit_code, has_type, refs, unless_zero}
 use Rattle.bdb_format.specs.Chains.{chain_in, joined, next_of, piece_in, pieces_of, value_of}
-use Rattle.bdb_format.proofs.ReferenceLemmas.{forest_names}
 use Rattle.bdb_grove.specs.Part.{IsGrove, between}
-use Rattle.bdb_grove.specs.Growing.{ChainsStand, IsCounted, IsLink, IsRun, KeepsFace, chain_header}
-use Rattle.bdb_grove.proofs.CoverLemmas.{stands_over}
-use Rattle.bdb_grove.proofs.BesideLemmas.{page_alone}
-use Rattle.bdb_grove.proofs.GroveLemmas.{above, none_of_rows}
+use Rattle.bdb_grove.specs.Growing.{ChainsStand, IsCounted, IsLink, IsRun, chain_header}
+use Rattle.bdb_grove.proofs.SeveralLemmas.{page_over_one}
+use Rattle.bdb_format.proofs.ListLemmas.{only_member}
+use Rattle.bdb_grove.proofs.BesideLemmas.{in_either, page_alone}
+use Rattle.bdb_grove.proofs.GroveLemmas.{fits_asked, reference_of, refs_of}
 
 -- References of a page of a chain.
 
 abbrev to_next : ℕ → Reference
 to_next next = record { place = 0; sort = OverflowNext; target = next }
-
-refs_of : (g : File) (p : ℕ) (page : Page) → (g.kind ≡ QueueFile → ⊥) → page_at g p ≡ page
-    → refs g p ≡ map (λ (named : ℕ × (Sort × ℕ)). let r : Reference = record { place = named.0; sort = named.1.0; target = named.1.1 } in r)
-    (enumerate_from 0 (targets_in p page))
-unfolding refs
-refs_of g p page forest is =
-    ap (λ names. map (λ (named : ℕ × (Sort × ℕ)). let r : Reference = record { place = named.0; sort = named.1.0; target = named.1.1 } in r)
-    (enumerate_from 0 names))
-    (ap (targets_of g.kind p) is ∙ forest_names g.kind p page forest)
 
 some_next : (next : ℕ) → 1 ≤ next → unless_zero OverflowNext next ≡ (OverflowNext, next) ∷ []
 some_next next above = ap (λ b. cond b [] ((OverflowNext, next) ∷ [])) (ne_eqb next 0 (λ e. omega arith))
@@ -45,31 +35,22 @@ refs_next : (g : File) (p previous next count : ℕ) (piece : List ℕ) → (g.k
     → page_at g p ≡ Overflow (chain_header p previous next (length piece) count) piece → refs g p ≡ to_next next ∷ []
 refs_next g p previous next count piece forest above is =
     refs_of g p (Overflow (chain_header p previous next (length piece) count) piece) forest is
-    ∙ ap (λ names. map (λ (named : ℕ × (Sort × ℕ)). let r : Reference = record { place = named.0; sort = named.1.0; target = named.1.1 } in r)
-    (enumerate_from 0 names)) (some_next next above)
+    ∙ ap (λ names. map reference_of (enumerate_from 0 names)) (some_next next above)
 
 -- the reference to the next page of a chain fits
 fits_next : (g : File) (p next : ℕ) (page : Page) (header : Header) (piece : List ℕ) → 1 ≤ next → next ≤ g.last → page_at g next ≡ Overflow header piece
     → header.previous ≡ p → fit_code g p (to_next next) ≡ None
 unfolding fit_code
 fits_next g p next page header piece low high is back =
-    let range : (next == 0 || nat_lt g.last next) ≡ false =
-    or_from (next == 0) (nat_lt g.last next) (ne_eqb next 0 (λ e. omega arith)) (above g.last next high) in
-    let type : type_in (page_at g next) ≡ Some 7 = ap type_in is in
-    let previous : not (p == (header_in (page_at g next)).previous) ≡ false =
-    ap not (eq-eqb p (header_in (page_at g next)).previous (sym back ∙ ap (λ q. (header_in q).previous) (sym is))) in
-    none_of_rows _ _ false _ range (ap (λ t. not (has_type (7 ∷ []) t || false)) type) refl previous
+    fits_asked g (asked_by p (page_at g p) OverflowNext) next low high (ap (λ q. has_type (7 ∷ []) (type_in q)) is) refl
+    (eq-eqb p (header_in (page_at g next)).previous (sym back ∙ ap (λ q. (header_in q).previous) (sym is)))
 
 -- Sets of pages.
 
-same_test : (a b : Bool) → (a ≡ true → b ≡ true) → (b ≡ true → a ≡ true) → a ≡ b
+pub same_test : (a b : Bool) → (a ≡ true → b ≡ true) → (b ≡ true → a ≡ true) → a ≡ b
 same_test true b to from = sym (to refl)
 same_test false true to from = from refl
 same_test false false to from = refl
-
-in_either : (a b : Bool) → (a || b) ≡ true → (a ≡ true) ⊎ (b ≡ true)
-in_either true b is = inl refl
-in_either false b is = inr is
 
 pub between_is : (from to q : ℕ) → between from to q ≡ true → (from ≤ q) × (q < to)
 between_is from to q is = let parts = and_parts (nat_le from q) (nat_lt q to) is in (leb-true from q parts.0, ltb-true q to parts.1)
@@ -117,39 +98,19 @@ chain_grove g previous p (piece ∷ []) counted low high run =
     subst (λ (pages : ℕ → Bool). IsGrove g pages (p ∷ [])) (fun_ext (between_one p))
     (page_alone g p low (omega arith) (refs_last g p previous run.0 piece counted.no_queue run.2))
 chain_grove g previous p (piece ∷ next ∷ pieces) counted low high run =
-    let after : IsGrove g (between (p + 1) (p + 1 + length (next ∷ pieces))) ((p + 1) ∷ []) =
-    chain_grove g p (p + 1) (next ∷ pieces) counted (omega arith) (omega arith) run.1 in
+    let one : refs g p ≡ to_next (p + 1) ∷ [] = refs_next g p previous (p + 1) run.0.0 piece counted.no_queue (omega arith) run.0.2 in
     let second = first_is g p (p + 1) next pieces run.1 in
-    let blank : Page = Overflow (chain_header p previous 0 (length piece) run.0.0) piece in
-    stands_over g (between (p + 1) (p + 1 + length (next ∷ pieces))) (between p (p + length (piece ∷ next ∷ pieces))) ((p + 1) ∷ []) p (p + 1) (to_next (p + 1))
-    blank counted
+    let header : Header = chain_header (p + 1) p second.0 (length next) second.1.0 in
+    subst (λ (pages : ℕ → Bool). IsGrove g pages (p ∷ [])) (fun_ext (λ q. sym (between_more p (length (next ∷ pieces)) q)))
+    (page_over_one g (between (p + 1) (p + 1 + length (next ∷ pieces))) p (to_next (p + 1))
     (record {
       low = low;
       high = omega arith;
-      outside = between_out p (length (next ∷ pieces));
-      union = between_more p (length (next ∷ pieces));
-      names = refs_next g p previous (p + 1) run.0.0 piece counted.no_queue (omega arith) run.0.2;
-      target = refl;
-      nothing = refl;
-      face = subst (KeepsFace blank) (sym run.0.2)
-          (record { type = refl; zero = refl; level = refl; previous = refl; entries = omega arith; asks = λ holder sort. same_asks holder sort });
-      fits = fits_next g p (p + 1) (Overflow (chain_header (p + 1) p second.0 (length next) second.1.0) next)
-          (chain_header (p + 1) p second.0 (length next) second.1.0) next (omega arith) (omega arith) second.1.2 refl;
-      counts = λ head. absurd cc;
-      alone = refl;
+      new = between_out p (length (next ∷ pieces));
+      fits = λ r at. subst (λ (s : Reference). fit_code g p s ≡ None) (only_member (to_next (p + 1)) r (subst (λ rs. Contains rs r) one at))
+          (fits_next g p (p + 1) (Overflow header next) header next (omega arith) (omega arith) second.1.2 refl);
     })
-    after
-  where
-    same_asks : (holder : ℕ) (sort : Sort) → asked_by holder (Overflow (chain_header p previous (p + 1) (length piece) run.0.0) piece) sort
-        ≡ asked_by holder (Overflow (chain_header p previous 0 (length piece) run.0.0) piece) sort
-    same_asks holder FreeRef = refl
-    same_asks holder Root = refl
-    same_asks holder Bucket = refl
-    same_asks holder HashNext = refl
-    same_asks holder Child = refl
-    same_asks holder OverflowHead = refl
-    same_asks holder OverflowNext = refl
-    same_asks holder DuplicateRoot = refl
+    one (λ head. absurd cc) (chain_grove g p (p + 1) (next ∷ pieces) counted (omega arith) (omega arith) run.1))
 
 -- The value.
 

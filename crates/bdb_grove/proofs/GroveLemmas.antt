@@ -2,7 +2,7 @@
 use Rattle.std.proofs.Common.{◌≡◌, ℕ, zero, suc, ◌+◌, ◌-◌, ◌≤◌, Bool, true, false, not, List, [], ◌∷◌, ◌++◌, map, length, None, arith, refl, sym, ◌∙◌, ap, subst, inl, inr}
 use Rattle.std.specs.Prelude.{◌==◌, ◌||◌, ◌&&◌, nat_lt}
 use Rattle.std.specs.List.{Contains, filter, flat_map, range_with_len, enumerate_from}
-use Rattle.std.proofs.lemmas.Bool.{ltb-false, or_parts, or_from}
+use Rattle.std.proofs.lemmas.Bool.{ltb-false, ne_eqb, or_parts, or_from}
 use Rattle.std.proofs.lemmas.List.{map-append, append-nil}
 use Rattle.std.proofs.lemmas.List.Elements.{filter-append}
 use Rattle.bdb_format.specs.declared.metadata.FileKind.{FileKind}
@@ -16,7 +16,7 @@ use Rattle.bdb_format.specs.Page.{Overflow, Page}
 use Rattle.bdb_format.specs.File.{File, page_at, header_in, type_in}
 use Rattle.bdb_format.specs.References.{Asked, asked_by, fit_code, fit_rows, has_type, is_asked, is_zero_page, targets_in, targets_of, refs}
 use Rattle.bdb_format.specs.Graph.{Owner, first_holder, held_by}
-use Rattle.bdb_format.proofs.MemberLemmas.{first_member, later_member, of_filter, of_range}
+use Rattle.bdb_format.proofs.MemberLemmas.{first_member, later_member, member_cases, no_member, of_filter, of_range}
 use Rattle.bdb_format.proofs.VerdictLemmas.{AllFail, none_is_first_row}
 use Rattle.bdb_format.proofs.ReferenceLemmas.{forest_names}
 use Rattle.bdb_grove.specs.Part.{IsWayIn, owners_among}
@@ -77,8 +77,31 @@ same_targets Btree HashFile p page one two = refl
 same_targets HashFile Btree p page one two = refl
 same_targets HashFile HashFile p page one two = refl
 
-abbrev reference_of : (ℕ × (Sort × ℕ)) → Reference
+abbrev pub reference_of : (ℕ × (Sort × ℕ)) → Reference
 reference_of named = record { place = named.0; sort = named.1.0; target = named.1.1 }
+
+-- the references of a page are its names, in their order
+pub refs_of : (g : File) (p : ℕ) (page : Page) → (g.kind ≡ QueueFile → ⊥) → page_at g p ≡ page
+    → refs g p ≡ map reference_of (enumerate_from 0 (targets_in p page))
+unfolding refs
+refs_of g p page forest is =
+    ap (λ names. map reference_of (enumerate_from 0 names)) (ap (targets_of g.kind p) is ∙ forest_names g.kind p page forest)
+
+-- a reference of a page is one of its names
+pub of_references : (n : ℕ) (targets : List (Sort × ℕ)) (r : Reference) → Contains (map reference_of (enumerate_from n targets)) r
+    → Contains targets (r.sort, r.target)
+of_references n [] r at = absurd (no_member [] r refl at)
+of_references n (target ∷ targets) r at =
+    elim (member_cases (reference_of (n, target)) (map reference_of (enumerate_from (n + 1) targets)) r at) [
+      | inl here ↦ subst (λ (s : Reference). Contains (target ∷ targets) (s.sort, s.target)) here (first_member target targets)
+      | inr later ↦ later_member target targets (r.sort, r.target) (of_references (n + 1) targets r later)
+    ]
+
+-- what the references name, in their order
+pub enumerated_names : (n : ℕ) (targets : List (Sort × ℕ))
+    → map (λ (r : Reference). r.target) (map reference_of (enumerate_from n targets)) ≡ map (λ (target : Sort × ℕ). target.1) targets
+enumerated_names n [] = refl
+enumerated_names n (target ∷ targets) = ap (λ ps. target.1 ∷ ps) (enumerated_names (n + 1) targets)
 
 pub refs_same : (f g : File) (p : ℕ) → (f.kind ≡ QueueFile → ⊥) → (g.kind ≡ QueueFile → ⊥) → page_at g p ≡ page_at f p → refs g p ≡ refs f p
 unfolding refs
@@ -102,6 +125,14 @@ range_fits target last more grows none =
 
 pub none_of_rows : (a b c d : Bool) → a ≡ false → b ≡ false → c ≡ false → d ≡ false → first_row {Code = ℕ} (1 :? a ∷ 2 :? b ∷ 3 :? c ∷ 4 :? d ∷ []) ≡ None
 none_of_rows a b c d p q r s = rw (p, q, r, s) refl
+
+-- a page fits that is there and has the type, level and previous page that are asked
+pub fits_asked : (g : File) (asked : Asked) (target : ℕ) → 1 ≤ target → target ≤ g.last → has_type asked.types (type_in (page_at g target)) ≡ true
+    → is_asked asked.level (header_in (page_at g target)).level ≡ true → is_asked asked.previous (header_in (page_at g target)).previous ≡ true
+    → first_row (fit_rows g asked target) ≡ None
+fits_asked g asked target low high type level previous =
+    none_of_rows _ _ _ _ (or_from (target == 0) (nat_lt g.last target) (ne_eqb target 0 (λ e. omega arith)) (above g.last target high))
+    (ap (λ b. not (b || (asked.or_zero && is_zero_page (page_at g target)))) type) (ap not level) (ap not previous)
 
 -- a reference fits a page with the same face in a later file
 pub fit_kept : (f g : File) (asked : Asked) (target : ℕ) → f.last ≤ g.last → KeepsFace (page_at f target) (page_at g target)

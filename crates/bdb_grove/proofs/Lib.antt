@@ -1,7 +1,11 @@
 pub mod BesideLemmas
+pub mod BranchLemmas
 pub mod ChainLemmas
-pub mod CoverLemmas
 pub mod GroveLemmas
+pub mod LeafLemmas
 pub mod OwnerLemmas
+pub mod SeveralLemmas
 pub mod ShareLemmas
+pub mod SpanLemmas
+pub mod StandLemmas
 pub mod TakeLemmas

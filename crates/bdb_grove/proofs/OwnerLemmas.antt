@@ -1,5 +1,5 @@
 -- The references to a page come from some pages alone.
-use Rattle.std.proofs.Common.{◌≡◌, ℕ, zero, suc, ◌+◌, ◌<◌, ◌≤◌, Bool, true, false, cond, List, [], ◌∷◌, ◌++◌, arith, refl, sym, ◌∙◌, ap, inl, inr}
+use Rattle.std.proofs.Common.{◌≡◌, ℕ, zero, suc, ◌+◌, ◌<◌, ◌≤◌, Bool, true, false, cond, List, [], ◌∷◌, ◌++◌, arith, refl, sym, ◌∙◌, ap, subst, inl, inr}
 use Rattle.std.specs.Prelude.{◌==◌}
 use Rattle.std.specs.List.{Contains, filter, flat_map, range_with_len}
 use Rattle.std.proofs.lemmas.Bool.{cases_Bool, eqb-true, eqb-false}
@@ -8,7 +8,8 @@ use Rattle.bdb_format.specs.declared.references.Reference.{Reference}
 use Rattle.bdb_format.specs.File.{File}
 use Rattle.bdb_format.specs.References.{refs}
 use Rattle.bdb_format.specs.Graph.{Owner, held_by}
-use Rattle.bdb_format.proofs.MemberLemmas.{first_member, later_member, is_empty, of_map, of_filter, of_range}
+use Rattle.bdb_format.proofs.MemberLemmas.{first_member, later_member, is_empty, of_map, of_filter, of_flat_map, of_range}
+use Rattle.bdb_grove.specs.Part.{IsGrove, owners_among}
 
 -- an owner that names this page
 abbrev pub names_page : ℕ → Owner → Bool
@@ -52,6 +53,27 @@ held_none file p q names =
     let held : (r : Reference) × Contains (refs file q) r × (record { holder = q; reference = r } ≡ owner) =
     of_map (λ r. record { holder = q; reference = r }) (refs file q) owner at in
     names held.0 held.1 (ap (λ (o : Owner). o.reference.target) held.2 ∙ eqb-true owner.reference.target p passes))
+
+-- an owner among some pages is a reference of one of them
+pub owner_among : (pages : ℕ → Bool) (file : File) (p : ℕ) (owner : Owner) → Contains (owners_among pages file p) owner
+    → (q : ℕ) × (pages q ≡ true) × (r : Reference) × Contains (refs file q) r × (owner_of q r ≡ owner) × (r.target ≡ p)
+owner_among pages file p owner at =
+    let passed = of_filter (names_page p) (flat_map (held_by file) (filter pages (range_with_len 0 (file.last + 1)))) owner at in
+    let page = of_flat_map (held_by file) (filter pages (range_with_len 0 (file.last + 1))) owner passed.0 in
+    let held = of_map (owner_of page.0) (refs file page.0) owner page.2 in (
+      page.0,
+      (of_filter pages (range_with_len 0 (file.last + 1)) page.0 page.1).1,
+      held.0,
+      held.1,
+      held.2,
+      ap (λ (o : Owner). o.reference.target) held.2 ∙ eqb-true owner.reference.target p passed.1,
+    )
+
+-- an entrance has no owner
+pub unowned : (file : File) (pages : ℕ → Bool) (es : List ℕ) (e : ℕ) → IsGrove file pages es → Contains es e → owners_among pages file e ≡ []
+unowned file pages es e grove entrance =
+    is_empty (owners_among pages file e) (λ owner at.
+    let found = owner_among pages file e owner at in grove.apart found.0 found.2 found.1 found.3 (subst (Contains es) (sym found.5) entrance))
 
 -- One page alone.
 

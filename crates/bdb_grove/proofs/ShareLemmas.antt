@@ -10,9 +10,10 @@ use Rattle.bdb_format.specs.declared.references.Reference.{Reference}
 use Rattle.bdb_format.specs.File.{File, page_at, header_in}
 use Rattle.bdb_format.specs.References.{fit_code, refs}
 use Rattle.bdb_format.specs.Graph.{Owner, first_holder, held_by, is_head_reference}
-use Rattle.bdb_format.proofs.MemberLemmas.{first_member, later_member, member_cases, no_member, of_filter, of_range}
+use Rattle.bdb_format.proofs.MemberLemmas.{first_member, later_member, of_filter, of_range}
 use Rattle.bdb_grove.specs.Part.{IsOwnedBy, IsWayIn, are_heads_alone, owners_among}
 use Rattle.bdb_grove.specs.Growing.{GroveKeepsFaces, GroveLasts, GroveShares, KeepsFace}
+use Rattle.bdb_format.proofs.ListLemmas.{only_member}
 use Rattle.bdb_grove.proofs.OwnerLemmas.{filter_none, names_page, owner_of}
 use Rattle.bdb_grove.proofs.GroveLemmas.{code_kept, held_same, owners_same, range_parts, refs_kept, refs_same, same_face, same_page_face, way_same}
 use Rattle.bdb_grove.proofs.TakeLemmas.{held_more, other_names, owned_more}
@@ -134,7 +135,7 @@ shares f g pages es p r shared grove =
     last_or_before {s} at =
         elim (Contains-append_cases (refs f p) (r ∷ []) s (subst (λ rs. Contains rs s) shared.names at)) [
           | inl before ↦ inl before
-          | inr new ↦ elim (member_cases r [] s new) [ inl here ↦ inr here | inr later ↦ absurd (no_member [] s refl later) ]
+          | inr new ↦ inr (only_member r s new)
         ]
 
     stays : (q : ℕ) (s : Reference) → pages q ≡ true → (q ≡ p → ⊥) → Contains (refs g q) s → Contains (refs f q) s

@@ -9,10 +9,11 @@ use Rattle.bdb_format.specs.declared.references.Reference.{Reference}
 use Rattle.bdb_format.specs.File.{File, page_at, header_in}
 use Rattle.bdb_format.specs.References.{fit_code, refs}
 use Rattle.bdb_format.specs.Graph.{Owner, first_holder, held_by, is_head_reference}
-use Rattle.bdb_format.proofs.MemberLemmas.{member_cases, no_member, of_filter}
+use Rattle.bdb_format.proofs.MemberLemmas.{of_filter}
 use Rattle.bdb_grove.specs.Part.{IsOwnedBy, IsWayIn, are_heads_alone, owners_among}
 use Rattle.bdb_grove.specs.Growing.{KeepsFace, GroveTakesIn}
-use Rattle.bdb_grove.proofs.OwnerLemmas.{NamesNot, filter_first, held_none, names_page, one_of_range, owner_of}
+use Rattle.bdb_format.proofs.ListLemmas.{only_member}
+use Rattle.bdb_grove.proofs.OwnerLemmas.{NamesNot, filter_first, held_none, names_page, one_of_range, owner_of, unowned}
 use Rattle.bdb_grove.proofs.GroveLemmas.{code_kept, owners_same, refs_same, same_face}
 
 -- references that come last
@@ -122,7 +123,7 @@ takes_in f g pages es fewer p r takes grove =
     last_or_before {s} at =
         elim (Contains-append_cases (refs f p) (r ∷ []) s (subst (λ rs. Contains rs s) takes.names at)) [
           | inl before ↦ inl before
-          | inr new ↦ elim (member_cases r [] s new) [ inl here ↦ inr here | inr later ↦ absurd (no_member [] s refl later) ]
+          | inr new ↦ inr (only_member r s new)
         ]
 
     stays : (q : ℕ) (s : Reference) → pages q ≡ true → (q ≡ p → ⊥) → Contains (refs g q) s → Contains (refs f q) s
@@ -163,11 +164,7 @@ takes_in f g pages es fewer p r takes grove =
 
     -- an entrance has no owner, so a page with a first holder isn't one
     no_owner : (h : ℕ) → first_holder (owners_among pages f r.target) ≡ Some h → ⊥
-    no_owner h first =
-        empty_first (owners_among pages f r.target) h
-        (only_holder pages f p r.target takes.inside (grove.high p takes.inside)
-        (λ q is other s at names. grove.apart q s is at (subst (Contains es) (sym names) takes.entrance))
-        ∙ held_none f r.target p (λ s at names. grove.apart p s takes.inside at (subst (Contains es) (sym names) takes.entrance))) first
+    no_owner h first = empty_first (owners_among pages f r.target) h (unowned f pages es r.target grove takes.entrance) first
 
     way_kept : (x : ℕ) (hs : List ℕ) → IsWayIn f pages fewer x hs → IsWayIn g pages fewer x hs
     way_kept x [] way = way

@@ -88,6 +88,21 @@ is_wrong_place file place = is_wrong_leaf file place || is_wrong_link file place
 abbrev pub has_wrong_place : File → Sort → ℕ → Bool
 has_wrong_place file sort root = list_any (is_wrong_place file) (places_from sort 0 (leaves file root))
 
+-- the chains that items of some pages name have their lengths
+abbrev pub HaveLengths : File → (ℕ → Type 0) → Type 0
+HaveLengths file Of = (p : ℕ) → Of p → list_any (is_wrong_length file) (chains_in (page_at file p)) ≡ false
+
+-- the trees whose roots they name have leaves of their kinds and links
+abbrev pub HaveSets : File → (ℕ → Type 0) → Type 0
+HaveSets file Of =
+    (p : ℕ) (r : Reference) → Of p → Contains (refs file p) r → is_root_reference r.sort ≡ true → has_wrong_place file r.sort r.target ≡ false
+
+-- A branch: a grove that is right by itself, in its chains and its sets off the page too. A builder keeps this of the pages that it has made.
+pub record IsBranch (file : File) (pages : ℕ → Bool) (es : List ℕ) : Type 0 where
+  pub grove : IsGrove file pages es
+  pub chains : HaveLengths file (λ p. pages p ≡ true)
+  pub sets : HaveSets file (λ p. pages p ≡ true)
+
 -- the entrances that are roots of trees: a hash has none
 abbrev pub entrance_trees : Metadata → List ℕ
 entrance_trees (BtreeFields meta) = meta.root ∷ []
@@ -101,12 +116,9 @@ pub record AreEntrances (file : File) (fields : Metadata) : Type 0 where
 
 -- A part: what a builder promises of its pages, but their form, which is a matter of bytes.
 pub record IsPart (file : File) (part : Part) : Type 0 where
-  pub grove : IsGrove file part.pages (entrances part.fields)
+  pub branch : IsBranch file part.pages (entrances part.fields)
   pub entered : AreEntrances file part.fields
-  -- chains have their lengths, leaves their kinds and links
-  pub chains : (p : ℕ) → part.pages p ≡ true → list_any (is_wrong_length file) (chains_in (page_at file p)) ≡ false
-  pub sets : (p : ℕ) (r : Reference) → part.pages p ≡ true → Contains (refs file p) r → is_root_reference r.sort ≡ true
-      → has_wrong_place file r.sort r.target ≡ false
+  -- the leaves of its trees have their kinds and links too
   pub trees : (root : ℕ) → Contains (entrance_trees part.fields) root → has_wrong_place file Root root ≡ false
   -- the contents keep their rules
   pub contents : (p : ℕ) → holding (database_rows file part.fields p) ≡ []

@@ -1,10 +1,13 @@
 -- The pages of a bucket are zero pages or hash pages, and the pairs on them are read one after another.
-use Rattle.std.proofs.Common.{◌≡◌, ℕ, zero, suc, ◌+◌, ◌-◌, ◌/◌, ◌≤◌, ◌<◌, Bool, true, false, not, ◌&&◌, ◌||◌, cond, List, [], ◌∷◌, map, length, arith, refl, sym, ◌∙◌, ap, subst}
-use Rattle.std.specs.Prelude.{Some, ◌==◌, nat_lt}
-use Rattle.std.specs.List.{flat_map}
+use Rattle.std.proofs.Common.{◌≡◌, ℕ, zero, suc, ◌-◌, ◌/◌, ◌≤◌, Bool, true, false, not, ◌&&◌, ◌||◌, cond, List, [], ◌∷◌, map}
+use Rattle.std.proofs.Common.{length, arith, refl, sym, ◌∙◌, ap, subst}
+use Rattle.std.specs.Prelude.{◌==◌, nat_lt}
+use Rattle.std.specs.List.{flat_map, range_with_len}
 use Rattle.std.proofs.lemmas.Bool.{eqb-false, ne_eqb, or_parts, not-false}
 use Rattle.std.proofs.lemmas.List.{length-map}
 use Rattle.std.proofs.lemmas.List.Elements.{Contains-append_right}
+use Rattle.std.proofs.lemmas.Simd.{map-map}
+use Rattle.bdb_form.specs.Pairs.{pair_of, pairs_from}
 use Rattle.bdb_format.specs.declared.metadata.Head.{Head}
 use Rattle.bdb_format.specs.declared.metadata.HashMeta.{HashMeta}
 use Rattle.bdb_format.specs.declared.references.Sort.{Sort}
@@ -16,7 +19,7 @@ use Rattle.bdb_format.specs.Graph.{Owner}
 use Rattle.bdb_format.specs.Hashing.{first_page}
 use Rattle.bdb_format.specs.HeadOf.{head_of}
 use Rattle.bdb_format.specs.Page.{BtreeFields, HashFields, QueueFields, Item, Listed, Page, Zero, Meta, Hash}
-use Rattle.bdb_format.specs.References.{asked_by, fit_code, fit_rows, has_type, is_zero_page, unless_zero, content_targets, contents_in}
+use Rattle.bdb_format.specs.References.{asked_by, fit_code, fit_rows, has_type, is_zero_page, no_item, unless_zero, content_targets, contents_in}
 use Rattle.bdb_format.specs.Verdict.{structure_faults, faults_in}
 use Rattle.bdb_format.proofs.GraphLemmas.{each_fits}
 use Rattle.bdb_format.proofs.MemberLemmas.{first_member}
@@ -24,7 +27,7 @@ use Rattle.bdb_format.proofs.VerdictLemmas.{AllFail, none_is_first_row}
 use Rattle.bdb_graph.specs.Linked.{IsForest, IsTarget}
 use Rattle.bdb_graph.proofs.ForestLemmas.{sound_graph}
 use Rattle.bdb_graph.proofs.LinkedLemmas.{target_inside}
-use Rattle.bdb_hash.specs.Told.{Told, is_of_bucket, left_on, page_told, pages_from, told}
+use Rattle.bdb_hash.specs.Told.{Told, is_of_bucket, page_told, pages_from, told, told_pair}
 use Rattle.bdb_hash.specs.Views.{IsOnWay, IsTable}
 use Rattle.bdb_hash.proofs.PairLemmas.{page_names}
 use Rattle.bdb_format.proofs.ReferenceLemmas.{of_all, count_is}
@@ -53,13 +56,16 @@ target_some image sort p none is =
     let owner : Owner = is.owner in
     let held = of_all file owner is.held in
     let rows = fit_rows file (asked_by owner.holder (page_at file owner.holder) owner.reference.sort) owner.reference.target in
-    let fail : AllFail rows = none_is_first_row rows (each_fits file owner.holder owner.reference (sound_graph image none).references held.0 held.1) in
-    let some : owner.reference.target ≡ 0 → ⊥ = eqb-false owner.reference.target 0 (or_parts (owner.reference.target == 0) (nat_lt file.last owner.reference.target) fail.0).0 in
+    let fail : AllFail rows = none_is_first_row rows
+    (each_fits file owner.holder owner.reference (sound_graph image none).references held.0 held.1) in
+    let some : owner.reference.target ≡ 0 → ⊥ = eqb-false owner.reference.target 0
+    (or_parts (owner.reference.target == 0) (nat_lt file.last owner.reference.target) fail.0).0 in
     λ zero'. some (is.target_is ∙ zero')
 
 kind_as : (file : File) (holder p target : ℕ) (asker : Page) (sort one : Sort) (or_zero : Bool) → one ≡ sort → target ≡ p
     → (asked_by holder asker sort).types ≡ 2 ∷ 13 ∷ [] → (asked_by holder asker sort).or_zero ≡ or_zero
-    → not (has_type (asked_by holder asker one).types (type_in (page_at file target)) || ((asked_by holder asker one).or_zero && is_zero_page (page_at file target))) ≡ false
+    → not (has_type (asked_by holder asker one).types (type_in (page_at file target)) ||
+    ((asked_by holder asker one).or_zero && is_zero_page (page_at file target))) ≡ false
     → is_of_bucket (page_at file p) ≡ true
 kind_as file holder p target asker sort one or_zero same is types zeros fits =
     let asked : Bool → List ℕ → Page → Bool = λ z ts page. has_type ts (type_in page) || (z && is_zero_page page) in
@@ -72,7 +78,8 @@ kind_as file holder p target asker sort one or_zero same is types zeros fits =
     ∙ (ap (λ z. asked z (asked_by holder asker sort).types (page_at file target)) (sym zeros) ∙ by_sort)))
 
 target_kind : (image : List ℕ) (sort : Sort) (p : ℕ) (or_zero : Bool) → faults_in (3 ∷ 4 ∷ 5 ∷ []) image ≡ [] → IsTarget (file_of image) sort p
-    → ((holder : ℕ) (page : Page) → (asked_by holder page sort).types ≡ 2 ∷ 13 ∷ []) → ((holder : ℕ) (page : Page) → (asked_by holder page sort).or_zero ≡ or_zero)
+    → ((holder : ℕ) (page : Page) → (asked_by holder page sort).types ≡ 2 ∷ 13 ∷ [])
+    → ((holder : ℕ) (page : Page) → (asked_by holder page sort).or_zero ≡ or_zero)
     → is_of_bucket (page_at (file_of image) p) ≡ true
 unfolding fit_code
 target_kind image sort p or_zero none is types zeros =
@@ -81,18 +88,26 @@ target_kind image sort p or_zero none is types zeros =
     let held = of_all file owner is.held in
     let asker : Page = page_at file owner.holder in
     let rows = fit_rows file (asked_by owner.holder asker owner.reference.sort) owner.reference.target in
-    let fail : AllFail rows = none_is_first_row rows (each_fits file owner.holder owner.reference (sound_graph image none).references held.0 held.1) in
-    kind_as file owner.holder p owner.reference.target asker sort owner.reference.sort or_zero is.sort_is is.target_is (types owner.holder asker) (zeros owner.holder asker) fail.1.0
+    let fail : AllFail rows = none_is_first_row rows
+    (each_fits file owner.holder owner.reference (sound_graph image none).references held.0 held.1) in
+    kind_as file owner.holder p owner.reference.target asker sort owner.reference.sort or_zero is.sort_is is.target_is
+    (types owner.holder asker) (zeros owner.holder asker) fail.1.0
 
 -- the first page of a bucket
-pub bucket_on_way : (image : List ℕ) (p : ℕ) → IsForest image → structure_faults (file_of image) ≡ [] → IsTarget (file_of image) Bucket p → IsOnWay image p
+pub bucket_on_way : (image : List ℕ) (p : ℕ) → IsForest image → structure_faults (file_of image) ≡ []
+    → IsTarget (file_of image) Bucket p → IsOnWay image p
 bucket_on_way image p forest stage is = record {
   forest = record { forest = forest; stage = stage; table = is_no_queue (file_of image) Bucket p is };
-  fits = λ _. record { inside = target_inside image Bucket p forest.linked is; kind = target_kind image Bucket p true forest.linked is (λ holder page. refl) (λ holder page. refl) };
+  fits = λ _. record {
+    inside = target_inside image Bucket p forest.linked is;
+    kind =
+        target_kind image Bucket p true forest.linked is (λ holder page. refl) (λ holder page. refl);
+  };
 }
 
 -- the page after one of a bucket
-pub after_hash : (image : List ℕ) (p : ℕ) (page : Listed Item) → IsTable image → p ≤ (file_of image).last → page_at (file_of image) p ≡ Hash page → IsOnWay image page.header.next
+pub after_hash : (image : List ℕ) (p : ℕ) (page : Listed Item) → IsTable image → p ≤ (file_of image).last
+    → page_at (file_of image) p ≡ Hash page → IsOnWay image page.header.next
 after_hash image p page table low is = record {
   forest = table;
   fits = λ some.
@@ -100,7 +115,11 @@ after_hash image p page table low is = record {
       page_names image p (Hash page) HashNext page.header.next table low is
       (Contains-append_right (flat_map content_targets (contents_in (Hash page))) (unless_zero HashNext page.header.next) (HashNext, page.header.next)
       (rw (ne_eqb page.header.next 0 some) (first_member (HashNext, page.header.next) []))) in
-      record { inside = target_inside image HashNext page.header.next table.forest.linked named; kind = target_kind image HashNext page.header.next false table.forest.linked named (λ holder other. refl) (λ holder other. refl) };
+      record {
+        inside = target_inside image HashNext page.header.next table.forest.linked named;
+        kind =
+            target_kind image HashNext page.header.next false table.forest.linked named (λ holder other. refl) (λ holder other. refl);
+      };
 }
 
 pub after_zero : (image : List ℕ) → IsTable image → IsOnWay image 0
@@ -114,24 +133,19 @@ next_of_zero file p is = ap (λ (other : Page). (header_in other).next) (sym is)
 
 -- The pairs of a page.
 
-pub hash_told : (image : List ℕ) (p : ℕ) (page : Listed Item) → page_at (file_of image) p ≡ Hash page → left_on image p (Some page) 0 ≡ page_told image p
+pub hash_told : (image : List ℕ) (p : ℕ) (page : Listed Item) → page_at (file_of image) p ≡ Hash page
+    → map (told_pair image p) (pairs_from no_item false page 0) ≡ page_told image p
 unfolding pairs_of
 hash_told image p page is =
     let all : length page.items / 2 - 0 ≡ length page.items / 2 = omega arith in
-    rw (all, is) refl
+    let places : List ℕ = range_with_len 0 (length page.items / 2) in
+    rw (all, is)
+    (map-map (told_pair image p) (pair_of no_item false page) places ∙ sym
+    (map-map (told image) (pair_at (file_of image) p page (λ n. false)) places))
 
 pub zero_told : (image : List ℕ) (p : ℕ) → page_at (file_of image) p ≡ Zero → [] ≡ page_told image p
 unfolding pairs_of
 zero_told image p is = rw is refl
-
-pub next_pair : (image : List ℕ) (p i : ℕ) (page : Listed Item) → i < length page.items / 2
-    → left_on image p (Some page) i ≡ told image (pair_at (file_of image) p page (λ n. false) i) ∷ left_on image p (Some page) (i + 1)
-next_pair image p i page below =
-    let turn : length page.items / 2 - i ≡ suc (length page.items / 2 - (i + 1)) = omega arith in
-    rw turn refl
-
-pub no_pair : (image : List ℕ) (p i : ℕ) (page : Listed Item) → length page.items / 2 ≤ i → left_on image p (Some page) i ≡ []
-no_pair image p i page past = let none : length page.items / 2 - i ≡ 0 = omega arith in rw none refl
 
 -- The pages of a bucket.
 
@@ -154,7 +168,8 @@ unfolding chain_in
 pages_step turns file p = ap (λ ps. p ∷ ps) (or_else_same (next_of file p == 0) [] (chain_in turns file (next_of file p)))
 
 pub first_page_left : (image : List ℕ) (turns p : ℕ) → (p ≡ 0 → ⊥) → (turns ≡ 0 → ⊥)
-    → map (page_told image) (pages_from turns (file_of image) p) ≡ page_told image p ∷ map (page_told image) (pages_from (turns - 1) (file_of image) (next_of (file_of image) p))
+    → map (page_told image) (pages_from turns (file_of image) p) ≡ page_told image p ∷ map (page_told image)
+    (pages_from (turns - 1) (file_of image) (next_of (file_of image) p))
 first_page_left image zero p some turn = absurd (turn refl)
 first_page_left image (suc turns) p some turn =
     let file : File = file_of image in
@@ -162,14 +177,16 @@ first_page_left image (suc turns) p some turn =
     rw (ne_eqb p 0 some, less) (ap (map (page_told image)) (pages_step turns file p))
 
 -- the pages from the first one of a bucket on are all of it
-pub all_pages : (image : List ℕ) (head : Head) (meta : HashMeta) (p b : ℕ) → IsForest image → head ≡ head_of image → IsTarget (file_of image) Bucket p → p ≡ first_page b meta.spares
+pub all_pages : (image : List ℕ) (head : Head) (meta : HashMeta) (p b : ℕ) → IsForest image → head ≡ head_of image
+    → IsTarget (file_of image) Bucket p → p ≡ first_page b meta.spares
     → pages_from head.pages (file_of image) p ≡ bucket_pages (file_of image) meta b
 all_pages image head meta p b forest head_is fits is =
     let turns : head.pages ≡ (file_of image).count = ap (λ (h : Head). h.pages) head_is ∙ sym (count_is image) in
     rw (ne_eqb p 0 (target_some image Bucket p forest.linked fits))
     (ap (λ t. chain_in t (file_of image) p) turns ∙ ap (λ q. chain_in (file_of image).count (file_of image) q) is)
 
-pub few_pages : (image : List ℕ) (head : Head) (meta : HashMeta) (p b : ℕ) → IsForest image → head ≡ head_of image → IsTarget (file_of image) Bucket p → p ≡ first_page b meta.spares
+pub few_pages : (image : List ℕ) (head : Head) (meta : HashMeta) (p b : ℕ) → IsForest image → head ≡ head_of image
+    → IsTarget (file_of image) Bucket p → p ≡ first_page b meta.spares
     → length (map (page_told image) (pages_from head.pages (file_of image) p)) ≤ (file_of image).count
 few_pages image head meta p b forest head_is fits is =
     rw (all_pages image head meta p b forest head_is fits is, length-map {A = ℕ} {B = List Told})

@@ -17,12 +17,13 @@ use Rattle.bdb_format.specs.Verdict.{holding, first_fault}
 use Rattle.bdb_format.proofs.MemberLemmas.{first_member, in_map, no_member, none_pass, of_flat_map, of_map, of_range}
 use Rattle.bdb_format.proofs.VerdictLemmas.{FirstComesFirst, IsOfStage, LeastFirst, by_page_first, holding_least, in_by_page, of_by_page}
 use Rattle.bdb_format.proofs.RepeatLemmas.{of_repeated}
-use Rattle.bdb_hash.specs.Notes.{fault_at, has_stray_in, is_stray, note_bucket, note_repeat, pair_fault, pair_rows, stored}
+use Rattle.bdb_hash.specs.Notes.{fault_at, has_stray_in, is_stray, least_noted, note_bucket, note_repeat, pair_fault, pair_rows, stored}
 use Rattle.bdb_hash.specs.Told.{Told, bucket_told, joined_pages, page_told, table_told, told}
 use Rattle.bdb_hash.specs.Views.{IsTable}
-use Rattle.bdb_hash.proofs.LeastLemmas.{Given, GivenBy, IsLeast, least_given, least_given_by}
+use Rattle.bdb_hash.proofs.LeastLemmas.{Given, GivenBy, IsLeast, least_both, least_given, least_given_by}
 use Rattle.bdb_hash.proofs.PlainLemmas.{IsPlain, bucket_plain}
-use Rattle.bdb_hash.proofs.RowLemmas.{ArePlain, buckets_of, page_holds, page_table, pair_holds, repeat_holds, repeat_row, rows_are, tests_of, tests_rise}
+use Rattle.bdb_hash.proofs.RowLemmas.{ArePlain, buckets_of, page_holds, page_table, pair_holds, repeat_holds, repeat_row}
+use Rattle.bdb_hash.proofs.RowLemmas.{rows_are, tests_of, tests_rise}
 use Rattle.bdb_format.proofs.FaultLemmas.{comes_through}
 use Rattle.bdb_overflow.proofs.KeyLemmas.{not_true}
 use Rattle.bdb_graph.proofs.LinkingLemmas.{no_first_fault}
@@ -32,7 +33,8 @@ use Rattle.bdb_graph.proofs.LinkingLemmas.{no_first_fault}
 page_flat : (image : List ℕ) (ps : List ℕ) → joined_pages (map (page_told image) ps) ≡ map (told image) (flat_map (pairs_of (file_of image)) ps)
 page_flat image [] = refl
 page_flat image (p ∷ ps) =
-    ap (λ ts. page_told image p ++ ts) (page_flat image ps) ∙ sym (map-append (told image) (pairs_of (file_of image) p) (flat_map (pairs_of (file_of image)) ps))
+    ap (λ ts. page_told image p ++ ts) (page_flat image ps) ∙ sym
+    (map-append (told image) (pairs_of (file_of image) p) (flat_map (pairs_of (file_of image)) ps))
 
 -- the pairs of a bucket
 pub bucket_is : (image : List ℕ) (meta : HashMeta) (b : ℕ) → bucket_told image meta b ≡ map (told image) (bucket_pairs (file_of image) meta b)
@@ -42,7 +44,8 @@ stored_told : (image : List ℕ) (pairs : List StoredPair) → stored (map (told
 stored_told image [] = refl
 stored_told image (pair ∷ pairs) = ap (λ ps. pair ∷ ps) (stored_told image pairs)
 
-told_flat : (image : List ℕ) (meta : HashMeta) (bs : List ℕ) → flat_map (bucket_told image meta) bs ≡ map (told image) (flat_map (bucket_pairs (file_of image) meta) bs)
+told_flat : (image : List ℕ) (meta : HashMeta) (bs : List ℕ)
+    → flat_map (bucket_told image meta) bs ≡ map (told image) (flat_map (bucket_pairs (file_of image) meta) bs)
 told_flat image meta [] = refl
 told_flat image meta (b ∷ bs) =
     ap (λ ts. ts ++ flat_map (bucket_told image meta) bs) (bucket_is image meta b)
@@ -59,23 +62,21 @@ table_stored image meta = ap stored (table_is_told image meta) ∙ stored_told i
 
 -- Which pairs there are.
 
-in_table : (image : List ℕ) (meta : HashMeta) (pair : StoredPair) → Contains (table_pairs (file_of image) meta) pair → (b : ℕ) × Contains (buckets_of meta) b × Contains (bucket_pairs (file_of image) meta b) pair
+in_table : (image : List ℕ) (meta : HashMeta) (pair : StoredPair) → Contains (table_pairs (file_of image) meta) pair
+    → (b : ℕ) × Contains (buckets_of meta) b × Contains (bucket_pairs (file_of image) meta b) pair
 unfolding table_pairs
 in_table image meta pair at = of_flat_map (bucket_pairs (file_of image) meta) (buckets_of meta) pair at
 
 pub few_buckets : (meta : HashMeta) (b : ℕ) → Contains (buckets_of meta) b → b ≤ meta.max_bucket
 few_buckets meta b at = let within = of_range 0 (meta.max_bucket + 1) b at in omega (arith, within.1)
 
-pub table_plain : (image : List ℕ) (meta : HashMeta) → IsTable image → HasMetadata (file_of image) (HashFields meta) → ArePlain (file_of image) (table_pairs (file_of image) meta)
+pub table_plain : (image : List ℕ) (meta : HashMeta) → IsTable image → HasMetadata (file_of image) (HashFields meta)
+    → ArePlain (file_of image) (table_pairs (file_of image) meta)
 table_plain image meta table has pair at =
     let found = in_table image meta pair at in
     bucket_plain image meta found.0 pair table has (few_buckets meta found.0 found.1) found.2
 
 -- The least fault of a table, noted pair by pair.
-
-abbrev pub least_noted : List ℕ → HashMeta → Option Fault
-least_noted image meta =
-    fold note_repeat (fold (note_bucket image meta) None (range_with_len 0 (meta.max_bucket + 1))) (repeated (stored (table_told image meta)))
 
 abbrev told_fault : HashMeta → ℕ → Told → Option Fault
 told_fault meta b t = pair_fault (file_of t.image) meta b t.pair
@@ -86,18 +87,25 @@ repeat_fault pair = Some (fault_at pair.page 9)
 abbrev Nothing : Fault → Type 0
 Nothing fault = ⊥
 
+-- a fault of a pair by itself, and of one that has the key of an earlier one
+abbrev IsOwnFault : List ℕ → HashMeta → Fault → Type 0
+IsOwnFault image meta fault = Nothing fault ⊎ GivenBy (told_fault meta) (bucket_told image meta) (buckets_of meta) fault
+
+abbrev IsRepeat : List ℕ → HashMeta → Fault → Type 0
+IsRepeat image meta fault = Nothing fault ⊎ Given repeat_fault (repeated (stored (table_told image meta))) fault
+
 -- a fault that was noted
 abbrev IsNotedFault : List ℕ → HashMeta → Fault → Type 0
-IsNotedFault image meta fault =
-    (Nothing fault ⊎ GivenBy (told_fault meta) (bucket_told image meta) (buckets_of meta) fault)
-    ⊎ Given repeat_fault (repeated (stored (table_told image meta))) fault
+IsNotedFault image meta fault = IsOwnFault image meta fault ⊎ IsRepeat image meta fault
+
+own_least : (image : List ℕ) (meta : HashMeta) → IsLeast (IsOwnFault image meta) (fold (note_bucket image meta) None (buckets_of meta))
+own_least image meta = least_given_by (told_fault meta) (bucket_told image meta) (buckets_of meta) Nothing None (λ fault none. none)
 
 noted_least : (image : List ℕ) (meta : HashMeta) → IsLeast (IsNotedFault image meta) (least_noted image meta)
 noted_least image meta =
-    least_given repeat_fault (repeated (stored (table_told image meta)))
-    (λ fault. Nothing fault ⊎ GivenBy (told_fault meta) (bucket_told image meta) (buckets_of meta) fault)
-    (fold (note_bucket image meta) None (buckets_of meta))
-    (least_given_by (told_fault meta) (bucket_told image meta) (buckets_of meta) Nothing None (λ fault none. none))
+    let again : List StoredPair = repeated (stored (table_told image meta)) in
+    least_both (IsOwnFault image meta) (IsRepeat image meta) (fold (note_bucket image meta) None (buckets_of meta)) (fold note_repeat None again)
+    (own_least image meta) (least_given repeat_fault again Nothing None (λ fault none. none))
 
 -- a pair one of whose rows holds has a fault
 row_fault : (a b c d : Bool) (page : ℕ) → d ≡ true
@@ -115,16 +123,15 @@ stray_fault meta b t stray = row_fault _ _ _ (is_stray meta b t) t.pair.page str
 pub no_strays : (image : List ℕ) (meta : HashMeta) → None ≡ fold (note_bucket image meta) None (range_with_len 0 (meta.max_bucket + 1))
     → false ≡ list_any (has_stray_in image meta) (range_with_len 0 (meta.max_bucket + 1))
 no_strays image meta none =
-    let nothing : IsLeast (λ fault. Nothing fault ⊎ GivenBy (told_fault meta) (bucket_told image meta) (buckets_of meta) fault) None =
-    subst (IsLeast (λ fault. Nothing fault ⊎ GivenBy (told_fault meta) (bucket_told image meta) (buckets_of meta) fault)) (sym none)
-    (least_given_by (told_fault meta) (bucket_told image meta) (buckets_of meta) Nothing None (λ fault none. none)) in
+    let nothing : IsLeast (IsOwnFault image meta) None = subst (IsLeast (IsOwnFault image meta)) (sym none) (own_least image meta) in
     sym
     (none_pass (has_stray_in image meta) (buckets_of meta)
     (λ b listed. none_pass (is_stray meta b) (bucket_told image meta b) (λ t held. not_true (is_stray meta b t) (λ stray.
     let found : (fault : Fault) × (told_fault meta b t ≡ Some fault) = stray_fault meta b t stray in
     nothing found.0 (inr (b, listed, (t, held, found.1)))))))
 
-some_code : (page : ℕ) (code : Option ℕ) (fault : Fault) → option_map (fault_at page) code ≡ Some fault → (c : ℕ) × (code ≡ Some c) × (fault_at page c ≡ fault)
+some_code : (page : ℕ) (code : Option ℕ) (fault : Fault) → option_map (fault_at page) code ≡ Some fault
+    → (c : ℕ) × (code ≡ Some c) × (fault_at page c ≡ fault)
 some_code page None fault same = absurd cc
 some_code page (Some c) fault same = (c, refl, cc)
 
@@ -135,26 +142,32 @@ codes_are : (image : List ℕ) (meta : HashMeta) (p : ℕ) → IsTable image →
     ++ (repeat_row (repeated (table_pairs (file_of image) meta)) p ∷ []))
 codes_are image meta p table has = ap holding (rows_are (file_of image) meta p (table_plain image meta table has))
 
-in_faults : (image : List ℕ) (meta : HashMeta) (page code : ℕ) → page ≤ (file_of image).last → Contains (holding (hash_contents (file_of image) meta page)) code
+in_faults : (image : List ℕ) (meta : HashMeta) (page code : ℕ) → page ≤ (file_of image).last
+    → Contains (holding (hash_contents (file_of image) meta page)) code
     → Contains (database_faults (file_of image) (HashFields meta)) (fault_at page code)
 unfolding database_faults
-in_faults image meta page code low at = in_by_page 8 0 ((file_of image).last + 1) page code (λ p. holding (database_rows (file_of image) (HashFields meta) p)) (omega arith) (omega arith) at
+in_faults image meta page code low at = in_by_page 8 0 ((file_of image).last + 1) page code
+    (λ p. holding (database_rows (file_of image) (HashFields meta) p)) (omega arith) (omega arith) at
 
 -- a fault that was noted is one of the table's
-noted_is : (image : List ℕ) (meta : HashMeta) (fault : Fault) → IsTable image → HasMetadata (file_of image) (HashFields meta) → IsNotedFault image meta fault
+noted_is : (image : List ℕ) (meta : HashMeta) (fault : Fault) → IsTable image → HasMetadata (file_of image) (HashFields meta)
+    → IsNotedFault image meta fault
     → Contains (database_faults (file_of image) (HashFields meta)) fault
 noted_is image meta fault table has (inl (inl none)) = absurd none
 noted_is image meta fault table has (inl (inr (b, listed, (t, held, given)))) =
     let file : File = file_of image in
-    let pair : (one : StoredPair) × Contains (bucket_pairs file meta b) one × (told image one ≡ t) = of_map (told image) (bucket_pairs file meta b) t (subst (λ ts. Contains ts t) (bucket_is image meta b) held) in
+    let pair : (one : StoredPair) × Contains (bucket_pairs file meta b) one × (told image one ≡ t) =
+    of_map (told image) (bucket_pairs file meta b) t (subst (λ ts. Contains ts t) (bucket_is image meta b) held) in
     let plain : IsPlain file pair.0 = bucket_plain image meta b pair.0 table has (few_buckets meta b listed) pair.1 in
     let code : (c : ℕ) × (first_row (pair_rows file meta b pair.0) ≡ Some c) × (fault_at pair.0.page c ≡ fault) =
     some_code pair.0.page (first_row (pair_rows file meta b pair.0)) fault (ap (told_fault meta b) pair.2 ∙ given) in
     subst (Contains (database_faults file (HashFields meta))) code.2
     (in_faults image meta pair.0.page code.0 plain.inside
     (subst (λ codes. Contains codes code.0) (sym (codes_are image meta pair.0.page table has))
-    (pair_holds (bucket_pairs file meta) (buckets_of meta) (tests_of file meta) (repeated (table_pairs file meta)) b pair.0 code.0 listed pair.1 code.1)))
-noted_is image meta fault table has (inr (pair, held, given)) =
+    (pair_holds (bucket_pairs file meta) (buckets_of meta) (tests_of file meta)
+    (repeated (table_pairs file meta)) b pair.0 code.0 listed pair.1 code.1)))
+noted_is image meta fault table has (inr (inl none)) = absurd none
+noted_is image meta fault table has (inr (inr (pair, held, given))) =
     let file : File = file_of image in
     let again : Contains (repeated (table_pairs file meta)) pair = subst (λ ps. Contains (repeated ps) pair) (table_stored image meta) held in
     let plain : IsPlain file pair = table_plain image meta table has pair (of_repeated (table_pairs file meta) pair again) in
@@ -170,23 +183,35 @@ record IsCovered (image : List ℕ) (meta : HashMeta) (fault : Fault) : Type 0 w
   first : ComesFirst noted fault
 
 -- a fault of the table comes after one that was noted
-covered : (image : List ℕ) (meta : HashMeta) (fault : Fault) → IsTable image → HasMetadata (file_of image) (HashFields meta) → Contains (database_faults (file_of image) (HashFields meta)) fault
+covered : (image : List ℕ) (meta : HashMeta) (fault : Fault) → IsTable image → HasMetadata (file_of image) (HashFields meta)
+    → Contains (database_faults (file_of image) (HashFields meta)) fault
     → IsCovered image meta fault
 unfolding database_faults
 covered image meta fault table has at =
     let file : File = file_of image in
-    let of : IsOfStage 8 0 (0 + (file.last + 1)) (λ p. holding (database_rows file (HashFields meta) p)) fault = of_by_page 8 0 (file.last + 1) (λ p. holding (database_rows file (HashFields meta) p)) fault at in
+    let of : IsOfStage 8 0 (0 + (file.last + 1)) (λ p. holding (database_rows file (HashFields meta) p)) fault =
+    of_by_page 8 0 (file.last + 1) (λ p. holding (database_rows file (HashFields meta) p)) fault at in
     elim (page_holds (bucket_pairs file meta) (buckets_of meta) (tests_of file meta) (repeated (table_pairs file meta)) fault.page fault.code
     (tests_rise file meta)
     (subst (λ codes. Contains codes fault.code) (codes_are image meta fault.page table has) of.is_code)) [
       | inl by ↦ record {
         noted = fault_at by.pair.page by.first;
-        is = inl (inr (by.bucket, by.listed, (told image by.pair, subst (λ ts. Contains ts (told image by.pair)) (sym (bucket_is image meta by.bucket)) (in_map (told image) (bucket_pairs file meta by.bucket) by.pair by.held), ap (option_map (fault_at by.pair.page)) by.first_is)));
+        is = inl (inr (
+          by.bucket,
+          by.listed,
+          (
+            told image by.pair,
+            subst (λ ts. Contains ts (told image by.pair)) (sym (bucket_is image meta by.bucket))
+                (in_map (told image) (bucket_pairs file meta by.bucket) by.pair by.held),
+            ap (option_map
+                (fault_at by.pair.page)) by.first_is,
+          ),
+        ));
         first = inr (by.at, by.low);
       }
       | inr by ↦ record {
         noted = fault_at by.pair.page 9;
-        is = inr (by.pair, subst (λ ps. Contains (repeated ps) by.pair) (sym (table_stored image meta)) by.held, refl);
+        is = inr (inr (by.pair, subst (λ ps. Contains (repeated ps) by.pair) (sym (table_stored image meta)) by.held, refl));
         first = inr (by.at, (let nine : fault.code ≡ 9 = by.nine in omega arith));
       }
     ]
@@ -205,8 +230,10 @@ same_fault a b stage rest =
     ∙ (ap (λ p. record { stage = b.stage; page = p; code = a.code }) rest.0 ∙ ap (λ c. record { stage = b.stage; page = b.page; code = c }) rest.1)
 
 -- the first of some faults that a list has, and that comes before all of it, is the list's first one
-first_is_least : (P : Fault → Type 0) (faults : List Fault) (least : Option Fault) → FirstComesFirst faults → ((a b : Fault) → Contains faults a → Contains faults b → a.stage ≡ b.stage) → IsLeast P least
-    → ((fault : Fault) → P fault → Contains faults fault) → ((fault : Fault) → Contains faults fault → (noted : Fault) × P noted × ComesFirst noted fault) → first_fault faults ≡ least
+first_is_least : (P : Fault → Type 0) (faults : List Fault) (least : Option Fault) → FirstComesFirst faults
+    → ((a b : Fault) → Contains faults a → Contains faults b → a.stage ≡ b.stage) → IsLeast P least
+    → ((fault : Fault) → P fault → Contains faults fault)
+    → ((fault : Fault) → Contains faults fault → (noted : Fault) × P noted × ComesFirst noted fault) → first_fault faults ≡ least
 first_is_least P [] None comes stage is has cover = refl
 first_is_least P [] (Some least) comes stage is has cover = absurd (no_member [] least refl (has least is.0))
 first_is_least P (fault ∷ faults) None comes stage is has cover = let noted = cover fault (first_member fault faults) in absurd (is noted.0 noted.1)
@@ -218,7 +245,8 @@ first_is_least P (fault ∷ faults) (Some least) comes stage is has cover =
     (both_first fault least (comes fault faults least refl at) (comes_through least noted.0 fault (is.1 noted.0 noted.1) noted.2)))
 
 contents_rise : (file : File) (meta : HashMeta) (p : ℕ) → LeastFirst (holding (database_rows file (HashFields meta) p))
-contents_rise file meta p = holding_least 1 (database_rows file (HashFields meta) p) (omega arith, (omega arith, (omega arith, (omega arith, (omega arith, tt)))))
+contents_rise file meta p = holding_least 1 (database_rows file (HashFields meta) p)
+    (omega arith, (omega arith, (omega arith, (omega arith, (omega arith, tt)))))
 
 contents_first : (file : File) (meta : HashMeta) → FirstComesFirst (database_faults file (HashFields meta))
 unfolding database_faults
@@ -228,23 +256,18 @@ contents_stage : (file : File) (meta : HashMeta) (fault : Fault) → Contains (d
 unfolding database_faults
 contents_stage file meta fault at = (of_by_page 8 0 (file.last + 1) (λ p. holding (database_rows file (HashFields meta) p)) fault at).same_stage
 
-pub least_is_first : (image : List ℕ) (meta : HashMeta) → IsTable image → HasMetadata (file_of image) (HashFields meta) → first_fault (database_faults (file_of image) (HashFields meta)) ≡ least_noted image meta
-least_is_first image meta table has =
-    first_is_least (IsNotedFault image meta) (database_faults (file_of image) (HashFields meta)) (least_noted image meta) (contents_first (file_of image) meta)
-    (λ a b at_a at_b. contents_stage (file_of image) meta a at_a ∙ sym (contents_stage (file_of image) meta b at_b)) (noted_least image meta)
-    (λ fault noted. noted_is image meta fault table has noted) (λ fault at. let by : IsCovered image meta fault = covered image meta fault table has at in (by.noted, by.is, by.first))
+least_is_first : (image : List ℕ) (meta : HashMeta) (least : Option Fault) → IsTable image → HasMetadata (file_of image) (HashFields meta)
+    → least ≡ least_noted image meta → first_fault (database_faults (file_of image) (HashFields meta)) ≡ least
+least_is_first image meta least table has is =
+    first_is_least (IsNotedFault image meta) (database_faults (file_of image) (HashFields meta)) least (contents_first (file_of image) meta)
+    (λ a b at_a at_b. contents_stage (file_of image) meta a at_a ∙ sym (contents_stage (file_of image) meta b at_b))
+    (subst (IsLeast (IsNotedFault image meta)) (sym is) (noted_least image meta)) (λ fault noted. noted_is image meta fault table has noted)
+    (λ fault at. let by : IsCovered image meta fault = covered image meta fault table has at in (by.noted, by.is, by.first))
 
-noted_first : (image : List ℕ) (meta : HashMeta) (least noted : Option Fault) → IsTable image → HasMetadata (file_of image) (HashFields meta) → least ≡ fold (note_bucket image meta) None (range_with_len 0 (meta.max_bucket + 1))
-    → noted ≡ fold note_repeat least (repeated (stored (table_told image meta))) → first_fault (database_faults (file_of image) (HashFields meta)) ≡ noted
-noted_first image meta least noted table has least_is noted_is =
-    least_is_first image meta table has
-    ∙ (ap (λ (l : Option Fault). fold note_repeat l (repeated (stored (table_told image meta)))) (sym least_is) ∙ sym noted_is)
+pub no_fault : (image : List ℕ) (meta : HashMeta) → IsTable image → HasMetadata (file_of image) (HashFields meta) → None ≡ least_noted image meta
+    → database_faults (file_of image) (HashFields meta) ≡ []
+no_fault image meta table has none = no_first_fault _ (least_is_first image meta None table has none)
 
-pub no_fault : (image : List ℕ) (meta : HashMeta) (least : Option Fault) → IsTable image → HasMetadata (file_of image) (HashFields meta) → least ≡ fold (note_bucket image meta) None (range_with_len 0 (meta.max_bucket + 1))
-    → None ≡ fold note_repeat least (repeated (stored (table_told image meta))) → database_faults (file_of image) (HashFields meta) ≡ []
-no_fault image meta least table has least_is none = no_first_fault _ (noted_first image meta least None table has least_is none)
-
-pub the_fault : (image : List ℕ) (meta : HashMeta) (least : Option Fault) (fault : Fault) → IsTable image → HasMetadata (file_of image) (HashFields meta) → least ≡ fold (note_bucket image meta) None (range_with_len 0 (meta.max_bucket + 1))
-    → Some fault ≡ fold note_repeat least (repeated (stored (table_told image meta)))
-    → first_fault (database_faults (file_of image) (HashFields meta)) ≡ Some fault
-the_fault image meta least fault table has least_is some = noted_first image meta least (Some fault) table has least_is some
+pub the_fault : (image : List ℕ) (meta : HashMeta) (fault : Fault) → IsTable image → HasMetadata (file_of image) (HashFields meta)
+    → Some fault ≡ least_noted image meta → first_fault (database_faults (file_of image) (HashFields meta)) ≡ Some fault
+the_fault image meta fault table has some = least_is_first image meta (Some fault) table has some

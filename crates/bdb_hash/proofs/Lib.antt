@@ -1,6 +1,7 @@
 pub mod BucketLemmas
 pub mod DataLemmas
 pub mod FaultLemmas
+pub mod HashedLemmas
 pub mod LeastLemmas
 pub mod LookupLemmas
 pub mod MaskLemmas

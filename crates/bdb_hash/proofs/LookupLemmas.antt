@@ -1,5 +1,6 @@
 -- What a table's list has under a key are the data of the first pair with that key in the key's bucket.
-use Rattle.std.proofs.Common.{◌≡◌, ◌⊎◌, ℕ, zero, suc, ◌+◌, ◌≤◌, ◌<◌, Bool, true, false, not, ◌&&◌, cond, List, [], ◌∷◌, ◌++◌, map, length, arith, refl, sym, ◌∙◌, ap, subst, inl, inr}
+use Rattle.std.proofs.Common.{◌≡◌, ◌⊎◌, ℕ, zero, suc, ◌+◌, ◌≤◌, ◌<◌, Bool, true, false, not, ◌&&◌, cond, List, [], ◌∷◌, ◌++◌, map}
+use Rattle.std.proofs.Common.{length, arith, refl, sym, ◌∙◌, ap, subst, inl, inr}
 use Rattle.std.specs.Prelude.{Option, Some, None, ◌==◌}
 use Rattle.std.specs.List.{Contains, filter, find, flat_map, list_any, range_with_len}
 use Rattle.std.specs.Option.{option_map, option_or}
@@ -32,13 +33,15 @@ use Rattle.bdb_format.proofs.BoolLemmas.{second_false}
 
 -- The walk over the pages of a bucket.
 
-pub sought_found : (key : List ℕ) (all : List Told) (left rest : List (List Told)) (page : List Told) (most steps : ℕ) (t : Told) → IsSought key all left most steps → left ≡ page ∷ rest
+pub sought_found : (key : List ℕ) (all : List Told) (left rest : List (List Told)) (page : List Told) (most steps : ℕ) (t : Told)
+    → IsSought key all left most steps → left ≡ page ∷ rest
     → Some t ≡ find (has_key key) page → Some t ≡ find (has_key key) all
 sought_found key all left rest page most steps t sought next found =
     ap (λ o. option_or o (find (has_key key) (joined_pages rest))) found
     ∙ (sym (find-append (has_key key) page (joined_pages rest)) ∙ (ap (λ ps. find (has_key key) (joined_pages ps)) (sym next) ∙ sought.same))
 
-pub sought_on : (key : List ℕ) (all : List Told) (left rest : List (List Told)) (page : List Told) (most steps : ℕ) → IsSought key all left most steps → left ≡ page ∷ rest
+pub sought_on : (key : List ℕ) (all : List Told) (left rest : List (List Told)) (page : List Told) (most steps : ℕ)
+    → IsSought key all left most steps → left ≡ page ∷ rest
     → None ≡ find (has_key key) page → IsSought key all rest most (steps + 1)
 sought_on key all left rest page most steps sought next none = record {
   same =
@@ -47,10 +50,12 @@ sought_on key all left rest page most steps sought next none = record {
   few = let more : length left ≡ suc (length rest) = ap length next in omega (arith, sought.few);
 }
 
-pub sought_none : (key : List ℕ) (all : List Told) (left : List (List Told)) (most steps : ℕ) → IsSought key all left most steps → left ≡ [] → None ≡ find (has_key key) all
+pub sought_none : (key : List ℕ) (all : List Told) (left : List (List Told)) (most steps : ℕ) → IsSought key all left most steps
+    → left ≡ [] → None ≡ find (has_key key) all
 sought_none key all left most steps sought none = ap (λ ps. find (has_key key) (joined_pages ps)) (sym none) ∙ sought.same
 
-pub sought_more : (key : List ℕ) (all : List Told) (left rest : List (List Told)) (page : List Told) (most steps : ℕ) → IsSought key all left most steps → left ≡ page ∷ rest → steps + 1 ≤ most
+pub sought_more : (key : List ℕ) (all : List Told) (left rest : List (List Told)) (page : List Told) (most steps : ℕ)
+    → IsSought key all left most steps → left ≡ page ∷ rest → steps + 1 ≤ most
 sought_more key all left rest page most steps sought next = let more : length left ≡ suc (length rest) = ap length next in omega (arith, sought.few)
 
 -- What a pair has under a key.
@@ -67,21 +72,26 @@ get_flat f key (x ∷ xs) =
     ap (map (λ (entry : ListKey × List ℕ). entry.1)) (filter-append test here rest)
     ∙ (map-append (λ (entry : ListKey × List ℕ). entry.1) (filter test here) (filter test rest) ∙ ap (λ vs. get here key ++ vs) (get_flat f key xs))
 
-all_under : (key own : List ℕ) (values : List (List ℕ)) → bytes_eq own key ≡ true → get (map (λ value. (BytesKey own, value)) values) (BytesKey key) ≡ values
+all_under : (key own : List ℕ) (values : List (List ℕ)) → bytes_eq own key ≡ true
+    → get (map (λ value. (BytesKey own, value)) values) (BytesKey key) ≡ values
 all_under key own [] is = refl
 all_under key own (value ∷ values) is =
     let rest : List (ListKey × List ℕ) = filter (λ (entry : ListKey × List ℕ). is_key entry.0 (BytesKey key)) (map (λ v. (BytesKey own, v)) values) in
-    ap (λ b. map (λ (entry : ListKey × List ℕ). entry.1) (cond b ((BytesKey own, value) ∷ rest) rest)) is ∙ ap (λ vs. value ∷ vs) (all_under key own values is)
+    ap (λ b. map (λ (entry : ListKey × List ℕ). entry.1) (cond b ((BytesKey own, value) ∷ rest) rest)) is ∙ ap (λ vs. value ∷ vs)
+    (all_under key own values is)
 
-none_under : (key own : List ℕ) (values : List (List ℕ)) → bytes_eq own key ≡ false → get (map (λ value. (BytesKey own, value)) values) (BytesKey key) ≡ []
+none_under : (key own : List ℕ) (values : List (List ℕ)) → bytes_eq own key ≡ false
+    → get (map (λ value. (BytesKey own, value)) values) (BytesKey key) ≡ []
 none_under key own [] other = refl
 none_under key own (value ∷ values) other =
     let rest : List (ListKey × List ℕ) = filter (λ (entry : ListKey × List ℕ). is_key entry.0 (BytesKey key)) (map (λ v. (BytesKey own, v)) values) in
     ap (λ b. map (λ (entry : ListKey × List ℕ). entry.1) (cond b ((BytesKey own, value) ∷ rest) rest)) other ∙ none_under key own values other
 
-under_own : (file : File) (key : List ℕ) (pair : StoredPair) → pair.live ≡ true → bytes_eq pair.key key ≡ true → under file key pair ≡ data_of file pair.data_item
+under_own : (file : File) (key : List ℕ) (pair : StoredPair) → pair.live ≡ true → bytes_eq pair.key key ≡ true
+    → under file key pair ≡ data_of file pair.data_item
 under_own file key pair live is =
-    ap (λ b. get (cond b (map (λ value. (BytesKey pair.key, value)) (data_of file pair.data_item)) []) (BytesKey key)) live ∙ all_under key pair.key (data_of file pair.data_item) is
+    ap (λ b. get (cond b (map (λ value. (BytesKey pair.key, value)) (data_of file pair.data_item)) []) (BytesKey key)) live
+    ∙ all_under key pair.key (data_of file pair.data_item) is
 
 under_other : (file : File) (key : List ℕ) (pair : StoredPair) → bytes_eq pair.key key ≡ false → under file key pair ≡ []
 under_other file key pair other =
@@ -106,11 +116,13 @@ swap_empty : {X : Type 0} (xs ys zs : List X) → (xs ≡ []) ⊎ (ys ≡ []) �
 swap_empty xs ys zs (inl none) = ap (λ v. v ++ (ys ++ zs)) none ∙ ap (λ v. ys ++ (v ++ zs)) (sym none)
 swap_empty xs ys zs (inr none) = ap (λ v. xs ++ (v ++ zs)) none ∙ ap (λ v. v ++ (xs ++ zs)) (sym none)
 
-under_insert : (file : File) (key : List ℕ) (pair : StoredPair) (pairs : List StoredPair) → flat_map (under file key) (insert_pair pair pairs) ≡ under file key pair ++ flat_map (under file key) pairs
+under_insert : (file : File) (key : List ℕ) (pair : StoredPair) (pairs : List StoredPair)
+    → flat_map (under file key) (insert_pair pair pairs) ≡ under file key pair ++ flat_map (under file key) pairs
 under_insert file key pair [] = refl
 under_insert file key pair (other ∷ others) =
     elim (less other.key pair.key) as (λ b. less other.key pair.key ≡ b
-    → flat_map (under file key) (cond b (other ∷ insert_pair pair others) (pair ∷ other ∷ others)) ≡ under file key pair ++ (under file key other ++ flat_map (under file key) others)) [
+    → flat_map (under file key) (cond b (other ∷ insert_pair pair others) (pair ∷ other ∷ others))
+    ≡ under file key pair ++ (under file key other ++ flat_map (under file key) others)) [
       | true ↦ λ is.
           ap (λ vs. under file key other ++ vs) (under_insert file key pair others)
           ∙ swap_empty (under file key other) (under file key pair) (flat_map (under file key) others) (one_under file key other pair is)
@@ -122,28 +134,35 @@ under_by_key file key [] = refl
 under_by_key file key (pair ∷ pairs) = under_insert file key pair (by_key pairs) ∙ ap (λ vs. under file key pair ++ vs) (under_by_key file key pairs)
 
 -- what the list has under a key
-list_under : (file : File) (meta : HashMeta) (key : List ℕ) → get (hash_list file meta) (BytesKey key) ≡ flat_map (under file key) (table_pairs file meta)
+list_under : (file : File) (meta : HashMeta) (key : List ℕ)
+    → get (hash_list file meta) (BytesKey key) ≡ flat_map (under file key) (table_pairs file meta)
 unfolding hash_list
 list_under file meta key = get_flat (listed_pair file) (BytesKey key) (by_key (table_pairs file meta)) ∙ under_by_key file key (table_pairs file meta)
 
 -- One bucket.
 
-nothing_under : (file : File) (key : List ℕ) (pairs : List StoredPair) → ((pair : StoredPair) → Contains pairs pair → bytes_eq pair.key key ≡ false) → flat_map (under file key) pairs ≡ []
+nothing_under : (file : File) (key : List ℕ) (pairs : List StoredPair)
+    → ((pair : StoredPair) → Contains pairs pair → bytes_eq pair.key key ≡ false) → flat_map (under file key) pairs ≡ []
 nothing_under file key [] other = refl
 nothing_under file key (pair ∷ pairs) other =
-    ap (λ vs. vs ++ flat_map (under file key) pairs) (under_other file key pair (other pair (first_member pair pairs))) ∙ nothing_under file key pairs (λ one at. other one (later_member pair pairs one at))
+    ap (λ vs. vs ++ flat_map (under file key) pairs) (under_other file key pair (other pair (first_member pair pairs)))
+    ∙ nothing_under file key pairs (λ one at. other one (later_member pair pairs one at))
 
 none_of_range : {X : Type 0} (f : ℕ → List X) (a n : ℕ) → ((c : ℕ) → a ≤ c → c < a + n → f c ≡ []) → flat_map f (range_with_len a n) ≡ []
 none_of_range f a zero none = refl
-none_of_range f a (suc n) none = ap (λ xs. xs ++ flat_map f (range_with_len (a + 1) n)) (none a (omega arith) (omega arith)) ∙ none_of_range f (a + 1) n (λ c low high. none c (omega arith) (omega arith))
+none_of_range f a (suc n) none = ap (λ xs. xs ++ flat_map f (range_with_len (a + 1) n)) (none a (omega arith) (omega arith))
+    ∙ none_of_range f (a + 1) n (λ c low high. none c (omega arith) (omega arith))
 
 -- where all but one of some parts are empty, that one is the whole
-one_of_range : {X : Type 0} (f : ℕ → List X) (a n b : ℕ) → a ≤ b → b < a + n → ((c : ℕ) → a ≤ c → c < a + n → (c ≡ b → ⊥) → f c ≡ []) → flat_map f (range_with_len a n) ≡ f b
+one_of_range : {X : Type 0} (f : ℕ → List X) (a n b : ℕ) → a ≤ b → b < a + n
+    → ((c : ℕ) → a ≤ c → c < a + n → (c ≡ b → ⊥) → f c ≡ []) → flat_map f (range_with_len a n) ≡ f b
 one_of_range f a zero b low high none = absurd (omega arith)
 one_of_range f a (suc n) b low high none =
     elim (cases_eq a b) [
       | inl same ↦
-          ap (λ xs. f a ++ xs) (none_of_range f (a + 1) n (λ c above below. none c (omega arith) (omega arith) (λ is. (let apart : a + 1 ≤ c = above in omega arith)))) ∙ (append-nil (f a) ∙ ap f same)
+          ap (λ xs. f a ++ xs) (none_of_range f (a + 1) n
+          (λ c above below. none c (omega arith) (omega arith) (λ is. (let apart : a + 1 ≤ c = above in omega arith))))
+          ∙ (append-nil (f a) ∙ ap f same)
       | inr other ↦
           ap (λ xs. xs ++ flat_map f (range_with_len (a + 1) n)) (none a (omega arith) (omega arith) other)
           ∙ one_of_range f (a + 1) n b (omega arith) (omega arith) (λ c above below apart. none c (omega arith) (omega arith) apart)
@@ -151,27 +170,34 @@ one_of_range f a (suc n) b low high none =
 
 -- No row of the table holds.
 
-all_fail_at : (image : List ℕ) (meta : HashMeta) (p : ℕ) → database_faults (file_of image) (HashFields meta) ≡ [] → p ≤ (file_of image).last → AllFail (hash_contents (file_of image) meta p)
+all_fail_at : (image : List ℕ) (meta : HashMeta) (p : ℕ) → database_faults (file_of image) (HashFields meta) ≡ []
+    → p ≤ (file_of image).last → AllFail (hash_contents (file_of image) meta p)
 unfolding database_faults
 all_fail_at image meta p none low =
-    all_fail (hash_contents (file_of image) meta p) (no_codes_at 8 0 ((file_of image).last + 1) p (λ q. holding (database_rows (file_of image) (HashFields meta) q)) none (omega arith) (omega arith))
+    all_fail (hash_contents (file_of image) meta p)
+    (no_codes_at 8 0 ((file_of image).last + 1) p (λ q. holding (database_rows (file_of image) (HashFields meta) q)) none
+    (omega arith) (omega arith))
 
 -- each key is in its own bucket
-own_bucket : (image : List ℕ) (meta : HashMeta) (b : ℕ) (pair : StoredPair) → IsTable image → HasMetadata (file_of image) (HashFields meta) → database_faults (file_of image) (HashFields meta) ≡ []
+own_bucket : (image : List ℕ) (meta : HashMeta) (b : ℕ) (pair : StoredPair) → IsTable image
+    → HasMetadata (file_of image) (HashFields meta) → database_faults (file_of image) (HashFields meta) ≡ []
     → Contains (buckets_of meta) b → Contains (bucket_pairs (file_of image) meta b) pair → bucket_of_key meta pair.key ≡ b
 own_bucket image meta b pair table has none listed held =
     let file : File = file_of image in
     let plain : IsPlain file pair = bucket_plain image meta b pair table has (few_buckets meta b listed) held in
     let fail : AllFail (hash_contents file meta pair.page) = all_fail_at image meta pair.page none plain.inside in
     let bucket : list_any (λ (one : StoredPair). one.page == pair.page && not (bucket_of_key meta one.key == b)) (bucket_pairs file meta b) ≡ false =
-    none_passes (λ c. list_any (λ (one : StoredPair). one.page == pair.page && not (bucket_of_key meta one.key == c)) (bucket_pairs file meta c)) (buckets_of meta) b fail.1.1.1.0 listed in
+    none_passes (λ c. list_any (λ (one : StoredPair). one.page == pair.page && not (bucket_of_key meta one.key == c))
+    (bucket_pairs file meta c)) (buckets_of meta) b fail.1.1.1.0 listed in
     let passes : (pair.page == pair.page && not (bucket_of_key meta pair.key == b)) ≡ false =
     none_passes (λ (one : StoredPair). one.page == pair.page && not (bucket_of_key meta one.key == b)) (bucket_pairs file meta b) pair bucket held in
     eqb-true (bucket_of_key meta pair.key) b
-    (not-false (bucket_of_key meta pair.key == b) (second_false (pair.page == pair.page) (not (bucket_of_key meta pair.key == b)) (eq-eqb pair.page pair.page refl) passes))
+    (not-false (bucket_of_key meta pair.key == b)
+    (second_false (pair.page == pair.page) (not (bucket_of_key meta pair.key == b)) (eq-eqb pair.page pair.page refl) passes))
 
 -- no key repeats
-pub none_repeats : (image : List ℕ) (meta : HashMeta) → IsTable image → HasMetadata (file_of image) (HashFields meta) → database_faults (file_of image) (HashFields meta) ≡ []
+pub none_repeats : (image : List ℕ) (meta : HashMeta) → IsTable image → HasMetadata (file_of image) (HashFields meta)
+    → database_faults (file_of image) (HashFields meta) ≡ []
     → repeated (table_pairs (file_of image) meta) ≡ []
 none_repeats image meta table has none =
     let file : File = file_of image in
@@ -200,7 +226,8 @@ new_where_none earlier (pair ∷ pairs) none =
     let here : (list_any (λ (other : StoredPair). bytes_eq other.key pair.key) earlier ≡ false) × (repeated_after (pair ∷ earlier) pairs ≡ []) =
     cond_empty (list_any (λ (other : StoredPair). bytes_eq other.key pair.key) earlier) pair (repeated_after (pair ∷ earlier) pairs) none in
     let rest : AreNew (pair ∷ earlier) pairs = new_where_none (pair ∷ earlier) pairs here.1 in
-    let both : (one : StoredPair) → Contains pairs one → (bytes_eq pair.key one.key ≡ false) × (list_any (λ (other : StoredPair). bytes_eq other.key one.key) earlier ≡ false) =
+    let both : (one : StoredPair) → Contains pairs one → (bytes_eq pair.key one.key ≡ false)
+    × (list_any (λ (other : StoredPair). bytes_eq other.key one.key) earlier ≡ false) =
     λ one at. or_parts (bytes_eq pair.key one.key) (list_any (λ (other : StoredPair). bytes_eq other.key one.key) earlier) (rest.each one at) in
     record {
       each = λ one at. elim (member_cases pair pairs one at) [
@@ -211,9 +238,11 @@ new_where_none earlier (pair ∷ pairs) none =
     }
 
 -- the keys of a table are apart
-pub table_apart : (image : List ℕ) (meta : HashMeta) → IsTable image → HasMetadata (file_of image) (HashFields meta) → database_faults (file_of image) (HashFields meta) ≡ [] → AreApart (table_pairs (file_of image) meta)
+pub table_apart : (image : List ℕ) (meta : HashMeta) → IsTable image → HasMetadata (file_of image) (HashFields meta)
+    → database_faults (file_of image) (HashFields meta) ≡ [] → AreApart (table_pairs (file_of image) meta)
 table_apart image meta table has none =
-    (new_where_none [] (table_pairs (file_of image) meta) (sym (repeated_is (table_pairs (file_of image) meta)) ∙ none_repeats image meta table has none)).apart
+    (new_where_none [] (table_pairs (file_of image) meta)
+    (sym (repeated_is (table_pairs (file_of image) meta)) ∙ none_repeats image meta table has none)).apart
 
 apart_parts : (xs ys : List StoredPair) → AreApart (xs ++ ys) → AreApart xs × AreApart ys
 apart_parts [] ys apart = (tt, apart)
@@ -227,10 +256,12 @@ apart_part f (y ∷ ys) x apart at =
     let parts : AreApart (f y) × AreApart (flat_map f ys) = apart_parts (f y) (flat_map f ys) apart in
     elim (member_cases y ys x at) [ inl same ↦ subst (λ z. AreApart (f z)) same parts.0 | inr later ↦ apart_part f ys x parts.1 later ]
 
-bucket_apart : (image : List ℕ) (meta : HashMeta) (b : ℕ) → IsTable image → HasMetadata (file_of image) (HashFields meta) → database_faults (file_of image) (HashFields meta) ≡ []
+bucket_apart : (image : List ℕ) (meta : HashMeta) (b : ℕ) → IsTable image → HasMetadata (file_of image) (HashFields meta)
+    → database_faults (file_of image) (HashFields meta) ≡ []
     → Contains (buckets_of meta) b → AreApart (bucket_pairs (file_of image) meta b)
 unfolding table_pairs
-bucket_apart image meta b table has none listed = apart_part (bucket_pairs (file_of image) meta) (buckets_of meta) b (table_apart image meta table has none) listed
+bucket_apart image meta b table has none listed =
+    apart_part (bucket_pairs (file_of image) meta) (buckets_of meta) b (table_apart image meta table has none) listed
 
 -- The first pair with a key.
 
@@ -239,24 +270,32 @@ data_found file None = []
 data_found file (Some pair) = data_of file pair.data_item
 
 pub same_key : (a b key : List ℕ) → bytes_eq a b ≡ false → bytes_eq a key ≡ true → bytes_eq b key ≡ false
-same_key a b key apart own = not_true (bytes_eq b key) (λ same. true≢false (sym (subst (λ xs. bytes_eq a xs ≡ true) (sym (eq_same b key same)) own) ∙ apart))
+same_key a b key apart own = not_true (bytes_eq b key)
+    (λ same. true≢false (sym (subst (λ xs. bytes_eq a xs ≡ true) (sym (eq_same b key same)) own) ∙ apart))
 
-first_under : (file : File) (key : List ℕ) (pairs : List StoredPair) → ArePlain file pairs → AreApart pairs → flat_map (under file key) pairs ≡ data_found file (find (λ (pair : StoredPair). bytes_eq pair.key key) pairs)
+first_under : (file : File) (key : List ℕ) (pairs : List StoredPair) → ArePlain file pairs → AreApart pairs
+    → flat_map (under file key) pairs ≡ data_found file (find (λ (pair : StoredPair). bytes_eq pair.key key) pairs)
 first_under file key [] plain apart = refl
 first_under file key (pair ∷ pairs) plain apart =
     elim (bytes_eq pair.key key) as (λ b. bytes_eq pair.key key ≡ b
-    → under file key pair ++ flat_map (under file key) pairs ≡ data_found file (cond b (Some pair) (find (λ (one : StoredPair). bytes_eq one.key key) pairs))) [
+    → under file key pair ++ flat_map (under file key) pairs ≡ data_found file
+    (cond b (Some pair) (find (λ (one : StoredPair). bytes_eq one.key key) pairs))) [
       | true ↦ λ own.
           ap (λ vs. vs ++ flat_map (under file key) pairs) (under_own file key pair (plain pair (first_member pair pairs)).live own)
-          ∙ (ap (λ vs. data_of file pair.data_item ++ vs) (nothing_under file key pairs (λ other at. same_key pair.key other.key key (apart.0 other at) own)) ∙ append-nil (data_of file pair.data_item))
+          ∙ (ap (λ vs. data_of file pair.data_item ++ vs)
+          (nothing_under file key pairs (λ other at. same_key pair.key other.key key (apart.0 other at) own)) ∙ append-nil
+          (data_of file pair.data_item))
       | false ↦ λ other.
-          ap (λ vs. vs ++ flat_map (under file key) pairs) (under_other file key pair other) ∙ first_under file key pairs (λ one at. plain one (later_member pair pairs one at)) apart.1
+          ap (λ vs. vs ++ flat_map (under file key) pairs) (under_other file key pair other) ∙ first_under file key pairs
+          (λ one at. plain one (later_member pair pairs one at)) apart.1
     ] refl
 
 -- what is listed under a key is in the key's bucket
-list_in_bucket : (image : List ℕ) (meta : HashMeta) (key : List ℕ) → IsTable image → HasMetadata (file_of image) (HashFields meta) → database_faults (file_of image) (HashFields meta) ≡ []
+list_in_bucket : (image : List ℕ) (meta : HashMeta) (key : List ℕ) → IsTable image → HasMetadata (file_of image) (HashFields meta)
+    → database_faults (file_of image) (HashFields meta) ≡ []
     → bucket_of_key meta key ≤ meta.max_bucket
-    → get (hash_list (file_of image) meta) (BytesKey key) ≡ data_found (file_of image) (find (λ (pair : StoredPair). bytes_eq pair.key key) (bucket_pairs (file_of image) meta (bucket_of_key meta key)))
+    → get (hash_list (file_of image) meta) (BytesKey key) ≡ data_found (file_of image)
+    (find (λ (pair : StoredPair). bytes_eq pair.key key) (bucket_pairs (file_of image) meta (bucket_of_key meta key)))
 unfolding table_pairs
 list_in_bucket image meta key table has none few =
     let file : File = file_of image in
@@ -264,21 +303,32 @@ list_in_bucket image meta key table has none few =
     let listed : Contains (buckets_of meta) b = in_range 0 (meta.max_bucket + 1) b (omega arith) (omega arith) in
     list_under file meta key
     ∙ (flat_map_twice (under file key) (bucket_pairs file meta) (buckets_of meta)
-    ∙ (one_of_range (λ c. flat_map (under file key) (bucket_pairs file meta c)) 0 (meta.max_bucket + 1) b (omega arith) (omega arith) (λ c low high apart. other_bucket image meta key c table has none (in_range 0 (meta.max_bucket + 1) c low high) apart)
-    ∙ first_under file key (bucket_pairs file meta b) (λ pair at. bucket_plain image meta b pair table has few at) (bucket_apart image meta b table has none listed)))
+    ∙ (one_of_range (λ c. flat_map (under file key) (bucket_pairs file meta c)) 0 (meta.max_bucket + 1) b (omega arith)
+    (omega arith) (λ c low high apart. other_bucket image meta key c table has none
+    (in_range 0 (meta.max_bucket + 1) c low high) apart)
+    ∙ first_under file key (bucket_pairs file meta b) (λ pair at. bucket_plain image meta b pair table has few at)
+    (bucket_apart image meta b table has none listed)))
   where
-    other_bucket : (image : List ℕ) (meta : HashMeta) (key : List ℕ) (c : ℕ) → IsTable image → HasMetadata (file_of image) (HashFields meta) → database_faults (file_of image) (HashFields meta) ≡ []
-        → Contains (buckets_of meta) c → (c ≡ bucket_of_key meta key → ⊥) → flat_map (under (file_of image) key) (bucket_pairs (file_of image) meta c) ≡ []
+    other_bucket : (image : List ℕ) (meta : HashMeta) (key : List ℕ) (c : ℕ) → IsTable image
+        → HasMetadata (file_of image) (HashFields meta) → database_faults (file_of image) (HashFields meta) ≡ []
+        → Contains (buckets_of meta) c → (c ≡ bucket_of_key meta key → ⊥)
+        → flat_map (under (file_of image) key) (bucket_pairs (file_of image) meta c) ≡ []
     other_bucket image meta key c table has none listed apart =
         nothing_under (file_of image) key (bucket_pairs (file_of image) meta c) (λ pair at.
-        not_true (bytes_eq pair.key key) (λ same. apart (sym (own_bucket image meta c pair table has none listed at) ∙ ap (bucket_of_key meta) (eq_same pair.key key same))))
+        not_true (bytes_eq pair.key key)
+        (λ same. apart (sym (own_bucket image meta c pair table has none listed at) ∙ ap (bucket_of_key meta)
+        (eq_same pair.key key same))))
 
 -- Found.
 
-find_told : (image : List ℕ) (key : List ℕ) (pairs : List StoredPair) → find (has_key key) (map (told image) pairs) ≡ option_map (told image) (find (λ (pair : StoredPair). bytes_eq pair.key key) pairs)
+find_told : (image : List ℕ) (key : List ℕ) (pairs : List StoredPair)
+    → find (has_key key) (map (told image) pairs) ≡ option_map (told image)
+    (find (λ (pair : StoredPair). bytes_eq pair.key key) pairs)
 find_told image key [] = refl
 find_told image key (pair ∷ pairs) =
-    elim (bytes_eq pair.key key) as (λ b. cond b (Some (told image pair)) (find (has_key key) (map (told image) pairs)) ≡ option_map (told image) (cond b (Some pair) (find (λ (one : StoredPair). bytes_eq one.key key) pairs))) [
+    elim (bytes_eq pair.key key) as
+    (λ b. cond b (Some (told image pair)) (find (has_key key) (map (told image) pairs)) ≡ option_map (told image)
+    (cond b (Some pair) (find (λ (one : StoredPair). bytes_eq one.key key) pairs))) [
       | true ↦ refl
       | false ↦ find_told image key pairs
     ]
@@ -293,8 +343,10 @@ told_found image None = refl
 told_found image (Some pair) = refl
 
 -- what is listed under a key is what the pair has that was found in the key's bucket
-pub list_found : (image : List ℕ) (meta : HashMeta) (key : List ℕ) (b : ℕ) (found : Option Told) → IsTable image → HasMetadata (file_of image) (HashFields meta)
-    → database_faults (file_of image) (HashFields meta) ≡ [] → b ≡ bucket_of_key meta key → b ≤ meta.max_bucket → found ≡ find (has_key key) (bucket_told image meta b)
+pub list_found : (image : List ℕ) (meta : HashMeta) (key : List ℕ) (b : ℕ) (found : Option Told) → IsTable image
+    → HasMetadata (file_of image) (HashFields meta)
+    → database_faults (file_of image) (HashFields meta) ≡ [] → b ≡ bucket_of_key meta key → b ≤ meta.max_bucket
+    → found ≡ find (has_key key) (bucket_told image meta b)
     → told_data found ≡ get (hash_list (file_of image) meta) (BytesKey key)
 list_found image meta key b found table has none is few same =
     let own : bucket_of_key meta key ≤ meta.max_bucket = omega (arith, is) in

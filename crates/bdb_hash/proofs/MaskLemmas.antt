@@ -26,9 +26,11 @@ abbrev HasMasks : Page → Type 0
 HasMasks (Meta (HashFields meta)) = are_masks meta ≡ true
 HasMasks page = Unit {0}
 
-table_masks : (head : Head) (number : ℕ) (page : List ℕ) → first_row (field_rows head.order page number head.last Hash) ≡ None → are_masks (hash_fields head.order page) ≡ true
+table_masks : (head : Head) (number : ℕ) (page : List ℕ) → first_row (field_rows head.order page number head.last Hash) ≡ None
+    → are_masks (hash_fields head.order page) ≡ true
 table_masks head number page none =
-    let fail : AllFail (field_rows head.order page number head.last Hash) = none_is_first_row (field_rows head.order page number head.last Hash) none in
+    let fail : AllFail (field_rows head.order page number head.last Hash) =
+    none_is_first_row (field_rows head.order page number head.last Hash) none in
     not-false (are_masks (hash_fields head.order page)) fail.1.1.1.1.1.1.1.1.0
 
 masks_as : (head : Head) (number : ℕ) (page : List ℕ) (t : PageType) → typed_code head number page t ≡ None → HasMasks (page_as head.order page t)
@@ -39,7 +41,8 @@ masks_of : (head : Head) (number : ℕ) (page : List ℕ) → form_code head num
 unfolding abstract_page form_code
 masks_of head number page none =
     let byte : ℕ = byte_at page 25 in
-    elim (is_zero page) as (λ zeros. is_zero page ≡ zeros → HasMasks (elim zeros [ true ↦ Zero | false ↦ page_as head.order page (page_type byte) ])) [
+    elim (is_zero page) as (λ zeros. is_zero page ≡ zeros → HasMasks
+    (elim zeros [ true ↦ Zero | false ↦ page_as head.order page (page_type byte) ])) [
       | true ↦ λ _. tt
       | false ↦ λ some.
           masks_as head number page (page_type byte)
@@ -49,14 +52,18 @@ masks_of head number page none =
 meta_masks : (image : List ℕ) (meta : HashMeta) → IsForest image → HasMetadata (file_of image) (HashFields meta) → are_masks meta ≡ true
 meta_masks image meta forest has =
     let inside : has.page ≤ (head_of image).last = omega (arith, has.inside, last_page image) in
-    subst HasMasks (sym (page_is image has.page inside) ∙ has.is) (masks_of (head_of image) has.page (page_bytes (head_of image) image has.page) (formed_page image has.page forest.formed.form inside))
+    subst HasMasks (sym (page_is image has.page inside) ∙ has.is)
+    (masks_of (head_of image) has.page (page_bytes (head_of image) image has.page)
+    (formed_page image has.page forest.formed.form inside))
 
 -- The bucket of a hash.
 
-within : (meta : HashMeta) (hash : ℕ) → are_masks meta ≡ true → nat_lt meta.max_bucket (bit_and hash meta.high_mask) ≡ true → bit_and hash meta.low_mask ≤ meta.max_bucket
+within : (meta : HashMeta) (hash : ℕ) → are_masks meta ≡ true → nat_lt meta.max_bucket (bit_and hash meta.high_mask) ≡ true
+    → bit_and hash meta.low_mask ≤ meta.max_bucket
 within meta hash masks above = grind (arith, nat_tests, masks, above, and_le_r hash meta.high_mask, and_le_r hash meta.low_mask)
 
-pub bucket_within : (image : List ℕ) (meta : HashMeta) (hash : ℕ) → IsForest image → HasMetadata (file_of image) (HashFields meta) → bucket hash meta.max_bucket meta.high_mask meta.low_mask ≤ meta.max_bucket
+pub bucket_within : (image : List ℕ) (meta : HashMeta) (hash : ℕ) → IsForest image → HasMetadata (file_of image) (HashFields meta)
+    → bucket hash meta.max_bucket meta.high_mask meta.low_mask ≤ meta.max_bucket
 bucket_within image meta hash forest has =
     elim (nat_lt meta.max_bucket (bit_and hash meta.high_mask)) as (λ b. nat_lt meta.max_bucket (bit_and hash meta.high_mask) ≡ b
     → cond b (bit_and hash meta.low_mask) (bit_and hash meta.high_mask) ≤ meta.max_bucket) [

@@ -1,5 +1,5 @@
 -- The pairs of a table stand at places, and these in the order of their keys are the pairs in the order of theirs.
-use Rattle.std.proofs.Common.{◌≡◌, ℕ, ◌+◌, ◌-◌, ◌*◌, ◌/◌, ◌≤◌, ◌<◌, Bool, true, false, cond, List, [], ◌∷◌, ◌++◌, map, length, get_or, min}
+use Rattle.std.proofs.Common.{◌≡◌, ℕ, ◌+◌, ◌*◌, ◌≤◌, ◌<◌, Bool, true, cond, List, [], ◌∷◌, ◌++◌, map, length, get_or, min}
 use Rattle.std.proofs.Common.{length-append, arith, refl, sym, ◌∙◌, ap, Bor, subst, append_assoc, inl, inr}
 use Rattle.std.specs.Prelude.{Some}
 use Rattle.std.specs.Cmp.{IsStrictWeakOrder, nat_cmp_total, on_total, then_total}
@@ -13,13 +13,12 @@ use Rattle.std.proofs.lemmas.Bool.{le-ltb, lt-ltb}
 use Rattle.std.proofs.lemmas.List.{append-nil, get_or-map, length-map}
 use Rattle.std.proofs.lemmas.Option.{get_or_from_slice_get}
 use Rattle.std.proofs.lemmas.Fn.{always_returns_same}
-use Rattle.std.proofs.lemmas.List.FromFn.{length-map-range_with_len}
 use Rattle.std.proofs.lemmas.List.Elements.{Contains-get_or}
 use Rattle.std.proofs.lemmas.List.Sorted.{Contains-permutation, IsPermutation-map, IsPermutation-sym, ranks_by}
 use Rattle.bdb_format.specs.declared.metadata.HashMeta.{HashMeta}
 use Rattle.bdb_format.specs.Chains.{value_of}
 use Rattle.bdb_format.specs.ContentRows.{database_faults}
-use Rattle.bdb_format.specs.Contents.{StoredPair, bucket_pages, pair_at, table_pairs}
+use Rattle.bdb_format.specs.Contents.{StoredPair, bucket_pages, table_pairs}
 use Rattle.bdb_format.specs.File.{File, file_of, page_at}
 use Rattle.bdb_format.specs.Page.{Hash, HashFields, Item}
 use Rattle.bdb_format.specs.Page.{Listed, Page}
@@ -31,34 +30,14 @@ use Rattle.bdb_layout.specs.Seen.{hash_content_seen, hash_item_seen}
 use Rattle.bdb_overflow.specs.Prefix.{prefix_of}
 use Rattle.bdb_overflow.proofs.PrefixLemmas.{prefix_order}
 use Rattle.bdb_hash.specs.declared.place.Place.{Place}
-use Rattle.bdb_hash.specs.Places.{Adds, AreAt, ArePlaces, IsAt, IsCollected, IsRead, has_pair, key_at, key_in, pair_on, place_cmp, place_less}
+use Rattle.bdb_hash.specs.Places.{Adds, AreAt, ArePlaces, IsAt, IsCollected, has_pair, key_at, key_in, pair_on, place_cmp, place_less}
 use Rattle.bdb_hash.specs.Places.{told_at}
 use Rattle.bdb_hash.specs.Scanned.{ranked}
-use Rattle.bdb_hash.specs.Told.{Told, bucket_told, joined_pages, left_on, page_told, table_told, told, told_cmp}
+use Rattle.bdb_hash.specs.Told.{Told, bucket_told, joined_pages, page_told, table_told, told, told_cmp}
 use Rattle.bdb_hash.specs.Views.{IsTable}
 use Rattle.bdb_hash.proofs.FaultLemmas.{table_is_told}
-use Rattle.bdb_hash.proofs.PairLemmas.{item_fits, item_root, pair_is}
 use Rattle.bdb_hash.proofs.ScanLemmas.{sorted_ranked}
 use Rattle.bdb_hash.proofs.TableLemmas.{told_more}
-
--- A pair that is read.
-
-pub read_is : (image : List ℕ) (p i : ℕ) (page : Listed Item) (key data' : HashItem) (bytes : List ℕ) → IsTable image → p ≤ (file_of image).last
-    → page_at (file_of image) p ≡ Hash page → 2 * i + 1 < length page.items → slice_get page.items (2 * i) ≡ Some (hash_item_seen key)
-    → slice_get page.items (2 * i + 1) ≡ Some (hash_item_seen data') → bytes ≡ value_of (file_of image) (hash_content_seen key)
-    → IsRead p i (told image (record { page = p; key = bytes; data_item = hash_content_seen data'; live = true; shares = false })) (hash_content_seen data')
-read_is image p i page key data' bytes table low shows there first second same = record {
-  pair = record {
-    forest = table;
-    chain = item_fits image p (2 * i + 1) page data' table low shows second;
-    root = item_root image p (2 * i + 1) page data' table low shows second;
-  };
-  stands = record {
-    inside = low;
-    there = ap (λ (q : Page). has_pair q i) shows ∙ lt-ltb (2 * i + 1) (length page.items) there;
-    is = pair_is image p i page key data' bytes first second same ∙ sym (ap (λ (q : Page). told image (pair_on (file_of image) p q i)) shows);
-  };
-}
 
 -- A place whose key is read.
 
@@ -78,8 +57,10 @@ pub key_here : (image : List ℕ) (place : Place) (page : Listed Item) (item : H
     → bytes ≡ value_of (file_of image) (hash_content_seen item) → bytes ≡ key_at image place
 key_here image place page item bytes low shows there at is =
     is
-    ∙ (ap (λ (one : Item). value_of (file_of image) one.content) (sym (get_or_from_slice_get page.items (2 * place.index) (hash_item_seen item) no_item at))
-    ∙ (ap (λ b. cond b (value_of (file_of image) (item_at page (2 * place.index)).content) []) (sym (lt-ltb (2 * place.index + 1) (length page.items) there))
+    ∙ (ap (λ (one : Item). value_of (file_of image) one.content)
+    (sym (get_or_from_slice_get page.items (2 * place.index) (hash_item_seen item) no_item at))
+    ∙ (ap (λ b. cond b (value_of (file_of image) (item_at page (2 * place.index)).content) [])
+    (sym (lt-ltb (2 * place.index + 1) (length page.items) there))
     ∙ (ap (λ (q : Page). key_in (file_of image) q place.index) (sym shows) ∙ sym (on_page image place low))))
 
 -- Places of a file.
@@ -97,7 +78,8 @@ pub more_added : (a b c : List Place) (xs ys : List Told) → Adds a b xs → Ad
 more_added a b c xs ys first second =
     record { after = λ before at. subst (AreAt c) (append_assoc before xs ys) (second.after (before ++ xs) (first.after before at)) }
 
-at_end : (places : List Place) (place : Place) (ts : List Told) (t : Told) → AreAt places ts → IsAt place t → AreAt (places ++ place ∷ []) (ts ++ t ∷ [])
+at_end : (places : List Place) (place : Place) (ts : List Told) (t : Told) → AreAt places ts → IsAt place t
+    → AreAt (places ++ place ∷ []) (ts ++ t ∷ [])
 at_end [] place [] t all one = (one, tt)
 at_end [] place (u ∷ ts) t all one = absurd all
 at_end (other ∷ places) place [] t all one = absurd all
@@ -110,7 +92,8 @@ one_added places new place t is more =
 pub none_collected : (places : List Place) (all : List Told) → IsCollected places places all all
 none_collected places all = record { done = []; whole = refl; adds = none_added places }
 
-pub more_collected : (old now new : List Place) (all left here rest : List Told) → IsCollected old now all left → left ≡ here ++ rest → Adds now new here
+pub more_collected : (old now new : List Place) (all left here rest : List Told) → IsCollected old now all left
+    → left ≡ here ++ rest → Adds now new here
     → IsCollected old new all rest
 more_collected old now new all left here rest collected is adds = record {
   done = collected.done ++ here;
@@ -138,13 +121,6 @@ bucket_added image meta b old new pages at are adds =
     (adds.after (flat_map (bucket_told image meta) (range_with_len 0 b)) at)
 
 -- Pairs are counted.
-
-pub left_is : (image : List ℕ) (p i n : ℕ) (page : Listed Item) → 2 * n ≡ length page.items → n - i ≡ length (left_on image p (Some page) i)
-left_is image p i n page is =
-    let half : length page.items / 2 ≡ n = omega (arith, is) in
-    sym
-    (length-map (map (pair_at (file_of image) p page (λ m. false)) (range_with_len i (length page.items / 2 - i))) (told image)
-    ∙ (length-map-range_with_len (pair_at (file_of image) p page (λ m. false)) i (length page.items / 2 - i) ∙ ap (λ m. m - i) half))
 
 -- one more page counted
 pub page_counted : (count more here whole most : ℕ) (page : List Told) (rest : List (List Told)) → more ≡ min (count + here) most → here ≡ length page
@@ -207,7 +183,8 @@ cmp_told image a b is_a is_b =
     ap (λ key. ordering_then (nat_cmp a.first b.first) (slice_cmp nat_cmp key (key_at image b))) (key_told image a is_a)
     ∙ (ap (λ key. ordering_then (nat_cmp a.first b.first) (slice_cmp nat_cmp key_a key)) (key_told image b is_b)
     ∙ (ap (λ n. ordering_then (nat_cmp n b.first) (slice_cmp nat_cmp key_a key_b)) is_a.first
-    ∙ (ap (λ n. ordering_then (nat_cmp (prefix_of 8 key_a) n) (slice_cmp nat_cmp key_a key_b)) is_b.first ∙ prefix_order 8 key_a key_b is_a.bytes is_b.bytes)))
+    ∙ (ap (λ n. ordering_then (nat_cmp (prefix_of 8 key_a) n) (slice_cmp nat_cmp key_a key_b)) is_b.first
+    ∙ prefix_order 8 key_a key_b is_a.bytes is_b.bytes)))
 
 places_rank : (image : List ℕ) → IsStrictWeakOrder (place_less image)
 places_rank image =
@@ -233,7 +210,8 @@ sorted_told image places are sorted = λ k d low high.
     let here : Place = get_or places k no_place in
     let next : Place = get_or places (k + 1) no_place in
     let order : place_cmp image next here ≡ told_cmp (told_at image next) (told_at image here) =
-    cmp_told image next here (are.each next (Contains-get_or places (k + 1) no_place few)) (are.each here (Contains-get_or places k no_place (omega arith))) in
+    cmp_told image next here (are.each next (Contains-get_or places (k + 1) no_place few))
+    (are.each here (Contains-get_or places k no_place (omega arith))) in
     ap (λ (t : Told). is_lt (told_cmp t (get_or (map (told_at image) places) k d))) (get_or-map (told_at image) places (k + 1) no_place d few)
     ∙ (ap (λ (t : Told). is_lt (told_cmp (told_at image next) t)) (get_or-map (told_at image) places k no_place d (omega arith))
     ∙ (ap is_lt (sym order) ∙ sorted k no_place low few))
@@ -245,7 +223,8 @@ pub record AreRanked (image : List ℕ) (meta : HashMeta) (forest : List ℕ) (p
 
 pub sorted_places : (image : List ℕ) (meta : HashMeta) (forest : List ℕ) (old new : List Place) → forest ≡ image → IsTable image
     → HasMetadata (file_of image) (HashFields meta)
-    → database_faults (file_of image) (HashFields meta) ≡ [] → AreAt old (table_told image meta) → IsPermutation old new → IsSortedBy (place_less forest) new
+    → database_faults (file_of image) (HashFields meta) ≡ [] → AreAt old (table_told image meta) → IsPermutation old new
+    → IsSortedBy (place_less forest) new
     → AreRanked image meta forest new
 sorted_places image meta forest old new same table has none at moved sorted =
     let pairs : List StoredPair = table_pairs (file_of image) meta in
@@ -256,6 +235,7 @@ sorted_places image meta forest old new same table has none at moved sorted =
       each = λ place in'. told_each image pairs old own place (Contains-permutation new old place (IsPermutation-sym old new moved) in');
     } in
     let told' : map (told_at image) new ≡ ranked image meta =
-    sorted_ranked image meta (map (told_at image) old) (map (told_at image) new) table has none (told_all image pairs old own ∙ sym (table_is_told image meta))
+    sorted_ranked image meta (map (told_at image) old) (map (told_at image) new) table has none
+    (told_all image pairs old own ∙ sym (table_is_told image meta))
     (IsPermutation-map (told_at image) old new moved) (sorted_told image new are (subst (λ f. IsSortedBy (place_less f) new) same sorted)) in
     subst (λ f. AreRanked image meta f new) (sym same) (record { are = are; told = told' })

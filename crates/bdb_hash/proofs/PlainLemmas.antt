@@ -1,5 +1,6 @@
 -- The pairs of a bucket stand on its pages, are live, and none shares its key.
-use Rattle.std.proofs.Common.{◌≡◌, ℕ, zero, suc, ◌+◌, ◌*◌, ◌/◌, ◌≤◌, Bool, true, false, not, cond, List, [], map, length, arith, refl, sym, ◌∙◌, ap, subst, inl, inr}
+use Rattle.std.proofs.Common.{◌≡◌, ℕ, zero, suc, ◌+◌, ◌*◌, ◌/◌, ◌≤◌, Bool, true, false, not, cond, List, [], map, length, arith}
+use Rattle.std.proofs.Common.{refl, sym, ◌∙◌, ap, subst, inl, inr}
 use Rattle.std.specs.Prelude.{◌==◌}
 use Rattle.std.specs.List.{Contains, range_with_len}
 use Rattle.std.proofs.lemmas.Bool.{cases_lt, eqb-false}
@@ -40,10 +41,12 @@ unfolding listed
 live_listed order page i =
     let n : ℕ = entries_of order page in
     elim (cases_lt i n) [
-      | inl below ↦ ap (λ (item : Item). item.deleted) (get_or-map-range_with_len (hash_item_at order page) 0 n i i no_item below (omega arith)) ∙ live_item order page i
+      | inl below ↦ ap (λ (item : Item). item.deleted)
+          (get_or-map-range_with_len (hash_item_at order page) 0 n i i no_item below (omega arith)) ∙ live_item order page i
       | inr past ↦
           ap (λ (item : Item). item.deleted)
-          (get_or_past (map (hash_item_at order page) (range_with_len 0 n)) i no_item (omega (arith, length-map-range_with_len (hash_item_at order page) 0 n)))
+          (get_or_past (map (hash_item_at order page) (range_with_len 0 n)) i no_item
+          (omega (arith, length-map-range_with_len (hash_item_at order page) 0 n)))
     ]
 
 live_as : (order : Order) (page : List ℕ) (t : PageType) → AreLive (page_as order page t)
@@ -59,16 +62,19 @@ live_abstract order page =
     ]
 
 -- no item of a hash page is deleted
-hash_live : (image : List ℕ) (p : ℕ) (page : Listed Item) → p ≤ (file_of image).last → page_at (file_of image) p ≡ Hash page → (i : ℕ) → (item_at page i).deleted ≡ false
+hash_live : (image : List ℕ) (p : ℕ) (page : Listed Item) → p ≤ (file_of image).last → page_at (file_of image) p ≡ Hash page
+    → (i : ℕ) → (item_at page i).deleted ≡ false
 hash_live image p page low is =
     let inside : p ≤ (head_of image).last = omega (arith, low, last_page image) in
     subst AreLive (sym (page_is image p inside) ∙ is) (live_abstract (head_of image).order (page_bytes (head_of image) image p))
 
 -- The pages of a bucket.
 
-kind_next : (image : List ℕ) (p : ℕ) (page : Page) → IsTable image → p ≤ (file_of image).last → page_at (file_of image) p ≡ page → is_of_bucket page ≡ true → IsOnWay image (next_of (file_of image) p)
+kind_next : (image : List ℕ) (p : ℕ) (page : Page) → IsTable image → p ≤ (file_of image).last → page_at (file_of image) p ≡ page
+    → is_of_bucket page ≡ true → IsOnWay image (next_of (file_of image) p)
 kind_next image p Zero table low is kind = subst (IsOnWay image) (next_of_zero (file_of image) p is) (after_zero image table)
-kind_next image p (Hash page) table low is kind = subst (IsOnWay image) (next_of_hash (file_of image) p page is) (after_hash image p page table low is)
+kind_next image p (Hash page) table low is kind =
+    subst (IsOnWay image) (next_of_hash (file_of image) p page is) (after_hash image p page table low is)
 kind_next image p page table low is kind = absurd cc
 
 next_on_way : (image : List ℕ) (p : ℕ) → IsTable image → IsOfBucket (file_of image) p → IsOnWay image (next_of (file_of image) p)
@@ -78,7 +84,8 @@ cond_member : (b : Bool) (ps : List ℕ) (q : ℕ) → Contains (cond b [] ps) q
 cond_member true ps q at = absurd (no_member [] q refl at)
 cond_member false ps q at = (refl, at)
 
-chain_fits : (turns : ℕ) (image : List ℕ) (p : ℕ) → IsTable image → IsOfBucket (file_of image) p → (q : ℕ) → Contains (chain_in turns (file_of image) p) q → IsOfBucket (file_of image) q
+chain_fits : (turns : ℕ) (image : List ℕ) (p : ℕ) → IsTable image → IsOfBucket (file_of image) p → (q : ℕ)
+    → Contains (chain_in turns (file_of image) p) q → IsOfBucket (file_of image) q
 unfolding chain_in
 chain_fits zero image p table of q at = absurd (no_member [] q refl at)
 chain_fits (suc turns) image p table of q at =
@@ -92,12 +99,14 @@ chain_fits (suc turns) image p table of q at =
     ]
 
 -- each page of a bucket is one that it may have
-pub bucket_page_fits : (image : List ℕ) (meta : HashMeta) (b q : ℕ) → IsTable image → HasMetadata (file_of image) (HashFields meta) → b ≤ meta.max_bucket
+pub bucket_page_fits : (image : List ℕ) (meta : HashMeta) (b q : ℕ) → IsTable image
+    → HasMetadata (file_of image) (HashFields meta) → b ≤ meta.max_bucket
     → Contains (bucket_pages (file_of image) meta b) q → IsOfBucket (file_of image) q
 bucket_page_fits image meta b q table has few at =
     let p : ℕ = first_page b meta.spares in
     let fits = bucket_fits image (head_of image) meta b table.forest.formed has few in
-    chain_fits (file_of image).count image p table ((bucket_on_way image p table.forest table.stage fits).fits (target_some image Bucket p table.forest.linked fits)) q at
+    chain_fits (file_of image).count image p table
+    ((bucket_on_way image p table.forest table.stage fits).fits (target_some image Bucket p table.forest.linked fits)) q at
 
 -- Pairs.
 
@@ -107,7 +116,8 @@ pub record IsPlain (file : File) (pair : StoredPair) : Type 0 where
   pub live : pair.live ≡ true
   pub apart : pair.shares ≡ false
 
-plain_in : (image : List ℕ) (p : ℕ) (page : Page) (pair : StoredPair) → p ≤ (file_of image).last → page_at (file_of image) p ≡ page → is_of_bucket page ≡ true
+plain_in : (image : List ℕ) (p : ℕ) (page : Page) (pair : StoredPair) → p ≤ (file_of image).last
+    → page_at (file_of image) p ≡ page → is_of_bucket page ≡ true
     → Contains (pairs_in (file_of image) p page) pair → IsPlain (file_of image) pair
 plain_in image p Zero pair low is kind at = absurd (no_member [] pair refl at)
 plain_in image p (Hash page) pair low is kind at =
@@ -116,13 +126,16 @@ plain_in image p (Hash page) pair low is kind at =
     subst (IsPlain (file_of image)) found.2 (record { inside = low; live = ap not (hash_live image p page low is (2 * found.0 + 1)); apart = refl })
 plain_in image p page pair low is kind at = absurd cc
 
-plain_on : (image : List ℕ) (p : ℕ) (pair : StoredPair) → IsOfBucket (file_of image) p → Contains (pairs_of (file_of image) p) pair → IsPlain (file_of image) pair
+plain_on : (image : List ℕ) (p : ℕ) (pair : StoredPair) → IsOfBucket (file_of image) p
+    → Contains (pairs_of (file_of image) p) pair → IsPlain (file_of image) pair
 unfolding pairs_of
 plain_on image p pair of at = plain_in image p (page_at (file_of image) p) pair of.inside refl of.kind at
 
 -- each pair of a bucket is plain
-pub bucket_plain : (image : List ℕ) (meta : HashMeta) (b : ℕ) (pair : StoredPair) → IsTable image → HasMetadata (file_of image) (HashFields meta) → b ≤ meta.max_bucket
+pub bucket_plain : (image : List ℕ) (meta : HashMeta) (b : ℕ) (pair : StoredPair) → IsTable image
+    → HasMetadata (file_of image) (HashFields meta) → b ≤ meta.max_bucket
     → Contains (bucket_pairs (file_of image) meta b) pair → IsPlain (file_of image) pair
 bucket_plain image meta b pair table has few at =
-    let page : (q : ℕ) × Contains (bucket_pages (file_of image) meta b) q × Contains (pairs_of (file_of image) q) pair = of_flat_map (pairs_of (file_of image)) (bucket_pages (file_of image) meta b) pair at in
+    let page : (q : ℕ) × Contains (bucket_pages (file_of image) meta b) q × Contains (pairs_of (file_of image) q) pair =
+    of_flat_map (pairs_of (file_of image)) (bucket_pages (file_of image) meta b) pair at in
     plain_on image page.0 pair (bucket_page_fits image meta b page.0 table has few page.1) page.2

@@ -1,5 +1,6 @@
 -- Where each key is in its own bucket, the pairs that repeat a key are those of each bucket, one bucket after another.
-use Rattle.std.proofs.Common.{◌≡◌, ℕ, zero, suc, ◌+◌, ◌≤◌, ◌<◌, Bool, true, false, ◌||◌, cond, List, [], ◌∷◌, ◌++◌, map, arith, refl, sym, ◌∙◌, ap, subst, not}
+use Rattle.std.proofs.Common.{◌≡◌, ℕ, zero, suc, ◌+◌, ◌≤◌, ◌<◌, Bool, true, false, ◌||◌, cond, List, [], ◌∷◌, ◌++◌, map, arith}
+use Rattle.std.proofs.Common.{refl, sym, ◌∙◌, ap, subst, not}
 use Rattle.std.specs.Prelude.{Option, ◌==◌}
 use Rattle.std.specs.BTreeSet.{BTreeSet, IsEmpty, Updates}
 use Rattle.std.specs.Cmp.Lexicographic.{slice_cmp}
@@ -32,7 +33,7 @@ use Rattle.bdb_format.proofs.ListLemmas.{passes_here}
 -- Repeats after other pairs.
 
 -- one of these has this pair's key
-abbrev has_same : List StoredPair → StoredPair → Bool
+abbrev pub has_same : List StoredPair → StoredPair → Bool
 has_same earlier pair = list_any (λ (other : StoredPair). bytes_eq other.key pair.key) earlier
 
 -- none of these has the key of one of those
@@ -40,7 +41,8 @@ abbrev AreOther : List StoredPair → List StoredPair → Type 0
 AreOther earlier pairs = (pair : StoredPair) → Contains pairs pair → has_same earlier pair ≡ false
 
 -- pairs with other keys may be dropped
-drop_other : (earlier others pairs : List StoredPair) → AreOther others pairs → repeated_after (earlier ++ others) pairs ≡ repeated_after earlier pairs
+drop_other : (earlier others pairs : List StoredPair) → AreOther others pairs
+    → repeated_after (earlier ++ others) pairs ≡ repeated_after earlier pairs
 drop_other earlier others [] other = refl
 drop_other earlier others (pair ∷ pairs) other =
     let rest : repeated_after (pair ∷ earlier ++ others) pairs ≡ repeated_after (pair ∷ earlier) pairs =
@@ -55,12 +57,14 @@ cond_append : (b : Bool) (pair : StoredPair) (xs ys : List StoredPair) → cond 
 cond_append b pair xs ys = grind arith
 
 -- the repeats of pairs, and of others behind them with other keys
-repeated_append : (earlier xs ys : List StoredPair) → AreOther earlier ys → ((x y : StoredPair) → Contains xs x → Contains ys y → bytes_eq x.key y.key ≡ false)
+repeated_append : (earlier xs ys : List StoredPair) → AreOther earlier ys
+    → ((x y : StoredPair) → Contains xs x → Contains ys y → bytes_eq x.key y.key ≡ false)
     → repeated_after earlier (xs ++ ys) ≡ repeated_after earlier xs ++ repeated_after [] ys
 repeated_append earlier [] ys before' apart = drop_other [] earlier ys before'
 repeated_append earlier (x ∷ xs) ys before' apart =
     let rest : repeated_after (x ∷ earlier) (xs ++ ys) ≡ repeated_after (x ∷ earlier) xs ++ repeated_after [] ys =
-    repeated_append (x ∷ earlier) xs ys (λ y at. or_from (bytes_eq x.key y.key) (has_same earlier y) (apart x y (first_member x xs) at) (before' y at))
+    repeated_append (x ∷ earlier) xs ys
+    (λ y at. or_from (bytes_eq x.key y.key) (has_same earlier y) (apart x y (first_member x xs) at) (before' y at))
     (λ z y at_z at_y. apart z y (later_member x xs z at_z) at_y) in
     ap (λ (ps : List StoredPair). cond (has_same earlier x) (x ∷ ps) ps) rest
     ∙ cond_append (has_same earlier x) x (repeated_after (x ∷ earlier) xs) (repeated_after [] ys)
@@ -77,7 +81,8 @@ abbrev AreHome : (ℕ → List StoredPair) → (List ℕ → ℕ) → List ℕ �
 AreHome parts home buckets = (b : ℕ) → Contains buckets b → (pair : StoredPair) → Contains (parts b) pair → home pair.key ≡ b
 
 by_part : (parts : ℕ → List StoredPair) (home : List ℕ → ℕ) (a n : ℕ) (least : Option Fault) → AreHome parts home (range_with_len a n)
-    → fold (λ l b. fold note_repeat l (repeated (parts b))) least (range_with_len a n) ≡ fold note_repeat least (repeated (flat_map parts (range_with_len a n)))
+    → fold (λ l b. fold note_repeat l (repeated (parts b))) least (range_with_len a n) ≡ fold note_repeat least
+    (repeated (flat_map parts (range_with_len a n)))
 by_part parts home a zero least own = refl
 by_part parts home a (suc n) least own =
     let later : List ℕ = range_with_len (a + 1) n in
@@ -85,7 +90,8 @@ by_part parts home a (suc n) least own =
     not_true (bytes_eq x.key y.key) (λ same.
     let found : (c : ℕ) × Contains later c × Contains (parts c) y = of_flat_map parts later y at_y in
     let above : (a + 1 ≤ found.0) × (found.0 < a + 1 + n) = of_range (a + 1) n found.0 found.1 in
-    let one : a ≡ found.0 = sym (own a (first_member a later) x at_x) ∙ (ap home (eq_same x.key y.key same) ∙ own found.0 (later_member a later found.0 found.1) y found.2) in
+    let one : a ≡ found.0 = sym (own a (first_member a later) x at_x)
+    ∙ (ap home (eq_same x.key y.key same) ∙ own found.0 (later_member a later found.0 found.1) y found.2) in
     omega (arith, above.0, one)) in
     by_part parts home (a + 1) n (fold note_repeat least (repeated (parts a))) (λ b at. own b (later_member a later b at))
     ∙ (sym (fold-append note_repeat least (repeated (parts a)) (repeated (flat_map parts later)))
@@ -93,18 +99,24 @@ by_part parts home a (suc n) least own =
 
 stored_parts : (parts : ℕ → List Told) (buckets : List ℕ) → stored (flat_map parts buckets) ≡ flat_map (λ b. stored (parts b)) buckets
 stored_parts parts [] = refl
-stored_parts parts (b ∷ bs) = map-append (λ (t : Told). t.pair) (parts b) (flat_map parts bs) ∙ ap (λ ps. stored (parts b) ++ ps) (stored_parts parts bs)
+stored_parts parts (b ∷ bs) = map-append (λ (t : Told). t.pair) (parts b) (flat_map parts bs) ∙ ap (λ ps. stored (parts b) ++ ps)
+    (stored_parts parts bs)
 
 -- where there is no stray, each pair has a key of its bucket
-home_where_none : (image : List ℕ) (meta : HashMeta) → list_any (has_stray_in image meta) (buckets_of meta) ≡ false → AreHome (λ b. stored (bucket_told image meta b)) (bucket_of_key meta) (buckets_of meta)
+home_where_none : (image : List ℕ) (meta : HashMeta) → list_any (has_stray_in image meta) (buckets_of meta) ≡ false
+    → AreHome (λ b. stored (bucket_told image meta b)) (bucket_of_key meta) (buckets_of meta)
 home_where_none image meta none b listed pair held =
-    let found : (t : Told) × Contains (bucket_told image meta b) t × (t.pair ≡ pair) = of_map (λ (t : Told). t.pair) (bucket_told image meta b) pair held in
-    let here : list_any (is_stray meta b) (bucket_told image meta b) ≡ false = none_passes (has_stray_in image meta) (buckets_of meta) b none listed in
+    let found : (t : Told) × Contains (bucket_told image meta b) t × (t.pair ≡ pair) =
+    of_map (λ (t : Told). t.pair) (bucket_told image meta b) pair held in
+    let here : list_any (is_stray meta b) (bucket_told image meta b) ≡ false =
+    none_passes (has_stray_in image meta) (buckets_of meta) b none listed in
     let own : is_stray meta b found.0 ≡ false = none_passes (is_stray meta b) (bucket_told image meta b) found.0 here found.1 in
-    ap (λ (p : StoredPair). bucket_of_key meta p.key) (sym found.2) ∙ eqb-true (bucket_of_key meta found.0.pair.key) b (not-false (bucket_of_key meta found.0.pair.key == b) own)
+    ap (λ (p : StoredPair). bucket_of_key meta p.key) (sym found.2) ∙ eqb-true (bucket_of_key meta found.0.pair.key) b
+    (not-false (bucket_of_key meta found.0.pair.key == b) own)
 
 -- the repeats of a table without a stray
-pub by_bucket_is : (image : List ℕ) (meta : HashMeta) (least result : Option Fault) → false ≡ list_any (has_stray_in image meta) (range_with_len 0 (meta.max_bucket + 1))
+pub by_bucket_is : (image : List ℕ) (meta : HashMeta) (least result : Option Fault)
+    → false ≡ list_any (has_stray_in image meta) (range_with_len 0 (meta.max_bucket + 1))
     → result ≡ fold (note_again image meta) least (range_with_len 0 (meta.max_bucket + 1))
     → result ≡ fold note_repeat least (repeated (stored (table_told image meta)))
 by_bucket_is image meta least result none is =
@@ -145,7 +157,8 @@ repeats_append before (x ∷ xs) ys =
     ap (λ (ps : List StoredPair). cond (has_item key_of before x.key) (x ∷ ps) ps) (repeats_append (x ∷ before) xs ys)
     ∙ cond_append (has_item key_of before x.key) x (repeated_by key_of (x ∷ before) xs) (repeated_by key_of (behind (x ∷ before) xs) ys)
 
-both_noted : (a b c : BTreeSet (List ℕ)) (k l m : Option Fault) (xs ys : List StoredPair) → Notes a b k l xs → Notes b c l m ys → Notes a c k m (xs ++ ys)
+both_noted : (a b c : BTreeSet (List ℕ)) (k l m : Option Fault) (xs ys : List StoredPair) → Notes a b k l xs → Notes b c l m ys
+    → Notes a c k m (xs ++ ys)
 both_noted a b c k l m xs ys first second = record {
   after = λ before are.
       let here : AreKeysOf b (behind before xs) × (l ≡ fold note_repeat k (repeated_by key_of before xs)) = first.after before are in
@@ -173,7 +186,8 @@ pub more_noting : (old now more : BTreeSet (List ℕ)) (least noted next : Optio
     → Notes now more noted next (stored here) → IsNoting old more least next all rest
 more_noting old now more least noted next all left here rest noting is notes = record {
   rest = λ new last others.
-      noting.rest new last (subst (λ ps. Notes now new noted last (stored ps)) (sym is) (told_noted now more new noted next last here rest notes others));
+      noting.rest new last (subst (λ ps. Notes now new noted last (stored ps)) (sym is)
+      (told_noted now more new noted next last here rest notes others));
 }
 
 pub one_noting : (old now more : BTreeSet (List ℕ)) (least noted next : Option Fault) (all left rest : List Told) (t : Told) (key : List ℕ)
@@ -194,28 +208,32 @@ all_noting old now least noted all left noting none =
 
 same_repeated : (before pairs : List StoredPair) → repeated_by key_of before pairs ≡ repeated_after before pairs
 same_repeated before [] = refl
-same_repeated before (pair ∷ pairs) = ap (λ (ps : List StoredPair). cond (has_item key_of before pair.key) (pair ∷ ps) ps) (same_repeated (pair ∷ before) pairs)
+same_repeated before (pair ∷ pairs) =
+    ap (λ (ps : List StoredPair). cond (has_item key_of before pair.key) (pair ∷ ps) ps) (same_repeated (pair ∷ before) pairs)
 
-pub noted_anew : (empty keys : BTreeSet (List ℕ)) (least noted : Option Fault) (pairs : List StoredPair) → IsEmpty empty → Notes empty keys least noted pairs
+pub noted_anew : (empty keys : BTreeSet (List ℕ)) (least noted : Option Fault) (pairs : List StoredPair) → IsEmpty empty
+    → Notes empty keys least noted pairs
     → noted ≡ fold note_repeat least (repeated pairs)
 noted_anew empty keys least noted pairs none notes =
     (notes.after [] (λ sought. rw none refl)).1 ∙ ap (fold note_repeat least) (same_repeated [] pairs ∙ sym (repeated_is pairs))
 
 -- one more bucket noted
-pub again_more : (image : List ℕ) (meta : HashMeta) (b : ℕ) (empty keys : BTreeSet (List ℕ)) (start least next : Option Fault) (pages : List (List Told))
-    → least ≡ fold (note_again image meta) start (range_with_len 0 b) → pages ≡ map (page_told image) (bucket_pages (file_of image) meta b) → IsEmpty empty
-    → Notes empty keys least next (stored (joined_pages pages)) → next ≡ fold (note_again image meta) start (range_with_len 0 (b + 1))
-again_more image meta b empty keys start least next pages before' are none notes =
-    noted_anew empty keys least next (stored (joined_pages pages)) none notes
+pub again_more : (image : List ℕ) (meta : HashMeta) (b : ℕ) (start least next : Option Fault) (pages : List (List Told))
+    → least ≡ fold (note_again image meta) start (range_with_len 0 b) → pages ≡ map (page_told image) (bucket_pages (file_of image) meta b)
+    → next ≡ fold note_repeat least (repeated (stored (joined_pages pages))) → next ≡ fold (note_again image meta) start (range_with_len 0 (b + 1))
+again_more image meta b start least next pages before' are is =
+    is
     ∙ (ap (λ (ps : List (List Told)). fold note_repeat least (repeated (stored (joined_pages ps)))) are
     ∙ (ap (λ l. note_again image meta l b) before'
     ∙ (sym (fold-append (note_again image meta) start (range_with_len 0 b) (b ∷ [])) ∙ ap (fold (note_again image meta) start) (sym (zero_more b)))))
 
 -- the pairs of one more bucket noted with those before
-pub table_more : (image : List ℕ) (meta : HashMeta) (b : ℕ) (old now new : BTreeSet (List ℕ)) (start least next : Option Fault) (pages : List (List Told))
+pub table_more : (image : List ℕ) (meta : HashMeta) (b : ℕ) (old now new : BTreeSet (List ℕ)) (start least next : Option Fault)
+    (pages : List (List Told))
     → Notes old now start least (stored (flat_map (bucket_told image meta) (range_with_len 0 b)))
     → pages ≡ map (page_told image) (bucket_pages (file_of image) meta b)
-    → Notes now new least next (stored (joined_pages pages)) → Notes old new start next (stored (flat_map (bucket_told image meta) (range_with_len 0 (b + 1))))
+    → Notes now new least next (stored (joined_pages pages))
+    → Notes old new start next (stored (flat_map (bucket_told image meta) (range_with_len 0 (b + 1))))
 table_more image meta b old now new start least next pages done are notes =
     subst (λ ps. Notes old new start next (stored ps)) (sym (told_more image meta b))
     (told_noted old now new start least next (flat_map (bucket_told image meta) (range_with_len 0 b)) (bucket_told image meta b) done
@@ -224,7 +242,8 @@ table_more image meta b old now new start least next pages done are notes =
 -- Strays.
 
 -- one more bucket passed
-pub no_stray_more : (image : List ℕ) (meta : HashMeta) (b : ℕ) (pages : List (List Told)) → list_any (has_stray_in image meta) (range_with_len 0 b) ≡ false
+pub no_stray_more : (image : List ℕ) (meta : HashMeta) (b : ℕ) (pages : List (List Told))
+    → list_any (has_stray_in image meta) (range_with_len 0 b) ≡ false
     → pages ≡ map (page_told image) (bucket_pages (file_of image) meta b) → false ≡ list_any (is_stray meta b) (joined_pages pages)
     → list_any (has_stray_in image meta) (range_with_len 0 (b + 1)) ≡ false
 no_stray_more image meta b pages none are here =
@@ -235,7 +254,8 @@ no_stray_more image meta b pages none are here =
     (or_from (has_stray_in image meta b) false last refl))
 
 -- a bucket has a stray
-pub stray_found : (image : List ℕ) (meta : HashMeta) (b : ℕ) (pages : List (List Told)) → b ≤ meta.max_bucket → pages ≡ map (page_told image) (bucket_pages (file_of image) meta b)
+pub stray_found : (image : List ℕ) (meta : HashMeta) (b : ℕ) (pages : List (List Told)) → b ≤ meta.max_bucket
+    → pages ≡ map (page_told image) (bucket_pages (file_of image) meta b)
     → true ≡ list_any (is_stray meta b) (joined_pages pages) → true ≡ list_any (has_stray_in image meta) (range_with_len 0 (meta.max_bucket + 1))
 stray_found image meta b pages few are here =
     sym

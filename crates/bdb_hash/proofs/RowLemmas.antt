@@ -1,5 +1,6 @@
 -- The rows of a table's contents at a page are those of its pairs by themselves, and of repeated keys.
-use Rattle.std.proofs.Common.{◌≡◌, ◌⊎◌, ℕ, ◌+◌, ◌≤◌, Bool, true, false, not, ◌&&◌, ◌||◌, cond, List, [], ◌∷◌, ◌++◌, map, arith, refl, sym, ◌∙◌, ap, inl, inr}
+use Rattle.std.proofs.Common.{◌≡◌, ◌⊎◌, ℕ, ◌+◌, ◌≤◌, Bool, true, false, not, ◌&&◌, ◌||◌, cond, List, [], ◌∷◌, ◌++◌, map, arith}
+use Rattle.std.proofs.Common.{refl, sym, ◌∙◌, ap, inl, inr}
 use Rattle.std.specs.Prelude.{Some, ◌==◌}
 use Rattle.std.specs.List.{Contains, flat_map, list_any, range_with_len, take_while}
 use Rattle.std.proofs.Math.Bool.{and-false}
@@ -28,7 +29,8 @@ any_flat : {X Y : Type 0} (test : Y → Bool) (f : X → List Y) (xs : List X) �
 any_flat test f [] = refl
 any_flat test f (x ∷ xs) = list_any-append test (f x) (flat_map f xs) ∙ ap (λ b. list_any test (f x) || b) (any_flat test f xs)
 
-and_any : {X : Type 0} (given : Bool) (at test : X → Bool) (xs : List X) → (given && list_any (λ x. at x && test x) xs) ≡ list_any (λ x. at x && (given && test x)) xs
+and_any : {X : Type 0} (given : Bool) (at test : X → Bool) (xs : List X)
+    → (given && list_any (λ x. at x && test x) xs) ≡ list_any (λ x. at x && (given && test x)) xs
 and_any true at test xs = refl
 and_any false at test [] = refl
 and_any false at test (x ∷ xs) = and_any false at test xs ∙ ap (λ b. b || list_any (λ y. at y && false) xs) (sym (and-false (at x)))
@@ -45,7 +47,8 @@ pub record IsFound (pairs : ℕ → List StoredPair) (buckets : List ℕ) (test 
   pub at : pair.page ≡ p
   pub passes : test bucket pair ≡ true
 
-found_at : (pairs : ℕ → List StoredPair) (buckets : List ℕ) (test : ℕ → StoredPair → Bool) (p : ℕ) → some_at pairs buckets test p ≡ true → IsFound pairs buckets test p
+found_at : (pairs : ℕ → List StoredPair) (buckets : List ℕ) (test : ℕ → StoredPair → Bool) (p : ℕ)
+    → some_at pairs buckets test p ≡ true → IsFound pairs buckets test p
 found_at pairs buckets test p some =
     let bucket : (b : ℕ) × Contains buckets b × (list_any (λ (pair : StoredPair). pair.page == p && test b pair) (pairs b) ≡ true) =
     any_member (λ b. list_any (λ (pair : StoredPair). pair.page == p && test b pair) (pairs b)) buckets some in
@@ -54,11 +57,13 @@ found_at pairs buckets test p some =
     let both : ((pair.0.page == p) ≡ true) × (test bucket.0 pair.0 ≡ true) = and_parts (pair.0.page == p) (test bucket.0 pair.0) pair.2 in
     record { bucket = bucket.0; listed = bucket.1; pair = pair.0; held = pair.1; at = eqb-true pair.0.page p both.0; passes = both.1 }
 
-at_found : (pairs : ℕ → List StoredPair) (buckets : List ℕ) (test : ℕ → StoredPair → Bool) (b : ℕ) (pair : StoredPair) → Contains buckets b → Contains (pairs b) pair → test b pair ≡ true
+at_found : (pairs : ℕ → List StoredPair) (buckets : List ℕ) (test : ℕ → StoredPair → Bool) (b : ℕ) (pair : StoredPair)
+    → Contains buckets b → Contains (pairs b) pair → test b pair ≡ true
     → some_at pairs buckets test pair.page ≡ true
 at_found pairs buckets test b pair listed held passes =
     passes_here (λ c. list_any (λ (one : StoredPair). one.page == pair.page && test c one) (pairs c)) buckets b listed
-    (passes_here (λ (one : StoredPair). one.page == pair.page && test b one) (pairs b) pair held (ap (λ t. t && test b pair) (eq-eqb pair.page pair.page refl) ∙ passes))
+    (passes_here (λ (one : StoredPair). one.page == pair.page && test b one) (pairs b) pair held
+    (ap (λ t. t && test b pair) (eq-eqb pair.page pair.page refl) ∙ passes))
 
 -- Tables of tests.
 
@@ -77,26 +82,32 @@ abbrev pub repeat_row : List StoredPair → ℕ → Row ℕ
 repeat_row repeated p = 9 :? list_any (λ (pair : StoredPair). pair.page == p) repeated
 
 -- the first code of a pair holds at its page
-pub pair_holds : (pairs : ℕ → List StoredPair) (buckets : List ℕ) (tests : List Test) (repeated : List StoredPair) (b : ℕ) (pair : StoredPair) (code : ℕ) → Contains buckets b → Contains (pairs b) pair
-    → first_row (pair_table tests b pair) ≡ Some code → Contains (holding (page_table pairs buckets tests pair.page ++ (repeat_row repeated pair.page ∷ []))) code
+pub pair_holds : (pairs : ℕ → List StoredPair) (buckets : List ℕ) (tests : List Test) (repeated : List StoredPair) (b : ℕ)
+    (pair : StoredPair) (code : ℕ) → Contains buckets b → Contains (pairs b) pair
+    → first_row (pair_table tests b pair) ≡ Some code
+    → Contains (holding (page_table pairs buckets tests pair.page ++ (repeat_row repeated pair.page ∷ []))) code
 pair_holds pairs buckets tests repeated b pair code listed held first =
     let is : HoldsIn (pair_table tests b pair) code = of_first (pair_table tests b pair) code first in
-    let test : (t : Test) × Contains tests t × ((t.code :? t.holds b pair) ≡ is.row) = of_map (λ (t : Test). t.code :? t.holds b pair) tests is.row is.listed in
+    let test : (t : Test) × Contains tests t × ((t.code :? t.holds b pair) ≡ is.row) =
+    of_map (λ (t : Test). t.code :? t.holds b pair) tests is.row is.listed in
     let passes : test.0.holds b pair ≡ true = ap (λ (row : Row ℕ). row.holds) test.2 ∙ is.holds in
     let row : Row ℕ = test.0.code :? some_at pairs buckets test.0.holds pair.page in
     in_holding (page_table pairs buckets tests pair.page ++ (repeat_row repeated pair.page ∷ [])) code (record {
       row = row;
-      listed = Contains-append_left (page_table pairs buckets tests pair.page) (repeat_row repeated pair.page ∷ []) row (in_map (λ (t : Test). t.code :? some_at pairs buckets t.holds pair.page) tests test.0 test.1);
+      listed = Contains-append_left (page_table pairs buckets tests pair.page) (repeat_row repeated pair.page ∷ []) row
+          (in_map (λ (t : Test). t.code :? some_at pairs buckets t.holds pair.page) tests test.0 test.1);
       holds = at_found pairs buckets test.0.holds b pair listed held passes;
       code_is = ap (λ (r : Row ℕ). r.code) test.2 ∙ is.code_is;
     })
 
-pub repeat_holds : (pairs : ℕ → List StoredPair) (buckets : List ℕ) (tests : List Test) (repeated : List StoredPair) (pair : StoredPair) → Contains repeated pair
+pub repeat_holds : (pairs : ℕ → List StoredPair) (buckets : List ℕ) (tests : List Test) (repeated : List StoredPair)
+    (pair : StoredPair) → Contains repeated pair
     → Contains (holding (page_table pairs buckets tests pair.page ++ (repeat_row repeated pair.page ∷ []))) 9
 repeat_holds pairs buckets tests repeated pair at =
     in_holding (page_table pairs buckets tests pair.page ++ (repeat_row repeated pair.page ∷ [])) 9 (record {
       row = repeat_row repeated pair.page;
-      listed = Contains-append_right (page_table pairs buckets tests pair.page) (repeat_row repeated pair.page ∷ []) (repeat_row repeated pair.page) (first_member (repeat_row repeated pair.page) []);
+      listed = Contains-append_right (page_table pairs buckets tests pair.page) (repeat_row repeated pair.page ∷ [])
+          (repeat_row repeated pair.page) (first_member (repeat_row repeated pair.page) []);
       holds = passes_here (λ (one : StoredPair). one.page == pair.page) repeated pair at (eq-eqb pair.page pair.page refl);
       code_is = refl;
     })
@@ -118,14 +129,19 @@ pub record IsByRepeat (repeated : List StoredPair) (p code : ℕ) : Type 0 where
   pub at : pair.page ≡ p
   pub nine : code ≡ 9
 
-pub page_holds : (pairs : ℕ → List StoredPair) (buckets : List ℕ) (tests : List Test) (repeated : List StoredPair) (p code : ℕ) → ((b : ℕ) (pair : StoredPair) → Rises 1 (pair_table tests b pair))
-    → Contains (holding (page_table pairs buckets tests p ++ (repeat_row repeated p ∷ []))) code → IsByPair pairs buckets tests p code ⊎ IsByRepeat repeated p code
+pub page_holds : (pairs : ℕ → List StoredPair) (buckets : List ℕ) (tests : List Test) (repeated : List StoredPair) (p code : ℕ)
+    → ((b : ℕ) (pair : StoredPair) → Rises 1 (pair_table tests b pair))
+    → Contains (holding (page_table pairs buckets tests p ++ (repeat_row repeated p ∷ []))) code
+    → IsByPair pairs buckets tests p code ⊎ IsByRepeat repeated p code
 page_holds pairs buckets tests repeated p code rises at =
-    let is : HoldsIn (page_table pairs buckets tests p ++ (repeat_row repeated p ∷ [])) code = of_holding (page_table pairs buckets tests p ++ (repeat_row repeated p ∷ [])) code at in
+    let is : HoldsIn (page_table pairs buckets tests p ++ (repeat_row repeated p ∷ [])) code =
+    of_holding (page_table pairs buckets tests p ++ (repeat_row repeated p ∷ [])) code at in
     elim (Contains-append_cases (page_table pairs buckets tests p) (repeat_row repeated p ∷ []) is.row is.listed) [
       | inl here ↦
-          let test : (t : Test) × Contains tests t × ((t.code :? some_at pairs buckets t.holds p) ≡ is.row) = of_map (λ (t : Test). t.code :? some_at pairs buckets t.holds p) tests is.row here in
-          let found : IsFound pairs buckets test.0.holds p = found_at pairs buckets test.0.holds p (ap (λ (row : Row ℕ). row.holds) test.2 ∙ is.holds) in
+          let test : (t : Test) × Contains tests t × ((t.code :? some_at pairs buckets t.holds p) ≡ is.row) =
+          of_map (λ (t : Test). t.code :? some_at pairs buckets t.holds p) tests is.row here in
+          let found : IsFound pairs buckets test.0.holds p =
+          found_at pairs buckets test.0.holds p (ap (λ (row : Row ℕ). row.holds) test.2 ∙ is.holds) in
           let first : (n : ℕ) × (first_row (pair_table tests found.bucket found.pair) ≡ Some n) × (n ≤ code) =
           first_least 1 (pair_table tests found.bucket found.pair) code (rises found.bucket found.pair) (record {
             row = test.0.code :? test.0.holds found.bucket found.pair;
@@ -133,11 +149,33 @@ page_holds pairs buckets tests repeated p code rises at =
             holds = found.passes;
             code_is = ap (λ (row : Row ℕ). row.code) test.2 ∙ is.code_is;
           }) in
-          inl (record { bucket = found.bucket; listed = found.listed; pair = found.pair; held = found.held; at = found.at; first = first.0; first_is = first.1; low = first.2 })
+          inl (record {
+            bucket = found.bucket;
+            listed = found.listed;
+            pair = found.pair;
+            held = found.held;
+            at = found.at;
+            first =
+                first.0;
+            first_is = first.1;
+            low = first.2;
+          })
       | inr last ↦
-          let same : repeat_row repeated p ≡ is.row = elim (member_cases (repeat_row repeated p) [] is.row last) [ inl here ↦ here | inr none ↦ absurd (no_member [] is.row refl none) ] in
-          let pair : (one : StoredPair) × Contains repeated one × ((one.page == p) ≡ true) = any_member (λ (one : StoredPair). one.page == p) repeated (ap (λ (row : Row ℕ). row.holds) same ∙ is.holds) in
-          inr (record { pair = pair.0; held = pair.1; at = eqb-true pair.0.page p pair.2; nine = sym is.code_is ∙ ap (λ (row : Row ℕ). row.code) (sym same) })
+          let same : repeat_row repeated p ≡ is.row =
+          elim (member_cases (repeat_row repeated p) [] is.row last) [
+            | inl here ↦
+                here
+            | inr none ↦ absurd (no_member [] is.row refl none)
+          ] in
+          let pair : (one : StoredPair) × Contains repeated one × ((one.page == p) ≡ true) =
+          any_member (λ (one : StoredPair). one.page == p) repeated (ap (λ (row : Row ℕ). row.holds) same ∙ is.holds) in
+          inr (record {
+            pair = pair.0;
+            held =
+                pair.1;
+            at = eqb-true pair.0.page p pair.2;
+            nine = sym is.code_is ∙ ap (λ (row : Row ℕ). row.code) (sym same);
+          })
     ]
 
 -- The rows of a table.
@@ -161,22 +199,29 @@ buckets_of meta = range_with_len 0 (meta.max_bucket + 1)
 abbrev pub ArePlain : File → List StoredPair → Type 0
 ArePlain file pairs = (pair : StoredPair) → Contains pairs pair → IsPlain file pair
 
-no_group : (pairs : List StoredPair) → ((pair : StoredPair) → Contains pairs pair → pair.shares ≡ false) → take_while (λ (other : StoredPair). other.shares) pairs ≡ []
+no_group : (pairs : List StoredPair) → ((pair : StoredPair) → Contains pairs pair → pair.shares ≡ false)
+    → take_while (λ (other : StoredPair). other.shares) pairs ≡ []
 no_group [] apart = refl
-no_group (pair ∷ pairs) apart = take_while-cons (λ (other : StoredPair). other.shares) pair pairs ∙ ap (λ b. cond b (pair ∷ take_while (λ (other : StoredPair). other.shares) pairs) []) (apart pair (first_member pair pairs))
+no_group (pair ∷ pairs) apart = take_while-cons (λ (other : StoredPair). other.shares) pair pairs
+    ∙ ap (λ b. cond b (pair ∷ take_while (λ (other : StoredPair). other.shares) pairs) []) (apart pair (first_member pair pairs))
 
 data_alone : (file : File) (pair : StoredPair) → pair.live ≡ true → flat_map (live_data file) (pair ∷ []) ≡ data_of file pair.data_item
 data_alone file pair live = ap (λ b. cond b (data_of file pair.data_item) [] ++ []) live ∙ append-nil (data_of file pair.data_item)
 
 groups_alone : (file : File) (pairs : List StoredPair) (p : ℕ) → ArePlain file pairs
-    → list_any (λ (group : StoredPair × List StoredPair). group.0.page == p && is_unsorted file group) (groups pairs) ≡ list_any (λ (pair : StoredPair). pair.page == p && not (ascends (data_of file pair.data_item))) pairs
+    → list_any (λ (group : StoredPair × List StoredPair). group.0.page == p && is_unsorted file group) (groups pairs) ≡ list_any
+    (λ (pair : StoredPair). pair.page == p && not (ascends (data_of file pair.data_item))) pairs
 groups_alone file [] p plain = refl
 groups_alone file (pair ∷ pairs) p plain =
-    let none : take_while (λ (other : StoredPair). other.shares) pairs ≡ [] = no_group pairs (λ other at. (plain other (later_member pair pairs other at)).apart) in
-    ap (λ ps. (pair.page == p && is_unsorted file (pair, ps)) || list_any (λ (group : StoredPair × List StoredPair). group.0.page == p && is_unsorted file group) (groups pairs)) none
-    ∙ (ap (λ values. (pair.page == p && not (ascends values)) || list_any (λ (group : StoredPair × List StoredPair). group.0.page == p && is_unsorted file group) (groups pairs))
+    let none : take_while (λ (other : StoredPair). other.shares) pairs ≡ [] =
+    no_group pairs (λ other at. (plain other (later_member pair pairs other at)).apart) in
+    ap (λ ps. (pair.page == p && is_unsorted file (pair, ps)) || list_any
+    (λ (group : StoredPair × List StoredPair). group.0.page == p && is_unsorted file group) (groups pairs)) none
+    ∙ (ap (λ values. (pair.page == p && not (ascends values)) || list_any
+    (λ (group : StoredPair × List StoredPair). group.0.page == p && is_unsorted file group) (groups pairs))
     (data_alone file pair (plain pair (first_member pair pairs)).live)
-    ∙ ap (λ b. (pair.page == p && not (ascends (data_of file pair.data_item))) || b) (groups_alone file pairs p (λ other at. plain other (later_member pair pairs other at))))
+    ∙ ap (λ b. (pair.page == p && not (ascends (data_of file pair.data_item))) || b)
+    (groups_alone file pairs p (λ other at. plain other (later_member pair pairs other at))))
 
 rows_eq : (a b c d e f : Bool) (two three : Bool) → a ≡ b → c ≡ d → e ≡ f
     → ◌≡◌ {A = List (Row ℕ)} (1 :? a ∷ 2 :? c ∷ 5 :? e ∷ 8 :? two ∷ 9 :? three ∷ []) (1 :? b ∷ 2 :? d ∷ 5 :? f ∷ 8 :? two ∷ 9 :? three ∷ [])

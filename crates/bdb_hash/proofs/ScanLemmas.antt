@@ -1,5 +1,5 @@
 -- A table's pairs, sorted by their keys, are its list.
-use Rattle.std.proofs.Common.{◌≡◌, ◌⊎◌, ℕ, suc, ◌+◌, ◌≤◌, ◌<◌, true, false, cond, List, [], ◌∷◌, ◌++◌, map, length}
+use Rattle.std.proofs.Common.{◌≡◌, ◌⊎◌, ℕ, suc, ◌+◌, ◌≤◌, ◌<◌, true, false, cond, List, [], ◌∷◌, map, length}
 use Rattle.std.proofs.Common.{get_or, arith, refl, sym, ◌∙◌, ap, subst, inl, inr}
 use Rattle.std.specs.declared.cmp.Ordering.{Ordering}
 use Rattle.std.specs.declared.cmp.Ordering.TheVariants.{Less as Below, Equal, Greater}
@@ -20,14 +20,14 @@ use Rattle.bdb_format.specs.ContentRows.{database_faults}
 use Rattle.bdb_format.specs.Contents.{StoredPair, table_pairs}
 use Rattle.bdb_format.specs.File.{file_of}
 use Rattle.bdb_format.specs.Less.{less, Less}
-use Rattle.bdb_format.specs.Lists.{ListKey, by_key, hash_list, insert_pair}
+use Rattle.bdb_format.specs.Lists.{by_key, hash_list, insert_pair}
 use Rattle.bdb_format.specs.Page.{HashFields}
 use Rattle.bdb_format.proofs.LessLemmas.{not_less_both, not_less_same}
 use Rattle.bdb_format.proofs.MemberLemmas.{first_member, later_member, member_cases, no_member, of_map}
 use Rattle.bdb_graph.specs.Linked.{HasMetadata}
-use Rattle.bdb_hash.specs.Scanned.{IsListedOn, ranked}
+use Rattle.bdb_hash.specs.Scanned.{ranked}
 use Rattle.bdb_hash.specs.Notes.{key_of, stored}
-use Rattle.bdb_hash.specs.Told.{Told, entry_list, listed_told, table_told, told, told_cmp}
+use Rattle.bdb_hash.specs.Told.{Told, listed_told, table_told, told, told_cmp}
 use Rattle.bdb_hash.specs.Views.{IsTable}
 use Rattle.bdb_hash.proofs.FaultLemmas.{table_is_told, table_stored}
 use Rattle.bdb_overflow.proofs.KeyLemmas.{eq_self, is_order}
@@ -66,7 +66,8 @@ IsRising key [] = Unit {0}
 IsRising key (x ∷ xs) = ((y : _) → Contains xs y → Less (key x) (key y)) × IsRising key xs
 
 -- two such lists with the same members are one
-one_rising : {X : Type 0} (key : X → List ℕ) (xs ys : List X) → IsRising key xs → IsRising key ys → ((z : X) → Contains xs z → Contains ys z) → ((z : X) → Contains ys z → Contains xs z) → xs ≡ ys
+one_rising : {X : Type 0} (key : X → List ℕ) (xs ys : List X) → IsRising key xs → IsRising key ys
+    → ((z : X) → Contains xs z → Contains ys z) → ((z : X) → Contains ys z → Contains xs z) → xs ≡ ys
 one_rising key [] [] first second on back = refl
 one_rising key [] (y ∷ ys) first second on back = absurd (no_member [] y refl (back y (first_member y ys)))
 one_rising key (x ∷ xs) [] first second on back = absurd (no_member [] x refl (on x (first_member x xs)))
@@ -96,23 +97,27 @@ one_rising {X = X} key (x ∷ xs) (y ∷ ys) first second on back =
 insert_moved : (pair : StoredPair) (pairs : List StoredPair) → IsPermutation (pair ∷ pairs) (insert_pair pair pairs)
 insert_moved pair [] = IsPermutation-refl (pair ∷ [])
 insert_moved pair (other ∷ others) =
-    elim (less other.key pair.key) as (λ b. IsPermutation (pair ∷ other ∷ others) (cond b (other ∷ insert_pair pair others) (pair ∷ other ∷ others))) [
+    elim (less other.key pair.key) as
+    (λ b. IsPermutation (pair ∷ other ∷ others) (cond b (other ∷ insert_pair pair others) (pair ∷ other ∷ others))) [
       | true ↦ IsPermutation-trans (pair ∷ other ∷ others) (other ∷ pair ∷ others) (other ∷ insert_pair pair others)
-          (IsPermutation-middle (pair ∷ []) other others) (IsPermutation-cons other (pair ∷ others) (insert_pair pair others) (insert_moved pair others))
+          (IsPermutation-middle (pair ∷ []) other others)
+          (IsPermutation-cons other (pair ∷ others) (insert_pair pair others) (insert_moved pair others))
       | false ↦ IsPermutation-refl (pair ∷ other ∷ others)
     ]
 
 by_key_moved : (pairs : List StoredPair) → IsPermutation pairs (by_key pairs)
 by_key_moved [] = IsPermutation-refl []
 by_key_moved (pair ∷ pairs) =
-    IsPermutation-trans (pair ∷ pairs) (pair ∷ by_key pairs) (by_key (pair ∷ pairs)) (IsPermutation-cons pair pairs (by_key pairs) (by_key_moved pairs))
+    IsPermutation-trans (pair ∷ pairs) (pair ∷ by_key pairs) (by_key (pair ∷ pairs))
+    (IsPermutation-cons pair pairs (by_key pairs) (by_key_moved pairs))
     (insert_moved pair (by_key pairs))
 
 insert_rising : (pair : StoredPair) (pairs : List StoredPair) → IsRising key_of pairs
     → ((q : StoredPair) → Contains pairs q → bytes_eq pair.key q.key ≡ false) → IsRising key_of (insert_pair pair pairs)
 insert_rising pair [] rising apart = (λ q at. absurd (no_member [] q refl at), tt)
 insert_rising pair (other ∷ others) rising apart =
-    elim (less other.key pair.key) as (λ b. less other.key pair.key ≡ b → IsRising key_of (cond b (other ∷ insert_pair pair others) (pair ∷ other ∷ others))) [
+    elim (less other.key pair.key) as
+    (λ b. less other.key pair.key ≡ b → IsRising key_of (cond b (other ∷ insert_pair pair others) (pair ∷ other ∷ others))) [
       | true ↦ λ below. (
         λ q at. elim (member_cases pair others q
             (Contains-permutation (insert_pair pair others) (pair ∷ others) q
@@ -124,7 +129,11 @@ insert_rising pair (other ∷ others) rising apart =
       )
       | false ↦ λ not_below.
           let first : Less pair.key other.key =
-          elim (less_or pair.key other.key (apart other (first_member other others))) [ inl below ↦ below | inr above ↦ absurd (true≢false (sym above ∙ not_below)) ] in (
+          elim (less_or pair.key other.key (apart other (first_member other others))) [
+            | inl below ↦
+                below
+            | inr above ↦ absurd (true≢false (sym above ∙ not_below))
+          ] in (
             λ q at. elim (member_cases other others q at) [
               | inl same ↦ subst (λ (p : StoredPair). Less pair.key p.key) same first
               | inr later ↦ less_through pair.key other.key q.key first (rising.0 q later)
@@ -166,11 +175,15 @@ count_member key (u ∷ ts) t at own =
       | inr later ↦ let some : 1 ≤ sum_by (has_count key) ts = count_member key ts t later own in omega arith
     ]
 
-count_none : (key : List ℕ) (ts : List Told) → ((q : StoredPair) → Contains (stored ts) q → bytes_eq q.key key ≡ false) → sum_by (has_count key) ts ≡ 0
+count_none : (key : List ℕ) (ts : List Told) → ((q : StoredPair) → Contains (stored ts) q → bytes_eq q.key key ≡ false)
+    → sum_by (has_count key) ts ≡ 0
 count_none key [] other = refl
 count_none key (t ∷ ts) other =
     let none : has_count key t ≡ 0 = ap (λ b. cond b 1 0) (other t.pair (first_member t.pair (stored ts))) in
-    sum_by-cons (has_count key) t ts ∙ (ap (λ n. n + sum_by (has_count key) ts) none ∙ (let rest : sum_by (has_count key) ts ≡ 0 = count_none key ts (λ q at. other q (later_member t.pair (stored ts) q at)) in omega arith))
+    sum_by-cons (has_count key) t ts
+    ∙ (ap (λ n. n + sum_by (has_count key) ts) none
+    ∙ (let rest : sum_by (has_count key) ts ≡ 0 =
+    count_none key ts (λ q at. other q (later_member t.pair (stored ts) q at)) in omega arith))
 
 count_few : (key : List ℕ) (ts : List Told) → AreApart (stored ts) → sum_by (has_count key) ts ≤ 1
 count_few key [] apart = omega arith
@@ -191,7 +204,8 @@ count_few key (t ∷ ts) apart =
 first_low : (t : Told) (ts : List Told) (u : Told) → IsSorted told_cmp (t ∷ ts) → Contains ts u → is_lt (told_cmp u t) ≡ false
 first_low t ts u sorted at =
     let far : is_lt (told_cmp (get_or (t ∷ ts) (suc at.0) u) (get_or (t ∷ ts) 0 u)) ≡ false =
-    sorted_far (λ (a b : Told). is_lt (told_cmp a b)) (ranks_by nat_list_cmp_total told_key) (t ∷ ts) sorted 0 (suc at.0) u (omega arith) (let below : at.0 < length ts = at.1 in omega arith) in
+    sorted_far (λ (a b : Told). is_lt (told_cmp a b)) (ranks_by nat_list_cmp_total told_key) (t ∷ ts) sorted 0 (suc at.0) u
+    (omega arith) (let below : at.0 < length ts = at.1 in omega arith) in
     subst (λ (v : Told). is_lt (told_cmp v t) ≡ false) at.2 far
 
 rest_sorted : (t : Told) (ts : List Told) → IsSorted told_cmp (t ∷ ts) → IsSorted told_cmp ts
@@ -204,7 +218,8 @@ sorted_rising : (ts : List Told) → IsSorted told_cmp ts → ((key : List ℕ) 
 sorted_rising [] sorted few = tt
 sorted_rising (t ∷ ts) sorted few = (
   λ u at.
-      elim (not_lt (slice_cmp nat_cmp u.pair.key t.pair.key) u.pair.key t.pair.key (slice_cmp-is u.pair.key t.pair.key) (first_low t ts u sorted at)) [
+      elim (not_lt (slice_cmp nat_cmp u.pair.key t.pair.key) u.pair.key t.pair.key (slice_cmp-is u.pair.key t.pair.key)
+      (first_low t ts u sorted at)) [
         | inl same ↦ absurd (
             let key : List ℕ = t.pair.key in
             let sum : sum_by (has_count key) (t ∷ ts) ≡ has_count key t + sum_by (has_count key) ts = sum_by-cons (has_count key) t ts in
@@ -221,7 +236,8 @@ sorted_rising (t ∷ ts) sorted few = (
 )
 
 -- the pairs of a table, sorted, are in the order of its list
-pub sorted_ranked : (image : List ℕ) (meta : HashMeta) (old new : List Told) → IsTable image → HasMetadata (file_of image) (HashFields meta) → database_faults (file_of image) (HashFields meta) ≡ []
+pub sorted_ranked : (image : List ℕ) (meta : HashMeta) (old new : List Told) → IsTable image
+    → HasMetadata (file_of image) (HashFields meta) → database_faults (file_of image) (HashFields meta) ≡ []
     → old ≡ table_told image meta → IsPermutation old new → IsSorted told_cmp new → new ≡ ranked image meta
 sorted_ranked image meta old new table has none are moved sorted =
     let pairs : List StoredPair = table_pairs (file_of image) meta in
@@ -242,16 +258,7 @@ sorted_ranked image meta old new table has none are moved sorted =
 -- The list.
 
 -- the list of the pairs in order
-pub ranked_list : (image : List ℕ) (meta : HashMeta) (pairs : List Told) → pairs ≡ ranked image meta → flat_map listed_told pairs ≡ hash_list (file_of image) meta
+pub ranked_list : (image : List ℕ) (meta : HashMeta) (pairs : List Told) → pairs ≡ ranked image meta
+    → flat_map listed_told pairs ≡ hash_list (file_of image) meta
 unfolding hash_list
 ranked_list image meta pairs are = ap (flat_map listed_told) are ∙ flat_map-map listed_told (told image) (by_key (table_pairs (file_of image) meta))
-
--- A walk over the list.
-
-pub listed_on : (first : List (ListKey × List ℕ)) (key next : List ℕ) (values others : List (List ℕ)) (left rest : List Told) (t : Told) → IsListedOn first key values left → values ≡ []
-    → left ≡ t ∷ rest → entry_list next others ≡ listed_told t → IsListedOn first next others rest
-listed_on first key next values others left rest t on none more same = record {
-  same =
-      ap (λ entries. entries ++ flat_map listed_told rest) same
-      ∙ (sym (ap (λ vs. entry_list key vs ++ flat_map listed_told left) none ∙ ap (flat_map listed_told) more) ∙ on.same);
-}

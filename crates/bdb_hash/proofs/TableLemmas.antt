@@ -26,7 +26,8 @@ pub zero_more : (n : ℕ) → range_with_len 0 (n + 1) ≡ range_with_len 0 n ++
 zero_more n = let same : 0 + n ≡ n = omega arith in range_more 0 n ∙ ap (λ m. range_with_len 0 n ++ m ∷ []) same
 
 -- a file with a table has references
-pub table_is : (image : List ℕ) (meta : HashMeta) → IsForest image → structure_faults (file_of image) ≡ [] → HasMetadata (file_of image) (HashFields meta)
+pub table_is : (image : List ℕ) (meta : HashMeta) → IsForest image → structure_faults (file_of image) ≡ []
+    → HasMetadata (file_of image) (HashFields meta)
     → IsTable image
 table_is image meta forest stage has = record {
   forest = forest;
@@ -46,10 +47,10 @@ noted_more image meta b least result pages before' are is =
 
 -- the pairs of one more bucket
 pub told_more : (image : List ℕ) (meta : HashMeta) (b : ℕ)
-    → flat_map (bucket_told image meta) (range_with_len 0 (b + 1)) ≡ flat_map (bucket_told image meta) (range_with_len 0 b) ++ bucket_told image meta b
+    → flat_map (bucket_told image meta) (range_with_len 0 (b + 1)) ≡ flat_map (bucket_told image meta)
+    (range_with_len 0 b) ++ bucket_told image meta b
 told_more image meta b =
     ap (flat_map (bucket_told image meta)) (zero_more b)
-    ∙ (flat_map-append (bucket_told image meta) (range_with_len 0 b) (b ∷ []) ∙ ap (λ ps. flat_map (bucket_told image meta) (range_with_len 0 b) ++ ps)
+    ∙ (flat_map-append (bucket_told image meta) (range_with_len 0 b) (b ∷ [])
+    ∙ ap (λ ps. flat_map (bucket_told image meta) (range_with_len 0 b) ++ ps)
     (append-nil (bucket_told image meta b)))
-
--- one more bucket read

@@ -1,9 +1,9 @@
 -- The faults of a table's contents as the code notes them, pair by pair, and the least of them. Source: docs/FORMAT.md, "Stage 8, contents".
-use Rattle.std.specs.Prelude.{◌≡◌, ℕ, ◌==◌, ◌&&◌, not, Bool, List, [], ◌∷◌, map, Option}
+use Rattle.std.specs.Prelude.{◌≡◌, ℕ, ◌==◌, ◌&&◌, not, Bool, List, [], ◌∷◌, map, Option, None, ◌+◌, ◌++◌}
 use Rattle.std.specs.BTreeSet.{BTreeSet}
-use Rattle.std.specs.List.{fold, list_any}
+use Rattle.std.specs.List.{fold, list_any, range_with_len}
 use Rattle.std.specs.Option.{option_map}
-use Rattle.bdb_hash.specs.Told.{Told, bucket_told}
+use Rattle.bdb_hash.specs.Told.{Told, bucket_told, table_told}
 use Rattle.bdb_overflow.specs.Earlier.{earlier}
 use Rattle.bdb_overflow.specs.Keys.{has_item, has_key, noting_by, repeated_by}
 use Rattle.bdb_format.specs.declared.kinds.Fault.{Fault}
@@ -11,6 +11,7 @@ use Rattle.bdb_format.specs.declared.metadata.HashMeta.{HashMeta}
 use Rattle.bdb_format.specs.ContentRows.{ascends, bucket_of_key, is_duplicate, is_wrong_set, repeated}
 use Rattle.bdb_format.specs.Contents.{StoredPair, data_of}
 use Rattle.bdb_format.specs.File.{File, file_of}
+use Rattle.bdb_format.specs.Hashing.{hash5}
 use Rattle.bdb_format.specs.Page.{HashFields}
 use Rattle.bdb_format.specs.Table.{Row, ◌:?◌, first_row}
 use Rattle.bdb_format.specs.Flags.{has_duplicates, is_sorted}
@@ -31,8 +32,17 @@ pair_rows file meta b pair =
 abbrev pub pair_fault : File → HashMeta → ℕ → StoredPair → Option Fault
 pair_fault file meta b pair = option_map (fault_at pair.page) (first_row (pair_rows file meta b pair))
 
+-- the hash of a pair's key
+abbrev pub key_hash : Told → ℕ
+key_hash told = hash5 told.pair.key
+
 abbrev pub note_told : HashMeta → ℕ → Option Fault → Told → Option Fault
 note_told meta b least told = earlier least (pair_fault (file_of told.image) meta b told.pair)
+
+-- once the pairs that are left are noted by themselves and hashed, all are
+pub record IsHashing (meta : HashMeta) (b : ℕ) (start now : Option Fault) (old new : List ℕ) (all left : List Told) : Type 0 where
+  pub own : fold (note_told meta b) now left ≡ fold (note_told meta b) start all
+  pub hashes : new ++ map key_hash left ≡ old ++ map key_hash all
 
 -- a pair that has the key of an earlier one
 abbrev pub repeat_fault : StoredPair → Fault
@@ -59,6 +69,12 @@ has_stray_in image meta b = list_any (is_stray meta b) (bucket_told image meta b
 -- the faults of the pairs that have the key of an earlier one of their bucket
 abbrev pub note_again : List ℕ → HashMeta → Option Fault → ℕ → Option Fault
 note_again image meta least b = fold note_repeat least (repeated (stored (bucket_told image meta b)))
+
+-- the first fault of the pairs of a table: of one by itself, or of one that has the key of an earlier one
+abbrev pub least_noted : List ℕ → HashMeta → Option Fault
+least_noted image meta =
+    earlier (fold (note_bucket image meta) None (range_with_len 0 (meta.max_bucket + 1)))
+    (fold note_repeat None (repeated (stored (table_told image meta))))
 
 abbrev pub key_of : StoredPair → List ℕ
 key_of pair = pair.key

@@ -1,17 +1,19 @@
 -- Where the pairs of a table stand, and the order into which they are put there. Source: docs/FORMAT.md, "Order of keys".
-use Rattle.std.specs.Prelude.{◌≡◌, ◌≤◌, ℕ, ◌+◌, ◌*◌, nat_lt, if◌then◌else◌, Bool, true, false, List, [], ◌∷◌, ◌++◌, length}
+use Rattle.std.specs.Prelude.{◌≡◌, ◌≤◌, ℕ, ◌+◌, ◌*◌, nat_lt, if◌then◌else◌, Bool, true, false, List, [], ◌∷◌, ◌++◌, length, Option, Some, None}
 use Rattle.std.specs.Cmp.Lexicographic.{slice_cmp}
-use Rattle.std.specs.List.{Contains}
+use Rattle.std.specs.List.{AllByRecursion, Contains}
 use Rattle.std.specs.Ordering.{is_lt, nat_cmp, ordering_then}
 use Rattle.std.specs.declared.cmp.Ordering.{Ordering}
+use Rattle.bdb_form.specs.Pairs.{PairOf}
+use Rattle.bdb_overflow.specs.Datum.{FitsContent}
 use Rattle.bdb_overflow.specs.Prefix.{AreBytes, prefix_of}
 use Rattle.bdb_hash.specs.declared.place.Place.{Place}
-use Rattle.bdb_hash.specs.Told.{Told, told}
+use Rattle.bdb_hash.specs.Told.{Told, told, told_pair}
 use Rattle.bdb_hash.specs.Views.{IsPair, IsTable}
 use Rattle.bdb_format.specs.Chains.{value_of}
 use Rattle.bdb_format.specs.Contents.{StoredPair, pair_at}
 use Rattle.bdb_format.specs.File.{File, file_of, page_at}
-use Rattle.bdb_format.specs.Page.{Content, Page, Hash, Unknown}
+use Rattle.bdb_format.specs.Page.{Item, Page, Hash, Unknown}
 use Rattle.bdb_format.specs.References.{item_at}
 
 -- the pair with this index is on the page
@@ -34,9 +36,18 @@ pub record StandsOn (p i : ℕ) (t : Told) : Type 0 where
   pub is : t ≡ told_on t.image p i
 
 -- what the code knows of a pair that it has read
-pub record IsRead (p i : ℕ) (t : Told) (content : Content) : Type 0 where
-  pub pair : IsPair t.image content
+pub record IsRead (p i : ℕ) (t : Told) : Type 0 where
+  pub pair : IsPair t.image t.pair.data_item
   pub stands : StandsOn p i t
+
+-- what is known of a pair that the view of its page gives
+pub record IsGiven (image : List ℕ) (p : ℕ) (pair : PairOf Item) : Type 0 where
+  pub key : FitsContent (file_of image) pair.key.content
+  pub read : IsRead p pair.index (told_pair image p pair)
+
+abbrev pub AreGiven : List ℕ → ℕ → Option (List (PairOf Item)) → Type 0
+AreGiven image p None = Unit {0}
+AreGiven image p (Some pairs) = AllByRecursion (IsGiven image p) pairs
 
 -- the pair at a place
 abbrev pub told_at : List ℕ → Place → Told

@@ -1,11 +1,12 @@
 -- A pair of a table with the file that it stands in. Source: docs/FORMAT.md, "Items".
-use Rattle.std.specs.Prelude.{◌≡◌, ◌≤◌, ℕ, ◌+◌, ◌-◌, ◌/◌, ◌==◌, if◌then◌else◌, Bool, true, false, List, [], map, length, Option, Some, None}
+use Rattle.std.specs.Prelude.{◌≡◌, ◌≤◌, ℕ, ◌+◌, ◌==◌, not, if◌then◌else◌, Bool, true, false, List, [], map, length, Option, Some, None}
 use Rattle.std.specs.List.{find, flat_map, range_with_len}
-use Rattle.bdb_format.specs.Chains.{chain_in}
-use Rattle.bdb_format.specs.Contents.{StoredPair, bucket_pages, pair_at, pairs_of}
+use Rattle.bdb_form.specs.Pairs.{PairOf}
+use Rattle.bdb_format.specs.Chains.{chain_in, value_of}
+use Rattle.bdb_format.specs.Contents.{StoredPair, bucket_pages, pairs_of}
 use Rattle.bdb_format.specs.declared.metadata.HashMeta.{HashMeta}
 use Rattle.bdb_format.specs.File.{File, file_of}
-use Rattle.bdb_format.specs.Page.{Item, Listed, Page, Zero, Hash}
+use Rattle.bdb_format.specs.Page.{Content, Item, Page, Zero, Hash}
 use Rattle.bdb_format.specs.Lists.{ListKey, BytesKey, listed_pair}
 use Rattle.std.specs.declared.cmp.Ordering.{Ordering}
 use Rattle.std.specs.Cmp.Lexicographic.{slice_cmp}
@@ -20,14 +21,28 @@ pub record Told : Type 0 where
 abbrev pub told : List ℕ → StoredPair → Told
 told image pair = record { image = image; pair = pair }
 
+-- a pair of a page, by its key and what its data item holds
+abbrev pub told_as : List ℕ → ℕ → List ℕ → Content → Told
+told_as image p key content = told image (record { page = p; key = key; data_item = content; live = true; shares = false })
+
+-- a pair as the view of its page gives it
+abbrev pub told_pair : List ℕ → ℕ → PairOf Item → Told
+told_pair image p pair = told image (record {
+  page = p;
+  key = value_of (file_of image) pair.key.content;
+  data_item = pair.value.content;
+  live = not pair.value.deleted;
+  shares = false;
+})
+
 -- the pairs of a page
 abbrev pub page_told : List ℕ → ℕ → List Told
 page_told image p = map (told image) (pairs_of (file_of image) p)
 
--- the pairs that are left on a page from one on; a zero page has none
-abbrev pub left_on : List ℕ → ℕ → Option (Listed Item) → ℕ → List Told
-left_on image p None i = []
-left_on image p (Some page) i = map (told image) (map (pair_at (file_of image) p page (λ n. false)) (range_with_len i (length page.items / 2 - i)))
+-- the pairs that are left on a page; a zero page has none
+abbrev pub left_on : List ℕ → ℕ → Option (List (PairOf Item)) → List Told
+left_on image p None = []
+left_on image p (Some pairs) = map (told_pair image p) pairs
 
 -- the pages from a page on, in so many turns; page 0 stands for the end
 abbrev pub pages_from : ℕ → File → ℕ → List ℕ

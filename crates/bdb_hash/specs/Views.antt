@@ -1,11 +1,11 @@
 -- What the iterators over a bucket and its pairs keep.
-use Rattle.std.specs.Prelude.{◌≡◌, ◌≤◌, ℕ, IsTrue, List, [], Option, Some, None}
+use Rattle.std.specs.Prelude.{◌≡◌, ◌≤◌, ℕ, IsTrue, List, []}
 use Rattle.bdb_graph.specs.Linked.{FitsDupRoot, IsForest}
 use Rattle.bdb_overflow.specs.Datum.{FitsContent}
 use Rattle.bdb_hash.specs.Told.{is_of_bucket}
 use Rattle.bdb_format.specs.declared.metadata.FileKind.TheVariants.{Queue}
 use Rattle.bdb_format.specs.File.{File, file_of, page_at}
-use Rattle.bdb_format.specs.Page.{Content, Inline, Set, Chain, Tree, Unknown, Item, Listed, Hash}
+use Rattle.bdb_format.specs.Page.{Content, Inline, Set, Chain, Tree, Unknown}
 use Rattle.bdb_format.specs.Verdict.{structure_faults}
 
 -- a file with references on which no row of stages 1 to 6 holds
@@ -23,16 +23,6 @@ pub record IsOfBucket (file : File) (p : ℕ) : Type 0 where
 pub record IsOnWay (image : List ℕ) (next : ℕ) : Type 0 where
   pub forest : IsTable image
   pub fits : (next ≡ 0 → ⊥) → IsOfBucket (file_of image) next
-
-abbrev pub ShowsPage : File → ℕ → Option (Listed Item) → Type 0
-ShowsPage file p None = Unit {0}
-ShowsPage file p (Some page) = page_at file p ≡ Hash page
-
--- a page of a table, with its view where it's a hash page
-pub record IsOnPage (image : List ℕ) (p : ℕ) (page : Option (Listed Item)) : Type 0 where
-  pub forest : IsTable image
-  pub inside : p ≤ (file_of image).last
-  pub shows : ShowsPage (file_of image) p page
 
 -- a set off the page has a root of its own
 abbrev pub FitsRoot : File → Content → Type 0

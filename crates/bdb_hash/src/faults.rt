@@ -5,15 +5,14 @@ ghost use Rattle.bdb_format.specs.File.{file_of};
 ghost use Rattle.bdb_format.specs.Page.{HashFields};
 ghost use Rattle.bdb_format.specs.Verdict.{structure_faults, IsFirstOf};
 
-use crate::repeats::note_table_repeats;
-use crate::table::note_table;
+use crate::noted::note_table;
 use bdb_format::{CheckError, HashMeta};
 use bdb_graph::Linked;
 use std::alloc::Global;
 
 /// No row of contents holds for the table of this metadata. A refusal is the first fault: the least page,
-/// and there the least code; or want of memory. It takes memory for the keys of one bucket at a time,
-/// and for all keys of the table where a pair isn't in the bucket of its key.
+/// and there the least code; or want of memory. It takes four bytes for each pair of the largest bucket,
+/// memory for the keys of a bucket where two of them have one hash, and for all keys where a pair isn't in the bucket of its key.
 #[tactic(auto, using(crate::proofs::FaultLemmas::no_fault, crate::proofs::FaultLemmas::the_fault))]
 pub fn check(alloc: Global, linked: &Linked<'_>, meta: &HashMeta) -> Result<(), CheckError>
     requires meta { HasMetadata (file_of linked.now) (HashFields meta.now) }
@@ -21,8 +20,7 @@ pub fn check(alloc: Global, linked: &Linked<'_>, meta: &HashMeta) -> Result<(), 
     ensures accepted { OnOk result (database_faults (file_of linked.now) (HashFields meta.now) ≡ []) }
     ensures refusal { IfErr result (IsFirstOf (database_faults (file_of linked.now) (HashFields meta.now))) }
 {
-    let least = note_table(linked, meta);
-    match note_table_repeats(alloc, least, linked, meta) {
+    match note_table(alloc, linked, meta) {
         Ok(None) => Ok(()),
         Ok(Some(fault)) => Err(CheckError::Fault(fault)),
         Err(_) => Err(CheckError::Memory),

@@ -7,6 +7,7 @@ mod faults;
 mod key;
 mod listing;
 mod lookup;
+mod noted;
 mod pair;
 mod pairs;
 mod place;

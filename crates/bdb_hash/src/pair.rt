@@ -1,19 +1,17 @@
-ghost use Rattle.std.specs.Prelude.{◌≡◌, ◌+◌, ◌*◌, ◌/◌, ◌<◌, ◌≤◌, false, length};
+ghost use Rattle.std.specs.Prelude.{◌≡◌};
+ghost use Rattle.bdb_form.specs.Pairs.{pair_seen};
 ghost use Rattle.bdb_overflow.specs.Datum.{FitsContent, datum_seen};
-ghost use Rattle.bdb_hash.specs.Places.{IsAt};
-ghost use Rattle.bdb_hash.specs.Told.{entry_list, has_key, listed_told, told};
-ghost use Rattle.bdb_hash.specs.Views.{IsTable};
-ghost use Rattle.bdb_layout.specs.Seen.{hash_content_seen};
+ghost use Rattle.bdb_hash.specs.Places.{IsAt, IsGiven};
+ghost use Rattle.bdb_hash.specs.Told.{entry_list, has_key, listed_told, told_pair};
+ghost use Rattle.bdb_layout.specs.Seen.{hash_content_seen, hash_item_seen};
 ghost use Rattle.bdb_format.specs.Chains.{value_of};
 ghost use Rattle.bdb_format.specs.ContentRows.{is_duplicate, is_wrong_set};
-ghost use Rattle.bdb_format.specs.Contents.{data_of, pair_at};
-ghost use Rattle.bdb_format.specs.File.{file_of, page_at};
-ghost use Rattle.bdb_format.specs.Page.{Hash};
+ghost use Rattle.bdb_format.specs.Contents.{data_of};
+ghost use Rattle.bdb_format.specs.File.{file_of};
 
 use crate::Data;
 use crate::place::Place;
 use crate::rows::is_wrong_root;
-use bdb_form::HashView;
 use bdb_graph::Forest;
 use bdb_layout::HashItem;
 use bdb_overflow::{Datum, hash_datum, is_same, prefix};
@@ -30,17 +28,16 @@ pub(crate) struct Pair<'a> {
 }
 
 impl<'a> Model for Pair<'a> {
-    ghost use Rattle.std.specs.Prelude.{true, false};
     ghost use Rattle.bdb_overflow.specs.Datum.{datum_seen};
-    ghost use Rattle.bdb_hash.specs.Told.{Told, told};
+    ghost use Rattle.bdb_hash.specs.Told.{Told, told_as};
     ghost use Rattle.bdb_hash.specs.Places.{IsRead};
     ghost use Rattle.bdb_layout.specs.Seen.{hash_content_seen};
 
     ghost Value = { Told };
 
-    ghost view = { λ it. told it.forest (record { page = it.page; key = datum_seen it.key; data_item = hash_content_seen it.item; live = true; shares = false }) };
+    ghost view = { λ it. told_as it.forest it.page (datum_seen it.key) (hash_content_seen it.item) };
 
-    ghost invariant = { λ it. IsRead it.page it.index (told it.forest (record { page = it.page; key = datum_seen it.key; data_item = hash_content_seen it.item; live = true; shares = false })) (hash_content_seen it.item) };
+    ghost invariant = { λ it. IsRead it.page it.index (told_as it.forest it.page (datum_seen it.key) (hash_content_seen it.item)) };
 }
 
 /// The value of a key, which is never a set.
@@ -56,22 +53,17 @@ pub(crate) fn key_of<'a>(forest: &Forest<'a>, item: &HashItem<'a>) -> Datum<'a>
 }
 
 impl<'a> Pair<'a> {
-    /// A pair of a hash page.
-    #[tactic(auto, using(crate::proofs::PairLemmas::item_fits))]
-    pub(crate) fn read(forest: &Forest<'a>, page: u32, view: &HashView<'a>, i: u16) -> Pair<'a>
-        requires table { IsTable forest.now }
-        requires inside { page ≤ (file_of forest.now).last }
-        requires shows { page_at (file_of forest.now) page ≡ Hash view.now }
-        requires there { 2 * i + 1 < length view.now.items }
-        ensures { result ≡ told forest.now (pair_at (file_of forest.now) page view.now (λ n. false) i) }
+    /// A pair as the view of its page gives it.
+    pub(crate) fn of(forest: &Forest<'a>, page: u32, pair: bdb_form::Pair<HashItem<'a>>) -> Pair<'a>
+        requires { IsGiven forest.now page (pair_seen hash_item_seen pair) }
+        ensures { result ≡ told_pair forest.now page (pair_seen hash_item_seen pair.entry) }
     {
-        let key = key_of(forest, &view.key(i));
         Pair {
             forest: forest.again(),
             page,
-            index: i,
-            key,
-            item: view.value(i),
+            index: pair.index,
+            key: key_of(forest, &pair.key),
+            item: pair.value,
         }
     }
 

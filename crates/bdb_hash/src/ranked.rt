@@ -45,6 +45,7 @@ impl<'a> Ranked<'a> {
 }
 
 /// The pair with this index of a hash page.
+#[tactic(auto, using(crate::proofs::PairLemmas::is_given))]
 fn read_at<'a>(forest: &Forest<'a>, page: u32, index: u16) -> Pair<'a>
     requires table { IsTable forest.now }
     requires inside { page ≤ (file_of forest.now).last }
@@ -52,7 +53,7 @@ fn read_at<'a>(forest: &Forest<'a>, page: u32, index: u16) -> Pair<'a>
     ensures { result ≡ told_on forest.now page index }
 {
     match forest.page(page) {
-        PageView::Hash(view) => Pair::read(forest, page, &view, index),
+        PageView::Hash(view) => Pair::of(forest, page, view.pair(index)),
         _ => unreachable!(),
     }
 }

@@ -26,7 +26,7 @@ fn count_bucket(count: usize, pages: BucketPages<'_>) -> usize
 {
     let mut count = count;
     for page in pages {
-        count = count.saturating_add(usize::from(page.left()));
+        count = count.saturating_add(page.len());
     }
     count
 }

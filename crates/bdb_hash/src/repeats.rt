@@ -1,14 +1,13 @@
-ghost use Rattle.std.specs.Prelude.{◌≡◌, ◌+◌, [], None, IfOk};
-ghost use Rattle.std.specs.List.{fold, list_any, range_with_len};
+ghost use Rattle.std.specs.Prelude.{◌≡◌, ◌+◌, ◌<◌, [], None, IfOk, false, map, nat_eq};
+ghost use Rattle.std.specs.List.{IsDistinct, fold};
 ghost use Rattle.bdb_graph.specs.Linked.{HasMetadata};
-ghost use Rattle.bdb_hash.specs.Notes.{Notes, fault_at, has_stray_in, note_again, note_bucket, note_repeat, stored};
+ghost use Rattle.bdb_hash.specs.Notes.{Notes, fault_at, key_hash, note_repeat, stored};
 ghost use Rattle.bdb_hash.specs.Told.{joined_pages, table_told};
 ghost use Rattle.bdb_format.specs.ContentRows.{repeated};
 ghost use Rattle.bdb_format.specs.File.{file_of};
 ghost use Rattle.bdb_format.specs.Page.{HashFields};
 ghost use Rattle.bdb_format.specs.Verdict.{structure_faults};
 
-use crate::strays::has_stray;
 use crate::table::buckets;
 use crate::{BucketPages, PagePairs, bucket_pages};
 use bdb_format::{Fault, HashMeta};
@@ -60,81 +59,55 @@ fn note_bucket<'a>(
     Ok(least)
 }
 
-/// The first of a fault and of those of the pairs of a table that have the key of an earlier one of their
-/// bucket. It takes memory for the keys of one bucket at a time; an error is want of it.
-#[tactic(auto, using(crate::proofs::RepeatLemmas::again_more))]
-fn note_by_bucket(
-    alloc: Global,
-    least: Option<Fault>,
-    linked: &Linked<'_>,
-    meta: &HashMeta,
-) -> Result<Option<Fault>, AllocError>
-    requires meta { HasMetadata (file_of linked.now) (HashFields meta.now) }
-    requires stage { structure_faults (file_of linked.now) ≡ [] }
-    ensures { IfOk result (λ noted. noted ≡ fold (note_again linked.now meta.now) least (range_with_len 0 (meta.now.max_bucket + 1))) }
+/// Whether some number is among these twice. They are sorted for that.
+fn has_twice(numbers: &mut Vec<u32>) -> bool
+    ensures { result ≡ false → IsDistinct nat_eq numbers.old.items }
 {
-    let mut least = least;
-    for b in 0..buckets(linked, meta) {
-        let mut keys = Keys::new(alloc);
-        least = note_bucket(&mut keys, least, bucket_pages(linked, meta, b))?;
+    numbers.sort_unstable();
+    for i in 1..numbers.len() {
+        if numbers[i - 1] == numbers[i] {
+            return true;
+        }
     }
-    Ok(least)
+    false
 }
 
-/// The first of a fault and of those of the pairs of a table that have the key of an earlier one. It takes memory for
-/// the keys of the whole table; an error is want of it.
-#[tactic(auto, using(crate::proofs::RepeatLemmas::noted_anew, crate::proofs::RepeatLemmas::none_noted, crate::proofs::RepeatLemmas::table_more))]
-fn note_whole(
+/// The first of a fault and of those of the pairs of a bucket that have the key of an earlier one, by the hashes of their
+/// keys. Only where two of these are the same it takes memory for the keys; an error is want of it.
+#[tactic(auto, using(crate::proofs::HashedLemmas::no_repeat, crate::proofs::RepeatLemmas::noted_anew))]
+pub(crate) fn note_again(
     alloc: Global,
     least: Option<Fault>,
+    hashes: &mut Vec<u32>,
+    pages: BucketPages<'_>,
+) -> Result<Option<Fault>, AllocError>
+    requires { hashes.now.items ≡ map key_hash (joined_pages pages) }
+    ensures { IfOk result (λ noted. noted ≡ fold note_repeat least (repeated (stored (joined_pages pages.entry)))) }
+{
+    if !has_twice(hashes) {
+        return Ok(least);
+    }
+    let mut keys = Keys::new(alloc);
+    let noted = note_bucket(&mut keys, least, pages)?;
+    Ok(noted)
+}
+
+/// The first fault of the pairs of a table that have the key of an earlier one. It takes memory for the keys of the
+/// whole table; an error is want of it.
+#[tactic(auto, using(crate::proofs::RepeatLemmas::noted_anew, crate::proofs::RepeatLemmas::none_noted, crate::proofs::RepeatLemmas::table_more))]
+pub(crate) fn note_whole(
+    alloc: Global,
     linked: &Linked<'_>,
     meta: &HashMeta,
 ) -> Result<Option<Fault>, AllocError>
     requires meta { HasMetadata (file_of linked.now) (HashFields meta.now) }
     requires stage { structure_faults (file_of linked.now) ≡ [] }
-    ensures { IfOk result (λ noted. noted ≡ fold note_repeat least (repeated (stored (table_told linked.now meta.now)))) }
+    ensures { IfOk result (λ noted. noted ≡ fold note_repeat None (repeated (stored (table_told linked.now meta.now)))) }
 {
-    let mut least = least;
+    let mut least = None;
     let mut keys = Keys::new(alloc);
     for b in 0..buckets(linked, meta) {
         least = note_bucket(&mut keys, least, bucket_pages(linked, meta, b))?;
     }
     Ok(least)
-}
-
-/// Whether a table has a stray. That is a fault of the pair by itself, so where no pair has one, no pair is read again.
-#[tactic(auto, using(crate::proofs::FaultLemmas::no_strays))]
-fn has_noted_stray(least: Option<Fault>, linked: &Linked<'_>, meta: &HashMeta) -> bool
-    requires meta { HasMetadata (file_of linked.now) (HashFields meta.now) }
-    requires stage { structure_faults (file_of linked.now) ≡ [] }
-    requires noted { least ≡ fold (note_bucket linked.now meta.now) None (range_with_len 0 (meta.now.max_bucket + 1)) }
-    ensures { result ≡ list_any (has_stray_in linked.now meta.now) (range_with_len 0 (meta.now.max_bucket + 1)) }
-{
-    match least {
-        Some(_) => has_stray(linked, meta),
-        None => false,
-    }
-}
-
-/// The first of the first fault of the pairs of a table by themselves, and of those of the pairs that have the key of an
-/// earlier one. Equal keys stand in one bucket, unless the table has a stray: then alone it takes memory for all keys at
-/// once. An error is want of it.
-#[tactic(auto, using(crate::proofs::RepeatLemmas::by_bucket_is))]
-pub(crate) fn note_table_repeats(
-    alloc: Global,
-    least: Option<Fault>,
-    linked: &Linked<'_>,
-    meta: &HashMeta,
-) -> Result<Option<Fault>, AllocError>
-    requires meta { HasMetadata (file_of linked.now) (HashFields meta.now) }
-    requires stage { structure_faults (file_of linked.now) ≡ [] }
-    requires noted { least ≡ fold (note_bucket linked.now meta.now) None (range_with_len 0 (meta.now.max_bucket + 1)) }
-    ensures { IfOk result (λ noted. noted ≡ fold note_repeat least (repeated (stored (table_told linked.now meta.now)))) }
-{
-    if has_noted_stray(least, linked, meta) {
-        let noted = note_whole(alloc, least, linked, meta)?;
-        return Ok(noted);
-    }
-    let noted = note_by_bucket(alloc, least, linked, meta)?;
-    Ok(noted)
 }

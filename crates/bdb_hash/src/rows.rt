@@ -1,6 +1,6 @@
 ghost use Rattle.std.specs.Prelude.{◌≡◌, Some};
 ghost use Rattle.bdb_form.specs.Seen.{page_seen};
-ghost use Rattle.bdb_hash.specs.Notes.{pair_fault, pair_rows};
+ghost use Rattle.bdb_hash.specs.Notes.{key_hash, pair_fault, pair_rows};
 ghost use Rattle.bdb_overflow.specs.Datum.{datum_seen};
 ghost use Rattle.bdb_format.specs.ContentRows.{ascends, bucket_of_key};
 ghost use Rattle.bdb_format.specs.File.{file_of};
@@ -56,7 +56,8 @@ pub(crate) fn bucket_of_key(meta: &HashMeta, key: &Datum<'_>) -> u32
 }
 
 /// The code of the first row that holds for a pair by itself, in this bucket.
-fn pair_code(pair: Pair<'_>, meta: &HashMeta, b: u32) -> Option<u8>
+fn pair_code(pair: Pair<'_>, meta: &HashMeta, b: u32, hash: u32) -> Option<u8>
+    requires { hash ≡ key_hash pair }
     ensures { result ≡ first_row (pair_rows (file_of pair.entry.image) meta.now b pair.entry.pair) }
 {
     if !has_duplicates(meta) && pair.is_duplicate() {
@@ -65,7 +66,7 @@ fn pair_code(pair: Pair<'_>, meta: &HashMeta, b: u32) -> Option<u8>
     if pair.is_wrong_set(is_sorted(meta)) {
         return Some(2);
     }
-    let is_elsewhere = bucket_of_key(meta, pair.key()) != b;
+    let is_elsewhere = bucket_of(hash, meta.max_bucket, meta.high_mask, meta.low_mask) != b;
     if is_sorted(meta) && !ascends(pair.into_data()) {
         return Some(5);
     }
@@ -75,12 +76,13 @@ fn pair_code(pair: Pair<'_>, meta: &HashMeta, b: u32) -> Option<u8>
     None
 }
 
-/// The first fault of a pair by itself, in this bucket.
-pub(crate) fn pair_fault(pair: Pair<'_>, meta: &HashMeta, b: u32) -> Option<Fault>
+/// The first fault of a pair by itself, in this bucket, with the hash of its key.
+pub(crate) fn pair_fault(pair: Pair<'_>, meta: &HashMeta, b: u32, hash: u32) -> Option<Fault>
+    requires { hash ≡ key_hash pair }
     ensures { result ≡ pair_fault (file_of pair.entry.image) meta.now b pair.entry.pair }
 {
     let page = pair.page();
-    match pair_code(pair, meta, b) {
+    match pair_code(pair, meta, b, hash) {
         Some(code) => Some(Fault {
             stage: 8,
             page,

@@ -1,161 +1,267 @@
--- A pair that is put on the last leaf, or on a new one after it.
-use Rattle.std.proofs.Common.{◌≡◌, ℕ, ◌+◌, ◌-◌, ◌*◌, ◌<◌, ◌≤◌, ◌^◌, Bool, true, false, List, [], ◌∷◌, ◌++◌, length, replicate, arith, refl, sym, ◌∙◌, ap, subst, length-append, length-set}
-use Rattle.std.specs.Prelude.{nat_le, ◌%◌, ◌==◌}
-use Rattle.std.proofs.lemmas.Bool.{leb-true}
-use Rattle.std.proofs.lemmas.List.{get_or-set_other, get_or_append_left, get_or_push, length-replicate}
-use Rattle.bdb_format.specs.declared.kinds.Order.{Order}
+-- A unit that is pushed: the last leaf has room for it, or a new one.
+use Rattle.std.proofs.Common.{Bool, ◌≡◌, ℕ, suc, ◌+◌, ◌-◌, ◌<◌, ◌≤◌, true, false, cond, List, [], ◌∷◌, ◌++◌, length, map, arith, refl, sym, ◌∙◌, ap, subst, inl, inr, length-append, true≢false}
+use Rattle.std.specs.Prelude.{◌/◌, ◌%◌, nat_le, nat_lt}
+use Rattle.std.specs.Cmp.Derive.{both_true}
+use Rattle.std.specs.List.{All, flat_map}
+use Rattle.std.proofs.lemmas.List.Sums.{sum_by-cons}
+use Rattle.std.proofs.lemmas.Bool.{cases_lt, leb-false, leb-true, lt-ltb}
+use Rattle.bdb_format.specs.File.{File}
 use Rattle.bdb_format.specs.HeadOf.{is_page_size}
-use Rattle.bdb_format.specs.Page.{Item, Listed, LeafPage}
-use Rattle.bdb_format.specs.Reading.{entries_of, leaf_item_at, listed, page_type}
-use Rattle.bdb_format.specs.Spelling.{header_bytes, leaf_bytes}
-use Rattle.bdb_format.proofs.PageLemmas.{length_items}
-use Rattle.bdb_format.proofs.SpellingLemmas.{length-overwritten}
+use Rattle.bdb_format.specs.Numbers.{pad4}
 use Rattle.bdb_graph.proofs.FormedLemmas.{size_bounds}
-use Rattle.bdb_pack.specs.Built.{Built, bytes_of, with_page, with_zeros}
-use Rattle.bdb_pack.specs.OnPages.{with_item_on}
-use Rattle.bdb_pack.specs.Placing.{begun_header, begun_page, high_free_of}
-use Rattle.bdb_pack.proofs.HeaderLemmas.{length-header}
-use Rattle.bdb_pack.proofs.OpenLemmas.{open_is}
-use Rattle.bdb_pack.proofs.StandingLemmas.{typed}
-use Rattle.bdb_pack.proofs.FormLemmas.{begun_is_formed}
-use Rattle.bdb_format.specs.Rows.{is_wrong_entry_count, is_wrong_level}
-use Rattle.bdb_format.specs.Numbers.{byte_at}
-use Rattle.bdb_mktree.specs.LeafPairs.{ArePair, CanTake, HoldsPairs, HoldsPairsOn, HoldsPushed, IsLeafAt, IsLeafFor, IsPairLeaf, LeafPair, LeavesAreFormed, leaf_header, opened, own_pair, page_before, pair_cost, room_of, with_leaf, with_pair}
-use Rattle.bdb_mktree.proofs.LeafLemmas.{leaf_added, leaf_inside, next_set}
-use Rattle.bdb_mktree.proofs.PairLemmas.{bytes_with}
+use Rattle.bdb_levels.proofs.NodeLemmas.{all_right}
+use Rattle.bdb_pack.specs.Built.{AreWhole, Built, bytes_of, file_so_far}
+use Rattle.bdb_mktree.specs.Filled.{AreFilled, AreSomeFilled, FilledNow, IsPushed, IsUnitPut, rest_of}
+use Rattle.bdb_mktree.specs.LeafEntries.{room_of}
+use Rattle.bdb_mktree.specs.Leaves.{AreSomeLeaves, HasRoomNow, KeepsOthers, has_room}
+use Rattle.bdb_mktree.specs.Placed.{Placed, PlacedEntry, PlacedPairs, PlacedTree, StandsPlaced, ValueItem, entries_of, further_entries, unit_of}
+use Rattle.bdb_mktree.specs.Puts.{IsPut}
+use Rattle.bdb_mktree.specs.Runs.{ArePairsPut, HasWholePairs, pairs_cost}
+use Rattle.bdb_mktree.specs.Units.{EntryUnit, KeyedUnit, TreeUnit, has_own_tree, set_cost, unit_cost, value_cost}
+use Rattle.bdb_mktree.specs.declared.leaf_type.LeafType.TheVariants.{Pairs}
+use Rattle.bdb_mktree.specs.declared.leaves.Leaves.{Leaves}
+use Rattle.bdb_mktree.proofs.FilledLemmas.{counted_so_far, entry_is_unit, later_self, pairs_are_unit}
+use Rattle.bdb_mktree.proofs.RestLemmas.{leaf_opened, unit_added}
 
--- a leaf that holds pairs has two entries for each
-entries_held : (order : Order) (bytes : List ℕ) (p previous next : ℕ) (pairs : List LeafPair) → HoldsPairs order bytes p previous next pairs
-    → entries_of order bytes ≡ 2 * length pairs
-entries_held order bytes p previous next pairs holds =
-    let bounds = open_is order bytes holds.begun in
-    let page : listed order bytes (leaf_item_at order bytes) ≡ holds.page =
-    leaf_inside _ _ (sym (typed order bytes 5 (omega (arith, bounds.least)) refl holds.type) ∙ holds.is) in
-    sym (length_items order bytes (leaf_item_at order bytes)) ∙ (ap (λ (l : Listed Item). length l.items) page ∙ holds.items)
+-- What the unit finds.
+pub record IsReady (leaves next : Leaves) (old one : Built) (cost : ℕ) : Type 0 where
+  pub type : next.leaf_type ≡ leaves.leaf_type
+  pub size : one.size ≡ old.size
+  pub some : AreSomeLeaves next one
+  pub there : next.last < length one.pages
+  pub positive : 1 ≤ length one.pages
+  pub room : cost ≤ room_of one.order (bytes_of one next.last)
 
-pub leaves_are_formed : LeavesAreFormed
-leaves_are_formed order bytes p previous next pairs holds =
-    let n : ℕ = length pairs in
-    let entries : entries_of order bytes ≡ 2 * n = entries_held order bytes p previous next pairs holds in
-    let even : entries_of order bytes % 2 ≡ 0 = ap (λ k. k % 2) entries ∙ twice n in (
-      begun_is_formed order p bytes holds.begun holds.number
-          (ap (λ t. is_wrong_level (page_type t) (byte_at bytes 24)) holds.type ∙ ap (is_wrong_level LeafPage) holds.level)
-          (ap (λ t. is_wrong_entry_count (page_type t) (entries_of order bytes)) holds.type ∙ ap (λ k. k == 1) even),
-      record { begun = holds.begun; type = holds.type; even = even },
+some_leaves : (leaves : Leaves) (built : Built) (before : ℕ) (closed : List (List Placed)) (units : List Placed)
+    → AreFilled leaves built before closed units → AreSomeLeaves leaves built
+some_leaves leaves built before closed units filled =
+    record { closed = map (flat_map entries_of) closed; entries = flat_map entries_of units; hold = filled.hold }
+
+-- a last leaf that has no room has a unit
+some_units : (leaves : Leaves) (built : Built) (cost before : ℕ) (closed : List (List Placed)) (units : List Placed) → AreFilled leaves built before closed units
+    → AreWhole built → has_room leaves built cost ≡ false → cost ≤ built.size - 26 → 0 < length units
+some_units leaves built cost before closed [] filled whole test fits =
+    let room = filled.hold.last_holds.room in
+    let less : room_of built.order (bytes_of built leaves.last) < cost = leb-false _ _ test in
+    absurd (omega (arith, room, less, fits, whole leaves.last filled.hold.there))
+some_units leaves built cost before closed (unit ∷ units) filled whole test fits = omega arith
+
+pub ready : (b : Bool) (leaves next : Leaves) (old one : Built) (cost : ℕ) → AreSomeFilled leaves old → has_room leaves old cost ≡ b
+    → HasRoomNow b leaves next old one → cost ≤ old.size - 26 → AreWhole old → IsReady leaves next old one cost
+ready true leaves next old one cost some test (same, kept) fits whole =
+    subst (λ (l : Leaves). IsReady leaves l old one cost) (sym same)
+    (subst (λ (b : Built). IsReady leaves leaves old b cost) (sym kept)
+    (record {
+      type = refl;
+      size = refl;
+      some = some_leaves leaves old some.before some.closed some.units some.filled;
+      there = some.filled.hold.there;
+      positive = let there = some.filled.hold.there in omega (arith, there);
+      room = leb-true _ _ test;
+    }))
+ready false leaves next old one cost some test opened fits whole =
+    let filled = leaf_opened leaves next old one some.before some.closed some.units some.filled
+    (some_units leaves old cost some.before some.closed some.units some.filled whole test fits) opened in
+    let there = filled.hold.there in
+    record {
+      type = opened.type;
+      size = opened.kept.size;
+      some = some_leaves next one some.before _ _ filled;
+      there = there;
+      positive = omega (arith, there);
+      room = let room = opened.room in omega (arith, fits, room);
+    }
+
+-- The unit is on a leaf.
+
+pub filled_now : (b : Bool) (leaves next : Leaves) (old one new : Built) (cost : ℕ) (placed : Placed) → AreWhole old → has_room leaves old cost ≡ b
+    → cost ≤ old.size - 26 → HasRoomNow b leaves next old one → IsUnitPut next one new placed
+    → (before : ℕ) (closed : List (List Placed)) (units : List Placed) → AreFilled leaves old before closed units
+    → FilledNow b next new before closed units placed
+filled_now true leaves next old one new cost placed whole test fits (same, kept) put before closed units filled =
+    unit_added next one new before closed units placed
+    (subst (λ (b : Built). AreFilled next b before closed units) (sym kept) (subst (λ (l : Leaves). AreFilled l old before closed units) (sym same) filled)) put
+filled_now false leaves next old one new cost placed whole test fits opened put before closed units filled =
+    unit_added next one new before (closed ++ (units ∷ [])) [] placed
+    (leaf_opened leaves next old one before closed units filled (some_units leaves old cost before closed units filled whole test fits) opened) put
+
+-- pages that stood, but the leaf that was the last
+pub kept_now : (b : Bool) (leaves next : Leaves) (old one new : Built) → leaves.last < length old.pages → HasRoomNow b leaves next old one
+    → KeepsOthers next.last one new → KeepsOthers leaves.last old new
+kept_now true leaves next old one new there (same, kept) more =
+    subst (λ (b : Built). KeepsOthers leaves.last b new) kept (subst (λ (l : Leaves). KeepsOthers l.last one new) same more)
+kept_now false leaves next old one new there opened more =
+    let grows = opened.kept.grows in
+    let further = more.grows in
+    record {
+      size = more.size ∙ opened.kept.size;
+      order = more.order ∙ opened.kept.order;
+      grows = omega (arith, grows, further);
+      same = λ q low other.
+          more.same q (omega (arith, low, grows)) (λ e. omega (arith, e, low, opened.last)) ∙ opened.kept.same q low other;
+    }
+
+unfoldable pub pushed : (leaves next : Leaves) (old one new : Built) (unit : TreeUnit) (placed : Placed) → AreSomeFilled leaves old
+    → unit_of placed ≡ unit → next.leaf_type ≡ leaves.leaf_type → HasRoomNow (has_room leaves old (unit_cost old.size unit)) leaves next old one
+    → unit_cost old.size unit ≤ old.size - 26 → AreWhole old → IsUnitPut next one new placed → IsPushed leaves next old new unit
+pushed leaves next old one new unit placed some is type made fits whole put =
+    record {
+      placed = placed;
+      is = is;
+      type = type;
+      kept = kept_now _ leaves next old one new some.filled.hold.there made put.kept;
+      filled = filled_now _ leaves next old one new (unit_cost old.size unit) placed whole refl fits made put;
+    }
+
+-- so there are some units, and one on the last leaf
+pub some_pushed : (leaves next : Leaves) (old new : Built) (unit : TreeUnit) → AreSomeFilled leaves old → IsPushed leaves next old new unit
+    → AreSomeFilled next new
+some_pushed leaves next old new unit some pushed =
+    by_room (has_room leaves old (unit_cost old.size unit)) (pushed.filled some.before some.closed some.units some.filled)
+  where
+    by_room : (b : Bool) → FilledNow b next new some.before some.closed some.units pushed.placed → AreSomeFilled next new
+    by_room true filled = record {
+      before = some.before;
+      closed = some.closed;
+      units = some.units ++ (pushed.placed ∷ []);
+      filled = filled;
+      some = inr (omega (arith, length-append some.units (pushed.placed ∷ [])));
+    }
+    by_room false filled = record {
+      before = some.before;
+      closed = some.closed ++ (some.units ∷ []);
+      units = pushed.placed ∷ [];
+      filled = filled;
+      some = inr (omega arith);
+    }
+
+-- the item of a value is hardly longer than an eighth of a page
+pub cost_few : (size : ℕ) (value : List ℕ) → is_page_size size ≡ true → value_cost size value ≤ size / 8 + 12
+cost_few size value legal = by_test (nat_le (length value) (size / 8)) refl
+  where
+    by_test : (b : Bool) → nat_le (length value) (size / 8) ≡ b → cond b (pad4 (3 + length value)) 12 ≤ size / 8 + 12
+    by_test true test = let short : length value ≤ size / 8 = leb-true _ _ test in omega (arith, short)
+    by_test false test = omega arith
+
+-- the item of a value and its entry have room on an empty leaf
+pub entry_fits : (size : ℕ) (value : List ℕ) → is_page_size size ≡ true → 2 + value_cost size value ≤ size - 26
+entry_fits size value legal =
+    let bounds = size_bounds size legal in
+    let few = cost_few size value legal in
+    omega (arith, bounds.0, few)
+
+-- An entry.
+
+pub entry_ready : (leaves next : Leaves) (old one : Built) (value : List ℕ) (deleted : Bool) → AreSomeFilled leaves old → is_page_size old.size ≡ true → AreWhole old
+    → HasRoomNow (has_room leaves old (unit_cost old.size (EntryUnit value deleted))) leaves next old one
+    → IsReady leaves next old one (2 + value_cost old.size value)
+entry_ready leaves next old one value deleted some legal whole made =
+    ready _ leaves next old one (2 + value_cost old.size value) some refl made (entry_fits old.size value legal) whole
+
+pub entry_pushed : (leaves next : Leaves) (old one new : Built) (value : List ℕ) (deleted : Bool) → AreSomeFilled leaves old → is_page_size old.size ≡ true → AreWhole old
+    → (leaves.leaf_type ≡ Pairs → ⊥) → HasRoomNow (has_room leaves old (unit_cost old.size (EntryUnit value deleted))) leaves next old one
+    → IsPut next one new value deleted → IsPushed leaves next old new (EntryUnit value deleted)
+entry_pushed leaves next old one new value deleted some legal whole other made put =
+    let is = entry_ready leaves next old one value deleted some legal whole made in
+    pushed leaves next old one new (EntryUnit value deleted) (PlacedEntry (record { item = put.item; value = value })) some
+    (ap (EntryUnit value) put.stored.deleted_is) is.type made (entry_fits old.size value legal) whole
+    (entry_is_unit next one new value deleted (λ e. other (sym is.type ∙ e)) is.positive is.there put is.some)
+
+-- A key with its data.
+
+-- it has room on an empty leaf, and takes what its unit does
+pub pairs_fit : (size : ℕ) (key first : List ℕ) (more : List (List ℕ)) → is_page_size size ≡ true → has_own_tree size key (first ∷ more) ≡ false
+    → (pairs_cost size key first more ≤ size - 26) × (unit_cost size (KeyedUnit key (first ∷ more)) ≡ pairs_cost size key first more)
+pairs_fit size key first more legal few =
+    let whole : set_cost size key (first ∷ more) ≡ pairs_cost size key first more =
+    omega (arith, sum_by-cons (λ value. 4 + value_cost size value) first more) in (
+      by_count more few whole,
+      ap (λ b. cond b (value_cost size key + 16) (set_cost size key (first ∷ more))) few ∙ whole,
     )
   where
-    twice : (n : ℕ) → 2 * n % 2 ≡ 0
-    twice n = grind arith
+    by_count : (more : List (List ℕ)) → has_own_tree size key (first ∷ more) ≡ false → set_cost size key (first ∷ more) ≡ pairs_cost size key first more
+        → pairs_cost size key first more ≤ size - 26
+    by_count [] few whole =
+        let bounds = size_bounds size legal in
+        let k = cost_few size key legal in
+        let f = cost_few size first legal in
+        omega (arith, bounds.0, k, f)
+    by_count (next ∷ more) few whole =
+        let several : nat_lt 1 (length (first ∷ next ∷ more)) ≡ true = lt-ltb 1 (length (first ∷ next ∷ more)) (omega arith) in
+        let small : set_cost size key (first ∷ next ∷ more) ≤ (size - 26) / 4 =
+        elim (cases_lt ((size - 26) / 4) (set_cost size key (first ∷ next ∷ more))) [
+          | inl above ↦ absurd (true≢false (sym (both_true several (lt-ltb _ _ above)) ∙ few))
+          | inr fine ↦ fine
+        ] in
+        omega (arith, small, whole)
 
--- the last leaf, once it's followed by a new one
-abbrev followed : Built → ℕ → Built
-followed built last = with_page built last (page_before built.order (bytes_of built last) (length built.pages))
+-- the entries of whole keys are even in number
+pub whole_units : (g : File) (units : List Placed) → All (StandsPlaced Pairs g) units → length (flat_map entries_of units) % 2 ≡ 0
+whole_units g [] stand = refl
+whole_units g (unit ∷ units) stand =
+    let one = whole_unit unit (stand 0 unit (omega arith)) in
+    let rest = whole_units g units (λ k d low. stand (suc k) d (omega (arith, low))) in
+    ap (λ n. n % 2) (length-append (entries_of unit) (flat_map entries_of units)) ∙ both (length (entries_of unit)) (length (flat_map entries_of units)) one rest
+  where
+    both : (n m : ℕ) → n % 2 ≡ 0 → m % 2 ≡ 0 → (n + m) % 2 ≡ 0
+    both n m one two = omega (arith, one, two)
 
--- the new leaf
-record IsNewLeaf (built : Built) (p last : ℕ) : Type 0 where
-  holds : HoldsPairsOn built p last 0 []
-  leaf : IsPairLeaf built.order (bytes_of built p)
-  room : room_of built.order (bytes_of built p) ≡ built.size - 26
+    more_even : (key : ValueItem) (more : List ValueItem) → length (flat_map (further_entries key) more) % 2 ≡ 0
+    more_even key [] = refl
+    more_even key (datum ∷ more) = let rest = more_even key more in omega (arith, rest)
 
-opened_leaf : (one : Built) (n last : ℕ) → is_page_size one.size ≡ true → n ≡ length one.pages → n < 2 ^ 21 → last < n → IsNewLeaf (with_leaf one last) n last
-opened_leaf one n last legal end few low =
-    let m : ℕ = length one.pages in
-    let added = leaf_added one (with_zeros one) (with_leaf one last) m last legal (omega (arith, few, end)) (omega (arith, few, low)) refl refl refl in
-    let holds : HoldsPairsOn (with_leaf one last) m last 0 [] = added.1 in
-    let bytes : List ℕ = bytes_of (with_leaf one last) m in
-    let blank : List ℕ = bytes_of (with_zeros one) m in
-    let zeros : blank ≡ replicate one.size 0 = get_or_push one.pages (replicate one.size 0) [] m refl in
-    let whole : length blank ≡ one.size = ap length zeros ∙ length-replicate one.size 0 in
-    let sizes = size_bounds one.size legal in
-    let header : List ℕ = header_bytes one.order (begun_header blank (leaf_header m last)) in
-    let h : length header ≡ 26 = length-header one.order (begun_header blank (leaf_header m last)) in
-    let there : m < length (with_zeros one).pages = omega (arith, length-append one.pages (replicate one.size 0 ∷ [])) in
-    let here : bytes ≡ begun_page one.order blank (leaf_header m last) =
-    bytes_with (with_zeros one) m (begun_page one.order blank (leaf_header m last)) there in
-    let long : length bytes ≡ one.size = ap length here ∙ (length-overwritten blank 0 header (omega (arith, h, whole, sizes.0)) ∙ whole) in
-    let none : entries_of one.order bytes ≡ 0 = entries_held one.order bytes m last 0 [] holds in
-    let high : high_free_of one.order bytes ≡ length bytes = holds.begun.empty none in
-    subst (λ k. IsNewLeaf (with_leaf one last) k last) (sym end)
-    (record {
-      holds = holds;
-      leaf = record { begun = holds.begun; type = holds.type; even = ap (λ k. k % 2) none };
-      room = omega (arith, none, high, long);
-    })
+    whole_unit : (unit : Placed) → StandsPlaced Pairs g unit → length (entries_of unit) % 2 ≡ 0
+    whole_unit (PlacedEntry entry) stands = absurd stands
+    whole_unit (PlacedPairs key first more) stands = let rest = more_even key more in omega (arith, rest)
+    whole_unit (PlacedTree key root values) stands = refl
 
--- The leaf for a pair takes it.
+-- the leaves of pairs have whole keys, once there is room
+whole_of : (leaves : Leaves) (built : Built) (before : ℕ) (closed : List (List Placed)) (units : List Placed) → leaves.leaf_type ≡ Pairs
+    → AreFilled leaves built before closed units → HasWholePairs leaves built
+whole_of leaves built before closed units type filled =
+    let there = filled.hold.there in
+    let g : File = file_so_far built in
+    let stand = (filled.stands g (counted_so_far built (omega (arith, there))) (later_self built (rest_of before leaves built))).placed in
+    record {
+      type = type;
+      closed = map (flat_map entries_of) closed;
+      entries = flat_map entries_of units;
+      hold = filled.hold;
+      even = whole_units g units (subst (λ t. All (StandsPlaced t g) units) type (all_right (StandsPlaced leaves.leaf_type g) (flat_map (λ leaf. leaf) closed) units stand));
+    }
 
--- what the pair finds there
-record IsReady (between : Built) (leaf : ℕ) (key datum : Item) : Type 0 where
-  low : leaf < length between.pages
-  takes : CanTake between.order (bytes_of between leaf) key datum
+pub whole_now : (b : Bool) (leaves next : Leaves) (old one : Built) (cost : ℕ) → AreSomeFilled leaves old → leaves.leaf_type ≡ Pairs → AreWhole old
+    → has_room leaves old cost ≡ b → cost ≤ old.size - 26 → HasRoomNow b leaves next old one → HasWholePairs next one
+whole_now true leaves next old one cost some type whole test fits (same, kept) =
+    subst (λ (l : Leaves). HasWholePairs l one) (sym same)
+    (subst (λ (b : Built). HasWholePairs leaves b) (sym kept) (whole_of leaves old some.before some.closed some.units type some.filled))
+whole_now false leaves next old one cost some type whole test fits opened =
+    whole_of next one some.before (some.closed ++ (some.units ∷ [])) [] (opened.type ∙ type)
+    (leaf_opened leaves next old one some.before some.closed some.units some.filled
+    (some_units leaves old cost some.before some.closed some.units some.filled whole test fits) opened)
 
-ready_at : (b : Bool) (old between : Built) (last leaf : ℕ) (key datum : Item) → is_page_size old.size ≡ true → length old.pages < 2 ^ 21
-    → last < length old.pages → IsPairLeaf old.order (bytes_of old last) → ArePair key datum → pair_cost old.order key datum ≤ old.size - 26
-    → nat_le (pair_cost old.order key datum) (room_of old.order (bytes_of old last)) ≡ b → IsLeafAt b old between last leaf → IsReady between leaf key datum
-ready_at true old between last leaf key datum legal few low is_leaf pair room test (same, kept) =
-    subst (λ (g : Built). IsReady g leaf key datum) (sym kept)
-    (subst (λ k. IsReady old k key datum) (sym same)
-    (record { low = low; takes = record { leaf = is_leaf; pair = pair; room = leb-true _ _ test } }))
-ready_at false old between last leaf key datum legal few low is_leaf pair room test (end, made) =
-    let one : Built = followed old last in
-    let count : length old.pages ≡ length one.pages = sym (length-set old.pages last (page_before old.order (bytes_of old last) (length old.pages))) in
-    let new = opened_leaf one (length old.pages) last legal count few low in
-    let more : length (opened old last).pages ≡ length one.pages + 1 =
-    length-set (with_zeros one).pages (length one.pages) _ ∙ length-append one.pages (replicate one.size 0 ∷ []) in
-    subst (λ (g : Built). IsReady g leaf key datum) (sym made)
-    (subst (λ k. IsReady (opened old last) k key datum) (sym end)
-    (record { low = omega (arith, count, more); takes = record { leaf = new.leaf; pair = pair; room = omega (arith, room, new.room) } }))
-
-pub ready : (old between : Built) (last leaf : ℕ) (key datum : Item) → is_page_size old.size ≡ true → length old.pages < 2 ^ 21
-    → last < length old.pages → IsPairLeaf old.order (bytes_of old last) → ArePair key datum → pair_cost old.order key datum ≤ old.size - 26
-    → IsLeafFor old between last (pair_cost old.order key datum) leaf → CanTake between.order (bytes_of between leaf) key datum
-ready old between last leaf key datum legal few low is_leaf pair room for =
-    (ready_at _ old between last leaf key datum legal few low is_leaf pair room refl for).takes
-
--- What the leaves hold then.
-
-leaf_kept : (one : Built) (last p : ℕ) → p < length one.pages → bytes_of (with_leaf one last) p ≡ bytes_of one p
-leaf_kept one last p low =
-    get_or-set_other (with_zeros one).pages (length one.pages) p _ [] (λ same. omega (arith, same, low))
-    ∙ get_or_append_left one.pages (replicate one.size 0 ∷ []) [] p low
-
-pair_kept : (between : Built) (leaf p : ℕ) (key datum : Item) → (p ≡ leaf → ⊥) → bytes_of (with_pair between leaf key datum) p ≡ bytes_of between p
-pair_kept between leaf p key datum other =
-    get_or-set_other (with_item_on between leaf (leaf_bytes between.order key)).pages leaf p _ [] other
-    ∙ get_or-set_other between.pages leaf p _ [] other
-
-pushed_at : (b : Bool) (old between new : Built) (last leaf : ℕ) (key datum : Item) → is_page_size old.size ≡ true → length old.pages < 2 ^ 21
-    → last < length old.pages → IsLeafAt b old between last leaf → new ≡ with_pair between leaf key datum
-    → ((previous next : ℕ) (pairs : List LeafPair) → HoldsPairsOn between leaf previous next pairs
-    → HoldsPairsOn new leaf previous next (pairs ++ (own_pair key datum ∷ [])))
-    → (previous : ℕ) (pairs : List LeafPair) → HoldsPairsOn old last previous 0 pairs → HoldsPushed b new last leaf previous pairs (own_pair key datum)
-pushed_at true old between new last leaf key datum legal few low (same, kept) is more previous pairs holds =
-    subst (λ k. HoldsPairsOn new k previous 0 (pairs ++ (own_pair key datum ∷ []))) same
-    (more previous 0 pairs (subst (λ (g : Built). HoldsPairsOn g leaf previous 0 pairs) (sym kept)
-    (subst (λ k. HoldsPairsOn old k previous 0 pairs) (sym same) holds)))
-pushed_at false old between new last leaf key datum legal few low (end, made) is more previous pairs holds =
-    let one : Built = followed old last in
-    let count : length old.pages ≡ length one.pages = sym (length-set old.pages last (page_before old.order (bytes_of old last) (length old.pages))) in
-    let fresh = opened_leaf one (length old.pages) last legal count few low in
-    let empty : HoldsPairsOn between leaf last 0 [] =
-    subst (λ (g : Built). HoldsPairsOn g leaf last 0 []) (sym made) (subst (λ k. HoldsPairsOn (opened old last) k last 0 []) (sym end) fresh.holds) in
-    let before : HoldsPairsOn one last previous (length old.pages) pairs =
-    next_set old one last (length old.pages) low (omega (arith, few)) refl previous 0 pairs holds in
-    let order : new.order ≡ old.order = ap (λ (g : Built). g.order) is ∙ ap (λ (g : Built). g.order) made in
-    let bytes : bytes_of new last ≡ bytes_of one last =
-    ap (λ (g : Built). bytes_of g last) is
-    ∙ (pair_kept between leaf last key datum (λ same. omega (arith, same, end, low))
-    ∙ (ap (λ (g : Built). bytes_of g last) made ∙ leaf_kept one last last (omega (arith, count, low)))) in (
-      subst (λ o. HoldsPairs o (bytes_of new last) last previous leaf pairs) (sym order)
-          (subst (λ bs. HoldsPairs old.order bs last previous leaf pairs) (sym bytes)
-          (subst (λ k. HoldsPairs old.order (bytes_of one last) last previous k pairs) (sym end) before)),
-      more last 0 [] empty,
+pub pairs_ready : (leaves next : Leaves) (old one : Built) (key first : List ℕ) (more : List (List ℕ)) → AreSomeFilled leaves old → is_page_size old.size ≡ true
+    → AreWhole old
+    → leaves.leaf_type ≡ Pairs → has_own_tree old.size key (first ∷ more) ≡ false
+    → HasRoomNow (has_room leaves old (unit_cost old.size (KeyedUnit key (first ∷ more)))) leaves next old one
+    → IsReady leaves next old one (pairs_cost old.size key first more) × HasWholePairs next one
+pairs_ready leaves next old one key first more some legal whole type few made =
+    let fit = pairs_fit old.size key first more legal few in
+    let made_now : HasRoomNow (has_room leaves old (pairs_cost old.size key first more)) leaves next old one =
+    subst (λ n. HasRoomNow (has_room leaves old n) leaves next old one) fit.1 made in (
+      ready _ leaves next old one (pairs_cost old.size key first more) some refl made_now fit.0 whole,
+      whole_now _ leaves next old one (pairs_cost old.size key first more) some type whole refl fit.0 made_now,
     )
 
-pub pushed : (old between new : Built) (last leaf : ℕ) (key datum : Item) → is_page_size old.size ≡ true → length old.pages < 2 ^ 21
-    → last < length old.pages → IsLeafFor old between last (pair_cost old.order key datum) leaf → new ≡ with_pair between leaf key datum
-    → ((previous next : ℕ) (pairs : List LeafPair) → HoldsPairsOn between leaf previous next pairs
-    → HoldsPairsOn new leaf previous next (pairs ++ (own_pair key datum ∷ [])))
-    → (previous : ℕ) (pairs : List LeafPair) → HoldsPairsOn old last previous 0 pairs
-    → HoldsPushed (nat_le (pair_cost old.order key datum) (room_of old.order (bytes_of old last))) new last leaf previous pairs (own_pair key datum)
-pushed old between new last leaf key datum legal few low for is more = pushed_at _ old between new last leaf key datum legal few low for is more
+pub pairs_pushed : (leaves next : Leaves) (old one new : Built) (key first : List ℕ) (more : List (List ℕ)) → AreSomeFilled leaves old
+    → is_page_size old.size ≡ true → AreWhole old → leaves.leaf_type ≡ Pairs → has_own_tree old.size key (first ∷ more) ≡ false
+    → HasRoomNow (has_room leaves old (unit_cost old.size (KeyedUnit key (first ∷ more)))) leaves next old one
+    → ArePairsPut next one new key first more → IsPushed leaves next old new (KeyedUnit key (first ∷ more))
+pairs_pushed leaves next old one new key first more some legal whole type few made put =
+    let is = (pairs_ready leaves next old one key first more some legal whole type few made).0 in
+    let fit = pairs_fit old.size key first more legal few in
+    pushed leaves next old one new (KeyedUnit key (first ∷ more))
+    (PlacedPairs (record { item = put.key_item; value = key }) (record { item = put.first_item; value = first }) put.others) some
+    (ap (λ vs. KeyedUnit key (first ∷ vs)) put.values) is.type made (omega (arith, fit.0, fit.1)) whole
+    (pairs_are_unit next one new key first more (is.type ∙ type) is.positive put
+    (ap (λ n. has_own_tree n key (first ∷ more)) is.size ∙ few))

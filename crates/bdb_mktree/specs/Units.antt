@@ -1,6 +1,6 @@
 -- What a tree is built of: units, each of which stands on one leaf. Source: docs/FORMAT.md, "Built trees".
 use Rattle.std.specs.Prelude.{ℕ, ◌+◌, ◌-◌, ◌/◌, ◌<◌, ◌≤◌, nat_le, nat_lt, ◌&&◌, not, if◌then◌else◌, Bool, List, [], ◌∷◌, length, map}
-use Rattle.std.specs.List.{filter, flat_map, sum_by}
+use Rattle.std.specs.List.{enumerate_from, filter, flat_map, sum_by}
 use Rattle.bdb_format.specs.declared.kinds.Kind.{Kind}
 use Rattle.bdb_format.specs.declared.kinds.Kind.TheVariants.{Btree, Recno, Hash, Queue}
 use Rattle.bdb_format.specs.Numbers.{pad4}
@@ -9,11 +9,16 @@ use Rattle.bdb_format.specs.File.{File, page_at}
 use Rattle.bdb_format.specs.Chains.{value_of}
 use Rattle.bdb_format.specs.Contents.{StoredPair, data_of, entries_in, pairs_of}
 use Rattle.bdb_format.specs.ContentRows.{groups}
+use Rattle.bdb_format.specs.Lists.{BytesKey, ListKey, NumberKey}
 
 -- a key with all its data, or a record and whether it's deleted
 pub data TreeUnit : Type 0 where
   KeyedUnit : List ℕ → List (List ℕ) → TreeUnit
   EntryUnit : List ℕ → Bool → TreeUnit
+
+abbrev pub key_of : TreeUnit → List ℕ
+key_of (KeyedUnit key values) = key
+key_of (EntryUnit value deleted) = []
 
 -- The units that leaves hold.
 
@@ -33,6 +38,25 @@ units_on file Btree p = keyed_units file (pairs_of file p)
 units_on file Recno p = map (entry_unit file) (entries_in (page_at file p))
 units_on file Hash p = []
 units_on file Queue p = []
+
+-- The list of a tree of units.
+
+-- a key with each of its data
+abbrev pub listed_keyed : TreeUnit → List (ListKey × List ℕ)
+listed_keyed (KeyedUnit key values) = map (λ value. (BytesKey key, value)) values
+listed_keyed (EntryUnit value deleted) = []
+
+-- a record with its number, where it isn't deleted
+abbrev pub listed_record : (ℕ × TreeUnit) → List (ListKey × List ℕ)
+listed_record (number, KeyedUnit key values) = []
+listed_record (number, EntryUnit value deleted) = if deleted then [] else (NumberKey number, value) ∷ []
+
+-- of a btree the pairs of its units, of a recno its records by their numbers from 1, of which deleted ones have one too
+abbrev pub list_of_units : Kind → List TreeUnit → List (ListKey × List ℕ)
+list_of_units Btree units = flat_map listed_keyed units
+list_of_units Recno units = flat_map listed_record (enumerate_from 1 units)
+list_of_units Hash units = []
+list_of_units Queue units = []
 
 -- What a unit takes of a leaf of a page size.
 
@@ -58,4 +82,5 @@ AreSpread size room [] = ⊥
 AreSpread size room (units ∷ []) = sum_by (unit_cost size) units ≤ room
 AreSpread size room (units ∷ [] ∷ leaves) = ⊥
 AreSpread size room (units ∷ (unit ∷ more) ∷ leaves) =
-    (sum_by (unit_cost size) units ≤ room) × (room < sum_by (unit_cost size) units + unit_cost size unit) × AreSpread size room ((unit ∷ more) ∷ leaves)
+    (sum_by (unit_cost size) units ≤ room) × (room < sum_by (unit_cost size) units + unit_cost size unit)
+    × AreSpread size room ((unit ∷ more) ∷ leaves)

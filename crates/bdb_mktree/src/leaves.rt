@@ -1,117 +1,148 @@
-ghost use Rattle.std.specs.Prelude.{ℕ, ◌-◌, ◌≤◌, nat_le, ◌≡◌, ◌<◌, ◌^◌, ◌++◌, ◌∷◌, [], IfOk, IsTrue, List, length};
+ghost use Rattle.std.specs.Prelude.{◌≡◌, ◌+◌, ◌-◌, ◌*◌, ◌/◌, ◌≤◌, ◌<◌, ◌^◌, [], IfOk, IsTrue, length};
 ghost use Rattle.bdb_format.specs.HeadOf.{is_page_size};
-ghost use Rattle.bdb_format.specs.declared.kinds.Order.{Order as ByteOrder};
 ghost use Rattle.bdb_layout.specs.Seen.{leaf_item_seen};
-ghost use Rattle.bdb_pack.specs.Items.{IsWritable, OnLeaf};
-ghost use Rattle.bdb_pack.specs.Built.{AreWhole, bytes_of, with_page};
-ghost use Rattle.bdb_pack.specs.OnPages.{IsBegunOn};
-ghost use Rattle.bdb_mktree.specs.LeafPairs.{ArePair, CanTake, HoldsPairsOn, HoldsPushed, IsLeafFor, IsPairLeaf, IsPushed, LeafPair, item_cost, own_pair, page_before, pair_cost, room_of, with_leaf, with_pair};
+ghost use Rattle.bdb_pack.specs.Built.{AreWhole, bytes_of};
+ghost use Rattle.bdb_mktree.specs.LeafEntries.{CanShareKey, CanTakeEntry, own_entry, room_of, shared_key};
+ghost use Rattle.bdb_mktree.specs.Filled.{AreFilled, AreSomeFilled};
+ghost use Rattle.bdb_mktree.specs.Leaves.{AreSomeLeaves, HasRoomNow, KeepsOthers, has_room};
+ghost use Rattle.bdb_mktree.specs.Puts.{IsGrown, IsItemOf, IsPut};
+ghost use Rattle.bdb_mktree.specs.Units.{value_cost};
+ghost use Rattle.bdb_mktree.specs.declared.leaf_type.LeafType.TheVariants.{Pairs};
 
-use bdb_format::Header;
-use bdb_layout::{LeafItem, put_u32};
-use bdb_pack::Pages;
-use std::alloc::AllocError;
+use crate::LeafType;
+use crate::entries::{add_leaf, append_item, append_shared_key, set_next};
+use bdb_layout::LeafItem;
+use bdb_pack::{Pages, Stored, push_value};
+use std::alloc::{AllocError, Global};
 
-/// Adds a leaf without pairs behind all pages, and answers its number. `previous` is the leaf before it, 0 where it is the first.
-pub fn add_leaf(pages: &mut Pages, previous: u32) -> Result<u32, AllocError>
-    requires legal { IsTrue (is_page_size pages.old.size) }
-    requires few { length pages.old.pages < 2 ^ 21 }
-    ensures number { IfOk result (λ number. number ≡ length pages.old.pages) }
-    ensures pages { IfOk result (λ _. pages.new ≡ with_leaf pages.old previous) }
-    ensures holds { IfOk result (λ number. HoldsPairsOn pages.new number previous 0 []) }
-{
-    let number = pages.add()?;
-    pages.begin(
-        number,
-        &Header {
-            number,
-            previous,
-            next: 0,
-            entries: 0,
-            high_free: 0,
-            level: 1,
-            page_type: 5,
-        },
-    );
-    Ok(number)
+/// How many pages a file may have.
+pub(crate) const MAX_PAGES: u32 = 1 << 21;
+
+/// The leaves of a tree that is being built, in their order: the last one takes units. They stand among pages that each call is given; after a
+/// refusal neither leaves nor pages have a promise.
+#[derive(Drop)]
+pub struct Leaves {
+    pub(crate) leaf_type: LeafType,
+    pub(crate) closed: Vec<u32>,
+    pub(crate) last: u32,
 }
 
-/// Writes which leaf comes after a leaf.
-pub fn set_next(pages: &mut Pages, leaf: u32, next: u32)
-    requires leaf { leaf < length pages.old.pages }
-    requires whole { AreWhole pages.old }
-    requires begun { IsBegunOn pages.old leaf }
-    ensures page { pages.new ≡ with_page pages.old leaf (page_before pages.old.order (bytes_of pages.old leaf) next) }
-    ensures holds { (previous before : ℕ) (pairs : List LeafPair) → HoldsPairsOn pages.old leaf previous before pairs
-        → HoldsPairsOn pages.new leaf previous next pairs }
-{
-    let order = pages.order();
-    put_u32(pages.page_mut(leaf), 16, order, next);
-}
+impl Leaves {
+    /// One leaf without entries, behind all pages.
+    pub fn start(
+        alloc: Global,
+        pages: &mut Pages,
+        leaf_type: LeafType,
+    ) -> Result<Leaves, AllocError>
+        requires legal { IsTrue (is_page_size pages.old.size) }
+        requires some { 1 ≤ length pages.old.pages }
+        ensures filled { IfOk result (λ leaves. AreFilled leaves pages.new (length pages.old.pages) [] []) }
+        ensures some { IfOk result (λ leaves. AreSomeFilled leaves pages.new) }
+        ensures leaf { IfOk result (λ leaves. leaves.leaf_type ≡ leaf_type) }
+        ensures number { IfOk result (λ leaves. leaves.last ≡ length pages.old.pages) }
+        ensures kept { IfOk result (λ leaves. KeepsOthers leaves.last pages.old pages.new) }
+    {
+        let last = add_leaf(pages, leaf_type, 0)?;
+        Ok(Leaves {
+            leaf_type,
+            closed: Vec::new(alloc),
+            last,
+        })
+    }
 
-/// Adds a pair at the end of a btree leaf: a key, and its one datum.
-pub fn append_pair(pages: &mut Pages, leaf: u32, key: &LeafItem<'_>, datum: &LeafItem<'_>)
-    requires leaf { leaf < length pages.old.pages }
-    requires takes { CanTake pages.old.order (bytes_of pages.old leaf) (leaf_item_seen key.now) (leaf_item_seen datum.now) }
-    ensures page { pages.new ≡ with_pair pages.old leaf (leaf_item_seen key.now) (leaf_item_seen datum.now) }
-    ensures holds { (previous next : ℕ) (pairs : List LeafPair) → HoldsPairsOn pages.old leaf previous next pairs
-        → HoldsPairsOn pages.new leaf previous next (pairs ++ (own_pair (leaf_item_seen key.now) (leaf_item_seen datum.now) ∷ [])) }
-{
-    pages.append_leaf(leaf, key);
-    pages.append_leaf(leaf, datum);
-}
+    /// Their type.
+    pub fn leaf_type(&self) -> LeafType
+        ensures { result ≡ self.now.leaf_type }
+    {
+        self.leaf_type
+    }
 
-// How many bytes an item takes of a leaf beside its entry.
-fn item_cost(item: &LeafItem<'_>) -> usize
-    requires { IsWritable (OnLeaf (leaf_item_seen item.now)) }
-    ensures { (order : ByteOrder) → result ≡ item_cost order (leaf_item_seen item.now) }
-{
-    match *item {
-        LeafItem::Inline { bytes, .. } => (bytes.len() + 6) / 4 * 4,
-        LeafItem::Duplicates { .. } => 12,
-        LeafItem::Overflow { .. } => 12,
+    /// Makes the last leaf one that has room for so many bytes: a new one, where the last has none.
+    pub(crate) fn make_room(&mut self, pages: &mut Pages, cost: usize) -> Result<(), AllocError>
+        requires legal { IsTrue (is_page_size pages.old.size) }
+        requires whole { AreWhole pages.old }
+        requires leaves { AreSomeLeaves self.old pages.old }
+        ensures { IfOk result (λ _. HasRoomNow (has_room self.old pages.old cost) self.old self.new pages.old pages.new) }
+    {
+        if cost <= pages.room(self.last) as usize {
+            return Ok(());
+        }
+        let next = pages.count();
+        set_next(pages, self.last, next);
+        self.closed.push(self.last)?;
+        self.last = add_leaf(pages, self.leaf_type, self.last)?;
+        Ok(())
     }
 }
 
-// The leaf for what takes so many bytes: the last one where it has room, and else a new one after it.
-fn leaf_for(pages: &mut Pages, last: u32, cost: usize) -> Result<u32, AllocError>
-    requires legal { IsTrue (is_page_size pages.old.size) }
-    requires whole { AreWhole pages.old }
-    requires few { length pages.old.pages < 2 ^ 21 }
-    requires last { last < length pages.old.pages }
-    requires begun { IsBegunOn pages.old last }
-    ensures leaf { IfOk result (λ leaf. IsLeafFor pages.old pages.new last cost leaf) }
-{
-    if cost <= pages.room(last) as usize {
-        return Ok(last);
+impl Leaves {
+    /// Adds an item to the last leaf.
+    pub(crate) fn append(&self, pages: &mut Pages, item: &LeafItem<'_>)
+        requires leaves { AreSomeLeaves self.now pages.old }
+        requires takes { CanTakeEntry pages.old self.now.last (leaf_item_seen item.now) }
+        ensures grown { IsGrown self.now pages.old pages.new (λ entries. own_entry (leaf_item_seen item.now)) }
+        ensures count { length pages.new.pages ≡ length pages.old.pages }
+    {
+        append_item(pages, self.last, item);
     }
-    let next = pages.count();
-    set_next(pages, last, next);
-    add_leaf(pages, last)
+
+    /// Adds the key of the last pair to the last leaf once more.
+    pub(crate) fn append_shared_key(&self, pages: &mut Pages)
+        requires leaves { AreSomeLeaves self.now pages.old }
+        requires pairs { self.now.leaf_type ≡ Pairs }
+        requires shares { CanShareKey pages.old self.now.last }
+        ensures grown { IsGrown self.now pages.old pages.new shared_key }
+        ensures count { length pages.new.pages ≡ length pages.old.pages }
+    {
+        append_shared_key(pages, self.last);
+    }
+
+    /// Puts a value on the last leaf: its item, where it is short, or that of a chain behind all pages.
+    pub(crate) fn put(
+        &self,
+        pages: &mut Pages,
+        value: &[u8],
+        deleted: bool,
+    ) -> Result<(), AllocError>
+        requires short { length value.now < 2 ^ 32 }
+        requires leaves { AreSomeLeaves self.now pages.old }
+        requires legal { IsTrue (is_page_size pages.old.size) }
+        requires room { 2 + value_cost pages.old.size value.now ≤ room_of pages.old.order (bytes_of pages.old self.now.last) }
+        ensures { IfOk result (λ _. IsPut self.now pages.old pages.new value.now deleted) }
+    {
+        let item = store(pages, value, deleted)?;
+        self.append(pages, &item);
+        Ok(())
+    }
 }
 
-/// Puts a pair after those of the last leaf: on it where it has room, and else on a new leaf after it. Answers the leaf with the pair, which is the
-/// last one now.
-pub fn push_pair(
-    pages: &mut Pages,
-    last: u32,
-    key: &LeafItem<'_>,
-    datum: &LeafItem<'_>,
-) -> Result<u32, AllocError>
+// Stores a value, and answers its item: of a short one it has the bytes, of a longer one it names the chain.
+fn store<'a>(pages: &mut Pages, value: &'a [u8], deleted: bool) -> Result<LeafItem<'a>, AllocError>
+    requires short { length value.now < 2 ^ 32 }
+    requires first { 1 ≤ length pages.old.pages }
     requires legal { IsTrue (is_page_size pages.old.size) }
-    requires whole { AreWhole pages.old }
-    requires few { length pages.old.pages < 2 ^ 21 }
-    requires last { last < length pages.old.pages }
-    requires leaf { IsPairLeaf pages.old.order (bytes_of pages.old last) }
-    requires pair { ArePair (leaf_item_seen key.now) (leaf_item_seen datum.now) }
-    requires room { pair_cost pages.old.order (leaf_item_seen key.now) (leaf_item_seen datum.now) ≤ pages.old.size - 26 }
-    ensures pushed { IfOk result (λ leaf. IsPushed pages.old pages.new last leaf (leaf_item_seen key.now) (leaf_item_seen datum.now)) }
-    ensures holds { IfOk result (λ leaf. (previous : ℕ) (pairs : List LeafPair) → HoldsPairsOn pages.old last previous 0 pairs
-        → HoldsPushed (nat_le (pair_cost pages.old.order (leaf_item_seen key.now) (leaf_item_seen datum.now)) (room_of pages.old.order (bytes_of pages.old last)))
-        pages.new last leaf previous pairs (own_pair (leaf_item_seen key.now) (leaf_item_seen datum.now))) }
+    ensures { IfOk result (λ item. IsItemOf pages.old pages.new value.now deleted (leaf_item_seen item)) }
 {
-    let cost = 4 + item_cost(key) + item_cost(datum);
-    let leaf = leaf_for(pages, last, cost)?;
-    append_pair(pages, leaf, key, datum);
-    Ok(leaf)
+    if !has_pages_for(pages, value) {
+        return Err(AllocError);
+    }
+    match push_value(pages, value)? {
+        Stored::Inline => Ok(LeafItem::Inline {
+            bytes: value,
+            deleted,
+        }),
+        Stored::Chain { head, total } => Ok(LeafItem::Overflow {
+            head,
+            total,
+            deleted,
+        }),
+    }
+}
+
+// Whether there are numbers left for the pages of a value's chain.
+fn has_pages_for(pages: &Pages, value: &[u8]) -> bool
+    ensures { IsTrue result → length value.now ≤ (2 ^ 21 - length pages.now.pages) * (pages.now.size - 26) }
+{
+    let left = MAX_PAGES.saturating_sub(pages.count()) as usize;
+    value.len() <= left * (pages.size() - 26)
 }

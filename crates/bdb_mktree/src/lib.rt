@@ -1,7 +1,20 @@
-//! Trees that are built unit by unit: leaves that take pairs, and laws of them and of the levels that are laid over them.
+//! Trees that are built unit by unit: leaves that take units, levels that are laid over them, and laws of the trees that they make.
 #![tactic(auto)]
 
+mod children;
+mod entries;
+mod finish;
+mod inner;
 pub mod laws;
+mod leaf_type;
 mod leaves;
+mod levels;
+mod moving;
+mod pairs;
+mod placing;
+mod sets;
+mod tower;
+mod units;
 
-pub use leaves::{add_leaf, append_pair, push_pair, set_next};
+pub use leaf_type::LeafType;
+pub use leaves::Leaves;

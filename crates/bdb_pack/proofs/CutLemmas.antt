@@ -1,11 +1,13 @@
 -- Bytes that are cut into pages.
-use Rattle.std.proofs.Common.{◌≡◌, ℕ, zero, suc, ◌+◌, ◌*◌, ◌<◌, ◌≤◌, List, [], ◌∷◌, ◌++◌, length, take, drop, get_or, set, replicate, arith, refl, sym, ◌∙◌, ap, length-append, length-drop, length-take, min, inl, inr}
-use Rattle.std.proofs.lemmas.List.{length-take-le, take-append-drop, drop-drop, drop-take, get_or_append_left, get_or_push, length-replicate, drop_all, append-nil, take-take, take_all, take-append-le, drop-append-le, take_at, drop_at}
+use Rattle.std.proofs.Common.{◌≡◌, ℕ, zero, suc, ◌+◌, ◌-◌, ◌*◌, ◌<◌, ◌≤◌, List, [], ◌∷◌, ◌++◌, length, take, drop, get_or, set, replicate, arith, refl, sym, ◌∙◌, ap, length-append, length-drop, length-take, min, inl, inr}
+use Rattle.std.proofs.lemmas.List.{length-take-le, take-append-drop, drop-drop, drop-take, get_or_append_left, get_or_push, get_or-set_other, get_or-set_same, length-replicate, length-set, drop_all, append-nil, take-take, take_all, take-append-le, drop-append-le, take_at, drop_at, append_assoc}
+use Rattle.std.specs.List.{copy_within}
+use Rattle.std.proofs.Math.Seq.{paste}
 use Rattle.std.proofs.Math.Nat.{mul-le-mul_right}
-use Rattle.std.proofs.lemmas.Bool.{cases_lt}
+use Rattle.std.proofs.lemmas.Bool.{cases_eq, cases_lt}
 use Rattle.bdb_format.specs.Numbers.{overwritten}
 use Rattle.bdb_format.specs.declared.kinds.Order.{Order}
-use Rattle.bdb_pack.specs.Built.{AreWhole, Built, built_of, cut, joined_pages, with_page, with_zeros, written_over}
+use Rattle.bdb_pack.specs.Built.{AreWhole, Built, built_of, bytes_of, cut, joined_pages, with_page, with_zeros, written_over}
 
 pub length_cut : (size count : ℕ) (bytes : List ℕ) → length (cut size count bytes) ≡ count
 length_cut size zero bytes = refl
@@ -104,6 +106,12 @@ cut_take size (suc n) bytes =
     ∙ (ap (λ bs. take size bytes ∷ cut size n bs) (drop-take size (n * size) bytes)
     ∙ ap (λ ps. take size bytes ∷ ps) (cut_take size n (drop size bytes))))
 
+-- the first pages of the bytes
+pub cut_fewer : (size k n : ℕ) (bytes : List ℕ) → k ≤ n → cut size k bytes ≡ take k (cut size n bytes)
+cut_fewer size zero n bytes few = refl
+cut_fewer size (suc k) zero bytes few = absurd (omega (arith, few))
+cut_fewer size (suc k) (suc n) bytes few = ap (λ ps. take size bytes ∷ ps) (cut_fewer size k n (drop size bytes) (omega (arith, few)))
+
 -- a vector keeps its length, whatever is written
 pub kept : (size count : ℕ) (bytes written : List ℕ) → length bytes ≡ count * size → length bytes ≤ length written
     → cut size count (take (length bytes) (written ++ drop (length written) bytes)) ≡ cut size count written
@@ -157,11 +165,41 @@ written_whole built p page whole low long =
     ap (λ pages. let b : Built = record { size = built.size; order = built.order; pages = pages } in b)
     (cut_set built.size (length built.pages) (joined_pages built.pages) page p all.1 long low ∙ ap (λ ps. set ps p page) all.0)
 
--- a zero page more is whole
-pub zeros_whole : (built : Built) → AreWhole built → AreWhole (with_zeros built)
-zeros_whole built whole p low =
+-- pages stay whole with one more
+pub more_whole : (built : Built) (page : List ℕ) → AreWhole built → length page ≡ built.size
+    → AreWhole (record built { pages = built.pages ++ (page ∷ []) })
+more_whole built page whole long p low =
     elim (cases_lt p (length built.pages)) [
-      | inl below ↦ ap length (get_or_append_left built.pages (replicate built.size 0 ∷ []) [] p below) ∙ whole p below
-      | inr over ↦ ap length (get_or_push built.pages (replicate built.size 0) [] p
-          (omega (arith, over, low, length-append built.pages (replicate built.size 0 ∷ [])))) ∙ length-replicate built.size 0
+      | inl below ↦ ap length (get_or_append_left built.pages (page ∷ []) [] p below) ∙ whole p below
+      | inr over ↦ ap length (get_or_push built.pages page [] p (omega (arith, over, low, length-append built.pages (page ∷ [])))) ∙ long
     ]
+
+pub zeros_whole : (built : Built) → AreWhole built → AreWhole (with_zeros built)
+zeros_whole built whole = more_whole built (replicate built.size 0) whole (length-replicate built.size 0)
+
+-- and with other bytes on one
+pub page_whole : (built : Built) (p : ℕ) (page : List ℕ) → AreWhole built → p < length built.pages → length page ≡ built.size
+    → AreWhole (with_page built p page)
+page_whole built p page whole here long q low =
+    elim (cases_eq q p) [
+      | inl same ↦ ap (λ k. length (bytes_of (with_page built p page) k)) same ∙ (ap length (get_or-set_same built.pages p page [] here) ∙ long)
+      | inr other ↦ ap length (get_or-set_other built.pages p q page [] other) ∙ whole q (omega (arith, low, length-set built.pages p page))
+    ]
+
+-- the bytes of a page copied over those of another
+pub copied_over : (size count : ℕ) (order : Order) (bytes : List ℕ) (from to end : ℕ) → length bytes ≡ count * size → from < count → to < count
+    → end ≡ from * size + size
+    → let old : Built = built_of size order count bytes in
+    built_of size order count (copy_within bytes (from * size) end (to * size)) ≡ with_page old to (bytes_of old from)
+copied_over size count order bytes from to end whole from_low to_low at_end =
+    let page : List ℕ = take size (drop (from * size) bytes) in
+    let is : get_or (cut size count bytes) from [] ≡ page = page_of_cut size count bytes from from_low in
+    let long : length page ≡ size = ap length (sym is) ∙ page_length size count bytes from whole from_low in
+    let room : end - from * size ≡ size = omega (arith, at_end) in
+    let written : copy_within bytes (from * size) end (to * size) ≡ overwritten bytes (to * size) page =
+    ap (λ n. paste bytes (to * size) (drop (from * size) bytes) n) room
+    ∙ (append_assoc (take (to * size) bytes) page (drop (to * size + size) bytes)
+    ∙ ap (λ n. take (to * size) bytes ++ (page ++ drop (to * size + n) bytes)) (sym long)) in
+    ap (λ ps. let b : Built = record { size = size; order = order; pages = ps } in b)
+    (ap (cut size count) written
+    ∙ (cut_set size count bytes page to whole long to_low ∙ ap (set (cut size count bytes) to) (sym is)))

@@ -56,6 +56,9 @@ chain_pages_are_formed order size number previous rest legal low before =
       typed order page 7 enough refl seven ∙ (ap (λ x. Overflow x (take (two_at order page 22) (drop 26 page))) header ∙ ap (Overflow h) body),
       code_none order number page (not_zero page enough (ap (λ b. b == 0) seven)) (rw (numbered, seven) refl)
           (ap (λ b. body_code order page (page_type b)) seven ∙ (rw room refl)),
+      seven,
+      ap (λ (x : Header). x.entries) header,
+      size_is,
     )
   where
     next_fits : (b : Bool) (number : ℕ) → number + 1 < 2 ^ 32 → cond b (number + 1) 0 < 2 ^ 32

@@ -22,7 +22,7 @@ within : (a b : ℕ) → nat_lt a b ≡ false → b ≤ a
 within a b is = grind (arith, nat_tests)
 
 -- an item of a leaf begins before the page's end
-begins_within : (order : Order) (page : List ℕ) (i : ℕ) → item_row LeafPage order page i ≡ None → offset_of order page i + 3 ≤ length page
+pub begins_within : (order : Order) (page : List ℕ) (i : ℕ) → item_row LeafPage order page i ≡ None → offset_of order page i + 3 ≤ length page
 unfolding leaf_rows
 begins_within order page i none =
     within (length page) (offset_of order page i + 3)

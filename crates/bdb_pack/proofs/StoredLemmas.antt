@@ -13,7 +13,7 @@ use Rattle.bdb_format.specs.Chains.{joined, piece_in}
 use Rattle.bdb_grove.specs.Growing.{IsLink, IsRun, IsSamePage, chain_header}
 use Rattle.bdb_grove.proofs.ChainLemmas.{chains_stand, is_between}
 use Rattle.bdb_pack.specs.Built.{bytes_of, file_so_far}
-use Rattle.bdb_pack.specs.Stored.{StoredValuesStand}
+use Rattle.bdb_pack.specs.Stored.{AreFull, StoredValuesStand}
 use Rattle.bdb_pack.specs.Values.{AreChainPages, chain_page, piece_length, piece_next}
 use Rattle.bdb_pack.proofs.PieceLemmas.{chain_pages_are_formed}
 
@@ -36,10 +36,11 @@ abbrev StandAt : File → Order → ℕ → List (List ℕ) → Type 0
 StandAt g order number [] = Unit {0}
 StandAt g order number (page ∷ pages) = IsSamePage (abstract_page order page) (page_at g number) × StandAt g order (number + 1) pages
 
-record Run (g : File) (previous number : ℕ) (rest : List ℕ) (pages : List (List ℕ)) : Type 0 where
+record Run (g : File) (size previous number : ℕ) (rest : List ℕ) (pages : List (List ℕ)) : Type 0 where
   pieces : List (List ℕ)
   count : length pieces ≡ length pages
   joined_is : joined pieces ≡ rest
+  full : AreFull (size - 26) pieces
   run : IsRun g previous number pieces
 
 -- the last page has all that is left, and no next
@@ -79,7 +80,7 @@ link_of g previous number next piece old is (inr more) =
 
 run_of : (g : File) (order : Order) (size number previous : ℕ) (rest : List ℕ) (pages : List (List ℕ)) → is_page_size size ≡ true → 0 < length rest
     → number + length pages < 2 ^ 32 → previous < 2 ^ 32
-    → AreChainPages order size number previous rest pages → StandAt g order number pages → Run g previous number rest pages
+    → AreChainPages order size number previous rest pages → StandAt g order number pages → Run g size previous number rest pages
 run_of g order size number previous rest [] legal some few before chain stand = absurd (omega (arith, some, ap length chain))
 run_of g order size number previous rest (page ∷ []) legal some few before chain stand =
     let n : ℕ = piece_length size rest in
@@ -88,6 +89,7 @@ run_of g order size number previous rest (page ∷ []) legal some few before cha
       pieces = take n rest ∷ [];
       count = refl;
       joined_is = append-nil (take n rest) ∙ last.1;
+      full = (omega (arith, ap length last.1, some), omega (arith, length-take-le n rest (omega arith)));
       run =
           link_of g previous number 0 (take n rest) (abstract_page order page)
           (ap (abstract_page order) chain.1 ∙ (chain_page_is order size number previous rest legal (omega arith) before
@@ -106,9 +108,16 @@ run_of g order size number previous rest (page ∷ other ∷ pages) legal some f
       pieces = take n rest ∷ after.pieces;
       count = ap suc after.count;
       joined_is = ap (λ xs. take n rest ++ xs) after.joined_is ∙ take-append-drop n rest;
+      full = fuller after.pieces after.count
+          (omega (arith, length-take-le n rest (omega arith), chain.2.0, length-drop n rest)) after.full;
       run = longer after.pieces after.count this after.run;
     }
   where
+    fuller : (pieces : List (List ℕ)) → length pieces ≡ suc (length pages) → length (take (piece_length size rest) rest) ≡ size - 26
+        → AreFull (size - 26) pieces → AreFull (size - 26) (take (piece_length size rest) rest ∷ pieces)
+    fuller [] long whole full = absurd full
+    fuller (piece ∷ pieces) long whole full = (whole, full)
+
     longer : (pieces : List (List ℕ)) → length pieces ≡ suc (length pages) → IsLink g previous number (number + 1) (take (piece_length size rest) rest)
         → IsRun g number (number + 1) pieces → IsRun g previous number (take (piece_length size rest) rest ∷ pieces)
     longer [] long this run = absurd run
@@ -140,6 +149,8 @@ stored_values_stand old new value head g has legal some above few counted later 
     let run = run_of g old.order old.size head 0 value has.added legal some (omega (arith, few, total, has.first)) (omega arith) has.chain stand in
     record {
       pieces = run.pieces;
+      full = run.full;
+      run = run.run;
       count = omega (arith, run.count, total, has.first);
       joined_is = run.joined_is;
       chain = chains_stand g 0 head run.pieces counted (omega (arith, has.first)) (omega (arith, run.count, total, has.first, later.grows)) run.run;

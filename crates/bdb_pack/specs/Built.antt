@@ -56,6 +56,14 @@ pub record IsWhole (size count : ℕ) (bytes : List ℕ) : Type 0 where
 abbrev pub with_zeros : Built → Built
 with_zeros built = record built { pages = built.pages ++ (replicate built.size 0 ∷ []) }
 
+-- with a copy of a page at the end
+abbrev pub with_copy : Built → ℕ → Built
+with_copy built p = record built { pages = built.pages ++ (bytes_of built p ∷ []) }
+
+-- without the last page
+abbrev pub without_last : Built → Built
+without_last built = record built { pages = take (length built.pages - 1) built.pages }
+
 -- each page has the size
 abbrev pub AreWhole : Built → Type 0
 AreWhole built = (p : ℕ) → p < length built.pages → length (bytes_of built p) ≡ built.size

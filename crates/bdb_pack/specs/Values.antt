@@ -3,9 +3,9 @@ use Rattle.std.specs.Prelude.{◌≡◌, ℕ, true, None, ◌+◌, ◌-◌, ◌*
 use Rattle.bdb_format.specs.declared.kinds.Order.{Order}
 use Rattle.bdb_format.specs.declared.pages.Header.{Header}
 use Rattle.bdb_format.specs.HeadOf.{is_page_size}
-use Rattle.bdb_format.specs.Numbers.{overwritten}
+use Rattle.bdb_format.specs.Numbers.{byte_at, overwritten}
 use Rattle.bdb_format.specs.Page.{Overflow}
-use Rattle.bdb_format.specs.Reading.{abstract_page}
+use Rattle.bdb_format.specs.Reading.{abstract_page, entries_of}
 use Rattle.bdb_format.specs.Rows.{page_code}
 use Rattle.bdb_format.specs.Spelling.{header_bytes}
 use Rattle.bdb_pack.specs.Built.{Built}
@@ -54,13 +54,14 @@ abbrev pub IsStored : Built → Built → List ℕ → Stored → Type 0
 IsStored old new value Inline = (length value ≤ old.size / 8) × (new ≡ old)
 IsStored old new value (Chain head total) = (old.size / 8 < length value) × (total ≡ length value) × HasChain old new value head
 
--- a page of a chain stands for an overflow page with these bytes, and has no row of form
+-- a page of a chain stands for an overflow page with these bytes, and has no row of form; it is of type 7 and counts one reference
 abbrev pub ChainPagesAreFormed : Type 0
 ChainPagesAreFormed =
     (order : Order) (size number previous : ℕ) (rest : List ℕ) → is_page_size size ≡ true → number + 1 < 2 ^ 32 → previous < 2 ^ 32
     → let n : ℕ = piece_length size rest in
     let page : List ℕ = chain_page order size number previous rest in
     (abstract_page order page ≡ Overflow (piece_header number previous (piece_next size number rest) n) (take n rest)) × (page_code order number page ≡ None)
+    × (byte_at page 25 ≡ 7) × (entries_of order page ≡ 1) × (length page ≡ size)
 
 -- the pages of a chain are as many as its bytes fill, each taking the page but its header: one fewer wouldn't hold them
 abbrev pub ChainsAreCounted : Type 0

@@ -10,7 +10,7 @@ ghost use Rattle.bdb_layout.specs.Seen.{HasOrder, hash_content_seen, internal_it
 ghost use Rattle.bdb_pack.specs.Items.{IsWritable, OnHash, OnInternal, OnLeaf, OnRecno, extent, takes_items};
 ghost use Rattle.bdb_pack.specs.OnPages.{HasPlaceOn, HasRoomOn, IsBegunOn, has_room_on, holds_on, with_item_on};
 ghost use Rattle.bdb_pack.specs.Placing.{CanShare, HasRoom, IsOpen, begun_page, entered, has_room, high_free_of, page_and_item, page_and_shared, place_below};
-ghost use Rattle.bdb_pack.specs.Built.{AreWhole, bytes_of, joined_pages, with_page, with_zeros};
+ghost use Rattle.bdb_pack.specs.Built.{AreWhole, bytes_of, joined_pages, with_copy, with_page, with_zeros, without_last};
 
 use bdb_format::{Bytes, Header, Order, RecnoItem};
 use bdb_layout::{
@@ -93,6 +93,41 @@ impl Pages {
         self.bytes.resize(end, 0)?;
         self.count += 1;
         Ok(number)
+    }
+
+    /// A copy of a page at the end, and its number.
+    pub fn add_copy(&mut self, number: u32) -> Result<u32, AllocError>
+        requires number { number < length self.old.pages }
+        requires few { length self.old.pages < 2 ^ 21 }
+        ensures number { IfOk result (λ copy. copy ≡ length self.old.pages) }
+        ensures ok { OnOk result (self.new ≡ with_copy self.old number) }
+        ensures err { OnErr result (self.new ≡ self.old) }
+    {
+        let copy = self.count;
+        let first = number as usize * self.size;
+        self.bytes.extend_from_within(first..first + self.size)?;
+        self.count += 1;
+        Ok(copy)
+    }
+
+    /// Takes the last page away.
+    pub fn drop_last(&mut self)
+        requires some { 1 ≤ length self.old.pages }
+        ensures { self.new ≡ without_last self.old }
+    {
+        self.count -= 1;
+        self.bytes.truncate(self.count as usize * self.size);
+    }
+
+    /// Copies a page over another.
+    pub fn copy_over(&mut self, from: u32, to: u32)
+        requires from { from < length self.old.pages }
+        requires to { to < length self.old.pages }
+        ensures { self.new ≡ with_page self.old to (bytes_of self.old from) }
+    {
+        let first = from as usize * self.size;
+        self.bytes
+            .copy_within(first..first + self.size, to as usize * self.size);
     }
 
     /// The bytes of a page.

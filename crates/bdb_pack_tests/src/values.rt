@@ -214,3 +214,19 @@ fn spells_chains(rt: HostRuntime) -> Result<(), Fail> {
     }
     Ok(())
 }
+
+#[test]
+fn copies_a_page(rt: HostRuntime) -> Result<(), Fail> {
+    for chain in &CHAINS {
+        let mut pages = Pages::new(rt.alloc(), 512, chain.order);
+        pages.add()?;
+        push_value(&mut pages, &[0x66; 487])?;
+        assert_eq!(rt; pages.count(), 3);
+        assert_eq!(rt; pages.add_copy(1)?, 3);
+        assert_eq!(rt; pages.count(), 4);
+        assert!(rt; is_spelled(pages.page(1), &chain.first, &[0x66; 486]));
+        assert!(rt; is_spelled(pages.page(2), &chain.second, &[0x66]));
+        assert!(rt; is_spelled(pages.page(3), &chain.first, &[0x66; 486]));
+    }
+    Ok(())
+}

@@ -1,7 +1,8 @@
 -- The first fault of the contents of a recno, by the faults that are noted.
 use Rattle.std.proofs.lemmas.Bool.{and_parts, and_from, false_from_ne_true}
 use Rattle.bdb_format.proofs.ListLemmas.{only_member}
-use Rattle.std.proofs.Common.{◌≡◌, ◌⊎◌, ℕ, zero, suc, ◌+◌, ◌≤◌, Bool, true, false, cond, List, [], ◌∷◌, ◌++◌, Option, None, arith, refl, sym, ◌∙◌, ap, subst, inl, inr}
+use Rattle.std.proofs.Common.{◌≡◌, ◌⊎◌, ℕ, zero, suc, ◌+◌, ◌≤◌, Bool, true, false, cond, List, [], ◌∷◌, ◌++◌, Option, None, arith, refl, sym, ◌∙◌, ap}
+use Rattle.std.proofs.Common.{subst, inl, inr}
 use Rattle.std.specs.Prelude.{◌&&◌}
 use Rattle.std.specs.List.{All, Contains, filter}
 use Rattle.std.specs.Option.{is_some}
@@ -10,7 +11,8 @@ use Rattle.std.proofs.lemmas.List.Sums.{fold-append}
 use Rattle.bdb_graph.specs.Linked.{HasMetadata, IsForest}
 use Rattle.bdb_format.specs.declared.kinds.Fault.{Fault}
 use Rattle.bdb_format.specs.declared.metadata.BtreeMeta.{BtreeMeta}
-use Rattle.bdb_format.specs.ContentRows.{btree_contents, database_faults, database_rows, has_wrong_count, has_wrong_record, inner_in, inner_pages, is_wrong_at, recno_contents}
+use Rattle.bdb_format.specs.ContentRows.{btree_contents, database_faults, database_rows, has_wrong_count, has_wrong_record, inner_in, inner_pages}
+use Rattle.bdb_format.specs.ContentRows.{is_wrong_at, recno_contents}
 use Rattle.bdb_format.specs.File.{File, file_of, header_in, page_at}
 use Rattle.bdb_format.specs.Leaves.{children_in, leaves}
 use Rattle.bdb_format.specs.Page.{BtreeFields, Page}
@@ -20,15 +22,16 @@ use Rattle.bdb_format.proofs.MemberLemmas.{first_member, later_member, member_ca
 use Rattle.bdb_format.proofs.VerdictLemmas.{IsOfStage, LeastFirst, by_page_first, holding_least, in_by_page, of_by_page}
 use Rattle.bdb_format.specs.Flags.{is_fixed, is_recno}
 use Rattle.bdb_recno.specs.Counts.{HasRightCounts}
-use Rattle.bdb_recno.specs.Noted.{faults_on, noted, noted_all}
+use Rattle.bdb_recno.specs.Noted.{faults_on, noted, noted_all, count_faults}
 use Rattle.bdb_recno.specs.Pages.{IsRecnoPage}
-use Rattle.bdb_recno.proofs.CountLemmas.{all_one, count_faults, level_below, next_recno}
+use Rattle.bdb_recno.proofs.CountLemmas.{all_one, level_below, next_recno}
 use Rattle.bdb_recno.proofs.NotedLemmas.{IsFaultOn, in_faults_on, in_wrong_at, least_noted, of_faults_on, of_wrong_at, same_first}
 use Rattle.bdb_recno.proofs.PageLemmas.{leaf_inside, leaves_recno, recno_inside, root_recno}
 
 -- The pages that are looked at are there.
 
-inner_recno : (n : ℕ) (image ps : List ℕ) (p : ℕ) → IsForest image → All (IsRecnoPage (file_of image)) ps → Contains (inner_in n (file_of image) ps) p → IsRecnoPage (file_of image) p
+inner_recno : (n : ℕ) (image ps : List ℕ) (p : ℕ) → IsForest image → All (IsRecnoPage (file_of image)) ps → Contains (inner_in n (file_of image) ps) p
+    → IsRecnoPage (file_of image) p
 inner_recno zero image ps p forest all at = absurd (no_member [] p refl at)
 inner_recno (suc n) image ps p forest all at =
     let file : File = file_of image in
@@ -38,10 +41,12 @@ inner_recno (suc n) image ps p forest all at =
       | inr below ↦ inner_recno n image (level_below file ps) p forest (next_recno image ps forest all) below
     ]
 
-pub inner_inside : (image : List ℕ) (root p : ℕ) → IsForest image → IsRecnoPage (file_of image) root → Contains (inner_pages (file_of image) root) p → p ≤ (file_of image).last
+pub inner_inside : (image : List ℕ) (root p : ℕ) → IsForest image → IsRecnoPage (file_of image) root → Contains (inner_pages (file_of image) root) p
+    → p ≤ (file_of image).last
 unfolding inner_pages
 inner_inside image root p forest recno at =
-    recno_inside image p (inner_recno (header_in (page_at (file_of image) root)).level image (root ∷ []) p forest (all_one (IsRecnoPage (file_of image)) root recno) at)
+    recno_inside image p (inner_recno (header_in (page_at (file_of image) root)).level image (root ∷ []) p forest
+    (all_one (IsRecnoPage (file_of image)) root recno) at)
 
 -- The codes of a page.
 
@@ -86,25 +91,30 @@ least_codes file meta p = holding_least 6 (recno_contents file meta p) (omega ar
 abbrev recno_faults : File → BtreeMeta → List Fault
 recno_faults file meta = by_page 8 0 (file.last + 1) (codes_at file meta)
 
-same_fault : (fault : Fault) (code : ℕ) → fault.stage ≡ 8 → fault.code ≡ code → ◌≡◌ {A = Fault} (record { stage = 8; page = fault.page; code = code }) fault
+same_fault : (fault : Fault) (code : ℕ) → fault.stage ≡ 8 → fault.code ≡ code
+    → ◌≡◌ {A = Fault} (record { stage = 8; page = fault.page; code = code }) fault
 same_fault fault code stage_is code_is = same fault.stage fault.page fault.code stage_is code_is
   where
-    same : (stage page c : ℕ) → stage ≡ 8 → c ≡ code → ◌≡◌ {A = Fault} (record { stage = 8; page = page; code = code }) (record { stage = stage; page = page; code = c })
+    same : (stage page c : ℕ) → stage ≡ 8 → c ≡ code
+        → ◌≡◌ {A = Fault} (record { stage = 8; page = page; code = code }) (record { stage = stage; page = page; code = c })
     same stage page c is also = cc
 
 -- a fault of a page of a list, by its row, is one of the recno
-row_holds : (file : File) (meta : BtreeMeta) (code : ℕ) (test : Page → Bool) (pages : List ℕ) (fault : Fault) → IsFaultOn file code test pages fault → ((p : ℕ) → Contains pages p → p ≤ file.last)
+row_holds : (file : File) (meta : BtreeMeta) (code : ℕ) (test : Page → Bool) (pages : List ℕ) (fault : Fault) → IsFaultOn file code test pages fault
+    → ((p : ℕ) → Contains pages p → p ≤ file.last)
     → (is_wrong_at file test pages fault.page ≡ true → Contains (codes_at file meta fault.page) code) → Contains (recno_faults file meta) fault
 row_holds file meta code test pages fault is inside row =
     let low : fault.page ≤ file.last = inside fault.page is.listed in
     subst (Contains (recno_faults file meta)) (same_fault fault code is.stage_is is.code_is)
-    (in_by_page 8 0 (file.last + 1) fault.page code (codes_at file meta) (omega arith) (omega arith) (row (in_wrong_at file test pages fault.page is.listed is.wrong)))
+    (in_by_page 8 0 (file.last + 1) fault.page code (codes_at file meta) (omega arith) (omega arith)
+    (row (in_wrong_at file test pages fault.page is.listed is.wrong)))
 
 of_lengths : (b : Bool) (faults : List Fault) (fault : Fault) → Contains (cond b faults []) fault → (b ≡ true) × Contains faults fault
 of_lengths true faults fault at = (refl, at)
 of_lengths false faults fault at = absurd (no_member [] fault refl at)
 
-noted_holds : (image : List ℕ) (meta : BtreeMeta) (fault : Fault) → IsForest image → IsRecnoPage (file_of image) meta.root → Contains (noted_faults (file_of image) meta) fault → Contains (recno_faults (file_of image) meta) fault
+noted_holds : (image : List ℕ) (meta : BtreeMeta) (fault : Fault) → IsForest image → IsRecnoPage (file_of image) meta.root
+    → Contains (noted_faults (file_of image) meta) fault → Contains (recno_faults (file_of image) meta) fault
 noted_holds image meta fault forest root at =
     let file : File = file_of image in
     let counts : List ℕ = inner_pages file meta.root in
@@ -112,8 +122,10 @@ noted_holds image meta fault forest root at =
     let fixed : Bool = is_fixed meta in
     elim (Contains-append_cases (count_faults file counts) (cond fixed (faults_on file 7 (has_wrong_record file meta) lengths) []) fault at) [
       | inl counted ↦
-          row_holds file meta 6 (has_wrong_count file) counts fault (of_faults_on file 6 (has_wrong_count file) counts fault counted) (λ p there. inner_inside image meta.root p forest root there)
-          (in_six (is_wrong_at file (has_wrong_count file) counts fault.page) (fixed && is_wrong_at file (has_wrong_record file meta) lengths fault.page))
+          row_holds file meta 6 (has_wrong_count file) counts fault (of_faults_on file 6 (has_wrong_count file) counts fault counted)
+          (λ p there. inner_inside image meta.root p forest root there)
+          (in_six (is_wrong_at file (has_wrong_count file) counts fault.page)
+          (fixed && is_wrong_at file (has_wrong_record file meta) lengths fault.page))
       | inr long ↦
           let of : (fixed ≡ true) × Contains (faults_on file 7 (has_wrong_record file meta) lengths) fault = of_lengths fixed _ fault long in
           row_holds file meta 7 (has_wrong_record file meta) lengths fault (of_faults_on file 7 (has_wrong_record file meta) lengths fault of.1)
@@ -133,24 +145,31 @@ holds_noted file meta fault at =
     let of : IsOfStage 8 0 (0 + (file.last + 1)) (codes_at file meta) fault = of_by_page 8 0 (file.last + 1) (codes_at file meta) fault at in
     elim (of_two count_row (fixed && length_row) fault.code of.is_code) [
       | inl (six, wrong) ↦
-          let parts : Contains counts fault.page × (has_wrong_count file (page_at file fault.page) ≡ true) = of_wrong_at file (has_wrong_count file) counts fault.page wrong in
+          let parts : Contains counts fault.page × (has_wrong_count file (page_at file fault.page) ≡ true) =
+          of_wrong_at file (has_wrong_count file) counts fault.page wrong in
           Contains-append_left (count_faults file counts) (cond fixed long []) fault
-          (subst (Contains (count_faults file counts)) (same_fault fault 6 of.same_stage six) (in_faults_on file 6 (has_wrong_count file) counts fault.page parts.0 parts.1))
+          (subst (Contains (count_faults file counts)) (same_fault fault 6 of.same_stage six)
+          (in_faults_on file 6 (has_wrong_count file) counts fault.page parts.0 parts.1))
       | inr (seven, wrong) ↦
           let flags : (fixed ≡ true) × (length_row ≡ true) = and_parts fixed length_row wrong in
-          let parts : Contains lengths fault.page × (has_wrong_record file meta (page_at file fault.page) ≡ true) = of_wrong_at file (has_wrong_record file meta) lengths fault.page flags.1 in
+          let parts : Contains lengths fault.page × (has_wrong_record file meta (page_at file fault.page) ≡ true) =
+          of_wrong_at file (has_wrong_record file meta) lengths fault.page flags.1 in
           let there : Contains long fault =
-          subst (Contains long) (same_fault fault 7 of.same_stage seven) (in_faults_on file 7 (has_wrong_record file meta) lengths fault.page parts.0 parts.1) in
-          Contains-append_right (count_faults file counts) (cond fixed long []) fault (subst (λ b. Contains (cond b long []) fault) (sym flags.0) there)
+          subst (Contains long) (same_fault fault 7 of.same_stage seven)
+          (in_faults_on file 7 (has_wrong_record file meta) lengths fault.page parts.0 parts.1) in
+          Contains-append_right (count_faults file counts) (cond fixed long []) fault
+          (subst (λ b. Contains (cond b long []) fault) (sym flags.0) there)
     ]
 
-by_page_same : (stage n : ℕ) (from : ℕ) (codes others : ℕ → List ℕ) → ((p : ℕ) → codes p ≡ others p) → by_page stage from n codes ≡ by_page stage from n others
+by_page_same : (stage n : ℕ) (from : ℕ) (codes others : ℕ → List ℕ) → ((p : ℕ) → codes p ≡ others p)
+    → by_page stage from n codes ≡ by_page stage from n others
 by_page_same stage zero from codes others same = refl
 by_page_same stage (suc n) from codes others same = rw (same from, by_page_same stage n (from + 1) codes others same) refl
 
 faults_are : (file : File) (meta : BtreeMeta) → is_recno meta ≡ true → database_faults file (BtreeFields meta) ≡ recno_faults file meta
 unfolding database_faults
-faults_are file meta recno = by_page_same 8 (file.last + 1) 0 (λ p. holding (rows_at file meta p)) (codes_at file meta) (λ p. ap holding (recno_rows file meta p recno))
+faults_are file meta recno =
+    by_page_same 8 (file.last + 1) 0 (λ p. holding (rows_at file meta p)) (codes_at file meta) (λ p. ap holding (recno_rows file meta p recno))
 
 -- the first fault of the contents is the least of those that are noted
 pub all_noted : (image : List ℕ) (meta : BtreeMeta) → IsForest image → HasMetadata (file_of image) (BtreeFields meta) → is_recno meta ≡ true
@@ -166,21 +185,25 @@ all_noted image meta forest has recno =
 
 noted_both : (file : File) (meta : BtreeMeta) (fixed : Bool) (counted : Option Fault) → is_fixed meta ≡ fixed
     → counted ≡ noted_all None (count_faults file (inner_pages file meta.root))
-    → noted_all counted (cond fixed (faults_on file 7 (has_wrong_record file meta) (leaves file meta.root)) []) ≡ noted_all None (noted_faults file meta)
+    → noted_all counted (cond fixed (faults_on file 7 (has_wrong_record file meta) (leaves file meta.root)) [])
+    ≡ noted_all None (noted_faults file meta)
 noted_both file meta fixed counted is counts =
     let long : Bool → List Fault = λ b. cond b (faults_on file 7 (has_wrong_record file meta) (leaves file meta.root)) [] in
     ap (λ least. noted_all least (long fixed)) counts
-    ∙ (sym (fold-append noted None (count_faults file (inner_pages file meta.root)) (long fixed)) ∙ ap (λ b. noted_all None (count_faults file (inner_pages file meta.root) ++ long b)) (sym is))
+    ∙ (sym (fold-append noted None (count_faults file (inner_pages file meta.root)) (long fixed))
+    ∙ ap (λ b. noted_all None (count_faults file (inner_pages file meta.root) ++ long b)) (sym is))
 
 -- where lengths aren't fixed, counts alone are noted
 pub counts_first : (image : List ℕ) (meta : BtreeMeta) (counted : Option Fault) → IsForest image → HasMetadata (file_of image) (BtreeFields meta)
     → is_recno meta ≡ true
     → counted ≡ noted_all None (count_faults (file_of image) (inner_pages (file_of image) meta.root)) → is_fixed meta ≡ false
     → counted ≡ first_fault (database_faults (file_of image) (BtreeFields meta))
-counts_first image meta counted forest has recno counts free = noted_both (file_of image) meta false counted free counts ∙ sym (all_noted image meta forest has recno)
+counts_first image meta counted forest has recno counts free =
+    noted_both (file_of image) meta false counted free counts ∙ sym (all_noted image meta forest has recno)
 
 -- where they are, lengths are noted after the counts
-pub lengths_first : (image : List ℕ) (meta : BtreeMeta) (counted least : Option Fault) → IsForest image → HasMetadata (file_of image) (BtreeFields meta)
+pub lengths_first : (image : List ℕ) (meta : BtreeMeta) (counted least : Option Fault) → IsForest image
+    → HasMetadata (file_of image) (BtreeFields meta)
     → is_recno meta ≡ true
     → counted ≡ noted_all None (count_faults (file_of image) (inner_pages (file_of image) meta.root)) → is_fixed meta ≡ true
     → least ≡ noted_all counted (faults_on (file_of image) 7 (has_wrong_record (file_of image) meta) (leaves (file_of image) meta.root))

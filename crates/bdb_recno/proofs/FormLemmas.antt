@@ -1,9 +1,5 @@
 -- What the form of a leaf says of its entries.
-use Rattle.std.proofs.Common.{◌≡◌, ℕ, ◌+◌, ◌*◌, ◌%◌, ◌<◌, ◌≤◌, Bool, true, false, cond, not, List, length, Option, Some, None, arith, refl, sym, ◌∙◌, ap, subst, inl, inr}
-use Rattle.std.specs.Prelude.{◌==◌, ◌&&◌, ◌||◌}
-use Rattle.std.specs.List.{Contains, range_with_len}
-use Rattle.std.specs.Result.{result_err}
-use Rattle.std.proofs.lemmas.Bool.{eqb-true, not-false, or_cases, false_from_ne_true}
+use Rattle.std.proofs.Common.{◌≡◌, ℕ, ◌*◌, ◌≤◌, true, false, List, length, Option, Some, None, arith, refl, sym, ◌∙◌, ap, subst}
 use Rattle.bdb_form.specs.Formed.{IsListed}
 use Rattle.bdb_form.proofs.FormedLemmas.{listed_room}
 use Rattle.bdb_graph.proofs.FirstLemmas.{formed_accepted, formed_last, formed_page}
@@ -34,11 +30,13 @@ body_none : (identity body : Option ℕ) → ◌≡◌ {A = Option ℕ} (elim id
 body_none (Some code) body none = absurd cc
 body_none None body none = none
 
-leaf_type : (order : Order) (bytes : List ℕ) (t : PageType) (page : Listed Item) → RecnoLeaf page ≡ page_as order bytes t → (t ≡ RecnoLeafPage) × (page ≡ listed order bytes (leaf_item_at order bytes))
+leaf_type : (order : Order) (bytes : List ℕ) (t : PageType) (page : Listed Item) → RecnoLeaf page ≡ page_as order bytes t
+    → (t ≡ RecnoLeafPage) × (page ≡ listed order bytes (leaf_item_at order bytes))
 leaf_type order bytes RecnoLeafPage page same = (refl, cc)
 leaf_type order bytes t page same = absurd cc
 
-leaf_by_bytes : (order : Order) (number : ℕ) (bytes : List ℕ) (page : Listed Item) → 512 ≤ length bytes → length bytes ≤ 32768 → page_code order number bytes ≡ None → abstract_page order bytes ≡ RecnoLeaf page
+leaf_by_bytes : (order : Order) (number : ℕ) (bytes : List ℕ) (page : Listed Item) → 512 ≤ length bytes → length bytes ≤ 32768
+    → page_code order number bytes ≡ None → abstract_page order bytes ≡ RecnoLeaf page
     → IsFormedLeaf order bytes page
 unfolding page_code abstract_page
 leaf_by_bytes order number bytes page long short none is =
@@ -51,9 +49,14 @@ leaf_by_bytes order number bytes page long short none is =
     → IsFormedLeaf order bytes page) [
       | true ↦ λ _ same. absurd cc
       | false ↦ λ passed same.
-          let as_leaf : (page_type byte ≡ RecnoLeafPage) × (page ≡ listed order bytes (leaf_item_at order bytes)) = leaf_type order bytes (page_type byte) page (sym same) in
+          let as_leaf : (page_type byte ≡ RecnoLeafPage) × (page ≡ listed order bytes (leaf_item_at order bytes)) =
+          leaf_type order bytes (page_type byte) page (sym same) in
           record {
-            list = record { size = short; header = omega arith; formed = subst (λ t. body_code order bytes t ≡ None) as_leaf.0 (body_none identity body passed) };
+            list = record {
+              size = short;
+              header = omega arith;
+              formed = subst (λ t. body_code order bytes t ≡ None) as_leaf.0 (body_none identity body passed);
+            };
             read = as_leaf.1;
           }
     ] none is
@@ -63,25 +66,30 @@ bytes_of image p = page_bytes (head_of image) image p
 
 bytes_length : (image : List ℕ) (p : ℕ) → IsForest image → p ≤ (file_of image).last → length (bytes_of image p) ≡ (head_of image).page_size
 bytes_length image p forest low =
-    page_length image (head_of image) p (formed_accepted image (head_of image) forest.formed) (omega (arith, last_page image, formed_last image (head_of image) forest.formed))
+    page_length image (head_of image) p (formed_accepted image (head_of image) forest.formed)
+    (omega (arith, last_page image, formed_last image (head_of image) forest.formed))
 
-leaf_formed : (image : List ℕ) (p : ℕ) (page : Listed Item) → IsForest image → p ≤ (file_of image).last → page_at (file_of image) p ≡ RecnoLeaf page → IsFormedLeaf (head_of image).order (bytes_of image p) page
+leaf_formed : (image : List ℕ) (p : ℕ) (page : Listed Item) → IsForest image → p ≤ (file_of image).last → page_at (file_of image) p ≡ RecnoLeaf page
+    → IsFormedLeaf (head_of image).order (bytes_of image p) page
 leaf_formed image p page forest low is =
     let inside : p ≤ (head_of image).last = omega (arith, last_page image) in
     let paged : IsPaged image (head_of image) = accepted_paged image (head_of image) (formed_accepted image (head_of image) forest.formed) in
     let legal : (512 ≤ (head_of image).page_size) × ((head_of image).page_size ≤ 32768) = size_bounds (head_of image).page_size paged.legal in
     let same : length (bytes_of image p) ≡ (head_of image).page_size = bytes_length image p forest low in
     leaf_by_bytes (head_of image).order p (bytes_of image p) page (omega (arith, same, legal.0)) (omega (arith, same, legal.1))
-    (forest_code (head_of image) p (bytes_of image p) (λ queue. no_queue image (head_of image) p forest.formed low (ap is_queue_page is) (kind_is image ∙ queue))
+    (forest_code (head_of image) p (bytes_of image p)
+    (λ queue. no_queue image (head_of image) p forest.formed low (ap is_queue_page is) (kind_is image ∙ queue))
     (formed_page image p forest.formed.form inside))
     (sym (page_is image p inside) ∙ is)
 
 -- a leaf has at most half as many entries as a page has bytes
-pub leaf_entries : (image : List ℕ) (p : ℕ) (page : Listed Item) → IsForest image → p ≤ (file_of image).last → page_at (file_of image) p ≡ RecnoLeaf page → 2 * length page.items ≤ (head_of image).page_size
+pub leaf_entries : (image : List ℕ) (p : ℕ) (page : Listed Item) → IsForest image → p ≤ (file_of image).last
+    → page_at (file_of image) p ≡ RecnoLeaf page → 2 * length page.items ≤ (head_of image).page_size
 leaf_entries image p page forest low is =
     let order : Order = (head_of image).order in
     let bytes : List ℕ = bytes_of image p in
     let formed : IsFormedLeaf order bytes page = leaf_formed image p page forest low is in
     let room : index_end order bytes ≤ length bytes = listed_room RecnoLeafPage order bytes formed.list in
-    let count : length page.items ≡ entries_of order bytes = ap (λ (l : Listed Item). length l.items) formed.read ∙ length_items order bytes (leaf_item_at order bytes) in
+    let count : length page.items ≡ entries_of order bytes =
+    ap (λ (l : Listed Item). length l.items) formed.read ∙ length_items order bytes (leaf_item_at order bytes) in
     omega (arith, room, count, bytes_length image p forest low)

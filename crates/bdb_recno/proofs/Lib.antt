@@ -1,6 +1,5 @@
 pub mod ContentsLemmas
 pub mod CountLemmas
-pub mod EntryLemmas
 pub mod FormLemmas
 pub mod ListLemmas
 pub mod NotedLemmas

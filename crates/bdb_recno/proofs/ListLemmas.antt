@@ -1,22 +1,20 @@
 -- The list of a recno, by its entries.
-use Rattle.std.proofs.Common.{◌≡◌, ℕ, zero, suc, ◌+◌, ◌<◌, Bool, true, false, cond, List, [], ◌∷◌, ◌++◌, Option, Some, None, arith, refl, sym, ◌∙◌, ap, subst, append-nil}
+use Rattle.std.proofs.Common.{◌≡◌, ℕ, zero, suc, ◌+◌, ◌<◌, Bool, true, false, cond, List, [], ◌∷◌, ◌++◌, Option, Some, None, arith, refl, sym, ◌∙◌}
+use Rattle.std.proofs.Common.{ap, subst, append-nil}
 use Rattle.std.specs.Prelude.{slice_get}
-use Rattle.std.specs.List.{Contains, enumerate_from, flat_map}
+use Rattle.std.specs.List.{enumerate_from, flat_map}
 use Rattle.std.proofs.lemmas.Bool.{eq-eqb, ne_eqb}
 use Rattle.std.proofs.lemmas.Option.{get_or_from_slice_get, slice_get_within}
 use Rattle.bdb_graph.specs.Linked.{IsForest}
 use Rattle.bdb_format.specs.Chains.{value_of}
-use Rattle.bdb_format.specs.Contents.{entries_in, tree_entries}
-use Rattle.bdb_format.specs.File.{File, file_of, page_at}
-use Rattle.bdb_format.specs.Leaves.{leaves}
-use Rattle.bdb_format.specs.Lists.{NumberKey, get, listed_entry, recno_list, ListKey}
-use Rattle.bdb_format.specs.Page.{Item, Listed, RecnoLeaf}
-use Rattle.bdb_format.proofs.MemberLemmas.{of_flat_map}
-use Rattle.bdb_tree.proofs.TreeLemmas.{recno_leaf_page}
+use Rattle.bdb_format.specs.Contents.{tree_entries}
+use Rattle.bdb_format.specs.File.{File, file_of}
+use Rattle.bdb_format.specs.Lists.{NumberKey, get, listed_entry, recno_list}
+use Rattle.bdb_format.specs.Page.{Item}
+use Rattle.bdb_tree.proofs.EntryLemmas.{all_fit}
 use Rattle.bdb_overflow.specs.Datum.{FitsContent}
-use Rattle.bdb_recno.specs.Pages.{IsRecnoLeaf, IsRecnoPage}
-use Rattle.bdb_recno.proofs.EntryLemmas.{member_fits}
-use Rattle.bdb_recno.proofs.PageLemmas.{entries_are, leaves_recno}
+use Rattle.bdb_recno.specs.Pages.{IsRecnoPage}
+use Rattle.bdb_recno.proofs.PageLemmas.{recno_tree}
 use Rattle.bdb_format.proofs.PairLemmas.{get_append}
 
 -- What a list has under a number.
@@ -38,19 +36,23 @@ get_before : (file : File) (items : List Item) (n m : ℕ) → m < n → get (fl
 get_before file [] n m below = refl
 get_before file (item ∷ items) n m below =
     get_append (listed_entry file (n, item)) (flat_map (listed_entry file) (enumerate_from (n + 1) items)) (NumberKey m)
-    ∙ (ap (λ vs. vs ++ get (flat_map (listed_entry file) (enumerate_from (n + 1) items)) (NumberKey m)) (get_other file n m item (λ same. omega arith))
+    ∙ (ap (λ vs. vs ++ get (flat_map (listed_entry file) (enumerate_from (n + 1) items)) (NumberKey m))
+    (get_other file n m item (λ same. omega arith))
     ∙ get_before file items (n + 1) m (omega arith))
 
-get_at : (file : File) (items : List Item) (n i m : ℕ) → m ≡ n + i → get (flat_map (listed_entry file) (enumerate_from n items)) (NumberKey m) ≡ entry_values file (slice_get items i)
+get_at : (file : File) (items : List Item) (n i m : ℕ) → m ≡ n + i
+    → get (flat_map (listed_entry file) (enumerate_from n items)) (NumberKey m) ≡ entry_values file (slice_get items i)
 get_at file [] n i m is = refl
 get_at file (item ∷ items) n zero m is =
     let same : n ≡ m = omega arith in
     get_append (listed_entry file (n, item)) (flat_map (listed_entry file) (enumerate_from (n + 1) items)) (NumberKey m)
     ∙ (ap (λ vs. get (listed_entry file (n, item)) (NumberKey m) ++ vs) (get_before file items (n + 1) m (omega arith))
-    ∙ (append-nil (get (listed_entry file (n, item)) (NumberKey m)) ∙ (ap (λ k. get (listed_entry file (n, item)) (NumberKey k)) (sym same) ∙ get_here file n item)))
+    ∙ (append-nil (get (listed_entry file (n, item)) (NumberKey m))
+    ∙ (ap (λ k. get (listed_entry file (n, item)) (NumberKey k)) (sym same) ∙ get_here file n item)))
 get_at file (item ∷ items) n (suc i) m is =
     get_append (listed_entry file (n, item)) (flat_map (listed_entry file) (enumerate_from (n + 1) items)) (NumberKey m)
-    ∙ (ap (λ vs. vs ++ get (flat_map (listed_entry file) (enumerate_from (n + 1) items)) (NumberKey m)) (get_other file n m item (λ same. omega arith))
+    ∙ (ap (λ vs. vs ++ get (flat_map (listed_entry file) (enumerate_from (n + 1) items)) (NumberKey m))
+    (get_other file n m item (λ same. omega arith))
     ∙ get_at file items (n + 1) i m (omega arith))
 
 -- record 0 isn't there
@@ -59,38 +61,35 @@ unfolding recno_list
 get_zero file root number below = sym (get_before file (tree_entries file root) 1 number below)
 
 -- another record is the entry at the place before its number
-pub get_number : (file : File) (root number place : ℕ) → number ≡ 1 + place → entry_values file (slice_get (tree_entries file root) place) ≡ get (recno_list file root) (NumberKey number)
+pub get_number : (file : File) (root number place : ℕ) → number ≡ 1 + place
+    → entry_values file (slice_get (tree_entries file root) place) ≡ get (recno_list file root) (NumberKey number)
 unfolding recno_list
 get_number file root number place is = sym (get_at file (tree_entries file root) 1 place number is)
 
--- Entries are records.
-
-pub entry_fits : (image : List ℕ) (root : ℕ) (item : Item) → IsForest image → IsRecnoPage (file_of image) root → Contains (tree_entries (file_of image) root) item → FitsContent (file_of image) item.content
-entry_fits image root item forest recno at =
-    let file : File = file_of image in
-    let found : (p : ℕ) × Contains (leaves file root) p × Contains (entries_in (page_at file p)) item =
-    of_flat_map (λ p. entries_in (page_at file p)) (leaves file root) item (subst (λ items. Contains items item) (entries_are file root) at) in
-    let leaf : IsRecnoLeaf file found.0 = leaves_recno image root found.0 forest recno found.1 in
-    let page : (l : Listed Item) × (page_at file found.0 ≡ RecnoLeaf l) = recno_leaf_page image found.0 forest leaf in
-    member_fits image found.0 page.0 item forest leaf page.1 (subst (λ p. Contains (entries_in p) item) page.1 found.2)
-
 -- The record with a number.
 
-pub none_there : (file : File) (root number place : ℕ) → number ≡ 1 + place → None ≡ slice_get (tree_entries file root) place → [] ≡ get (recno_list file root) (NumberKey number)
+pub none_there : (file : File) (root number place : ℕ) → number ≡ 1 + place → None ≡ slice_get (tree_entries file root) place
+    → [] ≡ get (recno_list file root) (NumberKey number)
 none_there file root number place is none = ap (entry_values file) none ∙ get_number file root number place is
 
-pub deleted_there : (file : File) (root number place : ℕ) (item : Item) (deleted : Bool) → number ≡ 1 + place → Some item ≡ slice_get (tree_entries file root) place → deleted ≡ item.deleted → deleted ≡ true
+pub deleted_there : (file : File) (root number place : ℕ) (item : Item) (deleted : Bool) → number ≡ 1 + place
+    → Some item ≡ slice_get (tree_entries file root) place → deleted ≡ item.deleted → deleted ≡ true
     → [] ≡ get (recno_list file root) (NumberKey number)
 deleted_there file root number place item deleted is at same gone =
     ap (λ b. cond b [] (value_of file item.content ∷ [])) (sym gone ∙ same) ∙ (ap (entry_values file) at ∙ get_number file root number place is)
 
-pub live_there : (file : File) (root number place : ℕ) (item : Item) (deleted : Bool) (value : List ℕ) → number ≡ 1 + place → Some item ≡ slice_get (tree_entries file root) place → deleted ≡ item.deleted → deleted ≡ false
+pub live_there : (file : File) (root number place : ℕ) (item : Item) (deleted : Bool) (value : List ℕ) → number ≡ 1 + place
+    → Some item ≡ slice_get (tree_entries file root) place → deleted ≡ item.deleted → deleted ≡ false
     → value ≡ value_of file item.content → value ∷ [] ≡ get (recno_list file root) (NumberKey number)
 live_there file root number place item deleted value is at same live holds =
-    ap (λ v. v ∷ []) holds ∙ (ap (λ b. cond b [] (value_of file item.content ∷ [])) (sym live ∙ same) ∙ (ap (entry_values file) at ∙ get_number file root number place is))
+    ap (λ v. v ∷ []) holds ∙ (ap (λ b. cond b [] (value_of file item.content ∷ [])) (sym live ∙ same)
+    ∙ (ap (entry_values file) at ∙ get_number file root number place is))
 
--- an entry at a place is a record
-pub place_fits : (image : List ℕ) (root place : ℕ) (item : Item) → IsForest image → IsRecnoPage (file_of image) root → Some item ≡ slice_get (tree_entries (file_of image) root) place → FitsContent (file_of image) item.content
+-- what an entry at a place names is there
+pub place_fits : (image : List ℕ) (root place : ℕ) (item : Item) → IsForest image → IsRecnoPage (file_of image) root
+    → Some item ≡ slice_get (tree_entries (file_of image) root) place
+    → FitsContent (file_of image) item.content
 place_fits image root place item forest recno at =
     let entries : List Item = tree_entries (file_of image) root in
-    entry_fits image root item forest recno (place, slice_get_within entries place item (sym at), get_or_from_slice_get entries place item item (sym at))
+    subst (λ (it : Item). FitsContent (file_of image) it.content) (get_or_from_slice_get entries place item item (sym at))
+    (all_fit image root entries forest (recno_tree (file_of image) root recno) refl place item (slice_get_within entries place item (sym at)))

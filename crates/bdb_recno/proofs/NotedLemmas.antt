@@ -1,9 +1,10 @@
 -- The least of the noted faults is the first fault of a stage.
 use Rattle.std.proofs.lemmas.Bool.Decides.{nat_tests}
-use Rattle.std.proofs.Common.{◌≡◌, ℕ, Bool, true, false, cond, List, [], ◌∷◌, ◌++◌, Option, Some, None, arith, refl, sym, ◌∙◌, ap, subst, inl, inr, append-nil, append_assoc, ◌<◌, ◌≤◌}
-use Rattle.std.specs.Prelude.{◌==◌, ◌&&◌, nat_lt, ◌||◌}
+use Rattle.std.proofs.Common.{◌≡◌, ℕ, Bool, true, false, cond, List, [], ◌∷◌, ◌++◌, Option, Some, None, arith, refl, sym, ◌∙◌, ap, subst, inl, inr}
+use Rattle.std.proofs.Common.{append-nil, append_assoc}
+use Rattle.std.specs.Prelude.{◌==◌, ◌&&◌}
 use Rattle.std.specs.List.{Contains, filter}
-use Rattle.std.proofs.lemmas.Bool.{eqb-true, eq-eqb, and_parts, ltb-true, ltb-false, eqb-false}
+use Rattle.std.proofs.lemmas.Bool.{eqb-true, eq-eqb, and_parts}
 use Rattle.std.proofs.lemmas.List.Elements.{Contains-append_left, Contains-append_right, Contains-append_cases}
 use Rattle.std.proofs.lemmas.List.Folds.{list_any_at}
 use Rattle.bdb_format.specs.ByPage.{ComesFirst}
@@ -11,7 +12,7 @@ use Rattle.bdb_format.specs.declared.kinds.Fault.{Fault}
 use Rattle.bdb_format.specs.ContentRows.{is_wrong_at}
 use Rattle.bdb_format.specs.File.{File, page_at}
 use Rattle.bdb_format.specs.Page.{Page}
-use Rattle.bdb_format.proofs.MemberLemmas.{first_member, in_filter, in_map, no_member, of_filter, of_map, member_cases}
+use Rattle.bdb_format.proofs.MemberLemmas.{first_member, in_filter, in_map, no_member, of_filter, of_map}
 use Rattle.bdb_format.proofs.VerdictLemmas.{FirstComesFirst}
 use Rattle.bdb_format.specs.Verdict.{first_fault}
 use Rattle.bdb_recno.specs.Noted.{comes_before, noted, noted_all, faults_on}
@@ -48,8 +49,11 @@ note_step before None x none = (
 note_step before (Some least) x is =
     elim (comes_before x least) as (λ b. comes_before x least ≡ b → LeastOf (before ++ (x ∷ [])) (cond b (Some x) (Some least))) [
       | true ↦ λ less.
-          let first : ComesFirst x least = first_before x least less in
-          (Contains-append_right before (x ∷ []) x (first_member x []), above_more x x before (λ fault at. comes_through x least fault first (is.1 fault at)) (comes_itself x))
+          let first : ComesFirst x least = first_before x least less in (
+            Contains-append_right before (x ∷ []) x (first_member x []),
+            above_more x x before
+                (λ fault at. comes_through x least fault first (is.1 fault at)) (comes_itself x),
+          )
       | false ↦ λ more. (Contains-append_left before (x ∷ []) least is.0, above_more least x before is.1 (else_after x least more))
     ] refl
 
@@ -76,17 +80,20 @@ same_first stage faults (row ∷ rows) None is first staged there back = absurd 
 same_first stage faults (row ∷ rows) (Some least) is first staged there back =
     let at : Contains (row ∷ rows) least = there least is.0 in
     ap (λ f. Some f)
-    (same_fault row least (staged row (first_member row rows) ∙ sym (staged least at)) (first row rows least refl at) (is.1 row (back row (first_member row rows))))
+    (same_fault row least (staged row (first_member row rows) ∙ sym (staged least at)) (first row rows least refl at)
+    (is.1 row (back row (first_member row rows))))
 
 -- Rows over the pages of a list.
 
-pub of_wrong_at : (file : File) (test : Page → Bool) (pages : List ℕ) (p : ℕ) → is_wrong_at file test pages p ≡ true → Contains pages p × (test (page_at file p) ≡ true)
+pub of_wrong_at : (file : File) (test : Page → Bool) (pages : List ℕ) (p : ℕ) → is_wrong_at file test pages p ≡ true
+    → Contains pages p × (test (page_at file p) ≡ true)
 of_wrong_at file test pages p wrong =
     let found = any_member (λ q. q == p && test (page_at file q)) pages wrong in
     let parts = and_parts (found.0 == p) (test (page_at file found.0)) found.2 in
     subst (λ q. Contains pages q × (test (page_at file q) ≡ true)) (eqb-true found.0 p parts.0) (found.1, parts.1)
 
-pub in_wrong_at : (file : File) (test : Page → Bool) (pages : List ℕ) (p : ℕ) → Contains pages p → test (page_at file p) ≡ true → is_wrong_at file test pages p ≡ true
+pub in_wrong_at : (file : File) (test : Page → Bool) (pages : List ℕ) (p : ℕ) → Contains pages p → test (page_at file p) ≡ true
+    → is_wrong_at file test pages p ≡ true
 in_wrong_at file test pages p at wrong =
     list_any_at (λ q. q == p && test (page_at file q)) pages at.0 p at.1
     (subst (λ q. (q == p && test (page_at file q)) ≡ true) (sym at.2) (ap (λ b. b && test (page_at file p)) (eq-eqb p p refl) ∙ wrong))
@@ -98,7 +105,8 @@ pub record IsFaultOn (file : File) (code : ℕ) (test : Page → Bool) (pages : 
   pub listed : Contains pages fault.page
   pub wrong : test (page_at file fault.page) ≡ true
 
-pub of_faults_on : (file : File) (code : ℕ) (test : Page → Bool) (pages : List ℕ) (fault : Fault) → Contains (faults_on file code test pages) fault → IsFaultOn file code test pages fault
+pub of_faults_on : (file : File) (code : ℕ) (test : Page → Bool) (pages : List ℕ) (fault : Fault) → Contains (faults_on file code test pages) fault
+    → IsFaultOn file code test pages fault
 of_faults_on file code test pages fault at =
     let found = of_map (λ p. record { stage = 8; page = p; code = code }) (filter (λ q. test (page_at file q)) pages) fault at in
     let passed = of_filter (λ q. test (page_at file q)) pages found.0 found.1 in
@@ -107,4 +115,5 @@ of_faults_on file code test pages fault at =
 pub in_faults_on : (file : File) (code : ℕ) (test : Page → Bool) (pages : List ℕ) (p : ℕ) → Contains pages p → test (page_at file p) ≡ true
     → Contains (faults_on file code test pages) (record { stage = 8; page = p; code = code })
 in_faults_on file code test pages p at wrong =
-    in_map (λ q. record { stage = 8; page = q; code = code }) (filter (λ q. test (page_at file q)) pages) p (in_filter (λ q. test (page_at file q)) pages p at wrong)
+    in_map (λ q. record { stage = 8; page = q; code = code }) (filter (λ q. test (page_at file q)) pages) p
+    (in_filter (λ q. test (page_at file q)) pages p at wrong)

@@ -1,7 +1,8 @@
 -- The pages of a tree of records, and the entries below a page.
-use Rattle.std.proofs.Common.{◌≡◌, ◌⊎◌, ℕ, ◌<◌, ◌≤◌, Bool, true, false, cond, List, [], ◌∷◌, ◌++◌, length, map, Option, Some, None, refl, sym, ◌∙◌, ap, subst, inl, inr, append-nil, arith, not}
-use Rattle.std.specs.Prelude.{◌==◌, get_or, ◌||◌}
-use Rattle.std.specs.List.{Contains, enumerate_from, flat_map}
+use Rattle.std.proofs.Common.{◌≡◌, ◌⊎◌, ℕ, ◌<◌, ◌≤◌, Bool, true, false, cond, List, [], ◌∷◌, ◌++◌, length, map, Option, Some, None, refl, sym, ◌∙◌}
+use Rattle.std.proofs.Common.{ap, subst, inl, inr, append-nil}
+use Rattle.std.specs.Prelude.{◌==◌, get_or}
+use Rattle.std.specs.List.{Contains, flat_map}
 use Rattle.std.proofs.lemmas.List.Concat.{flat_map-append}
 use Rattle.bdb_form.specs.declared.view.PageView.{PageView}
 use Rattle.bdb_form.specs.declared.view.PageView.TheVariants.{RecnoInternal as InternalView, RecnoLeaf as LeafView}
@@ -15,11 +16,13 @@ use Rattle.bdb_format.specs.Leaves.{children_in, leaves}
 use Rattle.bdb_format.specs.Page.{Item, Listed, BtreeFields, RecnoInternal, RecnoLeaf}
 use Rattle.bdb_format.specs.References.{child_types, has_type}
 use Rattle.bdb_format.specs.Flags.{is_recno}
-use Rattle.bdb_recno.specs.Entries.{entries_on}
 use Rattle.bdb_recno.specs.Pages.{IsRecnoPage, IsRecnoLeaf}
+use Rattle.bdb_tree.specs.Entries.{entries_on}
 use Rattle.bdb_tree.specs.Trees.{IsTreePage}
+use Rattle.bdb_tree.proofs.EntryLemmas.{entries_are}
 use Rattle.bdb_tree.proofs.ShapeLemmas.{IsLeafPage}
-use Rattle.bdb_tree.proofs.TreeLemmas.{IsChild, child_is, leaves_of_inner, leaves_of_leaf, meta_root_type, recno_internal_page, recno_leaf, recno_leaf_page, tree_cases, typed_inside}
+use Rattle.bdb_tree.proofs.TreeLemmas.{IsChild, child_is, leaves_of_inner, leaves_of_leaf, meta_root_type, recno_internal_page, recno_leaf}
+use Rattle.bdb_tree.proofs.TreeLemmas.{recno_leaf_page, tree_cases, typed_inside}
 use Rattle.bdb_format.proofs.TypeLemmas.{of_type}
 
 -- What a page is.
@@ -56,7 +59,8 @@ leaf_recno file p leaf = ap (has_type (4 ∷ 6 ∷ [])) leaf
 pub root_recno : (image : List ℕ) (meta : BtreeMeta) → IsForest image → HasMetadata (file_of image) (BtreeFields meta) → is_recno meta ≡ true
     → IsRecnoPage (file_of image) meta.root
 root_recno image meta forest has recno =
-    subst (λ b. has_type (cond b (4 ∷ 6 ∷ []) (3 ∷ 5 ∷ [])) (type_in (page_at (file_of image) meta.root)) ≡ true) recno (meta_root_type image meta forest has)
+    subst (λ b. has_type (cond b (4 ∷ 6 ∷ []) (3 ∷ 5 ∷ [])) (type_in (page_at (file_of image) meta.root)) ≡ true) recno
+    (meta_root_type image meta forest has)
 
 -- The pages right below a page.
 
@@ -64,7 +68,8 @@ root_recno image meta forest has recno =
 abbrev pub children_of : Listed RecnoItem → List ℕ
 children_of page = map (λ (item : RecnoItem). item.child) page.items
 
-pub child_of : (image : List ℕ) (p : ℕ) (page : Listed RecnoItem) (c : ℕ) → IsForest image → page_at (file_of image) p ≡ RecnoInternal page → Contains (children_of page) c → IsChild (file_of image) p c
+pub child_of : (image : List ℕ) (p : ℕ) (page : Listed RecnoItem) (c : ℕ) → IsForest image → page_at (file_of image) p ≡ RecnoInternal page
+    → Contains (children_of page) c → IsChild (file_of image) p c
 child_of image p page c forest is at = child_is image p c (children_of page) forest (ap children_in is) at
 
 below_type : (b : Bool) (t : Option ℕ) → has_type (cond b (6 ∷ []) (4 ∷ [])) t ≡ true → has_type (4 ∷ 6 ∷ []) t ≡ true
@@ -72,19 +77,23 @@ below_type true t type = of_type (λ u. has_type (4 ∷ 6 ∷ []) u ≡ true) (6
 below_type false t type = of_type (λ u. has_type (4 ∷ 6 ∷ []) u ≡ true) (4 ∷ []) t (refl, tt) type
 
 -- a child of a page of records is one too
-pub child_recno : (image : List ℕ) (p : ℕ) (page : Listed RecnoItem) (c : ℕ) → IsForest image → page_at (file_of image) p ≡ RecnoInternal page → Contains (children_of page) c → IsRecnoPage (file_of image) c
+pub child_recno : (image : List ℕ) (p : ℕ) (page : Listed RecnoItem) (c : ℕ) → IsForest image → page_at (file_of image) p ≡ RecnoInternal page
+    → Contains (children_of page) c → IsRecnoPage (file_of image) c
 child_recno image p page c forest is at =
     let child : IsChild (file_of image) p c = child_of image p page c forest is at in
-    below_type (page.header.level == 2) (type_in (page_at (file_of image) c)) (subst (λ q. has_type (child_types q) (type_in (page_at (file_of image) c)) ≡ true) is child.type)
+    below_type (page.header.level == 2) (type_in (page_at (file_of image) c))
+    (subst (λ q. has_type (child_types q) (type_in (page_at (file_of image) c)) ≡ true) is child.type)
 
 -- The entries below a page.
 
 -- each leaf below a page of records is one of records
-pub leaves_recno : (image : List ℕ) (p q : ℕ) → IsForest image → IsRecnoPage (file_of image) p → Contains (leaves (file_of image) p) q → IsRecnoLeaf (file_of image) q
+pub leaves_recno : (image : List ℕ) (p q : ℕ) → IsForest image → IsRecnoPage (file_of image) p → Contains (leaves (file_of image) p) q
+    → IsRecnoLeaf (file_of image) q
 leaves_recno image p q forest recno at = recno_leaf image p q forest recno at
 
 -- and so is one that an iterator over the leaves gives
-pub turned_leaf : (image : List ℕ) (p i q page : ℕ) → IsForest image → IsRecnoPage (file_of image) p → (i < length (leaves (file_of image) p)) × (q ≡ get_or (leaves (file_of image) p) i q) → page ≡ q
+pub turned_leaf : (image : List ℕ) (p i q page : ℕ) → IsForest image → IsRecnoPage (file_of image) p
+    → (i < length (leaves (file_of image) p)) × (q ≡ get_or (leaves (file_of image) p) i q) → page ≡ q
     → IsRecnoLeaf (file_of image) page
 turned_leaf image p i q page forest recno turn same =
     subst (IsRecnoLeaf (file_of image)) (sym same) (leaves_recno image p q forest recno (i, turn.0, sym turn.1))
@@ -96,18 +105,16 @@ entries_joined file (c ∷ cs) =
     flat_map-append (λ p. entries_in (page_at file p)) (leaves file c) (flat_map (leaves file) cs)
     ∙ ap (λ items. tree_entries file c ++ items) (entries_joined file cs)
 
-pub entries_are : (file : File) (p : ℕ) → tree_entries file p ≡ entries_on file (leaves file p)
-unfolding tree_entries
-entries_are file p = refl
-
 -- the entries below an internal page are those of its children, joined
 pub entries_below : (image : List ℕ) (p : ℕ) (page : Listed RecnoItem) → IsForest image → page_at (file_of image) p ≡ RecnoInternal page
     → tree_entries (file_of image) p ≡ flat_map (tree_entries (file_of image)) (children_of page)
 entries_below image p page forest is =
     entries_are (file_of image) p
-    ∙ (ap (entries_on (file_of image)) (leaves_of_inner image p (children_of page) forest (ap children_in is)) ∙ entries_joined (file_of image) (children_of page))
+    ∙ (ap (entries_on (file_of image)) (leaves_of_inner image p (children_of page) forest (ap children_in is))
+    ∙ entries_joined (file_of image) (children_of page))
 
-leaf_shape : (image : List ℕ) (p : ℕ) (page : Listed Item) → IsForest image → page_at (file_of image) p ≡ RecnoLeaf page → IsLeafPage (page_at (file_of image) p)
+leaf_shape : (image : List ℕ) (p : ℕ) (page : Listed Item) → IsForest image → page_at (file_of image) p ≡ RecnoLeaf page
+    → IsLeafPage (page_at (file_of image) p)
 leaf_shape image p page forest is =
     elim (tree_cases image p forest (ap (λ q. has_type (3 ∷ 4 ∷ 5 ∷ 6 ∷ 12 ∷ []) (type_in q)) is)) [
       | inl inner ↦ absurd (let none : Some inner.children ≡ None = sym inner.are ∙ ap children_in is in cc)
@@ -115,10 +122,12 @@ leaf_shape image p page forest is =
     ]
 
 -- the entries of a leaf
-pub entries_of_leaf : (image : List ℕ) (p : ℕ) (page : Listed Item) → IsForest image → page_at (file_of image) p ≡ RecnoLeaf page → tree_entries (file_of image) p ≡ page.items
+pub entries_of_leaf : (image : List ℕ) (p : ℕ) (page : Listed Item) → IsForest image → page_at (file_of image) p ≡ RecnoLeaf page
+    → tree_entries (file_of image) p ≡ page.items
 entries_of_leaf image p page forest is =
     let file : File = file_of image in
-    entries_are file p ∙ (ap (entries_on file) (leaves_of_leaf file p (leaf_shape image p page forest is)) ∙ (append-nil (entries_in (page_at file p)) ∙ ap entries_in is))
+    entries_are file p ∙ (ap (entries_on file) (leaves_of_leaf file p (leaf_shape image p page forest is))
+    ∙ (append-nil (entries_in (page_at file p)) ∙ ap entries_in is))
 
 -- Views.
 
@@ -131,7 +140,8 @@ seen_leaf (LeafView v) page seen = (v, refl)
 seen_leaf view page seen = absurd cc
 
 -- the view of a page of records is none of the others
-pub no_other_view : (image : List ℕ) (p : ℕ) (view : PageView) → IsForest image → IsRecnoPage (file_of image) p → page_seen view ≡ page_at (file_of image) p
+pub no_other_view : (image : List ℕ) (p : ℕ) (view : PageView) → IsForest image → IsRecnoPage (file_of image) p
+    → page_seen view ≡ page_at (file_of image) p
     → ((v : Listed RecnoItem) → view ≡ InternalView v → ⊥) → ((v : Listed Item) → view ≡ LeafView v → ⊥) → ⊥
 no_other_view image p view forest recno seen internal leaf =
     elim (recno_cases image p forest recno) [

@@ -1,6 +1,7 @@
 -- How the counts of internal pages lead to an entry.
 use Rattle.bdb_format.proofs.ListLemmas.{only_member}
-use Rattle.std.proofs.Common.{◌≡◌, ℕ, zero, suc, ◌+◌, ◌-◌, ◌<◌, ◌≤◌, Bool, true, false, cond, List, [], ◌∷◌, ◌++◌, drop, length, map, Option, Some, None, arith, refl, sym, ◌∙◌, ap, subst, inl, inr}
+use Rattle.std.proofs.Common.{◌≡◌, ℕ, zero, suc, ◌+◌, ◌-◌, ◌<◌, ◌≤◌, Bool, true, false, cond, List, [], ◌∷◌, ◌++◌, drop, length, map, Option, Some}
+use Rattle.std.proofs.Common.{None, arith, refl, sym, ◌∙◌, ap, subst, inl, inr}
 use Rattle.std.specs.Prelude.{nat_lt, slice_get}
 use Rattle.std.specs.List.{Contains, filter, flat_map, list_any}
 use Rattle.std.specs.Option.{is_some, unwrap_or}
@@ -17,9 +18,9 @@ use Rattle.bdb_format.specs.Leaves.{children_in}
 use Rattle.bdb_format.specs.Page.{Item, Listed, RecnoInternal, RecnoLeaf}
 use Rattle.bdb_format.proofs.MemberLemmas.{first_member, in_filter, in_flat_map, later_member, of_filter, of_flat_map}
 use Rattle.bdb_tree.proofs.TreeLemmas.{IsChild, tree_cases}
-use Rattle.bdb_recno.specs.Counts.{HasRightCounts, child_by_count}
+use Rattle.bdb_recno.specs.Counts.{HasRightCounts, child_by_count, miscounts}
 use Rattle.bdb_recno.specs.Pages.{IsRecnoPage}
-use Rattle.bdb_recno.proofs.CountLemmas.{level_below, miscounts}
+use Rattle.bdb_recno.proofs.CountLemmas.{level_below}
 use Rattle.bdb_recno.proofs.PageLemmas.{child_of, child_recno, children_of, entries_below, entries_of_leaf, recno_tree}
 
 -- The internal pages below a page.
@@ -47,37 +48,48 @@ one_among : (p : ℕ) (qs : List ℕ) → Contains qs p → AreAmong (p ∷ []) 
 one_among p qs at q there = subst (Contains qs) (only_member p q there) at
 
 -- the internal pages of a child are some of its parent's
-child_among : (n : ℕ) (file : File) (p c : ℕ) (page : Listed RecnoItem) → page_at file p ≡ RecnoInternal page → Contains (children_of page) c → (header_in (page_at file c)).level ≡ n → (header_in (page_at file p)).level ≡ suc n
+child_among : (n : ℕ) (file : File) (p c : ℕ) (page : Listed RecnoItem) → page_at file p ≡ RecnoInternal page → Contains (children_of page) c
+    → (header_in (page_at file c)).level ≡ n → (header_in (page_at file p)).level ≡ suc n
     → AreAmong (inner_pages file c) (inner_pages file p)
 unfolding inner_pages
 child_among n file p c page is at low high q there =
     let inner : ℕ → Bool = λ r. is_some (children_in (page_at file r)) in
     let below : Contains (level_below file (p ∷ [])) c =
-    in_flat_map (λ r. unwrap_or (children_in (page_at file r)) []) (p ∷ []) p c (first_member p []) (subst (λ pg. Contains (unwrap_or (children_in pg) []) c) (sym is) at) in
+    in_flat_map (λ r. unwrap_or (children_in (page_at file r)) []) (p ∷ []) p c (first_member p [])
+    (subst (λ pg. Contains (unwrap_or (children_in pg) []) c) (sym is) at) in
     subst (λ k. Contains (inner_in k file (p ∷ [])) q) (sym high)
     (Contains-append_right (filter inner (p ∷ [])) (inner_in n file (level_below file (p ∷ []))) q
-    (inner_among n file (c ∷ []) (level_below file (p ∷ [])) (one_among c (level_below file (p ∷ [])) below) q (subst (λ k. Contains (inner_in k file (c ∷ [])) q) low there)))
+    (inner_among n file (c ∷ []) (level_below file (p ∷ [])) (one_among c (level_below file (p ∷ [])) below) q
+    (subst (λ k. Contains (inner_in k file (c ∷ [])) q) low there)))
 
-itself_among : (n : ℕ) (file : File) (p : ℕ) (page : Listed RecnoItem) → page_at file p ≡ RecnoInternal page → (header_in (page_at file p)).level ≡ suc n → Contains (inner_pages file p) p
+itself_among : (n : ℕ) (file : File) (p : ℕ) (page : Listed RecnoItem) → page_at file p ≡ RecnoInternal page
+    → (header_in (page_at file p)).level ≡ suc n → Contains (inner_pages file p) p
 unfolding inner_pages
 itself_among n file p page is high =
     let inner : ℕ → Bool = λ r. is_some (children_in (page_at file r)) in
     subst (λ k. Contains (inner_in k file (p ∷ [])) p) (sym high)
-    (Contains-append_left (filter inner (p ∷ [])) (inner_in n file (level_below file (p ∷ []))) p (in_filter inner (p ∷ []) p (first_member p []) (ap (λ pg. is_some (children_in pg)) is)))
+    (Contains-append_left (filter inner (p ∷ [])) (inner_in n file (level_below file (p ∷ []))) p
+    (in_filter inner (p ∷ []) p (first_member p []) (ap (λ pg. is_some (children_in pg)) is)))
 
-pub child_counts : (image : List ℕ) (p c : ℕ) (page : Listed RecnoItem) → IsForest image → page_at (file_of image) p ≡ RecnoInternal page → Contains (children_of page) c → HasRightCounts (file_of image) p
+pub child_counts : (image : List ℕ) (p c : ℕ) (page : Listed RecnoItem) → IsForest image → page_at (file_of image) p ≡ RecnoInternal page
+    → Contains (children_of page) c → HasRightCounts (file_of image) p
     → HasRightCounts (file_of image) c
 child_counts image p c page forest is at counts =
     let file : File = file_of image in
     let child : IsChild file p c = child_of image p page c forest is at in
-    record { right = λ q there. counts.right q (child_among (header_in (page_at file c)).level file p c page is at refl (omega (arith, child.level)) q there) }
+    record {
+      right = λ q there. counts.right q
+          (child_among (header_in (page_at file c)).level file p c page is at refl (omega (arith, child.level)) q there);
+    }
 
 pub some_level : (image : List ℕ) (p : ℕ) → IsForest image → IsRecnoPage (file_of image) p → 1 ≤ (header_in (page_at (file_of image) p)).level
 some_level image p forest recno =
-    elim (tree_cases image p forest (recno_tree (file_of image) p recno)) [ inl inner ↦ omega (arith, inner.level) | inr leaf ↦ omega (arith, leaf.level) ]
+    elim (tree_cases image p forest (recno_tree (file_of image) p recno))
+    [ inl inner ↦ omega (arith, inner.level) | inr leaf ↦ omega (arith, leaf.level) ]
 
 -- the counts of a page's own items
-pub own_counts : (image : List ℕ) (p : ℕ) (page : Listed RecnoItem) → IsForest image → IsRecnoPage (file_of image) p → page_at (file_of image) p ≡ RecnoInternal page → HasRightCounts (file_of image) p
+pub own_counts : (image : List ℕ) (p : ℕ) (page : Listed RecnoItem) → IsForest image → IsRecnoPage (file_of image) p
+    → page_at (file_of image) p ≡ RecnoInternal page → HasRightCounts (file_of image) p
     → list_any (miscounts (file_of image)) page.items ≡ false
 own_counts image p page forest recno is counts =
     let file : File = file_of image in
@@ -103,27 +115,35 @@ LeadsTo file items place (Some (child, below)) =
     Contains (map (λ (item : RecnoItem). item.child) items) child
     × (slice_get (flat_map (tree_entries file) (map (λ (item : RecnoItem). item.child) items)) place ≡ slice_get (tree_entries file child) below)
 
-later_leads : (file : File) (item : RecnoItem) (items : List RecnoItem) (place : ℕ) (found : Option (ℕ × ℕ)) → item.count ≡ length (tree_entries file item.child) → item.count ≤ place
+later_leads : (file : File) (item : RecnoItem) (items : List RecnoItem) (place : ℕ) (found : Option (ℕ × ℕ))
+    → item.count ≡ length (tree_entries file item.child) → item.count ≤ place
     → LeadsTo file items (place - item.count) found → LeadsTo file (item ∷ items) place found
 later_leads file item items place None count past leads =
-    get_right (tree_entries file item.child) (flat_map (tree_entries file) (map (λ (it : RecnoItem). it.child) items)) place (place - item.count) (omega arith) ∙ leads
+    get_right (tree_entries file item.child) (flat_map (tree_entries file) (map (λ (it : RecnoItem). it.child) items)) place (place - item.count)
+    (omega arith) ∙ leads
 later_leads file item items place (Some (child, below)) count past leads = (
   later_member item.child (map (λ (it : RecnoItem). it.child) items) child leads.0,
-  get_right (tree_entries file item.child) (flat_map (tree_entries file) (map (λ (it : RecnoItem). it.child) items)) place (place - item.count) (omega arith) ∙ leads.1,
+  get_right (tree_entries file item.child) (flat_map (tree_entries file) (map (λ (it : RecnoItem). it.child) items)) place (place - item.count)
+      (omega arith) ∙ leads.1,
 )
 
-pub count_leads : (file : File) (items : List RecnoItem) (place : ℕ) → list_any (miscounts file) items ≡ false → LeadsTo file items place (child_by_count items place)
+pub count_leads : (file : File) (items : List RecnoItem) (place : ℕ) → list_any (miscounts file) items ≡ false
+    → LeadsTo file items place (child_by_count items place)
 count_leads file [] place right = refl
 count_leads file (item ∷ items) place right =
-    let parts : (miscounts file item ≡ false) × (list_any (miscounts file) items ≡ false) = or_parts (miscounts file item) (list_any (miscounts file) items) right in
-    let count : item.count ≡ length (tree_entries file item.child) = eqb-true item.count (length (tree_entries file item.child)) (not-false _ parts.0) in
-    elim (nat_lt place item.count) as (λ b. nat_lt place item.count ≡ b → LeadsTo file (item ∷ items) place (cond b (Some (item.child, place)) (child_by_count items (place - item.count)))) [
+    let parts : (miscounts file item ≡ false) × (list_any (miscounts file) items ≡ false) =
+    or_parts (miscounts file item) (list_any (miscounts file) items) right in
+    let count : item.count ≡ length (tree_entries file item.child) =
+    eqb-true item.count (length (tree_entries file item.child)) (not-false _ parts.0) in
+    elim (nat_lt place item.count) as (λ b. nat_lt place item.count ≡ b
+    → LeadsTo file (item ∷ items) place (cond b (Some (item.child, place)) (child_by_count items (place - item.count)))) [
       | true ↦ λ less.
           let below : place < item.count = ltb-true place item.count less in (
             first_member item.child (map (λ (it : RecnoItem). it.child) items),
             get_left (tree_entries file item.child) (flat_map (tree_entries file) (map (λ (it : RecnoItem). it.child) items)) place (omega arith),
           )
-      | false ↦ λ more. later_leads file item items place (child_by_count items (place - item.count)) count (ltb-false place item.count more) (count_leads file items (place - item.count) parts.1)
+      | false ↦ λ more. later_leads file item items place (child_by_count items (place - item.count)) count (ltb-false place item.count more)
+          (count_leads file items (place - item.count) parts.1)
     ] refl
 
 -- The loop over the items.
@@ -132,13 +152,15 @@ drop_at : (its : List RecnoItem) (k : ℕ) (it : RecnoItem) → slice_get its k 
 drop_at its k it there =
     drop_more its k it (slice_get_within its k it there) ∙ ap (λ x. x ∷ drop (k + 1) its) (get_or_from_slice_get its k it it there)
 
-pub count_here : (items : List RecnoItem) (i place left : ℕ) (item : RecnoItem) → slice_get items i ≡ Some item → child_by_count (drop i items) left ≡ child_by_count items place → left < item.count
+pub count_here : (items : List RecnoItem) (i place left : ℕ) (item : RecnoItem) → slice_get items i ≡ Some item
+    → child_by_count (drop i items) left ≡ child_by_count items place → left < item.count
     → Some (item.child, left) ≡ child_by_count items place
 count_here items i place left item at same below =
     sym (ap (λ b. cond b (Some (item.child, left)) (child_by_count (drop (i + 1) items) (left - item.count))) (lt-ltb left item.count below))
     ∙ (ap (λ its. child_by_count its left) (sym (drop_at items i item at)) ∙ same)
 
-pub count_later : (items : List RecnoItem) (i place left : ℕ) (item : RecnoItem) → slice_get items i ≡ Some item → child_by_count (drop i items) left ≡ child_by_count items place → item.count ≤ left
+pub count_later : (items : List RecnoItem) (i place left : ℕ) (item : RecnoItem) → slice_get items i ≡ Some item
+    → child_by_count (drop i items) left ≡ child_by_count items place → item.count ≤ left
     → child_by_count (drop (i + 1) items) (left - item.count) ≡ child_by_count items place
 count_later items i place left item at same past =
     sym (ap (λ b. cond b (Some (item.child, left)) (child_by_count (drop (i + 1) items) (left - item.count))) (le-ltb left item.count past))
@@ -152,12 +174,14 @@ pub record IsOnTheWay (file : File) (root place page left : ℕ) : Type 0 where
   pub counts : HasRightCounts file page
   pub same : slice_get (tree_entries file page) left ≡ slice_get (tree_entries file root) place
 
-pub way_down : (image : List ℕ) (root place page left child below : ℕ) (inner : Listed RecnoItem) → IsForest image → IsOnTheWay (file_of image) root place page left → RecnoInternal inner ≡ page_at (file_of image) page
+pub way_down : (image : List ℕ) (root place page left child below : ℕ) (inner : Listed RecnoItem) → IsForest image
+    → IsOnTheWay (file_of image) root place page left → RecnoInternal inner ≡ page_at (file_of image) page
     → Some (child, below) ≡ child_by_count inner.items left → IsOnTheWay (file_of image) root place child below
 way_down image root place page left child below inner forest way is found =
     let file : File = file_of image in
     let leads : LeadsTo file inner.items left (Some (child, below)) =
-    subst (LeadsTo file inner.items left) (sym found) (count_leads file inner.items left (own_counts image page inner forest way.recno (sym is) way.counts)) in
+    subst (LeadsTo file inner.items left) (sym found)
+    (count_leads file inner.items left (own_counts image page inner forest way.recno (sym is) way.counts)) in
     record {
       recno = child_recno image page inner child forest (sym is) leads.0;
       counts = child_counts image page child inner forest (sym is) leads.0 way.counts;
@@ -165,25 +189,31 @@ way_down image root place page left child below inner forest way is found =
     }
 
 -- the child is a level below
-pub way_falls : (image : List ℕ) (root place page left child below : ℕ) (inner : Listed RecnoItem) → IsForest image → IsOnTheWay (file_of image) root place page left → RecnoInternal inner ≡ page_at (file_of image) page
-    → Some (child, below) ≡ child_by_count inner.items left → (header_in (page_at (file_of image) child)).level + 1 ≡ (header_in (page_at (file_of image) page)).level
+pub way_falls : (image : List ℕ) (root place page left child below : ℕ) (inner : Listed RecnoItem) → IsForest image
+    → IsOnTheWay (file_of image) root place page left → RecnoInternal inner ≡ page_at (file_of image) page
+    → Some (child, below) ≡ child_by_count inner.items left
+    → (header_in (page_at (file_of image) child)).level + 1 ≡ (header_in (page_at (file_of image) page)).level
 way_falls image root place page left child below inner forest way is found =
     let file : File = file_of image in
     let leads : LeadsTo file inner.items left (Some (child, below)) =
-    subst (LeadsTo file inner.items left) (sym found) (count_leads file inner.items left (own_counts image page inner forest way.recno (sym is) way.counts)) in
+    subst (LeadsTo file inner.items left) (sym found)
+    (count_leads file inner.items left (own_counts image page inner forest way.recno (sym is) way.counts)) in
     (child_of image page inner child forest (sym is) leads.0).level
 
 -- no child has the entry
-pub way_ends : (image : List ℕ) (root place page left : ℕ) (inner : Listed RecnoItem) → IsForest image → IsOnTheWay (file_of image) root place page left → RecnoInternal inner ≡ page_at (file_of image) page
+pub way_ends : (image : List ℕ) (root place page left : ℕ) (inner : Listed RecnoItem) → IsForest image
+    → IsOnTheWay (file_of image) root place page left → RecnoInternal inner ≡ page_at (file_of image) page
     → None ≡ child_by_count inner.items left → None ≡ slice_get (tree_entries (file_of image) root) place
 way_ends image root place page left inner forest way is found =
     let file : File = file_of image in
     let leads : LeadsTo file inner.items left None =
-    subst (LeadsTo file inner.items left) (sym found) (count_leads file inner.items left (own_counts image page inner forest way.recno (sym is) way.counts)) in
+    subst (LeadsTo file inner.items left) (sym found)
+    (count_leads file inner.items left (own_counts image page inner forest way.recno (sym is) way.counts)) in
     sym leads ∙ (ap (λ entries. slice_get entries left) (sym (entries_below image page inner forest (sym is))) ∙ way.same)
 
 -- the leaf that has the entry
-pub way_leaf : (image : List ℕ) (root place page left : ℕ) (leaf : Listed Item) (found : Option Item) → IsForest image → IsOnTheWay (file_of image) root place page left → RecnoLeaf leaf ≡ page_at (file_of image) page
+pub way_leaf : (image : List ℕ) (root place page left : ℕ) (leaf : Listed Item) (found : Option Item) → IsForest image
+    → IsOnTheWay (file_of image) root place page left → RecnoLeaf leaf ≡ page_at (file_of image) page
     → found ≡ slice_get leaf.items left → found ≡ slice_get (tree_entries (file_of image) root) place
 way_leaf image root place page left leaf found forest way is at =
     at ∙ (ap (λ entries. slice_get entries left) (sym (entries_of_leaf image page leaf forest (sym is))) ∙ way.same)

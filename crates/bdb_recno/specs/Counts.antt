@@ -1,7 +1,8 @@
 -- How the counts of internal pages lead to an entry. Source: docs/FORMAT.md, "Databases of a file".
-use Rattle.std.specs.Prelude.{◌≡◌, ℕ, ◌-◌, nat_lt, if◌then◌else◌, false, List, [], ◌∷◌, Option, Some, None}
+use Rattle.std.specs.Prelude.{◌≡◌, ℕ, ◌-◌, ◌==◌, nat_lt, not, if◌then◌else◌, Bool, false, List, [], ◌∷◌, length, Option, Some, None}
 use Rattle.std.specs.List.{Contains}
 use Rattle.bdb_format.specs.declared.pages.RecnoItem.{RecnoItem}
+use Rattle.bdb_format.specs.Contents.{tree_entries}
 use Rattle.bdb_format.specs.ContentRows.{has_wrong_count, inner_pages}
 use Rattle.bdb_format.specs.File.{File, page_at}
 
@@ -14,3 +15,7 @@ abbrev pub child_by_count : List RecnoItem → ℕ → Option (ℕ × ℕ)
 child_by_count [] place = None
 child_by_count (item ∷ items) place =
     if nat_lt place item.count then Some (item.child, place) else child_by_count items (place - item.count)
+
+-- an item of an internal page with another count than entries stand below its child
+abbrev pub miscounts : File → RecnoItem → Bool
+miscounts file item = not (item.count == length (tree_entries file item.child))

@@ -2,6 +2,8 @@
 use Rattle.std.specs.Prelude.{ℕ, nat_lt, ◌==◌, ◌&&◌, ◌||◌, if◌then◌else◌, Bool, List, map, Option, Some, None}
 use Rattle.std.specs.List.{filter, fold}
 use Rattle.bdb_format.specs.declared.kinds.Fault.{Fault}
+use Rattle.bdb_format.specs.declared.metadata.BtreeMeta.{BtreeMeta}
+use Rattle.bdb_format.specs.ContentRows.{has_wrong_count, has_wrong_record}
 use Rattle.bdb_format.specs.File.{File, page_at}
 use Rattle.bdb_format.specs.Page.{Page}
 
@@ -21,3 +23,10 @@ noted_all least faults = fold noted least faults
 -- a fault of stage 8 with this code, at each of these pages for which a test holds
 abbrev pub faults_on : File → ℕ → (Page → Bool) → List ℕ → List Fault
 faults_on file code test pages = map (λ p. record { stage = 8; page = p; code = code }) (filter (λ p. test (page_at file p)) pages)
+
+-- the faults of counts, and those of lengths, at these pages
+abbrev pub count_faults : File → List ℕ → List Fault
+count_faults file pages = faults_on file 6 (has_wrong_count file) pages
+
+abbrev pub length_faults : File → BtreeMeta → List ℕ → List Fault
+length_faults file meta pages = faults_on file 7 (has_wrong_record file meta) pages

@@ -1,15 +1,9 @@
--- What iterators give, as the definitions have it.
+-- What the iterator over records gives, as the definitions have it.
 use Rattle.std.specs.Prelude.{ℕ, List}
-use Rattle.bdb_layout.specs.Seen.{leaf_item_seen}
-use Rattle.bdb_layout.specs.declared.items.LeafItem.{LeafItem}
 use Rattle.bdb_format.specs.Lists.{ListKey}
-use Rattle.bdb_format.specs.Page.{Item}
 use Rattle.bdb_overflow.specs.Datum.{datum_seen, key_view_seen}
 use Rattle.bdb_overflow.specs.declared.datum.Datum.{Datum}
 use Rattle.bdb_overflow.specs.declared.datum.KeyView.{KeyView}
-
-abbrev pub entry_seen : (ℕ × LeafItem) → ℕ × Item
-entry_seen entry = (entry.0, leaf_item_seen entry.1)
 
 abbrev pub pair_seen : (KeyView × Datum) → ListKey × List ℕ
 pair_seen pair = (key_view_seen pair.0, datum_seen pair.1)

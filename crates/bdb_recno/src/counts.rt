@@ -1,11 +1,12 @@
-ghost use Rattle.std.specs.Prelude.{◌≡◌, ◌==◌, not, IfOk, length, None};
+ghost use Rattle.std.specs.Prelude.{◌≡◌, ◌==◌, IfOk, length, None};
 ghost use Rattle.std.specs.List.{All, list_any};
 ghost use Rattle.bdb_graph.specs.Linked.{IsForest};
 ghost use Rattle.bdb_format.specs.ContentRows.{has_wrong_count, inner_pages};
 ghost use Rattle.bdb_format.specs.Contents.{tree_entries};
 ghost use Rattle.bdb_format.specs.File.{file_of, page_at};
 ghost use Rattle.bdb_format.specs.declared.pages.RecnoItem.{RecnoItem};
-ghost use Rattle.bdb_recno.specs.Noted.{faults_on, noted_all};
+ghost use Rattle.bdb_recno.specs.Counts.{miscounts};
+ghost use Rattle.bdb_recno.specs.Noted.{count_faults, noted_all};
 ghost use Rattle.bdb_recno.specs.Pages.{IsRecnoPage};
 
 use crate::noted::noted;
@@ -46,10 +47,9 @@ fn has_wrong_item(
 ) -> Result<bool, AllocError>
     requires forest { IsForest forest.now }
     requires children { All (λ (item : RecnoItem). IsRecnoPage (file_of forest.now) item.child) page.now.items }
-    ensures { IfOk result (λ wrong. wrong ≡ list_any (λ (item : RecnoItem). not (item.count == length (tree_entries (file_of forest.now) item.child))) page.now.items) }
+    ensures { IfOk result (λ wrong. wrong ≡ list_any (miscounts (file_of forest.now)) page.now.items) }
 {
-    for i in 0..page.entries() {
-        let item = page.item(i);
+    for item in page.items() {
         if !has_entries(alloc, forest, item.child, item.count)? {
             return Ok(true);
         }
@@ -79,7 +79,7 @@ fn note_level(
 ) -> Result<Option<Fault>, AllocError>
     requires forest { IsForest forest.now }
     requires pages { All (IsRecnoPage (file_of forest.now)) pages.now }
-    ensures { IfOk result (λ least. least ≡ noted_all before (faults_on (file_of forest.now) 6 (has_wrong_count (file_of forest.now)) pages.now)) }
+    ensures { IfOk result (λ least. least ≡ noted_all before (count_faults (file_of forest.now) pages.now)) }
 {
     let mut least = before;
     for page in pages {
@@ -106,7 +106,7 @@ pub(crate) fn note_counts(
 ) -> Result<Option<Fault>, AllocError>
     requires forest { IsForest forest.now }
     requires root { IsRecnoPage (file_of forest.now) root }
-    ensures { IfOk result (λ least. least ≡ noted_all None (faults_on (file_of forest.now) 6 (has_wrong_count (file_of forest.now)) (inner_pages (file_of forest.now) root))) }
+    ensures { IfOk result (λ least. least ≡ noted_all None (count_faults (file_of forest.now) (inner_pages (file_of forest.now) root))) }
 {
     let mut pages = Vec::new(alloc);
     pages.push(root)?;

@@ -6,7 +6,7 @@ ghost use Rattle.bdb_format.specs.File.{file_of, page_at};
 ghost use Rattle.bdb_format.specs.Leaves.{leaves};
 ghost use Rattle.bdb_format.specs.Verdict.{structure_faults};
 ghost use Rattle.bdb_overflow.specs.Datum.{FitsContent};
-ghost use Rattle.bdb_recno.specs.Noted.{faults_on, noted_all};
+ghost use Rattle.bdb_recno.specs.Noted.{length_faults, noted_all};
 ghost use Rattle.bdb_recno.specs.Pages.{IsRecnoLeaf, IsRecnoPage};
 ghost use Rattle.bdb_tree.specs.Trees.{IsRoot};
 
@@ -32,9 +32,7 @@ fn has_wrong_record(forest: &Forest<'_>, meta: &BtreeMeta, page: u32) -> bool
     requires leaf { IsRecnoLeaf (file_of forest.now) page }
     ensures { result ≡ has_wrong_record (file_of forest.now) meta.now (page_at (file_of forest.now) page) }
 {
-    let leaf = leaf_at(forest, page);
-    for i in 0..leaf.entries() {
-        let item = leaf.item(i);
+    for item in leaf_at(forest, page).items() {
         if is_wrong_record(forest, meta, &item) {
             return true;
         }
@@ -52,7 +50,7 @@ pub(crate) fn note_lengths(
     requires root { IsRoot (file_of forest.now) meta.now.root }
     requires recno { IsRecnoPage (file_of forest.now) meta.now.root }
     requires stage { structure_faults (file_of forest.now) ≡ [] }
-    ensures { result ≡ noted_all before (faults_on (file_of forest.now) 7 (has_wrong_record (file_of forest.now) meta.now) (leaves (file_of forest.now) meta.now.root)) }
+    ensures { result ≡ noted_all before (length_faults (file_of forest.now) meta.now (leaves (file_of forest.now) meta.now.root)) }
 {
     let mut least = before;
     for leaf in tree_leaves(forest, meta.root) {

@@ -3,9 +3,7 @@
 
 mod contents;
 mod counts;
-mod entries;
 mod found;
-mod items;
 mod lengths;
 mod list;
 mod listing;

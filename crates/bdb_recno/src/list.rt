@@ -1,18 +1,19 @@
 ghost use Rattle.std.specs.Prelude.{◌≡◌, [], IsTrue};
 ghost use Rattle.bdb_graph.specs.Linked.{HasMetadata};
 ghost use Rattle.bdb_format.specs.File.{file_of};
+ghost use Rattle.bdb_format.specs.Flags.{is_recno};
 ghost use Rattle.bdb_format.specs.Lists.{recno_list};
 ghost use Rattle.bdb_format.specs.Page.{BtreeFields};
 ghost use Rattle.bdb_format.specs.Verdict.{structure_faults};
-ghost use Rattle.bdb_format.specs.Flags.{is_recno};
 
 use crate::Scan;
-use crate::entries::Entries;
 use crate::page::pages_of;
 use bdb_format::BtreeMeta;
 use bdb_graph::Linked;
+use bdb_tree::tree_entries;
 
 /// The list of a recno: its live records, each with its place among all entries, from 1. It takes no memory.
+#[tactic(auto, using(crate::proofs::ScanLemmas::all_listed))]
 pub fn scan<'a>(linked: &Linked<'a>, meta: &BtreeMeta) -> Scan<'a>
     requires meta { HasMetadata (file_of linked.now) (BtreeFields meta.now) }
     requires recno { IsTrue (is_recno meta.now) }
@@ -20,6 +21,6 @@ pub fn scan<'a>(linked: &Linked<'a>, meta: &BtreeMeta) -> Scan<'a>
     ensures { result ≡ recno_list (file_of linked.now) meta.now.root }
 {
     let forest = pages_of(linked, meta);
-    let entries = Entries::of_tree(&forest, meta.root);
+    let entries = tree_entries(&forest, meta.root);
     Scan::over(forest, entries)
 }

@@ -1,54 +1,45 @@
 ghost use Rattle.std.specs.Prelude.{◌≡◌};
 ghost use Rattle.std.specs.Iterator.{YieldsFirstBy, item_count};
 ghost use Rattle.bdb_format.specs.File.{file_of};
-ghost use Rattle.bdb_recno.specs.Entries.{AreFit, Gives, listed_of};
+ghost use Rattle.bdb_recno.specs.Entries.{AreNumbered, listed_after};
 ghost use Rattle.bdb_recno.specs.Pairs.{pair_seen};
 
-use crate::entries::Entries;
 use bdb_graph::Forest;
 use bdb_overflow::{Datum, KeyView, is_deleted, value_of};
+use bdb_tree::TreeEntries;
 use std::marker::Model;
 
 /// The live records of a recno that are left, in order, each with its number as key.
 #[derive(Drop)]
 pub struct Scan<'a> {
     forest: Forest<'a>,
-    entries: Entries<'a>,
+    entries: TreeEntries<'a>,
+    passed: u32,
 }
 
 impl<'a> Model for Scan<'a> {
     ghost use Rattle.std.specs.Prelude.{List, ℕ};
     ghost use Rattle.bdb_format.specs.File.{file_of};
     ghost use Rattle.bdb_format.specs.Lists.{ListKey};
-    ghost use Rattle.bdb_recno.specs.Entries.{AreFit, listed_of};
+    ghost use Rattle.bdb_recno.specs.Entries.{AreNumbered, listed_after};
 
     ghost Value = { List (ListKey × List ℕ) };
 
-    ghost view = { λ it. listed_of (file_of it.forest) it.entries };
+    ghost view = { λ it. listed_after (file_of it.forest) it.passed it.entries };
 
-    ghost invariant = { λ it. AreFit (file_of it.forest) it.entries };
+    ghost invariant = { λ it. AreNumbered (file_of it.forest) it.passed it.entries };
 }
 
 impl<'a> Scan<'a> {
-    // The live ones of these entries.
-    pub(crate) fn over(forest: Forest<'a>, entries: Entries<'a>) -> Scan<'a>
-        requires { AreFit (file_of forest) entries }
-        ensures { result ≡ listed_of (file_of forest.entry) entries.entry }
+    // The live ones of these entries, of which the first has number 1.
+    pub(crate) fn over(forest: Forest<'a>, entries: TreeEntries<'a>) -> Scan<'a>
+        requires { AreNumbered (file_of forest) 0 entries }
+        ensures { result ≡ listed_after (file_of forest.entry) 0 entries.entry }
     {
-        Scan { forest, entries }
-    }
-}
-
-/// The next live record.
-fn next_live<'a>(forest: &Forest<'a>, entries: &mut Entries<'a>) -> Option<(KeyView<'a>, Datum<'a>)>
-    requires { AreFit (file_of forest.now) entries.old }
-    ensures gives { Gives pair_seen (listed_of (file_of forest.now) entries.old) result (listed_of (file_of forest.now) entries.new) }
-    ensures records { AreFit (file_of forest.now) entries.new }
-{
-    loop {
-        let (number, item) = entries.next()?;
-        if !is_deleted(&item) {
-            return Some((KeyView::Number(number), value_of(forest, &item)));
+        Scan {
+            forest,
+            entries,
+            passed: 0,
         }
     }
 }
@@ -61,6 +52,13 @@ impl<'a> Iterator for Scan<'a> {
     ghost remaining = { item_count (λ left. left) };
 
     fn next(&mut self) -> Option<(KeyView<'a>, Datum<'a>)> {
-        next_live(&self.forest, &mut self.entries)
+        loop {
+            let entry = self.entries.next()?;
+            self.passed += 1;
+            if !is_deleted(&entry) {
+                let value = value_of(&self.forest, &entry);
+                return Some((KeyView::Number(self.passed), value));
+            }
+        }
     }
 }

@@ -20,7 +20,8 @@ pub(crate) fn pages_of<'a>(linked: &Linked<'a>, meta: &BtreeMeta) -> Forest<'a>
     ensures root { FitsTreeRoot (file_of linked.now) meta.now.root }
     ensures recno { IsRecnoPage (file_of linked.now) meta.now.root }
 {
-    prove!(linked.root(meta).number() <= linked.head().last);
+    // What it ensures: its root is that of a tree, in a file that linking accepts.
+    linked.root(meta);
     linked.forest()
 }
 

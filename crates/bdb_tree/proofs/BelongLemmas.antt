@@ -1,5 +1,6 @@
 -- Each leaf page of a linked file is a leaf of a tree: the holders of its first references lead up to a root.
-use Rattle.std.proofs.Common.{◌≡◌, ◌⊎◌, ℕ, zero, suc, ◌≤◌, Bool, true, false, ◌&&◌, ◌||◌, List, [], ◌∷◌, Option, Some, None, arith, refl, sym, ◌∙◌, ap, subst, inl, inr, true≢false}
+use Rattle.std.proofs.Common.{◌≡◌, ◌⊎◌, ℕ, zero, suc, ◌≤◌, Bool, true, false, ◌&&◌, ◌||◌, List, [], ◌∷◌, Option, Some, None, arith, refl, sym, ◌∙◌}
+use Rattle.std.proofs.Common.{ap, subst, inl, inr, true≢false}
 use Rattle.std.specs.Prelude.{◌==◌}
 use Rattle.std.specs.List.{Contains, filter}
 use Rattle.std.proofs.lemmas.Bool.{cases_Bool, not-false, or_from}
@@ -9,13 +10,15 @@ use Rattle.bdb_format.specs.declared.metadata.FileKind.TheVariants.{Btree, Hash 
 use Rattle.bdb_format.specs.declared.metadata.Head.{Head}
 use Rattle.bdb_format.specs.declared.references.Reference.{Reference}
 use Rattle.bdb_format.specs.declared.references.Sort.{Sort}
-use Rattle.bdb_format.specs.declared.references.Sort.TheVariants.{Free as FreeRef, Root, Bucket, HashNext, Child, OverflowHead, OverflowNext, DuplicateRoot}
+use Rattle.bdb_format.specs.declared.references.Sort.TheVariants.{Free as FreeRef, Root, Bucket, HashNext, Child, OverflowHead, OverflowNext}
+use Rattle.bdb_format.specs.declared.references.Sort.TheVariants.{DuplicateRoot}
 use Rattle.bdb_format.specs.File.{File, file_of, page_at, page_bytes, type_in}
 use Rattle.bdb_format.specs.Graph.{Owner, all_references, first_holder, is_anchor, is_anchor_in, is_meta, is_reserve, is_spare, owners}
 use Rattle.bdb_format.specs.HeadOf.{head_of}
 use Rattle.bdb_format.specs.Leaves.{children_in, leaves}
 use Rattle.bdb_format.specs.Numbers.{byte_at}
-use Rattle.bdb_format.specs.Page.{BtreeFields, HashFields, QueueFields, Page, Zero, Free, Meta, Hash, Internal, RecnoInternal, Leaf, RecnoLeaf, DupLeaf, Overflow, Queue, NoType}
+use Rattle.bdb_format.specs.Page.{BtreeFields, HashFields, QueueFields, Page, Zero, Free, Meta, Hash, Internal, RecnoInternal, Leaf, RecnoLeaf}
+use Rattle.bdb_format.specs.Page.{DupLeaf, Overflow, Queue, NoType}
 use Rattle.bdb_format.specs.Reading.{abstract_page, is_zero, page_as, page_type}
 use Rattle.bdb_format.specs.References.{asked_by, child_types, fit_code, fit_rows, has_type, is_zero_page, refs}
 use Rattle.bdb_format.specs.Rows.{form_code, identity_rows, may_have_type, type_of, typed_code}
@@ -79,11 +82,13 @@ no_anchor_in Btree page other none = none
 no_anchor_in HashFile page other none = none
 no_anchor_in QueueFile page other none = absurd (other refl)
 
-no_anchor : (image : List ℕ) (p : ℕ) → IsForest image → p ≤ (file_of image).last → is_tree_in (page_at (file_of image) p) ≡ true → is_anchor (file_of image) p ≡ false
+no_anchor : (image : List ℕ) (p : ℕ) → IsForest image → p ≤ (file_of image).last → is_tree_in (page_at (file_of image) p) ≡ true
+    → is_anchor (file_of image) p ≡ false
 unfolding is_anchor
 no_anchor image p forest low is =
     let file : File = file_of image in
-    no_anchor_in file.kind (page_at file p) (no_queue image (head_of image) p forest.formed low (plain (page_at file p) is).0) (plain (page_at file p) is).1
+    no_anchor_in file.kind (page_at file p) (no_queue image (head_of image) p forest.formed low (plain (page_at file p) is).0)
+    (plain (page_at file p) is).1
 
 no_reserve : (file : File) (p : ℕ) → is_tree_in (page_at file p) ≡ true → is_reserve file p ≡ false
 no_reserve file p is =
@@ -107,9 +112,11 @@ is_of types zeros page = has_type types (type_in page) || (zeros && is_zero_page
 -- a type that no page of a tree has
 abbrev IsOther : List ℕ → Type 0
 IsOther types =
-    (has_type types (Some 3) ≡ false) × (has_type types (Some 4) ≡ false) × (has_type types (Some 5) ≡ false) × (has_type types (Some 6) ≡ false) × (has_type types (Some 12) ≡ false)
+    (has_type types (Some 3) ≡ false) × (has_type types (Some 4) ≡ false) × (has_type types (Some 5) ≡ false) × (has_type types (Some 6) ≡ false)
+    × (has_type types (Some 12) ≡ false)
 
-not_of : (types : List ℕ) (zeros : Bool) (type : ℕ) (b : Bool) → b ≡ false → has_type types (Some type) ≡ false → (has_type types (Some type) || (zeros && b)) ≡ false
+not_of : (types : List ℕ) (zeros : Bool) (type : ℕ) (b : Bool) → b ≡ false → has_type types (Some type) ≡ false
+    → (has_type types (Some type) || (zeros && b)) ≡ false
 not_of types true type b empty other = or_from (has_type types (Some type)) b other empty
 not_of types false type b empty other = or_from (has_type types (Some type)) false other refl
 
@@ -128,19 +135,25 @@ is_tree_sort DuplicateRoot = true
 is_tree_sort sort = false
 
 -- a reference to a page of a tree is one to a root or to a child
-tree_sort : (holder : ℕ) (page target : Page) (sort : Sort) → is_tree_in target ≡ true → is_of (asked_by holder page sort).types (asked_by holder page sort).or_zero target ≡ true → is_tree_sort sort ≡ true
+tree_sort : (holder : ℕ) (page target : Page) (sort : Sort) → is_tree_in target ≡ true
+    → is_of (asked_by holder page sort).types (asked_by holder page sort).or_zero target ≡ true → is_tree_sort sort ≡ true
 tree_sort holder page target FreeRef is asked = absurd (true≢false (sym asked ∙ other_type (0 ∷ []) false target (refl, refl, refl, refl, refl) is))
 tree_sort holder page target Root is asked = refl
-tree_sort holder page target Bucket is asked = absurd (true≢false (sym asked ∙ other_type (2 ∷ 13 ∷ []) true target (refl, refl, refl, refl, refl) is))
-tree_sort holder page target HashNext is asked = absurd (true≢false (sym asked ∙ other_type (2 ∷ 13 ∷ []) false target (refl, refl, refl, refl, refl) is))
+tree_sort holder page target Bucket is asked =
+    absurd (true≢false (sym asked ∙ other_type (2 ∷ 13 ∷ []) true target (refl, refl, refl, refl, refl) is))
+tree_sort holder page target HashNext is asked =
+    absurd (true≢false (sym asked ∙ other_type (2 ∷ 13 ∷ []) false target (refl, refl, refl, refl, refl) is))
 tree_sort holder page target Child is asked = refl
-tree_sort holder page target OverflowHead is asked = absurd (true≢false (sym asked ∙ other_type (7 ∷ []) false target (refl, refl, refl, refl, refl) is))
-tree_sort holder page target OverflowNext is asked = absurd (true≢false (sym asked ∙ other_type (7 ∷ []) false target (refl, refl, refl, refl, refl) is))
+tree_sort holder page target OverflowHead is asked =
+    absurd (true≢false (sym asked ∙ other_type (7 ∷ []) false target (refl, refl, refl, refl, refl) is))
+tree_sort holder page target OverflowNext is asked =
+    absurd (true≢false (sym asked ∙ other_type (7 ∷ []) false target (refl, refl, refl, refl, refl) is))
 tree_sort holder page target DuplicateRoot is asked = refl
 
 -- what is asked of the target of a reference that fits
 asked : (file : File) (p : ℕ) (reference : Reference) → fit_code file p reference ≡ None
-    → is_of (asked_by p (page_at file p) reference.sort).types (asked_by p (page_at file p) reference.sort).or_zero (page_at file reference.target) ≡ true
+    → is_of (asked_by p (page_at file p) reference.sort).types (asked_by p (page_at file p) reference.sort).or_zero (page_at file reference.target)
+    ≡ true
 unfolding fit_code
 asked file p reference fits =
     let rows = fit_rows file (asked_by p (page_at file p) reference.sort) reference.target in
@@ -164,7 +177,8 @@ owner_of (owner ∷ os) h some = (owner, first_member owner os, cc)
 target_of : (file : File) (p : ℕ) (owner : Owner) (sort : Sort) → Contains (owners file p) owner → owner.reference.sort ≡ sort → IsTarget file sort p
 unfolding owners
 target_of file p owner sort at is =
-    let passed : Contains (all_references file) owner × ((owner.reference.target == p) ≡ true) = of_filter (λ (o : Owner). o.reference.target == p) (all_references file) owner at in
+    let passed : Contains (all_references file) owner × ((owner.reference.target == p) ≡ true) =
+    of_filter (λ (o : Owner). o.reference.target == p) (all_references file) owner at in
     record { owner = owner; held = passed.0; sort_is = is; target_is = (is_owner file p owner at).names }
 
 -- Up to a root.
@@ -195,7 +209,8 @@ some_children (Internal page) target is = (_, refl)
 some_children (RecnoInternal page) target is = (_, refl)
 some_children page target is = absurd (true≢false (sym (no_zero [] target is) ∙ nothing (type_in target)))
 
-asked_child : (holder : ℕ) (page target : Page) (sort : Sort) → sort ≡ Child → is_of (asked_by holder page sort).types (asked_by holder page sort).or_zero target ≡ true → is_of (child_types page) false target ≡ true
+asked_child : (holder : ℕ) (page target : Page) (sort : Sort) → sort ≡ Child
+    → is_of (asked_by holder page sort).types (asked_by holder page sort).or_zero target ≡ true → is_of (child_types page) false target ≡ true
 asked_child holder page target Child is asks = asks
 asked_child holder page target sort is asks = absurd cc
 
@@ -209,21 +224,26 @@ record IsParent (file : File) (h p : ℕ) : Type 0 where
   tree : IsTreePage file h
   all : (x : ℕ) → Contains (leaves file p) x → Contains (leaves file h) x
 
-child_listed : (file : File) (h : ℕ) (reference : Reference) → Contains (refs file h) reference → reference.sort ≡ Child → Contains (children_of file h) reference.target
+child_listed : (file : File) (h : ℕ) (reference : Reference) → Contains (refs file h) reference → reference.sort ≡ Child
+    → Contains (children_of file h) reference.target
 child_listed file h reference held child =
     in_map (λ (r : Reference). r.target) (filter (λ (r : Reference). is_child r.sort) (refs file h)) reference
     (in_filter (λ (r : Reference). is_child r.sort) (refs file h) reference held (ap is_child child))
 
-parent : (image : List ℕ) (h : ℕ) (reference : Reference) → IsForest image → h ≤ (file_of image).last → Contains (refs (file_of image) h) reference → reference.sort ≡ Child → fit_code (file_of image) h reference ≡ None
+parent : (image : List ℕ) (h : ℕ) (reference : Reference) → IsForest image → h ≤ (file_of image).last → Contains (refs (file_of image) h) reference
+    → reference.sort ≡ Child → fit_code (file_of image) h reference ≡ None
     → IsParent (file_of image) h reference.target
 parent image h reference forest low held child none =
     let file : File = file_of image in
     let inner : (cs : List ℕ) × (children_in (page_at file h) ≡ Some cs) =
-    some_children (page_at file h) (page_at file reference.target) (asked_child h (page_at file h) (page_at file reference.target) reference.sort child (asked file h reference none)) in
-    let at : Contains inner.0 reference.target = subst (λ cs. Contains cs reference.target) (children_are image h inner.0 forest low inner.1) (child_listed file h reference held child) in
+    some_children (page_at file h) (page_at file reference.target)
+    (asked_child h (page_at file h) (page_at file reference.target) reference.sort child (asked file h reference none)) in
+    let at : Contains inner.0 reference.target =
+    subst (λ cs. Contains cs reference.target) (children_are image h inner.0 forest low inner.1) (child_listed file h reference held child) in
     record {
       tree = internal_type (page_at file h) inner.0 inner.1;
-      all = λ x in_child. subst (λ xs. Contains xs x) (sym (leaves_of_inner image h inner.0 forest inner.1)) (in_flat_map (leaves file) inner.0 reference.target x at in_child);
+      all = λ x in_child. subst (λ xs. Contains xs x) (sym (leaves_of_inner image h inner.0 forest inner.1))
+          (in_flat_map (leaves file) inner.0 reference.target x at in_child);
     }
 
 up : (image : List ℕ) (p : ℕ) (hs : List ℕ) → IsForest image → IsTreePage (file_of image) p → IsWayUp (file_of image) p hs → InTree (file_of image) p
@@ -236,18 +256,23 @@ up image p (h ∷ hs) forest tree way =
     let is : IsOwner file p owner = is_owner file p owner found.1 in
     let none : fit_code file owner.holder reference ≡ None = owner_fits file p owner (sound_graph image forest.linked).references found.1 in
     let target : is_tree_in (page_at file reference.target) ≡ true = ap (λ q. is_tree_in (page_at file q)) is.names ∙ tree_is image p forest tree in
-    elim (named_as reference.sort (tree_sort owner.holder (page_at file owner.holder) (page_at file reference.target) reference.sort target (asked file owner.holder reference none))) [
+    elim (named_as reference.sort (tree_sort owner.holder (page_at file owner.holder) (page_at file reference.target) reference.sort target
+    (asked file owner.holder reference none))) [
       | inl root ↦ root_itself file p (inl (target_of file p owner Root found.1 root))
       | inr (inl set) ↦ root_itself file p (inr (target_of file p owner DuplicateRoot found.1 set))
       | inr (inr child) ↦
-          let above : IsParent file h p = subst (λ q. IsParent file h q) is.names (subst (λ k. IsParent file k reference.target) found.2 (parent image owner.holder reference forest is.inside is.held child none)) in
+          let above : IsParent file h p =
+          subst (λ q. IsParent file h q) is.names (subst (λ k. IsParent file k reference.target) found.2
+          (parent image owner.holder reference forest is.inside is.held child none)) in
           let rest : InTree file h = up image h hs forest above.tree way.1 in
           record { root = rest.root; is = rest.is; all = λ x at. rest.all x (above.all x at) }
     ]
 
 -- Page 0.
 
-identity_passes : (zeros : Bool) (identity typed : Option ℕ) → ◌≡◌ {A = Option ℕ} (elim (false && zeros) [ true ↦ None | false ↦ elim identity [ Some code ↦ Some code | None ↦ typed ] ]) None → identity ≡ None
+identity_passes : (zeros : Bool) (identity typed : Option ℕ)
+    → ◌≡◌ {A = Option ℕ} (elim (false && zeros) [ true ↦ None | false ↦ elim identity [ Some code ↦ Some code | None ↦ typed ] ]) None
+    → identity ≡ None
 identity_passes zeros None typed none = refl
 identity_passes zeros (Some code) typed none = absurd cc
 
@@ -255,9 +280,11 @@ own_type : (head : Head) (page : List ℕ) → form_code head 0 page ≡ None �
 unfolding form_code
 own_type head page none =
     is_same (byte_at page 25) (type_of head.kind)
-    (two_none _ _ (identity_passes (is_zero page) (first_row (identity_rows head.order page 0 (may_have_type head.kind 0))) (typed_code head 0 page (page_type (byte_at page 25))) none))
+    (two_none _ _ (identity_passes (is_zero page) (first_row (identity_rows head.order page 0 (may_have_type head.kind 0)))
+    (typed_code head 0 page (page_type (byte_at page 25))) none))
 
-no_tree_type : (kind : FileKind) (order : Order) (page : List ℕ) (byte : ℕ) → byte ≡ type_of kind → is_tree_in (page_as order page (page_type byte)) ≡ false
+no_tree_type : (kind : FileKind) (order : Order) (page : List ℕ) (byte : ℕ) → byte ≡ type_of kind
+    → is_tree_in (page_as order page (page_type byte)) ≡ false
 no_tree_type Btree order page byte is = ap (λ b. is_tree_in (page_as order page (page_type b))) is
 no_tree_type HashFile order page byte is = ap (λ b. is_tree_in (page_as order page (page_type b))) is
 no_tree_type QueueFile order page byte is = ap (λ b. is_tree_in (page_as order page (page_type b))) is
@@ -265,7 +292,8 @@ no_tree_type QueueFile order page byte is = ap (λ b. is_tree_in (page_as order 
 no_tree_page : (head : Head) (page : List ℕ) → form_code head 0 page ≡ None → is_tree_in (abstract_page head.order page) ≡ false
 unfolding abstract_page
 no_tree_page head page none =
-    elim (is_zero page) as (λ zeros. is_tree_in (elim zeros [ true ↦ Zero | false ↦ page_as head.order page (page_type (byte_at page 25)) ]) ≡ false) [
+    elim (is_zero page) as (λ zeros.
+    is_tree_in (elim zeros [ true ↦ Zero | false ↦ page_as head.order page (page_type (byte_at page 25)) ]) ≡ false) [
       | true ↦ refl
       | false ↦ no_tree_type head.kind head.order page (byte_at page 25) (own_type head page none)
     ]
@@ -274,7 +302,8 @@ no_tree_page head page none =
 pub tree_above : (image : List ℕ) (p : ℕ) → IsForest image → IsTreePage (file_of image) p → 1 ≤ p
 tree_above image zero forest tree =
     let none : form_code (head_of image) 0 (page_bytes (head_of image) image 0) ≡ None = formed_page image 0 forest.formed.form (omega arith) in
-    absurd (true≢false (sym (tree_is image 0 forest tree) ∙ (ap is_tree_in (page_is image 0 (omega arith)) ∙ no_tree_page (head_of image) (page_bytes (head_of image) image 0) none)))
+    absurd (true≢false (sym (tree_is image 0 forest tree)
+    ∙ (ap is_tree_in (page_is image 0 (omega arith)) ∙ no_tree_page (head_of image) (page_bytes (head_of image) image 0) none)))
 tree_above image (suc n) forest tree = omega arith
 
 pub leaf_above : (image : List ℕ) (p : ℕ) → IsForest image → FitsLeafPage (file_of image) p → 1 ≤ p
@@ -297,7 +326,8 @@ pub leaf_is : (image : List ℕ) (p : ℕ) → IsForest image → FitsLeafPage (
 leaf_is image p forest leaf =
     let tree : IsTreePage (file_of image) p = leaf_is_tree (file_of image) p leaf in
     elim (tree_cases image p forest tree) [
-      | inl inner ↦ absurd (not_both (children_in (page_at (file_of image) p)) inner.children (leaf_has_none (page_at (file_of image) p) (tree_is image p forest tree) leaf) inner.are)
+      | inl inner ↦ absurd (not_both (children_in (page_at (file_of image) p)) inner.children
+          (leaf_has_none (page_at (file_of image) p) (tree_is image p forest tree) leaf) inner.are)
       | inr is ↦ is
     ]
 

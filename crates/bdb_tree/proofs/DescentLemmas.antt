@@ -1,5 +1,6 @@
 -- Search by halves on an internal page, and the way from a page down to the child that is chosen.
-use Rattle.std.proofs.Common.{◌≡◌, ℕ, zero, suc, ◌+◌, ◌-◌, ◌<◌, ◌≤◌, Bool, true, false, cond, List, [], ◌∷◌, length, map, get_or, arith, refl, sym, ◌∙◌, ap, subst, inl, inr}
+use Rattle.std.proofs.Common.{◌≡◌, ℕ, zero, suc, ◌+◌, ◌-◌, ◌<◌, ◌≤◌, Bool, true, false, cond, List, [], ◌∷◌, length, map, get_or, arith, refl, sym}
+use Rattle.std.proofs.Common.{◌∙◌, ap, subst, inl, inr}
 use Rattle.std.specs.Prelude.{Some, not, slice_get}
 use Rattle.std.specs.List.{Contains, filter, flat_map, last_or}
 use Rattle.std.proofs.lemmas.Option.{get_or_from_slice_get}
@@ -41,7 +42,8 @@ last_kept test first (item ∷ items) (suc i) inside is_false later =
     ]
 
 -- the last item for which the test is false is the one whose child is chosen
-pub chosen_is : (test : InternalItem → Bool) (items : List InternalItem) (i : ℕ) → IsLastFalse test items i → chosen test items ≡ (get_or items i no_internal_item).child
+pub chosen_is : (test : InternalItem → Bool) (items : List InternalItem) (i : ℕ) → IsLastFalse test items i
+    → chosen test items ≡ (get_or items i no_internal_item).child
 chosen_is test [] i is = absurd (omega (arith, is.inside))
 chosen_is test (item ∷ items) zero is =
     ap (λ found. (unwrap_or found no_internal_item).child) (all_true test item items (λ j low. is.later (suc j) (omega arith) (omega arith)))
@@ -49,8 +51,10 @@ chosen_is test (item ∷ items) (suc i) is =
     ap (λ found. (unwrap_or found no_internal_item).child)
     (last_kept test item items i (omega (arith, is.inside)) (is.is_false (omega arith)) (λ j above low. is.later (suc j) (omega arith) (omega arith)))
 
-pub chosen_item : (test : InternalItem → Bool) (items : List InternalItem) (i : ℕ) (item : InternalItem) → IsLastFalse test items i → slice_get items i ≡ Some item → item.child ≡ chosen test items
-chosen_item test items i item is at = ap (λ (x : InternalItem). x.child) (sym (get_or_from_slice_get items i item no_internal_item at)) ∙ sym (chosen_is test items i is)
+pub chosen_item : (test : InternalItem → Bool) (items : List InternalItem) (i : ℕ) (item : InternalItem) → IsLastFalse test items i
+    → slice_get items i ≡ Some item → item.child ≡ chosen test items
+chosen_item test items i item is at =
+    ap (λ (x : InternalItem). x.child) (sym (get_or_from_slice_get items i item no_internal_item at)) ∙ sym (chosen_is test items i is)
 
 -- Search by halves.
 
@@ -66,7 +70,8 @@ pub record IsBetween (test : InternalItem → Bool) (items : List InternalItem) 
 abbrev kids : File → ℕ → List ℕ
 kids file p = unwrap_or (children_in (page_at file p)) []
 
-inner_more : (levels : ℕ) (file : File) (ps qs : List ℕ) → ((x : ℕ) → Contains ps x → Contains qs x) → (x : ℕ) → Contains (inner_in levels file ps) x → Contains (inner_in levels file qs) x
+inner_more : (levels : ℕ) (file : File) (ps qs : List ℕ) → ((x : ℕ) → Contains ps x → Contains qs x) → (x : ℕ) → Contains (inner_in levels file ps) x
+    → Contains (inner_in levels file qs) x
 inner_more zero file ps qs more x at = at
 inner_more (suc levels) file ps qs more x at =
     let test : ℕ → Bool = λ p. is_some (children_in (page_at file p)) in
@@ -82,14 +87,16 @@ inner_more (suc levels) file ps qs more x at =
           in_flat_map (kids file) qs found.0 y (more found.0 found.1) found.2) x later)
     ]
 
-inner_here : (levels : ℕ) (file : File) (p : ℕ) (page : Listed InternalItem) → 1 ≤ levels → page_at file p ≡ Internal page → Contains (inner_in levels file (p ∷ [])) p
+inner_here : (levels : ℕ) (file : File) (p : ℕ) (page : Listed InternalItem) → 1 ≤ levels → page_at file p ≡ Internal page
+    → Contains (inner_in levels file (p ∷ [])) p
 inner_here zero file p page some is = absurd (omega arith)
 inner_here (suc levels) file p page some is =
     let test : ℕ → Bool = λ q. is_some (children_in (page_at file q)) in
     Contains-append_left (filter test (p ∷ [])) (inner_in levels file (flat_map (kids file) (p ∷ []))) p
     (in_filter test (p ∷ []) p (first_member p []) (ap (λ q. is_some (children_in q)) is))
 
-inner_below : (levels : ℕ) (file : File) (p child q : ℕ) → Contains (kids file p) child → Contains (inner_in levels file (child ∷ [])) q → Contains (inner_in (suc levels) file (p ∷ [])) q
+inner_below : (levels : ℕ) (file : File) (p child q : ℕ) → Contains (kids file p) child → Contains (inner_in levels file (child ∷ [])) q
+    → Contains (inner_in (suc levels) file (p ∷ [])) q
 inner_below levels file p child q held at =
     Contains-append_right (filter (λ x. is_some (children_in (page_at file x))) (p ∷ [])) (inner_in levels file (flat_map (kids file) (p ∷ []))) q
     (inner_more levels file (child ∷ []) (flat_map (kids file) (p ∷ []))
@@ -100,12 +107,14 @@ inner_below levels file p child q held at =
     ]) q at)
 
 -- an internal page is one of its own tree
-pub is_inner : (file : File) (p : ℕ) (page : Listed InternalItem) → 1 ≤ page.header.level → page_at file p ≡ Internal page → Contains (inner_pages file p) p
+pub is_inner : (file : File) (p : ℕ) (page : Listed InternalItem) → 1 ≤ page.header.level → page_at file p ≡ Internal page
+    → Contains (inner_pages file p) p
 unfolding inner_pages
 is_inner file p page some is = inner_here (header_in (page_at file p)).level file p page (omega (arith, ap (λ q. (header_in q).level) is, some)) is
 
 -- and the internal pages of the tree of a child are too
-pub is_inner_below : (file : File) (p : ℕ) (page : Listed InternalItem) (child q : ℕ) → page_at file p ≡ Internal page → Contains (map (λ (item : InternalItem). item.child) page.items) child
+pub is_inner_below : (file : File) (p : ℕ) (page : Listed InternalItem) (child q : ℕ) → page_at file p ≡ Internal page
+    → Contains (map (λ (item : InternalItem). item.child) page.items) child
     → IsChild file p child → Contains (inner_pages file child) q → Contains (inner_pages file p) q
 unfolding inner_pages
 is_inner_below file p page child q is held fits at =
@@ -116,21 +125,26 @@ is_inner_below file p page child q is held fits at =
 -- What a test asks of the page where a descent stands.
 
 -- an internal page has items, and stands above the leaves
-pub internal_is : (image : List ℕ) (p : ℕ) (page : Listed InternalItem) → IsForest image → p ≤ (file_of image).last → page_at (file_of image) p ≡ Internal page → IsFormedPage (Internal page)
+pub internal_is : (image : List ℕ) (p : ℕ) (page : Listed InternalItem) → IsForest image → p ≤ (file_of image).last
+    → page_at (file_of image) p ≡ Internal page → IsFormedPage (Internal page)
 internal_is image p page forest low is = subst IsFormedPage is (formed_at image p forest low)
 
-pub some_items : (image : List ℕ) (p : ℕ) (view : Listed InternalItem) → IsForest image → p ≤ (file_of image).last → Internal view ≡ page_at (file_of image) p → 0 < length view.items
+pub some_items : (image : List ℕ) (p : ℕ) (view : Listed InternalItem) → IsForest image → p ≤ (file_of image).last
+    → Internal view ≡ page_at (file_of image) p → 0 < length view.items
 some_items image p view forest low is = (internal_is image p view forest low (sym is)).1
 
-is_inner_here : (image : List ℕ) (p : ℕ) (view : Listed InternalItem) → IsForest image → p ≤ (file_of image).last → Internal view ≡ page_at (file_of image) p → Contains (inner_pages (file_of image) p) p
+is_inner_here : (image : List ℕ) (p : ℕ) (view : Listed InternalItem) → IsForest image → p ≤ (file_of image).last
+    → Internal view ≡ page_at (file_of image) p → Contains (inner_pages (file_of image) p) p
 is_inner_here image p view forest low is =
     let high : 2 ≤ view.header.level = (internal_is image p view forest low (sym is)).0 in is_inner (file_of image) p view (omega arith) (sym is)
 
-pub readable_here : (image : List ℕ) (reads : InternalItem → Type 0) (p : ℕ) (view : Listed InternalItem) → IsForest image → p ≤ (file_of image).last → AllReadable (file_of image) reads p
+pub readable_here : (image : List ℕ) (reads : InternalItem → Type 0) (p : ℕ) (view : Listed InternalItem) → IsForest image → p ≤ (file_of image).last
+    → AllReadable (file_of image) reads p
     → Internal view ≡ page_at (file_of image) p → AreReadable reads view.items
 readable_here image reads p view forest low readable is = readable p view (is_inner_here image p view forest low is) (sym is)
 
-pub monotone_here : (image : List ℕ) (test : InternalItem → Bool) (p : ℕ) (view : Listed InternalItem) → IsForest image → p ≤ (file_of image).last → AllMonotone (file_of image) test p
+pub monotone_here : (image : List ℕ) (test : InternalItem → Bool) (p : ℕ) (view : Listed InternalItem) → IsForest image → p ≤ (file_of image).last
+    → AllMonotone (file_of image) test p
     → Internal view ≡ page_at (file_of image) p → IsMonotone test view.items
 monotone_here image test p view forest low monotone is = monotone p view (is_inner_here image p view forest low is) (sym is)
 

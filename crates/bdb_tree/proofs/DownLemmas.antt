@@ -13,10 +13,9 @@ use Rattle.bdb_tree.proofs.ShapeLemmas.{IsFormedPage}
 use Rattle.bdb_tree.proofs.TreeLemmas.{IsChild, child_is, formed_at, leaves_of_inner, leaves_of_leaf, some_leaf, tree_cases}
 
 -- a page of a tree whose first leaf is that of another page
-pub record HasFirstOf (image : List ℕ) (root p : ℕ) : Type 0 where
-  pub forest : IsForest image
-  pub tree : IsTreePage (file_of image) p
-  pub same : slice_get (leaves (file_of image) root) 0 ≡ slice_get (leaves (file_of image) p) 0
+pub record HasFirstOf (file : File) (root p : ℕ) : Type 0 where
+  pub tree : IsTreePage file p
+  pub same : slice_get (leaves file root) 0 ≡ slice_get (leaves file p) 0
 
 first_of_parts : (xs ys : List ℕ) → 0 < length xs → slice_get (xs ++ ys) 0 ≡ slice_get xs 0
 first_of_parts [] ys some = absurd (omega arith)
@@ -38,15 +37,16 @@ begins (Some (x ∷ xs)) c some = (xs, let same : x ≡ c = cc in ap (λ y. Some
 
 -- a step down, to a page of a lower level
 pub record StepsDown (image : List ℕ) (root p c : ℕ) : Type 0 where
-  pub first : HasFirstOf image root c
+  pub first : HasFirstOf (file_of image) root c
   pub lower : (header_in (page_at (file_of image) c)).level < (header_in (page_at (file_of image) p)).level
 
-pub steps_down : (image : List ℕ) (root p c : ℕ) → HasFirstOf image root p → Some c ≡ first_below (children_in (page_at (file_of image) p)) → StepsDown image root p c
-steps_down image root p c here some =
+pub steps_down : (image : List ℕ) (root p c : ℕ) → IsForest image → HasFirstOf (file_of image) root p
+    → Some c ≡ first_below (children_in (page_at (file_of image) p)) → StepsDown image root p c
+steps_down image root p c forest here some =
     let found : (cs : List ℕ) × (children_in (page_at (file_of image) p) ≡ Some (c ∷ cs)) = begins (children_in (page_at (file_of image) p)) c some in
-    let child : IsChild (file_of image) p c = child_is image p c (c ∷ found.0) here.forest found.1 (first_member c found.0) in
+    let child : IsChild (file_of image) p c = child_is image p c (c ∷ found.0) forest found.1 (first_member c found.0) in
     record {
-      first = record { forest = here.forest; tree = child.tree; same = here.same ∙ first_child image p c found.0 here.forest found.1 };
+      first = record { tree = child.tree; same = here.same ∙ first_child image p c found.0 forest found.1 };
       lower = omega (arith, child.level);
     }
 
@@ -59,9 +59,10 @@ pub record IsFirstLeaf (image : List ℕ) (root p : ℕ) : Type 0 where
   pub first : slice_get (leaves (file_of image) root) 0 ≡ Some p
   pub fits : FitsLeafPage (file_of image) p
 
-pub ends_down : (image : List ℕ) (root p : ℕ) → HasFirstOf image root p → None ≡ first_below (children_in (page_at (file_of image) p)) → IsFirstLeaf image root p
-ends_down image root p here none =
-    elim (tree_cases image p here.forest here.tree) [
+pub ends_down : (image : List ℕ) (root p : ℕ) → IsForest image → HasFirstOf (file_of image) root p
+    → None ≡ first_below (children_in (page_at (file_of image) p)) → IsFirstLeaf image root p
+ends_down image root p forest here none =
+    elim (tree_cases image p forest here.tree) [
       | inl inner ↦ absurd (some_first inner.children inner.some (none ∙ ap first_below inner.are))
       | inr leaf ↦ record { first = here.same ∙ ap (λ xs. slice_get xs 0) (leaves_of_leaf (file_of image) p leaf); fits = leaf.type }
     ]
@@ -77,10 +78,12 @@ item_of page formed = tt
 pub has_item : (image : List ℕ) (p : ℕ) (page : Page) → IsForest image → p ≤ (file_of image).last → page ≡ page_at (file_of image) p → HasItem page
 has_item image p page forest low is = subst HasItem (sym is) (item_of (page_at (file_of image) p) (formed_at image p forest low))
 
-pub first_of_internal : (items : List InternalItem) (item : InternalItem) → slice_get items 0 ≡ Some item → Some item.child ≡ first_below (Some (map (λ (x : InternalItem). x.child) items))
+pub first_of_internal : (items : List InternalItem) (item : InternalItem) → slice_get items 0 ≡ Some item
+    → Some item.child ≡ first_below (Some (map (λ (x : InternalItem). x.child) items))
 first_of_internal [] item some = absurd cc
 first_of_internal (x ∷ xs) item some = let same : x ≡ item = cc in ap (λ (y : InternalItem). Some y.child) (sym same)
 
-pub first_of_recno : (items : List RecnoItem) (item : RecnoItem) → slice_get items 0 ≡ Some item → Some item.child ≡ first_below (Some (map (λ (x : RecnoItem). x.child) items))
+pub first_of_recno : (items : List RecnoItem) (item : RecnoItem) → slice_get items 0 ≡ Some item
+    → Some item.child ≡ first_below (Some (map (λ (x : RecnoItem). x.child) items))
 first_of_recno [] item some = absurd cc
 first_of_recno (x ∷ xs) item some = let same : x ≡ item = cc in ap (λ (y : RecnoItem). Some y.child) (sym same)

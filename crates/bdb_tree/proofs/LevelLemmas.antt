@@ -1,5 +1,6 @@
 -- The leaves of a tree, level by level: the pages of one level stand for the leaves below them, and so do their children.
-use Rattle.std.proofs.Common.{◌≡◌, ℕ, ◌+◌, ◌<◌, ◌≤◌, List, [], ◌∷◌, ◌++◌, length, map, take, arith, refl, sym, ◌∙◌, ap, subst, append_assoc, append-nil, inl, inr, true}
+use Rattle.std.proofs.Common.{◌≡◌, ℕ, ◌+◌, ◌<◌, ◌≤◌, List, [], ◌∷◌, ◌++◌, length, map, take, arith, refl, sym, ◌∙◌, ap, subst, append_assoc}
+use Rattle.std.proofs.Common.{append-nil, inl, inr, true}
 use Rattle.std.specs.Prelude.{Option, Some, None}
 use Rattle.std.specs.List.{All, Contains, flat_map, slice_get}
 use Rattle.std.specs.Option.{unwrap_or}
@@ -21,17 +22,21 @@ use Rattle.bdb_tree.proofs.TreeLemmas.{IsChild, child_is, flat_map_same, leaves_
 use Rattle.bdb_format.proofs.ListLemmas.{flat_map_twice, only_member, all_of}
 
 -- one item more
-pub children_more : {X : Type 0} (child : X → ℕ) (before : List ℕ) (items : List X) (i : ℕ) (item : X) → i < length items → slice_get items i ≡ Some item
+pub children_more : {X : Type 0} (child : X → ℕ) (before : List ℕ) (items : List X) (i : ℕ) (item : X) → i < length items
+    → slice_get items i ≡ Some item
     → (before ++ map child (take i items)) ++ (child item ∷ []) ≡ before ++ map child (take (i + 1) items)
 children_more child before items i item below at =
     append_assoc before (map child (take i items)) (child item ∷ [])
     ∙ ap (λ cs. before ++ cs)
-    (sym (ap (map child) (take_more items i item below ∙ ap (λ x. take i items ++ (x ∷ [])) (get_or_from_slice_get items i item item at)) ∙ map-append child (take i items) (item ∷ [])))
+    (sym (ap (map child) (take_more items i item below ∙ ap (λ x. take i items ++ (x ∷ [])) (get_or_from_slice_get items i item item at))
+    ∙ map-append child (take i items) (item ∷ [])))
 
 -- the header of a page of a tree, as its view tells it
-pub seen_level : (file : File) (p : ℕ) (view : PageView) → IsTreePage file p → page_seen view ≡ page_at file p → (header_seen view).level ≡ (header_in (page_at file p)).level
+pub seen_level : (file : File) (p : ℕ) (view : PageView) → IsTreePage file p → page_seen view ≡ page_at file p
+    → (header_seen view).level ≡ (header_in (page_at file p)).level
 seen_level file p view tree seen =
-    ap (λ (header : Header). header.level) (tree_header view (subst (λ (page : Page). has_type (3 ∷ 4 ∷ 5 ∷ 6 ∷ 12 ∷ []) (type_in page) ≡ true) (sym seen) tree))
+    ap (λ (header : Header). header.level) (tree_header view
+    (subst (λ (page : Page). has_type (3 ∷ 4 ∷ 5 ∷ 6 ∷ 12 ∷ []) (type_in page) ≡ true) (sym seen) tree))
     ∙ ap (λ (page : Page). (header_in page).level) seen
 
 -- Children of pages.
@@ -44,10 +49,12 @@ child_at image p c forest at = of (children_in (page_at (file_of image) p)) refl
     of (Some children) are = child_is image p c children forest are (subst (λ cs. Contains (unwrap_or cs []) c) are at)
 
 -- the children of pages are pages of trees
-pub children_are_trees : (image pages : List ℕ) → IsForest image → All (IsTreePage (file_of image)) (flat_map (children_at (file_of image)) pages)
-children_are_trees image pages forest =
-    all_of (IsTreePage (file_of image)) (flat_map (children_at (file_of image)) pages) (λ c at.
-    let page : (p : ℕ) × Contains pages p × Contains (children_at (file_of image) p) c = of_flat_map (children_at (file_of image)) pages c at in
+pub children_are_trees : (image pages next : List ℕ) → IsForest image → next ≡ flat_map (children_at (file_of image)) pages
+    → All (IsTreePage (file_of image)) next
+children_are_trees image pages next forest are =
+    all_of (IsTreePage (file_of image)) next (λ c at.
+    let found : Contains (flat_map (children_at (file_of image)) pages) c = subst (λ cs. Contains cs c) are at in
+    let page : (p : ℕ) × Contains pages p × Contains (children_at (file_of image) p) c = of_flat_map (children_at (file_of image)) pages c found in
     (child_at image page.0 c forest page.2).tree)
 
 -- Levels.
@@ -59,7 +66,8 @@ pub record IsLevel (file : File) (pages : List ℕ) (turn top : ℕ) (all : List
   pub leaves : flat_map (leaves file) pages ≡ all
 
 -- the first page alone
-pub first_level : (file : File) (pages : List ℕ) (p top : ℕ) → IsTreePage file p → top ≡ level file p → pages ≡ p ∷ [] → IsLevel file pages 1 top (leaves file p)
+pub first_level : (file : File) (pages : List ℕ) (p top : ℕ) → IsTreePage file p → top ≡ level file p → pages ≡ p ∷ []
+    → IsLevel file pages 1 top (leaves file p)
 first_level file pages p top tree is alone =
     subst (λ ps. IsLevel file ps 1 top (leaves file p)) (sym alone)
     (record {
@@ -68,21 +76,24 @@ first_level file pages p top tree is alone =
       leaves = append-nil (leaves file p);
     })
 
-leaves_by_children : (image : List ℕ) (p : ℕ) → IsForest image → IsTreePage (file_of image) p → 2 ≤ level (file_of image) p → leaves (file_of image) p ≡ flat_map (leaves (file_of image)) (children_at (file_of image) p)
+leaves_by_children : (image : List ℕ) (p : ℕ) → IsForest image → IsTreePage (file_of image) p → 2 ≤ level (file_of image) p
+    → leaves (file_of image) p ≡ flat_map (leaves (file_of image)) (children_at (file_of image) p)
 leaves_by_children image p forest tree high =
     elim (tree_cases image p forest tree) [
-      | inl inner ↦ leaves_of_inner image p inner.children forest inner.are ∙ ap (λ cs. flat_map (leaves (file_of image)) (unwrap_or cs [])) (sym inner.are)
+      | inl inner ↦ leaves_of_inner image p inner.children forest inner.are
+          ∙ ap (λ cs. flat_map (leaves (file_of image)) (unwrap_or cs [])) (sym inner.are)
       | inr leaf ↦ absurd (let one : level (file_of image) p ≡ 1 = leaf.level in omega arith)
     ]
 
 -- the children of pages that are no leaves
-pub next_is_level : (image pages next all : List ℕ) (turn top : ℕ) → IsForest image → IsLevel (file_of image) pages turn top all → turn < top → next ≡ flat_map (children_at (file_of image)) pages
+pub next_is_level : (image pages next all : List ℕ) (turn top : ℕ) → IsForest image → IsLevel (file_of image) pages turn top all → turn < top
+    → next ≡ flat_map (children_at (file_of image)) pages
     → IsLevel (file_of image) next (turn + 1) top all
 next_is_level image pages next all turn top forest is more next_is =
     let file : File = file_of image in
     subst (λ ps. IsLevel file ps (turn + 1) top all) (sym next_is)
     (record {
-      trees = children_are_trees image pages forest;
+      trees = children_are_trees image pages (flat_map (children_at file) pages) forest refl;
       level = λ c at.
           let page : (p : ℕ) × Contains pages p × Contains (children_at file p) c = of_flat_map (children_at file) pages c at in
           let child : IsChild file page.0 c = child_at image page.0 c forest page.2 in
@@ -97,7 +108,8 @@ next_is_level image pages next all turn top forest is more next_is =
 
 singles : (f : ℕ → List ℕ) (ps : List ℕ) → ((p : ℕ) → Contains ps p → f p ≡ p ∷ []) → flat_map f ps ≡ ps
 singles f [] each = refl
-singles f (p ∷ ps) each = ap (λ qs. qs ++ flat_map f ps) (each p (first_member p ps)) ∙ ap (λ qs. p ∷ qs) (singles f ps (λ q at. each q (later_member p ps q at)))
+singles f (p ∷ ps) each =
+    ap (λ qs. qs ++ flat_map f ps) (each p (first_member p ps)) ∙ ap (λ qs. p ∷ qs) (singles f ps (λ q at. each q (later_member p ps q at)))
 
 -- pages of the last level are leaves, all of them
 pub last_level : (image pages all : List ℕ) (turn top : ℕ) → IsForest image → IsLevel (file_of image) pages turn top all → top ≤ turn → pages ≡ all

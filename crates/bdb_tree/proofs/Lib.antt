@@ -1,11 +1,11 @@
 pub mod BelongLemmas
 pub mod DescentLemmas
 pub mod DownLemmas
+pub mod EntryLemmas
 pub mod LevelLemmas
 pub mod LinkLemmas
 pub mod NotedLemmas
 pub mod RootLemmas
-pub mod SetLemmas
 pub mod ShapeLemmas
 pub mod StageLemmas
 pub mod TreeLemmas

@@ -1,5 +1,6 @@
 -- Where no row of stage 6 holds, a walk by next pages from a leaf of a tree gives that leaf and those after it.
-use Rattle.std.proofs.Common.{◌≡◌, ◌⊎◌, ℕ, zero, suc, ◌+◌, ◌<◌, ◌≤◌, true, false, ◌||◌, eqb, List, [], ◌∷◌, ◌++◌, length, arith, refl, sym, ◌∙◌, ap, subst, inl, inr, append_assoc, length-append}
+use Rattle.std.proofs.Common.{◌≡◌, ◌⊎◌, ℕ, zero, suc, ◌+◌, ◌<◌, ◌≤◌, true, false, ◌||◌, eqb, List, [], ◌∷◌, ◌++◌, length, arith, refl, sym, ◌∙◌, ap}
+use Rattle.std.proofs.Common.{subst, inl, inr, append_assoc, length-append}
 use Rattle.std.specs.Prelude.{◌==◌, Some}
 use Rattle.std.specs.List.{AllByRecursion, Contains, IsDistinct, list_any, slice_get}
 use Rattle.std.proofs.lemmas.Bool.{and_parts, eqb-true, ne_eqb, not-false}
@@ -22,7 +23,8 @@ use Rattle.bdb_graph.proofs.LeavesLemmas.{no_leaf_twice}
 use Rattle.bdb_tree.specs.Links.{IsLeafWalk, pages_from}
 use Rattle.bdb_tree.specs.Trees.{IsRoot, IsTreePage}
 use Rattle.bdb_tree.proofs.BelongLemmas.{Belongs, belongs, leaf_above}
-use Rattle.bdb_tree.proofs.TreeLemmas.{IsRightPlace, leaf_fits, leaf_inside, leaf_low, no_tree_fault, place_is_right, place_of_root, root_is_tree, tree_inside}
+use Rattle.bdb_tree.proofs.TreeLemmas.{IsRightPlace, leaf_fits, leaf_inside, leaf_low, no_tree_fault, place_is_right, place_of_root, root_is_tree}
+use Rattle.bdb_tree.proofs.TreeLemmas.{tree_inside}
 use Rattle.bdb_format.proofs.ReferenceLemmas.{count_is}
 use Rattle.bdb_format.proofs.ChainLemmas.{chain_few}
 
@@ -35,17 +37,24 @@ record HasPlace (places : List LeafPlace) (p next : ℕ) : Type 0 where
   leaf : place.leaf ≡ p
   after : place.after ≡ next
 
-place_between : (sort : Sort) (from : ℕ) (before : List ℕ) (p : ℕ) (after : List ℕ) → HasPlace (places_from sort from (before ++ (p ∷ after))) p (first_or_zero after)
+place_between : (sort : Sort) (from : ℕ) (before : List ℕ) (p : ℕ) (after : List ℕ)
+    → HasPlace (places_from sort from (before ++ (p ∷ after))) p (first_or_zero after)
 place_between sort from [] p after =
     let place : LeafPlace = record { tree = sort; before = from; leaf = p; after = first_or_zero after } in
     record { place = place; at = first_member place (places_from sort p after); leaf = refl; after = refl }
 place_between sort from (q ∷ before) p after =
     let rest : HasPlace (places_from sort q (before ++ (p ∷ after))) p (first_or_zero after) = place_between sort q before p after in
     let first : LeafPlace = record { tree = sort; before = from; leaf = q; after = first_or_zero (before ++ (p ∷ after)) } in
-    record { place = rest.place; at = later_member first (places_from sort q (before ++ (p ∷ after))) rest.place rest.at; leaf = rest.leaf; after = rest.after }
+    record {
+      place = rest.place;
+      at = later_member first (places_from sort q (before ++ (p ∷ after))) rest.place rest.at;
+      leaf = rest.leaf;
+      after = rest.after;
+    }
 
 -- a place of a leaf of a tree
-root_place : (file : File) (root p next : ℕ) → IsRoot file root → ((sort : Sort) → HasPlace (places_from sort 0 (leaves file root)) p next) → HasPlace (leaf_places file) p next
+root_place : (file : File) (root p next : ℕ) → IsRoot file root → ((sort : Sort) → HasPlace (places_from sort 0 (leaves file root)) p next)
+    → HasPlace (leaf_places file) p next
 root_place file root p next is has =
     elim is [
       | inl tree ↦ of Root refl tree
@@ -68,7 +77,8 @@ member_of file root p after stands =
     subst (λ xs. Contains xs p) (sym stands.leaves_are) (Contains-append_right stands.before (p ∷ after) p (first_member p after))
 
 -- the next page of a leaf is the leaf after it, 0 at the end
-next_is : (image : List ℕ) (root p : ℕ) (after : List ℕ) → IsForest image → structure_faults (file_of image) ≡ [] → StandsAt (file_of image) root p after → next_of (file_of image) p ≡ first_or_zero after
+next_is : (image : List ℕ) (root p : ℕ) (after : List ℕ) → IsForest image → structure_faults (file_of image) ≡ []
+    → StandsAt (file_of image) root p after → next_of (file_of image) p ≡ first_or_zero after
 next_is image root p after forest none stands =
     let file : File = file_of image in
     let has : HasPlace (leaf_places file) p (first_or_zero after) =
@@ -76,7 +86,9 @@ next_is image root p after forest none stands =
     subst (λ xs. HasPlace (places_from sort 0 xs) p (first_or_zero after)) (sym stands.leaves_are) (place_between sort 0 stands.before p after)) in
     let low : p ≤ file.last = leaf_low image root p forest (root_is_tree image root forest stands.is) (member_of file root p after stands) in
     let right : IsRightPlace file has.place = place_is_right file has.place (no_tree_fault file none) (omega (arith, has.leaf)) has.at in
-    let links = and_parts ((header_in (page_at file has.place.leaf)).previous == has.place.before) ((header_in (page_at file has.place.leaf)).next == has.place.after) (not-false _ right.link) in
+    let links =
+    and_parts ((header_in (page_at file has.place.leaf)).previous == has.place.before)
+    ((header_in (page_at file has.place.leaf)).next == has.place.after) (not-false _ right.link) in
     ap (next_of file) (sym has.leaf) ∙ (eqb-true (next_of file has.place.leaf) has.place.after links.1 ∙ has.after)
 
 -- the leaf after it stands there too
@@ -86,7 +98,8 @@ next_stands file root p q qs stands =
 
 -- each leaf of a tree is a leaf page, and isn't page 0
 stands_fits : (image : List ℕ) (root p : ℕ) (after : List ℕ) → IsForest image → StandsAt (file_of image) root p after → FitsLeafPage (file_of image) p
-stands_fits image root p after forest stands = leaf_fits image root p forest (root_is_tree image root forest stands.is) (member_of (file_of image) root p after stands)
+stands_fits image root p after forest stands =
+    leaf_fits image root p forest (root_is_tree image root forest stands.is) (member_of (file_of image) root p after stands)
 
 stands_above : (image : List ℕ) (root p : ℕ) (after : List ℕ) → IsForest image → StandsAt (file_of image) root p after → (p == 0) ≡ false
 stands_above image root p after forest stands =
@@ -106,7 +119,8 @@ one_turn turns file p q next some =
     ∙ ap (λ n. p ∷ chain_in turns file n) next
 
 -- with a turn for each leaf, next pages give them all
-follows : (turns : ℕ) (image : List ℕ) (root p : ℕ) (after : List ℕ) → IsForest image → structure_faults (file_of image) ≡ [] → StandsAt (file_of image) root p after → length after < turns
+follows : (turns : ℕ) (image : List ℕ) (root p : ℕ) (after : List ℕ) → IsForest image → structure_faults (file_of image) ≡ []
+    → StandsAt (file_of image) root p after → length after < turns
     → chain_in turns (file_of image) p ≡ p ∷ after
 follows zero image root p after forest none stands few = absurd (omega arith)
 follows (suc turns) image root p [] forest none stands few = last_turn turns (file_of image) p (next_is image root p [] forest none stands)
@@ -135,31 +149,38 @@ of_any q (x ∷ xs) some =
     ] refl some
 
 -- the leaves of a tree are no more than the pages
-few_leaves : (image : List ℕ) (root : ℕ) → IsForest image → IsRoot (file_of image) root → length (leaves (file_of image) root) ≤ (file_of image).count
+pub few_leaves : (image : List ℕ) (root : ℕ) → IsForest image → IsRoot (file_of image) root
+    → length (leaves (file_of image) root) ≤ (file_of image).count
 few_leaves image root forest is =
     let file : File = file_of image in
     let tree : IsTreePage file root = root_is_tree image root forest is in
-    let distinct : AllDistinct (leaves file root) = no_leaf_twice image (header_in (page_at file root)).level root forest (tree_inside image root tree) in
+    let distinct : AllDistinct (leaves file root) =
+    no_leaf_twice image (header_in (page_at file root)).level root forest (tree_inside image root tree) in
     let few : length (leaves file root) ≤ file.last + 1 =
     length-le_from_distinct_below (leaves file root) (file.last + 1) (is_distinct (leaves file root) distinct) (λ q some.
     let low : q ≤ file.last = leaf_low image root q forest tree (of_any q (leaves file root) some) in omega arith) in
     omega (arith, few, last_page image, formed_last image (head_of image) forest.formed, count_is image)
 
 -- a walk from a leaf of a tree gives the leaves from there on
-walked : (image : List ℕ) (root p : ℕ) (after : List ℕ) → IsForest image → structure_faults (file_of image) ≡ [] → StandsAt (file_of image) root p after → pages_from (file_of image) p ≡ p ∷ after
+walked : (image : List ℕ) (root p : ℕ) (after : List ℕ) → IsForest image → structure_faults (file_of image) ≡ []
+    → StandsAt (file_of image) root p after → pages_from (file_of image) p ≡ p ∷ after
 unfolding pages_from
 walked image root p after forest none stands =
     let file : File = file_of image in
     let few : length after < file.count =
     omega (arith, few_leaves image root forest stands.is, ap length stands.leaves_are, length-append stands.before (p ∷ after)) in
-    ap (λ b. elim b [ true ↦ [] | false ↦ chain file p ]) (stands_above image root p after forest stands) ∙ follows file.count image root p after forest none stands few
+    ap (λ b. elim b [ true ↦ [] | false ↦ chain file p ]) (stands_above image root p after forest stands)
+    ∙ follows file.count image root p after forest none stands few
 
-pub pages_of_tree : (image : List ℕ) (first root : ℕ) (before after : List ℕ) → IsForest image → structure_faults (file_of image) ≡ [] → IsRoot (file_of image) root
+pub pages_of_tree : (image : List ℕ) (first root : ℕ) (before after : List ℕ) → IsForest image → structure_faults (file_of image) ≡ []
+    → IsRoot (file_of image) root
     → leaves (file_of image) root ≡ before ++ (first ∷ after) → pages_from (file_of image) first ≡ first ∷ after
-pages_of_tree image first root before after forest none is same = walked image root first after forest none (record { is = is; before = before; leaves_are = same })
+pages_of_tree image first root before after forest none is same =
+    walked image root first after forest none (record { is = is; before = before; leaves_are = same })
 
 -- and from the first leaf all of them
-pub all_pages : (image : List ℕ) (root first : ℕ) → IsForest image → structure_faults (file_of image) ≡ [] → IsRoot (file_of image) root → slice_get (leaves (file_of image) root) 0 ≡ Some first
+pub all_pages : (image : List ℕ) (root first : ℕ) → IsForest image → structure_faults (file_of image) ≡ [] → IsRoot (file_of image) root
+    → slice_get (leaves (file_of image) root) 0 ≡ Some first
     → pages_from (file_of image) first ≡ leaves (file_of image) root
 all_pages image root first forest none is at =
     let parts : (rest : List ℕ) × (leaves (file_of image) root ≡ first ∷ rest) = begins (leaves (file_of image) root) at in
@@ -197,8 +218,10 @@ record IsStep (image : List ℕ) (p next : ℕ) : Type 0 where
   first : pages_from (file_of image) p ≡ p ∷ pages_from (file_of image) next
   at : (next ≡ 0) ⊎ FitsLeafPage (file_of image) next
 
-step_of : (image : List ℕ) (root p : ℕ) (after : List ℕ) → IsForest image → structure_faults (file_of image) ≡ [] → StandsAt (file_of image) root p after → IsStep image p (first_or_zero after)
-step_of image root p [] forest none stands = record { first = walked image root p [] forest none stands ∙ ap (λ xs. p ∷ xs) (sym (no_pages (file_of image))); at = inl refl }
+step_of : (image : List ℕ) (root p : ℕ) (after : List ℕ) → IsForest image → structure_faults (file_of image) ≡ []
+    → StandsAt (file_of image) root p after → IsStep image p (first_or_zero after)
+step_of image root p [] forest none stands =
+    record { first = walked image root p [] forest none stands ∙ ap (λ xs. p ∷ xs) (sym (no_pages (file_of image))); at = inl refl }
 step_of image root p (q ∷ qs) forest none stands =
     let next : StandsAt (file_of image) root q qs = next_stands (file_of image) root p q qs stands in
     record {
@@ -206,33 +229,39 @@ step_of image root p (q ∷ qs) forest none stands =
       at = inr (stands_fits image root q qs forest next);
     }
 
-leaf_step : (image : List ℕ) (p : ℕ) → IsForest image → structure_faults (file_of image) ≡ [] → FitsLeafPage (file_of image) p → IsStep image p (next_of (file_of image) p)
+leaf_step : (image : List ℕ) (p : ℕ) → IsForest image → structure_faults (file_of image) ≡ [] → FitsLeafPage (file_of image) p
+    → IsStep image p (next_of (file_of image) p)
 leaf_step image p forest none leaf =
     let file : File = file_of image in
     let belongs_to : Belongs file p = belongs image p forest leaf in
-    let parts : (before : List ℕ) × (after : List ℕ) × (leaves file belongs_to.root ≡ before ++ (p ∷ after)) = parted (leaves file belongs_to.root) p belongs_to.at in
+    let parts : (before : List ℕ) × (after : List ℕ) × (leaves file belongs_to.root ≡ before ++ (p ∷ after)) =
+    parted (leaves file belongs_to.root) p belongs_to.at in
     let stands : StandsAt file belongs_to.root p parts.1 = record { is = belongs_to.is; before = parts.0; leaves_are = parts.2 } in
-    subst (IsStep image p) (sym (next_is image belongs_to.root p parts.1 forest none stands)) (step_of image belongs_to.root p parts.1 forest none stands)
+    subst (IsStep image p) (sym (next_is image belongs_to.root p parts.1 forest none stands))
+    (step_of image belongs_to.root p parts.1 forest none stands)
 
 -- a walk stands at a leaf, unless it's at its end
 pub at_leaf : (image : List ℕ) (p : ℕ) → IsLeafWalk image p → (p ≡ 0 → ⊥) → FitsLeafPage (file_of image) p
 at_leaf image p walk some = elim walk.at [ inl none ↦ absurd (some none) | inr leaf ↦ leaf ]
 
 -- the first page of a walk is the leaf at which it stands
-pub gives_first : (image : List ℕ) (p : ℕ) → IsLeafWalk image p → (p ≡ 0 → ⊥) → pages_from (file_of image) p ≡ p ∷ pages_from (file_of image) (next_of (file_of image) p)
+pub gives_first : (image : List ℕ) (p : ℕ) → IsLeafWalk image p → (p ≡ 0 → ⊥)
+    → pages_from (file_of image) p ≡ p ∷ pages_from (file_of image) (next_of (file_of image) p)
 gives_first image p walk some = (leaf_step image p walk.forest walk.stage (at_leaf image p walk some)).first
 
 -- and it goes on at that leaf's next page
 pub goes_on : (image : List ℕ) (p : ℕ) → IsLeafWalk image p → (p ≡ 0 → ⊥) → IsLeafWalk image (next_of (file_of image) p)
-goes_on image p walk some = record { forest = walk.forest; stage = walk.stage; at = (leaf_step image p walk.forest walk.stage (at_leaf image p walk some)).at }
+goes_on image p walk some =
+    record { forest = walk.forest; stage = walk.stage; at = (leaf_step image p walk.forest walk.stage (at_leaf image p walk some)).at }
+
+-- what a step of a walk is proved by
+pub ruleset walk_steps = (at_leaf, gives_first, goes_on, no_pages)
 
 -- The pages that are looked at are there.
 
 pub leaf_within : (image : List ℕ) (head : Head) (p : ℕ) → head ≡ head_of image → FitsLeafPage (file_of image) p → p ≤ head.last
 leaf_within image head p same leaf = omega (arith, leaf_inside image p leaf, last_page image, ap (λ (h : Head). h.last) same)
 
-pub tree_within : (image : List ℕ) (head : Head) (p : ℕ) → head ≡ head_of image → IsTreePage (file_of image) p → p ≤ head.last
-tree_within image head p same tree = omega (arith, tree_inside image p tree, last_page image, ap (λ (h : Head). h.last) same)
-
 pub root_within : (image : List ℕ) (head : Head) (p : ℕ) → head ≡ head_of image → IsForest image → IsRoot (file_of image) p → p ≤ head.last
-root_within image head p same forest root = tree_within image head p same (root_is_tree image p forest root)
+root_within image head p same forest root =
+    omega (arith, tree_inside image p (root_is_tree image p forest root), last_page image, ap (λ (h : Head). h.last) same)

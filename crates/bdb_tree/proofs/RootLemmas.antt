@@ -1,5 +1,6 @@
 -- The roots that a page names: by metadata, and by data of pairs that are sets off the page.
-use Rattle.std.proofs.Common.{◌≡◌, ◌⊎◌, ℕ, ◌+◌, ◌*◌, ◌/◌, ◌%◌, ◌<◌, ◌≤◌, true, false, cond, List, [], ◌∷◌, length, map, get_or, arith, refl, sym, ◌∙◌, ap, subst, inl, inr, Contains, true≢false}
+use Rattle.std.proofs.Common.{◌≡◌, ◌⊎◌, ℕ, ◌+◌, ◌*◌, ◌/◌, ◌%◌, ◌<◌, ◌≤◌, true, false, cond, List, [], ◌∷◌, length, map, get_or, arith, refl, sym, ◌∙◌}
+use Rattle.std.proofs.Common.{ap, subst, inl, inr, Contains, true≢false}
 use Rattle.std.specs.Prelude.{Option, Some, None, IfSome, ◌==◌, not}
 use Rattle.std.specs.List.{Contains, enumerate_from, flat_map, list_any, range_with_len}
 use Rattle.std.proofs.lemmas.List.{get_or-map, length-map}
@@ -9,15 +10,19 @@ use Rattle.bdb_format.specs.declared.metadata.FileKind.TheVariants.{Queue as Que
 use Rattle.bdb_format.specs.declared.pages.RecnoItem.{RecnoItem}
 use Rattle.bdb_format.specs.declared.references.Reference.{Reference}
 use Rattle.bdb_format.specs.declared.references.Sort.{Sort}
-use Rattle.bdb_format.specs.declared.references.Sort.TheVariants.{Free as FreeRef, Root, Bucket, HashNext, Child, OverflowHead, OverflowNext, DuplicateRoot}
+use Rattle.bdb_format.specs.declared.references.Sort.TheVariants.{Free as FreeRef, Root, Bucket, HashNext, Child, OverflowHead, OverflowNext}
+use Rattle.bdb_format.specs.declared.references.Sort.TheVariants.{DuplicateRoot}
 use Rattle.bdb_format.specs.File.{File, file_of, page_at}
 use Rattle.bdb_format.specs.Hashing.{first_page}
 use Rattle.bdb_format.specs.HeadOf.{head_of}
 use Rattle.bdb_format.specs.Leaves.{is_root_reference}
-use Rattle.bdb_format.specs.Page.{BtreeFields, HashFields, QueueFields, Content, Inline, Set, Chain, Tree, Unknown, Item, InternalItem, Page, Zero, Free, Meta, Hash, Internal, RecnoInternal, Leaf, RecnoLeaf, DupLeaf, Overflow, Queue, NoType}
-use Rattle.bdb_format.specs.References.{content_targets, contents_in, first_free, internal_targets, is_shared_key, item_at, no_item, own_entries, refs, targets_in, targets_of, unless_zero}
+use Rattle.bdb_format.specs.Page.{BtreeFields, HashFields, QueueFields, Content, Inline, Set, Chain, Tree, Unknown, Item, InternalItem, Page, Zero}
+use Rattle.bdb_format.specs.Page.{Free, Meta, Hash, Internal, RecnoInternal, Leaf, RecnoLeaf, DupLeaf, Overflow, Queue, NoType}
+use Rattle.bdb_format.specs.References.{content_targets, contents_in, first_free, internal_targets, is_shared_key, item_at, no_item, own_entries}
+use Rattle.bdb_format.specs.References.{refs, targets_in, targets_of, unless_zero}
 use Rattle.bdb_format.proofs.ListLemmas.{only_member}
-use Rattle.bdb_format.proofs.MemberLemmas.{first_member, in_map, later_member, member_cases, no_member, none_passes, of_filter, of_flat_map, of_map, of_range}
+use Rattle.bdb_format.proofs.MemberLemmas.{first_member, in_map, later_member, member_cases, no_member, none_passes, of_filter, of_flat_map, of_map}
+use Rattle.bdb_format.proofs.MemberLemmas.{of_range}
 use Rattle.bdb_graph.specs.Linked.{FitsDupRoot, FitsTreeRoot, IsForest}
 use Rattle.bdb_graph.proofs.LinkedLemmas.{root_fits}
 use Rattle.bdb_graph.specs.Walked.{is_set_reference, names_set}
@@ -86,7 +91,8 @@ by_content Unknown name root at = absurd (no_member [] name refl at)
 by_contents : (contents : List Content) (name : Sort × ℕ) → is_root_reference name.0 ≡ true → Contains (flat_map content_targets contents) name
     → (name.0 ≡ DuplicateRoot) × Contains contents (Tree name.1)
 by_contents contents name root at =
-    let found : (content : Content) × Contains contents content × Contains (content_targets content) name = of_flat_map content_targets contents name at in
+    let found : (content : Content) × Contains contents content × Contains (content_targets content) name =
+    of_flat_map content_targets contents name at in
     let set = by_content found.0 name root found.2 in
     (set.0, subst (Contains contents) set.1 found.1)
 
@@ -115,7 +121,8 @@ named_root p (Hash page) name root at =
       | inr next ↦ absurd (no_link HashNext page.header.next name refl root next)
     ]
 named_root p (Internal page) name root at =
-    let found : (item : InternalItem) × Contains page.items item × Contains (internal_targets item) name = of_flat_map internal_targets page.items name at in
+    let found : (item : InternalItem) × Contains page.items item × Contains (internal_targets item) name =
+    of_flat_map internal_targets page.items name at in
     elim (member_cases (Child, found.0.child) (content_targets found.0.key) name found.2) [
       | inl child ↦ absurd (no_root (Child, found.0.child) name refl child root)
       | inr key ↦
@@ -153,7 +160,8 @@ item_holding items content at =
     (at.0, below, sym (get_or-map (λ (item : Item). item.content) items at.0 no_item content below) ∙ at.2)
 
 set_is_data : (page : Page) (root : ℕ) → IsFormedPage page → Contains (contents_in page) (Tree root) → IsDataRoot page root
-set_is_data (Hash page) root formed at = let found = item_holding page.items (Tree root) at in data_place (Hash page) found.0 root formed.1 found.1 found.2
+set_is_data (Hash page) root formed at =
+    let found = item_holding page.items (Tree root) at in data_place (Hash page) found.0 root formed.1 found.1 found.2
 set_is_data (Internal page) root formed at = absurd (formed.2 root at)
 set_is_data (Leaf page) root formed at =
     let indices : List ℕ = range_with_len 0 (length page.items) in
@@ -163,9 +171,11 @@ set_is_data (Leaf page) root formed at =
     of_range 0 (length page.items) found.0 (of_filter (λ k. not (is_shared_key page.offsets k)) indices found.0 found.1).0 in
     data_place (Leaf page) found.0 root formed.1 (omega (arith, inside.1)) found.2
 set_is_data (RecnoLeaf page) root formed at =
-    let found = item_holding page.items (Tree root) at in absurd (set_alone (get_or page.items found.0 no_item).content root found.2 (formed.1 found.0 found.1))
+    let found =
+    item_holding page.items (Tree root) at in absurd (set_alone (get_or page.items found.0 no_item).content root found.2 (formed.1 found.0 found.1))
 set_is_data (DupLeaf page) root formed at =
-    let found = item_holding page.items (Tree root) at in absurd (set_alone (get_or page.items found.0 no_item).content root found.2 (formed.1 found.0 found.1))
+    let found =
+    item_holding page.items (Tree root) at in absurd (set_alone (get_or page.items found.0 no_item).content root found.2 (formed.1 found.0 found.1))
 set_is_data page root formed at = absurd (no_member [] (Tree root) refl at)
 
 -- a reference to a root is that of metadata, or that of data of a pair
@@ -182,7 +192,8 @@ reference_root image p reference forest low held root =
 
 -- What is named is a root.
 
-pub meta_root_fits : (image : List ℕ) (p : ℕ) → IsForest image → p ≤ (file_of image).last → (root : ℕ) → meta_root (page_at (file_of image) p) ≡ Some root
+pub meta_root_fits : (image : List ℕ) (p : ℕ) → IsForest image → p ≤ (file_of image).last → (root : ℕ)
+    → meta_root (page_at (file_of image) p) ≡ Some root
     → FitsTreeRoot (file_of image) root
 meta_root_fits image p forest low root = of (page_at (file_of image) p) refl
   where
@@ -201,7 +212,8 @@ pub data_root_fits : (image : List ℕ) (p i : ℕ) → IsForest image → p ≤
     → data_root (page_at (file_of image) p) i ≡ Some root → FitsDupRoot (file_of image) root
 data_root_fits image p i forest low below root = of (page_at (file_of image) p) refl below
   where
-    of : (page : Page) → page_at (file_of image) p ≡ page → 2 * i + 1 < length (paired page) → data_root page i ≡ Some root → FitsDupRoot (file_of image) root
+    of : (page : Page) → page_at (file_of image) p ≡ page → 2 * i + 1 < length (paired page) → data_root page i ≡ Some root
+        → FitsDupRoot (file_of image) root
     of (Leaf page) is inside same =
         leaf_dup_root image p (2 * i + 1) root page forest low is inside (tree_of (get_or page.items (2 * i + 1) no_item).content root same)
     of (Hash page) is inside same =
@@ -209,17 +221,20 @@ data_root_fits image p i forest low below root = of (page_at (file_of image) p) 
     of page is inside same = absurd cc
 
 -- and so a page of a tree
-pub meta_root_tree : (image : List ℕ) (p : ℕ) (root : Option ℕ) → IsForest image → p ≤ (file_of image).last → root ≡ meta_root (page_at (file_of image) p)
+pub meta_root_tree : (image : List ℕ) (p : ℕ) (root : Option ℕ) → IsForest image → p ≤ (file_of image).last
+    → root ≡ meta_root (page_at (file_of image) p)
     → IfSome root (IsTreePage (file_of image))
 meta_root_tree image p None forest low is = tt
 meta_root_tree image p (Some root) forest low is = root_is_tree image root forest (inl (meta_root_fits image p forest low root (sym is)))
 
-pub data_root_tree : (image : List ℕ) (p i : ℕ) (page : Page) (root : Option ℕ) → IsForest image → p ≤ (file_of image).last → page ≡ page_at (file_of image) p
+pub data_root_tree : (image : List ℕ) (p i : ℕ) (page : Page) (root : Option ℕ) → IsForest image → p ≤ (file_of image).last
+    → page ≡ page_at (file_of image) p
     → 2 * i + 1 < length (paired page) → root ≡ data_root page i → IfSome root (IsTreePage (file_of image))
 data_root_tree image p i page None forest low same below is = tt
 data_root_tree image p i page (Some root) forest low same below is =
     root_is_tree image root forest
-    (inr (data_root_fits image p i forest low (subst (λ (q : Page). 2 * i + 1 < length (paired q)) same below) root (sym (is ∙ ap (λ q. data_root q i) same))))
+    (inr (data_root_fits image p i forest low (subst (λ (q : Page). 2 * i + 1 < length (paired q)) same below) root
+    (sym (is ∙ ap (λ q. data_root q i) same))))
 
 pub reference_is_tree : (image : List ℕ) (p : ℕ) (reference : Reference) → IsForest image → p ≤ (file_of image).last
     → Contains (refs (file_of image) p) reference → is_root_reference reference.sort ≡ true
@@ -236,15 +251,19 @@ nothing_held : {X Y : Type 0} (f : X → List Y) (xs : List X) → ((x : X) → 
 nothing_held f [] none = refl
 nothing_held f (x ∷ xs) none = rw (none x (first_member x xs), nothing_held f xs (λ y at. none y (later_member x xs y at))) refl
 
-no_root_named : (image : List ℕ) (p i : ℕ) (root : Option ℕ) → IsForest image → p ≤ (file_of image).last → 2 * i + 1 < length (paired (page_at (file_of image) p))
-    → list_any names_set (all_references (file_of image)) ≡ false → data_root (page_at (file_of image) p) i ≡ root → root_faults (file_of image) DuplicateRoot root ≡ []
+no_root_named : (image : List ℕ) (p i : ℕ) (root : Option ℕ) → IsForest image → p ≤ (file_of image).last
+    → 2 * i + 1 < length (paired (page_at (file_of image) p))
+    → list_any names_set (all_references (file_of image)) ≡ false → data_root (page_at (file_of image) p) i ≡ root
+    → root_faults (file_of image) DuplicateRoot root ≡ []
 no_root_named image p i None forest low below none is = refl
 no_root_named image p i (Some root) forest low below none is =
     let fits : FitsDupRoot (file_of image) root = data_root_fits image p i forest low below root is in
     absurd (true≢false (sym (ap is_set_reference fits.sort_is) ∙ none_passes names_set (all_references (file_of image)) fits.owner none fits.held))
 
 pub no_sets : (image : List ℕ) (p n : ℕ) → IsForest image → p ≤ (file_of image).last → n ≤ length (paired (page_at (file_of image) p)) / 2
-    → list_any names_set (all_references (file_of image)) ≡ false → flat_map (data_faults (file_of image) (page_at (file_of image) p)) (range_with_len 0 n) ≡ []
+    → list_any names_set (all_references (file_of image)) ≡ false
+    → flat_map (data_faults (file_of image) (page_at (file_of image) p)) (range_with_len 0 n) ≡ []
 no_sets image p n forest low few none =
     nothing_held (data_faults (file_of image) (page_at (file_of image) p)) (range_with_len 0 n)
-    (λ i at. let inside = of_range 0 n i at in no_root_named image p i (data_root (page_at (file_of image) p) i) forest low (omega (arith, inside.1, few)) none refl)
+    (λ i at. let inside = of_range 0 n i at in
+    no_root_named image p i (data_root (page_at (file_of image) p) i) forest low (omega (arith, inside.1, few)) none refl)

@@ -1,11 +1,15 @@
 -- What a page of a formed image is, by its type: form has looked at its level and its items.
-use Rattle.std.proofs.Common.{◌≡◌, ◌⊎◌, ℕ, ◌<◌, ◌≤◌, Bool, true, false, cond, List, [], ◌∷◌, length, map, arith, refl, sym, ◌∙◌, ap, subst, inl, inr, Contains}
+use Rattle.std.proofs.Common.{◌≡◌, ◌⊎◌, ℕ, ◌<◌, ◌≤◌, Bool, true, false, cond, List, [], ◌∷◌, length, map, arith, refl, sym, ◌∙◌, ap, subst, inl, inr}
+use Rattle.std.proofs.Common.{Contains}
 use Rattle.std.specs.Prelude.{Some, None, ◌%◌, get_or, ◌==◌, ◌&&◌, ◌||◌, not}
 use Rattle.std.proofs.lemmas.Bool.{and_parts, eqb-false, eqb-true, ltb-false, not-false, true≢false}
 use Rattle.bdb_format.specs.declared.metadata.FileKind.TheVariants.{Queue as QueueFile}
 use Rattle.bdb_format.specs.declared.metadata.Head.{Head}
 use Rattle.bdb_form.specs.declared.view.PageView.{PageView}
-use Rattle.bdb_form.specs.declared.view.PageView.TheVariants.{Zero as ZeroView, Free as FreeView, Meta as MetaView, Leaf as LeafView, Internal as InternalView, RecnoLeaf as RecnoLeafView, RecnoInternal as RecnoInternalView, DupLeaf as DupLeafView, Hash as HashView, Overflow as OverflowView, Queue as QueueView}
+use Rattle.bdb_form.specs.declared.view.PageView.TheVariants.{Zero as ZeroView, Free as FreeView, Meta as MetaView, Leaf as LeafView}
+use Rattle.bdb_form.specs.declared.view.PageView.TheVariants.{Internal as InternalView, RecnoLeaf as RecnoLeafView}
+use Rattle.bdb_form.specs.declared.view.PageView.TheVariants.{RecnoInternal as RecnoInternalView, DupLeaf as DupLeafView, Hash as HashView}
+use Rattle.bdb_form.specs.declared.view.PageView.TheVariants.{Overflow as OverflowView, Queue as QueueView}
 use Rattle.bdb_form.specs.Seen.{header_seen, page_seen}
 use Rattle.bdb_format.specs.declared.kinds.Order.{Order}
 use Rattle.bdb_format.specs.declared.pages.RecnoItem.{RecnoItem}
@@ -17,8 +21,12 @@ use Rattle.bdb_format.specs.Leaves.{children_in, wrong_leaf_types}
 use Rattle.std.proofs.lemmas.List.FromFn.{get_or-map-range_with_len, length-map-range_with_len}
 use Rattle.bdb_format.specs.declared.pages.ItemFault.TheVariants.{Offset, Kind, Extent}
 use Rattle.bdb_format.specs.Numbers.{byte_at}
-use Rattle.bdb_format.specs.Page.{Metadata, BtreeFields, HashFields, QueueFields, Content, Inline, Chain, Tree, Unknown, Item, InternalItem, Listed, Page, Zero, Free, Meta, Hash, Internal, RecnoInternal, Leaf, RecnoLeaf, DupLeaf, Overflow, Queue, NoType, PageType, FreePage, HashPage, InternalPage, RecnoInternalPage, LeafPage, RecnoLeafPage, OverflowPage, HashMetaPage, BtreeMetaPage, QueueMetaPage, QueuePage, DupLeafPage, OtherPage, Set}
-use Rattle.bdb_format.specs.Reading.{abstract_page, entries_of, internal_item_at, is_zero, kind_at, leaf_item_at, listed, offset_of, page_as, page_type, recno_item_at, hash_item_at, leaf_content, hash_content, hash_end}
+use Rattle.bdb_format.specs.Page.{Metadata, BtreeFields, HashFields, QueueFields, Content, Inline, Chain, Tree, Unknown, Item, InternalItem, Listed}
+use Rattle.bdb_format.specs.Page.{Page, Zero, Free, Meta, Hash, Internal, RecnoInternal, Leaf, RecnoLeaf, DupLeaf, Overflow, Queue, NoType, PageType}
+use Rattle.bdb_format.specs.Page.{FreePage, HashPage, InternalPage, RecnoInternalPage, LeafPage, RecnoLeafPage, OverflowPage, HashMetaPage}
+use Rattle.bdb_format.specs.Page.{BtreeMetaPage, QueueMetaPage, QueuePage, DupLeafPage, OtherPage, Set}
+use Rattle.bdb_format.specs.Reading.{abstract_page, entries_of, internal_item_at, is_zero, kind_at, leaf_item_at, listed, offset_of, page_as}
+use Rattle.bdb_format.specs.Reading.{page_type, recno_item_at, hash_item_at, leaf_content, hash_content, hash_end}
 use Rattle.bdb_format.specs.References.{has_type, no_item}
 use Rattle.bdb_format.specs.Rows.{form_code, is_leaf_kind, leaf_rows, listed_code, type_of, typed_code, hash_rows, item_rows, is_hash_kind}
 use Rattle.bdb_format.specs.Table.{first_row}
@@ -82,12 +90,14 @@ second_fails false false c x y z none = refl
 tests : (order : Order) (page : List ℕ) (t : PageType) → listed_code order page t ≡ None → IsIndexed t order page
 tests order page t none = index_passes order page t (no_index_row order page t none)
 
-some_items : {I : Type 0} (order : Order) (page : List ℕ) (item_at : ℕ → I) → (entries_of order page == 0) ≡ false → 0 < length (listed order page item_at).items
+some_items : {I : Type 0} (order : Order) (page : List ℕ) (item_at : ℕ → I) → (entries_of order page == 0) ≡ false
+    → 0 < length (listed order page item_at).items
 some_items order page item_at some =
     let other : entries_of order page ≡ 0 → ⊥ = eqb-false (entries_of order page) 0 some in
     omega (arith, length_items order page item_at)
 
-no_tree : (a b : Bool) (bytes : List ℕ) (head total root : ℕ) → ◌≡◌ {A = Content} (cond a (Inline bytes) (cond b (Chain head total) Unknown)) (Tree root) → ⊥
+no_tree : (a b : Bool) (bytes : List ℕ) (head total root : ℕ)
+    → ◌≡◌ {A = Content} (cond a (Inline bytes) (cond b (Chain head total) Unknown)) (Tree root) → ⊥
 no_tree true b bytes head total root same = cc
 no_tree false true bytes head total root same = cc
 no_tree false false bytes head total root same = cc
@@ -109,7 +119,8 @@ internal_formed order page none =
     let passed = tests order page InternalPage none in
     (ltb-false (byte_at page 24) 2 passed.level, some_items order page (internal_item_at order page) passed.entries, keys_are_no_trees order page)
 
-recno_internal_formed : (order : Order) (page : List ℕ) → listed_code order page RecnoInternalPage ≡ None → IsFormedPage (page_as order page RecnoInternalPage)
+recno_internal_formed : (order : Order) (page : List ℕ) → listed_code order page RecnoInternalPage ≡ None
+    → IsFormedPage (page_as order page RecnoInternalPage)
 unfolding listed
 recno_internal_formed order page none =
     let passed = tests order page RecnoInternalPage none in
@@ -143,11 +154,13 @@ leaf_alone order page i none =
     (not-false _ (second_fails _ (not (is_leaf_kind (byte_at page 25) i kind)) _ Offset Kind Extent none))) [
       | inl alone ↦ inl alone
       | inr set ↦
-          let both : ((kind == 2 && byte_at page 25 == 5) ≡ true) × ((i % 2 == 1) ≡ true) = and_parts (kind == 2 && byte_at page 25 == 5) (i % 2 == 1) set in
+          let both : ((kind == 2 && byte_at page 25 == 5) ≡ true) × ((i % 2 == 1) ≡ true) =
+          and_parts (kind == 2 && byte_at page 25 == 5) (i % 2 == 1) set in
           inr ((and_parts (kind == 2) (byte_at page 25 == 5) both.0).1, eqb-true (i % 2) 1 both.1)
     ]
 
-hash_alone : (order : Order) (page : List ℕ) (i : ℕ) → first_row (hash_rows order page i) ≡ None → IsAlone (hash_item_at order page i).content ⊎ (i % 2 ≡ 1)
+hash_alone : (order : Order) (page : List ℕ) (i : ℕ) → first_row (hash_rows order page i) ≡ None
+    → IsAlone (hash_item_at order page i).content ⊎ (i % 2 ≡ 1)
 unfolding hash_rows hash_item_at
 hash_alone order page i none =
     let at : ℕ = offset_of order page i in
@@ -195,7 +208,8 @@ hash_formed order page byte is other none = (
   each_item order page HashPage (hash_item_at order page) (λ i item. IsAlone item.content ⊎ (i % 2 ≡ 1)) none (hash_alone order page),
 )
 
-typed_formed : (head : Head) (number : ℕ) (page : List ℕ) → typed_code head number page (page_type (byte_at page 25)) ≡ None → IsFormedPage (page_as head.order page (page_type (byte_at page 25)))
+typed_formed : (head : Head) (number : ℕ) (page : List ℕ) → typed_code head number page (page_type (byte_at page 25)) ≡ None
+    → IsFormedPage (page_as head.order page (page_type (byte_at page 25)))
 typed_formed head number page =
     let byte : ℕ = byte_at page 25 in
     let P : PageType → Type 0 = λ t. typed_code head number page t ≡ None → IsFormedPage (page_as head.order page t) in
@@ -224,7 +238,8 @@ abstract_formed : (head : Head) (number : ℕ) (page : List ℕ) → form_code h
 unfolding abstract_page form_code
 abstract_formed head number page none =
     let byte : ℕ = byte_at page 25 in
-    elim (is_zero page) as (λ zeros. is_zero page ≡ zeros → IsFormedPage (elim zeros [ true ↦ Zero | false ↦ page_as head.order page (page_type byte) ])) [
+    elim (is_zero page) as (λ zeros. is_zero page ≡ zeros
+    → IsFormedPage (elim zeros [ true ↦ Zero | false ↦ page_as head.order page (page_type byte) ])) [
       | true ↦ λ _. tt
       | false ↦ λ some.
           typed_formed head number page
@@ -234,12 +249,14 @@ abstract_formed head number page none =
 pub page_formed : (image : List ℕ) (head : Head) (p : ℕ) → IsFormed image head → p ≤ (file_of image).last → IsFormedPage (page_at (file_of image) p)
 page_formed image head p formed low =
     let inside : p ≤ (head_of image).last = omega (arith, low, last_page image) in
-    subst IsFormedPage (sym (page_is image p inside)) (abstract_formed (head_of image) p (page_bytes (head_of image) image p) (formed_page image p formed.form inside))
+    subst IsFormedPage (sym (page_is image p inside))
+    (abstract_formed (head_of image) p (page_bytes (head_of image) image p) (formed_page image p formed.form inside))
 
 -- Queue files.
 
 -- a page that a queue file hasn't
-pub no_queue : (image : List ℕ) (head : Head) (p : ℕ) → IsFormed image head → p ≤ (file_of image).last → is_queue_page (page_at (file_of image) p) ≡ false
+pub no_queue : (image : List ℕ) (head : Head) (p : ℕ) → IsFormed image head → p ≤ (file_of image).last
+    → is_queue_page (page_at (file_of image) p) ≡ false
     → (file_of image).kind ≡ QueueFile → ⊥
 no_queue image head p formed low other queue = true≢false (sym (queue_page image head p formed low queue) ∙ other)
 
@@ -271,9 +288,19 @@ tree_shape (Meta (HashFields meta)) formed has = absurd cc
 tree_shape (Meta (QueueFields meta)) formed has = absurd cc
 tree_shape (Hash page) formed has = absurd (true≢false (sym has ∙ formed.0))
 tree_shape (Internal page) formed has =
-    inl (record { children = map (λ (item : InternalItem). item.child) page.items; are = refl; some = some_children (λ (item : InternalItem). item.child) page.items formed.1; level = formed.0 })
+    inl (record {
+      children = map (λ (item : InternalItem). item.child) page.items;
+      are = refl;
+      some = some_children (λ (item : InternalItem). item.child) page.items formed.1;
+      level = formed.0;
+    })
 tree_shape (RecnoInternal page) formed has =
-    inl (record { children = map (λ (item : RecnoItem). item.child) page.items; are = refl; some = some_children (λ (item : RecnoItem). item.child) page.items formed.1; level = formed.0 })
+    inl (record {
+      children = map (λ (item : RecnoItem). item.child) page.items;
+      are = refl;
+      some = some_children (λ (item : RecnoItem). item.child) page.items formed.1;
+      level = formed.0;
+    })
 tree_shape (Leaf page) formed has = inr (record { none = refl; level = formed.0; type = refl })
 tree_shape (RecnoLeaf page) formed has = inr (record { none = refl; level = formed.0; type = refl })
 tree_shape (DupLeaf page) formed has = inr (record { none = refl; level = formed.0; type = refl })
@@ -331,7 +358,8 @@ leaf_shape (Meta (QueueFields meta)) formed has = absurd cc
 leaf_shape page formed has = absurd cc
 
 -- a page of a tree tells its own header
-pub tree_header : (view : PageView) → has_type (3 ∷ 4 ∷ 5 ∷ 6 ∷ 12 ∷ []) (type_in (page_seen view)) ≡ true → header_seen view ≡ header_in (page_seen view)
+pub tree_header : (view : PageView) → has_type (3 ∷ 4 ∷ 5 ∷ 6 ∷ 12 ∷ []) (type_in (page_seen view)) ≡ true
+    → header_seen view ≡ header_in (page_seen view)
 tree_header (MetaView view) has = absurd (not_meta view.fields has)
   where
     not_meta : (fields : Metadata) → has_type (3 ∷ 4 ∷ 5 ∷ 6 ∷ 12 ∷ []) (Some (type_of (kind_in fields))) ≡ true → ⊥
@@ -348,22 +376,26 @@ tree_header (HashView view) has = refl
 tree_header (OverflowView view) has = refl
 
 -- a leaf that isn't one of sorted data hasn't its type
-pub no_dup_leaf : (sort : Sort) (view : PageView) → is_leaf_page (page_seen view) ≡ true → sort ≡ Root → ((leaf : Listed Item) → view ≡ DupLeafView leaf → ⊥)
+pub no_dup_leaf : (sort : Sort) (view : PageView) → is_leaf_page (page_seen view) ≡ true → sort ≡ Root
+    → ((leaf : Listed Item) → view ≡ DupLeafView leaf → ⊥)
     → false ≡ has_type (wrong_leaf_types sort) (type_in (page_seen view))
 no_dup_leaf sort view leaf is other = of view leaf other ∙ ap (λ s. has_type (wrong_leaf_types s) (type_in (page_seen view))) (sym is)
   where
-    of : (v : PageView) → is_leaf_page (page_seen v) ≡ true → ((l : Listed Item) → v ≡ DupLeafView l → ⊥) → false ≡ has_type (12 ∷ []) (type_in (page_seen v))
+    of : (v : PageView) → is_leaf_page (page_seen v) ≡ true → ((l : Listed Item) → v ≡ DupLeafView l → ⊥)
+        → false ≡ has_type (12 ∷ []) (type_in (page_seen v))
     of (LeafView v) leaf other = refl
     of (RecnoLeafView v) leaf other = refl
     of (DupLeafView v) leaf other = absurd (other v refl)
     of v leaf other = absurd cc
 
 -- nor one that isn't one of pairs theirs
-pub no_pair_leaf : (sort : Sort) (view : PageView) → is_leaf_page (page_seen view) ≡ true → sort ≡ DuplicateRoot → ((leaf : Listed Item) → view ≡ LeafView leaf → ⊥)
+pub no_pair_leaf : (sort : Sort) (view : PageView) → is_leaf_page (page_seen view) ≡ true → sort ≡ DuplicateRoot
+    → ((leaf : Listed Item) → view ≡ LeafView leaf → ⊥)
     → false ≡ has_type (wrong_leaf_types sort) (type_in (page_seen view))
 no_pair_leaf sort view leaf is other = of view leaf other ∙ ap (λ s. has_type (wrong_leaf_types s) (type_in (page_seen view))) (sym is)
   where
-    of : (v : PageView) → is_leaf_page (page_seen v) ≡ true → ((l : Listed Item) → v ≡ LeafView l → ⊥) → false ≡ has_type (5 ∷ []) (type_in (page_seen v))
+    of : (v : PageView) → is_leaf_page (page_seen v) ≡ true → ((l : Listed Item) → v ≡ LeafView l → ⊥)
+        → false ≡ has_type (5 ∷ []) (type_in (page_seen v))
     of (DupLeafView v) leaf other = refl
     of (RecnoLeafView v) leaf other = refl
     of (LeafView v) leaf other = absurd (other v refl)

@@ -11,6 +11,8 @@ pub no_structure_fault : (file : File) → chain_faults file ≡ [] → tree_fau
 unfolding chain_faults tree_faults structure_faults
 no_structure_fault file chains trees =
     no_faults 6 0 (file.last + 1) (λ p. holding (structure_rows file p)) (λ p low high.
-    let chain : AllFail (chain_rows file p) = all_fail (chain_rows file p) (no_codes_at 6 0 (file.last + 1) p (λ page. holding (chain_rows file page)) chains low high) in
-    let leaf : AllFail (tree_rows file p) = all_fail (tree_rows file p) (no_codes_at 6 0 (file.last + 1) p (λ page. holding (tree_rows file page)) trees low high) in
+    let chain : AllFail (chain_rows file p) =
+    all_fail (chain_rows file p) (no_codes_at 6 0 (file.last + 1) p (λ page. holding (chain_rows file page)) chains low high) in
+    let leaf : AllFail (tree_rows file p) =
+    all_fail (tree_rows file p) (no_codes_at 6 0 (file.last + 1) p (λ page. holding (tree_rows file page)) trees low high) in
     none_holds (structure_rows file p) (chain.0, leaf))

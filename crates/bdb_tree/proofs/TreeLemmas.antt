@@ -1,5 +1,6 @@
 -- The pages of trees in a file that linking accepts: children are pages of trees a level below, so the leaves are had level by level.
-use Rattle.std.proofs.Common.{◌≡◌, ◌⊎◌, ℕ, zero, suc, ◌+◌, ◌-◌, ◌<◌, ◌≤◌, Bool, true, false, cond, List, [], ◌∷◌, ◌++◌, length, map, arith, refl, sym, ◌∙◌, ap, subst, inl, inr, length-append}
+use Rattle.std.proofs.Common.{◌≡◌, ◌⊎◌, ℕ, zero, suc, ◌+◌, ◌-◌, ◌<◌, ◌≤◌, Bool, true, false, cond, List, [], ◌∷◌, ◌++◌, length, map, arith, refl, sym}
+use Rattle.std.proofs.Common.{◌∙◌, ap, subst, inl, inr, length-append}
 use Rattle.std.specs.Prelude.{Option, Some, None, ◌==◌, ◌&&◌, nat_lt, nat_le, ◌%◌, slice_index, get_or}
 use Rattle.std.specs.List.{Contains, enumerate_from, filter, flat_map}
 use Rattle.std.proofs.lemmas.Bool.{and_left, ne_eqb, cases_lt, eq-eqb, eqb-false, eqb-true, ltb-false, not-false, or_parts}
@@ -14,13 +15,17 @@ use Rattle.bdb_format.specs.declared.references.Sort.TheVariants.{Child, Duplica
 use Rattle.bdb_format.specs.File.{File, file_of, header_in, page_at, type_in}
 use Rattle.bdb_format.specs.Graph.{Owner, all_references}
 use Rattle.bdb_format.specs.HeadOf.{head_of}
-use Rattle.bdb_format.specs.Leaves.{LeafPlace, children_in, is_root_reference, is_wrong_leaf, is_wrong_link, leaf_places, leaves, leaves_in, leaves_under, places_from, root_references, tree_rows}
-use Rattle.bdb_format.specs.Page.{BtreeFields, Content, Tree, Item, InternalItem, Listed, Page, Meta, Hash, Internal, RecnoInternal, Leaf, RecnoLeaf, DupLeaf, NoType}
-use Rattle.bdb_format.specs.References.{asked_by, child_types, content_targets, first_free, fit_code, fit_rows, has_type, is_asked, is_shared_key, is_zero_page, targets_in, targets_of, no_item, refs, root_types, contents_in, internal_targets}
+use Rattle.bdb_format.specs.Leaves.{LeafPlace, children_in, is_root_reference, is_wrong_leaf, is_wrong_link, leaf_places, leaves, leaves_in}
+use Rattle.bdb_format.specs.Leaves.{leaves_under, places_from, root_references, tree_rows}
+use Rattle.bdb_format.specs.Page.{BtreeFields, Content, Tree, Item, InternalItem, Listed, Page, Meta, Hash, Internal, RecnoInternal, Leaf, RecnoLeaf}
+use Rattle.bdb_format.specs.Page.{DupLeaf, NoType}
+use Rattle.bdb_format.specs.References.{asked_by, child_types, content_targets, first_free, fit_code, fit_rows, has_type, is_asked, is_shared_key}
+use Rattle.bdb_format.specs.References.{is_zero_page, targets_in, targets_of, no_item, refs, root_types, contents_in, internal_targets}
 use Rattle.bdb_format.specs.Table.{◌:?◌}
 use Rattle.bdb_format.specs.Verdict.{holding, reference_faults, structure_faults, structure_rows, tree_faults}
 use Rattle.bdb_format.proofs.GraphLemmas.{each_fits}
-use Rattle.bdb_format.proofs.MemberLemmas.{first_member, in_filter, in_flat_map, in_map, later_member, member_cases, no_member, none_passes, of_flat_map, of_map}
+use Rattle.bdb_format.proofs.MemberLemmas.{first_member, in_filter, in_flat_map, in_map, later_member, member_cases, no_member, none_passes}
+use Rattle.bdb_format.proofs.MemberLemmas.{of_flat_map, of_map}
 use Rattle.bdb_format.proofs.VerdictLemmas.{AllFail, all_fail, no_codes_at, no_faults, none_holds, none_is_first_row}
 use Rattle.bdb_format.proofs.TargetLemmas.{held_named, own_held}
 use Rattle.bdb_format.specs.Flags.{is_recno}
@@ -33,7 +38,8 @@ use Rattle.bdb_form.specs.declared.view.PageView.{PageView}
 use Rattle.bdb_form.specs.Seen.{page_seen}
 use Rattle.bdb_tree.specs.Noted.{is_leaf_page}
 use Rattle.bdb_tree.specs.Trees.{IsRoot, IsTreePage}
-use Rattle.bdb_tree.proofs.ShapeLemmas.{IsFormedPage, IsInnerPage, IsLeafPage, SetsAreData, dup_leaf_of, leaf_of, leaf_shape, no_queue, page_formed, recno_internal_of, recno_leaf_of, tree_shape, IsAlone}
+use Rattle.bdb_tree.proofs.ShapeLemmas.{IsFormedPage, IsInnerPage, IsLeafPage, SetsAreData, dup_leaf_of, leaf_of, leaf_shape, no_queue, page_formed}
+use Rattle.bdb_tree.proofs.ShapeLemmas.{recno_internal_of, recno_leaf_of, tree_shape, IsAlone}
 use Rattle.bdb_format.proofs.ListLemmas.{in_enumerated, only_member}
 use Rattle.bdb_format.proofs.BoolLemmas.{second_false, first_or_none}
 use Rattle.bdb_format.proofs.ReferenceLemmas.{forest_names, of_all, pages_counted}
@@ -49,7 +55,9 @@ pub typed_inside : (image types : List ℕ) (p : ℕ) → has_type types (type_i
 typed_inside image types p has =
     elim (cases_lt p (length (file_of image).pages)) [
       | inl below ↦ omega (arith, pages_counted image)
-      | inr past ↦ absurd (let none : has_type types None ≡ true = subst (λ (page : Page). has_type types (type_in page) ≡ true) (get_or_past (file_of image).pages p NoType past) has in cc)
+      | inr past ↦ absurd
+          (let none : has_type types None
+          ≡ true = subst (λ (page : Page). has_type types (type_in page) ≡ true) (get_or_past (file_of image).pages p NoType past) has in cc)
     ]
 
 pub tree_inside : (image : List ℕ) (p : ℕ) → IsTreePage (file_of image) p → p ≤ (file_of image).last
@@ -59,34 +67,42 @@ pub leaf_inside : (image : List ℕ) (p : ℕ) → FitsLeafPage (file_of image) 
 leaf_inside image p leaf = typed_inside image (5 ∷ 6 ∷ 12 ∷ []) p leaf
 
 pub leaf_is_tree : (file : File) (p : ℕ) → FitsLeafPage file p → IsTreePage file p
-leaf_is_tree file p leaf = of_type (λ type. has_type (3 ∷ 4 ∷ 5 ∷ 6 ∷ 12 ∷ []) type ≡ true) (5 ∷ 6 ∷ 12 ∷ []) (type_in (page_at file p)) (refl, (refl, (refl, tt))) leaf
+leaf_is_tree file p leaf =
+    of_type (λ type. has_type (3 ∷ 4 ∷ 5 ∷ 6 ∷ 12 ∷ []) type ≡ true) (5 ∷ 6 ∷ 12 ∷ []) (type_in (page_at file p)) (refl, (refl, (refl, tt))) leaf
 
 pub formed_at : (image : List ℕ) (p : ℕ) → IsForest image → p ≤ (file_of image).last → IsFormedPage (page_at (file_of image) p)
 formed_at image p forest low = page_formed image (head_of image) p forest.formed low
 
 -- a leaf as its view shows it
-pub leaf_view : (image : List ℕ) (p : ℕ) (view : PageView) → IsForest image → FitsLeafPage (file_of image) p → page_seen view ≡ page_at (file_of image) p → is_leaf_page (page_seen view) ≡ true
-leaf_view image p view forest leaf seen = ap is_leaf_page seen ∙ leaf_shape (page_at (file_of image) p) (formed_at image p forest (leaf_inside image p leaf)) leaf
+pub leaf_view : (image : List ℕ) (p : ℕ) (view : PageView) → IsForest image → FitsLeafPage (file_of image) p
+    → page_seen view ≡ page_at (file_of image) p → is_leaf_page (page_seen view) ≡ true
+leaf_view image p view forest leaf seen =
+    ap is_leaf_page seen ∙ leaf_shape (page_at (file_of image) p) (formed_at image p forest (leaf_inside image p leaf)) leaf
 
 -- a page of a tree is an internal page or a leaf
-pub tree_cases : (image : List ℕ) (p : ℕ) → IsForest image → IsTreePage (file_of image) p → IsInnerPage (page_at (file_of image) p) ⊎ IsLeafPage (page_at (file_of image) p)
+pub tree_cases : (image : List ℕ) (p : ℕ) → IsForest image → IsTreePage (file_of image) p
+    → IsInnerPage (page_at (file_of image) p) ⊎ IsLeafPage (page_at (file_of image) p)
 tree_cases image p forest tree = tree_shape (page_at (file_of image) p) (formed_at image p forest (tree_inside image p tree)) tree
 
 -- a page by its type
 
-pub recno_internal_page : (image : List ℕ) (p : ℕ) → IsForest image → type_in (page_at (file_of image) p) ≡ Some 4 → (page : Listed RecnoItem) × (page_at (file_of image) p ≡ RecnoInternal page)
+pub recno_internal_page : (image : List ℕ) (p : ℕ) → IsForest image → type_in (page_at (file_of image) p) ≡ Some 4
+    → (page : Listed RecnoItem) × (page_at (file_of image) p ≡ RecnoInternal page)
 recno_internal_page image p forest is =
     recno_internal_of (page_at (file_of image) p) (formed_at image p forest (typed_inside image (4 ∷ []) p (ap (has_type (4 ∷ [])) is))) is
 
-pub leaf_page : (image : List ℕ) (p : ℕ) → IsForest image → type_in (page_at (file_of image) p) ≡ Some 5 → (page : Listed Item) × (page_at (file_of image) p ≡ Leaf page)
+pub leaf_page : (image : List ℕ) (p : ℕ) → IsForest image → type_in (page_at (file_of image) p) ≡ Some 5
+    → (page : Listed Item) × (page_at (file_of image) p ≡ Leaf page)
 leaf_page image p forest is =
     leaf_of (page_at (file_of image) p) (formed_at image p forest (typed_inside image (5 ∷ []) p (ap (has_type (5 ∷ [])) is))) is
 
-pub recno_leaf_page : (image : List ℕ) (p : ℕ) → IsForest image → type_in (page_at (file_of image) p) ≡ Some 6 → (page : Listed Item) × (page_at (file_of image) p ≡ RecnoLeaf page)
+pub recno_leaf_page : (image : List ℕ) (p : ℕ) → IsForest image → type_in (page_at (file_of image) p) ≡ Some 6
+    → (page : Listed Item) × (page_at (file_of image) p ≡ RecnoLeaf page)
 recno_leaf_page image p forest is =
     recno_leaf_of (page_at (file_of image) p) (formed_at image p forest (typed_inside image (6 ∷ []) p (ap (has_type (6 ∷ [])) is))) is
 
-pub dup_leaf_page : (image : List ℕ) (p : ℕ) → IsForest image → type_in (page_at (file_of image) p) ≡ Some 12 → (page : Listed Item) × (page_at (file_of image) p ≡ DupLeaf page)
+pub dup_leaf_page : (image : List ℕ) (p : ℕ) → IsForest image → type_in (page_at (file_of image) p) ≡ Some 12
+    → (page : Listed Item) × (page_at (file_of image) p ≡ DupLeaf page)
 dup_leaf_page image p forest is =
     dup_leaf_of (page_at (file_of image) p) (formed_at image p forest (typed_inside image (12 ∷ []) p (ap (has_type (12 ∷ [])) is))) is
 
@@ -97,18 +113,21 @@ record Holds (file : File) (p : ℕ) (sort : Sort) (target : ℕ) : Type 0 where
   place : ℕ
   held : Contains (refs file p) (record { place = place; sort = sort; target = target })
 
-named_of : (file : File) (p : ℕ) (sort : Sort) (target : ℕ) → Contains (targets_of file.kind p (page_at file p)) (sort, target) → Holds file p sort target
+named_of : (file : File) (p : ℕ) (sort : Sort) (target : ℕ) → Contains (targets_of file.kind p (page_at file p)) (sort, target)
+    → Holds file p sort target
 unfolding refs
 named_of file p sort target at =
     let names : List (Sort × ℕ) = targets_of file.kind p (page_at file p) in
     let found : (i : ℕ) × Contains (enumerate_from 0 names) (i, (sort, target)) = in_enumerated 0 names (sort, target) at in
     record {
       place = found.0;
-      held = in_map (λ (named : ℕ × (Sort × ℕ)). record { place = named.0; sort = named.1.0; target = named.1.1 }) (enumerate_from 0 names) (found.0, (sort, target)) found.1;
+      held = in_map (λ (named : ℕ × (Sort × ℕ)). record { place = named.0; sort = named.1.0; target = named.1.1 }) (enumerate_from 0 names)
+          (found.0, (sort, target)) found.1;
     }
 
 -- in a file that is no queue a page holds a reference for each page that it names
-named : (file : File) (p : ℕ) (sort : Sort) (target : ℕ) → (file.kind ≡ QueueFile → ⊥) → Contains (targets_in p (page_at file p)) (sort, target) → Holds file p sort target
+named : (file : File) (p : ℕ) (sort : Sort) (target : ℕ) → (file.kind ≡ QueueFile → ⊥) → Contains (targets_in p (page_at file p)) (sort, target)
+    → Holds file p sort target
 named file p sort target other at =
     named_of file p sort target (subst (λ names. Contains names (sort, target)) (sym (forest_names file.kind p (page_at file p) other)) at)
 
@@ -126,17 +145,20 @@ asks_kind Root = true
 asks_kind DuplicateRoot = true
 asks_kind sort = false
 
-no_zero : (holder : ℕ) (page target : Page) (sort : Sort) → asks_kind sort ≡ true → ((asked_by holder page sort).or_zero && is_zero_page target) ≡ false
+no_zero : (holder : ℕ) (page target : Page) (sort : Sort) → asks_kind sort ≡ true
+    → ((asked_by holder page sort).or_zero && is_zero_page target) ≡ false
 no_zero holder page target Child is = refl
 no_zero holder page target Root is = refl
 no_zero holder page target DuplicateRoot is = refl
 no_zero holder page target sort is = absurd cc
 
-held_fits : (file : File) (p : ℕ) (sort : Sort) (target : ℕ) → reference_faults file ≡ [] → p ≤ file.last → asks_kind sort ≡ true → Holds file p sort target → Fits file p sort target
+held_fits : (file : File) (p : ℕ) (sort : Sort) (target : ℕ) → reference_faults file ≡ [] → p ≤ file.last → asks_kind sort ≡ true
+    → Holds file p sort target → Fits file p sort target
 unfolding fit_code
 held_fits file p sort target none low kind holds =
     let rows = fit_rows file (asked_by p (page_at file p) sort) target in
-    let fail : AllFail rows = none_is_first_row rows (each_fits file p (record { place = holds.place; sort = sort; target = target }) none low holds.held) in
+    let fail : AllFail rows =
+    none_is_first_row rows (each_fits file p (record { place = holds.place; sort = sort; target = target }) none low holds.held) in
     let range : ((target == 0) ≡ false) × (nat_lt file.last target ≡ false) = or_parts (target == 0) (nat_lt file.last target) fail.0 in
     let some : target ≡ 0 → ⊥ = eqb-false target 0 range.0 in
     record {
@@ -148,7 +170,8 @@ held_fits file p sort target none low kind holds =
 
 -- Children.
 
-child_named : {X : Type 0} (child : X → ℕ) (names : X → List (Sort × ℕ)) (xs : List X) (c : ℕ) → ((x : X) → Contains (names x) (Child, child x)) → Contains (map child xs) c → Contains (flat_map names xs) (Child, c)
+child_named : {X : Type 0} (child : X → ℕ) (names : X → List (Sort × ℕ)) (xs : List X) (c : ℕ) → ((x : X) → Contains (names x) (Child, child x))
+    → Contains (map child xs) c → Contains (flat_map names xs) (Child, c)
 child_named child names xs c each at =
     let found : (x : _) × Contains xs x × (child x ≡ c) = of_map child xs c at in
     in_flat_map names xs found.0 (Child, c) found.1 (subst (λ n. Contains (names found.0) (Child, n)) found.2 (each found.0))
@@ -162,8 +185,10 @@ page_names p (Internal page) children c are at =
     (λ item. first_member (Child, item.child) (content_targets item.key)) (subst (λ cs. Contains cs c) (sym same) at)
 page_names p (RecnoInternal page) children c are at =
     let same : map (λ (item : RecnoItem). item.child) page.items ≡ children = cc in
-    let found : (item : RecnoItem) × Contains page.items item × (item.child ≡ c) = of_map (λ (item : RecnoItem). item.child) page.items c (subst (λ cs. Contains cs c) (sym same) at) in
-    subst (λ n. Contains {X = Sort × ℕ} (map (λ (item : RecnoItem). (Child, item.child)) page.items) (Child, n)) found.2 (in_map (λ (item : RecnoItem). (Child, item.child)) page.items found.0 found.1)
+    let found : (item : RecnoItem) × Contains page.items item × (item.child ≡ c) =
+    of_map (λ (item : RecnoItem). item.child) page.items c (subst (λ cs. Contains cs c) (sym same) at) in
+    subst (λ n. Contains {X = Sort × ℕ} (map (λ (item : RecnoItem). (Child, item.child)) page.items) (Child, n)) found.2
+    (in_map (λ (item : RecnoItem). (Child, item.child)) page.items found.0 found.1)
 page_names p page children c are at = absurd cc
 
 inner_of_forest : (page : Page) (children : List ℕ) → children_in page ≡ Some children → is_queue_page page ≡ false
@@ -178,8 +203,11 @@ inner_type page children are = absurd cc
 
 -- the types of children are types of trees
 child_tree : (page : Page) → AllTypes (λ type. has_type (3 ∷ 4 ∷ 5 ∷ 6 ∷ 12 ∷ []) type ≡ true) (child_types page)
-child_tree (Internal page) = either_types (λ type. has_type (3 ∷ 4 ∷ 5 ∷ 6 ∷ 12 ∷ []) type ≡ true) (page.header.level == 2) (5 ∷ 12 ∷ []) (3 ∷ []) (refl, (refl, tt)) (refl, tt)
-child_tree (RecnoInternal page) = either_types (λ type. has_type (3 ∷ 4 ∷ 5 ∷ 6 ∷ 12 ∷ []) type ≡ true) (page.header.level == 2) (6 ∷ []) (4 ∷ []) (refl, tt) (refl, tt)
+child_tree (Internal page) =
+    either_types (λ type. has_type (3 ∷ 4 ∷ 5 ∷ 6 ∷ 12 ∷ []) type ≡ true) (page.header.level == 2) (5 ∷ 12 ∷ []) (3 ∷ []) (refl, (refl, tt))
+    (refl, tt)
+child_tree (RecnoInternal page) =
+    either_types (λ type. has_type (3 ∷ 4 ∷ 5 ∷ 6 ∷ 12 ∷ []) type ≡ true) (page.header.level == 2) (6 ∷ []) (4 ∷ []) (refl, tt) (refl, tt)
 child_tree page = tt
 
 -- a page below another: it's there, a page of a tree, one level below, and of a type that the page above asks for
@@ -195,19 +223,23 @@ inner_level (Internal page) children formed are = formed.0
 inner_level (RecnoInternal page) children formed are = formed.0
 inner_level page children formed are = absurd cc
 
-pub child_is : (image : List ℕ) (p c : ℕ) (children : List ℕ) → IsForest image → children_in (page_at (file_of image) p) ≡ Some children → Contains children c → IsChild (file_of image) p c
+pub child_is : (image : List ℕ) (p c : ℕ) (children : List ℕ) → IsForest image → children_in (page_at (file_of image) p) ≡ Some children
+    → Contains children c → IsChild (file_of image) p c
 child_is image p c children forest are at =
     let file : File = file_of image in
     let page : Page = page_at file p in
     let low : p ≤ file.last = typed_inside image (3 ∷ 4 ∷ []) p (inner_type page children are) in
-    let holds : Holds file p Child c = named file p Child c (no_queue image (head_of image) p forest.formed low (inner_of_forest page children are)) (page_names p page children c are at) in
+    let holds : Holds file p Child c =
+    named file p Child c (no_queue image (head_of image) p forest.formed low (inner_of_forest page children are))
+    (page_names p page children c are at) in
     let fits : Fits file p Child c = held_fits file p Child c (sound_graph image forest.linked).references low refl holds in
     let high : 2 ≤ level file p = inner_level page children (formed_at image p forest low) are in
     let below : level file p - 1 ≡ level file c = eqb-true (level file p - 1) (level file c) fits.level in
     record {
       inside = fits.inside;
       above = fits.above;
-      tree = of_type (λ type. has_type (3 ∷ 4 ∷ 5 ∷ 6 ∷ 12 ∷ []) type ≡ true) (child_types page) (type_in (page_at file c)) (child_tree page) fits.type;
+      tree = of_type (λ type. has_type (3 ∷ 4 ∷ 5 ∷ 6 ∷ 12 ∷ []) type ≡ true) (child_types page) (type_in (page_at file c))
+          (child_tree page) fits.type;
       level = omega arith;
       type = fits.type;
     }
@@ -217,7 +249,8 @@ child_is image p c children forest are at =
 pub flat_map_same : {X Y : Type 0} (f g : X → List Y) (xs : List X) → ((x : X) → Contains xs x → f x ≡ g x) → flat_map f xs ≡ flat_map g xs
 flat_map_same f g [] same = refl
 flat_map_same f g (x ∷ xs) same =
-    ap (λ ys. ys ++ flat_map f xs) (same x (first_member x xs)) ∙ ap (λ ys. g x ++ ys) (flat_map_same f g xs (λ y at. same y (later_member x xs y at)))
+    ap (λ ys. ys ++ flat_map f xs) (same x (first_member x xs))
+    ∙ ap (λ ys. g x ++ ys) (flat_map_same f g xs (λ y at. same y (later_member x xs y at)))
 
 leaves_above_none : (levels : ℕ) (file : File) (p : ℕ) → children_in (page_at file p) ≡ None → leaves_in (suc levels) file p ≡ p ∷ []
 unfolding leaves_in
@@ -227,7 +260,8 @@ leaves_above_none levels file p none = ap (leaves_under (leaves_in levels file) 
 pub leaves_of_leaf : (file : File) (p : ℕ) → IsLeafPage (page_at file p) → leaves file p ≡ p ∷ []
 leaves_of_leaf file p leaf = ap (λ n. leaves_in n file p) leaf.level ∙ leaves_above_none 0 file p leaf.none
 
-leaves_below_inner : (levels : ℕ) (file : File) (p : ℕ) (children : List ℕ) → children_in (page_at file p) ≡ Some children → leaves_in (suc levels) file p ≡ flat_map (leaves_in levels file) children
+leaves_below_inner : (levels : ℕ) (file : File) (p : ℕ) (children : List ℕ) → children_in (page_at file p) ≡ Some children
+    → leaves_in (suc levels) file p ≡ flat_map (leaves_in levels file) children
 unfolding leaves_in
 leaves_below_inner levels file p children are = ap (leaves_under (leaves_in levels file) p) are
 
@@ -252,15 +286,21 @@ leaves_of_inner image p children forest are = of (level (file_of image) p) refl
 -- a page of a tree stands above level 0
 pub tree_level : (image : List ℕ) (p : ℕ) → IsForest image → IsTreePage (file_of image) p → 1 ≤ level (file_of image) p
 tree_level image p forest tree =
-    elim (tree_cases image p forest tree) [ inl inner ↦ let high : 2 ≤ level (file_of image) p = inner.level in omega arith | inr leaf ↦ let one : level (file_of image) p ≡ 1 = leaf.level in omega arith ]
+    elim (tree_cases image p forest tree) [
+      | inl inner ↦ let high : 2 ≤ level (file_of image) p = inner.level in
+          omega arith
+      | inr leaf ↦ let one : level (file_of image) p ≡ 1 = leaf.level in omega arith
+    ]
 
 -- what goes down from a page to those below it
 abbrev pub GoesDown : List ℕ → (ℕ → Type 0) → Type 0
 GoesDown image P = (p c : ℕ) (children : List ℕ) → P p → children_in (page_at (file_of image) p) ≡ Some children → Contains children c → P c
 
-leaves_in_have : (levels : ℕ) (image : List ℕ) (P : ℕ → Type 0) (p q : ℕ) → IsForest image → GoesDown image P → level (file_of image) p ≡ levels → IsTreePage (file_of image) p → P p
+leaves_in_have : (levels : ℕ) (image : List ℕ) (P : ℕ → Type 0) (p q : ℕ) → IsForest image → GoesDown image P → level (file_of image) p ≡ levels
+    → IsTreePage (file_of image) p → P p
     → Contains (leaves_in levels (file_of image) p) q → P q × FitsLeafPage (file_of image) q
-leaves_in_have zero image P p q forest down is tree here at = let high : 1 ≤ level (file_of image) p = tree_level image p forest tree in absurd (omega arith)
+leaves_in_have zero image P p q forest down is tree here at =
+    let high : 1 ≤ level (file_of image) p = tree_level image p forest tree in absurd (omega arith)
 leaves_in_have (suc n) image P p q forest down is tree here at =
     let file : File = file_of image in
     elim (tree_cases image p forest tree) [
@@ -271,25 +311,31 @@ leaves_in_have (suc n) image P p q forest down is tree here at =
           let below : (c : ℕ) × Contains inner.children c × Contains (leaves_in n file c) q =
           of_flat_map (leaves_in n file) inner.children q (subst (λ ps. Contains ps q) (leaves_below_inner n file p inner.children inner.are) at) in
           let child : IsChild file p below.0 = child_is image p below.0 inner.children forest inner.are below.1 in
-          leaves_in_have n image P below.0 q forest down (omega (arith, child.level)) child.tree (down p below.0 inner.children here inner.are below.1) below.2
+          leaves_in_have n image P below.0 q forest down (omega (arith, child.level)) child.tree
+          (down p below.0 inner.children here inner.are below.1) below.2
     ]
 
 -- what goes down from a page of a tree holds for each leaf below it
-pub leaves_have : (image : List ℕ) (P : ℕ → Type 0) (p q : ℕ) → IsForest image → GoesDown image P → IsTreePage (file_of image) p → P p → Contains (leaves (file_of image) p) q → P q
+pub leaves_have : (image : List ℕ) (P : ℕ → Type 0) (p q : ℕ) → IsForest image → GoesDown image P → IsTreePage (file_of image) p → P p
+    → Contains (leaves (file_of image) p) q → P q
 leaves_have image P p q forest down tree here at = (leaves_in_have (level (file_of image) p) image P p q forest down refl tree here at).0
 
 -- each leaf at or below a page of a tree is a leaf
-pub leaf_fits : (image : List ℕ) (p q : ℕ) → IsForest image → IsTreePage (file_of image) p → Contains (leaves (file_of image) p) q → FitsLeafPage (file_of image) q
+pub leaf_fits : (image : List ℕ) (p q : ℕ) → IsForest image → IsTreePage (file_of image) p → Contains (leaves (file_of image) p) q
+    → FitsLeafPage (file_of image) q
 leaf_fits image p q forest tree at = (leaves_in_have (level (file_of image) p) image (λ _. Unit {0}) p q forest (λ _ _ _ _ _ _. tt) refl tree tt at).1
 
-pub leaf_low : (image : List ℕ) (p q : ℕ) → IsForest image → IsTreePage (file_of image) p → Contains (leaves (file_of image) p) q → q ≤ (file_of image).last
+pub leaf_low : (image : List ℕ) (p q : ℕ) → IsForest image → IsTreePage (file_of image) p → Contains (leaves (file_of image) p) q
+    → q ≤ (file_of image).last
 leaf_low image p q forest tree at = leaf_inside image q (leaf_fits image p q forest tree at)
 
-some_of_parts : {X Y : Type 0} (f : X → List Y) (xs : List X) → 0 < length xs → ((x : X) → Contains xs x → 0 < length (f x)) → 0 < length (flat_map f xs)
+some_of_parts : {X Y : Type 0} (f : X → List Y) (xs : List X) → 0 < length xs → ((x : X) → Contains xs x → 0 < length (f x))
+    → 0 < length (flat_map f xs)
 some_of_parts f [] some each = some
 some_of_parts f (x ∷ xs) some each = let first : 0 < length (f x) = each x (first_member x xs) in omega (arith, length-append (f x) (flat_map f xs))
 
-leaves_in_some : (levels : ℕ) (image : List ℕ) (p : ℕ) → IsForest image → level (file_of image) p ≡ levels → IsTreePage (file_of image) p → 0 < length (leaves_in levels (file_of image) p)
+leaves_in_some : (levels : ℕ) (image : List ℕ) (p : ℕ) → IsForest image → level (file_of image) p ≡ levels → IsTreePage (file_of image) p
+    → 0 < length (leaves_in levels (file_of image) p)
 leaves_in_some zero image p forest is tree = let high : 1 ≤ level (file_of image) p = tree_level image p forest tree in absurd (omega arith)
 leaves_in_some (suc n) image p forest is tree =
     let file : File = file_of image in
@@ -312,7 +358,8 @@ abbrev pub HasTypeAt : File → List ℕ → ℕ → Type 0
 HasTypeAt file types p = has_type types (type_in (page_at file p)) ≡ true
 
 -- the pages below one of a recno or of unsorted duplicates
-recno_below : (page : Page) (children : List ℕ) → has_type (4 ∷ 6 ∷ []) (type_in page) ≡ true → children_in page ≡ Some children → AllTypes (λ type. has_type (4 ∷ 6 ∷ []) type ≡ true) (child_types page)
+recno_below : (page : Page) (children : List ℕ) → has_type (4 ∷ 6 ∷ []) (type_in page) ≡ true → children_in page ≡ Some children
+    → AllTypes (λ type. has_type (4 ∷ 6 ∷ []) type ≡ true) (child_types page)
 recno_below (RecnoInternal page) children has are =
     either_types (λ type. has_type (4 ∷ 6 ∷ []) type ≡ true) (page.header.level == 2) (6 ∷ []) (4 ∷ []) (refl, tt) (refl, tt)
 recno_below (Internal page) children has are = absurd cc
@@ -322,20 +369,23 @@ wider : (small big : List ℕ) (file : File) (p : ℕ) → AllTypes (λ type. ha
 wider small big file p all has = of_type (λ type. has_type big type ≡ true) small (type_in (page_at file p)) all has
 
 -- a leaf below a page of a recno or of unsorted duplicates is one of records
-pub recno_leaf : (image : List ℕ) (p q : ℕ) → IsForest image → HasTypeAt (file_of image) (4 ∷ 6 ∷ []) p → Contains (leaves (file_of image) p) q → type_in (page_at (file_of image) q) ≡ Some 6
+pub recno_leaf : (image : List ℕ) (p q : ℕ) → IsForest image → HasTypeAt (file_of image) (4 ∷ 6 ∷ []) p → Contains (leaves (file_of image) p) q
+    → type_in (page_at (file_of image) q) ≡ Some 6
 recno_leaf image p q forest has at =
     let file : File = file_of image in
     let tree : IsTreePage file p = wider (4 ∷ 6 ∷ []) (3 ∷ 4 ∷ 5 ∷ 6 ∷ 12 ∷ []) file p (refl, (refl, tt)) has in
     let recno : HasTypeAt file (4 ∷ 6 ∷ []) q =
     leaves_have image (HasTypeAt file (4 ∷ 6 ∷ [])) p q forest
-    (λ p c children here are below. of_type (λ type. has_type (4 ∷ 6 ∷ []) type ≡ true) (child_types (page_at file p)) (type_in (page_at file c)) (recno_below (page_at file p) children here are) (child_is image p c children forest are below).type)
+    (λ p c children here are below. of_type (λ type. has_type (4 ∷ 6 ∷ []) type ≡ true) (child_types (page_at file p)) (type_in (page_at file c))
+    (recno_below (page_at file p) children here are) (child_is image p c children forest are below).type)
     tree has at in
     of_type (λ type. has_type (4 ∷ 6 ∷ []) type ≡ true → type ≡ Some 6) (5 ∷ 6 ∷ 12 ∷ []) (type_in (page_at file q))
     (λ other. absurd cc, (λ _. refl, (λ other. absurd cc, tt))) (leaf_fits image p q forest tree at) recno
 
 -- Roots.
 
-held_as : (file : File) (p : ℕ) (reference : Reference) (sort : Sort) (target : ℕ) → Contains (refs file p) reference → reference.sort ≡ sort → reference.target ≡ target → Holds file p sort target
+held_as : (file : File) (p : ℕ) (reference : Reference) (sort : Sort) (target : ℕ) → Contains (refs file p) reference → reference.sort ≡ sort
+    → reference.target ≡ target → Holds file p sort target
 held_as file p reference sort target held sort_is target_is =
     record {
       place = reference.place;
@@ -345,13 +395,16 @@ held_as file p reference sort target held sort_is target_is =
     }
 
 -- a root fits the reference that names it
-root_fits : (image : List ℕ) (sort : Sort) (r : ℕ) → IsForest image → asks_kind sort ≡ true → (is : IsTarget (file_of image) sort r) → Fits (file_of image) is.owner.holder sort r
+root_fits : (image : List ℕ) (sort : Sort) (r : ℕ) → IsForest image → asks_kind sort ≡ true → (is : IsTarget (file_of image) sort r)
+    → Fits (file_of image) is.owner.holder sort r
 root_fits image sort r forest kind is =
     let file : File = file_of image in
     let held = of_all file is.owner is.held in
-    held_fits file is.owner.holder sort r (sound_graph image forest.linked).references held.0 kind (held_as file is.owner.holder is.owner.reference sort r held.1 is.sort_is is.target_is)
+    held_fits file is.owner.holder sort r (sound_graph image forest.linked).references held.0 kind
+    (held_as file is.owner.holder is.owner.reference sort r held.1 is.sort_is is.target_is)
 
-root_keyed_or_recno : (page : Page) (type : Option ℕ) → has_type (root_types page) type ≡ true → (has_type (3 ∷ 5 ∷ []) type ≡ true) ⊎ (has_type (4 ∷ 6 ∷ []) type ≡ true)
+root_keyed_or_recno : (page : Page) (type : Option ℕ) → has_type (root_types page) type ≡ true
+    → (has_type (3 ∷ 5 ∷ []) type ≡ true) ⊎ (has_type (4 ∷ 6 ∷ []) type ≡ true)
 root_keyed_or_recno (Meta (BtreeFields meta)) type has =
     elim (is_recno meta) as (λ b. has_type (cond b (4 ∷ 6 ∷ []) (3 ∷ 5 ∷ [])) type ≡ true → (has_type (3 ∷ 5 ∷ []) type ≡ true)
     ⊎ (has_type (4 ∷ 6 ∷ []) type ≡ true)) [
@@ -362,8 +415,10 @@ root_keyed_or_recno page None has = absurd cc
 root_keyed_or_recno page (Some t) has = absurd cc
 
 -- the root that metadata names is one of a btree or one of a recno
-pub root_cases : (image : List ℕ) (r : ℕ) → IsForest image → FitsTreeRoot (file_of image) r → HasTypeAt (file_of image) (3 ∷ 5 ∷ []) r ⊎ HasTypeAt (file_of image) (4 ∷ 6 ∷ []) r
-root_cases image r forest is = root_keyed_or_recno (page_at (file_of image) is.owner.holder) (type_in (page_at (file_of image) r)) (root_fits image Root r forest refl is).type
+pub root_cases : (image : List ℕ) (r : ℕ) → IsForest image → FitsTreeRoot (file_of image) r
+    → HasTypeAt (file_of image) (3 ∷ 5 ∷ []) r ⊎ HasTypeAt (file_of image) (4 ∷ 6 ∷ []) r
+root_cases image r forest is =
+    root_keyed_or_recno (page_at (file_of image) is.owner.holder) (type_in (page_at (file_of image) r)) (root_fits image Root r forest refl is).type
 
 -- the root that metadata names has one of the types that it asks for
 pub meta_root_type : (image : List ℕ) (meta : BtreeMeta) → IsForest image → HasMetadata (file_of image) (BtreeFields meta)
@@ -390,7 +445,8 @@ root_is_tree image r forest is =
             | inl keyed ↦ wider (3 ∷ 5 ∷ []) (3 ∷ 4 ∷ 5 ∷ 6 ∷ 12 ∷ []) (file_of image) r (refl, (refl, tt)) keyed
             | inr recno ↦ wider (4 ∷ 6 ∷ []) (3 ∷ 4 ∷ 5 ∷ 6 ∷ 12 ∷ []) (file_of image) r (refl, (refl, tt)) recno
           ]
-      | inr dup ↦ wider (3 ∷ 4 ∷ 6 ∷ 12 ∷ []) (3 ∷ 4 ∷ 5 ∷ 6 ∷ 12 ∷ []) (file_of image) r (refl, (refl, (refl, (refl, tt)))) (dup_root_type image r forest dup)
+      | inr dup ↦ wider (3 ∷ 4 ∷ 6 ∷ 12 ∷ []) (3 ∷ 4 ∷ 5 ∷ 6 ∷ 12 ∷ []) (file_of image) r (refl, (refl, (refl, (refl, tt))))
+          (dup_root_type image r forest dup)
     ]
 
 -- Faults of leaves.
@@ -409,15 +465,19 @@ pub record IsRightPlace (file : File) (place : LeafPlace) : Type 0 where
   pub link : is_wrong_link file place ≡ false
 
 -- where no leaf has a fault, no place of a leaf is wrong
-pub place_is_right : (file : File) (place : LeafPlace) → tree_faults file ≡ [] → place.leaf ≤ file.last → Contains (leaf_places file) place → IsRightPlace file place
+pub place_is_right : (file : File) (place : LeafPlace) → tree_faults file ≡ [] → place.leaf ≤ file.last → Contains (leaf_places file) place
+    → IsRightPlace file place
 unfolding tree_faults
 place_is_right file place none low at =
     let p : ℕ = place.leaf in
-    let fail : AllFail (tree_rows file p) = all_fail (tree_rows file p) (no_codes_at 6 0 (file.last + 1) p (λ page. holding (tree_rows file page)) none (omega arith) (omega arith)) in
+    let fail : AllFail (tree_rows file p) =
+    all_fail (tree_rows file p) (no_codes_at 6 0 (file.last + 1) p (λ page. holding (tree_rows file page)) none (omega arith) (omega arith)) in
     let here : (place.leaf == p) ≡ true = eq-eqb place.leaf p refl in
     record {
-      type = second_false (place.leaf == p) (is_wrong_leaf file place) here (none_passes (λ (other : LeafPlace). other.leaf == p && is_wrong_leaf file other) (leaf_places file) place fail.0 at);
-      link = second_false (place.leaf == p) (is_wrong_link file place) here (none_passes (λ (other : LeafPlace). other.leaf == p && is_wrong_link file other) (leaf_places file) place fail.1.0 at);
+      type = second_false (place.leaf == p) (is_wrong_leaf file place) here
+          (none_passes (λ (other : LeafPlace). other.leaf == p && is_wrong_leaf file other) (leaf_places file) place fail.0 at);
+      link = second_false (place.leaf == p) (is_wrong_link file place) here
+          (none_passes (λ (other : LeafPlace). other.leaf == p && is_wrong_link file other) (leaf_places file) place fail.1.0 at);
     }
 
 -- the faults of leaves are some of those of the stage
@@ -425,16 +485,20 @@ pub no_tree_fault : (file : File) → structure_faults file ≡ [] → tree_faul
 unfolding structure_faults tree_faults
 no_tree_fault file none =
     no_faults 6 0 (file.last + 1) (λ p. holding (tree_rows file p)) (λ p low high.
-    let fail : AllFail (structure_rows file p) = all_fail (structure_rows file p) (no_codes_at 6 0 (file.last + 1) p (λ page. holding (structure_rows file page)) none low high) in
+    let fail : AllFail (structure_rows file p) =
+    all_fail (structure_rows file p) (no_codes_at 6 0 (file.last + 1) p (λ page. holding (structure_rows file page)) none low high) in
     none_holds (tree_rows file p) fail.1)
 
 -- the places of the leaves below a root
-pub place_of_root : (file : File) (sort : Sort) (r : ℕ) (place : LeafPlace) → is_root_reference sort ≡ true → IsTarget file sort r → Contains (places_from sort 0 (leaves file r)) place → Contains (leaf_places file) place
+pub place_of_root : (file : File) (sort : Sort) (r : ℕ) (place : LeafPlace) → is_root_reference sort ≡ true → IsTarget file sort r
+    → Contains (places_from sort 0 (leaves file r)) place → Contains (leaf_places file) place
 unfolding leaf_places root_references
 place_of_root file sort r place root is at =
     let owner : Owner = is.owner in
-    let same : places_from owner.reference.sort 0 (leaves file owner.reference.target) ≡ places_from sort 0 (leaves file r) = ap (λ s. places_from s 0 (leaves file owner.reference.target)) is.sort_is ∙ ap (λ t. places_from sort 0 (leaves file t)) is.target_is in
-    in_flat_map (λ (o : Owner). places_from o.reference.sort 0 (leaves file o.reference.target)) (filter (λ (o : Owner). is_root_reference o.reference.sort) (all_references file)) owner place
+    let same : places_from owner.reference.sort 0 (leaves file owner.reference.target) ≡ places_from sort 0 (leaves file r) =
+    ap (λ s. places_from s 0 (leaves file owner.reference.target)) is.sort_is ∙ ap (λ t. places_from sort 0 (leaves file t)) is.target_is in
+    in_flat_map (λ (o : Owner). places_from o.reference.sort 0 (leaves file o.reference.target))
+    (filter (λ (o : Owner). is_root_reference o.reference.sort) (all_references file)) owner place
     (in_filter (λ (o : Owner). is_root_reference o.reference.sort) (all_references file) owner is.held (ap is_root_reference is.sort_is ∙ root))
     (subst (λ places. Contains places place) (sym same) at)
 
@@ -444,17 +508,22 @@ content_named : (content : Content) (root : ℕ) → content ≡ Tree root → C
 content_named content root is = subst (λ c. Contains (content_targets c) (DuplicateRoot, root)) (sym is) (first_member (DuplicateRoot, root) [])
 
 -- a set off the page that an item of a page is names the root of duplicates
-set_named : (image : List ℕ) (p root : ℕ) (page : Page) (content : Content) → IsForest image → p ≤ (file_of image).last → page_at (file_of image) p ≡ page
+set_named : (image : List ℕ) (p root : ℕ) (page : Page) (content : Content) → IsForest image → p ≤ (file_of image).last
+    → page_at (file_of image) p ≡ page
     → is_queue_page page ≡ false
     → Contains (contents_in page) content → content ≡ Tree root → FitsDupRoot (file_of image) root
 set_named image p root page content forest low is other held set =
     let file : File = file_of image in
-    let names = forest_names file.kind p (page_at file p) (no_queue image (head_of image) p forest.formed low (ap is_queue_page is ∙ other)) ∙ ap (targets_in p) is in
+    let names =
+    forest_names file.kind p (page_at file p) (no_queue image (head_of image) p forest.formed low (ap is_queue_page is ∙ other))
+    ∙ ap (targets_in p) is in
     named_target file p DuplicateRoot root low
-    (subst (λ ns. Contains ns (DuplicateRoot, root)) (sym names) (held_named p page content (DuplicateRoot, root) held (content_named content root set)))
+    (subst (λ ns. Contains ns (DuplicateRoot, root)) (sym names)
+    (held_named p page content (DuplicateRoot, root) held (content_named content root set)))
 
 -- data of a hash page that are a set off the page name the root of duplicates
-pub hash_dup_root : (image : List ℕ) (p i root : ℕ) (page : Listed Item) → IsForest image → p ≤ (file_of image).last → page_at (file_of image) p ≡ Hash page → i < length page.items
+pub hash_dup_root : (image : List ℕ) (p i root : ℕ) (page : Listed Item) → IsForest image → p ≤ (file_of image).last
+    → page_at (file_of image) p ≡ Hash page → i < length page.items
     → (get_or page.items i no_item).content ≡ Tree root → FitsDupRoot (file_of image) root
 hash_dup_root image p i root page forest low is below set =
     set_named image p root (Hash page) (get_or page.items i no_item).content forest low is refl
@@ -462,7 +531,8 @@ hash_dup_root image p i root page forest low is below set =
 
 odd_not_shared : (offsets : List ℕ) (i : ℕ) → i % 2 ≡ 1 → is_shared_key offsets i ≡ false
 odd_not_shared offsets i odd =
-    and_left (i % 2 == 0 && nat_le 2 i) (slice_index offsets i == slice_index offsets (i - 2)) (and_left (i % 2 == 0) (nat_le 2 i) (ne_eqb (i % 2) 0 (λ even. omega arith)))
+    and_left (i % 2 == 0 && nat_le 2 i) (slice_index offsets i == slice_index offsets (i - 2))
+    (and_left (i % 2 == 0) (nat_le 2 i) (ne_eqb (i % 2) 0 (λ even. omega arith)))
 
 pub set_alone : (content : Content) (root : ℕ) → content ≡ Tree root → IsAlone content → ⊥
 set_alone content root is alone = subst IsAlone is alone
@@ -473,9 +543,11 @@ odd_set items i root sets below is =
     elim (sets i below) [ inl alone ↦ absurd (set_alone (get_or items i no_item).content root is alone) | inr odd ↦ odd ]
 
 -- data of a leaf that are a set off the page name the root of duplicates
-pub leaf_dup_root : (image : List ℕ) (p i root : ℕ) (page : Listed Item) → IsForest image → p ≤ (file_of image).last → page_at (file_of image) p ≡ Leaf page → i < length page.items
+pub leaf_dup_root : (image : List ℕ) (p i root : ℕ) (page : Listed Item) → IsForest image → p ≤ (file_of image).last
+    → page_at (file_of image) p ≡ Leaf page → i < length page.items
     → (get_or page.items i no_item).content ≡ Tree root → FitsDupRoot (file_of image) root
 leaf_dup_root image p i root page forest low is below set =
     let formed : IsFormedPage (Leaf page) = subst IsFormedPage is (formed_at image p forest low) in
     let odd : i % 2 ≡ 1 = odd_set page.items i root formed.1 below set in
-    set_named image p root (Leaf page) (get_or page.items i no_item).content forest low is refl (own_held page i below (odd_not_shared page.offsets i odd)) set
+    set_named image p root (Leaf page) (get_or page.items i no_item).content forest low is refl
+    (own_held page i below (odd_not_shared page.offsets i odd)) set

@@ -1,12 +1,11 @@
 -- The way of a descent, page by page.
-use Rattle.std.proofs.Common.{◌≡◌, ℕ, zero, suc, ◌+◌, ◌<◌, ◌≤◌, Bool, true, false, cond, List, [], ◌∷◌, length, map, arith, refl, sym, ◌∙◌, ap, subst, inl, inr}
+use Rattle.std.proofs.Common.{◌≡◌, ℕ, zero, suc, ◌+◌, ◌<◌, ◌≤◌, Bool, true, false, cond, List, [], ◌∷◌, length, map, arith, refl, sym, ◌∙◌, ap, subst}
+use Rattle.std.proofs.Common.{inl, inr}
 use Rattle.std.specs.Prelude.{Option, Some, None, ◌==◌, not}
 use Rattle.std.specs.List.{Contains, filter, last_or}
 use Rattle.std.specs.Option.{unwrap_or}
 use Rattle.bdb_graph.specs.Slots.{no_internal_item}
-use Rattle.bdb_graph.specs.Linked.{FitsLeafPage, IsForest, IsTarget}
-use Rattle.bdb_graph.proofs.LinkedLemmas.{target_inside}
-use Rattle.bdb_format.specs.declared.references.Sort.TheVariants.{Root}
+use Rattle.bdb_graph.specs.Linked.{FitsLeafPage, IsForest}
 use Rattle.bdb_format.specs.File.{File, file_of, page_at, type_in}
 use Rattle.bdb_format.specs.Page.{Page, InternalItem, Internal, Listed, RecnoInternal}
 use Rattle.bdb_format.specs.References.{child_types, has_type}
@@ -15,7 +14,7 @@ use Rattle.bdb_tree.specs.Descent.{AllMonotone, AllReadable, chosen, descent, go
 use Rattle.bdb_tree.proofs.DescentLemmas.{internal_is, is_inner_below}
 use Rattle.bdb_format.specs.Leaves.{children_in}
 use Rattle.bdb_tree.proofs.ShapeLemmas.{IsLeafPage}
-use Rattle.bdb_tree.proofs.TreeLemmas.{HasTypeAt, IsChild, child_is, level, tree_cases}
+use Rattle.bdb_tree.proofs.TreeLemmas.{HasTypeAt, IsChild, child_is, level, tree_cases, typed_inside}
 use Rattle.bdb_format.proofs.TypeLemmas.{of_type, tree_keyed}
 
 -- where a page has one of the types of trees with keys
@@ -37,7 +36,8 @@ last_among : (first : InternalItem) (items : List InternalItem) → Contains (fi
 last_among first [] = first_member first []
 last_among first (item ∷ items) = later_member first (item ∷ items) (unwrap_or (last_or (Some item) items) no_internal_item) (last_among item items)
 
-pub chosen_among : (test : InternalItem → Bool) (items : List InternalItem) → 0 < length items → (item : InternalItem) × Contains items item × (item.child ≡ chosen test items)
+pub chosen_among : (test : InternalItem → Bool) (items : List InternalItem) → 0 < length items
+    → (item : InternalItem) × Contains items item × (item.child ≡ chosen test items)
 chosen_among test [] some = absurd (omega arith)
 chosen_among test (first ∷ items) some =
     let kept : List InternalItem = filter (λ item. not (test item)) items in
@@ -52,12 +52,14 @@ chosen_among test (first ∷ items) some =
 
 -- The end of a descent: a page that is no internal page with keys.
 
-no_children : (test : InternalItem → Bool) (page : Page) (children : List ℕ) → None ≡ next_below test page → has_type (3 ∷ 5 ∷ 12 ∷ []) (type_in page) ≡ true → children_in page ≡ Some children → ⊥
+no_children : (test : InternalItem → Bool) (page : Page) (children : List ℕ) → None ≡ next_below test page
+    → has_type (3 ∷ 5 ∷ 12 ∷ []) (type_in page) ≡ true → children_in page ≡ Some children → ⊥
 no_children test (Internal page) children none keyed some = cc
 no_children test (RecnoInternal page) children none keyed some = cc
 no_children test page children none keyed some = cc
 
-ends_at_leaf : (image : List ℕ) (test : InternalItem → Bool) (p : ℕ) → IsForest image → IsKeyed (file_of image) p → None ≡ next_below test (page_at (file_of image) p) → IsLeafPage (page_at (file_of image) p)
+ends_at_leaf : (image : List ℕ) (test : InternalItem → Bool) (p : ℕ) → IsForest image → IsKeyed (file_of image) p
+    → None ≡ next_below test (page_at (file_of image) p) → IsLeafPage (page_at (file_of image) p)
 ends_at_leaf image test p forest keyed none =
     elim (tree_cases image p forest (tree_keyed (type_in (page_at (file_of image) p)) keyed)) [
       | inl inner ↦ absurd (no_children test (page_at (file_of image) p) inner.children none keyed inner.are)
@@ -79,8 +81,10 @@ no_step : (test : InternalItem → Bool) (page : Page) → None ≡ next_below t
 no_step test (Internal page) none = absurd cc
 no_step test page none = refl
 
-pub at_end : (image : List ℕ) (reads : InternalItem → Type 0) (test : InternalItem → Bool) (root began page steps after : ℕ) → IsForest image → IsOnWay (file_of image) reads test root began page steps
-    → None ≡ next_below test (page_at (file_of image) page) → after ≡ steps + steps_at (page_at (file_of image) page) → IsEnd (file_of image) test root began page after
+pub at_end : (image : List ℕ) (reads : InternalItem → Type 0) (test : InternalItem → Bool) (root began page steps after : ℕ) → IsForest image
+    → IsOnWay (file_of image) reads test root began page steps
+    → None ≡ next_below test (page_at (file_of image) page) → after ≡ steps + steps_at (page_at (file_of image) page)
+    → IsEnd (file_of image) test root began page after
 at_end image reads test root began page steps after forest way none cost =
     let file : File = file_of image in
     let leaf : IsLeafPage (page_at file page) = ends_at_leaf image test page forest way.keyed none in
@@ -95,12 +99,13 @@ at_end image reads test root began page steps after forest way none cost =
 root_keyed : (type : Option ℕ) → has_type (3 ∷ 5 ∷ []) type ≡ true → has_type (3 ∷ 5 ∷ 12 ∷ []) type ≡ true
 root_keyed type keyed = of_type (λ t. has_type (3 ∷ 5 ∷ 12 ∷ []) t ≡ true) (3 ∷ 5 ∷ []) type (refl, (refl, tt)) keyed
 
-pub at_root : (image : List ℕ) (reads : InternalItem → Type 0) (test : InternalItem → Bool) (root steps : ℕ) → IsForest image → IsTarget (file_of image) Root root
-    → has_type (3 ∷ 5 ∷ []) (type_in (page_at (file_of image) root)) ≡ true → AllReadable (file_of image) reads root → AllMonotone (file_of image) test root
+pub at_root : (image : List ℕ) (reads : InternalItem → Type 0) (test : InternalItem → Bool) (root steps : ℕ)
+    → has_type (3 ∷ 5 ∷ []) (type_in (page_at (file_of image) root)) ≡ true → AllReadable (file_of image) reads root
+    → AllMonotone (file_of image) test root
     → IsOnWay (file_of image) reads test root steps root steps
-at_root image reads test root steps forest is keyed readable monotone =
+at_root image reads test root steps keyed readable monotone =
     record {
-      inside = target_inside image Root root forest.linked is;
+      inside = typed_inside image (3 ∷ 5 ∷ []) root keyed;
       keyed = root_keyed (type_in (page_at (file_of image) root)) keyed;
       readable = readable;
       monotone = monotone;
@@ -109,18 +114,22 @@ at_root image reads test root steps forest is keyed readable monotone =
     }
 
 -- a page from which a descent goes on is an internal page
-is_internal : (image : List ℕ) (test : InternalItem → Bool) (p child : ℕ) → Some child ≡ next_below test (page_at (file_of image) p) → (page : Listed InternalItem) × (page_at (file_of image) p ≡ Internal page) × (child ≡ chosen test page.items)
+is_internal : (image : List ℕ) (test : InternalItem → Bool) (p child : ℕ) → Some child ≡ next_below test (page_at (file_of image) p)
+    → (page : Listed InternalItem) × (page_at (file_of image) p ≡ Internal page) × (child ≡ chosen test page.items)
 is_internal image test p child some = of (page_at (file_of image) p) refl some
   where
-    of : (page : Page) → page_at (file_of image) p ≡ page → Some child ≡ next_below test page → (page : Listed InternalItem) × (page_at (file_of image) p ≡ Internal page) × (child ≡ chosen test page.items)
+    of : (page : Page) → page_at (file_of image) p ≡ page → Some child ≡ next_below test page
+        → (page : Listed InternalItem) × (page_at (file_of image) p ≡ Internal page) × (child ≡ chosen test page.items)
     of (Internal page) is goes = let same : child ≡ chosen test page.items = cc in (page, is, same)
     of page is goes = absurd cc
 
-goes_on : (levels : ℕ) (file : File) (test : InternalItem → Bool) (p child : ℕ) → Some child ≡ next_below test (page_at file p) → descent (suc levels) file test p ≡ descent levels file test child
+goes_on : (levels : ℕ) (file : File) (test : InternalItem → Bool) (p child : ℕ) → Some child ≡ next_below test (page_at file p)
+    → descent (suc levels) file test p ≡ descent levels file test child
 unfolding descent
 goes_on levels file test p child some = ap (go_on (descent levels file test) p) (sym some)
 
-child_keyed : (page : Page) (type : Option ℕ) (view : Listed InternalItem) → page ≡ Internal view → has_type (child_types page) type ≡ true → has_type (3 ∷ 5 ∷ 12 ∷ []) type ≡ true
+child_keyed : (page : Page) (type : Option ℕ) (view : Listed InternalItem) → page ≡ Internal view → has_type (child_types page) type ≡ true
+    → has_type (3 ∷ 5 ∷ 12 ∷ []) type ≡ true
 child_keyed page type view is has = of (view.header.level == 2) (ap (λ q. has_type (child_types q) type) (sym is) ∙ has)
   where
     of : (low : Bool) → has_type (cond low (5 ∷ 12 ∷ []) (3 ∷ [])) type ≡ true → has_type (3 ∷ 5 ∷ 12 ∷ []) type ≡ true
@@ -132,23 +141,30 @@ pub record IsStep (file : File) (reads : InternalItem → Type 0) (test : Intern
   pub way : IsOnWay file reads test root began child steps
   pub level : level file child < level file page
 
-pub on_way : (image : List ℕ) (reads : InternalItem → Type 0) (test : InternalItem → Bool) (root began page child steps after : ℕ) → IsForest image → IsOnWay (file_of image) reads test root began page steps
-    → Some child ≡ next_below test (page_at (file_of image) page) → after ≡ steps + steps_at (page_at (file_of image) page) → IsStep (file_of image) reads test root began page child after
+pub on_way : (image : List ℕ) (reads : InternalItem → Type 0) (test : InternalItem → Bool) (root began page child steps after : ℕ) → IsForest image
+    → IsOnWay (file_of image) reads test root began page steps
+    → Some child ≡ next_below test (page_at (file_of image) page) → after ≡ steps + steps_at (page_at (file_of image) page)
+    → IsStep (file_of image) reads test root began page child after
 on_way image reads test root began page child steps after forest way some count =
     let file : File = file_of image in
-    let at : (view : Listed InternalItem) × (page_at file page ≡ Internal view) × (child ≡ chosen test view.items) = is_internal image test page child some in
+    let at : (view : Listed InternalItem) × (page_at file page ≡ Internal view) × (child ≡ chosen test view.items) =
+    is_internal image test page child some in
     let view : Listed InternalItem = at.0 in
-    let item : (item : InternalItem) × Contains view.items item × (item.child ≡ chosen test view.items) = chosen_among test view.items (internal_is image page view forest way.inside at.1).1 in
+    let item : (item : InternalItem) × Contains view.items item × (item.child ≡ chosen test view.items) =
+    chosen_among test view.items (internal_is image page view forest way.inside at.1).1 in
     let held : Contains (map (λ (i : InternalItem). i.child) view.items) child =
-    subst (Contains (map (λ (i : InternalItem). i.child) view.items)) (item.2 ∙ sym at.2) (in_map (λ (i : InternalItem). i.child) view.items item.0 item.1) in
-    let fits : IsChild file page child = child_is image page child (map (λ (i : InternalItem). i.child) view.items) forest (ap children_in at.1) held in
+    subst (Contains (map (λ (i : InternalItem). i.child) view.items)) (item.2 ∙ sym at.2)
+    (in_map (λ (i : InternalItem). i.child) view.items item.0 item.1) in
+    let fits : IsChild file page child =
+    child_is image page child (map (λ (i : InternalItem). i.child) view.items) forest (ap children_in at.1) held in
     record {
       way = record {
         inside = fits.inside;
         keyed = child_keyed (page_at file page) (type_in (page_at file child)) view at.1 fits.type;
         readable = λ p below inner is. way.readable p below (is_inner_below file page view child p at.1 held fits inner) is;
         monotone = λ p below inner is. way.monotone p below (is_inner_below file page view child p at.1 held fits inner) is;
-        same = sym (goes_on (level file child) file test page child some) ∙ (ap (λ n. descent n file test page) (let up : suc (level file child) ≡ level file page = omega (arith, fits.level) in up) ∙ way.same);
+        same = sym (goes_on (level file child) file test page child some)
+            ∙ (ap (λ n. descent n file test page) (let up : suc (level file child) ≡ level file page = omega (arith, fits.level) in up) ∙ way.same);
         cost = omega (arith, way.cost, count, ap steps_at at.1, fits.level);
       };
       level = omega (arith, fits.level);

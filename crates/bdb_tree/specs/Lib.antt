@@ -1,5 +1,5 @@
 pub mod Descent
+pub mod Entries
 pub mod Links
 pub mod Noted
-pub mod Sets
 pub mod Trees

@@ -1,5 +1,6 @@
 -- The faults of leaves as they are noted, tree by tree, and the least of them. Source: docs/FORMAT.md, "Faults".
-use Rattle.std.specs.Prelude.{◌≡◌, ℕ, ◌+◌, ◌-◌, ◌*◌, ◌/◌, ◌==◌, if◌then◌else◌, Bool, true, false, List, [], ◌∷◌, ◌++◌, get_or, length, map, slice_index, Option, Some, None}
+use Rattle.std.specs.Prelude.{◌≡◌, ℕ, ◌+◌, ◌-◌, ◌*◌, ◌/◌, ◌==◌, if◌then◌else◌, Bool, true, false, List, [], ◌∷◌, ◌++◌, get_or, length, map}
+use Rattle.std.specs.Prelude.{slice_index, Option, Some, None}
 use Rattle.std.specs.List.{Contains, flat_map, range_with_len}
 use Rattle.std.specs.Option.{option_to_list}
 use Rattle.bdb_format.specs.ByPage.{ComesFirst}
@@ -50,6 +51,10 @@ paired (Leaf page) = page.items
 paired (Hash page) = page.items
 paired page = []
 
+-- how many pairs a page has
+abbrev pub pair_count : Page → ℕ
+pair_count page = length (paired page) / 2
+
 -- the root of a set off the page
 abbrev pub set_root : Content → Option ℕ
 set_root (Tree root) = Some root
@@ -67,8 +72,12 @@ meta_root page = None
 abbrev pub data_faults : File → Page → ℕ → List Fault
 data_faults file page i = root_faults file DuplicateRoot (data_root page i)
 
+-- those of the sets of its first pairs
+abbrev pub set_faults : File → Page → ℕ → List Fault
+set_faults file page pairs = flat_map (data_faults file page) (range_with_len 0 pairs)
+
 abbrev pub page_faults : File → Page → List Fault
-page_faults file page = root_faults file Root (meta_root page) ++ flat_map (data_faults file page) (range_with_len 0 (length (paired page) / 2))
+page_faults file page = root_faults file Root (meta_root page) ++ set_faults file page (pair_count page)
 
 abbrev pub held_faults : File → ℕ → List Fault
 held_faults file p = page_faults file (page_at file p)
@@ -81,3 +90,7 @@ pub record IsLeastOf (faults : List Fault) (fault : Fault) : Type 0 where
 abbrev pub IsLeast : List Fault → Option Fault → Type 0
 IsLeast faults None = faults ≡ []
 IsLeast faults (Some fault) = IsLeastOf faults fault
+
+-- the least fault so far, and once these are noted too
+abbrev pub IsNoted : Option Fault → List Fault → Option Fault → Type 0
+IsNoted before more after = (faults : List Fault) → IsLeast faults before → IsLeast (faults ++ more) after

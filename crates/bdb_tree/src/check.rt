@@ -1,15 +1,15 @@
-ghost use Rattle.std.specs.Prelude.{◌≡◌, ◌<◌, ◌≤◌, ◌∷◌, ◌++◌, List, [], IfErr, IfOk, IsTrue, MatchBool, OnOk, length, ◌&&◌, ◌==◌, slice_index, IfSome, ◌*◌, ◌/◌, ◌+◌};
-ghost use Rattle.std.specs.List.{All, flat_map, range_with_len};
+ghost use Rattle.std.specs.Prelude.{◌≡◌, ◌<◌, ◌≤◌, ◌∷◌, [], IfErr, IfOk, IsTrue, MatchBool, OnOk, length, ◌&&◌, ◌==◌, slice_index, IfSome, ◌*◌, ◌+◌};
+ghost use Rattle.std.specs.List.{All, flat_map};
 ghost use Rattle.bdb_form.specs.Seen.{page_seen};
 ghost use Rattle.bdb_graph.specs.Linked.{FitsLeafPage, IsForest};
 ghost use Rattle.bdb_format.specs.ByPage.{ComesFirst};
-ghost use Rattle.bdb_format.specs.declared.kinds.Fault.{Fault};
 ghost use Rattle.bdb_format.specs.File.{file_of, header_in, type_in, page_at};
-ghost use Rattle.bdb_format.specs.Leaves.{is_root_reference, places_from, wrong_leaf_types};
+ghost use Rattle.bdb_format.specs.Leaves.{places_from, wrong_leaf_types};
 ghost use Rattle.bdb_format.specs.References.{has_type};
 ghost use Rattle.bdb_format.specs.Table.{first_row};
 ghost use Rattle.bdb_format.specs.Verdict.{tree_faults, first_fault, IsFirstOf};
-ghost use Rattle.bdb_tree.specs.Noted.{IsLeast, held_faults, is_leaf_page, place_faults, place_in, place_rows, root_faults, meta_root, paired, data_faults, data_root};
+ghost use Rattle.bdb_tree.specs.Noted.{IsNoted, data_root, held_faults, is_leaf_page, meta_root, pair_count, paired};
+ghost use Rattle.bdb_tree.specs.Noted.{place_faults, place_in, place_rows, root_faults, set_faults};
 ghost use Rattle.bdb_tree.specs.Trees.{IsTreePage};
 
 use crate::leaves_below;
@@ -28,7 +28,7 @@ fn comes_first(a: Fault, b: Fault) -> bool
 
 /// The least of the faults so far and one more.
 fn lesser(least: Option<Fault>, fault: Fault) -> Fault
-    ensures { (faults : List Fault) → IsLeast faults least → IsLeast (faults ++ fault ∷ []) (Some result) }
+    ensures { IsNoted least (fault ∷ []) (Some result) }
 {
     match least {
         None => fault,
@@ -92,7 +92,7 @@ fn note_leaf(
     requires forest { IsForest forest.now }
     requires there { i < length leaves.now }
     requires leaf { FitsLeafPage (file_of forest.now) (slice_index leaves.now i) }
-    ensures { (faults : List Fault) → IsLeast faults least → IsLeast (faults ++ place_faults (file_of forest.now) (place_in sort leaves.now i)) result }
+    ensures { IsNoted least (place_faults (file_of forest.now) (place_in sort leaves.now i)) result }
 {
     match leaf_code(forest, sort, leaves, i) {
         Some(code) => Some(lesser(
@@ -116,7 +116,7 @@ fn note_leaves(
 ) -> Option<Fault>
     requires forest { IsForest forest.now }
     requires leaves { All (FitsLeafPage (file_of forest.now)) leaves.now }
-    ensures { (faults : List Fault) → IsLeast faults least → IsLeast (faults ++ flat_map (place_faults (file_of forest.now)) (places_from sort 0 leaves.now)) result }
+    ensures { IsNoted least (flat_map (place_faults (file_of forest.now)) (places_from sort 0 leaves.now)) result }
 {
     let mut found = least;
     for i in 0..leaves.len() {
@@ -136,7 +136,7 @@ fn note_tree(
 ) -> Result<Option<Fault>, AllocError>
     requires forest { IsForest forest.now }
     requires root { IfSome root (IsTreePage (file_of forest.now)) }
-    ensures { IfOk result (λ found. (faults : List Fault) → IsLeast faults least → IsLeast (faults ++ root_faults (file_of forest.now) sort root) found) }
+    ensures { IfOk result (IsNoted least (root_faults (file_of forest.now) sort root)) }
 {
     let Some(root) = root else {
         return Ok(least);
@@ -176,7 +176,7 @@ fn data_root(page: &PageView<'_>, i: u16) -> Option<u32>
 
 /// How many pairs a page has.
 fn pairs(page: &PageView<'_>) -> u16
-    ensures { result ≡ length (paired (page_seen page.now)) / 2 }
+    ensures { result ≡ pair_count (page_seen page.now) }
 {
     match page {
         PageView::Leaf(page) => page.pairs(),
@@ -190,8 +190,9 @@ fn pairs(page: &PageView<'_>) -> u16
 fn pairs_to_see(forest: &Forest<'_>, number: u32, page: &PageView<'_>) -> u16
     requires there { number ≤ (file_of forest.now).last }
     requires page { page_seen page.now ≡ page_at (file_of forest.now) number }
-    ensures few { result ≤ length (paired (page_seen page.now)) / 2 }
-    ensures all { flat_map (data_faults (file_of forest.now) (page_seen page.now)) (range_with_len 0 result) ≡ flat_map (data_faults (file_of forest.now) (page_seen page.now)) (range_with_len 0 (length (paired (page_seen page.now)) / 2)) }
+    ensures few { result ≤ pair_count (page_seen page.now) }
+    ensures all { set_faults (file_of forest.now) (page_seen page.now) result
+        ≡ set_faults (file_of forest.now) (page_seen page.now) (pair_count (page_seen page.now)) }
 {
     if forest.has_sets() { pairs(page) } else { 0 }
 }
@@ -207,7 +208,7 @@ fn note_page(
 ) -> Result<Option<Fault>, AllocError>
     requires forest { IsForest forest.now }
     requires there { page ≤ (file_of forest.now).last }
-    ensures { IfOk result (λ found. (faults : List Fault) → IsLeast faults least → IsLeast (faults ++ held_faults (file_of forest.now) page) found) }
+    ensures { IfOk result (IsNoted least (held_faults (file_of forest.now) page)) }
 {
     let mut found = note_tree(alloc, forest, Sort::Root, meta_root(forest, page), least)?;
     let view = forest.page(page);

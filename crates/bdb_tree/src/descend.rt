@@ -65,10 +65,10 @@ fn step_below<T: Separate, L: Ledger>(
     test: &T,
     steps: &mut Steps<L>,
 ) -> Option<u32>
-    requires forest { IsForest forest.now }
     requires inside { page ≤ (file_of forest.now).last }
     requires readable { AllReadable (file_of forest.now) (T.reads test.now) page }
     requires monotone { AllMonotone (file_of forest.now) (T.says test.now) page }
+    ensures forest { IsForest forest.now }
     ensures next { result ≡ next_below (T.says test.now) (page_at (file_of forest.now) page) }
     ensures cost { steps.new ≡ steps.old + steps_at (page_at (file_of forest.now) page) }
 {
@@ -97,7 +97,6 @@ pub fn descend_in<T: Separate, L: Ledger>(
     ensures fits { FitsLeafPage (file_of forest.now) result }
     ensures cost { steps.new + 1 ≡ steps.old + (header_in (page_at (file_of forest.now) root)).level }
 {
-    let _head = forest.head();
     let mut page = root;
     while let Some(child) = step_below(forest, page, test, steps) {
         page = child;

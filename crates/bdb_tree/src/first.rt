@@ -1,7 +1,7 @@
 ghost use Rattle.std.specs.Prelude.{◌≡◌, Some};
 ghost use Rattle.std.specs.List.{slice_get};
 ghost use Rattle.bdb_form.specs.Seen.{page_seen};
-ghost use Rattle.bdb_graph.specs.Linked.{FitsDupRoot, FitsLeafPage, FitsTreeRoot};
+ghost use Rattle.bdb_graph.specs.Linked.{FitsDupRoot, FitsLeafPage, FitsTreeRoot, IsForest};
 ghost use Rattle.bdb_format.specs.File.{file_of, page_at};
 ghost use Rattle.bdb_format.specs.Leaves.{children_in, leaves};
 ghost use Rattle.bdb_tree.specs.Links.{HasItem, first_below};
@@ -36,7 +36,6 @@ pub fn leftmost(forest: &Forest<'_>, root: u32) -> Ref<LeafPage>
     ensures first { slice_get (leaves (file_of forest.now) root) 0 ≡ Some result }
     ensures fits { FitsLeafPage (file_of forest.now) result }
 {
-    prove!(root <= forest.head().last);
     let mut page = root;
     while let Some(child) = first_child(forest, page) {
         page = child;
@@ -47,9 +46,9 @@ pub fn leftmost(forest: &Forest<'_>, root: u32) -> Ref<LeafPage>
 /// The first of the pages right below a page of a tree; a leaf has none.
 fn first_child(forest: &Forest<'_>, page: u32) -> Option<u32>
     requires { IsTreePage (file_of forest.now) page }
-    ensures { result ≡ first_below (children_in (page_at (file_of forest.now) page)) }
+    ensures child { result ≡ first_below (children_in (page_at (file_of forest.now) page)) }
+    ensures forest { IsForest forest.now }
 {
-    prove!(page <= forest.head().last);
     first_item(&forest.page(page))
 }
 

@@ -2,6 +2,7 @@ ghost use Rattle.std.specs.Prelude.{◌≡◌, ◌++◌, [], IfOk, OnOk, map};
 ghost use Rattle.std.specs.List.{All, flat_map};
 ghost use Rattle.std.specs.Option.{unwrap_or};
 ghost use Rattle.bdb_form.specs.Seen.{page_seen};
+ghost use Rattle.bdb_graph.specs.Linked.{IsForest};
 ghost use Rattle.bdb_format.specs.File.{file_of, header_in, page_at};
 ghost use Rattle.bdb_format.specs.Leaves.{children_in, leaves};
 ghost use Rattle.bdb_tree.specs.Trees.{IsTreePage, children_at};
@@ -45,7 +46,8 @@ fn push_children(next: &mut Vec<u32>, page: &PageView<'_>) -> Result<(), AllocEr
 #[tactic(auto, using(crate::proofs::TreeLemmas::tree_inside, crate::proofs::LevelLemmas::seen_level))]
 fn level_of(forest: &Forest<'_>, page: u32) -> u8
     requires { IsTreePage (file_of forest.now) page }
-    ensures { result ≡ (header_in (page_at (file_of forest.now) page)).level }
+    ensures level { result ≡ (header_in (page_at (file_of forest.now) page)).level }
+    ensures forest { IsForest forest.now }
 {
     forest.page(page).header().level
 }
@@ -57,8 +59,6 @@ pub fn next_level(alloc: Global, forest: &Forest<'_>, pages: &[u32]) -> Result<V
     ensures children { IfOk result (λ next. next.items ≡ flat_map (children_at (file_of forest.now)) pages.now) }
     ensures trees { IfOk result (λ next. All (IsTreePage (file_of forest.now)) next.items) }
 {
-    // What it ensures: the laws of linked files hold.
-    forest.head();
     let mut next = Vec::new(alloc);
     for page in pages {
         push_children(&mut next, &forest.page(*page))?;
@@ -71,10 +71,9 @@ pub fn next_level(alloc: Global, forest: &Forest<'_>, pages: &[u32]) -> Result<V
 #[tactic(auto, using(crate::proofs::LevelLemmas::first_level))]
 pub fn leaves_below(alloc: Global, forest: &Forest<'_>, page: u32) -> Result<Vec<u32>, AllocError>
     requires { IsTreePage (file_of forest.now) page }
-    ensures { IfOk result (λ found. found.items ≡ leaves (file_of forest.now) page) }
+    ensures leaves { IfOk result (λ found. found.items ≡ leaves (file_of forest.now) page) }
+    ensures forest { OnOk result (IsForest forest.now) }
 {
-    // What it ensures: the laws of linked files hold.
-    forest.head();
     let mut pages = Vec::new(alloc);
     pages.push(page)?;
     for _turn in 1..level_of(forest, page) {

@@ -3,6 +3,7 @@
 
 mod check;
 mod descend;
+mod entries;
 mod first;
 mod level;
 mod links;
@@ -12,6 +13,7 @@ mod walk;
 
 pub use check::check_trees;
 pub use descend::{Separate, descend_by, descend_in};
+pub use entries::{TreeEntries, tree_entries};
 pub use first::{dup_first, first_leaf, leftmost};
 pub use level::{leaves_below, next_level};
 pub use links::{leaves, tree_leaves};

@@ -1,5 +1,5 @@
 ghost use Rattle.std.specs.Prelude.{◌≡◌, ◌≤◌, ◌∷◌, ◌++◌, [], ℕ, List, length};
-ghost use Rattle.bdb_graph.specs.Linked.{FitsLeafPage};
+ghost use Rattle.bdb_graph.specs.Linked.{FitsLeafPage, IsForest};
 ghost use Rattle.bdb_format.specs.File.{file_of};
 ghost use Rattle.bdb_format.specs.Leaves.{leaves};
 ghost use Rattle.bdb_format.specs.Verdict.{structure_faults};
@@ -14,7 +14,8 @@ use bdb_graph::{Forest, LeafPage, Linked, Ref};
 pub fn leaves<'a>(linked: &Linked<'a>, first: Ref<LeafPage>) -> Leaves<'a>
     requires fits { FitsLeafPage (file_of linked.now) first }
     requires stage { structure_faults (file_of linked.now) ≡ [] }
-    ensures tree { (root : ℕ) (before after : List ℕ) → IsRoot (file_of linked.now) root → leaves (file_of linked.now) root ≡ before ++ (first ∷ after) → result ≡ first ∷ after }
+    ensures tree { (root : ℕ) (before after : List ℕ) → IsRoot (file_of linked.now) root
+        → leaves (file_of linked.now) root ≡ before ++ (first ∷ after) → result ≡ first ∷ after }
     ensures few { length result ≤ (file_of linked.now).count }
 {
     prove!(first.number() <= linked.head().last);
@@ -26,6 +27,7 @@ pub fn leaves<'a>(linked: &Linked<'a>, first: Ref<LeafPage>) -> Leaves<'a>
 pub fn tree_leaves<'a>(forest: &Forest<'a>, root: u32) -> Leaves<'a>
     requires root { IsRoot (file_of forest.now) root }
     requires stage { structure_faults (file_of forest.now) ≡ [] }
+    ensures forest { IsForest forest.now }
     ensures leaves { result ≡ leaves (file_of forest.now) root }
     ensures few { length result ≤ (file_of forest.now).count }
 {

@@ -37,7 +37,7 @@ impl<'a> Leaves<'a> {
     }
 }
 
-#[tactic(auto, using(crate::proofs::LinkLemmas::at_leaf, crate::proofs::LinkLemmas::gives_first, crate::proofs::LinkLemmas::goes_on, crate::proofs::LinkLemmas::no_pages))]
+#[tactic(auto, using(crate::proofs::LinkLemmas::walk_steps))]
 impl<'a> Iterator for Leaves<'a> {
     type Item = Ref<LeafPage>;
 

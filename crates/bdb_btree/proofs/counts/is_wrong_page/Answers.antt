@@ -10,5 +10,6 @@ page-requires c = tree_inside c.args.forest.now c.args.number (keyed_is_tree (fi
 
 pub is_wrong_view-requires : goal.is_wrong_view-requires
 is_wrong_view-requires c =
-    items_fit c.args.forest.now c.args.number c.in-Internal.page c.head.ensures.forest
-    (tree_inside c.args.forest.now c.args.number (keyed_is_tree (file_of c.args.forest.now) c.args.number c.requires)) (sym c.in-Internal.ensures.page)
+    items_fit c.args.forest.now c.args.number c.in-Internal.page c.page.ensures.forest
+    (tree_inside c.args.forest.now c.args.number (keyed_is_tree (file_of c.args.forest.now) c.args.number c.requires))
+    (sym c.in-Internal.ensures.page)

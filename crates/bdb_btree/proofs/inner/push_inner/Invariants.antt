@@ -7,4 +7,5 @@ use Rattle.bdb_btree.proofs.inner.push_inner.Given as goal
 
 -- The internal pages among those passed are added.
 abbrev pub invariant-loop-page : goal.invariant-loop-page
-invariant-loop-page l = l.found.items ≡ l.fn.found.items ++ filter (λ p. is_some (children_in (page_at (file_of l.forest) p))) (take l.page-index l.pages)
+invariant-loop-page l =
+    l.found.items ≡ l.fn.found.items ++ filter (λ p. is_some (children_in (page_at (file_of l.forest) p))) (take l.page-index l.pages)

@@ -5,5 +5,5 @@ use Rattle.bdb_btree.proofs.separators.is_wrong_page.Goals as goal
 
 pub is_wrong_view-requires-clause-items : goal.is_wrong_view-requires-clause-items
 is_wrong_view-requires-clause-items c =
-    items_fit c.args.forest.now c.args.number c.in-Internal.page c.head.ensures.forest (tree_inside c.args.forest.now c.args.number c.requires.tree)
+    items_fit c.args.forest.now c.args.number c.in-Internal.page c.page.ensures.forest (tree_inside c.args.forest.now c.args.number c.requires.tree)
     (sym c.in-Internal.ensures.page)

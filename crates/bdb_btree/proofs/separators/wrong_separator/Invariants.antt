@@ -7,4 +7,6 @@ use Rattle.bdb_btree.proofs.separators.wrong_separator.Given as goal
 
 -- The least of the pages passed.
 abbrev pub invariant-loop-page : goal.invariant-loop-page
-invariant-loop-page l = l.least ≡ fold (noting (λ (p : ℕ). p) (λ p. has_wrong_separator (file_of l.forest) (page_at (file_of l.forest) p))) None (take l.page-index l.pages)
+invariant-loop-page l =
+    l.least ≡ fold (noting (λ (p : ℕ). p) (λ p. has_wrong_separator (file_of l.forest) (page_at (file_of l.forest) p))) None
+    (take l.page-index l.pages)

@@ -13,7 +13,8 @@ loop-entry-init c = none_noted key_of repeat_of None c.new-keys.result c.args.en
 -- One pair more is noted, and its key is among those that came before.
 pub loop-entry-preserved : goal.loop-entry-preserved
 loop-entry-preserved c =
-    noted_on key_of repeat_of None c.loop-entry.least c.in_ok-least.least c.loop-entry.keys c.note.new.self c.args.entries.now c.loop-entry.entry-index
+    noted_on key_of repeat_of None c.loop-entry.least c.in_ok-least.least c.loop-entry.keys c.note.new.self c.args.entries.now
+    c.loop-entry.entry-index
     c.entry-item.result (datum_seen c.key.result)
     c.loop-entry.invariant (omega arith) c.entry-item.is c.key.ensures
     (c.in_ok-least.ensures.noted ∙ ap (unless_new (not (has_key c.loop-entry.keys (datum_seen c.key.result))) c.loop-entry.least)
@@ -22,4 +23,5 @@ loop-entry-preserved c =
 
 pub returns : goal.returns
 returns c =
-    all_noted key_of repeat_of None c.loop-entry.least c.loop-entry.keys c.args.entries.now c.loop-entry.entry-index c.loop-entry.invariant (omega arith)
+    all_noted key_of repeat_of None c.loop-entry.least c.loop-entry.keys c.args.entries.now c.loop-entry.entry-index
+    c.loop-entry.invariant (omega arith)

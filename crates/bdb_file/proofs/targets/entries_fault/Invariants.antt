@@ -8,4 +8,6 @@ use Rattle.bdb_file.proofs.targets.entries_fault.Given as goal
 
 -- The pairs that are left, after those noted.
 abbrev pub invariant-loop-entry : goal.invariant-loop-entry
-invariant-loop-entry l = fold (noting (entry_fault (file_of l.linked))) l.least (drop l.entry-index l.entries) ≡ fold (noting (entry_fault (file_of l.linked))) None l.entries
+invariant-loop-entry l =
+    fold (noting (entry_fault (file_of l.linked))) l.least (drop l.entry-index l.entries)
+    ≡ fold (noting (entry_fault (file_of l.linked))) None l.entries

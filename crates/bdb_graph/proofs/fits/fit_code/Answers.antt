@@ -1,19 +1,9 @@
 use Rattle.std.proofs.Common.{◌≡◌, ◌∙◌, ap, arith, sym}
 use Rattle.bdb_format.specs.declared.metadata.Head.{Head}
 use Rattle.bdb_format.specs.File.{file_of}
-use Rattle.bdb_graph.proofs.FitLemmas.{names_above, names_page, names_zero}
+use Rattle.bdb_graph.proofs.FitLemmas.{names_page}
 use Rattle.bdb_graph.proofs.HeldLemmas.{last_page}
 use Rattle.bdb_graph.proofs.fits.fit_code.Goals as goal
-use Rattle.bdb_graph.proofs.fits.fit_code.Goals.{then-reference-eq0-via-then-reference-eq0, then-reference-eq0-via-else-reference-eq0+then-reference-from}
-
-pub returns-then-reference-eq0 : goal.returns-then-reference-eq0
-returns-then-reference-eq0 c =
-    elim c.then-reference-eq0.branch [
-      | then-reference-eq0-via-then-reference-eq0 w ↦ names_zero (file_of c.args.formed.now) c.args.holder c.args.reference w.if-reference-eq0.true
-      | then-reference-eq0-via-else-reference-eq0+then-reference-from w ↦
-          let last : w.head.result.last ≡ (file_of c.args.formed.now).last = ap (λ (head : Head). head.last) w.head.ensures.head ∙ sym (last_page c.args.formed.now) in
-          names_above (file_of c.args.formed.now) c.args.holder c.args.reference (omega (arith, last, w.from.ensures, w.if-reference-from.true))
-    ]
 
 pub returns : goal.returns
 returns c =

@@ -7,7 +7,9 @@ use Rattle.bdb_hash.proofs.lookup.find_in.Goals as goal
 pub loop-page-preserved : goal.loop-page-preserved
 loop-page-preserved g c =
     rw c.tick.ensures
-    (sought_on c.args.key.now (bucket_told c.args.linked.now c.args.meta.now c.args.bucket) c.loop-page.page-iterator c.next.new.self c.in-Some.page (c.args.steps.now + (file_of c.args.linked.now).count)
+    (sought_on c.args.key.now
+    (bucket_told c.args.linked.now c.args.meta.now c.args.bucket) c.loop-page.page-iterator c.next.new.self c.in-Some.page
+    (c.args.steps.now + (file_of c.args.linked.now).count)
     c.loop-page.steps c.loop-page.invariant c.in-Some.ensures.steps c.in_default.ensures)
 
 pub returns-in-Some-find_on-clause-pair : goal.returns-in-Some-find_on-clause-pair

@@ -9,22 +9,27 @@ use Rattle.bdb_hash.proofs.place.key_at.Goals as goal
 
 pub returns-then-place-head : goal.returns-then-place-head
 returns-then-place-head c =
-    let last : c.head.result.last ≡ (file_of c.args.forest.now).last = ap (λ (h : Head). h.last) c.head.ensures.head ∙ sym (last_page c.args.forest.now) in
+    let last : c.head.result.last ≡ (file_of c.args.forest.now).last =
+    ap (λ (h : Head). h.last) c.head.ensures.head ∙ sym (last_page c.args.forest.now) in
     no_page c.args.forest.now c.args.place.now (omega (arith, last))
 
 pub page-requires : goal.page-requires
 page-requires c =
-    let last : c.head.result.last ≡ (file_of c.args.forest.now).last = ap (λ (h : Head). h.last) c.head.ensures.head ∙ sym (last_page c.args.forest.now) in
+    let last : c.head.result.last ≡ (file_of c.args.forest.now).last =
+    ap (λ (h : Head). h.last) c.head.ensures.head ∙ sym (last_page c.args.forest.now) in
     omega (arith, last)
 
 pub key_of-requires : goal.key_of-requires
 key_of-requires c =
-    let last : c.head.result.last ≡ (file_of c.args.forest.now).last = ap (λ (h : Head). h.last) c.head.ensures.head ∙ sym (last_page c.args.forest.now) in
+    let last : c.head.result.last ≡ (file_of c.args.forest.now).last =
+    ap (λ (h : Head). h.last) c.head.ensures.head ∙ sym (last_page c.args.forest.now) in
     item_fits c.args.forest.now c.args.place.now.page (2 * c.args.place.now.index) c.in-Hash.view c.key.result c.requires (omega (arith, last))
     (sym c.in-Hash.ensures.page) c.key.ensures
 
 pub returns-in-Hash : goal.returns-in-Hash
 returns-in-Hash c =
-    let last : c.head.result.last ≡ (file_of c.args.forest.now).last = ap (λ (h : Head). h.last) c.head.ensures.head ∙ sym (last_page c.args.forest.now) in
-    key_here c.args.forest.now c.args.place.now c.in-Hash.view c.key.result (datum_seen c.key_of.result) (omega (arith, last)) (sym c.in-Hash.ensures.page)
+    let last : c.head.result.last ≡ (file_of c.args.forest.now).last =
+    ap (λ (h : Head). h.last) c.head.ensures.head ∙ sym (last_page c.args.forest.now) in
+    key_here c.args.forest.now c.args.place.now c.in-Hash.view c.key.result (datum_seen c.key_of.result) (omega (arith, last))
+    (sym c.in-Hash.ensures.page)
     (omega (arith, c.pairs.ensures)) c.key.ensures c.key_of.ensures

@@ -1,4 +1,4 @@
-use Rattle.bdb_mktree.proofs.PushLemmas.{leaves_are_formed}
+use Rattle.bdb_mktree.proofs.HeldLemmas.{leaves_are_formed}
 use Rattle.bdb_mktree.proofs.laws.leaves_are_formed.Goals as goal
 
 pub returns : goal.returns

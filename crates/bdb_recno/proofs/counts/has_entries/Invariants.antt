@@ -1,6 +1,6 @@
 use Rattle.std.proofs.Common.{◌≡◌, ◌+◌, length, take}
 use Rattle.bdb_format.specs.File.{file_of}
-use Rattle.bdb_recno.specs.Entries.{entries_on}
+use Rattle.bdb_tree.specs.Entries.{entries_on}
 use Rattle.bdb_recno.proofs.counts.has_entries.Given as goal
 
 -- What is left of the count, with the entries of the leaves passed, is the count.

@@ -1,18 +1,34 @@
+use Rattle.std.proofs.Common.{◌≡◌, ◌∙◌, ap, subst, sym, Bool}
+use Rattle.std.specs.Prelude.{◌||◌}
+use Rattle.std.specs.List.{list_any}
 use Rattle.bdb_layout.specs.Seen.{leaf_item_seen}
-use Rattle.bdb_format.specs.File.{file_of}
-use Rattle.bdb_recno.proofs.EntryLemmas.{item_fits, none_wrong, one_wrong}
+use Rattle.bdb_format.specs.ContentRows.{has_wrong_record, is_wrong_record}
+use Rattle.bdb_format.specs.File.{File, file_of}
+use Rattle.bdb_format.specs.Page.{Item, RecnoLeaf}
+use Rattle.bdb_tree.specs.Entries.{AreFit}
+use Rattle.bdb_tree.proofs.EntryLemmas.{page_fits, rest_fit}
+use Rattle.bdb_recno.proofs.PageLemmas.{leaf_inside}
 use Rattle.bdb_recno.proofs.lengths.has_wrong_record.Goals as goal
 
-pub is_wrong_record-requires : goal.is_wrong_record-requires
-is_wrong_record-requires c =
-    item_fits c.args.forest.now c.args.page c.leaf_at-leaf.result c.loop-i.i (leaf_item_seen c.item-item.result) c.requires.forest c.requires.leaf c.leaf_at-leaf.ensures c.item-item.ensures
+pub loop-item-init : goal.loop-item-init
+loop-item-init c =
+    let image = c.args.forest.now in
+    let file : File = file_of image in
+    let leaf = c.leaf_at.result in
+    let all : c.into_iter-item-iterator.result ≡ leaf.items = c.into_iter-item-iterator.ensures.into_iter_gives ∙ c.items-item-items.ensures in
+    let inside = leaf_inside image c.args.page c.requires.leaf in
+    record {
+      left = ap (list_any (is_wrong_record file c.args.meta.now)) all ∙ sym (ap (has_wrong_record file c.args.meta.now) c.leaf_at.ensures);
+      fit = subst (AreFit file) (sym all) (page_fits image c.args.page (RecnoLeaf leaf) c.requires.forest inside c.leaf_at.ensures);
+    }
 
-pub returns-then-is_wrong_record : goal.returns-then-is_wrong_record
-returns-then-is_wrong_record c =
-    one_wrong (file_of c.args.forest.now) c.args.meta.now c.args.page c.leaf_at-leaf.result c.loop-i.i (leaf_item_seen c.item-item.result) c.is_wrong_record.result c.leaf_at-leaf.ensures
-    c.item-item.ensures c.is_wrong_record.ensures c.if-is_wrong_record.true
-
-pub loop-i-preserved : goal.loop-i-preserved
-loop-i-preserved c =
-    none_wrong (file_of c.args.forest.now) c.args.meta.now c.leaf_at-leaf.result.items c.loop-i.i (leaf_item_seen c.item-item.result) c.is_wrong_record.result c.item-item.ensures c.is_wrong_record.ensures
-    c.if-is_wrong_record.false c.loop-i.invariant
+pub loop-item-preserved : goal.loop-item-preserved
+loop-item-preserved c =
+    let file : File = file_of c.args.forest.now in
+    let wrong : Item → Bool = is_wrong_record file c.args.meta.now in
+    let rest = c.next.new.self in
+    let right = sym c.is_wrong_record.ensures ∙ c.if-is_wrong_record.false in
+    record {
+      left = sym (ap (list_any wrong) c.in-Some.ensures.steps ∙ ap (λ b. b || list_any wrong rest) right) ∙ c.loop-item.invariant.left;
+      fit = rest_fit file (leaf_item_seen c.in-Some.item) rest c.loop-item.item-iterator c.in-Some.ensures.steps c.loop-item.invariant.fit;
+    }

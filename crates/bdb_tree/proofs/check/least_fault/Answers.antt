@@ -14,7 +14,8 @@ loop-page-preserved c =
 -- The last page is passed.
 pub returns : goal.returns
 returns c =
-    let last : c.head-page-end.result.last ≡ (file_of c.args.forest.now).last = ap (λ (head : Head). head.last) c.head-page-end.ensures.head ∙ sym (last_page c.args.forest.now) in
+    let last : c.head-page-end.result.last ≡ (file_of c.args.forest.now).last =
+    ap (λ (head : Head). head.last) c.head-page-end.ensures.head ∙ sym (last_page c.args.forest.now) in
     let all : c.loop-page.page ≡ (file_of c.args.forest.now).last + 1 = omega arith in
     least_is_first c.args.forest.now c.loop-page.least c.head-page-end.ensures.forest
     (subst (λ n. IsLeast (flat_map (held_faults (file_of c.args.forest.now)) (range_with_len 0 n)) c.loop-page.least) all c.loop-page.invariant)

@@ -9,4 +9,5 @@ use Rattle.bdb_tree.proofs.check.note_leaves.Given as goal
 -- The faults of the leaves passed are noted.
 abbrev pub invariant-loop-i : goal.invariant-loop-i
 invariant-loop-i l =
-    (faults : List Fault) → IsLeast faults l.fn.least → IsLeast (faults ++ flat_map (place_faults (file_of l.forest)) (take l.i (places_from l.sort 0 l.leaves))) l.found
+    (faults : List Fault) → IsLeast faults l.fn.least
+    → IsLeast (faults ++ flat_map (place_faults (file_of l.forest)) (take l.i (places_from l.sort 0 l.leaves))) l.found

@@ -30,7 +30,8 @@ loop-i-preserved c = λ faults is.
     let noted : List Fault = before ++ flat_map (data_faults file page) (range_with_len 0 c.loop-i.i) in
     let root : c.data_root.result ≡ data_root page c.loop-i.i = c.data_root.ensures ∙ ap (λ q. data_root q c.loop-i.i) c.page-view.ensures.page in
     one_more (data_faults file page) before c.loop-i.i c.in_ok-found-2.found
-    (subst (λ r. IsLeast (noted ++ root_faults file DuplicateRoot r) c.in_ok-found-2.found) root (c.in_ok-found-2.ensures noted (c.loop-i.invariant faults is)))
+    (subst (λ r. IsLeast (noted ++ root_faults file DuplicateRoot r) c.in_ok-found-2.found) root
+    (c.in_ok-found-2.ensures noted (c.loop-i.invariant faults is)))
 
 -- All pairs are passed that may name a set.
 pub returns : goal.returns
@@ -38,7 +39,9 @@ returns c = λ faults is.
     let file : File = file_of c.args.forest.now in
     let page : Page = page_at file c.args.page in
     let metas : List Fault = root_faults file Root (meta_root page) in
-    let all = subst (λ q. flat_map (data_faults file q) (range_with_len 0 c.loop-i.i) ≡ flat_map (data_faults file q) (range_with_len 0 (length (paired q) / 2))) c.page-view.ensures.page
+    let all =
+    subst (λ q. flat_map (data_faults file q) (range_with_len 0 c.loop-i.i)
+    ≡ flat_map (data_faults file q) (range_with_len 0 (length (paired q) / 2))) c.page-view.ensures.page
     (ap (λ n. flat_map (data_faults file (page_seen c.page-view.result)) (range_with_len 0 n)) (omega arith) ∙ c.pairs_to_see-i-end.ensures.all) in
     subst (λ fs. IsLeast fs c.loop-i.found) (append_assoc faults metas _)
     (subst (λ fs. IsLeast ((faults ++ metas) ++ fs) c.loop-i.found) all (c.loop-i.invariant faults is))

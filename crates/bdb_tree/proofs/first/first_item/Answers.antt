@@ -6,4 +6,5 @@ pub returns-in-Internal : goal.returns-in-Internal
 returns-in-Internal c = rw c.in-Internal.is (first_of_internal c.in-Internal.page.items (internal_item_seen c.item.result) c.item.ensures)
 
 pub returns-in-RecnoInternal : goal.returns-in-RecnoInternal
-returns-in-RecnoInternal c = rw c.in-RecnoInternal.is (first_of_recno c.in-RecnoInternal.page.items c.item-in-RecnoInternal.result c.item-in-RecnoInternal.ensures)
+returns-in-RecnoInternal c =
+    rw c.in-RecnoInternal.is (first_of_recno c.in-RecnoInternal.page.items c.item-in-RecnoInternal.result c.item-in-RecnoInternal.ensures)

@@ -9,4 +9,5 @@ pub loop-i-preserved : goal.loop-i-preserved
 loop-i-preserved c =
     c.in_ok-push.ensures.items
     ∙ (ap (λ children. children ++ (c.item.result.child ∷ [])) c.loop-i.invariant
-    ∙ children_more (λ (item : InternalItem). item.child) c.args.next.now.items c.args.page.now.items c.loop-i.i (internal_item_seen c.item.result) (omega arith) c.item.ensures)
+    ∙ children_more (λ (item : InternalItem). item.child) c.args.next.now.items c.args.page.now.items c.loop-i.i (internal_item_seen c.item.result)
+    (omega arith) c.item.ensures)

@@ -6,7 +6,8 @@ use Rattle.bdb_btree.proofs.entries.ScanIterator.next.Given as goal
 -- As much is left of the list as at the beginning.
 abbrev pub invariant-loop-entry : goal.invariant-loop-entry
 invariant-loop-entry l = record {
-  left : entries_left (file_of l.self-inside.forest) l.self-inside.here l.self-inside.pairs ≡ entries_left (file_of l.initial.self-inside.forest) l.initial.self-inside.here l.initial.self-inside.pairs;
+  left : entries_left (file_of l.self-inside.forest) l.self-inside.here l.self-inside.pairs
+      ≡ entries_left (file_of l.initial.self-inside.forest) l.initial.self-inside.here l.initial.self-inside.pairs;
   opened : AreOpen (file_of l.self-inside.forest) l.self-inside.pairs;
 }
 

@@ -6,7 +6,8 @@ use Rattle.bdb_btree.proofs.walk.PairsIterator.next.Given as goal
 -- As many pairs are left as at the beginning.
 abbrev pub invariant-loop-pair : goal.invariant-loop-pair
 invariant-loop-pair l = record {
-  left : pairs_left (file_of l.self-inside.forest) l.self-inside.here l.self-inside.leaves ≡ pairs_left (file_of l.initial.self-inside.forest) l.initial.self-inside.here l.initial.self-inside.leaves;
+  left : pairs_left (file_of l.self-inside.forest) l.self-inside.here l.self-inside.leaves
+      ≡ pairs_left (file_of l.initial.self-inside.forest) l.initial.self-inside.here l.initial.self-inside.leaves;
   leaves : AreLeaves (file_of l.self-inside.forest) l.self-inside.leaves;
 }
 

@@ -1,13 +1,10 @@
-use Rattle.std.proofs.Common.{cond, [], ◌∷◌, ◌∙◌, ap, arith, sym}
+use Rattle.std.proofs.Common.{cond, [], ◌∷◌, ◌∙◌, ap, sym}
 use Rattle.std.specs.Prelude.{not, bit_and, ◌==◌}
 use Rattle.std.proofs.lemmas.Bool.{ne_eqb}
 use Rattle.bdb_format.specs.Numbers.{has_bit}
 use Rattle.bdb_format.specs.References.{root_types}
-use Rattle.bdb_graph.proofs.FitLemmas.{no_root, tree_root, zero_root}
+use Rattle.bdb_graph.proofs.FitLemmas.{tree_root}
 use Rattle.bdb_graph.proofs.formed_page.FormedPage.root_types.Goals as goal
-
-pub returns-then-is_zero : goal.returns-then-is_zero
-returns-then-is_zero c = zero_root c.self.inside.order c.self.inside.bytes.now (sym c.is_zero.ensures ∙ c.if-is_zero.true) ∙ ap root_types c.self.view_is
 
 pub returns-in-9 : goal.returns-in-9
 returns-in-9 c =
@@ -20,7 +17,3 @@ returns-in-9-2 c =
     ap (λ n. cond (not (n == 0)) (4 ∷ 6 ∷ []) (3 ∷ 5 ∷ [])) (sym c.if-u32_at-ne0.false)
     ∙ (ap (λ flags. cond (has_bit flags 2) (4 ∷ 6 ∷ []) (3 ∷ 5 ∷ [])) c.u32_at.ensures
     ∙ (tree_root c.self.inside.order c.self.inside.bytes.now (sym c.is_zero.ensures ∙ c.if-is_zero.false) c.in-9.is ∙ ap root_types c.self.view_is))
-
-pub returns-in_default : goal.returns-in_default
-returns-in_default c =
-    no_root c.self.inside.order c.self.inside.bytes.now (sym c.is_zero.ensures ∙ c.if-is_zero.false) (λ is. omega arith) ∙ ap root_types c.self.view_is

@@ -7,4 +7,5 @@ use Rattle.bdb_hash.proofs.pair.Pair.is_wrong_set.Goals as goal
 
 pub page-requires : goal.page-requires
 page-requires c =
-    set_inside c.self.inside.forest c.in-OffPage.root (subst (λ (item : HashItem). IsPair c.self.inside.forest (hash_content_seen item)) c.in-OffPage.is c.self.invariant.pair)
+    set_inside c.self.inside.forest c.in-OffPage.root
+    (subst (λ (item : HashItem). IsPair c.self.inside.forest (hash_content_seen item)) c.in-OffPage.is c.self.invariant.pair)

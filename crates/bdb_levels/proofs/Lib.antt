@@ -1,0 +1,11 @@
+pub mod BranchLemmas
+pub mod ContentLemmas
+pub mod FollowLemmas
+pub mod InnerLemmas
+pub mod LevelLemmas
+pub mod LinkLemmas
+pub mod NodeLemmas
+pub mod SeparatorLemmas
+pub mod TakenLemmas
+pub mod ItemLemmas
+pub mod RootLemmas
