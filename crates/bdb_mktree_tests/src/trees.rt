@@ -100,89 +100,130 @@ fn builds_recnos(rt: HostRuntime) -> Result<(), Fail> {
     Ok(())
 }
 
-// So many copies of a datum.
-fn copies(alloc: Global, datum: &[u8], count: usize) -> Result<Vec<Bytes>, AllocError> {
+// Data of 20 letters each, so many, in ascending order.
+fn data_of(alloc: Global, count: u8) -> Result<Vec<Bytes>, AllocError> {
     let mut data = Vec::new(alloc);
-    for _ in 0..count {
-        let mut bytes = Bytes::new(alloc);
-        bytes.push_all(datum)?;
-        data.push(bytes)?;
+    for number in 0..count {
+        let mut datum = Bytes::new(alloc);
+        datum.push_all(&[number])?;
+        datum.push_all(b"abcdefghijklmnopqrs")?;
+        data.push(datum)?;
     }
     Ok(data)
 }
 
-/// A btree of the keys from `A` on, each with so many data of 20 letters: how many keys, and how many pages, the metadata among them.
+/// A btree of `highs` times `lows` keys of two bytes and a tail, in their order, each with the same data of 20 letters: its flags, and how many pages
+/// there are, the metadata among them.
 #[derive(Clone, Copy)]
 struct Keys {
-    keys: u8,
-    data: usize,
+    highs: u8,
+    lows: u8,
+    tail: &'static [u8],
+    data: u8,
     flags: u32,
     pages: usize,
 }
 
-// A key takes 4 bytes, a datum 4 and its item's 24: a leaf has room for 15 keys of one datum each. Four data take 116 bytes, no more than the
-// quarter 121 of a leaf, and five 144, so that they have a tree of their own.
-const BTREES: [Keys; 6] = [
-    Keys {
-        keys: 20,
-        data: 1,
-        flags: 0,
-        pages: 4,
-    }, // two leaves, and a root
-    Keys {
-        keys: 20,
-        data: 1,
-        flags: 0x04,
-        pages: 4,
-    }, // the same, counted
-    Keys {
-        keys: 4,
-        data: 4,
-        flags: 0x01,
-        pages: 2,
-    }, // a leaf
-    Keys {
-        keys: 5,
-        data: 4,
-        flags: 0x01,
-        pages: 4,
-    }, // two leaves, and a root
-    Keys {
-        keys: 3,
-        data: 5,
-        flags: 0x01,
-        pages: 5,
-    }, // a leaf, and a tree of a leaf each
-    Keys {
-        keys: 2,
-        data: 100,
-        flags: 0x01,
-        pages: 16,
-    }, // a leaf, and a tree of six leaves and a root each
+// With these 63 letters a key is longer than an eighth of a page.
+const LONG: &[u8] = b"abcdefghijklmnopqrstuvwxyzabcdefghijklmnopqrstuvwxyzabcdefghijk";
+
+// A key of two bytes takes 8 bytes, a datum 4 and its item's 24: a leaf has room for 13 keys of one datum each. Over a leaf the first item takes 14
+// bytes, each other 18, so that a page stands over 27. Four data take 120 bytes, no more than the quarter 121 of a leaf, and five 148.
+// A row is: highs, lows, data, flags, pages.
+const BTREES: [(u8, u8, u8, u32, usize); 12] = [
+    (0, 0, 1, 0, 2),
+    (1, 13, 1, 0, 2), // a full leaf
+    (2, 7, 1, 0, 4), // two leaves, and a root
+    (2, 7, 1, 0x04, 4), // the same, counted
+    (13, 27, 1, 0, 29), // 27 leaves, and a root
+    (11, 32, 1, 0, 32), // 28 leaves, two pages over them, and a root
+    (11, 32, 1, 0x04, 32), // the same, counted
+    (1, 4, 4, 0x01, 2), // four data each, on a full leaf
+    (1, 5, 4, 0x01, 4), // two leaves, and a root
+    (1, 3, 5, 0x01, 5), // five data each, in a tree of a leaf
+    (1, 2, 100, 0x01, 16), // a hundred each, in a tree of six leaves and a root
+    (1, 2, 100, 0x41, 16), // the same, sorted
 ];
 
-// Whether a tree is built with so many pages, is sound and gives its pairs.
-fn is_built(alloc: Global, order: Order, row: &Keys) -> Result<bool, AllocError> {
-    let data = copies(alloc, b"abcdefghijklmnopqrst", row.data)?;
-    let mut tree = Growing::new(alloc, 512, order, LeafType::Pairs)?;
-    let mut expected = Bytes::new(alloc);
-    for key in b'A'..b'A'.saturating_add(row.keys) {
-        tree = tree.with_key(alloc, false, &[key], data.as_slice())?;
-        for datum in data.as_slice() {
-            expected.push_all(&[key])?;
-            expected.push_all(b" ")?;
-            expected.push_all(datum.as_slice())?;
-            expected.push_all(b"\n")?;
+// A key in a chain takes 12 bytes: a leaf has room for 12 such keys. Each has a page of its own.
+const LONG_KEYS: [Keys; 2] = [
+    Keys {
+        highs: 1,
+        lows: 12,
+        tail: LONG,
+        data: 1,
+        flags: 0,
+        pages: 14,
+    },
+    Keys {
+        highs: 1,
+        lows: 13,
+        tail: LONG,
+        data: 1,
+        flags: 0,
+        pages: 17,
+    }, // two leaves, and a root that names the chain of a key again
+];
+
+/// A tree that grows, and the lines that its list must have.
+#[derive(Drop)]
+struct Told {
+    tree: Growing,
+    list: Bytes,
+}
+
+// With a key and its data more.
+fn with_key(
+    alloc: Global,
+    told: Told,
+    sorted: bool,
+    key: &[u8],
+    data: &[Bytes],
+) -> Result<Told, AllocError> {
+    let mut list = told.list;
+    for datum in data {
+        list.push_all(key)?;
+        list.push_all(b" ")?;
+        list.push_all(datum.as_slice())?;
+        list.push_all(b"\n")?;
+    }
+    let tree = told.tree.with_key(alloc, sorted, key, data)?;
+    Ok(Told { tree, list })
+}
+
+// All keys of a row.
+fn grown(alloc: Global, order: Order, row: &Keys) -> Result<Told, AllocError> {
+    let data = data_of(alloc, row.data)?;
+    let tree = Growing::new(alloc, 512, order, LeafType::Pairs)?;
+    let mut told = Told {
+        tree,
+        list: Bytes::new(alloc),
+    };
+    for high in 0..row.highs {
+        for low in 0..row.lows {
+            let mut key = Bytes::new(alloc);
+            key.push_all(&[high, low])?;
+            key.push_all(row.tail)?;
+            told = with_key(
+                alloc,
+                told,
+                row.flags & 0x40 != 0,
+                key.as_slice(),
+                data.as_slice(),
+            )?;
         }
     }
-    let (root, pages) = tree.finish(alloc, row.flags & 0x04 != 0)?;
+    Ok(told)
+}
+
+// Whether a tree is built with so many pages, its root on page 1, is sound and gives its pairs.
+fn is_built(alloc: Global, order: Order, row: &Keys) -> Result<bool, AllocError> {
+    let told = grown(alloc, order, row)?;
+    let (root, pages) = told.tree.finish(alloc, row.flags & 0x04 != 0)?;
     let image = image_of(alloc, order, &meta(root, row.flags), pages.as_slice())?;
+    let right = root == 1 && pages.as_slice().len() / 512 == row.pages;
     Ok(match list_of(alloc, image.as_slice())? {
-        Some(text) => {
-            root == 1
-                && text.as_slice() == expected.as_slice()
-                && pages.as_slice().len() / 512 == row.pages
-        }
+        Some(text) => right && text.as_slice() == told.list.as_slice(),
         None => false,
     })
 }
@@ -190,7 +231,18 @@ fn is_built(alloc: Global, order: Order, row: &Keys) -> Result<bool, AllocError>
 #[test]
 fn builds_btrees(rt: HostRuntime) -> Result<(), Fail> {
     for order in [Order::Little, Order::Big] {
-        for row in &BTREES {
+        for &(highs, lows, data, flags, pages) in &BTREES {
+            let row = Keys {
+                highs,
+                lows,
+                tail: b"",
+                data,
+                flags,
+                pages,
+            };
+            assert!(rt; is_built(rt.alloc(), order, &row)?);
+        }
+        for row in &LONG_KEYS {
             assert!(rt; is_built(rt.alloc(), order, row)?);
         }
     }
