@@ -1,10 +1,10 @@
 ghost use Rattle.std.specs.Prelude.{IsTrue};
 ghost use Rattle.std.specs.List.{All};
 ghost use Rattle.bdb_format.specs.HeadOf.{is_page_size};
-ghost use Rattle.bdb_mktree.specs.Runs.{IsShort};
+ghost use Rattle.bdb_leaves.specs.Runs.{IsShort};
 
 use bdb_format::{Bytes, Order};
-use bdb_mktree::{LeafType, Leaves};
+use bdb_leaves::{LeafType, Leaves};
 use bdb_pack::Pages;
 use std::alloc::{AllocError, Global};
 use std::marker::Model;

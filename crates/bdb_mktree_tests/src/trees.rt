@@ -3,7 +3,7 @@
 use crate::Growing;
 use crate::judging::{image_of, list_of};
 use bdb_format::{BtreeMeta, Bytes, Order};
-use bdb_mktree::LeafType;
+use bdb_leaves::LeafType;
 use std::alloc::{AllocError, Global};
 use std::test::Fail;
 

@@ -2,7 +2,7 @@ use Rattle.std.proofs.Common.{[], sym, subst, ◌∙◌}
 use Rattle.std.specs.List.{All}
 use Rattle.std.proofs.lemmas.List.{get_or_default, take_all, take_more}
 use Rattle.std.proofs.lemmas.List.Elements.{All-append, All-cons, All-nil}
-use Rattle.bdb_mktree.specs.Runs.{IsShort}
+use Rattle.bdb_leaves.specs.Runs.{IsShort}
 use Rattle.bdb_mktree_tests.proofs.growing.are_short.Goals as goal
 
 pub loop-value-preserved : goal.loop-value-preserved

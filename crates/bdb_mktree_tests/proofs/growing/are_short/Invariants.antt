@@ -1,6 +1,6 @@
 use Rattle.std.specs.Prelude.{take}
 use Rattle.std.specs.List.{All}
-use Rattle.bdb_mktree.specs.Runs.{IsShort}
+use Rattle.bdb_leaves.specs.Runs.{IsShort}
 use Rattle.bdb_mktree_tests.proofs.growing.are_short.Given as goal
 
 -- The values passed are short.

@@ -1,0 +1,20 @@
+use Rattle.std.proofs.Common.{◌≤◌, ◌<◌, ◌⊎◌, List, length}
+use Rattle.bdb_levels.specs.Nodes.{Node}
+use Rattle.bdb_leaves.specs.Levels.{AreChildren}
+use Rattle.bdb_leaves.proofs.FinishLemmas.{IsTopped}
+use Rattle.bdb_leaves.proofs.TowerLemmas.{IsBuilding}
+use Rattle.bdb_leaves.proofs.placing.lay_levels_on.Given as goal
+
+-- Where one page is left, it's of a level that was laid.
+abbrev pub invariant-loop-alloc : goal.invariant-loop-alloc
+invariant-loop-alloc l = record {
+  low : 1 ≤ l.level;
+  some : 0 < length l.row.items;
+  built : (nodes : List Node) → AreChildren l.inner l.fn.pages l.fn.below.items nodes
+      → IsBuilding l.inner l.fn.pages l.pages nodes l.level l.row.items;
+  topped : (2 ≤ length l.row.items)
+      ⊎ ((nodes : List Node) → AreChildren l.inner l.fn.pages l.fn.below.items nodes → IsTopped l.inner l.fn.pages l.pages nodes l.row.items);
+}
+
+abbrev pub decreases-loop-alloc : goal.decreases-loop-alloc
+decreases-loop-alloc l = length l.row.items

@@ -1,0 +1,98 @@
+-- Trees whose root stands on their first page. Source: docs/FORMAT.md, "Built trees".
+use Rattle.std.specs.Prelude.{◌≡◌, ◌⊎◌, ℕ, ◌-◌, ◌<◌, ◌≤◌, Bool, true, false, List, [], ◌∷◌, ◌++◌, length, None}
+use Rattle.std.specs.List.{All, AllZip, Contains, flat_map, range_with_len}
+use Rattle.bdb_format.specs.File.{File}
+use Rattle.bdb_format.specs.Rows.{page_code}
+use Rattle.bdb_grove.specs.Growing.{IsCounted, IsLater}
+use Rattle.bdb_grove.specs.Part.{between}
+use Rattle.bdb_levels.specs.declared.inner_type.InnerType.{InnerType}
+use Rattle.bdb_levels.specs.Nodes.{IsTower, Node}
+use Rattle.bdb_levels.specs.Roots.{is_of, pages_of}
+use Rattle.bdb_pack.specs.Built.{AreWhole, Built, bytes_of, file_so_far}
+use Rattle.bdb_leaves.specs.Filled.{AreFilled, rest_of}
+use Rattle.bdb_leaves.specs.Grown.{placed_on}
+use Rattle.bdb_leaves.specs.Inner.{HoldsChildrenOn}
+use Rattle.bdb_leaves.specs.Laid.{HasUnits, IsLaid, IsNodeOf, inner_of, is_laid}
+use Rattle.bdb_leaves.specs.LeafEntries.{with_field}
+use Rattle.bdb_leaves.specs.Levels.{heads_of}
+use Rattle.bdb_leaves.specs.Moved.{IsFirstMoved, first_leaf, numbers_of}
+use Rattle.bdb_leaves.specs.Placed.{Placed}
+use Rattle.bdb_leaves.specs.Rooted.{CountsLeaves, HasRoot}
+use Rattle.bdb_leaves.specs.declared.leaves.Leaves.{Leaves}
+
+-- The last page is placed on another, with the number of that, and dropped from the end; no other page changes. The nodes that it holds as an internal
+-- page it holds there.
+pub record IsRootPlaced (first root : ℕ) (old new : Built) : Type 0 where
+  pub size : new.size ≡ old.size
+  pub order : new.order ≡ old.order
+  pub whole : AreWhole new
+  pub count : length new.pages ≡ root
+  pub bytes : bytes_of new first ≡ with_field old.order (bytes_of old root) 8 first
+  pub same : (p : ℕ) → p < root → (p ≡ first → ⊥) → bytes_of new p ≡ bytes_of old p
+  pub holds : (inner : InnerType) (level : ℕ) (nodes : List Node) → HoldsChildrenOn inner old root level nodes
+      → HoldsChildrenOn inner new first level nodes
+
+-- Levels over these nodes stand behind the pages that stood, but for the last, the root: that stands on the page `first`, which stood. The other
+-- pages that stood are as before, but that heads of chains of keys may count more.
+pub record HasTowerOn (inner : InnerType) (old new : Built) (nodes : List Node) (first : ℕ) : Type 0 where
+  pub levels : List (List Node)
+  pub top : Node
+  pub top_is : top.page ≡ first
+  pub size : new.size ≡ old.size
+  pub order : new.order ≡ old.order
+  pub whole : AreWhole new
+  pub grows : length old.pages ≤ length new.pages
+  pub numbers : pages_of levels ≡ range_with_len (length old.pages) (length new.pages - length old.pages)
+  pub tower : (g : File) (pages : ℕ → Bool) → ((p : ℕ) → length old.pages ≤ p → p < length new.pages → pages p ≡ true) → pages first ≡ true
+      → ((h : ℕ) → Contains (flat_map (heads_of inner) nodes) h → pages h ≡ true) → IsLater pages (file_so_far new) g
+      → IsTower inner g 1 nodes (levels ++ ((top ∷ []) ∷ [])) top
+  pub later : (pages : ℕ → Bool) → ((p : ℕ) → pages p ≡ true → (p < length old.pages) × (p ≡ first → ⊥))
+      → IsLater pages (file_so_far old) (file_so_far new)
+  pub formed : (p : ℕ) → length old.pages ≤ p → p < length new.pages → page_code new.order p (bytes_of new p) ≡ None
+  pub root_formed : page_code new.order first (bytes_of new first) ≡ None
+  pub form_kept : (p : ℕ) → p < length old.pages → (p ≡ first → ⊥)
+      → page_code new.order p (bytes_of new p) ≡ page_code old.order p (bytes_of old p)
+
+-- The first of several leaves is moved behind the pages that stood, and levels are laid over the leaves, with the root in its place.
+pub record HasRootOn (leaves : Leaves) (old new : Built) (counted : Bool) (closed : List (List Placed)) (units : List Placed) (root : ℕ) : Type 0 where
+  pub next : Leaves
+  pub between : Built
+  pub several : 1 ≤ length leaves.closed.items
+  pub moved : IsFirstMoved leaves next old between
+  pub root_is : root ≡ first_leaf leaves
+  pub nodes : List Node
+  pub nodes_are : AllZip (IsNodeOf leaves.leaf_type) (placed_on next closed units) nodes
+  pub counts : CountsLeaves counted leaves.leaf_type (placed_on next closed units) nodes
+  pub some : All HasUnits (placed_on next closed units)
+  pub tower : HasTowerOn (inner_of leaves.leaf_type) between new nodes (first_leaf leaves)
+
+-- One leaf is the root itself, where it stands; over several the root stands on the page of the first.
+abbrev pub HasFirstRoot : Leaves → Built → Built → Bool → List (List Placed) → List Placed → ℕ → Type 0
+HasFirstRoot leaves old new counted closed units root =
+    (root ≡ first_leaf leaves)
+    × ((HasRoot leaves old new counted closed units root × (new ≡ old)) ⊎ HasRootOn leaves old new counted closed units root)
+
+-- the levels with the root
+abbrev pub levels_to : List (List Node) → Node → List (List Node)
+levels_to levels top = levels ++ ((top ∷ []) ∷ [])
+
+-- Such a tree is laid, in each later file; it has all pages since the leaves were begun, and what its leaves name stays where it stood.
+abbrev pub FinishedTreesAreLaid : Type 0
+FinishedTreesAreLaid =
+    (leaves : Leaves) (old new : Built) (counted : Bool) (before : ℕ) (closed : List (List Placed)) (units : List Placed) (root : ℕ)
+    → AreFilled leaves old before closed units → (on : HasRootOn leaves old new counted closed units root)
+    → (g : File) → IsCounted g → IsLater (between before (length new.pages)) (file_so_far new) g
+    → IsLaid leaves.leaf_type g (rest_of before leaves old) (placed_on on.next closed units) on.nodes (levels_to on.tower.levels on.tower.top) on.tower.top
+    × ((p : ℕ)
+    → is_laid (rest_of before leaves old) (placed_on on.next closed units) (levels_to on.tower.levels on.tower.top) p
+    ≡ between before (length new.pages) p)
+
+-- The pages that stood and are no leaves are as before, but that heads of chains of keys may count more; they keep their form.
+abbrev pub FinishedTreesKeepPages : Type 0
+FinishedTreesKeepPages =
+    (leaves : Leaves) (old new : Built) (counted : Bool) (closed : List (List Placed)) (units : List Placed) (root : ℕ)
+    → HasRootOn leaves old new counted closed units root
+    → ((pages : ℕ → Bool) → ((p : ℕ) → pages p ≡ true → (p < length old.pages) × (is_of (numbers_of leaves) p ≡ false))
+    → IsLater pages (file_so_far old) (file_so_far new))
+    × ((p : ℕ) → p < length old.pages → is_of (numbers_of leaves) p ≡ false
+    → page_code new.order p (bytes_of new p) ≡ page_code old.order p (bytes_of old p))

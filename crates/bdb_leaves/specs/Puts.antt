@@ -1,0 +1,66 @@
+-- A value that is put on the last leaf: in its item, or in a chain behind all pages. Source: docs/FORMAT.md, "Stored values".
+use Rattle.std.specs.Prelude.{◌≡◌, ℕ, ◌-◌, ◌*◌, ◌/◌, ◌<◌, ◌≤◌, Bool, List, [], ◌∷◌, ◌++◌, length, None}
+use Rattle.bdb_format.specs.declared.kinds.Order.{Order}
+use Rattle.bdb_format.specs.Page.{Item, Content, Inline, Set, Chain, Tree, Unknown}
+use Rattle.bdb_format.specs.File.{File}
+use Rattle.bdb_format.specs.Rows.{page_code}
+use Rattle.bdb_grove.specs.Growing.{IsCounted, IsLater}
+use Rattle.bdb_grove.specs.Part.{between}
+use Rattle.bdb_pack.specs.Built.{Built, bytes_of, file_so_far}
+use Rattle.bdb_pack.specs.Items.{HasPlace, IsWritable, OnLeaf}
+use Rattle.bdb_pack.specs.Stored.{StandsIn}
+use Rattle.bdb_leaves.specs.Inner.{CountsFew}
+use Rattle.bdb_leaves.specs.LeafEntries.{Entry, item_cost, own_entry}
+use Rattle.bdb_leaves.specs.Leaves.{AreLeaves, KeepsOthers}
+use Rattle.bdb_leaves.specs.Units.{value_cost}
+use Rattle.bdb_leaves.specs.declared.leaves.Leaves.{Leaves}
+
+-- a content holds a value in a file, in the item or in a chain of the pages from one number up to another
+abbrev pub ValueStands : File → ℕ → ℕ → ℕ → Content → List ℕ → Type 0
+ValueStands g size first beyond (Inline bytes) value = (bytes ≡ value) × (length value ≤ size / 8) × (beyond ≡ first)
+ValueStands g size first beyond (Chain head total) value =
+    (size / 8 < length value) × (total ≡ length value) × (head ≡ first) × StandsIn g size value head beyond
+ValueStands g size first beyond (Set blocks) value = ⊥
+ValueStands g size first beyond (Tree root) value = ⊥
+ValueStands g size first beyond Unknown value = ⊥
+
+-- the first page of a chain that a content names is there, from a number on, and counts two references at most
+abbrev pub CountsFewFrom : ℕ → Built → Content → Type 0
+CountsFewFrom low built (Inline bytes) = Unit {0}
+CountsFewFrom low built (Chain head total) = (low ≤ head) × (head < length built.pages) × CountsFew built.order (bytes_of built head)
+CountsFewFrom low built (Set blocks) = Unit {0}
+CountsFewFrom low built (Tree root) = Unit {0}
+CountsFewFrom low built Unknown = Unit {0}
+
+-- an item for a value, which is stored in a chain behind all pages where it's long
+pub record IsItemOf (old new : Built) (value : List ℕ) (deleted : Bool) (item : Item) : Type 0 where
+  pub deleted_is : item.deleted ≡ deleted
+  pub fits : IsWritable (OnLeaf item)
+  pub place : (type index : ℕ) → HasPlace type index (OnLeaf item)
+  pub cost : (order : Order) → item_cost order item ≡ value_cost old.size value
+  pub size : new.size ≡ old.size
+  pub order : new.order ≡ old.order
+  pub grows : length old.pages ≤ length new.pages
+  pub same : (p : ℕ) → p < length old.pages → bytes_of new p ≡ bytes_of old p
+  pub stands : (g : File) → IsCounted g → IsLater (between (length old.pages) (length new.pages)) (file_so_far new) g
+      → ValueStands g old.size (length old.pages) (length new.pages) item.content value
+  pub formed : (p : ℕ) → length old.pages ≤ p → p < length new.pages → page_code new.order p (bytes_of new p) ≡ None
+  pub few : CountsFewFrom (length old.pages) new item.content
+  -- a chain has as many pages as its bytes fill
+  pub enough : old.size / 8 < length value → length value ≤ (length new.pages - length old.pages) * (old.size - 26)
+  pub fewest : old.size / 8 < length value → (length new.pages - length old.pages - 1) * (old.size - 26) < length value
+
+-- entries that a leaf gets at its end, while no other page changes
+pub record IsGrown (leaves : Leaves) (old new : Built) (entry : List Entry → Entry) : Type 0 where
+  pub kept : KeepsOthers leaves.last old new
+  pub long : length (bytes_of new leaves.last) ≡ length (bytes_of old leaves.last)
+  pub hold : (closed : List (List Entry)) (entries : List Entry) → AreLeaves leaves old closed entries
+      → AreLeaves leaves new closed (entries ++ (entry entries ∷ []))
+
+-- a value is put on the last leaf: its item is stored, and added
+pub record IsPut (leaves : Leaves) (old new : Built) (value : List ℕ) (deleted : Bool) : Type 0 where
+  pub between : Built
+  pub item : Item
+  pub stored : IsItemOf old between value deleted item
+  pub grown : IsGrown leaves between new (λ entries. own_entry item)
+  pub count : length new.pages ≡ length between.pages

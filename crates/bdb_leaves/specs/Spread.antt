@@ -1,0 +1,97 @@
+-- How many pages a tree has: units are spread over leaves by what they take, each level over the pages below it, and long values have chains.
+-- Source: docs/FORMAT.md, "Built trees" and "Stored values".
+use Rattle.std.specs.Prelude.{ℕ, suc, ◌+◌, ◌-◌, ◌*◌, ◌/◌, nat_le, if◌then◌else◌, Bool, List, [], ◌∷◌, ◌++◌, length, map}
+use Rattle.std.specs.List.{sum_by}
+use Rattle.bdb_format.specs.Numbers.{pad4}
+use Rattle.bdb_levels.specs.declared.inner_type.InnerType.{InnerType}
+use Rattle.bdb_levels.specs.declared.inner_type.InnerType.TheVariants.{Keyed, Numbered}
+use Rattle.bdb_leaves.specs.Inner.{first_cost}
+use Rattle.bdb_leaves.specs.Laid.{inner_of}
+use Rattle.bdb_leaves.specs.Sets.{set_type}
+use Rattle.bdb_leaves.specs.Units.{TreeUnit, KeyedUnit, EntryUnit, has_own_tree, unit_cost, value_cost}
+use Rattle.bdb_leaves.specs.declared.leaf_type.LeafType.{LeafType}
+
+-- Things are put on pages from left to right. The open page has so many bytes left: where they are enough for what the next thing takes, it is put
+-- there; else it begins a page, of which it takes `first` bytes.
+abbrev pub spread_on : {A : Type 0} → ℕ → (A → ℕ) → (A → ℕ) → ℕ → List A → List A → List (List A)
+spread_on room first cost left open [] = open ∷ []
+spread_on room first cost left open (x ∷ xs) =
+    if nat_le (cost x) left then spread_on room first cost (left - cost x) (open ++ (x ∷ [])) xs
+    else open ∷ spread_on room first cost (room - first x) (x ∷ []) xs
+
+-- Leaves.
+
+-- the bytes of a page behind its header
+abbrev pub page_room : ℕ → ℕ
+page_room size = size - 26
+
+-- the units of each leaf: there is one leaf at least
+abbrev pub spread_units : ℕ → List TreeUnit → List (List TreeUnit)
+spread_units size units = spread_on (page_room size) (unit_cost size) (unit_cost size) (page_room size) [] units
+
+-- Levels.
+
+-- what an item with a key takes of an internal page where it isn't the first
+abbrev pub key_item_cost : ℕ → List ℕ → ℕ
+key_item_cost size key = if nat_le (length key) (size / 8) then 2 + pad4 (12 + length key) else 26
+
+abbrev pub inner_cost : InnerType → ℕ → List ℕ → ℕ
+inner_cost Keyed size key = key_item_cost size key
+inner_cost Numbered size key = 10
+
+abbrev pub first_or : {A : Type 0} → A → List A → A
+first_or other [] = other
+first_or other (x ∷ xs) = x
+
+-- the items of each page of a level, by what they take
+abbrev pub spread_items : ℕ → ℕ → List ℕ → List (List ℕ)
+spread_items room first [] = []
+spread_items room first (cost ∷ costs) = spread_on room (λ (c : ℕ). first) (λ (c : ℕ). c) (room - first) (cost ∷ []) costs
+
+-- how many pages stand over pages whose items take so much: levels up to one of a single page. The item over a page takes what its first one
+-- would beside others, since both have the same key. There are fewer levels than pages.
+abbrev pub pages_over : ℕ → ℕ → ℕ → List ℕ → ℕ
+pages_over 0 room first costs = 0
+pages_over (suc most) room first costs =
+    if nat_le (length costs) 1 then 0
+    else
+      (let groups : List (List ℕ) = spread_items room first costs in
+      length groups + pages_over most room first (map (first_or 0) groups))
+
+-- Values and trees.
+
+-- how many pages the chain of a value has: none where it stands on the leaf
+abbrev pub chain_pages : ℕ → List ℕ → ℕ
+chain_pages size value = if nat_le (length value) (size / 8) then 0 else (length value + page_room size - 1) / page_room size
+
+-- what an item over a leaf has of its first unit: the key, or the datum of a set
+abbrev pub unit_key : TreeUnit → List ℕ
+unit_key (KeyedUnit key values) = key
+unit_key (EntryUnit value deleted) = value
+
+abbrev pub leaf_key : List TreeUnit → List ℕ
+leaf_key [] = []
+leaf_key (unit ∷ units) = unit_key unit
+
+-- the leaves of a tree of these units, and the levels over them
+abbrev pub leaves_and_levels : LeafType → ℕ → List TreeUnit → ℕ
+leaves_and_levels type size units =
+    let leaves : List (List TreeUnit) = spread_units size units in
+    length leaves
+    + pages_over (length leaves) (page_room size) (first_cost (inner_of type))
+      (map (λ (leaf : List TreeUnit). inner_cost (inner_of type) size (leaf_key leaf)) leaves)
+
+-- the tree of a key's data
+abbrev pub set_pages : ℕ → Bool → List (List ℕ) → ℕ
+set_pages size sorted values =
+    sum_by (chain_pages size) values + leaves_and_levels (set_type sorted) size (map (λ value. EntryUnit value false) values)
+
+-- the pages of a unit's own: chains, and the tree of its data
+abbrev pub own_pages : ℕ → Bool → TreeUnit → ℕ
+own_pages size sorted (KeyedUnit key values) =
+    chain_pages size key + (if has_own_tree size key values then set_pages size sorted values else sum_by (chain_pages size) values)
+own_pages size sorted (EntryUnit value deleted) = chain_pages size value
+
+-- a whole tree
+abbrev pub tree_size : LeafType → ℕ → Bool → List TreeUnit → ℕ
+tree_size type size sorted units = sum_by (own_pages size sorted) units + leaves_and_levels type size units

@@ -1,0 +1,30 @@
+-- Levels that are laid over pages of a tree up to one with a single page, its root. Source: docs/FORMAT.md, "Built trees".
+use Rattle.std.specs.Prelude.{◌≡◌, ℕ, ◌-◌, ◌<◌, ◌≤◌, Bool, true, List, length, None}
+use Rattle.std.specs.List.{Contains, flat_map, range_with_len}
+use Rattle.bdb_format.specs.File.{File}
+use Rattle.bdb_format.specs.Rows.{page_code}
+use Rattle.bdb_grove.specs.Growing.{IsLater}
+use Rattle.bdb_levels.specs.declared.inner_type.InnerType.{InnerType}
+use Rattle.bdb_levels.specs.Nodes.{IsTower, Node}
+use Rattle.bdb_levels.specs.Roots.{pages_of}
+use Rattle.bdb_pack.specs.Built.{AreWhole, Built, bytes_of, file_so_far}
+use Rattle.bdb_leaves.specs.Levels.{heads_of}
+
+-- Behind the pages that stood are those of levels over these nodes, the last of them the root; where there is one node it's the root itself.
+-- The pages that stood are as before, but that heads of chains of keys may count more.
+pub record HasTower (inner : InnerType) (old new : Built) (nodes : List Node) (root : ℕ) : Type 0 where
+  pub above : List (List Node)
+  pub top : Node
+  pub top_is : top.page ≡ root
+  pub size : new.size ≡ old.size
+  pub order : new.order ≡ old.order
+  pub whole : AreWhole new
+  pub grows : length old.pages ≤ length new.pages
+  pub numbers : pages_of above ≡ range_with_len (length old.pages) (length new.pages - length old.pages)
+  pub tower : (g : File) (pages : ℕ → Bool) → ((p : ℕ) → length old.pages ≤ p → p < length new.pages → pages p ≡ true)
+      → ((h : ℕ) → Contains (flat_map (heads_of inner) nodes) h → pages h ≡ true) → IsLater pages (file_so_far new) g
+      → IsTower inner g 1 nodes above top
+  pub later : (pages : ℕ → Bool) → ((p : ℕ) → pages p ≡ true → p < length old.pages) → IsLater pages (file_so_far old) (file_so_far new)
+  pub formed : (p : ℕ) → length old.pages ≤ p → p < length new.pages → page_code new.order p (bytes_of new p) ≡ None
+  pub form_kept : (p : ℕ) → p < length old.pages → page_code new.order p (bytes_of new p) ≡ page_code old.order p (bytes_of old p)
+  pub kept : (p : ℕ) → p < length old.pages → (Contains (flat_map (heads_of inner) nodes) p → ⊥) → bytes_of new p ≡ bytes_of old p
