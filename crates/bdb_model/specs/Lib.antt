@@ -32,6 +32,7 @@ pub mod TextLines
 pub mod Keywords
 pub mod Header
 pub mod Reasons
+pub mod Pairs
 pub mod Sections
 pub mod FaultNames
 pub mod Command

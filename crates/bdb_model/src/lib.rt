@@ -3,6 +3,7 @@
 
 mod faults;
 mod keywords;
+mod list;
 mod pairs;
 mod sections;
 mod words;
@@ -13,6 +14,7 @@ pub use bdb_format::{
 };
 pub use faults::TextFault;
 pub use keywords::Judged;
+pub use list::{Pair, PairList};
 pub use pairs::{Key, TextPair, TextPairs};
 pub use sections::{Section, Sections};
 pub use words::Words;
