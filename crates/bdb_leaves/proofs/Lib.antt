@@ -33,5 +33,6 @@ pub mod RunLemmas
 pub mod SetLemmas
 pub mod SetPutLemmas
 pub mod StandLemmas
+pub mod StayLemmas
 pub mod TowerLemmas
 pub mod UnitLemmas

@@ -22,6 +22,7 @@ use Rattle.bdb_leaves.specs.declared.leaf_type.LeafType.TheVariants.{Pairs}
 use Rattle.bdb_leaves.specs.declared.leaves.Leaves.{Leaves}
 use Rattle.bdb_leaves.proofs.FilledLemmas.{counted_so_far, entry_is_unit, later_self, pairs_are_unit}
 use Rattle.bdb_leaves.proofs.RestLemmas.{leaf_opened, unit_added}
+use Rattle.bdb_leaves.proofs.StayLemmas.{first_now, stays_now}
 
 -- What the unit finds.
 pub record IsReady (leaves next : Leaves) (old one : Built) (cost : ℕ) : Type 0 where
@@ -105,11 +106,14 @@ unfoldable pub pushed : (leaves next : Leaves) (old one new : Built) (unit : Tre
     → unit_of placed ≡ unit → next.leaf_type ≡ leaves.leaf_type → HasRoomNow (has_room leaves old (unit_cost old.size unit)) leaves next old one
     → unit_cost old.size unit ≤ old.size - 26 → AreWhole old → IsUnitPut next one new placed → IsPushed leaves next old new unit
 pushed leaves next old one new unit placed some is type made fits whole put =
+    let kept = kept_now _ leaves next old one new some.filled.hold.there made put.kept in
     record {
       placed = placed;
       is = is;
       type = type;
-      kept = kept_now _ leaves next old one new some.filled.hold.there made put.kept;
+      first = first_now _ leaves next old one made;
+      kept = kept;
+      stays = λ before closed units filled. stays_now _ leaves next old one new before closed units filled made put.kept.grows kept;
       filled = filled_now _ leaves next old one new (unit_cost old.size unit) placed whole refl fits made put;
     }
 

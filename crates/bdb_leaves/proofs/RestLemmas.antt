@@ -210,7 +210,7 @@ closed_more closed units =
     ∙ (flat_map-append (λ leaf. leaf) closed (units ∷ []) ∙ ap (λ us. flat_map (λ leaf. leaf) closed ++ us) (append-nil units))
 
 -- the new leaf isn't of the rest
-rest_opened : (before a : ℕ) (numbers : List ℕ) → before ≤ a → ((p : ℕ) → is_of numbers p ≡ true → p < a)
+pub rest_opened : (before a : ℕ) (numbers : List ℕ) → before ≤ a → ((p : ℕ) → is_of numbers p ≡ true → p < a)
     → (p : ℕ) → (between before (a + 1) p && not (is_of (numbers ++ (a ∷ [])) p)) ≡ (between before a p && not (is_of numbers p))
 rest_opened before a numbers low under p =
     same_test _ _

@@ -11,6 +11,7 @@ use Rattle.bdb_levels.specs.Roots.{is_of}
 use Rattle.bdb_pack.specs.Built.{Built, bytes_of, file_so_far}
 use Rattle.bdb_leaves.specs.LeafEntries.{Entry, contents_of}
 use Rattle.bdb_leaves.specs.Leaves.{AreLeaves, KeepsOthers, has_room}
+use Rattle.bdb_leaves.specs.Moved.{first_leaf}
 use Rattle.bdb_leaves.specs.Puts.{CountsFewFrom}
 use Rattle.bdb_leaves.specs.Placed.{IsPlacedBySize, Placed, StandsPlaced, entries_of, unit_of}
 use Rattle.bdb_leaves.specs.Units.{TreeUnit, unit_cost}
@@ -94,6 +95,10 @@ pub record IsPushed (leaves next : Leaves) (old new : Built) (unit : TreeUnit) :
   pub placed : Placed
   pub is : unit_of placed ≡ unit
   pub type : next.leaf_type ≡ leaves.leaf_type
+  pub first : first_leaf next ≡ first_leaf leaves
   pub kept : KeepsOthers leaves.last old new
+  -- what stood in later files than those pages stands in later files than these
+  pub stays : (before : ℕ) (closed : List (List Placed)) (units : List Placed) → AreFilled leaves old before closed units
+      → (g : File) → IsLater (rest_of before next new) (file_so_far new) g → IsLater (rest_of before leaves old) (file_so_far old) g
   pub filled : (before : ℕ) (closed : List (List Placed)) (units : List Placed) → AreFilled leaves old before closed units
       → FilledNow (has_room leaves old (unit_cost old.size unit)) next new before closed units placed

@@ -1,0 +1,46 @@
+-- Trees that are being built: a builder with its pages, and the units that these hold. Source: docs/FORMAT.md, "Built trees".
+use Rattle.std.specs.Prelude.{◌≡◌, ◌⊎◌, ℕ, ◌<◌, ◌≤◌, IsTrue, false, List, [], ◌∷◌, ◌++◌, length, map}
+use Rattle.std.specs.List.{All, flat_map}
+use Rattle.bdb_format.specs.File.{File}
+use Rattle.bdb_format.specs.HeadOf.{is_page_size}
+use Rattle.bdb_grove.specs.Growing.{IsCounted, IsLater}
+use Rattle.bdb_pack.specs.Built.{Built, bytes_of, file_so_far}
+use Rattle.bdb_leaves.specs.Filled.{AreFilled, rest_of}
+use Rattle.bdb_leaves.specs.Moved.{first_leaf, numbers_of}
+use Rattle.bdb_leaves.specs.Placed.{Placed, has_wrong_root, unit_of}
+use Rattle.bdb_leaves.specs.Units.{TreeUnit, units_on}
+use Rattle.bdb_mktree.specs.Units.{IsTreeKind, KeysAscend, Suits, leaf_type_of}
+use Rattle.bdb_mktree.specs.declared.builder.TreeBuilder.{TreeBuilder}
+
+-- The units that the leaves hold on the pages, in order: of a btree each key with all its data, of a recno each record.
+abbrev pub units_of : TreeBuilder → Built → List TreeUnit
+units_of builder built = flat_map (units_on (file_so_far built) builder.settings.kind) (numbers_of builder.leaves)
+
+-- the units on leaves
+abbrev pub all_placed : List (List Placed) → List Placed → List Placed
+all_placed closed units = flat_map (λ leaf. leaf) closed ++ units
+
+-- the pages before one are as they were, and none is gone
+pub record KeepsBefore (first : ℕ) (old new : Built) : Type 0 where
+  pub size : new.size ≡ old.size
+  pub order : new.order ≡ old.order
+  pub grows : length old.pages ≤ length new.pages
+  pub same : (p : ℕ) → p < first → bytes_of new p ≡ bytes_of old p
+
+-- A builder with its pages: from the first leaf on they are leaves with units that suit the settings, and what these units hold.
+pub record Building (builder : TreeBuilder) (built : Built) : Type 0 where
+  pub kind : IsTreeKind builder.settings.kind
+  pub legal : IsTrue (is_page_size built.size)
+  pub size : built.size ≡ builder.settings.page_size
+  pub order : built.order ≡ builder.settings.order
+  pub type : builder.leaves.leaf_type ≡ leaf_type_of builder.settings.kind
+  -- the units on the closed leaves, and on the last
+  pub closed : List (List Placed)
+  pub units : List Placed
+  pub filled : AreFilled builder.leaves built (first_leaf builder.leaves) closed units
+  pub some : (closed ≡ []) ⊎ (0 < length units)
+  pub suit : All (Suits builder.settings) (map unit_of (all_placed closed units))
+  pub keys : KeysAscend builder.settings (map unit_of (all_placed closed units))
+  -- the trees of data have roots of the right type, in each later file
+  pub roots : (g : File) → IsCounted g → IsLater (rest_of (first_leaf builder.leaves) builder.leaves built) (file_so_far built) g
+      → All (λ unit. has_wrong_root g builder.settings.sorted unit ≡ false) (all_placed closed units)

@@ -1,0 +1,8 @@
+//! Trees that are built from units which come one by one, or from a list.
+#![tactic(auto)]
+
+mod builder;
+mod unit;
+
+pub use builder::TreeBuilder;
+pub use unit::Unit;

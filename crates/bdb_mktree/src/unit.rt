@@ -1,0 +1,10 @@
+use bdb_format::Bytes;
+
+/// What a tree is built of, one after the other.
+#[derive(Clone, Copy)]
+pub enum Unit<'a> {
+    /// A key of a btree with all its data, one at least.
+    Keyed { key: &'a [u8], values: &'a [Bytes] },
+    /// A record of a recno. A missing one is deleted, and has no bytes.
+    Entry { value: &'a [u8], deleted: bool },
+}
