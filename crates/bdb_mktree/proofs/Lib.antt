@@ -1,1 +1,3 @@
 pub mod BuildingLemmas
+pub mod ListLemmas
+pub mod PushedLemmas

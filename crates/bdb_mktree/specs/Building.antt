@@ -9,7 +9,7 @@ use Rattle.bdb_leaves.specs.Filled.{AreFilled, rest_of}
 use Rattle.bdb_leaves.specs.Moved.{first_leaf, numbers_of}
 use Rattle.bdb_leaves.specs.Placed.{Placed, has_wrong_root, unit_of}
 use Rattle.bdb_leaves.specs.Units.{TreeUnit, units_on}
-use Rattle.bdb_mktree.specs.Units.{IsTreeKind, KeysAscend, Suits, leaf_type_of}
+use Rattle.bdb_mktree.specs.Units.{IsShortUnit, IsTreeKind, KeysAscend, Suits, leaf_type_of}
 use Rattle.bdb_mktree.specs.declared.builder.TreeBuilder.{TreeBuilder}
 
 -- The units that the leaves hold on the pages, in order: of a btree each key with all its data, of a recno each record.
@@ -44,3 +44,18 @@ pub record Building (builder : TreeBuilder) (built : Built) : Type 0 where
   -- the trees of data have roots of the right type, in each later file
   pub roots : (g : File) → IsCounted g → IsLater (rest_of (first_leaf builder.leaves) builder.leaves built) (file_so_far built) g
       → All (λ unit. has_wrong_root g builder.settings.sorted unit ≡ false) (all_placed closed units)
+
+-- Of units that come after those of a builder some were pushed, and these are left.
+pub record ArePushed (builder next : TreeBuilder) (old new : Built) (all left : List TreeUnit) : Type 0 where
+  pub building : Building next new
+  pub settings : next.settings ≡ builder.settings
+  pub first : first_leaf next.leaves ≡ first_leaf builder.leaves
+  pub kept : KeepsBefore (first_leaf builder.leaves) old new
+  pub units : units_of next new ++ left ≡ units_of builder old ++ all
+  pub suit : All (Suits builder.settings) left
+  pub short : All IsShortUnit left
+  pub keys : KeysAscend builder.settings (units_of builder old ++ all)
+
+-- none was pushed yet
+abbrev pub CanBePushed : TreeBuilder → Built → List TreeUnit → Type 0
+CanBePushed builder built units = ArePushed builder builder built built units units

@@ -1,0 +1,167 @@
+-- Lists and their units: the run of a key, the record that comes next, and the list that units give back.
+use Rattle.std.proofs.Common.{Bool, ◌≡◌, ℕ, suc, ◌+◌, ◌-◌, ◌<◌, ◌≤◌, true, false, cond, List, [], ◌∷◌, ◌++◌, length, map, take, drop, replicate, arith, refl, sym, ◌∙◌, ap, subst, inl, inr, true≢false}
+use Rattle.std.specs.Prelude.{◌==◌}
+use Rattle.std.specs.List.{All, enumerate_from, flat_map, prefix_len}
+use Rattle.std.specs.Str.{bytes_eq}
+use Rattle.std.proofs.lemmas.Bool.{cases_Bool, eq-eqb, eqb-true}
+use Rattle.std.proofs.lemmas.List.Elements.{All-head, All-tail}
+use Rattle.bdb_format.specs.Lists.{BytesKey, ListKey, NumberKey}
+use Rattle.bdb_model.specs.Pairs.{keys_of, listed, listed_key, values_of}
+use Rattle.bdb_model.specs.declared.list.Pair.{Pair}
+use Rattle.bdb_model.specs.declared.pairs.Key.{Key}
+use Rattle.bdb_model.specs.declared.pairs.Key.TheVariants.{Bytes, Number}
+use Rattle.bdb_overflow.proofs.KeyLemmas.{eq_same, eq_self}
+use Rattle.bdb_leaves.specs.Units.{EntryUnit, KeyedUnit, TreeUnit, listed_keyed, listed_record}
+use Rattle.bdb_mktree.specs.Lists.{AscendFrom, HasBytes, HasNumber, bytes_in, has_key, has_number, keyed_units, missing, number_in, record_units, with_pair}
+
+-- Keys.
+
+-- units of which the first has a key
+record Heads (key : List ℕ) (units : List TreeUnit) : Type 0 where
+  values : List (List ℕ)
+  others : List TreeUnit
+  is : units ≡ KeyedUnit key values ∷ others
+
+heads_other : (key value other : List ℕ) (values : List (List ℕ)) (units : List TreeUnit) → (b : Bool) → bytes_eq key other ≡ b
+    → Heads key (cond b (KeyedUnit other (value ∷ values) ∷ units) (KeyedUnit key (value ∷ []) ∷ KeyedUnit other values ∷ units))
+heads_other key value other values units true same =
+    record { values = value ∷ values; others = units; is = ap (λ k. KeyedUnit k (value ∷ values) ∷ units) (sym (eq_same key other same)) }
+heads_other key value other values units false same = record { values = value ∷ []; others = KeyedUnit other values ∷ units; is = refl }
+
+heads : (key value : List ℕ) (units : List TreeUnit) → Heads key (with_pair key value units)
+heads key value [] = record { values = value ∷ []; others = []; is = refl }
+heads key value (KeyedUnit other values ∷ units) = heads_other key value other values units (bytes_eq key other) refl
+heads key value (EntryUnit other deleted ∷ units) = record { values = value ∷ []; others = EntryUnit other deleted ∷ units; is = refl }
+
+-- a pair before units of which the first has another key, and before one with its own
+before_other : (key value other : List ℕ) (units : List TreeUnit) → Heads other units → bytes_eq other key ≡ false
+    → with_pair key value units ≡ KeyedUnit key (value ∷ []) ∷ units
+before_other key value other units first none =
+    let test : bytes_eq key other ≡ false =
+    elim (cases_Bool (bytes_eq key other)) [
+      | inl same ↦ absurd (true≢false (sym (ap (λ k. bytes_eq k key) (sym (eq_same key other same)) ∙ eq_self key) ∙ none))
+      | inr other_key ↦ other_key
+    ] in
+    ap (with_pair key value) first.is
+    ∙ (ap (λ b. cond b (KeyedUnit other (value ∷ first.values) ∷ first.others) (KeyedUnit key (value ∷ []) ∷ KeyedUnit other first.values ∷ first.others)) test
+    ∙ ap (λ us. KeyedUnit key (value ∷ []) ∷ us) (sym first.is))
+
+before_same : (key value : List ℕ) (values : List (List ℕ)) (units : List TreeUnit)
+    → with_pair key value (KeyedUnit key values ∷ units) ≡ KeyedUnit key (value ∷ values) ∷ units
+before_same key value values units =
+    ap (λ b. cond b (KeyedUnit key (value ∷ values) ∷ units) (KeyedUnit key (value ∷ []) ∷ KeyedUnit key values ∷ units)) (eq_self key)
+
+key_test : (key : List ℕ) (other : Key) → HasBytes other → has_key key other ≡ bytes_eq (bytes_in other) key
+key_test key (Bytes other) has = refl
+key_test key (Number number) has = absurd has
+
+-- a run of no pairs: the first of them, if there is one, has another key
+no_run : (key value : List ℕ) (pairs : List Pair) → All (λ (pair : Pair). HasBytes pair.key) pairs → prefix_len (has_key key) (keys_of pairs) ≡ 0
+    → with_pair key value (keyed_units pairs) ≡ KeyedUnit key (value ∷ []) ∷ keyed_units pairs
+no_run key value [] all none = refl
+no_run key value (pair ∷ pairs) all none =
+    before_other key value (bytes_in pair.key) (keyed_units (pair ∷ pairs)) (heads (bytes_in pair.key) pair.value (keyed_units pairs))
+    (sym (key_test key pair.key (All-head (λ (pair : Pair). HasBytes pair.key) pair pairs all))
+    ∙ elim (cases_Bool (has_key key pair.key)) [
+      | inl same ↦ let long = ap (λ b. cond b (1 + prefix_len (has_key key) (keys_of pairs)) 0) same in absurd (omega (arith, long, none))
+      | inr other ↦ other
+    ])
+
+-- the run of a key, one pair at least, is one unit
+pub run_is_unit : (key : List ℕ) (pairs : List Pair) (n : ℕ) → All (λ (pair : Pair). HasBytes pair.key) pairs
+    → prefix_len (has_key key) (keys_of pairs) ≡ n → 0 < n
+    → keyed_units pairs ≡ KeyedUnit key (take n (values_of pairs)) ∷ keyed_units (drop n pairs)
+run_is_unit key [] n all is some = absurd (omega (arith, is, some))
+run_is_unit key (pair ∷ pairs) n all is some =
+    elim (cases_Bool (has_key key pair.key)) [
+      | inl same ↦
+          let key_is : bytes_in pair.key ≡ key = eq_same (bytes_in pair.key) key (sym (key_test key pair.key has) ∙ same) in
+          let long : n ≡ 1 + prefix_len (has_key key) (keys_of pairs) =
+          sym is ∙ ap (λ b. cond b (1 + prefix_len (has_key key) (keys_of pairs)) 0) same in
+          ap (λ k. with_pair k pair.value (keyed_units pairs)) key_is
+          ∙ (by_rest (prefix_len (has_key key) (keys_of pairs)) refl
+          ∙ ap (λ m. KeyedUnit key (take m (values_of (pair ∷ pairs))) ∷ keyed_units (drop m (pair ∷ pairs))) (sym long))
+      | inr other ↦ let none = ap (λ b. cond b (1 + prefix_len (has_key key) (keys_of pairs)) 0) other in absurd (omega (arith, is, none, some))
+    ]
+  where
+    has : HasBytes pair.key
+    has = All-head (λ (pair : Pair). HasBytes pair.key) pair pairs all
+
+    by_rest : (m : ℕ) → prefix_len (has_key key) (keys_of pairs) ≡ m
+        → with_pair key pair.value (keyed_units pairs)
+        ≡ KeyedUnit key (take (1 + m) (values_of (pair ∷ pairs))) ∷ keyed_units (drop (1 + m) (pair ∷ pairs))
+    by_rest 0 none = no_run key pair.value pairs (All-tail (λ (pair : Pair). HasBytes pair.key) pair pairs all) none
+    by_rest (suc m) more =
+        ap (with_pair key pair.value)
+        (run_is_unit key pairs (suc m) (All-tail (λ (pair : Pair). HasBytes pair.key) pair pairs all) more (omega arith))
+        ∙ before_same key pair.value (take (suc m) (values_of pairs)) (keyed_units (drop (suc m) pairs))
+
+-- Records.
+
+number_test : (number : ℕ) (key : Key) → HasNumber key → has_number number key ≡ (number_in key == number)
+number_test number (Bytes key) has = absurd has
+number_test number (Number other) has = refl
+
+-- the record that comes next is that of the first pair
+pub record_stands : (next : ℕ) (pair : Pair) (pairs : List Pair) → HasNumber pair.key → has_number next pair.key ≡ true
+    → record_units next (pair ∷ pairs) ≡ EntryUnit pair.value false ∷ record_units (next + 1) pairs
+record_stands next pair pairs has stands =
+    let same : number_in pair.key ≡ next = eqb-true (number_in pair.key) next (sym (number_test next pair.key has) ∙ stands) in
+    ap (λ n. replicate (n - next) missing ++ (EntryUnit pair.value false ∷ record_units (n + 1) pairs)) same
+    ∙ ap (λ n. replicate n missing ++ (EntryUnit pair.value false ∷ record_units (next + 1) pairs)) (omega arith)
+
+-- or a missing one
+pub record_missing : (next : ℕ) (pair : Pair) (pairs : List Pair) → next < number_in pair.key
+    → record_units next (pair ∷ pairs) ≡ missing ∷ record_units (next + 1) (pair ∷ pairs)
+record_missing next pair pairs later =
+    ap (λ n. replicate n missing ++ (EntryUnit pair.value false ∷ record_units (number_in pair.key + 1) pairs))
+    (omega (arith, later))
+
+pub is_later : (next : ℕ) (key : Key) → HasNumber key → next ≤ number_in key → has_number next key ≡ false → next < number_in key
+is_later next key has most none =
+    let other : (number_in key ≡ next) → ⊥ = λ same. true≢false (sym (number_test next key has ∙ eq-eqb (number_in key) next same) ∙ none) in
+    omega (arith, most, other)
+
+-- The list that units give back.
+
+with_listed : (key value : List ℕ) (units : List TreeUnit) → flat_map listed_keyed (with_pair key value units) ≡ (BytesKey key, value) ∷ flat_map listed_keyed units
+with_listed key value [] = refl
+with_listed key value (KeyedUnit other values ∷ units) = by_test (bytes_eq key other) refl
+  where
+    by_test : (b : Bool) → bytes_eq key other ≡ b
+        → flat_map listed_keyed (cond b (KeyedUnit other (value ∷ values) ∷ units) (KeyedUnit key (value ∷ []) ∷ KeyedUnit other values ∷ units))
+        ≡ (BytesKey key, value) ∷ flat_map listed_keyed (KeyedUnit other values ∷ units)
+    by_test true same = ap (λ k. (BytesKey k, value) ∷ flat_map listed_keyed (KeyedUnit other values ∷ units)) (sym (eq_same key other same))
+    by_test false same = refl
+with_listed key value (EntryUnit other deleted ∷ units) = refl
+
+bytes_listed : (key : Key) → HasBytes key → BytesKey (bytes_in key) ≡ listed_key key
+bytes_listed (Bytes key) has = refl
+bytes_listed (Number number) has = absurd has
+
+pub keyed_listed : (pairs : List Pair) → All (λ (pair : Pair). HasBytes pair.key) pairs → flat_map listed_keyed (keyed_units pairs) ≡ listed pairs
+keyed_listed [] all = refl
+keyed_listed (pair ∷ pairs) all =
+    with_listed (bytes_in pair.key) pair.value (keyed_units pairs)
+    ∙ (ap (λ k. (k, pair.value) ∷ flat_map listed_keyed (keyed_units pairs))
+    (bytes_listed pair.key (All-head (λ (pair : Pair). HasBytes pair.key) pair pairs all))
+    ∙ ap (λ more. (listed_key pair.key, pair.value) ∷ more) (keyed_listed pairs (All-tail (λ (pair : Pair). HasBytes pair.key) pair pairs all)))
+
+number_listed : (key : Key) → HasNumber key → NumberKey (number_in key) ≡ listed_key key
+number_listed (Bytes key) has = absurd has
+number_listed (Number number) has = refl
+
+missing_listed : (n next : ℕ) (units : List TreeUnit)
+    → flat_map listed_record (enumerate_from next (replicate n missing ++ units)) ≡ flat_map listed_record (enumerate_from (next + n) units)
+missing_listed 0 next units = ap (λ m. flat_map listed_record (enumerate_from m units)) (omega arith)
+missing_listed (suc n) next units =
+    missing_listed n (next + 1) units ∙ ap (λ m. flat_map listed_record (enumerate_from m units)) (omega arith)
+
+pub records_listed : (next : ℕ) (pairs : List Pair) → AscendFrom next pairs → flat_map listed_record (enumerate_from next (record_units next pairs)) ≡ listed pairs
+records_listed next [] ascend = refl
+records_listed next (pair ∷ pairs) (has, most, short, ascend) =
+    missing_listed (number_in pair.key - next) next (EntryUnit pair.value false ∷ record_units (number_in pair.key + 1) pairs)
+    ∙ (ap (λ m. flat_map listed_record (enumerate_from m (EntryUnit pair.value false ∷ record_units (number_in pair.key + 1) pairs))) (omega (arith, most))
+    ∙ (ap (λ k. (k, pair.value) ∷ flat_map listed_record (enumerate_from (number_in pair.key + 1) (record_units (number_in pair.key + 1) pairs)))
+    (number_listed pair.key has)
+    ∙ ap (λ more. (listed_key pair.key, pair.value) ∷ more) (records_listed (number_in pair.key + 1) pairs ascend)))

@@ -1,0 +1,120 @@
+-- Units that are pushed one after the other.
+use Rattle.std.proofs.Common.{◌≡◌, ℕ, ◌≤◌, true, List, [], ◌∷◌, ◌++◌, length, map, arith, refl, sym, ◌∙◌, ap, subst}
+use Rattle.std.specs.Cmp.Derive.{both_true}
+use Rattle.std.specs.List.{All}
+use Rattle.std.proofs.lemmas.Bool.{and_parts}
+use Rattle.std.proofs.lemmas.List.{append_assoc, map-append}
+use Rattle.std.proofs.lemmas.List.Elements.{All-head, All-tail}
+use Rattle.bdb_format.specs.declared.settings.Settings.{Settings}
+use Rattle.bdb_format.specs.ContentRows.{ascends, ascends_from}
+use Rattle.bdb_format.specs.Less.{less}
+use Rattle.bdb_pack.specs.Built.{Built}
+use Rattle.bdb_leaves.specs.Moved.{first_leaf}
+use Rattle.bdb_leaves.specs.Units.{TreeUnit, key_of}
+use Rattle.bdb_mktree.specs.Building.{ArePushed, Building, CanBePushed, KeepsBefore, units_of}
+use Rattle.bdb_mktree.specs.Units.{IsNext, IsShortUnit, KeysAscend, Suits}
+use Rattle.bdb_mktree.specs.declared.builder.TreeBuilder.{TreeBuilder}
+
+-- Keys before others ascend as all do.
+
+prefix_from : (value : List ℕ) (xs ys : List (List ℕ)) → ascends_from value (xs ++ ys) ≡ true → ascends_from value xs ≡ true
+prefix_from value [] ys is = refl
+prefix_from value (x ∷ xs) ys is =
+    let parts = and_parts (less value x) (ascends_from x (xs ++ ys)) is in both_true parts.0 (prefix_from x xs ys parts.1)
+
+prefix_ascends : (xs ys : List (List ℕ)) → ascends (xs ++ ys) ≡ true → ascends xs ≡ true
+prefix_ascends [] ys is = refl
+prefix_ascends (x ∷ xs) ys is = prefix_from x xs ys is
+
+comes_next : (settings : Settings) (units : List TreeUnit) (unit : TreeUnit) (left : List TreeUnit) → KeysAscend settings (units ++ (unit ∷ left))
+    → IsNext settings units unit
+comes_next settings units unit left keys is =
+    prefix_ascends (map key_of (units ++ (unit ∷ []))) (map key_of left)
+    (subst (λ us. ascends us ≡ true) (ap (map key_of) (sym (append_assoc units (unit ∷ []) left)) ∙ map-append key_of (units ++ (unit ∷ [])) left)
+    (keys is))
+
+-- Pages before one stay, and stay.
+
+kept_on : (first : ℕ) (old mid new : Built) → KeepsBefore first old mid → KeepsBefore first mid new → KeepsBefore first old new
+kept_on first old mid new one two =
+    record {
+      size = two.size ∙ one.size;
+      order = two.order ∙ one.order;
+      grows = let a = one.grows in let b = two.grows in omega (arith, a, b);
+      same = λ p low. two.same p low ∙ one.same p low;
+    }
+
+-- The first unit that is left can be pushed.
+
+pub can_push : (builder next : TreeBuilder) (old new : Built) (all : List TreeUnit) (unit : TreeUnit) (left : List TreeUnit)
+    → ArePushed builder next old new all (unit ∷ left)
+    → Suits next.settings unit × IsNext next.settings (units_of next new) unit × IsShortUnit unit
+can_push builder next old new all unit left are = (
+  subst (λ s. Suits s unit) (sym are.settings) (All-head (Suits builder.settings) unit left are.suit),
+  subst (λ s. IsNext s (units_of next new) unit) (sym are.settings)
+      (comes_next builder.settings (units_of next new) unit left (subst (KeysAscend builder.settings) (sym are.units) are.keys)),
+  All-head IsShortUnit unit left are.short,
+)
+
+-- and is
+pub pushed_next : (builder next last : TreeBuilder) (old mid new : Built) (all : List TreeUnit) (unit : TreeUnit) (left : List TreeUnit)
+    → ArePushed builder next old mid all (unit ∷ left) → Building last new → units_of last new ≡ units_of next mid ++ (unit ∷ [])
+    → last.settings ≡ next.settings → first_leaf last.leaves ≡ first_leaf next.leaves → KeepsBefore (first_leaf next.leaves) mid new
+    → ArePushed builder last old new all left
+pushed_next builder next last old mid new all unit left are building units settings first kept =
+    record {
+      building = building;
+      settings = settings ∙ are.settings;
+      first = first ∙ are.first;
+      kept = kept_on (first_leaf builder.leaves) old mid new are.kept (subst (λ n. KeepsBefore n mid new) are.first kept);
+      units = ap (λ us. us ++ left) units ∙ (append_assoc (units_of next mid) (unit ∷ []) left ∙ are.units);
+      suit = All-tail (Suits builder.settings) unit left are.suit;
+      short = All-tail IsShortUnit unit left are.short;
+      keys = are.keys;
+    }
+
+-- those that are left can be pushed by themselves
+pub can_go_on : (builder next : TreeBuilder) (old new : Built) (all left : List TreeUnit) → ArePushed builder next old new all left
+    → CanBePushed next new left
+can_go_on builder next old new all left are =
+    record {
+      building = are.building;
+      settings = refl;
+      first = refl;
+      kept = record { size = refl; order = refl; grows = omega arith; same = λ p low. refl };
+      units = refl;
+      suit = subst (λ s. All (Suits s) left) (sym are.settings) are.suit;
+      short = are.short;
+      keys = subst (λ s. KeysAscend s (units_of next new ++ left)) (sym are.settings) (subst (KeysAscend builder.settings) (sym are.units) are.keys);
+    }
+
+-- and what was pushed so comes after what was pushed before
+pub pushed_on : (builder next last : TreeBuilder) (old mid new : Built) (all some left : List TreeUnit) → ArePushed builder next old mid all some
+    → ArePushed next last mid new some left → ArePushed builder last old new all left
+pushed_on builder next last old mid new all some left one two =
+    record {
+      building = two.building;
+      settings = two.settings ∙ one.settings;
+      first = two.first ∙ one.first;
+      kept = kept_on (first_leaf builder.leaves) old mid new one.kept (subst (λ n. KeepsBefore n mid new) one.first two.kept);
+      units = two.units ∙ one.units;
+      suit = subst (λ s. All (Suits s) left) one.settings two.suit;
+      short = two.short;
+      keys = one.keys;
+    }
+
+-- Before the first unit.
+
+pub can_begin : (builder : TreeBuilder) (built : Built) (units : List TreeUnit) → Building builder built → units_of builder built ≡ []
+    → All (Suits builder.settings) units → KeysAscend builder.settings units → All IsShortUnit units → CanBePushed builder built units
+can_begin builder built units building none suit keys short =
+    record {
+      building = building;
+      settings = refl;
+      first = refl;
+      kept = record { size = refl; order = refl; grows = omega arith; same = λ p low. refl };
+      units = refl;
+      suit = suit;
+      short = short;
+      keys = subst (λ us. KeysAscend builder.settings (us ++ units)) (sym none) keys;
+    }
