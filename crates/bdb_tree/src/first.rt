@@ -44,6 +44,7 @@ pub fn leftmost(forest: &Forest<'_>, root: u32) -> Ref<LeafPage>
 }
 
 /// The first of the pages right below a page of a tree; a leaf has none.
+#[tactic(auto, using(crate::proofs::TreeLemmas::tree_inside, crate::proofs::DownLemmas::has_item))]
 fn first_child(forest: &Forest<'_>, page: u32) -> Option<u32>
     requires { IsTreePage (file_of forest.now) page }
     ensures child { result ≡ first_below (children_in (page_at (file_of forest.now) page)) }
