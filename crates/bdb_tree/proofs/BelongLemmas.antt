@@ -139,7 +139,8 @@ parent image h reference forest low held child none =
     let target : Page = page_at file reference.target in
     let inner : (cs : List ℕ) × (children_in (page_at file h) ≡ Some cs) =
     some_children (page_at file h) target
-    (subst (λ s. is_of (asked_by h (page_at file h) s).types (asked_by h (page_at file h) s).or_zero target ≡ true) child (asked file h reference none)) in
+    (subst (λ s. is_of (asked_by h (page_at file h) s).types (asked_by h (page_at file h) s).or_zero target ≡ true) child
+    (asked file h reference none)) in
     let at : Contains inner.0 reference.target =
     subst (λ cs. Contains cs reference.target) (children_are image h inner.0 forest low inner.1)
     (in_map (λ (r : Reference). r.target) _ reference

@@ -78,9 +78,8 @@ next_is image root p after forest none stands =
     root_place file root p (first_or_zero after) stands.is (λ sort.
     subst (λ xs. HasPlace (places_from sort 0 xs) p (first_or_zero after)) (sym stands.leaves_are) (place_between sort 0 stands.before p after)) in
     let low : p ≤ file.last = leaf_low image root p forest (root_is_tree image root forest stands.is) (member_of file root p after stands) in
-    let links =
-    and_parts ((header_in (page_at file has.place.leaf)).previous == has.place.before)
-    ((header_in (page_at file has.place.leaf)).next == has.place.after) (not-false _ (link_is_right file has.place none (omega (arith, has.leaf)) has.at)) in
+    let right = link_is_right file has.place none (omega (arith, has.leaf)) has.at in
+    let links = and_parts ((header_in (page_at file has.place.leaf)).previous == has.place.before) _ (not-false _ right) in
     ap (next_of file) (sym has.leaf) ∙ (eqb-true (next_of file has.place.leaf) has.place.after links.1 ∙ has.after)
 
 -- the leaf after it stands there too

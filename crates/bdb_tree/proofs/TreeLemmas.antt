@@ -53,7 +53,8 @@ pub typed_inside : (image types : List ℕ) (p : ℕ) → has_type types (type_i
 typed_inside image types p has =
     elim (cases_lt p (length (file_of image).pages)) [
       | inl below ↦ omega (arith, pages_counted image)
-      | inr past ↦ absurd (true≢false (sym has ∙ ap (λ (page : Page). has_type types (type_in page)) (get_or_past (file_of image).pages p NoType past)))
+      | inr past ↦
+          absurd (true≢false (sym has ∙ ap (λ (page : Page). has_type types (type_in page)) (get_or_past (file_of image).pages p NoType past)))
     ]
 
 pub tree_inside : (image : List ℕ) (p : ℕ) → IsTreePage (file_of image) p → p ≤ (file_of image).last
@@ -249,34 +250,37 @@ tree_level image p forest tree =
 abbrev pub GoesDown : List ℕ → (ℕ → Type 0) → Type 0
 GoesDown image P = (p c : ℕ) (children : List ℕ) → P p → children_in (page_at (file_of image) p) ≡ Some children → Contains children c → P c
 
-leaves_in_have : (levels : ℕ) (image : List ℕ) (P : ℕ → Type 0) (p q : ℕ) → IsForest image → GoesDown image P → level (file_of image) p ≡ levels
-    → IsTreePage (file_of image) p → P p
-    → Contains (leaves_in levels (file_of image) p) q → P q × FitsLeafPage (file_of image) q
-leaves_in_have zero image P p q forest down is tree here at =
-    absurd (omega (arith, tree_level image p forest tree))
-leaves_in_have (suc n) image P p q forest down is tree here at =
-    let file : File = file_of image in
+-- what holds of leaves, and of a page where it holds of its children, holds of each page of a tree
+up_tree : (levels : ℕ) (image : List ℕ) (Q : ℕ → Type 0) → IsForest image → ((p : ℕ) → IsLeafPage (page_at (file_of image) p) → Q p)
+    → ((p : ℕ) (inner : IsInnerPage (page_at (file_of image) p)) → ((c : ℕ) → Contains inner.children c → Q c) → Q p)
+    → (p : ℕ) → level (file_of image) p ≡ levels → IsTreePage (file_of image) p → Q p
+up_tree zero image Q forest at_leaf at_inner p is tree = absurd (omega (arith, tree_level image p forest tree))
+up_tree (suc n) image Q forest at_leaf at_inner p is tree =
     elim (tree_cases image p forest tree) [
-      | inr leaf ↦
-          let same : p ≡ q = only_member p q (subst (λ ps. Contains ps q) (leaves_step n file p None leaf.none) at) in
-          (subst P same here, subst (FitsLeafPage file) same leaf.type)
+      | inr leaf ↦ at_leaf p leaf
       | inl inner ↦
-          let below : (c : ℕ) × Contains inner.children c × Contains (leaves_in n file c) q =
-          of_flat_map (leaves_in n file) inner.children q (subst (λ ps. Contains ps q) (leaves_step n file p (Some inner.children) inner.are) at) in
-          let child : IsChild file p below.0 = child_is image p below.0 inner.children forest inner.are below.1 in
-          leaves_in_have n image P below.0 q forest down (omega (arith, child.level)) child.tree
-          (down p below.0 inner.children here inner.are below.1) below.2
+          at_inner p inner (λ c at.
+          let child : IsChild (file_of image) p c = child_is image p c inner.children forest inner.are at in
+          up_tree n image Q forest at_leaf at_inner c (omega (arith, child.level)) child.tree)
     ]
 
--- what goes down from a page of a tree holds for each leaf below it
-pub leaves_have : (image : List ℕ) (P : ℕ → Type 0) (p q : ℕ) → IsForest image → GoesDown image P → IsTreePage (file_of image) p → P p
-    → Contains (leaves (file_of image) p) q → P q
-leaves_have image P p q forest down tree here at = (leaves_in_have (level (file_of image) p) image P p q forest down refl tree here at).0
+-- what goes down from a page of a tree holds for each leaf below it, and that is a leaf
+leaves_have : (image : List ℕ) (P : ℕ → Type 0) (p q : ℕ) → IsForest image → GoesDown image P → IsTreePage (file_of image) p → P p
+    → Contains (leaves (file_of image) p) q → P q × FitsLeafPage (file_of image) q
+leaves_have image P p q forest down tree =
+    let file : File = file_of image in
+    up_tree (level file p) image (λ r. P r → Contains (leaves file r) q → P q × FitsLeafPage file q) forest
+    (λ r leaf here at.
+    let same : r ≡ q = only_member r q (subst (λ ps. Contains ps q) (leaves_of_leaf file r leaf) at) in
+    (subst P same here, subst (FitsLeafPage file) same leaf.type))
+    (λ r inner below here at.
+    let found = of_flat_map (leaves file) inner.children q (subst (λ ps. Contains ps q) (leaves_of_inner image r inner.children forest inner.are) at) in
+    below found.0 found.1 (down r found.0 inner.children here inner.are found.1) found.2) p refl tree
 
 -- each leaf at or below a page of a tree is a leaf
 pub leaf_fits : (image : List ℕ) (p q : ℕ) → IsForest image → IsTreePage (file_of image) p → Contains (leaves (file_of image) p) q
     → FitsLeafPage (file_of image) q
-leaf_fits image p q forest tree at = (leaves_in_have (level (file_of image) p) image (λ _. Unit {0}) p q forest (λ _ _ _ _ _ _. tt) refl tree tt at).1
+leaf_fits image p q forest tree at = (leaves_have image (λ _. Unit {0}) p q forest (λ _ _ _ _ _ _. tt) tree tt at).1
 
 pub leaf_low : (image : List ℕ) (p q : ℕ) → IsForest image → IsTreePage (file_of image) p → Contains (leaves (file_of image) p) q
     → q ≤ (file_of image).last
@@ -287,23 +291,14 @@ some_of_parts : {X Y : Type 0} (f : X → List Y) (xs : List X) → 0 < length x
 some_of_parts f [] some each = some
 some_of_parts f (x ∷ xs) some each = let first : 0 < length (f x) = each x (first_member x xs) in omega (arith, length-append (f x) (flat_map f xs))
 
-leaves_in_some : (levels : ℕ) (image : List ℕ) (p : ℕ) → IsForest image → level (file_of image) p ≡ levels → IsTreePage (file_of image) p
-    → 0 < length (leaves_in levels (file_of image) p)
-leaves_in_some zero image p forest is tree = absurd (omega (arith, tree_level image p forest tree))
-leaves_in_some (suc n) image p forest is tree =
-    let file : File = file_of image in
-    elim (tree_cases image p forest tree) [
-      | inr leaf ↦ subst (λ (ps : List ℕ). 0 < length ps) (sym (leaves_step n file p None leaf.none)) (omega arith)
-      | inl inner ↦
-          subst (λ (ps : List ℕ). 0 < length ps) (sym (leaves_step n file p (Some inner.children) inner.are))
-          (some_of_parts (leaves_in n file) inner.children inner.some (λ c at.
-          let child : IsChild file p c = child_is image p c inner.children forest inner.are at in
-          leaves_in_some n image c forest (omega (arith, child.level)) child.tree))
-    ]
-
 -- a page of a tree has a leaf at or below it
 pub some_leaf : (image : List ℕ) (p : ℕ) → IsForest image → IsTreePage (file_of image) p → 0 < length (leaves (file_of image) p)
-some_leaf image p forest tree = leaves_in_some (level (file_of image) p) image p forest refl tree
+some_leaf image p forest tree =
+    let file : File = file_of image in
+    up_tree (level file p) image (λ r. 0 < length (leaves file r)) forest (λ r leaf. omega (arith, ap length (leaves_of_leaf file r leaf)))
+    (λ r inner below.
+    let some : 0 < length (flat_map (leaves file) inner.children) = some_of_parts (leaves file) inner.children inner.some below in
+    omega (arith, ap length (leaves_of_inner image r inner.children forest inner.are))) p refl tree
 
 -- The types of leaves.
 
@@ -326,13 +321,13 @@ pub recno_leaf : (image : List ℕ) (p q : ℕ) → IsForest image → HasTypeAt
 recno_leaf image p q forest has at =
     let file : File = file_of image in
     let tree : IsTreePage file p = wider (4 ∷ 6 ∷ []) (3 ∷ 4 ∷ 5 ∷ 6 ∷ 12 ∷ []) file p (refl, (refl, tt)) has in
-    let recno : HasTypeAt file (4 ∷ 6 ∷ []) q =
+    let below : HasTypeAt file (4 ∷ 6 ∷ []) q × FitsLeafPage file q =
     leaves_have image (HasTypeAt file (4 ∷ 6 ∷ [])) p q forest
     (λ p c children here are below. of_type (λ type. has_type (4 ∷ 6 ∷ []) type ≡ true) (child_types (page_at file p)) (type_in (page_at file c))
     (recno_below (page_at file p) children here are) (child_is image p c children forest are below).type)
     tree has at in
     of_type (λ type. has_type (4 ∷ 6 ∷ []) type ≡ true → type ≡ Some 6) (5 ∷ 6 ∷ 12 ∷ []) (type_in (page_at file q))
-    (λ other. absurd cc, (λ _. refl, (λ other. absurd cc, tt))) (leaf_fits image p q forest tree at) recno
+    (λ other. absurd cc, (λ _. refl, (λ other. absurd cc, tt))) below.1 below.0
 
 -- Roots.
 
@@ -368,8 +363,9 @@ unfolding refs
 meta_root_type image meta forest has =
     let file : File = file_of image in
     let name : Sort × ℕ = (Root, meta.root) in
+    let forest_kind = is_no_queue file Root meta.root (target_fits image (head_of image) meta forest.formed has) in
     let names =
-    forest_names file.kind has.page (page_at file has.page) (is_no_queue file Root meta.root (target_fits image (head_of image) meta forest.formed has))
+    forest_names file.kind has.page (page_at file has.page) forest_kind
     ∙ ap (targets_in has.page) has.is in
     let found =
     in_enumerated 0 _ name (subst (λ ns. Contains ns name) (sym names)
