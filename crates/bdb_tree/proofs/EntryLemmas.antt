@@ -60,10 +60,8 @@ pub all_fit : (image : List ℕ) (root : ℕ) (entries : List Item) → IsForest
     → entries ≡ tree_entries (file_of image) root
     → AreFit (file_of image) entries
 all_fit image root entries forest tree are =
-    let file : File = file_of image in
-    All-same (λ (entry : Item). FitsContent file entry.content) entries (entries_on file (leaves file root))
-    (are ∙ entries_are file root)
-    (leaves_fit image (leaves file root) forest (leaves_there image root (leaves file root) forest tree refl))
+    subst (AreFit (file_of image)) (sym (are ∙ entries_are (file_of image) root))
+    (leaves_fit image (leaves (file_of image) root) forest (leaves_there image root (leaves (file_of image) root) forest tree refl))
 
 -- what holds of all holds of those after the first
 pub rest_fit : (file : File) (entry : Item) (rest entries : List Item) → entries ≡ entry ∷ rest → AreFit file entries → AreFit file rest

@@ -20,6 +20,7 @@ use Rattle.bdb_graph.specs.Linked.{FitsLeafPage, IsForest, IsTarget}
 use Rattle.bdb_graph.proofs.FirstLemmas.{formed_last}
 use Rattle.bdb_graph.proofs.HeldLemmas.{last_page}
 use Rattle.bdb_graph.proofs.LeavesLemmas.{no_leaf_twice}
+use Rattle.bdb_graph.proofs.ReachLemmas.{AllUpTo, few_distinct}
 use Rattle.bdb_tree.specs.Links.{IsLeafWalk, pages_from}
 use Rattle.bdb_tree.specs.Trees.{IsRoot, IsTreePage}
 use Rattle.bdb_tree.proofs.BelongLemmas.{Belongs, belongs, leaf_above}
@@ -118,14 +119,9 @@ follows (suc turns) image root p (q ∷ qs) forest none stands few =
 
 -- How many leaves there are.
 
-is_distinct : (xs : List ℕ) → AllDistinct xs → IsDistinct eqb xs
-unfolding IsDistinct
-is_distinct [] distinct = tt
-is_distinct (x ∷ xs) distinct = (apart xs distinct.0, is_distinct xs distinct.1)
-  where
-    apart : (ys : List ℕ) → NotIn x ys → AllByRecursion (λ y. eqb x y ≡ false) ys
-    apart [] out = tt
-    apart (y ∷ ys) out = (ne_eqb x y out.0, apart ys out.1)
+up_to : (n : ℕ) (xs : List ℕ) → ((x : ℕ) → Contains xs x → x ≤ n) → AllUpTo n xs
+up_to n [] each = tt
+up_to n (x ∷ xs) each = (each x (first_member x xs), up_to n xs (λ y at. each y (later_member x xs y at)))
 
 -- the leaves of a tree are no more than the pages
 pub few_leaves : (image : List ℕ) (root : ℕ) → IsForest image → IsRoot (file_of image) root
@@ -134,10 +130,7 @@ few_leaves image root forest is =
     let file : File = file_of image in
     let tree : IsTreePage file root = root_is_tree image root forest is in
     let distinct = no_leaf_twice image (header_in (page_at file root)).level root forest (tree_inside image root tree) in
-    let few : length (leaves file root) ≤ file.last + 1 =
-    length-le_from_distinct_below (leaves file root) (file.last + 1) (is_distinct (leaves file root) distinct) (λ q some.
-    let found = any_member (eqb q) (leaves file root) some in
-    omega (arith, leaf_low image root found.0 forest tree found.1, eqb-true q found.0 found.2)) in
+    let few = few_distinct file.last (leaves file root) distinct (up_to file.last (leaves file root) (λ q at. leaf_low image root q forest tree at)) in
     omega (arith, few, last_page image, formed_last image (head_of image) forest.formed, count_is image)
 
 -- a walk from a leaf of a tree gives the leaves from there on
@@ -146,10 +139,9 @@ walked : (image : List ℕ) (root p : ℕ) (after : List ℕ) → IsForest image
 unfolding pages_from
 walked image root p after forest none stands =
     let file : File = file_of image in
-    let few : length after < file.count =
-    omega (arith, few_leaves image root forest stands.is, ap length stands.leaves_are, length-append stands.before (p ∷ after)) in
     ap (λ b. elim b [ true ↦ [] | false ↦ chain file p ]) (stands_above image root p after forest stands)
-    ∙ follows file.count image root p after forest none stands few
+    ∙ follows file.count image root p after forest none stands
+    (omega (arith, few_leaves image root forest stands.is, ap length stands.leaves_are, length-append stands.before (p ∷ after)))
 
 pub pages_of_tree : (image : List ℕ) (first root : ℕ) (before after : List ℕ) → IsForest image → structure_faults (file_of image) ≡ []
     → IsRoot (file_of image) root
@@ -162,7 +154,7 @@ pub all_pages : (image : List ℕ) (root first : ℕ) → IsForest image → str
     → slice_get (leaves (file_of image) root) 0 ≡ Some first
     → pages_from (file_of image) first ≡ leaves (file_of image) root
 all_pages image root first forest none is at =
-    let parts : (rest : List ℕ) × (leaves (file_of image) root ≡ first ∷ rest) = begins (leaves (file_of image) root) at in
+    let parts = begins (leaves (file_of image) root) at in
     pages_of_tree image first root [] parts.0 forest none is parts.1 ∙ sym parts.1
   where
     begins : (xs : List ℕ) → slice_get xs 0 ≡ Some first → (rest : List ℕ) × (xs ≡ first ∷ rest)

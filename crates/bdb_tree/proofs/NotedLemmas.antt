@@ -109,7 +109,8 @@ place_is sort before (p ∷ ps) (suc i) d below =
     ∙ ap (λ n. record { tree = sort; before = n; leaf = slice_index ps i; after = slice_index ps (suc i) }) (later_before p ps i)
 
 place_same : (sort : Sort) (ps : List ℕ) (i : ℕ)
-    → ◌≡◌ {A = LeafPlace} (record { tree = sort; before = before_at 0 ps i; leaf = slice_index ps i; after = slice_index ps (suc i) }) (place_in sort ps i)
+    → ◌≡◌ {A = LeafPlace} (record { tree = sort; before = before_at 0 ps i; leaf = slice_index ps i; after = slice_index ps (suc i) })
+    (place_in sort ps i)
 place_same sort ps zero = refl
 place_same sort ps (suc i) =
     let one : suc i - 1 ≡ i = omega arith in
@@ -211,10 +212,9 @@ in_held image p reference fault forest low held root at =
           (subst (λ r. Contains (root_faults file reference.sort r) fault) (sym named.1) at))
       | inr set ↦
           let i : ℕ = set.1.0 in
-          let inside : 2 * i + 1 < length (paired page) = set.1.1 in
           Contains-append_right metas sets fault
           (in_flat_map (data_faults file page) (range_with_len 0 (length (paired page) / 2)) i fault
-          (in_range 0 (length (paired page) / 2) i (omega arith) (omega arith))
+          (in_range 0 (length (paired page) / 2) i (omega arith) (omega (arith, set.1.1)))
           (subst (λ s. Contains (root_faults file s (data_root page i)) fault) set.0
           (subst (λ r. Contains (root_faults file reference.sort r) fault) (sym set.1.2) at)))
     ]
@@ -377,14 +377,11 @@ first_is_least image fault (first ∷ rest) forest is same =
     (comes_through fault before.earlier first (is.least before.earlier before.at) before.comes)
     (tree_rises file first rest fault same here))
 
-none_is_least : (image : List ℕ) → IsForest image → noted (file_of image) ≡ [] → tree_faults (file_of image) ≡ []
-none_is_least image forest none =
-    is_empty (tree_faults (file_of image)) (λ fault at.
-    let before : IsPreceded (file_of image) fault = of_tree_faults image fault forest at in
-    no_member (noted (file_of image)) before.earlier none before.at)
-
 -- the least of all faults that are noted is the first of the stage
 pub least_is_first : (image : List ℕ) (least : Option Fault) → IsForest image → IsLeast (noted (file_of image)) least
     → least ≡ first_fault (tree_faults (file_of image))
-least_is_first image None forest is = sym (ap first_fault (none_is_least image forest is))
+least_is_first image None forest is =
+    sym (ap first_fault (is_empty (tree_faults (file_of image)) (λ fault at.
+    let before : IsPreceded (file_of image) fault = of_tree_faults image fault forest at in
+    no_member (noted (file_of image)) before.earlier is before.at)))
 least_is_first image (Some fault) forest is = first_is_least image fault (tree_faults (file_of image)) forest is refl
