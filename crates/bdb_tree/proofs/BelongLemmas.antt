@@ -10,8 +10,7 @@ use Rattle.bdb_format.specs.declared.metadata.FileKind.TheVariants.{Btree, Queue
 use Rattle.bdb_format.specs.declared.metadata.Head.{Head}
 use Rattle.bdb_format.specs.declared.references.Reference.{Reference}
 use Rattle.bdb_format.specs.declared.references.Sort.{Sort}
-use Rattle.bdb_format.specs.declared.references.Sort.TheVariants.{Root, Child}
-use Rattle.bdb_format.specs.declared.references.Sort.TheVariants.{DuplicateRoot}
+use Rattle.bdb_format.specs.declared.references.Sort.TheVariants.{Root, Child, DuplicateRoot}
 use Rattle.bdb_format.specs.File.{File, file_of, page_at, page_bytes, type_in}
 use Rattle.bdb_format.specs.Graph.{Owner, all_references, first_holder, is_anchor, is_anchor_in, is_meta, is_reserve, is_spare, owners}
 use Rattle.bdb_format.specs.HeadOf.{head_of}

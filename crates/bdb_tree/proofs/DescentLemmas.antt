@@ -74,12 +74,12 @@ inner_more : (levels : ℕ) (file : File) (ps qs : List ℕ) → ((x : ℕ) → 
 inner_more zero file ps qs more x at = at
 inner_more (suc levels) file ps qs more x at =
     let test : ℕ → Bool = λ p. is_some (children_in (page_at file p)) in
-    elim (Contains-append_cases (filter test ps) (inner_in levels file (flat_map (children_at file) ps)) x at) [
+    elim (Contains-append_cases (filter test ps) _ x at) [
       | inl here ↦
           let passed = of_filter test ps x here in
-          Contains-append_left (filter test qs) (inner_in levels file (flat_map (children_at file) qs)) x (in_filter test qs x (more x passed.0) passed.1)
+          Contains-append_left (filter test qs) _ x (in_filter test qs x (more x passed.0) passed.1)
       | inr later ↦
-          Contains-append_right (filter test qs) (inner_in levels file (flat_map (children_at file) qs)) x
+          Contains-append_right (filter test qs) _ x
           (inner_more levels file (flat_map (children_at file) ps) (flat_map (children_at file) qs)
           (λ y below.
           let found = of_flat_map (children_at file) ps y below in
@@ -91,13 +91,12 @@ inner_here : (levels : ℕ) (file : File) (p : ℕ) (page : Listed InternalItem)
 inner_here zero file p page some is = absurd (omega arith)
 inner_here (suc levels) file p page some is =
     let test : ℕ → Bool = λ q. is_some (children_in (page_at file q)) in
-    Contains-append_left (filter test (p ∷ [])) (inner_in levels file (flat_map (children_at file) (p ∷ []))) p
-    (in_filter test (p ∷ []) p (first_member p []) (ap (λ q. is_some (children_in q)) is))
+    Contains-append_left (filter test (p ∷ [])) _ p (in_filter test (p ∷ []) p (first_member p []) (ap (λ q. is_some (children_in q)) is))
 
 inner_below : (levels : ℕ) (file : File) (p child q : ℕ) → Contains (children_at file p) child → Contains (inner_in levels file (child ∷ [])) q
     → Contains (inner_in (suc levels) file (p ∷ [])) q
 inner_below levels file p child q held at =
-    Contains-append_right (filter (λ x. is_some (children_in (page_at file x))) (p ∷ [])) (inner_in levels file (flat_map (children_at file) (p ∷ []))) q
+    Contains-append_right (filter (λ x. is_some (children_in (page_at file x))) (p ∷ [])) _ q
     (inner_more levels file (child ∷ []) (flat_map (children_at file) (p ∷ []))
     (λ x only.
     subst (Contains (flat_map (children_at file) (p ∷ []))) (only_member child x only)

@@ -24,8 +24,7 @@ use Rattle.bdb_graph.proofs.ReachLemmas.{AllUpTo, few_distinct}
 use Rattle.bdb_tree.specs.Links.{IsLeafWalk, pages_from}
 use Rattle.bdb_tree.specs.Trees.{IsRoot, IsTreePage}
 use Rattle.bdb_tree.proofs.BelongLemmas.{Belongs, belongs, leaf_above}
-use Rattle.bdb_tree.proofs.TreeLemmas.{leaf_fits, leaf_inside, leaf_low, link_is_right, place_of_root, root_is_tree}
-use Rattle.bdb_tree.proofs.TreeLemmas.{tree_inside}
+use Rattle.bdb_tree.proofs.TreeLemmas.{leaf_fits, leaf_inside, leaf_low, link_is_right, place_of_root, root_is_tree, tree_inside}
 use Rattle.bdb_format.proofs.ReferenceLemmas.{count_is}
 use Rattle.bdb_format.proofs.ChainLemmas.{chain_few}
 use Rattle.bdb_format.proofs.ListLemmas.{any_member}
@@ -130,7 +129,7 @@ few_leaves image root forest is =
     let file : File = file_of image in
     let tree : IsTreePage file root = root_is_tree image root forest is in
     let distinct = no_leaf_twice image (header_in (page_at file root)).level root forest (tree_inside image root tree) in
-    let few = few_distinct file.last (leaves file root) distinct (up_to file.last (leaves file root) (λ q at. leaf_low image root q forest tree at)) in
+    let few = few_distinct file.last (leaves file root) distinct (up_to file.last _ (λ q at. leaf_low image root q forest tree at)) in
     omega (arith, few, last_page image, formed_last image (head_of image) forest.formed, count_is image)
 
 -- a walk from a leaf of a tree gives the leaves from there on

@@ -6,8 +6,7 @@ use Rattle.std.proofs.lemmas.Bool.{and_parts, cases_Bool, eqb-false, eqb-true, l
 use Rattle.bdb_format.specs.declared.metadata.FileKind.TheVariants.{Queue as QueueFile}
 use Rattle.bdb_format.specs.declared.metadata.Head.{Head}
 use Rattle.bdb_form.specs.declared.view.PageView.{PageView}
-use Rattle.bdb_form.specs.declared.view.PageView.TheVariants.{Meta as MetaView, Leaf as LeafView}
-use Rattle.bdb_form.specs.declared.view.PageView.TheVariants.{DupLeaf as DupLeafView}
+use Rattle.bdb_form.specs.declared.view.PageView.TheVariants.{Meta as MetaView, Leaf as LeafView, DupLeaf as DupLeafView}
 use Rattle.bdb_form.specs.Seen.{header_seen, page_seen}
 use Rattle.bdb_format.specs.declared.kinds.Order.{Order}
 use Rattle.bdb_format.specs.File.{file_of, header_in, kind_in, page_at, page_bytes, type_in}

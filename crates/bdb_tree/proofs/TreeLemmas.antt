@@ -22,8 +22,7 @@ use Rattle.bdb_format.specs.References.{asked_by, child_types, content_targets, 
 use Rattle.bdb_format.specs.References.{is_zero_page, targets_in, no_item, refs, root_types, contents_in}
 use Rattle.bdb_format.specs.Verdict.{reference_faults, structure_faults, structure_rows}
 use Rattle.bdb_format.proofs.GraphLemmas.{each_fits}
-use Rattle.bdb_format.proofs.MemberLemmas.{first_member, in_filter, in_flat_map, in_map, later_member, none_passes}
-use Rattle.bdb_format.proofs.MemberLemmas.{of_flat_map}
+use Rattle.bdb_format.proofs.MemberLemmas.{first_member, in_filter, in_flat_map, in_map, later_member, none_passes, of_flat_map}
 use Rattle.bdb_format.proofs.VerdictLemmas.{AllFail, no_rows_at, none_is_first_row}
 use Rattle.bdb_format.proofs.TargetLemmas.{held_named, own_held}
 use Rattle.bdb_format.specs.Flags.{is_recno}
@@ -274,7 +273,8 @@ leaves_have image P p q forest down tree =
     let same : r ≡ q = only_member r q (subst (λ ps. Contains ps q) (leaves_of_leaf file r leaf) at) in
     (subst P same here, subst (FitsLeafPage file) same leaf.type))
     (λ r inner below here at.
-    let found = of_flat_map (leaves file) inner.children q (subst (λ ps. Contains ps q) (leaves_of_inner image r inner.children forest inner.are) at) in
+    let under = subst (λ ps. Contains ps q) (leaves_of_inner image r inner.children forest inner.are) at in
+    let found = of_flat_map (leaves file) inner.children q under in
     below found.0 found.1 (down r found.0 inner.children here inner.are found.1) found.2) p refl tree
 
 -- each leaf at or below a page of a tree is a leaf
