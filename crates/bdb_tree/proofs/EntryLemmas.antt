@@ -1,7 +1,7 @@
 -- The entries of leaves, leaf by leaf, and the data of a set off the page.
 use Rattle.std.proofs.Common.{◌≡◌, ℕ, ◌≤◌, true, not, Bool, List, [], ◌∷◌, ◌++◌, map, refl, sym, ◌∙◌, ap, subst, arith}
 use Rattle.std.proofs.lemmas.List.{map-append}
-use Rattle.std.proofs.lemmas.List.Elements.{All-append, All-head, All-nil, All-rest, All-same, All-tail, Contains-get_or, filter-append}
+use Rattle.std.proofs.lemmas.List.Elements.{All-append, All-head, All-nil, All-rest, All-tail, Contains-get_or, filter-append}
 use Rattle.std.proofs.lemmas.Option.{slice_get-get_or}
 use Rattle.std.specs.Prelude.{get_or}
 use Rattle.std.specs.List.{Contains, filter, flat_map}

@@ -1,11 +1,10 @@
 -- Where no row of stage 6 holds, a walk by next pages from a leaf of a tree gives that leaf and those after it.
-use Rattle.std.proofs.Common.{◌≡◌, ◌⊎◌, ℕ, zero, suc, ◌+◌, ◌<◌, ◌≤◌, true, false, eqb, List, [], ◌∷◌, ◌++◌, length, arith, refl, sym, ◌∙◌, ap}
+use Rattle.std.proofs.Common.{◌≡◌, ◌⊎◌, ℕ, zero, suc, ◌<◌, ◌≤◌, true, false, List, [], ◌∷◌, ◌++◌, length, arith, refl, sym, ◌∙◌, ap}
 use Rattle.std.proofs.Common.{subst, inl, inr, append_assoc, length-append}
 use Rattle.std.specs.Prelude.{◌==◌, Some}
-use Rattle.std.specs.List.{AllByRecursion, Contains, IsDistinct, slice_get}
+use Rattle.std.specs.List.{Contains, slice_get}
 use Rattle.std.proofs.lemmas.Bool.{and_parts, eqb-true, ne_eqb, not-false}
 use Rattle.std.proofs.lemmas.List.Elements.{Contains-append_right}
-use Rattle.std.proofs.lemmas.Map.Steps.{length-le_from_distinct_below}
 use Rattle.bdb_format.specs.declared.metadata.Head.{Head}
 use Rattle.bdb_format.specs.declared.references.Sort.{Sort}
 use Rattle.bdb_format.specs.declared.references.Sort.TheVariants.{DuplicateRoot, Root}
@@ -15,7 +14,6 @@ use Rattle.bdb_format.specs.HeadOf.{head_of}
 use Rattle.bdb_format.specs.Leaves.{LeafPlace, first_or_zero, is_root_reference, leaf_places, leaves, places_from}
 use Rattle.bdb_format.specs.Verdict.{structure_faults}
 use Rattle.bdb_format.proofs.MemberLemmas.{first_member, later_member, member_cases, no_member}
-use Rattle.bdb_graph.specs.Forest.{AllDistinct, NotIn}
 use Rattle.bdb_graph.specs.Linked.{FitsLeafPage, IsForest, IsTarget}
 use Rattle.bdb_graph.proofs.FirstLemmas.{formed_last}
 use Rattle.bdb_graph.proofs.HeldLemmas.{last_page}
@@ -27,7 +25,6 @@ use Rattle.bdb_tree.proofs.BelongLemmas.{Belongs, belongs, leaf_above}
 use Rattle.bdb_tree.proofs.TreeLemmas.{leaf_fits, leaf_inside, leaf_low, link_is_right, place_of_root, root_is_tree, tree_inside}
 use Rattle.bdb_format.proofs.ReferenceLemmas.{count_is}
 use Rattle.bdb_format.proofs.ChainLemmas.{chain_few}
-use Rattle.bdb_format.proofs.ListLemmas.{any_member}
 
 -- Next pages.
 

@@ -186,9 +186,11 @@ typed_formed head number page =
     if_type P (byte == 0) FreePage _ (λ is none. tt) (λ _.
     if_type P (byte == 2) HashPage _ (λ is none. hash_formed head.order page 2 (eqb-true byte 2 is) refl none) (λ _.
     if_type P (byte == 3) InternalPage _ (λ is none.
-    let passed = tests head.order page InternalPage none in
-    (ltb-false (byte_at page 24) 2 passed.level, some_items head.order page (internal_item_at head.order page) passed.entries,
-    keys_are_no_trees head.order page)) (λ _.
+    let passed = tests head.order page InternalPage none in (
+      ltb-false (byte_at page 24) 2 passed.level,
+      some_items head.order page (internal_item_at head.order page) passed.entries,
+      keys_are_no_trees head.order page,
+    )) (λ _.
     if_type P (byte == 4) RecnoInternalPage _ (λ is none.
     let passed = tests head.order page RecnoInternalPage none in
     (ltb-false (byte_at page 24) 2 passed.level, some_items head.order page (recno_item_at head.order page) passed.entries)) (λ _.
