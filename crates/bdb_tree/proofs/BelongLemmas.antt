@@ -2,85 +2,47 @@
 use Rattle.std.proofs.Common.{◌≡◌, ◌⊎◌, ℕ, zero, suc, ◌≤◌, Bool, true, false, ◌&&◌, ◌||◌, List, [], ◌∷◌, Option, Some, None, arith, refl, sym, ◌∙◌}
 use Rattle.std.proofs.Common.{ap, subst, inl, inr, true≢false}
 use Rattle.std.specs.Prelude.{◌==◌}
-use Rattle.std.specs.List.{Contains, filter}
+use Rattle.std.specs.List.{Contains}
 use Rattle.std.proofs.lemmas.Bool.{cases_Bool, not-false, or_from}
 use Rattle.bdb_format.specs.declared.kinds.Order.{Order}
 use Rattle.bdb_format.specs.declared.metadata.FileKind.{FileKind}
-use Rattle.bdb_format.specs.declared.metadata.FileKind.TheVariants.{Btree, Hash as HashFile, Queue as QueueFile}
+use Rattle.bdb_format.specs.declared.metadata.FileKind.TheVariants.{Btree, Queue as QueueFile}
 use Rattle.bdb_format.specs.declared.metadata.Head.{Head}
 use Rattle.bdb_format.specs.declared.references.Reference.{Reference}
 use Rattle.bdb_format.specs.declared.references.Sort.{Sort}
-use Rattle.bdb_format.specs.declared.references.Sort.TheVariants.{Free as FreeRef, Root, Bucket, HashNext, Child, OverflowHead, OverflowNext}
-use Rattle.bdb_format.specs.declared.references.Sort.TheVariants.{DuplicateRoot}
+use Rattle.bdb_format.specs.declared.references.Sort.TheVariants.{Root, Child, DuplicateRoot}
 use Rattle.bdb_format.specs.File.{File, file_of, page_at, page_bytes, type_in}
 use Rattle.bdb_format.specs.Graph.{Owner, all_references, first_holder, is_anchor, is_anchor_in, is_meta, is_reserve, is_spare, owners}
 use Rattle.bdb_format.specs.HeadOf.{head_of}
 use Rattle.bdb_format.specs.Leaves.{children_in, leaves}
 use Rattle.bdb_format.specs.Numbers.{byte_at}
-use Rattle.bdb_format.specs.Page.{BtreeFields, HashFields, QueueFields, Page, Zero, Free, Meta, Hash, Internal, RecnoInternal, Leaf, RecnoLeaf}
-use Rattle.bdb_format.specs.Page.{DupLeaf, Overflow, Queue, NoType}
+use Rattle.bdb_format.specs.Page.{Page, Internal, RecnoInternal}
 use Rattle.bdb_format.specs.Reading.{abstract_page, is_zero, page_as, page_type}
 use Rattle.bdb_format.specs.References.{asked_by, child_types, fit_code, fit_rows, has_type, is_zero_page, refs}
-use Rattle.bdb_format.specs.Rows.{form_code, identity_rows, may_have_type, type_of, typed_code}
-use Rattle.bdb_format.specs.Table.{first_row}
-use Rattle.bdb_format.proofs.GraphLemmas.{IsOwner, is_owner, owner_fits, reserve_is}
+use Rattle.bdb_format.specs.Rows.{form_code, type_of}
+use Rattle.bdb_format.proofs.GraphLemmas.{IsOwner, is_owner, owner_fits, reserve_is, typed_page, zero_page}
 use Rattle.bdb_format.proofs.MemberLemmas.{first_member, in_filter, in_flat_map, in_map, of_filter}
 use Rattle.bdb_format.proofs.VerdictLemmas.{AllFail, none_is_first_row}
 use Rattle.bdb_graph.specs.Forest.{IsWayUp, LeadsUp, is_top}
 use Rattle.bdb_graph.specs.Linked.{FitsLeafPage, IsForest, IsTarget}
-use Rattle.bdb_graph.proofs.ChildLemmas.{children_are, children_of, is_child}
+use Rattle.bdb_graph.proofs.ChildLemmas.{children_are, is_child, is_queue_page}
 use Rattle.bdb_graph.proofs.CodeLemmas.{is_same, two_none}
 use Rattle.bdb_graph.proofs.FirstLemmas.{formed_page}
 use Rattle.bdb_graph.proofs.ForestLemmas.{each_page_leads_up, sound_graph}
-use Rattle.bdb_graph.proofs.HeldLemmas.{page_is}
+use Rattle.bdb_graph.proofs.HeldLemmas.{identity_none, page_is}
 use Rattle.bdb_tree.specs.Trees.{IsRoot, IsTreePage}
-use Rattle.bdb_graph.proofs.ChildLemmas.{is_queue_page}
-use Rattle.bdb_tree.proofs.ShapeLemmas.{IsFormedPage, IsLeafPage, no_queue}
-use Rattle.bdb_tree.proofs.TreeLemmas.{formed_at, leaf_is_tree, leaves_of_inner, leaves_of_leaf, tree_cases, tree_inside}
-
--- Which pages have the type of a tree.
-
-abbrev is_tree_in : Page → Bool
-is_tree_in (Internal page) = true
-is_tree_in (RecnoInternal page) = true
-is_tree_in (Leaf page) = true
-is_tree_in (RecnoLeaf page) = true
-is_tree_in (DupLeaf page) = true
-is_tree_in page = false
-
-tree_in : (page : Page) → IsFormedPage page → has_type (3 ∷ 4 ∷ 5 ∷ 6 ∷ 12 ∷ []) (type_in page) ≡ true → is_tree_in page ≡ true
-tree_in Zero formed has = absurd cc
-tree_in (Free header) formed has = absurd cc
-tree_in (Meta (BtreeFields meta)) formed has = absurd cc
-tree_in (Meta (HashFields meta)) formed has = absurd cc
-tree_in (Meta (QueueFields meta)) formed has = absurd cc
-tree_in (Hash page) formed has = absurd (true≢false (sym has ∙ formed.0))
-tree_in (Internal page) formed has = refl
-tree_in (RecnoInternal page) formed has = refl
-tree_in (Leaf page) formed has = refl
-tree_in (RecnoLeaf page) formed has = refl
-tree_in (DupLeaf page) formed has = refl
-tree_in (Overflow header piece) formed has = absurd cc
-tree_in (Queue number records) formed has = absurd cc
-tree_in NoType formed has = absurd cc
-
-tree_is : (image : List ℕ) (p : ℕ) → IsForest image → IsTreePage (file_of image) p → is_tree_in (page_at (file_of image) p) ≡ true
-tree_is image p forest tree = tree_in (page_at (file_of image) p) (formed_at image p forest (tree_inside image p tree)) tree
+use Rattle.bdb_tree.proofs.ShapeLemmas.{IsLeafPage, is_tree_in, no_queue}
+use Rattle.bdb_tree.proofs.TreeLemmas.{inner_type, leaf_is_tree, leaves_of_inner, leaves_of_leaf, tree_cases, tree_inside, tree_is}
 
 -- A page of a tree is neither an anchor nor a reserve.
 
 plain : (page : Page) → is_tree_in page ≡ true → (is_queue_page page ≡ false) × (is_meta page ≡ false) × (is_spare page ≡ false)
 plain (Internal page) is = (refl, refl, refl)
-plain (RecnoInternal page) is = (refl, refl, refl)
-plain (Leaf page) is = (refl, refl, refl)
-plain (RecnoLeaf page) is = (refl, refl, refl)
-plain (DupLeaf page) is = (refl, refl, refl)
-plain page is = absurd cc
+plain page is = (cc, cc, cc)
 
 no_anchor_in : (kind : FileKind) (page : Page) → (kind ≡ QueueFile → ⊥) → is_meta page ≡ false → is_anchor_in kind page ≡ false
-no_anchor_in Btree page other none = none
-no_anchor_in HashFile page other none = none
 no_anchor_in QueueFile page other none = absurd (other refl)
+no_anchor_in kind page other none = none
 
 no_anchor : (image : List ℕ) (p : ℕ) → IsForest image → p ≤ (file_of image).last → is_tree_in (page_at (file_of image) p) ≡ true
     → is_anchor (file_of image) p ≡ false
@@ -109,46 +71,17 @@ no_top image p forest tree top =
 abbrev is_of : List ℕ → Bool → Page → Bool
 is_of types zeros page = has_type types (type_in page) || (zeros && is_zero_page page)
 
--- a type that no page of a tree has
-abbrev IsOther : List ℕ → Type 0
-IsOther types =
-    (has_type types (Some 3) ≡ false) × (has_type types (Some 4) ≡ false) × (has_type types (Some 5) ≡ false) × (has_type types (Some 6) ≡ false)
-    × (has_type types (Some 12) ≡ false)
+-- a page of a tree is named as a root or as a child
+abbrev IsNamedAs : Sort → Type 0
+IsNamedAs sort = (sort ≡ Root) ⊎ ((sort ≡ DuplicateRoot) ⊎ (sort ≡ Child))
 
-not_of : (types : List ℕ) (zeros : Bool) (type : ℕ) (b : Bool) → b ≡ false → has_type types (Some type) ≡ false
-    → (has_type types (Some type) || (zeros && b)) ≡ false
-not_of types true type b empty other = or_from (has_type types (Some type)) b other empty
-not_of types false type b empty other = or_from (has_type types (Some type)) false other refl
-
-other_type : (types : List ℕ) (zeros : Bool) (page : Page) → IsOther types → is_tree_in page ≡ true → is_of types zeros page ≡ false
-other_type types zeros (Internal page) other is = not_of types zeros 3 false refl other.0
-other_type types zeros (RecnoInternal page) other is = not_of types zeros 4 false refl other.1
-other_type types zeros (Leaf page) other is = not_of types zeros 5 false refl other.2
-other_type types zeros (RecnoLeaf page) other is = not_of types zeros 6 false refl other.3
-other_type types zeros (DupLeaf page) other is = not_of types zeros 12 false refl other.4
-other_type types zeros page other is = absurd cc
-
-abbrev is_tree_sort : Sort → Bool
-is_tree_sort Root = true
-is_tree_sort Child = true
-is_tree_sort DuplicateRoot = true
-is_tree_sort sort = false
-
--- a reference to a page of a tree is one to a root or to a child
-tree_sort : (holder : ℕ) (page target : Page) (sort : Sort) → is_tree_in target ≡ true
-    → is_of (asked_by holder page sort).types (asked_by holder page sort).or_zero target ≡ true → is_tree_sort sort ≡ true
-tree_sort holder page target FreeRef is asked = absurd (true≢false (sym asked ∙ other_type (0 ∷ []) false target (refl, refl, refl, refl, refl) is))
-tree_sort holder page target Root is asked = refl
-tree_sort holder page target Bucket is asked =
-    absurd (true≢false (sym asked ∙ other_type (2 ∷ 13 ∷ []) true target (refl, refl, refl, refl, refl) is))
-tree_sort holder page target HashNext is asked =
-    absurd (true≢false (sym asked ∙ other_type (2 ∷ 13 ∷ []) false target (refl, refl, refl, refl, refl) is))
-tree_sort holder page target Child is asked = refl
-tree_sort holder page target OverflowHead is asked =
-    absurd (true≢false (sym asked ∙ other_type (7 ∷ []) false target (refl, refl, refl, refl, refl) is))
-tree_sort holder page target OverflowNext is asked =
-    absurd (true≢false (sym asked ∙ other_type (7 ∷ []) false target (refl, refl, refl, refl, refl) is))
-tree_sort holder page target DuplicateRoot is asked = refl
+named_as : (holder : ℕ) (page target : Page) (sort : Sort) → is_tree_in target ≡ true
+    → is_of (asked_by holder page sort).types (asked_by holder page sort).or_zero target ≡ true → IsNamedAs sort
+named_as holder page target Root is asks = inl refl
+named_as holder page target DuplicateRoot is asks = inr (inl refl)
+named_as holder page target Child is asks = inr (inr refl)
+named_as holder page (Internal target) sort is asks = absurd cc
+named_as holder page target sort is asks = absurd cc
 
 -- what is asked of the target of a reference that fits
 asked : (file : File) (p : ℕ) (reference : Reference) → fit_code file p reference ≡ None
@@ -159,16 +92,6 @@ asked file p reference fits =
     let rows = fit_rows file (asked_by p (page_at file p) reference.sort) reference.target in
     let fail : AllFail rows = none_is_first_row rows fits in
     not-false _ fail.1.0
-
--- a page of a tree is named as a root or as a child
-abbrev IsNamedAs : Sort → Type 0
-IsNamedAs sort = (sort ≡ Root) ⊎ ((sort ≡ DuplicateRoot) ⊎ (sort ≡ Child))
-
-named_as : (sort : Sort) → is_tree_sort sort ≡ true → IsNamedAs sort
-named_as Root is = inl refl
-named_as DuplicateRoot is = inr (inl refl)
-named_as Child is = inr (inr refl)
-named_as sort is = absurd cc
 
 owner_of : (os : List Owner) (h : ℕ) → first_holder os ≡ Some h → (owner : Owner) × Contains os owner × (owner.holder ≡ h)
 owner_of [] h some = absurd cc
@@ -192,56 +115,37 @@ pub record InTree (file : File) (p : ℕ) : Type 0 where
 root_itself : (file : File) (p : ℕ) → IsRoot file p → InTree file p
 root_itself file p is = record { root = p; is = is; all = λ x at. at }
 
-no_zero : (types : List ℕ) (page : Page) → is_of types false page ≡ true → has_type types (type_in page) ≡ true
-no_zero types page is = of (has_type types (type_in page)) is
-  where
-    of : (b : Bool) → (b || false) ≡ true → b ≡ true
-    of true some = refl
-    of false some = absurd cc
-
-nothing : (o : Option ℕ) → has_type [] o ≡ false
-nothing None = refl
-nothing (Some t) = refl
+nothing : (type : Option ℕ) → (has_type [] type || false) ≡ true → ⊥
+nothing None is = cc
+nothing (Some t) is = cc
 
 -- the holder of a reference to a child is an internal page
 some_children : (page target : Page) → is_of (child_types page) false target ≡ true → (cs : List ℕ) × (children_in page ≡ Some cs)
 some_children (Internal page) target is = (_, refl)
 some_children (RecnoInternal page) target is = (_, refl)
-some_children page target is = absurd (true≢false (sym (no_zero [] target is) ∙ nothing (type_in target)))
-
-asked_child : (holder : ℕ) (page target : Page) (sort : Sort) → sort ≡ Child
-    → is_of (asked_by holder page sort).types (asked_by holder page sort).or_zero target ≡ true → is_of (child_types page) false target ≡ true
-asked_child holder page target Child is asks = asks
-asked_child holder page target sort is asks = absurd cc
-
-internal_type : (page : Page) (cs : List ℕ) → children_in page ≡ Some cs → has_type (3 ∷ 4 ∷ 5 ∷ 6 ∷ 12 ∷ []) (type_in page) ≡ true
-internal_type (Internal page) cs some = refl
-internal_type (RecnoInternal page) cs some = refl
-internal_type page cs some = absurd cc
+some_children page target is = absurd (nothing (type_in target) is)
 
 -- the holder of a reference to a child has the leaves of the child
 record IsParent (file : File) (h p : ℕ) : Type 0 where
   tree : IsTreePage file h
   all : (x : ℕ) → Contains (leaves file p) x → Contains (leaves file h) x
 
-child_listed : (file : File) (h : ℕ) (reference : Reference) → Contains (refs file h) reference → reference.sort ≡ Child
-    → Contains (children_of file h) reference.target
-child_listed file h reference held child =
-    in_map (λ (r : Reference). r.target) (filter (λ (r : Reference). is_child r.sort) (refs file h)) reference
-    (in_filter (λ (r : Reference). is_child r.sort) (refs file h) reference held (ap is_child child))
-
 parent : (image : List ℕ) (h : ℕ) (reference : Reference) → IsForest image → h ≤ (file_of image).last → Contains (refs (file_of image) h) reference
     → reference.sort ≡ Child → fit_code (file_of image) h reference ≡ None
     → IsParent (file_of image) h reference.target
 parent image h reference forest low held child none =
     let file : File = file_of image in
+    let target : Page = page_at file reference.target in
     let inner : (cs : List ℕ) × (children_in (page_at file h) ≡ Some cs) =
-    some_children (page_at file h) (page_at file reference.target)
-    (asked_child h (page_at file h) (page_at file reference.target) reference.sort child (asked file h reference none)) in
+    some_children (page_at file h) target
+    (subst (λ s. is_of (asked_by h (page_at file h) s).types (asked_by h (page_at file h) s).or_zero target ≡ true) child
+    (asked file h reference none)) in
     let at : Contains inner.0 reference.target =
-    subst (λ cs. Contains cs reference.target) (children_are image h inner.0 forest low inner.1) (child_listed file h reference held child) in
+    subst (λ cs. Contains cs reference.target) (children_are image h inner.0 forest low inner.1)
+    (in_map (λ (r : Reference). r.target) _ reference
+    (in_filter (λ (r : Reference). is_child r.sort) (refs file h) reference held (ap is_child child))) in
     record {
-      tree = internal_type (page_at file h) inner.0 inner.1;
+      tree = inner_type (page_at file h) inner.0 inner.1;
       all = λ x in_child. subst (λ xs. Contains xs x) (sym (leaves_of_inner image h inner.0 forest inner.1))
           (in_flat_map (leaves file) inner.0 reference.target x at in_child);
     }
@@ -250,14 +154,14 @@ up : (image : List ℕ) (p : ℕ) (hs : List ℕ) → IsForest image → IsTreeP
 up image p [] forest tree way = absurd (no_top image p forest tree way)
 up image p (h ∷ hs) forest tree way =
     let file : File = file_of image in
-    let found : (owner : Owner) × Contains (owners file p) owner × (owner.holder ≡ h) = owner_of (owners file p) h way.0 in
+    let found = owner_of (owners file p) h way.0 in
     let owner : Owner = found.0 in
     let reference : Reference = owner.reference in
     let is : IsOwner file p owner = is_owner file p owner found.1 in
     let none : fit_code file owner.holder reference ≡ None = owner_fits file p owner (sound_graph image forest.linked).references found.1 in
     let target : is_tree_in (page_at file reference.target) ≡ true = ap (λ q. is_tree_in (page_at file q)) is.names ∙ tree_is image p forest tree in
-    elim (named_as reference.sort (tree_sort owner.holder (page_at file owner.holder) (page_at file reference.target) reference.sort target
-    (asked file owner.holder reference none))) [
+    elim (named_as owner.holder (page_at file owner.holder) (page_at file reference.target) reference.sort target
+    (asked file owner.holder reference none)) [
       | inl root ↦ root_itself file p (inl (target_of file p owner Root found.1 root))
       | inr (inl set) ↦ root_itself file p (inr (target_of file p owner DuplicateRoot found.1 set))
       | inr (inr child) ↦
@@ -270,32 +174,23 @@ up image p (h ∷ hs) forest tree way =
 
 -- Page 0.
 
-identity_passes : (zeros : Bool) (identity typed : Option ℕ)
-    → ◌≡◌ {A = Option ℕ} (elim (false && zeros) [ true ↦ None | false ↦ elim identity [ Some code ↦ Some code | None ↦ typed ] ]) None
-    → identity ≡ None
-identity_passes zeros None typed none = refl
-identity_passes zeros (Some code) typed none = absurd cc
-
 own_type : (head : Head) (page : List ℕ) → form_code head 0 page ≡ None → byte_at page 25 ≡ type_of head.kind
 unfolding form_code
 own_type head page none =
     is_same (byte_at page 25) (type_of head.kind)
-    (two_none _ _ (identity_passes (is_zero page) (first_row (identity_rows head.order page 0 (may_have_type head.kind 0)))
-    (typed_code head 0 page (page_type (byte_at page 25))) none))
+    (two_none _ _ (identity_none _ _ none))
 
 no_tree_type : (kind : FileKind) (order : Order) (page : List ℕ) (byte : ℕ) → byte ≡ type_of kind
     → is_tree_in (page_as order page (page_type byte)) ≡ false
 no_tree_type Btree order page byte is = ap (λ b. is_tree_in (page_as order page (page_type b))) is
-no_tree_type HashFile order page byte is = ap (λ b. is_tree_in (page_as order page (page_type b))) is
-no_tree_type QueueFile order page byte is = ap (λ b. is_tree_in (page_as order page (page_type b))) is
+no_tree_type kind order page byte is = ap (λ b. is_tree_in (page_as order page (page_type b))) is
 
 no_tree_page : (head : Head) (page : List ℕ) → form_code head 0 page ≡ None → is_tree_in (abstract_page head.order page) ≡ false
-unfolding abstract_page
 no_tree_page head page none =
-    elim (is_zero page) as (λ zeros.
-    is_tree_in (elim zeros [ true ↦ Zero | false ↦ page_as head.order page (page_type (byte_at page 25)) ]) ≡ false) [
-      | true ↦ refl
-      | false ↦ no_tree_type head.kind head.order page (byte_at page 25) (own_type head page none)
+    elim (cases_Bool (is_zero page)) [
+      | inl zeros ↦ ap is_tree_in (zero_page head.order page zeros)
+      | inr some ↦
+          ap is_tree_in (typed_page head.order page some) ∙ no_tree_type head.kind head.order page (byte_at page 25) (own_type head page none)
     ]
 
 -- page 0 is metadata, no page of a tree
@@ -311,23 +206,14 @@ leaf_above image p forest leaf = tree_above image p forest (leaf_is_tree (file_o
 
 -- A leaf page.
 
-leaf_has_none : (page : Page) → is_tree_in page ≡ true → has_type (5 ∷ 6 ∷ 12 ∷ []) (type_in page) ≡ true → children_in page ≡ None
-leaf_has_none (Internal page) is leaf = absurd cc
-leaf_has_none (RecnoInternal page) is leaf = absurd cc
-leaf_has_none (Leaf page) is leaf = refl
-leaf_has_none (RecnoLeaf page) is leaf = refl
-leaf_has_none (DupLeaf page) is leaf = refl
-leaf_has_none page is leaf = absurd cc
-
-not_both : (o : Option (List ℕ)) (cs : List ℕ) → o ≡ None → o ≡ Some cs → ⊥
-not_both o cs none some = cc
+inner_no_leaf : (page : Page) (cs : List ℕ) → children_in page ≡ Some cs → has_type (5 ∷ 6 ∷ 12 ∷ []) (type_in page) ≡ true → ⊥
+inner_no_leaf (Internal page) cs are leaf = cc
+inner_no_leaf page cs are leaf = cc
 
 pub leaf_is : (image : List ℕ) (p : ℕ) → IsForest image → FitsLeafPage (file_of image) p → IsLeafPage (page_at (file_of image) p)
 leaf_is image p forest leaf =
-    let tree : IsTreePage (file_of image) p = leaf_is_tree (file_of image) p leaf in
-    elim (tree_cases image p forest tree) [
-      | inl inner ↦ absurd (not_both (children_in (page_at (file_of image) p)) inner.children
-          (leaf_has_none (page_at (file_of image) p) (tree_is image p forest tree) leaf) inner.are)
+    elim (tree_cases image p forest (leaf_is_tree (file_of image) p leaf)) [
+      | inl inner ↦ absurd (inner_no_leaf (page_at (file_of image) p) inner.children inner.are leaf)
       | inr is ↦ is
     ]
 

@@ -12,11 +12,13 @@ use Rattle.bdb_format.specs.ContentRows.{inner_in, inner_pages}
 use Rattle.bdb_format.specs.File.{File, file_of, header_in, page_at, type_in}
 use Rattle.bdb_format.specs.Leaves.{children_in}
 use Rattle.bdb_format.specs.Page.{InternalItem, Internal, Listed}
-use Rattle.bdb_format.proofs.MemberLemmas.{first_member, in_filter, in_flat_map, member_cases, no_member, of_filter, of_flat_map}
+use Rattle.bdb_format.proofs.ListLemmas.{only_member}
+use Rattle.bdb_format.proofs.MemberLemmas.{first_member, in_filter, in_flat_map, of_filter, of_flat_map}
+use Rattle.bdb_tree.specs.Trees.{children_at}
 use Rattle.bdb_format.specs.References.{has_type}
-use Rattle.bdb_tree.proofs.ShapeLemmas.{IsFormedPage}
-use Rattle.bdb_tree.proofs.TreeLemmas.{IsChild, formed_at, level, typed_inside}
-use Rattle.bdb_tree.specs.Descent.{AllMonotone, AllReadable, AreReadable, IsLastFalse, IsMonotone, chosen}
+use Rattle.bdb_tree.proofs.ShapeLemmas.{IsFormedPage, formed_at}
+use Rattle.bdb_tree.proofs.TreeLemmas.{IsChild, level, typed_inside}
+use Rattle.bdb_tree.specs.Descent.{IsLastFalse, IsMonotone, chosen}
 
 -- The item that is chosen.
 
@@ -67,24 +69,21 @@ pub record IsBetween (test : InternalItem → Bool) (items : List InternalItem) 
 
 -- The internal pages of a tree.
 
-abbrev kids : File → ℕ → List ℕ
-kids file p = unwrap_or (children_in (page_at file p)) []
-
 inner_more : (levels : ℕ) (file : File) (ps qs : List ℕ) → ((x : ℕ) → Contains ps x → Contains qs x) → (x : ℕ) → Contains (inner_in levels file ps) x
     → Contains (inner_in levels file qs) x
 inner_more zero file ps qs more x at = at
 inner_more (suc levels) file ps qs more x at =
     let test : ℕ → Bool = λ p. is_some (children_in (page_at file p)) in
-    elim (Contains-append_cases (filter test ps) (inner_in levels file (flat_map (kids file) ps)) x at) [
+    elim (Contains-append_cases (filter test ps) _ x at) [
       | inl here ↦
-          let passed : Contains ps x × (test x ≡ true) = of_filter test ps x here in
-          Contains-append_left (filter test qs) (inner_in levels file (flat_map (kids file) qs)) x (in_filter test qs x (more x passed.0) passed.1)
+          let passed = of_filter test ps x here in
+          Contains-append_left (filter test qs) _ x (in_filter test qs x (more x passed.0) passed.1)
       | inr later ↦
-          Contains-append_right (filter test qs) (inner_in levels file (flat_map (kids file) qs)) x
-          (inner_more levels file (flat_map (kids file) ps) (flat_map (kids file) qs)
+          Contains-append_right (filter test qs) _ x
+          (inner_more levels file (flat_map (children_at file) ps) (flat_map (children_at file) qs)
           (λ y below.
-          let found : (p : ℕ) × Contains ps p × Contains (kids file p) y = of_flat_map (kids file) ps y below in
-          in_flat_map (kids file) qs found.0 y (more found.0 found.1) found.2) x later)
+          let found = of_flat_map (children_at file) ps y below in
+          in_flat_map (children_at file) qs found.0 y (more found.0 found.1) found.2) x later)
     ]
 
 inner_here : (levels : ℕ) (file : File) (p : ℕ) (page : Listed InternalItem) → 1 ≤ levels → page_at file p ≡ Internal page
@@ -92,19 +91,16 @@ inner_here : (levels : ℕ) (file : File) (p : ℕ) (page : Listed InternalItem)
 inner_here zero file p page some is = absurd (omega arith)
 inner_here (suc levels) file p page some is =
     let test : ℕ → Bool = λ q. is_some (children_in (page_at file q)) in
-    Contains-append_left (filter test (p ∷ [])) (inner_in levels file (flat_map (kids file) (p ∷ []))) p
-    (in_filter test (p ∷ []) p (first_member p []) (ap (λ q. is_some (children_in q)) is))
+    Contains-append_left (filter test (p ∷ [])) _ p (in_filter test (p ∷ []) p (first_member p []) (ap (λ q. is_some (children_in q)) is))
 
-inner_below : (levels : ℕ) (file : File) (p child q : ℕ) → Contains (kids file p) child → Contains (inner_in levels file (child ∷ [])) q
+inner_below : (levels : ℕ) (file : File) (p child q : ℕ) → Contains (children_at file p) child → Contains (inner_in levels file (child ∷ [])) q
     → Contains (inner_in (suc levels) file (p ∷ [])) q
 inner_below levels file p child q held at =
-    Contains-append_right (filter (λ x. is_some (children_in (page_at file x))) (p ∷ [])) (inner_in levels file (flat_map (kids file) (p ∷ []))) q
-    (inner_more levels file (child ∷ []) (flat_map (kids file) (p ∷ []))
+    Contains-append_right (filter (λ x. is_some (children_in (page_at file x))) (p ∷ [])) _ q
+    (inner_more levels file (child ∷ []) (flat_map (children_at file) (p ∷ []))
     (λ x only.
-    elim (member_cases child [] x only) [
-      | inl same ↦ subst (Contains (flat_map (kids file) (p ∷ []))) same (in_flat_map (kids file) (p ∷ []) p child (first_member p []) held)
-      | inr none ↦ absurd (no_member [] x refl none)
-    ]) q at)
+    subst (Contains (flat_map (children_at file) (p ∷ []))) (only_member child x only)
+    (in_flat_map (children_at file) (p ∷ []) p child (first_member p []) held)) q at)
 
 -- an internal page is one of its own tree
 pub is_inner : (file : File) (p : ℕ) (page : Listed InternalItem) → 1 ≤ page.header.level → page_at file p ≡ Internal page
@@ -133,20 +129,13 @@ pub some_items : (image : List ℕ) (p : ℕ) (view : Listed InternalItem) → I
     → Internal view ≡ page_at (file_of image) p → 0 < length view.items
 some_items image p view forest low is = (internal_is image p view forest low (sym is)).1
 
-is_inner_here : (image : List ℕ) (p : ℕ) (view : Listed InternalItem) → IsForest image → p ≤ (file_of image).last
-    → Internal view ≡ page_at (file_of image) p → Contains (inner_pages (file_of image) p) p
-is_inner_here image p view forest low is =
-    let high : 2 ≤ view.header.level = (internal_is image p view forest low (sym is)).0 in is_inner (file_of image) p view (omega arith) (sym is)
-
-pub readable_here : (image : List ℕ) (reads : InternalItem → Type 0) (p : ℕ) (view : Listed InternalItem) → IsForest image → p ≤ (file_of image).last
-    → AllReadable (file_of image) reads p
-    → Internal view ≡ page_at (file_of image) p → AreReadable reads view.items
-readable_here image reads p view forest low readable is = readable p view (is_inner_here image p view forest low is) (sym is)
-
-pub monotone_here : (image : List ℕ) (test : InternalItem → Bool) (p : ℕ) (view : Listed InternalItem) → IsForest image → p ≤ (file_of image).last
-    → AllMonotone (file_of image) test p
-    → Internal view ≡ page_at (file_of image) p → IsMonotone test view.items
-monotone_here image test p view forest low monotone is = monotone p view (is_inner_here image p view forest low is) (sym is)
+-- what holds of each internal page of a tree holds of its root
+pub holds_here : (image : List ℕ) (P : List InternalItem → Type 0) (p : ℕ) (view : Listed InternalItem) → IsForest image → p ≤ (file_of image).last
+    → ((q : ℕ) (page : Listed InternalItem) → Contains (inner_pages (file_of image) p) q → page_at (file_of image) q ≡ Internal page → P page.items)
+    → Internal view ≡ page_at (file_of image) p → P view.items
+holds_here image P p view forest low all is =
+    let high : 2 ≤ view.header.level = (internal_is image p view forest low (sym is)).0 in
+    all p view (is_inner (file_of image) p view (omega arith) (sym is)) (sym is)
 
 -- For callers.
 

@@ -1,16 +1,15 @@
 -- The way down a tree by first children ends at its first leaf.
 use Rattle.std.proofs.Common.{◌≡◌, ℕ, ◌<◌, ◌≤◌, List, [], ◌∷◌, ◌++◌, map, length, Option, Some, None, arith, refl, sym, ◌∙◌, ap, subst, inl, inr}
 use Rattle.std.specs.List.{flat_map, slice_get}
-use Rattle.bdb_format.specs.declared.pages.RecnoItem.{RecnoItem}
 use Rattle.bdb_format.specs.File.{File, file_of, header_in, page_at}
 use Rattle.bdb_format.specs.Leaves.{children_in, leaves}
-use Rattle.bdb_format.specs.Page.{InternalItem, Page, Internal, RecnoInternal}
+use Rattle.bdb_format.specs.Page.{Page, Internal, RecnoInternal}
 use Rattle.bdb_format.proofs.MemberLemmas.{first_member}
 use Rattle.bdb_graph.specs.Linked.{FitsLeafPage, IsForest}
 use Rattle.bdb_tree.specs.Links.{HasItem, first_below}
 use Rattle.bdb_tree.specs.Trees.{IsTreePage}
-use Rattle.bdb_tree.proofs.ShapeLemmas.{IsFormedPage}
-use Rattle.bdb_tree.proofs.TreeLemmas.{IsChild, child_is, formed_at, leaves_of_inner, leaves_of_leaf, some_leaf, tree_cases}
+use Rattle.bdb_tree.proofs.ShapeLemmas.{IsFormedPage, formed_at}
+use Rattle.bdb_tree.proofs.TreeLemmas.{IsChild, child_is, leaves_of_inner, leaves_of_leaf, some_leaf, tree_cases}
 
 -- a page of a tree whose first leaf is that of another page
 pub record HasFirstOf (file : File) (root p : ℕ) : Type 0 where
@@ -43,7 +42,7 @@ pub record StepsDown (image : List ℕ) (root p c : ℕ) : Type 0 where
 pub steps_down : (image : List ℕ) (root p c : ℕ) → IsForest image → HasFirstOf (file_of image) root p
     → Some c ≡ first_below (children_in (page_at (file_of image) p)) → StepsDown image root p c
 steps_down image root p c forest here some =
-    let found : (cs : List ℕ) × (children_in (page_at (file_of image) p) ≡ Some (c ∷ cs)) = begins (children_in (page_at (file_of image) p)) c some in
+    let found = begins (children_in (page_at (file_of image) p)) c some in
     let child : IsChild (file_of image) p c = child_is image p c (c ∷ found.0) forest found.1 (first_member c found.0) in
     record {
       first = record { tree = child.tree; same = here.same ∙ first_child image p c found.0 forest found.1 };
@@ -78,12 +77,7 @@ item_of page formed = tt
 pub has_item : (image : List ℕ) (p : ℕ) (page : Page) → IsForest image → p ≤ (file_of image).last → page ≡ page_at (file_of image) p → HasItem page
 has_item image p page forest low is = subst HasItem (sym is) (item_of (page_at (file_of image) p) (formed_at image p forest low))
 
-pub first_of_internal : (items : List InternalItem) (item : InternalItem) → slice_get items 0 ≡ Some item
-    → Some item.child ≡ first_below (Some (map (λ (x : InternalItem). x.child) items))
-first_of_internal [] item some = absurd cc
-first_of_internal (x ∷ xs) item some = let same : x ≡ item = cc in ap (λ (y : InternalItem). Some y.child) (sym same)
-
-pub first_of_recno : (items : List RecnoItem) (item : RecnoItem) → slice_get items 0 ≡ Some item
-    → Some item.child ≡ first_below (Some (map (λ (x : RecnoItem). x.child) items))
-first_of_recno [] item some = absurd cc
-first_of_recno (x ∷ xs) item some = let same : x ≡ item = cc in ap (λ (y : RecnoItem). Some y.child) (sym same)
+pub first_of_items : {X : Type 0} (child : X → ℕ) (items : List X) (item : X) → slice_get items 0 ≡ Some item
+    → Some (child item) ≡ first_below (Some (map child items))
+first_of_items child [] item some = absurd cc
+first_of_items child (x ∷ xs) item some = let same : x ≡ item = cc in ap (λ y. Some (child y)) (sym same)

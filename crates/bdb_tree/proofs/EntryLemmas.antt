@@ -1,7 +1,7 @@
 -- The entries of leaves, leaf by leaf, and the data of a set off the page.
 use Rattle.std.proofs.Common.{◌≡◌, ℕ, ◌≤◌, true, not, Bool, List, [], ◌∷◌, ◌++◌, map, refl, sym, ◌∙◌, ap, subst, arith}
 use Rattle.std.proofs.lemmas.List.{map-append}
-use Rattle.std.proofs.lemmas.List.Elements.{All-append, All-head, All-nil, All-rest, All-same, All-tail, Contains-get_or, filter-append}
+use Rattle.std.proofs.lemmas.List.Elements.{All-append, All-head, All-nil, All-rest, All-tail, Contains-get_or, filter-append}
 use Rattle.std.proofs.lemmas.Option.{slice_get-get_or}
 use Rattle.std.specs.Prelude.{get_or}
 use Rattle.std.specs.List.{Contains, filter, flat_map}
@@ -60,10 +60,8 @@ pub all_fit : (image : List ℕ) (root : ℕ) (entries : List Item) → IsForest
     → entries ≡ tree_entries (file_of image) root
     → AreFit (file_of image) entries
 all_fit image root entries forest tree are =
-    let file : File = file_of image in
-    All-same (λ (entry : Item). FitsContent file entry.content) entries (entries_on file (leaves file root))
-    (are ∙ entries_are file root)
-    (leaves_fit image (leaves file root) forest (leaves_there image root (leaves file root) forest tree refl))
+    subst (AreFit (file_of image)) (sym (are ∙ entries_are (file_of image) root))
+    (leaves_fit image (leaves (file_of image) root) forest (leaves_there image root (leaves (file_of image) root) forest tree refl))
 
 -- what holds of all holds of those after the first
 pub rest_fit : (file : File) (entry : Item) (rest entries : List Item) → entries ≡ entry ∷ rest → AreFit file entries → AreFit file rest

@@ -53,8 +53,7 @@ pub children_are_trees : (image pages next : List ℕ) → IsForest image → ne
     → All (IsTreePage (file_of image)) next
 children_are_trees image pages next forest are =
     all_of (IsTreePage (file_of image)) next (λ c at.
-    let found : Contains (flat_map (children_at (file_of image)) pages) c = subst (λ cs. Contains cs c) are at in
-    let page : (p : ℕ) × Contains pages p × Contains (children_at (file_of image) p) c = of_flat_map (children_at (file_of image)) pages c found in
+    let page = of_flat_map (children_at (file_of image)) pages c (subst (λ cs. Contains cs c) are at) in
     (child_at image page.0 c forest page.2).tree)
 
 -- Levels.
@@ -95,9 +94,8 @@ next_is_level image pages next all turn top forest is more next_is =
     (record {
       trees = children_are_trees image pages (flat_map (children_at file) pages) forest refl;
       level = λ c at.
-          let page : (p : ℕ) × Contains pages p × Contains (children_at file p) c = of_flat_map (children_at file) pages c at in
-          let child : IsChild file page.0 c = child_at image page.0 c forest page.2 in
-          omega (arith, child.level, is.level page.0 page.1);
+          let page = of_flat_map (children_at file) pages c at in
+          omega (arith, (child_at image page.0 c forest page.2).level, is.level page.0 page.1);
       leaves =
           flat_map_twice (leaves file) (children_at file) pages
           ∙ (sym
@@ -108,8 +106,7 @@ next_is_level image pages next all turn top forest is more next_is =
 
 singles : (f : ℕ → List ℕ) (ps : List ℕ) → ((p : ℕ) → Contains ps p → f p ≡ p ∷ []) → flat_map f ps ≡ ps
 singles f [] each = refl
-singles f (p ∷ ps) each =
-    ap (λ qs. qs ++ flat_map f ps) (each p (first_member p ps)) ∙ ap (λ qs. p ∷ qs) (singles f ps (λ q at. each q (later_member p ps q at)))
+singles f (p ∷ ps) each = rw (each p (first_member p ps), singles f ps (λ q at. each q (later_member p ps q at))) refl
 
 -- pages of the last level are leaves, all of them
 pub last_level : (image pages all : List ℕ) (turn top : ℕ) → IsForest image → IsLevel (file_of image) pages turn top all → top ≤ turn → pages ≡ all

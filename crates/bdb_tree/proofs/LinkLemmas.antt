@@ -1,11 +1,10 @@
 -- Where no row of stage 6 holds, a walk by next pages from a leaf of a tree gives that leaf and those after it.
-use Rattle.std.proofs.Common.{◌≡◌, ◌⊎◌, ℕ, zero, suc, ◌+◌, ◌<◌, ◌≤◌, true, false, ◌||◌, eqb, List, [], ◌∷◌, ◌++◌, length, arith, refl, sym, ◌∙◌, ap}
+use Rattle.std.proofs.Common.{◌≡◌, ◌⊎◌, ℕ, zero, suc, ◌<◌, ◌≤◌, true, false, List, [], ◌∷◌, ◌++◌, length, arith, refl, sym, ◌∙◌, ap}
 use Rattle.std.proofs.Common.{subst, inl, inr, append_assoc, length-append}
 use Rattle.std.specs.Prelude.{◌==◌, Some}
-use Rattle.std.specs.List.{AllByRecursion, Contains, IsDistinct, list_any, slice_get}
+use Rattle.std.specs.List.{Contains, slice_get}
 use Rattle.std.proofs.lemmas.Bool.{and_parts, eqb-true, ne_eqb, not-false}
 use Rattle.std.proofs.lemmas.List.Elements.{Contains-append_right}
-use Rattle.std.proofs.lemmas.Map.Steps.{length-le_from_distinct_below}
 use Rattle.bdb_format.specs.declared.metadata.Head.{Head}
 use Rattle.bdb_format.specs.declared.references.Sort.{Sort}
 use Rattle.bdb_format.specs.declared.references.Sort.TheVariants.{DuplicateRoot, Root}
@@ -15,16 +14,15 @@ use Rattle.bdb_format.specs.HeadOf.{head_of}
 use Rattle.bdb_format.specs.Leaves.{LeafPlace, first_or_zero, is_root_reference, leaf_places, leaves, places_from}
 use Rattle.bdb_format.specs.Verdict.{structure_faults}
 use Rattle.bdb_format.proofs.MemberLemmas.{first_member, later_member, member_cases, no_member}
-use Rattle.bdb_graph.specs.Forest.{AllDistinct, NotIn}
 use Rattle.bdb_graph.specs.Linked.{FitsLeafPage, IsForest, IsTarget}
 use Rattle.bdb_graph.proofs.FirstLemmas.{formed_last}
 use Rattle.bdb_graph.proofs.HeldLemmas.{last_page}
 use Rattle.bdb_graph.proofs.LeavesLemmas.{no_leaf_twice}
+use Rattle.bdb_graph.proofs.ReachLemmas.{AllUpTo, few_distinct}
 use Rattle.bdb_tree.specs.Links.{IsLeafWalk, pages_from}
 use Rattle.bdb_tree.specs.Trees.{IsRoot, IsTreePage}
 use Rattle.bdb_tree.proofs.BelongLemmas.{Belongs, belongs, leaf_above}
-use Rattle.bdb_tree.proofs.TreeLemmas.{IsRightPlace, leaf_fits, leaf_inside, leaf_low, no_tree_fault, place_is_right, place_of_root, root_is_tree}
-use Rattle.bdb_tree.proofs.TreeLemmas.{tree_inside}
+use Rattle.bdb_tree.proofs.TreeLemmas.{leaf_fits, leaf_inside, leaf_low, link_is_right, place_of_root, root_is_tree, tree_inside}
 use Rattle.bdb_format.proofs.ReferenceLemmas.{count_is}
 use Rattle.bdb_format.proofs.ChainLemmas.{chain_few}
 
@@ -39,18 +37,10 @@ record HasPlace (places : List LeafPlace) (p next : ℕ) : Type 0 where
 
 place_between : (sort : Sort) (from : ℕ) (before : List ℕ) (p : ℕ) (after : List ℕ)
     → HasPlace (places_from sort from (before ++ (p ∷ after))) p (first_or_zero after)
-place_between sort from [] p after =
-    let place : LeafPlace = record { tree = sort; before = from; leaf = p; after = first_or_zero after } in
-    record { place = place; at = first_member place (places_from sort p after); leaf = refl; after = refl }
+place_between sort from [] p after = record { place = _; at = first_member _ (places_from sort p after); leaf = refl; after = refl }
 place_between sort from (q ∷ before) p after =
     let rest : HasPlace (places_from sort q (before ++ (p ∷ after))) p (first_or_zero after) = place_between sort q before p after in
-    let first : LeafPlace = record { tree = sort; before = from; leaf = q; after = first_or_zero (before ++ (p ∷ after)) } in
-    record {
-      place = rest.place;
-      at = later_member first (places_from sort q (before ++ (p ∷ after))) rest.place rest.at;
-      leaf = rest.leaf;
-      after = rest.after;
-    }
+    record { place = rest.place; at = later_member _ _ rest.place rest.at; leaf = rest.leaf; after = rest.after }
 
 -- a place of a leaf of a tree
 root_place : (file : File) (root p next : ℕ) → IsRoot file root → ((sort : Sort) → HasPlace (places_from sort 0 (leaves file root)) p next)
@@ -85,10 +75,8 @@ next_is image root p after forest none stands =
     root_place file root p (first_or_zero after) stands.is (λ sort.
     subst (λ xs. HasPlace (places_from sort 0 xs) p (first_or_zero after)) (sym stands.leaves_are) (place_between sort 0 stands.before p after)) in
     let low : p ≤ file.last = leaf_low image root p forest (root_is_tree image root forest stands.is) (member_of file root p after stands) in
-    let right : IsRightPlace file has.place = place_is_right file has.place (no_tree_fault file none) (omega (arith, has.leaf)) has.at in
-    let links =
-    and_parts ((header_in (page_at file has.place.leaf)).previous == has.place.before)
-    ((header_in (page_at file has.place.leaf)).next == has.place.after) (not-false _ right.link) in
+    let right = link_is_right file has.place none (omega (arith, has.leaf)) has.at in
+    let links = and_parts ((header_in (page_at file has.place.leaf)).previous == has.place.before) _ (not-false _ right) in
     ap (next_of file) (sym has.leaf) ∙ (eqb-true (next_of file has.place.leaf) has.place.after links.1 ∙ has.after)
 
 -- the leaf after it stands there too
@@ -108,45 +96,28 @@ stands_above image root p after forest stands =
 
 -- The walk.
 
-last_turn : (turns : ℕ) (file : File) (p : ℕ) → next_of file p ≡ 0 → chain_in (suc turns) file p ≡ p ∷ []
+one_turn : (turns : ℕ) (file : File) (p q : ℕ) → next_of file p ≡ q
+    → chain_in (suc turns) file p ≡ p ∷ elim (q == 0) [ true ↦ [] | false ↦ chain_in turns file q ]
 unfolding chain_in
-last_turn turns file p none = ap (λ b. p ∷ elim b [ true ↦ [] | false ↦ chain_in turns file (next_of file p) ]) (ap (λ n. n == 0) none)
-
-one_turn : (turns : ℕ) (file : File) (p q : ℕ) → next_of file p ≡ q → (q == 0) ≡ false → chain_in (suc turns) file p ≡ p ∷ chain_in turns file q
-unfolding chain_in
-one_turn turns file p q next some =
-    ap (λ b. p ∷ elim b [ true ↦ [] | false ↦ chain_in turns file (next_of file p) ]) (ap (λ n. n == 0) next ∙ some)
-    ∙ ap (λ n. p ∷ chain_in turns file n) next
+one_turn turns file p q next = ap (λ n. p ∷ elim (n == 0) [ true ↦ [] | false ↦ chain_in turns file n ]) next
 
 -- with a turn for each leaf, next pages give them all
 follows : (turns : ℕ) (image : List ℕ) (root p : ℕ) (after : List ℕ) → IsForest image → structure_faults (file_of image) ≡ []
     → StandsAt (file_of image) root p after → length after < turns
     → chain_in turns (file_of image) p ≡ p ∷ after
 follows zero image root p after forest none stands few = absurd (omega arith)
-follows (suc turns) image root p [] forest none stands few = last_turn turns (file_of image) p (next_is image root p [] forest none stands)
+follows (suc turns) image root p [] forest none stands few = one_turn turns (file_of image) p 0 (next_is image root p [] forest none stands)
 follows (suc turns) image root p (q ∷ qs) forest none stands few =
     let next : StandsAt (file_of image) root q qs = next_stands (file_of image) root p q qs stands in
-    one_turn turns (file_of image) p q (next_is image root p (q ∷ qs) forest none stands) (stands_above image root q qs forest next)
-    ∙ ap (λ xs. p ∷ xs) (follows turns image root q qs forest none next (omega arith))
+    one_turn turns (file_of image) p q (next_is image root p (q ∷ qs) forest none stands)
+    ∙ (ap (λ b. p ∷ elim b [ true ↦ [] | false ↦ chain_in turns (file_of image) q ]) (stands_above image root q qs forest next)
+    ∙ ap (λ xs. p ∷ xs) (follows turns image root q qs forest none next (omega arith)))
 
 -- How many leaves there are.
 
-is_distinct : (xs : List ℕ) → AllDistinct xs → IsDistinct eqb xs
-unfolding IsDistinct
-is_distinct [] distinct = tt
-is_distinct (x ∷ xs) distinct = (apart xs distinct.0, is_distinct xs distinct.1)
-  where
-    apart : (ys : List ℕ) → NotIn x ys → AllByRecursion (λ y. eqb x y ≡ false) ys
-    apart [] out = tt
-    apart (y ∷ ys) out = (ne_eqb x y out.0, apart ys out.1)
-
-of_any : (q : ℕ) (xs : List ℕ) → list_any (eqb q) xs ≡ true → Contains xs q
-of_any q [] some = absurd cc
-of_any q (x ∷ xs) some =
-    elim (eqb q x) as (λ b. eqb q x ≡ b → (b || list_any (eqb q) xs) ≡ true → Contains (x ∷ xs) q) [
-      | true ↦ λ same _. subst (Contains (x ∷ xs)) (sym (eqb-true q x same)) (first_member x xs)
-      | false ↦ λ _ later. later_member x xs q (of_any q xs later)
-    ] refl some
+up_to : (n : ℕ) (xs : List ℕ) → ((x : ℕ) → Contains xs x → x ≤ n) → AllUpTo n xs
+up_to n [] each = tt
+up_to n (x ∷ xs) each = (each x (first_member x xs), up_to n xs (λ y at. each y (later_member x xs y at)))
 
 -- the leaves of a tree are no more than the pages
 pub few_leaves : (image : List ℕ) (root : ℕ) → IsForest image → IsRoot (file_of image) root
@@ -154,11 +125,8 @@ pub few_leaves : (image : List ℕ) (root : ℕ) → IsForest image → IsRoot (
 few_leaves image root forest is =
     let file : File = file_of image in
     let tree : IsTreePage file root = root_is_tree image root forest is in
-    let distinct : AllDistinct (leaves file root) =
-    no_leaf_twice image (header_in (page_at file root)).level root forest (tree_inside image root tree) in
-    let few : length (leaves file root) ≤ file.last + 1 =
-    length-le_from_distinct_below (leaves file root) (file.last + 1) (is_distinct (leaves file root) distinct) (λ q some.
-    let low : q ≤ file.last = leaf_low image root q forest tree (of_any q (leaves file root) some) in omega arith) in
+    let distinct = no_leaf_twice image (header_in (page_at file root)).level root forest (tree_inside image root tree) in
+    let few = few_distinct file.last (leaves file root) distinct (up_to file.last _ (λ q at. leaf_low image root q forest tree at)) in
     omega (arith, few, last_page image, formed_last image (head_of image) forest.formed, count_is image)
 
 -- a walk from a leaf of a tree gives the leaves from there on
@@ -167,10 +135,9 @@ walked : (image : List ℕ) (root p : ℕ) (after : List ℕ) → IsForest image
 unfolding pages_from
 walked image root p after forest none stands =
     let file : File = file_of image in
-    let few : length after < file.count =
-    omega (arith, few_leaves image root forest stands.is, ap length stands.leaves_are, length-append stands.before (p ∷ after)) in
     ap (λ b. elim b [ true ↦ [] | false ↦ chain file p ]) (stands_above image root p after forest stands)
-    ∙ follows file.count image root p after forest none stands few
+    ∙ follows file.count image root p after forest none stands
+    (omega (arith, few_leaves image root forest stands.is, ap length stands.leaves_are, length-append stands.before (p ∷ after)))
 
 pub pages_of_tree : (image : List ℕ) (first root : ℕ) (before after : List ℕ) → IsForest image → structure_faults (file_of image) ≡ []
     → IsRoot (file_of image) root
@@ -183,7 +150,7 @@ pub all_pages : (image : List ℕ) (root first : ℕ) → IsForest image → str
     → slice_get (leaves (file_of image) root) 0 ≡ Some first
     → pages_from (file_of image) first ≡ leaves (file_of image) root
 all_pages image root first forest none is at =
-    let parts : (rest : List ℕ) × (leaves (file_of image) root ≡ first ∷ rest) = begins (leaves (file_of image) root) at in
+    let parts = begins (leaves (file_of image) root) at in
     pages_of_tree image first root [] parts.0 forest none is parts.1 ∙ sym parts.1
   where
     begins : (xs : List ℕ) → slice_get xs 0 ≡ Some first → (rest : List ℕ) × (xs ≡ first ∷ rest)
@@ -234,8 +201,7 @@ leaf_step : (image : List ℕ) (p : ℕ) → IsForest image → structure_faults
 leaf_step image p forest none leaf =
     let file : File = file_of image in
     let belongs_to : Belongs file p = belongs image p forest leaf in
-    let parts : (before : List ℕ) × (after : List ℕ) × (leaves file belongs_to.root ≡ before ++ (p ∷ after)) =
-    parted (leaves file belongs_to.root) p belongs_to.at in
+    let parts = parted (leaves file belongs_to.root) p belongs_to.at in
     let stands : StandsAt file belongs_to.root p parts.1 = record { is = belongs_to.is; before = parts.0; leaves_are = parts.2 } in
     subst (IsStep image p) (sym (next_is image belongs_to.root p parts.1 forest none stands))
     (step_of image belongs_to.root p parts.1 forest none stands)

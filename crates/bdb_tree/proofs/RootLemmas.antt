@@ -16,21 +16,21 @@ use Rattle.bdb_format.specs.File.{File, file_of, page_at}
 use Rattle.bdb_format.specs.Hashing.{first_page}
 use Rattle.bdb_format.specs.HeadOf.{head_of}
 use Rattle.bdb_format.specs.Leaves.{is_root_reference}
-use Rattle.bdb_format.specs.Page.{BtreeFields, HashFields, QueueFields, Content, Inline, Set, Chain, Tree, Unknown, Item, InternalItem, Page, Zero}
-use Rattle.bdb_format.specs.Page.{Free, Meta, Hash, Internal, RecnoInternal, Leaf, RecnoLeaf, DupLeaf, Overflow, Queue, NoType}
+use Rattle.bdb_format.specs.Page.{BtreeFields, HashFields, Content, Chain, Tree, Item, InternalItem, Page}
+use Rattle.bdb_format.specs.Page.{Free, Meta, Hash, Internal, RecnoInternal, Leaf, RecnoLeaf, DupLeaf, Overflow}
 use Rattle.bdb_format.specs.References.{content_targets, contents_in, first_free, internal_targets, is_shared_key, item_at, no_item, own_entries}
 use Rattle.bdb_format.specs.References.{refs, targets_in, targets_of, unless_zero}
 use Rattle.bdb_format.proofs.ListLemmas.{only_member}
-use Rattle.bdb_format.proofs.MemberLemmas.{first_member, in_map, later_member, member_cases, no_member, none_passes, of_filter, of_flat_map, of_map}
-use Rattle.bdb_format.proofs.MemberLemmas.{of_range}
+use Rattle.bdb_format.proofs.MemberLemmas.{first_member, in_map, is_empty, later_member, member_cases, no_member, none_passes, of_filter, of_flat_map}
+use Rattle.bdb_format.proofs.MemberLemmas.{of_map, of_range}
 use Rattle.bdb_graph.specs.Linked.{FitsDupRoot, FitsTreeRoot, IsForest}
 use Rattle.bdb_graph.proofs.LinkedLemmas.{root_fits}
 use Rattle.bdb_graph.specs.Walked.{is_set_reference, names_set}
 use Rattle.bdb_format.specs.Graph.{all_references}
 use Rattle.bdb_tree.specs.Noted.{data_faults, data_root, meta_root, paired, root_faults, set_root}
 use Rattle.bdb_tree.specs.Trees.{IsTreePage}
-use Rattle.bdb_tree.proofs.ShapeLemmas.{IsFormedPage, SetsAreData}
-use Rattle.bdb_tree.proofs.TreeLemmas.{formed_at, hash_dup_root, leaf_dup_root, odd_set, root_is_tree, set_alone}
+use Rattle.bdb_tree.proofs.ShapeLemmas.{IsFormedPage, SetsAreData, formed_at}
+use Rattle.bdb_tree.proofs.TreeLemmas.{hash_dup_root, leaf_dup_root, odd_set, root_is_tree, set_alone}
 
 -- What is named.
 
@@ -80,24 +80,20 @@ IsNamedRoot page name = ((name.0 ≡ Root) × (meta_root page ≡ Some name.1)) 
 
 by_content : (content : Content) (name : Sort × ℕ) → is_root_reference name.0 ≡ true → Contains (content_targets content) name
     → (name.0 ≡ DuplicateRoot) × (content ≡ Tree name.1)
-by_content (Inline bytes) name root at = absurd (no_member [] name refl at)
-by_content (Set blocks) name root at = absurd (no_member [] name refl at)
 by_content (Chain head total) name root at = absurd (no_root (OverflowHead, head) name refl (only_member (OverflowHead, head) name at) root)
 by_content (Tree set) name root at =
     let same : (DuplicateRoot, set) ≡ name = only_member (DuplicateRoot, set) name at in
     (sym (ap (λ (n : Sort × ℕ). n.0) same), ap (λ (n : Sort × ℕ). Tree n.1) same)
-by_content Unknown name root at = absurd (no_member [] name refl at)
+by_content content name root at = absurd (no_member [] name refl at)
 
 by_contents : (contents : List Content) (name : Sort × ℕ) → is_root_reference name.0 ≡ true → Contains (flat_map content_targets contents) name
     → (name.0 ≡ DuplicateRoot) × Contains contents (Tree name.1)
 by_contents contents name root at =
-    let found : (content : Content) × Contains contents content × Contains (content_targets content) name =
-    of_flat_map content_targets contents name at in
+    let found = of_flat_map content_targets contents name at in
     let set = by_content found.0 name root found.2 in
     (set.0, subst (Contains contents) set.1 found.1)
 
 named_root : (p : ℕ) (page : Page) (name : Sort × ℕ) → is_root_reference name.0 ≡ true → Contains (targets_in p page) name → IsNamedRoot page name
-named_root p Zero name root at = absurd (no_member [] name refl at)
 named_root p (Free header) name root at = absurd (no_link FreeRef header.next name refl root at)
 named_root p (Meta (BtreeFields meta)) name root at =
     elim (Contains-append_cases (first_free p meta.free) ((Root, meta.root) ∷ []) name at) [
@@ -114,15 +110,13 @@ named_root p (Meta (HashFields meta)) name root at =
           let found = of_map (λ b. (Bucket, first_page b meta.spares)) buckets name bucket in
           absurd (no_root (Bucket, first_page found.0 meta.spares) name refl found.2 root)
     ]
-named_root p (Meta (QueueFields meta)) name root at = absurd (no_member [] name refl at)
 named_root p (Hash page) name root at =
     elim (Contains-append_cases (flat_map content_targets (contents_in (Hash page))) (unless_zero HashNext page.header.next) name at) [
       | inl held ↦ inr (by_contents (contents_in (Hash page)) name root held)
       | inr next ↦ absurd (no_link HashNext page.header.next name refl root next)
     ]
 named_root p (Internal page) name root at =
-    let found : (item : InternalItem) × Contains page.items item × Contains (internal_targets item) name =
-    of_flat_map internal_targets page.items name at in
+    let found = of_flat_map internal_targets page.items name at in
     elim (member_cases (Child, found.0.child) (content_targets found.0.key) name found.2) [
       | inl child ↦ absurd (no_root (Child, found.0.child) name refl child root)
       | inr key ↦
@@ -136,8 +130,7 @@ named_root p (Leaf page) name root at = inr (by_contents (contents_in (Leaf page
 named_root p (RecnoLeaf page) name root at = inr (by_contents (contents_in (RecnoLeaf page)) name root at)
 named_root p (DupLeaf page) name root at = inr (by_contents (contents_in (DupLeaf page)) name root at)
 named_root p (Overflow header piece) name root at = absurd (no_link OverflowNext header.next name refl root at)
-named_root p (Queue number records) name root at = absurd (no_member [] name refl at)
-named_root p NoType name root at = absurd (no_member [] name refl at)
+named_root p page name root at = absurd (no_member [] name refl at)
 
 -- Sets off the page are data of pairs.
 
@@ -155,8 +148,7 @@ data_place page k root sets below is =
 item_holding : (items : List Item) (content : Content) → Contains (map (λ (item : Item). item.content) items) content
     → (k : ℕ) × (k < length items) × ((get_or items k no_item).content ≡ content)
 item_holding items content at =
-    let below : at.0 < length items =
-    let there : at.0 < length (map (λ (item : Item). item.content) items) = at.1 in omega (arith, length-map items (λ (item : Item). item.content)) in
+    let below : at.0 < length items = omega (arith, at.1, length-map items (λ (item : Item). item.content)) in
     (at.0, below, sym (get_or-map (λ (item : Item). item.content) items at.0 no_item content below) ∙ at.2)
 
 set_is_data : (page : Page) (root : ℕ) → IsFormedPage page → Contains (contents_in page) (Tree root) → IsDataRoot page root
@@ -164,12 +156,9 @@ set_is_data (Hash page) root formed at =
     let found = item_holding page.items (Tree root) at in data_place (Hash page) found.0 root formed.1 found.1 found.2
 set_is_data (Internal page) root formed at = absurd (formed.2 root at)
 set_is_data (Leaf page) root formed at =
-    let indices : List ℕ = range_with_len 0 (length page.items) in
-    let found : (k : ℕ) × Contains (own_entries page) k × ((item_at page k).content ≡ Tree root) =
-    of_map (λ k. (item_at page k).content) (own_entries page) (Tree root) at in
-    let inside : (0 ≤ found.0) × (found.0 < 0 + length page.items) =
-    of_range 0 (length page.items) found.0 (of_filter (λ k. not (is_shared_key page.offsets k)) indices found.0 found.1).0 in
-    data_place (Leaf page) found.0 root formed.1 (omega (arith, inside.1)) found.2
+    let found = of_map (λ k. (item_at page k).content) (own_entries page) (Tree root) at in
+    let kept = of_filter (λ k. not (is_shared_key page.offsets k)) (range_with_len 0 (length page.items)) found.0 found.1 in
+    data_place (Leaf page) found.0 root formed.1 (omega (arith, (of_range 0 (length page.items) found.0 kept.0).1)) found.2
 set_is_data (RecnoLeaf page) root formed at =
     let found =
     item_holding page.items (Tree root) at in absurd (set_alone (get_or page.items found.0 no_item).content root found.2 (formed.1 found.0 found.1))
@@ -247,10 +236,6 @@ reference_is_tree image p reference forest low held root =
 
 -- Where no reference names the root of a set, no data do.
 
-nothing_held : {X Y : Type 0} (f : X → List Y) (xs : List X) → ((x : X) → Contains xs x → f x ≡ []) → flat_map f xs ≡ []
-nothing_held f [] none = refl
-nothing_held f (x ∷ xs) none = rw (none x (first_member x xs), nothing_held f xs (λ y at. none y (later_member x xs y at))) refl
-
 no_root_named : (image : List ℕ) (p i : ℕ) (root : Option ℕ) → IsForest image → p ≤ (file_of image).last
     → 2 * i + 1 < length (paired (page_at (file_of image) p))
     → list_any names_set (all_references (file_of image)) ≡ false → data_root (page_at (file_of image) p) i ≡ root
@@ -264,6 +249,8 @@ pub no_sets : (image : List ℕ) (p n : ℕ) → IsForest image → p ≤ (file_
     → list_any names_set (all_references (file_of image)) ≡ false
     → flat_map (data_faults (file_of image) (page_at (file_of image) p)) (range_with_len 0 n) ≡ []
 no_sets image p n forest low few none =
-    nothing_held (data_faults (file_of image) (page_at (file_of image) p)) (range_with_len 0 n)
-    (λ i at. let inside = of_range 0 n i at in
-    no_root_named image p i (data_root (page_at (file_of image) p) i) forest low (omega (arith, inside.1, few)) none refl)
+    let page : Page = page_at (file_of image) p in
+    is_empty _ (λ fault at.
+    let found = of_flat_map (data_faults (file_of image) page) (range_with_len 0 n) fault at in
+    let inside = of_range 0 n found.0 found.1 in
+    no_member _ fault (no_root_named image p found.0 (data_root page found.0) forest low (omega (arith, inside.1, few)) none refl) found.2)

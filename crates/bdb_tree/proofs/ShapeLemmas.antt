@@ -2,17 +2,13 @@
 use Rattle.std.proofs.Common.{◌≡◌, ◌⊎◌, ℕ, ◌<◌, ◌≤◌, Bool, true, false, cond, List, [], ◌∷◌, length, map, arith, refl, sym, ◌∙◌, ap, subst, inl, inr}
 use Rattle.std.proofs.Common.{Contains}
 use Rattle.std.specs.Prelude.{Some, None, ◌%◌, get_or, ◌==◌, ◌&&◌, ◌||◌, not}
-use Rattle.std.proofs.lemmas.Bool.{and_parts, eqb-false, eqb-true, ltb-false, not-false, true≢false}
+use Rattle.std.proofs.lemmas.Bool.{and_parts, cases_Bool, eqb-false, eqb-true, ltb-false, not-false, true≢false}
 use Rattle.bdb_format.specs.declared.metadata.FileKind.TheVariants.{Queue as QueueFile}
 use Rattle.bdb_format.specs.declared.metadata.Head.{Head}
 use Rattle.bdb_form.specs.declared.view.PageView.{PageView}
-use Rattle.bdb_form.specs.declared.view.PageView.TheVariants.{Zero as ZeroView, Free as FreeView, Meta as MetaView, Leaf as LeafView}
-use Rattle.bdb_form.specs.declared.view.PageView.TheVariants.{Internal as InternalView, RecnoLeaf as RecnoLeafView}
-use Rattle.bdb_form.specs.declared.view.PageView.TheVariants.{RecnoInternal as RecnoInternalView, DupLeaf as DupLeafView, Hash as HashView}
-use Rattle.bdb_form.specs.declared.view.PageView.TheVariants.{Overflow as OverflowView, Queue as QueueView}
+use Rattle.bdb_form.specs.declared.view.PageView.TheVariants.{Meta as MetaView, Leaf as LeafView, DupLeaf as DupLeafView}
 use Rattle.bdb_form.specs.Seen.{header_seen, page_seen}
 use Rattle.bdb_format.specs.declared.kinds.Order.{Order}
-use Rattle.bdb_format.specs.declared.pages.RecnoItem.{RecnoItem}
 use Rattle.bdb_format.specs.File.{file_of, header_in, kind_in, page_at, page_bytes, type_in}
 use Rattle.bdb_format.specs.HeadOf.{head_of}
 use Rattle.bdb_format.specs.declared.references.Sort.{Sort}
@@ -21,27 +17,27 @@ use Rattle.bdb_format.specs.Leaves.{children_in, wrong_leaf_types}
 use Rattle.std.proofs.lemmas.List.FromFn.{get_or-map-range_with_len, length-map-range_with_len}
 use Rattle.bdb_format.specs.declared.pages.ItemFault.TheVariants.{Offset, Kind, Extent}
 use Rattle.bdb_format.specs.Numbers.{byte_at}
-use Rattle.bdb_format.specs.Page.{Metadata, BtreeFields, HashFields, QueueFields, Content, Inline, Chain, Tree, Unknown, Item, InternalItem, Listed}
-use Rattle.bdb_format.specs.Page.{Page, Zero, Free, Meta, Hash, Internal, RecnoInternal, Leaf, RecnoLeaf, DupLeaf, Overflow, Queue, NoType, PageType}
+use Rattle.bdb_format.specs.Page.{Metadata, BtreeFields, Content, Inline, Chain, Tree, Unknown, Item, InternalItem, Listed}
+use Rattle.bdb_format.specs.Page.{Page, Meta, Hash, Internal, RecnoInternal, Leaf, RecnoLeaf, DupLeaf, PageType}
 use Rattle.bdb_format.specs.Page.{FreePage, HashPage, InternalPage, RecnoInternalPage, LeafPage, RecnoLeafPage, OverflowPage, HashMetaPage}
-use Rattle.bdb_format.specs.Page.{BtreeMetaPage, QueueMetaPage, QueuePage, DupLeafPage, OtherPage, Set}
+use Rattle.bdb_format.specs.Page.{BtreeMetaPage, QueueMetaPage, QueuePage, DupLeafPage, OtherPage}
 use Rattle.bdb_format.specs.Reading.{abstract_page, entries_of, internal_item_at, is_zero, kind_at, leaf_item_at, listed, offset_of, page_as}
 use Rattle.bdb_format.specs.Reading.{page_type, recno_item_at, hash_item_at, leaf_content, hash_content, hash_end}
 use Rattle.bdb_format.specs.References.{has_type, no_item}
 use Rattle.bdb_format.specs.Rows.{form_code, is_leaf_kind, leaf_rows, listed_code, type_of, typed_code, hash_rows, item_rows, is_hash_kind}
 use Rattle.bdb_format.specs.Table.{first_row}
-use Rattle.bdb_format.proofs.GraphLemmas.{typed_none}
+use Rattle.bdb_format.proofs.GraphLemmas.{typed_none, typed_page, zero_page}
 use Rattle.bdb_format.proofs.ItemLemmas.{IsIndexed, index_passes, no_index_row, no_item_row}
 use Rattle.bdb_format.proofs.MemberLemmas.{of_map}
+use Rattle.std.proofs.lemmas.List.{length-map}
 use Rattle.bdb_format.proofs.PageLemmas.{length_items}
 use Rattle.bdb_graph.specs.Formed.{IsFormed}
+use Rattle.bdb_graph.specs.Linked.{IsForest}
 use Rattle.bdb_graph.proofs.ChildLemmas.{is_queue_page, queue_page}
 use Rattle.bdb_graph.proofs.FirstLemmas.{formed_page}
 use Rattle.bdb_tree.specs.Noted.{is_leaf_page}
 use Rattle.bdb_graph.proofs.HeldLemmas.{last_page, page_is}
-use Rattle.bdb_format.proofs.TypeLemmas.{of_type, if_type}
-
--- Types.
+use Rattle.bdb_format.proofs.TypeLemmas.{if_type}
 
 -- Form.
 
@@ -49,9 +45,7 @@ use Rattle.bdb_format.proofs.TypeLemmas.{of_type, if_type}
 abbrev pub IsAlone : Content → Type 0
 IsAlone (Inline bytes) = Unit {0}
 IsAlone (Chain head total) = Unit {0}
-IsAlone (Set blocks) = ⊥
-IsAlone (Tree root) = ⊥
-IsAlone Unknown = ⊥
+IsAlone content = ⊥
 
 -- no item is a set
 abbrev pub AreAlone : List Item → Type 0
@@ -74,17 +68,11 @@ IsFormedPage (RecnoInternal page) = (2 ≤ page.header.level) × (0 < length pag
 IsFormedPage (Leaf page) = (page.header.level ≡ 1) × SetsAreData page.items
 IsFormedPage (RecnoLeaf page) = (page.header.level ≡ 1) × AreAlone page.items
 IsFormedPage (DupLeaf page) = (page.header.level ≡ 1) × AreAlone page.items
-IsFormedPage Zero = Unit {0}
-IsFormedPage (Free header) = Unit {0}
-IsFormedPage (Meta fields) = Unit {0}
-IsFormedPage (Overflow header piece) = Unit {0}
-IsFormedPage (Queue number records) = Unit {0}
-IsFormedPage NoType = Unit {0}
+IsFormedPage page = Unit {0}
 
 second_fails : {C : Type 0} (a b c : Bool) (x y z : C) → cond a (Some x) (cond b (Some y) (cond c (Some z) None)) ≡ None → b ≡ false
-second_fails true b c x y z none = absurd cc
-second_fails false true c x y z none = absurd cc
 second_fails false false c x y z none = refl
+second_fails a b c x y z none = absurd cc
 
 -- no row of a page with an index holds: neither that of its level nor that of its entries
 tests : (order : Order) (page : List ℕ) (t : PageType) → listed_code order page t ≡ None → IsIndexed t order page
@@ -98,33 +86,15 @@ some_items order page item_at some =
 
 no_tree : (a b : Bool) (bytes : List ℕ) (head total root : ℕ)
     → ◌≡◌ {A = Content} (cond a (Inline bytes) (cond b (Chain head total) Unknown)) (Tree root) → ⊥
-no_tree true b bytes head total root same = cc
-no_tree false true bytes head total root same = cc
 no_tree false false bytes head total root same = cc
-
-no_key_tree : (order : Order) (page : List ℕ) (i root : ℕ) → (internal_item_at order page i).key ≡ Tree root → ⊥
-unfolding internal_item_at
-no_key_tree order page i root same = no_tree _ _ _ _ _ root same
+no_tree a b bytes head total root same = cc
 
 keys_are_no_trees : (order : Order) (page : List ℕ) → KeysAreNoTrees (listed order page (internal_item_at order page)).items
-unfolding listed
+unfolding listed internal_item_at
 keys_are_no_trees order page root at =
     let key = of_map (λ (item : InternalItem). item.key) _ (Tree root) at in
     let item = of_map (internal_item_at order page) _ key.0 key.1 in
-    no_key_tree order page item.0 root (ap (λ (i : InternalItem). i.key) item.2 ∙ key.2)
-
-internal_formed : (order : Order) (page : List ℕ) → listed_code order page InternalPage ≡ None → IsFormedPage (page_as order page InternalPage)
-unfolding listed
-internal_formed order page none =
-    let passed = tests order page InternalPage none in
-    (ltb-false (byte_at page 24) 2 passed.level, some_items order page (internal_item_at order page) passed.entries, keys_are_no_trees order page)
-
-recno_internal_formed : (order : Order) (page : List ℕ) → listed_code order page RecnoInternalPage ≡ None
-    → IsFormedPage (page_as order page RecnoInternalPage)
-unfolding listed
-recno_internal_formed order page none =
-    let passed = tests order page RecnoInternalPage none in
-    (ltb-false (byte_at page 24) 2 passed.level, some_items order page (recno_item_at order page) passed.entries)
+    no_tree _ _ _ _ _ root (ap (λ (i : InternalItem). i.key) item.2 ∙ key.2)
 
 leaf_level : (order : Order) (page : List ℕ) → not (byte_at page 24 == 1) ≡ false → (listed order page (leaf_item_at order page)).header.level ≡ 1
 unfolding listed
@@ -154,8 +124,7 @@ leaf_alone order page i none =
     (not-false _ (second_fails _ (not (is_leaf_kind (byte_at page 25) i kind)) _ Offset Kind Extent none))) [
       | inl alone ↦ inl alone
       | inr set ↦
-          let both : ((kind == 2 && byte_at page 25 == 5) ≡ true) × ((i % 2 == 1) ≡ true) =
-          and_parts (kind == 2 && byte_at page 25 == 5) (i % 2 == 1) set in
+          let both = and_parts (kind == 2 && byte_at page 25 == 5) (i % 2 == 1) set in
           inr ((and_parts (kind == 2) (byte_at page 25 == 5) both.0).1, eqb-true (i % 2) 1 both.1)
     ]
 
@@ -210,13 +179,21 @@ hash_formed order page byte is other none = (
 
 typed_formed : (head : Head) (number : ℕ) (page : List ℕ) → typed_code head number page (page_type (byte_at page 25)) ≡ None
     → IsFormedPage (page_as head.order page (page_type (byte_at page 25)))
+unfolding listed
 typed_formed head number page =
     let byte : ℕ = byte_at page 25 in
     let P : PageType → Type 0 = λ t. typed_code head number page t ≡ None → IsFormedPage (page_as head.order page t) in
     if_type P (byte == 0) FreePage _ (λ is none. tt) (λ _.
     if_type P (byte == 2) HashPage _ (λ is none. hash_formed head.order page 2 (eqb-true byte 2 is) refl none) (λ _.
-    if_type P (byte == 3) InternalPage _ (λ is none. internal_formed head.order page none) (λ _.
-    if_type P (byte == 4) RecnoInternalPage _ (λ is none. recno_internal_formed head.order page none) (λ _.
+    if_type P (byte == 3) InternalPage _ (λ is none.
+    let passed = tests head.order page InternalPage none in (
+      ltb-false (byte_at page 24) 2 passed.level,
+      some_items head.order page (internal_item_at head.order page) passed.entries,
+      keys_are_no_trees head.order page,
+    )) (λ _.
+    if_type P (byte == 4) RecnoInternalPage _ (λ is none.
+    let passed = tests head.order page RecnoInternalPage none in
+    (ltb-false (byte_at page 24) 2 passed.level, some_items head.order page (recno_item_at head.order page) passed.entries)) (λ _.
     if_type P (byte == 5) LeafPage _ (λ is none. leaf_formed head.order page none) (λ _.
     if_type P (byte == 6) RecnoLeafPage _ (λ is none. (
       leaf_level head.order page (tests head.order page RecnoLeafPage none).level,
@@ -235,22 +212,18 @@ typed_formed head number page =
 
 -- a page without a fault of form
 abstract_formed : (head : Head) (number : ℕ) (page : List ℕ) → form_code head number page ≡ None → IsFormedPage (abstract_page head.order page)
-unfolding abstract_page form_code
 abstract_formed head number page none =
-    let byte : ℕ = byte_at page 25 in
-    elim (is_zero page) as (λ zeros. is_zero page ≡ zeros
-    → IsFormedPage (elim zeros [ true ↦ Zero | false ↦ page_as head.order page (page_type byte) ])) [
-      | true ↦ λ _. tt
-      | false ↦ λ some.
-          typed_formed head number page
-          (typed_none head number page some none)
-    ] refl
+    elim (cases_Bool (is_zero page)) [
+      | inl zeros ↦ subst IsFormedPage (sym (zero_page head.order page zeros)) tt
+      | inr some ↦
+          subst IsFormedPage (sym (typed_page head.order page some)) (typed_formed head number page (typed_none head number page some none))
+    ]
 
-pub page_formed : (image : List ℕ) (head : Head) (p : ℕ) → IsFormed image head → p ≤ (file_of image).last → IsFormedPage (page_at (file_of image) p)
-page_formed image head p formed low =
+pub formed_at : (image : List ℕ) (p : ℕ) → IsForest image → p ≤ (file_of image).last → IsFormedPage (page_at (file_of image) p)
+formed_at image p forest low =
     let inside : p ≤ (head_of image).last = omega (arith, low, last_page image) in
     subst IsFormedPage (sym (page_is image p inside))
-    (abstract_formed (head_of image) p (page_bytes (head_of image) image p) (formed_page image p formed.form inside))
+    (abstract_formed (head_of image) p (page_bytes (head_of image) image p) (formed_page image p forest.formed.form inside))
 
 -- Queue files.
 
@@ -275,135 +248,62 @@ pub record IsLeafPage (page : Page) : Type 0 where
   pub level : (header_in page).level ≡ 1
   pub type : has_type (5 ∷ 6 ∷ 12 ∷ []) (type_in page) ≡ true
 
-some_children : {X Y : Type 0} (f : X → Y) (xs : List X) → 0 < length xs → 0 < length (map f xs)
-some_children f [] some = some
-some_children f (x ∷ xs) some = omega arith
+-- which pages have the type of a tree
+abbrev pub is_tree_in : Page → Bool
+is_tree_in (Internal page) = true
+is_tree_in (RecnoInternal page) = true
+is_tree_in (Leaf page) = true
+is_tree_in (RecnoLeaf page) = true
+is_tree_in (DupLeaf page) = true
+is_tree_in page = false
+
+pub tree_in : (page : Page) → IsFormedPage page → has_type (3 ∷ 4 ∷ 5 ∷ 6 ∷ 12 ∷ []) (type_in page) ≡ true → is_tree_in page ≡ true
+tree_in (Hash page) formed has = absurd (true≢false (sym has ∙ formed.0))
+tree_in (Meta (BtreeFields meta)) formed has = absurd cc
+tree_in page formed has = cc
 
 -- a page of a tree is an internal page or a leaf
-pub tree_shape : (page : Page) → IsFormedPage page → has_type (3 ∷ 4 ∷ 5 ∷ 6 ∷ 12 ∷ []) (type_in page) ≡ true → IsInnerPage page ⊎ IsLeafPage page
-tree_shape Zero formed has = absurd cc
-tree_shape (Free header) formed has = absurd cc
-tree_shape (Meta (BtreeFields meta)) formed has = absurd cc
-tree_shape (Meta (HashFields meta)) formed has = absurd cc
-tree_shape (Meta (QueueFields meta)) formed has = absurd cc
-tree_shape (Hash page) formed has = absurd (true≢false (sym has ∙ formed.0))
-tree_shape (Internal page) formed has =
-    inl (record {
-      children = map (λ (item : InternalItem). item.child) page.items;
-      are = refl;
-      some = some_children (λ (item : InternalItem). item.child) page.items formed.1;
-      level = formed.0;
-    })
-tree_shape (RecnoInternal page) formed has =
-    inl (record {
-      children = map (λ (item : RecnoItem). item.child) page.items;
-      are = refl;
-      some = some_children (λ (item : RecnoItem). item.child) page.items formed.1;
-      level = formed.0;
-    })
-tree_shape (Leaf page) formed has = inr (record { none = refl; level = formed.0; type = refl })
-tree_shape (RecnoLeaf page) formed has = inr (record { none = refl; level = formed.0; type = refl })
-tree_shape (DupLeaf page) formed has = inr (record { none = refl; level = formed.0; type = refl })
-tree_shape (Overflow header piece) formed has = absurd cc
-tree_shape (Queue number records) formed has = absurd cc
-tree_shape NoType formed has = absurd cc
+pub tree_shape : (page : Page) → IsFormedPage page → is_tree_in page ≡ true → IsInnerPage page ⊎ IsLeafPage page
+tree_shape (Internal page) formed is =
+    inl (record { children = _; are = refl; some = omega (arith, formed.1, length-map page.items (λ item. item.child)); level = formed.0 })
+tree_shape (RecnoInternal page) formed is =
+    inl (record { children = _; are = refl; some = omega (arith, formed.1, length-map page.items (λ item. item.child)); level = formed.0 })
+tree_shape (Leaf page) formed is = inr (record { none = refl; level = formed.0; type = refl })
+tree_shape (RecnoLeaf page) formed is = inr (record { none = refl; level = formed.0; type = refl })
+tree_shape (DupLeaf page) formed is = inr (record { none = refl; level = formed.0; type = refl })
+tree_shape page formed is = absurd cc
 
--- The page of a type.
+pub leaf_shape : (page : Page) → is_tree_in page ≡ true → has_type (5 ∷ 6 ∷ 12 ∷ []) (type_in page) ≡ true → is_leaf_page page ≡ true
+leaf_shape (Leaf page) is has = refl
+leaf_shape page is has = cc
 
-same_type : (fields : Metadata) (t : ℕ) → has_type (3 ∷ 4 ∷ 5 ∷ 6 ∷ 12 ∷ []) (Some t) ≡ true → Some (type_of (kind_in fields)) ≡ Some t → ⊥
-same_type (BtreeFields meta) t has same = true≢false (sym has ∙ ap (has_type (3 ∷ 4 ∷ 5 ∷ 6 ∷ 12 ∷ [])) (sym same))
-same_type (HashFields meta) t has same = true≢false (sym has ∙ ap (has_type (3 ∷ 4 ∷ 5 ∷ 6 ∷ 12 ∷ [])) (sym same))
-same_type (QueueFields meta) t has same = true≢false (sym has ∙ ap (has_type (3 ∷ 4 ∷ 5 ∷ 6 ∷ 12 ∷ [])) (sym same))
-
-hash_type : (n t : ℕ) → has_type (3 ∷ 4 ∷ 5 ∷ 6 ∷ 12 ∷ []) (Some t) ≡ true → has_type (3 ∷ 4 ∷ 5 ∷ 6 ∷ 12 ∷ []) (Some n) ≡ false → Some n ≡ Some t → ⊥
-hash_type n t has formed same = true≢false (sym has ∙ (ap (has_type (3 ∷ 4 ∷ 5 ∷ 6 ∷ 12 ∷ [])) (sym same) ∙ formed))
-
-pub recno_internal_of : (page : Page) → IsFormedPage page → type_in page ≡ Some 4 → (inner : Listed RecnoItem) × (page ≡ RecnoInternal inner)
-recno_internal_of (RecnoInternal page) formed is = (page, refl)
-recno_internal_of (Hash page) formed is = absurd (hash_type page.header.page_type 4 refl formed.0 is)
-recno_internal_of (Meta fields) formed is = absurd (same_type fields 4 refl is)
-recno_internal_of page formed is = absurd cc
-
-pub leaf_of : (page : Page) → IsFormedPage page → type_in page ≡ Some 5 → (leaf : Listed Item) × (page ≡ Leaf leaf)
-leaf_of (Leaf page) formed is = (page, refl)
-leaf_of (Hash page) formed is = absurd (hash_type page.header.page_type 5 refl formed.0 is)
-leaf_of (Meta fields) formed is = absurd (same_type fields 5 refl is)
-leaf_of page formed is = absurd cc
-
-pub recno_leaf_of : (page : Page) → IsFormedPage page → type_in page ≡ Some 6 → (leaf : Listed Item) × (page ≡ RecnoLeaf leaf)
-recno_leaf_of (RecnoLeaf page) formed is = (page, refl)
-recno_leaf_of (Hash page) formed is = absurd (hash_type page.header.page_type 6 refl formed.0 is)
-recno_leaf_of (Meta fields) formed is = absurd (same_type fields 6 refl is)
-recno_leaf_of page formed is = absurd cc
-
-pub dup_leaf_of : (page : Page) → IsFormedPage page → type_in page ≡ Some 12 → (leaf : Listed Item) × (page ≡ DupLeaf leaf)
-dup_leaf_of (DupLeaf page) formed is = (page, refl)
-dup_leaf_of (Hash page) formed is = absurd (hash_type page.header.page_type 12 refl formed.0 is)
-dup_leaf_of (Meta fields) formed is = absurd (same_type fields 12 refl is)
-dup_leaf_of page formed is = absurd cc
-
-pub leaf_shape : (page : Page) → IsFormedPage page → has_type (5 ∷ 6 ∷ 12 ∷ []) (type_in page) ≡ true → is_leaf_page page ≡ true
-leaf_shape (Leaf page) formed has = refl
-leaf_shape (RecnoLeaf page) formed has = refl
-leaf_shape (DupLeaf page) formed has = refl
-leaf_shape (Hash page) formed has =
-    absurd
-    (true≢false
-    (sym
-    (of_type (λ type. has_type (3 ∷ 4 ∷ 5 ∷ 6 ∷ 12 ∷ []) type ≡ true) (5 ∷ 6 ∷ 12 ∷ []) (Some page.header.page_type) (refl, (refl, (refl, tt))) has)
-    ∙ formed.0))
-leaf_shape (Meta (BtreeFields meta)) formed has = absurd cc
-leaf_shape (Meta (HashFields meta)) formed has = absurd cc
-leaf_shape (Meta (QueueFields meta)) formed has = absurd cc
-leaf_shape page formed has = absurd cc
+no_meta : (fields : Metadata) → has_type (3 ∷ 4 ∷ 5 ∷ 6 ∷ 12 ∷ []) (Some (type_of (kind_in fields))) ≡ true → ⊥
+no_meta (BtreeFields meta) has = cc
+no_meta fields has = cc
 
 -- a page of a tree tells its own header
 pub tree_header : (view : PageView) → has_type (3 ∷ 4 ∷ 5 ∷ 6 ∷ 12 ∷ []) (type_in (page_seen view)) ≡ true
     → header_seen view ≡ header_in (page_seen view)
-tree_header (MetaView view) has = absurd (not_meta view.fields has)
-  where
-    not_meta : (fields : Metadata) → has_type (3 ∷ 4 ∷ 5 ∷ 6 ∷ 12 ∷ []) (Some (type_of (kind_in fields))) ≡ true → ⊥
-    not_meta fields has = same_type fields (type_of (kind_in fields)) has refl
-tree_header (QueueView view) has = absurd cc
-tree_header (ZeroView view) has = absurd cc
-tree_header (FreeView view) has = refl
-tree_header (LeafView view) has = refl
-tree_header (InternalView view) has = refl
-tree_header (RecnoLeafView view) has = refl
-tree_header (RecnoInternalView view) has = refl
-tree_header (DupLeafView view) has = refl
-tree_header (HashView view) has = refl
-tree_header (OverflowView view) has = refl
+tree_header (MetaView view) has = absurd (no_meta view.fields has)
+tree_header view has = cc
 
 -- a leaf that isn't one of sorted data hasn't its type
 pub no_dup_leaf : (sort : Sort) (view : PageView) → is_leaf_page (page_seen view) ≡ true → sort ≡ Root
     → ((leaf : Listed Item) → view ≡ DupLeafView leaf → ⊥)
     → false ≡ has_type (wrong_leaf_types sort) (type_in (page_seen view))
-no_dup_leaf sort view leaf is other = of view leaf other ∙ ap (λ s. has_type (wrong_leaf_types s) (type_in (page_seen view))) (sym is)
-  where
-    of : (v : PageView) → is_leaf_page (page_seen v) ≡ true → ((l : Listed Item) → v ≡ DupLeafView l → ⊥)
-        → false ≡ has_type (12 ∷ []) (type_in (page_seen v))
-    of (LeafView v) leaf other = refl
-    of (RecnoLeafView v) leaf other = refl
-    of (DupLeafView v) leaf other = absurd (other v refl)
-    of v leaf other = absurd cc
+no_dup_leaf Root (DupLeafView page) leaf is other = absurd (other page refl)
+no_dup_leaf Root view leaf is other = cc
+no_dup_leaf sort view leaf is other = absurd cc
 
 -- nor one that isn't one of pairs theirs
 pub no_pair_leaf : (sort : Sort) (view : PageView) → is_leaf_page (page_seen view) ≡ true → sort ≡ DuplicateRoot
     → ((leaf : Listed Item) → view ≡ LeafView leaf → ⊥)
     → false ≡ has_type (wrong_leaf_types sort) (type_in (page_seen view))
-no_pair_leaf sort view leaf is other = of view leaf other ∙ ap (λ s. has_type (wrong_leaf_types s) (type_in (page_seen view))) (sym is)
-  where
-    of : (v : PageView) → is_leaf_page (page_seen v) ≡ true → ((l : Listed Item) → v ≡ LeafView l → ⊥)
-        → false ≡ has_type (5 ∷ []) (type_in (page_seen v))
-    of (DupLeafView v) leaf other = refl
-    of (RecnoLeafView v) leaf other = refl
-    of (LeafView v) leaf other = absurd (other v refl)
-    of v leaf other = absurd cc
+no_pair_leaf DuplicateRoot (LeafView page) leaf is other = absurd (other page refl)
+no_pair_leaf DuplicateRoot view leaf is other = cc
+no_pair_leaf sort view leaf is other = absurd cc
 
 -- a leaf tells its own header
 pub leaf_header : (view : PageView) → is_leaf_page (page_seen view) ≡ true → header_seen view ≡ header_in (page_seen view)
 leaf_header (LeafView view) leaf = refl
-leaf_header (RecnoLeafView view) leaf = refl
-leaf_header (DupLeafView view) leaf = refl
-leaf_header view leaf = absurd cc
+leaf_header view leaf = cc

@@ -1,13 +1,12 @@
 -- The pages of trees in a file that linking accepts: children are pages of trees a level below, so the leaves are had level by level.
-use Rattle.std.proofs.Common.{◌≡◌, ◌⊎◌, ℕ, zero, suc, ◌+◌, ◌-◌, ◌<◌, ◌≤◌, Bool, true, false, cond, List, [], ◌∷◌, ◌++◌, length, map, arith, refl, sym}
+use Rattle.std.proofs.Common.{◌≡◌, ◌⊎◌, ℕ, zero, suc, ◌+◌, ◌-◌, ◌<◌, ◌≤◌, Bool, true, false, cond, List, [], ◌∷◌, ◌++◌, length, arith, refl, sym}
 use Rattle.std.proofs.Common.{◌∙◌, ap, subst, inl, inr, length-append}
 use Rattle.std.specs.Prelude.{Option, Some, None, ◌==◌, ◌&&◌, nat_lt, nat_le, ◌%◌, slice_index, get_or}
-use Rattle.std.specs.List.{Contains, enumerate_from, filter, flat_map}
-use Rattle.std.proofs.lemmas.Bool.{and_left, ne_eqb, cases_lt, eq-eqb, eqb-false, eqb-true, ltb-false, not-false, or_parts}
+use Rattle.std.specs.List.{Contains, filter, flat_map}
+use Rattle.std.proofs.lemmas.Bool.{and_left, ne_eqb, cases_lt, eq-eqb, eqb-false, eqb-true, ltb-false, not-false, or_parts, true≢false}
 use Rattle.std.proofs.lemmas.List.{get_or_past}
 use Rattle.std.proofs.lemmas.List.Elements.{Contains-append_right, Contains-get_or}
 use Rattle.bdb_format.specs.declared.metadata.BtreeMeta.{BtreeMeta}
-use Rattle.bdb_format.specs.declared.metadata.FileKind.TheVariants.{Queue as QueueFile}
 use Rattle.bdb_format.specs.declared.pages.RecnoItem.{RecnoItem}
 use Rattle.bdb_format.specs.declared.references.Reference.{Reference}
 use Rattle.bdb_format.specs.declared.references.Sort.{Sort}
@@ -15,22 +14,20 @@ use Rattle.bdb_format.specs.declared.references.Sort.TheVariants.{Child, Duplica
 use Rattle.bdb_format.specs.File.{File, file_of, header_in, page_at, type_in}
 use Rattle.bdb_format.specs.Graph.{Owner, all_references}
 use Rattle.bdb_format.specs.HeadOf.{head_of}
-use Rattle.bdb_format.specs.Leaves.{LeafPlace, children_in, is_root_reference, is_wrong_leaf, is_wrong_link, leaf_places, leaves, leaves_in}
-use Rattle.bdb_format.specs.Leaves.{leaves_under, places_from, root_references, tree_rows}
-use Rattle.bdb_format.specs.Page.{BtreeFields, Content, Tree, Item, InternalItem, Listed, Page, Meta, Hash, Internal, RecnoInternal, Leaf, RecnoLeaf}
+use Rattle.bdb_format.specs.Leaves.{LeafPlace, children_in, is_root_reference, is_wrong_link, leaf_places, leaves, leaves_in}
+use Rattle.bdb_format.specs.Leaves.{leaves_under, places_from, root_references}
+use Rattle.bdb_format.specs.Page.{BtreeFields, Content, Tree, Item, Listed, Page, Meta, Hash, Internal, RecnoInternal, Leaf, RecnoLeaf}
 use Rattle.bdb_format.specs.Page.{DupLeaf, NoType}
 use Rattle.bdb_format.specs.References.{asked_by, child_types, content_targets, first_free, fit_code, fit_rows, has_type, is_asked, is_shared_key}
-use Rattle.bdb_format.specs.References.{is_zero_page, targets_in, targets_of, no_item, refs, root_types, contents_in, internal_targets}
-use Rattle.bdb_format.specs.Table.{◌:?◌}
-use Rattle.bdb_format.specs.Verdict.{holding, reference_faults, structure_faults, structure_rows, tree_faults}
+use Rattle.bdb_format.specs.References.{is_zero_page, targets_in, no_item, refs, root_types, contents_in}
+use Rattle.bdb_format.specs.Verdict.{reference_faults, structure_faults, structure_rows}
 use Rattle.bdb_format.proofs.GraphLemmas.{each_fits}
-use Rattle.bdb_format.proofs.MemberLemmas.{first_member, in_filter, in_flat_map, in_map, later_member, member_cases, no_member, none_passes}
-use Rattle.bdb_format.proofs.MemberLemmas.{of_flat_map, of_map}
-use Rattle.bdb_format.proofs.VerdictLemmas.{AllFail, all_fail, no_codes_at, no_faults, none_holds, none_is_first_row}
+use Rattle.bdb_format.proofs.MemberLemmas.{first_member, in_filter, in_flat_map, in_map, later_member, none_passes, of_flat_map}
+use Rattle.bdb_format.proofs.VerdictLemmas.{AllFail, no_rows_at, none_is_first_row}
 use Rattle.bdb_format.proofs.TargetLemmas.{held_named, own_held}
 use Rattle.bdb_format.specs.Flags.{is_recno}
 use Rattle.bdb_graph.specs.Linked.{FitsDupRoot, FitsLeafPage, FitsTreeRoot, HasMetadata, IsForest, IsTarget}
-use Rattle.bdb_graph.proofs.ChildLemmas.{is_queue_page}
+use Rattle.bdb_graph.proofs.ChildLemmas.{NamesChild, child_named, children_are, is_queue_page}
 use Rattle.bdb_graph.proofs.ForestLemmas.{sound_graph}
 use Rattle.bdb_graph.proofs.LinkedLemmas.{named_target, root_fits as target_fits}
 use Rattle.bdb_graph.proofs.TargetLemmas.{is_no_queue}
@@ -38,8 +35,8 @@ use Rattle.bdb_form.specs.declared.view.PageView.{PageView}
 use Rattle.bdb_form.specs.Seen.{page_seen}
 use Rattle.bdb_tree.specs.Noted.{is_leaf_page}
 use Rattle.bdb_tree.specs.Trees.{IsRoot, IsTreePage}
-use Rattle.bdb_tree.proofs.ShapeLemmas.{IsFormedPage, IsInnerPage, IsLeafPage, SetsAreData, dup_leaf_of, leaf_of, leaf_shape, no_queue, page_formed}
-use Rattle.bdb_tree.proofs.ShapeLemmas.{recno_internal_of, recno_leaf_of, tree_shape, IsAlone}
+use Rattle.bdb_tree.proofs.ShapeLemmas.{IsFormedPage, IsInnerPage, IsLeafPage, SetsAreData, formed_at, is_tree_in, leaf_shape, no_queue, tree_in}
+use Rattle.bdb_tree.proofs.ShapeLemmas.{tree_shape, IsAlone}
 use Rattle.bdb_format.proofs.ListLemmas.{in_enumerated, only_member}
 use Rattle.bdb_format.proofs.BoolLemmas.{second_false, first_or_none}
 use Rattle.bdb_format.proofs.ReferenceLemmas.{forest_names, of_all, pages_counted}
@@ -55,9 +52,8 @@ pub typed_inside : (image types : List ℕ) (p : ℕ) → has_type types (type_i
 typed_inside image types p has =
     elim (cases_lt p (length (file_of image).pages)) [
       | inl below ↦ omega (arith, pages_counted image)
-      | inr past ↦ absurd
-          (let none : has_type types None
-          ≡ true = subst (λ (page : Page). has_type types (type_in page) ≡ true) (get_or_past (file_of image).pages p NoType past) has in cc)
+      | inr past ↦
+          absurd (true≢false (sym has ∙ ap (λ (page : Page). has_type types (type_in page)) (get_or_past (file_of image).pages p NoType past)))
     ]
 
 pub tree_inside : (image : List ℕ) (p : ℕ) → IsTreePage (file_of image) p → p ≤ (file_of image).last
@@ -70,66 +66,60 @@ pub leaf_is_tree : (file : File) (p : ℕ) → FitsLeafPage file p → IsTreePag
 leaf_is_tree file p leaf =
     of_type (λ type. has_type (3 ∷ 4 ∷ 5 ∷ 6 ∷ 12 ∷ []) type ≡ true) (5 ∷ 6 ∷ 12 ∷ []) (type_in (page_at file p)) (refl, (refl, (refl, tt))) leaf
 
-pub formed_at : (image : List ℕ) (p : ℕ) → IsForest image → p ≤ (file_of image).last → IsFormedPage (page_at (file_of image) p)
-formed_at image p forest low = page_formed image (head_of image) p forest.formed low
+pub tree_is : (image : List ℕ) (p : ℕ) → IsForest image → IsTreePage (file_of image) p → is_tree_in (page_at (file_of image) p) ≡ true
+tree_is image p forest tree = tree_in (page_at (file_of image) p) (formed_at image p forest (tree_inside image p tree)) tree
 
 -- a leaf as its view shows it
 pub leaf_view : (image : List ℕ) (p : ℕ) (view : PageView) → IsForest image → FitsLeafPage (file_of image) p
     → page_seen view ≡ page_at (file_of image) p → is_leaf_page (page_seen view) ≡ true
 leaf_view image p view forest leaf seen =
-    ap is_leaf_page seen ∙ leaf_shape (page_at (file_of image) p) (formed_at image p forest (leaf_inside image p leaf)) leaf
+    ap is_leaf_page seen ∙ leaf_shape (page_at (file_of image) p) (tree_is image p forest (leaf_is_tree (file_of image) p leaf)) leaf
 
 -- a page of a tree is an internal page or a leaf
 pub tree_cases : (image : List ℕ) (p : ℕ) → IsForest image → IsTreePage (file_of image) p
     → IsInnerPage (page_at (file_of image) p) ⊎ IsLeafPage (page_at (file_of image) p)
-tree_cases image p forest tree = tree_shape (page_at (file_of image) p) (formed_at image p forest (tree_inside image p tree)) tree
+tree_cases image p forest tree =
+    tree_shape (page_at (file_of image) p) (formed_at image p forest (tree_inside image p tree)) (tree_is image p forest tree)
 
 -- a page by its type
 
+typed_tree : (image : List ℕ) (p t : ℕ) → IsForest image → has_type (3 ∷ 4 ∷ 5 ∷ 6 ∷ 12 ∷ []) (Some t) ≡ true
+    → type_in (page_at (file_of image) p) ≡ Some t → is_tree_in (page_at (file_of image) p) ≡ true
+typed_tree image p t forest tree is = tree_is image p forest (ap (has_type (3 ∷ 4 ∷ 5 ∷ 6 ∷ 12 ∷ [])) is ∙ tree)
+
 pub recno_internal_page : (image : List ℕ) (p : ℕ) → IsForest image → type_in (page_at (file_of image) p) ≡ Some 4
     → (page : Listed RecnoItem) × (page_at (file_of image) p ≡ RecnoInternal page)
-recno_internal_page image p forest is =
-    recno_internal_of (page_at (file_of image) p) (formed_at image p forest (typed_inside image (4 ∷ []) p (ap (has_type (4 ∷ [])) is))) is
+recno_internal_page image p forest is = of (page_at (file_of image) p) (typed_tree image p 4 forest refl is) is
+  where
+    of : (page : Page) → is_tree_in page ≡ true → type_in page ≡ Some 4 → (inner : Listed RecnoItem) × (page ≡ RecnoInternal inner)
+    of (RecnoInternal page) tree is = (page, refl)
+    of page tree is = absurd cc
 
 pub leaf_page : (image : List ℕ) (p : ℕ) → IsForest image → type_in (page_at (file_of image) p) ≡ Some 5
     → (page : Listed Item) × (page_at (file_of image) p ≡ Leaf page)
-leaf_page image p forest is =
-    leaf_of (page_at (file_of image) p) (formed_at image p forest (typed_inside image (5 ∷ []) p (ap (has_type (5 ∷ [])) is))) is
+leaf_page image p forest is = of (page_at (file_of image) p) (typed_tree image p 5 forest refl is) is
+  where
+    of : (page : Page) → is_tree_in page ≡ true → type_in page ≡ Some 5 → (inner : Listed Item) × (page ≡ Leaf inner)
+    of (Leaf page) tree is = (page, refl)
+    of page tree is = absurd cc
 
 pub recno_leaf_page : (image : List ℕ) (p : ℕ) → IsForest image → type_in (page_at (file_of image) p) ≡ Some 6
     → (page : Listed Item) × (page_at (file_of image) p ≡ RecnoLeaf page)
-recno_leaf_page image p forest is =
-    recno_leaf_of (page_at (file_of image) p) (formed_at image p forest (typed_inside image (6 ∷ []) p (ap (has_type (6 ∷ [])) is))) is
+recno_leaf_page image p forest is = of (page_at (file_of image) p) (typed_tree image p 6 forest refl is) is
+  where
+    of : (page : Page) → is_tree_in page ≡ true → type_in page ≡ Some 6 → (inner : Listed Item) × (page ≡ RecnoLeaf inner)
+    of (RecnoLeaf page) tree is = (page, refl)
+    of page tree is = absurd cc
 
 pub dup_leaf_page : (image : List ℕ) (p : ℕ) → IsForest image → type_in (page_at (file_of image) p) ≡ Some 12
     → (page : Listed Item) × (page_at (file_of image) p ≡ DupLeaf page)
-dup_leaf_page image p forest is =
-    dup_leaf_of (page_at (file_of image) p) (formed_at image p forest (typed_inside image (12 ∷ []) p (ap (has_type (12 ∷ [])) is))) is
+dup_leaf_page image p forest is = of (page_at (file_of image) p) (typed_tree image p 12 forest refl is) is
+  where
+    of : (page : Page) → is_tree_in page ≡ true → type_in page ≡ Some 12 → (inner : Listed Item) × (page ≡ DupLeaf inner)
+    of (DupLeaf page) tree is = (page, refl)
+    of page tree is = absurd cc
 
 -- What a page names.
-
--- a reference of this sort to a page, which this page holds
-record Holds (file : File) (p : ℕ) (sort : Sort) (target : ℕ) : Type 0 where
-  place : ℕ
-  held : Contains (refs file p) (record { place = place; sort = sort; target = target })
-
-named_of : (file : File) (p : ℕ) (sort : Sort) (target : ℕ) → Contains (targets_of file.kind p (page_at file p)) (sort, target)
-    → Holds file p sort target
-unfolding refs
-named_of file p sort target at =
-    let names : List (Sort × ℕ) = targets_of file.kind p (page_at file p) in
-    let found : (i : ℕ) × Contains (enumerate_from 0 names) (i, (sort, target)) = in_enumerated 0 names (sort, target) at in
-    record {
-      place = found.0;
-      held = in_map (λ (named : ℕ × (Sort × ℕ)). record { place = named.0; sort = named.1.0; target = named.1.1 }) (enumerate_from 0 names)
-          (found.0, (sort, target)) found.1;
-    }
-
--- in a file that is no queue a page holds a reference for each page that it names
-named : (file : File) (p : ℕ) (sort : Sort) (target : ℕ) → (file.kind ≡ QueueFile → ⊥) → Contains (targets_in p (page_at file p)) (sort, target)
-    → Holds file p sort target
-named file p sort target other at =
-    named_of file p sort target (subst (λ names. Contains names (sort, target)) (sym (forest_names file.kind p (page_at file p) other)) at)
 
 -- what a reference of a sort to a page asks, and finds
 record Fits (file : File) (holder : ℕ) (sort : Sort) (target : ℕ) : Type 0 where
@@ -148,58 +138,30 @@ asks_kind sort = false
 no_zero : (holder : ℕ) (page target : Page) (sort : Sort) → asks_kind sort ≡ true
     → ((asked_by holder page sort).or_zero && is_zero_page target) ≡ false
 no_zero holder page target Child is = refl
-no_zero holder page target Root is = refl
-no_zero holder page target DuplicateRoot is = refl
-no_zero holder page target sort is = absurd cc
+no_zero holder page target sort is = cc
 
-held_fits : (file : File) (p : ℕ) (sort : Sort) (target : ℕ) → reference_faults file ≡ [] → p ≤ file.last → asks_kind sort ≡ true
-    → Holds file p sort target → Fits file p sort target
+held_fits : (file : File) (p : ℕ) (reference : Reference) (sort : Sort) (target : ℕ) → reference_faults file ≡ [] → p ≤ file.last
+    → asks_kind sort ≡ true → Contains (refs file p) reference → reference.sort ≡ sort → reference.target ≡ target → Fits file p sort target
 unfolding fit_code
-held_fits file p sort target none low kind holds =
-    let rows = fit_rows file (asked_by p (page_at file p) sort) target in
-    let fail : AllFail rows =
-    none_is_first_row rows (each_fits file p (record { place = holds.place; sort = sort; target = target }) none low holds.held) in
-    let range : ((target == 0) ≡ false) × (nat_lt file.last target ≡ false) = or_parts (target == 0) (nat_lt file.last target) fail.0 in
-    let some : target ≡ 0 → ⊥ = eqb-false target 0 range.0 in
-    record {
-      inside = ltb-false file.last target range.1;
+held_fits file p reference sort target none low kind held sort_is target_is =
+    let asked = asked_by p (page_at file p) reference.sort in
+    let fail = none_is_first_row (fit_rows file asked reference.target) (each_fits file p reference none low held) in
+    let range = or_parts (reference.target == 0) (nat_lt file.last reference.target) fail.0 in
+    let some : reference.target ≡ 0 → ⊥ = eqb-false reference.target 0 range.0 in
+    subst (λ s. Fits file p s target) sort_is
+    (subst (Fits file p reference.sort) target_is
+    (record {
+      inside = ltb-false file.last reference.target range.1;
       above = omega arith;
-      type = first_or_none _ _ (no_zero p (page_at file p) (page_at file target) sort kind) fail.1.0;
+      type = first_or_none _ _ (no_zero p (page_at file p) (page_at file reference.target) reference.sort (ap asks_kind sort_is ∙ kind)) fail.1.0;
       level = not-false _ fail.1.1.0;
-    }
+    }))
 
 -- Children.
 
-child_named : {X : Type 0} (child : X → ℕ) (names : X → List (Sort × ℕ)) (xs : List X) (c : ℕ) → ((x : X) → Contains (names x) (Child, child x))
-    → Contains (map child xs) c → Contains (flat_map names xs) (Child, c)
-child_named child names xs c each at =
-    let found : (x : _) × Contains xs x × (child x ≡ c) = of_map child xs c at in
-    in_flat_map names xs found.0 (Child, c) found.1 (subst (λ n. Contains (names found.0) (Child, n)) found.2 (each found.0))
-
--- an internal page names the pages below it
-page_names : (p : ℕ) (page : Page) (children : List ℕ) (c : ℕ) → children_in page ≡ Some children → Contains children c
-    → Contains (targets_in p page) (Child, c)
-page_names p (Internal page) children c are at =
-    let same : map (λ (item : InternalItem). item.child) page.items ≡ children = cc in
-    child_named (λ (item : InternalItem). item.child) internal_targets page.items c
-    (λ item. first_member (Child, item.child) (content_targets item.key)) (subst (λ cs. Contains cs c) (sym same) at)
-page_names p (RecnoInternal page) children c are at =
-    let same : map (λ (item : RecnoItem). item.child) page.items ≡ children = cc in
-    let found : (item : RecnoItem) × Contains page.items item × (item.child ≡ c) =
-    of_map (λ (item : RecnoItem). item.child) page.items c (subst (λ cs. Contains cs c) (sym same) at) in
-    subst (λ n. Contains {X = Sort × ℕ} (map (λ (item : RecnoItem). (Child, item.child)) page.items) (Child, n)) found.2
-    (in_map (λ (item : RecnoItem). (Child, item.child)) page.items found.0 found.1)
-page_names p page children c are at = absurd cc
-
-inner_of_forest : (page : Page) (children : List ℕ) → children_in page ≡ Some children → is_queue_page page ≡ false
-inner_of_forest (Internal page) children are = refl
-inner_of_forest (RecnoInternal page) children are = refl
-inner_of_forest page children are = absurd cc
-
-inner_type : (page : Page) (children : List ℕ) → children_in page ≡ Some children → has_type (3 ∷ 4 ∷ []) (type_in page) ≡ true
+pub inner_type : (page : Page) (children : List ℕ) → children_in page ≡ Some children → has_type (3 ∷ 4 ∷ 5 ∷ 6 ∷ 12 ∷ []) (type_in page) ≡ true
 inner_type (Internal page) children are = refl
-inner_type (RecnoInternal page) children are = refl
-inner_type page children are = absurd cc
+inner_type page children are = cc
 
 -- the types of children are types of trees
 child_tree : (page : Page) → AllTypes (λ type. has_type (3 ∷ 4 ∷ 5 ∷ 6 ∷ 12 ∷ []) type ≡ true) (child_types page)
@@ -228,11 +190,10 @@ pub child_is : (image : List ℕ) (p c : ℕ) (children : List ℕ) → IsForest
 child_is image p c children forest are at =
     let file : File = file_of image in
     let page : Page = page_at file p in
-    let low : p ≤ file.last = typed_inside image (3 ∷ 4 ∷ []) p (inner_type page children are) in
-    let holds : Holds file p Child c =
-    named file p Child c (no_queue image (head_of image) p forest.formed low (inner_of_forest page children are))
-    (page_names p page children c are at) in
-    let fits : Fits file p Child c = held_fits file p Child c (sound_graph image forest.linked).references low refl holds in
+    let low : p ≤ file.last = tree_inside image p (inner_type page children are) in
+    let names : NamesChild file p c = child_named file p c (subst (λ cs. Contains cs c) (sym (children_are image p children forest low are)) at) in
+    let fits : Fits file p Child c =
+    held_fits file p names.reference Child c (sound_graph image forest.linked).references low refl names.held names.child names.target in
     let high : 2 ≤ level file p = inner_level page children (formed_at image p forest low) are in
     let below : level file p - 1 ≡ level file c = eqb-true (level file p - 1) (level file c) fits.level in
     record {
@@ -252,18 +213,14 @@ flat_map_same f g (x ∷ xs) same =
     ap (λ ys. ys ++ flat_map f xs) (same x (first_member x xs))
     ∙ ap (λ ys. g x ++ ys) (flat_map_same f g xs (λ y at. same y (later_member x xs y at)))
 
-leaves_above_none : (levels : ℕ) (file : File) (p : ℕ) → children_in (page_at file p) ≡ None → leaves_in (suc levels) file p ≡ p ∷ []
+leaves_step : (levels : ℕ) (file : File) (p : ℕ) (children : Option (List ℕ)) → children_in (page_at file p) ≡ children
+    → leaves_in (suc levels) file p ≡ leaves_under (leaves_in levels file) p children
 unfolding leaves_in
-leaves_above_none levels file p none = ap (leaves_under (leaves_in levels file) p) none
+leaves_step levels file p children are = ap (leaves_under (leaves_in levels file) p) are
 
--- a leaf is the only_member one at or below it
+-- a leaf is the only one at or below it
 pub leaves_of_leaf : (file : File) (p : ℕ) → IsLeafPage (page_at file p) → leaves file p ≡ p ∷ []
-leaves_of_leaf file p leaf = ap (λ n. leaves_in n file p) leaf.level ∙ leaves_above_none 0 file p leaf.none
-
-leaves_below_inner : (levels : ℕ) (file : File) (p : ℕ) (children : List ℕ) → children_in (page_at file p) ≡ Some children
-    → leaves_in (suc levels) file p ≡ flat_map (leaves_in levels file) children
-unfolding leaves_in
-leaves_below_inner levels file p children are = ap (leaves_under (leaves_in levels file) p) are
+leaves_of_leaf file p leaf = ap (λ n. leaves_in n file p) leaf.level ∙ leaves_step 0 file p None leaf.none
 
 -- the leaves below an internal page are those below its children, in order
 pub leaves_of_inner : (image : List ℕ) (p : ℕ) (children : List ℕ) → IsForest image → children_in (page_at (file_of image) p) ≡ Some children
@@ -272,12 +229,12 @@ leaves_of_inner image p children forest are = of (level (file_of image) p) refl
   where
     of : (n : ℕ) → level (file_of image) p ≡ n → leaves (file_of image) p ≡ flat_map (leaves (file_of image)) children
     of zero is =
-        let low : p ≤ (file_of image).last = typed_inside image (3 ∷ 4 ∷ []) p (inner_type (page_at (file_of image) p) children are) in
+        let low : p ≤ (file_of image).last = tree_inside image p (inner_type (page_at (file_of image) p) children are) in
         let high : 2 ≤ level (file_of image) p = inner_level (page_at (file_of image) p) children (formed_at image p forest low) are in
         absurd (omega arith)
     of (suc n) is =
         ap (λ k. leaves_in k (file_of image) p) is
-        ∙ (leaves_below_inner n (file_of image) p children are
+        ∙ (leaves_step n (file_of image) p (Some children) are
         ∙ flat_map_same (leaves_in n (file_of image)) (leaves (file_of image)) children (λ c at.
         let child : IsChild (file_of image) p c = child_is image p c children forest are at in
         let same : n ≡ level (file_of image) c = omega (arith, child.level) in
@@ -286,44 +243,44 @@ leaves_of_inner image p children forest are = of (level (file_of image) p) refl
 -- a page of a tree stands above level 0
 pub tree_level : (image : List ℕ) (p : ℕ) → IsForest image → IsTreePage (file_of image) p → 1 ≤ level (file_of image) p
 tree_level image p forest tree =
-    elim (tree_cases image p forest tree) [
-      | inl inner ↦ let high : 2 ≤ level (file_of image) p = inner.level in
-          omega arith
-      | inr leaf ↦ let one : level (file_of image) p ≡ 1 = leaf.level in omega arith
-    ]
+    elim (tree_cases image p forest tree) [ inl inner ↦ omega (arith, inner.level) | inr leaf ↦ omega (arith, leaf.level) ]
 
 -- what goes down from a page to those below it
 abbrev pub GoesDown : List ℕ → (ℕ → Type 0) → Type 0
 GoesDown image P = (p c : ℕ) (children : List ℕ) → P p → children_in (page_at (file_of image) p) ≡ Some children → Contains children c → P c
 
-leaves_in_have : (levels : ℕ) (image : List ℕ) (P : ℕ → Type 0) (p q : ℕ) → IsForest image → GoesDown image P → level (file_of image) p ≡ levels
-    → IsTreePage (file_of image) p → P p
-    → Contains (leaves_in levels (file_of image) p) q → P q × FitsLeafPage (file_of image) q
-leaves_in_have zero image P p q forest down is tree here at =
-    let high : 1 ≤ level (file_of image) p = tree_level image p forest tree in absurd (omega arith)
-leaves_in_have (suc n) image P p q forest down is tree here at =
-    let file : File = file_of image in
+-- what holds of leaves, and of a page where it holds of its children, holds of each page of a tree
+up_tree : (levels : ℕ) (image : List ℕ) (Q : ℕ → Type 0) → IsForest image → ((p : ℕ) → IsLeafPage (page_at (file_of image) p) → Q p)
+    → ((p : ℕ) (inner : IsInnerPage (page_at (file_of image) p)) → ((c : ℕ) → Contains inner.children c → Q c) → Q p)
+    → (p : ℕ) → level (file_of image) p ≡ levels → IsTreePage (file_of image) p → Q p
+up_tree zero image Q forest at_leaf at_inner p is tree = absurd (omega (arith, tree_level image p forest tree))
+up_tree (suc n) image Q forest at_leaf at_inner p is tree =
     elim (tree_cases image p forest tree) [
-      | inr leaf ↦
-          let same : p ≡ q = only_member p q (subst (λ ps. Contains ps q) (leaves_above_none n file p leaf.none) at) in
-          (subst P same here, subst (FitsLeafPage file) same leaf.type)
+      | inr leaf ↦ at_leaf p leaf
       | inl inner ↦
-          let below : (c : ℕ) × Contains inner.children c × Contains (leaves_in n file c) q =
-          of_flat_map (leaves_in n file) inner.children q (subst (λ ps. Contains ps q) (leaves_below_inner n file p inner.children inner.are) at) in
-          let child : IsChild file p below.0 = child_is image p below.0 inner.children forest inner.are below.1 in
-          leaves_in_have n image P below.0 q forest down (omega (arith, child.level)) child.tree
-          (down p below.0 inner.children here inner.are below.1) below.2
+          at_inner p inner (λ c at.
+          let child : IsChild (file_of image) p c = child_is image p c inner.children forest inner.are at in
+          up_tree n image Q forest at_leaf at_inner c (omega (arith, child.level)) child.tree)
     ]
 
--- what goes down from a page of a tree holds for each leaf below it
-pub leaves_have : (image : List ℕ) (P : ℕ → Type 0) (p q : ℕ) → IsForest image → GoesDown image P → IsTreePage (file_of image) p → P p
-    → Contains (leaves (file_of image) p) q → P q
-leaves_have image P p q forest down tree here at = (leaves_in_have (level (file_of image) p) image P p q forest down refl tree here at).0
+-- what goes down from a page of a tree holds for each leaf below it, and that is a leaf
+leaves_have : (image : List ℕ) (P : ℕ → Type 0) (p q : ℕ) → IsForest image → GoesDown image P → IsTreePage (file_of image) p → P p
+    → Contains (leaves (file_of image) p) q → P q × FitsLeafPage (file_of image) q
+leaves_have image P p q forest down tree =
+    let file : File = file_of image in
+    up_tree (level file p) image (λ r. P r → Contains (leaves file r) q → P q × FitsLeafPage file q) forest
+    (λ r leaf here at.
+    let same : r ≡ q = only_member r q (subst (λ ps. Contains ps q) (leaves_of_leaf file r leaf) at) in
+    (subst P same here, subst (FitsLeafPage file) same leaf.type))
+    (λ r inner below here at.
+    let under = subst (λ ps. Contains ps q) (leaves_of_inner image r inner.children forest inner.are) at in
+    let found = of_flat_map (leaves file) inner.children q under in
+    below found.0 found.1 (down r found.0 inner.children here inner.are found.1) found.2) p refl tree
 
 -- each leaf at or below a page of a tree is a leaf
 pub leaf_fits : (image : List ℕ) (p q : ℕ) → IsForest image → IsTreePage (file_of image) p → Contains (leaves (file_of image) p) q
     → FitsLeafPage (file_of image) q
-leaf_fits image p q forest tree at = (leaves_in_have (level (file_of image) p) image (λ _. Unit {0}) p q forest (λ _ _ _ _ _ _. tt) refl tree tt at).1
+leaf_fits image p q forest tree at = (leaves_have image (λ _. Unit {0}) p q forest (λ _ _ _ _ _ _. tt) tree tt at).1
 
 pub leaf_low : (image : List ℕ) (p q : ℕ) → IsForest image → IsTreePage (file_of image) p → Contains (leaves (file_of image) p) q
     → q ≤ (file_of image).last
@@ -334,23 +291,14 @@ some_of_parts : {X Y : Type 0} (f : X → List Y) (xs : List X) → 0 < length x
 some_of_parts f [] some each = some
 some_of_parts f (x ∷ xs) some each = let first : 0 < length (f x) = each x (first_member x xs) in omega (arith, length-append (f x) (flat_map f xs))
 
-leaves_in_some : (levels : ℕ) (image : List ℕ) (p : ℕ) → IsForest image → level (file_of image) p ≡ levels → IsTreePage (file_of image) p
-    → 0 < length (leaves_in levels (file_of image) p)
-leaves_in_some zero image p forest is tree = let high : 1 ≤ level (file_of image) p = tree_level image p forest tree in absurd (omega arith)
-leaves_in_some (suc n) image p forest is tree =
-    let file : File = file_of image in
-    elim (tree_cases image p forest tree) [
-      | inr leaf ↦ subst (λ (ps : List ℕ). 0 < length ps) (sym (leaves_above_none n file p leaf.none)) (omega arith)
-      | inl inner ↦
-          subst (λ (ps : List ℕ). 0 < length ps) (sym (leaves_below_inner n file p inner.children inner.are))
-          (some_of_parts (leaves_in n file) inner.children inner.some (λ c at.
-          let child : IsChild file p c = child_is image p c inner.children forest inner.are at in
-          leaves_in_some n image c forest (omega (arith, child.level)) child.tree))
-    ]
-
 -- a page of a tree has a leaf at or below it
 pub some_leaf : (image : List ℕ) (p : ℕ) → IsForest image → IsTreePage (file_of image) p → 0 < length (leaves (file_of image) p)
-some_leaf image p forest tree = leaves_in_some (level (file_of image) p) image p forest refl tree
+some_leaf image p forest tree =
+    let file : File = file_of image in
+    up_tree (level file p) image (λ r. 0 < length (leaves file r)) forest (λ r leaf. omega (arith, ap length (leaves_of_leaf file r leaf)))
+    (λ r inner below.
+    let some : 0 < length (flat_map (leaves file) inner.children) = some_of_parts (leaves file) inner.children inner.some below in
+    omega (arith, ap length (leaves_of_inner image r inner.children forest inner.are))) p refl tree
 
 -- The types of leaves.
 
@@ -362,7 +310,6 @@ recno_below : (page : Page) (children : List ℕ) → has_type (4 ∷ 6 ∷ []) 
     → AllTypes (λ type. has_type (4 ∷ 6 ∷ []) type ≡ true) (child_types page)
 recno_below (RecnoInternal page) children has are =
     either_types (λ type. has_type (4 ∷ 6 ∷ []) type ≡ true) (page.header.level == 2) (6 ∷ []) (4 ∷ []) (refl, tt) (refl, tt)
-recno_below (Internal page) children has are = absurd cc
 recno_below page children has are = absurd cc
 
 wider : (small big : List ℕ) (file : File) (p : ℕ) → AllTypes (λ type. has_type big type ≡ true) small → HasTypeAt file small p → HasTypeAt file big p
@@ -374,25 +321,15 @@ pub recno_leaf : (image : List ℕ) (p q : ℕ) → IsForest image → HasTypeAt
 recno_leaf image p q forest has at =
     let file : File = file_of image in
     let tree : IsTreePage file p = wider (4 ∷ 6 ∷ []) (3 ∷ 4 ∷ 5 ∷ 6 ∷ 12 ∷ []) file p (refl, (refl, tt)) has in
-    let recno : HasTypeAt file (4 ∷ 6 ∷ []) q =
+    let below : HasTypeAt file (4 ∷ 6 ∷ []) q × FitsLeafPage file q =
     leaves_have image (HasTypeAt file (4 ∷ 6 ∷ [])) p q forest
     (λ p c children here are below. of_type (λ type. has_type (4 ∷ 6 ∷ []) type ≡ true) (child_types (page_at file p)) (type_in (page_at file c))
     (recno_below (page_at file p) children here are) (child_is image p c children forest are below).type)
     tree has at in
     of_type (λ type. has_type (4 ∷ 6 ∷ []) type ≡ true → type ≡ Some 6) (5 ∷ 6 ∷ 12 ∷ []) (type_in (page_at file q))
-    (λ other. absurd cc, (λ _. refl, (λ other. absurd cc, tt))) (leaf_fits image p q forest tree at) recno
+    (λ other. absurd cc, (λ _. refl, (λ other. absurd cc, tt))) below.1 below.0
 
 -- Roots.
-
-held_as : (file : File) (p : ℕ) (reference : Reference) (sort : Sort) (target : ℕ) → Contains (refs file p) reference → reference.sort ≡ sort
-    → reference.target ≡ target → Holds file p sort target
-held_as file p reference sort target held sort_is target_is =
-    record {
-      place = reference.place;
-      held =
-          subst (λ t. Contains (refs file p) (record { place = reference.place; sort = sort; target = t })) target_is
-          (subst (λ s. Contains (refs file p) (record { place = reference.place; sort = s; target = reference.target })) sort_is held);
-    }
 
 -- a root fits the reference that names it
 root_fits : (image : List ℕ) (sort : Sort) (r : ℕ) → IsForest image → asks_kind sort ≡ true → (is : IsTarget (file_of image) sort r)
@@ -400,8 +337,7 @@ root_fits : (image : List ℕ) (sort : Sort) (r : ℕ) → IsForest image → as
 root_fits image sort r forest kind is =
     let file : File = file_of image in
     let held = of_all file is.owner is.held in
-    held_fits file is.owner.holder sort r (sound_graph image forest.linked).references held.0 kind
-    (held_as file is.owner.holder is.owner.reference sort r held.1 is.sort_is is.target_is)
+    held_fits file is.owner.holder is.owner.reference sort r (sound_graph image forest.linked).references held.0 kind held.1 is.sort_is is.target_is
 
 root_keyed_or_recno : (page : Page) (type : Option ℕ) → has_type (root_types page) type ≡ true
     → (has_type (3 ∷ 5 ∷ []) type ≡ true) ⊎ (has_type (4 ∷ 6 ∷ []) type ≡ true)
@@ -423,19 +359,21 @@ root_cases image r forest is =
 -- the root that metadata names has one of the types that it asks for
 pub meta_root_type : (image : List ℕ) (meta : BtreeMeta) → IsForest image → HasMetadata (file_of image) (BtreeFields meta)
     → has_type (root_types (Meta (BtreeFields meta))) (type_in (page_at (file_of image) meta.root)) ≡ true
+unfolding refs
 meta_root_type image meta forest has =
     let file : File = file_of image in
-    let at : Contains (targets_in has.page (Meta (BtreeFields meta))) (Root, meta.root) =
-    Contains-append_right (first_free has.page meta.free) ((Root, meta.root) ∷ []) (Root, meta.root) (first_member (Root, meta.root) []) in
-    let holds : Holds file has.page Root meta.root =
-    named file has.page Root meta.root (is_no_queue file Root meta.root (target_fits image (head_of image) meta forest.formed has))
-    (subst (λ page. Contains (targets_in has.page page) (Root, meta.root)) (sym has.is) at) in
+    let name : Sort × ℕ = (Root, meta.root) in
+    let forest_kind = is_no_queue file Root meta.root (target_fits image (head_of image) meta forest.formed has) in
+    let names =
+    forest_names file.kind has.page (page_at file has.page) forest_kind
+    ∙ ap (targets_in has.page) has.is in
+    let found =
+    in_enumerated 0 _ name (subst (λ ns. Contains ns name) (sym names)
+    (Contains-append_right (first_free has.page meta.free) (name ∷ []) name (first_member name []))) in
     subst (λ page. has_type (root_types page) (type_in (page_at file meta.root)) ≡ true) has.is
-    (held_fits file has.page Root meta.root (sound_graph image forest.linked).references has.inside refl holds).type
-
--- the root of duplicates is one of sorted or of unsorted ones
-pub dup_root_type : (image : List ℕ) (r : ℕ) → IsForest image → FitsDupRoot (file_of image) r → HasTypeAt (file_of image) (3 ∷ 4 ∷ 6 ∷ 12 ∷ []) r
-dup_root_type image r forest is = (root_fits image DuplicateRoot r forest refl is).type
+    (held_fits file has.page (record { place = found.0; sort = Root; target = meta.root }) Root meta.root (sound_graph image forest.linked).references
+    has.inside refl
+    (in_map (λ (named : ℕ × (Sort × ℕ)). record { place = named.0; sort = named.1.0; target = named.1.1 }) _ (found.0, name) found.1) refl refl).type
 
 pub root_is_tree : (image : List ℕ) (r : ℕ) → IsForest image → IsRoot (file_of image) r → IsTreePage (file_of image) r
 root_is_tree image r forest is =
@@ -446,48 +384,20 @@ root_is_tree image r forest is =
             | inr recno ↦ wider (4 ∷ 6 ∷ []) (3 ∷ 4 ∷ 5 ∷ 6 ∷ 12 ∷ []) (file_of image) r (refl, (refl, tt)) recno
           ]
       | inr dup ↦ wider (3 ∷ 4 ∷ 6 ∷ 12 ∷ []) (3 ∷ 4 ∷ 5 ∷ 6 ∷ 12 ∷ []) (file_of image) r (refl, (refl, (refl, (refl, tt))))
-          (dup_root_type image r forest dup)
+          (root_fits image DuplicateRoot r forest refl dup).type
     ]
 
 -- Faults of leaves.
 
--- the code of one of two rows that holds
-pub code_of_two : (a b : Bool) (code : ℕ) → Contains (holding (2 :? a ∷ 3 :? b ∷ [])) code → ((code ≡ 2) × (a ≡ true)) ⊎ ((code ≡ 3) × (b ≡ true))
-code_of_two true true code at =
-    elim (member_cases 2 (3 ∷ []) code at) [ inl same ↦ inl (sym same, refl) | inr later ↦ inr (sym (only_member 3 code later), refl) ]
-code_of_two true false code at = inl (sym (only_member 2 code at), refl)
-code_of_two false true code at = inr (sym (only_member 3 code at), refl)
-code_of_two false false code at = absurd (no_member [] code refl at)
-
--- a place at which neither row of leaves holds
-pub record IsRightPlace (file : File) (place : LeafPlace) : Type 0 where
-  pub type : is_wrong_leaf file place ≡ false
-  pub link : is_wrong_link file place ≡ false
-
--- where no leaf has a fault, no place of a leaf is wrong
-pub place_is_right : (file : File) (place : LeafPlace) → tree_faults file ≡ [] → place.leaf ≤ file.last → Contains (leaf_places file) place
-    → IsRightPlace file place
-unfolding tree_faults
-place_is_right file place none low at =
+-- where no row of the stage holds, no place of a leaf has a wrong link
+pub link_is_right : (file : File) (place : LeafPlace) → structure_faults file ≡ [] → place.leaf ≤ file.last → Contains (leaf_places file) place
+    → is_wrong_link file place ≡ false
+unfolding structure_faults
+link_is_right file place none low at =
     let p : ℕ = place.leaf in
-    let fail : AllFail (tree_rows file p) =
-    all_fail (tree_rows file p) (no_codes_at 6 0 (file.last + 1) p (λ page. holding (tree_rows file page)) none (omega arith) (omega arith)) in
-    let here : (place.leaf == p) ≡ true = eq-eqb place.leaf p refl in
-    record {
-      type = second_false (place.leaf == p) (is_wrong_leaf file place) here
-          (none_passes (λ (other : LeafPlace). other.leaf == p && is_wrong_leaf file other) (leaf_places file) place fail.0 at);
-      link = second_false (place.leaf == p) (is_wrong_link file place) here
-          (none_passes (λ (other : LeafPlace). other.leaf == p && is_wrong_link file other) (leaf_places file) place fail.1.0 at);
-    }
-
--- the faults of leaves are some of those of the stage
-pub no_tree_fault : (file : File) → structure_faults file ≡ [] → tree_faults file ≡ []
-unfolding structure_faults tree_faults
-no_tree_fault file none =
-    no_faults 6 0 (file.last + 1) (λ p. holding (tree_rows file p)) (λ p low high.
-    let fail : AllFail (structure_rows file p) =
-    all_fail (structure_rows file p) (no_codes_at 6 0 (file.last + 1) p (λ page. holding (structure_rows file page)) none low high) in
-    none_holds (tree_rows file p) fail.1)
+    let fail : AllFail (structure_rows file p) = no_rows_at 6 0 (file.last + 1) p (structure_rows file) none (omega arith) (omega arith) in
+    second_false (p == p) (is_wrong_link file place) (eq-eqb p p refl)
+    (none_passes (λ (other : LeafPlace). other.leaf == p && is_wrong_link file other) (leaf_places file) place fail.1.1.0 at)
 
 -- the places of the leaves below a root
 pub place_of_root : (file : File) (sort : Sort) (r : ℕ) (place : LeafPlace) → is_root_reference sort ≡ true → IsTarget file sort r
@@ -504,9 +414,6 @@ place_of_root file sort r place root is at =
 
 -- Sets off the page.
 
-content_named : (content : Content) (root : ℕ) → content ≡ Tree root → Contains (content_targets content) (DuplicateRoot, root)
-content_named content root is = subst (λ c. Contains (content_targets c) (DuplicateRoot, root)) (sym is) (first_member (DuplicateRoot, root) [])
-
 -- a set off the page that an item of a page is names the root of duplicates
 set_named : (image : List ℕ) (p root : ℕ) (page : Page) (content : Content) → IsForest image → p ≤ (file_of image).last
     → page_at (file_of image) p ≡ page
@@ -519,7 +426,8 @@ set_named image p root page content forest low is other held set =
     ∙ ap (targets_in p) is in
     named_target file p DuplicateRoot root low
     (subst (λ ns. Contains ns (DuplicateRoot, root)) (sym names)
-    (held_named p page content (DuplicateRoot, root) held (content_named content root set)))
+    (held_named p page content (DuplicateRoot, root) held
+    (subst (λ c. Contains (content_targets c) (DuplicateRoot, root)) (sym set) (first_member (DuplicateRoot, root) []))))
 
 -- data of a hash page that are a set off the page name the root of duplicates
 pub hash_dup_root : (image : List ℕ) (p i root : ℕ) (page : Listed Item) → IsForest image → p ≤ (file_of image).last

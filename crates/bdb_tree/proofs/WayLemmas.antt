@@ -7,7 +7,7 @@ use Rattle.std.specs.Option.{unwrap_or}
 use Rattle.bdb_graph.specs.Slots.{no_internal_item}
 use Rattle.bdb_graph.specs.Linked.{FitsLeafPage, IsForest}
 use Rattle.bdb_format.specs.File.{File, file_of, page_at, type_in}
-use Rattle.bdb_format.specs.Page.{Page, InternalItem, Internal, Listed, RecnoInternal}
+use Rattle.bdb_format.specs.Page.{Page, InternalItem, Internal, Listed}
 use Rattle.bdb_format.specs.References.{child_types, has_type}
 use Rattle.bdb_format.proofs.MemberLemmas.{first_member, in_map, later_member, member_cases, of_filter}
 use Rattle.bdb_tree.specs.Descent.{AllMonotone, AllReadable, chosen, descent, go_on, next_below, steps_at}
@@ -41,21 +41,20 @@ pub chosen_among : (test : InternalItem → Bool) (items : List InternalItem) �
 chosen_among test [] some = absurd (omega arith)
 chosen_among test (first ∷ items) some =
     let kept : List InternalItem = filter (λ item. not (test item)) items in
-    let last : InternalItem = unwrap_or (last_or (Some first) kept) no_internal_item in
-    let held : Contains (first ∷ items) last =
-    elim (member_cases first kept last (last_among first kept)) [
-      | inl same ↦ subst (Contains (first ∷ items)) same (first_member first items)
-      | inr later ↦ later_member first items last (of_filter (λ item. not (test item)) items last later).0
-    ]
-    in
-    (last, held, refl)
+    let last : InternalItem = unwrap_or (last_or (Some first) kept) no_internal_item in (
+      last,
+      elim (member_cases first kept last (last_among first kept)) [
+        | inl same ↦ subst (Contains (first ∷ items)) same (first_member first items)
+        | inr later ↦ later_member first items last (of_filter (λ item. not (test item)) items last later).0
+      ],
+      refl,
+    )
 
 -- The end of a descent: a page that is no internal page with keys.
 
 no_children : (test : InternalItem → Bool) (page : Page) (children : List ℕ) → None ≡ next_below test page
     → has_type (3 ∷ 5 ∷ 12 ∷ []) (type_in page) ≡ true → children_in page ≡ Some children → ⊥
 no_children test (Internal page) children none keyed some = cc
-no_children test (RecnoInternal page) children none keyed some = cc
 no_children test page children none keyed some = cc
 
 ends_at_leaf : (image : List ℕ) (test : InternalItem → Bool) (p : ℕ) → IsForest image → IsKeyed (file_of image) p
@@ -96,9 +95,6 @@ at_end image reads test root began page steps after forest way none cost =
 
 -- The beginning, and a step.
 
-root_keyed : (type : Option ℕ) → has_type (3 ∷ 5 ∷ []) type ≡ true → has_type (3 ∷ 5 ∷ 12 ∷ []) type ≡ true
-root_keyed type keyed = of_type (λ t. has_type (3 ∷ 5 ∷ 12 ∷ []) t ≡ true) (3 ∷ 5 ∷ []) type (refl, (refl, tt)) keyed
-
 pub at_root : (image : List ℕ) (reads : InternalItem → Type 0) (test : InternalItem → Bool) (root steps : ℕ)
     → has_type (3 ∷ 5 ∷ []) (type_in (page_at (file_of image) root)) ≡ true → AllReadable (file_of image) reads root
     → AllMonotone (file_of image) test root
@@ -106,7 +102,7 @@ pub at_root : (image : List ℕ) (reads : InternalItem → Type 0) (test : Inter
 at_root image reads test root steps keyed readable monotone =
     record {
       inside = typed_inside image (3 ∷ 5 ∷ []) root keyed;
-      keyed = root_keyed (type_in (page_at (file_of image) root)) keyed;
+      keyed = of_type (λ t. has_type (3 ∷ 5 ∷ 12 ∷ []) t ≡ true) (3 ∷ 5 ∷ []) (type_in (page_at (file_of image) root)) (refl, (refl, tt)) keyed;
       readable = readable;
       monotone = monotone;
       same = refl;
@@ -147,11 +143,9 @@ pub on_way : (image : List ℕ) (reads : InternalItem → Type 0) (test : Intern
     → IsStep (file_of image) reads test root began page child after
 on_way image reads test root began page child steps after forest way some count =
     let file : File = file_of image in
-    let at : (view : Listed InternalItem) × (page_at file page ≡ Internal view) × (child ≡ chosen test view.items) =
-    is_internal image test page child some in
+    let at = is_internal image test page child some in
     let view : Listed InternalItem = at.0 in
-    let item : (item : InternalItem) × Contains view.items item × (item.child ≡ chosen test view.items) =
-    chosen_among test view.items (internal_is image page view forest way.inside at.1).1 in
+    let item = chosen_among test view.items (internal_is image page view forest way.inside at.1).1 in
     let held : Contains (map (λ (i : InternalItem). i.child) view.items) child =
     subst (Contains (map (λ (i : InternalItem). i.child) view.items)) (item.2 ∙ sym at.2)
     (in_map (λ (i : InternalItem). i.child) view.items item.0 item.1) in

@@ -11,6 +11,7 @@ use bdb_form::PageView;
 use bdb_graph::{DupRoot, Forest, LeafPage, Linked, Ref, TreeRoot};
 
 /// The first leaf of the tree of metadata.
+#[tactic(auto, using(crate::proofs::TreeLemmas::root_is_tree))]
 pub fn first_leaf(linked: &Linked<'_>, r: Ref<TreeRoot>) -> Ref<LeafPage>
     requires { FitsTreeRoot (file_of linked.now) r }
     ensures first { slice_get (leaves (file_of linked.now) r) 0 ≡ Some result }
@@ -21,6 +22,7 @@ pub fn first_leaf(linked: &Linked<'_>, r: Ref<TreeRoot>) -> Ref<LeafPage>
 }
 
 /// The first leaf of a tree of duplicates.
+#[tactic(auto, using(crate::proofs::TreeLemmas::root_is_tree))]
 pub fn dup_first(linked: &Linked<'_>, r: Ref<DupRoot>) -> Ref<LeafPage>
     requires { FitsDupRoot (file_of linked.now) r }
     ensures first { slice_get (leaves (file_of linked.now) r) 0 ≡ Some result }
@@ -44,6 +46,7 @@ pub fn leftmost(forest: &Forest<'_>, root: u32) -> Ref<LeafPage>
 }
 
 /// The first of the pages right below a page of a tree; a leaf has none.
+#[tactic(auto, using(crate::proofs::TreeLemmas::tree_inside, crate::proofs::DownLemmas::has_item))]
 fn first_child(forest: &Forest<'_>, page: u32) -> Option<u32>
     requires { IsTreePage (file_of forest.now) page }
     ensures child { result ≡ first_below (children_in (page_at (file_of forest.now) page)) }
@@ -53,6 +56,7 @@ fn first_child(forest: &Forest<'_>, page: u32) -> Option<u32>
 }
 
 /// The page that the first item of an internal page names; another page names none so.
+#[tactic(auto, using(crate::proofs::DownLemmas::first_of_items))]
 fn first_item(page: &PageView<'_>) -> Option<u32>
     requires { HasItem (page_seen page.now) }
     ensures { result ≡ first_below (children_in (page_seen page.now)) }

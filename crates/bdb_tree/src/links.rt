@@ -23,7 +23,7 @@ pub fn leaves<'a>(linked: &Linked<'a>, first: Ref<LeafPage>) -> Leaves<'a>
 }
 
 /// All leaves of the tree with this root, from left to right, by their links. No memory is taken.
-#[tactic(auto, using(crate::proofs::LinkLemmas::all_pages, crate::proofs::LinkLemmas::pages_few))]
+#[tactic(auto, using(crate::proofs::LinkLemmas::all_pages, crate::proofs::LinkLemmas::pages_few, crate::proofs::TreeLemmas::root_is_tree))]
 pub fn tree_leaves<'a>(forest: &Forest<'a>, root: u32) -> Leaves<'a>
     requires root { IsRoot (file_of forest.now) root }
     requires stage { structure_faults (file_of forest.now) ≡ [] }

@@ -14,12 +14,7 @@ pub fn is_wrong_root(view: &PageView<'_>, sorted: bool) -> bool
         PageView::Hash(page) => is_wrong_type(page.header().page_type, sorted),
         PageView::RecnoInternal(_) | PageView::RecnoLeaf(_) => sorted,
         PageView::Internal(_) | PageView::DupLeaf(_) => !sorted,
-        PageView::Zero(_)
-        | PageView::Free(_)
-        | PageView::Meta(_)
-        | PageView::Leaf(_)
-        | PageView::Overflow(_)
-        | PageView::Queue(_) => false,
+        _ => false,
     }
 }
 

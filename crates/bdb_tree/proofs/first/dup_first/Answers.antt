@@ -1,11 +1,7 @@
 use Rattle.std.proofs.Common.{arith, inr}
 use Rattle.bdb_tree.proofs.LinkLemmas.{root_within}
-use Rattle.bdb_tree.proofs.TreeLemmas.{root_is_tree}
 use Rattle.bdb_tree.proofs.first.dup_first.Goals as goal
 
 pub prove-unreachable-requires : goal.prove-unreachable-requires
 prove-unreachable-requires c =
     omega (arith, root_within c.args.linked.now c.head.result c.args.r c.head.ensures.head c.head.ensures.forest (inr c.requires))
-
-pub leftmost-requires : goal.leftmost-requires
-leftmost-requires c = rw (c.forest.ensures, c.number-2.ensures) (root_is_tree c.args.linked.now c.args.r c.head.ensures.forest (inr c.requires))
