@@ -17,7 +17,8 @@ use Rattle.bdb_format.specs.Verdict.{holding, first_fault}
 use Rattle.bdb_format.proofs.MemberLemmas.{first_member, in_map, no_member, none_pass, of_flat_map, of_map, of_range}
 use Rattle.bdb_format.proofs.VerdictLemmas.{FirstComesFirst, IsOfStage, by_page_first, holding_least, in_by_page, none_is_first_row, of_by_page}
 use Rattle.bdb_format.proofs.RepeatLemmas.{of_repeated}
-use Rattle.bdb_hash.specs.Notes.{fault_at, has_stray_in, is_stray, least_noted, note_bucket, note_repeat, note_told, pair_fault, pair_rows, repeat_fault, stored}
+use Rattle.bdb_hash.specs.Notes.{fault_at, has_stray_in, is_stray, least_noted, note_bucket, note_repeat, note_told, pair_fault}
+use Rattle.bdb_hash.specs.Notes.{pair_rows, repeat_fault, stored}
 use Rattle.bdb_hash.specs.Told.{Told, bucket_told, joined_pages, page_told, table_told, told}
 use Rattle.bdb_hash.specs.Views.{IsTable}
 use Rattle.bdb_hash.proofs.LeastLemmas.{Given, IsLeast, least_both, least_given, least_more}
@@ -47,9 +48,8 @@ told_flat : (image : List ℕ) (meta : HashMeta) (bs : List ℕ)
     → flat_map (bucket_told image meta) bs ≡ map (told image) (flat_map (bucket_pairs (file_of image) meta) bs)
 told_flat image meta [] = refl
 told_flat image meta (b ∷ bs) =
-    ap (λ ts. ts ++ flat_map (bucket_told image meta) bs) (bucket_is image meta b)
-    ∙ (ap (λ ts. map (told image) (bucket_pairs (file_of image) meta b) ++ ts) (told_flat image meta bs)
-    ∙ sym (map-append (told image) (bucket_pairs (file_of image) meta b) (flat_map (bucket_pairs (file_of image) meta) bs)))
+    rw (bucket_is image meta b, told_flat image meta bs)
+    (sym (map-append (told image) (bucket_pairs (file_of image) meta b) (flat_map (bucket_pairs (file_of image) meta) bs)))
 
 pub table_is_told : (image : List ℕ) (meta : HashMeta) → table_told image meta ≡ map (told image) (table_pairs (file_of image) meta)
 unfolding table_pairs
@@ -191,9 +191,11 @@ covered image meta fault table has at =
       | inl (_, by, first, first_is, low) ↦
           let listed : Contains (bucket_told image meta by.bucket) (told image by.pair) =
           subst (λ ts. Contains ts (told image by.pair)) (sym (bucket_is image meta by.bucket))
-          (in_map (told image) (bucket_pairs file meta by.bucket) by.pair by.held) in
-          (fault_at by.pair.page first,
-          inl (inr (by.bucket, by.listed, (told image by.pair, listed, ap (option_map (fault_at by.pair.page)) first_is))), inr (by.at, low))
+          (in_map (told image) (bucket_pairs file meta by.bucket) by.pair by.held) in (
+            fault_at by.pair.page first,
+            inl (inr (by.bucket, by.listed, (told image by.pair, listed, ap (option_map (fault_at by.pair.page)) first_is))),
+            inr (by.at, low),
+          )
       | inr (pair, held, at_page, nine) ↦ (
         repeat_fault pair,
         inr (inr (pair, subst (λ ps. Contains (repeated ps) pair) (sym (table_stored image meta)) held, refl)),

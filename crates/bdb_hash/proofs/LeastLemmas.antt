@@ -75,7 +75,8 @@ given_less Has x xs P fault (inr given) =
 -- the first of a fault and of those that a list has, where each step takes those of one more
 pub least_given : {X : Type 0} (Has : X → Fault → Type 0) (step : Option Fault → X → Option Fault)
     → ((x : X) (P : Fault → Type 0) (least : Option Fault) → IsLeast P least → IsLeast (λ fault. P fault ⊎ Has x fault) (step least x))
-    → (xs : List X) (P : Fault → Type 0) (least : Option Fault) → IsLeast P least → IsLeast (λ fault. P fault ⊎ Given Has xs fault) (fold step least xs)
+    → (xs : List X) (P : Fault → Type 0) (least : Option Fault) → IsLeast P least
+    → IsLeast (λ fault. P fault ⊎ Given Has xs fault) (fold step least xs)
 least_given Has step one [] P least is = least_same P (λ fault. P fault ⊎ Given Has [] fault) least (λ fault p. inl p)
     (λ fault either. elim either [ inl p ↦ p | inr given ↦ absurd (no_member [] given.0 refl given.1) ]) is
 least_given Has step one (x ∷ xs) P least is =

@@ -178,13 +178,8 @@ key_told image place is =
 cmp_told : (image : List ℕ) (a b : Place) → IsAt a (told_at image a) → IsAt b (told_at image b)
     → place_cmp image a b ≡ told_cmp (told_at image a) (told_at image b)
 cmp_told image a b is_a is_b =
-    let key_a : List ℕ = (told_at image a).pair.key in
-    let key_b : List ℕ = (told_at image b).pair.key in
-    ap (λ key. ordering_then (nat_cmp a.first b.first) (slice_cmp nat_cmp key (key_at image b))) (key_told image a is_a)
-    ∙ (ap (λ key. ordering_then (nat_cmp a.first b.first) (slice_cmp nat_cmp key_a key)) (key_told image b is_b)
-    ∙ (ap (λ n. ordering_then (nat_cmp n b.first) (slice_cmp nat_cmp key_a key_b)) is_a.first
-    ∙ (ap (λ n. ordering_then (nat_cmp (prefix_of 8 key_a) n) (slice_cmp nat_cmp key_a key_b)) is_b.first
-    ∙ prefix_order 8 key_a key_b is_a.bytes is_b.bytes)))
+    rw (key_told image a is_a, key_told image b is_b, is_a.first, is_b.first)
+    (prefix_order 8 (told_at image a).pair.key (told_at image b).pair.key is_a.bytes is_b.bytes)
 
 places_rank : (image : List ℕ) → IsStrictWeakOrder (place_less image)
 places_rank image =

@@ -32,17 +32,13 @@ abbrev AreLive : Page → Type 0
 AreLive (Hash page) = (i : ℕ) → (item_at page i).deleted ≡ false
 AreLive page = Unit {0}
 
-live_item : (order : Order) (page : List ℕ) (i : ℕ) → (hash_item_at order page i).deleted ≡ false
-unfolding hash_item_at
-live_item order page i = refl
-
 live_listed : (order : Order) (page : List ℕ) (i : ℕ) → (item_at (listed order page (hash_item_at order page)) i).deleted ≡ false
-unfolding listed
+unfolding listed hash_item_at
 live_listed order page i =
     let n : ℕ = entries_of order page in
     elim (cases_lt i n) [
       | inl below ↦ ap (λ (item : Item). item.deleted)
-          (get_or-map-range_with_len (hash_item_at order page) 0 n i i no_item below (omega arith)) ∙ live_item order page i
+          (get_or-map-range_with_len (hash_item_at order page) 0 n i i no_item below (omega arith))
       | inr past ↦
           ap (λ (item : Item). item.deleted)
           (get_or_past (map (hash_item_at order page) (range_with_len 0 n)) i no_item

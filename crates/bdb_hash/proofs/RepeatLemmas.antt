@@ -45,13 +45,12 @@ drop_other : (earlier others pairs : List StoredPair) → AreOther others pairs
     → repeated_after (earlier ++ others) pairs ≡ repeated_after earlier pairs
 drop_other earlier others [] other = refl
 drop_other earlier others (pair ∷ pairs) other =
-    let rest : repeated_after (pair ∷ earlier ++ others) pairs ≡ repeated_after (pair ∷ earlier) pairs =
-    drop_other (pair ∷ earlier) others pairs (λ one at. other one (later_member pair pairs one at)) in
-    let same : has_same (earlier ++ others) pair ≡ has_same earlier pair =
-    list_any-append (λ (one : StoredPair). bytes_eq one.key pair.key) earlier others
-    ∙ (ap (λ b. has_same earlier pair || b) (other pair (first_member pair pairs)) ∙ or-false (has_same earlier pair)) in
-    ap (λ (ps : List StoredPair). cond (has_same (earlier ++ others) pair) (pair ∷ ps) ps) rest
-    ∙ ap (λ b. cond b (pair ∷ repeated_after (pair ∷ earlier) pairs) (repeated_after (pair ∷ earlier) pairs)) same
+    rw (
+      list_any-append (λ (one : StoredPair). bytes_eq one.key pair.key) earlier others,
+      other pair (first_member pair pairs),
+      or-false (has_same earlier pair),
+      drop_other (pair ∷ earlier) others pairs (λ one at. other one (later_member pair pairs one at)),
+    ) refl
 
 cond_append : (b : Bool) (pair : StoredPair) (xs ys : List StoredPair) → cond b (pair ∷ xs ++ ys) (xs ++ ys) ≡ cond b (pair ∷ xs) xs ++ ys
 cond_append b pair xs ys = grind arith

@@ -176,13 +176,11 @@ groups_alone file [] p plain = refl
 groups_alone file (pair ∷ pairs) p plain =
     let none : take_while (λ (other : StoredPair). other.shares) pairs ≡ [] =
     no_group pairs (λ other at. (plain other (later_member pair pairs other at)).apart) in
-    ap (λ ps. (pair.page == p && is_unsorted file (pair, ps)) || list_any
-    (λ (group : StoredPair × List StoredPair). group.0.page == p && is_unsorted file group) (groups pairs)) none
-    ∙ (ap (λ values. (pair.page == p && not (ascends values)) || list_any
-    (λ (group : StoredPair × List StoredPair). group.0.page == p && is_unsorted file group) (groups pairs))
-    (data_alone file pair (plain pair (first_member pair pairs)).live)
-    ∙ ap (λ b. (pair.page == p && not (ascends (data_of file pair.data_item))) || b)
-    (groups_alone file pairs p (λ other at. plain other (later_member pair pairs other at))))
+    rw (
+      none,
+      data_alone file pair (plain pair (first_member pair pairs)).live,
+      groups_alone file pairs p (λ other at. plain other (later_member pair pairs other at)),
+    ) refl
 
 rows_eq : (a b c d e f : Bool) (two three : Bool) → a ≡ b → c ≡ d → e ≡ f
     → ◌≡◌ {A = List (Row ℕ)} (1 :? a ∷ 2 :? c ∷ 5 :? e ∷ 8 :? two ∷ 9 :? three ∷ []) (1 :? b ∷ 2 :? d ∷ 5 :? f ∷ 8 :? two ∷ 9 :? three ∷ [])
