@@ -155,11 +155,9 @@ noted_is : (image : List ℕ) (meta : HashMeta) (fault : Fault) → IsTable imag
 noted_is image meta fault table has (inl (inl none)) = absurd none
 noted_is image meta fault table has (inl (inr (b, listed, (t, held, given)))) =
     let file : File = file_of image in
-    let pair : (one : StoredPair) × Contains (bucket_pairs file meta b) one × (told image one ≡ t) =
-    of_map (told image) (bucket_pairs file meta b) t (subst (λ ts. Contains ts t) (bucket_is image meta b) held) in
+    let pair = of_map (told image) (bucket_pairs file meta b) t (subst (λ ts. Contains ts t) (bucket_is image meta b) held) in
     let plain : IsPlain file pair.0 = bucket_plain image meta b pair.0 table has (few_buckets meta b listed) pair.1 in
-    let code : (c : ℕ) × (first_row (pair_rows file meta b pair.0) ≡ Some c) × (fault_at pair.0.page c ≡ fault) =
-    some_code pair.0.page (first_row (pair_rows file meta b pair.0)) fault (ap (told_fault meta b) pair.2 ∙ given) in
+    let code = some_code pair.0.page (first_row (pair_rows file meta b pair.0)) fault (ap (told_fault meta b) pair.2 ∙ given) in
     subst (Contains (database_faults file (HashFields meta))) code.2
     (in_faults image meta pair.0.page code.0 plain.inside
     (subst (λ codes. Contains codes code.0) (sym (codes_are image meta pair.0.page table has))
@@ -183,8 +181,7 @@ covered : (image : List ℕ) (meta : HashMeta) (fault : Fault) → IsTable image
 unfolding database_faults
 covered image meta fault table has at =
     let file : File = file_of image in
-    let of : IsOfStage 8 0 (0 + (file.last + 1)) (λ p. holding (database_rows file (HashFields meta) p)) fault =
-    of_by_page 8 0 (file.last + 1) (λ p. holding (database_rows file (HashFields meta) p)) fault at in
+    let of = of_by_page 8 0 (file.last + 1) (λ p. holding (database_rows file (HashFields meta) p)) fault at in
     elim (page_holds (bucket_pairs file meta) (buckets_of meta) (tests_of file meta) (repeated (table_pairs file meta)) fault.page fault.code
     (tests_rise file meta)
     (subst (λ codes. Contains codes fault.code) (codes_are image meta fault.page table has) of.is_code)) [

@@ -47,8 +47,7 @@ pub page_names : (image : List ℕ) (p : ℕ) (page : Page) (sort : Sort) (targe
     → page_at (file_of image) p ≡ page
     → Contains (targets_in p page) (sort, target) → IsTarget (file_of image) sort target
 page_names image p page sort target table low is at =
-    let names : targets_of (file_of image).kind p (page_at (file_of image) p) ≡ targets_in p page =
-    forest_names (file_of image).kind p (page_at (file_of image) p) table.table ∙ ap (targets_in p) is in
+    let names = forest_names (file_of image).kind p (page_at (file_of image) p) table.table ∙ ap (targets_in p) is in
     named_target (file_of image) p sort target low (subst (λ ns. Contains ns (sort, target)) (sym names) at)
 
 record IsNamed (file : File) (content : Content) : Type 0 where

@@ -126,8 +126,7 @@ bucket_added image meta b old new pages at are adds =
 pub page_counted : (count more here whole most : ℕ) (page : List Told) (rest : List (List Told)) → more ≡ min (count + here) most → here ≡ length page
     → min (count + length (joined_pages (page ∷ rest))) most ≡ whole → min (more + length (joined_pages rest)) most ≡ whole
 page_counted count more here whole most page rest is are before =
-    let both : length (page ++ joined_pages rest) ≡ length page + length (joined_pages rest) = length-append page (joined_pages rest) in
-    omega (arith, is, are, before, both)
+    omega (arith, is, are, before, length-append page (joined_pages rest))
 
 -- one more bucket counted
 pub bucket_counted : (image : List ℕ) (meta : HashMeta) (b count more most : ℕ) (pages : List (List Told))
@@ -204,8 +203,7 @@ sorted_told image places are sorted = λ k d low high.
     let few : k + 1 < length places = omega (arith, high, length-map places (told_at image)) in
     let here : Place = get_or places k no_place in
     let next : Place = get_or places (k + 1) no_place in
-    let order : place_cmp image next here ≡ told_cmp (told_at image next) (told_at image here) =
-    cmp_told image next here (are.each next (Contains-get_or places (k + 1) no_place few))
+    let order = cmp_told image next here (are.each next (Contains-get_or places (k + 1) no_place few))
     (are.each here (Contains-get_or places k no_place (omega arith))) in
     ap (λ (t : Told). is_lt (told_cmp t (get_or (map (told_at image) places) k d))) (get_or-map (told_at image) places (k + 1) no_place d few)
     ∙ (ap (λ (t : Told). is_lt (told_cmp (told_at image next) t)) (get_or-map (told_at image) places k no_place d (omega arith))

@@ -61,12 +61,10 @@ repeated_append : (earlier xs ys : List StoredPair) → AreOther earlier ys
     → repeated_after earlier (xs ++ ys) ≡ repeated_after earlier xs ++ repeated_after [] ys
 repeated_append earlier [] ys before' apart = drop_other [] earlier ys before'
 repeated_append earlier (x ∷ xs) ys before' apart =
-    let rest : repeated_after (x ∷ earlier) (xs ++ ys) ≡ repeated_after (x ∷ earlier) xs ++ repeated_after [] ys =
-    repeated_append (x ∷ earlier) xs ys
+    rw (repeated_append (x ∷ earlier) xs ys
     (λ y at. or_from (bytes_eq x.key y.key) (has_same earlier y) (apart x y (first_member x xs) at) (before' y at))
-    (λ z y at_z at_y. apart z y (later_member x xs z at_z) at_y) in
-    ap (λ (ps : List StoredPair). cond (has_same earlier x) (x ∷ ps) ps) rest
-    ∙ cond_append (has_same earlier x) x (repeated_after (x ∷ earlier) xs) (repeated_after [] ys)
+    (λ z y at_z at_y. apart z y (later_member x xs z at_z) at_y))
+    (cond_append (has_same earlier x) x (repeated_after (x ∷ earlier) xs) (repeated_after [] ys))
 
 repeated_parts : (xs ys : List StoredPair) → ((x y : StoredPair) → Contains xs x → Contains ys y → bytes_eq x.key y.key ≡ false)
     → repeated (xs ++ ys) ≡ repeated xs ++ repeated ys
@@ -105,10 +103,8 @@ stored_parts parts (b ∷ bs) = map-append (λ (t : Told). t.pair) (parts b) (fl
 home_where_none : (image : List ℕ) (meta : HashMeta) → list_any (has_stray_in image meta) (buckets_of meta) ≡ false
     → AreHome (λ b. stored (bucket_told image meta b)) (bucket_of_key meta) (buckets_of meta)
 home_where_none image meta none b listed pair held =
-    let found : (t : Told) × Contains (bucket_told image meta b) t × (t.pair ≡ pair) =
-    of_map (λ (t : Told). t.pair) (bucket_told image meta b) pair held in
-    let here : list_any (is_stray meta b) (bucket_told image meta b) ≡ false =
-    none_passes (has_stray_in image meta) (buckets_of meta) b none listed in
+    let found = of_map (λ (t : Told). t.pair) (bucket_told image meta b) pair held in
+    let here = none_passes (has_stray_in image meta) (buckets_of meta) b none listed in
     let own : is_stray meta b found.0 ≡ false = none_passes (is_stray meta b) (bucket_told image meta b) found.0 here found.1 in
     ap (λ (p : StoredPair). bucket_of_key meta p.key) (sym found.2) ∙ eqb-true (bucket_of_key meta found.0.pair.key) b
     (not-false (bucket_of_key meta found.0.pair.key == b) own)
@@ -153,8 +149,8 @@ repeats_append : (before xs ys : List StoredPair)
     → repeated_by key_of before (xs ++ ys) ≡ repeated_by key_of before xs ++ repeated_by key_of (behind before xs) ys
 repeats_append before [] ys = refl
 repeats_append before (x ∷ xs) ys =
-    ap (λ (ps : List StoredPair). cond (has_item key_of before x.key) (x ∷ ps) ps) (repeats_append (x ∷ before) xs ys)
-    ∙ cond_append (has_item key_of before x.key) x (repeated_by key_of (x ∷ before) xs) (repeated_by key_of (behind (x ∷ before) xs) ys)
+    rw (repeats_append (x ∷ before) xs ys)
+    (cond_append (has_item key_of before x.key) x (repeated_by key_of (x ∷ before) xs) (repeated_by key_of (behind (x ∷ before) xs) ys))
 
 both_noted : (a b c : BTreeSet (List ℕ)) (k l m : Option Fault) (xs ys : List StoredPair) → Notes a b k l xs → Notes b c l m ys
     → Notes a c k m (xs ++ ys)

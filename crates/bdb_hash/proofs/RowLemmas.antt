@@ -50,10 +50,8 @@ pub record IsFound (pairs : ℕ → List StoredPair) (buckets : List ℕ) (test 
 found_at : (pairs : ℕ → List StoredPair) (buckets : List ℕ) (test : ℕ → StoredPair → Bool) (p : ℕ)
     → some_at pairs buckets test p ≡ true → IsFound pairs buckets test p
 found_at pairs buckets test p some =
-    let bucket : (b : ℕ) × Contains buckets b × (list_any (λ (pair : StoredPair). pair.page == p && test b pair) (pairs b) ≡ true) =
-    any_member (λ b. list_any (λ (pair : StoredPair). pair.page == p && test b pair) (pairs b)) buckets some in
-    let pair : (one : StoredPair) × Contains (pairs bucket.0) one × ((one.page == p && test bucket.0 one) ≡ true) =
-    any_member (λ (one : StoredPair). one.page == p && test bucket.0 one) (pairs bucket.0) bucket.2 in
+    let bucket = any_member (λ b. list_any (λ (pair : StoredPair). pair.page == p && test b pair) (pairs b)) buckets some in
+    let pair = any_member (λ (one : StoredPair). one.page == p && test bucket.0 one) (pairs bucket.0) bucket.2 in
     let both : ((pair.0.page == p) ≡ true) × (test bucket.0 pair.0 ≡ true) = and_parts (pair.0.page == p) (test bucket.0 pair.0) pair.2 in
     record { bucket = bucket.0; listed = bucket.1; pair = pair.0; held = pair.1; at = eqb-true pair.0.page p both.0; passes = both.1 }
 
