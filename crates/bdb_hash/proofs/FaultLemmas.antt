@@ -61,18 +61,14 @@ table_stored image meta = ap stored (table_is_told image meta) ∙ stored_told i
 
 -- Which pairs there are.
 
-in_table : (image : List ℕ) (meta : HashMeta) (pair : StoredPair) → Contains (table_pairs (file_of image) meta) pair
-    → (b : ℕ) × Contains (buckets_of meta) b × Contains (bucket_pairs (file_of image) meta b) pair
-unfolding table_pairs
-in_table image meta pair at = of_flat_map (bucket_pairs (file_of image) meta) (buckets_of meta) pair at
-
 pub few_buckets : (meta : HashMeta) (b : ℕ) → Contains (buckets_of meta) b → b ≤ meta.max_bucket
 few_buckets meta b at = let within = of_range 0 (meta.max_bucket + 1) b at in omega (arith, within.1)
 
 pub table_plain : (image : List ℕ) (meta : HashMeta) → IsTable image → HasMetadata (file_of image) (HashFields meta)
     → ArePlain (file_of image) (table_pairs (file_of image) meta)
+unfolding table_pairs
 table_plain image meta table has pair at =
-    let found = in_table image meta pair at in
+    let found = of_flat_map (bucket_pairs (file_of image) meta) (buckets_of meta) pair at in
     bucket_plain image meta found.0 pair table has (few_buckets meta found.0 found.1) found.2
 
 -- The least fault of a table, noted pair by pair.
@@ -186,8 +182,7 @@ covered image meta fault table has at =
     (tests_rise file meta)
     (subst (λ codes. Contains codes fault.code) (codes_are image meta fault.page table has) of.is_code)) [
       | inl (_, by, first, first_is, low) ↦
-          let listed : Contains (bucket_told image meta by.bucket) (told image by.pair) =
-          subst (λ ts. Contains ts (told image by.pair)) (sym (bucket_is image meta by.bucket))
+          let listed = subst (λ ts. Contains ts (told image by.pair)) (sym (bucket_is image meta by.bucket))
           (in_map (told image) (bucket_pairs file meta by.bucket) by.pair by.held) in (
             fault_at by.pair.page first,
             inl (inr (by.bucket, by.listed, (told image by.pair, listed, ap (option_map (fault_at by.pair.page)) first_is))),

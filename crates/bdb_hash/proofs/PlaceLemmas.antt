@@ -227,8 +227,7 @@ sorted_places image meta forest old new same table has none at moved sorted =
       table = table;
       each = λ place in'. told_each image pairs old own place (Contains-permutation new old place (IsPermutation-sym old new moved) in');
     } in
-    let told' : map (told_at image) new ≡ ranked image meta =
-    sorted_ranked image meta (map (told_at image) old) (map (told_at image) new) table has none
+    let told' = sorted_ranked image meta (map (told_at image) old) (map (told_at image) new) table has none
     (told_all image pairs old own ∙ sym (table_is_told image meta))
     (IsPermutation-map (told_at image) old new moved) (sorted_told image new are (subst (λ f. IsSortedBy (place_less f) new) same sorted)) in
     subst (λ f. AreRanked image meta f new) (sym same) (record { are = are; told = told' })

@@ -157,8 +157,7 @@ both_noted : (a b c : BTreeSet (List ℕ)) (k l m : Option Fault) (xs ys : List 
 both_noted a b c k l m xs ys first second = record {
   after = λ before are.
       let here : AreKeysOf b (behind before xs) × (l ≡ fold note_repeat k (repeated_by key_of before xs)) = first.after before are in
-      let there : AreKeysOf c (behind (behind before xs) ys) × (m ≡ fold note_repeat l (repeated_by key_of (behind before xs) ys)) =
-      second.after (behind before xs) here.0 in (
+      let there = second.after (behind before xs) here.0 in (
         λ sought. there.0 sought ∙ ap (λ ps. has_item key_of ps sought)
             (sym (fold-append (λ (ps : List StoredPair) (pair : StoredPair). pair ∷ ps) before xs ys)),
         there.1
