@@ -131,8 +131,7 @@ pub count_leads : (file : File) (items : List RecnoItem) (place : ℕ) → list_
     → LeadsTo file items place (child_by_count items place)
 count_leads file [] place right = refl
 count_leads file (item ∷ items) place right =
-    let parts : (miscounts file item ≡ false) × (list_any (miscounts file) items ≡ false) =
-    or_parts (miscounts file item) (list_any (miscounts file) items) right in
+    let parts = or_parts (miscounts file item) (list_any (miscounts file) items) right in
     let count : item.count ≡ length (tree_entries file item.child) =
     eqb-true item.count (length (tree_entries file item.child)) (not-false _ parts.0) in
     elim (nat_lt place item.count) as (λ b. nat_lt place item.count ≡ b
