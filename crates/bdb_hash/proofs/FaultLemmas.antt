@@ -1,5 +1,5 @@
 -- The least of the faults that were noted is the first fault of a table's contents.
-use Rattle.std.proofs.Common.{◌≡◌, ◌⊎◌, ℕ, ◌+◌, ◌≤◌, Bool, true, false, List, [], ◌∷◌, ◌++◌, map, arith, refl, sym, ◌∙◌, ap, subst, inl, inr}
+use Rattle.std.proofs.Common.{◌≡◌, ◌⊎◌, ℕ, ◌+◌, ◌≤◌, false, List, [], ◌∷◌, ◌++◌, map, arith, refl, sym, ◌∙◌, ap, subst, inl, inr}
 use Rattle.std.specs.Prelude.{Option, Some, None}
 use Rattle.std.specs.List.{Contains, flat_map, fold, list_any, range_with_len}
 use Rattle.std.specs.Option.{option_map}
@@ -12,10 +12,10 @@ use Rattle.bdb_format.specs.ContentRows.{database_faults, database_rows, hash_co
 use Rattle.bdb_format.specs.Contents.{StoredPair, bucket_pages, bucket_pairs, pairs_of, table_pairs}
 use Rattle.bdb_format.specs.File.{File, file_of}
 use Rattle.bdb_format.specs.Page.{HashFields}
-use Rattle.bdb_format.specs.Table.{◌:?◌, first_row}
+use Rattle.bdb_format.specs.Table.{first_row}
 use Rattle.bdb_format.specs.Verdict.{holding, first_fault}
 use Rattle.bdb_format.proofs.MemberLemmas.{first_member, in_map, no_member, none_pass, of_flat_map, of_map, of_range}
-use Rattle.bdb_format.proofs.VerdictLemmas.{FirstComesFirst, IsOfStage, by_page_first, holding_least, in_by_page, none_is_first_row, of_by_page}
+use Rattle.bdb_format.proofs.VerdictLemmas.{FirstComesFirst, by_page_first, holding_least, in_by_page, none_is_first_row, of_by_page}
 use Rattle.bdb_format.proofs.RepeatLemmas.{of_repeated}
 use Rattle.bdb_hash.specs.Notes.{fault_at, has_stray_in, is_stray, least_noted, note_bucket, note_repeat, note_told, pair_fault}
 use Rattle.bdb_hash.specs.Notes.{pair_rows, repeat_fault, stored}

@@ -1,5 +1,5 @@
 -- The first of some faults, noted one after another, and rows that hold for one of some pairs.
-use Rattle.std.proofs.Common.{◌≡◌, ◌⊎◌, ℕ, ◌≤◌, true, false, cond, List, [], ◌∷◌, arith, refl, sym, ◌∙◌, ap, subst, inl, inr}
+use Rattle.std.proofs.Common.{◌≡◌, ◌⊎◌, ℕ, ◌≤◌, true, false, cond, List, [], ◌∷◌, arith, refl, sym, ◌∙◌, subst, inl, inr}
 use Rattle.std.specs.Prelude.{Option, Some, None}
 use Rattle.std.specs.List.{Contains, fold, slice_get}
 use Rattle.bdb_overflow.specs.Earlier.{earlier, is_before}

@@ -1,22 +1,21 @@
 -- What a table's list has under a key are the data of the first pair with that key in the key's bucket.
-use Rattle.std.proofs.Common.{◌≡◌, ◌⊎◌, ℕ, zero, suc, ◌+◌, ◌≤◌, ◌<◌, Bool, true, false, not, ◌&&◌, cond, List, [], ◌∷◌, ◌++◌, map}
+use Rattle.std.proofs.Common.{◌≡◌, ◌⊎◌, ℕ, zero, suc, ◌+◌, ◌≤◌, Bool, true, false, not, ◌&&◌, cond, List, [], ◌∷◌, ◌++◌, map}
 use Rattle.std.proofs.Common.{length, arith, refl, sym, ◌∙◌, ap, subst, inl, inr}
 use Rattle.std.specs.Prelude.{Option, Some, None, ◌==◌}
-use Rattle.std.specs.List.{Contains, filter, find, flat_map, list_any, range_with_len}
+use Rattle.std.specs.List.{Contains, find, flat_map, list_any, range_with_len}
 use Rattle.std.specs.Option.{option_or}
 use Rattle.std.specs.Str.{bytes_eq}
-use Rattle.std.proofs.lemmas.Bool.{cases_Bool, cases_eq, eq-eqb, eqb-true, not-false, or_parts, true≢false}
-use Rattle.std.proofs.lemmas.List.{append-nil, map-append}
-use Rattle.std.proofs.lemmas.List.Elements.{Contains-append_left, filter-append}
+use Rattle.std.proofs.lemmas.Bool.{cases_Bool, eq-eqb, eqb-true, not-false, or_parts, true≢false}
+use Rattle.std.proofs.lemmas.List.{append-nil}
+use Rattle.std.proofs.lemmas.List.Elements.{Contains-append_left}
 use Rattle.std.proofs.lemmas.List.Folds.{find-append}
 use Rattle.bdb_format.specs.declared.metadata.HashMeta.{HashMeta}
 use Rattle.bdb_format.specs.ContentRows.{bucket_of_key, database_faults, database_rows, hash_contents, repeated}
 use Rattle.bdb_format.specs.Contents.{StoredPair, bucket_pairs, data_of, table_pairs}
 use Rattle.bdb_format.specs.File.{File, file_of}
 use Rattle.bdb_format.specs.Less.{less, Less}
-use Rattle.bdb_format.specs.Lists.{ListKey, BytesKey, by_key, get, hash_list, insert_pair, is_key, listed_pair}
+use Rattle.bdb_format.specs.Lists.{ListKey, BytesKey, by_key, get, hash_list, insert_pair, listed_pair}
 use Rattle.bdb_format.specs.Page.{HashFields}
-use Rattle.bdb_format.specs.Verdict.{holding}
 use Rattle.bdb_format.proofs.LessLemmas.{not_less_same}
 use Rattle.bdb_format.proofs.MemberLemmas.{first_member, in_range, is_empty, later_member, member_cases, no_member, none_passes, of_range}
 use Rattle.bdb_format.proofs.VerdictLemmas.{AllFail, no_rows_at}

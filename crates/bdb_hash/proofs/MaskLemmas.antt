@@ -1,8 +1,8 @@
 -- The bucket of a hash is one of the table's: its masks are as form leaves them.
-use Rattle.std.proofs.Common.{◌≡◌, ℕ, ◌≤◌, true, false, cond, List, arith, refl, sym, ◌∙◌, subst}
-use Rattle.std.specs.Prelude.{None, nat_lt, bit_and}
+use Rattle.std.proofs.Common.{◌≡◌, ℕ, ◌≤◌, true, false, List, arith, refl, sym, ◌∙◌, subst}
+use Rattle.std.specs.Prelude.{None}
 use Rattle.std.proofs.lemmas.Bool.Decides.{nat_tests}
-use Rattle.std.proofs.lemmas.Bool.{ltb-false, not-false}
+use Rattle.std.proofs.lemmas.Bool.{not-false}
 use Rattle.std.proofs.lemmas.Nat.{and_le_r}
 use Rattle.bdb_format.proofs.GraphLemmas.{typed_none}
 use Rattle.bdb_format.specs.declared.metadata.FileKind.TheVariants.{Hash}
@@ -15,8 +15,7 @@ use Rattle.bdb_format.specs.Numbers.{byte_at}
 use Rattle.bdb_format.specs.Page.{HashFields, Meta, Page, PageType, HashMetaPage, Zero}
 use Rattle.bdb_format.specs.Reading.{abstract_page, hash_fields, is_zero, page_as, page_type}
 use Rattle.bdb_format.specs.Rows.{are_masks, field_rows, form_code, typed_code}
-use Rattle.bdb_format.specs.Table.{first_row}
-use Rattle.bdb_format.proofs.VerdictLemmas.{AllFail, none_is_first_row}
+use Rattle.bdb_format.proofs.VerdictLemmas.{none_is_first_row}
 use Rattle.bdb_graph.specs.Linked.{HasMetadata, IsForest}
 use Rattle.bdb_graph.proofs.FirstLemmas.{formed_page}
 use Rattle.bdb_graph.proofs.HeldLemmas.{last_page, page_is}

@@ -12,7 +12,7 @@ use Rattle.bdb_format.specs.declared.references.Sort.TheVariants.{OverflowHead, 
 use Rattle.bdb_format.specs.Chains.{value_of}
 use Rattle.bdb_format.specs.File.{File, file_of, page_at}
 use Rattle.bdb_format.specs.Page.{Content, Inline, Set, Chain, Tree, Unknown, Item, Listed, Page, Hash}
-use Rattle.bdb_format.specs.References.{content_targets, item_at, no_item, targets_in, targets_of}
+use Rattle.bdb_format.specs.References.{content_targets, item_at, no_item, targets_in}
 use Rattle.bdb_format.proofs.MemberLemmas.{first_member, in_map}
 use Rattle.bdb_format.proofs.TargetLemmas.{held_named}
 use Rattle.bdb_graph.specs.Linked.{IsTarget}
