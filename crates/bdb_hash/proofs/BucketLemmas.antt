@@ -1,6 +1,6 @@
 -- The pages of a bucket are zero pages or hash pages, and the pairs on them are read one after another.
-use Rattle.std.proofs.Common.{◌≡◌, ℕ, zero, suc, ◌-◌, ◌/◌, ◌≤◌, Bool, true, false, not, ◌&&◌, ◌||◌, cond, List, [], ◌∷◌, map}
-use Rattle.std.proofs.Common.{length, arith, refl, sym, ◌∙◌, ap, subst}
+use Rattle.std.proofs.Common.{◌≡◌, ℕ, zero, suc, ◌-◌, ◌/◌, ◌≤◌, Bool, true, false, ◌&&◌, ◌||◌, cond, List, [], ◌∷◌, map}
+use Rattle.std.proofs.Common.{length, arith, refl, sym, ◌∙◌, ap}
 use Rattle.std.specs.Prelude.{◌==◌, nat_lt}
 use Rattle.std.specs.List.{flat_map, range_with_len}
 use Rattle.std.proofs.lemmas.Bool.{eqb-false, ne_eqb, or_parts, not-false}
@@ -39,59 +39,38 @@ use Rattle.bdb_graph.proofs.TargetLemmas.{is_no_queue}
 of_type : (page : Page) (or_zero : Bool) → (has_type (2 ∷ 13 ∷ []) (type_in page) || (or_zero && is_zero_page page)) ≡ true → is_of_bucket page ≡ true
 of_type Zero or_zero is = refl
 of_type (Hash page) or_zero is = refl
-of_type (Meta (BtreeFields meta)) true is = absurd cc
-of_type (Meta (BtreeFields meta)) false is = absurd cc
-of_type (Meta (HashFields meta)) true is = absurd cc
-of_type (Meta (HashFields meta)) false is = absurd cc
-of_type (Meta (QueueFields meta)) true is = absurd cc
-of_type (Meta (QueueFields meta)) false is = absurd cc
-of_type page true is = absurd cc
-of_type page false is = absurd cc
+of_type (Meta (BtreeFields meta)) or_zero is = grind arith
+of_type (Meta (HashFields meta)) or_zero is = grind arith
+of_type (Meta (QueueFields meta)) or_zero is = grind arith
+of_type page or_zero is = grind arith
 
--- a target is none of the numbers that no page has
-pub target_some : (image : List ℕ) (sort : Sort) (p : ℕ) → faults_in (3 ∷ 4 ∷ 5 ∷ []) image ≡ [] → IsTarget (file_of image) sort p → p ≡ 0 → ⊥
+-- what names a target asks for a page as it is
+target_fits : (image : List ℕ) (sort : Sort) (p : ℕ) → faults_in (3 ∷ 4 ∷ 5 ∷ []) image ≡ [] → (is : IsTarget (file_of image) sort p)
+    → AllFail (fit_rows (file_of image) (asked_by is.owner.holder (page_at (file_of image) is.owner.holder) is.owner.reference.sort)
+    is.owner.reference.target)
 unfolding fit_code
-target_some image sort p none is =
+target_fits image sort p none is =
     let file : File = file_of image in
     let owner : Owner = is.owner in
     let held = of_all file owner is.held in
-    let rows = fit_rows file (asked_by owner.holder (page_at file owner.holder) owner.reference.sort) owner.reference.target in
-    let fail : AllFail rows = none_is_first_row rows
-    (each_fits file owner.holder owner.reference (sound_graph image none).references held.0 held.1) in
-    let some : owner.reference.target ≡ 0 → ⊥ = eqb-false owner.reference.target 0
-    (or_parts (owner.reference.target == 0) (nat_lt file.last owner.reference.target) fail.0).0 in
-    λ zero'. some (is.target_is ∙ zero')
+    none_is_first_row (fit_rows file (asked_by owner.holder (page_at file owner.holder) owner.reference.sort) owner.reference.target)
+    (each_fits file owner.holder owner.reference (sound_graph image none).references held.0 held.1)
 
-kind_as : (file : File) (holder p target : ℕ) (asker : Page) (sort one : Sort) (or_zero : Bool) → one ≡ sort → target ≡ p
-    → (asked_by holder asker sort).types ≡ 2 ∷ 13 ∷ [] → (asked_by holder asker sort).or_zero ≡ or_zero
-    → not (has_type (asked_by holder asker one).types (type_in (page_at file target)) ||
-    ((asked_by holder asker one).or_zero && is_zero_page (page_at file target))) ≡ false
-    → is_of_bucket (page_at file p) ≡ true
-kind_as file holder p target asker sort one or_zero same is types zeros fits =
-    let asked : Bool → List ℕ → Page → Bool = λ z ts page. has_type ts (type_in page) || (z && is_zero_page page) in
-    let held : asked (asked_by holder asker one).or_zero (asked_by holder asker one).types (page_at file target) ≡ true = not-false _ fits in
-    let by_sort : asked (asked_by holder asker sort).or_zero (asked_by holder asker sort).types (page_at file target) ≡ true =
-    subst (λ s. asked (asked_by holder asker s).or_zero (asked_by holder asker s).types (page_at file target) ≡ true) same held in
-    of_type (page_at file p) or_zero
-    (ap (λ (page : Page). asked or_zero (2 ∷ 13 ∷ []) page) (sym (ap (page_at file) is))
-    ∙ (ap (λ ts. asked or_zero ts (page_at file target)) (sym types)
-    ∙ (ap (λ z. asked z (asked_by holder asker sort).types (page_at file target)) (sym zeros) ∙ by_sort)))
+-- a target is none of the numbers that no page has
+pub target_some : (image : List ℕ) (sort : Sort) (p : ℕ) → faults_in (3 ∷ 4 ∷ 5 ∷ []) image ≡ [] → IsTarget (file_of image) sort p → p ≡ 0 → ⊥
+target_some image sort p none is zero' =
+    let target : ℕ = is.owner.reference.target in
+    eqb-false target 0 (or_parts (target == 0) (nat_lt (file_of image).last target) (target_fits image sort p none is).0).0 (is.target_is ∙ zero')
 
 target_kind : (image : List ℕ) (sort : Sort) (p : ℕ) (or_zero : Bool) → faults_in (3 ∷ 4 ∷ 5 ∷ []) image ≡ [] → IsTarget (file_of image) sort p
     → ((holder : ℕ) (page : Page) → (asked_by holder page sort).types ≡ 2 ∷ 13 ∷ [])
     → ((holder : ℕ) (page : Page) → (asked_by holder page sort).or_zero ≡ or_zero)
     → is_of_bucket (page_at (file_of image) p) ≡ true
-unfolding fit_code
 target_kind image sort p or_zero none is types zeros =
-    let file : File = file_of image in
-    let owner : Owner = is.owner in
-    let held = of_all file owner is.held in
-    let asker : Page = page_at file owner.holder in
-    let rows = fit_rows file (asked_by owner.holder asker owner.reference.sort) owner.reference.target in
-    let fail : AllFail rows = none_is_first_row rows
-    (each_fits file owner.holder owner.reference (sound_graph image none).references held.0 held.1) in
-    kind_as file owner.holder p owner.reference.target asker sort owner.reference.sort or_zero is.sort_is is.target_is
-    (types owner.holder asker) (zeros owner.holder asker) fail.1.0
+    let holder : ℕ = is.owner.holder in
+    let asker : Page = page_at (file_of image) holder in
+    of_type (page_at (file_of image) p) or_zero
+    (rw (is.sort_is, is.target_is, types holder asker, zeros holder asker) at (not-false _ (target_fits image sort p none is).1.0))
 
 -- the first page of a bucket
 pub bucket_on_way : (image : List ℕ) (p : ℕ) → IsForest image → structure_faults (file_of image) ≡ []

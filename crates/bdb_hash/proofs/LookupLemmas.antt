@@ -1,26 +1,26 @@
 -- What a table's list has under a key are the data of the first pair with that key in the key's bucket.
-use Rattle.std.proofs.Common.{◌≡◌, ◌⊎◌, ℕ, zero, suc, ◌+◌, ◌≤◌, ◌<◌, Bool, true, false, not, ◌&&◌, cond, List, [], ◌∷◌, ◌++◌, map}
+use Rattle.std.proofs.Common.{◌≡◌, ◌⊎◌, ℕ, zero, suc, ◌+◌, ◌≤◌, Bool, true, false, not, ◌&&◌, cond, List, [], ◌∷◌, ◌++◌, map}
 use Rattle.std.proofs.Common.{length, arith, refl, sym, ◌∙◌, ap, subst, inl, inr}
 use Rattle.std.specs.Prelude.{Option, Some, None, ◌==◌}
-use Rattle.std.specs.List.{Contains, filter, find, flat_map, list_any, range_with_len}
-use Rattle.std.specs.Option.{option_map, option_or}
+use Rattle.std.specs.List.{Contains, find, flat_map, list_any, range_with_len}
+use Rattle.std.specs.Option.{option_or}
 use Rattle.std.specs.Str.{bytes_eq}
-use Rattle.std.proofs.lemmas.Bool.{cases_Bool, cases_eq, eq-eqb, eqb-true, not-false, or_parts, true≢false}
-use Rattle.std.proofs.lemmas.List.{append-nil, map-append}
-use Rattle.std.proofs.lemmas.List.Elements.{Contains-append_left, filter-append}
+use Rattle.std.proofs.lemmas.Bool.{cases_Bool, eq-eqb, eqb-true, not-false, or_parts, true≢false}
+use Rattle.std.proofs.lemmas.List.{append-nil}
+use Rattle.std.proofs.lemmas.List.Elements.{Contains-append_left}
 use Rattle.std.proofs.lemmas.List.Folds.{find-append}
 use Rattle.bdb_format.specs.declared.metadata.HashMeta.{HashMeta}
 use Rattle.bdb_format.specs.ContentRows.{bucket_of_key, database_faults, database_rows, hash_contents, repeated}
 use Rattle.bdb_format.specs.Contents.{StoredPair, bucket_pairs, data_of, table_pairs}
 use Rattle.bdb_format.specs.File.{File, file_of}
 use Rattle.bdb_format.specs.Less.{less, Less}
-use Rattle.bdb_format.specs.Lists.{ListKey, BytesKey, by_key, get, hash_list, insert_pair, is_key, listed_pair}
+use Rattle.bdb_format.specs.Lists.{ListKey, BytesKey, by_key, get, hash_list, insert_pair, listed_pair}
 use Rattle.bdb_format.specs.Page.{HashFields}
-use Rattle.bdb_format.specs.Verdict.{holding}
 use Rattle.bdb_format.proofs.LessLemmas.{not_less_same}
-use Rattle.bdb_format.proofs.MemberLemmas.{first_member, in_range, is_empty, later_member, member_cases, no_member, none_passes}
-use Rattle.bdb_format.proofs.VerdictLemmas.{AllFail, all_fail, no_codes_at}
-use Rattle.bdb_format.proofs.RepeatLemmas.{of_repeated, repeated_after, repeated_is}
+use Rattle.bdb_format.proofs.MemberLemmas.{first_member, in_range, is_empty, later_member, member_cases, no_member, none_passes, of_range}
+use Rattle.bdb_format.proofs.VerdictLemmas.{AllFail, no_rows_at}
+use Rattle.bdb_format.proofs.PairLemmas.{get_append}
+use Rattle.bdb_format.proofs.RepeatLemmas.{has_key as key_among, of_repeated, repeated_after, repeated_is}
 use Rattle.bdb_graph.specs.Linked.{HasMetadata}
 use Rattle.bdb_hash.specs.Told.{IsSought, Told, bucket_told, has_key, joined_pages, told}
 use Rattle.bdb_hash.specs.Views.{IsTable}
@@ -65,38 +65,25 @@ under file key pair = get (listed_pair file pair) (BytesKey key)
 
 get_flat : {X : Type 0} (f : X → List (ListKey × List ℕ)) (key : ListKey) (xs : List X) → get (flat_map f xs) key ≡ flat_map (λ x. get (f x) key) xs
 get_flat f key [] = refl
-get_flat f key (x ∷ xs) =
-    let here : List (ListKey × List ℕ) = f x in
-    let rest : List (ListKey × List ℕ) = flat_map f xs in
-    let test : (ListKey × List ℕ) → Bool = λ entry. is_key entry.0 key in
-    ap (map (λ (entry : ListKey × List ℕ). entry.1)) (filter-append test here rest)
-    ∙ (map-append (λ (entry : ListKey × List ℕ). entry.1) (filter test here) (filter test rest) ∙ ap (λ vs. get here key ++ vs) (get_flat f key xs))
+get_flat f key (x ∷ xs) = get_append (f x) (flat_map f xs) key ∙ ap (λ vs. get (f x) key ++ vs) (get_flat f key xs)
 
-all_under : (key own : List ℕ) (values : List (List ℕ)) → bytes_eq own key ≡ true
-    → get (map (λ value. (BytesKey own, value)) values) (BytesKey key) ≡ values
-all_under key own [] is = refl
-all_under key own (value ∷ values) is =
-    let rest : List (ListKey × List ℕ) = filter (λ (entry : ListKey × List ℕ). is_key entry.0 (BytesKey key)) (map (λ v. (BytesKey own, v)) values) in
-    ap (λ b. map (λ (entry : ListKey × List ℕ). entry.1) (cond b ((BytesKey own, value) ∷ rest) rest)) is ∙ ap (λ vs. value ∷ vs)
-    (all_under key own values is)
-
-none_under : (key own : List ℕ) (values : List (List ℕ)) → bytes_eq own key ≡ false
-    → get (map (λ value. (BytesKey own, value)) values) (BytesKey key) ≡ []
-none_under key own [] other = refl
-none_under key own (value ∷ values) other =
-    let rest : List (ListKey × List ℕ) = filter (λ (entry : ListKey × List ℕ). is_key entry.0 (BytesKey key)) (map (λ v. (BytesKey own, v)) values) in
-    ap (λ b. map (λ (entry : ListKey × List ℕ). entry.1) (cond b ((BytesKey own, value) ∷ rest) rest)) other ∙ none_under key own values other
+listed_under : (key own : List ℕ) (values : List (List ℕ)) (b : Bool) → bytes_eq own key ≡ b
+    → get (map (λ value. (BytesKey own, value)) values) (BytesKey key) ≡ cond b values []
+listed_under key own [] true is = refl
+listed_under key own [] false is = refl
+listed_under key own (value ∷ values) true is = rw is (ap (λ vs. value ∷ vs) (listed_under key own values true is))
+listed_under key own (value ∷ values) false is = rw is (listed_under key own values false is)
 
 under_own : (file : File) (key : List ℕ) (pair : StoredPair) → pair.live ≡ true → bytes_eq pair.key key ≡ true
     → under file key pair ≡ data_of file pair.data_item
 under_own file key pair live is =
     ap (λ b. get (cond b (map (λ value. (BytesKey pair.key, value)) (data_of file pair.data_item)) []) (BytesKey key)) live
-    ∙ all_under key pair.key (data_of file pair.data_item) is
+    ∙ listed_under key pair.key (data_of file pair.data_item) true is
 
 under_other : (file : File) (key : List ℕ) (pair : StoredPair) → bytes_eq pair.key key ≡ false → under file key pair ≡ []
 under_other file key pair other =
     elim pair.live as (λ b. get (cond b (map (λ value. (BytesKey pair.key, value)) (data_of file pair.data_item)) []) (BytesKey key) ≡ []) [
-      | true ↦ none_under key pair.key (data_of file pair.data_item) other
+      | true ↦ listed_under key pair.key (data_of file pair.data_item) false other
       | false ↦ refl
     ]
 
@@ -141,31 +128,24 @@ list_under file meta key = get_flat (listed_pair file) (BytesKey key) (by_key (t
 
 -- One bucket.
 
-nothing_under : (file : File) (key : List ℕ) (pairs : List StoredPair)
-    → ((pair : StoredPair) → Contains pairs pair → bytes_eq pair.key key ≡ false) → flat_map (under file key) pairs ≡ []
-nothing_under file key [] other = refl
-nothing_under file key (pair ∷ pairs) other =
-    ap (λ vs. vs ++ flat_map (under file key) pairs) (under_other file key pair (other pair (first_member pair pairs)))
-    ∙ nothing_under file key pairs (λ one at. other one (later_member pair pairs one at))
-
-none_of_range : {X : Type 0} (f : ℕ → List X) (a n : ℕ) → ((c : ℕ) → a ≤ c → c < a + n → f c ≡ []) → flat_map f (range_with_len a n) ≡ []
-none_of_range f a zero none = refl
-none_of_range f a (suc n) none = ap (λ xs. xs ++ flat_map f (range_with_len (a + 1) n)) (none a (omega arith) (omega arith))
-    ∙ none_of_range f (a + 1) n (λ c low high. none c (omega arith) (omega arith))
+all_empty : {X Y : Type 0} (f : X → List Y) (xs : List X) → ((x : X) → Contains xs x → f x ≡ []) → flat_map f xs ≡ []
+all_empty f [] none = refl
+all_empty f (x ∷ xs) none = rw (none x (first_member x xs), all_empty f xs (λ y at. none y (later_member x xs y at))) refl
 
 -- where all but one of some parts are empty, that one is the whole
-one_of_range : {X : Type 0} (f : ℕ → List X) (a n b : ℕ) → a ≤ b → b < a + n
-    → ((c : ℕ) → a ≤ c → c < a + n → (c ≡ b → ⊥) → f c ≡ []) → flat_map f (range_with_len a n) ≡ f b
-one_of_range f a zero b low high none = absurd (omega arith)
-one_of_range f a (suc n) b low high none =
-    elim (cases_eq a b) [
+one_of_range : {X : Type 0} (f : ℕ → List X) (a n b : ℕ) → Contains (range_with_len a n) b
+    → ((c : ℕ) → Contains (range_with_len a n) c → (c ≡ b → ⊥) → f c ≡ []) → flat_map f (range_with_len a n) ≡ f b
+one_of_range f a zero b at none = absurd (no_member [] b refl at)
+one_of_range f a (suc n) b at none =
+    let rest : List ℕ = range_with_len (a + 1) n in
+    elim (member_cases a rest b at) [
       | inl same ↦
-          ap (λ xs. f a ++ xs) (none_of_range f (a + 1) n
-          (λ c above below. none c (omega arith) (omega arith) (λ is. (let apart : a + 1 ≤ c = above in omega arith))))
+          ap (λ xs. f a ++ xs) (all_empty f rest (λ c later. none c (later_member a rest c later) (λ is.
+          (let above = of_range (a + 1) n c later in omega (arith, above.0)))))
           ∙ (append-nil (f a) ∙ ap f same)
-      | inr other ↦
-          ap (λ xs. xs ++ flat_map f (range_with_len (a + 1) n)) (none a (omega arith) (omega arith) other)
-          ∙ one_of_range f (a + 1) n b (omega arith) (omega arith) (λ c above below apart. none c (omega arith) (omega arith) apart)
+      | inr later ↦
+          ap (λ xs. xs ++ flat_map f rest) (none a (first_member a rest) (λ is. (let above = of_range (a + 1) n b later in omega (arith, above.0))))
+          ∙ one_of_range f (a + 1) n b later (λ c there. none c (later_member a rest c there))
     ]
 
 -- No row of the table holds.
@@ -174,9 +154,7 @@ all_fail_at : (image : List ℕ) (meta : HashMeta) (p : ℕ) → database_faults
     → p ≤ (file_of image).last → AllFail (hash_contents (file_of image) meta p)
 unfolding database_faults
 all_fail_at image meta p none low =
-    all_fail (hash_contents (file_of image) meta p)
-    (no_codes_at 8 0 ((file_of image).last + 1) p (λ q. holding (database_rows (file_of image) (HashFields meta) q)) none
-    (omega arith) (omega arith))
+    no_rows_at 8 0 ((file_of image).last + 1) p (λ q. database_rows (file_of image) (HashFields meta) q) none (omega arith) (omega arith)
 
 -- each key is in its own bucket
 own_bucket : (image : List ℕ) (meta : HashMeta) (b : ℕ) (pair : StoredPair) → IsTable image
@@ -216,33 +194,30 @@ cond_empty : {X : Type 0} (b : Bool) (x : X) (xs : List X) → cond b (x ∷ xs)
 cond_empty true x xs none = absurd cc
 cond_empty false x xs none = (refl, none)
 
-record AreNew (earlier pairs : List StoredPair) : Type 0 where
-  each : (pair : StoredPair) → Contains pairs pair → list_any (λ (other : StoredPair). bytes_eq other.key pair.key) earlier ≡ false
-  apart : AreApart pairs
+each_new : (earlier pairs : List StoredPair) → repeated_after earlier pairs ≡ [] → (one : StoredPair) → Contains pairs one
+    → key_among one.key earlier ≡ false
+each_new earlier [] none one at = absurd (no_member [] one refl at)
+each_new earlier (pair ∷ pairs) none one at =
+    let here = cond_empty (key_among pair.key earlier) pair (repeated_after (pair ∷ earlier) pairs) none in
+    elim (member_cases pair pairs one at) [
+      | inl same ↦ subst (λ (p : StoredPair). key_among p.key earlier ≡ false) same here.0
+      | inr later ↦ (or_parts (bytes_eq pair.key one.key) (key_among one.key earlier) (each_new (pair ∷ earlier) pairs here.1 one later)).1
+    ]
 
-new_where_none : (earlier pairs : List StoredPair) → repeated_after earlier pairs ≡ [] → AreNew earlier pairs
-new_where_none earlier [] none = record { each = λ pair at. absurd (no_member [] pair refl at); apart = tt }
-new_where_none earlier (pair ∷ pairs) none =
-    let here : (list_any (λ (other : StoredPair). bytes_eq other.key pair.key) earlier ≡ false) × (repeated_after (pair ∷ earlier) pairs ≡ []) =
-    cond_empty (list_any (λ (other : StoredPair). bytes_eq other.key pair.key) earlier) pair (repeated_after (pair ∷ earlier) pairs) none in
-    let rest : AreNew (pair ∷ earlier) pairs = new_where_none (pair ∷ earlier) pairs here.1 in
-    let both : (one : StoredPair) → Contains pairs one → (bytes_eq pair.key one.key ≡ false)
-    × (list_any (λ (other : StoredPair). bytes_eq other.key one.key) earlier ≡ false) =
-    λ one at. or_parts (bytes_eq pair.key one.key) (list_any (λ (other : StoredPair). bytes_eq other.key one.key) earlier) (rest.each one at) in
-    record {
-      each = λ one at. elim (member_cases pair pairs one at) [
-        | inl same ↦ subst (λ (p : StoredPair). list_any (λ (other : StoredPair). bytes_eq other.key p.key) earlier ≡ false) same here.0
-        | inr later ↦ (both one later).1
-      ];
-      apart = (λ one at. (both one at).0, rest.apart);
-    }
+apart_where_none : (earlier pairs : List StoredPair) → repeated_after earlier pairs ≡ [] → AreApart pairs
+apart_where_none earlier [] none = tt
+apart_where_none earlier (pair ∷ pairs) none =
+    let rest = (cond_empty (key_among pair.key earlier) pair (repeated_after (pair ∷ earlier) pairs) none).1 in (
+      λ one at. (or_parts (bytes_eq pair.key one.key) (key_among one.key earlier) (each_new (pair ∷ earlier) pairs rest one at)).0,
+      apart_where_none (pair ∷ earlier) pairs rest,
+    )
 
 -- the keys of a table are apart
 pub table_apart : (image : List ℕ) (meta : HashMeta) → IsTable image → HasMetadata (file_of image) (HashFields meta)
     → database_faults (file_of image) (HashFields meta) ≡ [] → AreApart (table_pairs (file_of image) meta)
 table_apart image meta table has none =
-    (new_where_none [] (table_pairs (file_of image) meta)
-    (sym (repeated_is (table_pairs (file_of image) meta)) ∙ none_repeats image meta table has none)).apart
+    apart_where_none [] (table_pairs (file_of image) meta)
+    (sym (repeated_is (table_pairs (file_of image) meta)) ∙ none_repeats image meta table has none)
 
 apart_parts : (xs ys : List StoredPair) → AreApart (xs ++ ys) → AreApart xs × AreApart ys
 apart_parts [] ys apart = (tt, apart)
@@ -265,82 +240,32 @@ bucket_apart image meta b table has none listed =
 
 -- The first pair with a key.
 
-abbrev data_found : File → Option StoredPair → List (List ℕ)
-data_found file None = []
-data_found file (Some pair) = data_of file pair.data_item
-
-pub same_key : (a b key : List ℕ) → bytes_eq a b ≡ false → bytes_eq a key ≡ true → bytes_eq b key ≡ false
-same_key a b key apart own = not_true (bytes_eq b key)
-    (λ same. true≢false (sym (subst (λ xs. bytes_eq a xs ≡ true) (sym (eq_same b key same)) own) ∙ apart))
-
-first_under : (file : File) (key : List ℕ) (pairs : List StoredPair) → ArePlain file pairs → AreApart pairs
-    → flat_map (under file key) pairs ≡ data_found file (find (λ (pair : StoredPair). bytes_eq pair.key key) pairs)
-first_under file key [] plain apart = refl
-first_under file key (pair ∷ pairs) plain apart =
-    elim (bytes_eq pair.key key) as (λ b. bytes_eq pair.key key ≡ b
-    → under file key pair ++ flat_map (under file key) pairs ≡ data_found file
-    (cond b (Some pair) (find (λ (one : StoredPair). bytes_eq one.key key) pairs))) [
-      | true ↦ λ own.
-          ap (λ vs. vs ++ flat_map (under file key) pairs) (under_own file key pair (plain pair (first_member pair pairs)).live own)
-          ∙ (ap (λ vs. data_of file pair.data_item ++ vs)
-          (nothing_under file key pairs (λ other at. same_key pair.key other.key key (apart.0 other at) own)) ∙ append-nil
-          (data_of file pair.data_item))
-      | false ↦ λ other.
-          ap (λ vs. vs ++ flat_map (under file key) pairs) (under_other file key pair other) ∙ first_under file key pairs
-          (λ one at. plain one (later_member pair pairs one at)) apart.1
-    ] refl
-
--- what is listed under a key is in the key's bucket
-list_in_bucket : (image : List ℕ) (meta : HashMeta) (key : List ℕ) → IsTable image → HasMetadata (file_of image) (HashFields meta)
-    → database_faults (file_of image) (HashFields meta) ≡ []
-    → bucket_of_key meta key ≤ meta.max_bucket
-    → get (hash_list (file_of image) meta) (BytesKey key) ≡ data_found (file_of image)
-    (find (λ (pair : StoredPair). bytes_eq pair.key key) (bucket_pairs (file_of image) meta (bucket_of_key meta key)))
-unfolding table_pairs
-list_in_bucket image meta key table has none few =
-    let file : File = file_of image in
-    let b : ℕ = bucket_of_key meta key in
-    let listed : Contains (buckets_of meta) b = in_range 0 (meta.max_bucket + 1) b (omega arith) (omega arith) in
-    list_under file meta key
-    ∙ (flat_map_twice (under file key) (bucket_pairs file meta) (buckets_of meta)
-    ∙ (one_of_range (λ c. flat_map (under file key) (bucket_pairs file meta c)) 0 (meta.max_bucket + 1) b (omega arith)
-    (omega arith) (λ c low high apart. other_bucket image meta key c table has none
-    (in_range 0 (meta.max_bucket + 1) c low high) apart)
-    ∙ first_under file key (bucket_pairs file meta b) (λ pair at. bucket_plain image meta b pair table has few at)
-    (bucket_apart image meta b table has none listed)))
-  where
-    other_bucket : (image : List ℕ) (meta : HashMeta) (key : List ℕ) (c : ℕ) → IsTable image
-        → HasMetadata (file_of image) (HashFields meta) → database_faults (file_of image) (HashFields meta) ≡ []
-        → Contains (buckets_of meta) c → (c ≡ bucket_of_key meta key → ⊥)
-        → flat_map (under (file_of image) key) (bucket_pairs (file_of image) meta c) ≡ []
-    other_bucket image meta key c table has none listed apart =
-        nothing_under (file_of image) key (bucket_pairs (file_of image) meta c) (λ pair at.
-        not_true (bytes_eq pair.key key)
-        (λ same. apart (sym (own_bucket image meta c pair table has none listed at) ∙ ap (bucket_of_key meta)
-        (eq_same pair.key key same))))
-
--- Found.
-
-find_told : (image : List ℕ) (key : List ℕ) (pairs : List StoredPair)
-    → find (has_key key) (map (told image) pairs) ≡ option_map (told image)
-    (find (λ (pair : StoredPair). bytes_eq pair.key key) pairs)
-find_told image key [] = refl
-find_told image key (pair ∷ pairs) =
-    elim (bytes_eq pair.key key) as
-    (λ b. cond b (Some (told image pair)) (find (has_key key) (map (told image) pairs)) ≡ option_map (told image)
-    (cond b (Some pair) (find (λ (one : StoredPair). bytes_eq one.key key) pairs))) [
-      | true ↦ refl
-      | false ↦ find_told image key pairs
-    ]
-
 -- the data of a pair that was found
 abbrev pub told_data : Option Told → List (List ℕ)
 told_data None = []
 told_data (Some t) = data_of (file_of t.image) t.pair.data_item
 
-told_found : (image : List ℕ) (found : Option StoredPair) → data_found (file_of image) found ≡ told_data (option_map (told image) found)
-told_found image None = refl
-told_found image (Some pair) = refl
+pub same_key : (a b key : List ℕ) → bytes_eq a b ≡ false → bytes_eq a key ≡ true → bytes_eq b key ≡ false
+same_key a b key apart own = not_true (bytes_eq b key)
+    (λ same. true≢false (sym (subst (λ xs. bytes_eq a xs ≡ true) (sym (eq_same b key same)) own) ∙ apart))
+
+first_under : (image key : List ℕ) (pairs : List StoredPair) → ArePlain (file_of image) pairs → AreApart pairs
+    → flat_map (under (file_of image) key) pairs ≡ told_data (find (has_key key) (map (told image) pairs))
+first_under image key [] plain apart = refl
+first_under image key (pair ∷ pairs) plain apart =
+    let file : File = file_of image in
+    elim (bytes_eq pair.key key) as (λ b. bytes_eq pair.key key ≡ b
+    → under file key pair ++ flat_map (under file key) pairs
+    ≡ told_data (cond b (Some (told image pair)) (find (has_key key) (map (told image) pairs)))) [
+      | true ↦ λ own.
+          ap (λ vs. vs ++ flat_map (under file key) pairs) (under_own file key pair (plain pair (first_member pair pairs)).live own)
+          ∙ (ap (λ vs. data_of file pair.data_item ++ vs)
+          (all_empty (under file key) pairs (λ other at. under_other file key other (same_key pair.key other.key key (apart.0 other at) own))) ∙ append-nil
+          (data_of file pair.data_item))
+      | false ↦ λ other.
+          ap (λ vs. vs ++ flat_map (under file key) pairs) (under_other file key pair other) ∙ first_under image key pairs
+          (λ one at. plain one (later_member pair pairs one at)) apart.1
+    ] refl
 
 -- what is listed under a key is what the pair has that was found in the key's bucket
 pub list_found : (image : List ℕ) (meta : HashMeta) (key : List ℕ) (b : ℕ) (found : Option Told) → IsTable image
@@ -348,11 +273,17 @@ pub list_found : (image : List ℕ) (meta : HashMeta) (key : List ℕ) (b : ℕ)
     → database_faults (file_of image) (HashFields meta) ≡ [] → b ≡ bucket_of_key meta key → b ≤ meta.max_bucket
     → found ≡ find (has_key key) (bucket_told image meta b)
     → told_data found ≡ get (hash_list (file_of image) meta) (BytesKey key)
+unfolding table_pairs
 list_found image meta key b found table has none is few same =
-    let own : bucket_of_key meta key ≤ meta.max_bucket = omega (arith, is) in
+    let file : File = file_of image in
+    let listed : Contains (buckets_of meta) b = in_range 0 (meta.max_bucket + 1) b (omega arith) (omega arith) in
+    let others : (c : ℕ) → Contains (buckets_of meta) c → (c ≡ b → ⊥) → flat_map (under file key) (bucket_pairs file meta c) ≡ [] =
+    λ c at_c apart. all_empty (under file key) (bucket_pairs file meta c) (λ pair at. under_other file key pair (not_true (bytes_eq pair.key key) (λ own.
+    apart (sym (own_bucket image meta c pair table has none at_c at) ∙ (ap (bucket_of_key meta) (eq_same pair.key key own) ∙ sym is))))) in
     sym
-    (list_in_bucket image meta key table has none own
-    ∙ (told_found image (find (λ (pair : StoredPair). bytes_eq pair.key key) (bucket_pairs (file_of image) meta (bucket_of_key meta key)))
-    ∙ (ap told_data (sym (find_told image key (bucket_pairs (file_of image) meta (bucket_of_key meta key))))
-    ∙ (ap (λ ts. told_data (find (has_key key) ts)) (sym (bucket_is image meta (bucket_of_key meta key)))
-    ∙ (ap (λ c. told_data (find (has_key key) (bucket_told image meta c))) (sym is) ∙ ap told_data (sym same))))))
+    (list_under file meta key
+    ∙ (flat_map_twice (under file key) (bucket_pairs file meta) (buckets_of meta)
+    ∙ (one_of_range (λ c. flat_map (under file key) (bucket_pairs file meta c)) 0 (meta.max_bucket + 1) b listed others
+    ∙ (first_under image key (bucket_pairs file meta b) (λ pair at. bucket_plain image meta b pair table has few at)
+    (bucket_apart image meta b table has none listed)
+    ∙ (ap (λ ts. told_data (find (has_key key) ts)) (sym (bucket_is image meta b)) ∙ ap told_data (sym same))))))

@@ -1,8 +1,8 @@
 -- The bucket of a hash is one of the table's: its masks are as form leaves them.
-use Rattle.std.proofs.Common.{◌≡◌, ℕ, ◌≤◌, true, false, cond, List, arith, refl, sym, ◌∙◌, subst}
-use Rattle.std.specs.Prelude.{None, nat_lt, bit_and}
+use Rattle.std.proofs.Common.{◌≡◌, ℕ, ◌≤◌, true, false, List, arith, refl, sym, ◌∙◌, subst}
+use Rattle.std.specs.Prelude.{None}
 use Rattle.std.proofs.lemmas.Bool.Decides.{nat_tests}
-use Rattle.std.proofs.lemmas.Bool.{ltb-false, not-false}
+use Rattle.std.proofs.lemmas.Bool.{not-false}
 use Rattle.std.proofs.lemmas.Nat.{and_le_r}
 use Rattle.bdb_format.proofs.GraphLemmas.{typed_none}
 use Rattle.bdb_format.specs.declared.metadata.FileKind.TheVariants.{Hash}
@@ -15,8 +15,7 @@ use Rattle.bdb_format.specs.Numbers.{byte_at}
 use Rattle.bdb_format.specs.Page.{HashFields, Meta, Page, PageType, HashMetaPage, Zero}
 use Rattle.bdb_format.specs.Reading.{abstract_page, hash_fields, is_zero, page_as, page_type}
 use Rattle.bdb_format.specs.Rows.{are_masks, field_rows, form_code, typed_code}
-use Rattle.bdb_format.specs.Table.{first_row}
-use Rattle.bdb_format.proofs.VerdictLemmas.{AllFail, none_is_first_row}
+use Rattle.bdb_format.proofs.VerdictLemmas.{none_is_first_row}
 use Rattle.bdb_graph.specs.Linked.{HasMetadata, IsForest}
 use Rattle.bdb_graph.proofs.FirstLemmas.{formed_page}
 use Rattle.bdb_graph.proofs.HeldLemmas.{last_page, page_is}
@@ -26,15 +25,10 @@ abbrev HasMasks : Page → Type 0
 HasMasks (Meta (HashFields meta)) = are_masks meta ≡ true
 HasMasks page = Unit {0}
 
-table_masks : (head : Head) (number : ℕ) (page : List ℕ) → first_row (field_rows head.order page number head.last Hash) ≡ None
-    → are_masks (hash_fields head.order page) ≡ true
-table_masks head number page none =
-    let fail : AllFail (field_rows head.order page number head.last Hash) =
-    none_is_first_row (field_rows head.order page number head.last Hash) none in
-    not-false (are_masks (hash_fields head.order page)) fail.1.1.1.1.1.1.1.1.0
-
 masks_as : (head : Head) (number : ℕ) (page : List ℕ) (t : PageType) → typed_code head number page t ≡ None → HasMasks (page_as head.order page t)
-masks_as head number page HashMetaPage none = table_masks head number page none
+masks_as head number page HashMetaPage none =
+    not-false (are_masks (hash_fields head.order page))
+    (none_is_first_row (field_rows head.order page number head.last Hash) none).1.1.1.1.1.1.1.1.0
 masks_as head number page t none = tt
 
 masks_of : (head : Head) (number : ℕ) (page : List ℕ) → form_code head number page ≡ None → HasMasks (abstract_page head.order page)
@@ -58,15 +52,7 @@ meta_masks image meta forest has =
 
 -- The bucket of a hash.
 
-within : (meta : HashMeta) (hash : ℕ) → are_masks meta ≡ true → nat_lt meta.max_bucket (bit_and hash meta.high_mask) ≡ true
-    → bit_and hash meta.low_mask ≤ meta.max_bucket
-within meta hash masks above = grind (arith, nat_tests, masks, above, and_le_r hash meta.high_mask, and_le_r hash meta.low_mask)
-
 pub bucket_within : (image : List ℕ) (meta : HashMeta) (hash : ℕ) → IsForest image → HasMetadata (file_of image) (HashFields meta)
     → bucket hash meta.max_bucket meta.high_mask meta.low_mask ≤ meta.max_bucket
 bucket_within image meta hash forest has =
-    elim (nat_lt meta.max_bucket (bit_and hash meta.high_mask)) as (λ b. nat_lt meta.max_bucket (bit_and hash meta.high_mask) ≡ b
-    → cond b (bit_and hash meta.low_mask) (bit_and hash meta.high_mask) ≤ meta.max_bucket) [
-      | true ↦ λ above. within meta hash (meta_masks image meta forest has) above
-      | false ↦ λ below. ltb-false meta.max_bucket (bit_and hash meta.high_mask) below
-    ] refl
+    grind (arith, nat_tests, meta_masks image meta forest has, and_le_r hash meta.high_mask, and_le_r hash meta.low_mask)

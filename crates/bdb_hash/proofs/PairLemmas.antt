@@ -12,7 +12,7 @@ use Rattle.bdb_format.specs.declared.references.Sort.TheVariants.{OverflowHead, 
 use Rattle.bdb_format.specs.Chains.{value_of}
 use Rattle.bdb_format.specs.File.{File, file_of, page_at}
 use Rattle.bdb_format.specs.Page.{Content, Inline, Set, Chain, Tree, Unknown, Item, Listed, Page, Hash}
-use Rattle.bdb_format.specs.References.{content_targets, item_at, no_item, targets_in, targets_of}
+use Rattle.bdb_format.specs.References.{content_targets, item_at, no_item, targets_in}
 use Rattle.bdb_format.proofs.MemberLemmas.{first_member, in_map}
 use Rattle.bdb_format.proofs.TargetLemmas.{held_named}
 use Rattle.bdb_graph.specs.Linked.{IsTarget}
@@ -47,8 +47,7 @@ pub page_names : (image : List ℕ) (p : ℕ) (page : Page) (sort : Sort) (targe
     → page_at (file_of image) p ≡ page
     → Contains (targets_in p page) (sort, target) → IsTarget (file_of image) sort target
 page_names image p page sort target table low is at =
-    let names : targets_of (file_of image).kind p (page_at (file_of image) p) ≡ targets_in p page =
-    forest_names (file_of image).kind p (page_at (file_of image) p) table.table ∙ ap (targets_in p) is in
+    let names = forest_names (file_of image).kind p (page_at (file_of image) p) table.table ∙ ap (targets_in p) is in
     named_target (file_of image) p sort target low (subst (λ ns. Contains ns (sort, target)) (sym names) at)
 
 record IsNamed (file : File) (content : Content) : Type 0 where

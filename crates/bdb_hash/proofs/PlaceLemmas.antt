@@ -3,12 +3,12 @@ use Rattle.std.proofs.Common.{◌≡◌, ℕ, ◌+◌, ◌*◌, ◌≤◌, ◌<�
 use Rattle.std.proofs.Common.{length-append, arith, refl, sym, ◌∙◌, ap, Bor, subst, append_assoc, inl, inr}
 use Rattle.std.specs.Prelude.{Some}
 use Rattle.std.specs.Cmp.{IsStrictWeakOrder, nat_cmp_total, on_total, then_total}
-use Rattle.std.specs.Cmp.Lexicographic.{nat_list_cmp_total, slice_cmp}
+use Rattle.std.specs.Cmp.Lexicographic.{nat_list_cmp_total}
 use Rattle.std.specs.Fn.{Called, ComparesAs, Mut}
 use Rattle.std.specs.declared.cmp.Ordering.{Ordering}
 use Rattle.std.specs.List.{Contains, flat_map, range_with_len, slice_get}
 use Rattle.std.specs.List.Sorted.{IsPermutation, IsSorted, IsSortedBy}
-use Rattle.std.specs.Ordering.{is_lt, nat_cmp, ordering_then}
+use Rattle.std.specs.Ordering.{is_lt}
 use Rattle.std.proofs.lemmas.Bool.{le-ltb, lt-ltb}
 use Rattle.std.proofs.lemmas.List.{append-nil, get_or-map, length-map}
 use Rattle.std.proofs.lemmas.Option.{get_or_from_slice_get}
@@ -27,7 +27,6 @@ use Rattle.bdb_format.proofs.MemberLemmas.{later_member, member_cases, no_member
 use Rattle.bdb_graph.specs.Linked.{HasMetadata}
 use Rattle.bdb_layout.specs.declared.items.HashItem.{HashItem}
 use Rattle.bdb_layout.specs.Seen.{hash_content_seen, hash_item_seen}
-use Rattle.bdb_overflow.specs.Prefix.{prefix_of}
 use Rattle.bdb_overflow.proofs.PrefixLemmas.{prefix_order}
 use Rattle.bdb_hash.specs.declared.place.Place.{Place}
 use Rattle.bdb_hash.specs.Places.{Adds, AreAt, ArePlaces, IsAt, IsCollected, has_pair, key_at, key_in, pair_on, place_cmp, place_less}
@@ -126,8 +125,7 @@ bucket_added image meta b old new pages at are adds =
 pub page_counted : (count more here whole most : ℕ) (page : List Told) (rest : List (List Told)) → more ≡ min (count + here) most → here ≡ length page
     → min (count + length (joined_pages (page ∷ rest))) most ≡ whole → min (more + length (joined_pages rest)) most ≡ whole
 page_counted count more here whole most page rest is are before =
-    let both : length (page ++ joined_pages rest) ≡ length page + length (joined_pages rest) = length-append page (joined_pages rest) in
-    omega (arith, is, are, before, both)
+    omega (arith, is, are, before, length-append page (joined_pages rest))
 
 -- one more bucket counted
 pub bucket_counted : (image : List ℕ) (meta : HashMeta) (b count more most : ℕ) (pages : List (List Told))
@@ -178,13 +176,8 @@ key_told image place is =
 cmp_told : (image : List ℕ) (a b : Place) → IsAt a (told_at image a) → IsAt b (told_at image b)
     → place_cmp image a b ≡ told_cmp (told_at image a) (told_at image b)
 cmp_told image a b is_a is_b =
-    let key_a : List ℕ = (told_at image a).pair.key in
-    let key_b : List ℕ = (told_at image b).pair.key in
-    ap (λ key. ordering_then (nat_cmp a.first b.first) (slice_cmp nat_cmp key (key_at image b))) (key_told image a is_a)
-    ∙ (ap (λ key. ordering_then (nat_cmp a.first b.first) (slice_cmp nat_cmp key_a key)) (key_told image b is_b)
-    ∙ (ap (λ n. ordering_then (nat_cmp n b.first) (slice_cmp nat_cmp key_a key_b)) is_a.first
-    ∙ (ap (λ n. ordering_then (nat_cmp (prefix_of 8 key_a) n) (slice_cmp nat_cmp key_a key_b)) is_b.first
-    ∙ prefix_order 8 key_a key_b is_a.bytes is_b.bytes)))
+    rw (key_told image a is_a, key_told image b is_b, is_a.first, is_b.first)
+    (prefix_order 8 (told_at image a).pair.key (told_at image b).pair.key is_a.bytes is_b.bytes)
 
 places_rank : (image : List ℕ) → IsStrictWeakOrder (place_less image)
 places_rank image =
@@ -209,8 +202,7 @@ sorted_told image places are sorted = λ k d low high.
     let few : k + 1 < length places = omega (arith, high, length-map places (told_at image)) in
     let here : Place = get_or places k no_place in
     let next : Place = get_or places (k + 1) no_place in
-    let order : place_cmp image next here ≡ told_cmp (told_at image next) (told_at image here) =
-    cmp_told image next here (are.each next (Contains-get_or places (k + 1) no_place few))
+    let order = cmp_told image next here (are.each next (Contains-get_or places (k + 1) no_place few))
     (are.each here (Contains-get_or places k no_place (omega arith))) in
     ap (λ (t : Told). is_lt (told_cmp t (get_or (map (told_at image) places) k d))) (get_or-map (told_at image) places (k + 1) no_place d few)
     ∙ (ap (λ (t : Told). is_lt (told_cmp (told_at image next) t)) (get_or-map (told_at image) places k no_place d (omega arith))
@@ -234,8 +226,7 @@ sorted_places image meta forest old new same table has none at moved sorted =
       table = table;
       each = λ place in'. told_each image pairs old own place (Contains-permutation new old place (IsPermutation-sym old new moved) in');
     } in
-    let told' : map (told_at image) new ≡ ranked image meta =
-    sorted_ranked image meta (map (told_at image) old) (map (told_at image) new) table has none
+    let told' = sorted_ranked image meta (map (told_at image) old) (map (told_at image) new) table has none
     (told_all image pairs old own ∙ sym (table_is_told image meta))
     (IsPermutation-map (told_at image) old new moved) (sorted_told image new are (subst (λ f. IsSortedBy (place_less f) new) same sorted)) in
     subst (λ f. AreRanked image meta f new) (sym same) (record { are = are; told = told' })

@@ -32,17 +32,13 @@ abbrev AreLive : Page → Type 0
 AreLive (Hash page) = (i : ℕ) → (item_at page i).deleted ≡ false
 AreLive page = Unit {0}
 
-live_item : (order : Order) (page : List ℕ) (i : ℕ) → (hash_item_at order page i).deleted ≡ false
-unfolding hash_item_at
-live_item order page i = refl
-
 live_listed : (order : Order) (page : List ℕ) (i : ℕ) → (item_at (listed order page (hash_item_at order page)) i).deleted ≡ false
-unfolding listed
+unfolding listed hash_item_at
 live_listed order page i =
     let n : ℕ = entries_of order page in
     elim (cases_lt i n) [
       | inl below ↦ ap (λ (item : Item). item.deleted)
-          (get_or-map-range_with_len (hash_item_at order page) 0 n i i no_item below (omega arith)) ∙ live_item order page i
+          (get_or-map-range_with_len (hash_item_at order page) 0 n i i no_item below (omega arith))
       | inr past ↦
           ap (λ (item : Item). item.deleted)
           (get_or_past (map (hash_item_at order page) (range_with_len 0 n)) i no_item
@@ -121,8 +117,7 @@ plain_in : (image : List ℕ) (p : ℕ) (page : Page) (pair : StoredPair) → p 
     → Contains (pairs_in (file_of image) p page) pair → IsPlain (file_of image) pair
 plain_in image p Zero pair low is kind at = absurd (no_member [] pair refl at)
 plain_in image p (Hash page) pair low is kind at =
-    let found : (k : ℕ) × Contains (range_with_len 0 (length page.items / 2)) k × (pair_at (file_of image) p page (λ n. false) k ≡ pair) =
-    of_map (pair_at (file_of image) p page (λ n. false)) (range_with_len 0 (length page.items / 2)) pair at in
+    let found = of_map (pair_at (file_of image) p page (λ n. false)) (range_with_len 0 (length page.items / 2)) pair at in
     subst (IsPlain (file_of image)) found.2 (record { inside = low; live = ap not (hash_live image p page low is (2 * found.0 + 1)); apart = refl })
 plain_in image p page pair low is kind at = absurd cc
 
@@ -136,6 +131,5 @@ pub bucket_plain : (image : List ℕ) (meta : HashMeta) (b : ℕ) (pair : Stored
     → HasMetadata (file_of image) (HashFields meta) → b ≤ meta.max_bucket
     → Contains (bucket_pairs (file_of image) meta b) pair → IsPlain (file_of image) pair
 bucket_plain image meta b pair table has few at =
-    let page : (q : ℕ) × Contains (bucket_pages (file_of image) meta b) q × Contains (pairs_of (file_of image) q) pair =
-    of_flat_map (pairs_of (file_of image)) (bucket_pages (file_of image) meta b) pair at in
+    let page = of_flat_map (pairs_of (file_of image)) (bucket_pages (file_of image) meta b) pair at in
     plain_on image page.0 pair (bucket_page_fits image meta b page.0 table has few page.1) page.2

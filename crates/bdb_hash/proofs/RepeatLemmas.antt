@@ -45,13 +45,12 @@ drop_other : (earlier others pairs : List StoredPair) → AreOther others pairs
     → repeated_after (earlier ++ others) pairs ≡ repeated_after earlier pairs
 drop_other earlier others [] other = refl
 drop_other earlier others (pair ∷ pairs) other =
-    let rest : repeated_after (pair ∷ earlier ++ others) pairs ≡ repeated_after (pair ∷ earlier) pairs =
-    drop_other (pair ∷ earlier) others pairs (λ one at. other one (later_member pair pairs one at)) in
-    let same : has_same (earlier ++ others) pair ≡ has_same earlier pair =
-    list_any-append (λ (one : StoredPair). bytes_eq one.key pair.key) earlier others
-    ∙ (ap (λ b. has_same earlier pair || b) (other pair (first_member pair pairs)) ∙ or-false (has_same earlier pair)) in
-    ap (λ (ps : List StoredPair). cond (has_same (earlier ++ others) pair) (pair ∷ ps) ps) rest
-    ∙ ap (λ b. cond b (pair ∷ repeated_after (pair ∷ earlier) pairs) (repeated_after (pair ∷ earlier) pairs)) same
+    rw (
+      list_any-append (λ (one : StoredPair). bytes_eq one.key pair.key) earlier others,
+      other pair (first_member pair pairs),
+      or-false (has_same earlier pair),
+      drop_other (pair ∷ earlier) others pairs (λ one at. other one (later_member pair pairs one at)),
+    ) refl
 
 cond_append : (b : Bool) (pair : StoredPair) (xs ys : List StoredPair) → cond b (pair ∷ xs ++ ys) (xs ++ ys) ≡ cond b (pair ∷ xs) xs ++ ys
 cond_append b pair xs ys = grind arith
@@ -62,12 +61,10 @@ repeated_append : (earlier xs ys : List StoredPair) → AreOther earlier ys
     → repeated_after earlier (xs ++ ys) ≡ repeated_after earlier xs ++ repeated_after [] ys
 repeated_append earlier [] ys before' apart = drop_other [] earlier ys before'
 repeated_append earlier (x ∷ xs) ys before' apart =
-    let rest : repeated_after (x ∷ earlier) (xs ++ ys) ≡ repeated_after (x ∷ earlier) xs ++ repeated_after [] ys =
-    repeated_append (x ∷ earlier) xs ys
+    rw (repeated_append (x ∷ earlier) xs ys
     (λ y at. or_from (bytes_eq x.key y.key) (has_same earlier y) (apart x y (first_member x xs) at) (before' y at))
-    (λ z y at_z at_y. apart z y (later_member x xs z at_z) at_y) in
-    ap (λ (ps : List StoredPair). cond (has_same earlier x) (x ∷ ps) ps) rest
-    ∙ cond_append (has_same earlier x) x (repeated_after (x ∷ earlier) xs) (repeated_after [] ys)
+    (λ z y at_z at_y. apart z y (later_member x xs z at_z) at_y))
+    (cond_append (has_same earlier x) x (repeated_after (x ∷ earlier) xs) (repeated_after [] ys))
 
 repeated_parts : (xs ys : List StoredPair) → ((x y : StoredPair) → Contains xs x → Contains ys y → bytes_eq x.key y.key ≡ false)
     → repeated (xs ++ ys) ≡ repeated xs ++ repeated ys
@@ -106,10 +103,8 @@ stored_parts parts (b ∷ bs) = map-append (λ (t : Told). t.pair) (parts b) (fl
 home_where_none : (image : List ℕ) (meta : HashMeta) → list_any (has_stray_in image meta) (buckets_of meta) ≡ false
     → AreHome (λ b. stored (bucket_told image meta b)) (bucket_of_key meta) (buckets_of meta)
 home_where_none image meta none b listed pair held =
-    let found : (t : Told) × Contains (bucket_told image meta b) t × (t.pair ≡ pair) =
-    of_map (λ (t : Told). t.pair) (bucket_told image meta b) pair held in
-    let here : list_any (is_stray meta b) (bucket_told image meta b) ≡ false =
-    none_passes (has_stray_in image meta) (buckets_of meta) b none listed in
+    let found = of_map (λ (t : Told). t.pair) (bucket_told image meta b) pair held in
+    let here = none_passes (has_stray_in image meta) (buckets_of meta) b none listed in
     let own : is_stray meta b found.0 ≡ false = none_passes (is_stray meta b) (bucket_told image meta b) found.0 here found.1 in
     ap (λ (p : StoredPair). bucket_of_key meta p.key) (sym found.2) ∙ eqb-true (bucket_of_key meta found.0.pair.key) b
     (not-false (bucket_of_key meta found.0.pair.key == b) own)
@@ -154,16 +149,15 @@ repeats_append : (before xs ys : List StoredPair)
     → repeated_by key_of before (xs ++ ys) ≡ repeated_by key_of before xs ++ repeated_by key_of (behind before xs) ys
 repeats_append before [] ys = refl
 repeats_append before (x ∷ xs) ys =
-    ap (λ (ps : List StoredPair). cond (has_item key_of before x.key) (x ∷ ps) ps) (repeats_append (x ∷ before) xs ys)
-    ∙ cond_append (has_item key_of before x.key) x (repeated_by key_of (x ∷ before) xs) (repeated_by key_of (behind (x ∷ before) xs) ys)
+    rw (repeats_append (x ∷ before) xs ys)
+    (cond_append (has_item key_of before x.key) x (repeated_by key_of (x ∷ before) xs) (repeated_by key_of (behind (x ∷ before) xs) ys))
 
 both_noted : (a b c : BTreeSet (List ℕ)) (k l m : Option Fault) (xs ys : List StoredPair) → Notes a b k l xs → Notes b c l m ys
     → Notes a c k m (xs ++ ys)
 both_noted a b c k l m xs ys first second = record {
   after = λ before are.
       let here : AreKeysOf b (behind before xs) × (l ≡ fold note_repeat k (repeated_by key_of before xs)) = first.after before are in
-      let there : AreKeysOf c (behind (behind before xs) ys) × (m ≡ fold note_repeat l (repeated_by key_of (behind before xs) ys)) =
-      second.after (behind before xs) here.0 in (
+      let there = second.after (behind before xs) here.0 in (
         λ sought. there.0 sought ∙ ap (λ ps. has_item key_of ps sought)
             (sym (fold-append (λ (ps : List StoredPair) (pair : StoredPair). pair ∷ ps) before xs ys)),
         there.1

@@ -1,6 +1,6 @@
 -- The rows of a table's contents at a page are those of its pairs by themselves, and of repeated keys.
 use Rattle.std.proofs.Common.{◌≡◌, ◌⊎◌, ℕ, ◌+◌, ◌≤◌, Bool, true, false, not, ◌&&◌, ◌||◌, cond, List, [], ◌∷◌, ◌++◌, map, arith}
-use Rattle.std.proofs.Common.{refl, sym, ◌∙◌, ap, inl, inr}
+use Rattle.std.proofs.Common.{refl, sym, ◌∙◌, ap, subst, inl, inr}
 use Rattle.std.specs.Prelude.{Some, ◌==◌}
 use Rattle.std.specs.List.{Contains, flat_map, list_any, range_with_len, take_while}
 use Rattle.std.proofs.Math.Bool.{and-false}
@@ -15,13 +15,13 @@ use Rattle.bdb_format.specs.Contents.{StoredPair, bucket_pairs, data_of, table_p
 use Rattle.bdb_format.specs.File.{File}
 use Rattle.bdb_format.specs.Table.{Row, ◌:?◌, first_row}
 use Rattle.bdb_format.specs.Verdict.{holding}
-use Rattle.bdb_format.proofs.MemberLemmas.{first_member, in_map, later_member, member_cases, no_member, of_map}
+use Rattle.bdb_format.proofs.MemberLemmas.{first_member, in_map, later_member, of_map}
 use Rattle.bdb_format.proofs.VerdictLemmas.{Rises}
 use Rattle.bdb_format.specs.Flags.{has_duplicates, is_sorted}
 use Rattle.bdb_format.specs.Page.{HashFields}
 use Rattle.bdb_hash.proofs.LeastLemmas.{HoldsIn, first_least, in_holding, of_first, of_holding}
 use Rattle.bdb_hash.proofs.PlainLemmas.{IsPlain}
-use Rattle.bdb_format.proofs.ListLemmas.{any_member, passes_here}
+use Rattle.bdb_format.proofs.ListLemmas.{any_member, only_member, passes_here}
 
 -- Tests of pairs.
 
@@ -50,10 +50,8 @@ pub record IsFound (pairs : ℕ → List StoredPair) (buckets : List ℕ) (test 
 found_at : (pairs : ℕ → List StoredPair) (buckets : List ℕ) (test : ℕ → StoredPair → Bool) (p : ℕ)
     → some_at pairs buckets test p ≡ true → IsFound pairs buckets test p
 found_at pairs buckets test p some =
-    let bucket : (b : ℕ) × Contains buckets b × (list_any (λ (pair : StoredPair). pair.page == p && test b pair) (pairs b) ≡ true) =
-    any_member (λ b. list_any (λ (pair : StoredPair). pair.page == p && test b pair) (pairs b)) buckets some in
-    let pair : (one : StoredPair) × Contains (pairs bucket.0) one × ((one.page == p && test bucket.0 one) ≡ true) =
-    any_member (λ (one : StoredPair). one.page == p && test bucket.0 one) (pairs bucket.0) bucket.2 in
+    let bucket = any_member (λ b. list_any (λ (pair : StoredPair). pair.page == p && test b pair) (pairs b)) buckets some in
+    let pair = any_member (λ (one : StoredPair). one.page == p && test bucket.0 one) (pairs bucket.0) bucket.2 in
     let both : ((pair.0.page == p) ≡ true) × (test bucket.0 pair.0 ≡ true) = and_parts (pair.0.page == p) (test bucket.0 pair.0) pair.2 in
     record { bucket = bucket.0; listed = bucket.1; pair = pair.0; held = pair.1; at = eqb-true pair.0.page p both.0; passes = both.1 }
 
@@ -88,94 +86,55 @@ pub pair_holds : (pairs : ℕ → List StoredPair) (buckets : List ℕ) (tests :
     → Contains (holding (page_table pairs buckets tests pair.page ++ (repeat_row repeated pair.page ∷ []))) code
 pair_holds pairs buckets tests repeated b pair code listed held first =
     let is : HoldsIn (pair_table tests b pair) code = of_first (pair_table tests b pair) code first in
-    let test : (t : Test) × Contains tests t × ((t.code :? t.holds b pair) ≡ is.row) =
-    of_map (λ (t : Test). t.code :? t.holds b pair) tests is.row is.listed in
-    let passes : test.0.holds b pair ≡ true = ap (λ (row : Row ℕ). row.holds) test.2 ∙ is.holds in
+    let test = of_map (λ (t : Test). t.code :? t.holds b pair) tests is.0 is.1 in
     let row : Row ℕ = test.0.code :? some_at pairs buckets test.0.holds pair.page in
-    in_holding (page_table pairs buckets tests pair.page ++ (repeat_row repeated pair.page ∷ [])) code (record {
-      row = row;
-      listed = Contains-append_left (page_table pairs buckets tests pair.page) (repeat_row repeated pair.page ∷ []) row
-          (in_map (λ (t : Test). t.code :? some_at pairs buckets t.holds pair.page) tests test.0 test.1);
-      holds = at_found pairs buckets test.0.holds b pair listed held passes;
-      code_is = ap (λ (r : Row ℕ). r.code) test.2 ∙ is.code_is;
-    })
+    let rows : List (Row ℕ) = page_table pairs buckets tests pair.page in
+    let last : List (Row ℕ) = repeat_row repeated pair.page ∷ [] in
+    subst (Contains (holding (rows ++ last))) (ap (λ (r : Row ℕ). r.code) test.2 ∙ is.3)
+    (in_holding (rows ++ last) row
+    (Contains-append_left rows last row (in_map (λ (t : Test). t.code :? some_at pairs buckets t.holds pair.page) tests test.0 test.1))
+    (at_found pairs buckets test.0.holds b pair listed held (ap (λ (r : Row ℕ). r.holds) test.2 ∙ is.2)))
 
 pub repeat_holds : (pairs : ℕ → List StoredPair) (buckets : List ℕ) (tests : List Test) (repeated : List StoredPair)
     (pair : StoredPair) → Contains repeated pair
     → Contains (holding (page_table pairs buckets tests pair.page ++ (repeat_row repeated pair.page ∷ []))) 9
 repeat_holds pairs buckets tests repeated pair at =
-    in_holding (page_table pairs buckets tests pair.page ++ (repeat_row repeated pair.page ∷ [])) 9 (record {
-      row = repeat_row repeated pair.page;
-      listed = Contains-append_right (page_table pairs buckets tests pair.page) (repeat_row repeated pair.page ∷ [])
-          (repeat_row repeated pair.page) (first_member (repeat_row repeated pair.page) []);
-      holds = passes_here (λ (one : StoredPair). one.page == pair.page) repeated pair at (eq-eqb pair.page pair.page refl);
-      code_is = refl;
-    })
+    let row : Row ℕ = repeat_row repeated pair.page in
+    in_holding (page_table pairs buckets tests pair.page ++ (row ∷ [])) row
+    (Contains-append_right (page_table pairs buckets tests pair.page) (row ∷ []) row (first_member row []))
+    (passes_here (λ (one : StoredPair). one.page == pair.page) repeated pair at (eq-eqb pair.page pair.page refl))
 
 -- a code that holds at a page comes from a pair there, whose first code isn't greater, or from a repeated key
-pub record IsByPair (pairs : ℕ → List StoredPair) (buckets : List ℕ) (tests : List Test) (p code : ℕ) : Type 0 where
-  pub bucket : ℕ
-  pub listed : Contains buckets bucket
-  pub pair : StoredPair
-  pub held : Contains (pairs bucket) pair
-  pub at : pair.page ≡ p
-  pub first : ℕ
-  pub first_is : first_row (pair_table tests bucket pair) ≡ Some first
-  pub low : first ≤ code
+abbrev pub IsByPair : (ℕ → List StoredPair) → List ℕ → List Test → ℕ → ℕ → Type 0
+IsByPair pairs buckets tests p code = (test : Test) × (found : IsFound pairs buckets test.holds p)
+    × (first : ℕ) × (first_row (pair_table tests found.bucket found.pair) ≡ Some first) × (first ≤ code)
 
-pub record IsByRepeat (repeated : List StoredPair) (p code : ℕ) : Type 0 where
-  pub pair : StoredPair
-  pub held : Contains repeated pair
-  pub at : pair.page ≡ p
-  pub nine : code ≡ 9
+abbrev pub IsByRepeat : List StoredPair → ℕ → ℕ → Type 0
+IsByRepeat repeated p code = (pair : StoredPair) × Contains repeated pair × (pair.page ≡ p) × (code ≡ 9)
 
 pub page_holds : (pairs : ℕ → List StoredPair) (buckets : List ℕ) (tests : List Test) (repeated : List StoredPair) (p code : ℕ)
     → ((b : ℕ) (pair : StoredPair) → Rises 1 (pair_table tests b pair))
     → Contains (holding (page_table pairs buckets tests p ++ (repeat_row repeated p ∷ []))) code
     → IsByPair pairs buckets tests p code ⊎ IsByRepeat repeated p code
 page_holds pairs buckets tests repeated p code rises at =
-    let is : HoldsIn (page_table pairs buckets tests p ++ (repeat_row repeated p ∷ [])) code =
-    of_holding (page_table pairs buckets tests p ++ (repeat_row repeated p ∷ [])) code at in
-    elim (Contains-append_cases (page_table pairs buckets tests p) (repeat_row repeated p ∷ []) is.row is.listed) [
+    let rows : List (Row ℕ) = page_table pairs buckets tests p in
+    let last : Row ℕ = repeat_row repeated p in
+    let is : HoldsIn (rows ++ (last ∷ [])) code = of_holding (rows ++ (last ∷ [])) code at in
+    elim (Contains-append_cases rows (last ∷ []) is.0 is.1) [
       | inl here ↦
-          let test : (t : Test) × Contains tests t × ((t.code :? some_at pairs buckets t.holds p) ≡ is.row) =
-          of_map (λ (t : Test). t.code :? some_at pairs buckets t.holds p) tests is.row here in
+          let test = of_map (λ (t : Test). t.code :? some_at pairs buckets t.holds p) tests is.0 here in
           let found : IsFound pairs buckets test.0.holds p =
-          found_at pairs buckets test.0.holds p (ap (λ (row : Row ℕ). row.holds) test.2 ∙ is.holds) in
-          let first : (n : ℕ) × (first_row (pair_table tests found.bucket found.pair) ≡ Some n) × (n ≤ code) =
-          first_least 1 (pair_table tests found.bucket found.pair) code (rises found.bucket found.pair) (record {
-            row = test.0.code :? test.0.holds found.bucket found.pair;
-            listed = in_map (λ (t : Test). t.code :? t.holds found.bucket found.pair) tests test.0 test.1;
-            holds = found.passes;
-            code_is = ap (λ (row : Row ℕ). row.code) test.2 ∙ is.code_is;
-          }) in
-          inl (record {
-            bucket = found.bucket;
-            listed = found.listed;
-            pair = found.pair;
-            held = found.held;
-            at = found.at;
-            first =
-                first.0;
-            first_is = first.1;
-            low = first.2;
-          })
-      | inr last ↦
-          let same : repeat_row repeated p ≡ is.row =
-          elim (member_cases (repeat_row repeated p) [] is.row last) [
-            | inl here ↦
-                here
-            | inr none ↦ absurd (no_member [] is.row refl none)
-          ] in
-          let pair : (one : StoredPair) × Contains repeated one × ((one.page == p) ≡ true) =
-          any_member (λ (one : StoredPair). one.page == p) repeated (ap (λ (row : Row ℕ). row.holds) same ∙ is.holds) in
-          inr (record {
-            pair = pair.0;
-            held =
-                pair.1;
-            at = eqb-true pair.0.page p pair.2;
-            nine = sym is.code_is ∙ ap (λ (row : Row ℕ). row.code) (sym same);
-          })
+          found_at pairs buckets test.0.holds p (ap (λ (row : Row ℕ). row.holds) test.2 ∙ is.2) in
+          let own : List (Row ℕ) = pair_table tests found.bucket found.pair in
+          let first = first_least 1 own code (rises found.bucket found.pair)
+          (subst (Contains (holding own)) (ap (λ (row : Row ℕ). row.code) test.2 ∙ is.3)
+          (in_holding own (test.0.code :? test.0.holds found.bucket found.pair)
+          (in_map (λ (t : Test). t.code :? t.holds found.bucket found.pair) tests test.0 test.1) found.passes)) in
+          inl (test.0, found, first.0, first.1, first.2)
+      | inr there ↦
+          let same : last ≡ is.0 = only_member last is.0 there in
+          let pair = any_member (λ (one : StoredPair). one.page == p) repeated (ap (λ (row : Row ℕ). row.holds) same ∙ is.2) in
+          inr (pair.0, pair.1, eqb-true pair.0.page p pair.2, sym is.3 ∙ ap (λ (row : Row ℕ). row.code) (sym same))
     ]
 
 -- The rows of a table.
@@ -215,13 +174,11 @@ groups_alone file [] p plain = refl
 groups_alone file (pair ∷ pairs) p plain =
     let none : take_while (λ (other : StoredPair). other.shares) pairs ≡ [] =
     no_group pairs (λ other at. (plain other (later_member pair pairs other at)).apart) in
-    ap (λ ps. (pair.page == p && is_unsorted file (pair, ps)) || list_any
-    (λ (group : StoredPair × List StoredPair). group.0.page == p && is_unsorted file group) (groups pairs)) none
-    ∙ (ap (λ values. (pair.page == p && not (ascends values)) || list_any
-    (λ (group : StoredPair × List StoredPair). group.0.page == p && is_unsorted file group) (groups pairs))
-    (data_alone file pair (plain pair (first_member pair pairs)).live)
-    ∙ ap (λ b. (pair.page == p && not (ascends (data_of file pair.data_item))) || b)
-    (groups_alone file pairs p (λ other at. plain other (later_member pair pairs other at))))
+    rw (
+      none,
+      data_alone file pair (plain pair (first_member pair pairs)).live,
+      groups_alone file pairs p (λ other at. plain other (later_member pair pairs other at)),
+    ) refl
 
 rows_eq : (a b c d e f : Bool) (two three : Bool) → a ≡ b → c ≡ d → e ≡ f
     → ◌≡◌ {A = List (Row ℕ)} (1 :? a ∷ 2 :? c ∷ 5 :? e ∷ 8 :? two ∷ 9 :? three ∷ []) (1 :? b ∷ 2 :? d ∷ 5 :? f ∷ 8 :? two ∷ 9 :? three ∷ [])

@@ -1,18 +1,19 @@
 -- A table's pairs, sorted by their keys, are its list.
-use Rattle.std.proofs.Common.{◌≡◌, ◌⊎◌, ℕ, suc, ◌+◌, ◌≤◌, ◌<◌, true, false, cond, List, [], ◌∷◌, map, length}
+use Rattle.std.proofs.Common.{◌≡◌, ℕ, suc, ◌+◌, ◌<◌, Bool, true, false, cond, List, [], ◌∷◌, map, length}
 use Rattle.std.proofs.Common.{get_or, arith, refl, sym, ◌∙◌, ap, subst, inl, inr}
 use Rattle.std.specs.declared.cmp.Ordering.{Ordering}
 use Rattle.std.specs.declared.cmp.Ordering.TheVariants.{Less as Below, Equal, Greater}
 use Rattle.std.specs.Cmp.Lexicographic.{nat_list_cmp_total, slice_cmp}
-use Rattle.std.specs.List.{Contains, flat_map, sum_by}
+use Rattle.std.specs.List.{Contains, IsDistinct, flat_map}
 use Rattle.std.specs.List.Sorted.{IsPermutation, IsSorted}
 use Rattle.std.specs.Ordering.{is_lt, nat_cmp}
 use Rattle.std.specs.Str.{bytes_eq}
 use Rattle.std.proofs.lemmas.Bool.{cases_Bool, true≢false}
+use Rattle.std.proofs.lemmas.List.Elements.{All-contains, All-from_recursion, recursion_from_All}
 use Rattle.std.proofs.lemmas.List.Folds.{flat_map-map}
 use Rattle.std.proofs.lemmas.List.Sorted.{Contains-permutation, IsPermutation-cons, IsPermutation-map, IsPermutation-middle, IsPermutation-refl}
-use Rattle.std.proofs.lemmas.List.Sorted.{IsPermutation-sym, IsPermutation-trans, ranks_by, sorted_far, sum_by-IsPermutation}
-use Rattle.std.proofs.lemmas.List.Sums.{sum_by-cons}
+use Rattle.std.proofs.lemmas.List.Sorted.{IsPermutation-sym, IsPermutation-trans, ranks_by, sorted_far}
+use Rattle.std.proofs.lemmas.Map.Keys.{IsDistinct-IsPermutation}
 use Rattle.bdb_layout.specs.Seen.{OrderingIs}
 use Rattle.bdb_layout.proofs.KeyLemmas.{slice_cmp-is}
 use Rattle.bdb_format.specs.declared.metadata.HashMeta.{HashMeta}
@@ -22,15 +23,16 @@ use Rattle.bdb_format.specs.File.{file_of}
 use Rattle.bdb_format.specs.Less.{less, Less}
 use Rattle.bdb_format.specs.Lists.{by_key, hash_list, insert_pair}
 use Rattle.bdb_format.specs.Page.{HashFields}
+use Rattle.bdb_format.proofs.ListLemmas.{all_of}
 use Rattle.bdb_format.proofs.LessLemmas.{not_less_both, not_less_same}
-use Rattle.bdb_format.proofs.MemberLemmas.{first_member, later_member, member_cases, no_member, of_map}
+use Rattle.bdb_format.proofs.MemberLemmas.{first_member, in_map, later_member, member_cases, no_member, of_map}
 use Rattle.bdb_graph.specs.Linked.{HasMetadata}
 use Rattle.bdb_hash.specs.Scanned.{ranked}
 use Rattle.bdb_hash.specs.Notes.{key_of, stored}
 use Rattle.bdb_hash.specs.Told.{Told, listed_told, table_told, told, told_cmp}
 use Rattle.bdb_hash.specs.Views.{IsTable}
 use Rattle.bdb_hash.proofs.FaultLemmas.{table_is_told, table_stored}
-use Rattle.bdb_overflow.proofs.KeyLemmas.{eq_self, is_order}
+use Rattle.bdb_overflow.proofs.KeyLemmas.{eq_same, eq_self, is_order}
 use Rattle.bdb_hash.proofs.LookupLemmas.{AreApart, same_key, table_apart}
 
 -- The order of keys.
@@ -40,30 +42,24 @@ less_through a b c first second =
     let below : slice_cmp nat_cmp a c ≡ Below = nat_list_cmp_total.trans a b c (sym (is_order Below a b first)) (sym (is_order Below b c second)) in
     subst (λ r. OrderingIs r a c) below (slice_cmp-is a c)
 
-of_three : (r : Ordering) (a b : List ℕ) → OrderingIs r a b → (Less a b) ⊎ ((a ≡ b) ⊎ (Less b a))
-of_three Below a b is = inl is
-of_three Equal a b is = inr (inl is)
-of_three Greater a b is = inr (inr is)
-
--- of two keys that differ one is less
-less_or : (a b : List ℕ) → bytes_eq a b ≡ false → (Less a b) ⊎ (Less b a)
-less_or a b differ =
-    elim (of_three (slice_cmp nat_cmp a b) a b (slice_cmp-is a b)) [
-      | inl below ↦ inl below
-      | inr (inl same) ↦ absurd (true≢false (sym (subst (λ xs. bytes_eq a xs ≡ true) same (eq_self a)) ∙ differ))
-      | inr (inr above) ↦ inr above
-    ]
-
-not_lt : (r : Ordering) (a b : List ℕ) → OrderingIs r a b → is_lt r ≡ false → (a ≡ b) ⊎ (Less b a)
-not_lt Below a b is other = absurd cc
-not_lt Equal a b is other = inl is
-not_lt Greater a b is other = inr is
+-- of two keys that differ the first is less where the second isn't
+less_where : (r : Ordering) (a b : List ℕ) → OrderingIs r a b → bytes_eq a b ≡ false → (Less b a → ⊥) → Less a b
+less_where Below a b is differ other = is
+less_where Equal a b is differ other = absurd (true≢false (sym (subst (λ xs. bytes_eq a xs ≡ true) is (eq_self a)) ∙ differ))
+less_where Greater a b is differ other = absurd (other is)
 
 -- Lists whose keys rise.
 
 abbrev IsRising : {X : Type 0} → (X → List ℕ) → List X → Type 0
 IsRising key [] = Unit {0}
 IsRising key (x ∷ xs) = ((y : _) → Contains xs y → Less (key x) (key y)) × IsRising key xs
+
+-- a member above the first one comes later
+above_first : {X : Type 0} (key : X → List ℕ) (x y : X) (xs : List X) → Less (key x) (key y) → Contains (x ∷ xs) y → Contains xs y
+above_first {X} key x y xs above at = elim (member_cases x xs y at) [
+  | inl same ↦ absurd (not_less_same (key y) (subst (λ (z : X). Less (key z) (key y)) same above))
+  | inr later ↦ later
+]
 
 -- two such lists with the same members are one
 one_rising : {X : Type 0} (key : X → List ℕ) (xs ys : List X) → IsRising key xs → IsRising key ys
@@ -82,14 +78,8 @@ one_rising {X = X} key (x ∷ xs) (y ∷ ys) first second on back =
     ] in
     let tails : xs ≡ ys =
     one_rising key xs ys first.1 second.1
-    (λ z at. elim (member_cases y ys z (on z (later_member x xs z at))) [
-      | inl same ↦ absurd (not_less_same (key z) (subst (λ (w : X). Less (key w) (key z)) (heads ∙ same) (first.0 z at)))
-      | inr later ↦ later
-    ])
-    (λ z at. elim (member_cases x xs z (back z (later_member y ys z at))) [
-      | inl same ↦ absurd (not_less_same (key z) (subst (λ (w : X). Less (key w) (key z)) (sym heads ∙ same) (second.0 z at)))
-      | inr later ↦ later
-    ]) in
+    (λ z at. above_first key y z ys (subst (λ (w : X). Less (key w) (key z)) heads (first.0 z at)) (on z (later_member x xs z at)))
+    (λ z at. above_first key x z xs (subst (λ (w : X). Less (key w) (key z)) (sym heads) (second.0 z at)) (back z (later_member y ys z at))) in
     ap (λ w. w ∷ xs) heads ∙ ap (λ ws. y ∷ ws) tails
 
 -- Pairs in the order of their keys.
@@ -129,11 +119,8 @@ insert_rising pair (other ∷ others) rising apart =
       )
       | false ↦ λ not_below.
           let first : Less pair.key other.key =
-          elim (less_or pair.key other.key (apart other (first_member other others))) [
-            | inl below ↦
-                below
-            | inr above ↦ absurd (true≢false (sym above ∙ not_below))
-          ] in (
+          less_where (slice_cmp nat_cmp pair.key other.key) pair.key other.key (slice_cmp-is pair.key other.key)
+          (apart other (first_member other others)) (λ below. true≢false (sym below ∙ not_below)) in (
             λ q at. elim (member_cases other others q at) [
               | inl same ↦ subst (λ (p : StoredPair). Less pair.key p.key) same first
               | inr later ↦ less_through pair.key other.key q.key first (rising.0 q later)
@@ -162,43 +149,23 @@ told_rising image (pair ∷ pairs) rising = (
 
 -- Sorted pairs.
 
--- how many pairs have a key
-abbrev has_count : List ℕ → Told → ℕ
-has_count key t = cond (bytes_eq t.pair.key key) 1 0
+abbrev share_key : Told → Told → Bool
+share_key t u = bytes_eq t.pair.key u.pair.key
 
-count_member : (key : List ℕ) (ts : List Told) (t : Told) → Contains ts t → bytes_eq t.pair.key key ≡ true → 1 ≤ sum_by (has_count key) ts
-count_member key [] t at own = absurd (no_member [] t refl at)
-count_member key (u ∷ ts) t at own =
-    let sum : sum_by (has_count key) (u ∷ ts) ≡ has_count key u + sum_by (has_count key) ts = sum_by-cons (has_count key) u ts in
-    elim (member_cases u ts t at) [
-      | inl same ↦ let one : has_count key u ≡ 1 = ap (λ b. cond b 1 0) (ap (λ (v : Told). bytes_eq v.pair.key key) same ∙ own) in omega arith
-      | inr later ↦ let some : 1 ≤ sum_by (has_count key) ts = count_member key ts t later own in omega arith
-    ]
+share_flips : (t u : Told) → share_key t u ≡ share_key u t
+share_flips t u = elim (cases_Bool (share_key t u)) [
+  | inl same ↦ subst (λ key. bytes_eq t.pair.key key ≡ bytes_eq key t.pair.key) (eq_same t.pair.key u.pair.key same) refl
+  | inr other ↦ other ∙ sym (same_key t.pair.key u.pair.key t.pair.key other (eq_self t.pair.key))
+]
 
-count_none : (key : List ℕ) (ts : List Told) → ((q : StoredPair) → Contains (stored ts) q → bytes_eq q.key key ≡ false)
-    → sum_by (has_count key) ts ≡ 0
-count_none key [] other = refl
-count_none key (t ∷ ts) other =
-    let none : has_count key t ≡ 0 = ap (λ b. cond b 1 0) (other t.pair (first_member t.pair (stored ts))) in
-    sum_by-cons (has_count key) t ts
-    ∙ (ap (λ n. n + sum_by (has_count key) ts) none
-    ∙ (let rest : sum_by (has_count key) ts ≡ 0 =
-    count_none key ts (λ q at. other q (later_member t.pair (stored ts) q at)) in omega arith))
-
-count_few : (key : List ℕ) (ts : List Told) → AreApart (stored ts) → sum_by (has_count key) ts ≤ 1
-count_few key [] apart = omega arith
-count_few key (t ∷ ts) apart =
-    let sum : sum_by (has_count key) (t ∷ ts) ≡ has_count key t + sum_by (has_count key) ts = sum_by-cons (has_count key) t ts in
-    elim (cases_Bool (bytes_eq t.pair.key key)) [
-      | inl own ↦
-          let one : has_count key t ≡ 1 = ap (λ b. cond b 1 0) own in
-          let none : sum_by (has_count key) ts ≡ 0 = count_none key ts (λ q at. same_key t.pair.key q.key key (apart.0 q at) own) in
-          omega arith
-      | inr other ↦
-          let none : has_count key t ≡ 0 = ap (λ b. cond b 1 0) other in
-          let few : sum_by (has_count key) ts ≤ 1 = count_few key ts apart.1 in
-          omega arith
-    ]
+told_distinct : (ts : List Told) → AreApart (stored ts) → IsDistinct share_key ts
+unfolding IsDistinct
+told_distinct [] apart = tt
+told_distinct (t ∷ ts) apart = (
+  recursion_from_All (λ u. share_key t u ≡ false) ts
+      (all_of (λ u. share_key t u ≡ false) ts (λ u at. apart.0 u.pair (in_map (λ (v : Told). v.pair) ts u at))),
+  told_distinct ts apart.1,
+)
 
 -- none of the pairs behind the first of sorted ones is less
 first_low : (t : Told) (ts : List Told) (u : Told) → IsSorted told_cmp (t ∷ ts) → Contains ts u → is_lt (told_cmp u t) ≡ false
@@ -214,25 +181,15 @@ rest_sorted t ts sorted = λ k d low high.
     subst (λ n. is_lt (told_cmp (get_or (t ∷ ts) n d) (get_or (t ∷ ts) (suc k) d)) ≡ false) more (sorted (suc k) d (omega arith) (omega arith))
 
 -- sorted pairs of which no two have one key rise
-sorted_rising : (ts : List Told) → IsSorted told_cmp ts → ((key : List ℕ) → sum_by (has_count key) ts ≤ 1) → IsRising told_key ts
-sorted_rising [] sorted few = tt
-sorted_rising (t ∷ ts) sorted few = (
+sorted_rising : (ts : List Told) → IsSorted told_cmp ts → IsDistinct share_key ts → IsRising told_key ts
+unfolding IsDistinct
+sorted_rising [] sorted apart = tt
+sorted_rising (t ∷ ts) sorted apart = (
   λ u at.
-      elim (not_lt (slice_cmp nat_cmp u.pair.key t.pair.key) u.pair.key t.pair.key (slice_cmp-is u.pair.key t.pair.key)
-      (first_low t ts u sorted at)) [
-        | inl same ↦ absurd (
-            let key : List ℕ = t.pair.key in
-            let sum : sum_by (has_count key) (t ∷ ts) ≡ has_count key t + sum_by (has_count key) ts = sum_by-cons (has_count key) t ts in
-            let one : has_count key t ≡ 1 = ap (λ b. cond b 1 0) (eq_self key) in
-            let some : 1 ≤ sum_by (has_count key) ts = count_member key ts u at (subst (λ xs. bytes_eq xs key ≡ true) (sym same) (eq_self key)) in
-            let most : sum_by (has_count key) (t ∷ ts) ≤ 1 = few key in
-            omega arith)
-        | inr above ↦ above
-      ],
-  sorted_rising ts (rest_sorted t ts sorted) (λ key.
-      let sum : sum_by (has_count key) (t ∷ ts) ≡ has_count key t + sum_by (has_count key) ts = sum_by-cons (has_count key) t ts in
-      let most : sum_by (has_count key) (t ∷ ts) ≤ 1 = few key in
-      omega arith),
+      less_where (slice_cmp nat_cmp t.pair.key u.pair.key) t.pair.key u.pair.key (slice_cmp-is t.pair.key u.pair.key)
+      (All-contains (λ v. share_key t v ≡ false) ts u (All-from_recursion _ ts apart.0) at)
+      (λ below. true≢false (ap is_lt (is_order Below u.pair.key t.pair.key below) ∙ first_low t ts u sorted at)),
+  sorted_rising ts (rest_sorted t ts sorted) apart.1,
 )
 
 -- the pairs of a table, sorted, are in the order of its list
@@ -244,14 +201,12 @@ sorted_ranked image meta old new table has none are moved sorted =
     let apart : AreApart pairs = table_apart image meta table has none in
     let old_stored : stored old ≡ pairs = ap stored are ∙ table_stored image meta in
     let old_told : old ≡ map (told image) pairs = are ∙ table_is_told image meta in
-    let few : (key : List ℕ) → sum_by (has_count key) new ≤ 1 = λ key.
-    let same : sum_by (has_count key) new ≡ sum_by (has_count key) old = sum_by-IsPermutation (has_count key) old new moved in
-    let most : sum_by (has_count key) old ≤ 1 = count_few key old (subst AreApart (sym old_stored) apart) in
-    omega arith in
+    let distinct : IsDistinct share_key new =
+    IsDistinct-IsPermutation share_key share_flips old new moved (told_distinct old (subst AreApart (sym old_stored) apart)) in
     let same : IsPermutation new (ranked image meta) =
     IsPermutation-trans new old (ranked image meta) (IsPermutation-sym old new moved)
     (subst (λ ts. IsPermutation ts (ranked image meta)) (sym old_told) (IsPermutation-map (told image) pairs (by_key pairs) (by_key_moved pairs))) in
-    one_rising told_key new (ranked image meta) (sorted_rising new sorted few) (told_rising image (by_key pairs) (by_key_rising pairs apart))
+    one_rising told_key new (ranked image meta) (sorted_rising new sorted distinct) (told_rising image (by_key pairs) (by_key_rising pairs apart))
     (λ t at. Contains-permutation new (ranked image meta) t same at)
     (λ t at. Contains-permutation (ranked image meta) new t (IsPermutation-sym new (ranked image meta) same) at)
 

@@ -19,7 +19,7 @@ use Rattle.bdb_format.specs.Page.{BtreeFields, Page}
 use Rattle.bdb_format.specs.Table.{Row, ◌:?◌}
 use Rattle.bdb_format.specs.Verdict.{by_page, holding, first_fault}
 use Rattle.bdb_format.proofs.MemberLemmas.{first_member, later_member, member_cases, no_member, of_filter}
-use Rattle.bdb_format.proofs.VerdictLemmas.{IsOfStage, LeastFirst, by_page_first, holding_least, in_by_page, of_by_page}
+use Rattle.bdb_format.proofs.VerdictLemmas.{LeastFirst, by_page_first, holding_least, in_by_page, of_by_page}
 use Rattle.bdb_format.specs.Flags.{is_fixed, is_recno}
 use Rattle.bdb_recno.specs.Counts.{HasRightCounts}
 use Rattle.bdb_recno.specs.Noted.{faults_on, noted, noted_all, count_faults}
@@ -142,18 +142,16 @@ holds_noted file meta fault at =
     let count_row : Bool = is_wrong_at file (has_wrong_count file) counts fault.page in
     let length_row : Bool = is_wrong_at file (has_wrong_record file meta) lengths fault.page in
     let long : List Fault = faults_on file 7 (has_wrong_record file meta) lengths in
-    let of : IsOfStage 8 0 (0 + (file.last + 1)) (codes_at file meta) fault = of_by_page 8 0 (file.last + 1) (codes_at file meta) fault at in
+    let of = of_by_page 8 0 (file.last + 1) (codes_at file meta) fault at in
     elim (of_two count_row (fixed && length_row) fault.code of.is_code) [
       | inl (six, wrong) ↦
-          let parts : Contains counts fault.page × (has_wrong_count file (page_at file fault.page) ≡ true) =
-          of_wrong_at file (has_wrong_count file) counts fault.page wrong in
+          let parts = of_wrong_at file (has_wrong_count file) counts fault.page wrong in
           Contains-append_left (count_faults file counts) (cond fixed long []) fault
           (subst (Contains (count_faults file counts)) (same_fault fault 6 of.same_stage six)
           (in_faults_on file 6 (has_wrong_count file) counts fault.page parts.0 parts.1))
       | inr (seven, wrong) ↦
           let flags : (fixed ≡ true) × (length_row ≡ true) = and_parts fixed length_row wrong in
-          let parts : Contains lengths fault.page × (has_wrong_record file meta (page_at file fault.page) ≡ true) =
-          of_wrong_at file (has_wrong_record file meta) lengths fault.page flags.1 in
+          let parts = of_wrong_at file (has_wrong_record file meta) lengths fault.page flags.1 in
           let there : Contains long fault =
           subst (Contains long) (same_fault fault 7 of.same_stage seven)
           (in_faults_on file 7 (has_wrong_record file meta) lengths fault.page parts.0 parts.1) in

@@ -49,8 +49,7 @@ leaf_by_bytes order number bytes page long short none is =
     → IsFormedLeaf order bytes page) [
       | true ↦ λ _ same. absurd cc
       | false ↦ λ passed same.
-          let as_leaf : (page_type byte ≡ RecnoLeafPage) × (page ≡ listed order bytes (leaf_item_at order bytes)) =
-          leaf_type order bytes (page_type byte) page (sym same) in
+          let as_leaf = leaf_type order bytes (page_type byte) page (sym same) in
           record {
             list = record {
               size = short;

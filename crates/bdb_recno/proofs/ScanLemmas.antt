@@ -61,8 +61,7 @@ few_records image root forest is recno =
     let file : File = file_of image in
     let size : ℕ = (head_of image).page_size in
     let pages : List ℕ = leaves file root in
-    let halves : 2 * length (entries_on file pages) ≤ length pages * size =
-    entries_few image pages forest (λ p at. leaves_recno image root p forest recno at) in
+    let halves = entries_few image pages forest (λ p at. leaves_recno image root p forest recno at) in
     let all : length pages * size ≤ file.count * size = mul-le-mul_right size (few_leaves image root forest is) in
     let bytes : file.count * size ≤ 2 ^ 30 = few_bytes image forest in
     let same : length (tree_entries file root) ≡ length (entries_on file pages) = ap length (entries_are file root) in

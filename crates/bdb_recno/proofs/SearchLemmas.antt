@@ -131,8 +131,7 @@ pub count_leads : (file : File) (items : List RecnoItem) (place : ℕ) → list_
     → LeadsTo file items place (child_by_count items place)
 count_leads file [] place right = refl
 count_leads file (item ∷ items) place right =
-    let parts : (miscounts file item ≡ false) × (list_any (miscounts file) items ≡ false) =
-    or_parts (miscounts file item) (list_any (miscounts file) items) right in
+    let parts = or_parts (miscounts file item) (list_any (miscounts file) items) right in
     let count : item.count ≡ length (tree_entries file item.child) =
     eqb-true item.count (length (tree_entries file item.child)) (not-false _ parts.0) in
     elim (nat_lt place item.count) as (λ b. nat_lt place item.count ≡ b
@@ -174,42 +173,36 @@ pub record IsOnTheWay (file : File) (root place page left : ℕ) : Type 0 where
   pub counts : HasRightCounts file page
   pub same : slice_get (tree_entries file page) left ≡ slice_get (tree_entries file root) place
 
+-- what the items of a page on the way lead to
+way_leads : (image : List ℕ) (root place page left : ℕ) (inner : Listed RecnoItem) (found : Option (ℕ × ℕ)) → IsForest image
+    → IsOnTheWay (file_of image) root place page left → RecnoInternal inner ≡ page_at (file_of image) page
+    → found ≡ child_by_count inner.items left → LeadsTo (file_of image) inner.items left found
+way_leads image root place page left inner found forest way is same =
+    subst (LeadsTo (file_of image) inner.items left) (sym same)
+    (count_leads (file_of image) inner.items left (own_counts image page inner forest way.recno (sym is) way.counts))
+
+-- the child is on the way too, and a level below
 pub way_down : (image : List ℕ) (root place page left child below : ℕ) (inner : Listed RecnoItem) → IsForest image
     → IsOnTheWay (file_of image) root place page left → RecnoInternal inner ≡ page_at (file_of image) page
     → Some (child, below) ≡ child_by_count inner.items left → IsOnTheWay (file_of image) root place child below
+    × ((header_in (page_at (file_of image) child)).level + 1 ≡ (header_in (page_at (file_of image) page)).level)
 way_down image root place page left child below inner forest way is found =
-    let file : File = file_of image in
-    let leads : LeadsTo file inner.items left (Some (child, below)) =
-    subst (LeadsTo file inner.items left) (sym found)
-    (count_leads file inner.items left (own_counts image page inner forest way.recno (sym is) way.counts)) in
-    record {
-      recno = child_recno image page inner child forest (sym is) leads.0;
-      counts = child_counts image page child inner forest (sym is) leads.0 way.counts;
-      same = sym leads.1 ∙ (ap (λ entries. slice_get entries left) (sym (entries_below image page inner forest (sym is))) ∙ way.same);
-    }
-
--- the child is a level below
-pub way_falls : (image : List ℕ) (root place page left child below : ℕ) (inner : Listed RecnoItem) → IsForest image
-    → IsOnTheWay (file_of image) root place page left → RecnoInternal inner ≡ page_at (file_of image) page
-    → Some (child, below) ≡ child_by_count inner.items left
-    → (header_in (page_at (file_of image) child)).level + 1 ≡ (header_in (page_at (file_of image) page)).level
-way_falls image root place page left child below inner forest way is found =
-    let file : File = file_of image in
-    let leads : LeadsTo file inner.items left (Some (child, below)) =
-    subst (LeadsTo file inner.items left) (sym found)
-    (count_leads file inner.items left (own_counts image page inner forest way.recno (sym is) way.counts)) in
-    (child_of image page inner child forest (sym is) leads.0).level
+    let leads = way_leads image root place page left inner (Some (child, below)) forest way is found in (
+      record {
+        recno = child_recno image page inner child forest (sym is) leads.0;
+        counts = child_counts image page child inner forest (sym is) leads.0 way.counts;
+        same = sym leads.1 ∙ (ap (λ entries. slice_get entries left) (sym (entries_below image page inner forest (sym is))) ∙ way.same);
+      },
+      (child_of image page inner child forest (sym is) leads.0).level,
+    )
 
 -- no child has the entry
 pub way_ends : (image : List ℕ) (root place page left : ℕ) (inner : Listed RecnoItem) → IsForest image
     → IsOnTheWay (file_of image) root place page left → RecnoInternal inner ≡ page_at (file_of image) page
     → None ≡ child_by_count inner.items left → None ≡ slice_get (tree_entries (file_of image) root) place
 way_ends image root place page left inner forest way is found =
-    let file : File = file_of image in
-    let leads : LeadsTo file inner.items left None =
-    subst (LeadsTo file inner.items left) (sym found)
-    (count_leads file inner.items left (own_counts image page inner forest way.recno (sym is) way.counts)) in
-    sym leads ∙ (ap (λ entries. slice_get entries left) (sym (entries_below image page inner forest (sym is))) ∙ way.same)
+    sym (way_leads image root place page left inner None forest way is found)
+    ∙ (ap (λ entries. slice_get entries left) (sym (entries_below image page inner forest (sym is))) ∙ way.same)
 
 -- the leaf that has the entry
 pub way_leaf : (image : List ℕ) (root place page left : ℕ) (leaf : Listed Item) (found : Option Item) → IsForest image

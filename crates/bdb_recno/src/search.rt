@@ -16,6 +16,7 @@ use bdb_layout::LeafItem;
 use std::sync::ledger::Ledger;
 
 /// By the counts of an internal page, the child below which the entry at a place stands, from 0, and its place there.
+#[tactic(auto, using(crate::proofs::SearchLemmas::count_here, crate::proofs::SearchLemmas::count_later))]
 fn child_by_count(page: &RecnoInternalView<'_>, place: u32) -> Option<(u32, u32)>
     ensures { result ≡ child_by_count page.now.items place }
 {
@@ -41,6 +42,7 @@ fn entry_of<'a>(leaf: &RecnoLeafView<'a>, place: u32) -> Option<LeafItem<'a>>
 }
 
 /// The entry at a place among all below a page, from 0: a step for each page from there down to a leaf.
+#[tactic(auto, using(crate::proofs::SearchLemmas::some_level, crate::proofs::SearchLemmas::way_leaf))]
 pub(crate) fn entry_below<'a, L: Ledger>(
     forest: &Forest<'a>,
     root: u32,

@@ -1,18 +1,12 @@
-use Rattle.std.proofs.Common.{sym, subst}
-use Rattle.bdb_format.specs.declared.pages.Header.{Header}
-use Rattle.std.specs.List.{AllByRecursion}
-use Rattle.bdb_hash.specs.Places.{IsGiven}
-use Rattle.bdb_hash.specs.Views.{IsOnWay}
+use Rattle.std.proofs.Common.{sym}
 use Rattle.bdb_hash.proofs.BucketLemmas.{after_hash}
 use Rattle.bdb_hash.proofs.PairLemmas.{all_given}
 use Rattle.bdb_hash.proofs.pairs.page_pairs.Goals as goal
 
 pub over-requires : goal.over-requires
-over-requires c =
-    subst (AllByRecursion (IsGiven c.args.forest.now c.args.page)) (sym c.iter.ensures)
+over-requires c = rw c.iter.ensures
     (all_given c.args.forest.now c.args.page c.in-Hash.view c.requires.table c.requires.bucket.inside (sym c.in-Hash.ensures.page))
 
 pub returns-in-Hash-clause-way : goal.returns-in-Hash-clause-way
-returns-in-Hash-clause-way c =
-    subst (λ (header : Header). IsOnWay c.args.forest.now header.next) (sym c.header-next.ensures)
+returns-in-Hash-clause-way c = rw c.header-next.ensures
     (after_hash c.args.forest.now c.args.page c.in-Hash.view c.requires.table c.requires.bucket.inside (sym c.in-Hash.ensures.page))

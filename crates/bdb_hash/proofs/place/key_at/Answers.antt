@@ -1,6 +1,5 @@
-use Rattle.std.proofs.Common.{◌≡◌, ◌*◌, arith, ap, sym, ◌∙◌}
+use Rattle.std.proofs.Common.{◌*◌, arith, ap, sym}
 use Rattle.bdb_format.specs.declared.metadata.Head.{Head}
-use Rattle.bdb_format.specs.File.{file_of}
 use Rattle.bdb_graph.proofs.HeldLemmas.{last_page}
 use Rattle.bdb_overflow.specs.Datum.{datum_seen}
 use Rattle.bdb_hash.proofs.PairLemmas.{item_fits}
@@ -9,27 +8,18 @@ use Rattle.bdb_hash.proofs.place.key_at.Goals as goal
 
 pub returns-then-place-head : goal.returns-then-place-head
 returns-then-place-head c =
-    let last : c.head.result.last ≡ (file_of c.args.forest.now).last =
-    ap (λ (h : Head). h.last) c.head.ensures.head ∙ sym (last_page c.args.forest.now) in
-    no_page c.args.forest.now c.args.place.now (omega (arith, last))
+    no_page c.args.forest.now c.args.place.now (omega (arith, ap (λ (h : Head). h.last) c.head.ensures.head, last_page c.args.forest.now))
 
 pub page-requires : goal.page-requires
-page-requires c =
-    let last : c.head.result.last ≡ (file_of c.args.forest.now).last =
-    ap (λ (h : Head). h.last) c.head.ensures.head ∙ sym (last_page c.args.forest.now) in
-    omega (arith, last)
+page-requires c = omega (arith, ap (λ (h : Head). h.last) c.head.ensures.head, last_page c.args.forest.now)
 
 pub key_of-requires : goal.key_of-requires
 key_of-requires c =
-    let last : c.head.result.last ≡ (file_of c.args.forest.now).last =
-    ap (λ (h : Head). h.last) c.head.ensures.head ∙ sym (last_page c.args.forest.now) in
-    item_fits c.args.forest.now c.args.place.now.page (2 * c.args.place.now.index) c.in-Hash.view c.key.result c.requires (omega (arith, last))
-    (sym c.in-Hash.ensures.page) c.key.ensures
+    item_fits c.args.forest.now c.args.place.now.page (2 * c.args.place.now.index) c.in-Hash.view c.key.result c.requires
+    (omega (arith, ap (λ (h : Head). h.last) c.head.ensures.head, last_page c.args.forest.now)) (sym c.in-Hash.ensures.page) c.key.ensures
 
 pub returns-in-Hash : goal.returns-in-Hash
 returns-in-Hash c =
-    let last : c.head.result.last ≡ (file_of c.args.forest.now).last =
-    ap (λ (h : Head). h.last) c.head.ensures.head ∙ sym (last_page c.args.forest.now) in
-    key_here c.args.forest.now c.args.place.now c.in-Hash.view c.key.result (datum_seen c.key_of.result) (omega (arith, last))
-    (sym c.in-Hash.ensures.page)
+    key_here c.args.forest.now c.args.place.now c.in-Hash.view c.key.result (datum_seen c.key_of.result)
+    (omega (arith, ap (λ (h : Head). h.last) c.head.ensures.head, last_page c.args.forest.now)) (sym c.in-Hash.ensures.page)
     (omega (arith, c.pairs.ensures)) c.key.ensures c.key_of.ensures
