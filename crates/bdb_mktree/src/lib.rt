@@ -1,6 +1,7 @@
 //! Trees that are built from units which come one by one, or from a list.
 #![tactic(auto)]
 
+mod build;
 mod builder;
 mod unit;
 
