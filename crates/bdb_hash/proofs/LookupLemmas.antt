@@ -260,7 +260,8 @@ first_under image key (pair ∷ pairs) plain apart =
       | true ↦ λ own.
           ap (λ vs. vs ++ flat_map (under file key) pairs) (under_own file key pair (plain pair (first_member pair pairs)).live own)
           ∙ (ap (λ vs. data_of file pair.data_item ++ vs)
-          (all_empty (under file key) pairs (λ other at. under_other file key other (same_key pair.key other.key key (apart.0 other at) own))) ∙ append-nil
+          (all_empty (under file key) pairs (λ other at.
+          under_other file key other (same_key pair.key other.key key (apart.0 other at) own))) ∙ append-nil
           (data_of file pair.data_item))
       | false ↦ λ other.
           ap (λ vs. vs ++ flat_map (under file key) pairs) (under_other file key pair other) ∙ first_under image key pairs
@@ -278,7 +279,8 @@ list_found image meta key b found table has none is few same =
     let file : File = file_of image in
     let listed : Contains (buckets_of meta) b = in_range 0 (meta.max_bucket + 1) b (omega arith) (omega arith) in
     let others : (c : ℕ) → Contains (buckets_of meta) c → (c ≡ b → ⊥) → flat_map (under file key) (bucket_pairs file meta c) ≡ [] =
-    λ c at_c apart. all_empty (under file key) (bucket_pairs file meta c) (λ pair at. under_other file key pair (not_true (bytes_eq pair.key key) (λ own.
+    λ c at_c apart. all_empty (under file key) (bucket_pairs file meta c) (λ pair at. under_other file key pair
+    (not_true (bytes_eq pair.key key) (λ own.
     apart (sym (own_bucket image meta c pair table has none at_c at) ∙ (ap (bucket_of_key meta) (eq_same pair.key key own) ∙ sym is))))) in
     sym
     (list_under file meta key
