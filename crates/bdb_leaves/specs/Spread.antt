@@ -1,6 +1,6 @@
 -- How many pages a tree has: units are spread over leaves by what they take, each level over the pages below it, and long values have chains.
 -- Source: docs/FORMAT.md, "Built trees" and "Stored values".
-use Rattle.std.specs.Prelude.{ℕ, suc, ◌+◌, ◌-◌, ◌*◌, ◌/◌, nat_le, if◌then◌else◌, Bool, List, [], ◌∷◌, ◌++◌, length, map}
+use Rattle.std.specs.Prelude.{ℕ, zero, suc, ◌+◌, ◌-◌, ◌*◌, ◌/◌, nat_le, if◌then◌else◌, Bool, false, List, [], ◌∷◌, ◌++◌, length, map}
 use Rattle.std.specs.List.{sum_by}
 use Rattle.bdb_format.specs.Numbers.{pad4}
 use Rattle.bdb_levels.specs.declared.inner_type.InnerType.{InnerType}
@@ -14,10 +14,10 @@ use Rattle.bdb_leaves.specs.declared.leaf_type.LeafType.{LeafType}
 -- Things are put on pages from left to right. The open page has so many bytes left: where they are enough for what the next thing takes, it is put
 -- there; else it begins a page, of which it takes `first` bytes.
 abbrev pub spread_on : {A : Type 0} → ℕ → (A → ℕ) → (A → ℕ) → ℕ → List A → List A → List (List A)
-spread_on room first cost left open [] = open ∷ []
-spread_on room first cost left open (x ∷ xs) =
-    if nat_le (cost x) left then spread_on room first cost (left - cost x) (open ++ (x ∷ [])) xs
-    else open ∷ spread_on room first cost (room - first x) (x ∷ []) xs
+spread_on room first cost left page [] = page ∷ []
+spread_on room first cost left page (x ∷ xs) =
+    if nat_le (cost x) left then spread_on room first cost (left - cost x) (page ++ (x ∷ [])) xs
+    else page ∷ spread_on room first cost (room - first x) (x ∷ []) xs
 
 -- Leaves.
 
@@ -51,7 +51,7 @@ spread_items room first (cost ∷ costs) = spread_on room (λ (c : ℕ). first) 
 -- how many pages stand over pages whose items take so much: levels up to one of a single page. The item over a page takes what its first one
 -- would beside others, since both have the same key. There are fewer levels than pages.
 abbrev pub pages_over : ℕ → ℕ → ℕ → List ℕ → ℕ
-pages_over 0 room first costs = 0
+pages_over zero room first costs = 0
 pages_over (suc most) room first costs =
     if nat_le (length costs) 1 then 0
     else
