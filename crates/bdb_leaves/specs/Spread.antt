@@ -1,6 +1,6 @@
 -- How many pages a tree has: units are spread over leaves by what they take, each level over the pages below it, and long values have chains.
 -- Source: docs/FORMAT.md, "Built trees" and "Stored values".
-use Rattle.std.specs.Prelude.{ℕ, zero, suc, ◌+◌, ◌-◌, ◌*◌, ◌/◌, nat_le, if◌then◌else◌, Bool, false, List, [], ◌∷◌, ◌++◌, length, map}
+use Rattle.std.specs.Prelude.{ℕ, zero, suc, ◌+◌, ◌-◌, ◌/◌, nat_le, if◌then◌else◌, Bool, false, List, [], ◌∷◌, ◌++◌, length, map}
 use Rattle.std.specs.List.{sum_by}
 use Rattle.bdb_format.specs.Numbers.{pad4}
 use Rattle.bdb_levels.specs.declared.inner_type.InnerType.{InnerType}
@@ -8,7 +8,7 @@ use Rattle.bdb_levels.specs.declared.inner_type.InnerType.TheVariants.{Keyed, Nu
 use Rattle.bdb_leaves.specs.Inner.{first_cost}
 use Rattle.bdb_leaves.specs.Laid.{inner_of}
 use Rattle.bdb_leaves.specs.Sets.{set_type}
-use Rattle.bdb_leaves.specs.Units.{TreeUnit, KeyedUnit, EntryUnit, has_own_tree, unit_cost, value_cost}
+use Rattle.bdb_leaves.specs.Units.{TreeUnit, KeyedUnit, EntryUnit, has_own_tree, unit_cost}
 use Rattle.bdb_leaves.specs.declared.leaf_type.LeafType.{LeafType}
 
 -- Things are put on pages from left to right. The open page has so many bytes left: where they are enough for what the next thing takes, it is put
