@@ -1,5 +1,6 @@
 -- Levels of which the last page, the root, is placed on an earlier one.
-use Rattle.std.proofs.Common.{◌≡◌, ℕ, zero, suc, ◌-◌, ◌<◌, ◌≤◌, ◌&&◌, not, Bool, true, List, [], length, replicate, arith, refl, sym, ◌∙◌, ap, subst, length-take}
+use Rattle.std.proofs.Common.{◌≡◌, ℕ, zero, suc, ◌-◌, ◌<◌, ◌≤◌, ◌&&◌, not, Bool, true, List, [], length, replicate}
+use Rattle.std.proofs.Common.{arith, refl, sym, ◌∙◌, ap, subst, length-take}
 use Rattle.std.specs.List.{Contains, flat_map, range_with_len}
 use Rattle.std.proofs.lemmas.Bool.{and_parts, eqb-false, ne_eqb, not-true}
 use Rattle.std.proofs.lemmas.List.{get_or-take}

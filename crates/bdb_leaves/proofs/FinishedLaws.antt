@@ -1,5 +1,6 @@
 -- Filled leaves with levels over them, of which the root stands where the first leaf stood, are a tree that is laid.
-use Rattle.std.proofs.Common.{◌≡◌, ℕ, suc, ◌+◌, ◌-◌, ◌<◌, ◌≤◌, Bool, true, false, List, [], ◌∷◌, ◌++◌, length, map, drop, arith, refl, sym, ◌∙◌, ap, subst, inl, inr, true≢false}
+use Rattle.std.proofs.Common.{◌≡◌, ℕ, suc, ◌+◌, ◌-◌, ◌<◌, ◌≤◌, Bool, true, false, List, [], ◌∷◌, ◌++◌, length, map, drop}
+use Rattle.std.proofs.Common.{arith, refl, sym, ◌∙◌, ap, subst, inl, inr, true≢false}
 use Rattle.std.specs.Prelude.{◌||◌}
 use Rattle.std.specs.List.{All, Contains, flat_map, range_with_len}
 use Rattle.std.proofs.lemmas.Bool.{cases_Bool, cases_eq, cases_lt, false_from_ne_true, or_left, or_right}
@@ -32,6 +33,7 @@ use Rattle.bdb_leaves.specs.declared.leaf_type.LeafType.{LeafType}
 use Rattle.bdb_leaves.proofs.FinishLemmas.{but_are, is_but, pages_but}
 use Rattle.bdb_leaves.proofs.FinishedLemmas.{first_two, moved_from, moved_pages, others_of}
 use Rattle.bdb_leaves.proofs.GrownLemmas.{all_joined, as_many, ascend_above, contents_held, heads_among, laid_leaves, pages_named, rise_on, zip_all, zip_pages}
+use Rattle.bdb_leaves.proofs.GrownLemmas.{}
 use Rattle.bdb_leaves.proofs.LaterLemmas.{later_chain, later_fewer}
 use Rattle.bdb_leaves.proofs.NumberedLemmas.{AreNumbered, are_numbered}
 use Rattle.bdb_leaves.proofs.RestLemmas.{is_one, is_rest, rest_is}

@@ -51,7 +51,8 @@ zip_pages [] groups many = refl
 zip_pages (p ∷ ps) [] many = absurd (omega (arith, many))
 zip_pages (p ∷ ps) (units ∷ groups) many = ap (λ qs. p ∷ qs) (zip_pages ps groups (omega (arith, many)))
 
-pub zip_groups : (ps : List ℕ) (groups : List (List Placed)) → length ps ≡ length groups → map (λ (leaf : LeafUnits). leaf.units) (zip_units ps groups) ≡ groups
+pub zip_groups : (ps : List ℕ) (groups : List (List Placed)) → length ps ≡ length groups
+    → map (λ (leaf : LeafUnits). leaf.units) (zip_units ps groups) ≡ groups
 zip_groups [] [] many = refl
 zip_groups [] (units ∷ groups) many = absurd (omega (arith, many))
 zip_groups (p ∷ ps) [] many = absurd (omega (arith, many))

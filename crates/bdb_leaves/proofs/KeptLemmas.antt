@@ -1,5 +1,6 @@
 -- What a finished tree leaves of the pages: those since its leaves were begun have no row of form, and older ones stay.
-use Rattle.std.proofs.Common.{◌≡◌, ℕ, ◌<◌, ◌≤◌, List, [], ◌∷◌, ◌++◌, drop, length, map, false, None, arith, refl, sym, ◌∙◌, ap, subst, inl, inr, true≢false}
+use Rattle.std.proofs.Common.{◌≡◌, ℕ, ◌<◌, ◌≤◌, List, [], ◌∷◌, ◌++◌, drop, length, map, false, None}
+use Rattle.std.proofs.Common.{arith, refl, sym, ◌∙◌, ap, subst, inl, inr, true≢false}
 use Rattle.std.specs.List.{All, AllZip, Contains, flat_map}
 use Rattle.std.proofs.lemmas.Bool.{cases_Bool, cases_eq, cases_lt}
 use Rattle.std.proofs.lemmas.List.Elements.{All-head, All-tail}
@@ -54,6 +55,7 @@ stand_so_far leaves built before closed units filled =
     let there = filled.hold.there in
     filled.stands (file_so_far built) (counted_so_far built (omega (arith, there))) (later_self built (rest_of before leaves built))
 
+-- those of each leaf do
 units_stand : (leaves : Leaves) (built : Built) (before : ℕ) (closed : List (List Placed)) (units : List Placed)
     → AreFilled leaves built before closed units
     → All (All (StandsPlaced leaves.leaf_type (file_so_far built))) (closed ++ (units ∷ []))
@@ -66,13 +68,13 @@ units_stand leaves built before closed units filled =
 filled_formed : (leaves : Leaves) (built : Built) (before : ℕ) (closed : List (List Placed)) (units : List Placed)
     → AreFilled leaves built before closed units → (p : ℕ) → before ≤ p → p < length built.pages → page_code built.order p (bytes_of built p) ≡ None
 filled_formed leaves built before closed units filled p low high =
-    let g : File = file_so_far built in
     let type : LeafType = leaves.leaf_type in
     let groups : List (List Placed) = closed ++ (units ∷ []) in
+    let known : AreNumbered leaves built before closed units = are_numbered leaves built before closed units filled in
     elim (cases_Bool (is_of (numbers_of leaves) p)) [
       | inl leaf ↦
-          leaf_formed type built 0 (numbers_of leaves) groups 0 g
-          (any_order type built 0 (numbers_of leaves) (map (flat_map entries_of) groups) 0 (are_numbered leaves built before closed units filled).from)
+          leaf_formed type built 0 (numbers_of leaves) groups 0 (file_so_far built)
+          (any_order type built 0 (numbers_of leaves) (map (flat_map entries_of) groups) 0 known.from)
           (units_stand leaves built before closed units filled) p (of_list (numbers_of leaves) p leaf)
       | inr none ↦ filled.formed p (is_rest before (length built.pages) (numbers_of leaves) p low high none)
     ]
@@ -111,7 +113,8 @@ moved_formed leaves next old mid before closed units filled several moved p low 
           λ e. absent (later_member m (others_of leaves) p
           (subst (Contains (others_of leaves)) (sym e) (first_member (second_leaf leaves) (drop 2 (numbers_of leaves))))) in
           ap (λ o. page_code o p (bytes_of mid p)) moved.order
-          ∙ (ap (page_code old.order p) (moved.same p under other no_second) ∙ filled.formed p (is_rest before m (numbers_of leaves) p low under no_leaf))
+          ∙ (ap (page_code old.order p) (moved.same p under other no_second)
+          ∙ filled.formed p (is_rest before m (numbers_of leaves) p low under no_leaf))
     ]
 
 pub finished_trees_are_formed : FinishedTreesAreFormed

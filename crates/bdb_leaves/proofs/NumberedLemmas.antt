@@ -1,5 +1,6 @@
 -- Filled leaves with their numbers, and a tree that is one of them.
-use Rattle.std.proofs.Common.{◌≡◌, ℕ, ◌<◌, ◌≤◌, Bool, true, false, List, [], ◌∷◌, ◌++◌, length, map, arith, refl, sym, ◌∙◌, ap, subst, inl, inr, true≢false, append-nil}
+use Rattle.std.proofs.Common.{◌≡◌, ℕ, ◌<◌, ◌≤◌, Bool, true, false, List, [], ◌∷◌, ◌++◌, length, map}
+use Rattle.std.proofs.Common.{arith, refl, sym, ◌∙◌, ap, subst, inl, inr, true≢false, append-nil}
 use Rattle.std.specs.Prelude.{◌||◌}
 use Rattle.std.specs.List.{All, AllZip, Contains, flat_map}
 use Rattle.std.proofs.lemmas.Bool.{cases_Bool, false_from_ne_true, or_left, or_right}
@@ -71,7 +72,8 @@ are_numbered leaves old before closed units filled =
         (any_order leaves.leaf_type old 0 (numbers_of leaves) (map (flat_map entries_of) groups) 0 from)
 
 -- what all units hold is what the leaves do
-contents_on : (leaves : Leaves) (old : Built) (before : ℕ) (closed : List (List Placed)) (units : List Placed) → AreNumbered leaves old before closed units
+contents_on : (leaves : Leaves) (old : Built) (before : ℕ) (closed : List (List Placed)) (units : List Placed)
+    → AreNumbered leaves old before closed units
     → all_contents leaves.leaf_type closed units
     ≡ flat_map (λ (leaf : LeafUnits). contents_of leaves.leaf_type (entries_on leaf)) (placed_on leaves closed units)
 contents_on leaves old before closed units known =

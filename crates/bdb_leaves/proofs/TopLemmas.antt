@@ -1,5 +1,6 @@
 -- The last level of a tree, and its root.
-use Rattle.std.proofs.Common.{◌≡◌, ◌⊎◌, ℕ, ◌+◌, ◌-◌, ◌<◌, ◌≤◌, Bool, true, List, [], ◌∷◌, ◌++◌, length, get_or, arith, refl, sym, ◌∙◌, ap, subst, inl, inr, length-take}
+use Rattle.std.proofs.Common.{◌≡◌, ◌⊎◌, ℕ, ◌+◌, ◌-◌, ◌<◌, ◌≤◌, Bool, true, List, [], ◌∷◌, ◌++◌, length, get_or}
+use Rattle.std.proofs.Common.{arith, refl, sym, ◌∙◌, ap, subst, inl, inr, length-take}
 use Rattle.std.specs.List.{Contains, flat_map, range_with_len}
 use Rattle.std.proofs.lemmas.List.{append-nil, get_or-take}
 use Rattle.bdb_format.specs.File.{header_in, page_at}
@@ -49,7 +50,8 @@ top_last inner old now nodes above top one =
     let is = (by.pages 0 under).page_is in
     record { is = omega (arith, is); last = omega (arith, is, count, many, one); low = omega (arith, is, grows) }
 
-only_group : (groups : List (List Node)) (nodes : List Node) → length groups ≡ 1 → flat_map (λ group. group) groups ≡ nodes → get_or groups 0 [] ≡ nodes
+only_group : (groups : List (List Node)) (nodes : List Node) → length groups ≡ 1 → flat_map (λ group. group) groups ≡ nodes
+    → get_or groups 0 [] ≡ nodes
 only_group [] nodes one joined = absurd (omega (arith, one))
 only_group (group ∷ []) nodes one joined = sym (append-nil group) ∙ joined
 only_group (group ∷ other ∷ groups) nodes one joined = absurd (omega (arith, one))
@@ -117,7 +119,8 @@ ends_in_root inner old now nodes children above are top one =
           let root_node : Node = node_over p group in
           let before : IsLater (pages_under pages n) (file_so_far was) g =
           later_chain (file_so_far was) (file_so_far fewer) g (pages_under pages n)
-          (was_later inner (level + 1) was now above built.top (pages_under pages n) laid (omega (arith, end, is)) (λ q at. (under_are pages n q at).1))
+          (was_later inner (level + 1) was now above built.top (pages_under pages n) laid (omega (arith, end, is))
+          (λ q at. (under_are pages n q at).1))
           (later_fewer (file_so_far fewer) g (pages_under pages n) pages (λ q at. (under_are pages n q at).0) later) in
           let two : (h : ℕ) → Contains (heads_under inner group) h → 2 ≤ (header_in (page_at g h)).entries =
           λ h at.

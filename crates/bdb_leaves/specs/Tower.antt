@@ -15,8 +15,8 @@ use Rattle.bdb_leaves.specs.Levels.{heads_of, node_over}
 abbrev pub levels_to : List (List Node) → Node → List (List Node)
 levels_to levels top = levels ++ ((top ∷ []) ∷ [])
 
--- Of levels over two nodes or more the root is the last page. It holds the nodes of the level below it, and the levels stand in each later file of the
--- others where any page holds these.
+-- Of levels over two nodes or more the root is the last page. It holds the nodes of the level below it. The levels stand in each later file of the
+-- other pages where any page holds these.
 pub record EndsInRoot (inner : InnerType) (old new : Built) (nodes : List Node) (root : ℕ) : Type 0 where
   pub levels : List (List Node)
   pub below : List Node
