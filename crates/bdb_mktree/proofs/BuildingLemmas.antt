@@ -16,7 +16,7 @@ use Rattle.bdb_leaves.specs.Filled.{AreFilled, FilledNow, IsPushed, rest_of}
 use Rattle.bdb_leaves.specs.Laid.{AreLaid}
 use Rattle.bdb_leaves.specs.Leaves.{KeepsOthers, LeavesFrom, first_of, has_room}
 use Rattle.bdb_leaves.specs.Moved.{first_leaf, numbers_of}
-use Rattle.bdb_leaves.specs.Grown.{placed_on}
+use Rattle.bdb_leaves.specs.Rooted.{placed_on}
 use Rattle.bdb_leaves.specs.Placed.{HoldsUnits, LeafUnits, Placed, PlacedEntry, PlacedPairs, PlacedTree, StandsPlaced, entries_of, has_wrong_root, pages_of, unit_of}
 use Rattle.bdb_leaves.specs.Sets.{IsKeyedPushed}
 use Rattle.bdb_leaves.specs.Units.{EntryUnit, TreeUnit, unit_cost, units_on}
@@ -24,7 +24,7 @@ use Rattle.bdb_leaves.specs.declared.leaf_type.LeafType.{LeafType}
 use Rattle.bdb_leaves.specs.declared.leaf_type.LeafType.TheVariants.{Pairs, Records}
 use Rattle.bdb_leaves.specs.declared.leaves.Leaves.{Leaves}
 use Rattle.bdb_leaves.proofs.FilledLemmas.{counted_so_far, later_self}
-use Rattle.bdb_leaves.proofs.GrownLaws.{AreNumbered, are_numbered}
+use Rattle.bdb_leaves.proofs.NumberedLemmas.{AreNumbered, are_numbered}
 use Rattle.bdb_leaves.proofs.GrownLemmas.{all_joined, laid_leaves, map_joined}
 use Rattle.bdb_leaves.proofs.LaidLemmas.{hold_units}
 use Rattle.bdb_leaves.proofs.MovedLemmas.{any_order}
