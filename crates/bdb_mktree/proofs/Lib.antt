@@ -1,3 +1,4 @@
 pub mod BuildingLemmas
+pub mod FinishLemmas
 pub mod ListLemmas
 pub mod PushedLemmas

@@ -1,9 +1,16 @@
 -- Trees that are being built: a builder with its pages, and the units that these hold. Source: docs/FORMAT.md, "Built trees".
-use Rattle.std.specs.Prelude.{◌≡◌, ◌⊎◌, ℕ, ◌<◌, ◌≤◌, IsTrue, false, List, [], ◌∷◌, ◌++◌, length, map}
+use Rattle.std.specs.Prelude.{◌≡◌, ◌⊎◌, ℕ, ◌<◌, ◌≤◌, IsTrue, false, List, [], ◌∷◌, ◌++◌, length, map, None}
 use Rattle.std.specs.List.{All, flat_map}
+use Rattle.bdb_format.specs.declared.metadata.BtreeMeta.{BtreeMeta}
+use Rattle.bdb_format.specs.declared.settings.Settings.{Settings}
+use Rattle.bdb_format.specs.Page.{BtreeFields}
+use Rattle.bdb_format.specs.Rows.{page_code}
 use Rattle.bdb_format.specs.File.{File}
 use Rattle.bdb_format.specs.HeadOf.{is_page_size}
+use Rattle.bdb_format.specs.Lists.{ListKey}
+use Rattle.bdb_format.specs.Databases.{settings_of}
 use Rattle.bdb_grove.specs.Growing.{IsCounted, IsLater}
+use Rattle.bdb_grove.specs.Part.{IsPart, between}
 use Rattle.bdb_pack.specs.Built.{Built, bytes_of, file_so_far}
 use Rattle.bdb_leaves.specs.Filled.{AreFilled, rest_of}
 use Rattle.bdb_leaves.specs.Moved.{first_leaf, numbers_of}
@@ -59,3 +66,13 @@ pub record ArePushed (builder next : TreeBuilder) (old new : Built) (all left : 
 -- none was pushed yet
 abbrev pub CanBePushed : TreeBuilder → Built → List TreeUnit → Type 0
 CanBePushed builder built units = ArePushed builder builder built built units units
+
+-- A tree that was built on the pages from one on: that page is its root, and none has a row of form. In each later file, and for each metadata
+-- that says these settings and names the root, its pages are the part of the database with this list.
+pub record IsTreeBuilt (settings : Settings) (first : ℕ) (old new : Built) (list : List (ListKey × List ℕ)) (root : ℕ) : Type 0 where
+  pub root_is : root ≡ first
+  pub kept : KeepsBefore first old new
+  pub formed : (p : ℕ) → first ≤ p → p < length new.pages → page_code new.order p (bytes_of new p) ≡ None
+  pub part : (g : File) (meta : BtreeMeta) → IsCounted g → IsLater (between first (length new.pages)) (file_so_far new) g
+      → settings_of new.size new.order (BtreeFields meta) ≡ settings → meta.root ≡ root
+      → IsPart g (record { pages = between first (length new.pages); fields = BtreeFields meta; list = list })

@@ -56,3 +56,10 @@ IsNext settings units unit = KeysAscend settings (units ++ (unit ∷ []))
 abbrev pub IsShortUnit : TreeUnit → Type 0
 IsShortUnit (KeyedUnit key values) = IsShort key × All IsShort values
 IsShortUnit (EntryUnit value deleted) = IsShort value
+
+-- the items over leaves say how many pairs or records these have: in a recno, and in a btree that counts its pairs
+abbrev pub is_counted : Kind → Bool → Bool
+is_counted Btree recnum = recnum
+is_counted Recno recnum = true
+is_counted Hash recnum = false
+is_counted Queue recnum = false

@@ -1,7 +1,8 @@
 ghost use Rattle.std.specs.Prelude.{◌≡◌, ◌≤◌, ◌∷◌, ◌++◌, [], IfOk, length};
 ghost use Rattle.bdb_leaves.specs.Moved.{first_leaf};
-ghost use Rattle.bdb_mktree.specs.Building.{Building, KeepsBefore, units_of};
-ghost use Rattle.bdb_mktree.specs.Units.{IsNext, IsShortUnit, IsTreeKind, Suits, leaf_type_of, unit_seen};
+ghost use Rattle.bdb_leaves.specs.Units.{list_of_units};
+ghost use Rattle.bdb_mktree.specs.Building.{Building, IsTreeBuilt, KeepsBefore, units_of};
+ghost use Rattle.bdb_mktree.specs.Units.{IsNext, IsShortUnit, IsTreeKind, Suits, is_counted, leaf_type_of, unit_seen};
 
 use crate::Unit;
 use bdb_format::{Kind, Settings};
@@ -16,6 +17,17 @@ fn leaf_type_of(kind: Kind) -> LeafType
     match kind {
         Kind::Btree | Kind::Hash => LeafType::Pairs,
         Kind::Recno | Kind::Queue => LeafType::Records,
+    }
+}
+
+// Whether the items over its leaves say how many pairs or records these have.
+fn is_counted(kind: Kind, recnum: bool) -> bool
+    ensures { result ≡ is_counted kind recnum }
+{
+    match kind {
+        Kind::Btree => recnum,
+        Kind::Recno => true,
+        Kind::Hash | Kind::Queue => false,
     }
 }
 
@@ -76,5 +88,19 @@ impl TreeBuilder {
             Unit::Entry { value, deleted } => self.leaves.push_entry(pages, value, deleted)?,
         }
         Ok(())
+    }
+
+    /// Lays the levels over the leaves, and answers the root, which is the tree's first page. It is also refused where there are
+    /// 2^21 pages, and where a sum of counts doesn't fit its field.
+    pub fn finish(self, pages: &mut Pages) -> Result<u32, AllocError>
+        requires building { Building self pages.old }
+        ensures { IfOk result (λ root. IsTreeBuilt self.settings (first_leaf self.leaves) pages.old pages.new
+            (list_of_units self.settings.kind (units_of self pages.old)) root) }
+    {
+        // That all pages are whole is known with their size.
+        let _size = pages.size();
+        let counted = is_counted(self.settings.kind, self.settings.recnum);
+        let root = self.leaves.finish(self.alloc, pages, counted)?;
+        Ok(root)
     }
 }
