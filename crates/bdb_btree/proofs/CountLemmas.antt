@@ -65,8 +65,13 @@ pub count_wrong : (file : File) (item : InternalItem) (counts : Counts) → item
     → (nat_lt item.count counts.live || nat_lt counts.all item.count) ≡ is_wrong_count file item
 count_wrong file item counts small are =
     let pairs : List StoredPair = tree_pairs file item.child in
-    rw (are, live_counted pairs no_pairs_counted (omega arith), all_counted pairs no_pairs_counted (omega arith),
-    below_counted item.count (length (live_in pairs)) small, above_counted item.count (length pairs) small) refl
+    rw (
+      are,
+      live_counted pairs no_pairs_counted (omega arith),
+      all_counted pairs no_pairs_counted (omega arith),
+      below_counted item.count (length (live_in pairs)) small,
+      above_counted item.count (length pairs) small,
+    ) refl
 
 -- Items.
 
@@ -74,7 +79,7 @@ pub none_more : {X : Type 0} (test : X → Bool) (items : List X) (i : ℕ) (ite
     → list_any test (take i items) ≡ false → test item ≡ false → list_any test (take (i + 1) items) ≡ false
 none_more test items i item at none fails =
     let found = got items i item item at in
-    ap (list_any test) (take_more items i item found.0 ∙ ap (λ x. take i items ++ (x ∷ [])) found.1) 
+    ap (list_any test) (take_more items i item found.0 ∙ ap (λ x. take i items ++ (x ∷ [])) found.1)
     ∙ (list_any-append test (take i items) (item ∷ []) ∙ or_from _ _ none (or_from _ _ fails refl))
 
 pub some_at : {X : Type 0} (test : X → Bool) (items : List X) (i : ℕ) (item : X) → slice_get items i ≡ Some item → test item ≡ true

@@ -124,5 +124,5 @@ first_free q (pair ∷ pairs) share = share.1
 
 pub tree_shares : (file : File) (root : ℕ) → ShareOnPage (tree_pairs file root)
 unfolding tree_pairs
-tree_shares file root = first_free 0 (flat_map (pairs_of file) (leaves file root)) 
+tree_shares file root = first_free 0 (flat_map (pairs_of file) (leaves file root))
     (pages_share (λ (pair : StoredPair). pair.page) file (λ p. on_page file p (page_at file p)) (leaves file root) 0)
