@@ -79,7 +79,7 @@ both_by_page : (stage from n : ℕ) (f g h : ℕ → List ℕ) → ((p : ℕ) �
 both_by_page stage from n f g h same = record {
   of = λ fault at.
       let is : IsOfStage stage from (from + n) h fault = of_by_page stage from n h fault at in
-      elim (Contains-append_cases (f fault.page) (g fault.page) fault.code (subst (λ codes. Contains codes fault.code) (same fault.page) is.is_code)) [
+      elim (Contains-append_cases (f fault.page) (g fault.page) fault.code (subst (λ cs. Contains cs fault.code) (same fault.page) is.is_code)) [
         | inl code ↦ inl (at_page stage from n h f fault is code)
         | inr code ↦ inr (at_page stage from n h g fault is code)
       ];

@@ -31,7 +31,8 @@ first_of_parts stage xs ys a b left right =
       first = first_of_both xs ys (xs ++ ys) a b both (λ fault other at also. of fault at ∙ sym (of other also)) left.first right.first;
     }
 
-module _ {X : Type 0} (give : X → Option Fault) (faults : X → List Fault) (stage : ℕ) (first : (x : X) → IsFirstOfStage stage (faults x) (give x)) where
+module _ {X : Type 0} (give : X → Option Fault) (faults : X → List Fault) (stage : ℕ)
+    (first : (x : X) → IsFirstOfStage stage (faults x) (give x)) where
   after : (xs : List X) (before : List Fault) (least : Option Fault) → IsFirstOfStage stage before least
       → IsFirstOfStage stage (before ++ flat_map faults xs) (fold (noting give) least xs)
   after [] before least is = subst (λ fs. IsFirstOfStage stage fs least) (sym (append-nil before)) is
