@@ -20,7 +20,7 @@ use Rattle.bdb_btree.specs.Counts.{IsKeyed}
 use Rattle.bdb_btree.specs.Least.{IsLeastPage, sooner}
 use Rattle.bdb_btree.specs.Rows.{has_wrong_order}
 use Rattle.bdb_btree.proofs.InnerLemmas.{inner_pages_keyed}
-use Rattle.bdb_btree.proofs.LeastLemmas.{AreAbove, AreInside, IsFirst, PageRow, first_more, first_of_table, no_rows, rows_at}
+use Rattle.bdb_btree.proofs.LeastLemmas.{AreAbove, AreInside, IsFirst, PageRow, first_more, first_of_table, rows_at}
 use Rattle.bdb_btree.proofs.PairLemmas.{tree_pair}
 use Rattle.bdb_tree.proofs.TreeLemmas.{typed_inside}
 use Rattle.bdb_format.proofs.ListLemmas.{any_member}
@@ -137,7 +137,7 @@ btree_first image meta duplicate wrong_set wrong_order separator unsorted count 
     let first : Option Fault =
     sooner 1 duplicate (sooner 2 wrong_set (sooner 3 wrong_order (sooner 4 separator (sooner 5 unsorted (sooner 6 count None))))) in
     let rises : AreAbove 0 (btree_table file meta) = table_rises file meta in
-    let six = first_more _ [] count None rises.1.1.1.1.1.1 least.count_is no_rows in
+    let six = first_more _ [] count None rises.1.1.1.1.1.1 least.count_is (λ p code holds. holds) in
     let five = first_more _ (from_six file meta) unsorted _ rises.1.1.1.1.1 least.unsorted_is six in
     let four = first_more _ (from_five file meta) separator _ rises.1.1.1.1 least.separator_is five in
     let three = first_more _ (from_four file meta) wrong_order _ rises.1.1.1 least.wrong_order_is four in

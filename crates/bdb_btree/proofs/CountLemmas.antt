@@ -6,7 +6,7 @@ use Rattle.std.specs.List.{All, filter, flat_map, fold, list_any, slice_get}
 use Rattle.std.proofs.lemmas.Bool.{or_from}
 use Rattle.std.proofs.lemmas.Bool.Decides.{nat_tests}
 use Rattle.std.proofs.lemmas.List.{take_all, take_more}
-use Rattle.std.proofs.lemmas.List.Folds.{list_any_at}
+use Rattle.std.proofs.lemmas.List.Folds.{list_any-append, list_any_at}
 use Rattle.std.proofs.lemmas.List.Sums.{fold-append}
 use Rattle.bdb_format.specs.ContentRows.{is_wrong_count}
 use Rattle.bdb_format.specs.Contents.{StoredPair, pairs_of, tree_pairs}
@@ -22,16 +22,17 @@ use Rattle.bdb_format.proofs.TypeLemmas.{of_type}
 
 -- Pairs.
 
-pages_counted : (file : File) (ps : List ℕ) (counts : Counts)
-    → fold (count_page file) counts ps ≡ fold count_pair counts (flat_map (pairs_of file) ps)
-pages_counted file [] counts = refl
-pages_counted file (p ∷ ps) counts =
-    pages_counted file ps (count_page file counts p) ∙ sym (fold-append count_pair counts (pairs_of file p) (flat_map (pairs_of file) ps))
+-- each page's pairs one after another are those of all pages
+pub pages_folded : {S : Type 0} (f : S → StoredPair → S) (file : File) (ps : List ℕ) (s : S)
+    → fold (λ t p. fold f t (pairs_of file p)) s ps ≡ fold f s (flat_map (pairs_of file) ps)
+pages_folded f file [] s = refl
+pages_folded f file (p ∷ ps) s =
+    pages_folded f file ps (fold f s (pairs_of file p)) ∙ sym (fold-append f s (pairs_of file p) (flat_map (pairs_of file) ps))
 
 pub tree_counted : (file : File) (page : ℕ) (counts : Counts) (pages : List ℕ) (i : ℕ) → pages ≡ leaves file page → length pages ≤ i
     → fold (count_page file) counts (take i pages) ≡ fold count_pair counts (tree_pairs file page)
 unfolding tree_pairs
-tree_counted file page counts pages i are end = rw (take_all i pages end, are) (pages_counted file (leaves file page) counts)
+tree_counted file page counts pages i are end = rw (take_all i pages end, are) (pages_folded count_pair file (leaves file page) counts)
 
 abbrev live_in : List StoredPair → List StoredPair
 live_in pairs = filter (λ (pair : StoredPair). pair.live) pairs
@@ -64,24 +65,22 @@ pub count_wrong : (file : File) (item : InternalItem) (counts : Counts) → item
     → (nat_lt item.count counts.live || nat_lt counts.all item.count) ≡ is_wrong_count file item
 count_wrong file item counts small are =
     let pairs : List StoredPair = tree_pairs file item.child in
-    ap (λ (c : Counts). nat_lt item.count c.live || nat_lt c.all item.count) are
-    ∙ (ap (λ n. nat_lt item.count n || nat_lt (fold count_pair no_pairs_counted pairs).all item.count)
-    (live_counted pairs no_pairs_counted (omega arith))
-    ∙ (ap (λ b. b || nat_lt (fold count_pair no_pairs_counted pairs).all item.count) (below_counted item.count (length (live_in pairs)) small)
-    ∙ (ap (λ n. nat_lt item.count (length (live_in pairs)) || nat_lt n item.count) (all_counted pairs no_pairs_counted (omega arith))
-    ∙ ap (λ b. nat_lt item.count (length (live_in pairs)) || b) (above_counted item.count (length pairs) small))))
+    rw (
+      are,
+      live_counted pairs no_pairs_counted (omega arith),
+      all_counted pairs no_pairs_counted (omega arith),
+      below_counted item.count (length (live_in pairs)) small,
+      above_counted item.count (length pairs) small,
+    ) refl
 
 -- Items.
-
-any_append : {X : Type 0} (test : X → Bool) (xs : List X) (x : X) → list_any test xs ≡ false → test x ≡ false → list_any test (xs ++ (x ∷ [])) ≡ false
-any_append test [] x none fails = or_from (test x) false fails refl
-any_append test (y ∷ ys) x none fails = grind (arith, nat_tests, any_append test ys x)
 
 pub none_more : {X : Type 0} (test : X → Bool) (items : List X) (i : ℕ) (item : X) → slice_get items i ≡ Some item
     → list_any test (take i items) ≡ false → test item ≡ false → list_any test (take (i + 1) items) ≡ false
 none_more test items i item at none fails =
     let found = got items i item item at in
-    ap (list_any test) (take_more items i item found.0 ∙ ap (λ x. take i items ++ (x ∷ [])) found.1) ∙ any_append test (take i items) item none fails
+    ap (list_any test) (take_more items i item found.0 ∙ ap (λ x. take i items ++ (x ∷ [])) found.1)
+    ∙ (list_any-append test (take i items) (item ∷ []) ∙ or_from _ _ none (or_from _ _ fails refl))
 
 pub some_at : {X : Type 0} (test : X → Bool) (items : List X) (i : ℕ) (item : X) → slice_get items i ≡ Some item → test item ≡ true
     → true ≡ list_any test items

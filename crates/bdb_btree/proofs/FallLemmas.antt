@@ -1,20 +1,20 @@
 -- Pairs whose keys don't fall: those of a tree where none is out of order, and so those below each of its pages.
-use Rattle.std.proofs.Common.{◌≡◌, ℕ, zero, suc, ◌+◌, ◌*◌, ◌-◌, ◌/◌, ◌<◌, ◌≤◌, true, false, List, [], ◌∷◌, ◌++◌, length, map, get_or, arith, refl}
-use Rattle.std.proofs.Common.{sym, ◌∙◌, ap, subst, inl, inr, true≢false, add-one, Bool, not, Option, Some, None}
+use Rattle.std.proofs.Common.{◌≡◌, ℕ, ◌*◌, ◌-◌, ◌<◌, true, false, List, [], ◌∷◌, ◌++◌, length, map, get_or, arith, refl}
+use Rattle.std.proofs.Common.{sym, ◌∙◌, ap, subst, inl, inr, true≢false, Bool, not, Option, Some, None}
 use Rattle.std.specs.Prelude.{◌==◌, ◌&&◌, slice_index}
-use Rattle.std.specs.List.{flat_map, range_with_len, All, Contains}
+use Rattle.std.specs.List.{flat_map, All, Contains}
 use Rattle.std.proofs.lemmas.Bool.{cases_lt, eq-eqb, eqb-true, false_from_ne_true}
 use Rattle.std.proofs.lemmas.List.{get_or_past}
 use Rattle.bdb_format.specs.declared.kinds.Order.{Order}
-use Rattle.bdb_format.specs.Contents.{StoredPair, pair_at, pairs_in, pairs_of, tree_pairs}
+use Rattle.bdb_format.specs.Contents.{StoredPair, pairs_of, tree_pairs}
 use Rattle.bdb_format.specs.File.{File, file_of, page_at, page_bytes}
 use Rattle.bdb_format.specs.HeadOf.{head_of}
 use Rattle.bdb_format.specs.Chains.{value_of}
 use Rattle.bdb_format.specs.Leaves.{leaves, children_in}
 use Rattle.bdb_format.specs.Numbers.{byte_at}
-use Rattle.bdb_format.specs.Page.{Item, Listed, Page, Zero, Hash, Leaf, NoType, PageType, LeafPage, InternalItem, Internal}
+use Rattle.bdb_format.specs.Page.{Item, Listed, Page, Zero, Leaf, NoType, PageType, LeafPage, InternalItem, Internal}
 use Rattle.bdb_format.specs.Reading.{abstract_page, entries_of, is_zero, leaf_item_at, listed, page_as, page_type}
-use Rattle.bdb_format.specs.References.{is_shared_key, no_item}
+use Rattle.bdb_format.specs.References.{no_item}
 use Rattle.bdb_format.proofs.PageLemmas.{index_offset, length_items}
 use Rattle.bdb_graph.proofs.HeldLemmas.{last_page, page_is}
 use Rattle.bdb_format.proofs.ReferenceLemmas.{pages_counted}
@@ -33,6 +33,8 @@ use Rattle.bdb_btree.specs.Bounds.{DontFall, NoneBelow, OrderedIf}
 use Rattle.bdb_btree.specs.Least.{IsLeastPage}
 use Rattle.bdb_btree.specs.Rows.{has_wrong_order}
 use Rattle.bdb_btree.proofs.LessLemmas.{less_above, less_not_back}
+use Rattle.bdb_btree.proofs.OrderLemmas.{Shares}
+use Rattle.bdb_btree.proofs.PairLemmas.{PageShares, pages_share}
 use Rattle.bdb_form.proofs.FormedLemmas.{shared_after}
 
 -- Entries of a leaf with one offset are one item.
@@ -80,75 +82,38 @@ file_tells image p =
 
 -- each pair that shares its key has the key before it
 abbrev pub ShareKeys : List ℕ → List StoredPair → Type 0
-ShareKeys key [] = Unit {0}
-ShareKeys key (pair ∷ pairs) = (pair.shares ≡ true → pair.key ≡ key) × ShareKeys pair.key pairs
+ShareKeys key pairs = Shares (λ (pair : StoredPair). pair.key) key pairs
 
-abbrev leaf_pair : File → ℕ → Listed Item → ℕ → StoredPair
-leaf_pair file p leaf i = pair_at file p leaf (λ j. is_shared_key leaf.offsets (2 * j)) i
-
-same_key : (file : File) (p : ℕ) (leaf : Listed Item) (i j : ℕ) → OffsetsTell leaf → i < length leaf.items / 2 → i ≡ suc j
-    → is_shared_key leaf.offsets (2 * i) ≡ true → (leaf_pair file p leaf i).key ≡ (leaf_pair file p leaf j).key
-same_key file p leaf i j tell low next shares =
+same_keys : (file : File) (p : ℕ) (page : Page) → OffsetsTellIn page → PageShares (λ (pair : StoredPair). pair.key) file p page
+same_keys file p (Leaf leaf) tell =
+    λ i j low next shares.
     let one : slice_index leaf.offsets (2 * i) ≡ slice_index leaf.offsets (2 * i - 2) =
     eqb-true _ _ (sym (shared_after leaf.offsets i (omega arith)) ∙ shares) in
     let before : 2 * i - 2 ≡ 2 * j = omega arith in
-    ap (λ (item : Item). value_of file item.content) (tell (2 * i) (2 * j) (omega arith) (omega arith) (one ∙ ap (slice_index leaf.offsets) before))
-
-later_keys : (file : File) (p : ℕ) (leaf : Listed Item) (n i : ℕ) (rest : List StoredPair) → OffsetsTell leaf → i + 1 + n ≤ length leaf.items / 2
-    → ((other : List ℕ) → ShareKeys other rest)
-    → ShareKeys (leaf_pair file p leaf i).key (map (leaf_pair file p leaf) (range_with_len (i + 1) n) ++ rest)
-later_keys file p leaf zero i rest tell low after = after (leaf_pair file p leaf i).key
-later_keys file p leaf (suc n) i rest tell low after =
-    (λ shares. same_key file p leaf (i + 1) i tell (omega arith) (add-one i) shares, later_keys file p leaf n (i + 1) rest tell (omega arith) after)
-
-leaf_keys : (file : File) (p : ℕ) (leaf : Listed Item) (n : ℕ) (key : List ℕ) (rest : List StoredPair) → OffsetsTell leaf → n ≤ length leaf.items / 2
-    → ((other : List ℕ) → ShareKeys other rest)
-    → ShareKeys key (map (leaf_pair file p leaf) (range_with_len 0 n) ++ rest)
-leaf_keys file p leaf zero key rest tell low after = after key
-leaf_keys file p leaf (suc n) key rest tell low after =
-    (λ shares. absurd (true≢false (sym shares)), later_keys file p leaf n 0 rest tell (omega arith) after)
-
-hash_keys : (file : File) (p : ℕ) (page : Listed Item) (is : List ℕ) (key : List ℕ) (rest : List StoredPair)
-    → ((other : List ℕ) → ShareKeys other rest)
-    → ShareKeys key (map (pair_at file p page (λ i. false)) is ++ rest)
-hash_keys file p page [] key rest after = after key
-hash_keys file p page (i ∷ is) key rest after =
-    (λ shares. absurd (true≢false (sym shares)), hash_keys file p page is (pair_at file p page (λ i. false) i).key rest after)
-
-page_keys : (file : File) (p : ℕ) (page : Page) (key : List ℕ) (rest : List StoredPair) → OffsetsTellIn page
-    → ((other : List ℕ) → ShareKeys other rest)
-    → ShareKeys key (pairs_in file p page ++ rest)
-page_keys file p (Leaf leaf) key rest tell after = leaf_keys file p leaf (length leaf.items / 2) key rest tell (omega arith) after
-page_keys file p (Hash page) key rest tell after = hash_keys file p page (range_with_len 0 (length page.items / 2)) key rest after
-page_keys file p page key rest tell after = after key
-
-pages_keys : (image : List ℕ) (ps : List ℕ) (key : List ℕ) → ShareKeys key (flat_map (pairs_of (file_of image)) ps)
-unfolding pairs_of
-pages_keys image [] key = tt
-pages_keys image (p ∷ ps) key =
-    page_keys (file_of image) p (page_at (file_of image) p) key (flat_map (pairs_of (file_of image)) ps) (file_tells image p) (pages_keys image ps)
+    sym (ap (λ (item : Item). value_of file item.content)
+    (tell (2 * i) (2 * j) (omega arith) (omega arith) (one ∙ ap (slice_index leaf.offsets) before)))
+same_keys file p page tell = tt
 
 pub tree_keys : (image : List ℕ) (root : ℕ) (key : List ℕ) → ShareKeys key (tree_pairs (file_of image) root)
 unfolding tree_pairs
-tree_keys image root key = pages_keys image (leaves (file_of image) root) key
+tree_keys image root key =
+    pages_share (λ (pair : StoredPair). pair.key) (file_of image)
+    (λ p. same_keys (file_of image) p (page_at (file_of image) p) (file_tells image p)) (leaves (file_of image) root) key
 
 -- Pairs whose keys don't fall.
-
--- what isn't less than something that isn't less than a third isn't less than that
-not_less_chain : (a b c : List ℕ) → less b a ≡ false → less c b ≡ false → less c a ≡ false
-not_less_chain a b c ab bc = false_from_ne_true (less c a) (λ is. true≢false (sym (less_above c a b is ab) ∙ bc))
 
 none_below_more : (key : List ℕ) (pair : StoredPair) (pairs : List StoredPair) → less pair.key key ≡ false → NoneBelow pair.key pairs
     → NoneBelow key (pair ∷ pairs)
 none_below_more key pair pairs here after other at =
     elim (member_cases pair pairs other at) [
       | inl same ↦ subst (λ (one : StoredPair). less one.key key ≡ false) same here
-      | inr later ↦ not_less_chain key pair.key other.key here (after other later)
+      | inr later ↦ false_from_ne_true (less other.key key) (λ is.
+          true≢false (sym (less_above other.key key pair.key is here) ∙ after other later))
     ]
 
 -- two pairs that follow each other, where one that shares its key has the key before it
-in_order_step : (a b : List ℕ) (shares : Bool) → (shares ≡ true → b ≡ a) → (not shares && not (less a b)) ≡ false → less b a ≡ false
-in_order_step a b true same kept = ap (λ key. less key a) (same refl) ∙ less_self a
+in_order_step : (a b : List ℕ) (shares : Bool) → (shares ≡ true → a ≡ b) → (not shares && not (less a b)) ≡ false → less b a ≡ false
+in_order_step a b true same kept = ap (less b) (same refl) ∙ less_self b
 in_order_step a b false same kept = grind (arith, less_not_back a b)
 
 dont_fall_from : (pair : StoredPair) (pairs : List StoredPair) → ShareKeys pair.key pairs

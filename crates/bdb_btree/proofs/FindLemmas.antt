@@ -2,13 +2,13 @@
 use Rattle.std.proofs.Common.{◌≡◌, ℕ, zero, suc, ◌+◌, ◌-◌, ◌<◌, ◌≤◌, Bool, true, false, not, cond, List, [], ◌∷◌, ◌++◌, length, map, get_or, take}
 use Rattle.std.proofs.Common.{drop, Option, Some, None, arith, refl, sym, ◌∙◌, ap, subst, inl, inr, append-nil}
 use Rattle.std.specs.Prelude.{◌&&◌, ◌==◌, nat_le}
-use Rattle.std.specs.List.{Contains, filter, flat_map, list_any, range_with_len}
+use Rattle.std.specs.List.{Contains, flat_map, list_any, range_with_len}
 use Rattle.std.specs.Str.{bytes_eq}
 use Rattle.std.proofs.lemmas.Bool.{cases_Bool, cases_lt, eq-eqb, le-leb, not-false, or_parts}
 use Rattle.std.proofs.lemmas.Bool.Decides.{nat_tests}
 use Rattle.std.proofs.lemmas.List.Folds.{flat_map-map}
 use Rattle.bdb_overflow.proofs.KeyLemmas.{eq_same}
-use Rattle.std.proofs.lemmas.List.{get_or-drop, get_or-take, length-drop, length-map, length-take}
+use Rattle.std.proofs.lemmas.List.{get_or-drop, get_or-map, get_or-take, length-drop, length-map, length-take}
 use Rattle.std.proofs.lemmas.List.Elements.{Contains-get_or}
 use Rattle.std.proofs.lemmas.Option.{slice_get-get_or}
 use Rattle.std.proofs.lemmas.Slice.Eq.{bytes_eq-Decides}
@@ -21,9 +21,9 @@ use Rattle.bdb_format.specs.File.{File, file_of, header_in, page_at, type_in}
 use Rattle.bdb_format.specs.HeadOf.{head_of}
 use Rattle.bdb_format.specs.Leaves.{children_in, leaves}
 use Rattle.bdb_format.specs.Less.{less}
-use Rattle.bdb_format.specs.Lists.{ListKey, BytesKey, btree_list, get, is_key, listed_pair}
+use Rattle.bdb_format.specs.Lists.{BytesKey, btree_list, get, listed_pair}
 use Rattle.bdb_format.specs.Page.{BtreeFields, InternalItem, Internal, Listed, Page, RecnoInternal}
-use Rattle.bdb_format.specs.References.{child_types, has_type}
+use Rattle.bdb_format.specs.References.{has_type}
 use Rattle.bdb_format.specs.Verdict.{holding, structure_faults}
 use Rattle.bdb_format.proofs.MemberLemmas.{first_member, in_flat_map, in_map, in_range, later_member, none_passes}
 use Rattle.bdb_format.proofs.VerdictLemmas.{AllFail, all_fail, no_codes_at}
@@ -38,6 +38,7 @@ use Rattle.bdb_tree.proofs.DescentLemmas.{chosen_is, internal_inside, internal_i
 use Rattle.bdb_tree.proofs.WayLemmas.{chosen_among}
 use Rattle.bdb_btree.specs.Pairs.{AreFit, FitsPair, left_of}
 use Rattle.bdb_btree.specs.Search.{AreOpen, data_under, found_left, from_key, is_below, under}
+use Rattle.bdb_btree.proofs.InnerLemmas.{child_keyed}
 use Rattle.bdb_btree.proofs.LessLemmas.{less_trans}
 use Rattle.bdb_btree.proofs.PairLemmas.{pair_of_page}
 use Rattle.bdb_btree.proofs.WalkLemmas.{each_of}
@@ -54,26 +55,15 @@ use Rattle.bdb_format.proofs.PairLemmas.{get_append, keyed_rows}
 under_get : (k key : List ℕ) (values : List (List ℕ)) (b : Bool) → bytes_eq k key ≡ b → get (under k values) (BytesKey key) ≡ cond b values []
 under_get k key [] true is = refl
 under_get k key [] false is = refl
-under_get k key (value ∷ values) true is =
-    ap (λ c. map (λ (entry : ListKey × List ℕ). entry.1)
-    (cond c ((BytesKey k, value) ∷ filter (λ (entry : ListKey × List ℕ). is_key entry.0 (BytesKey key)) (under k values))
-    (filter (λ (entry : ListKey × List ℕ). is_key entry.0 (BytesKey key)) (under k values)))) is
-    ∙ ap (λ rest. value ∷ rest) (under_get k key values true is)
-under_get k key (value ∷ values) false is =
-    ap (λ c. map (λ (entry : ListKey × List ℕ). entry.1)
-    (cond c ((BytesKey k, value) ∷ filter (λ (entry : ListKey × List ℕ). is_key entry.0 (BytesKey key)) (under k values))
-    (filter (λ (entry : ListKey × List ℕ). is_key entry.0 (BytesKey key)) (under k values)))) is
-    ∙ under_get k key values false is
-
-either_none : (b : Bool) → ◌≡◌ {A = List (List ℕ)} [] (cond b [] [])
-either_none b = grind (arith, nat_tests)
+under_get k key (value ∷ values) true is = rw is (ap (λ rest. value ∷ rest) (under_get k key values true is))
+under_get k key (value ∷ values) false is = rw is (under_get k key values false is)
 
 get_pair : (file : File) (key : List ℕ) (pair : StoredPair) → get (listed_pair file pair) (BytesKey key) ≡ data_under file key pair
 get_pair file key pair =
     let values : List (List ℕ) = data_of file pair.data_item in
     elim pair.live as (λ b. get (cond b (under pair.key values) []) (BytesKey key) ≡ cond (bytes_eq pair.key key) (cond b values []) []) [
       | true ↦ under_get pair.key key values (bytes_eq pair.key key) refl
-      | false ↦ either_none (bytes_eq pair.key key)
+      | false ↦ grind (arith, nat_tests)
     ]
 
 get_pairs : (file : File) (key : List ℕ) (pairs : List StoredPair)
@@ -88,39 +78,25 @@ get_pairs file key (pair ∷ pairs) =
 abbrev pub data_below : File → List ℕ → ℕ → List (List ℕ)
 data_below file key p = flat_map (data_under file key) (tree_pairs file p)
 
-pub get_tree : (file : File) (root : ℕ) (key : List ℕ) → get (btree_list file root) (BytesKey key) ≡ data_below file key root
-unfolding btree_list
-get_tree file root key = get_pairs file key (tree_pairs file root)
-
 -- pairs of other keys give nothing
 
 nothing_under : (file : File) (key : List ℕ) (pairs : List StoredPair) → ((pair : StoredPair) → Contains pairs pair → bytes_eq pair.key key ≡ false)
     → flat_map (data_under file key) pairs ≡ []
 nothing_under file key [] other = refl
 nothing_under file key (pair ∷ pairs) other =
-    ap (λ b. cond b (cond pair.live (data_of file pair.data_item) []) [] ++ flat_map (data_under file key) pairs)
-    (other pair (first_member pair pairs))
-    ∙ nothing_under file key pairs (λ next at. other next (later_member pair pairs next at))
+    rw (other pair (first_member pair pairs)) (nothing_under file key pairs (λ next at. other next (later_member pair pairs next at)))
 
 pub from_key_same : (file : File) (key : List ℕ) (pairs : List StoredPair)
     → flat_map (data_under file key) (from_key key pairs) ≡ flat_map (data_under file key) pairs
 from_key_same file key [] = refl
 from_key_same file key (pair ∷ pairs) =
-    elim (bytes_eq pair.key key) as (λ b. bytes_eq pair.key key ≡ b
-    → flat_map (data_under file key) (cond b (pair ∷ pairs) (from_key key pairs)) ≡ flat_map (data_under file key) (pair ∷ pairs)) [
-      | true ↦ λ is. refl
-      | false ↦ λ is. from_key_same file key pairs
-          ∙ sym (ap (λ b. cond b (cond pair.live (data_of file pair.data_item) []) [] ++ flat_map (data_under file key) pairs) is)
-    ] refl
+    elim (cases_Bool (bytes_eq pair.key key)) [ inl is ↦ rw is (rw is refl) | inr is ↦ rw is (from_key_same file key pairs) ]
 
 -- Keys.
 
 -- a key that is less than a bound isn't one that isn't
-pub other_key : (a key bound : List ℕ) → less a bound ≡ true → less key bound ≡ false → bytes_eq a key ≡ false
-other_key a key bound low high = grind (arith, nat_tests, eq_same a key)
-
-pub above_key : (a key bound : List ℕ) → less a bound ≡ false → less key bound ≡ true → bytes_eq a key ≡ false
-above_key a key bound high low = grind (arith, nat_tests, eq_same a key)
+other_key : (a key bound : List ℕ) (b : Bool) → less a bound ≡ b → less key bound ≡ not b → bytes_eq a key ≡ false
+other_key a key bound b one other = grind (arith, nat_tests, eq_same a key)
 
 -- Lists of pages.
 
@@ -160,12 +136,6 @@ data_of_inner image key p page forest is =
     ∙ flat_map-map (data_below file key) (λ (item : InternalItem). item.child) page.items)
 
 -- Separators.
-
-part_at : (file : File) (items : List InternalItem) (i : ℕ) → i < length items
-    → get_or (map (separated file) items) i no_separator ≡ separated file (get_or items i no_internal_item)
-part_at file [] i low = absurd (omega arith)
-part_at file (item ∷ items) zero low = refl
-part_at file (item ∷ items) (suc i) low = part_at file items i (omega arith)
 
 in_drop : {X : Type 0} (xs : List X) (m j : ℕ) (d : X) → m ≤ j → j < length xs → Contains (drop m xs) (get_or xs j d)
 in_drop xs m j d above low =
@@ -210,15 +180,12 @@ apart file page m right some low =
     let one = or_parts _ _ two.0 in
     record { ascends = one.0; later = one.1; earlier = two.1 }
 
-false_later : (a b : Bool) → a ≡ true → (a && not b) ≡ false → b ≡ true
-false_later a b is none = grind (arith, nat_tests)
-
 -- a key below a child is one of those of its part
 key_below : (file : File) (items : List InternalItem) (j : ℕ) (pair : StoredPair) → j < length items
     → Contains (tree_pairs file (item_of items j).child) pair
     → Contains (get_or (map (separated file) items) j no_separator).below pair.key
 key_below file items j pair low at =
-    subst (λ (part : Separated). Contains part.below pair.key) (sym (part_at file items j low))
+    subst (λ (part : Separated). Contains part.below pair.key) (sym (get_or-map (separated file) items j no_internal_item no_separator low))
     (in_map (λ (other : StoredPair). other.key) (tree_pairs file (item_of items j).child) pair at)
 
 pub are_separated : (file : File) (page : Listed InternalItem) → has_wrong_separator file (Internal page) ≡ false → AreSeparated file page.items
@@ -226,18 +193,20 @@ are_separated file page right =
     let items : List InternalItem = page.items in
     let parts : List Separated = map (separated file) items in
     let count : length parts ≡ length items = length-map items (separated file) in
+    let part : (m : ℕ) → m < length items → separated file (item_of items m) ≡ get_or parts m no_separator =
+    λ m low. sym (get_or-map (separated file) items m no_internal_item no_separator low) in
     record {
       ascend =
           λ m two low.
           let here : IsApart parts m = apart file page m right (omega arith) low in
-          ap (λ (part : Separated). less part.key (key_of file items m)) (sym (part_at file items (m - 1) (omega arith)))
-          ∙ (ap (λ (part : Separated). less (get_or parts (m - 1) no_separator).key part.key) (sym (part_at file items m low))
-          ∙ false_later (nat_le 2 m) (less (get_or parts (m - 1) no_separator).key (get_or parts m no_separator).key) (le-leb 2 m two) here.ascends);
+          ap (λ (part : Separated). less part.key (key_of file items m)) (part (m - 1) (omega arith))
+          ∙ (ap (λ (part : Separated). less (get_or parts (m - 1) no_separator).key part.key) (part m low)
+          ∙ not-false _ (second_false (nat_le 2 m) _ (le-leb 2 m two) here.ascends));
       later =
           λ m j pair some above low at.
           let here : IsApart parts m = apart file page m right some (omega arith) in
           let inside : j < length parts = omega arith in
-          ap (λ (part : Separated). less pair.key part.key) (sym (part_at file items m (omega arith)))
+          ap (λ (part : Separated). less pair.key part.key) (part m (omega arith))
           ∙ none_passes (λ other. less other (get_or parts m no_separator).key)
           (flat_map (λ (part : Separated). part.below) (drop m parts)) pair.key here.later
           (in_flat_map (λ (part : Separated). part.below) (drop m parts) (get_or parts j no_separator) pair.key
@@ -246,7 +215,7 @@ are_separated file page right =
           λ m j pair low below at.
           let here : IsApart parts m = apart file page m right (omega arith) low in
           let inside : j < length parts = omega arith in
-          ap (λ (part : Separated). less pair.key part.key) (sym (part_at file items m low))
+          ap (λ (part : Separated). less pair.key part.key) (part m low)
           ∙ not-false (less pair.key (get_or parts m no_separator).key)
           (none_passes (λ other. not (less other (get_or parts m no_separator).key)) (flat_map (λ (part : Separated). part.below) (take m parts))
           pair.key here.earlier
@@ -284,11 +253,11 @@ chosen_data file key items some apart =
     elim (cases_lt j i) [
       | inl before ↦
           nothing_under file key (tree_pairs file (item_of items j).child) (λ pair at.
-          other_key pair.key key (key_of file items i) (apart.earlier i j pair last.1.inside before at) (last.1.is_false (omega arith)))
+          other_key pair.key key (key_of file items i) true (apart.earlier i j pair last.1.inside before at) (last.1.is_false (omega arith)))
       | inr after ↦
           let past : i < j = omega (arith, other) in
           nothing_under file key (tree_pairs file (item_of items j).child) (λ pair at.
-          above_key pair.key key (key_of file items (i + 1)) (apart.later (i + 1) j pair (omega arith) (omega arith) low at)
+          other_key pair.key key (key_of file items (i + 1)) false (apart.later (i + 1) j pair (omega arith) (omega arith) low at)
           (last.1.later (i + 1) (omega arith) (omega arith)))
     ])
     ∙ ap (data_below file key) (sym (chosen_is test items i last.1))
@@ -304,14 +273,6 @@ keyed_inner : (page : Page) (children : List ℕ) → children_in page ≡ Some 
 keyed_inner (Internal page) children are keyed = (page, refl)
 keyed_inner (RecnoInternal page) children are keyed = absurd cc
 keyed_inner page children are keyed = absurd cc
-
-child_keyed : (view : Listed InternalItem) (page : Page) (type : Option ℕ) → page ≡ Internal view → has_type (child_types page) type ≡ true
-    → has_type (3 ∷ 5 ∷ 12 ∷ []) type ≡ true
-child_keyed view page type is has = of (view.header.level == 2) (ap (λ q. has_type (child_types q) type) (sym is) ∙ has)
-  where
-    of : (low : Bool) → has_type (cond low (5 ∷ 12 ∷ []) (3 ∷ [])) type ≡ true → has_type (3 ∷ 5 ∷ 12 ∷ []) type ≡ true
-    of true one = of_type (λ t. has_type (3 ∷ 5 ∷ 12 ∷ []) t ≡ true) (5 ∷ 12 ∷ []) type (refl, (refl, tt)) one
-    of false one = of_type (λ t. has_type (3 ∷ 5 ∷ 12 ∷ []) t ≡ true) (3 ∷ []) type (refl, tt) one
 
 step_down : (levels : ℕ) (file : File) (test : InternalItem → Bool) (p : ℕ) (next : Option ℕ) → next_below test (page_at file p) ≡ next
     → descent (suc levels) file test p ≡ go_on (descent levels file test) p next
@@ -353,7 +314,7 @@ data_of_descent (suc n) image key p forest is keyed apart =
           data_of_inner image key p page forest here
           ∙ (chosen_data file key page.items formed.1 (apart p page (is_inner file p page (omega (arith, formed.0)) here) here)
           ∙ (data_of_descent n image key c forest (omega (arith, child.level))
-          (child_keyed page (page_at file p) (type_in (page_at file c)) here child.type)
+          (child_keyed image p c (map (λ (item : InternalItem). item.child) page.items) forest keyed (ap children_in here) member)
           (λ q other at its. apart q other (is_inner_below file p page c q here member child at) its)
           ∙ ap (λ q. flat_map (data_under file key) (pairs_of file q)) (sym (step_down n file test p (Some c) (ap (next_below test) here)))))
     ]
@@ -401,19 +362,6 @@ keys_monotone file key root apart p page inner is =
     (ap (λ m. less (key_of file page.items m) (key_of file page.items (i + 1))) (let same : i ≡ i + 1 - 1 = omega arith in same)
     ∙ (apart p page inner is).ascend (i + 1) (omega arith) low))
 
--- a key has in a list what it has on the leaf to which a descent leads
-pub found_on_leaf : (image key : List ℕ) (meta : BtreeMeta) → IsForest image → HasMetadata (file_of image) (BtreeFields meta) → is_recno meta ≡ false
-    → database_faults (file_of image) (BtreeFields meta) ≡ []
-    → get (btree_list (file_of image) meta.root) (BytesKey key)
-    ≡ flat_map (data_under (file_of image) key)
-    (pairs_of (file_of image) (descent (header_in (page_at (file_of image) meta.root)).level (file_of image)
-    (is_below (file_of image) key) meta.root))
-found_on_leaf image key meta forest has keys none =
-    let file : File = file_of image in
-    get_tree file meta.root key
-    ∙ data_of_descent (level file meta.root) image key meta.root forest refl
-    (root_keyed image meta forest has keys) (all_separated image meta keys none)
-
 -- what is found on that leaf of a handle to the same image is what the key has
 pub found_by : (linked image key : List ℕ) (meta : BtreeMeta) (root leaf : ℕ) (found : List (List ℕ)) → IsForest linked
     → HasMetadata (file_of linked) (BtreeFields meta) → is_recno meta ≡ false
@@ -421,13 +369,13 @@ pub found_by : (linked image key : List ℕ) (meta : BtreeMeta) (root leaf : ℕ
     → leaf ≡ descent (header_in (page_at (file_of image) root)).level (file_of image) (is_below (file_of image) key) root
     → found ≡ flat_map (data_under (file_of image) key) (pairs_of (file_of image) leaf)
     → found ≡ get (btree_list (file_of linked) meta.root) (BytesKey key)
+unfolding btree_list
 found_by linked image key meta root leaf found forest has keys none same named leads is =
-    let F : List ℕ → ℕ → List (List ℕ) =
-    λ other r. flat_map (data_under (file_of other) key)
-    (pairs_of (file_of other) (descent (header_in (page_at (file_of other) r)).level (file_of other) (is_below (file_of other) key) r)) in
-    is
-    ∙ (ap (λ p. flat_map (data_under (file_of image) key) (pairs_of (file_of image) p)) leads
-    ∙ (ap (λ other. F other root) same ∙ (ap (F linked) named ∙ sym (found_on_leaf linked key meta forest has keys none))))
+    let file : File = file_of linked in
+    rw (is, leads, same, named)
+    (sym (get_pairs file key (tree_pairs file meta.root)
+    ∙ data_of_descent (level file meta.root) linked key meta.root forest refl
+    (root_keyed linked meta forest has keys) (all_separated linked meta keys none)))
 
 -- On the leaf.
 

@@ -45,7 +45,7 @@ more_inner file n turn found new level next all low added children left =
 
 -- Types.
 
-child_keyed : (image : List ℕ) (p c : ℕ) (children : List ℕ) → IsForest image → IsKeyed (file_of image) p
+pub child_keyed : (image : List ℕ) (p c : ℕ) (children : List ℕ) → IsForest image → IsKeyed (file_of image) p
     → children_in (page_at (file_of image) p) ≡ Some children → Contains children c → IsKeyed (file_of image) c
 child_keyed image p c children forest keyed are at =
     of_type (λ type. has_type (3 ∷ 5 ∷ 12 ∷ []) type ≡ true) (child_types (page_at (file_of image) p)) (type_in (page_at (file_of image) c))

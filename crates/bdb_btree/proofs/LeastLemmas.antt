@@ -8,8 +8,8 @@ use Rattle.bdb_format.specs.ByPage.{ComesFirst}
 use Rattle.bdb_format.specs.declared.kinds.Fault.{Fault}
 use Rattle.bdb_format.specs.Table.{Row, ◌:?◌, lesser}
 use Rattle.bdb_format.specs.Verdict.{by_page, holding, first_fault}
-use Rattle.bdb_format.proofs.MemberLemmas.{first_member, later_member, member_cases, no_member}
-use Rattle.bdb_format.proofs.VerdictLemmas.{IsOfStage, Rises, by_page_first, holding_least, in_by_page, of_by_page}
+use Rattle.bdb_format.proofs.MemberLemmas.{filter_step, first_member, later_member, no_member}
+use Rattle.bdb_format.proofs.VerdictLemmas.{FirstComesFirst, IsOfStage, Rises, by_page_first, holding_least, in_by_page, of_by_page}
 use Rattle.bdb_btree.specs.Least.{IsLeastPage, noting, sooner}
 use Rattle.bdb_format.proofs.FaultLemmas.{same_fault}
 use Rattle.std.proofs.lemmas.Bool.Decides.{nat_tests}
@@ -92,65 +92,53 @@ above_code (row ∷ rows) n p code above holds =
       | inr later ↦ let more : row.code ≤ code = above_code rows row.code p code above.1 later in let low : n ≤ row.code = above.0 in omega arith
     ]
 
-pub no_rows : IsFirst [] None
-no_rows p code holds = holds
-
 comes_first : (page p code other : ℕ) → page ≤ p → code ≤ other
     → ComesFirst (record { stage = 8; page = page; code = code }) (record { stage = 8; page = p; code = other })
 comes_first page p code other from up = elim (cases_eq page p) [ inl at ↦ inr (at, up) | inr apart ↦ inl (omega arith) ]
 
-first_step : (row : PageRow) (rows : List PageRow) (page : ℕ) (later : Fault) → AreAbove row.code rows
-    → (row.test page ≡ true) × ((p : ℕ) → row.test p ≡ true → page ≤ p) → IsFirst rows (Some later)
-    → (b : Bool) → nat_le page later.page ≡ b → IsFirst (row ∷ rows) (cond b (Some (record { stage = 8; page = page; code = row.code })) (Some later))
-first_step row rows page later above least first true before = (
+-- the first of a row comes first where it comes before the rest
+row_first : (row : PageRow) (rows : List PageRow) (page : ℕ) → (row.test page ≡ true) × ((p : ℕ) → row.test p ≡ true → page ≤ p)
+    → ((p code : ℕ) → HoldsAt rows p code → (page ≤ p) × (row.code ≤ code))
+    → IsFirst (row ∷ rows) (Some (record { stage = 8; page = page; code = row.code }))
+row_first row rows page least later = (
   refl,
   inl (least.0, refl),
   λ p code holds. elim holds [
     | inl here ↦ comes_first page p row.code code (least.1 p here.0) (let same : row.code ≡ code = here.1 in omega arith)
-    | inr in_rest ↦
-        let low : page ≤ later.page = leb-true page later.page before in
-        let past : later.page ≤ p =
-        elim (first.2 p code in_rest) [ inl earlier ↦ omega arith | inr at ↦ let same : later.page ≡ p = at.0 in omega arith ] in
-        comes_first page p row.code code (omega arith) (above_code rows row.code p code above in_rest)
+    | inr in_rest ↦ comes_first page p row.code code (later p code in_rest).0 (later p code in_rest).1
   ],
 )
+
+-- the first of the rest where it comes before the row
+rest_first : (row : PageRow) (rows : List PageRow) (first : Fault) → IsFirst rows (Some first) → ((p : ℕ) → row.test p ≡ true → first.page < p)
+    → IsFirst (row ∷ rows) (Some first)
+rest_first row rows first is later =
+    (is.0, inr is.1, λ p code holds. elim holds [ inl here ↦ inl (later p here.0) | inr in_rest ↦ is.2 p code in_rest ])
+
+first_step : (row : PageRow) (rows : List PageRow) (page : ℕ) (later : Fault) → AreAbove row.code rows
+    → (row.test page ≡ true) × ((p : ℕ) → row.test p ≡ true → page ≤ p) → IsFirst rows (Some later)
+    → (b : Bool) → nat_le page later.page ≡ b → IsFirst (row ∷ rows) (cond b (Some (record { stage = 8; page = page; code = row.code })) (Some later))
+first_step row rows page later above least first true before =
+    let low : page ≤ later.page = leb-true page later.page before in
+    row_first row rows page least (λ p code in_rest.
+    let past : later.page ≤ p =
+    elim (first.2 p code in_rest) [ inl earlier ↦ omega arith | inr at ↦ let same : later.page ≡ p = at.0 in omega arith ] in
+    (omega arith, above_code rows row.code p code above in_rest))
 first_step row rows page later above least first false before =
-    let high : later.page < page = leb-false page later.page before in (
-      first.0,
-      inr first.1,
-      λ p code holds. elim holds [ inl here ↦ let from : page ≤ p = least.1 p here.0 in inl (omega arith) | inr in_rest ↦ first.2 p code in_rest ],
-    )
+    let high : later.page < page = leb-false page later.page before in
+    rest_first row rows later first (λ p holds. let from : page ≤ p = least.1 p holds in omega arith)
 
 pub first_more : (row : PageRow) (rows : List PageRow) (least : Option ℕ) (first : Option Fault) → AreAbove row.code rows → IsLeastPage least row.test
     → IsFirst rows first → IsFirst (row ∷ rows) (sooner row.code least first)
 first_more row rows None None above least first =
     λ p code holds. elim holds [ inl here ↦ true≢false (sym here.0 ∙ least p) | inr later ↦ first p code later ]
-first_more row rows None (Some later) above least first = (
-  first.0,
-  inr first.1,
-  λ p code holds. elim holds [
-    | inl here ↦ absurd (true≢false (sym here.0 ∙ least p))
-    | inr in_rest ↦
-        first.2 p code in_rest
-  ],
-)
-first_more row rows (Some page) None above least first = (
-  refl,
-  inl (least.0, refl),
-  λ p code holds. elim holds [
-    | inl here ↦ comes_first page p row.code code (least.1 p here.0) (let same : row.code ≡ code = here.1 in omega arith)
-    | inr later ↦ absurd (first p code later)
-  ],
-)
+first_more row rows None (Some later) above least first = rest_first row rows later first (λ p holds. absurd (true≢false (sym holds ∙ least p)))
+first_more row rows (Some page) None above least first = row_first row rows page least (λ p code holds. absurd (first p code holds))
 first_more row rows (Some page) (Some later) above least first = first_step row rows page later above least first (nat_le page later.page) refl
 
 -- What holds at a page is a code of it.
 
-code_step : (holds : Bool) (n code : ℕ) (codes : List ℕ) → holds ≡ true → n ≡ code → Contains (cond holds (n ∷ codes) codes) code
-code_step true n code codes is same = subst (Contains (n ∷ codes)) same (first_member n codes)
-code_step false n code codes is same = absurd cc
-
-code_later : (holds : Bool) (n code : ℕ) (codes : List ℕ) → Contains codes code → Contains (cond holds (n ∷ codes) codes) code
+pub code_later : (holds : Bool) (n code : ℕ) (codes : List ℕ) → Contains codes code → Contains (cond holds (n ∷ codes) codes) code
 code_later true n code codes at = later_member n codes code at
 code_later false n code codes at = at
 
@@ -158,22 +146,14 @@ is_code : (rows : List PageRow) (p code : ℕ) → HoldsAt rows p code → Conta
 is_code [] p code holds = absurd holds
 is_code (row ∷ rows) p code holds =
     elim holds [
-      | inl here ↦ code_step (row.test p) row.code code (holding (rows_at rows p)) here.0 here.1
+      | inl here ↦ rw here.0 (subst (Contains (row.code ∷ holding (rows_at rows p))) here.1 (first_member row.code (holding (rows_at rows p))))
       | inr later ↦ code_later (row.test p) row.code code (holding (rows_at rows p)) (is_code rows p code later)
     ]
 
 of_code : (rows : List PageRow) (p code : ℕ) → Contains (holding (rows_at rows p)) code → HoldsAt rows p code
 of_code [] p code at = absurd (no_member [] code refl at)
 of_code (row ∷ rows) p code at =
-    elim (row.test p) as (λ b. Contains (cond b (row.code ∷ holding (rows_at rows p)) (holding (rows_at rows p))) code
-    → ((b ≡ true) × (row.code ≡ code)) ⊎ HoldsAt rows p code) [
-      | true ↦ λ in_codes. elim (member_cases row.code (holding (rows_at rows p)) code in_codes) [
-        | inl here ↦ inl (refl, here)
-        | inr later ↦
-            inr (of_code rows p code later)
-      ]
-      | false ↦ λ in_codes. inr (of_code rows p code in_codes)
-    ] at
+    elim (filter_step row.code code (holding (rows_at rows p)) (row.test p) at) [ inl here ↦ inl here | inr later ↦ inr (of_code rows p code later) ]
 
 rises : (rows : List PageRow) (n p : ℕ) → AreAbove n rows → Rises n (rows_at rows p)
 rises [] n p above = tt
@@ -188,32 +168,51 @@ inside_at : (rows : List PageRow) (high p code : ℕ) → AreInside high rows �
 inside_at [] high p code inside holds = absurd holds
 inside_at (row ∷ rows) high p code inside holds = elim holds [ inl here ↦ inside.0 p here.0 | inr later ↦ inside_at rows high p code inside.1 later ]
 
-first_is : (rows : List PageRow) (n high : ℕ) (first : Option Fault) (faults : List Fault) → AreAbove n rows → AreInside high rows
-    → IsFirst rows first → by_page 8 0 high (λ p. holding (rows_at rows p)) ≡ faults → first_fault faults ≡ first
-first_is rows n high None [] above inside is same = refl
-first_is rows n high (Some first) [] above inside is same =
-    absurd (no_member (by_page 8 0 high (λ p. holding (rows_at rows p))) (record { stage = 8; page = first.page; code = first.code }) same
-    (in_by_page 8 0 high first.page first.code (λ p. holding (rows_at rows p)) (omega arith)
-    (let low : first.page < high = inside_at rows high first.page first.code inside is.1 in omega arith)
-    (is_code rows first.page first.code is.1)))
-first_is rows n high None (fault ∷ faults) above inside is same =
-    let at : IsOfStage 8 0 (0 + high) (λ p. holding (rows_at rows p)) fault =
-    of_by_page 8 0 high (λ p. holding (rows_at rows p)) fault (subst (λ fs. Contains fs fault) (sym same) (first_member fault faults)) in
-    absurd (is fault.page fault.code (of_code rows fault.page fault.code at.is_code))
-first_is rows n high (Some first) (fault ∷ faults) above inside is same =
-    let at : IsOfStage 8 0 (0 + high) (λ p. holding (rows_at rows p)) fault =
-    of_by_page 8 0 high (λ p. holding (rows_at rows p)) fault (subst (λ fs. Contains fs fault) (sym same) (first_member fault faults)) in
-    let holds : HoldsAt rows fault.page fault.code = of_code rows fault.page fault.code at.is_code in
-    let back : ComesFirst first (record { stage = 8; page = fault.page; code = fault.code }) = is.2 fault.page fault.code holds in
-    let member : Contains (by_page 8 0 high (λ p. holding (rows_at rows p))) (record { stage = 8; page = first.page; code = first.code }) =
-    in_by_page 8 0 high first.page first.code (λ p. holding (rows_at rows p)) (omega arith)
-    (let low : first.page < high = inside_at rows high first.page first.code inside is.1 in omega arith) (is_code rows first.page first.code is.1) in
-    let front : ComesFirst fault (record { stage = 8; page = first.page; code = first.code }) =
-    by_page_first 8 0 high (λ p. holding (rows_at rows p)) (λ p. holding_least n (rows_at rows p) (rises rows n p above)) fault faults
-    (record { stage = 8; page = first.page; code = first.code }) same member in
-    ap (λ f. Some f) (same_fault fault first (at.same_stage ∙ sym is.0) front back)
+-- What comes first in a list that rises is its first.
+
+-- a fault of a list that comes before all of it
+pub record IsFirstIn (faults : List Fault) (first : Fault) : Type 0 where
+  pub at : Contains faults first
+  pub before : (fault : Fault) → Contains faults fault → ComesFirst first fault
+  pub stage : (fault : Fault) → Contains faults fault → first.stage ≡ fault.stage
+
+-- none of an empty list, else one that comes before all
+abbrev pub IsFirstOrNone : List Fault → Option Fault → Type 0
+IsFirstOrNone faults None = (fault : Fault) → Contains faults fault → ⊥
+IsFirstOrNone faults (Some first) = IsFirstIn faults first
+
+pub first_is : (faults : List Fault) (stage : ℕ) (found : Option Fault) → FirstComesFirst faults
+    → ((fault : Fault) → Contains faults fault → fault.stage ≡ stage) → IsFirstOrNone faults found
+    → first_fault faults ≡ found
+first_is [] stage None rises same found = refl
+first_is [] stage (Some first) rises same found = absurd (no_member [] first refl found.at)
+first_is (a ∷ rest) stage None rises same found = absurd (found a (first_member a rest))
+first_is (a ∷ rest) stage (Some first) rises same found =
+    ap (λ (f : Fault). Some f)
+    (same_fault a first (same a (first_member a rest) ∙ sym (same first found.at)) (rises a rest first refl found.at)
+    (found.before a (first_member a rest)))
+
+-- what was noted comes first of the table's faults
+table_first : (rows : List PageRow) (high : ℕ) (first : Option Fault) → AreInside high rows → IsFirst rows first
+    → IsFirstOrNone (by_page 8 0 high (λ p. holding (rows_at rows p))) first
+table_first rows high None inside is =
+    λ fault at. is fault.page fault.code (of_code rows fault.page fault.code (of_by_page 8 0 high (λ p. holding (rows_at rows p)) fault at).is_code)
+table_first rows high (Some first) inside is =
+    let low : first.page < high = inside_at rows high first.page first.code inside is.1 in
+    let of : (fault : Fault) → Contains (by_page 8 0 high (λ p. holding (rows_at rows p))) fault
+    → IsOfStage 8 0 (0 + high) (λ p. holding (rows_at rows p)) fault = of_by_page 8 0 high (λ p. holding (rows_at rows p)) in
+    record {
+      at = subst (λ s. Contains (by_page 8 0 high (λ p. holding (rows_at rows p))) (record { stage = s; page = first.page; code = first.code }))
+          (sym is.0) (in_by_page 8 0 high first.page first.code (λ p. holding (rows_at rows p)) (omega arith) (omega arith)
+          (is_code rows first.page first.code is.1));
+      before = λ fault at. is.2 fault.page fault.code (of_code rows fault.page fault.code (of fault at).is_code);
+      stage = λ fault at. is.0 ∙ sym (of fault at).same_stage;
+    }
 
 -- the first fault that was noted is the first of the table
 pub first_of_table : (rows : List PageRow) (n high : ℕ) (first : Option Fault) → AreAbove n rows → AreInside high rows → IsFirst rows first
     → first_fault (by_page 8 0 high (λ p. holding (rows_at rows p))) ≡ first
-first_of_table rows n high first above inside is = first_is rows n high first (by_page 8 0 high (λ p. holding (rows_at rows p))) above inside is refl
+first_of_table rows n high first above inside is =
+    first_is (by_page 8 0 high (λ p. holding (rows_at rows p))) 8 first
+    (by_page_first 8 0 high (λ p. holding (rows_at rows p)) (λ p. holding_least n (rows_at rows p) (rises rows n p above)))
+    (λ fault at. (of_by_page 8 0 high (λ p. holding (rows_at rows p)) fault at).same_stage) (table_first rows high first inside is)

@@ -1,10 +1,11 @@
 -- Keys of pairs, and data of pairs that share a key, gone through one after another.
-use Rattle.std.proofs.Common.{◌≡◌, ℕ, ◌+◌, Bool, true, false, not, cond, List, [], ◌∷◌, ◌++◌, take, Option, Some, None, arith, refl, sym, ◌∙◌, ap}
-use Rattle.std.proofs.Common.{subst, one-add}
+use Rattle.std.proofs.Common.{◌≡◌, ℕ, Bool, true, false, not, cond, List, [], ◌∷◌, ◌++◌, Option, Some, None, arith, refl, sym, ◌∙◌, ap}
+use Rattle.std.proofs.Common.{subst}
 use Rattle.std.specs.Prelude.{◌==◌, ◌&&◌, ◌||◌}
-use Rattle.std.specs.List.{flat_map, fold, list_any, prefix_len, take_while}
+use Rattle.std.specs.List.{flat_map, fold, list_any, take_while}
 use Rattle.std.proofs.lemmas.Bool.{true≢false}
 use Rattle.std.proofs.lemmas.Bool.Decides.{nat_tests}
+use Rattle.std.proofs.lemmas.List.Sums.{fold-append, take_while-cons}
 use Rattle.std.proofs.Math.Bool.{or-true}
 use Rattle.bdb_format.specs.Less.{less}
 use Rattle.bdb_format.specs.Table.{lesser}
@@ -43,10 +44,14 @@ keys_in_order (pair ∷ pairs) =
 
 -- Data.
 
--- a pair that shares its key stands on the page of the pair before it
+-- a pair that shares its key has this of the pair before it
+abbrev pub Shares : {K : Type 0} → (StoredPair → K) → K → List StoredPair → Type 0
+Shares of k [] = Unit {0}
+Shares of k (pair ∷ pairs) = (pair.shares ≡ true → k ≡ of pair) × Shares of (of pair) pairs
+
+-- it stands on that pair's page
 abbrev pub SharesOnPage : ℕ → List StoredPair → Type 0
-SharesOnPage p [] = Unit {0}
-SharesOnPage p (pair ∷ pairs) = (pair.shares ≡ true → p ≡ pair.page) × SharesOnPage pair.page pairs
+SharesOnPage p pairs = Shares (λ (pair : StoredPair). pair.page) p pairs
 
 -- a run after some values
 abbrev run_over : Option (List ℕ) → List (List ℕ) → Run
@@ -64,14 +69,10 @@ run_on (value ∷ values) last true =
 run_on (value ∷ values) last false = (refl, refl)
 
 -- a run over more values goes on where the first ones ended
-run_append : (xs ys : List (List ℕ)) (run : Run) → fold follow run (xs ++ ys) ≡ fold follow (fold follow run xs) ys
-run_append [] ys run = refl
-run_append (x ∷ xs) ys run = run_append xs ys (follow run x)
-
 more_broken : (xs ys : List (List ℕ)) (last : Option (List ℕ))
     → (run_over last (xs ++ ys)).broken ≡ ((run_over last xs).broken || (run_over (run_over last xs).last ys).broken)
 more_broken xs ys last =
-    ap (λ (run : Run). run.broken) (run_append xs ys (record { last = last; broken = false }))
+    ap (λ (run : Run). run.broken) (fold-append follow (record { last = last; broken = false }) xs ys)
     ∙ (run_on ys (run_over last xs).last (run_over last xs).broken).1
 
 not_both : (a b : Bool) → not (a && b) ≡ (not a || not b)
@@ -97,18 +98,10 @@ still_broken (value ∷ values) last broken =
 abbrev shared_data : File → List StoredPair → List (List ℕ)
 shared_data file pairs = flat_map (live_data file) (take_while (λ (other : StoredPair). other.shares) pairs)
 
-take_while_more : (test : StoredPair → Bool) (pair : StoredPair) (pairs : List StoredPair)
-    → take_while test (pair ∷ pairs) ≡ cond (test pair) (pair ∷ take_while test pairs) []
-take_while_more test pair pairs =
-    elim (test pair) as (λ b. take (cond b (1 + prefix_len test pairs) 0) (pair ∷ pairs) ≡ cond b (pair ∷ take_while test pairs) []) [
-      | true ↦ ap (λ n. take n (pair ∷ pairs)) (one-add (prefix_len test pairs))
-      | false ↦ refl
-    ]
-
 shared_more : (file : File) (pair : StoredPair) (pairs : List StoredPair)
     → shared_data file (pair ∷ pairs) ≡ cond pair.shares (live_data file pair ++ shared_data file pairs) []
 shared_more file pair pairs =
-    ap (flat_map (live_data file)) (take_while_more (λ (other : StoredPair). other.shares) pair pairs)
+    ap (flat_map (live_data file)) (take_while-cons (λ (other : StoredPair). other.shares) pair pairs)
     ∙ (elim pair.shares as (λ b. flat_map (live_data file) (cond b (pair ∷ take_while (λ (other : StoredPair). other.shares) pairs) [])
     ≡ cond b (live_data file pair ++ shared_data file pairs) []) [ true ↦ refl | false ↦ refl ])
 

@@ -1,6 +1,6 @@
 -- What the pairs of a tree keep: what they name is there, and a pair shares its key on its page alone.
-use Rattle.std.proofs.Common.{◌≡◌, ◌⊎◌, ℕ, zero, suc, ◌+◌, ◌*◌, ◌/◌, ◌<◌, ◌≤◌, false, List, [], ◌∷◌, ◌++◌, length, map, arith, refl, sym, ◌∙◌, ap}
-use Rattle.std.proofs.Common.{subst, inl, inr, true≢false}
+use Rattle.std.proofs.Common.{◌≡◌, ℕ, zero, suc, ◌+◌, ◌*◌, ◌/◌, ◌<◌, ◌≤◌, false, List, [], ◌∷◌, ◌++◌, length, map, arith, refl, sym}
+use Rattle.std.proofs.Common.{subst, inl, inr, add-one, true, true≢false}
 use Rattle.std.specs.List.{Contains, flat_map, range_with_len}
 use Rattle.std.proofs.lemmas.Option.{slice_get-get_or}
 use Rattle.bdb_format.specs.Contents.{StoredPair, pair_at, pairs_in, pairs_of, tree_pairs}
@@ -12,7 +12,7 @@ use Rattle.bdb_format.proofs.MemberLemmas.{no_member, of_flat_map, of_map, of_ra
 use Rattle.bdb_graph.specs.Linked.{FitsLeafPage, IsForest}
 use Rattle.bdb_btree.specs.Pairs.{FitsPair, FitsSet}
 use Rattle.bdb_tree.specs.Trees.{IsRoot}
-use Rattle.bdb_btree.proofs.OrderLemmas.{ShareOnPage, SharesOnPage}
+use Rattle.bdb_btree.proofs.OrderLemmas.{ShareOnPage, Shares, SharesOnPage}
 use Rattle.bdb_overflow.proofs.ContentLemmas.{leaf_item_fits}
 use Rattle.bdb_tree.proofs.TreeLemmas.{leaf_dup_root, leaf_fits, leaf_inside, root_is_tree}
 use Rattle.bdb_btree.proofs.WalkLemmas.{leaf_pairs}
@@ -78,32 +78,45 @@ tree_pair image root pair forest is at =
 
 -- Pairs that share their key.
 
-no_share_first : (offsets : List ℕ) (i : ℕ) → i ≡ 0 → is_shared_key offsets (2 * i) ≡ false
-no_share_first offsets i first = ap (λ n. is_shared_key offsets (2 * n)) first
+abbrev pub leaf_pair : File → ℕ → Listed Item → ℕ → StoredPair
+leaf_pair file p leaf i = pair_at file p leaf (λ j. is_shared_key leaf.offsets (2 * j)) i
 
-leaf_shares : (file : File) (p : ℕ) (leaf : Listed Item) (n i q : ℕ) (rest : List StoredPair) → (i ≡ 0) ⊎ (q ≡ p) → ((r : ℕ) → SharesOnPage r rest)
-    → SharesOnPage q (map (pair_at file p leaf (λ j. is_shared_key leaf.offsets (2 * j))) (range_with_len i n) ++ rest)
-leaf_shares file p leaf zero i q rest begins after = after q
-leaf_shares file p leaf (suc n) i q rest begins after = (
-  λ shares. elim begins [ inl first ↦ absurd (true≢false (sym shares ∙ no_share_first leaf.offsets i first)) | inr same ↦ same ],
-  leaf_shares file p leaf n (i + 1) p rest (inr refl) after,
-)
+module _ {K : Type 0} (of : StoredPair → K) (file : File) where
+  -- a pair of a page that shares its key has this of the pair before it
+  abbrev pub PageShares : ℕ → Page → Type 0
+  PageShares p (Leaf leaf) =
+      (i j : ℕ) → i < length leaf.items / 2 → i ≡ suc j → is_shared_key leaf.offsets (2 * i) ≡ true
+      → of (leaf_pair file p leaf j) ≡ of (leaf_pair file p leaf i)
+  PageShares p page = Unit {0}
 
-hash_shares : (file : File) (p : ℕ) (page : Listed Item) (is : List ℕ) (q : ℕ) (rest : List StoredPair) → ((r : ℕ) → SharesOnPage r rest)
-    → SharesOnPage q (map (pair_at file p page (λ i. false)) is ++ rest)
-hash_shares file p page [] q rest after = after q
-hash_shares file p page (i ∷ is) q rest after = (λ shares. absurd (true≢false (sym shares)), hash_shares file p page is p rest after)
+  leaf_shares : (p : ℕ) (leaf : Listed Item) (n i : ℕ) (k : K) (rest : List StoredPair) → i + n ≤ length leaf.items / 2 → PageShares p (Leaf leaf)
+      → (i < length leaf.items / 2 → is_shared_key leaf.offsets (2 * i) ≡ true → k ≡ of (leaf_pair file p leaf i))
+      → ((other : K) → Shares of other rest) → Shares of k (map (leaf_pair file p leaf) (range_with_len i n) ++ rest)
+  leaf_shares p leaf zero i k rest low tell begins after = after k
+  leaf_shares p leaf (suc n) i k rest low tell begins after = (
+    begins (omega arith),
+    leaf_shares p leaf n (i + 1) (of (leaf_pair file p leaf i)) rest (omega arith) tell (λ below. tell (i + 1) i below (add-one i)) after,
+  )
 
-page_shares : (file : File) (p : ℕ) (page : Page) (q : ℕ) (rest : List StoredPair) → ((r : ℕ) → SharesOnPage r rest)
-    → SharesOnPage q (pairs_in file p page ++ rest)
-page_shares file p (Leaf leaf) q rest after = leaf_shares file p leaf (length leaf.items / 2) 0 q rest (inl refl) after
-page_shares file p (Hash page) q rest after = hash_shares file p page (range_with_len 0 (length page.items / 2)) q rest after
-page_shares file p page q rest after = after q
+  page_shares : (p : ℕ) (page : Page) (k : K) (rest : List StoredPair) → PageShares p page → ((other : K) → Shares of other rest)
+      → Shares of k (pairs_in file p page ++ rest)
+  page_shares p (Leaf leaf) k rest tell after =
+      leaf_shares p leaf (length leaf.items / 2) 0 k rest (omega arith) tell (λ some shares. absurd (true≢false (sym shares))) after
+  page_shares p (Hash page) k rest tell after = hash (range_with_len 0 (length page.items / 2)) k
+    where
+      hash : (is : List ℕ) (k : K) → Shares of k (map (pair_at file p page (λ i. false)) is ++ rest)
+      hash [] k = after k
+      hash (i ∷ is) k = (λ shares. absurd (true≢false (sym shares)), hash is (of (pair_at file p page (λ j. false) i)))
+  page_shares p page k rest tell after = after k
 
-pages_share : (file : File) (ps : List ℕ) (q : ℕ) → SharesOnPage q (flat_map (pairs_of file) ps)
-unfolding pairs_of
-pages_share file [] q = tt
-pages_share file (p ∷ ps) q = page_shares file p (page_at file p) q (flat_map (pairs_of file) ps) (pages_share file ps)
+  pub pages_share : (tell : (p : ℕ) → PageShares p (page_at file p)) (ps : List ℕ) (k : K) → Shares of k (flat_map (pairs_of file) ps)
+  unfolding pairs_of
+  pages_share tell [] k = tt
+  pages_share tell (p ∷ ps) k = page_shares p (page_at file p) k (flat_map (pairs_of file) ps) (tell p) (pages_share tell ps)
+
+on_page : (file : File) (p : ℕ) (page : Page) → PageShares (λ (pair : StoredPair). pair.page) file p page
+on_page file p (Leaf leaf) = λ i j low next shares. refl
+on_page file p page = tt
 
 first_free : (q : ℕ) (pairs : List StoredPair) → SharesOnPage q pairs → ShareOnPage pairs
 first_free q [] share = tt
@@ -111,4 +124,5 @@ first_free q (pair ∷ pairs) share = share.1
 
 pub tree_shares : (file : File) (root : ℕ) → ShareOnPage (tree_pairs file root)
 unfolding tree_pairs
-tree_shares file root = first_free 0 (flat_map (pairs_of file) (leaves file root)) (pages_share file (leaves file root) 0)
+tree_shares file root = first_free 0 (flat_map (pairs_of file) (leaves file root))
+    (pages_share (λ (pair : StoredPair). pair.page) file (λ p. on_page file p (page_at file p)) (leaves file root) 0)

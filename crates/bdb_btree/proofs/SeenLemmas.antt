@@ -2,14 +2,14 @@
 use Rattle.std.proofs.Common.{◌≡◌, ℕ, zero, suc, ◌+◌, ◌<◌, ◌≤◌, Bool, true, false, List, [], ◌∷◌, length, map, get_or, take, Some, None, arith, refl}
 use Rattle.std.proofs.Common.{sym, ◌∙◌, ap, subst, add-one}
 use Rattle.std.specs.Prelude.{◌==◌, Option}
-use Rattle.std.specs.List.{Contains, flat_map, fold, slice_get}
+use Rattle.std.specs.List.{Contains, fold, slice_get}
 use Rattle.std.proofs.lemmas.Bool.{ne_eqb}
 use Rattle.std.proofs.lemmas.List.{take_all, take_more}
 use Rattle.std.proofs.lemmas.List.Elements.{Contains-get_or}
 use Rattle.std.proofs.lemmas.List.Sums.{fold-append}
 use Rattle.bdb_format.specs.Chains.{value_of}
 use Rattle.bdb_format.specs.ContentRows.{has_wrong_separator, is_wrong_at, separated}
-use Rattle.bdb_format.specs.Contents.{StoredPair, pairs_of, tree_pairs}
+use Rattle.bdb_format.specs.Contents.{StoredPair, tree_pairs}
 use Rattle.bdb_format.specs.File.{File, file_of, page_at}
 use Rattle.bdb_format.specs.Leaves.{children_in, leaves}
 use Rattle.bdb_format.specs.Page.{InternalItem, Listed, Page, Internal}
@@ -19,6 +19,7 @@ use Rattle.bdb_overflow.proofs.ContentLemmas.{got, key_fits}
 use Rattle.bdb_btree.specs.Bounds.{Bounds, ItemsFit, beyond, bounds_of, no_bounds, past, see_item, see_items, under, under_page, under_pair}
 use Rattle.bdb_btree.specs.Least.{IsLeastPage, noting}
 use Rattle.bdb_tree.specs.Trees.{IsTreePage}
+use Rattle.bdb_btree.proofs.CountLemmas.{pages_folded}
 use Rattle.bdb_btree.proofs.LeastLemmas.{note_all}
 use Rattle.bdb_btree.proofs.SeparatorLemmas.{wrong_separators}
 use Rattle.bdb_tree.proofs.TreeLemmas.{child_is, leaf_fits}
@@ -40,15 +41,10 @@ all_noted file test pages i least is end = rw (is, take_all i pages end) (note_a
 
 -- Keys below an item.
 
-pages_under : (file : File) (ps : List ℕ) (bounds : Bounds) → fold (under_page file) bounds ps ≡ fold under_pair bounds (flat_map (pairs_of file) ps)
-pages_under file [] bounds = refl
-pages_under file (p ∷ ps) bounds =
-    pages_under file ps (under_page file bounds p) ∙ sym (fold-append under_pair bounds (pairs_of file p) (flat_map (pairs_of file) ps))
-
 pub tree_under : (file : File) (child : ℕ) (bounds : Bounds) (pages : List ℕ) (i : ℕ) → pages ≡ leaves file child → length pages ≤ i
     → fold (under_page file) bounds (take i pages) ≡ fold under_pair bounds (tree_pairs file child)
 unfolding tree_pairs
-tree_under file child bounds pages i are end = rw (take_all i pages end, are) (pages_under file (leaves file child) bounds)
+tree_under file child bounds pages i are end = rw (take_all i pages end, are) (pages_folded under_pair file (leaves file child) bounds)
 
 pub leaf_at : (image : List ℕ) (child : ℕ) (items : List ℕ) (i : ℕ) → IsForest image → IsTreePage (file_of image) child
     → items ≡ leaves (file_of image) child → i < length items → FitsLeafPage (file_of image) (get_or items i 0)

@@ -3,8 +3,9 @@ use Rattle.std.proofs.Common.{◌≡◌, ℕ, zero, suc, ◌+◌, ◌*◌, ◌-�
 use Rattle.std.proofs.Common.{take, drop, Option, Some, None, arith, refl, sym, ◌∙◌, ap, subst, inl, inr, append-nil}
 use Rattle.std.specs.Prelude.{◌&&◌, ◌||◌, nat_le}
 use Rattle.std.specs.List.{flat_map, fold, list_any, range_with_len}
-use Rattle.std.proofs.lemmas.Bool.{le-leb, false_from_ne_true, true≢false}
+use Rattle.std.proofs.lemmas.Bool.{le-leb, false_from_ne_true, not-false, or_parts, true≢false}
 use Rattle.std.proofs.lemmas.List.{drop_all, drop_more, take_more}
+use Rattle.std.proofs.lemmas.List.Folds.{list_any-append}
 use Rattle.std.proofs.lemmas.List.Sums.{fold-append}
 use Rattle.std.proofs.lemmas.Grind.{flat_map-append}
 use Rattle.std.proofs.lemmas.Bool.Decides.{nat_tests}
@@ -21,6 +22,7 @@ use Rattle.bdb_btree.specs.Bounds.{Bounds, DontFall, beyond, bounds_of, greater_
 use Rattle.bdb_btree.specs.Runs.{is_not_above}
 use Rattle.bdb_btree.proofs.LessLemmas.{below_less, less_above, less_trans, same_unless_less}
 use Rattle.bdb_btree.proofs.WalkLemmas.{all_pairs}
+use Rattle.bdb_format.proofs.BoolLemmas.{second_false}
 use Rattle.bdb_format.proofs.LessLemmas.{less_self}
 
 -- Keys below an item.
@@ -160,15 +162,12 @@ past_wrong parts n bounds kept =
     ∙ (ap (λ b. (bounds.wrong || (is_before parts n || b)) || is_above_key parts n) third
     ∙ or_assoc bounds.wrong (is_before parts n || is_reached parts n) (is_above_key parts n)))
 
-one_part : (part : Separated) → keys_below (part ∷ []) ≡ part.below
-one_part part = append-nil part.below
-
 keys_more : (parts : List Separated) (n : ℕ) → n < length parts
     → keys_below (take (n + 1) parts) ≡ keys_below (take n parts) ++ (part_at parts n).below
 keys_more parts n low =
     ap keys_below (take_more parts n no_separator low)
     ∙ (flat_map-append (λ (part : Separated). part.below) (take n parts) (part_at parts n ∷ [])
-    ∙ ap (λ ks. keys_below (take n parts) ++ ks) (one_part (part_at parts n)))
+    ∙ ap (λ ks. keys_below (take n parts) ++ ks) (append-nil (part_at parts n).below))
 
 kept_more : (parts : List Separated) (n : ℕ) (bounds : Bounds) → 1 ≤ n → n < length parts → IsKept parts n bounds
     → IsKept parts (n + 1) (past bounds (part_at parts n))
@@ -198,33 +197,14 @@ gone_through parts (suc m) n bounds some all kept =
 wrong_here : (parts : List Separated) → (bounds_of parts).wrong ≡ list_any (breaks_here parts) (range_with_len 1 (length parts - 1))
 wrong_here [] = refl
 wrong_here (part ∷ parts) =
-    let first : Bounds = fold under no_bounds part.below in
-    let nothing : (keys : List (List ℕ)) → list_any (is_below None) keys ≡ false = none_below in
-    ap (λ ps. (fold past first ps).wrong) (sym (drop_one part parts))
-    ∙ (gone_through (part ∷ parts) (length (part ∷ parts) - 1) 1 first (omega arith) (omega arith) (record {
+    gone_through (part ∷ parts) (length (part ∷ parts) - 1) 1 (fold under no_bounds part.below) (omega arith) (omega arith) (record {
       separator = under_separator part.below no_bounds;
-      greatest = under_greatest part.below no_bounds ∙ ap (fold greater_of None) (sym (one_part part));
+      greatest = under_greatest part.below no_bounds ∙ ap (fold greater_of None) (sym (append-nil part.below));
     })
     ∙ ap (λ b. b || list_any (breaks_here (part ∷ parts)) (range_with_len 1 (length (part ∷ parts) - 1)))
-    (under_wrong part.below no_bounds ∙ none_below part.below))
-  where
-    none_below : (keys : List (List ℕ)) → list_any (is_below None) keys ≡ false
-    none_below [] = refl
-    none_below (key ∷ keys) = none_below keys
-
-    drop_one : (part : Separated) (parts : List Separated) → drop 1 (part ∷ parts) ≡ parts
-    drop_one part parts = refl
+    (under_wrong part.below no_bounds ∙ none_pass (is_below None) part.below (λ key at. refl))
 
 -- Looking below one item alone finds what looking below all later ones does, since the keys of the items rise.
-
-none_of_append : (test : List ℕ → Bool) (xs ys : List (List ℕ)) → list_any test xs ≡ false → list_any test ys ≡ false
-    → list_any test (xs ++ ys) ≡ false
-none_of_append test [] ys first second = second
-none_of_append test (x ∷ xs) ys first second = grind (arith, nat_tests, none_of_append test xs ys)
-
-none_of_first : (test : List ℕ → Bool) (xs ys : List (List ℕ)) → list_any test (xs ++ ys) ≡ false → list_any test xs ≡ false
-none_of_first test [] ys none = refl
-none_of_first test (x ∷ xs) ys none = grind (arith, nat_tests, none_of_first test xs ys)
 
 -- keys that aren't less than one key aren't less than a lesser one
 none_lower : (low high : List ℕ) (keys : List (List ℕ)) → less high low ≡ false → list_any (λ other. less other high) keys ≡ false
@@ -244,9 +224,6 @@ record IsSound (parts : List Separated) (i : ℕ) : Type 0 where
 sound_at : (parts : List Separated) (i : ℕ) → breaks_here parts i ≡ false → IsSound parts i
 sound_at parts i none = record { before = grind (arith, nat_tests); reached = grind (arith, nat_tests); above = grind (arith, nat_tests) }
 
-less_if : (b a : Bool) → b ≡ true → (b && not a) ≡ false → a ≡ true
-less_if b a is none = grind (arith, nat_tests)
-
 keys_rise : (parts : List Separated) (i d : ℕ) → NoneHere parts → 1 ≤ i → i + d < length parts → less (key_at parts (i + d)) (key_at parts i) ≡ false
 keys_rise parts i zero none some low =
     let same : i + 0 ≡ i = omega arith in ap (λ n. less (key_at parts n) (key_at parts i)) same ∙ less_self (key_at parts i)
@@ -255,8 +232,7 @@ keys_rise parts i (suc d) none some low =
     let back : i + suc d - 1 ≡ i + d = omega arith in
     let rises : Less (key_at parts (i + d)) (key_at parts (i + suc d)) =
     ap (λ n. less (key_at parts n) (key_at parts (i + suc d))) (sym back)
-    ∙ less_if (nat_le 2 (i + suc d)) (less (key_at parts (i + suc d - 1)) (key_at parts (i + suc d)))
-    (le-leb 2 (i + suc d) (omega arith)) sound.before in
+    ∙ not-false _ (second_false (nat_le 2 (i + suc d)) _ (le-leb 2 (i + suc d) (omega arith)) sound.before) in
     false_from_ne_true (less (key_at parts (i + suc d)) (key_at parts i)) (λ is.
     true≢false (sym (less_trans (key_at parts (i + d)) (key_at parts (i + suc d)) (key_at parts i) rises is)
     ∙ keys_rise parts i d none some (omega arith)))
@@ -271,9 +247,10 @@ none_later parts i (suc m) n none some up all =
     let rises : less (key_at parts n) (key_at parts i) ≡ false =
     ap (λ k. less (key_at parts k) (key_at parts i)) (sym gap) ∙ keys_rise parts i (n - i) none some (omega arith) in
     ap (λ ps. list_any test (keys_below ps)) (drop_more parts n no_separator (omega arith))
-    ∙ none_of_append test (part_at parts n).below (keys_below (drop (n + 1) parts))
+    ∙ (list_any-append test (part_at parts n).below (keys_below (drop (n + 1) parts))
+    ∙ (ap (λ b. b || list_any test (keys_below (drop (n + 1) parts)))
     (none_lower (key_at parts i) (key_at parts n) (part_at parts n).below rises (sound_at parts n (none n (omega arith) (omega arith))).above)
-    (none_later parts i m (n + 1) none some (omega arith) (omega arith))
+    ∙ none_later parts i m (n + 1) none some (omega arith) (omega arith)))
 
 breaks_none : (parts : List Separated) → NoneHere parts → (i : ℕ) → 1 ≤ i → i < length parts → breaks parts i ≡ false
 breaks_none parts none i some low =
@@ -287,16 +264,13 @@ here_none parts i low none =
     let test : List ℕ → Bool = λ other. less other (key_at parts i) in
     let later : list_any test (keys_below (drop i parts)) ≡ false = grind (arith, nat_tests) in
     let above : is_above_key parts i ≡ false =
-    none_of_first test (part_at parts i).below (keys_below (drop (i + 1) parts))
-    (ap (λ ps. list_any test (keys_below ps)) (sym (drop_more parts i no_separator low)) ∙ later) in
+    (or_parts _ _ (sym (list_any-append test (part_at parts i).below (keys_below (drop (i + 1) parts)))
+    ∙ (ap (λ ps. list_any test (keys_below ps)) (sym (drop_more parts i no_separator low)) ∙ later))).0 in
     grind (arith, nat_tests, above)
 
 -- two answers that are false together are the same
 same_bool : (a b : Bool) → (a ≡ false → b ≡ false) → (b ≡ false → a ≡ false) → a ≡ b
 same_bool a b p q = grind (arith, nat_tests, p, q)
-
-within : (parts : List Separated) (i : ℕ) → 1 ≤ i → i < 1 + (length parts - 1) → i < length parts
-within parts i some low = omega arith
 
 -- the state decides the row
 pub wrong_separators : (parts : List Separated) → (bounds_of parts).wrong ≡ list_any (breaks parts) (range_with_len 1 (length parts - 1))
@@ -307,8 +281,8 @@ wrong_separators parts =
     none_pass (breaks parts) (range_with_len 1 (length parts - 1)) (λ i at.
     let inside : (1 ≤ i) × (i < 1 + (length parts - 1)) = of_range 1 (length parts - 1) i at in
     breaks_none parts (λ j some low. none_passes (breaks_here parts) (range_with_len 1 (length parts - 1)) j none
-    (in_range 1 (length parts - 1) j some (omega arith))) i inside.0 (within parts i inside.0 inside.1)))
+    (in_range 1 (length parts - 1) j some (omega arith))) i inside.0 (omega (arith, inside))))
     (λ none.
     none_pass (breaks_here parts) (range_with_len 1 (length parts - 1)) (λ i at.
     let inside : (1 ≤ i) × (i < 1 + (length parts - 1)) = of_range 1 (length parts - 1) i at in
-    here_none parts i (within parts i inside.0 inside.1) (none_passes (breaks parts) (range_with_len 1 (length parts - 1)) i none at)))
+    here_none parts i (omega (arith, inside)) (none_passes (breaks parts) (range_with_len 1 (length parts - 1)) i none at)))

@@ -36,13 +36,6 @@ impl<'a> Model for Run<'a> {
 }
 
 impl<'a> Run<'a> {
-    /// Whether some value wasn't above the one before it.
-    fn is_broken(&self) -> bool
-        ensures { result ≡ self.now.broken }
-    {
-        self.broken
-    }
-
     /// The next value.
     fn follow(&mut self, value: Datum<'a>)
         ensures { self.new ≡ follow self.old (datum_seen value.entry) }
@@ -118,7 +111,7 @@ impl<'a> DataOrder<'a> {
         if pair.live {
             self.run.see_content(forest, &pair.item);
         }
-        if self.run.is_broken() {
+        if self.run.broken {
             self.least = lesser(self.least, pair.page);
         }
     }

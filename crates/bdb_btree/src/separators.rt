@@ -77,13 +77,6 @@ impl<'a> Bounds<'a> {
         }
     }
 
-    /// Whether a condition failed.
-    fn is_wrong(&self) -> bool
-        ensures { result ≡ self.now.wrong }
-    {
-        self.wrong
-    }
-
     /// A key below the last item.
     fn see_key(&mut self, key: Datum<'a>)
         ensures { self.new ≡ under self.old (datum_seen key.entry) }
@@ -215,7 +208,7 @@ fn is_wrong_view(
 {
     let mut bounds = Bounds::new();
     bounds.see_items(alloc, forest, page, ordered)?;
-    Ok(bounds.is_wrong())
+    Ok(bounds.wrong)
 }
 
 /// Whether a page of a tree is an internal page with a wrong separator. An error is want of memory.

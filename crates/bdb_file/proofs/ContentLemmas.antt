@@ -1,6 +1,6 @@
 -- The faults of stage 8 from those of each database.
 use Rattle.bdb_format.proofs.ListLemmas.{any_member, passes_here}
-use Rattle.std.proofs.Common.{◌≡◌, ℕ, zero, suc, ◌+◌, ◌<◌, ◌≤◌, Bool, true, false, cond, List, [], ◌∷◌, map, arith, refl, sym, ◌∙◌, ap, subst, inl}
+use Rattle.std.proofs.Common.{◌≡◌, ℕ, zero, suc, ◌+◌, ◌<◌, ◌≤◌, Bool, true, false, cond, List, [], ◌∷◌, map, arith, refl, ◌∙◌, ap, subst, inl}
 use Rattle.std.proofs.Common.{inr}
 use Rattle.std.specs.Prelude.{◌==◌, ◌&&◌}
 use Rattle.std.specs.List.{Contains, flat_map, range_with_len}
@@ -9,23 +9,24 @@ use Rattle.bdb_format.specs.declared.kinds.Fault.{Fault}
 use Rattle.bdb_format.specs.File.{File}
 use Rattle.bdb_format.specs.Page.{Metadata, BtreeFields, HashFields, QueueFields}
 use Rattle.bdb_format.specs.Table.{Row, ◌:?◌}
-use Rattle.bdb_format.specs.Verdict.{by_page, holding, contents_faults}
+use Rattle.bdb_format.specs.Verdict.{holding, contents_faults}
 use Rattle.bdb_format.specs.ContentRows.{fields_of, contents_rows, holds_code, holds_somewhere, btree_contents, database_faults, database_rows}
 use Rattle.bdb_format.specs.ContentRows.{recno_contents}
-use Rattle.bdb_format.proofs.MemberLemmas.{first_member, later_member, member_cases, no_member, of_flat_map, in_flat_map}
-use Rattle.bdb_format.proofs.VerdictLemmas.{FirstComesFirst, IsOfStage, Rises, by_page_first, holding_least, in_by_page, of_by_page}
+use Rattle.bdb_format.proofs.MemberLemmas.{filter_step, first_member, no_member, of_flat_map, in_flat_map}
+use Rattle.bdb_format.proofs.VerdictLemmas.{FirstComesFirst, IsOfStage, Rises, by_page_first, holding_least, of_by_page}
+use Rattle.bdb_btree.proofs.LeastLemmas.{code_later}
+use Rattle.bdb_file.proofs.MergeLemmas.{at_page}
 use Rattle.bdb_format.specs.Flags.{is_recno}
 
 -- The codes of a table.
 
 pub holding_code : (rows : List (Row ℕ)) (code : ℕ) → Contains (holding rows) code → holds_code code rows ≡ true
 holding_code [] code at = absurd (no_member [] code refl at)
-holding_code (row ∷ rows) code at = step row.holds refl (holding_code rows code) at
-  where
-    step : (b : Bool) → row.holds ≡ b → (Contains (holding rows) code → holds_code code rows ≡ true)
-        → Contains (cond b (row.code ∷ holding rows) (holding rows)) code → holds_code code (row ∷ rows) ≡ true
-    step true holds deeper here = grind (arith, member_cases row.code (holding rows) code here, eq-eqb row.code code)
-    step false holds deeper here = or_right (row.code == code && row.holds) (holds_code code rows) (deeper here)
+holding_code (row ∷ rows) code at =
+    elim (filter_step row.code code (holding rows) row.holds at) [
+      | inl here ↦ rw (eq-eqb row.code code here.1, here.0) refl
+      | inr later ↦ or_right (row.code == code && row.holds) (holds_code code rows) (holding_code rows code later)
+    ]
 
 pub code_holding : (rows : List (Row ℕ)) (code : ℕ) → holds_code code rows ≡ true → Contains (holding rows) code
 code_holding [] code holds = absurd cc
@@ -35,12 +36,8 @@ code_holding (row ∷ rows) code holds =
           let parts = and_parts (row.code == code) row.holds here in
           let same : row.code ≡ code = eqb-true row.code code parts.0 in
           rw parts.1 (subst (λ c. Contains (row.code ∷ holding rows) c) same (first_member row.code (holding rows)))
-      | inr later ↦ deeper row.holds (code_holding rows code later)
+      | inr later ↦ code_later row.holds row.code code (holding rows) (code_holding rows code later)
     ]
-  where
-    deeper : (b : Bool) → Contains (holding rows) code → Contains (cond b (row.code ∷ holding rows) (holding rows)) code
-    deeper true at = later_member row.code (holding rows) code at
-    deeper false at = at
 
 -- a table with a row for each number from one on
 numbered : ℕ → ℕ → (ℕ → Bool) → List (Row ℕ)
@@ -49,13 +46,11 @@ numbered from n test = map (λ code. code :? test code) (range_with_len from n)
 of_numbered : (n from : ℕ) (test : ℕ → Bool) (code : ℕ) → Contains (holding (numbered from n test)) code → test code ≡ true
 unfolding numbered
 of_numbered zero from test code at = absurd (no_member [] code refl at)
-of_numbered (suc n) from test code at = step (test from) refl (of_numbered n (from + 1) test code) at
-  where
-    step : (b : Bool) → test from ≡ b → (Contains (holding (map (λ c. c :? test c) (range_with_len (from + 1) n))) code → test code ≡ true)
-        → Contains (cond b (from ∷ holding (map (λ c. c :? test c) (range_with_len (from + 1) n)))
-        (holding (map (λ c. c :? test c) (range_with_len (from + 1) n)))) code → test code ≡ true
-    step true holds deeper here = grind (arith, member_cases from (holding (map (λ c. c :? test c) (range_with_len (from + 1) n))) code here)
-    step false holds deeper here = deeper here
+of_numbered (suc n) from test code at =
+    elim (filter_step from code (holding (numbered (from + 1) n test)) (test from) at) [
+      | inl here ↦ subst (λ c. test c ≡ true) here.1 here.0
+      | inr later ↦ of_numbered n (from + 1) test code later
+    ]
 
 in_numbered : (n from : ℕ) (test : ℕ → Bool) (code : ℕ) → from ≤ code → code < from + n → test code ≡ true
     → Contains (holding (numbered from n test)) code
@@ -65,14 +60,9 @@ in_numbered (suc n) from test code low high holds =
     elim (cases_eq from code) [
       | inl same ↦ rw (ap test same ∙ holds) (subst (λ c. Contains (from ∷ holding (map (λ k. k :? test k) (range_with_len (from + 1) n))) c) same
           (first_member from _))
-      | inr other ↦ deeper (test from) (in_numbered n (from + 1) test code (omega arith) (omega arith) holds)
+      | inr other ↦ code_later (test from) from code (holding (numbered (from + 1) n test))
+          (in_numbered n (from + 1) test code (omega arith) (omega arith) holds)
     ]
-  where
-    deeper : (b : Bool) → Contains (holding (map (λ c. c :? test c) (range_with_len (from + 1) n))) code
-        → Contains (cond b (from ∷ holding (map (λ c. c :? test c) (range_with_len (from + 1) n)))
-        (holding (map (λ c. c :? test c) (range_with_len (from + 1) n)))) code
-    deeper true at = later_member from (holding (map (λ c. c :? test c) (range_with_len (from + 1) n))) code at
-    deeper false at = at
 
 -- The codes of stage 8 are from 1 to 9.
 
@@ -82,12 +72,11 @@ Within (row ∷ rows) = (1 ≤ row.code) × (row.code < 10) × Within rows
 
 holding_within : (rows : List (Row ℕ)) (code : ℕ) → Within rows → Contains (holding rows) code → (1 ≤ code) × (code < 10)
 holding_within [] code within at = absurd (no_member [] code refl at)
-holding_within (row ∷ rows) code within at = step row.holds (holding_within rows code within.2) at
-  where
-    step : (b : Bool) → (Contains (holding rows) code → (1 ≤ code) × (code < 10)) → Contains (cond b (row.code ∷ holding rows) (holding rows)) code
-        → (1 ≤ code) × (code < 10)
-    step true deeper here = grind (arith, member_cases row.code (holding rows) code here, within)
-    step false deeper here = deeper here
+holding_within (row ∷ rows) code within at =
+    elim (filter_step row.code code (holding rows) row.holds at) [
+      | inl here ↦ subst (λ c. (1 ≤ c) × (c < 10)) here.1 (within.0, within.1)
+      | inr later ↦ holding_within rows code within.2 later
+    ]
 
 contents_within : (file : File) (fields : Metadata) (p : ℕ) → Within (database_rows file fields p)
 contents_within file (BtreeFields meta) p =
@@ -136,9 +125,7 @@ of_contents file fault at =
     of_by_page 8 0 (file.last + 1) (λ p. holding (contents_rows file p)) fault at in
     let found = of_codes file fault.page fault.code is.is_code in
     in_flat_map (database_faults file) (fields_of file) found.0 fault found.1
-    (subst (λ s. Contains (by_page 8 0 (file.last + 1) (λ p. holding (database_rows file found.0 p)))
-    (record { stage = s; page = fault.page; code = fault.code })) (sym is.same_stage)
-    (in_by_page 8 0 (file.last + 1) fault.page fault.code (λ p. holding (database_rows file found.0 p)) is.from_low is.below_high found.2))
+    (at_page 8 0 (file.last + 1) (λ p. holding (contents_rows file p)) (λ p. holding (database_rows file found.0 p)) fault is found.2)
 
 pub in_contents : (file : File) (fault : Fault) → Contains (flat_map (database_faults file) (fields_of file)) fault
     → Contains (contents_faults file) fault
@@ -147,10 +134,7 @@ in_contents file fault at =
     let found = of_flat_map (database_faults file) (fields_of file) fault at in
     let codes : ℕ → List ℕ = λ p. holding (database_rows file found.0 p) in
     let is : IsOfStage 8 0 (0 + (file.last + 1)) codes fault = of_by_page 8 0 (file.last + 1) codes fault found.2 in
-    subst (λ s. Contains (by_page 8 0 (file.last + 1) (λ p. holding (contents_rows file p)))
-    (record { stage = s; page = fault.page; code = fault.code })) (sym is.same_stage)
-    (in_by_page 8 0 (file.last + 1) fault.page fault.code (λ p. holding (contents_rows file p)) is.from_low is.below_high
-    (in_codes file found.0 fault.page fault.code found.1 is.is_code))
+    at_page 8 0 (file.last + 1) codes (λ p. holding (contents_rows file p)) fault is (in_codes file found.0 fault.page fault.code found.1 is.is_code)
 
 -- Both lists rise.
 

@@ -1,5 +1,5 @@
 -- The faults of what the databases of a file hold, by its metadata pages.
-use Rattle.std.proofs.Common.{◌≡◌, ℕ, ◌+◌, ◌≤◌, true, List, [], length, append-nil, Option, Some, None, arith, refl, sym, ◌∙◌, ap, subst}
+use Rattle.std.proofs.Common.{◌≡◌, ℕ, ◌+◌, ◌≤◌, List, [], length, append-nil, Option, Some, None, arith, refl, sym, ◌∙◌, ap, subst}
 use Rattle.std.specs.Prelude.{take}
 use Rattle.std.specs.List.{Contains, flat_map, range_with_len, slice_get}
 use Rattle.std.proofs.lemmas.List.{take_all}
@@ -12,6 +12,7 @@ use Rattle.bdb_format.specs.HeadOf.{head_of}
 use Rattle.bdb_format.specs.Page.{Metadata, QueueFields, Page, Meta}
 use Rattle.bdb_format.specs.Reading.{abstract_page}
 use Rattle.bdb_format.specs.Verdict.{holding, contents_faults, first_fault}
+use Rattle.bdb_format.proofs.ListLemmas.{only_member}
 use Rattle.bdb_format.proofs.MemberLemmas.{in_flat_map, in_map, is_empty, no_member, of_filter, of_flat_map, of_map, of_range, in_filter}
 use Rattle.bdb_format.proofs.VerdictLemmas.{IsOfStage, of_by_page}
 use Rattle.bdb_graph.specs.Linked.{HasMetadata, meta_pages}
@@ -19,8 +20,9 @@ use Rattle.bdb_graph.proofs.HeldLemmas.{page_is}
 use Rattle.bdb_overflow.specs.Earlier.{earlier}
 use Rattle.bdb_file.specs.Noted.{contents_at, contents_in, earliest}
 use Rattle.bdb_file.proofs.ContentLemmas.{content_one, content_rises, contents_one, contents_rises, in_contents, of_contents}
-use Rattle.bdb_file.proofs.MergeLemmas.{IsFirstOrNone, first_is, first_of_list}
-use Rattle.bdb_file.proofs.NotedLemmas.{earliest_first, first_same, noted_more}
+use Rattle.bdb_btree.proofs.LeastLemmas.{IsFirstOrNone, first_is}
+use Rattle.bdb_file.proofs.MergeLemmas.{first_of_list}
+use Rattle.bdb_file.proofs.NotedLemmas.{IsFirstOfStage, earliest_first, first_same, noted_more}
 
 pub has_metadata : (file : File) (p : ℕ) (fields : Metadata) → p ≤ file.last → page_at file p ≡ Meta fields → HasMetadata file fields
 has_metadata file p fields inside is = record { page = p; inside = inside; is = is }
@@ -38,14 +40,17 @@ no_queue_fault file meta = ap first_fault (is_empty (database_faults file (Queue
 
 -- The faults of the metadata on a page.
 
-one_of : (file : File) (page : Page) (fault : Fault) → Contains (flat_map (database_faults file) (fields_in page)) fault → fault.stage ≡ 8
-one_of file page fault at = let found = of_flat_map (database_faults file) (fields_in page) fault at in contents_one file found.0 fault found.2
-
-first_of_page : (file : File) (page : Page) → IsFirstOrNone (flat_map (database_faults file) (fields_in page)) (contents_in file page)
-first_of_page file (Meta fields) =
-    subst (λ fs. IsFirstOrNone fs (first_fault (database_faults file fields))) (sym (append-nil (database_faults file fields)))
-    (first_of_list (database_faults file fields) 8 (contents_rises file fields) (contents_one file fields))
-first_of_page file page = λ fault at. no_member [] fault refl at
+first_of_page : (file : File) (page : Page) → IsFirstOfStage 8 (flat_map (database_faults file) (fields_in page)) (contents_in file page)
+first_of_page file page = record {
+  of = λ fault at. let found = of_flat_map (database_faults file) (fields_in page) fault at in contents_one file found.0 fault found.2;
+  first = first page;
+}
+  where
+    first : (other : Page) → IsFirstOrNone (flat_map (database_faults file) (fields_in other)) (contents_in file other)
+    first (Meta fields) =
+        subst (λ fs. IsFirstOrNone fs (first_fault (database_faults file fields))) (sym (append-nil (database_faults file fields)))
+        (first_of_list (database_faults file fields) 8 (contents_rises file fields) (contents_one file fields))
+    first other = λ fault at. no_member [] fault refl at
 
 pub contents_more : (file : File) (i p : ℕ) (least : Option Fault) → slice_get (meta_pages file) i ≡ Some p
     → least ≡ earliest (contents_at file) (take i (meta_pages file))
@@ -54,9 +59,9 @@ contents_more file i p least is noted = noted_more (contents_at file) (meta_page
 
 -- The metadata of a file is on its metadata pages.
 
-is_some_meta : (page : Page) (fields : Metadata) → Contains (fields_in page) fields → is_meta page ≡ true
-is_some_meta (Meta other) fields at = refl
-is_some_meta page fields at = absurd (no_member [] fields refl at)
+pub is_of_page : (page : Page) (fields : Metadata) → Contains (fields_in page) fields → page ≡ Meta fields
+is_of_page (Meta other) fields at = ap (λ (f : Metadata). Meta f) (only_member other fields at)
+is_of_page page fields at = absurd (no_member [] fields refl at)
 
 of_fields : (image : List ℕ) (fields : Metadata) → Contains (fields_of (file_of image)) fields
     → (p : ℕ) × Contains (meta_pages (file_of image)) p × Contains (fields_in (page_at (file_of image) p)) fields
@@ -71,7 +76,7 @@ of_fields image fields at =
     let here : Contains (fields_in (page_at (file_of image) page.0)) fields = subst (λ q. Contains (fields_in q) fields) (sym same) found.2 in (
       page.0,
       in_filter (λ p. is_meta (page_at (file_of image) p)) (range_with_len 0 ((head_of image).last + 1)) page.0 page.1
-          (is_some_meta (page_at (file_of image) page.0) fields here),
+          (ap is_meta (is_of_page (page_at (file_of image) page.0) fields here)),
       here,
     )
 
@@ -116,4 +121,4 @@ contents_first image i least all noted =
     (first_same (flat_map (λ p. flat_map (database_faults file) (fields_in (page_at file p))) (meta_pages file)) (contents_faults file)
     (earliest (contents_at file) (meta_pages file)) (of_pages image) (in_pages image)
     (earliest_first (contents_at file) (λ p. flat_map (database_faults file) (fields_in (page_at file p))) 8
-    (λ p. first_of_page file (page_at file p)) (λ p. one_of file (page_at file p)) (meta_pages file))))
+    (λ p. first_of_page file (page_at file p)) (meta_pages file)).first))

@@ -35,8 +35,8 @@ use Rattle.bdb_overflow.specs.Earlier.{earlier}
 use Rattle.bdb_file.specs.Noted.{earliest}
 use Rattle.bdb_file.proofs.ContentLemmas.{code_holding, holding_code}
 use Rattle.bdb_file.proofs.DatabaseLemmas.{has_metadata}
-use Rattle.bdb_file.proofs.MergeLemmas.{IsFirstOrNone, first_is}
-use Rattle.bdb_file.proofs.NotedLemmas.{AreOf, earliest_first, first_of_parts, first_same, flat_of}
+use Rattle.bdb_btree.proofs.LeastLemmas.{IsFirstOrNone, first_is}
+use Rattle.bdb_file.proofs.NotedLemmas.{IsFirstOfStage, earliest_first, first_of_parts, first_same}
 
 -- A table of five rows.
 
@@ -80,8 +80,8 @@ given_first (Some one) = record {
 abbrev IsSeven : Option Fault → Type 0
 IsSeven found = (fault : Fault) → found ≡ Some fault → fault.stage ≡ 7
 
-given_of : (found : Option Fault) → IsSeven found → AreOf 7 (given found)
-given_of found is fault at = is fault (of_given found fault at)
+given_of : (found : Option Fault) → IsSeven found → IsFirstOfStage 7 (given found) found
+given_of found is = record { of = λ fault at. is fault (of_given found fault at); first = given_first found }
 
 some_seven : (page code : ℕ) → IsSeven (Some (fault_at page code))
 some_seven page code fault is = let same : fault_at page code ≡ fault = cc in sym (ap (λ (f : Fault). f.stage) same)
@@ -391,34 +391,14 @@ noted_first : (file : File) (entries : List NamedPair)
     (earlier (earlier (earliest (naming_fault entries) (meta_pages file)) (earliest (entry_fault file) entries))
     (earliest repeat_fault (repeated_by key_of [] entries)))
 noted_first file entries =
-    let names : AreOf 7 (by_naming file entries) =
-    flat_of (naming_fault entries) (λ p. given (naming_fault entries p)) 7 (λ p. given_first (naming_fault entries p))
-    (λ p. given_of (naming_fault entries p) (count_seven p (length (entries_naming p entries)))) (meta_pages file)
-    in
-    let targets : AreOf 7 (by_target file entries) =
-    flat_of (entry_fault file) (λ (entry : NamedPair). given (entry_fault file entry)) 7 (λ entry. given_first (entry_fault file entry))
-    (λ (entry : NamedPair). given_of (entry_fault file entry) (target_seven file entry.page entry.names)) entries
-    in
-    let repeats : AreOf 7 (by_repeat entries) =
-    flat_of repeat_fault (λ (entry : NamedPair). given (repeat_fault entry)) 7 (λ entry. given_first (repeat_fault entry))
-    (λ (entry : NamedPair). given_of (repeat_fault entry) (some_seven entry.page 4)) (repeated_by key_of [] entries)
-    in
-    first_of_parts 7 (by_naming file entries ++ by_target file entries) (by_repeat entries)
-    (earlier (earliest (naming_fault entries) (meta_pages file)) (earliest (entry_fault file) entries))
-    (earliest repeat_fault (repeated_by key_of [] entries))
-    (λ fault at. elim (Contains-append_cases (by_naming file entries) (by_target file entries) fault at) [
-      | inl here ↦ names fault here
-      | inr here ↦
-          targets fault here
-    ]) repeats
-    (first_of_parts 7 (by_naming file entries) (by_target file entries) (earliest (naming_fault entries) (meta_pages file))
-    (earliest (entry_fault file) entries) names targets
-    (earliest_first (naming_fault entries) (λ p. given (naming_fault entries p)) 7 (λ p. given_first (naming_fault entries p))
+    (first_of_parts 7 (by_naming file entries ++ by_target file entries) (by_repeat entries) _ _
+    (first_of_parts 7 (by_naming file entries) (by_target file entries) _ _
+    (earliest_first (naming_fault entries) (λ p. given (naming_fault entries p)) 7
     (λ p. given_of (naming_fault entries p) (count_seven p (length (entries_naming p entries)))) (meta_pages file))
-    (earliest_first (entry_fault file) (λ (entry : NamedPair). given (entry_fault file entry)) 7 (λ entry. given_first (entry_fault file entry))
+    (earliest_first (entry_fault file) (λ (entry : NamedPair). given (entry_fault file entry)) 7
     (λ (entry : NamedPair). given_of (entry_fault file entry) (target_seven file entry.page entry.names)) entries))
-    (earliest_first repeat_fault (λ (entry : NamedPair). given (repeat_fault entry)) 7 (λ entry. given_first (repeat_fault entry))
-    (λ (entry : NamedPair). given_of (repeat_fault entry) (some_seven entry.page 4)) (repeated_by key_of [] entries))
+    (earliest_first repeat_fault (λ (entry : NamedPair). given (repeat_fault entry)) 7
+    (λ (entry : NamedPair). given_of (repeat_fault entry) (some_seven entry.page 4)) (repeated_by key_of [] entries))).first
 
 pub master_first : (image : List ℕ) → IsForest image
     → earlier (earlier (earliest (naming_fault (master_entries (file_of image))) (meta_pages (file_of image)))

@@ -1,5 +1,5 @@
 -- The first fault of a stage from those of its parts.
-use Rattle.std.proofs.Common.{◌≡◌, ◌⊎◌, ℕ, ◌+◌, ◌<◌, ◌≤◌, List, [], ◌∷◌, ◌++◌, Option, Some, None, arith, refl, sym, ◌∙◌, ap, subst, inl, inr}
+use Rattle.std.proofs.Common.{◌≡◌, ◌⊎◌, ℕ, ◌+◌, List, [], ◌∷◌, ◌++◌, Option, Some, None, arith, refl, sym, ◌∙◌, subst, inl, inr}
 use Rattle.std.specs.List.{Contains}
 use Rattle.std.proofs.lemmas.Bool.{cases_Bool}
 use Rattle.std.proofs.lemmas.List.Elements.{Contains-append_cases, Contains-append_left, Contains-append_right}
@@ -14,20 +14,10 @@ use Rattle.bdb_format.proofs.MemberLemmas.{first_member, no_member}
 use Rattle.bdb_format.proofs.VerdictLemmas.{FirstComesFirst, IsOfStage, by_page_first, holding_least, in_by_page, of_by_page}
 use Rattle.bdb_overflow.specs.Earlier.{earlier, is_before}
 use Rattle.bdb_overflow.proofs.EarlierLemmas.{after_is, before_is}
-use Rattle.bdb_format.proofs.FaultLemmas.{same_fault, comes_through, tree_rises, tree_one}
+use Rattle.bdb_format.proofs.FaultLemmas.{comes_through, tree_rises, tree_one}
+use Rattle.bdb_btree.proofs.LeastLemmas.{IsFirstIn, IsFirstOrNone, first_is}
 
 -- The first fault of a list that rises.
-
--- a fault of a list that comes before all of it
-pub record IsFirstIn (faults : List Fault) (first : Fault) : Type 0 where
-  pub at : Contains faults first
-  pub before : (fault : Fault) → Contains faults fault → ComesFirst first fault
-  pub stage : (fault : Fault) → Contains faults fault → first.stage ≡ fault.stage
-
--- none of an empty list, else one that comes before all
-abbrev pub IsFirstOrNone : List Fault → Option Fault → Type 0
-IsFirstOrNone faults None = (fault : Fault) → Contains faults fault → ⊥
-IsFirstOrNone faults (Some first) = IsFirstIn faults first
 
 pub first_of_list : (faults : List Fault) (stage : ℕ) → FirstComesFirst faults → ((fault : Fault) → Contains faults fault → fault.stage ≡ stage)
     → IsFirstOrNone faults (first_fault faults)
@@ -38,18 +28,6 @@ first_of_list (first ∷ rest) stage rises same = record {
   stage = λ fault at. same first (first_member first rest) ∙ sym (same fault at);
 }
 
--- what comes first in a list that rises is its first
-pub first_is : (faults : List Fault) (stage : ℕ) (found : Option Fault) → FirstComesFirst faults
-    → ((fault : Fault) → Contains faults fault → fault.stage ≡ stage) → IsFirstOrNone faults found
-    → first_fault faults ≡ found
-first_is [] stage None rises same found = refl
-first_is [] stage (Some first) rises same found = absurd (no_member [] first refl found.at)
-first_is (a ∷ rest) stage None rises same found = absurd (found a (first_member a rest))
-first_is (a ∷ rest) stage (Some first) rises same found =
-    ap (λ (f : Fault). Some f)
-    (same_fault a first (same a (first_member a rest) ∙ sym (same first found.at)) (rises a rest first refl found.at)
-    (found.before a (first_member a rest)))
-
 -- The first fault of two lists together.
 
 -- the faults of a list are those of two others
@@ -58,68 +36,60 @@ pub record AreBoth (xs ys zs : List Fault) : Type 0 where
   pub left : (fault : Fault) → Contains xs fault → Contains zs fault
   pub right : (fault : Fault) → Contains ys fault → Contains zs fault
 
-pub first_of_both : (xs ys zs : List Fault) (a b : Option Fault) → AreBoth xs ys zs
-    → ((fault : Fault) (other : Fault) → Contains zs fault → Contains zs other → fault.stage ≡ other.stage)
-    → IsFirstOrNone xs a → IsFirstOrNone ys b → IsFirstOrNone zs (earlier a b)
+abbrev AreOfOne : List Fault → Type 0
+AreOfOne faults = (fault other : Fault) → Contains faults fault → Contains faults other → fault.stage ≡ other.stage
+
+first_among : (xs ys zs : List Fault) (first : Fault) → AreBoth xs ys zs → AreOfOne zs → Contains zs first
+    → ((fault : Fault) → Contains xs fault → ComesFirst first fault) → ((fault : Fault) → Contains ys fault → ComesFirst first fault)
+    → IsFirstIn zs first
+first_among xs ys zs first both same at left right = record {
+  at = at;
+  before = λ fault there. elim (both.of fault there) [ inl in_left ↦ left fault in_left | inr in_right ↦ right fault in_right ];
+  stage = λ fault there. same first fault at there;
+}
+
+pub first_of_both : (xs ys zs : List Fault) (a b : Option Fault) → AreBoth xs ys zs → AreOfOne zs → IsFirstOrNone xs a → IsFirstOrNone ys b
+    → IsFirstOrNone zs (earlier a b)
 first_of_both xs ys zs None None both same first second =
     λ fault at. elim (both.of fault at) [ inl left ↦ first fault left | inr right ↦ second fault right ]
-first_of_both xs ys zs None (Some b) both same first second = record {
-  at = both.right b second.at;
-  before = λ fault at. elim (both.of fault at) [ inl left ↦ absurd (first fault left) | inr right ↦ second.before fault right ];
-  stage = λ fault at. same b fault (both.right b second.at) at;
-}
-first_of_both xs ys zs (Some a) None both same first second = record {
-  at = both.left a first.at;
-  before = λ fault at. elim (both.of fault at) [ inl left ↦ first.before fault left | inr right ↦ absurd (second fault right) ];
-  stage = λ fault at. same a fault (both.left a first.at) at;
-}
+first_of_both xs ys zs None (Some b) both same first second =
+    first_among xs ys zs b both same (both.right b second.at) (λ fault at. absurd (first fault at)) second.before
+first_of_both xs ys zs (Some a) None both same first second =
+    first_among xs ys zs a both same (both.left a first.at) first.before (λ fault at. absurd (second fault at))
 first_of_both xs ys zs (Some a) (Some b) both same first second =
     elim (cases_Bool (is_before a b)) [
-      | inl before ↦ rw before (record {
-        at = both.left a first.at;
-        before = λ fault at. elim (both.of fault at) [
-          | inl left ↦ first.before fault left
-          | inr right ↦
-              comes_through a b fault (before_is a b before) (second.before fault right)
-        ];
-        stage = λ fault at. same a fault (both.left a first.at) at;
-      })
-      | inr after ↦ rw after (record {
-        at = both.right b second.at;
-        before = λ fault at. elim (both.of fault at) [
-          | inl left ↦ comes_through b a fault (after_is a b after) (first.before fault left)
-          | inr right ↦
-              second.before fault right
-        ];
-        stage = λ fault at. same b fault (both.right b second.at) at;
-      })
+      | inl before ↦ rw before (first_among xs ys zs a both same (both.left a first.at) first.before
+          (λ fault at. comes_through a b fault (before_is a b before) (second.before fault at)))
+      | inr after ↦ rw after (first_among xs ys zs b both same (both.right b second.at)
+          (λ fault at. comes_through b a fault (after_is a b after) (first.before fault at)) second.before)
     ]
 
 -- Faults of a run of pages.
 
+-- a code of a page of the run is told there
+pub at_page : (stage from n : ℕ) (others codes : ℕ → List ℕ) (fault : Fault) → IsOfStage stage from (from + n) others fault
+    → Contains (codes fault.page) fault.code → Contains (by_page stage from n codes) fault
+at_page stage from n others codes fault is code =
+    subst (λ s. Contains (by_page stage from n codes) (record { stage = s; page = fault.page; code = fault.code })) (sym is.same_stage)
+    (in_by_page stage from n fault.page fault.code codes is.from_low is.below_high code)
+
 -- a run of pages whose codes are those of two others
-pub both_by_page : (stage from n : ℕ) (f g h : ℕ → List ℕ)
-    → ((p code : ℕ) → Contains (h p) code → Contains (f p) code ⊎ Contains (g p) code)
-    → ((p code : ℕ) → Contains (f p) code → Contains (h p) code) → ((p code : ℕ) → Contains (g p) code → Contains (h p) code)
+both_by_page : (stage from n : ℕ) (f g h : ℕ → List ℕ) → ((p : ℕ) → h p ≡ f p ++ g p)
     → AreBoth (by_page stage from n f) (by_page stage from n g) (by_page stage from n h)
-both_by_page stage from n f g h of left right = record {
+both_by_page stage from n f g h same = record {
   of = λ fault at.
       let is : IsOfStage stage from (from + n) h fault = of_by_page stage from n h fault at in
-      elim (of fault.page fault.code is.is_code) [
-        | inl code ↦ inl (at_page f fault is.same_stage is.from_low is.below_high code)
-        | inr code ↦ inr (at_page g fault is.same_stage is.from_low is.below_high code)
+      elim (Contains-append_cases (f fault.page) (g fault.page) fault.code (subst (λ cs. Contains cs fault.code) (same fault.page) is.is_code)) [
+        | inl code ↦ inl (at_page stage from n h f fault is code)
+        | inr code ↦ inr (at_page stage from n h g fault is code)
       ];
   left = λ fault at. let is : IsOfStage stage from (from + n) f fault = of_by_page stage from n f fault at in
-      at_page h fault is.same_stage is.from_low is.below_high (left fault.page fault.code is.is_code);
+      at_page stage from n f h fault is (subst (λ codes. Contains codes fault.code) (sym (same fault.page))
+      (Contains-append_left (f fault.page) (g fault.page) fault.code is.is_code));
   right = λ fault at. let is : IsOfStage stage from (from + n) g fault = of_by_page stage from n g fault at in
-      at_page h fault is.same_stage is.from_low is.below_high (right fault.page fault.code is.is_code);
+      at_page stage from n g h fault is (subst (λ codes. Contains codes fault.code) (sym (same fault.page))
+      (Contains-append_right (f fault.page) (g fault.page) fault.code is.is_code));
 }
-  where
-    at_page : (codes : ℕ → List ℕ) (fault : Fault) → fault.stage ≡ stage → from ≤ fault.page → fault.page < from + n
-        → Contains (codes fault.page) fault.code → Contains (by_page stage from n codes) fault
-    at_page codes fault same low high code =
-        subst (λ s. Contains (by_page stage from n codes) (record { stage = s; page = fault.page; code = fault.code })) (sym same)
-        (in_by_page stage from n fault.page fault.code codes low high code)
 
 -- the codes of two tables together
 of_holding : (xs ys : List (Row ℕ)) → holding (xs ++ ys) ≡ holding xs ++ holding ys
@@ -132,12 +102,7 @@ structure_both : (file : File) → AreBoth (chain_faults file) (tree_faults file
 unfolding chain_faults tree_faults structure_faults
 structure_both file =
     both_by_page 6 0 (file.last + 1) (λ p. holding (chain_rows file p)) (λ p. holding (tree_rows file p)) (λ p. holding (structure_rows file p))
-    (λ p code at. Contains-append_cases (holding (chain_rows file p)) (holding (tree_rows file p)) code
-    (subst (λ codes. Contains codes code) (of_holding (chain_rows file p) (tree_rows file p)) at))
-    (λ p code at. subst (λ codes. Contains codes code) (sym (of_holding (chain_rows file p) (tree_rows file p)))
-    (Contains-append_left (holding (chain_rows file p)) (holding (tree_rows file p)) code at))
-    (λ p code at. subst (λ codes. Contains codes code) (sym (of_holding (chain_rows file p) (tree_rows file p)))
-    (Contains-append_right (holding (chain_rows file p)) (holding (tree_rows file p)) code at))
+    (λ p. of_holding (chain_rows file p) (tree_rows file p))
 
 structure_one : (file : File) (fault : Fault) → Contains (structure_faults file) fault → fault.stage ≡ 6
 unfolding structure_faults

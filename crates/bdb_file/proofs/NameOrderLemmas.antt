@@ -19,8 +19,8 @@ use Rattle.bdb_format.specs.HeadOf.{head_of, is_page_size}
 use Rattle.bdb_format.specs.Less.{less}
 use Rattle.bdb_format.specs.Master.{master_in, master_pairs, named_by, pairs_under}
 use Rattle.bdb_format.specs.Numbers.{byte_at, four_at, has_bit}
-use Rattle.bdb_format.specs.Page.{BtreeFields, HashFields, QueueFields, Page, Meta}
-use Rattle.bdb_format.specs.Reading.{abstract_page, btree_fields, hash_fields, queue_fields}
+use Rattle.bdb_format.specs.Page.{BtreeFields, Page, Meta}
+use Rattle.bdb_format.specs.Reading.{abstract_page, btree_fields}
 use Rattle.bdb_format.specs.Rows.{are_wrong_flags, metadata_rows}
 use Rattle.bdb_format.specs.Verdict.{faults_of, holding, master_faults}
 use Rattle.bdb_format.proofs.MemberLemmas.{first_member, in_map, is_empty, later_member, no_member, none_passes, of_filter}
@@ -101,14 +101,11 @@ tree_meta : (order : Order) (page : List ℕ) (meta : BtreeMeta) → is_page_siz
     → abstract_page order page ≡ Meta (BtreeFields meta) → IsTreeMeta order page meta
 tree_meta order page meta size is =
     elim (cases_eq (byte_at page 25) 9) [
-      | inl tree ↦ let same : ◌≡◌ {A = Page} (Meta (BtreeFields (btree_fields order page))) (Meta (BtreeFields meta)) =
-          sym (tree_page order page size tree) ∙ is in record { byte = tree; fields = cc }
+      | inl tree ↦ record { byte = tree; fields = cc (tree_page order page size tree) }
       | inr no_tree ↦ elim (cases_eq (byte_at page 25) 8) [
-        | inl table ↦ let same : ◌≡◌ {A = Page} (Meta (HashFields (hash_fields order page))) (Meta (BtreeFields meta)) =
-            sym (table_page order page size table) ∙ is in absurd cc
+        | inl table ↦ absurd (cc (table_page order page size table))
         | inr no_table ↦ elim (cases_eq (byte_at page 25) 10) [
-          | inl queue ↦ let same : ◌≡◌ {A = Page} (Meta (QueueFields (queue_fields order page))) (Meta (BtreeFields meta)) =
-              sym (queue_page order page size queue) ∙ is in absurd cc
+          | inl queue ↦ absurd (cc (queue_page order page size queue))
           | inr no_queue ↦ let none : Some (BtreeFields meta) ≡ None = sym (ap meta_in is) ∙ no_meta order page no_table no_tree no_queue in absurd cc
         ]
       ]

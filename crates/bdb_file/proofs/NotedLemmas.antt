@@ -10,46 +10,39 @@ use Rattle.bdb_format.specs.declared.kinds.Fault.{Fault}
 use Rattle.bdb_format.proofs.MemberLemmas.{no_member}
 use Rattle.bdb_overflow.specs.Earlier.{earlier}
 use Rattle.bdb_file.specs.Noted.{noting, earliest}
-use Rattle.bdb_file.proofs.MergeLemmas.{AreBoth, IsFirstOrNone, first_of_both}
+use Rattle.bdb_btree.proofs.LeastLemmas.{IsFirstOrNone}
+use Rattle.bdb_file.proofs.MergeLemmas.{AreBoth, first_of_both}
 
--- a list and the one behind it
-both_parts : (xs ys : List Fault) → AreBoth xs ys (xs ++ ys)
-both_parts xs ys = record {
-  of = λ fault at. Contains-append_cases xs ys fault at;
-  left = λ fault at. Contains-append_left xs ys fault at;
-  right = λ fault at. Contains-append_right xs ys fault at;
-}
-
--- all faults are of this stage
-abbrev pub AreOf : ℕ → List Fault → Type 0
-AreOf stage faults = (fault : Fault) → Contains faults fault → fault.stage ≡ stage
-
-parts_of : (stage : ℕ) (xs ys : List Fault) → AreOf stage xs → AreOf stage ys → AreOf stage (xs ++ ys)
-parts_of stage xs ys left right fault at = elim (Contains-append_cases xs ys fault at) [ inl here ↦ left fault here | inr later ↦ right fault later ]
+-- all faults are of this stage, and this is the first, where there is one
+pub record IsFirstOfStage (stage : ℕ) (faults : List Fault) (found : Option Fault) : Type 0 where
+  pub of : (fault : Fault) → Contains faults fault → fault.stage ≡ stage
+  pub first : IsFirstOrNone faults found
 
 -- the first of two lists, one behind the other
-pub first_of_parts : (stage : ℕ) (xs ys : List Fault) (a b : Option Fault) → AreOf stage xs → AreOf stage ys → IsFirstOrNone xs a → IsFirstOrNone ys b
-    → IsFirstOrNone (xs ++ ys) (earlier a b)
-first_of_parts stage xs ys a b left right first second =
-    first_of_both xs ys (xs ++ ys) a b (both_parts xs ys)
-    (λ fault other at also. parts_of stage xs ys left right fault at ∙ sym (parts_of stage xs ys left right other also)) first second
+pub first_of_parts : (stage : ℕ) (xs ys : List Fault) (a b : Option Fault) → IsFirstOfStage stage xs a → IsFirstOfStage stage ys b
+    → IsFirstOfStage stage (xs ++ ys) (earlier a b)
+first_of_parts stage xs ys a b left right =
+    let of : (fault : Fault) → Contains (xs ++ ys) fault → fault.stage ≡ stage =
+    λ fault at. elim (Contains-append_cases xs ys fault at) [ inl here ↦ left.of fault here | inr later ↦ right.of fault later ] in
+    let both : AreBoth xs ys (xs ++ ys) =
+    record { of = Contains-append_cases xs ys; left = Contains-append_left xs ys; right = Contains-append_right xs ys } in
+    record {
+      of = of;
+      first = first_of_both xs ys (xs ++ ys) a b both (λ fault other at also. of fault at ∙ sym (of other also)) left.first right.first;
+    }
 
-module _ {X : Type 0} (give : X → Option Fault) (faults : X → List Fault) (stage : ℕ) (first : (x : X) → IsFirstOrNone (faults x) (give x))
-    (of : (x : X) → AreOf stage (faults x)) where
-  after : (xs : List X) (before : List Fault) (least : Option Fault) → AreOf stage before → IsFirstOrNone before least
-      → IsFirstOrNone (before ++ flat_map faults xs) (fold (noting give) least xs)
-  after [] before least are is = subst (λ fs. IsFirstOrNone fs least) (sym (append-nil before)) is
-  after (x ∷ xs) before least are is =
-      subst (λ fs. IsFirstOrNone fs (fold (noting give) (earlier least (give x)) xs)) (append_assoc before (faults x) (flat_map faults xs))
-      (after xs (before ++ faults x) (earlier least (give x)) (parts_of stage before (faults x) are (of x))
-      (first_of_parts stage before (faults x) least (give x) are (of x) is (first x)))
+module _ {X : Type 0} (give : X → Option Fault) (faults : X → List Fault) (stage : ℕ)
+    (first : (x : X) → IsFirstOfStage stage (faults x) (give x)) where
+  after : (xs : List X) (before : List Fault) (least : Option Fault) → IsFirstOfStage stage before least
+      → IsFirstOfStage stage (before ++ flat_map faults xs) (fold (noting give) least xs)
+  after [] before least is = subst (λ fs. IsFirstOfStage stage fs least) (sym (append-nil before)) is
+  after (x ∷ xs) before least is =
+      subst (λ fs. IsFirstOfStage stage fs (fold (noting give) (earlier least (give x)) xs)) (append_assoc before (faults x) (flat_map faults xs))
+      (after xs (before ++ faults x) (earlier least (give x)) (first_of_parts stage before (faults x) least (give x) is (first x)))
 
-  pub earliest_first : (xs : List X) → IsFirstOrNone (flat_map faults xs) (earliest give xs)
-  earliest_first xs = after xs [] None (λ fault at. absurd (no_member [] fault refl at)) (λ fault at. no_member [] fault refl at)
-
-  pub flat_of : (xs : List X) → AreOf stage (flat_map faults xs)
-  flat_of [] fault at = absurd (no_member [] fault refl at)
-  flat_of (x ∷ xs) fault at = parts_of stage (faults x) (flat_map faults xs) (of x) (flat_of xs) fault at
+  pub earliest_first : (xs : List X) → IsFirstOfStage stage (flat_map faults xs) (earliest give xs)
+  earliest_first xs =
+      after xs [] None (record { of = λ fault at. absurd (no_member [] fault refl at); first = λ fault at. no_member [] fault refl at })
 
 -- the same faults have the same first
 pub first_same : (xs ys : List Fault) (found : Option Fault) → ((fault : Fault) → Contains xs fault → Contains ys fault)

@@ -1,5 +1,4 @@
 -- A database of a sound file has metadata that keeps every rule.
-use Rattle.bdb_format.proofs.ListLemmas.{only_member}
 use Rattle.std.proofs.Common.{◌≡◌, ℕ, ◌<◌, ◌≤◌, List, [], length, Option, Some, None, arith, refl, sym, ◌∙◌, ap, subst, inl, inr}
 use Rattle.std.specs.List.{Contains}
 use Rattle.std.proofs.lemmas.Bool.{cases_lt}
@@ -12,7 +11,7 @@ use Rattle.bdb_format.specs.File.{File, file_of, page_at}
 use Rattle.bdb_format.specs.Graph.{is_meta}
 use Rattle.bdb_format.specs.HeadOf.{head_of}
 use Rattle.bdb_format.specs.Master.{master_in, master_pairs, named_by}
-use Rattle.bdb_format.specs.Page.{Metadata, NoType, Page, Meta}
+use Rattle.bdb_format.specs.Page.{Metadata, NoType, Meta}
 use Rattle.bdb_format.specs.Verdict.{contents_faults, faults_of, structure_faults}
 use Rattle.bdb_format.proofs.MemberLemmas.{first_member, in_flat_map, is_empty, no_member, of_flat_map, of_map}
 use Rattle.bdb_format.proofs.VerdictLemmas.{no_stage}
@@ -20,7 +19,7 @@ use Rattle.bdb_graph.specs.Linked.{HasMetadata}
 use Rattle.bdb_graph.proofs.HeldLemmas.{last_page}
 use Rattle.bdb_file.specs.Named.{database_at, no_database}
 use Rattle.bdb_file.proofs.ContentLemmas.{in_contents}
-use Rattle.bdb_file.proofs.DatabaseLemmas.{in_fields}
+use Rattle.bdb_file.proofs.DatabaseLemmas.{in_fields, is_of_page}
 use Rattle.bdb_file.proofs.MasterLemmas.{at_meta}
 use Rattle.bdb_file.proofs.NamedLemmas.{with_name}
 use Rattle.bdb_file.proofs.TargetLemmas.{past_last}
@@ -29,10 +28,6 @@ use Rattle.bdb_file.proofs.TargetLemmas.{past_last}
 
 abbrev OnPage : File → Database → Type 0
 OnPage file database = (p : ℕ) × (page_at file p ≡ Meta database.fields)
-
-is_of_page : (page : Page) (fields : Metadata) → Contains (fields_in page) fields → page ≡ Meta fields
-is_of_page (Meta other) fields at = ap (λ (f : Metadata). Meta f) (only_member other fields at)
-is_of_page page fields at = absurd (no_member [] fields refl at)
 
 on_page : (file : File) (name : Option (List ℕ)) (names : Option ℕ) (database : Database) → Contains (database_on file name names) database
     → OnPage file database
