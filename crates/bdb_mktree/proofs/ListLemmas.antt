@@ -1,5 +1,5 @@
 -- Lists and their units: the run of a key, the record that comes next, and the list that units give back.
-use Rattle.std.proofs.Common.{Bool, ◌≡◌, ℕ, suc, ◌+◌, ◌-◌, ◌<◌, ◌≤◌, true, false, cond, List, [], ◌∷◌, ◌++◌, length, map, take, drop, replicate, arith, refl, sym, ◌∙◌, ap, subst, inl, inr, true≢false}
+use Rattle.std.proofs.Common.{Bool, ◌≡◌, ℕ, suc, zero, ◌+◌, ◌-◌, ◌<◌, ◌≤◌, true, false, cond, List, [], ◌∷◌, ◌++◌, length, map, take, drop, replicate, arith, refl, sym, ◌∙◌, ap, subst, inl, inr, true≢false}
 use Rattle.std.specs.Prelude.{◌==◌}
 use Rattle.std.specs.List.{All, enumerate_from, flat_map, prefix_len}
 use Rattle.std.specs.Str.{bytes_eq}
@@ -90,7 +90,7 @@ run_is_unit key (pair ∷ pairs) n all is some =
     by_rest : (m : ℕ) → prefix_len (has_key key) (keys_of pairs) ≡ m
         → with_pair key pair.value (keyed_units pairs)
         ≡ KeyedUnit key (take (1 + m) (values_of (pair ∷ pairs))) ∷ keyed_units (drop (1 + m) (pair ∷ pairs))
-    by_rest 0 none = no_run key pair.value pairs (All-tail (λ (pair : Pair). HasBytes pair.key) pair pairs all) none
+    by_rest zero none = no_run key pair.value pairs (All-tail (λ (pair : Pair). HasBytes pair.key) pair pairs all) none
     by_rest (suc m) more =
         ap (with_pair key pair.value)
         (run_is_unit key pairs (suc m) (All-tail (λ (pair : Pair). HasBytes pair.key) pair pairs all) more (omega arith))
@@ -107,15 +107,16 @@ pub record_stands : (next : ℕ) (pair : Pair) (pairs : List Pair) → HasNumber
     → record_units next (pair ∷ pairs) ≡ EntryUnit pair.value false ∷ record_units (next + 1) pairs
 record_stands next pair pairs has stands =
     let same : number_in pair.key ≡ next = eqb-true (number_in pair.key) next (sym (number_test next pair.key has) ∙ stands) in
+    let none : next - next ≡ 0 = omega arith in
     ap (λ n. replicate (n - next) missing ++ (EntryUnit pair.value false ∷ record_units (n + 1) pairs)) same
-    ∙ ap (λ n. replicate n missing ++ (EntryUnit pair.value false ∷ record_units (next + 1) pairs)) (omega arith)
+    ∙ ap (λ n. replicate n missing ++ (EntryUnit pair.value false ∷ record_units (next + 1) pairs)) none
 
 -- or a missing one
 pub record_missing : (next : ℕ) (pair : Pair) (pairs : List Pair) → next < number_in pair.key
     → record_units next (pair ∷ pairs) ≡ missing ∷ record_units (next + 1) (pair ∷ pairs)
 record_missing next pair pairs later =
-    ap (λ n. replicate n missing ++ (EntryUnit pair.value false ∷ record_units (number_in pair.key + 1) pairs))
-    (omega (arith, later))
+    let one : number_in pair.key - next ≡ suc (number_in pair.key - (next + 1)) = omega (arith, later) in
+    ap (λ n. replicate n missing ++ (EntryUnit pair.value false ∷ record_units (number_in pair.key + 1) pairs)) one
 
 pub is_later : (next : ℕ) (key : Key) → HasNumber key → next ≤ number_in key → has_number next key ≡ false → next < number_in key
 is_later next key has most none =
@@ -153,15 +154,19 @@ number_listed (Number number) has = refl
 
 missing_listed : (n next : ℕ) (units : List TreeUnit)
     → flat_map listed_record (enumerate_from next (replicate n missing ++ units)) ≡ flat_map listed_record (enumerate_from (next + n) units)
-missing_listed 0 next units = ap (λ m. flat_map listed_record (enumerate_from m units)) (omega arith)
+missing_listed zero next units =
+    let same : next ≡ next + 0 = omega arith in
+    ap (λ m. flat_map listed_record (enumerate_from m units)) same
 missing_listed (suc n) next units =
-    missing_listed n (next + 1) units ∙ ap (λ m. flat_map listed_record (enumerate_from m units)) (omega arith)
+    let same : (next + 1) + n ≡ next + suc n = omega arith in
+    missing_listed n (next + 1) units ∙ ap (λ m. flat_map listed_record (enumerate_from m units)) same
 
 pub records_listed : (next : ℕ) (pairs : List Pair) → AscendFrom next pairs → flat_map listed_record (enumerate_from next (record_units next pairs)) ≡ listed pairs
 records_listed next [] ascend = refl
 records_listed next (pair ∷ pairs) (has, most, short, ascend) =
+    let at : next + (number_in pair.key - next) ≡ number_in pair.key = omega (arith, most) in
     missing_listed (number_in pair.key - next) next (EntryUnit pair.value false ∷ record_units (number_in pair.key + 1) pairs)
-    ∙ (ap (λ m. flat_map listed_record (enumerate_from m (EntryUnit pair.value false ∷ record_units (number_in pair.key + 1) pairs))) (omega (arith, most))
+    ∙ (ap (λ m. flat_map listed_record (enumerate_from m (EntryUnit pair.value false ∷ record_units (number_in pair.key + 1) pairs))) at
     ∙ (ap (λ k. (k, pair.value) ∷ flat_map listed_record (enumerate_from (number_in pair.key + 1) (record_units (number_in pair.key + 1) pairs)))
     (number_listed pair.key has)
     ∙ ap (λ more. (listed_key pair.key, pair.value) ∷ more) (records_listed (number_in pair.key + 1) pairs ascend)))

@@ -1,0 +1,13 @@
+use Rattle.std.proofs.Common.{subst}
+use Rattle.bdb_leaves.specs.Finished.{HasFirstRoot}
+use Rattle.bdb_leaves.specs.Moved.{first_leaf}
+use Rattle.bdb_mktree.proofs.FinishLemmas.{tree_built}
+use Rattle.bdb_mktree.proofs.builder.TreeBuilder.finish.Goals as goal
+
+pub returns : goal.returns
+returns c =
+    let building = c.requires in
+    let builder = c.args.self in
+    tree_built builder c.args.pages.now c.finish.new.pages c.in_ok-root.root building
+    (subst (λ b. HasFirstRoot builder.leaves c.args.pages.now c.finish.new.pages b building.closed building.units c.in_ok-root.root) c.is_counted.ensures
+    (c.in_ok-root.ensures (first_leaf builder.leaves) building.closed building.units building.filled building.some))
