@@ -27,11 +27,14 @@ pub mod PlacedLaws
 pub mod PlacedLemmas
 pub mod PlacingLemmas
 pub mod PushLemmas
+pub mod PushedLaws
 pub mod PutLemmas
 pub mod RestLemmas
 pub mod RunLemmas
 pub mod SetLemmas
 pub mod SetPutLemmas
+pub mod SpreadLemmas
 pub mod StandLemmas
 pub mod TowerLemmas
+pub mod TreeCountLemmas
 pub mod UnitLemmas

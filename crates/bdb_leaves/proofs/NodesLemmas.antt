@@ -331,6 +331,7 @@ leaf_rooted leaves built counted before closed units none whole filled =
         formed = λ p low high. absurd (omega (arith, low, high));
         form_kept = λ p low. refl;
         kept = λ p low other. refl;
+        count = omega arith;
       };
       some = inr refl;
     })

@@ -1,9 +1,10 @@
 -- Sets of the data of a key.
-use Rattle.std.proofs.Common.{◌≡◌, ℕ, ◌<◌, ◌≤◌, Bool, true, false, List, [], ◌∷◌, ◌++◌, length, map, None, arith, refl, sym, ◌∙◌, ap, subst, inl, inr, length-append}
-use Rattle.std.specs.List.{All, AllZip, Contains, flat_map}
+use Rattle.std.proofs.Common.{◌≡◌, ℕ, ◌+◌, ◌-◌, ◌<◌, ◌≤◌, Bool, true, false, if◌then◌else◌, List, [], ◌∷◌, ◌++◌, length, map, None, arith, refl, sym, ◌∙◌, ap, subst, inl, inr, length-append}
+use Rattle.std.specs.List.{All, AllZip, Contains, flat_map, sum_by}
 use Rattle.std.proofs.lemmas.Bool.{cases_Bool, cases_lt}
 use Rattle.std.proofs.lemmas.List.{append_assoc, map-append}
 use Rattle.std.proofs.lemmas.List.Elements.{All-head, All-tail, Contains-append_right}
+use Rattle.std.proofs.lemmas.List.Sums.{sum_by_push}
 use Rattle.bdb_format.specs.Page.{Tree}
 use Rattle.bdb_format.specs.File.{File}
 use Rattle.bdb_format.specs.Rows.{page_code}
@@ -16,8 +17,9 @@ use Rattle.bdb_levels.specs.Nodes.{Node}
 use Rattle.bdb_levels.specs.Roots.{is_of}
 use Rattle.bdb_pack.specs.Built.{Built, bytes_of, file_so_far}
 use Rattle.bdb_grove.proofs.BranchLemmas.{of_list}
-use Rattle.bdb_leaves.specs.Filled.{AllStand, AreFilled, FilledNow, IsPushed, rest_of}
+use Rattle.bdb_leaves.specs.Filled.{AllStand, AreFilled, AreSpreadOver, FilledNow, IsPushed, SpreadNow, rest_of}
 use Rattle.bdb_leaves.specs.Grown.{live_entry, placed_on}
+use Rattle.bdb_leaves.specs.Inner.{child_cost, first_cost}
 use Rattle.bdb_leaves.specs.Laid.{IsNodeOf, has_sorted_data, inner_of}
 use Rattle.bdb_leaves.specs.Leaves.{KeepsOthers, LeavesFrom, first_of, has_room}
 use Rattle.bdb_leaves.specs.Levels.{heads_of}
@@ -25,23 +27,28 @@ use Rattle.bdb_leaves.specs.Moved.{numbers_of}
 use Rattle.bdb_leaves.specs.Placed.{Placed, StandsPlaced, entries_of, unit_of}
 use Rattle.bdb_leaves.specs.Rooted.{HasRoot}
 use Rattle.bdb_leaves.specs.Sets.{IsSetBuilt, IsSetFilled, KeepsAll, SetStands, set_type}
-use Rattle.bdb_leaves.specs.Units.{unit_cost}
+use Rattle.bdb_leaves.specs.Spread.{leaves_and_levels, pages_over, set_pages}
+use Rattle.bdb_leaves.specs.Units.{chain_pages, unit_cost}
 use Rattle.bdb_leaves.specs.declared.leaf_type.LeafType.{LeafType}
 use Rattle.bdb_leaves.specs.declared.leaf_type.LeafType.TheVariants.{Pairs}
 use Rattle.bdb_leaves.specs.declared.leaves.Leaves.{Leaves}
 use Rattle.bdb_leaves.proofs.FilledLemmas.{counted_so_far, later_self}
 use Rattle.bdb_leaves.proofs.GrownLaws.{are_numbered, grown_sets_stand, names_on}
-use Rattle.bdb_leaves.proofs.GrownLemmas.{heads_among}
+use Rattle.bdb_leaves.proofs.GrownLemmas.{as_many, heads_among}
 use Rattle.bdb_leaves.proofs.HeldLemmas.{leaves_are_formed}
+use Rattle.bdb_leaves.proofs.MovedLemmas.{any_order}
 use Rattle.bdb_leaves.proofs.NodesLemmas.{all_units, each_leaf}
 use Rattle.bdb_leaves.proofs.PushLemmas.{whole_units}
+use Rattle.bdb_leaves.proofs.PushedLaws.{pushed_units_spread}
 use Rattle.bdb_leaves.proofs.RestLemmas.{is_one, is_rest, rest_is}
+use Rattle.bdb_leaves.proofs.TreeCountLemmas.{levels_counted}
 
 -- Leaves with the values so far.
 
 pub set_begun : (old new : Built) (type : LeafType) (leaves : Leaves) → leaves.leaf_type ≡ type → leaves.last ≡ length old.pages
-    → KeepsOthers leaves.last old new → AreFilled leaves new (length old.pages) [] [] → IsSetFilled old new type [] leaves
-set_begun old new type leaves is last kept filled =
+    → KeepsOthers leaves.last old new → AreFilled leaves new (length old.pages) [] [] → length new.pages ≡ length old.pages + 1
+    → IsSetFilled old new type [] leaves
+set_begun old new type leaves is last kept filled added =
     record {
       type_is = is;
       kept = record { size = kept.size; order = kept.order; grows = kept.grows; same = λ p low. kept.same p low (λ e. omega (arith, e, low, last)) };
@@ -50,6 +57,8 @@ set_begun old new type leaves is last kept filled =
       filled = filled;
       some = inl refl;
       units_are = refl;
+      spread = refl;
+      count = omega (arith, added);
     }
 
 -- one more is on the last leaf
@@ -58,6 +67,8 @@ pub set_grown : (old now new : Built) (type : LeafType) (values : List (List ℕ
     → IsSetFilled old new type (values ++ (value ∷ [])) next
 set_grown old now new type values value leaves next set put =
     by_room (has_room leaves now (unit_cost now.size (live_entry value))) (put.filled (length old.pages) set.closed set.units set.filled)
+    (pushed_units_spread leaves next now new (length old.pages) set.closed set.units (live_entry value) set.filled set.spread put)
+    (put.count false refl)
   where
     last_new : length old.pages ≤ leaves.last
     last_new = set.filled.new leaves.last
@@ -82,9 +93,17 @@ set_grown old now new type values value leaves next set put =
         ∙ (ap (λ ls. ls ++ (unit_of put.placed ∷ [])) are
         ∙ (ap (λ u. map live_entry values ++ (u ∷ [])) put.is ∙ sym (map-append live_entry values (value ∷ []))))
 
+    -- the chain of one value more
+    one_more : (leaf : ℕ) → length new.pages ≡ length now.pages + leaf + chain_pages now.size value
+        → length new.pages ≡ length old.pages + (length set.closed + leaf + 1) + sum_by (chain_pages old.size) (values ++ (value ∷ []))
+    one_more leaf added =
+        let before = set.count in
+        omega (arith, before, added, ap (λ n. chain_pages n value) set.kept.size, sum_by_push (chain_pages old.size) values value)
+
     by_room : (b : Bool) → FilledNow b next new (length old.pages) set.closed set.units put.placed
+        → SpreadNow b now.size set.closed set.units put.placed → length new.pages ≡ length now.pages + (if b then 0 else 1) + chain_pages now.size value
         → IsSetFilled old new type (values ++ (value ∷ [])) next
-    by_room true filled = record {
+    by_room true filled spread added = record {
       type_is = put.type ∙ set.type_is;
       kept = kept;
       closed = set.closed;
@@ -94,8 +113,10 @@ set_grown old now new type values value leaves next set put =
       units_are =
           ap (map unit_of) (sym (append_assoc (flat_map (λ leaf. leaf) set.closed) set.units (put.placed ∷ [])))
           ∙ live (flat_map (λ leaf. leaf) set.closed ++ set.units) set.units_are;
+      spread = subst (λ n. AreSpreadOver n set.closed (set.units ++ (put.placed ∷ []))) (sym put.kept.size) spread;
+      count = let all = one_more 0 added in omega (arith, all);
     }
-    by_room false filled = record {
+    by_room false filled spread added = record {
       type_is = put.type ∙ set.type_is;
       kept = kept;
       closed = set.closed ++ (set.units ∷ []);
@@ -105,6 +126,8 @@ set_grown old now new type values value leaves next set put =
       units_are =
           ap (λ us. map unit_of (us ++ (put.placed ∷ []))) (all_units set.closed set.units)
           ∙ live (flat_map (λ leaf. leaf) set.closed ++ set.units) set.units_are;
+      spread = subst (λ n. AreSpreadOver n (set.closed ++ (set.units ∷ [])) (put.placed ∷ [])) (sym put.kept.size) spread;
+      count = let all = one_more 1 added in omega (arith, all, length-append set.closed (set.units ∷ []));
     }
 
 -- The form of filled leaves.
@@ -189,6 +212,7 @@ set_built old mid new sorted values leaves root set has =
         | inr above ↦ has.tower.formed p above high
       ];
       stands = stands;
+      count = count;
     }
   where
     before : length old.pages ≤ length mid.pages
@@ -196,6 +220,26 @@ set_built old mid new sorted values leaves root set has =
 
     grows : length mid.pages ≤ length new.pages
     grows = has.tower.grows
+
+    -- its leaves and the levels over them
+    tree : length set.closed + 1 + pages_over (length has.nodes) (mid.size - 26) (first_cost (inner_of leaves.leaf_type))
+        (map (child_cost (inner_of leaves.leaf_type)) has.nodes)
+        ≡ leaves_and_levels leaves.leaf_type mid.size (map unit_of (flat_map (λ leaf. leaf) set.closed ++ set.units))
+    tree = levels_counted leaves.leaf_type mid.size (numbers_of leaves) set.closed set.units has.nodes
+        (as_many leaves.leaf_type mid 0 (numbers_of leaves) (set.closed ++ (set.units ∷ [])) 0
+        (any_order leaves.leaf_type mid 0 (numbers_of leaves) (map (flat_map entries_of) (set.closed ++ (set.units ∷ []))) 0
+        (are_numbered leaves mid (length old.pages) set.closed set.units set.filled).from)) has.nodes_are set.some set.filled.some set.filled.sizes set.spread
+
+    count : length new.pages ≡ length old.pages + set_pages old.size sorted values
+    count =
+        let chains = set.count in
+        let levels = has.tower.count in
+        let same : leaves_and_levels leaves.leaf_type mid.size (map unit_of (flat_map (λ leaf. leaf) set.closed ++ set.units))
+        ≡ leaves_and_levels (set_type sorted) old.size (map live_entry values) =
+        ap (λ us. leaves_and_levels leaves.leaf_type mid.size us) set.units_are
+        ∙ (ap (λ n. leaves_and_levels leaves.leaf_type n (map live_entry values)) set.kept.size
+        ∙ ap (λ type. leaves_and_levels type old.size (map live_entry values)) set.type_is) in
+        omega (arith, chains, levels, tree, same)
 
     stands : (g : File) → IsCounted g → IsLater (between (length old.pages) (length new.pages)) (file_so_far new) g
         → SetStands g (length old.pages) (length new.pages) sorted values root

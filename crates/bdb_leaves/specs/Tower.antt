@@ -1,5 +1,5 @@
 -- Levels that are laid over pages of a tree up to one with a single page, its root. Source: docs/FORMAT.md, "Built trees".
-use Rattle.std.specs.Prelude.{◌≡◌, ℕ, ◌-◌, ◌<◌, ◌≤◌, Bool, true, List, length, None}
+use Rattle.std.specs.Prelude.{◌≡◌, ℕ, ◌+◌, ◌-◌, ◌<◌, ◌≤◌, Bool, true, List, length, map, None}
 use Rattle.std.specs.List.{Contains, flat_map, range_with_len}
 use Rattle.bdb_format.specs.File.{File}
 use Rattle.bdb_format.specs.Rows.{page_code}
@@ -8,7 +8,9 @@ use Rattle.bdb_levels.specs.declared.inner_type.InnerType.{InnerType}
 use Rattle.bdb_levels.specs.Nodes.{IsTower, Node}
 use Rattle.bdb_levels.specs.Roots.{pages_of}
 use Rattle.bdb_pack.specs.Built.{AreWhole, Built, bytes_of, file_so_far}
+use Rattle.bdb_leaves.specs.Inner.{child_cost, first_cost}
 use Rattle.bdb_leaves.specs.Levels.{heads_of}
+use Rattle.bdb_leaves.specs.Spread.{pages_over}
 
 -- Behind the pages that stood are those of levels over these nodes, the last of them the root; where there is one node it's the root itself.
 -- The pages that stood are as before, but that heads of chains of keys may count more.
@@ -28,3 +30,4 @@ pub record HasTower (inner : InnerType) (old new : Built) (nodes : List Node) (r
   pub formed : (p : ℕ) → length old.pages ≤ p → p < length new.pages → page_code new.order p (bytes_of new p) ≡ None
   pub form_kept : (p : ℕ) → p < length old.pages → page_code new.order p (bytes_of new p) ≡ page_code old.order p (bytes_of old p)
   pub kept : (p : ℕ) → p < length old.pages → (Contains (flat_map (heads_of inner) nodes) p → ⊥) → bytes_of new p ≡ bytes_of old p
+  pub count : length new.pages ≡ length old.pages + pages_over (length nodes) (old.size - 26) (first_cost inner) (map (child_cost inner) nodes)

@@ -1,4 +1,5 @@
 //! Laws of leaves that take entries.
+ghost use Rattle.bdb_leaves.specs.Filled.{PushedUnitsSpread, UnitsFit};
 ghost use Rattle.bdb_leaves.specs.Finished.{FinishedTreesAreLaid, FinishedTreesKeepPages};
 ghost use Rattle.bdb_leaves.specs.Grown.{FilledTreesAreLaid, GrownSetsStand};
 ghost use Rattle.bdb_leaves.specs.Inner.{ChildrenAreFormed, ChildrenStand, RaisedPagesStand};
@@ -145,4 +146,14 @@ pub fn finished_trees_keep_pages()
 /// A grown tree of live entries is a set of their values, and stands where a datum names its root.
 pub fn grown_sets_stand()
     ensures { GrownSetsStand }
+{}
+
+/// Where units are spread over leaves by what they take, they are with a unit more that is pushed.
+pub fn pushed_units_spread()
+    ensures { PushedUnitsSpread }
+{}
+
+/// Each unit has room on a leaf.
+pub fn units_fit()
+    ensures { UnitsFit }
 {}
