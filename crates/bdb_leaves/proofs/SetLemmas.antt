@@ -101,7 +101,8 @@ set_grown old now new type values value leaves next set put =
         omega (arith, before, added, ap (λ n. chain_pages n value) set.kept.size, sum_by_push (chain_pages old.size) values value)
 
     by_room : (b : Bool) → FilledNow b next new (length old.pages) set.closed set.units put.placed
-        → SpreadNow b now.size set.closed set.units put.placed → length new.pages ≡ length now.pages + (if b then 0 else 1) + chain_pages now.size value
+        → SpreadNow b now.size set.closed set.units put.placed
+        → length new.pages ≡ length now.pages + (if b then 0 else 1) + chain_pages now.size value
         → IsSetFilled old new type (values ++ (value ∷ [])) next
     by_room true filled spread added = record {
       type_is = put.type ∙ set.type_is;
@@ -228,7 +229,8 @@ set_built old mid new sorted values leaves root set has =
     tree = levels_counted leaves.leaf_type mid.size (numbers_of leaves) set.closed set.units has.nodes
         (as_many leaves.leaf_type mid 0 (numbers_of leaves) (set.closed ++ (set.units ∷ [])) 0
         (any_order leaves.leaf_type mid 0 (numbers_of leaves) (map (flat_map entries_of) (set.closed ++ (set.units ∷ []))) 0
-        (are_numbered leaves mid (length old.pages) set.closed set.units set.filled).from)) has.nodes_are set.some set.filled.some set.filled.sizes set.spread
+        (are_numbered leaves mid (length old.pages) set.closed set.units set.filled).from)) has.nodes_are
+        set.some set.filled.some set.filled.sizes set.spread
 
     count : length new.pages ≡ length old.pages + set_pages old.size sorted values
     count =

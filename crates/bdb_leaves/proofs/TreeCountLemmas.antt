@@ -40,7 +40,8 @@ leaf_cost Keyed size (PlacedTree first root values) units node sizes key =
 -- those over leaves with units
 leaf_costs : (type : LeafType) (size : ℕ) (ps : List ℕ) (groups : List (List Placed)) (nodes : List Node) → length ps ≡ length groups
     → AllZip (IsNodeOf type) (zip_units ps groups) nodes → All (λ leaf. 0 < length leaf) groups → All (All (IsPlacedBySize size)) groups
-    → map (child_cost (inner_of type)) nodes ≡ map (λ (leaf : List TreeUnit). inner_cost (inner_of type) size (leaf_key leaf)) (map (map unit_of) groups)
+    → map (child_cost (inner_of type)) nodes
+    ≡ map (λ (leaf : List TreeUnit). inner_cost (inner_of type) size (leaf_key leaf)) (map (map unit_of) groups)
 leaf_costs type size [] [] [] many zip some sizes = refl
 leaf_costs type size [] [] (node ∷ nodes) many zip some sizes = absurd zip
 leaf_costs type size [] (group ∷ groups) nodes many zip some sizes = absurd (omega (arith, many))
@@ -77,7 +78,8 @@ few_over (suc most) room first costs few = rw (le-leb (length costs) 1 few) refl
 -- Leaves whose units are spread by what they take are with the levels over them as many pages as the units say.
 pub levels_counted : (type : LeafType) (size : ℕ) (ps : List ℕ) (closed : List (List Placed)) (units : List Placed) (nodes : List Node)
     → length ps ≡ length (closed ++ (units ∷ [])) → AllZip (IsNodeOf type) (zip_units ps (closed ++ (units ∷ []))) nodes
-    → ((closed ≡ []) ⊎ (0 < length units)) → All (λ leaf. 0 < length leaf) closed → All (IsPlacedBySize size) (flat_map (λ leaf. leaf) closed ++ units)
+    → ((closed ≡ []) ⊎ (0 < length units)) → All (λ leaf. 0 < length leaf) closed
+    → All (IsPlacedBySize size) (flat_map (λ leaf. leaf) closed ++ units)
     → AreSpreadOver size closed units
     → length closed + 1 + pages_over (length nodes) (size - 26) (first_cost (inner_of type)) (map (child_cost (inner_of type)) nodes)
     ≡ leaves_and_levels type size (map unit_of (flat_map (λ leaf. leaf) closed ++ units))

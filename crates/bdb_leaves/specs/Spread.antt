@@ -51,8 +51,8 @@ pages_over zero room first costs = 0
 pages_over (suc most) room first costs =
     if nat_le (length costs) 1 then 0
     else
-      (let groups : List (List ℕ) = spread_items room first costs in
-      length groups + pages_over most room first (map (first_or 0) groups))
+    (let groups : List (List ℕ) = spread_items room first costs in
+    length groups + pages_over most room first (map (first_or 0) groups))
 
 -- Values and trees.
 
@@ -71,7 +71,7 @@ leaves_and_levels type size units =
     let leaves : List (List TreeUnit) = spread_units size units in
     length leaves
     + pages_over (length leaves) (page_room size) (first_cost (inner_of type))
-      (map (λ (leaf : List TreeUnit). inner_cost (inner_of type) size (leaf_key leaf)) leaves)
+    (map (λ (leaf : List TreeUnit). inner_cost (inner_of type) size (leaf_key leaf)) leaves)
 
 -- the leaves of a set, by whether it is sorted
 abbrev pub set_type : Bool → LeafType
