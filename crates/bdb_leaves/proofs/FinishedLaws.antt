@@ -1,5 +1,6 @@
 -- Filled leaves with levels over them, of which the root stands where the first leaf stood, are a tree that is laid.
-use Rattle.std.proofs.Common.{◌≡◌, ℕ, suc, ◌+◌, ◌-◌, ◌<◌, ◌≤◌, Bool, true, false, List, [], ◌∷◌, ◌++◌, length, map, drop, set, arith, refl, sym, ◌∙◌, ap, subst, inl, inr, true≢false}
+use Rattle.std.proofs.Common.{◌≡◌, ℕ, suc, ◌+◌, ◌-◌, ◌<◌, ◌≤◌, Bool, true, false, List, [], ◌∷◌, ◌++◌, length, map, drop}
+use Rattle.std.proofs.Common.{arith, refl, sym, ◌∙◌, ap, subst, inl, inr, true≢false}
 use Rattle.std.specs.Prelude.{◌||◌}
 use Rattle.std.specs.List.{All, Contains, flat_map, range_with_len}
 use Rattle.std.proofs.lemmas.Bool.{cases_Bool, cases_eq, cases_lt, false_from_ne_true, or_left, or_right}
@@ -21,19 +22,20 @@ use Rattle.bdb_levels.specs.Nodes.{Node}
 use Rattle.bdb_levels.specs.Roots.{is_of, pages_of as level_pages}
 use Rattle.bdb_pack.specs.Built.{Built, bytes_of, file_so_far}
 use Rattle.bdb_leaves.specs.Filled.{AllStand, all_contents, rest_of}
-use Rattle.bdb_leaves.specs.Finished.{FinishedTreesAreLaid, FinishedTreesKeepPages, levels_to}
-use Rattle.bdb_leaves.specs.Grown.{placed_on}
+use Rattle.bdb_leaves.specs.Finished.{FinishedTreesAreLaid, FinishedTreesKeepPages}
 use Rattle.bdb_leaves.specs.Laid.{entries_on, held_by_leaves, inner_of, is_laid, tree_pages}
 use Rattle.bdb_leaves.specs.LeafEntries.{contents_of}
 use Rattle.bdb_leaves.specs.Moved.{LinkedFrom, first_leaf, numbers_of, second_leaf}
 use Rattle.bdb_leaves.specs.Placed.{LeafUnits, Placed, StandsPlaced, entries_of, pages_of}
+use Rattle.bdb_leaves.specs.Rooted.{placed_on}
+use Rattle.bdb_leaves.specs.Tower.{levels_to}
 use Rattle.bdb_leaves.specs.declared.leaf_type.LeafType.{LeafType}
 use Rattle.bdb_leaves.proofs.FinishLemmas.{but_are, is_but, pages_but}
-use Rattle.bdb_leaves.proofs.FinishedLemmas.{first_two, moved_linked}
-use Rattle.bdb_leaves.proofs.GrownLaws.{AreNumbered, are_numbered}
+use Rattle.bdb_leaves.proofs.FinishedLemmas.{first_two, moved_from, moved_pages, others_of}
 use Rattle.bdb_leaves.proofs.GrownLemmas.{all_joined, as_many, ascend_above, contents_held, heads_among, laid_leaves, pages_named, rise_on, zip_all, zip_pages}
+use Rattle.bdb_leaves.proofs.GrownLemmas.{}
 use Rattle.bdb_leaves.proofs.LaterLemmas.{later_chain, later_fewer}
-use Rattle.bdb_leaves.proofs.MovedLemmas.{two_leaves}
+use Rattle.bdb_leaves.proofs.NumberedLemmas.{AreNumbered, are_numbered}
 use Rattle.bdb_leaves.proofs.RestLemmas.{is_one, is_rest, rest_is}
 use Rattle.bdb_leaves.proofs.RunLemmas.{later_before, page_so_far}
 
@@ -128,7 +130,7 @@ finished_trees_are_laid leaves old new counted before closed units root filled o
     first = first_leaf leaves
 
     others : List ℕ
-    others = second_leaf leaves ∷ drop 2 (numbers_of leaves)
+    others = others_of leaves
 
     numbers : List ℕ
     numbers = numbers_of on.next
@@ -149,11 +151,10 @@ finished_trees_are_laid leaves old new counted before closed units root filled o
     known = are_numbered leaves old before closed units filled
 
     was : numbers_of leaves ≡ first ∷ others
-    was = (two_leaves leaves.closed.items leaves.last 0 on.several).0
+    was = (moved_pages leaves on.next old mid on.several on.moved).0
 
     now : numbers ≡ m ∷ others
-    now = ap (λ ns. ns ++ (on.next.last ∷ [])) on.moved.numbers
-        ∙ (ap (λ l. set leaves.closed.items 0 m ++ (l ∷ [])) on.moved.last ∙ (two_leaves leaves.closed.items leaves.last m on.several).1)
+    now = (moved_pages leaves on.next old mid on.several on.moved).1
 
     first_in : Contains (numbers_of leaves) first
     first_in = subst (λ ps. Contains ps first) (sym was) (first_member first others)
@@ -201,8 +202,7 @@ finished_trees_are_laid leaves old new counted before closed units root filled o
     ]
 
     linked : LinkedFrom type mid 0 numbers (map (flat_map entries_of) groups) 0
-    linked = subst (λ t. LinkedFrom t mid 0 numbers (map (flat_map entries_of) groups) 0) on.moved.type
-        (moved_linked leaves on.next old mid before closed units filled on.moved)
+    linked = moved_from leaves on.next old mid before closed units filled on.moved
 
     many : length numbers ≡ length groups
     many = as_many type mid 0 numbers groups 0 linked

@@ -70,6 +70,19 @@ first_two leaves several =
       subst (λ ns. Contains ns q) (sym is) (later_member p (q ∷ rest) q (first_member q rest)),
     )
 
+-- the first one has another number, and the others stay
+abbrev pub others_of : Leaves → List ℕ
+others_of leaves = second_leaf leaves ∷ drop 2 (numbers_of leaves)
+
+pub moved_pages : (leaves next : Leaves) (old mid : Built) → 1 ≤ length leaves.closed.items → IsFirstMoved leaves next old mid
+    → (numbers_of leaves ≡ first_leaf leaves ∷ others_of leaves) × (numbers_of next ≡ length old.pages ∷ others_of leaves)
+moved_pages leaves next old mid several moved = (
+  (two_leaves leaves.closed.items leaves.last 0 several).0,
+  ap (λ ns. ns ++ (next.last ∷ [])) moved.numbers
+      ∙ (ap (λ l. set leaves.closed.items 0 (length old.pages) ++ (l ∷ [])) moved.last
+      ∙ (two_leaves leaves.closed.items leaves.last (length old.pages) several).1),
+)
+
 -- What they hold.
 
 pub moved_linked : (leaves next : Leaves) (old mid : Built) (before : ℕ) (closed : List (List Placed)) (units : List Placed)
@@ -78,6 +91,13 @@ pub moved_linked : (leaves next : Leaves) (old mid : Built) (before : ℕ) (clos
 moved_linked leaves next old mid before closed units filled moved =
     subst (AreLinked next mid) (sym (map-append (flat_map entries_of) closed (units ∷ [])))
     (moved.hold (map (flat_map entries_of) closed) (flat_map entries_of units) filled.hold)
+
+pub moved_from : (leaves next : Leaves) (old mid : Built) (before : ℕ) (closed : List (List Placed)) (units : List Placed)
+    → AreFilled leaves old before closed units → IsFirstMoved leaves next old mid
+    → LinkedFrom leaves.leaf_type mid 0 (numbers_of next) (map (flat_map entries_of) (closed ++ (units ∷ []))) 0
+moved_from leaves next old mid before closed units filled moved =
+    subst (λ t. LinkedFrom t mid 0 (numbers_of next) (map (flat_map entries_of) (closed ++ (units ∷ []))) 0) moved.type
+    (moved_linked leaves next old mid before closed units filled moved)
 
 type_at : (type : LeafType) (built : Built) (previous : ℕ) (ps : List ℕ) (all : List (List Entry)) (beyond p : ℕ)
     → LeavesFrom type built previous ps all beyond → Contains ps p → byte_at (bytes_of built p) 25 ≡ type_number type
@@ -134,8 +154,7 @@ moved_nodes leaves next old mid counted before closed units legal several filled
     let few = each_content (CountsFewFrom before mid) type groups
     (subst (λ us. All (CountsFewFrom before mid) (flat_map (unit_contents type) us)) (sym (all_units closed units)) stay) in
     are_nodes type counted mid.size before mid 0 (numbers_of next) groups 0 (ap is_page_size moved.size ∙ legal)
-    (subst (λ t. LinkedFrom t mid 0 (numbers_of next) (map (flat_map entries_of) groups) 0) moved.type
-    (moved_linked leaves next old mid before closed units filled moved))
+    (moved_from leaves next old mid before closed units filled moved)
     (moved_there leaves next old mid several moved) (All-push (λ us. 0 < length us) closed units filled.some some)
     (λ k d low. record { sizes = sizes k d low; few = few k d low })
 

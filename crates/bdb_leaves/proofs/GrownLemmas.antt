@@ -23,13 +23,13 @@ use Rattle.bdb_pack.specs.Built.{Built, bytes_of}
 use Rattle.bdb_tree.proofs.TreeLemmas.{flat_map_same}
 use Rattle.bdb_levels.proofs.TakenLemmas.{counted_member}
 use Rattle.bdb_leaves.specs.Filled.{AscendIn, unit_contents}
-use Rattle.bdb_leaves.specs.Grown.{zip_units}
 use Rattle.bdb_leaves.specs.Laid.{AreLaid, IsNodeOf, entries_on, filled, held_by_leaves, inner_of}
 use Rattle.bdb_leaves.specs.LeafEntries.{Entry, IsLeafIn, contents_of, leaf_of, own_content}
 use Rattle.bdb_leaves.specs.Leaves.{first_of}
 use Rattle.bdb_leaves.specs.Levels.{heads_of}
 use Rattle.bdb_leaves.specs.Moved.{LinkedFrom}
 use Rattle.bdb_leaves.specs.Placed.{LeafUnits, Placed, StandsPlaced, entries_of, pages_of}
+use Rattle.bdb_leaves.specs.Rooted.{zip_units}
 use Rattle.bdb_leaves.specs.declared.leaf_type.LeafType.{LeafType}
 use Rattle.bdb_leaves.specs.declared.leaf_type.LeafType.TheVariants.{Pairs, Records, SortedData}
 use Rattle.bdb_leaves.proofs.HeldLemmas.{leaves_stand}
@@ -50,6 +50,13 @@ pub zip_pages : (ps : List ℕ) (groups : List (List Placed)) → length ps ≡ 
 zip_pages [] groups many = refl
 zip_pages (p ∷ ps) [] many = absurd (omega (arith, many))
 zip_pages (p ∷ ps) (units ∷ groups) many = ap (λ qs. p ∷ qs) (zip_pages ps groups (omega (arith, many)))
+
+pub zip_groups : (ps : List ℕ) (groups : List (List Placed)) → length ps ≡ length groups
+    → map (λ (leaf : LeafUnits). leaf.units) (zip_units ps groups) ≡ groups
+zip_groups [] [] many = refl
+zip_groups [] (units ∷ groups) many = absurd (omega (arith, many))
+zip_groups (p ∷ ps) [] many = absurd (omega (arith, many))
+zip_groups (p ∷ ps) (units ∷ groups) many = ap (λ us. units ∷ us) (zip_groups ps groups (omega (arith, many)))
 
 zip_joined : (ps : List ℕ) (groups : List (List Placed)) → length ps ≡ length groups
     → flat_map (λ (leaf : LeafUnits). leaf.units) (zip_units ps groups) ≡ flat_map (λ leaf. leaf) groups

@@ -8,6 +8,7 @@ pub mod GrownLaws
 pub mod GrownLemmas
 pub mod HeldLemmas
 pub mod InnerLemmas
+pub mod KeptLemmas
 pub mod LaidBranchLemmas
 pub mod LaidLemmas
 pub mod LaidPartLemmas
@@ -21,6 +22,7 @@ pub mod LevelLemmas
 pub mod LevelTakeLemmas
 pub mod MovedLemmas
 pub mod NodesLemmas
+pub mod NumberedLemmas
 pub mod PairsLemmas
 pub mod PlacedCostLemmas
 pub mod PlacedLaws
@@ -35,6 +37,7 @@ pub mod SetLemmas
 pub mod SetPutLemmas
 pub mod SpreadLemmas
 pub mod StandLemmas
+pub mod TopLemmas
 pub mod TowerLemmas
 pub mod TreeCountLemmas
 pub mod UnitLemmas

@@ -1,9 +1,10 @@
 -- Filled leaves as the lowest level of their tree.
-use Rattle.std.proofs.Common.{Bool, ◌≡◌, ◌⊎◌, ℕ, suc, ◌+◌, ◌-◌, ◌<◌, ◌≤◌, true, false, List, [], ◌∷◌, ◌++◌, length, map, arith, refl, sym, ◌∙◌, ap, subst, inl, inr, length-append}
-use Rattle.std.specs.List.{All, AllZip, Contains, flat_map, range_with_len}
-use Rattle.std.proofs.lemmas.List.{append-nil, map-append}
+use Rattle.std.proofs.Common.{Bool, ◌≡◌, ◌⊎◌, ℕ, suc, ◌+◌, ◌<◌, ◌≤◌, true, false, List, [], ◌∷◌, ◌++◌, length, map}
+use Rattle.std.proofs.Common.{arith, refl, sym, ◌∙◌, ap, subst, inl, inr}
+use Rattle.std.specs.List.{All, AllZip, Contains, flat_map}
+use Rattle.std.proofs.lemmas.List.{append-nil}
 use Rattle.std.proofs.lemmas.Grind.{flat_map-append}
-use Rattle.std.proofs.lemmas.List.Elements.{All-cons, All-nil, All-push}
+use Rattle.std.proofs.lemmas.List.Elements.{All-cons, All-nil}
 use Rattle.bdb_format.specs.HeadOf.{is_page_size}
 use Rattle.bdb_format.specs.Page.{Content, Inline, Set, Chain, Tree, Unknown}
 use Rattle.bdb_format.proofs.MemberLemmas.{first_member, later_member, member_cases, no_member}
@@ -14,25 +15,17 @@ use Rattle.bdb_levels.specs.declared.inner_type.InnerType.{InnerType}
 use Rattle.bdb_levels.specs.declared.inner_type.InnerType.TheVariants.{Keyed, Numbered}
 use Rattle.bdb_pack.specs.Built.{AreWhole, Built}
 use Rattle.bdb_leaves.specs.Filled.{AreFilled, unit_contents}
-use Rattle.bdb_leaves.specs.Grown.{zip_units}
 use Rattle.bdb_leaves.specs.Inner.{child_cost, key_cost}
 use Rattle.bdb_leaves.specs.Laid.{Counts, HasUnits, IsKeyOf, IsNodeOf, inner_of}
-use Rattle.bdb_leaves.specs.LeafChildren.{AreSomeLinked, first_content, leaf_child, leaf_children, leaf_node, leaf_nodes}
+use Rattle.bdb_leaves.specs.LeafChildren.{first_content, leaf_child, leaf_children, leaf_node, leaf_nodes}
 use Rattle.bdb_leaves.specs.LeafEntries.{Entry, HoldsEntriesOn}
 use Rattle.bdb_leaves.specs.Leaves.{AreLeaves, LeavesFrom, first_of}
 use Rattle.bdb_leaves.specs.Levels.{AreChildren, BeginsWithKey, HasKey, IsChild, KeyStandsOn}
-use Rattle.bdb_leaves.specs.Moved.{AreLinked, LinkedFrom, numbers_of}
-use Rattle.bdb_leaves.specs.Tower.{HasTower}
+use Rattle.bdb_leaves.specs.Moved.{LinkedFrom}
 use Rattle.bdb_leaves.specs.declared.leaves.Leaves.{Leaves}
-use Rattle.bdb_leaves.specs.declared.levels.Child.{Child}
-use Rattle.bdb_leaves.proofs.ChildrenLemmas.{length-children}
-use Rattle.bdb_leaves.proofs.MovedLemmas.{any_order}
-use Rattle.bdb_leaves.proofs.FilledLemmas.{later_self}
-use Rattle.bdb_leaves.proofs.LeavesLemmas.{leaf_closed}
-use Rattle.bdb_leaves.proofs.RestLemmas.{is_one, leaves_low}
 use Rattle.bdb_leaves.specs.Placed.{IsOneValue, IsPlacedBySize, Placed, PlacedEntry, PlacedPairs, PlacedTree, StandsBySize, entries_of}
 use Rattle.bdb_leaves.specs.Puts.{CountsFewFrom}
-use Rattle.bdb_leaves.specs.Rooted.{CountsLeaves, HasRoot}
+use Rattle.bdb_leaves.specs.Rooted.{CountsLeaves, IsOneLeaf, zip_units}
 use Rattle.bdb_leaves.specs.declared.leaf_type.LeafType.{LeafType}
 use Rattle.bdb_leaves.specs.declared.leaf_type.LeafType.TheVariants.{Pairs, Records, SortedData}
 
@@ -242,42 +235,6 @@ pub all_units : (closed : List (List Placed)) (units : List Placed) → flat_map
 all_units closed units =
     flat_map-append (λ leaf. leaf) closed (units ∷ []) ∙ ap (λ us. flat_map (λ leaf. leaf) closed ++ us) (append-nil units)
 
-all_linked : (leaves : Leaves) (built : Built) (closed : List (List Entry)) (entries : List Entry) → AreLeaves leaves built closed entries
-    → AreLinked leaves built (closed ++ (entries ∷ []))
-all_linked leaves built closed entries hold =
-    any_order leaves.leaf_type built 0 (leaves.closed.items ++ (leaves.last ∷ [])) (closed ++ (entries ∷ [])) 0
-    (leaf_closed leaves.leaf_type built 0 leaves.closed.items closed leaves.last 0 entries hold.closed_hold hold.after hold.last_holds)
-
-pub filled_linked : (leaves : Leaves) (built : Built) (before : ℕ) (closed : List (List Placed)) (units : List Placed)
-    → AreFilled leaves built before closed units → AreLinked leaves built (map (flat_map entries_of) (closed ++ (units ∷ [])))
-filled_linked leaves built before closed units filled =
-    subst (AreLinked leaves built) (sym (map-append (flat_map entries_of) closed (units ∷ [])))
-    (all_linked leaves built (map (flat_map entries_of) closed) (flat_map entries_of units) filled.hold)
-
-pub some_linked : (leaves : Leaves) (built : Built) (before : ℕ) (closed : List (List Placed)) (units : List Placed)
-    → AreFilled leaves built before closed units → AreSomeLinked leaves built
-some_linked leaves built before closed units filled =
-    record {
-      all = map (flat_map entries_of) (closed ++ (units ∷ []));
-      linked = filled_linked leaves built before closed units filled;
-      there = λ p at.
-          (leaves_low leaves built (map (flat_map entries_of) closed) (flat_map entries_of units) filled.hold p
-          (is_one (leaves.closed.items ++ (leaves.last ∷ [])) p at)).0;
-    }
-
-pub filled_nodes : (leaves : Leaves) (built : Built) (counted : Bool) (before : ℕ) (closed : List (List Placed)) (units : List Placed)
-    → is_page_size built.size ≡ true → AreFilled leaves built before closed units → 0 < length units
-    → AreNodes leaves.leaf_type counted built.size built (numbers_of leaves) (closed ++ (units ∷ []))
-filled_nodes leaves built counted before closed units legal filled some =
-    let type : LeafType = leaves.leaf_type in
-    let there = (some_linked leaves built before closed units filled).there in
-    let sizes = each_leaf (IsPlacedBySize built.size) (closed ++ (units ∷ [])) (subst (All (IsPlacedBySize built.size)) (sym (all_units closed units)) filled.sizes) in
-    let few = each_content (CountsFewFrom before built) type (closed ++ (units ∷ []))
-    (subst (λ us. All (CountsFewFrom before built) (flat_map (unit_contents type) us)) (sym (all_units closed units)) filled.few) in
-    are_nodes type counted built.size before built 0 (numbers_of leaves) (closed ++ (units ∷ [])) 0 legal (filled_linked leaves built before closed units filled)
-    there (All-push (λ us. 0 < length us) closed units filled.some some)
-    (λ k d low. record { sizes = sizes k d low; few = few k d low })
-
 -- Counts.
 
 counts_told : (type : LeafType) (ps : List ℕ) (groups : List (List Placed))
@@ -305,36 +262,17 @@ no_groups leaves built (units ∷ closed) entries none hold =
     absurd (subst (λ ns. LeavesFrom leaves.leaf_type built 0 ns (map (flat_map entries_of) (units ∷ closed)) leaves.last) none hold.closed_hold)
 
 pub leaf_rooted : (leaves : Leaves) (built : Built) (counted : Bool) (before : ℕ) (closed : List (List Placed)) (units : List Placed)
-    → leaves.closed.items ≡ [] → AreWhole built → AreFilled leaves built before closed units → HasRoot leaves built built counted closed units leaves.last
+    → leaves.closed.items ≡ [] → AreWhole built → AreFilled leaves built before closed units → IsOneLeaf leaves built built counted closed units
 leaf_rooted leaves built counted before closed units none whole filled =
-    let type : LeafType = leaves.leaf_type in
-    let no_closed : closed ≡ [] = no_groups leaves built closed (flat_map entries_of units) none filled.hold in
-    let node : Node = leaf_node type counted leaves.last (flat_map entries_of units) in
-    subst (λ groups. HasRoot leaves built built counted groups units leaves.last) (sym no_closed)
-    (record {
-      nodes = node ∷ [];
-      nodes_are = subst (λ ns. AllZip (IsNodeOf type) (zip_units (ns ++ (leaves.last ∷ [])) (units ∷ [])) (node ∷ [])) (sym none)
-          (leaf_is_node type counted built.size before built leaves.last units (begins_or_none units (units_of_last filled)), tt);
-      counts = subst (λ ns. CountsLeaves counted type (zip_units (ns ++ (leaves.last ∷ [])) (units ∷ [])) (node ∷ [])) (sym none)
-          (leaves_counted counted type (leaves.last ∷ []) (units ∷ []));
-      tower = record {
-        above = [];
-        top = node;
-        top_is = refl;
-        size = refl;
-        order = refl;
-        whole = whole;
-        grows = omega arith;
-        numbers = ap (range_with_len (length built.pages)) (let e : 0 ≡ length built.pages - length built.pages = omega arith in e);
-        tower = λ g pages inside heads later. refl;
-        later = λ pages low. later_self built pages;
-        formed = λ p low high. absurd (omega (arith, low, high));
-        form_kept = λ p low. refl;
-        kept = λ p low other. refl;
-        count = omega arith;
-      };
-      some = inr refl;
-    })
+    record {
+      numbers = none;
+      closed_is = no_groups leaves built closed (flat_map entries_of units) none filled.hold;
+      same = refl;
+      whole = whole;
+      node = leaf_node leaves.leaf_type counted leaves.last (flat_map entries_of units);
+      node_is = leaf_is_node leaves.leaf_type counted built.size before built leaves.last units (begins_or_none units (units_of_last filled));
+      counts = leaves_counted counted leaves.leaf_type (leaves.last ∷ []) (units ∷ []);
+    }
   where
     units_of_last : AreFilled leaves built before closed units → Fills leaves.leaf_type built.size before built units
     units_of_last filled = record {
@@ -348,22 +286,6 @@ leaf_rooted leaves built counted before closed units none whole filled =
         → (us ≡ []) ⊎ Begins built.size before built (flat_map entries_of us)
     begins_or_none [] fills = inl refl
     begins_or_none (unit ∷ us) fills = inr (units_begin leaves.leaf_type built.size before built (unit ∷ us) (omega arith) fills.sizes fills.few)
-
-pub leaves_rooted : (leaves : Leaves) (old new : Built) (counted : Bool) (before : ℕ) (closed : List (List Placed)) (units : List Placed) (children : List Child)
-    (root : ℕ) → is_page_size old.size ≡ true → AreFilled leaves old before closed units → 0 < length units
-    → children ≡ leaf_children leaves.leaf_type counted (numbers_of leaves) (map (flat_map entries_of) (closed ++ (units ∷ [])))
-    → ((nodes : List Node) → AreChildren (inner_of leaves.leaf_type) old children nodes → HasTower (inner_of leaves.leaf_type) old new nodes root)
-    → HasRoot leaves old new counted closed units root
-leaves_rooted leaves old new counted before closed units children root legal filled some is laid =
-    let are = filled_nodes leaves old counted before closed units legal filled some in
-    let nodes : List Node = leaf_nodes leaves.leaf_type counted (numbers_of leaves) (map (flat_map entries_of) (closed ++ (units ∷ []))) in
-    record {
-      nodes = nodes;
-      nodes_are = are.nodes;
-      counts = leaves_counted counted leaves.leaf_type (numbers_of leaves) (closed ++ (units ∷ []));
-      tower = laid nodes (subst (λ cs. AreChildren (inner_of leaves.leaf_type) old cs nodes) (sym is) are.children);
-      some = inl are.units;
-    }
 
 -- Which of the two.
 
@@ -382,10 +304,3 @@ last_has_unit leaves built before closed units several filled (inl none) =
     no_leaves : (ps : List ℕ) → (length ps ≡ 0 → ⊥) → LeavesFrom leaves.leaf_type built 0 ps [] leaves.last → ⊥
     no_leaves [] several hold = several refl
     no_leaves (p ∷ ps) several hold = hold
-
--- there are as many children as leaves
-pub some_children : (leaves : Leaves) (built : Built) (counted : Bool) (children : List Child) → (some : AreSomeLinked leaves built)
-    → ((all : List (List Entry)) → AreLinked leaves built all → children ≡ leaf_children leaves.leaf_type counted (numbers_of leaves) all) → 0 < length children
-some_children leaves built counted children some is =
-    let long = ap length (is some.all some.linked) ∙ length-children leaves.leaf_type built counted 0 (numbers_of leaves) some.all 0 some.linked in
-    omega (arith, long, length-append leaves.closed.items (leaves.last ∷ []))

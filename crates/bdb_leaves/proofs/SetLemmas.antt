@@ -1,47 +1,38 @@
 -- Sets of the data of a key.
-use Rattle.std.proofs.Common.{◌≡◌, ℕ, ◌+◌, ◌-◌, ◌<◌, ◌≤◌, Bool, true, false, if◌then◌else◌, List, [], ◌∷◌, ◌++◌, length, map, None, arith, refl, sym, ◌∙◌, ap, subst, inl, inr, length-append}
-use Rattle.std.specs.List.{All, AllZip, Contains, flat_map, sum_by}
-use Rattle.std.proofs.lemmas.Bool.{cases_Bool, cases_lt}
+use Rattle.std.proofs.Common.{◌≡◌, ℕ, ◌+◌, ◌<◌, ◌≤◌, Bool, true, false, if◌then◌else◌, List, [], ◌∷◌, ◌++◌, length, map}
+use Rattle.std.proofs.Common.{arith, refl, sym, ◌∙◌, ap, subst, inl, inr, length-append}
+use Rattle.std.specs.List.{flat_map, sum_by}
 use Rattle.std.proofs.lemmas.List.{append_assoc, map-append}
-use Rattle.std.proofs.lemmas.List.Elements.{All-head, All-tail, Contains-append_right}
+use Rattle.std.proofs.lemmas.List.Elements.{Contains-append_right}
 use Rattle.std.proofs.lemmas.List.Sums.{sum_by_push}
 use Rattle.bdb_format.specs.Page.{Tree}
 use Rattle.bdb_format.specs.File.{File}
-use Rattle.bdb_format.specs.Rows.{page_code}
 use Rattle.bdb_format.specs.ContentRows.{is_wrong_set}
-use Rattle.bdb_format.proofs.MemberLemmas.{first_member, member_cases, no_member}
+use Rattle.bdb_format.proofs.MemberLemmas.{first_member}
 use Rattle.bdb_grove.specs.Growing.{IsCounted, IsLater}
 use Rattle.bdb_grove.specs.Part.{between}
 use Rattle.bdb_grove.proofs.ChainLemmas.{between_is}
-use Rattle.bdb_levels.specs.Nodes.{Node}
-use Rattle.bdb_levels.specs.Roots.{is_of}
-use Rattle.bdb_pack.specs.Built.{Built, bytes_of, file_so_far}
-use Rattle.bdb_grove.proofs.BranchLemmas.{of_list}
-use Rattle.bdb_leaves.specs.Filled.{AllStand, AreFilled, AreSpreadOver, FilledNow, IsPushed, SpreadNow, rest_of}
-use Rattle.bdb_leaves.specs.Grown.{live_entry, placed_on}
-use Rattle.bdb_leaves.specs.Inner.{child_cost, first_cost}
-use Rattle.bdb_leaves.specs.Laid.{IsNodeOf, has_sorted_data, inner_of}
-use Rattle.bdb_leaves.specs.Leaves.{KeepsOthers, LeavesFrom, first_of, has_room}
-use Rattle.bdb_leaves.specs.Levels.{heads_of}
+use Rattle.bdb_pack.specs.Built.{Built, file_so_far}
+use Rattle.bdb_leaves.specs.Filled.{AreFilled, AreSpreadOver, FilledNow, IsPushed, SpreadNow}
+use Rattle.bdb_leaves.specs.Finished.{HasFirstRoot, KeepsOlder}
+use Rattle.bdb_leaves.specs.Grown.{live_entry}
+use Rattle.bdb_leaves.specs.Laid.{has_sorted_data}
+use Rattle.bdb_leaves.specs.Leaves.{KeepsOthers, has_room}
 use Rattle.bdb_leaves.specs.Moved.{numbers_of}
-use Rattle.bdb_leaves.specs.Placed.{Placed, StandsPlaced, entries_of, unit_of}
-use Rattle.bdb_leaves.specs.Rooted.{HasRoot}
+use Rattle.bdb_leaves.specs.Placed.{Placed, unit_of}
 use Rattle.bdb_leaves.specs.Sets.{IsSetBuilt, IsSetFilled, KeepsAll, SetStands, set_type}
-use Rattle.bdb_leaves.specs.Spread.{leaves_and_levels, pages_over, set_pages}
+use Rattle.bdb_leaves.specs.Spread.{leaves_and_levels}
 use Rattle.bdb_leaves.specs.Units.{chain_pages, unit_cost}
 use Rattle.bdb_leaves.specs.declared.leaf_type.LeafType.{LeafType}
 use Rattle.bdb_leaves.specs.declared.leaf_type.LeafType.TheVariants.{Pairs}
 use Rattle.bdb_leaves.specs.declared.leaves.Leaves.{Leaves}
 use Rattle.bdb_leaves.proofs.FilledLemmas.{counted_so_far, later_self}
-use Rattle.bdb_leaves.proofs.GrownLaws.{are_numbered, grown_sets_stand, names_on}
-use Rattle.bdb_leaves.proofs.GrownLemmas.{as_many, heads_among}
-use Rattle.bdb_leaves.proofs.HeldLemmas.{leaves_are_formed}
-use Rattle.bdb_leaves.proofs.MovedLemmas.{any_order}
-use Rattle.bdb_leaves.proofs.NodesLemmas.{all_units, each_leaf}
-use Rattle.bdb_leaves.proofs.PushLemmas.{whole_units}
+use Rattle.bdb_leaves.proofs.GrownLaws.{grown_sets_stand}
+use Rattle.bdb_leaves.proofs.KeptLemmas.{finished_trees_are_formed, finished_trees_keep_older_pages}
+use Rattle.bdb_leaves.proofs.NodesLemmas.{all_units}
 use Rattle.bdb_leaves.proofs.PushedLaws.{pushed_units_spread}
-use Rattle.bdb_leaves.proofs.RestLemmas.{is_one, is_rest, rest_is}
-use Rattle.bdb_leaves.proofs.TreeCountLemmas.{levels_counted}
+use Rattle.bdb_leaves.proofs.RestLemmas.{is_one}
+use Rattle.bdb_leaves.proofs.TreeCountLemmas.{finished_trees_are_counted}
 
 -- Leaves with the values so far.
 
@@ -131,55 +122,6 @@ set_grown old now new type values value leaves next set put =
       count = let all = one_more 1 added in omega (arith, all, length-append set.closed (set.units ∷ []));
     }
 
--- The form of filled leaves.
-
-leaf_formed : (type : LeafType) (built : Built) (previous : ℕ) (ps : List ℕ) (groups : List (List Placed)) (beyond : ℕ) (g : File)
-    → LeavesFrom type built previous ps (map (flat_map entries_of) groups) beyond → All (All (StandsPlaced type g)) groups
-    → (p : ℕ) → Contains ps p → page_code built.order p (bytes_of built p) ≡ None
-leaf_formed type built previous [] groups beyond g from stand p at = absurd (no_member [] p refl at)
-leaf_formed type built previous (q ∷ ps) [] beyond g from stand p at = absurd from
-leaf_formed type built previous (q ∷ ps) (units ∷ groups) beyond g (up, holds, rest) stand p at =
-    elim (member_cases q ps p at) [
-      | inl here ↦
-          subst (λ n. page_code built.order n (bytes_of built n) ≡ None) here
-          (leaves_are_formed type built.order (bytes_of built q) q previous (first_of ps beyond) (flat_map entries_of units) holds
-          (λ pairs. whole_units g units (subst (λ t. All (StandsPlaced t g) units) pairs (All-head (All (StandsPlaced type g)) units groups stand))))
-      | inr later ↦ leaf_formed type built q ps groups beyond g rest (All-tail (All (StandsPlaced type g)) units groups stand) p later
-    ]
-
--- the units of leaves that were begun stand in the file so far
-stand_so_far : (leaves : Leaves) (built : Built) (before : ℕ) (closed : List (List Placed)) (units : List Placed)
-    → AreFilled leaves built before closed units → AllStand leaves.leaf_type (file_so_far built) (rest_of before leaves built) closed units
-stand_so_far leaves built before closed units filled =
-    let there = filled.hold.there in
-    filled.stands (file_so_far built) (counted_so_far built (omega (arith, there))) (later_self built (rest_of before leaves built))
-
--- no page since they were begun has a row of form
-pub filled_formed : (leaves : Leaves) (built : Built) (before : ℕ) (closed : List (List Placed)) (units : List Placed)
-    → AreFilled leaves built before closed units → (p : ℕ) → before ≤ p → p < length built.pages → page_code built.order p (bytes_of built p) ≡ None
-filled_formed leaves built before closed units filled p low high =
-    let g : File = file_so_far built in
-    let type : LeafType = leaves.leaf_type in
-    elim (cases_Bool (is_of (numbers_of leaves) p)) [
-      | inl leaf ↦
-          leaf_formed type built 0 (numbers_of leaves) (closed ++ (units ∷ [])) 0 g (are_numbered leaves built before closed units filled).from
-          (each_leaf (StandsPlaced type g) (closed ++ (units ∷ []))
-          (subst (All (StandsPlaced type g)) (sym (all_units closed units)) (stand_so_far leaves built before closed units filled).placed))
-          p (of_list (numbers_of leaves) p leaf)
-      | inr none ↦ filled.formed p (is_rest before (length built.pages) (numbers_of leaves) p low high none)
-    ]
-
--- heads of chains of keys are among the pages since then
-pub heads_new : (leaves : Leaves) (built : Built) (before : ℕ) (closed : List (List Placed)) (units : List Placed) (nodes : List Node) (h : ℕ)
-    → AreFilled leaves built before closed units → AllZip (IsNodeOf leaves.leaf_type) (placed_on leaves closed units) nodes
-    → Contains (flat_map (heads_of (inner_of leaves.leaf_type)) nodes) h → before ≤ h
-heads_new leaves built before closed units nodes h filled zip at =
-    let type : LeafType = leaves.leaf_type in
-    let names = names_on leaves built before closed units (are_numbered leaves built before closed units filled) in
-    (rest_is before (length built.pages) (numbers_of leaves) h
-    ((stand_so_far leaves built before closed units filled).on.branch.grove.entered h
-    (subst (λ ps. Contains ps h) (sym names) (heads_among (inner_of type) type (placed_on leaves closed units) nodes h refl zip at)))).0
-
 -- The set.
 
 sorted_as_asked : (sorted : Bool) → has_sorted_data (set_type sorted) ≡ sorted
@@ -191,65 +133,46 @@ no_pairs true e = cc
 no_pairs false e = cc
 
 pub set_built : (old mid new : Built) (sorted : Bool) (values : List (List ℕ)) (leaves : Leaves) (root : ℕ)
-    → (set : IsSetFilled old mid (set_type sorted) values leaves) → HasRoot leaves mid new true set.closed set.units root
+    → (set : IsSetFilled old mid (set_type sorted) values leaves) → HasFirstRoot leaves mid new true set.closed set.units root
     → IsSetBuilt old new sorted values root
 set_built old mid new sorted values leaves root set has =
     record {
       kept = record {
-        size = has.tower.size ∙ set.kept.size;
-        order = has.tower.order ∙ set.kept.order;
+        size = keeps.size ∙ set.kept.size;
+        order = keeps.order ∙ set.kept.order;
         grows = omega (arith, before, grows);
-        same = λ p low.
-            has.tower.kept p (omega (arith, low, before))
-            (λ at.
-            let high = heads_new leaves mid (length old.pages) set.closed set.units has.nodes p set.filled has.nodes_are at in
-            omega (arith, low, high))
-            ∙ set.kept.same p low;
+        same = λ p low. keeps.same p low ∙ set.kept.same p low;
       };
       low = inside.0;
       high = inside.1;
-      formed = λ p low high. elim (cases_lt p (length mid.pages)) [
-        | inl below ↦ has.tower.form_kept p below ∙ filled_formed leaves mid (length old.pages) set.closed set.units set.filled p low below
-        | inr above ↦ has.tower.formed p above high
-      ];
+      formed = finished_trees_are_formed leaves mid new true (length old.pages) set.closed set.units root set.filled has;
       stands = stands;
-      count = count;
+      count =
+          let leaves_and_chains = set.count in
+          let tree = finished_trees_are_counted leaves mid new true (length old.pages) set.closed set.units root set.filled set.spread has in
+          let same : leaves_and_levels leaves.leaf_type mid.size (map unit_of (flat_map (λ leaf. leaf) set.closed ++ set.units))
+          ≡ leaves_and_levels (set_type sorted) old.size (map live_entry values) =
+          ap (λ us. leaves_and_levels leaves.leaf_type mid.size us) set.units_are
+          ∙ (ap (λ n. leaves_and_levels leaves.leaf_type n (map live_entry values)) set.kept.size
+          ∙ ap (λ type. leaves_and_levels type old.size (map live_entry values)) set.type_is) in
+          omega (arith, leaves_and_chains, tree, same);
     }
   where
+    keeps : KeepsOlder (length old.pages) mid new
+    keeps = finished_trees_keep_older_pages leaves mid new true (length old.pages) set.closed set.units root set.filled has
+
     before : length old.pages ≤ length mid.pages
     before = set.kept.grows
 
     grows : length mid.pages ≤ length new.pages
-    grows = has.tower.grows
-
-    -- its leaves and the levels over them
-    tree : length set.closed + 1 + pages_over (length has.nodes) (mid.size - 26) (first_cost (inner_of leaves.leaf_type))
-        (map (child_cost (inner_of leaves.leaf_type)) has.nodes)
-        ≡ leaves_and_levels leaves.leaf_type mid.size (map unit_of (flat_map (λ leaf. leaf) set.closed ++ set.units))
-    tree = levels_counted leaves.leaf_type mid.size (numbers_of leaves) set.closed set.units has.nodes
-        (as_many leaves.leaf_type mid 0 (numbers_of leaves) (set.closed ++ (set.units ∷ [])) 0
-        (any_order leaves.leaf_type mid 0 (numbers_of leaves) (map (flat_map entries_of) (set.closed ++ (set.units ∷ []))) 0
-        (are_numbered leaves mid (length old.pages) set.closed set.units set.filled).from)) has.nodes_are
-        set.some set.filled.some set.filled.sizes set.spread
-
-    count : length new.pages ≡ length old.pages + set_pages old.size sorted values
-    count =
-        let chains = set.count in
-        let levels = has.tower.count in
-        let same : leaves_and_levels leaves.leaf_type mid.size (map unit_of (flat_map (λ leaf. leaf) set.closed ++ set.units))
-        ≡ leaves_and_levels (set_type sorted) old.size (map live_entry values) =
-        ap (λ us. leaves_and_levels leaves.leaf_type mid.size us) set.units_are
-        ∙ (ap (λ n. leaves_and_levels leaves.leaf_type n (map live_entry values)) set.kept.size
-        ∙ ap (λ type. leaves_and_levels type old.size (map live_entry values)) set.type_is) in
-        omega (arith, chains, levels, tree, same)
+    grows = keeps.grows
 
     stands : (g : File) → IsCounted g → IsLater (between (length old.pages) (length new.pages)) (file_so_far new) g
         → SetStands g (length old.pages) (length new.pages) sorted values root
     stands g counted later =
         let is =
-        grown_sets_stand leaves mid new (length old.pages) set.closed set.units has.nodes root values
-        (λ e. no_pairs sorted (sym set.type_is ∙ e)) set.filled
-        has.nodes_are has.tower has.some set.units_are g counted later in
+        grown_sets_stand leaves mid new true (length old.pages) set.closed set.units root values
+        (λ e. no_pairs sorted (sym set.type_is ∙ e)) set.filled has set.units_are g counted later in
         record {
           on = is.0;
           holds = is.1;

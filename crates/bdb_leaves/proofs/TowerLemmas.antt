@@ -18,7 +18,7 @@ use Rattle.bdb_pack.specs.Built.{AreWhole, Built, bytes_of, file_so_far}
 use Rattle.bdb_leaves.specs.Inner.{child_cost, first_cost, key_cost}
 use Rattle.bdb_leaves.specs.Levels.{AreChildren, IsLaid, heads_in, heads_of, heads_under, no_child, node_over, nodes_over}
 use Rattle.bdb_leaves.specs.Spread.{first_or, pages_over, spread_items}
-use Rattle.bdb_leaves.specs.Tower.{HasTower}
+use Rattle.bdb_leaves.specs.Tower.{EndsInRoot, HasTower}
 use Rattle.bdb_leaves.specs.declared.levels.Child.{Child}
 use Rattle.bdb_leaves.proofs.FilledLemmas.{later_self}
 use Rattle.bdb_leaves.proofs.LevelLawLemmas.{keys_of, levels_are_formed, levels_are_later, levels_go_on, levels_keep_pages, levels_shrink, levels_stand, member_at}
@@ -92,7 +92,7 @@ heads_in_are inner groups nodes h joined at =
     (subst (λ (l : List Node). Contains l node) joined (in_flat_map (λ (other : List Node). other) groups group node there among)) head
 
 -- heads of keys stand among the pages
-heads_low : (inner : InnerType) (built : Built) (children : List Child) (nodes : List Node) (h : ℕ) → AreChildren inner built children nodes
+pub heads_low : (inner : InnerType) (built : Built) (children : List Child) (nodes : List Node) (h : ℕ) → AreChildren inner built children nodes
     → Contains (flat_map (heads_of inner) nodes) h → h < length built.pages
 heads_low inner built children nodes h are at =
     let (node, among, head) = of_flat_map (heads_of inner) nodes h at in
@@ -349,8 +349,10 @@ alone inner built (child ∷ []) (node ∷ other ∷ nodes) are one = absurd are
 alone inner built (child ∷ other ∷ children) nodes are one = absurd (omega (arith, one))
 
 pub tower_built : (inner : InnerType) (old now : Built) (nodes : List Node) (level : ℕ) (children : List Child)
-    → IsBuilding inner old now nodes level children → length children ≡ 1 → HasTower inner old now nodes (get_or children 0 no_child).page
-tower_built inner old now nodes level children built one =
+    → IsBuilding inner old now nodes level children → length children ≡ 1
+    → (2 ≤ length nodes → EndsInRoot inner old now nodes (get_or children 0 no_child).page)
+    → HasTower inner old now nodes (get_or children 0 no_child).page
+tower_built inner old now nodes level children built one ends =
     let (root, is, page) = alone inner now children built.top built.are one in
     record {
       above = built.levels;
@@ -373,4 +375,5 @@ tower_built inner old now nodes level children built one =
           ap (λ (l : List Node). pages_over built.most (old.size - 26) (first_cost inner) (map (child_cost inner) l)) is
           ∙ none_over built.most (old.size - 26) (first_cost inner) (child_cost inner root) in
           omega (arith, all, none);
+      ends = ends;
     }

@@ -1,5 +1,5 @@
 -- Trees whose root stands on their first page. Source: docs/FORMAT.md, "Built trees".
-use Rattle.std.specs.Prelude.{◌≡◌, ◌⊎◌, ℕ, ◌-◌, ◌<◌, ◌≤◌, Bool, true, false, List, [], ◌∷◌, ◌++◌, length, None}
+use Rattle.std.specs.Prelude.{◌≡◌, ◌⊎◌, ℕ, ◌+◌, ◌-◌, ◌<◌, ◌≤◌, Bool, true, false, List, [], ◌∷◌, ◌++◌, length, map, None}
 use Rattle.std.specs.List.{All, AllZip, Contains, flat_map, range_with_len}
 use Rattle.bdb_format.specs.File.{File}
 use Rattle.bdb_format.specs.Rows.{page_code}
@@ -9,15 +9,17 @@ use Rattle.bdb_levels.specs.declared.inner_type.InnerType.{InnerType}
 use Rattle.bdb_levels.specs.Nodes.{IsTower, Node}
 use Rattle.bdb_levels.specs.Roots.{is_of, pages_of}
 use Rattle.bdb_pack.specs.Built.{AreWhole, Built, bytes_of, file_so_far}
-use Rattle.bdb_leaves.specs.Filled.{AreFilled, rest_of}
-use Rattle.bdb_leaves.specs.Grown.{placed_on}
-use Rattle.bdb_leaves.specs.Inner.{HoldsChildrenOn}
+use Rattle.bdb_leaves.specs.Filled.{AreFilled, AreSpreadOver, rest_of}
+use Rattle.bdb_leaves.specs.Inner.{HoldsChildrenOn, child_cost, first_cost}
 use Rattle.bdb_leaves.specs.Laid.{HasUnits, IsLaid, IsNodeOf, inner_of, is_laid}
 use Rattle.bdb_leaves.specs.LeafEntries.{with_field}
 use Rattle.bdb_leaves.specs.Levels.{heads_of}
 use Rattle.bdb_leaves.specs.Moved.{IsFirstMoved, first_leaf, numbers_of}
-use Rattle.bdb_leaves.specs.Placed.{Placed}
-use Rattle.bdb_leaves.specs.Rooted.{CountsLeaves, HasRoot}
+use Rattle.bdb_leaves.specs.Placed.{LeafUnits, Placed, unit_of}
+use Rattle.bdb_leaves.specs.Rooted.{CountsLeaves, IsOneLeaf, placed_on}
+use Rattle.bdb_leaves.specs.Spread.{leaves_and_levels, pages_over}
+use Rattle.bdb_leaves.specs.Tower.{levels_to}
+use Rattle.bdb_leaves.specs.declared.leaf_type.LeafType.{LeafType}
 use Rattle.bdb_leaves.specs.declared.leaves.Leaves.{Leaves}
 
 -- The last page is placed on another, with the number of that, and dropped from the end; no other page changes. The nodes that it holds as an internal
@@ -45,13 +47,17 @@ pub record HasTowerOn (inner : InnerType) (old new : Built) (nodes : List Node) 
   pub numbers : pages_of levels ≡ range_with_len (length old.pages) (length new.pages - length old.pages)
   pub tower : (g : File) (pages : ℕ → Bool) → ((p : ℕ) → length old.pages ≤ p → p < length new.pages → pages p ≡ true) → pages first ≡ true
       → ((h : ℕ) → Contains (flat_map (heads_of inner) nodes) h → pages h ≡ true) → IsLater pages (file_so_far new) g
-      → IsTower inner g 1 nodes (levels ++ ((top ∷ []) ∷ [])) top
+      → IsTower inner g 1 nodes (levels_to levels top) top
   pub later : (pages : ℕ → Bool) → ((p : ℕ) → pages p ≡ true → (p < length old.pages) × (p ≡ first → ⊥))
       → IsLater pages (file_so_far old) (file_so_far new)
   pub formed : (p : ℕ) → length old.pages ≤ p → p < length new.pages → page_code new.order p (bytes_of new p) ≡ None
   pub root_formed : page_code new.order first (bytes_of new first) ≡ None
   pub form_kept : (p : ℕ) → p < length old.pages → (p ≡ first → ⊥)
       → page_code new.order p (bytes_of new p) ≡ page_code old.order p (bytes_of old p)
+  pub kept : (p : ℕ) → p < length old.pages → (p ≡ first → ⊥) → (Contains (flat_map (heads_of inner) nodes) p → ⊥)
+      → bytes_of new p ≡ bytes_of old p
+  pub count : length new.pages + 1
+      ≡ length old.pages + pages_over (length nodes) (old.size - 26) (first_cost inner) (map (child_cost inner) nodes)
 
 -- The first of several leaves is moved behind the pages that stood, and levels are laid over the leaves, with the root in its place.
 pub record HasRootOn (leaves : Leaves) (old new : Built) (counted : Bool) (closed : List (List Placed)) (units : List Placed) (root : ℕ) : Type 0 where
@@ -69,14 +75,59 @@ pub record HasRootOn (leaves : Leaves) (old new : Built) (counted : Bool) (close
 -- One leaf is the root itself, where it stands; over several the root stands on the page of the first.
 abbrev pub HasFirstRoot : Leaves → Built → Built → Bool → List (List Placed) → List Placed → ℕ → Type 0
 HasFirstRoot leaves old new counted closed units root =
-    (root ≡ first_leaf leaves)
-    × ((HasRoot leaves old new counted closed units root × (new ≡ old)) ⊎ HasRootOn leaves old new counted closed units root)
+    (root ≡ first_leaf leaves) × (IsOneLeaf leaves old new counted closed units ⊎ HasRootOn leaves old new counted closed units root)
 
--- the levels with the root
-abbrev pub levels_to : List (List Node) → Node → List (List Node)
-levels_to levels top = levels ++ ((top ∷ []) ∷ [])
+-- In a file leaves with these units stand in this order, and levels over them up to the root. The tree has all pages from one number up to another.
+pub record HasLaidTree (type : LeafType) (g : File) (rest : ℕ → Bool) (first beyond : ℕ) (counted : Bool) (groups : List (List Placed))
+    (root : ℕ) : Type 0 where
+  pub placed : List LeafUnits
+  pub nodes : List Node
+  pub above : List (List Node)
+  pub top : Node
+  pub laid : IsLaid type g rest placed nodes above top
+  pub top_is : top.page ≡ root
+  pub units_are : map (λ (leaf : LeafUnits). leaf.units) placed ≡ groups
+  pub counts : CountsLeaves counted type placed nodes
+  pub pages : (p : ℕ) → is_laid rest placed above p ≡ between first beyond p
 
--- Such a tree is laid, in each later file; it has all pages since the leaves were begun, and what its leaves name stays where it stood.
+-- A finished tree is laid in each later file, whether it is one leaf or several; it has all pages since its leaves were begun.
+abbrev pub FirstRootsAreLaid : Type 0
+FirstRootsAreLaid =
+    (leaves : Leaves) (old new : Built) (counted : Bool) (before : ℕ) (closed : List (List Placed)) (units : List Placed) (root : ℕ)
+    → AreFilled leaves old before closed units → HasFirstRoot leaves old new counted closed units root
+    → (g : File) → IsCounted g → IsLater (between before (length new.pages)) (file_so_far new) g
+    → HasLaidTree leaves.leaf_type g (rest_of before leaves old) before (length new.pages) counted (closed ++ (units ∷ [])) root
+
+-- None of these pages has a row of form.
+abbrev pub FinishedTreesAreFormed : Type 0
+FinishedTreesAreFormed =
+    (leaves : Leaves) (old new : Built) (counted : Bool) (before : ℕ) (closed : List (List Placed)) (units : List Placed) (root : ℕ)
+    → AreFilled leaves old before closed units → HasFirstRoot leaves old new counted closed units root
+    → (p : ℕ) → before ≤ p → p < length new.pages → page_code new.order p (bytes_of new p) ≡ None
+
+-- pages of which those before a number are as they were, and none is dropped
+pub record KeepsOlder (before : ℕ) (old new : Built) : Type 0 where
+  pub size : new.size ≡ old.size
+  pub order : new.order ≡ old.order
+  pub whole : AreWhole new
+  pub grows : length old.pages ≤ length new.pages
+  pub same : (p : ℕ) → p < before → bytes_of new p ≡ bytes_of old p
+
+-- The pages before the leaves were begun stay.
+abbrev pub FinishedTreesKeepOlderPages : Type 0
+FinishedTreesKeepOlderPages =
+    (leaves : Leaves) (old new : Built) (counted : Bool) (before : ℕ) (closed : List (List Placed)) (units : List Placed) (root : ℕ)
+    → AreFilled leaves old before closed units → HasFirstRoot leaves old new counted closed units root → KeepsOlder before old new
+
+-- Its leaves and the levels over them are as many pages as its units say, where these were spread by what they take.
+abbrev pub FinishedTreesAreCounted : Type 0
+FinishedTreesAreCounted =
+    (leaves : Leaves) (old new : Built) (counted : Bool) (before : ℕ) (closed : List (List Placed)) (units : List Placed) (root : ℕ)
+    → AreFilled leaves old before closed units → AreSpreadOver old.size closed units → HasFirstRoot leaves old new counted closed units root
+    → length new.pages + (length closed + 1)
+    ≡ length old.pages + leaves_and_levels leaves.leaf_type old.size (map unit_of (flat_map (λ leaf. leaf) closed ++ units))
+
+-- A tree of several leaves is laid, in each later file; it has all pages since the leaves were begun, and what its leaves name stays where it stood.
 abbrev pub FinishedTreesAreLaid : Type 0
 FinishedTreesAreLaid =
     (leaves : Leaves) (old new : Built) (counted : Bool) (before : ℕ) (closed : List (List Placed)) (units : List Placed) (root : ℕ)

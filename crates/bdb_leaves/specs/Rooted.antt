@@ -1,24 +1,37 @@
--- Leaves with the levels over them, up to a root. Source: docs/FORMAT.md, "Built trees".
-use Rattle.std.specs.Prelude.{◌≡◌, ◌⊎◌, ℕ, Bool, true, false, List, []}
-use Rattle.std.specs.List.{All, AllZip}
+-- Leaves with the units on them, and a tree that is one leaf. Source: docs/FORMAT.md, "Built trees".
+use Rattle.std.specs.Prelude.{◌≡◌, ℕ, Bool, true, false, List, [], ◌∷◌, ◌++◌}
+use Rattle.std.specs.List.{AllZip}
 use Rattle.bdb_levels.specs.Nodes.{Node}
-use Rattle.bdb_pack.specs.Built.{Built}
-use Rattle.bdb_leaves.specs.Grown.{placed_on}
-use Rattle.bdb_leaves.specs.Laid.{Counts, HasUnits, IsNodeOf, inner_of}
+use Rattle.bdb_pack.specs.Built.{AreWhole, Built}
+use Rattle.bdb_leaves.specs.Laid.{Counts, IsNodeOf}
 use Rattle.bdb_leaves.specs.Placed.{LeafUnits, Placed}
-use Rattle.bdb_leaves.specs.Tower.{HasTower}
 use Rattle.bdb_leaves.specs.declared.leaf_type.LeafType.{LeafType}
 use Rattle.bdb_leaves.specs.declared.leaves.Leaves.{Leaves}
+
+abbrev pub leaf_with : ℕ → List Placed → LeafUnits
+leaf_with p units = record { page = p; units = units }
+
+-- pages by their numbers, each with its units
+abbrev pub zip_units : List ℕ → List (List Placed) → List LeafUnits
+zip_units [] groups = []
+zip_units (p ∷ ps) [] = []
+zip_units (p ∷ ps) (units ∷ groups) = leaf_with p units ∷ zip_units ps groups
+
+-- the leaves, in their order
+abbrev pub placed_on : Leaves → List (List Placed) → List Placed → List LeafUnits
+placed_on leaves closed units = zip_units (leaves.closed.items ++ (leaves.last ∷ [])) (closed ++ (units ∷ []))
 
 -- a leaf's number of pairs or entries is told, where leaves are counted
 abbrev pub CountsLeaves : Bool → LeafType → List LeafUnits → List Node → Type 0
 CountsLeaves true type placed nodes = AllZip (Counts type) placed nodes
 CountsLeaves false type placed nodes = Unit {0}
 
--- The leaves have levels over them up to a root; one leaf is the root itself.
-pub record HasRoot (leaves : Leaves) (old new : Built) (counted : Bool) (closed : List (List Placed)) (units : List Placed) (root : ℕ) : Type 0 where
-  pub nodes : List Node
-  pub nodes_are : AllZip (IsNodeOf leaves.leaf_type) (placed_on leaves closed units) nodes
-  pub counts : CountsLeaves counted leaves.leaf_type (placed_on leaves closed units) nodes
-  pub tower : HasTower (inner_of leaves.leaf_type) old new nodes root
-  pub some : All HasUnits (placed_on leaves closed units) ⊎ (tower.above ≡ [])
+-- One leaf is the root itself, and nothing changes.
+pub record IsOneLeaf (leaves : Leaves) (old new : Built) (counted : Bool) (closed : List (List Placed)) (units : List Placed) : Type 0 where
+  pub numbers : leaves.closed.items ≡ []
+  pub closed_is : closed ≡ []
+  pub same : new ≡ old
+  pub whole : AreWhole new
+  pub node : Node
+  pub node_is : IsNodeOf leaves.leaf_type (leaf_with leaves.last units) node
+  pub counts : CountsLeaves counted leaves.leaf_type (leaf_with leaves.last units ∷ []) (node ∷ [])

@@ -4,37 +4,13 @@ ghost use Rattle.bdb_pack.specs.Built.{AreWhole};
 ghost use Rattle.bdb_leaves.specs.Filled.{AreFilled, AreSomeFilled};
 ghost use Rattle.bdb_leaves.specs.Finished.{HasFirstRoot};
 ghost use Rattle.bdb_leaves.specs.Placed.{Placed};
-ghost use Rattle.bdb_leaves.specs.Rooted.{HasRoot};
 
 use crate::leaves::Leaves;
 use crate::placing::lay_levels_on;
-use crate::tower::lay_levels;
 use bdb_pack::Pages;
 use std::alloc::{AllocError, Global};
 
 impl Leaves {
-    /// Lays the levels over the leaves, behind all pages, and answers the root. Items over the leaves say how many pairs or
-    /// entries these have, where that is counted, and else 0.
-    pub(crate) fn lay_root(
-        &self,
-        alloc: Global,
-        pages: &mut Pages,
-        counted: bool,
-    ) -> Result<u32, AllocError>
-        requires legal { IsTrue (is_page_size pages.old.size) }
-        requires whole { AreWhole pages.old }
-        requires filled { AreSomeFilled self.now pages.old }
-        ensures { IfOk result (λ root. (before : ℕ) (closed : List (List Placed)) (units : List Placed) → AreFilled self.now pages.old before closed units
-            → ((closed ≡ []) ⊎ (0 < length units)) → HasRoot self.now pages.old pages.new counted closed units root) }
-    {
-        if self.closed.is_empty() {
-            return Ok(self.last);
-        }
-        let children = self.children(alloc, pages, counted)?;
-        let root = lay_levels(alloc, pages, self.leaf_type.inner(), children)?;
-        Ok(root)
-    }
-
     /// Lays the levels over the leaves so that the root stands where the first leaf stood, and answers it: of several leaves the
     /// first is moved behind all pages. Items over the leaves say how many pairs or entries these have, where that is counted,
     /// and else 0.

@@ -1,7 +1,8 @@
 //! Laws of leaves that take entries.
 ghost use Rattle.bdb_leaves.specs.Filled.{PushedUnitsSpread, UnitsFit};
-ghost use Rattle.bdb_leaves.specs.Finished.{FinishedTreesAreLaid, FinishedTreesKeepPages};
-ghost use Rattle.bdb_leaves.specs.Grown.{FilledTreesAreLaid, GrownSetsStand};
+ghost use Rattle.bdb_leaves.specs.Finished.{FinishedTreesAreCounted, FinishedTreesAreFormed, FinishedTreesAreLaid, FirstRootsAreLaid};
+ghost use Rattle.bdb_leaves.specs.Finished.{FinishedTreesKeepOlderPages, FinishedTreesKeepPages};
+ghost use Rattle.bdb_leaves.specs.Grown.{GrownSetsStand};
 ghost use Rattle.bdb_leaves.specs.Inner.{ChildrenAreFormed, ChildrenStand, RaisedPagesStand};
 ghost use Rattle.bdb_leaves.specs.Laid.{LaidSetsHoldData, LaidTreesAreBranches, LaidTreesAreLinked, LaidTreesAreParts, LaidTreesHaveLeaves};
 ghost use Rattle.bdb_leaves.specs.LeafEntries.{LeavesAreFormed, LeavesStand};
@@ -127,12 +128,22 @@ pub fn levels_shrink()
     ensures { LevelsShrink }
 {}
 
-/// Filled leaves with a tower of levels over them are a tree that is laid in each later file; it has all pages since they were begun.
-pub fn filled_trees_are_laid()
-    ensures { FilledTreesAreLaid }
+/// A finished tree, of one leaf or of several, is laid in each later file; it has all pages since its leaves were begun.
+pub fn first_roots_are_laid()
+    ensures { FirstRootsAreLaid }
 {}
 
-/// So are filled leaves with levels over them, of which the root stands where the first leaf stood.
+/// None of these pages has a fault of form.
+pub fn finished_trees_are_formed()
+    ensures { FinishedTreesAreFormed }
+{}
+
+/// The pages before the leaves were begun stay.
+pub fn finished_trees_keep_older_pages()
+    ensures { FinishedTreesKeepOlderPages }
+{}
+
+/// Filled leaves with levels over them, of which the root stands where the first leaf stood, are a tree that is laid in each later file.
 pub fn finished_trees_are_laid()
     ensures { FinishedTreesAreLaid }
 {}
@@ -156,4 +167,9 @@ pub fn pushed_units_spread()
 /// Each unit has room on a leaf.
 pub fn units_fit()
     ensures { UnitsFit }
+{}
+
+/// The leaves of a finished tree and the levels over them are as many pages as its units say.
+pub fn finished_trees_are_counted()
+    ensures { FinishedTreesAreCounted }
 {}

@@ -7,8 +7,9 @@ ghost use Rattle.bdb_leaves.specs.Finished.{HasTowerOn, IsRootPlaced};
 ghost use Rattle.bdb_leaves.specs.Inner.{child_cost};
 ghost use Rattle.bdb_leaves.specs.Levels.{AreChildren};
 
-use crate::levels::{Child, lay_level};
+use crate::levels::Child;
 use crate::moving::set_number;
+use crate::tower::lay_levels;
 use bdb_levels::InnerType;
 use bdb_pack::Pages;
 use std::alloc::{AllocError, Global};
@@ -46,12 +47,7 @@ pub(crate) fn lay_levels_on(
     ensures { IfOk result (λ _. (nodes : List Node) → AreChildren inner pages.old below.items nodes
         → HasTowerOn inner pages.old pages.new nodes first) }
 {
-    let mut level: u8 = 1;
-    let mut row = below;
-    while row.len() > 1 {
-        level = level.checked_add(1).ok_or(AllocError)?;
-        row = lay_level(alloc, pages, inner, level, &row)?;
-    }
-    place_root(pages, first, row[0].page);
+    let root = lay_levels(alloc, pages, inner, below)?;
+    place_root(pages, first, root);
     Ok(())
 }

@@ -63,7 +63,7 @@ pub(crate) fn build_set(
     let leaves = fill_set(alloc, pages, set_type(sorted), values)?;
     // That all pages are whole is known with their size.
     let _size = pages.size();
-    let root = leaves.lay_root(alloc, pages, true)?;
+    let root = leaves.finish(alloc, pages, true)?;
     Ok(root)
 }
 

@@ -1,96 +1,27 @@
-use Rattle.std.proofs.Common.{◌+◌, ◌<◌, ◌≡◌, List, length, arith, inl, inr, sym, subst, ap, ◌∙◌}
-use Rattle.std.proofs.lemmas.List.{get_or_default}
-use Rattle.bdb_levels.specs.Nodes.{Node}
-use Rattle.bdb_leaves.specs.Levels.{AreChildren, IsLaid, no_child}
-use Rattle.bdb_leaves.specs.declared.levels.Child.{Child}
-use Rattle.bdb_leaves.proofs.FinishLemmas.{is_topped, top_last, tower_on}
-use Rattle.bdb_leaves.proofs.LevelLemmas.{as_many, sum_is}
-use Rattle.bdb_leaves.proofs.TowerLemmas.{IsBuilding, level_built, level_shrinks, none_built, some_laid}
+use Rattle.std.proofs.Common.{arith}
+use Rattle.bdb_leaves.proofs.FinishLemmas.{ends_of, tower_on}
 use Rattle.bdb_leaves.proofs.placing.lay_levels_on.Goals as goal
 
-pub loop-alloc-init : goal.loop-alloc-init
-loop-alloc-init c = record {
-  low = omega arith;
-  some = let many = c.requires.many in omega (arith, many);
-  built = λ nodes are. none_built c.args.inner c.args.pages.now nodes c.args.below.items c.requires.whole are;
-  topped = inl c.requires.many;
-}
+pub lay_levels-requires-clause-some : goal.lay_levels-requires-clause-some
+lay_levels-requires-clause-some c = let many = c.requires.many in omega (arith, many)
 
--- the level is one above the one before
-one_up : (c : goal.After-drop-row-in-loop-alloc) → c.in_ok-level.level ≡ c.loop-alloc.level + 1
-one_up c = sum_is c.checked_add.result _ _ c.in_ok-level.level c.checked_add.ensures c.in_ok-level.ensures.ok_part
-
--- it stands over the nodes of that
-is_laid : (c : goal.After-drop-row-in-loop-alloc) (nodes : List Node) (are : AreChildren c.args.inner c.args.pages.now c.args.below.items nodes)
-    → IsLaid c.args.inner (c.loop-alloc.level + 1) c.loop-alloc.pages c.lay_level.new.pages c.in_ok-row.row.items
-    (c.loop-alloc.invariant.built nodes are).top
-is_laid c nodes are =
-    let built = c.loop-alloc.invariant.built nodes are in
-    subst (λ n. IsLaid c.args.inner n c.loop-alloc.pages c.lay_level.new.pages c.in_ok-row.row.items built.top) (one_up c)
-    (c.in_ok-row.ensures built.top
-    (subst (λ (l : List Child). AreChildren c.args.inner c.loop-alloc.pages l built.top) (sym c.deref.ensures.value) built.are))
-
--- and has fewer pages
-fewer : (c : goal.After-drop-row-in-loop-alloc) → length c.in_ok-row.row.items < length c.loop-alloc.row.items
-fewer c =
-    let (nodes, are, cheap) = c.requires.children in
-    level_shrinks c.args.inner c.args.pages.now c.loop-alloc.pages c.lay_level.new.pages nodes c.loop-alloc.level c.loop-alloc.row.items
-    c.in_ok-row.row.items (c.loop-alloc.invariant.built nodes are) (is_laid c nodes are) cheap (omega (arith, c.loop-alloc-test.true, c.len.ensures))
-
-pub loop-alloc-smaller : goal.loop-alloc-smaller
-loop-alloc-smaller c = fewer c
-
-pub loop-alloc-preserved : goal.loop-alloc-preserved
-loop-alloc-preserved c =
-    let (first, those, cheap) = c.requires.children in
-    let top = c.loop-alloc.invariant.built first those in
-    record {
-      low = omega (arith, one_up c);
-      some = some_laid c.args.inner (c.loop-alloc.level + 1) c.loop-alloc.pages c.lay_level.new.pages c.in_ok-row.row.items top.top
-          (is_laid c first those)
-          (omega (arith, c.loop-alloc.invariant.some, as_many c.args.inner c.loop-alloc.pages c.loop-alloc.row.items top.top top.are));
-      built = λ nodes are.
-          subst (λ n. IsBuilding c.args.inner c.args.pages.now c.lay_level.new.pages nodes n c.in_ok-row.row.items) (sym (one_up c))
-          (level_built c.args.inner c.args.pages.now c.loop-alloc.pages c.lay_level.new.pages nodes c.loop-alloc.level c.args.below.items
-          c.loop-alloc.row.items c.in_ok-row.row.items are c.loop-alloc.invariant.low (c.loop-alloc.invariant.built nodes are) (is_laid c nodes are)
-          (omega (arith, c.loop-alloc-test.true, c.len.ensures)) (fewer c));
-      topped = inr (λ nodes are. record {
-        was = c.loop-alloc.pages;
-        level = c.loop-alloc.level;
-        below = c.loop-alloc.row.items;
-        high = c.loop-alloc.invariant.low;
-        built = c.loop-alloc.invariant.built nodes are;
-        laid = is_laid c nodes are;
-      });
-    }
-
--- where one page is left, it's the last of all
+-- the root is the last page
 pub place_root-requires-clause-last : goal.place_root-requires-clause-last
 place_root-requires-clause-last c =
     let (nodes, are, cheap) = c.requires.children in
-    let one : length c.loop-alloc.row.items ≡ 1 = omega (arith, c.loop-alloc-test.false, c.loop-alloc.invariant.some, c.len.ensures) in
-    let top = top_last c.args.inner c.args.pages.now c.loop-alloc.pages nodes c.loop-alloc.row.items
-    (is_topped (length c.loop-alloc.row.items) c.loop-alloc.invariant.topped one nodes are) one in
-    let page = ap (λ (child : Child). child.page)
-    (get_or_default c.loop-alloc.row.items 0 no_child c.index.result.now c.loop-alloc.invariant.some ∙ sym c.index.ensures) in
-    let last = top.last in omega (arith, page, last)
+    (ends_of c.args.inner c.args.pages.now c.lay_levels.new.pages nodes c.in_ok-root.root c.args.below.items are c.requires.many
+    (c.in_ok-root.ensures nodes are)).last
 
+-- it was laid behind the pages that stood
 pub place_root-requires-clause-first : goal.place_root-requires-clause-first
 place_root-requires-clause-first c =
     let (nodes, are, cheap) = c.requires.children in
-    let one : length c.loop-alloc.row.items ≡ 1 = omega (arith, c.loop-alloc-test.false, c.loop-alloc.invariant.some, c.len.ensures) in
-    let top = top_last c.args.inner c.args.pages.now c.loop-alloc.pages nodes c.loop-alloc.row.items
-    (is_topped (length c.loop-alloc.row.items) c.loop-alloc.invariant.topped one nodes are) one in
-    let page = ap (λ (child : Child). child.page)
-    (get_or_default c.loop-alloc.row.items 0 no_child c.index.result.now c.loop-alloc.invariant.some ∙ sym c.index.ensures) in
-    let low = top.low in
-    let first = c.requires.first in omega (arith, page, low, first)
+    let ends = ends_of c.args.inner c.args.pages.now c.lay_levels.new.pages nodes c.in_ok-root.root c.args.below.items are c.requires.many
+    (c.in_ok-root.ensures nodes are) in
+    let low = ends.low in
+    let first = c.requires.first in omega (arith, low, first)
 
 pub returns : goal.returns
 returns c = λ nodes are.
-    let one : length c.loop-alloc.row.items ≡ 1 = omega (arith, c.loop-alloc-test.false, c.loop-alloc.invariant.some, c.len.ensures) in
-    let page = ap (λ (child : Child). child.page)
-    (get_or_default c.loop-alloc.row.items 0 no_child c.index.result.now c.loop-alloc.invariant.some ∙ sym c.index.ensures) in
-    tower_on c.args.inner c.args.pages.now c.loop-alloc.pages c.place_root.new.pages nodes c.args.first c.index.result.now.page c.args.below.items
-    c.loop-alloc.row.items are c.requires.first c.requires.blank
-    (is_topped (length c.loop-alloc.row.items) c.loop-alloc.invariant.topped one nodes are) one (sym page) c.place_root.ensures
+    tower_on c.args.inner c.args.pages.now c.lay_levels.new.pages c.place_root.new.pages nodes c.args.first c.in_ok-root.root c.args.below.items are
+    c.requires.many c.requires.first c.requires.blank (c.in_ok-root.ensures nodes are) c.place_root.ensures

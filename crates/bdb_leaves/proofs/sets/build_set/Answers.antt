@@ -7,5 +7,5 @@ pub returns : goal.returns
 returns c =
     let set = subst (λ t. IsSetFilled c.args.pages.now c.fill_set.new.pages t c.args.values.now c.in_ok-leaves.leaves) c.set_type.ensures
     c.in_ok-leaves.ensures in
-    set_built c.args.pages.now c.fill_set.new.pages c.lay_root.new.pages c.args.sorted c.args.values.now c.in_ok-leaves.leaves c.in_ok-root.root set
+    set_built c.args.pages.now c.fill_set.new.pages c.finish.new.pages c.args.sorted c.args.values.now c.in_ok-leaves.leaves c.in_ok-root.root set
     (c.in_ok-root.ensures _ set.closed set.units set.filled set.some)

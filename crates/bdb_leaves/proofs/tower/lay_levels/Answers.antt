@@ -1,10 +1,11 @@
-use Rattle.std.proofs.Common.{◌+◌, ◌<◌, ◌≡◌, List, length, arith, sym, subst, ap, ◌∙◌}
+use Rattle.std.proofs.Common.{◌+◌, ◌<◌, ◌≡◌, List, length, arith, inl, inr, refl, sym, subst, ap, ◌∙◌}
 use Rattle.std.proofs.lemmas.List.{get_or_default}
 use Rattle.bdb_levels.specs.Nodes.{Node}
 use Rattle.bdb_leaves.specs.Levels.{AreChildren, IsLaid, no_child}
 use Rattle.bdb_leaves.specs.Tower.{HasTower}
 use Rattle.bdb_leaves.specs.declared.levels.Child.{Child}
 use Rattle.bdb_leaves.proofs.LevelLemmas.{as_many, sum_is}
+use Rattle.bdb_leaves.proofs.TopLemmas.{ends_in_root, is_topped}
 use Rattle.bdb_leaves.proofs.TowerLemmas.{IsBuilding, level_built, level_shrinks, none_built, some_laid, tower_built}
 use Rattle.bdb_leaves.proofs.tower.lay_levels.Goals as goal
 
@@ -13,6 +14,7 @@ loop-alloc-init c = record {
   low = omega arith;
   some = c.requires.some;
   built = λ nodes are. none_built c.args.inner c.args.pages.now nodes c.args.below.items c.requires.whole are;
+  topped = inl refl;
 }
 
 -- the level is one above the one before
@@ -53,12 +55,24 @@ loop-alloc-preserved c =
           (level_built c.args.inner c.args.pages.now c.loop-alloc.pages c.lay_level.new.pages nodes c.loop-alloc.level c.args.below.items
           c.loop-alloc.row.items c.in_ok-row.row.items are c.loop-alloc.invariant.low (c.loop-alloc.invariant.built nodes are) (is_laid c nodes are)
           (omega (arith, c.loop-alloc-test.true, c.len.ensures)) (fewer c));
+      topped = inr (λ nodes are. record {
+        was = c.loop-alloc.pages;
+        level = c.loop-alloc.level;
+        below = c.loop-alloc.row.items;
+        high = c.loop-alloc.invariant.low;
+        built = c.loop-alloc.invariant.built nodes are;
+        laid = is_laid c nodes are;
+      });
     }
 
 pub returns : goal.returns
 returns c = λ nodes are.
+    let one : length c.loop-alloc.row.items ≡ 1 = omega (arith, c.loop-alloc-test.false, c.loop-alloc.invariant.some, c.len.ensures) in
     subst (HasTower c.args.inner c.args.pages.now c.loop-alloc.pages nodes)
     (ap (λ (child : Child). child.page)
     (get_or_default c.loop-alloc.row.items 0 no_child c.index.result.now c.loop-alloc.invariant.some ∙ sym c.index.ensures))
     (tower_built c.args.inner c.args.pages.now c.loop-alloc.pages nodes c.loop-alloc.level c.loop-alloc.row.items
-    (c.loop-alloc.invariant.built nodes are) (omega (arith, c.loop-alloc-test.false, c.loop-alloc.invariant.some, c.len.ensures)))
+    (c.loop-alloc.invariant.built nodes are) one
+    (λ several. ends_in_root c.args.inner c.args.pages.now c.loop-alloc.pages nodes c.args.below.items c.loop-alloc.row.items are
+    (is_topped (length c.loop-alloc.row.items) (length c.args.below.items) c.loop-alloc.invariant.topped one
+    (omega (arith, several, as_many c.args.inner c.args.pages.now c.args.below.items nodes are)) nodes are) one))

@@ -1,4 +1,4 @@
-use Rattle.std.proofs.Common.{◌≡◌, ◌≤◌, [], ◌∷◌, ◌++◌, map, length, arith, sym, ap, inl, inr, refl}
+use Rattle.std.proofs.Common.{◌≡◌, ◌≤◌, [], ◌∷◌, ◌++◌, map, length, arith, sym, ap, inl, inr}
 use Rattle.std.specs.List.{flat_map}
 use Rattle.std.proofs.lemmas.Bool.{eqb-false, eqb-true}
 use Rattle.bdb_leaves.specs.Leaves.{first_of}
@@ -12,7 +12,7 @@ returns-then-is_empty c = λ before closed units filled some.
     let none : c.args.self.closed.items ≡ [] =
     none_of c.args.self.closed.items (omega (arith, c.args.self.closed.ok, eqb-true c.args.self.closed.len 0 (sym c.if-is_empty.ensures))) in (
       sym (ap (λ ns. first_of ns c.args.self.last) none),
-      inl (leaf_rooted c.args.self c.args.pages.now c.args.counted before closed units none c.requires.whole filled, refl),
+      inl (leaf_rooted c.args.self c.args.pages.now c.args.counted before closed units none c.requires.whole filled),
     )
 
 pub children-requires : goal.children-requires
