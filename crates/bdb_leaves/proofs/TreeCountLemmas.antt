@@ -125,7 +125,8 @@ several_total type size ps closed units nodes many zip some sizes spread =
     let costs = leaf_costs type size ps groups nodes many zip some
     (each_leaf (IsPlacedBySize size) groups (subst (All (IsPlacedBySize size)) (sym (all_units closed units)) sizes)) in
     spread_total type size closed units spread
-    ∙ (ap (λ n. length groups + pages_over n (size - 26) (first_cost inner) (costs_of inner size groups)) (sym (nodes_many type ps groups nodes many zip))
+    ∙ (ap (λ n. length groups + pages_over n (size - 26) (first_cost inner) (costs_of inner size groups))
+    (sym (nodes_many type ps groups nodes many zip))
     ∙ (ap (λ cs. length groups + pages_over (length nodes) (size - 26) (first_cost inner) cs) (sym costs)
     ∙ ap (λ n. n + pages_over (length nodes) (size - 26) (first_cost inner) (map (child_cost inner) nodes)) (length-append closed (units ∷ []))))
 
