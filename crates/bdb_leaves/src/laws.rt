@@ -1,4 +1,5 @@
 //! Laws of leaves that take entries.
+ghost use Rattle.bdb_leaves.specs.Counted.{BegunLeavesAreCounted, FinishedTreesHaveSize, PushedUnitsAreCounted};
 ghost use Rattle.bdb_leaves.specs.Filled.{PushedUnitsSpread, UnitsFit};
 ghost use Rattle.bdb_leaves.specs.Finished.{FinishedTreesAreCounted, FinishedTreesAreFormed, FinishedTreesAreLaid, FirstRootsAreLaid};
 ghost use Rattle.bdb_leaves.specs.Finished.{FinishedTreesKeepOlderPages, FinishedTreesKeepPages};
@@ -172,4 +173,19 @@ pub fn units_fit()
 /// The leaves of a finished tree and the levels over them are as many pages as its units say.
 pub fn finished_trees_are_counted()
     ensures { FinishedTreesAreCounted }
+{}
+
+/// Leaves that are begun are one page.
+pub fn begun_leaves_are_counted()
+    ensures { BegunLeavesAreCounted }
+{}
+
+/// A unit that is pushed adds a leaf, where the last has no room for it, and what it has of its own.
+pub fn pushed_units_are_counted()
+    ensures { PushedUnitsAreCounted }
+{}
+
+/// A finished tree has as many pages as its units say.
+pub fn finished_trees_have_size()
+    ensures { FinishedTreesHaveSize }
 {}
