@@ -1,9 +1,10 @@
 -- Units that are put on leaves.
-use Rattle.std.proofs.Common.{◌≡◌, ℕ, suc, ◌<◌, ◌≤◌, Bool, false, List, [], ◌∷◌, length, map, arith, refl, sym, ◌∙◌, ap, subst, inl}
-use Rattle.std.specs.List.{All, flat_map}
+use Rattle.std.proofs.Common.{◌≡◌, ℕ, suc, ◌+◌, ◌<◌, ◌≤◌, Bool, false, List, [], ◌∷◌, length, map, arith, refl, sym, ◌∙◌, ap, subst, inl}
+use Rattle.std.specs.List.{All, flat_map, sum_by}
 use Rattle.std.proofs.lemmas.List.{length-map}
 use Rattle.std.proofs.lemmas.Simd.{map-map}
 use Rattle.std.proofs.lemmas.List.Elements.{All-cons, All-nil}
+use Rattle.std.proofs.lemmas.List.Sums.{sum_by-cons}
 use Rattle.bdb_format.specs.declared.metadata.FileKind.TheVariants.{Btree, Queue}
 use Rattle.bdb_format.specs.Reading.{abstract_page}
 use Rattle.bdb_format.specs.Page.{Content, Inline, Set, Chain, Tree, Unknown}
@@ -16,8 +17,9 @@ use Rattle.bdb_pack.specs.Built.{Built, file_so_far}
 use Rattle.bdb_leaves.specs.Filled.{AscendIn, IsUnitPut, StandOn, unit_contents}
 use Rattle.bdb_leaves.specs.LeafEntries.{own_content}
 use Rattle.bdb_leaves.specs.Leaves.{AreSomeLeaves}
-use Rattle.bdb_leaves.specs.Placed.{HasValue, IsDatum, IsOneValue, IsPlacedBySize, IsStoredBySize, Placed, PlacedEntry, PlacedPairs, StandsBySize, StandsPlaced, ValueItem, entries_of, further_entries}
-use Rattle.bdb_leaves.specs.Units.{has_own_tree}
+use Rattle.bdb_leaves.specs.Placed.{HasValue, IsDatum, IsOneValue, IsPlacedBySize, IsStoredBySize, Placed, PlacedEntry, PlacedPairs, StandsBySize, StandsPlaced, ValueItem, entries_of, further_entries, unit_of}
+use Rattle.bdb_leaves.specs.Spread.{own_pages}
+use Rattle.bdb_leaves.specs.Units.{chain_pages, has_own_tree}
 use Rattle.bdb_leaves.specs.Puts.{CountsFewFrom, IsPut, ValueStands}
 use Rattle.bdb_leaves.specs.Runs.{ArePairsPut, IsLiveItem, IsRunPut, ValuesStand, held_by_item}
 use Rattle.bdb_leaves.specs.declared.leaf_type.LeafType.{LeafType}
@@ -78,8 +80,10 @@ all_over P f (x ∷ xs) all = All-cons P (f x) (map f xs) (all 0 x (omega arith)
 run_is_unit : (leaves : Leaves) (old new : Built) (unit : Placed) (held : List (Content × List ℕ)) → 1 ≤ length old.pages
     → IsRunPut leaves old new (entries_of unit) held → unit_contents leaves.leaf_type unit ≡ contents_held held
     → ((g : File) → ValuesStand g old.size (length old.pages) (length new.pages) held → StandsPlaced leaves.leaf_type g unit)
-    → ((g : File) → ValuesStand g old.size (length old.pages) (length new.pages) held → IsPlacedBySize old.size unit) → IsUnitPut leaves old new unit
-run_is_unit leaves old new unit held some run contents placed sizes =
+    → ((g : File) → ValuesStand g old.size (length old.pages) (length new.pages) held → IsPlacedBySize old.size unit)
+    → ((sorted : Bool) → sum_by (λ (one : Content × List ℕ). chain_pages old.size one.1) held ≡ own_pages old.size sorted (unit_of unit))
+    → IsUnitPut leaves old new unit
+run_is_unit leaves old new unit held some run contents placed sizes own =
     let grows = run.kept.grows in
     let f : File = file_so_far new in
     let counted = counted_so_far new (omega (arith, some, grows)) in
@@ -100,6 +104,7 @@ run_is_unit leaves old new unit held some run contents placed sizes =
       sizes = sizes f here;
       few = subst (All (CountsFewFrom (length old.pages) new)) (sym contents) (all_over (CountsFewFrom (length old.pages) new) (λ (one : Content × List ℕ). one.0) held run.few);
       formed = run.formed;
+      count = λ sorted few. run.count ∙ ap (λ n. length old.pages + n) (own sorted);
     }
 
 -- an entry
@@ -122,8 +127,18 @@ entry_is_unit leaves old new value deleted other positive low put some =
     (entry_contents leaves.leaf_type entry)
     (λ g stand. entry_stands leaves.leaf_type g entry other (value_read g old.size (length old.pages) stand.0 put.item.content value stand.3))
     (λ g stand. by_size g old.size (length old.pages) stand.0 put.item.content value stand.3)
+    (λ sorted. sum_by-cons (λ (one : Content × List ℕ). chain_pages old.size one.1) (put.item.content, value) [] ∙ omega arith)
 
 -- a key with its data
+
+-- the pages of the chains of some data
+data_pages : (size : ℕ) (more : List ValueItem) → sum_by (λ (one : Content × List ℕ). chain_pages size one.1) (map held_by_item more)
+    ≡ sum_by (chain_pages size) (map (λ (datum : ValueItem). datum.value) more)
+data_pages size [] = refl
+data_pages size (datum ∷ more) =
+    sum_by-cons (λ (one : Content × List ℕ). chain_pages size one.1) (held_by_item datum) (map held_by_item more)
+    ∙ (ap (λ n. chain_pages size datum.value + n) (data_pages size more)
+    ∙ sym (sum_by-cons (chain_pages size) datum.value (map (λ (other : ValueItem). other.value) more)))
 
 pairs_contents : (key first : ValueItem) (more : List ValueItem)
     → unit_contents Pairs (PlacedPairs key first more) ≡ key.item.content ∷ first.item.content ∷ map (λ (datum : ValueItem). datum.item.content) more
@@ -172,3 +187,7 @@ pairs_are_unit leaves old new key first more type positive put small =
       (data_stand g old.size stand.0 (length new.pages) (f ∷ put.others) live stand.4).1,
       ap (λ vs. has_own_tree old.size key (first ∷ vs)) put.values ∙ small,
     ))
+    (λ sorted.
+    sum_by-cons (λ (one : Content × List ℕ). chain_pages old.size one.1) (held_by_item k) (map held_by_item (f ∷ put.others))
+    ∙ rw (ap (λ vs. has_own_tree old.size key (first ∷ vs)) put.values ∙ small)
+    (ap (λ n. chain_pages old.size key + n) (data_pages old.size (f ∷ put.others))))

@@ -111,6 +111,7 @@ tower_on inner old mid new nodes first root children are several stood blank tow
       whole = placed.whole;
       grows = omega (arith, count, low_root);
       numbers = ends.numbers ∙ ap (λ k. range_with_len (length old.pages) (k - length old.pages)) (sym count);
+      count = let all = tower.count in omega (arith, count, last, all);
       tower = λ g pages all at_first heads later.
           let set : ℕ → Bool = pages_on pages first root in
           let before : IsLater set (file_so_far fewer) g =

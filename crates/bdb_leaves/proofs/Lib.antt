@@ -1,4 +1,5 @@
 pub mod ChildrenLemmas
+pub mod CountedLaws
 pub mod EntryLemmas
 pub mod FilledLemmas
 pub mod FinishLemmas
@@ -29,13 +30,16 @@ pub mod PlacedLaws
 pub mod PlacedLemmas
 pub mod PlacingLemmas
 pub mod PushLemmas
+pub mod PushedLaws
 pub mod PutLemmas
 pub mod RestLemmas
 pub mod RunLemmas
 pub mod SetLemmas
 pub mod SetPutLemmas
+pub mod SpreadLemmas
 pub mod StandLemmas
 pub mod StayLemmas
 pub mod TopLemmas
 pub mod TowerLemmas
+pub mod TreeCountLemmas
 pub mod UnitLemmas

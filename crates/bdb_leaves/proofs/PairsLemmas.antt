@@ -108,6 +108,7 @@ key_again leaves old one new key first others held low run grown count some =
           ∙ run.formed p above (omega (arith, under, count)));
       few = all_map (λ held. few_kept (length old.pages) (length old.pages) one new held.0 (omega arith) grown.kept.order (omega (arith, count))
           (λ h above under. grown.kept.same h under (λ e. omega (arith, e, low, above)))) held run.few;
+      count = count ∙ run.count;
     }
 
 -- the item of a value that is put

@@ -1,5 +1,5 @@
 -- A unit that is pushed: the last leaf has room for it, or a new one.
-use Rattle.std.proofs.Common.{Bool, ◌≡◌, ℕ, suc, ◌+◌, ◌-◌, ◌<◌, ◌≤◌, true, false, cond, List, [], ◌∷◌, ◌++◌, length, map, arith, refl, sym, ◌∙◌, ap, subst, inl, inr, length-append, true≢false}
+use Rattle.std.proofs.Common.{Bool, ◌≡◌, ℕ, suc, ◌+◌, ◌-◌, ◌<◌, ◌≤◌, true, false, cond, if◌then◌else◌, List, [], ◌∷◌, ◌++◌, length, map, arith, refl, sym, ◌∙◌, ap, subst, inl, inr, length-append, true≢false}
 use Rattle.std.specs.Prelude.{◌/◌, ◌%◌, nat_le, nat_lt}
 use Rattle.std.specs.Cmp.Derive.{both_true}
 use Rattle.std.specs.List.{All, flat_map}
@@ -17,7 +17,8 @@ use Rattle.bdb_leaves.specs.Leaves.{AreSomeLeaves, HasRoomNow, KeepsOthers, has_
 use Rattle.bdb_leaves.specs.Placed.{Placed, PlacedEntry, PlacedPairs, PlacedTree, StandsPlaced, ValueItem, entries_of, further_entries, unit_of}
 use Rattle.bdb_leaves.specs.Puts.{IsPut}
 use Rattle.bdb_leaves.specs.Runs.{ArePairsPut, HasWholePairs, pairs_cost}
-use Rattle.bdb_leaves.specs.Units.{EntryUnit, KeyedUnit, TreeUnit, has_own_tree, set_cost, unit_cost, value_cost}
+use Rattle.bdb_leaves.specs.Spread.{own_pages}
+use Rattle.bdb_leaves.specs.Units.{EntryUnit, KeyedUnit, TreeUnit, has_own_tree, set_cost, unit_cost, unit_has_tree, value_cost}
 use Rattle.bdb_leaves.specs.declared.leaf_type.LeafType.TheVariants.{Pairs}
 use Rattle.bdb_leaves.specs.declared.leaves.Leaves.{Leaves}
 use Rattle.bdb_leaves.proofs.FilledLemmas.{counted_so_far, entry_is_unit, later_self, pairs_are_unit}
@@ -102,6 +103,13 @@ kept_now false leaves next old one new there opened more =
           more.same q (omega (arith, low, grows)) (λ e. omega (arith, e, low, opened.last)) ∙ opened.kept.same q low other;
     }
 
+-- the leaf that was added, if one was
+pub room_count : (b : Bool) (leaves next : Leaves) (old one : Built) → HasRoomNow b leaves next old one
+    → (length one.pages ≡ length old.pages + (if b then 0 else 1)) × (one.size ≡ old.size)
+room_count true leaves next old one (same, kept) =
+    (ap (λ (b : Built). length b.pages) kept ∙ omega arith, ap (λ (b : Built). b.size) kept)
+room_count false leaves next old one opened = (opened.count, opened.kept.size)
+
 unfoldable pub pushed : (leaves next : Leaves) (old one new : Built) (unit : TreeUnit) (placed : Placed) → AreSomeFilled leaves old
     → unit_of placed ≡ unit → next.leaf_type ≡ leaves.leaf_type → HasRoomNow (has_room leaves old (unit_cost old.size unit)) leaves next old one
     → unit_cost old.size unit ≤ old.size - 26 → AreWhole old → IsUnitPut next one new placed → IsPushed leaves next old new unit
@@ -115,6 +123,14 @@ pushed leaves next old one new unit placed some is type made fits whole put =
       kept = kept;
       stays = λ before closed units filled. stays_now _ leaves next old one new before closed units filled made put.kept.grows kept;
       filled = filled_now _ leaves next old one new (unit_cost old.size unit) placed whole refl fits made put;
+      whole = whole;
+      count = λ sorted few.
+          let (leaf, size) = room_count _ leaves next old one made in
+          let own : length new.pages ≡ length one.pages + own_pages one.size sorted (unit_of placed) =
+          put.count sorted (ap (λ n. unit_has_tree n (unit_of placed)) size ∙ (ap (unit_has_tree old.size) is ∙ few)) in
+          let same : own_pages one.size sorted (unit_of placed) ≡ own_pages old.size sorted unit =
+          ap (λ n. own_pages n sorted (unit_of placed)) size ∙ ap (own_pages old.size sorted) is in
+          omega (arith, leaf, own, same);
     }
 
 -- so there are some units, and one on the last leaf

@@ -4,6 +4,7 @@ use Rattle.std.specs.Prelude.{◌/◌}
 use Rattle.std.proofs.Math.Nat.{mul-le-mul_right}
 use Rattle.std.proofs.lemmas.Bool.{cases_lt, le-leb, lt-leb}
 use Rattle.std.proofs.lemmas.List.{get_or-append-add, get_or_append_left}
+use Rattle.std.proofs.lemmas.Nat.{div-mul-add}
 use Rattle.bdb_format.specs.declared.kinds.Order.{Order}
 use Rattle.bdb_format.specs.HeadOf.{is_page_size}
 use Rattle.bdb_format.specs.Numbers.{pad4}
@@ -22,7 +23,7 @@ use Rattle.bdb_leaves.specs.LeafEntries.{CanTakeEntry, Entry, HoldsEntries, item
 use Rattle.bdb_leaves.specs.Leaves.{AreLeaves, AreSomeLeaves, last_of}
 use Rattle.bdb_leaves.specs.Puts.{IsItemOf}
 use Rattle.bdb_leaves.specs.Sets.{KeepsAll}
-use Rattle.bdb_leaves.specs.Units.{value_cost}
+use Rattle.bdb_leaves.specs.Units.{chain_pages, value_cost}
 use Rattle.bdb_leaves.specs.declared.leaves.Leaves.{Leaves}
 use Rattle.bdb_leaves.proofs.LeavesLemmas.{leaves_kept, at_most_last}
 
@@ -56,8 +57,7 @@ inline_item old new value deleted fits short same =
       stands = λ g counted later. (refl, short, refl);
       formed = λ p low high. absurd (omega (arith, low, high));
       few = tt;
-      enough = λ long. absurd (omega (arith, long, short));
-      fewest = λ long. absurd (omega (arith, long, short));
+      count = rw (le-leb (length value) (old.size / 8) short) (omega arith);
     })
 
 -- A chain.
@@ -79,6 +79,22 @@ pieces_formed order size number previous rest (page ∷ pages) legal few before 
 less_of_product : (a b n : ℕ) → a * n < b * n → a < b
 less_of_product a b n under =
     elim (cases_lt a b) [ inl low ↦ low | inr high ↦ let more : b * n ≤ a * n = mul-le-mul_right n high in absurd (omega (arith, under, more)) ]
+
+-- a chain has as many pages as its bytes fill
+filled_up : (n room pages : ℕ) → 0 < n → n ≤ pages * room → (pages - 1) * room < n → (n + room - 1) / room ≡ pages
+filled_up n room zero some enough fewest = absurd (omega (arith, some, enough))
+filled_up n room (suc pages) some enough fewest =
+    let b : ℕ = n - pages * room - 1 in
+    let all : n ≤ pages * room + room = omega (arith, enough) in
+    let less : pages * room < n = subst (λ k. k * room < n) (let e : suc pages - 1 ≡ pages = omega arith in e) fewest in
+    let room_some : 0 < room = omega (arith, all, less) in
+    let e : n + room - 1 ≡ suc pages * room + b = omega (arith, less, room_some) in
+    ap (λ m. m / room) e ∙ div-mul-add (suc pages) room b (omega (arith, all, less))
+
+long_pages : (size : ℕ) (value : List ℕ) (pages : ℕ) → size / 8 < length value → length value ≤ pages * (size - 26)
+    → (pages - 1) * (size - 26) < length value → chain_pages size value ≡ pages
+long_pages size value pages long enough fewest =
+    rw (lt-leb (length value) (size / 8) long) (filled_up (length value) (size - 26) pages (omega (arith, long)) enough fewest)
 
 pub chain_item : (old new : Built) (value : List ℕ) (deleted : Bool) (head total : ℕ) → IsWritable (OnLeaf (record { content = Chain head total; deleted = deleted }))
     → is_page_size old.size ≡ true → 1 ≤ length old.pages → length value ≤ (2 ^ 21 - length old.pages) * (old.size - 26)
@@ -115,10 +131,7 @@ chain_item old new value deleted head total fits legal some room long is has =
           (pieces_formed old.order old.size head 0 value has.added legal (omega (arith, has.first, few, count)) (omega arith) has.chain k
           (omega (arith, high, count, at))));
       few = first_counts has.added few has.chain count has.pages;
-      enough = λ more. subst (λ n. length value ≤ n * (old.size - 26)) (let e : length has.added ≡ length new.pages - first = omega (arith, count) in e) counted.0;
-      fewest = λ more.
-          subst (λ n. (n - 1) * (old.size - 26) < length value) (let e : length has.added ≡ length new.pages - first = omega (arith, count) in e)
-          last;
+      count = count ∙ ap (λ n. first + n) (sym (long_pages old.size value (length has.added) long counted.0 last));
     }
   where
     first_counts : (added : List (List ℕ)) → length new.pages < 2 ^ 32 → AreChainPages old.order old.size head 0 value added → length new.pages ≡ length old.pages + length added

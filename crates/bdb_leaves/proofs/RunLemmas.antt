@@ -3,7 +3,7 @@ use Rattle.std.proofs.Common.{Bool, ◌≡◌, ℕ, ◌+◌, ◌-◌, ◌<◌, �
 use Rattle.std.specs.List.{All, sum_by}
 use Rattle.std.proofs.lemmas.Bool.{cases_lt}
 use Rattle.std.proofs.lemmas.List.{append_assoc, get_or-map}
-use Rattle.std.proofs.lemmas.List.Sums.{sum_by-append}
+use Rattle.std.proofs.lemmas.List.Sums.{sum_by-append, sum_by-cons}
 use Rattle.bdb_format.specs.Page.{Content, Inline, Set, Chain, Tree, Unknown, NoType}
 use Rattle.bdb_format.specs.File.{File, page_at}
 use Rattle.bdb_format.specs.Reading.{abstract_page}
@@ -18,6 +18,7 @@ use Rattle.bdb_leaves.specs.Puts.{CountsFewFrom, IsPut, ValueStands}
 use Rattle.bdb_leaves.specs.Inner.{CountsFew}
 use Rattle.std.proofs.lemmas.List.Elements.{All-append, All-cons, All-nil}
 use Rattle.bdb_leaves.specs.Runs.{IsRunPut, ValuesStand}
+use Rattle.bdb_leaves.specs.Units.{chain_pages}
 use Rattle.bdb_leaves.specs.declared.leaves.Leaves.{Leaves}
 use Rattle.bdb_leaves.proofs.PutLemmas.{leaves_stay}
 
@@ -120,6 +121,11 @@ runs_follow leaves old one new xs ys us vs low size first second =
           (all_map (λ held. few_kept (length old.pages) (length old.pages) one new held.0 (omega arith) second.kept.order more
           (λ h above under. second.kept.same h under (λ e. omega (arith, e, low, above)))) us first.few)
           (all_map (λ held. few_kept (length one.pages) (length old.pages) new new held.0 grows refl (omega arith) (λ h above under. refl)) vs second.few);
+      count =
+          let before = first.count in
+          let after : length new.pages ≡ length one.pages + sum_by (λ (held : Content × List ℕ). chain_pages old.size held.1) vs =
+          subst (λ n. length new.pages ≡ length one.pages + sum_by (λ (held : Content × List ℕ). chain_pages n held.1) vs) size second.count in
+          omega (arith, before, after, sum_by-append (λ (held : Content × List ℕ). chain_pages old.size held.1) us vs);
     }
 
 -- an item that is put
@@ -173,6 +179,9 @@ put_is_run leaves old new value deleted low put some =
           (few_kept (length old.pages) (length old.pages) one new put.item.content (omega arith) grown.kept.order (omega (arith, count))
           (λ h above under. grown.kept.same h under (λ e. omega (arith, e, low, above))) stored.few)
           (All-nil (λ (one : Content × List ℕ). CountsFewFrom (length old.pages) new one.0));
+      count =
+          let here = stored.count in
+          omega (arith, count, here, sum_by-cons (λ (held : Content × List ℕ). chain_pages old.size held.1) (put.item.content, value) []);
     }
 
 -- the leaves after a run

@@ -1,9 +1,10 @@
 -- Sets of the data of a key.
-use Rattle.std.proofs.Common.{◌≡◌, ℕ, ◌<◌, ◌≤◌, Bool, true, false, List, [], ◌∷◌, ◌++◌, length, map}
-use Rattle.std.proofs.Common.{arith, refl, sym, ◌∙◌, ap, inl, inr, length-append}
-use Rattle.std.specs.List.{flat_map}
+use Rattle.std.proofs.Common.{◌≡◌, ℕ, ◌+◌, ◌<◌, ◌≤◌, Bool, true, false, if◌then◌else◌, List, [], ◌∷◌, ◌++◌, length, map}
+use Rattle.std.proofs.Common.{arith, refl, sym, ◌∙◌, ap, subst, inl, inr, length-append}
+use Rattle.std.specs.List.{flat_map, sum_by}
 use Rattle.std.proofs.lemmas.List.{append_assoc, map-append}
 use Rattle.std.proofs.lemmas.List.Elements.{Contains-append_right}
+use Rattle.std.proofs.lemmas.List.Sums.{sum_by_push}
 use Rattle.bdb_format.specs.Page.{Tree}
 use Rattle.bdb_format.specs.File.{File}
 use Rattle.bdb_format.specs.ContentRows.{is_wrong_set}
@@ -12,7 +13,7 @@ use Rattle.bdb_grove.specs.Growing.{IsCounted, IsLater}
 use Rattle.bdb_grove.specs.Part.{between}
 use Rattle.bdb_grove.proofs.ChainLemmas.{between_is}
 use Rattle.bdb_pack.specs.Built.{Built, file_so_far}
-use Rattle.bdb_leaves.specs.Filled.{AreFilled, FilledNow, IsPushed}
+use Rattle.bdb_leaves.specs.Filled.{AreFilled, AreSpreadOver, FilledNow, IsPushed, SpreadNow}
 use Rattle.bdb_leaves.specs.Finished.{HasFirstRoot, KeepsOlder}
 use Rattle.bdb_leaves.specs.Grown.{live_entry}
 use Rattle.bdb_leaves.specs.Laid.{has_sorted_data}
@@ -20,7 +21,8 @@ use Rattle.bdb_leaves.specs.Leaves.{KeepsOthers, has_room}
 use Rattle.bdb_leaves.specs.Moved.{numbers_of}
 use Rattle.bdb_leaves.specs.Placed.{Placed, unit_of}
 use Rattle.bdb_leaves.specs.Sets.{IsSetBuilt, IsSetFilled, KeepsAll, SetStands, set_type}
-use Rattle.bdb_leaves.specs.Units.{unit_cost}
+use Rattle.bdb_leaves.specs.Spread.{leaves_and_levels}
+use Rattle.bdb_leaves.specs.Units.{chain_pages, unit_cost}
 use Rattle.bdb_leaves.specs.declared.leaf_type.LeafType.{LeafType}
 use Rattle.bdb_leaves.specs.declared.leaf_type.LeafType.TheVariants.{Pairs}
 use Rattle.bdb_leaves.specs.declared.leaves.Leaves.{Leaves}
@@ -28,13 +30,16 @@ use Rattle.bdb_leaves.proofs.FilledLemmas.{counted_so_far, later_self}
 use Rattle.bdb_leaves.proofs.GrownLaws.{grown_sets_stand}
 use Rattle.bdb_leaves.proofs.KeptLemmas.{finished_trees_are_formed, finished_trees_keep_older_pages}
 use Rattle.bdb_leaves.proofs.NodesLemmas.{all_units}
+use Rattle.bdb_leaves.proofs.PushedLaws.{pushed_units_spread}
 use Rattle.bdb_leaves.proofs.RestLemmas.{is_one}
+use Rattle.bdb_leaves.proofs.TreeCountLemmas.{finished_trees_are_counted}
 
 -- Leaves with the values so far.
 
 pub set_begun : (old new : Built) (type : LeafType) (leaves : Leaves) → leaves.leaf_type ≡ type → leaves.last ≡ length old.pages
-    → KeepsOthers leaves.last old new → AreFilled leaves new (length old.pages) [] [] → IsSetFilled old new type [] leaves
-set_begun old new type leaves is last kept filled =
+    → KeepsOthers leaves.last old new → AreFilled leaves new (length old.pages) [] [] → length new.pages ≡ length old.pages + 1
+    → IsSetFilled old new type [] leaves
+set_begun old new type leaves is last kept filled added =
     record {
       type_is = is;
       kept = record { size = kept.size; order = kept.order; grows = kept.grows; same = λ p low. kept.same p low (λ e. omega (arith, e, low, last)) };
@@ -43,6 +48,8 @@ set_begun old new type leaves is last kept filled =
       filled = filled;
       some = inl refl;
       units_are = refl;
+      spread = refl;
+      count = omega (arith, added);
     }
 
 -- one more is on the last leaf
@@ -51,6 +58,8 @@ pub set_grown : (old now new : Built) (type : LeafType) (values : List (List ℕ
     → IsSetFilled old new type (values ++ (value ∷ [])) next
 set_grown old now new type values value leaves next set put =
     by_room (has_room leaves now (unit_cost now.size (live_entry value))) (put.filled (length old.pages) set.closed set.units set.filled)
+    (pushed_units_spread leaves next now new (length old.pages) set.closed set.units (live_entry value) set.filled set.spread put)
+    (put.count false refl)
   where
     last_new : length old.pages ≤ leaves.last
     last_new = set.filled.new leaves.last
@@ -75,9 +84,18 @@ set_grown old now new type values value leaves next set put =
         ∙ (ap (λ ls. ls ++ (unit_of put.placed ∷ [])) are
         ∙ (ap (λ u. map live_entry values ++ (u ∷ [])) put.is ∙ sym (map-append live_entry values (value ∷ []))))
 
+    -- the chain of one value more
+    one_more : (leaf : ℕ) → length new.pages ≡ length now.pages + leaf + chain_pages now.size value
+        → length new.pages ≡ length old.pages + (length set.closed + leaf + 1) + sum_by (chain_pages old.size) (values ++ (value ∷ []))
+    one_more leaf added =
+        let before = set.count in
+        omega (arith, before, added, ap (λ n. chain_pages n value) set.kept.size, sum_by_push (chain_pages old.size) values value)
+
     by_room : (b : Bool) → FilledNow b next new (length old.pages) set.closed set.units put.placed
+        → SpreadNow b now.size set.closed set.units put.placed
+        → length new.pages ≡ length now.pages + (if b then 0 else 1) + chain_pages now.size value
         → IsSetFilled old new type (values ++ (value ∷ [])) next
-    by_room true filled = record {
+    by_room true filled spread added = record {
       type_is = put.type ∙ set.type_is;
       kept = kept;
       closed = set.closed;
@@ -87,8 +105,10 @@ set_grown old now new type values value leaves next set put =
       units_are =
           ap (map unit_of) (sym (append_assoc (flat_map (λ leaf. leaf) set.closed) set.units (put.placed ∷ [])))
           ∙ live (flat_map (λ leaf. leaf) set.closed ++ set.units) set.units_are;
+      spread = subst (λ n. AreSpreadOver n set.closed (set.units ++ (put.placed ∷ []))) (sym put.kept.size) spread;
+      count = let all = one_more 0 added in omega (arith, all);
     }
-    by_room false filled = record {
+    by_room false filled spread added = record {
       type_is = put.type ∙ set.type_is;
       kept = kept;
       closed = set.closed ++ (set.units ∷ []);
@@ -98,6 +118,8 @@ set_grown old now new type values value leaves next set put =
       units_are =
           ap (λ us. map unit_of (us ++ (put.placed ∷ []))) (all_units set.closed set.units)
           ∙ live (flat_map (λ leaf. leaf) set.closed ++ set.units) set.units_are;
+      spread = subst (λ n. AreSpreadOver n (set.closed ++ (set.units ∷ [])) (put.placed ∷ [])) (sym put.kept.size) spread;
+      count = let all = one_more 1 added in omega (arith, all, length-append set.closed (set.units ∷ []));
     }
 
 -- The set.
@@ -125,6 +147,15 @@ set_built old mid new sorted values leaves root set has =
       high = inside.1;
       formed = finished_trees_are_formed leaves mid new true (length old.pages) set.closed set.units root set.filled has;
       stands = stands;
+      count =
+          let leaves_and_chains = set.count in
+          let tree = finished_trees_are_counted leaves mid new true (length old.pages) set.closed set.units root set.filled set.spread has in
+          let same : leaves_and_levels leaves.leaf_type mid.size (map unit_of (flat_map (λ leaf. leaf) set.closed ++ set.units))
+          ≡ leaves_and_levels (set_type sorted) old.size (map live_entry values) =
+          ap (λ us. leaves_and_levels leaves.leaf_type mid.size us) set.units_are
+          ∙ (ap (λ n. leaves_and_levels leaves.leaf_type n (map live_entry values)) set.kept.size
+          ∙ ap (λ type. leaves_and_levels type old.size (map live_entry values)) set.type_is) in
+          omega (arith, leaves_and_chains, tree, same);
     }
   where
     keeps : KeepsOlder (length old.pages) mid new

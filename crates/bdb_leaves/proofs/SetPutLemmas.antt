@@ -1,5 +1,5 @@
 -- A key whose data have a tree of their own.
-use Rattle.std.proofs.Common.{◌≡◌, ℕ, ◌+◌, ◌-◌, ◌<◌, ◌≤◌, Bool, true, false, cond, List, [], ◌∷◌, ◌++◌, length, arith, refl, sym, ◌∙◌, ap, subst, inl, inr, length-append, true≢false}
+use Rattle.std.proofs.Common.{◌≡◌, ℕ, ◌+◌, ◌-◌, ◌<◌, ◌≤◌, Bool, true, false, cond, if◌then◌else◌, List, [], ◌∷◌, ◌++◌, length, arith, refl, sym, ◌∙◌, ap, subst, inl, inr, length-append, true≢false}
 use Rattle.std.specs.Prelude.{◌^◌}
 use Rattle.std.specs.List.{All, flat_map}
 use Rattle.std.proofs.lemmas.Bool.{cases_lt, cases_Bool}
@@ -21,14 +21,15 @@ use Rattle.bdb_grove.proofs.BranchLemmas.{branches_follow}
 use Rattle.bdb_grove.proofs.ChainLemmas.{between_is, is_between}
 use Rattle.bdb_layout.proofs.WritingLemmas.{length-leaf_tree}
 use Rattle.bdb_pack.specs.Built.{AreWhole, Built, bytes_of, file_so_far}
-use Rattle.bdb_leaves.specs.Filled.{AreSomeFilled, AscendIn, IsPushed, StandOn, unit_contents, FilledNow, rest_of}
+use Rattle.bdb_leaves.specs.Filled.{AreSomeFilled, AscendIn, IsPushed, StandOn, leaves_added, unit_contents, FilledNow, rest_of}
 use Rattle.bdb_leaves.specs.LeafEntries.{CanTakeEntry, Entry, HoldsEntriesOn, entry_cost, item_cost, own_entry, room_of}
 use Rattle.bdb_leaves.specs.Leaves.{AreLeaves, AreSomeLeaves, HasRoomNow, has_room, last_of}
 use Rattle.bdb_leaves.specs.Placed.{Placed, PlacedTree, StandsPlaced, ValueItem, tree_item, IsPlacedBySize, PlacedEntry, PlacedPairs, has_wrong_root, unit_of, values_in}
 use Rattle.bdb_leaves.specs.Puts.{CountsFewFrom, IsGrown, IsPut}
 use Rattle.bdb_leaves.specs.Runs.{HasWholePairs, IsRunPut, ValuesStand}
 use Rattle.bdb_leaves.specs.Sets.{IsSetBuilt, IsTreePut, SetStands, IsKeyedPushed}
-use Rattle.bdb_leaves.specs.Units.{KeyedUnit, has_own_tree, set_cost, unit_cost, value_cost, key_of}
+use Rattle.bdb_leaves.specs.Spread.{own_pages, set_pages}
+use Rattle.bdb_leaves.specs.Units.{KeyedUnit, chain_pages, has_own_tree, set_cost, unit_cost, value_cost, key_of}
 use Rattle.bdb_levels.specs.Roots.{is_of}
 use Rattle.bdb_levels.proofs.NodeLemmas.{all_right}
 use Rattle.bdb_leaves.proofs.RestLemmas.{is_rest, leaves_low}
@@ -37,7 +38,7 @@ use Rattle.bdb_leaves.specs.declared.leaf_type.LeafType.TheVariants.{Pairs, Reco
 use Rattle.bdb_leaves.specs.declared.leaves.Leaves.{Leaves}
 use Rattle.bdb_leaves.proofs.FilledLemmas.{by_size, counted_so_far, later_self, value_read}
 use Rattle.bdb_leaves.proofs.PairsLemmas.{live_put, some_of}
-use Rattle.bdb_leaves.proofs.PushLemmas.{IsReady, cost_few, pushed, ready, whole_now}
+use Rattle.bdb_leaves.proofs.PushLemmas.{IsReady, cost_few, pushed, ready, room_count, whole_now}
 use Rattle.bdb_leaves.proofs.PutLemmas.{pages_stay}
 use Rattle.bdb_leaves.proofs.RunLemmas.{few_kept, later_before, put_is_run}
 use Rattle.bdb_leaves.proofs.StandLemmas.{ascend_follow, values_stand_on, ascend_bounds}
@@ -149,8 +150,20 @@ tree_put leaves old one two new key values sorted root has put set grown count m
               ∙ (ap (page_code two.order p) (grown.kept.same p (omega (arith, high, count)) (λ e. omega (arith, e, there, low)))
               ∙ set.formed p above (omega (arith, high, count)))
         ];
+        count = λ by_order few. absurd (true≢false (sym many ∙ few));
       };
       right = λ g counted_g later. (set_stands g counted_g later).right;
+      count =
+          let key_pages = run.count in
+          let set_pages_are : length two.pages ≡ length one.pages + set_pages old.size sorted values =
+          set.count ∙ ap (λ n. length one.pages + set_pages n sorted values) run.kept.size in
+          rw many (omega (
+            arith,
+            count,
+            key_pages,
+            set_pages_are,
+            sum_by-cons (λ (held_one : Content × List ℕ). chain_pages old.size held_one.1) (put.item.content, key) [],
+          ));
     }
   where
     there : leaves.last < length old.pages
@@ -220,7 +233,7 @@ tree_put leaves old one two new key values sorted root has put set grown count m
 -- The unit is pushed.
 
 -- it has room on an empty leaf, and takes what its key does and 16 bytes
-tree_fits : (size : ℕ) (key : List ℕ) (values : List (List ℕ)) → is_page_size size ≡ true → has_own_tree size key values ≡ true
+pub tree_fits : (size : ℕ) (key : List ℕ) (values : List (List ℕ)) → is_page_size size ≡ true → has_own_tree size key values ≡ true
     → (value_cost size key + 16 ≤ size - 26) × (unit_cost size (KeyedUnit key values) ≡ value_cost size key + 16)
 tree_fits size key values legal many =
     let bounds = size_bounds size legal in
@@ -281,6 +294,12 @@ tree_pushed leaves next old one new sorted key values some legal whole type many
           (later_before new new (between (length one.pages) (length new.pages)) (rest_of before next new) g refl (omega arith)
           (λ p at. added_rest next one new before is.some (omega (arith, first, more)) p at)
           (λ p at. ((between_is (length one.pages) (length new.pages) p at).1, refl)) later);
+      count =
+          let (leaf, size) = room_count _ leaves next old one made in
+          let own = tree.count in
+          let same : leaves_added leaves old (KeyedUnit key values) ≡ (if has_room leaves old (value_cost old.size key + 16) then 0 else 1) =
+          ap (λ n. if has_room leaves old n then 0 else 1) fit.1 in
+          omega (arith, leaf, own, same, ap (λ n. own_pages n sorted (KeyedUnit key values)) size);
     }
 
 -- data that stand on the leaf have no root
@@ -302,6 +321,7 @@ pairs_keyed leaves next old new sorted key values few put =
           no_root g sorted old.size key values put.placed few put.is
           (subst (λ n. IsPlacedBySize n put.placed) put.kept.size
           (sized (has_room leaves old (unit_cost old.size (KeyedUnit key values))) before closed units (put.filled before closed units filled)));
+      count = put.count sorted few;
     }
   where
     sized : (b : Bool) (before : ℕ) (closed : List (List Placed)) (units : List Placed) → FilledNow b next new before closed units put.placed

@@ -1,9 +1,9 @@
 -- Levels that are laid over pages of a tree, one after the other.
-use Rattle.std.proofs.Common.{◌≡◌, ℕ, ◌+◌, ◌-◌, ◌<◌, ◌≤◌, ◌&&◌, Bool, true, List, [], ◌∷◌, ◌++◌, length, map, get_or, None, arith, refl, sym, ◌∙◌, ap, subst, inl, inr}
+use Rattle.std.proofs.Common.{◌≡◌, ℕ, zero, suc, ◌+◌, ◌-◌, ◌<◌, ◌≤◌, ◌&&◌, Bool, true, List, [], ◌∷◌, ◌++◌, length, map, get_or, None, arith, refl, sym, ◌∙◌, ap, subst, inl, inr}
 use Rattle.std.specs.List.{Contains, flat_map, range_with_len}
-use Rattle.std.proofs.lemmas.Bool.{and_parts, cases_lt, lt-ltb, ltb-true}
+use Rattle.std.proofs.lemmas.Bool.{and_parts, cases_lt, lt-leb, lt-ltb, ltb-true}
 use Rattle.std.proofs.lemmas.Grind.{flat_map-append}
-use Rattle.std.proofs.lemmas.List.{append-nil, append_assoc, get_or_default}
+use Rattle.std.proofs.lemmas.List.{append-nil, append_assoc, get_or_default, length-map}
 use Rattle.std.proofs.Math.Dec.{ltb}
 use Rattle.bdb_format.specs.File.{File}
 use Rattle.bdb_format.specs.Rows.{page_code}
@@ -15,8 +15,9 @@ use Rattle.bdb_levels.specs.declared.inner_type.InnerType.TheVariants.{Keyed, Nu
 use Rattle.bdb_levels.specs.Nodes.{IsTower, Node, no_node}
 use Rattle.bdb_levels.specs.Roots.{key_heads, pages_of}
 use Rattle.bdb_pack.specs.Built.{AreWhole, Built, bytes_of, file_so_far}
-use Rattle.bdb_leaves.specs.Inner.{child_cost, key_cost}
-use Rattle.bdb_leaves.specs.Levels.{AreChildren, IsLaid, heads_in, heads_of, heads_under, no_child, nodes_over}
+use Rattle.bdb_leaves.specs.Inner.{child_cost, first_cost, key_cost}
+use Rattle.bdb_leaves.specs.Levels.{AreChildren, IsLaid, heads_in, heads_of, heads_under, no_child, node_over, nodes_over}
+use Rattle.bdb_leaves.specs.Spread.{first_or, pages_over, spread_items}
 use Rattle.bdb_leaves.specs.Tower.{EndsInRoot, HasTower}
 use Rattle.bdb_leaves.specs.declared.levels.Child.{Child}
 use Rattle.bdb_leaves.proofs.FilledLemmas.{later_self}
@@ -25,6 +26,7 @@ use Rattle.bdb_leaves.proofs.LaterLemmas.{later_chain}
 use Rattle.bdb_leaves.proofs.LevelLemmas.{as_many}
 use Rattle.bdb_leaves.proofs.LevelTakeLemmas.{heads_few}
 use Rattle.bdb_leaves.proofs.RunLemmas.{later_before}
+use Rattle.bdb_leaves.proofs.SpreadLemmas.{level_is_spread}
 
 -- Keys.
 
@@ -99,9 +101,9 @@ heads_low inner built children nodes h are at =
 
 -- Numbers.
 
-pages_over : (p : ℕ) (groups : List (List Node)) → map (λ (node : Node). node.page) (nodes_over p groups) ≡ range_with_len p (length groups)
-pages_over p [] = refl
-pages_over p (group ∷ groups) = ap (λ ps. p ∷ ps) (pages_over (p + 1) groups)
+level_numbers : (p : ℕ) (groups : List (List Node)) → map (λ (node : Node). node.page) (nodes_over p groups) ≡ range_with_len p (length groups)
+level_numbers p [] = refl
+level_numbers p (group ∷ groups) = ap (λ ps. p ∷ ps) (level_numbers (p + 1) groups)
 
 numbers_more : (levels : List (List Node)) (groups : List (List Node)) (from now new : ℕ) → from ≤ now → new ≡ now + length groups
     → pages_of levels ≡ range_with_len from (now - from)
@@ -113,10 +115,67 @@ numbers_more levels groups from now new low count numbers =
     let here : from + (now - from) ≡ now = omega (arith, low) in
     let all : now - from + n ≡ new - from = omega (arith, low, count) in
     flat_map-append pages levels (top ∷ [])
-    ∙ (ap (λ ps. pages_of levels ++ ps) (append-nil (pages top) ∙ pages_over now groups)
+    ∙ (ap (λ ps. pages_of levels ++ ps) (append-nil (pages top) ∙ level_numbers now groups)
     ∙ (ap (λ ps. ps ++ range_with_len now n) numbers
     ∙ (ap (λ q. range_with_len from (now - from) ++ range_with_len q n) (sym here)
     ∙ (sym (range_parts from (now - from) n) ∙ ap (range_with_len from) all))))
+
+-- How many pages stand over others.
+
+-- what the items over the pages of a level take: what the first of each page would beside others
+costs_over : (inner : InnerType) (p : ℕ) (groups : List (List Node)) → ((k : ℕ) → k < length groups → 0 < length (get_or groups k []))
+    → map (first_or 0) (map (map (child_cost inner)) groups) ≡ map (child_cost inner) (nodes_over p groups)
+costs_over inner p [] some = refl
+costs_over inner p ([] ∷ groups) some = let none = some 0 (omega arith) in absurd (omega (arith, none))
+costs_over inner p ((node ∷ nodes) ∷ groups) some =
+    ap (λ cs. child_cost inner node ∷ cs) (costs_over inner (p + 1) groups (λ k under. some (suc k) (omega (arith, under))))
+    ∙ ap (λ c. c ∷ map (child_cost inner) (nodes_over (p + 1) groups)) (cost_like inner node (node_over p (node ∷ nodes)) refl)
+
+-- a level is spread as its items are
+level_spread : (inner : InnerType) (level : ℕ) (old new : Built) (above : List Child) (nodes : List Node)
+    → (laid : IsLaid inner level old new above nodes)
+    → spread_items (old.size - 26) (first_cost inner) (map (child_cost inner) nodes) ≡ map (map (child_cost inner)) laid.groups
+level_spread inner level old new above nodes laid =
+    let by = laid.laid in
+    let count = by.count in
+    let size = by.size in
+    ap (λ (l : List Node). spread_items (old.size - 26) (first_cost inner) (map (child_cost inner) l)) (sym laid.joined_is)
+    ∙ level_is_spread inner (old.size - 26) laid.groups (λ k under. (by.pages k under).some)
+    (λ k under.
+    let page = by.pages k under in
+    let room = page.holds.room in
+    let long : length (bytes_of new (length old.pages + k)) ≡ new.size = by.whole (length old.pages + k) (omega (arith, under, count)) in
+    omega (arith, room, long, size))
+    by.filled
+
+-- over two pages or more stand those of the next level, and those over it
+pages_counted : (inner : InnerType) (level most : ℕ) (old new : Built) (above : List Child) (nodes : List Node)
+    → (laid : IsLaid inner level old new above nodes) → 2 ≤ length nodes
+    → pages_over (suc most) (old.size - 26) (first_cost inner) (map (child_cost inner) nodes)
+    ≡ length laid.groups
+    + pages_over most (old.size - 26) (first_cost inner) (map (child_cost inner) (nodes_over (length old.pages) laid.groups))
+pages_counted inner level most old new above nodes laid many =
+    let groups : List (List Node) = laid.groups in
+    let room : ℕ = old.size - 26 in
+    let costs : List ℕ = map (child_cost inner) nodes in
+    let two : 1 < length costs = omega (arith, many, length-map nodes (child_cost inner)) in
+    two_or_more most room (first_cost inner) costs two
+    ∙ (ap (λ (gs : List (List ℕ)). length gs + pages_over most room (first_cost inner) (map (first_or 0) gs))
+    (level_spread inner level old new above nodes laid)
+    ∙ (ap (λ n. n + pages_over most room (first_cost inner) (map (first_or 0) (map (map (child_cost inner)) groups)))
+    (length-map groups (map (child_cost inner)))
+    ∙ ap (λ cs. length groups + pages_over most room (first_cost inner) cs)
+    (costs_over inner (length old.pages) groups (λ k under. (laid.laid.pages k under).some))))
+  where
+    two_or_more : (most room first : ℕ) (costs : List ℕ) → 1 < length costs
+        → pages_over (suc most) room first costs
+        ≡ length (spread_items room first costs) + pages_over most room first (map (first_or 0) (spread_items room first costs))
+    two_or_more most room first costs two = rw (lt-leb (length costs) 1 two) refl
+
+-- over one page stands none
+pub none_over : (most room first cost : ℕ) → pages_over most room first (cost ∷ []) ≡ 0
+none_over zero room first cost = refl
+none_over (suc most) room first cost = refl
 
 -- Levels so far.
 
@@ -140,6 +199,11 @@ pub record IsBuilding (inner : InnerType) (old now : Built) (nodes : List Node) 
   pub formed : (p : ℕ) → length old.pages ≤ p → p < length now.pages → page_code now.order p (bytes_of now p) ≡ None
   pub form_kept : (p : ℕ) → p < length old.pages → page_code now.order p (bytes_of now p) ≡ page_code old.order p (bytes_of old p)
   pub kept : (p : ℕ) → p < length old.pages → (Contains (flat_map (heads_of inner) nodes) p → ⊥) → bytes_of now p ≡ bytes_of old p
+  -- so many levels may follow at most, and the pages that are there and those that they have are all
+  pub most : ℕ
+  pub enough : length top ≤ most
+  pub count : length now.pages + pages_over most (old.size - 26) (first_cost inner) (map (child_cost inner) top)
+      ≡ length old.pages + pages_over (length nodes) (old.size - 26) (first_cost inner) (map (child_cost inner) nodes)
 
 pub none_built : (inner : InnerType) (old : Built) (nodes : List Node) (children : List Child) → AreWhole old → AreChildren inner old children nodes
     → IsBuilding inner old old nodes 1 children
@@ -160,6 +224,9 @@ none_built inner old nodes children whole are =
       formed = λ p low under. absurd (omega (arith, low, under));
       form_kept = λ p low. refl;
       kept = λ p low other. refl;
+      most = length nodes;
+      enough = omega arith;
+      count = refl;
     }
 
 -- the pages of a set below a number
@@ -174,8 +241,9 @@ is_under pages n p there low = ap (λ b. b && ltb p n) there ∙ lt-ltb p n low
 
 pub level_built : (inner : InnerType) (old now new : Built) (nodes : List Node) (level : ℕ) (below children above : List Child)
     → AreChildren inner old below nodes → 1 ≤ level → (built : IsBuilding inner old now nodes level children)
-    → IsLaid inner (level + 1) now new above built.top → IsBuilding inner old new nodes (level + 1) above
-level_built inner old now new nodes level below children above are high built laid =
+    → IsLaid inner (level + 1) now new above built.top → 1 < length children → length above < length children
+    → IsBuilding inner old new nodes (level + 1) above
+level_built inner old now new nodes level below children above are high built laid many fewer_above =
     let n : ℕ = length now.pages in
     let row : List Node = nodes_over n laid.groups in
     let low_now = built.grows in
@@ -220,6 +288,28 @@ level_built inner old now new nodes level below children above are high built la
       kept = λ p low other.
           (levels_keep_pages inner (level + 1) now new above built.top p laid (omega (arith, low, low_now))).same (λ at. other (named p at))
           ∙ built.kept p low other;
+      most = built.most - 1;
+      enough =
+          let enough = built.enough in
+          omega (
+            arith,
+            enough,
+            fewer_above,
+            as_many inner now children built.top built.are,
+            as_many inner new above row (levels_go_on inner (level + 1) now new above built.top laid),
+          );
+      count =
+          let enough = built.enough in
+          let as_long = as_many inner now children built.top built.are in
+          let most : built.most ≡ suc (built.most - 1) = omega (arith, enough, as_long, many) in
+          let here = built.count in
+          let next : pages_over built.most (old.size - 26) (first_cost inner) (map (child_cost inner) built.top)
+          ≡ length laid.groups + pages_over (built.most - 1) (old.size - 26) (first_cost inner) (map (child_cost inner) row) =
+          subst (λ size. pages_over built.most (size - 26) (first_cost inner) (map (child_cost inner) built.top)
+          ≡ length laid.groups + pages_over (built.most - 1) (size - 26) (first_cost inner) (map (child_cost inner) row)) built.size
+          (ap (λ m. pages_over m (now.size - 26) (first_cost inner) (map (child_cost inner) built.top)) most
+          ∙ pages_counted inner (level + 1) (built.most - 1) now new above built.top laid (omega (arith, many, as_long))) in
+          omega (arith, here, next, count);
     }
 
 -- a level of more than one page has fewer than the one below
@@ -279,5 +369,11 @@ tower_built inner old now nodes level children built one ends =
       formed = built.formed;
       form_kept = built.form_kept;
       kept = built.kept;
+      count =
+          let all = built.count in
+          let none : pages_over built.most (old.size - 26) (first_cost inner) (map (child_cost inner) built.top) ≡ 0 =
+          ap (λ (l : List Node). pages_over built.most (old.size - 26) (first_cost inner) (map (child_cost inner) l)) is
+          ∙ none_over built.most (old.size - 26) (first_cost inner) (child_cost inner root) in
+          omega (arith, all, none);
       ends = ends;
     }

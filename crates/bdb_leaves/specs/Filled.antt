@@ -1,6 +1,7 @@
 -- What a unit that is put on a leaf leaves behind: its entries there, and pages of its own behind all others. Source: docs/FORMAT.md, "Built trees".
-use Rattle.std.specs.Prelude.{◌≡◌, ◌⊎◌, ℕ, ◌+◌, ◌<◌, ◌≤◌, ◌&&◌, not, Bool, true, false, List, [], ◌∷◌, ◌++◌, length, map, None}
+use Rattle.std.specs.Prelude.{◌≡◌, ◌⊎◌, ℕ, ◌+◌, ◌<◌, ◌≤◌, ◌&&◌, not, if◌then◌else◌, Bool, true, false, List, [], ◌∷◌, ◌++◌, length, map, None}
 use Rattle.std.specs.List.{All, flat_map}
+use Rattle.bdb_format.specs.HeadOf.{is_page_size}
 use Rattle.bdb_format.specs.Page.{Content}
 use Rattle.bdb_format.specs.File.{File}
 use Rattle.bdb_format.specs.Rows.{page_code}
@@ -8,13 +9,14 @@ use Rattle.bdb_grove.specs.Growing.{IsCounted, IsLater}
 use Rattle.bdb_grove.specs.Leaves.{ContentFits, content_pages}
 use Rattle.bdb_grove.specs.Part.{IsBranch, between}
 use Rattle.bdb_levels.specs.Roots.{is_of}
-use Rattle.bdb_pack.specs.Built.{Built, bytes_of, file_so_far}
+use Rattle.bdb_pack.specs.Built.{AreWhole, Built, bytes_of, file_so_far}
 use Rattle.bdb_leaves.specs.LeafEntries.{Entry, contents_of}
 use Rattle.bdb_leaves.specs.Leaves.{AreLeaves, KeepsOthers, has_room}
 use Rattle.bdb_leaves.specs.Moved.{first_leaf}
 use Rattle.bdb_leaves.specs.Puts.{CountsFewFrom}
 use Rattle.bdb_leaves.specs.Placed.{IsPlacedBySize, Placed, StandsPlaced, entries_of, unit_of}
-use Rattle.bdb_leaves.specs.Units.{TreeUnit, unit_cost}
+use Rattle.bdb_leaves.specs.Spread.{own_pages, spread_units}
+use Rattle.bdb_leaves.specs.Units.{TreeUnit, page_room, unit_cost, unit_has_tree}
 use Rattle.bdb_leaves.specs.declared.leaf_type.LeafType.{LeafType}
 use Rattle.bdb_leaves.specs.declared.leaves.Leaves.{Leaves}
 
@@ -48,6 +50,8 @@ pub record IsUnitPut (leaves : Leaves) (old new : Built) (unit : Placed) : Type 
   pub sizes : IsPlacedBySize old.size unit
   pub few : All (CountsFewFrom (length old.pages) new) (unit_contents leaves.leaf_type unit)
   pub formed : (p : ℕ) → length old.pages ≤ p → p < length new.pages → page_code new.order p (bytes_of new p) ≡ None
+  pub count : (sorted : Bool) → unit_has_tree old.size (unit_of unit) ≡ false
+      → length new.pages ≡ length old.pages + own_pages old.size sorted (unit_of unit)
 
 -- The leaves with the units that were put on them.
 
@@ -90,6 +94,10 @@ abbrev pub FilledNow : Bool → Leaves → Built → ℕ → List (List Placed) 
 FilledNow true leaves built before closed units unit = AreFilled leaves built before closed (units ++ (unit ∷ []))
 FilledNow false leaves built before closed units unit = AreFilled leaves built before (closed ++ (units ∷ [])) (unit ∷ [])
 
+-- how many leaves a unit adds: one where the last has no room for what it takes
+abbrev pub leaves_added : Leaves → Built → TreeUnit → ℕ
+leaves_added leaves old unit = if has_room leaves old (unit_cost old.size unit) then 0 else 1
+
 -- A unit is pushed: it is put on the last leaf where that has room for what it takes, and else on a new leaf after it.
 pub record IsPushed (leaves next : Leaves) (old new : Built) (unit : TreeUnit) : Type 0 where
   pub placed : Placed
@@ -102,3 +110,28 @@ pub record IsPushed (leaves next : Leaves) (old new : Built) (unit : TreeUnit) :
       → (g : File) → IsLater (rest_of before next new) (file_so_far new) g → IsLater (rest_of before leaves old) (file_so_far old) g
   pub filled : (before : ℕ) (closed : List (List Placed)) (units : List Placed) → AreFilled leaves old before closed units
       → FilledNow (has_room leaves old (unit_cost old.size unit)) next new before closed units placed
+  pub whole : AreWhole old
+  pub count : (sorted : Bool) → unit_has_tree old.size unit ≡ false
+      → length new.pages ≡ length old.pages + leaves_added leaves old unit + own_pages old.size sorted unit
+
+-- The laws.
+
+-- the units are spread over the leaves by what they take
+abbrev pub AreSpreadOver : ℕ → List (List Placed) → List Placed → Type 0
+AreSpreadOver size closed units =
+    spread_units size (map unit_of (flat_map (λ leaf. leaf) closed ++ units)) ≡ map (map unit_of) (closed ++ (units ∷ []))
+
+abbrev pub SpreadNow : Bool → ℕ → List (List Placed) → List Placed → Placed → Type 0
+SpreadNow true size closed units unit = AreSpreadOver size closed (units ++ (unit ∷ []))
+SpreadNow false size closed units unit = AreSpreadOver size (closed ++ (units ∷ [])) (unit ∷ [])
+
+-- so they are with a unit more that is pushed
+abbrev pub PushedUnitsSpread : Type 0
+PushedUnitsSpread =
+    (leaves next : Leaves) (old new : Built) (before : ℕ) (closed : List (List Placed)) (units : List Placed) (unit : TreeUnit)
+    → AreFilled leaves old before closed units → AreSpreadOver old.size closed units → (put : IsPushed leaves next old new unit)
+    → SpreadNow (has_room leaves old (unit_cost old.size unit)) old.size closed units put.placed
+
+-- each unit has room on a leaf
+abbrev pub UnitsFit : Type 0
+UnitsFit = (size : ℕ) (unit : TreeUnit) → is_page_size size ≡ true → unit_cost size unit ≤ page_room size

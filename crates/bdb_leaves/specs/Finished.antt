@@ -1,5 +1,5 @@
 -- Trees whose root stands on their first page. Source: docs/FORMAT.md, "Built trees".
-use Rattle.std.specs.Prelude.{◌≡◌, ◌⊎◌, ℕ, ◌-◌, ◌<◌, ◌≤◌, Bool, true, false, List, [], ◌∷◌, ◌++◌, length, map, None}
+use Rattle.std.specs.Prelude.{◌≡◌, ◌⊎◌, ℕ, ◌+◌, ◌-◌, ◌<◌, ◌≤◌, Bool, true, false, List, [], ◌∷◌, ◌++◌, length, map, None}
 use Rattle.std.specs.List.{All, AllZip, Contains, flat_map, range_with_len}
 use Rattle.bdb_format.specs.File.{File}
 use Rattle.bdb_format.specs.Rows.{page_code}
@@ -9,14 +9,15 @@ use Rattle.bdb_levels.specs.declared.inner_type.InnerType.{InnerType}
 use Rattle.bdb_levels.specs.Nodes.{IsTower, Node}
 use Rattle.bdb_levels.specs.Roots.{is_of, pages_of}
 use Rattle.bdb_pack.specs.Built.{AreWhole, Built, bytes_of, file_so_far}
-use Rattle.bdb_leaves.specs.Filled.{AreFilled, rest_of}
-use Rattle.bdb_leaves.specs.Inner.{HoldsChildrenOn}
+use Rattle.bdb_leaves.specs.Filled.{AreFilled, AreSpreadOver, rest_of}
+use Rattle.bdb_leaves.specs.Inner.{HoldsChildrenOn, child_cost, first_cost}
 use Rattle.bdb_leaves.specs.Laid.{HasUnits, IsLaid, IsNodeOf, inner_of, is_laid}
 use Rattle.bdb_leaves.specs.LeafEntries.{with_field}
 use Rattle.bdb_leaves.specs.Levels.{heads_of}
 use Rattle.bdb_leaves.specs.Moved.{IsFirstMoved, first_leaf, numbers_of}
-use Rattle.bdb_leaves.specs.Placed.{LeafUnits, Placed}
+use Rattle.bdb_leaves.specs.Placed.{LeafUnits, Placed, unit_of}
 use Rattle.bdb_leaves.specs.Rooted.{CountsLeaves, IsOneLeaf, placed_on}
+use Rattle.bdb_leaves.specs.Spread.{leaves_and_levels, pages_over}
 use Rattle.bdb_leaves.specs.Tower.{levels_to}
 use Rattle.bdb_leaves.specs.declared.leaf_type.LeafType.{LeafType}
 use Rattle.bdb_leaves.specs.declared.leaves.Leaves.{Leaves}
@@ -55,6 +56,8 @@ pub record HasTowerOn (inner : InnerType) (old new : Built) (nodes : List Node) 
       → page_code new.order p (bytes_of new p) ≡ page_code old.order p (bytes_of old p)
   pub kept : (p : ℕ) → p < length old.pages → (p ≡ first → ⊥) → (Contains (flat_map (heads_of inner) nodes) p → ⊥)
       → bytes_of new p ≡ bytes_of old p
+  pub count : length new.pages + 1
+      ≡ length old.pages + pages_over (length nodes) (old.size - 26) (first_cost inner) (map (child_cost inner) nodes)
 
 -- The first of several leaves is moved behind the pages that stood, and levels are laid over the leaves, with the root in its place.
 pub record HasRootOn (leaves : Leaves) (old new : Built) (counted : Bool) (closed : List (List Placed)) (units : List Placed) (root : ℕ) : Type 0 where
@@ -115,6 +118,14 @@ abbrev pub FinishedTreesKeepOlderPages : Type 0
 FinishedTreesKeepOlderPages =
     (leaves : Leaves) (old new : Built) (counted : Bool) (before : ℕ) (closed : List (List Placed)) (units : List Placed) (root : ℕ)
     → AreFilled leaves old before closed units → HasFirstRoot leaves old new counted closed units root → KeepsOlder before old new
+
+-- Its leaves and the levels over them are as many pages as its units say, where these were spread by what they take.
+abbrev pub FinishedTreesAreCounted : Type 0
+FinishedTreesAreCounted =
+    (leaves : Leaves) (old new : Built) (counted : Bool) (before : ℕ) (closed : List (List Placed)) (units : List Placed) (root : ℕ)
+    → AreFilled leaves old before closed units → AreSpreadOver old.size closed units → HasFirstRoot leaves old new counted closed units root
+    → length new.pages + (length closed + 1)
+    ≡ length old.pages + leaves_and_levels leaves.leaf_type old.size (map unit_of (flat_map (λ leaf. leaf) closed ++ units))
 
 -- A tree of several leaves is laid, in each later file; it has all pages since the leaves were begun, and what its leaves name stays where it stood.
 abbrev pub FinishedTreesAreLaid : Type 0

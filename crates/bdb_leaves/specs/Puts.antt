@@ -1,5 +1,5 @@
 -- A value that is put on the last leaf: in its item, or in a chain behind all pages. Source: docs/FORMAT.md, "Stored values".
-use Rattle.std.specs.Prelude.{◌≡◌, ℕ, ◌-◌, ◌*◌, ◌/◌, ◌<◌, ◌≤◌, Bool, List, [], ◌∷◌, ◌++◌, length, None}
+use Rattle.std.specs.Prelude.{◌≡◌, ℕ, ◌+◌, ◌/◌, ◌<◌, ◌≤◌, Bool, List, [], ◌∷◌, ◌++◌, length, None}
 use Rattle.bdb_format.specs.declared.kinds.Order.{Order}
 use Rattle.bdb_format.specs.Page.{Item, Content, Inline, Set, Chain, Tree, Unknown}
 use Rattle.bdb_format.specs.File.{File}
@@ -12,7 +12,7 @@ use Rattle.bdb_pack.specs.Stored.{StandsIn}
 use Rattle.bdb_leaves.specs.Inner.{CountsFew}
 use Rattle.bdb_leaves.specs.LeafEntries.{Entry, item_cost, own_entry}
 use Rattle.bdb_leaves.specs.Leaves.{AreLeaves, KeepsOthers}
-use Rattle.bdb_leaves.specs.Units.{value_cost}
+use Rattle.bdb_leaves.specs.Units.{chain_pages, value_cost}
 use Rattle.bdb_leaves.specs.declared.leaves.Leaves.{Leaves}
 
 -- a content holds a value in a file, in the item or in a chain of the pages from one number up to another
@@ -46,9 +46,7 @@ pub record IsItemOf (old new : Built) (value : List ℕ) (deleted : Bool) (item 
       → ValueStands g old.size (length old.pages) (length new.pages) item.content value
   pub formed : (p : ℕ) → length old.pages ≤ p → p < length new.pages → page_code new.order p (bytes_of new p) ≡ None
   pub few : CountsFewFrom (length old.pages) new item.content
-  -- a chain has as many pages as its bytes fill
-  pub enough : old.size / 8 < length value → length value ≤ (length new.pages - length old.pages) * (old.size - 26)
-  pub fewest : old.size / 8 < length value → (length new.pages - length old.pages - 1) * (old.size - 26) < length value
+  pub count : length new.pages ≡ length old.pages + chain_pages old.size value
 
 -- entries that a leaf gets at its end, while no other page changes
 pub record IsGrown (leaves : Leaves) (old new : Built) (entry : List Entry → Entry) : Type 0 where

@@ -1,15 +1,15 @@
 -- How many pages a tree has: units are spread over leaves by what they take, each level over the pages below it, and long values have chains.
 -- Source: docs/FORMAT.md, "Built trees" and "Stored values".
-use Rattle.std.specs.Prelude.{ℕ, zero, suc, ◌+◌, ◌-◌, ◌/◌, nat_le, if◌then◌else◌, Bool, false, List, [], ◌∷◌, ◌++◌, length, map}
+use Rattle.std.specs.Prelude.{ℕ, zero, suc, ◌+◌, ◌-◌, ◌/◌, nat_le, if◌then◌else◌, Bool, true, false, List, [], ◌∷◌, ◌++◌, length, map}
 use Rattle.std.specs.List.{sum_by}
 use Rattle.bdb_format.specs.Numbers.{pad4}
 use Rattle.bdb_levels.specs.declared.inner_type.InnerType.{InnerType}
 use Rattle.bdb_levels.specs.declared.inner_type.InnerType.TheVariants.{Keyed, Numbered}
 use Rattle.bdb_leaves.specs.Inner.{first_cost}
 use Rattle.bdb_leaves.specs.Laid.{inner_of}
-use Rattle.bdb_leaves.specs.Sets.{set_type}
-use Rattle.bdb_leaves.specs.Units.{TreeUnit, KeyedUnit, EntryUnit, has_own_tree, unit_cost}
+use Rattle.bdb_leaves.specs.Units.{TreeUnit, KeyedUnit, EntryUnit, chain_pages, has_own_tree, page_room, unit_cost}
 use Rattle.bdb_leaves.specs.declared.leaf_type.LeafType.{LeafType}
+use Rattle.bdb_leaves.specs.declared.leaf_type.LeafType.TheVariants.{Records, SortedData}
 
 -- Things are put on pages from left to right. The open page has so many bytes left: where they are enough for what the next thing takes, it is put
 -- there; else it begins a page, of which it takes `first` bytes.
@@ -20,10 +20,6 @@ spread_on room first cost left page (x ∷ xs) =
     else page ∷ spread_on room first cost (room - first x) (x ∷ []) xs
 
 -- Leaves.
-
--- the bytes of a page behind its header
-abbrev pub page_room : ℕ → ℕ
-page_room size = size - 26
 
 -- the units of each leaf: there is one leaf at least
 abbrev pub spread_units : ℕ → List TreeUnit → List (List TreeUnit)
@@ -55,14 +51,10 @@ pages_over zero room first costs = 0
 pages_over (suc most) room first costs =
     if nat_le (length costs) 1 then 0
     else
-      (let groups : List (List ℕ) = spread_items room first costs in
-      length groups + pages_over most room first (map (first_or 0) groups))
+    (let groups : List (List ℕ) = spread_items room first costs in
+    length groups + pages_over most room first (map (first_or 0) groups))
 
 -- Values and trees.
-
--- how many pages the chain of a value has: none where it stands on the leaf
-abbrev pub chain_pages : ℕ → List ℕ → ℕ
-chain_pages size value = if nat_le (length value) (size / 8) then 0 else (length value + page_room size - 1) / page_room size
 
 -- what an item over a leaf has of its first unit: the key, or the datum of a set
 abbrev pub unit_key : TreeUnit → List ℕ
@@ -79,7 +71,12 @@ leaves_and_levels type size units =
     let leaves : List (List TreeUnit) = spread_units size units in
     length leaves
     + pages_over (length leaves) (page_room size) (first_cost (inner_of type))
-      (map (λ (leaf : List TreeUnit). inner_cost (inner_of type) size (leaf_key leaf)) leaves)
+    (map (λ (leaf : List TreeUnit). inner_cost (inner_of type) size (leaf_key leaf)) leaves)
+
+-- the leaves of a set, by whether it is sorted
+abbrev pub set_type : Bool → LeafType
+set_type true = SortedData
+set_type false = Records
 
 -- the tree of a key's data
 abbrev pub set_pages : ℕ → Bool → List (List ℕ) → ℕ

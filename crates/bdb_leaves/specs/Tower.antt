@@ -1,5 +1,5 @@
 -- Levels that are laid over pages of a tree up to one with a single page, its root. Source: docs/FORMAT.md, "Built trees".
-use Rattle.std.specs.Prelude.{◌≡◌, ℕ, ◌+◌, ◌-◌, ◌<◌, ◌≤◌, Bool, true, List, [], ◌∷◌, ◌++◌, length, None}
+use Rattle.std.specs.Prelude.{◌≡◌, ℕ, ◌+◌, ◌-◌, ◌<◌, ◌≤◌, Bool, true, List, [], ◌∷◌, ◌++◌, length, map, None}
 use Rattle.std.specs.List.{Contains, flat_map, range_with_len}
 use Rattle.bdb_format.specs.File.{File, page_at}
 use Rattle.bdb_format.specs.Rows.{page_code}
@@ -8,8 +8,9 @@ use Rattle.bdb_levels.specs.declared.inner_type.InnerType.{InnerType}
 use Rattle.bdb_levels.specs.Nodes.{IsTower, Node}
 use Rattle.bdb_levels.specs.Roots.{pages_of}
 use Rattle.bdb_pack.specs.Built.{AreWhole, Built, bytes_of, file_so_far, without_last}
-use Rattle.bdb_leaves.specs.Inner.{HoldsChildrenOn}
+use Rattle.bdb_leaves.specs.Inner.{HoldsChildrenOn, child_cost, first_cost}
 use Rattle.bdb_leaves.specs.Levels.{heads_of, node_over}
+use Rattle.bdb_leaves.specs.Spread.{pages_over}
 
 -- the levels with the root
 abbrev pub levels_to : List (List Node) → Node → List (List Node)
@@ -50,4 +51,5 @@ pub record HasTower (inner : InnerType) (old new : Built) (nodes : List Node) (r
   pub formed : (p : ℕ) → length old.pages ≤ p → p < length new.pages → page_code new.order p (bytes_of new p) ≡ None
   pub form_kept : (p : ℕ) → p < length old.pages → page_code new.order p (bytes_of new p) ≡ page_code old.order p (bytes_of old p)
   pub kept : (p : ℕ) → p < length old.pages → (Contains (flat_map (heads_of inner) nodes) p → ⊥) → bytes_of new p ≡ bytes_of old p
+  pub count : length new.pages ≡ length old.pages + pages_over (length nodes) (old.size - 26) (first_cost inner) (map (child_cost inner) nodes)
   pub ends : 2 ≤ length nodes → EndsInRoot inner old new nodes root

@@ -1,5 +1,5 @@
 -- What a tree is built of: units, each of which stands on one leaf. Source: docs/FORMAT.md, "Built trees".
-use Rattle.std.specs.Prelude.{ℕ, ◌+◌, ◌-◌, ◌/◌, ◌<◌, ◌≤◌, nat_le, nat_lt, ◌&&◌, not, if◌then◌else◌, Bool, List, [], ◌∷◌, length, map}
+use Rattle.std.specs.Prelude.{ℕ, ◌+◌, ◌-◌, ◌/◌, ◌<◌, ◌≤◌, nat_le, nat_lt, ◌&&◌, not, if◌then◌else◌, Bool, false, List, [], ◌∷◌, length, map}
 use Rattle.std.specs.List.{enumerate_from, filter, flat_map, sum_by}
 use Rattle.bdb_format.specs.declared.kinds.Kind.{Kind}
 use Rattle.bdb_format.specs.declared.kinds.Kind.TheVariants.{Btree, Recno, Hash, Queue}
@@ -64,6 +64,14 @@ list_of_units Queue units = []
 abbrev pub value_cost : ℕ → List ℕ → ℕ
 value_cost size value = if nat_le (length value) (size / 8) then pad4 (3 + length value) else 12
 
+-- the bytes of a page behind its header
+abbrev pub page_room : ℕ → ℕ
+page_room size = size - 26
+
+-- how many pages the chain of a value has: none where it stands on the leaf
+abbrev pub chain_pages : ℕ → List ℕ → ℕ
+chain_pages size value = if nat_le (length value) (size / 8) then 0 else (length value + page_room size - 1) / page_room size
+
 -- a key and its data on the leaf: each datum has two entries and its item
 abbrev pub set_cost : ℕ → List ℕ → List (List ℕ) → ℕ
 set_cost size key values = value_cost size key + sum_by (λ value. 4 + value_cost size value) values
@@ -71,6 +79,10 @@ set_cost size key values = value_cost size key + sum_by (λ value. 4 + value_cos
 -- several data that would take more than a quarter of a leaf have a tree of their own
 abbrev pub has_own_tree : ℕ → List ℕ → List (List ℕ) → Bool
 has_own_tree size key values = nat_lt 1 (length values) && nat_lt ((size - 26) / 4) (set_cost size key values)
+
+abbrev pub unit_has_tree : ℕ → TreeUnit → Bool
+unit_has_tree size (KeyedUnit key values) = has_own_tree size key values
+unit_has_tree size (EntryUnit value deleted) = false
 
 abbrev pub unit_cost : ℕ → TreeUnit → ℕ
 unit_cost size (KeyedUnit key values) = if has_own_tree size key values then value_cost size key + 16 else set_cost size key values

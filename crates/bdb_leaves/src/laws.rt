@@ -1,5 +1,7 @@
 //! Laws of leaves that take entries.
-ghost use Rattle.bdb_leaves.specs.Finished.{FinishedTreesAreFormed, FinishedTreesAreLaid, FirstRootsAreLaid};
+ghost use Rattle.bdb_leaves.specs.Counted.{BegunLeavesAreCounted, FinishedTreesHaveSize, PushedUnitsAreCounted};
+ghost use Rattle.bdb_leaves.specs.Filled.{PushedUnitsSpread, UnitsFit};
+ghost use Rattle.bdb_leaves.specs.Finished.{FinishedTreesAreCounted, FinishedTreesAreFormed, FinishedTreesAreLaid, FirstRootsAreLaid};
 ghost use Rattle.bdb_leaves.specs.Finished.{FinishedTreesKeepOlderPages, FinishedTreesKeepPages};
 ghost use Rattle.bdb_leaves.specs.Grown.{GrownSetsStand};
 ghost use Rattle.bdb_leaves.specs.Inner.{ChildrenAreFormed, ChildrenStand, RaisedPagesStand};
@@ -156,4 +158,34 @@ pub fn finished_trees_keep_pages()
 /// A grown tree of live entries is a set of their values, and stands where a datum names its root.
 pub fn grown_sets_stand()
     ensures { GrownSetsStand }
+{}
+
+/// Where units are spread over leaves by what they take, they are with a unit more that is pushed.
+pub fn pushed_units_spread()
+    ensures { PushedUnitsSpread }
+{}
+
+/// Each unit has room on a leaf.
+pub fn units_fit()
+    ensures { UnitsFit }
+{}
+
+/// The leaves of a finished tree and the levels over them are as many pages as its units say.
+pub fn finished_trees_are_counted()
+    ensures { FinishedTreesAreCounted }
+{}
+
+/// Leaves that are begun are one page.
+pub fn begun_leaves_are_counted()
+    ensures { BegunLeavesAreCounted }
+{}
+
+/// A unit that is pushed adds a leaf, where the last has no room for it, and what it has of its own.
+pub fn pushed_units_are_counted()
+    ensures { PushedUnitsAreCounted }
+{}
+
+/// A finished tree has as many pages as its units say.
+pub fn finished_trees_have_size()
+    ensures { FinishedTreesHaveSize }
 {}

@@ -41,6 +41,7 @@ impl Leaves {
         ensures leaf { IfOk result (λ leaves. leaves.leaf_type ≡ leaf_type) }
         ensures number { IfOk result (λ leaves. leaves.last ≡ length pages.old.pages) }
         ensures kept { IfOk result (λ leaves. KeepsOthers leaves.last pages.old pages.new) }
+        ensures count { IfOk result (λ _. length pages.new.pages ≡ length pages.old.pages + 1) }
     {
         let last = add_leaf(pages, leaf_type, 0)?;
         Ok(Leaves {

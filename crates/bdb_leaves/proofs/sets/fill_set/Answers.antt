@@ -9,7 +9,7 @@ use Rattle.bdb_leaves.proofs.sets.fill_set.Goals as goal
 pub loop-value-init : goal.loop-value-init
 loop-value-init c =
     set_begun c.args.pages.now c.start.new.pages c.args.leaf_type c.in_ok-leaves.leaves c.in_ok-leaves.ensures.leaf c.in_ok-leaves.ensures.number
-    c.in_ok-leaves.ensures.kept c.in_ok-leaves.ensures.filled
+    c.in_ok-leaves.ensures.kept c.in_ok-leaves.ensures.filled c.in_ok-leaves.ensures.count
 
 pub loop-value-preserved : goal.loop-value-preserved
 loop-value-preserved c =

@@ -1,4 +1,4 @@
-use Rattle.std.proofs.Common.{◌+◌, ◌≡◌, List, length, arith, inl, inr, refl, sym, subst, ap, ◌∙◌}
+use Rattle.std.proofs.Common.{◌+◌, ◌<◌, ◌≡◌, List, length, arith, inl, inr, refl, sym, subst, ap, ◌∙◌}
 use Rattle.std.proofs.lemmas.List.{get_or_default}
 use Rattle.bdb_levels.specs.Nodes.{Node}
 use Rattle.bdb_leaves.specs.Levels.{AreChildren, IsLaid, no_child}
@@ -31,11 +31,15 @@ is_laid c nodes are =
     (c.in_ok-row.ensures built.top
     (subst (λ (l : List Child). AreChildren c.args.inner c.loop-alloc.pages l built.top) (sym c.deref.ensures.value) built.are))
 
-pub loop-alloc-smaller : goal.loop-alloc-smaller
-loop-alloc-smaller c =
+-- and has fewer pages
+fewer : (c : goal.After-drop-row-in-loop-alloc) → length c.in_ok-row.row.items < length c.loop-alloc.row.items
+fewer c =
     let (nodes, are, cheap) = c.requires.children in
     level_shrinks c.args.inner c.args.pages.now c.loop-alloc.pages c.lay_level.new.pages nodes c.loop-alloc.level c.loop-alloc.row.items
     c.in_ok-row.row.items (c.loop-alloc.invariant.built nodes are) (is_laid c nodes are) cheap (omega (arith, c.loop-alloc-test.true, c.len.ensures))
+
+pub loop-alloc-smaller : goal.loop-alloc-smaller
+loop-alloc-smaller c = fewer c
 
 pub loop-alloc-preserved : goal.loop-alloc-preserved
 loop-alloc-preserved c =
@@ -49,7 +53,8 @@ loop-alloc-preserved c =
       built = λ nodes are.
           subst (λ n. IsBuilding c.args.inner c.args.pages.now c.lay_level.new.pages nodes n c.in_ok-row.row.items) (sym (one_up c))
           (level_built c.args.inner c.args.pages.now c.loop-alloc.pages c.lay_level.new.pages nodes c.loop-alloc.level c.args.below.items
-          c.loop-alloc.row.items c.in_ok-row.row.items are c.loop-alloc.invariant.low (c.loop-alloc.invariant.built nodes are) (is_laid c nodes are));
+          c.loop-alloc.row.items c.in_ok-row.row.items are c.loop-alloc.invariant.low (c.loop-alloc.invariant.built nodes are) (is_laid c nodes are)
+          (omega (arith, c.loop-alloc-test.true, c.len.ensures)) (fewer c));
       topped = inr (λ nodes are. record {
         was = c.loop-alloc.pages;
         level = c.loop-alloc.level;

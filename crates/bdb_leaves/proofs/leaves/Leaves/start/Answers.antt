@@ -14,6 +14,9 @@ returns-clause-kept c =
     subst (λ n. KeepsOthers n c.args.pages.now c.add_leaf.new.pages) (sym c.in_ok-last.ensures.number)
     (begun_kept c.args.leaf_type c.args.pages.now c.add_leaf.new.pages 0 c.in_ok-last.ensures.pages).0
 
+pub returns-clause-count : goal.returns-clause-count
+returns-clause-count c = (begun_kept c.args.leaf_type c.args.pages.now c.add_leaf.new.pages 0 c.in_ok-last.ensures.pages).1
+
 pub returns-clause-some : goal.returns-clause-some
 returns-clause-some c = record {
   before = _;
