@@ -12,7 +12,8 @@ use Rattle.bdb_format.specs.HeadOf.{is_page_size}
 use Rattle.bdb_format.proofs.MemberLemmas.{first_member}
 use Rattle.bdb_grove.specs.Growing.{IsCounted, IsLater}
 use Rattle.bdb_pack.specs.Built.{Built, file_so_far}
-use Rattle.bdb_leaves.specs.Filled.{AreFilled, FilledNow, IsPushed, rest_of}
+use Rattle.bdb_leaves.specs.Counted.{AreCounted, CountedNow}
+use Rattle.bdb_leaves.specs.Filled.{AreFilled, IsPushed, rest_of}
 use Rattle.bdb_leaves.specs.Laid.{AreLaid}
 use Rattle.bdb_leaves.specs.Leaves.{KeepsOthers, LeavesFrom, first_of, has_room}
 use Rattle.bdb_leaves.specs.Moved.{first_leaf, numbers_of}
@@ -23,6 +24,7 @@ use Rattle.bdb_leaves.specs.Units.{EntryUnit, TreeUnit, unit_cost, units_on}
 use Rattle.bdb_leaves.specs.declared.leaf_type.LeafType.{LeafType}
 use Rattle.bdb_leaves.specs.declared.leaf_type.LeafType.TheVariants.{Pairs, Records}
 use Rattle.bdb_leaves.specs.declared.leaves.Leaves.{Leaves}
+use Rattle.bdb_leaves.proofs.CountedLaws.{begun_leaves_are_counted, pushed_units_are_counted}
 use Rattle.bdb_leaves.proofs.FilledLemmas.{counted_so_far, later_self}
 use Rattle.bdb_leaves.proofs.NumberedLemmas.{AreNumbered, are_numbered}
 use Rattle.bdb_leaves.proofs.GrownLemmas.{all_joined, laid_leaves, map_joined}
@@ -95,7 +97,7 @@ pub building_read : (builder : TreeBuilder) (built : Built) → (building : Buil
     → units_of builder built ≡ map unit_of (all_placed building.closed building.units)
 building_read builder built building =
     units_read builder.leaves built (first_leaf builder.leaves) building.closed building.units builder.settings.kind building.kind building.type
-    building.filled
+    building.counted.filled
 
 -- The first leaf.
 
@@ -109,8 +111,8 @@ first_begun leaves built before filled is =
 
 pub begun_building : (builder : TreeBuilder) (built : Built) → IsTreeKind builder.settings.kind → is_page_size built.size ≡ true
     → built.size ≡ builder.settings.page_size → built.order ≡ builder.settings.order → builder.leaves.leaf_type ≡ leaf_type_of builder.settings.kind
-    → AreFilled builder.leaves built (first_leaf builder.leaves) [] [] → Building builder built
-begun_building builder built kind legal size order type filled =
+    → AreFilled builder.leaves built (first_leaf builder.leaves) [] [] → length built.pages ≡ first_leaf builder.leaves + 1 → Building builder built
+begun_building builder built kind legal size order type filled count =
     record {
       kind = kind;
       legal = legal;
@@ -119,7 +121,7 @@ begun_building builder built kind legal size order type filled =
       type = type;
       closed = [];
       units = [];
-      filled = filled;
+      counted = begun_leaves_are_counted builder.settings.sorted builder.leaves built (first_leaf builder.leaves) filled count;
       some = inl refl;
       suit = All-nil (Suits builder.settings);
       keys = λ is. refl;
@@ -154,7 +156,11 @@ no_root g sorted value deleted (PlacedTree key root values) is = cc
 pub entry_keyed : (leaves next : Leaves) (old new : Built) (sorted : Bool) (value : List ℕ) (deleted : Bool)
     → IsPushed leaves next old new (EntryUnit value deleted) → IsKeyedPushed leaves next old new sorted (EntryUnit value deleted)
 entry_keyed leaves next old new sorted value deleted put =
-    record { pushed = put; right = λ before closed units filled g counted later. no_root g sorted value deleted put.placed put.is }
+    record {
+      pushed = put;
+      right = λ before closed units filled g counted later. no_root g sorted value deleted put.placed put.is;
+      count = put.count sorted refl;
+    }
 
 pub building_pushed : (builder : TreeBuilder) (next : Leaves) (old new : Built) (unit : TreeUnit) → Building builder old
     → IsKeyedPushed builder.leaves next old new builder.settings.sorted unit → Suits builder.settings unit
@@ -162,7 +168,8 @@ pub building_pushed : (builder : TreeBuilder) (next : Leaves) (old new : Built) 
     → Building (record builder { leaves = next }) new
     × (units_of (record builder { leaves = next }) new ≡ units_of builder old ++ (unit ∷ []))
 building_pushed builder next old new unit building put suits after =
-    by_room (has_room builder.leaves old (unit_cost old.size unit)) (put.pushed.filled first building.closed building.units building.filled)
+    by_room (has_room builder.leaves old (unit_cost old.size unit))
+    (pushed_units_are_counted settings.sorted builder.leaves next old new first building.closed building.units unit building.counted put.pushed put.count)
   where
     settings : Settings
     settings = builder.settings
@@ -180,11 +187,12 @@ building_pushed builder next old new unit building put suits after =
     type = put.pushed.type ∙ building.type
 
     -- with the units in this form
-    with : (closed : List (List Placed)) (units : List Placed) → AreFilled next new first closed units → (closed ≡ []) ⊎ (0 < length units)
+    with : (closed : List (List Placed)) (units : List Placed) → AreCounted settings.sorted next new first closed units
+        → (closed ≡ []) ⊎ (0 < length units)
         → all_placed closed units ≡ before ++ (placed ∷ [])
         → Building (record builder { leaves = next }) new
         × (units_of (record builder { leaves = next }) new ≡ units_of builder old ++ (unit ∷ []))
-    with closed units filled some all =
+    with closed units counted some all =
         let same : map unit_of (all_placed closed units) ≡ map unit_of before ++ (unit ∷ []) =
         ap (map unit_of) all ∙ (map-append unit_of before (placed ∷ []) ∙ ap (λ u. map unit_of before ++ (u ∷ [])) put.pushed.is) in
         let read = building_read builder old building in (
@@ -196,27 +204,27 @@ building_pushed builder next old new unit building put suits after =
             type = type;
             closed = closed;
             units = units;
-            filled = subst (λ n. AreFilled next new n closed units) (sym put.pushed.first) filled;
+            counted = subst (λ n. AreCounted settings.sorted next new n closed units) (sym put.pushed.first) counted;
             some = some;
             suit = subst (All (Suits settings)) (sym same) (All-push (Suits settings) (map unit_of before) unit building.suit suits);
             keys = λ is. subst (λ us. KeysAscend settings us) (ap (λ us. us ++ (unit ∷ [])) read ∙ sym same) after is;
-            roots = λ g counted later.
+            roots = λ g has_pages later.
                 let now : IsLater (rest_of first next new) (file_so_far new) g =
                 subst (λ n. IsLater (rest_of n next new) (file_so_far new) g) put.pushed.first later in
                 subst (All (λ u. has_wrong_root g settings.sorted u ≡ false)) (sym all)
                 (All-push (λ u. has_wrong_root g settings.sorted u ≡ false) before placed
-                (building.roots g counted (put.pushed.stays first building.closed building.units building.filled g now))
-                (put.right first building.closed building.units building.filled g counted now));
+                (building.roots g has_pages (put.pushed.stays first building.closed building.units building.counted.filled g now))
+                (put.right first building.closed building.units building.counted.filled g has_pages now));
           },
-          units_read next new first closed units settings.kind building.kind type filled ∙ (same ∙ ap (λ us. us ++ (unit ∷ [])) (sym read)),
+          units_read next new first closed units settings.kind building.kind type counted.filled ∙ (same ∙ ap (λ us. us ++ (unit ∷ [])) (sym read)),
         )
 
-    by_room : (b : Bool) → FilledNow b next new first building.closed building.units placed
+    by_room : (b : Bool) → CountedNow b settings.sorted next new first building.closed building.units placed
         → Building (record builder { leaves = next }) new
         × (units_of (record builder { leaves = next }) new ≡ units_of builder old ++ (unit ∷ []))
-    by_room true filled =
-        with building.closed (building.units ++ (placed ∷ [])) filled (inr (omega (arith, length-append building.units (placed ∷ []))))
+    by_room true counted =
+        with building.closed (building.units ++ (placed ∷ [])) counted (inr (omega (arith, length-append building.units (placed ∷ []))))
         (sym (append_assoc (flat_map (λ leaf. leaf) building.closed) building.units (placed ∷ [])))
-    by_room false filled =
-        with (building.closed ++ (building.units ∷ [])) (placed ∷ []) filled (inr (omega arith))
+    by_room false counted =
+        with (building.closed ++ (building.units ∷ [])) (placed ∷ []) counted (inr (omega arith))
         (ap (λ us. us ++ (placed ∷ [])) (all_units building.closed building.units))

@@ -28,11 +28,14 @@ use Rattle.bdb_leaves.specs.Laid.{Counts, Suits as SuitsTree, is_laid}
 use Rattle.bdb_leaves.specs.Moved.{first_leaf, numbers_of}
 use Rattle.bdb_leaves.specs.Placed.{HasLength, IsAllowed, IsPlacedBySize, LeafUnits, Placed, PlacedEntry, PlacedPairs, PlacedTree, has_several, has_wrong_root, unit_of, units_in, values_in}
 use Rattle.bdb_leaves.specs.Rooted.{CountsLeaves}
+use Rattle.bdb_leaves.specs.Spread.{tree_size}
 use Rattle.bdb_leaves.specs.Units.{TreeUnit, has_own_tree, key_of, list_of_units}
 use Rattle.bdb_leaves.specs.declared.leaf_type.LeafType.{LeafType}
 use Rattle.bdb_leaves.specs.declared.leaf_type.LeafType.TheVariants.{Pairs, Records}
 use Rattle.bdb_leaves.specs.declared.leaves.Leaves.{Leaves}
-use Rattle.bdb_leaves.proofs.FinishedLaws.{finished_trees_keep_pages, first_roots_are_laid}
+use Rattle.bdb_leaves.proofs.CountedLaws.{finished_trees_have_size}
+use Rattle.bdb_leaves.proofs.FinishedLaws.{finished_trees_keep_pages}
+use Rattle.bdb_leaves.proofs.GrownLaws.{first_roots_are_laid}
 use Rattle.bdb_leaves.proofs.GrownLemmas.{all_joined, map_joined}
 use Rattle.bdb_leaves.proofs.KeptLemmas.{finished_trees_are_formed, finished_trees_keep_older_pages}
 use Rattle.bdb_leaves.proofs.LaidPartLemmas.{laid_trees_are_parts}
@@ -188,7 +191,7 @@ finished_part builder old new root building has grows g meta counted later says 
 
     tree : HasLaidTree type g rest first (length new.pages) (is_counted settings.kind settings.recnum) (building.closed ++ (building.units ∷ [])) root
     tree = first_roots_are_laid builder.leaves old new (is_counted settings.kind settings.recnum) first building.closed building.units root
-        building.filled has g counted later
+        building.counted.filled has g counted later
 
     placed_is : flat_map (λ (leaf : LeafUnits). leaf.units) tree.placed ≡ all
     placed_is = all_on tree.placed (building.closed ++ (building.units ∷ [])) tree.units_are ∙ all_units building.closed building.units
@@ -220,10 +223,10 @@ finished_part builder old new root building has grows g meta counted later says 
                       on_leaves (IsAllowed g (has_duplicates (BtreeFields meta)) (is_sorted (BtreeFields meta)))
                       (subst (λ d. All (IsAllowed g d (is_sorted (BtreeFields meta))) all) (sym said.duplicates)
                       (subst (λ s. All (IsAllowed g settings.duplicates s) all) (sym said.sorted)
-                      (are_allowed g old.size settings all building.suit building.filled.sizes
+                      (are_allowed g old.size settings all building.suit building.counted.filled.sizes
                       (building.roots g counted
                       (rest_later builder.leaves old new (is_counted settings.kind settings.recnum) first building.closed building.units root g
-                      building.filled has grows later)))));
+                      building.counted.filled has grows later)))));
                   counts = λ told.
                       counts_of Pairs
                       (ap (λ k. is_counted k settings.recnum) btree ∙ (sym said.counted ∙ told)) leaf;
@@ -247,14 +250,20 @@ finished_part builder old new root building has grows g meta counted later says 
 
 pub tree_built : (builder : TreeBuilder) (old new : Built) (root : ℕ) → (building : Building builder old)
     → HasFirstRoot builder.leaves old new (is_counted builder.settings.kind builder.settings.recnum) building.closed building.units root
-    → IsTreeBuilt builder.settings (first_leaf builder.leaves) old new (list_of_units builder.settings.kind (units_of builder old)) root
+    → IsTreeBuilt builder.settings (first_leaf builder.leaves) old new (units_of builder old)
+    (list_of_units builder.settings.kind (units_of builder old)) root
 tree_built builder old new root building has =
     let counted : Bool = is_counted builder.settings.kind builder.settings.recnum in
     let first : ℕ = first_leaf builder.leaves in
-    let older = finished_trees_keep_older_pages builder.leaves old new counted first building.closed building.units root building.filled has in
+    let older = finished_trees_keep_older_pages builder.leaves old new counted first building.closed building.units root building.counted.filled has in
     record {
       root_is = has.0;
+      count =
+          finished_trees_have_size builder.settings.sorted builder.leaves old new counted first building.closed building.units root building.counted has
+          ∙ (ap (λ t. first + tree_size t old.size builder.settings.sorted (map unit_of (all_placed building.closed building.units))) building.type
+          ∙ (ap (λ us. first + tree_size (leaf_type_of builder.settings.kind) old.size builder.settings.sorted us) (sym (building_read builder old building))
+          ∙ ap (λ n. first + tree_size (leaf_type_of builder.settings.kind) n builder.settings.sorted (units_of builder old)) (sym older.size)));
       kept = record { size = older.size; order = older.order; grows = older.grows; same = older.same };
-      formed = finished_trees_are_formed builder.leaves old new counted first building.closed building.units root building.filled has;
+      formed = finished_trees_are_formed builder.leaves old new counted first building.closed building.units root building.counted.filled has;
       part = finished_part builder old new root building has older.grows;
     }

@@ -1,9 +1,8 @@
 -- Lists and their units: the run of a key, the record that comes next, and the list that units give back.
 use Rattle.std.proofs.Common.{Bool, ◌≡◌, ℕ, suc, zero, ◌+◌, ◌-◌, ◌<◌, ◌≤◌, true, false, cond, List, [], ◌∷◌, ◌++◌, length, map, take, drop, replicate, arith, refl, sym, ◌∙◌, ap, subst, inl, inr, true≢false}
-use Rattle.std.specs.Prelude.{◌==◌}
 use Rattle.std.specs.List.{All, enumerate_from, flat_map, prefix_len}
 use Rattle.std.specs.Str.{bytes_eq}
-use Rattle.std.proofs.lemmas.Bool.{cases_Bool, eq-eqb, eqb-true}
+use Rattle.std.proofs.lemmas.Bool.{cases_Bool}
 use Rattle.std.proofs.lemmas.List.Elements.{All-head, All-tail}
 use Rattle.bdb_format.specs.Lists.{BytesKey, ListKey, NumberKey}
 use Rattle.bdb_model.specs.Pairs.{keys_of, listed, listed_key, values_of}
@@ -12,7 +11,7 @@ use Rattle.bdb_model.specs.declared.pairs.Key.{Key}
 use Rattle.bdb_model.specs.declared.pairs.Key.TheVariants.{Bytes, Number}
 use Rattle.bdb_overflow.proofs.KeyLemmas.{eq_same, eq_self}
 use Rattle.bdb_leaves.specs.Units.{EntryUnit, KeyedUnit, TreeUnit, listed_keyed, listed_record}
-use Rattle.bdb_mktree.specs.Lists.{AscendFrom, HasBytes, HasNumber, bytes_in, has_key, has_number, keyed_units, missing, number_in, record_units, with_pair}
+use Rattle.bdb_mktree.specs.Lists.{AscendFrom, HasBytes, HasNumber, bytes_in, has_key, keyed_units, missing, number_in, record_units, with_pair}
 
 -- Keys.
 
@@ -80,6 +79,7 @@ run_is_unit key (pair ∷ pairs) n all is some =
           sym is ∙ ap (λ b. cond b (1 + prefix_len (has_key key) (keys_of pairs)) 0) same in
           ap (λ k. with_pair k pair.value (keyed_units pairs)) key_is
           ∙ (by_rest (prefix_len (has_key key) (keys_of pairs)) refl
+          (λ m more some_more. run_is_unit key pairs m (All-tail (λ (pair : Pair). HasBytes pair.key) pair pairs all) more some_more)
           ∙ ap (λ m. KeyedUnit key (take m (values_of (pair ∷ pairs))) ∷ keyed_units (drop m (pair ∷ pairs))) (sym long))
       | inr other ↦ let none = ap (λ b. cond b (1 + prefix_len (has_key key) (keys_of pairs)) 0) other in absurd (omega (arith, is, none, some))
     ]
@@ -88,28 +88,24 @@ run_is_unit key (pair ∷ pairs) n all is some =
     has = All-head (λ (pair : Pair). HasBytes pair.key) pair pairs all
 
     by_rest : (m : ℕ) → prefix_len (has_key key) (keys_of pairs) ≡ m
+        → ((m : ℕ) → prefix_len (has_key key) (keys_of pairs) ≡ m → 0 < m
+        → keyed_units pairs ≡ KeyedUnit key (take m (values_of pairs)) ∷ keyed_units (drop m pairs))
         → with_pair key pair.value (keyed_units pairs)
         ≡ KeyedUnit key (take (1 + m) (values_of (pair ∷ pairs))) ∷ keyed_units (drop (1 + m) (pair ∷ pairs))
-    by_rest zero none = no_run key pair.value pairs (All-tail (λ (pair : Pair). HasBytes pair.key) pair pairs all) none
-    by_rest (suc m) more =
-        ap (with_pair key pair.value)
-        (run_is_unit key pairs (suc m) (All-tail (λ (pair : Pair). HasBytes pair.key) pair pairs all) more (omega arith))
+    by_rest zero none later = no_run key pair.value pairs (All-tail (λ (pair : Pair). HasBytes pair.key) pair pairs all) none
+    by_rest (suc m) more later =
+        ap (with_pair key pair.value) (later (suc m) more (omega arith))
         ∙ before_same key pair.value (take (suc m) (values_of pairs)) (keyed_units (drop (suc m) pairs))
 
 -- Records.
 
-number_test : (number : ℕ) (key : Key) → HasNumber key → has_number number key ≡ (number_in key == number)
-number_test number (Bytes key) has = absurd has
-number_test number (Number other) has = refl
-
 -- the record that comes next is that of the first pair
-pub record_stands : (next : ℕ) (pair : Pair) (pairs : List Pair) → HasNumber pair.key → has_number next pair.key ≡ true
+pub record_stands : (next : ℕ) (pair : Pair) (pairs : List Pair) → next ≡ number_in pair.key
     → record_units next (pair ∷ pairs) ≡ EntryUnit pair.value false ∷ record_units (next + 1) pairs
-record_stands next pair pairs has stands =
-    let same : number_in pair.key ≡ next = eqb-true (number_in pair.key) next (sym (number_test next pair.key has) ∙ stands) in
-    let none : next - next ≡ 0 = omega arith in
-    ap (λ n. replicate (n - next) missing ++ (EntryUnit pair.value false ∷ record_units (n + 1) pairs)) same
-    ∙ ap (λ n. replicate n missing ++ (EntryUnit pair.value false ∷ record_units (next + 1) pairs)) none
+record_stands next pair pairs same =
+    let none : number_in pair.key - next ≡ 0 = omega (arith, same) in
+    ap (λ n. replicate n missing ++ (EntryUnit pair.value false ∷ record_units (number_in pair.key + 1) pairs)) none
+    ∙ ap (λ n. EntryUnit pair.value false ∷ record_units (n + 1) pairs) (sym same)
 
 -- or a missing one
 pub record_missing : (next : ℕ) (pair : Pair) (pairs : List Pair) → next < number_in pair.key
@@ -117,11 +113,6 @@ pub record_missing : (next : ℕ) (pair : Pair) (pairs : List Pair) → next < n
 record_missing next pair pairs later =
     let one : number_in pair.key - next ≡ suc (number_in pair.key - (next + 1)) = omega (arith, later) in
     ap (λ n. replicate n missing ++ (EntryUnit pair.value false ∷ record_units (number_in pair.key + 1) pairs)) one
-
-pub is_later : (next : ℕ) (key : Key) → HasNumber key → next ≤ number_in key → has_number next key ≡ false → next < number_in key
-is_later next key has most none =
-    let other : (number_in key ≡ next) → ⊥ = λ same. true≢false (sym (number_test next key has ∙ eq-eqb (number_in key) next same) ∙ none) in
-    omega (arith, most, other)
 
 -- The list that units give back.
 
@@ -163,7 +154,7 @@ missing_listed (suc n) next units =
 
 pub records_listed : (next : ℕ) (pairs : List Pair) → AscendFrom next pairs → flat_map listed_record (enumerate_from next (record_units next pairs)) ≡ listed pairs
 records_listed next [] ascend = refl
-records_listed next (pair ∷ pairs) (has, most, short, ascend) =
+records_listed next (pair ∷ pairs) (has, most, ascend) =
     let at : next + (number_in pair.key - next) ≡ number_in pair.key = omega (arith, most) in
     missing_listed (number_in pair.key - next) next (EntryUnit pair.value false ∷ record_units (number_in pair.key + 1) pairs)
     ∙ (ap (λ m. flat_map listed_record (enumerate_from m (EntryUnit pair.value false ∷ record_units (number_in pair.key + 1) pairs))) at

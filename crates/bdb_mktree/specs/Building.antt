@@ -1,5 +1,5 @@
 -- Trees that are being built: a builder with its pages, and the units that these hold. Source: docs/FORMAT.md, "Built trees".
-use Rattle.std.specs.Prelude.{◌≡◌, ◌⊎◌, ℕ, ◌<◌, ◌≤◌, IsTrue, false, List, [], ◌∷◌, ◌++◌, length, map, None}
+use Rattle.std.specs.Prelude.{◌≡◌, ◌⊎◌, ℕ, ◌+◌, ◌<◌, ◌≤◌, IsTrue, false, List, [], ◌∷◌, ◌++◌, length, map, None}
 use Rattle.std.specs.List.{All, flat_map}
 use Rattle.bdb_format.specs.declared.metadata.BtreeMeta.{BtreeMeta}
 use Rattle.bdb_format.specs.declared.settings.Settings.{Settings}
@@ -12,9 +12,11 @@ use Rattle.bdb_format.specs.Databases.{settings_of}
 use Rattle.bdb_grove.specs.Growing.{IsCounted, IsLater}
 use Rattle.bdb_grove.specs.Part.{IsPart, between}
 use Rattle.bdb_pack.specs.Built.{Built, bytes_of, file_so_far}
-use Rattle.bdb_leaves.specs.Filled.{AreFilled, rest_of}
+use Rattle.bdb_leaves.specs.Counted.{AreCounted}
+use Rattle.bdb_leaves.specs.Filled.{rest_of}
 use Rattle.bdb_leaves.specs.Moved.{first_leaf, numbers_of}
 use Rattle.bdb_leaves.specs.Placed.{Placed, has_wrong_root, unit_of}
+use Rattle.bdb_leaves.specs.Spread.{tree_size}
 use Rattle.bdb_leaves.specs.Units.{TreeUnit, units_on}
 use Rattle.bdb_mktree.specs.Units.{IsShortUnit, IsTreeKind, KeysAscend, Suits, leaf_type_of}
 use Rattle.bdb_mktree.specs.declared.builder.TreeBuilder.{TreeBuilder}
@@ -34,7 +36,8 @@ pub record KeepsBefore (first : ℕ) (old new : Built) : Type 0 where
   pub grows : length old.pages ≤ length new.pages
   pub same : (p : ℕ) → p < first → bytes_of new p ≡ bytes_of old p
 
--- A builder with its pages: from the first leaf on they are leaves with units that suit the settings, and what these units hold.
+-- A builder with its pages: from the first leaf on they are leaves with units that suit the settings, spread over them by what they take, and what
+-- these units hold.
 pub record Building (builder : TreeBuilder) (built : Built) : Type 0 where
   pub kind : IsTreeKind builder.settings.kind
   pub legal : IsTrue (is_page_size built.size)
@@ -44,7 +47,7 @@ pub record Building (builder : TreeBuilder) (built : Built) : Type 0 where
   -- the units on the closed leaves, and on the last
   pub closed : List (List Placed)
   pub units : List Placed
-  pub filled : AreFilled builder.leaves built (first_leaf builder.leaves) closed units
+  pub counted : AreCounted builder.settings.sorted builder.leaves built (first_leaf builder.leaves) closed units
   pub some : (closed ≡ []) ⊎ (0 < length units)
   pub suit : All (Suits builder.settings) (map unit_of (all_placed closed units))
   pub keys : KeysAscend builder.settings (map unit_of (all_placed closed units))
@@ -67,11 +70,13 @@ pub record ArePushed (builder next : TreeBuilder) (old new : Built) (all left : 
 abbrev pub CanBePushed : TreeBuilder → Built → List TreeUnit → Type 0
 CanBePushed builder built units = ArePushed builder builder built built units units
 
--- A tree that was built on the pages from one on: that page is its root, and none has a row of form. In each later file, and for each metadata
--- that says these settings and names the root, its pages are the part of the database with this list.
-pub record IsTreeBuilt (settings : Settings) (first : ℕ) (old new : Built) (list : List (ListKey × List ℕ)) (root : ℕ) : Type 0 where
+-- A tree that was built of units on the pages from one on: that page is its root, they are as many as the units take, and none has a row of form.
+-- In each later file, and for each metadata that says these settings and names the root, they are the part of the database with this list.
+pub record IsTreeBuilt (settings : Settings) (first : ℕ) (old new : Built) (units : List TreeUnit) (list : List (ListKey × List ℕ)) (root : ℕ)
+    : Type 0 where
   pub root_is : root ≡ first
   pub kept : KeepsBefore first old new
+  pub count : length new.pages ≡ first + tree_size (leaf_type_of settings.kind) new.size settings.sorted units
   pub formed : (p : ℕ) → first ≤ p → p < length new.pages → page_code new.order p (bytes_of new p) ≡ None
   pub part : (g : File) (meta : BtreeMeta) → IsCounted g → IsLater (between first (length new.pages)) (file_so_far new) g
       → settings_of new.size new.order (BtreeFields meta) ≡ settings → meta.root ≡ root

@@ -1,25 +1,22 @@
 -- The units of a list of pairs, and the lists that a tree can be built of. Source: docs/FORMAT.md, "Built trees".
-use Rattle.std.specs.Prelude.{◌≡◌, ℕ, ◌+◌, ◌-◌, ◌≤◌, ◌<◌, ◌^◌, ◌==◌, if◌then◌else◌, Bool, true, false, List, [], ◌∷◌, ◌++◌, replicate}
+use Rattle.std.specs.Prelude.{◌≡◌, ℕ, ◌+◌, ◌-◌, ◌≤◌, ◌==◌, ◌&&◌, ◌||◌, nat_lt, not, if◌then◌else◌, Bool, true, false, List, [], ◌∷◌, ◌++◌, length, replicate}
 use Rattle.std.specs.List.{All}
 use Rattle.std.specs.Str.{bytes_eq}
 use Rattle.bdb_format.specs.declared.kinds.Kind.{Kind}
 use Rattle.bdb_format.specs.declared.kinds.Kind.TheVariants.{Btree, Recno, Hash, Queue}
 use Rattle.bdb_format.specs.declared.settings.Settings.{Settings}
+use Rattle.bdb_format.specs.Less.{less}
 use Rattle.bdb_model.specs.declared.list.Pair.{Pair}
 use Rattle.bdb_model.specs.declared.pairs.Key.{Key}
 use Rattle.bdb_model.specs.declared.pairs.Key.TheVariants.{Bytes, Number}
+use Rattle.bdb_leaves.specs.Runs.{IsShort}
 use Rattle.bdb_leaves.specs.Units.{TreeUnit, KeyedUnit, EntryUnit}
-use Rattle.bdb_mktree.specs.Units.{IsShortUnit, KeysAscend, Suits}
 
 -- Keys.
 
 abbrev pub has_key : List ℕ → Key → Bool
 has_key key (Bytes other) = bytes_eq other key
 has_key key (Number number) = false
-
-abbrev pub has_number : ℕ → Key → Bool
-has_number number (Bytes key) = false
-has_number number (Number other) = other == number
 
 abbrev pub bytes_in : Key → List ℕ
 bytes_in (Bytes key) = key
@@ -72,19 +69,39 @@ units_in Queue pairs = []
 -- the numbers of records ascend from one on
 abbrev pub AscendFrom : ℕ → List Pair → Type 0
 AscendFrom next [] = Unit {0}
-AscendFrom next (pair ∷ pairs) =
-    HasNumber pair.key × (next ≤ number_in pair.key) × (number_in pair.key < 2 ^ 32) × AscendFrom (number_in pair.key + 1) pairs
+AscendFrom next (pair ∷ pairs) = HasNumber pair.key × (next ≤ number_in pair.key) × AscendFrom (number_in pair.key + 1) pairs
 
--- the keys are those of the kind; the numbers of records ascend from 1
-abbrev pub AreKeysOf : Kind → List Pair → Type 0
-AreKeysOf Btree pairs = All (λ (pair : Pair). HasBytes pair.key) pairs
-AreKeysOf Recno pairs = AscendFrom 1 pairs
-AreKeysOf Hash pairs = ⊥
-AreKeysOf Queue pairs = ⊥
+abbrev pub IsKeyFor : Kind → Key → Type 0
+IsKeyFor Btree key = HasBytes key × IsShort (bytes_in key)
+IsKeyFor Recno key = HasNumber key × (1 ≤ number_in key)
+IsKeyFor Hash key = ⊥
+IsKeyFor Queue key = ⊥
 
--- a list in its order, whose units suit the settings and fit their fields
+-- a pair has a key of the kind and a datum that fits its field; a record has the length of all where they have one
+pub record IsPairFor (settings : Settings) (pair : Pair) : Type 0 where
+  pub key : IsKeyFor settings.kind pair.key
+  pub short : IsShort pair.value
+  pub long : settings.kind ≡ Recno → settings.fixed ≡ true → length pair.value ≡ settings.re_len
+
+-- a pair may come right after another: its key is above the other's; or it is a further datum of the same key, where duplicates may stand, and
+-- above the other one where they are sorted
+abbrev pub keyed_follow : Settings → Pair → Pair → Bool
+keyed_follow settings before pair =
+    less (bytes_in before.key) (bytes_in pair.key)
+    || (bytes_eq (bytes_in before.key) (bytes_in pair.key) && settings.duplicates && (not settings.sorted || less before.value pair.value))
+
+abbrev pub may_follow : Kind → Settings → Pair → Pair → Bool
+may_follow Btree settings before pair = keyed_follow settings before pair
+may_follow Recno settings before pair = nat_lt (number_in before.key) (number_in pair.key)
+may_follow Hash settings before pair = false
+may_follow Queue settings before pair = false
+
+abbrev pub is_in_order : Settings → List Pair → Bool
+is_in_order settings [] = true
+is_in_order settings (pair ∷ []) = true
+is_in_order settings (pair ∷ next ∷ pairs) = may_follow settings.kind settings pair next && is_in_order settings (next ∷ pairs)
+
+-- a list in its order, as loading makes it with these settings
 pub record IsListFor (settings : Settings) (pairs : List Pair) : Type 0 where
-  pub keys_are : AreKeysOf settings.kind pairs
-  pub suit : All (Suits settings) (units_in settings.kind pairs)
-  pub keys : KeysAscend settings (units_in settings.kind pairs)
-  pub short : All IsShortUnit (units_in settings.kind pairs)
+  pub each : All (IsPairFor settings) pairs
+  pub in_order : is_in_order settings pairs ≡ true

@@ -1,13 +1,15 @@
 ghost use Rattle.std.specs.Prelude.{◌≡◌, ◌≤◌, ◌<◌, [], IfOk, drop, length};
-ghost use Rattle.std.specs.List.{prefix_len};
-ghost use Rattle.bdb_format.specs.declared.kinds.Kind.TheVariants.{Btree, Recno};
-ghost use Rattle.bdb_mktree.specs.Building.{ArePushed, CanBePushed};
-ghost use Rattle.bdb_mktree.specs.Lists.{AreKeysOf, has_key, has_number, keyed_units, record_units};
+ghost use Rattle.std.specs.List.{All, prefix_len};
+ghost use Rattle.bdb_model.specs.Pairs.{listed};
+ghost use Rattle.bdb_mktree.specs.Building.{ArePushed, CanBePushed, IsTreeBuilt};
+ghost use Rattle.bdb_mktree.specs.Lists.{AscendFrom, HasBytes, IsListFor, has_key, keyed_units, number_in, record_units, units_in};
+ghost use Rattle.bdb_mktree.specs.Units.{IsTreeKind};
 
 use crate::{TreeBuilder, Unit};
+use bdb_format::{Kind, Settings};
 use bdb_model::{Key, PairList};
 use bdb_pack::Pages;
-use std::alloc::AllocError;
+use std::alloc::{AllocError, Global};
 
 // Whether a key of a list is this one.
 fn is_key(other: &Key, key: &[u8]) -> bool
@@ -40,7 +42,7 @@ fn push_run(
     list: &PairList,
     start: usize,
 ) -> Result<usize, AllocError>
-    requires keys { AreKeysOf Btree list.now }
+    requires keys { All (λ pair. HasBytes pair.key) list.now }
     requires more { start < length list.now }
     requires can { CanBePushed builder.old pages.old (keyed_units (drop start list.now)) }
     ensures ahead { IfOk result (λ end. (start < end) × (end ≤ length list.now)) }
@@ -66,7 +68,7 @@ pub(crate) fn push_keys(
     pages: &mut Pages,
     list: &PairList,
 ) -> Result<(), AllocError>
-    requires keys { AreKeysOf Btree list.now }
+    requires keys { All (λ pair. HasBytes pair.key) list.now }
     requires can { CanBePushed builder.old pages.old (keyed_units list.now) }
     ensures { IfOk result (λ _. ArePushed builder.old builder.new pages.old pages.new (keyed_units list.now) []) }
 {
@@ -77,13 +79,13 @@ pub(crate) fn push_keys(
     Ok(())
 }
 
-// Whether a key of a list is the number of a record.
-fn has_number(key: &Key, number: u64) -> bool
-    ensures { result ≡ has_number number key.now }
+// The number of a record.
+fn number_of(key: &Key) -> u32
+    ensures { result ≡ number_in key.now }
 {
     match key {
-        Key::Bytes(_) => false,
-        Key::Number(other) => u64::from(*other) == number,
+        Key::Bytes(_) => 0,
+        Key::Number(number) => *number,
     }
 }
 
@@ -93,25 +95,54 @@ pub(crate) fn push_records(
     pages: &mut Pages,
     list: &PairList,
 ) -> Result<(), AllocError>
-    requires keys { AreKeysOf Recno list.now }
+    requires keys { AscendFrom 1 list.now }
     requires can { CanBePushed builder.old pages.old (record_units 1 list.now) }
     ensures { IfOk result (λ _. ArePushed builder.old builder.new pages.old pages.new (record_units 1 list.now) []) }
 {
     let mut number = 1;
     let mut place = 0;
     while place < list.len() {
-        let stands = has_number(&list.keys()[place], number);
-        let value = if stands {
-            list.values()[place].as_slice()
-        } else {
+        let missing = number < u64::from(number_of(&list.keys()[place]));
+        let value = if missing {
             &[]
+        } else {
+            list.values()[place].as_slice()
         };
-        let deleted = !stands;
-        builder.push(pages, &Unit::Entry { value, deleted })?;
-        if stands {
+        let unit = Unit::Entry {
+            value,
+            deleted: missing,
+        };
+        builder.push(pages, &unit)?;
+        if !missing {
             place += 1;
         }
         number += 1;
     }
     Ok(())
+}
+
+/// Builds the tree of a list behind all pages, and answers its root, which is the tree's first page. The page size and the order of
+/// the settings are those of the pages. It is also refused where there are 2^21 pages, and where a sum of counts doesn't fit its field.
+pub fn build_tree(
+    alloc: Global,
+    pages: &mut Pages,
+    settings: &Settings,
+    list: &PairList,
+) -> Result<u32, AllocError>
+    requires kind { IsTreeKind settings.now.kind }
+    requires size { pages.old.size ≡ settings.now.page_size }
+    requires order { pages.old.order ≡ settings.now.order }
+    requires some { 1 ≤ length pages.old.pages }
+    requires list { IsListFor settings.now list.now }
+    ensures { IfOk result (λ root. IsTreeBuilt settings.now (length pages.old.pages) pages.old pages.new
+        (units_in settings.now.kind list.now) (listed list.now) root) }
+{
+    let mut builder = TreeBuilder::start(alloc, pages, settings)?;
+    if settings.kind == Kind::Recno {
+        push_records(&mut builder, pages, list)?;
+    } else {
+        push_keys(&mut builder, pages, list)?;
+    }
+    let root = builder.finish(pages)?;
+    Ok(root)
 }

@@ -95,7 +95,7 @@ impl TreeBuilder {
     pub fn finish(self, pages: &mut Pages) -> Result<u32, AllocError>
         requires building { Building self pages.old }
         ensures { IfOk result (λ root. IsTreeBuilt self.settings (first_leaf self.leaves) pages.old pages.new
-            (list_of_units self.settings.kind (units_of self pages.old)) root) }
+            (units_of self pages.old) (list_of_units self.settings.kind (units_of self pages.old)) root) }
     {
         // That all pages are whole is known with their size.
         let _size = pages.size();

@@ -5,5 +5,6 @@ mod build;
 mod builder;
 mod unit;
 
+pub use build::build_tree;
 pub use builder::TreeBuilder;
 pub use unit::Unit;

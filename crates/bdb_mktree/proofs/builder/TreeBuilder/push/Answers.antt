@@ -23,7 +23,7 @@ pub returns-in_ok-push_keyed-in-Keyed-clause-kept : goal.returns-in_ok-push_keye
 returns-in_ok-push_keyed-in-Keyed-clause-kept c =
     let building = c.requires.building in
     before_kept c.args.self.now.leaves c.args.pages.now c.push_keyed.new.pages (first_leaf c.args.self.now.leaves) building.closed building.units
-    building.filled c.in_ok-push_keyed-in-Keyed.ensures.pushed.pushed.kept
+    building.counted.filled c.in_ok-push_keyed-in-Keyed.ensures.pushed.pushed.kept
 
 pub returns-in_ok-push_entry-in-Entry-clause-building : goal.returns-in_ok-push_entry-in-Entry-clause-building
 returns-in_ok-push_entry-in-Entry-clause-building c =
@@ -47,4 +47,4 @@ pub returns-in_ok-push_entry-in-Entry-clause-kept : goal.returns-in_ok-push_entr
 returns-in_ok-push_entry-in-Entry-clause-kept c =
     let building = c.requires.building in
     before_kept c.args.self.now.leaves c.args.pages.now c.push_entry.new.pages (first_leaf c.args.self.now.leaves) building.closed building.units
-    building.filled c.in_ok-push_entry-in-Entry.ensures.pushed.kept
+    building.counted.filled c.in_ok-push_entry-in-Entry.ensures.pushed.kept

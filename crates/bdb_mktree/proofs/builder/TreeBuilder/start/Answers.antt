@@ -1,4 +1,4 @@
-use Rattle.std.proofs.Common.{[], length, sym, ◌∙◌, ◌≡◌, true, subst}
+use Rattle.std.proofs.Common.{[], length, ap, sym, ◌+◌, ◌∙◌, ◌≡◌, true, subst}
 use Rattle.bdb_format.specs.HeadOf.{is_page_size}
 use Rattle.bdb_leaves.specs.Filled.{AreFilled}
 use Rattle.bdb_mktree.proofs.BuildingLemmas.{begun_building, first_begun, units_read}
@@ -9,11 +9,11 @@ returns-clause-building c =
     let leaves = c.in_ok-leaves.leaves in
     let kept = c.in_ok-leaves.ensures.kept in
     let filled = c.in_ok-leaves.ensures.filled in
+    let first = first_begun leaves c.start.new.pages (length c.args.pages.now.pages) filled c.in_ok-leaves.ensures.number in
     begun_building (record { alloc = c.args.alloc; settings = c.args.settings.now; leaves = leaves }) c.start.new.pages c.requires.kind
     (subst (λ n. is_page_size n ≡ true) (c.size-size.ensures.size ∙ sym kept.size) c.size-size.ensures.legal)
     (kept.size ∙ c.requires.size) (kept.order ∙ c.requires.order) (c.in_ok-leaves.ensures.leaf ∙ c.leaf_type_of.ensures)
-    (subst (λ n. AreFilled leaves c.start.new.pages n [] [])
-    (sym (first_begun leaves c.start.new.pages (length c.args.pages.now.pages) filled c.in_ok-leaves.ensures.number)) filled)
+    (subst (λ n. AreFilled leaves c.start.new.pages n [] []) (sym first) filled) (c.in_ok-leaves.ensures.count ∙ ap (λ n. n + 1) (sym first))
 
 pub returns-clause-empty : goal.returns-clause-empty
 returns-clause-empty c =
