@@ -20,9 +20,8 @@ use Rattle.bdb_pack.proofs.CountLemmas.{chains_are_counted}
 use Rattle.bdb_pack.proofs.StoredLemmas.{stored_values_stand}
 use Rattle.bdb_leaves.specs.Inner.{CountsFew}
 use Rattle.bdb_leaves.specs.LeafEntries.{CanTakeEntry, Entry, HoldsEntries, item_cost, room_of, type_number}
-use Rattle.bdb_leaves.specs.Leaves.{AreLeaves, AreSomeLeaves, last_of}
+use Rattle.bdb_leaves.specs.Leaves.{AreLeaves, AreSomeLeaves, KeepsAll, last_of}
 use Rattle.bdb_leaves.specs.Puts.{IsItemOf}
-use Rattle.bdb_leaves.specs.Sets.{KeepsAll}
 use Rattle.bdb_leaves.specs.Units.{chain_pages, value_cost}
 use Rattle.bdb_leaves.specs.declared.leaves.Leaves.{Leaves}
 use Rattle.bdb_leaves.proofs.LeavesLemmas.{leaves_kept, at_most_last}

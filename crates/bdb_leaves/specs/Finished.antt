@@ -13,6 +13,7 @@ use Rattle.bdb_leaves.specs.Filled.{AreFilled, AreSpreadOver, rest_of}
 use Rattle.bdb_leaves.specs.Inner.{HoldsChildrenOn, child_cost, first_cost}
 use Rattle.bdb_leaves.specs.Laid.{HasUnits, IsLaid, IsNodeOf, inner_of, is_laid}
 use Rattle.bdb_leaves.specs.LeafEntries.{with_field}
+use Rattle.bdb_leaves.specs.Leaves.{KeepsBefore}
 use Rattle.bdb_leaves.specs.Levels.{heads_of}
 use Rattle.bdb_leaves.specs.Moved.{IsFirstMoved, first_leaf, numbers_of}
 use Rattle.bdb_leaves.specs.Placed.{LeafUnits, Placed, unit_of}
@@ -105,19 +106,11 @@ FinishedTreesAreFormed =
     → AreFilled leaves old before closed units → HasFirstRoot leaves old new counted closed units root
     → (p : ℕ) → before ≤ p → p < length new.pages → page_code new.order p (bytes_of new p) ≡ None
 
--- pages of which those before a number are as they were, and none is dropped
-pub record KeepsOlder (before : ℕ) (old new : Built) : Type 0 where
-  pub size : new.size ≡ old.size
-  pub order : new.order ≡ old.order
-  pub whole : AreWhole new
-  pub grows : length old.pages ≤ length new.pages
-  pub same : (p : ℕ) → p < before → bytes_of new p ≡ bytes_of old p
-
 -- The pages before the leaves were begun stay.
 abbrev pub FinishedTreesKeepOlderPages : Type 0
 FinishedTreesKeepOlderPages =
     (leaves : Leaves) (old new : Built) (counted : Bool) (before : ℕ) (closed : List (List Placed)) (units : List Placed) (root : ℕ)
-    → AreFilled leaves old before closed units → HasFirstRoot leaves old new counted closed units root → KeepsOlder before old new
+    → AreFilled leaves old before closed units → HasFirstRoot leaves old new counted closed units root → KeepsBefore before old new
 
 -- Its leaves and the levels over them are as many pages as its units say, where these were spread by what they take.
 abbrev pub FinishedTreesAreCounted : Type 0
