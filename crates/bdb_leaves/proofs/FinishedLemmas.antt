@@ -1,5 +1,6 @@
 -- Filled leaves, of which the first is moved, as the lowest level of their tree.
-use Rattle.std.proofs.Common.{◌≡◌, ℕ, suc, zero, ◌+◌, ◌<◌, ◌≤◌, Bool, true, List, [], ◌∷◌, ◌++◌, length, map, drop, set, arith, refl, sym, ◌∙◌, ap, subst, inl, inr, length-append, length-set}
+use Rattle.std.proofs.Common.{◌≡◌, ℕ, suc, zero, ◌+◌, ◌<◌, ◌≤◌, Bool, true, List, [], ◌∷◌, ◌++◌, length, map, drop, set, arith, refl, sym, ◌∙◌, ap}
+use Rattle.std.proofs.Common.{subst, inl, inr, length-append, length-set}
 use Rattle.std.specs.List.{All, Contains, flat_map}
 use Rattle.std.proofs.lemmas.List.{map-append}
 use Rattle.std.proofs.lemmas.List.Elements.{All-push}
@@ -147,9 +148,11 @@ moved_nodes leaves next old mid counted before closed units legal several filled
     let groups : List (List Placed) = closed ++ (units ∷ []) in
     let all : List Placed = flat_map (λ leaf. leaf) groups in
     let sizes = each_leaf (IsPlacedBySize mid.size) groups
-    (subst (λ size. All (IsPlacedBySize size) all) (sym moved.size) (subst (All (IsPlacedBySize old.size)) (sym (all_units closed units)) filled.sizes)) in
+    (subst (λ size. All (IsPlacedBySize size) all) (sym moved.size)
+    (subst (All (IsPlacedBySize old.size)) (sym (all_units closed units)) filled.sizes)) in
     let stay : All (CountsFewFrom before mid) (all_contents type closed units) =
-    all_map (λ content few. few_moved leaves next old mid before (map (flat_map entries_of) closed) (flat_map entries_of units) content several filled.hold
+    all_map (λ content few. few_moved leaves next old mid before (map (flat_map entries_of) closed)
+    (flat_map entries_of units) content several filled.hold
     moved few) (all_contents type closed units) filled.few in
     let few = each_content (CountsFewFrom before mid) type groups
     (subst (λ us. All (CountsFewFrom before mid) (flat_map (unit_contents type) us)) (sym (all_units closed units)) stay) in
@@ -167,7 +170,8 @@ level_of leaves next old mid counted groups inner children moved are inner_is is
     let all : List (List Entry) = map (flat_map entries_of) groups in
     let nodes : List Node = leaf_nodes leaves.leaf_type counted (numbers_of next) all in
     subst (λ i. AreChildren i mid children nodes) (sym (inner_is ∙ ap inner_of moved.type))
-    (subst (λ cs. AreChildren (inner_of leaves.leaf_type) mid cs nodes) (sym (is ∙ ap (λ t. leaf_children t counted (numbers_of next) all) moved.type))
+    (subst (λ cs. AreChildren (inner_of leaves.leaf_type) mid cs nodes)
+    (sym (is ∙ ap (λ t. leaf_children t counted (numbers_of next) all) moved.type))
     are.children)
 
 pub moved_children : (leaves next : Leaves) (old mid : Built) (counted : Bool) (before : ℕ) (closed : List (List Placed)) (units : List Placed)

@@ -53,7 +53,8 @@ unit_begins type size before built (PlacedEntry entry) sizes few = record {
   first = record { value = entry.value; by_size = sizes; few = first_few type few };
 }
   where
-    first_few : (type : LeafType) → All (CountsFewFrom before built) (unit_contents type (PlacedEntry entry)) → CountsFewFrom before built entry.item.content
+    first_few : (type : LeafType) → All (CountsFewFrom before built) (unit_contents type (PlacedEntry entry))
+        → CountsFewFrom before built entry.item.content
     first_few Pairs few = few 0 entry.item.content (omega arith)
     first_few Records few = few 0 entry.item.content (omega arith)
     first_few SortedData few = few 0 entry.item.content (omega arith)
@@ -128,7 +129,8 @@ key_stands before built (Set blocks) one few = absurd one
 key_stands before built (Tree root) one few = absurd one
 key_stands before built Unknown one few = absurd one
 
-leaf_is_child : (type : LeafType) (counted : Bool) (size before : ℕ) (built : Built) (p previous next : ℕ) (units : List Placed) → p < length built.pages
+leaf_is_child : (type : LeafType) (counted : Bool) (size before : ℕ) (built : Built) (p previous next : ℕ) (units : List Placed)
+    → p < length built.pages
     → HoldsEntriesOn type built p previous next (flat_map entries_of units) → Begins size before built (flat_map entries_of units)
     → IsChild (inner_of type) built (leaf_child type counted p (flat_map entries_of units)) (leaf_node type counted p (flat_map entries_of units))
 leaf_is_child type counted size before built p previous next units low holds begins =
@@ -184,10 +186,12 @@ pub record AreNodes (type : LeafType) (counted : Bool) (size : ℕ) (built : Bui
   pub nodes : AllZip (IsNodeOf type) (zip_units ps groups) (leaf_nodes type counted ps (map (flat_map entries_of) groups))
   pub children : AreChildren (inner_of type) built (leaf_children type counted ps (map (flat_map entries_of) groups))
       (leaf_nodes type counted ps (map (flat_map entries_of) groups))
-  pub costs : (node : Node) → Contains (leaf_nodes type counted ps (map (flat_map entries_of) groups)) node → child_cost (inner_of type) node + 40 ≤ size
+  pub costs : (node : Node) → Contains (leaf_nodes type counted ps (map (flat_map entries_of) groups)) node
+      → child_cost (inner_of type) node + 40 ≤ size
   pub units : All HasUnits (zip_units ps groups)
 
-pub are_nodes : (type : LeafType) (counted : Bool) (size before : ℕ) (built : Built) (previous : ℕ) (ps : List ℕ) (groups : List (List Placed)) (beyond : ℕ)
+pub are_nodes : (type : LeafType) (counted : Bool) (size before : ℕ) (built : Built) (previous : ℕ) (ps : List ℕ) (groups : List (List Placed))
+    (beyond : ℕ)
     → is_page_size size ≡ true → LinkedFrom type built previous ps (map (flat_map entries_of) groups) beyond
     → ((p : ℕ) → Contains ps p → p < length built.pages) → All (λ units. 0 < length units) groups → All (Fills type size before built) groups
     → AreNodes type counted size built ps groups
@@ -202,10 +206,16 @@ are_nodes type counted size before built previous (p ∷ ps) (units ∷ groups) 
     (λ k d under. some (suc k) d (omega (arith, under))) (λ k d under. fills (suc k) d (omega (arith, under))) in
     record {
       nodes = (leaf_is_node type counted size before built p units (inr begins), rest.nodes);
-      children = (leaf_is_child type counted size before built p previous (first_of ps beyond) units (low p (first_member p ps)) holds begins, rest.children);
+      children = (
+        leaf_is_child type counted size before built p previous (first_of ps beyond) units
+            (low p (first_member p ps)) holds begins,
+        rest.children,
+      );
       costs = λ node at.
-          elim (member_cases (leaf_node type counted p (flat_map entries_of units)) (leaf_nodes type counted ps (map (flat_map entries_of) groups)) node at) [
-            | inl here ↦ subst (λ (n : Node). child_cost (inner_of type) n + 40 ≤ size) here (cost_small type counted size before built p units legal begins)
+          elim (member_cases (leaf_node type counted p (flat_map entries_of units))
+          (leaf_nodes type counted ps (map (flat_map entries_of) groups)) node at) [
+            | inl here ↦ subst (λ (n : Node). child_cost (inner_of type) n + 40 ≤ size) here
+                (cost_small type counted size before built p units legal begins)
             | inr later ↦ rest.costs node later
           ];
       units = All-cons HasUnits (record { page = p; units = units }) (zip_units ps groups) (some 0 units (omega arith)) rest.units;
@@ -220,7 +230,8 @@ each_leaf P (units ∷ groups) all =
     All-cons (All P) units groups (all_left P units (flat_map (λ leaf. leaf) groups) all)
     (each_leaf P groups (all_right P units (flat_map (λ leaf. leaf) groups) all))
 
-pub each_content : (P : Content → Type 0) (type : LeafType) (groups : List (List Placed)) → All P (flat_map (unit_contents type) (flat_map (λ leaf. leaf) groups))
+pub each_content : (P : Content → Type 0) (type : LeafType) (groups : List (List Placed))
+    → All P (flat_map (unit_contents type) (flat_map (λ leaf. leaf) groups))
     → All (λ units. All P (flat_map (unit_contents type) units)) groups
 each_content P type [] all = All-nil (λ units. All P (flat_map (unit_contents type) units))
 each_content P type (units ∷ groups) all =
@@ -231,7 +242,8 @@ each_content P type (units ∷ groups) all =
     (each_content P type groups
     (all_right P (flat_map (unit_contents type) units) (flat_map (unit_contents type) (flat_map (λ leaf. leaf) groups)) split))
 
-pub all_units : (closed : List (List Placed)) (units : List Placed) → flat_map (λ leaf. leaf) (closed ++ (units ∷ [])) ≡ flat_map (λ leaf. leaf) closed ++ units
+pub all_units : (closed : List (List Placed)) (units : List Placed)
+    → flat_map (λ leaf. leaf) (closed ++ (units ∷ [])) ≡ flat_map (λ leaf. leaf) closed ++ units
 all_units closed units =
     flat_map-append (λ leaf. leaf) closed (units ∷ []) ∙ ap (λ us. flat_map (λ leaf. leaf) closed ++ us) (append-nil units)
 
@@ -279,7 +291,8 @@ leaf_rooted leaves built counted before closed units none whole filled =
       sizes = all_right (IsPlacedBySize built.size) (flat_map (λ leaf. leaf) closed) units filled.sizes;
       few = all_right (CountsFewFrom before built) (flat_map (unit_contents leaves.leaf_type) (flat_map (λ leaf. leaf) closed))
           (flat_map (unit_contents leaves.leaf_type) units)
-          (subst (All (CountsFewFrom before built)) (flat_map-append (unit_contents leaves.leaf_type) (flat_map (λ leaf. leaf) closed) units) filled.few);
+          (subst (All (CountsFewFrom before built))
+          (flat_map-append (unit_contents leaves.leaf_type) (flat_map (λ leaf. leaf) closed) units) filled.few);
     }
 
     begins_or_none : (us : List Placed) → Fills leaves.leaf_type built.size before built us
@@ -294,12 +307,14 @@ none_of [] none = refl
 none_of (x ∷ xs) none = absurd (omega (arith, none))
 
 -- several leaves have a unit on the last
-pub last_has_unit : (leaves : Leaves) (built : Built) (before : ℕ) (closed : List (List Placed)) (units : List Placed) → (length leaves.closed.items ≡ 0 → ⊥)
+pub last_has_unit : (leaves : Leaves) (built : Built) (before : ℕ) (closed : List (List Placed)) (units : List Placed)
+    → (length leaves.closed.items ≡ 0 → ⊥)
     → AreFilled leaves built before closed units → (closed ≡ []) ⊎ (0 < length units) → 0 < length units
 last_has_unit leaves built before closed units several filled (inr some) = some
 last_has_unit leaves built before closed units several filled (inl none) =
     absurd (no_leaves leaves.closed.items several
-    (subst (λ groups. LeavesFrom leaves.leaf_type built 0 leaves.closed.items (map (flat_map entries_of) groups) leaves.last) none filled.hold.closed_hold))
+    (subst (λ groups. LeavesFrom leaves.leaf_type built 0 leaves.closed.items
+    (map (flat_map entries_of) groups) leaves.last) none filled.hold.closed_hold))
   where
     no_leaves : (ps : List ℕ) → (length ps ≡ 0 → ⊥) → LeavesFrom leaves.leaf_type built 0 ps [] leaves.last → ⊥
     no_leaves [] several hold = several refl

@@ -1,10 +1,12 @@
 -- The pages that are no leaves, as units are put on leaves.
-use Rattle.std.proofs.Common.{◌≡◌, ℕ, ◌+◌, ◌<◌, ◌≤◌, Bool, true, false, not, List, [], ◌∷◌, ◌++◌, length, map, get_or, arith, refl, sym, ◌∙◌, ap, subst, inl, inr, true≢false}
+use Rattle.std.proofs.Common.{◌≡◌, ℕ, ◌+◌, ◌<◌, ◌≤◌, Bool, true, false, not, List, [], ◌∷◌, ◌++◌, length, map, get_or, arith, refl, sym, ◌∙◌, ap}
+use Rattle.std.proofs.Common.{subst, inl, inr, true≢false}
 use Rattle.std.specs.Prelude.{◌==◌, ◌&&◌, ◌||◌}
 use Rattle.std.specs.List.{All, Contains, flat_map}
 use Rattle.std.proofs.lemmas.Bool.{and_parts, cases_Bool, cases_lt, eq-eqb, ne_eqb, not-true, or_left, or_right}
 use Rattle.std.proofs.lemmas.List.{append-nil, append_assoc, map-append}
-use Rattle.std.proofs.lemmas.List.Elements.{All-append, All-cons, All-nil, All-push, Contains-append_cases, Contains-append_left, Contains-append_right}
+use Rattle.std.proofs.lemmas.List.Elements.{All-append, All-cons, All-nil, All-push, Contains-append_cases, Contains-append_left}
+use Rattle.std.proofs.lemmas.List.Elements.{Contains-append_right}
 use Rattle.std.proofs.lemmas.Grind.{flat_map-append}
 use Rattle.bdb_format.specs.Numbers.{byte_at}
 use Rattle.bdb_format.specs.Page.{Content, Inline, Set, Chain, Tree, Unknown}
@@ -128,7 +130,8 @@ no_leaf SortedData is = omega (arith, is)
 
 -- first pages of chains stay, since the one page that changes is a leaf
 heads_kept : (leaves : Leaves) (old new : Built) (before : ℕ) (closed : List (List Entry)) (entries : List Entry) (contents : List Content)
-    → AreLeaves leaves old closed entries → KeepsOthers leaves.last old new → All (CountsFewFrom before old) contents → All (CountsFewFrom before new) contents
+    → AreLeaves leaves old closed entries → KeepsOthers leaves.last old new → All (CountsFewFrom before old) contents
+    → All (CountsFewFrom before new) contents
 heads_kept leaves old new before closed entries contents hold kept few k d low = stays (get_or contents k d) (few k d low)
   where
     stays : (content : Content) → CountsFewFrom before old content → CountsFewFrom before new content
@@ -138,7 +141,8 @@ heads_kept leaves old new before closed entries contents hold kept few k d low =
       (let grows = kept.grows in omega (arith, under, grows)),
       subst (λ o. CountsFew o (bytes_of new head)) (sym kept.order)
           (subst (CountsFew old.order)
-          (sym (kept.same head under (λ e. no_leaf leaves.leaf_type (sym hold.last_holds.type_is ∙ (ap (λ p. byte_at (bytes_of old p) 25) (sym e) ∙ counts.type_is)))))
+          (sym (kept.same head under
+          (λ e. no_leaf leaves.leaf_type (sym hold.last_holds.type_is ∙ (ap (λ p. byte_at (bytes_of old p) 25) (sym e) ∙ counts.type_is)))))
           counts),
     )
     stays (Set blocks) few = tt
@@ -181,7 +185,8 @@ unit_added leaves old new before closed units unit filled put =
           (λ p two. let there = between_is a b p two in (there.1, refl)) later) in
           record {
             on = subst (StandOn g (rest_of before leaves new)) (sym (contents_more type closed units unit))
-                (stand_both g (rest_of before leaves old) (between a b) (rest_of before leaves new) (all_contents type closed units) (unit_contents type unit)
+                (stand_both g (rest_of before leaves old) (between a b) (rest_of before leaves new) (all_contents type closed units)
+                (unit_contents type unit)
                 union apart was.on now.on);
             placed = units_more (StandsPlaced type g) closed units unit was.placed now.placed;
           };
@@ -189,9 +194,11 @@ unit_added leaves old new before closed units unit filled put =
           (units_more (IsPlacedBySize old.size) closed units unit filled.sizes put.sizes);
       few = subst (All (CountsFewFrom before new)) (sym (contents_more type closed units unit))
           (All-append (CountsFewFrom before new) (all_contents type closed units) (unit_contents type unit)
-          (heads_kept leaves old new before (map (flat_map entries_of) closed) (flat_map entries_of units) (all_contents type closed units) filled.hold put.kept
+          (heads_kept leaves old new before (map (flat_map entries_of) closed) (flat_map entries_of units)
+          (all_contents type closed units) filled.hold put.kept
           filled.few)
-          (all_map (λ content. few_kept a before new new content first refl (omega arith) (λ h above under. refl)) (unit_contents type unit) put.few));
+          (all_map (λ content. few_kept a before new new content first refl (omega arith) (λ h above under. refl))
+          (unit_contents type unit) put.few));
       formed = λ p is.
           elim (in_either (rest_of before leaves old p) (between a b p) (sym (union p) ∙ is)) [
             | inl one ↦
@@ -217,7 +224,8 @@ rest_opened before a numbers low under p =
     (λ is.
     let parts = rest_is before (a + 1) (numbers ++ (a ∷ [])) p is in
     let none = none_of_both numbers (a ∷ []) p parts.2 in
-    is_rest before a numbers p parts.0 (elim (cases_lt p a) [ inl below ↦ below | inr above ↦ absurd (one_of a p none.1 (omega (arith, above, parts.1))) ]) none.0)
+    is_rest before a numbers p parts.0
+    (elim (cases_lt p a) [ inl below ↦ below | inr above ↦ absurd (one_of a p none.1 (omega (arith, above, parts.1))) ]) none.0)
     (λ is.
     let parts = rest_is before a numbers p is in
     is_rest before (a + 1) (numbers ++ (a ∷ [])) p parts.0 (omega (arith, parts.1))
@@ -237,7 +245,8 @@ rest_opened before a numbers low under p =
     one_of a p none same = true≢false (sym (eq-eqb p a same) ∙ none_passes (λ q. p == q) (a ∷ []) a none (first_member a []))
 
 pub leaf_opened : (leaves next : Leaves) (old new : Built) (before : ℕ) (closed : List (List Placed)) (units : List Placed)
-    → AreFilled leaves old before closed units → 0 < length units → IsOpened leaves next old new → AreFilled next new before (closed ++ (units ∷ [])) []
+    → AreFilled leaves old before closed units → 0 < length units → IsOpened leaves next old new
+    → AreFilled next new before (closed ++ (units ∷ [])) []
 leaf_opened leaves next old new before closed units filled some opened =
     let type : LeafType = leaves.leaf_type in
     let numbers : List ℕ = leaves.closed.items ++ (leaves.last ∷ []) in
@@ -258,12 +267,14 @@ leaf_opened leaves next old new before closed units filled some opened =
       some = All-push (λ leaf. 0 < length leaf) closed units filled.some some;
       low = filled.low;
       new = λ p is.
-          elim (Contains-append_cases numbers (a ∷ []) p (subst (λ ns. Contains ns p) now_numbers (of_list (next.closed.items ++ (next.last ∷ [])) p is))) [
+          elim (Contains-append_cases numbers (a ∷ []) p
+          (subst (λ ns. Contains ns p) now_numbers (of_list (next.closed.items ++ (next.last ∷ [])) p is))) [
             | inl one ↦ filled.new p (is_one numbers p one)
             | inr last ↦ let same : a ≡ p = only_member a p last in omega (arith, first, same)
           ];
       ascend = subst (λ t. AscendIn before (length new.pages) (flat_map content_pages (all_contents t (closed ++ (units ∷ [])) []))) (sym opened.type)
-          (subst (λ us. AscendIn before (length new.pages) (flat_map content_pages (flat_map (unit_contents type) us))) (sym (closed_more closed units))
+          (subst (λ us. AscendIn before (length new.pages) (flat_map content_pages (flat_map (unit_contents type) us)))
+          (sym (closed_more closed units))
           (subst (λ n. AscendIn before n (flat_map content_pages (all_contents type closed units))) (sym count)
           (ascend_on before a (a + 1) _ (omega arith) filled.ascend)));
       stands = λ g counted later.
@@ -283,7 +294,8 @@ leaf_opened leaves next old new before closed units filled some opened =
           (subst (All (IsPlacedBySize old.size)) (sym (closed_more closed units)) filled.sizes);
       few = subst (λ t. All (CountsFewFrom before new) (all_contents t (closed ++ (units ∷ [])) [])) (sym opened.type)
           (subst (λ us. All (CountsFewFrom before new) (flat_map (unit_contents type) us)) (sym (closed_more closed units))
-          (heads_kept leaves old new before (map (flat_map entries_of) closed) (flat_map entries_of units) (all_contents type closed units) filled.hold
+          (heads_kept leaves old new before (map (flat_map entries_of) closed) (flat_map entries_of units)
+          (all_contents type closed units) filled.hold
           opened.kept filled.few));
       formed = λ p is.
           let one : rest_of before leaves old p ≡ true = sym (rest p) ∙ is in
@@ -313,12 +325,14 @@ leaf_begun leaves built before positive none last count holds =
       some = All-nil (λ leaf. 0 < length leaf);
       low = positive;
       new = λ p is.
-          let same : before ≡ p = only_member before p (subst (λ ns. Contains ns p) numbers (of_list (leaves.closed.items ++ (leaves.last ∷ [])) p is)) in
+          let same : before ≡ p = only_member before p
+          (subst (λ ns. Contains ns p) numbers (of_list (leaves.closed.items ++ (leaves.last ∷ [])) p is)) in
           omega (arith, same);
       ascend = none_ascend leaves.leaf_type;
       stands = λ g counted later.
           record {
-            on = none_stand leaves.leaf_type g (branch_is_known g (between before before) (rest_of before leaves built) [] [] empty (λ e at. at) (λ e at. at) (no_branch g before));
+            on = none_stand leaves.leaf_type g
+                (branch_is_known g (between before before) (rest_of before leaves built) [] [] empty (λ e at. at) (λ e at. at) (no_branch g before));
             placed = All-nil (StandsPlaced leaves.leaf_type g);
           };
       sizes = All-nil (IsPlacedBySize built.size);
@@ -332,5 +346,6 @@ leaf_begun leaves built before positive none last count holds =
     none_ascend : (type : LeafType) → AscendIn before (length built.pages) (flat_map content_pages (all_contents type [] []))
     none_ascend type = omega (arith, count)
 
-    none_stand : (type : LeafType) (g : File) → IsBranch g (rest_of before leaves built) [] → StandOn g (rest_of before leaves built) (all_contents type [] [])
+    none_stand : (type : LeafType) (g : File) → IsBranch g (rest_of before leaves built) []
+        → StandOn g (rest_of before leaves built) (all_contents type [] [])
     none_stand type g branch = record { branch = branch; fit = All-nil (ContentFits g) }

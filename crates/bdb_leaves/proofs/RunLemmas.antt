@@ -95,14 +95,16 @@ runs_follow leaves old one new xs ys us vs low size first second =
           subst (AreLeaves leaves new closed) (append_assoc entries xs ys) (second.hold closed (entries ++ xs) (first.hold closed entries hold));
       room =
           let one_room = first.room in
-          let two_room : room_of new.order (bytes_of new leaves.last) + sum_by (entry_cost old.order) ys ≡ room_of one.order (bytes_of one leaves.last) =
+          let two_room : room_of new.order (bytes_of new leaves.last) + sum_by (entry_cost old.order) ys ≡ room_of one.order
+          (bytes_of one leaves.last) =
           subst (λ o. room_of new.order (bytes_of new leaves.last) + sum_by (entry_cost o) ys ≡ room_of one.order (bytes_of one leaves.last))
           first.kept.order second.room in
           omega (arith, one_room, two_room, sum_by-append (entry_cost old.order) xs ys);
       stands = λ g counted later.
           values_follow g old.size (length old.pages) (length one.pages) (length new.pages) us vs
           (first.stands g counted
-          (later_before one new (between (length old.pages) (length one.pages)) (between (length old.pages) (length new.pages)) g second.kept.order more
+          (later_before one new (between (length old.pages) (length one.pages))
+          (between (length old.pages) (length new.pages)) g second.kept.order more
           (λ p at. let s = between_is _ _ p at in is_between (length old.pages) (length new.pages) p s.0 (omega (arith, s.1, more)))
           (λ p at. let s = between_is _ _ p at in (s.1, second.kept.same p s.1 (λ e. omega (arith, e, low, s.0)))) later))
           (subst (λ n. ValuesStand g n (length one.pages) (length new.pages) vs) size
@@ -120,7 +122,8 @@ runs_follow leaves old one new xs ys us vs low size first second =
       few = All-append (λ (one : Content × List ℕ). CountsFewFrom (length old.pages) new one.0) us vs
           (all_map (λ held. few_kept (length old.pages) (length old.pages) one new held.0 (omega arith) second.kept.order more
           (λ h above under. second.kept.same h under (λ e. omega (arith, e, low, above)))) us first.few)
-          (all_map (λ held. few_kept (length one.pages) (length old.pages) new new held.0 grows refl (omega arith) (λ h above under. refl)) vs second.few);
+          (all_map (λ held. few_kept (length one.pages) (length old.pages) new new held.0 grows refl (omega arith)
+          (λ h above under. refl)) vs second.few);
       count =
           let before = first.count in
           let after : length new.pages ≡ length one.pages + sum_by (λ (held : Content × List ℕ). chain_pages old.size held.1) vs =

@@ -1,5 +1,6 @@
 -- Levels that are laid over pages of a tree, one after the other.
-use Rattle.std.proofs.Common.{◌≡◌, ℕ, zero, suc, ◌+◌, ◌-◌, ◌<◌, ◌≤◌, ◌&&◌, Bool, true, List, [], ◌∷◌, ◌++◌, length, map, get_or, None, arith, refl, sym, ◌∙◌, ap, subst, inl, inr}
+use Rattle.std.proofs.Common.{◌≡◌, ℕ, zero, suc, ◌+◌, ◌-◌, ◌<◌, ◌≤◌, ◌&&◌, Bool, true, List, [], ◌∷◌, ◌++◌, length, map, get_or, None, arith, refl}
+use Rattle.std.proofs.Common.{sym, ◌∙◌, ap, subst, inl, inr}
 use Rattle.std.specs.List.{Contains, flat_map, range_with_len}
 use Rattle.std.proofs.lemmas.Bool.{and_parts, cases_lt, lt-leb, lt-ltb, ltb-true}
 use Rattle.std.proofs.lemmas.Grind.{flat_map-append}
@@ -21,7 +22,8 @@ use Rattle.bdb_leaves.specs.Spread.{first_or, pages_over, spread_items}
 use Rattle.bdb_leaves.specs.Tower.{EndsInRoot, HasTower}
 use Rattle.bdb_leaves.specs.declared.levels.Child.{Child}
 use Rattle.bdb_leaves.proofs.FilledLemmas.{later_self}
-use Rattle.bdb_leaves.proofs.LevelLawLemmas.{keys_of, levels_are_formed, levels_are_later, levels_go_on, levels_keep_pages, levels_shrink, levels_stand, member_at}
+use Rattle.bdb_leaves.proofs.LevelLawLemmas.{keys_of, levels_are_formed, levels_are_later, levels_go_on, levels_keep_pages, levels_shrink}
+use Rattle.bdb_leaves.proofs.LevelLawLemmas.{levels_stand, member_at}
 use Rattle.bdb_leaves.proofs.LaterLemmas.{later_chain}
 use Rattle.bdb_leaves.proofs.LevelLemmas.{as_many}
 use Rattle.bdb_leaves.proofs.LevelTakeLemmas.{heads_few}

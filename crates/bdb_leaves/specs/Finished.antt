@@ -23,8 +23,8 @@ use Rattle.bdb_leaves.specs.Tower.{levels_to}
 use Rattle.bdb_leaves.specs.declared.leaf_type.LeafType.{LeafType}
 use Rattle.bdb_leaves.specs.declared.leaves.Leaves.{Leaves}
 
--- The last page is placed on another, with the number of that, and dropped from the end; no other page changes. The nodes that it holds as an internal
--- page it holds there.
+-- The last page is placed on another, with the number of that, and dropped from the end; no other page changes. The nodes that it holds as an
+-- internal page it holds there.
 pub record IsRootPlaced (first root : ℕ) (old new : Built) : Type 0 where
   pub size : new.size ≡ old.size
   pub order : new.order ≡ old.order
@@ -61,7 +61,8 @@ pub record HasTowerOn (inner : InnerType) (old new : Built) (nodes : List Node) 
       ≡ length old.pages + pages_over (length nodes) (old.size - 26) (first_cost inner) (map (child_cost inner) nodes)
 
 -- The first of several leaves is moved behind the pages that stood, and levels are laid over the leaves, with the root in its place.
-pub record HasRootOn (leaves : Leaves) (old new : Built) (counted : Bool) (closed : List (List Placed)) (units : List Placed) (root : ℕ) : Type 0 where
+pub record HasRootOn (leaves : Leaves) (old new : Built) (counted : Bool) (closed : List (List Placed)) (units : List Placed)
+    (root : ℕ) : Type 0 where
   pub next : Leaves
   pub between : Built
   pub several : 1 ≤ length leaves.closed.items
@@ -126,7 +127,8 @@ FinishedTreesAreLaid =
     (leaves : Leaves) (old new : Built) (counted : Bool) (before : ℕ) (closed : List (List Placed)) (units : List Placed) (root : ℕ)
     → AreFilled leaves old before closed units → (on : HasRootOn leaves old new counted closed units root)
     → (g : File) → IsCounted g → IsLater (between before (length new.pages)) (file_so_far new) g
-    → IsLaid leaves.leaf_type g (rest_of before leaves old) (placed_on on.next closed units) on.nodes (levels_to on.tower.levels on.tower.top) on.tower.top
+    → IsLaid leaves.leaf_type g (rest_of before leaves old) (placed_on on.next closed units) on.nodes
+    (levels_to on.tower.levels on.tower.top) on.tower.top
     × ((p : ℕ)
     → is_laid (rest_of before leaves old) (placed_on on.next closed units) (levels_to on.tower.levels on.tower.top) p
     ≡ between before (length new.pages) p)

@@ -60,7 +60,8 @@ pub record IsOpened (leaves next : Leaves) (old new : Built) : Type 0 where
   pub count : length new.pages ≡ length old.pages + 1
   pub room : room_of new.order (bytes_of new next.last) ≡ old.size - 26
   pub kept : KeepsOthers leaves.last old new
-  pub hold : (closed : List (List Entry)) (entries : List Entry) → AreLeaves leaves old closed entries → AreLeaves next new (closed ++ (entries ∷ [])) []
+  pub hold : (closed : List (List Entry)) (entries : List Entry) → AreLeaves leaves old closed entries
+      → AreLeaves next new (closed ++ (entries ∷ [])) []
 
 -- the leaves, of which the last has room for so many bytes: as before, or with a new last one
 abbrev pub HasRoomNow : Bool → Leaves → Leaves → Built → Built → Type 0

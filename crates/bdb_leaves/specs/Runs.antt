@@ -26,7 +26,8 @@ ValuesStand g size first beyond (held ∷ more) =
 -- Entries are added to the last leaf, and these contents are stored behind all pages, while no other page changes.
 pub record IsRunPut (leaves : Leaves) (old new : Built) (added : List Entry) (held : List (Content × List ℕ)) : Type 0 where
   pub kept : KeepsOthers leaves.last old new
-  pub hold : (closed : List (List Entry)) (entries : List Entry) → AreLeaves leaves old closed entries → AreLeaves leaves new closed (entries ++ added)
+  pub hold : (closed : List (List Entry)) (entries : List Entry) → AreLeaves leaves old closed entries
+      → AreLeaves leaves new closed (entries ++ added)
   pub room : room_of new.order (bytes_of new leaves.last) + sum_by (entry_cost old.order) added ≡ room_of old.order (bytes_of old leaves.last)
   pub stands : (g : File) → IsCounted g → IsLater (between (length old.pages) (length new.pages)) (file_so_far new) g
       → ValuesStand g old.size (length old.pages) (length new.pages) held
