@@ -21,7 +21,7 @@ use Rattle.bdb_leaves.specs.Placed.{HasValue, IsDatum, IsOneValue, IsPlacedBySiz
 use Rattle.bdb_leaves.specs.Placed.{StandsPlaced, ValueItem, entries_of, further_entries, unit_of}
 use Rattle.bdb_leaves.specs.Spread.{own_pages}
 use Rattle.bdb_leaves.specs.Units.{chain_pages, has_own_tree}
-use Rattle.bdb_leaves.specs.Puts.{CountsFewFrom, IsPut, ValueStands}
+use Rattle.bdb_leaves.specs.Puts.{CountsOneFrom, IsPut, ValueStands}
 use Rattle.bdb_leaves.specs.Runs.{ArePairsPut, IsLiveItem, IsRunPut, ValuesStand, held_by_item}
 use Rattle.bdb_leaves.specs.declared.leaf_type.LeafType.{LeafType}
 use Rattle.bdb_leaves.specs.declared.leaf_type.LeafType.TheVariants.{Pairs, Records, SortedData}
@@ -110,8 +110,8 @@ run_is_unit leaves old new unit held some run contents placed sizes own =
             placed = placed g there;
           };
       sizes = sizes f here;
-      few = subst (All (CountsFewFrom (length old.pages) new)) (sym contents)
-          (all_over (CountsFewFrom (length old.pages) new) (λ (one : Content × List ℕ). one.0) held run.few);
+      heads = subst (All (CountsOneFrom (length old.pages) new)) (sym contents)
+          (all_over (CountsOneFrom (length old.pages) new) (λ (one : Content × List ℕ). one.0) held run.heads);
       formed = run.formed;
       count = λ sorted few. run.count ∙ ap (λ n. length old.pages + n) (own sorted);
     }

@@ -24,7 +24,7 @@ use Rattle.bdb_leaves.specs.Levels.{AreChildren, BeginsWithKey, HasKey, IsChild,
 use Rattle.bdb_leaves.specs.Moved.{LinkedFrom}
 use Rattle.bdb_leaves.specs.declared.leaves.Leaves.{Leaves}
 use Rattle.bdb_leaves.specs.Placed.{IsOneValue, IsPlacedBySize, Placed, PlacedEntry, PlacedPairs, PlacedTree, StandsBySize, entries_of}
-use Rattle.bdb_leaves.specs.Puts.{CountsFewFrom}
+use Rattle.bdb_leaves.specs.Puts.{CountsOneFrom}
 use Rattle.bdb_leaves.specs.Rooted.{CountsLeaves, IsOneLeaf, zip_units}
 use Rattle.bdb_leaves.specs.declared.leaf_type.LeafType.{LeafType}
 use Rattle.bdb_leaves.specs.declared.leaf_type.LeafType.TheVariants.{Pairs, Records, SortedData}
@@ -35,7 +35,7 @@ use Rattle.bdb_leaves.specs.declared.leaf_type.LeafType.TheVariants.{Pairs, Reco
 pub record IsFirst (size before : ℕ) (built : Built) (entry : Entry) : Type 0 where
   pub value : List ℕ
   pub by_size : StandsBySize size entry.item.content value
-  pub few : CountsFewFrom before built entry.item.content
+  pub heads : CountsOneFrom before built entry.item.content
 
 -- entries that begin so
 pub record Begins (size before : ℕ) (built : Built) (entries : List Entry) : Type 0 where
@@ -45,16 +45,16 @@ pub record Begins (size before : ℕ) (built : Built) (entries : List Entry) : T
   pub first : IsFirst size before built entry
 
 unit_begins : (type : LeafType) (size before : ℕ) (built : Built) (unit : Placed) → IsPlacedBySize size unit
-    → All (CountsFewFrom before built) (unit_contents type unit) → Begins size before built (entries_of unit)
+    → All (CountsOneFrom before built) (unit_contents type unit) → Begins size before built (entries_of unit)
 unit_begins type size before built (PlacedEntry entry) sizes few = record {
   entry = _;
   others = [];
   is = refl;
-  first = record { value = entry.value; by_size = sizes; few = first_few type few };
+  first = record { value = entry.value; by_size = sizes; heads = first_few type few };
 }
   where
-    first_few : (type : LeafType) → All (CountsFewFrom before built) (unit_contents type (PlacedEntry entry))
-        → CountsFewFrom before built entry.item.content
+    first_few : (type : LeafType) → All (CountsOneFrom before built) (unit_contents type (PlacedEntry entry))
+        → CountsOneFrom before built entry.item.content
     first_few Pairs few = few 0 entry.item.content (omega arith)
     first_few Records few = few 0 entry.item.content (omega arith)
     first_few SortedData few = few 0 entry.item.content (omega arith)
@@ -62,11 +62,11 @@ unit_begins type size before built (PlacedPairs key first more) sizes few = reco
   entry = _;
   others = _;
   is = refl;
-  first = record { value = key.value; by_size = sizes.0; few = first_few type few };
+  first = record { value = key.value; by_size = sizes.0; heads = first_few type few };
 }
   where
-    first_few : (type : LeafType) → All (CountsFewFrom before built) (unit_contents type (PlacedPairs key first more))
-        → CountsFewFrom before built key.item.content
+    first_few : (type : LeafType) → All (CountsOneFrom before built) (unit_contents type (PlacedPairs key first more))
+        → CountsOneFrom before built key.item.content
     first_few Pairs few = few 0 key.item.content (omega arith)
     first_few Records few = few 0 key.item.content (omega arith)
     first_few SortedData few = few 0 key.item.content (omega arith)
@@ -74,21 +74,21 @@ unit_begins type size before built (PlacedTree key root values) sizes few = reco
   entry = _;
   others = _;
   is = refl;
-  first = record { value = key.value; by_size = sizes.0; few = first_few type few };
+  first = record { value = key.value; by_size = sizes.0; heads = first_few type few };
 }
   where
-    first_few : (type : LeafType) → All (CountsFewFrom before built) (unit_contents type (PlacedTree key root values))
-        → CountsFewFrom before built key.item.content
+    first_few : (type : LeafType) → All (CountsOneFrom before built) (unit_contents type (PlacedTree key root values))
+        → CountsOneFrom before built key.item.content
     first_few Pairs few = few 0 key.item.content (omega arith)
     first_few Records few = few 0 key.item.content (omega arith)
     first_few SortedData few = few 0 key.item.content (omega arith)
 
 units_begin : (type : LeafType) (size before : ℕ) (built : Built) (units : List Placed) → 0 < length units → All (IsPlacedBySize size) units
-    → All (CountsFewFrom before built) (flat_map (unit_contents type) units) → Begins size before built (flat_map entries_of units)
+    → All (CountsOneFrom before built) (flat_map (unit_contents type) units) → Begins size before built (flat_map entries_of units)
 units_begin type size before built [] some sizes few = absurd (omega (arith, some))
 units_begin type size before built (unit ∷ units) some sizes few =
     let one = unit_begins type size before built unit (sizes 0 unit (omega arith))
-    (all_left (CountsFewFrom before built) (unit_contents type unit) (flat_map (unit_contents type) units) few) in
+    (all_left (CountsOneFrom before built) (unit_contents type unit) (flat_map (unit_contents type) units) few) in
     record {
       entry = one.entry;
       others = one.others ++ flat_map entries_of units;
@@ -122,9 +122,10 @@ leaf_is_node type counted size before built p units begins =
         (refl, one_value size begins.entry.item.content begins.first.value begins.first.by_size)
 
 -- its key stands in it, or in a chain that counts few references
-key_stands : (before : ℕ) (built : Built) (content : Content) → IsOneValue content → CountsFewFrom before built content → KeyStandsOn built content
+key_stands : (before : ℕ) (built : Built) (content : Content) → IsOneValue content → CountsOneFrom before built content → KeyStandsOn built content
 key_stands before built (Inline bytes) one few = tt
-key_stands before built (Chain head total) one few = (few.1, few.2)
+key_stands before built (Chain head total) one (low, under, counts) =
+    let few = counts.one in (under, record { long = counts.long; type_is = counts.type_is; few = omega (arith, few) })
 key_stands before built (Set blocks) one few = absurd one
 key_stands before built (Tree root) one few = absurd one
 key_stands before built Unknown one few = absurd one
@@ -147,7 +148,7 @@ leaf_is_child type counted size before built p previous next units low holds beg
       holds = subst (HoldsEntriesOn type built p previous next) begins.is holds;
       key_is = refl;
       stands = key_stands before built begins.entry.item.content (one_value size begins.entry.item.content begins.first.value begins.first.by_size)
-          begins.first.few;
+          begins.first.heads;
     }
 
     key_of_type : (inner : InnerType) → HasKey inner built p (first_content (flat_map entries_of units))
@@ -180,7 +181,7 @@ cost_small type counted size before built p units legal begins =
 -- a leaf's units, each placed by its size
 pub record Fills (type : LeafType) (size before : ℕ) (built : Built) (units : List Placed) : Type 0 where
   pub sizes : All (IsPlacedBySize size) units
-  pub few : All (CountsFewFrom before built) (flat_map (unit_contents type) units)
+  pub heads : All (CountsOneFrom before built) (flat_map (unit_contents type) units)
 
 pub record AreNodes (type : LeafType) (counted : Bool) (size : ℕ) (built : Built) (ps : List ℕ) (groups : List (List Placed)) : Type 0 where
   pub nodes : AllZip (IsNodeOf type) (zip_units ps groups) (leaf_nodes type counted ps (map (flat_map entries_of) groups))
@@ -201,7 +202,7 @@ are_nodes type counted size before built previous [] (units ∷ groups) beyond l
 are_nodes type counted size before built previous (p ∷ ps) [] beyond legal linked low some fills = absurd linked
 are_nodes type counted size before built previous (p ∷ ps) (units ∷ groups) beyond legal (holds, linked) low some fills =
     let one = fills 0 units (omega arith) in
-    let begins = units_begin type size before built units (some 0 units (omega arith)) one.sizes one.few in
+    let begins = units_begin type size before built units (some 0 units (omega arith)) one.sizes one.heads in
     let rest = are_nodes type counted size before built p ps groups beyond legal linked (λ q at. low q (later_member p ps q at))
     (λ k d under. some (suc k) d (omega (arith, under))) (λ k d under. fills (suc k) d (omega (arith, under))) in
     record {
@@ -289,16 +290,16 @@ leaf_rooted leaves built counted before closed units none whole filled =
     units_of_last : AreFilled leaves built before closed units → Fills leaves.leaf_type built.size before built units
     units_of_last filled = record {
       sizes = all_right (IsPlacedBySize built.size) (flat_map (λ leaf. leaf) closed) units filled.sizes;
-      few = all_right (CountsFewFrom before built) (flat_map (unit_contents leaves.leaf_type) (flat_map (λ leaf. leaf) closed))
+      heads = all_right (CountsOneFrom before built) (flat_map (unit_contents leaves.leaf_type) (flat_map (λ leaf. leaf) closed))
           (flat_map (unit_contents leaves.leaf_type) units)
-          (subst (All (CountsFewFrom before built))
-          (flat_map-append (unit_contents leaves.leaf_type) (flat_map (λ leaf. leaf) closed) units) filled.few);
+          (subst (All (CountsOneFrom before built))
+          (flat_map-append (unit_contents leaves.leaf_type) (flat_map (λ leaf. leaf) closed) units) filled.heads);
     }
 
     begins_or_none : (us : List Placed) → Fills leaves.leaf_type built.size before built us
         → (us ≡ []) ⊎ Begins built.size before built (flat_map entries_of us)
     begins_or_none [] fills = inl refl
-    begins_or_none (unit ∷ us) fills = inr (units_begin leaves.leaf_type built.size before built (unit ∷ us) (omega arith) fills.sizes fills.few)
+    begins_or_none (unit ∷ us) fills = inr (units_begin leaves.leaf_type built.size before built (unit ∷ us) (omega arith) fills.sizes fills.heads)
 
 -- Which of the two.
 

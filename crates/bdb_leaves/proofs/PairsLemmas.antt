@@ -22,7 +22,7 @@ use Rattle.bdb_leaves.specs.Runs.{ArePairsPut, ValuesStand, HasWholePairs, IsLiv
 use Rattle.bdb_leaves.specs.Runs.{pairs_cost}
 use Rattle.bdb_leaves.specs.declared.leaves.Leaves.{Leaves}
 use Rattle.bdb_leaves.proofs.HeldLemmas.{after_two}
-use Rattle.bdb_leaves.proofs.RunLemmas.{all_map, few_kept, later_before, leaf_room, put_is_run, runs_follow, some_after}
+use Rattle.bdb_leaves.proofs.RunLemmas.{all_map, one_kept, later_before, leaf_room, put_is_run, runs_follow, some_after}
 
 -- The key of the last pair.
 
@@ -109,8 +109,8 @@ key_again leaves old one new key first others held low run grown count some =
           ap (λ o. page_code o p (bytes_of new p)) grown.kept.order
           ∙ (ap (page_code one.order p) (grown.kept.same p (omega (arith, under, count)) (λ e. omega (arith, e, low, above)))
           ∙ run.formed p above (omega (arith, under, count)));
-      few = all_map (λ held. few_kept (length old.pages) (length old.pages) one new held.0 (omega arith) grown.kept.order (omega (arith, count))
-          (λ h above under. grown.kept.same h under (λ e. omega (arith, e, low, above)))) held run.few;
+      heads = all_map (λ held. one_kept (length old.pages) (length old.pages) one new held.0 (omega arith) grown.kept.order (omega (arith, count))
+          (λ h above under. grown.kept.same h under (λ e. omega (arith, e, low, above)))) held run.heads;
       count = count ∙ run.count;
     }
 

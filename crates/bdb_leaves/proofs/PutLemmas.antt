@@ -19,7 +19,7 @@ use Rattle.bdb_pack.specs.Values.{AreChainPages, HasChain, chain_page}
 use Rattle.bdb_pack.proofs.PieceLemmas.{chain_pages_are_formed}
 use Rattle.bdb_pack.proofs.CountLemmas.{chains_are_counted}
 use Rattle.bdb_pack.proofs.StoredLemmas.{stored_values_stand}
-use Rattle.bdb_leaves.specs.Inner.{CountsFew}
+use Rattle.bdb_leaves.specs.Inner.{CountsOne}
 use Rattle.bdb_leaves.specs.LeafEntries.{CanTakeEntry, Entry, HoldsEntries, item_cost, room_of, type_number}
 use Rattle.bdb_leaves.specs.Leaves.{AreLeaves, AreSomeLeaves, KeepsAll, last_of}
 use Rattle.bdb_leaves.specs.Puts.{IsItemOf}
@@ -56,7 +56,7 @@ inline_item old new value deleted fits short same =
       same = λ p low. refl;
       stands = λ g counted later. (refl, short, refl);
       formed = λ p low high. absurd (omega (arith, low, high));
-      few = tt;
+      heads = tt;
       count = rw (le-leb (length value) (old.size / 8) short) (omega arith);
     })
 
@@ -131,13 +131,13 @@ chain_item old new value deleted head total fits legal some room long is has =
           ∙ subst (λ q. page_code old.order q (get_or has.added k []) ≡ None) (let e : head + k ≡ p = omega (arith, has.first, at) in e)
           (pieces_formed old.order old.size head 0 value has.added legal (omega (arith, has.first, few, count)) (omega arith) has.chain k
           (omega (arith, high, count, at))));
-      few = first_counts has.added few has.chain count has.pages;
+      heads = first_counts has.added few has.chain count has.pages;
       count = count ∙ ap (λ n. first + n) (sym (long_pages old.size value (length has.added) long counted.0 last));
     }
   where
     first_counts : (added : List (List ℕ)) → length new.pages < 2 ^ 32 → AreChainPages old.order old.size head 0 value added
         → length new.pages ≡ length old.pages + length added
-        → new.pages ≡ old.pages ++ added → (length old.pages ≤ head) × (head < length new.pages) × CountsFew new.order (bytes_of new head)
+        → new.pages ≡ old.pages ++ added → (length old.pages ≤ head) × (head < length new.pages) × CountsOne new.order (bytes_of new head)
     first_counts [] low chain count pages = let none : length value ≡ 0 = ap length chain in absurd (omega (arith, long, none))
     first_counts (page ∷ more) low chain count pages =
         let bounds = size_bounds old.size legal in
@@ -148,9 +148,9 @@ chain_item old new value deleted head total fits legal some room long is has =
         ∙ (get_or-append-add old.pages (page ∷ more) 0 [] ∙ chain.1)) in (
           omega (arith, has.first),
           omega (arith, has.first, count),
-          subst (λ o. CountsFew o (bytes_of new head)) (sym has.order)
-              (subst (CountsFew old.order) (sym here)
-              (record { long = omega (arith, law.4, bounds.0); type_is = law.2; few = omega (arith, law.3) })),
+          subst (λ o. CountsOne o (bytes_of new head)) (sym has.order)
+              (subst (CountsOne old.order) (sym here)
+              (record { long = omega (arith, law.4, bounds.0); type_is = law.2; one = law.3 })),
         )
 
     some_pages : (added : List (List ℕ)) → AreChainPages old.order old.size head 0 value added → 0 < length added

@@ -24,15 +24,15 @@ use Rattle.bdb_pack.specs.Built.{Built, bytes_of}
 use Rattle.bdb_leaves.specs.Filled.{AllStand, AreFilled, AscendIn, IsUnitPut, StandOn, all_contents, rest_of, unit_contents}
 use Rattle.bdb_leaves.specs.LeafEntries.{Entry, HoldsEntriesOn, type_number}
 use Rattle.bdb_grove.proofs.BranchLemmas.{of_list}
-use Rattle.bdb_leaves.specs.Inner.{CountsFew}
-use Rattle.bdb_leaves.specs.Puts.{CountsFewFrom}
+use Rattle.bdb_leaves.specs.Inner.{CountsOne}
+use Rattle.bdb_leaves.specs.Puts.{CountsOneFrom}
 use Rattle.bdb_leaves.specs.declared.leaf_type.LeafType.TheVariants.{Pairs, Records, SortedData}
 use Rattle.bdb_leaves.specs.Leaves.{AreLeaves, IsOpened, KeepsOthers, LeavesFrom, last_of}
 use Rattle.bdb_leaves.specs.Placed.{IsPlacedBySize, Placed, StandsPlaced, entries_of}
 use Rattle.bdb_leaves.specs.declared.leaf_type.LeafType.{LeafType}
 use Rattle.bdb_leaves.specs.declared.leaves.Leaves.{Leaves}
 use Rattle.bdb_leaves.proofs.LeavesLemmas.{at_most_last}
-use Rattle.bdb_leaves.proofs.RunLemmas.{all_map, few_kept, later_before}
+use Rattle.bdb_leaves.proofs.RunLemmas.{all_map, one_kept, later_before}
 use Rattle.bdb_leaves.proofs.StandLemmas.{ascend_bounds, ascend_follow, ascend_on}
 
 -- Leaves among pages.
@@ -130,17 +130,17 @@ no_leaf SortedData is = omega (arith, is)
 
 -- first pages of chains stay, since the one page that changes is a leaf
 heads_kept : (leaves : Leaves) (old new : Built) (before : ℕ) (closed : List (List Entry)) (entries : List Entry) (contents : List Content)
-    → AreLeaves leaves old closed entries → KeepsOthers leaves.last old new → All (CountsFewFrom before old) contents
-    → All (CountsFewFrom before new) contents
+    → AreLeaves leaves old closed entries → KeepsOthers leaves.last old new → All (CountsOneFrom before old) contents
+    → All (CountsOneFrom before new) contents
 heads_kept leaves old new before closed entries contents hold kept few k d low = stays (get_or contents k d) (few k d low)
   where
-    stays : (content : Content) → CountsFewFrom before old content → CountsFewFrom before new content
+    stays : (content : Content) → CountsOneFrom before old content → CountsOneFrom before new content
     stays (Inline bytes) few = tt
     stays (Chain head total) (above, under, counts) = (
       above,
       (let grows = kept.grows in omega (arith, under, grows)),
-      subst (λ o. CountsFew o (bytes_of new head)) (sym kept.order)
-          (subst (CountsFew old.order)
+      subst (λ o. CountsOne o (bytes_of new head)) (sym kept.order)
+          (subst (CountsOne old.order)
           (sym (kept.same head under
           (λ e. no_leaf leaves.leaf_type (sym hold.last_holds.type_is ∙ (ap (λ p. byte_at (bytes_of old p) 25) (sym e) ∙ counts.type_is)))))
           counts),
@@ -192,13 +192,13 @@ unit_added leaves old new before closed units unit filled put =
           };
       sizes = subst (λ n. All (IsPlacedBySize n) (flat_map (λ leaf. leaf) closed ++ (units ++ (unit ∷ [])))) (sym put.kept.size)
           (units_more (IsPlacedBySize old.size) closed units unit filled.sizes put.sizes);
-      few = subst (All (CountsFewFrom before new)) (sym (contents_more type closed units unit))
-          (All-append (CountsFewFrom before new) (all_contents type closed units) (unit_contents type unit)
+      heads = subst (All (CountsOneFrom before new)) (sym (contents_more type closed units unit))
+          (All-append (CountsOneFrom before new) (all_contents type closed units) (unit_contents type unit)
           (heads_kept leaves old new before (map (flat_map entries_of) closed) (flat_map entries_of units)
           (all_contents type closed units) filled.hold put.kept
-          filled.few)
-          (all_map (λ content. few_kept a before new new content first refl (omega arith) (λ h above under. refl))
-          (unit_contents type unit) put.few));
+          filled.heads)
+          (all_map (λ content. one_kept a before new new content first refl (omega arith) (λ h above under. refl))
+          (unit_contents type unit) put.heads));
       formed = λ p is.
           elim (in_either (rest_of before leaves old p) (between a b p) (sym (union p) ∙ is)) [
             | inl one ↦
@@ -292,11 +292,11 @@ leaf_opened leaves next old new before closed units filled some opened =
           });
       sizes = subst (λ n. All (IsPlacedBySize n) (flat_map (λ leaf. leaf) (closed ++ (units ∷ [])) ++ [])) (sym opened.kept.size)
           (subst (All (IsPlacedBySize old.size)) (sym (closed_more closed units)) filled.sizes);
-      few = subst (λ t. All (CountsFewFrom before new) (all_contents t (closed ++ (units ∷ [])) [])) (sym opened.type)
-          (subst (λ us. All (CountsFewFrom before new) (flat_map (unit_contents type) us)) (sym (closed_more closed units))
+      heads = subst (λ t. All (CountsOneFrom before new) (all_contents t (closed ++ (units ∷ [])) [])) (sym opened.type)
+          (subst (λ us. All (CountsOneFrom before new) (flat_map (unit_contents type) us)) (sym (closed_more closed units))
           (heads_kept leaves old new before (map (flat_map entries_of) closed) (flat_map entries_of units)
           (all_contents type closed units) filled.hold
-          opened.kept filled.few));
+          opened.kept filled.heads));
       formed = λ p is.
           let one : rest_of before leaves old p ≡ true = sym (rest p) ∙ is in
           ap (λ o. page_code o p (bytes_of new p)) opened.kept.order ∙ (ap (page_code old.order p) (kept p one).1 ∙ filled.formed p one);
@@ -336,12 +336,12 @@ leaf_begun leaves built before positive none last count holds =
             placed = All-nil (StandsPlaced leaves.leaf_type g);
           };
       sizes = All-nil (IsPlacedBySize built.size);
-      few = none_few leaves.leaf_type;
+      heads = none_few leaves.leaf_type;
       formed = λ p is. let within = between_is before before p (sym (empty p) ∙ is) in absurd (omega (arith, within.0, within.1));
     }
   where
-    none_few : (type : LeafType) → All (CountsFewFrom before built) (all_contents type [] [])
-    none_few type = All-nil (CountsFewFrom before built)
+    none_few : (type : LeafType) → All (CountsOneFrom before built) (all_contents type [] [])
+    none_few type = All-nil (CountsOneFrom before built)
 
     none_ascend : (type : LeafType) → AscendIn before (length built.pages) (flat_map content_pages (all_contents type [] []))
     none_ascend type = omega (arith, count)
