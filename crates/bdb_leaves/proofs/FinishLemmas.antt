@@ -126,6 +126,7 @@ tower_on inner old mid new nodes first root children are several stood blank tow
           (λ q high low. is_on pages first root q (all q high (omega (arith, low, count))) (λ e. omega (arith, e, high, stood)) low)
           (λ h at. let (low, other) = stands h at in is_on pages first root h (heads h at) other (omega (arith, low, low_root)))
           before holds (omega (arith, stood, low_root, count)) (later.same first at_first);
+      spread = ends.spread first;
       later = λ pages among.
           let here = tower.later pages (λ p at. (among p at).0) in
           record {

@@ -1,7 +1,7 @@
 -- Levels that are laid over pages of a tree, one after the other.
 use Rattle.std.proofs.Common.{◌≡◌, ℕ, zero, suc, ◌+◌, ◌-◌, ◌<◌, ◌≤◌, ◌&&◌, Bool, true, List, [], ◌∷◌, ◌++◌, length, map, get_or, None, arith, refl}
 use Rattle.std.proofs.Common.{sym, ◌∙◌, ap, subst, inl, inr}
-use Rattle.std.specs.List.{Contains, flat_map, range_with_len}
+use Rattle.std.specs.List.{AllZip, Contains, flat_map, range_with_len}
 use Rattle.std.proofs.lemmas.Bool.{and_parts, cases_lt, lt-leb, lt-ltb, ltb-true}
 use Rattle.std.proofs.lemmas.Grind.{flat_map-append}
 use Rattle.std.proofs.lemmas.List.{append-nil, append_assoc, get_or_default, length-map}
@@ -18,7 +18,7 @@ use Rattle.bdb_levels.specs.Roots.{key_heads, pages_of}
 use Rattle.bdb_pack.specs.Built.{AreWhole, Built, bytes_of, file_so_far}
 use Rattle.bdb_leaves.specs.Inner.{child_cost, first_cost, key_cost}
 use Rattle.bdb_leaves.specs.Levels.{AreChildren, IsLaid, heads_in, heads_of, heads_under, no_child, node_over, nodes_over}
-use Rattle.bdb_leaves.specs.Spread.{first_or, pages_over, spread_items}
+use Rattle.bdb_leaves.specs.Spread.{AreSpreadLevels, IsNodeOver, first_or, pages_over, spread_items, spread_nodes}
 use Rattle.bdb_leaves.specs.Tower.{EndsInRoot, HasTower}
 use Rattle.bdb_leaves.specs.declared.levels.Child.{Child}
 use Rattle.bdb_leaves.proofs.FilledLemmas.{later_self}
@@ -28,7 +28,7 @@ use Rattle.bdb_leaves.proofs.LaterLemmas.{later_chain}
 use Rattle.bdb_leaves.proofs.LevelLemmas.{as_many}
 use Rattle.bdb_leaves.proofs.LevelTakeLemmas.{heads_few}
 use Rattle.bdb_leaves.proofs.RunLemmas.{later_before}
-use Rattle.bdb_leaves.proofs.SpreadLemmas.{level_is_spread}
+use Rattle.bdb_leaves.proofs.SpreadLemmas.{items_are_spread, nodes_are_spread}
 
 -- Keys.
 
@@ -133,22 +133,26 @@ costs_over inner p ((node ∷ nodes) ∷ groups) some =
     ap (λ cs. child_cost inner node ∷ cs) (costs_over inner (p + 1) groups (λ k under. some (suc k) (omega (arith, under))))
     ∙ ap (λ c. c ∷ map (child_cost inner) (nodes_over (p + 1) groups)) (cost_like inner node (node_over p (node ∷ nodes)) refl)
 
--- a level is spread as its items are
-level_spread : (inner : InnerType) (level : ℕ) (old new : Built) (above : List Child) (nodes : List Node)
-    → (laid : IsLaid inner level old new above nodes)
-    → spread_items (old.size - 26) (first_cost inner) (map (child_cost inner) nodes) ≡ map (map (child_cost inner)) laid.groups
+-- the nodes of a level are spread over its pages
+pub level_spread : (inner : InnerType) (level : ℕ) (old new : Built) (above : List Child) (nodes : List Node)
+    → (laid : IsLaid inner level old new above nodes) → spread_nodes inner (old.size - 26) nodes ≡ laid.groups
 level_spread inner level old new above nodes laid =
     let by = laid.laid in
     let count = by.count in
     let size = by.size in
-    ap (λ (l : List Node). spread_items (old.size - 26) (first_cost inner) (map (child_cost inner) l)) (sym laid.joined_is)
-    ∙ level_is_spread inner (old.size - 26) laid.groups (λ k under. (by.pages k under).some)
+    ap (spread_nodes inner (old.size - 26)) (sym laid.joined_is)
+    ∙ nodes_are_spread inner (old.size - 26) laid.groups (λ k under. (by.pages k under).some)
     (λ k under.
     let page = by.pages k under in
     let room = page.holds.room in
     let long : length (bytes_of new (length old.pages + k)) ≡ new.size = by.whole (length old.pages + k) (omega (arith, under, count)) in
     omega (arith, room, long, size))
     by.filled
+
+-- each of these stands over its group
+pub stand_over : (p : ℕ) (groups : List (List Node)) → AllZip IsNodeOver (nodes_over p groups) groups
+stand_over p [] = tt
+stand_over p (group ∷ groups) = (refl, stand_over (p + 1) groups)
 
 -- over two pages or more stand those of the next level, and those over it
 pages_counted : (inner : InnerType) (level most : ℕ) (old new : Built) (above : List Child) (nodes : List Node)
@@ -163,7 +167,7 @@ pages_counted inner level most old new above nodes laid many =
     let two : 1 < length costs = omega (arith, many, length-map nodes (child_cost inner)) in
     two_or_more most room (first_cost inner) costs two
     ∙ (ap (λ (gs : List (List ℕ)). length gs + pages_over most room (first_cost inner) (map (first_or 0) gs))
-    (level_spread inner level old new above nodes laid)
+    (items_are_spread inner room nodes ∙ ap (map (map (child_cost inner))) (level_spread inner level old new above nodes laid))
     ∙ (ap (λ n. n + pages_over most room (first_cost inner) (map (first_or 0) (map (map (child_cost inner)) groups)))
     (length-map groups (map (child_cost inner)))
     ∙ ap (λ cs. length groups + pages_over most room (first_cost inner) cs)
@@ -197,6 +201,8 @@ pub record IsBuilding (inner : InnerType) (old now : Built) (nodes : List Node) 
       → ((p : ℕ) → length old.pages ≤ p → p < length now.pages → pages p ≡ true)
       → ((h : ℕ) → Contains (flat_map (heads_of inner) nodes) h → pages h ≡ true) → IsLater pages (file_so_far now) g
       → IsTower inner g level top above root → IsTower inner g 1 nodes (levels ++ above) root
+  pub spread : (above : List (List Node)) → AreSpreadLevels inner (old.size - 26) top above
+      → AreSpreadLevels inner (old.size - 26) nodes (levels ++ above)
   pub later : (pages : ℕ → Bool) → ((p : ℕ) → pages p ≡ true → p < length old.pages) → IsLater pages (file_so_far old) (file_so_far now)
   pub formed : (p : ℕ) → length old.pages ≤ p → p < length now.pages → page_code now.order p (bytes_of now p) ≡ None
   pub form_kept : (p : ℕ) → p < length old.pages → page_code now.order p (bytes_of now p) ≡ page_code old.order p (bytes_of old p)
@@ -222,6 +228,7 @@ none_built inner old nodes children whole are =
       grows = omega arith;
       numbers = ap (range_with_len (length old.pages)) (sym none);
       tower = λ g pages above root all heads later tower. tower;
+      spread = λ above spread. spread;
       later = λ pages among. later_self old pages;
       formed = λ p low under. absurd (omega (arith, low, under));
       form_kept = λ p low. refl;
@@ -250,6 +257,9 @@ level_built inner old now new nodes level below children above are high built la
     let row : List Node = nodes_over n laid.groups in
     let low_now = built.grows in
     let count = laid.laid.count in
+    let groups_are : spread_nodes inner (old.size - 26) built.top ≡ laid.groups =
+    subst (λ size. spread_nodes inner (size - 26) built.top ≡ laid.groups) built.size
+    (level_spread inner (level + 1) now new above built.top laid) in
     let kept = λ (p : ℕ) (low : p < n). (levels_keep_pages inner (level + 1) now new above built.top p laid low).form in
     let named : (h : ℕ) → Contains (heads_in inner laid.groups) h → Contains (flat_map (heads_of inner) nodes) h =
     λ h at. heads_among inner built.top nodes h built.keys (heads_in_are inner laid.groups built.top h laid.joined_is at) in
@@ -279,6 +289,13 @@ level_built inner old now new nodes level below children above are high built la
             levels_stand inner (level + 1) now new children above built.top pages g laid built.are
                 (λ p low here. all p (omega (arith, low, low_now)) here) (λ h at. heads h (named h at)) later,
             tower,
+          ));
+      spread = λ others spread.
+          subst (AreSpreadLevels inner (old.size - 26) nodes) (sym (append_assoc built.levels (row ∷ []) others))
+          (built.spread (row ∷ others) (
+            omega (arith, many, as_many inner now children built.top built.are),
+            subst (AllZip IsNodeOver row) (sym groups_are) (stand_over n laid.groups),
+            spread,
           ));
       later = λ pages among. later_chain (file_so_far old) (file_so_far now) (file_so_far new) pages (built.later pages among)
           (levels_are_later inner (level + 1) now new above built.top pages laid (λ p at. let low = among p at in omega (arith, low, low_now)));
@@ -367,6 +384,7 @@ tower_built inner old now nodes level children built one ends =
       numbers = built.numbers;
       tower = λ g pages all heads later. subst (λ (l : List (List Node)). IsTower inner g 1 nodes l root) (append-nil built.levels)
           (built.tower g pages [] root all heads later is);
+      spread = subst (AreSpreadLevels inner (old.size - 26) nodes) (append-nil built.levels) (built.spread [] (ap length is));
       later = built.later;
       formed = built.formed;
       form_kept = built.form_kept;

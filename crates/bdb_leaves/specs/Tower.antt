@@ -10,7 +10,7 @@ use Rattle.bdb_levels.specs.Roots.{pages_of}
 use Rattle.bdb_pack.specs.Built.{AreWhole, Built, bytes_of, file_so_far, without_last}
 use Rattle.bdb_leaves.specs.Inner.{HoldsChildrenOn, child_cost, first_cost}
 use Rattle.bdb_leaves.specs.Levels.{heads_of, node_over}
-use Rattle.bdb_leaves.specs.Spread.{pages_over}
+use Rattle.bdb_leaves.specs.Spread.{AreSpreadLevels, pages_over}
 
 -- the levels with the root
 abbrev pub levels_to : List (List Node) → Node → List (List Node)
@@ -32,6 +32,7 @@ pub record EndsInRoot (inner : InnerType) (old new : Built) (nodes : List Node) 
       → ((h : ℕ) → Contains (flat_map (heads_of inner) nodes) h → pages h ≡ true) → IsLater pages (file_so_far (without_last new)) g
       → HoldsChildrenOn inner on p level below → p < length on.pages → IsSamePage (page_at (file_so_far on) p) (page_at g p)
       → IsTower inner g 1 nodes (levels_to levels (node_over p below)) (node_over p below)
+  pub spread : (p : ℕ) → AreSpreadLevels inner (old.size - 26) nodes (levels_to levels (node_over p below))
 
 -- Behind the pages that stood are those of levels over these nodes, the last of them the root; where there is one node it's the root itself.
 -- The pages that stood are as before, but that heads of chains of keys may count more.
@@ -47,6 +48,7 @@ pub record HasTower (inner : InnerType) (old new : Built) (nodes : List Node) (r
   pub tower : (g : File) (pages : ℕ → Bool) → ((p : ℕ) → length old.pages ≤ p → p < length new.pages → pages p ≡ true)
       → ((h : ℕ) → Contains (flat_map (heads_of inner) nodes) h → pages h ≡ true) → IsLater pages (file_so_far new) g
       → IsTower inner g 1 nodes above top
+  pub spread : AreSpreadLevels inner (old.size - 26) nodes above
   pub later : (pages : ℕ → Bool) → ((p : ℕ) → pages p ≡ true → p < length old.pages) → IsLater pages (file_so_far old) (file_so_far new)
   pub formed : (p : ℕ) → length old.pages ≤ p → p < length new.pages → page_code new.order p (bytes_of new p) ≡ None
   pub form_kept : (p : ℕ) → p < length old.pages → page_code new.order p (bytes_of new p) ≡ page_code old.order p (bytes_of old p)
