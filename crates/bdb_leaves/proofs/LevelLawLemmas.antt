@@ -233,7 +233,7 @@ levels_are_formed inner level old new above nodes p laid high low under =
     (children_are_formed inner new.order (bytes_of new (length old.pages + k)) (length old.pages + k) level (get_or laid.groups k []) page.holds high
     page.some)
 
-member_or_not : (hs : List ℕ) (h : ℕ) → Contains hs h ⊎ (Contains hs h → ⊥)
+pub member_or_not : (hs : List ℕ) (h : ℕ) → Contains hs h ⊎ (Contains hs h → ⊥)
 member_or_not [] h = inr (λ at. no_member [] h refl at)
 member_or_not (x ∷ xs) h =
     elim (cases_eq x h) [

@@ -13,13 +13,13 @@ use Rattle.bdb_pack.specs.Built.{Built, file_so_far, without_last}
 use Rattle.bdb_leaves.specs.Inner.{HoldsChildrenOn}
 use Rattle.bdb_leaves.specs.Levels.{AreChildren, IsLaid, heads_in, heads_of, heads_under, no_child, node_over}
 use Rattle.bdb_leaves.specs.Spread.{IsNodeOver, spread_nodes}
-use Rattle.bdb_leaves.specs.Tower.{EndsInRoot}
+use Rattle.bdb_leaves.specs.Tower.{CountsAll, EndsInRoot}
 use Rattle.bdb_leaves.specs.declared.levels.Child.{Child}
 use Rattle.bdb_leaves.proofs.LaterLemmas.{later_chain, later_fewer}
 use Rattle.bdb_leaves.proofs.LevelLawLemmas.{group_node, head_counts, levels_are_later, member_at, page_over}
 use Rattle.bdb_leaves.proofs.LevelLemmas.{as_many}
 use Rattle.bdb_leaves.proofs.RunLemmas.{page_so_far}
-use Rattle.bdb_leaves.proofs.TowerLemmas.{IsBuilding, heads_among, heads_in_are, heads_low, is_under, level_spread, pages_under, under_are}
+use Rattle.bdb_leaves.proofs.TowerLemmas.{IsBuilding, counts_more, heads_among, heads_in_are, heads_low, is_under, level_spread, pages_under, under_are}
 
 -- a level was laid over those so far
 pub record IsTopped (inner : InnerType) (old now : Built) (nodes : List Node) (above : List Child) : Type 0 where
@@ -152,4 +152,9 @@ ends_in_root inner old now nodes children above are top one =
             subst (AllZip IsNodeOver (node_over p group ∷ [])) (sym (groups_are ∙ only_one groups (omega (arith, many, one)))) (refl, tt),
             refl,
           );
+      counts = λ p.
+          subst (CountsAll old now)
+          (sym (built.named_are ((node_over p group ∷ []) ∷ [])
+          ∙ (ap (λ gs. built.named ++ (heads_in inner gs ++ [])) groups_are ∙ ap (λ hs. built.named ++ hs) (append-nil (heads_in inner groups)))))
+          (counts_more inner (level + 1) old was now above built.top built.named built.counts grows laid);
     }

@@ -18,8 +18,8 @@ use Rattle.bdb_leaves.specs.Levels.{heads_of}
 use Rattle.bdb_leaves.specs.Moved.{IsFirstMoved, first_leaf, numbers_of}
 use Rattle.bdb_leaves.specs.Placed.{LeafUnits, Placed, unit_of}
 use Rattle.bdb_leaves.specs.Rooted.{CountsLeaves, IsOneLeaf, placed_on}
-use Rattle.bdb_leaves.specs.Spread.{AreSpreadLevels, leaves_and_levels, pages_over}
-use Rattle.bdb_leaves.specs.Tower.{levels_to}
+use Rattle.bdb_leaves.specs.Spread.{AreSpreadLevels, leaves_and_levels, named_heads, pages_over}
+use Rattle.bdb_leaves.specs.Tower.{CountsNamed, levels_to}
 use Rattle.bdb_leaves.specs.declared.leaf_type.LeafType.{LeafType}
 use Rattle.bdb_leaves.specs.declared.leaves.Leaves.{Leaves}
 
@@ -50,6 +50,8 @@ pub record HasTowerOn (inner : InnerType) (old new : Built) (nodes : List Node) 
       → ((h : ℕ) → Contains (flat_map (heads_of inner) nodes) h → pages h ≡ true) → IsLater pages (file_so_far new) g
       → IsTower inner g 1 nodes (levels_to levels top) top
   pub spread : AreSpreadLevels inner (old.size - 26) nodes (levels_to levels top)
+  pub counts : CountsNamed (λ (p : ℕ). (p < length old.pages) × (p ≡ first → ⊥)) old new
+      (named_heads inner (old.size - 26) nodes (levels_to levels top))
   pub later : (pages : ℕ → Bool) → ((p : ℕ) → pages p ≡ true → (p < length old.pages) × (p ≡ first → ⊥))
       → IsLater pages (file_so_far old) (file_so_far new)
   pub formed : (p : ℕ) → length old.pages ≤ p → p < length new.pages → page_code new.order p (bytes_of new p) ≡ None

@@ -8,7 +8,7 @@ use Rattle.bdb_levels.specs.declared.inner_type.InnerType.TheVariants.{Keyed, Nu
 use Rattle.bdb_levels.specs.Nodes.{Node}
 use Rattle.bdb_leaves.specs.Inner.{child_cost, first_cost}
 use Rattle.bdb_leaves.specs.Laid.{inner_of}
-use Rattle.bdb_leaves.specs.Levels.{node_over}
+use Rattle.bdb_leaves.specs.Levels.{heads_in, node_over}
 use Rattle.bdb_leaves.specs.Units.{TreeUnit, KeyedUnit, EntryUnit, chain_pages, has_own_tree, page_room, unit_cost}
 use Rattle.bdb_leaves.specs.declared.leaf_type.LeafType.{LeafType}
 use Rattle.bdb_leaves.specs.declared.leaf_type.LeafType.TheVariants.{Records, SortedData}
@@ -71,6 +71,11 @@ abbrev pub AreSpreadLevels : InnerType → ℕ → List Node → List (List Node
 AreSpreadLevels inner room nodes [] = length nodes ≡ 1
 AreSpreadLevels inner room nodes (level ∷ levels) =
     (1 < length nodes) × AllZip IsNodeOver level (spread_nodes inner room nodes) × AreSpreadLevels inner room level levels
+
+-- the heads of chains that the items of levels name
+abbrev pub named_heads : InnerType → ℕ → List Node → List (List Node) → List ℕ
+named_heads inner room nodes [] = []
+named_heads inner room nodes (level ∷ levels) = heads_in inner (spread_nodes inner room nodes) ++ named_heads inner room level levels
 
 -- Values and trees.
 
