@@ -1,5 +1,6 @@
 -- The leaves of a tree as pages of its lowest level.
-use Rattle.std.proofs.Common.{Bool, ◌≡◌, ℕ, suc, zero, ◌+◌, ◌<◌, List, [], ◌∷◌, ◌++◌, length, get_or, take, arith, refl, sym, ◌∙◌, ap, subst, length-append}
+use Rattle.std.proofs.Common.{Bool, ◌≡◌, ℕ, suc, zero, ◌+◌, ◌<◌, List, [], ◌∷◌, ◌++◌, length, get_or, take, arith, refl, sym, ◌∙◌, ap, subst}
+use Rattle.std.proofs.Common.{length-append}
 use Rattle.std.proofs.lemmas.List.{get_or_append_left, get_or_push, take_all, take_more}
 use Rattle.bdb_pack.specs.Built.{Built}
 use Rattle.bdb_leaves.specs.LeafChildren.{leaf_child, leaf_children}
@@ -12,19 +13,22 @@ use Rattle.bdb_leaves.specs.declared.leaves.Leaves.{Leaves}
 use Rattle.bdb_leaves.specs.declared.levels.Child.{Child}
 
 -- a leaf among linked ones
-linked_at : (type : LeafType) (built : Built) (previous : ℕ) (ps : List ℕ) (all : List (List Entry)) (beyond i : ℕ) → LinkedFrom type built previous ps all beyond
+linked_at : (type : LeafType) (built : Built) (previous : ℕ) (ps : List ℕ) (all : List (List Entry)) (beyond i : ℕ)
+    → LinkedFrom type built previous ps all beyond
     → i < length ps → (before : ℕ) × (after : ℕ) × HoldsEntriesOn type built (get_or ps i 0) before after (get_or all i [])
 linked_at type built previous [] all beyond i linked low = absurd (omega (arith, low))
 linked_at type built previous (p ∷ ps) [] beyond i linked low = absurd linked
 linked_at type built previous (p ∷ ps) (entries ∷ all) beyond zero linked low = (previous, first_of ps beyond, linked.0)
-linked_at type built previous (p ∷ ps) (entries ∷ all) beyond (suc i) linked low = linked_at type built p ps all beyond i linked.1 (omega (arith, low))
+linked_at type built previous (p ∷ ps) (entries ∷ all) beyond (suc i) linked low = linked_at type built p ps all beyond i linked.1
+    (omega (arith, low))
 
 -- there are as many children
 pub length-children : (type : LeafType) (built : Built) (counted : Bool) (previous : ℕ) (ps : List ℕ) (all : List (List Entry)) (beyond : ℕ)
     → LinkedFrom type built previous ps all beyond → length (leaf_children type counted ps all) ≡ length ps
 length-children type built counted previous [] all beyond linked = refl
 length-children type built counted previous (p ∷ ps) [] beyond linked = absurd linked
-length-children type built counted previous (p ∷ ps) (entries ∷ all) beyond linked = ap suc (length-children type built counted p ps all beyond linked.1)
+length-children type built counted previous (p ∷ ps) (entries ∷ all) beyond linked = ap suc
+    (length-children type built counted p ps all beyond linked.1)
 
 child_at : (type : LeafType) (built : Built) (counted : Bool) (previous : ℕ) (ps : List ℕ) (all : List (List Entry)) (beyond i : ℕ)
     → LinkedFrom type built previous ps all beyond → i < length ps

@@ -1,5 +1,6 @@
 -- A leaf that takes an entry holds one entry more.
-use Rattle.std.proofs.Common.{Bool, ◌≡◌, ℕ, ◌+◌, ◌-◌, ◌<◌, ◌≤◌, true, false, List, [], ◌∷◌, ◌++◌, length, get_or, arith, refl, sym, ◌∙◌, ap, subst, inl, inr, None, length-append}
+use Rattle.std.proofs.Common.{Bool, ◌≡◌, ℕ, ◌+◌, ◌-◌, ◌<◌, ◌≤◌, true, false, List, [], ◌∷◌, ◌++◌, length, get_or, arith, refl, sym, ◌∙◌, ap, subst}
+use Rattle.std.proofs.Common.{inl, inr, None, length-append}
 use Rattle.std.specs.Prelude.{◌==◌, ◌&&◌, ◌%◌, nat_le, slice_index}
 use Rattle.std.specs.List.{sum_by}
 use Rattle.std.proofs.lemmas.Bool.{cases_lt, and_left, and_right, eq-eqb, le-leb, lt-leb, ne_eqb}
@@ -19,20 +20,23 @@ use Rattle.bdb_layout.proofs.WritingLemmas.{length-leaf_chain, length-leaf_inlin
 use Rattle.bdb_pack.specs.Built.{Built, bytes_of, with_page}
 use Rattle.bdb_pack.specs.OnPages.{HasPlaceOn, with_item_on}
 use Rattle.bdb_pack.specs.Items.{HasPlace, IsWritable, OnLeaf, extent, holds_item}
-use Rattle.bdb_pack.specs.Placing.{CanShare, HasRoom, IsBegun, high_free_of, page_again, page_and_item, page_and_shared, page_with, place_below, with_item}
+use Rattle.bdb_pack.specs.Placing.{CanShare, HasRoom, IsBegun, high_free_of, page_again, page_and_item, page_and_shared, page_with, place_below}
+use Rattle.bdb_pack.specs.Placing.{with_item}
 use Rattle.bdb_pack.proofs.BegunLemmas.{begun_stays}
 use Rattle.bdb_pack.proofs.OpenLemmas.{open_is}
 use Rattle.bdb_pack.proofs.PlacedLemmas.{IsEntered, IsPlaced, is_below, is_entered, pad-le}
 use Rattle.bdb_pack.proofs.PlacingLaws.{items_are_placed}
 use Rattle.bdb_pack.proofs.SharedLemmas.{begins_within, entries_are_shared}
 use Rattle.bdb_pack.proofs.StandingLemmas.{typed}
-use Rattle.bdb_leaves.specs.LeafEntries.{CanShareKey, CanTakeEntry, Entry, HoldsEntries, HoldsEntriesOn, entry_cost, item_cost, leaf_of, no_entry, own_entry, room_of, shared_key, type_number}
+use Rattle.bdb_leaves.specs.LeafEntries.{CanShareKey, CanTakeEntry, Entry, HoldsEntries, HoldsEntriesOn, entry_cost, item_cost, leaf_of, no_entry}
+use Rattle.bdb_leaves.specs.LeafEntries.{own_entry, room_of, shared_key, type_number}
 use Rattle.bdb_leaves.specs.declared.leaf_type.LeafType.{LeafType}
 use Rattle.bdb_leaves.specs.declared.leaf_type.LeafType.TheVariants.{Pairs, Records, SortedData}
 
 -- What the types of leaves have in common.
 
-pub leaf_with : (type : LeafType) (l : Listed Item) (at : ℕ) (item : Item) → page_with (leaf_of type l) at (OnLeaf item) ≡ leaf_of type (with_item l at at item)
+pub leaf_with : (type : LeafType) (l : Listed Item) (at : ℕ) (item : Item)
+    → page_with (leaf_of type l) at (OnLeaf item) ≡ leaf_of type (with_item l at at item)
 leaf_with Pairs l at item = refl
 leaf_with Records l at item = refl
 leaf_with SortedData l at item = refl
@@ -68,7 +72,8 @@ pub leaf_typed : (type : LeafType) (order : Order) (page : List ℕ) → 25 < le
     → abstract_page order page ≡ leaf_of type (listed order page (leaf_item_at order page))
 leaf_typed type order page long is = typed order page (type_number type) long (some_type type) is ∙ leaf_as type order page
 
-pub page_is : (type : LeafType) (order : Order) (bytes : List ℕ) (p previous next : ℕ) (entries : List Entry) (holds : HoldsEntries type order bytes p previous next entries)
+pub page_is : (type : LeafType) (order : Order) (bytes : List ℕ) (p previous next : ℕ) (entries : List Entry)
+    (holds : HoldsEntries type order bytes p previous next entries)
     → listed order bytes (leaf_item_at order bytes) ≡ holds.page
 page_is type order bytes p previous next entries holds =
     let bounds = open_is order bytes holds.begun in
@@ -110,14 +115,16 @@ some_bytes order (Chain head total) deleted fits = omega (arith, length-leaf_cha
 some_bytes order (Set blocks) deleted fits = absurd fits
 some_bytes order Unknown deleted fits = absurd fits
 
-pub takes_item : (type : LeafType) (order : Order) (page : List ℕ) (l : Listed Item) (item : Item) → IsBegun order page → abstract_page order page ≡ leaf_of type l
+pub takes_item : (type : LeafType) (order : Order) (page : List ℕ) (l : Listed Item) (item : Item) → IsBegun order page
+    → abstract_page order page ≡ leaf_of type l
     → byte_at page 25 ≡ type_number type → IsWritable (OnLeaf item) → HasPlace (type_number type) (entries_of order page) (OnLeaf item)
     → index_end order page + 2 + item_cost order item ≤ high_free_of order page
     → TakesItem type order page (page_and_item order page (leaf_bytes order item)) l item
 takes_item type order page l item begun is type_is fits place room =
     let piece : List ℕ = leaf_bytes order item in
     let new : List ℕ = page_and_item order page piece in
-    let taken : extent (byte_at page 25) (length piece) ≡ item_cost order item = ap (λ t. extent t (length piece)) type_is ∙ leaf_extent type (length piece) in
+    let taken : extent (byte_at page 25) (length piece) ≡ item_cost order item = ap (λ t. extent t (length piece)) type_is
+    ∙ leaf_extent type (length piece) in
     let enough : HasRoom order page (length piece) = omega (arith, room, taken) in
     let holds : holds_item (byte_at page 25) (OnLeaf item) ≡ true = ap (λ t. holds_item t (OnLeaf item)) type_is ∙ leaf_holds type item in
     let there : HasPlace (byte_at page 25) (entries_of order page) (OnLeaf item) =
@@ -150,7 +157,8 @@ at_end xs x d k end = grind (arith, get_or_push)
 pub shared_same : (offsets : List ℕ) (at k : ℕ) → k < length offsets → is_shared_key (offsets ++ (at ∷ [])) k ≡ is_shared_key offsets k
 shared_same offsets at k low =
     let here : slice_index (offsets ++ (at ∷ [])) k ≡ slice_index offsets k = get_or_append_left offsets (at ∷ []) 0 k low in
-    let before : slice_index (offsets ++ (at ∷ [])) (k - 2) ≡ slice_index offsets (k - 2) = get_or_append_left offsets (at ∷ []) 0 (k - 2) (omega arith) in
+    let before : slice_index (offsets ++ (at ∷ [])) (k - 2) ≡ slice_index offsets (k - 2) = get_or_append_left offsets (at ∷ []) 0 (k - 2)
+    (omega arith) in
     ap (λ n. k % 2 == 0 && nat_le 2 k && n == slice_index (offsets ++ (at ∷ [])) (k - 2)) here
     ∙ ap (λ n. k % 2 == 0 && nat_le 2 k && slice_index offsets k == n) before
 
@@ -178,7 +186,8 @@ above_more offsets high at low above k under =
           let old : get_or (offsets ++ (at ∷ [])) k 0 ≡ get_or offsets k 0 = get_or_append_left offsets (at ∷ []) 0 k below in
           let h : high ≤ get_or offsets k 0 = above k below in omega (arith, old)
       | inr over ↦
-          let new : get_or (offsets ++ (at ∷ [])) k 0 ≡ at = at_end offsets at 0 k (omega (arith, length-append offsets (at ∷ []))) in omega (arith, new)
+          let new : get_or (offsets ++ (at ∷ [])) k 0 ≡ at = at_end offsets at 0 k (omega (arith, length-append offsets (at ∷ []))) in omega
+          (arith, new)
     ]
 
 -- whether entries share, after one more
@@ -204,7 +213,8 @@ entry_added type order page p previous next entries item holds fits place room =
     let n : ℕ = length entries in
     let in_order : index_end order page ≤ high_free_of order page = holds.begun.room in
     let count : entries_of order page ≡ n = entries_held type order page p previous next entries holds in
-    let there : HasPlace (type_number type) (entries_of order page) (OnLeaf item) = subst (λ k. HasPlace (type_number type) k (OnLeaf item)) (sym count) place in
+    let there : HasPlace (type_number type) (entries_of order page) (OnLeaf item) = subst (λ k. HasPlace (type_number type) k (OnLeaf item))
+    (sym count) place in
     let took = takes_item type order page holds.page item holds.begun holds.is holds.type_is fits there (omega (arith, room, in_order)) in
     let offsets : List ℕ = holds.page.offsets in
     let own : is_shared_key (offsets ++ (took.at ∷ [])) n ≡ false =
@@ -240,7 +250,8 @@ entries_same type other order bytes p previous next before after entries others 
   sym (entries_held type order bytes p previous next entries one) ∙ entries_held other order bytes p before after others two,
 )
 
-pub item_held : (old new : Built) (p : ℕ) (item : Item) → p < length old.pages → new ≡ with_item_on old p (leaf_bytes old.order item) → CanTakeEntry old p item
+pub item_held : (old new : Built) (p : ℕ) (item : Item) → p < length old.pages → new ≡ with_item_on old p (leaf_bytes old.order item)
+    → CanTakeEntry old p item
     → (type : LeafType) (previous next : ℕ) (entries : List Entry) → HoldsEntriesOn type old p previous next entries
     → HoldsEntriesOn type new p previous next (entries ++ (own_entry item ∷ []))
 item_held old new p item low is can type previous next entries holds =
@@ -253,7 +264,8 @@ item_held old new p item low is can type previous next entries holds =
     (entry_added type old.order (bytes_of old p) p previous next entries item holds can.fits place can.room))
 
 -- the page keeps its length
-pub item_long : (old new : Built) (p : ℕ) (item : Item) → p < length old.pages → new ≡ with_item_on old p (leaf_bytes old.order item) → CanTakeEntry old p item
+pub item_long : (old new : Built) (p : ℕ) (item : Item) → p < length old.pages → new ≡ with_item_on old p (leaf_bytes old.order item)
+    → CanTakeEntry old p item
     → length (bytes_of new p) ≡ length (bytes_of old p)
 item_long old new p item low is can =
     let page : List ℕ = bytes_of old p in
@@ -264,7 +276,8 @@ item_long old new p item low is can =
     let room = can.room in
     ap (λ (b : Built). length (bytes_of b p)) is
     ∙ (ap length (bytes_with old p (page_and_item old.order page (leaf_bytes old.order item)) low)
-    ∙ (takes_item can.type old.order page can.holds.page item can.holds.begun can.holds.is can.holds.type_is can.fits place (omega (arith, room, in_order))).long)
+    ∙ (takes_item can.type old.order page can.holds.page item can.holds.begun can.holds.is can.holds.type_is can.fits place
+    (omega (arith, room, in_order))).long)
 
 -- what `append_leaf` asks of the leaf
 pub item_placed : (built : Built) (p : ℕ) (item : Item) → CanTakeEntry built p item → HasPlaceOn built p (OnLeaf item)
@@ -315,7 +328,8 @@ key_entered order page p previous next entries holds some room =
     (holds.begun.items (entries_of order page - 2) (omega (arith, count, some))) in
     let before : at + 3 ≤ length page = begins_within order page (entries_of order page - 2) row in
     let most = bounds.most in
-    (is_entered order page at (high_free_of order page) bounds (omega (arith, room, in_order, top)) (omega (arith, before, most)) (omega (arith, top, most))).0
+    (is_entered order page at (high_free_of order page) bounds (omega (arith, room, in_order, top)) (omega (arith, before, most))
+    (omega (arith, top, most))).0
 
 pub key_added : (order : Order) (page : List ℕ) (p previous next : ℕ) (entries : List Entry) → HoldsEntries Pairs order page p previous next entries
     → length entries % 2 ≡ 0 → 2 ≤ length entries → 2 ≤ room_of order page
@@ -363,7 +377,8 @@ key_added order page p previous next entries holds even some room =
                 let old : get_or (offsets ++ (at ∷ [])) k 0 ≡ get_or offsets k 0 = get_or_append_left offsets (at ∷ []) 0 k below in
                 let h = holds.above k below in omega (arith, old, h, is.top)
             | inr over ↦
-                let now : get_or (offsets ++ (at ∷ [])) k 0 ≡ at = at_end offsets at 0 k (omega (arith, length-append offsets (at ∷ []), under, over)) in
+                let now : get_or (offsets ++ (at ∷ [])) k 0 ≡ at = at_end offsets at 0 k
+                (omega (arith, length-append offsets (at ∷ []), under, over)) in
                 let up : high_free_of order page ≤ at = holds.begun.above (entries_of order page - 2) (omega (arith, count, some)) in
                 omega (arith, now, up, is.top)
           ];
@@ -379,7 +394,8 @@ key_added order page p previous next entries holds even some room =
 pub key_placed : (built : Built) (p : ℕ) → CanShareKey built p → CanShare built.order (bytes_of built p)
 key_placed built p can = shares_key built.order (bytes_of built p) p can.previous can.next can.entries can.holds can.even can.some can.room
 
-pub key_held : (old new : Built) (p : ℕ) → p < length old.pages → new ≡ with_page old p (page_and_shared old.order (bytes_of old p)) → CanShareKey old p
+pub key_held : (old new : Built) (p : ℕ) → p < length old.pages → new ≡ with_page old p (page_and_shared old.order (bytes_of old p))
+    → CanShareKey old p
     → (previous next : ℕ) (entries : List Entry) → HoldsEntriesOn Pairs old p previous next entries
     → HoldsEntriesOn Pairs new p previous next (entries ++ (shared_key entries ∷ []))
 key_held old new p low is can previous next entries holds =
@@ -390,7 +406,8 @@ key_held old new p low is can previous next entries holds =
     (subst (λ bs. HoldsEntries Pairs old.order bs p previous next (entries ++ (shared_key entries ∷ []))) (sym (bytes_with old p page low))
     (key_added old.order (bytes_of old p) p previous next entries holds (ap (λ k. k % 2) (sym same) ∙ can.even) (omega (arith, same, some)) can.room))
 
-pub key_long : (old new : Built) (p : ℕ) → p < length old.pages → new ≡ with_page old p (page_and_shared old.order (bytes_of old p)) → CanShareKey old p
+pub key_long : (old new : Built) (p : ℕ) → p < length old.pages → new ≡ with_page old p (page_and_shared old.order (bytes_of old p))
+    → CanShareKey old p
     → length (bytes_of new p) ≡ length (bytes_of old p)
 key_long old new p low is can =
     let page : List ℕ = bytes_of old p in

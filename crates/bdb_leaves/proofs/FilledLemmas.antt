@@ -17,10 +17,11 @@ use Rattle.bdb_pack.specs.Built.{Built, file_so_far}
 use Rattle.bdb_leaves.specs.Filled.{AscendIn, IsUnitPut, StandOn, unit_contents}
 use Rattle.bdb_leaves.specs.LeafEntries.{own_content}
 use Rattle.bdb_leaves.specs.Leaves.{AreSomeLeaves}
-use Rattle.bdb_leaves.specs.Placed.{HasValue, IsDatum, IsOneValue, IsPlacedBySize, IsStoredBySize, Placed, PlacedEntry, PlacedPairs, StandsBySize, StandsPlaced, ValueItem, entries_of, further_entries, unit_of}
+use Rattle.bdb_leaves.specs.Placed.{HasValue, IsDatum, IsOneValue, IsPlacedBySize, IsStoredBySize, Placed, PlacedEntry, PlacedPairs, StandsBySize}
+use Rattle.bdb_leaves.specs.Placed.{StandsPlaced, ValueItem, entries_of, further_entries, unit_of}
 use Rattle.bdb_leaves.specs.Spread.{own_pages}
 use Rattle.bdb_leaves.specs.Units.{chain_pages, has_own_tree}
-use Rattle.bdb_leaves.specs.Puts.{CountsFewFrom, IsPut, ValueStands}
+use Rattle.bdb_leaves.specs.Puts.{CountsOneFrom, IsPut, ValueStands}
 use Rattle.bdb_leaves.specs.Runs.{ArePairsPut, IsLiveItem, IsRunPut, ValuesStand, held_by_item}
 use Rattle.bdb_leaves.specs.declared.leaf_type.LeafType.{LeafType}
 use Rattle.bdb_leaves.specs.declared.leaf_type.LeafType.TheVariants.{Pairs, Records, SortedData}
@@ -39,14 +40,16 @@ value_read g size first beyond (Set blocks) value stands = absurd stands
 value_read g size first beyond (Tree root) value stands = absurd stands
 value_read g size first beyond Unknown value stands = absurd stands
 
-one_value : (g : File) (size first beyond : ℕ) (content : Content) (value : List ℕ) → ValueStands g size first beyond content value → IsOneValue content
+one_value : (g : File) (size first beyond : ℕ) (content : Content) (value : List ℕ) → ValueStands g size first beyond content value
+    → IsOneValue content
 one_value g size first beyond (Inline bytes) value stands = tt
 one_value g size first beyond (Chain head total) value stands = tt
 one_value g size first beyond (Set blocks) value stands = absurd stands
 one_value g size first beyond (Tree root) value stands = absurd stands
 one_value g size first beyond Unknown value stands = absurd stands
 
-pub by_size : (g : File) (size first beyond : ℕ) (content : Content) (value : List ℕ) → ValueStands g size first beyond content value → StandsBySize size content value
+pub by_size : (g : File) (size first beyond : ℕ) (content : Content) (value : List ℕ) → ValueStands g size first beyond content value
+    → StandsBySize size content value
 by_size g size first beyond (Inline bytes) value stands = (stands.0, stands.1)
 by_size g size first beyond (Chain head total) value stands = stands.0
 by_size g size first beyond (Set blocks) value stands = absurd stands
@@ -63,7 +66,12 @@ later_self built pages = record { no_queue_before = λ e. no_queue e; no_queue =
 
 pub counted_so_far : (built : Built) → 1 ≤ length built.pages → IsCounted (file_so_far built)
 counted_so_far built some =
-    record { no_queue = λ e. no_queue e; counted = omega (arith, some); pages = length-map built.pages (abstract_page built.order) ∙ omega (arith, some) }
+    record {
+      no_queue = λ e. no_queue e;
+      counted = omega (arith, some);
+      pages = length-map built.pages (abstract_page built.order)
+          ∙ omega (arith, some);
+    }
   where
     no_queue : Btree ≡ Queue → ⊥
     no_queue e = grind arith
@@ -102,7 +110,8 @@ run_is_unit leaves old new unit held some run contents placed sizes own =
             placed = placed g there;
           };
       sizes = sizes f here;
-      few = subst (All (CountsFewFrom (length old.pages) new)) (sym contents) (all_over (CountsFewFrom (length old.pages) new) (λ (one : Content × List ℕ). one.0) held run.few);
+      heads = subst (All (CountsOneFrom (length old.pages) new)) (sym contents)
+          (all_over (CountsOneFrom (length old.pages) new) (λ (one : Content × List ℕ). one.0) held run.heads);
       formed = run.formed;
       count = λ sorted few. run.count ∙ ap (λ n. length old.pages + n) (own sorted);
     }
@@ -144,7 +153,8 @@ pairs_contents : (key first : ValueItem) (more : List ValueItem)
     → unit_contents Pairs (PlacedPairs key first more) ≡ key.item.content ∷ first.item.content ∷ map (λ (datum : ValueItem). datum.item.content) more
 pairs_contents key first more = ap (λ cs. key.item.content ∷ first.item.content ∷ cs) (own_of_more more)
   where
-    own_of_more : (more : List ValueItem) → flat_map own_content (flat_map (further_entries key) more) ≡ map (λ (datum : ValueItem). datum.item.content) more
+    own_of_more : (more : List ValueItem)
+        → flat_map own_content (flat_map (further_entries key) more) ≡ map (λ (datum : ValueItem). datum.item.content) more
     own_of_more [] = refl
     own_of_more (datum ∷ more) = ap (λ cs. datum.item.content ∷ cs) (own_of_more more)
 

@@ -7,7 +7,7 @@ use Rattle.std.proofs.lemmas.List.{get_or-take}
 use Rattle.std.proofs.Math.Dec.{eqb}
 use Rattle.bdb_format.specs.File.{page_at}
 use Rattle.bdb_format.specs.Numbers.{byte_at}
-use Rattle.bdb_format.specs.Reading.{abstract_page}
+use Rattle.bdb_format.specs.Reading.{abstract_page, entries_of}
 use Rattle.bdb_format.specs.Rows.{page_code}
 use Rattle.bdb_format.proofs.MemberLemmas.{of_flat_map}
 use Rattle.bdb_grove.specs.Growing.{IsLater, IsSamePage}
@@ -42,7 +42,7 @@ but_are pages first p at =
 
 -- Heads of keys.
 
-zero_at : (n k : ℕ) → byte_at (replicate n 0) k ≡ 0
+pub zero_at : (n k : ℕ) → byte_at (replicate n 0) k ≡ 0
 zero_at zero k = refl
 zero_at (suc n) zero = refl
 zero_at (suc n) (suc k) = zero_at n k
@@ -126,6 +126,15 @@ tower_on inner old mid new nodes first root children are several stood blank tow
           (λ q high low. is_on pages first root q (all q high (omega (arith, low, count))) (λ e. omega (arith, e, high, stood)) low)
           (λ h at. let (low, other) = stands h at in is_on pages first root h (heads h at) other (omega (arith, low, low_root)))
           before holds (omega (arith, stood, low_root, count)) (later.same first at_first);
+      spread = ends.spread first;
+      counts =
+          let counts = ends.counts first in
+          record {
+            two = λ p (low, other) at.
+                ap (λ o. entries_of o (bytes_of new p)) placed.order
+                ∙ (ap (entries_of mid.order) (placed.same p (omega (arith, low, low_root)) other) ∙ counts.two p low at);
+            same = λ p (low, other) out. placed.same p (omega (arith, low, low_root)) other ∙ counts.same p low out;
+          };
       later = λ pages among.
           let here = tower.later pages (λ p at. (among p at).0) in
           record {

@@ -32,8 +32,8 @@ use Rattle.bdb_leaves.specs.Tower.{levels_to}
 use Rattle.bdb_leaves.specs.declared.leaf_type.LeafType.{LeafType}
 use Rattle.bdb_leaves.proofs.FinishLemmas.{but_are, is_but, pages_but}
 use Rattle.bdb_leaves.proofs.FinishedLemmas.{first_two, moved_from, moved_pages, others_of}
-use Rattle.bdb_leaves.proofs.GrownLemmas.{all_joined, as_many, ascend_above, contents_held, heads_among, laid_leaves, pages_named, rise_on, zip_all, zip_pages}
-use Rattle.bdb_leaves.proofs.GrownLemmas.{}
+use Rattle.bdb_leaves.proofs.GrownLemmas.{all_joined, as_many, ascend_above, contents_held, heads_among, laid_leaves, pages_named, rise_on, zip_all}
+use Rattle.bdb_leaves.proofs.GrownLemmas.{zip_pages}
 use Rattle.bdb_leaves.proofs.LaterLemmas.{later_chain, later_fewer}
 use Rattle.bdb_leaves.proofs.NumberedLemmas.{AreNumbered, are_numbered}
 use Rattle.bdb_leaves.proofs.RestLemmas.{is_one, is_rest, rest_is}
@@ -88,7 +88,8 @@ finished_trees_are_laid leaves old new counted before closed units root filled o
     tower = on.tower.tower g (between before b) (λ p low high. is_between before b p (omega (arith, low, start, more)) high)
         (is_between before b first (known.within first first_in).0 (omega (arith, (known.within first first_in).1, more, grows)))
         (λ h at.
-        let here = rest_is before m (numbers_of leaves) h (branch.grove.entered h (heads_among (inner_of type) type placed on.nodes h refl on.nodes_are at)) in
+        let here = rest_is before m (numbers_of leaves) h
+        (branch.grove.entered h (heads_among (inner_of type) type placed on.nodes h refl on.nodes_are at)) in
         is_between before b h here.0 (omega (arith, here.1, more, grows)))
         later;
   },

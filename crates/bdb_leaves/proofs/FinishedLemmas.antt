@@ -1,5 +1,6 @@
 -- Filled leaves, of which the first is moved, as the lowest level of their tree.
-use Rattle.std.proofs.Common.{◌≡◌, ℕ, suc, zero, ◌+◌, ◌<◌, ◌≤◌, Bool, true, List, [], ◌∷◌, ◌++◌, length, map, drop, set, arith, refl, sym, ◌∙◌, ap, subst, inl, inr, length-append, length-set}
+use Rattle.std.proofs.Common.{◌≡◌, ℕ, suc, zero, ◌+◌, ◌<◌, ◌≤◌, Bool, true, List, [], ◌∷◌, ◌++◌, length, map, drop, set, arith, refl, sym, ◌∙◌, ap}
+use Rattle.std.proofs.Common.{subst, inl, inr, length-append, length-set}
 use Rattle.std.specs.List.{All, Contains, flat_map}
 use Rattle.std.proofs.lemmas.List.{map-append}
 use Rattle.std.proofs.lemmas.List.Elements.{All-push}
@@ -12,7 +13,7 @@ use Rattle.bdb_levels.specs.declared.inner_type.InnerType.{InnerType}
 use Rattle.bdb_pack.specs.Built.{Built, bytes_of}
 use Rattle.bdb_leaves.specs.Filled.{AreFilled, all_contents, unit_contents}
 use Rattle.bdb_leaves.specs.Finished.{HasRootOn, HasTowerOn}
-use Rattle.bdb_leaves.specs.Inner.{CountsFew, child_cost}
+use Rattle.bdb_leaves.specs.Inner.{CountsOne, child_cost}
 use Rattle.bdb_leaves.specs.Laid.{inner_of}
 use Rattle.bdb_leaves.specs.LeafChildren.{leaf_children, leaf_nodes}
 use Rattle.bdb_leaves.specs.LeafEntries.{Entry, type_number}
@@ -20,7 +21,7 @@ use Rattle.bdb_leaves.specs.Leaves.{AreLeaves, LeavesFrom}
 use Rattle.bdb_leaves.specs.Levels.{AreChildren}
 use Rattle.bdb_leaves.specs.Moved.{AreLinked, IsFirstMoved, LinkedFrom, first_leaf, numbers_of, second_leaf}
 use Rattle.bdb_leaves.specs.Placed.{IsPlacedBySize, Placed, entries_of}
-use Rattle.bdb_leaves.specs.Puts.{CountsFewFrom}
+use Rattle.bdb_leaves.specs.Puts.{CountsOneFrom}
 use Rattle.bdb_leaves.specs.declared.leaf_type.LeafType.{LeafType}
 use Rattle.bdb_leaves.specs.declared.leaves.Leaves.{Leaves}
 use Rattle.bdb_leaves.specs.declared.levels.Child.{Child}
@@ -111,7 +112,7 @@ type_at type built previous (q ∷ ps) (entries ∷ all) beyond p (up, holds, re
 
 -- the head of a chain is no leaf
 head_is_no_leaf : (leaves : Leaves) (old : Built) (closed : List (List Entry)) (entries : List Entry) (p : ℕ) → AreLeaves leaves old closed entries
-    → Contains (numbers_of leaves) p → CountsFew old.order (bytes_of old p) → ⊥
+    → Contains (numbers_of leaves) p → CountsOne old.order (bytes_of old p) → ⊥
 head_is_no_leaf leaves old closed entries p hold at few =
     no_leaf leaves.leaf_type
     (sym (type_at leaves.leaf_type old 0 (numbers_of leaves) (closed ++ (entries ∷ [])) 0 p
@@ -119,23 +120,23 @@ head_is_no_leaf leaves old closed entries p hold at few =
     ∙ few.type_is)
 
 -- so it stays
-few_moved : (leaves next : Leaves) (old mid : Built) (before : ℕ) (closed : List (List Entry)) (entries : List Entry) (content : Content)
-    → 1 ≤ length leaves.closed.items → AreLeaves leaves old closed entries → IsFirstMoved leaves next old mid → CountsFewFrom before old content
-    → CountsFewFrom before mid content
-few_moved leaves next old mid before closed entries (Inline bytes) several hold moved few = tt
-few_moved leaves next old mid before closed entries (Chain head total) several hold moved (above, under, counts) =
+one_moved : (leaves next : Leaves) (old mid : Built) (before : ℕ) (closed : List (List Entry)) (entries : List Entry) (content : Content)
+    → 1 ≤ length leaves.closed.items → AreLeaves leaves old closed entries → IsFirstMoved leaves next old mid → CountsOneFrom before old content
+    → CountsOneFrom before mid content
+one_moved leaves next old mid before closed entries (Inline bytes) several hold moved few = tt
+one_moved leaves next old mid before closed entries (Chain head total) several hold moved (above, under, counts) =
     let count = moved.count in
     let leaf : (p : ℕ) → Contains (numbers_of leaves) p → head ≡ p → ⊥ =
-    λ p at e. head_is_no_leaf leaves old closed entries p hold at (subst (λ k. CountsFew old.order (bytes_of old k)) e counts) in
+    λ p at e. head_is_no_leaf leaves old closed entries p hold at (subst (λ k. CountsOne old.order (bytes_of old k)) e counts) in
     let two = first_two leaves several in (
       above,
       omega (arith, under, count),
-      subst (λ o. CountsFew o (bytes_of mid head)) (sym moved.order)
-          (subst (CountsFew old.order) (sym (moved.same head under (leaf (first_leaf leaves) two.0) (leaf (second_leaf leaves) two.1))) counts),
+      subst (λ o. CountsOne o (bytes_of mid head)) (sym moved.order)
+          (subst (CountsOne old.order) (sym (moved.same head under (leaf (first_leaf leaves) two.0) (leaf (second_leaf leaves) two.1))) counts),
     )
-few_moved leaves next old mid before closed entries (Set blocks) several hold moved few = tt
-few_moved leaves next old mid before closed entries (Tree root) several hold moved few = tt
-few_moved leaves next old mid before closed entries Unknown several hold moved few = tt
+one_moved leaves next old mid before closed entries (Set blocks) several hold moved few = tt
+one_moved leaves next old mid before closed entries (Tree root) several hold moved few = tt
+one_moved leaves next old mid before closed entries Unknown several hold moved few = tt
 
 -- The lowest level.
 
@@ -147,16 +148,18 @@ moved_nodes leaves next old mid counted before closed units legal several filled
     let groups : List (List Placed) = closed ++ (units ∷ []) in
     let all : List Placed = flat_map (λ leaf. leaf) groups in
     let sizes = each_leaf (IsPlacedBySize mid.size) groups
-    (subst (λ size. All (IsPlacedBySize size) all) (sym moved.size) (subst (All (IsPlacedBySize old.size)) (sym (all_units closed units)) filled.sizes)) in
-    let stay : All (CountsFewFrom before mid) (all_contents type closed units) =
-    all_map (λ content few. few_moved leaves next old mid before (map (flat_map entries_of) closed) (flat_map entries_of units) content several filled.hold
-    moved few) (all_contents type closed units) filled.few in
-    let few = each_content (CountsFewFrom before mid) type groups
-    (subst (λ us. All (CountsFewFrom before mid) (flat_map (unit_contents type) us)) (sym (all_units closed units)) stay) in
+    (subst (λ size. All (IsPlacedBySize size) all) (sym moved.size)
+    (subst (All (IsPlacedBySize old.size)) (sym (all_units closed units)) filled.sizes)) in
+    let stay : All (CountsOneFrom before mid) (all_contents type closed units) =
+    all_map (λ content few. one_moved leaves next old mid before (map (flat_map entries_of) closed)
+    (flat_map entries_of units) content several filled.hold
+    moved few) (all_contents type closed units) filled.heads in
+    let few = each_content (CountsOneFrom before mid) type groups
+    (subst (λ us. All (CountsOneFrom before mid) (flat_map (unit_contents type) us)) (sym (all_units closed units)) stay) in
     are_nodes type counted mid.size before mid 0 (numbers_of next) groups 0 (ap is_page_size moved.size ∙ legal)
     (moved_from leaves next old mid before closed units filled moved)
     (moved_there leaves next old mid several moved) (All-push (λ us. 0 < length us) closed units filled.some some)
-    (λ k d low. record { sizes = sizes k d low; few = few k d low })
+    (λ k d low. record { sizes = sizes k d low; heads = few k d low })
 
 -- the leaves as children, of whatever type the levels over them are said to be
 level_of : (leaves next : Leaves) (old mid : Built) (counted : Bool) (groups : List (List Placed)) (inner : InnerType) (children : List Child)
@@ -167,7 +170,8 @@ level_of leaves next old mid counted groups inner children moved are inner_is is
     let all : List (List Entry) = map (flat_map entries_of) groups in
     let nodes : List Node = leaf_nodes leaves.leaf_type counted (numbers_of next) all in
     subst (λ i. AreChildren i mid children nodes) (sym (inner_is ∙ ap inner_of moved.type))
-    (subst (λ cs. AreChildren (inner_of leaves.leaf_type) mid cs nodes) (sym (is ∙ ap (λ t. leaf_children t counted (numbers_of next) all) moved.type))
+    (subst (λ cs. AreChildren (inner_of leaves.leaf_type) mid cs nodes)
+    (sym (is ∙ ap (λ t. leaf_children t counted (numbers_of next) all) moved.type))
     are.children)
 
 pub moved_children : (leaves next : Leaves) (old mid : Built) (counted : Bool) (before : ℕ) (closed : List (List Placed)) (units : List Placed)

@@ -21,7 +21,8 @@ use Rattle.bdb_format.proofs.TargetLemmas.{each_own}
 use Rattle.bdb_tree.proofs.TreeLemmas.{flat_map_same}
 use Rattle.bdb_pack.specs.Built.{bytes_of}
 use Rattle.bdb_pack.proofs.FormLemmas.{begun_is_formed}
-use Rattle.bdb_leaves.specs.LeafEntries.{Entry, HoldsIn, LeavesAreFormed, LeavesStand, contents_of, leaf_of, no_entry, own_content, own_entry, pair_in, pairs_from, type_number}
+use Rattle.bdb_leaves.specs.LeafEntries.{Entry, HoldsIn, LeavesAreFormed, LeavesStand, contents_of, leaf_of, no_entry, own_content, own_entry}
+use Rattle.bdb_leaves.specs.LeafEntries.{pair_in, pairs_from, type_number}
 use Rattle.bdb_leaves.specs.declared.leaf_type.LeafType.{LeafType}
 use Rattle.bdb_leaves.specs.declared.leaf_type.LeafType.TheVariants.{Pairs, Records, SortedData}
 use Rattle.bdb_leaves.proofs.EntryLemmas.{entries_held, page_is}
@@ -41,7 +42,8 @@ count_right SortedData n even = refl
 pub leaves_are_formed : LeavesAreFormed
 leaves_are_formed type order bytes p previous next entries holds even =
     begun_is_formed order p bytes holds.begun holds.number
-    (ap (λ t. is_wrong_level (page_type t) (byte_at bytes 24)) holds.type_is ∙ (ap (is_wrong_level (page_type (type_number type))) holds.level ∙ level_right type))
+    (ap (λ t. is_wrong_level (page_type t) (byte_at bytes 24)) holds.type_is
+    ∙ (ap (is_wrong_level (page_type (type_number type))) holds.level ∙ level_right type))
     (ap (λ t. is_wrong_entry_count (page_type t) (entries_of order bytes)) holds.type_is
     ∙ (ap (is_wrong_entry_count (page_type (type_number type))) (entries_held type order bytes p previous next entries holds)
     ∙ count_right type (length entries) even))
@@ -85,7 +87,8 @@ contents_held Pairs page entries has =
     let low : k < n = omega (arith, within.1) in
     ap (λ b. cond b [] ((item_at page k).content ∷ [])) (has.shares k low)
     ∙ ap (λ (i : Item). cond (get_or entries k no_entry).shares [] (i.content ∷ [])) (item_held page entries k has low))
-    ∙ (sym (flat_map-map own_content (λ k. get_or entries k no_entry) (range_with_len 0 n)) ∙ ap (flat_map own_content) (each_self entries no_entry)))))
+    ∙ (sym (flat_map-map own_content (λ k. get_or entries k no_entry) (range_with_len 0 n))
+    ∙ ap (flat_map own_content) (each_self entries no_entry)))))
 contents_held Records page entries has =
     ap (map (λ (item : Item). item.content)) has.items ∙ map-map (λ (item : Item). item.content) (λ (entry : Entry). entry.item) entries
 contents_held SortedData page entries has =
@@ -101,7 +104,8 @@ length-pairs_from g p [] = refl
 length-pairs_from g p (key ∷ []) = refl
 length-pairs_from g p (key ∷ datum ∷ entries) = ap suc (length-pairs_from g p entries) ∙ sym (two_more (length entries))
 
-pub after_two : (key datum : Entry) (entries : List Entry) (n m : ℕ) → n ≡ suc (suc m) → get_or (key ∷ datum ∷ entries) n no_entry ≡ get_or entries m no_entry
+pub after_two : (key datum : Entry) (entries : List Entry) (n m : ℕ) → n ≡ suc (suc m)
+    → get_or (key ∷ datum ∷ entries) n no_entry ≡ get_or entries m no_entry
 after_two key datum entries n m is = ap (λ k. get_or (key ∷ datum ∷ entries) k no_entry) is
 
 pair_of_two : (g : File) (p : ℕ) (entries : List Entry) (k : ℕ) (d : StoredPair) → 2 * k + 1 < length entries
@@ -116,7 +120,8 @@ pair_of_two g p (key ∷ datum ∷ entries) (suc k) d low =
     ∙ ap (pair_in g p (get_or all (2 * suc k) no_entry)) (sym (after_two key datum entries (2 * suc k + 1) (2 * k + 1) (omega arith))))
 
 pair_same : (g : File) (p : ℕ) {key key2 value value2 : Item} {shares shares2 : Bool} → key ≡ key2 → value ≡ value2 → shares ≡ shares2
-    → pair_in g p (record { item = key; shares = shares }) (own_entry value) ≡ pair_in g p (record { item = key2; shares = shares2 }) (own_entry value2)
+    → pair_in g p (record { item = key; shares = shares }) (own_entry value) ≡ pair_in g p (record { item = key2; shares = shares2 })
+    (own_entry value2)
 pair_same g p a b c = rw (a, b, c) refl
 
 pairs_held : (g : File) (p : ℕ) (page : Listed Item) (entries : List Entry) → HasEntries page entries → length entries % 2 ≡ 0

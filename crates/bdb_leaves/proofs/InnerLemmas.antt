@@ -1,5 +1,6 @@
 -- An internal page that takes the item of a child holds one child more; the head of a chain that counts two references is the page of before.
-use Rattle.std.proofs.Common.{◌≡◌, ℕ, suc, ◌+◌, ◌-◌, ◌<◌, ◌≤◌, ◌^◌, true, false, not, List, [], ◌∷◌, ◌++◌, length, take, drop, replicate, Option, Some, None, arith, refl, sym, ◌∙◌, ap, subst, inr, length-append}
+use Rattle.std.proofs.Common.{◌≡◌, ℕ, suc, ◌+◌, ◌-◌, ◌<◌, ◌≤◌, ◌^◌, true, false, not, List, [], ◌∷◌, ◌++◌, length, take, drop, replicate, Option}
+use Rattle.std.proofs.Common.{Some, None, arith, refl, sym, ◌∙◌, ap, subst, inr, length-append}
 use Rattle.std.specs.Prelude.{◌==◌, nat_lt}
 use Rattle.std.proofs.lemmas.Bool.{ne_eqb}
 use Rattle.std.proofs.lemmas.List.{get_or_push, length-map, length-replicate, map-append}
@@ -26,7 +27,8 @@ use Rattle.bdb_levels.specs.Nodes.{Node, keyed_item, keyed_items, numbered_item}
 use Rattle.bdb_pack.specs.Built.{AreWhole, Built, bytes_of, with_page, with_zeros, written_over}
 use Rattle.bdb_pack.specs.Items.{HasPlace, IsWritable, OnInternal, OnRecno, PageItem, extent, holds_item, item_bytes, takes_items}
 use Rattle.bdb_pack.specs.OnPages.{with_item_on}
-use Rattle.bdb_pack.specs.Placing.{HasRoom, begun_header, begun_page, empty_listed, empty_page, high_free_of, page_and_item, page_with, place_below, with_item}
+use Rattle.bdb_pack.specs.Placing.{HasRoom, begun_header, begun_page, empty_listed, empty_page, high_free_of, page_and_item, page_with, place_below}
+use Rattle.bdb_pack.specs.Placing.{with_item}
 use Rattle.bdb_pack.proofs.BegunLemmas.{begun_stays}
 use Rattle.bdb_pack.proofs.CutLemmas.{written_whole}
 use Rattle.bdb_pack.proofs.FormLemmas.{begun_is_formed}
@@ -36,7 +38,9 @@ use Rattle.bdb_pack.proofs.PlaceLemmas.{behind, byte_same, drop_same, number_bef
 use Rattle.bdb_pack.proofs.PlacedLemmas.{IsPlaced, is_below}
 use Rattle.bdb_pack.proofs.PlacingLaws.{items_are_placed}
 use Rattle.bdb_pack.proofs.StandingLemmas.{not_zero, typed}
-use Rattle.bdb_leaves.specs.Inner.{CanTakeChild, ChildrenAreFormed, ChildrenStand, CountsFew, HasNodes, HoldsChildren, HoldsChildrenOn, RaisedPagesStand, added_key, child_cost, child_item, counting_two, first_cost, inner_header, inner_number, key_cost, nodes_cost, raised, with_inner}
+use Rattle.bdb_leaves.specs.Inner.{CanTakeChild, ChildrenAreFormed, ChildrenStand, CountsFew, HasNodes, HoldsChildren, HoldsChildrenOn}
+use Rattle.bdb_leaves.specs.Inner.{RaisedPagesStand, added_key, child_cost, child_item, counting_two, first_cost, inner_header, inner_number}
+use Rattle.bdb_leaves.specs.Inner.{key_cost, nodes_cost, raised, with_inner}
 use Rattle.bdb_leaves.specs.LeafEntries.{room_of}
 use Rattle.bdb_leaves.proofs.EntryLemmas.{bytes_with}
 

@@ -152,7 +152,6 @@ finished_trees_keep_older_pages leaves old new counted before closed units root 
     record {
       size = ap (λ (b : Built). b.size) one.same;
       order = ap (λ (b : Built). b.order) one.same;
-      whole = one.whole;
       grows = omega (arith, ap (λ (b : Built). length b.pages) one.same);
       same = λ p low. ap (λ (b : Built). bytes_of b p) one.same;
     }
@@ -169,7 +168,6 @@ finished_trees_keep_older_pages leaves old new counted before closed units root 
     record {
       size = on.tower.size ∙ on.moved.size;
       order = on.tower.order ∙ on.moved.order;
-      whole = on.tower.whole;
       grows = omega (arith, count, grows);
       same = λ p low.
           on.tower.kept p (omega (arith, low, first.0, first.1, count)) (λ e. omega (arith, e, low, first.0))

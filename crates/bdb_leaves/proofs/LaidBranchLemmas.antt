@@ -1,5 +1,6 @@
 -- A tree that is laid is a branch: its leaves stand over what they name, and the levels over them.
-use Rattle.std.proofs.Common.{◌≡◌, ◌⊎◌, ℕ, ◌+◌, ◌≤◌, Bool, true, false, cond, List, [], ◌∷◌, ◌++◌, get_or, map, length, Some, append-nil, arith, refl, sym, ◌∙◌, ap, subst, inl, inr, true≢false}
+use Rattle.std.proofs.Common.{◌≡◌, ◌⊎◌, ℕ, ◌+◌, ◌≤◌, Bool, true, false, cond, List, [], ◌∷◌, ◌++◌, get_or, map, length, Some, append-nil, arith, refl}
+use Rattle.std.proofs.Common.{sym, ◌∙◌, ap, subst, inl, inr, true≢false}
 use Rattle.std.specs.Prelude.{◌==◌, ◌||◌}
 use Rattle.std.specs.List.{All, AllZip, Contains, filter, flat_map, list_any, range_with_len}
 use Rattle.std.proofs.lemmas.Bool.{cases_Bool, eqb-false, false_from_ne_true, ne_eqb, or_from, or_left}
@@ -29,7 +30,8 @@ use Rattle.bdb_levels.proofs.BranchLemmas.{towers_are_branches}
 use Rattle.bdb_levels.proofs.TakenLemmas.{all_heads}
 use Rattle.bdb_leaves.specs.LeafEntries.{Entry, contents_of, leaf_of, own_entry, type_number}
 use Rattle.bdb_leaves.specs.Laid.{IsKeyOf, IsLaid, IsNodeOf, LaidTreesAreBranches, entries_on, filled, held_by_leaves, inner_of, tree_pages}
-use Rattle.bdb_leaves.specs.Placed.{HoldsUnits, IsOneValue, LeafUnits, Placed, PlacedEntry, PlacedPairs, PlacedTree, entries_of, further_entries, pages_of, tree_item}
+use Rattle.bdb_leaves.specs.Placed.{HoldsUnits, IsOneValue, LeafUnits, Placed, PlacedEntry, PlacedPairs, PlacedTree, entries_of, further_entries}
+use Rattle.bdb_leaves.specs.Placed.{pages_of, tree_item}
 use Rattle.bdb_leaves.specs.declared.leaf_type.LeafType.{LeafType}
 use Rattle.bdb_leaves.specs.declared.leaf_type.LeafType.TheVariants.{Pairs, Records, SortedData}
 use Rattle.bdb_leaves.proofs.LaidLemmas.{at_bottom, hold_units, node_pages, of_leaves}
@@ -100,7 +102,8 @@ leaves_branch type g rest placed nodes above root laid =
 
 -- Keys.
 
-begins : (type : LeafType) (item : Item) (entries : List Entry) → contents_of type (own_entry item ∷ entries) ≡ item.content ∷ contents_of type entries
+begins : (type : LeafType) (item : Item) (entries : List Entry)
+    → contents_of type (own_entry item ∷ entries) ≡ item.content ∷ contents_of type entries
 begins Pairs item entries = refl
 begins Records item entries = refl
 begins SortedData item entries = refl
@@ -144,7 +147,8 @@ heads_held type leaf key e is =
       )
     ]
 
-pub heads_of_nodes : (type : LeafType) (placed : List LeafUnits) (nodes : List Node) (e : ℕ) → inner_of type ≡ Keyed → AllZip (IsNodeOf type) placed nodes
+pub heads_of_nodes : (type : LeafType) (placed : List LeafUnits) (nodes : List Node) (e : ℕ) → inner_of type ≡ Keyed
+    → AllZip (IsNodeOf type) placed nodes
     → count e (flat_map (λ (node : Node). key_heads node.key) nodes) ≤ count e (held_by_leaves type placed)
 heads_of_nodes type [] [] e keyed zip = omega arith
 heads_of_nodes type [] (node ∷ nodes) e keyed zip = absurd zip
@@ -246,7 +250,8 @@ head_once type g rest placed nodes above root laid leaf is h total first =
     -- all names of all leaves
     same : flat_map (names g) (pages_of placed) ≡ held_by_leaves type placed
     same = ap (flat_map (names g)) (sym (numbers_of type placed))
-        ∙ all_names g rest (map (filled type) placed) laid.no_queue (All-map (IsFilled g rest) (filled type) placed (λ k d low. (all k d low).filled_is))
+        ∙ all_names g rest (map (filled type) placed) laid.no_queue
+        (All-map (IsFilled g rest) (filled type) placed (λ k d low. (all k d low).filled_is))
 
     entrance : Contains (held_by_leaves type placed) h
     entrance = subst (λ ps. Contains ps h) same (in_flat_map (names g) (pages_of placed) leaf.page h number named)
@@ -262,7 +267,12 @@ head_once type g rest placed nodes above root laid leaf is h total first =
         ((leaves_branch type g rest placed nodes above root laid).grove.entered leaf.page number) is.filled_is.high
         (λ q of differs. named_not g q h (λ at. elim (in_either (rest q) (is_of (pages_of placed) q) of) [
           | inl old ↦ by_rest q old at
-          | inr new ↦ omega (arith, at_most, named_twice (names g) (pages_of placed) leaf.page q h number (of_list (pages_of placed) q new) differs named at)
+          | inr new ↦ omega (
+            arith,
+            at_most,
+            named_twice (names g) (pages_of placed) leaf.page q h number
+                (of_list (pages_of placed) q new) differs named at,
+          )
         ]))
       where
         by_rest : (q : ℕ) → rest q ≡ true → Contains (names g q) h → ⊥
@@ -299,7 +309,8 @@ keys_stand type g rest placed nodes above root laid Keyed keyed = (
         placed nodes laid.nodes_are all,
     λ h. omega (arith, heads_of_nodes type placed nodes h keyed laid.nodes_are, ascend_once 0 h (held_by_leaves type placed) laid.held),
   ),
-  of_leaves (IsNodeOf type) (IsIn type g rest placed) (KeyHasLength Keyed g) (λ leaf node is at. key_long type g leaf node.key at.fit (first leaf node is))
+  of_leaves (IsNodeOf type) (IsIn type g rest placed) (KeyHasLength Keyed g)
+      (λ leaf node is at. key_long type g leaf node.key at.fit (first leaf node is))
       placed nodes laid.nodes_are all,
 )
   where

@@ -36,17 +36,32 @@ record IsBetween (type : LeafType) (g : File) (p previous next : ℕ) : Type 0 w
 is_between : (type : LeafType) (g : File) (p previous next : ℕ) (entries : List Entry) → IsLeafIn type g p previous next entries
     → IsBetween type g p previous next
 is_between Pairs g p previous next entries leaf = record {
-  bottom = record { level = ap (λ page. (header_in page).level) leaf.is ∙ leaf.level; type_is = ap type_in leaf.is; childless = ap children_in leaf.is };
+  bottom = record {
+    level = ap (λ page. (header_in page).level) leaf.is
+        ∙ leaf.level;
+    type_is = ap type_in leaf.is;
+    childless = ap children_in leaf.is;
+  };
   before = ap (λ page. (header_in page).previous) leaf.is ∙ leaf.previous_is;
   after = ap (λ page. (header_in page).next) leaf.is ∙ leaf.next_is;
 }
 is_between Records g p previous next entries leaf = record {
-  bottom = record { level = ap (λ page. (header_in page).level) leaf.is ∙ leaf.level; type_is = ap type_in leaf.is; childless = ap children_in leaf.is };
+  bottom = record {
+    level = ap (λ page. (header_in page).level) leaf.is
+        ∙ leaf.level;
+    type_is = ap type_in leaf.is;
+    childless = ap children_in leaf.is;
+  };
   before = ap (λ page. (header_in page).previous) leaf.is ∙ leaf.previous_is;
   after = ap (λ page. (header_in page).next) leaf.is ∙ leaf.next_is;
 }
 is_between SortedData g p previous next entries leaf = record {
-  bottom = record { level = ap (λ page. (header_in page).level) leaf.is ∙ leaf.level; type_is = ap type_in leaf.is; childless = ap children_in leaf.is };
+  bottom = record {
+    level = ap (λ page. (header_in page).level) leaf.is
+        ∙ leaf.level;
+    type_is = ap type_in leaf.is;
+    childless = ap children_in leaf.is;
+  };
   before = ap (λ page. (header_in page).previous) leaf.is ∙ leaf.previous_is;
   after = ap (λ page. (header_in page).next) leaf.is ∙ leaf.next_is;
 }
@@ -56,7 +71,8 @@ is_between SortedData g p previous next entries leaf = record {
 pub hold_units : (type : LeafType) (g : File) (before : ℕ) (placed : List LeafUnits) → AreLaid type g before placed → All (HoldsUnits type g) placed
 hold_units type g before [] laid = All-nil (HoldsUnits type g)
 hold_units type g before (leaf ∷ placed) laid =
-    All-cons (HoldsUnits type g) leaf placed (record { previous = before; next = _; is_leaf = laid.0; stand = laid.1 }) (hold_units type g leaf.page placed laid.2)
+    All-cons (HoldsUnits type g) leaf placed (record { previous = before; next = _; is_leaf = laid.0; stand = laid.1 })
+    (hold_units type g leaf.page placed laid.2)
 
 pub at_bottom : (type : LeafType) (g : File) (leaf : LeafUnits) → HoldsUnits type g leaf → IsAtBottom type g leaf.page
 at_bottom type g leaf holds = (is_between type g leaf.page holds.previous holds.next (entries_on leaf) holds.is_leaf).bottom
@@ -112,10 +128,12 @@ one_leaf type g leaf node is holds =
 
 -- A tree that is laid.
 
-pub have_leaves : (type : LeafType) (g : File) (rest : ℕ → Bool) (placed : List LeafUnits) (nodes : List Node) (above : List (List Node)) (root : Node)
+pub have_leaves : (type : LeafType) (g : File) (rest : ℕ → Bool) (placed : List LeafUnits) (nodes : List Node) (above : List (List Node))
+    (root : Node)
     → IsLaid type g rest placed nodes above root → All (HasLeaves g 1) nodes
 have_leaves type g rest placed nodes above root laid =
-    of_leaves (IsNodeOf type) (HoldsUnits type g) (HasLeaves g 1) (one_leaf type g) placed nodes laid.nodes_are (hold_units type g 0 placed laid.leaves)
+    of_leaves (IsNodeOf type) (HoldsUnits type g) (HasLeaves g 1) (one_leaf type g) placed nodes laid.nodes_are
+    (hold_units type g 0 placed laid.leaves)
 
 pub laid_trees_have_leaves : LaidTreesHaveLeaves
 laid_trees_have_leaves type g rest placed nodes above root laid =
@@ -128,7 +146,8 @@ laid_trees_are_linked type g rest placed nodes above root sort laid right =
     (ap (λ ps. list_any (is_wrong_place g) (places_from sort 0 ps)) (node_leaves type placed nodes laid.nodes_are)
     ∙ links_stand g sort (pages_of placed) (are_linked type g 0 placed laid.leaves)
     (All-map (λ p. has_type (leaf_types sort) (type_in (page_at g p)) ≡ true) (λ (leaf : LeafUnits). leaf.page) placed
-    (λ k d low. ap (has_type (leaf_types sort)) (at_bottom type g (get_or placed k d) (hold_units type g 0 placed laid.leaves k d low)).type_is ∙ right)))
+    (λ k d low. ap (has_type (leaf_types sort)) (at_bottom type g (get_or placed k d) (hold_units type g 0 placed laid.leaves k d low)).type_is
+    ∙ right)))
 
 -- The type of the root.
 
@@ -146,7 +165,8 @@ root_typed : (inner : InnerType) (g : File) (level t : ℕ) (below : List Node) 
     → IsTower inner g level below above root → All (HasType g t) below → HasType g t root ⊎ HasType g (inner_number inner) root
 root_typed inner g level t below [] root tower all = inl (All-head (HasType g t) root [] (subst (All (HasType g t)) tower all))
 root_typed inner g level t below (nodes ∷ above) root (over, tower) all =
-    let typed = all_over inner g (level + 1) (HasType g t) (HasType g (inner_number inner)) (λ node run this below. inner_typed inner g (level + 1) node run this)
+    let typed = all_over inner g (level + 1) (HasType g t) (HasType g (inner_number inner))
+    (λ node run this below. inner_typed inner g (level + 1) node run this)
     nodes below over all in
     elim (root_typed inner g (level + 1) (inner_number inner) nodes above root tower typed) [ inl same ↦ inr same | inr same ↦ inr same ]
 
@@ -155,7 +175,8 @@ pub bottom_types : (type : LeafType) (g : File) (leaf : LeafUnits) (node : Node)
 bottom_types type g leaf node is holds = ap (λ p. type_in (page_at g p)) is.page ∙ (at_bottom type g leaf holds).type_is
 
 -- what is so of a leaf's type and of that of the internal pages is so of the root's
-pub root_type_is : (type : LeafType) (g : File) (rest : ℕ → Bool) (placed : List LeafUnits) (nodes : List Node) (above : List (List Node)) (root : Node)
+pub root_type_is : (type : LeafType) (g : File) (rest : ℕ → Bool) (placed : List LeafUnits) (nodes : List Node) (above : List (List Node))
+    (root : Node)
     → IsLaid type g rest placed nodes above root → (test : Option ℕ → Bool) (b : Bool) → test (Some (type_number type)) ≡ b
     → test (Some (inner_number (inner_of type))) ≡ b → test (type_in (page_at g root.page)) ≡ b
 root_type_is type g rest placed nodes above root laid test b at_leaf at_inner =

@@ -1,5 +1,6 @@
 -- A tree that is laid is the part of a database.
-use Rattle.std.proofs.Common.{◌≡◌, ℕ, ◌/◌, ◌<◌, Bool, true, false, not, cond, List, [], ◌∷◌, append-nil, map, length, Some, None, arith, refl, sym, ◌∙◌, ap, subst, inl, inr}
+use Rattle.std.proofs.Common.{◌≡◌, ℕ, ◌/◌, ◌<◌, Bool, true, false, not, cond, List, [], ◌∷◌, append-nil, map, length, Some, None, arith, refl, sym}
+use Rattle.std.proofs.Common.{◌∙◌, ap, subst, inl, inr}
 use Rattle.std.specs.Prelude.{◌==◌, ◌&&◌}
 use Rattle.std.specs.List.{All, Contains, flat_map, list_any}
 use Rattle.std.proofs.lemmas.Bool.{and_right}
@@ -15,7 +16,9 @@ use Rattle.bdb_format.specs.References.{fit_rows, has_type, root_types}
 use Rattle.bdb_format.specs.Chains.{value_of}
 use Rattle.bdb_format.specs.Leaves.{children_in, leaves}
 use Rattle.bdb_format.specs.Contents.{StoredPair, entries_in, pairs_in, pairs_of, tree_pairs}
-use Rattle.bdb_format.specs.ContentRows.{ascends, btree_contents, database_rows, has_wrong_count, has_wrong_record, has_wrong_separator, inner_in, inner_pages, is_out_of_order, is_wrong_at, neighbours, has_duplicate, has_unsorted, has_wrong_set, recno_contents}
+use Rattle.bdb_format.specs.ContentRows.{ascends, btree_contents, database_rows, has_wrong_count, has_wrong_record, has_wrong_separator, inner_in}
+use Rattle.bdb_format.specs.ContentRows.{inner_pages, is_out_of_order, is_wrong_at, neighbours, has_duplicate, has_unsorted, has_wrong_set}
+use Rattle.bdb_format.specs.ContentRows.{recno_contents}
 use Rattle.bdb_format.specs.Lists.{ListKey, list_of}
 use Rattle.bdb_format.specs.declared.kinds.Kind.TheVariants.{Btree, Recno}
 use Rattle.bdb_format.specs.ByPage.{holding}
@@ -32,12 +35,15 @@ use Rattle.bdb_levels.specs.declared.inner_type.InnerType.TheVariants.{Keyed}
 use Rattle.bdb_levels.proofs.ContentLemmas.{counts_of_records, counts_of_towers, separators_of_towers}
 use Rattle.bdb_leaves.specs.LeafEntries.{Entry, pairs_from, type_number}
 use Rattle.bdb_leaves.specs.Units.{key_of, list_of_units}
-use Rattle.bdb_leaves.specs.Laid.{Counts, HasUnits, IsKeyOf, IsLaid, IsNodeOf, LaidTreesAreParts, SuitsBtree, SuitsRecno, entries_on, inner_of, is_laid}
-use Rattle.bdb_leaves.specs.Placed.{HasLength, HoldsUnits, LeafUnits, Placed, PlacedEntry, PlacedPairs, PlacedTree, StandsPlaced, entries_of, pages_of, pairs_on, unit_of, units_in}
+use Rattle.bdb_leaves.specs.Laid.{Counts, HasUnits, IsKeyOf, IsLaid, IsNodeOf, LaidTreesAreParts, SuitsBtree, SuitsRecno, entries_on, inner_of}
+use Rattle.bdb_leaves.specs.Laid.{is_laid}
+use Rattle.bdb_leaves.specs.Placed.{HasLength, HoldsUnits, LeafUnits, Placed, PlacedEntry, PlacedPairs, PlacedTree, StandsPlaced, entries_of}
+use Rattle.bdb_leaves.specs.Placed.{pages_of, pairs_on, unit_of, units_in}
 use Rattle.bdb_leaves.specs.declared.leaf_type.LeafType.{LeafType}
 use Rattle.bdb_leaves.specs.declared.leaf_type.LeafType.TheVariants.{Pairs, Records, SortedData}
 use Rattle.bdb_leaves.proofs.LaidBranchLemmas.{laid_trees_are_branches}
-use Rattle.bdb_leaves.proofs.LaidLemmas.{at_bottom, both_zip, have_leaves, hold_units, laid_trees_are_linked, laid_trees_have_leaves, node_leaves, of_leaves, root_type_is}
+use Rattle.bdb_leaves.proofs.LaidLemmas.{at_bottom, both_zip, have_leaves, hold_units, laid_trees_are_linked, laid_trees_have_leaves, node_leaves}
+use Rattle.bdb_leaves.proofs.LaidLemmas.{of_leaves, root_type_is}
 use Rattle.bdb_leaves.proofs.LaidSetLemmas.{entries_are}
 use Rattle.bdb_leaves.proofs.PlacedLaws.{unless, pairs_follow, records_keep_length, units_are_listed, units_keep_rules}
 
@@ -122,7 +128,8 @@ separators_right g rest placed nodes above root p laid ascend =
           separators_of_towers g 1 p nodes above root laid.tower (are_leaves Pairs g rest placed nodes above root laid)
           (have_leaves Pairs g rest placed nodes above root laid)
           (of_leaves (IsNodeOf Pairs) (λ leaf. HoldsUnits Pairs g leaf × HasUnits leaf) (λ node. BeginsWith g node (pairs_below g node))
-          (λ leaf node is both. begins_with g leaf.page leaf.units node both.0 both.1 is) placed nodes laid.nodes_are (λ k d low. (hold k d low, some k d low)))
+          (λ leaf node is both. begins_with g leaf.page leaf.units node both.0 both.1 is) placed nodes laid.nodes_are
+          (λ k d low. (hold k d low, some k d low)))
           (subst Follow (ap (flat_map (pairs_of g)) (sym (node_leaves Pairs placed nodes laid.nodes_are))
           ∙ flat_map_twice (pairs_of g) (λ (node : Node). node.leaves) nodes) ((pairs_follow g).0 placed hold ascend))
       | inr none ↦ ap (λ ps. is_wrong_at g (has_wrong_separator g) ps p) (no_inner Pairs g rest placed nodes above root laid none)
@@ -208,7 +215,8 @@ part_of type g rest placed nodes above root meta list laid is typed bottom conte
       branch = subst (λ r. IsBranch g (is_laid rest placed above) (r ∷ [])) (sym is) branch;
       entered = record {
         fit = λ e at. subst (λ x. first_row (fit_rows g (entrance_asks (BtreeFields meta)) x) ≡ None) (same e at)
-            (fits_asked g (entrance_asks (BtreeFields meta)) root.page (branch.grove.low root.page there) (branch.grove.high root.page there) typed refl refl);
+            (fits_asked g (entrance_asks (BtreeFields meta)) root.page (branch.grove.low root.page there)
+            (branch.grove.high root.page there) typed refl refl);
         once = λ e. one_at_most (λ other. other == e) meta.root;
       };
       trees = λ e at. subst (λ x. has_wrong_place g Root x ≡ false) (same e at)

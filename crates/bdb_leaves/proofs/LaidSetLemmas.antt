@@ -14,7 +14,8 @@ use Rattle.bdb_levels.specs.Links.{leaf_types}
 use Rattle.bdb_leaves.specs.Inner.{inner_number}
 use Rattle.bdb_leaves.specs.LeafEntries.{Entry, IsLeafIn, type_number}
 use Rattle.bdb_leaves.specs.Laid.{LaidSetsHoldData, entries_on, has_sorted_data, inner_of, live_value}
-use Rattle.bdb_leaves.specs.Placed.{HoldsUnits, LeafUnits, Placed, PlacedEntry, PlacedPairs, PlacedTree, StandsPlaced, entries_of, pages_of, unit_of, units_in}
+use Rattle.bdb_leaves.specs.Placed.{HoldsUnits, LeafUnits, Placed, PlacedEntry, PlacedPairs, PlacedTree, StandsPlaced, entries_of, pages_of, unit_of}
+use Rattle.bdb_leaves.specs.Placed.{units_in}
 use Rattle.bdb_leaves.specs.declared.leaf_type.LeafType.{LeafType}
 use Rattle.bdb_leaves.specs.declared.leaf_type.LeafType.TheVariants.{Pairs, Records, SortedData}
 use Rattle.bdb_leaves.proofs.LaidLemmas.{hold_units, laid_trees_are_linked, laid_trees_have_leaves, root_type_is}
@@ -61,7 +62,8 @@ all_values type g (leaf ∷ placed) unpaired all =
     let holds = All-head (HoldsUnits type g) leaf placed all in
     ap (λ values. values ++ flat_map (λ p. live_values g (page_at g p)) (pages_of placed))
     (ap (values_of g) (entries_are type g leaf.page holds.previous holds.next (entries_on leaf) unpaired holds.is_leaf)
-    ∙ values_read g leaf.units (All-weaker (StandsPlaced type g) (StandsPlaced Records g) (λ unit. as_record type g unit unpaired) leaf.units holds.stand))
+    ∙ values_read g leaf.units
+    (All-weaker (StandsPlaced type g) (StandsPlaced Records g) (λ unit. as_record type g unit unpaired) leaf.units holds.stand))
     ∙ (ap (λ values. flat_map live_value (map unit_of leaf.units) ++ values)
     (all_values type g placed unpaired (All-tail (HoldsUnits type g) leaf placed all))
     ∙ sym (flat_map-append live_value (map unit_of leaf.units) (units_in placed)))
@@ -87,7 +89,8 @@ laid_sets_hold_data type g rest placed nodes above root laid unpaired =
     let types = set_types type unpaired in (
       ap (flat_map (λ p. live_values g (page_at g p))) (laid_trees_have_leaves type g rest placed nodes above root laid)
           ∙ all_values type g placed unpaired (hold_units type g 0 placed laid.leaves),
-      root_type_is type g rest placed nodes above root laid (has_type (wrong_set_types (has_sorted_data type))) false types.leaf_right types.inner_right,
+      root_type_is type g rest placed nodes above root laid
+          (has_type (wrong_set_types (has_sorted_data type))) false types.leaf_right types.inner_right,
       record {
         type = root_type_is type g rest placed nodes above root laid (has_type (3 ∷ 4 ∷ 6 ∷ 12 ∷ [])) true types.leaf_fits types.inner_fits;
         places = laid_trees_are_linked type g rest placed nodes above root DuplicateRoot laid types.bottom;

@@ -1,5 +1,6 @@
 -- A leaf that is added, and a leaf whose links change.
-use Rattle.std.proofs.Common.{◌≡◌, ℕ, ◌+◌, ◌-◌, ◌*◌, ◌<◌, ◌≤◌, ◌^◌, true, List, [], ◌∷◌, map, length, drop, replicate, arith, refl, sym, ◌∙◌, ap, subst, length-append}
+use Rattle.std.proofs.Common.{◌≡◌, ℕ, ◌+◌, ◌-◌, ◌*◌, ◌<◌, ◌≤◌, ◌^◌, true, List, [], ◌∷◌, map, length, drop, replicate, arith, refl, sym, ◌∙◌, ap}
+use Rattle.std.proofs.Common.{subst, length-append}
 use Rattle.std.specs.List.{range_with_len, sum_by}
 use Rattle.std.proofs.lemmas.List.{get_or_push, length-replicate, same_lists}
 use Rattle.std.proofs.lemmas.List.FromFn.{get_or-map-range_with_len, length-map-range_with_len}
@@ -23,7 +24,8 @@ use Rattle.bdb_pack.proofs.KeptLemmas.{IsKept, rows_same}
 use Rattle.bdb_pack.proofs.OpenLemmas.{open_is}
 use Rattle.bdb_pack.proofs.PlaceLemmas.{behind, byte_same, number_before, number_here, number_same}
 use Rattle.bdb_pack.proofs.StandingLemmas.{leaf_item_same, listing}
-use Rattle.bdb_leaves.specs.LeafEntries.{Entry, HoldsEntries, HoldsEntriesOn, entry_cost, leaf_header, leaf_of, room_of, type_number, with_field, with_leaf}
+use Rattle.bdb_leaves.specs.LeafEntries.{Entry, HoldsEntries, HoldsEntriesOn, entry_cost, leaf_header, leaf_of, room_of, type_number, with_field}
+use Rattle.bdb_leaves.specs.LeafEntries.{with_leaf}
 use Rattle.bdb_leaves.specs.declared.leaf_type.LeafType.{LeafType}
 use Rattle.bdb_leaves.specs.declared.leaf_type.LeafType.TheVariants.{Pairs, Records, SortedData}
 use Rattle.bdb_leaves.proofs.EntryLemmas.{bytes_with, leaf_typed, page_is}
@@ -49,7 +51,8 @@ empty_as Pairs header = refl
 empty_as Records header = refl
 empty_as SortedData header = refl
 
-empty_leaf : (type : LeafType) (order : Order) (page : List ℕ) (number previous : ℕ) → is_page_size (length page) ≡ true → number < 2 ^ 32 → previous < 2 ^ 32
+empty_leaf : (type : LeafType) (order : Order) (page : List ℕ) (number previous : ℕ) → is_page_size (length page) ≡ true → number < 2 ^ 32
+    → previous < 2 ^ 32
     → HoldsEntries type order (begun_page order page (leaf_header type number previous)) number previous 0 []
 empty_leaf type order page number previous legal low_number low_previous =
     let header : Header = leaf_header type number previous in
@@ -83,7 +86,8 @@ empty_leaf type order page number previous legal low_number low_previous =
       room = omega (arith, none, high, long);
     }
 
-pub leaf_added : (type : LeafType) (byte : ℕ) (old added new : Built) (number previous : ℕ) → byte ≡ type_number type → is_page_size old.size ≡ true → length old.pages < 2 ^ 21 → previous < 2 ^ 32
+pub leaf_added : (type : LeafType) (byte : ℕ) (old added new : Built) (number previous : ℕ) → byte ≡ type_number type → is_page_size old.size ≡ true
+    → length old.pages < 2 ^ 21 → previous < 2 ^ 32
     → added ≡ with_zeros old → number ≡ length old.pages
     → new ≡ with_page added number (begun_page added.order (bytes_of added number) (record (leaf_header type number previous) { page_type = byte }))
     → (new ≡ with_leaf type old previous) × HoldsEntriesOn type new number previous 0 [] × (length (bytes_of new number) ≡ old.size)
@@ -94,7 +98,8 @@ leaf_added type byte old added new number previous type_is legal few low zeros a
     let long : length page ≡ old.size = ap length blank ∙ length-replicate old.size 0 in
     let is : new ≡ with_leaf type old previous =
     begun
-    ∙ (ap (λ t. with_page added number (begun_page added.order (bytes_of added number) (record (leaf_header type number previous) { page_type = t }))) type_is
+    ∙ (ap (λ t. with_page added number
+    (begun_page added.order (bytes_of added number) (record (leaf_header type number previous) { page_type = t }))) type_is
     ∙ (ap (λ (b : Built). with_page b number (begun_page b.order (bytes_of b number) (leaf_header type number previous))) zeros
     ∙ ap (λ k. with_page (with_zeros old) k (begun_page old.order (bytes_of (with_zeros old) k) (leaf_header type k previous))) at_end)) in
     let leaf : List ℕ = begun_page old.order page (leaf_header type n previous) in
@@ -142,7 +147,8 @@ field_behind order page at number x low long least =
     number_same 4 order (with_field order page at number) page x x
     (behind page at (spelled 4 order number) x (omega (arith, length-spelled 4 order number, low)) (omega (arith, long, least))) (omega arith)
 
-pub number_written : (order : Order) (page : List ℕ) (number previous next : ℕ) → 26 ≤ length page → number < 2 ^ 32 → four_at order page 12 ≡ previous
+pub number_written : (order : Order) (page : List ℕ) (number previous next : ℕ) → 26 ≤ length page → number < 2 ^ 32
+    → four_at order page 12 ≡ previous
     → four_at order page 16 ≡ next → HasLinks order page (with_field order page 8 number) number previous next
 number_written order page number previous next long low before after =
     record {
@@ -258,7 +264,8 @@ linked_held type order page new p previous next number before after entries is h
     leaf_item_same order new page 20 k is.body at.0 at.1 in
     let there : abstract_page order new ≡ leaf_of type (with_links holds.page number before after) =
     leaf_typed type order new (omega (arith, bounds.least, is.long)) type_is
-    ∙ ap (leaf_of type) (linked_page order page new number before after (leaf_item_at order new) (leaf_item_at order page) holds.begun is items ∙ ap (λ l. with_links l number before after) old_page) in
+    ∙ ap (leaf_of type) (linked_page order page new number before after (leaf_item_at order new) (leaf_item_at order page) holds.begun is items
+    ∙ ap (λ l. with_links l number before after) old_page) in
     let high : high_free_of order new ≡ high_free_of order page = number_same 2 order new page 20 22 is.body (omega arith) in
     let count : entries_of order new ≡ entries_of order page = number_same 2 order new page 20 20 is.body (omega arith) in
     record {
@@ -274,7 +281,8 @@ linked_held type order page new p previous next number before after entries is h
       offsets = holds.offsets;
       above = λ k under. let up = holds.above k under in omega (arith, up, high);
       shares = holds.shares;
-      room = let room : room_of order page + sum_by (entry_cost order) entries ≡ length page - 26 = holds.room in omega (arith, room, high, count, is.long);
+      room = let room : room_of order page + sum_by (entry_cost order) entries ≡ length page - 26 = holds.room in omega
+          (arith, room, high, count, is.long);
     }
 
 -- one of its links changes
@@ -333,7 +341,8 @@ previous_set type old new p previous low fits is before next entries holds =
 
 pub next_set : (type : LeafType) (old new : Built) (p next : ℕ) → p < length old.pages → next < 2 ^ 32
     → new ≡ with_page old p (with_field old.order (bytes_of old p) 16 next)
-    → (previous before : ℕ) (entries : List Entry) → HoldsEntriesOn type old p previous before entries → HoldsEntriesOn type new p previous next entries
+    → (previous before : ℕ) (entries : List Entry) → HoldsEntriesOn type old p previous before entries
+    → HoldsEntriesOn type new p previous next entries
 next_set type old new p next low fits is previous before entries holds =
     held_on type old new p p previous next (with_field old.order (bytes_of old p) 16 next) entries low is
     (followed type old.order (bytes_of old p) p previous before next entries fits holds)

@@ -1,5 +1,6 @@
 -- The leaves of a tree that is being built.
-use Rattle.std.proofs.Common.{◌≡◌, ℕ, ◌+◌, ◌<◌, ◌≤◌, Bool, true, false, List, [], ◌∷◌, ◌++◌, length, replicate, arith, refl, sym, ◌∙◌, ap, subst, inl, inr, length-append, length-set, true≢false}
+use Rattle.std.proofs.Common.{◌≡◌, ℕ, ◌+◌, ◌<◌, ◌≤◌, Bool, true, false, List, [], ◌∷◌, ◌++◌, length, replicate, arith, refl, sym, ◌∙◌, ap, subst, inl}
+use Rattle.std.proofs.Common.{inr, length-append, length-set, true≢false}
 use Rattle.std.specs.List.{Contains}
 use Rattle.std.proofs.lemmas.List.{get_or-set_other, get_or_append_left}
 use Rattle.bdb_format.proofs.MemberLemmas.{first_member, later_member, member_cases, no_member}
@@ -19,7 +20,8 @@ leaf_stays type old new p previous next entries order same holds =
 
 -- leaves whose pages stay
 pub leaves_kept : (type : LeafType) (old new : Built) (previous : ℕ) (ps : List ℕ) (closed : List (List Entry)) (beyond : ℕ) → new.order ≡ old.order
-    → ((p : ℕ) → Contains ps p → bytes_of new p ≡ bytes_of old p) → LeavesFrom type old previous ps closed beyond → LeavesFrom type new previous ps closed beyond
+    → ((p : ℕ) → Contains ps p → bytes_of new p ≡ bytes_of old p) → LeavesFrom type old previous ps closed beyond
+    → LeavesFrom type new previous ps closed beyond
 leaves_kept type old new previous [] [] beyond order same hold = tt
 leaves_kept type old new previous [] (entries ∷ others) beyond order same hold = hold
 leaves_kept type old new previous (p ∷ ps) [] beyond order same hold = hold
@@ -30,7 +32,8 @@ leaves_kept type old new previous (p ∷ ps) (entries ∷ others) beyond order s
 )
 
 -- the numbers of leaves rise up to the last
-pub at_most_last : (type : LeafType) (built : Built) (previous : ℕ) (ps : List ℕ) (closed : List (List Entry)) (beyond : ℕ) → LeavesFrom type built previous ps closed beyond
+pub at_most_last : (type : LeafType) (built : Built) (previous : ℕ) (ps : List ℕ) (closed : List (List Entry)) (beyond : ℕ)
+    → LeavesFrom type built previous ps closed beyond
     → (previous ≤ last_of previous ps) × ((p : ℕ) → Contains ps p → p ≤ last_of previous ps)
 at_most_last type built previous [] closed beyond hold = (omega arith, λ p among. absurd (no_member [] p refl among))
 at_most_last type built previous (p ∷ ps) [] beyond hold = absurd hold
@@ -106,7 +109,8 @@ opened leaves next old one new follow add type numbers end closes fresh long som
           let last_order : one.order ≡ new.order = ap (λ (b : Built). b.order) follow ∙ sym order in
           let last_kept : HoldsEntriesOn t new leaves.last (last_of 0 leaves.closed.items) (length old.pages) entries =
           subst (λ o. HoldsEntries t o (bytes_of new leaves.last) leaves.last (last_of 0 leaves.closed.items) (length old.pages) entries) last_order
-          (subst (λ bs. HoldsEntries t one.order bs leaves.last (last_of 0 leaves.closed.items) (length old.pages) entries) (sym (later leaves.last there))
+          (subst (λ bs. HoldsEntries t one.order bs leaves.last (last_of 0 leaves.closed.items) (length old.pages) entries)
+          (sym (later leaves.last there))
           (closes (last_of 0 leaves.closed.items) 0 entries hold.last_holds)) in
           let all : LeavesFrom t new 0 (leaves.closed.items ++ (leaves.last ∷ [])) (closed ++ (entries ∷ [])) (length old.pages) =
           leaf_closed t new 0 leaves.closed.items closed leaves.last (length old.pages) entries kept up last_kept in
@@ -115,7 +119,8 @@ opened leaves next old one new follow add type numbers end closes fresh long som
           record {
             closed_hold = subst (λ u. LeavesFrom u new 0 next.closed.items (closed ++ (entries ∷ [])) next.last) (sym type)
                 (subst (λ ns. LeavesFrom t new 0 ns (closed ++ (entries ∷ [])) next.last) (sym numbers)
-                (subst (λ n. LeavesFrom t new 0 (leaves.closed.items ++ (leaves.last ∷ [])) (closed ++ (entries ∷ [])) n) (sym (end ∙ same_count)) all));
+                (subst (λ n. LeavesFrom t new 0 (leaves.closed.items ++ (leaves.last ∷ [])) (closed ++ (entries ∷ [])) n)
+                (sym (end ∙ same_count)) all));
             last_holds = subst (λ u. HoldsEntriesOn u new next.last (last_of 0 next.closed.items) 0 []) (sym type)
                 (subst (λ n. HoldsEntriesOn t new next.last n 0 []) (sym moved) fresh);
             after = omega (arith, moved, end, same_count, there);
@@ -144,7 +149,8 @@ grown leaves old new entry kept long more =
           let rise = at_most_last leaves.leaf_type old 0 leaves.closed.items closed leaves.last hold.closed_hold in
           record {
             closed_hold = leaves_kept leaves.leaf_type old new 0 leaves.closed.items closed leaves.last kept.order
-                (λ q among. let most = rise.1 q among in kept.same q (omega (arith, most, up, there)) (λ e. omega (arith, e, most, up))) hold.closed_hold;
+                (λ q among. let most = rise.1 q among in kept.same q (omega (arith, most, up, there))
+                (λ e. omega (arith, e, most, up))) hold.closed_hold;
             last_holds = more (last_of 0 leaves.closed.items) 0 entries hold.last_holds;
             after = up;
             there = omega (arith, there, grows);

@@ -1,5 +1,6 @@
 -- A level that is laid stands over its nodes in each later file.
-use Rattle.std.proofs.Common.{◌≡◌, ◌⊎◌, ℕ, zero, suc, ◌+◌, ◌-◌, ◌<◌, ◌≤◌, List, [], ◌∷◌, length, map, get_or, None, arith, refl, sym, ◌∙◌, ap, subst, inl, inr, length-append}
+use Rattle.std.proofs.Common.{◌≡◌, ◌⊎◌, ℕ, zero, suc, ◌+◌, ◌-◌, ◌<◌, ◌≤◌, List, [], ◌∷◌, length, map, get_or, None, arith, refl, sym, ◌∙◌, ap, subst}
+use Rattle.std.proofs.Common.{inl, inr, length-append}
 use Rattle.std.specs.List.{All, Contains, flat_map, range_with_len}
 use Rattle.std.proofs.lemmas.Bool.{cases_eq, cases_lt}
 use Rattle.bdb_format.specs.declared.pages.Header.{Header}
@@ -15,7 +16,9 @@ use Rattle.bdb_levels.specs.Nodes.{AreOver, CountsTwo, IsOver, Node, no_node}
 use Rattle.bdb_levels.specs.Roots.{key_heads}
 use Rattle.bdb_pack.specs.Built.{Built, bytes_of, file_so_far}
 use Rattle.bdb_leaves.specs.Inner.{CountsFew, HasNodes, HoldsChildrenOn, KeysCount, child_cost, first_cost, nodes_cost}
-use Rattle.bdb_leaves.specs.Levels.{AreChildren, HasKey, IsChild, IsLaidBy, KeyStandsOn, IsKeptPage, LevelsAreFormed, LevelsAreLater, LevelsAreNumbered, LevelsGoOn, LevelsKeepPages, LevelsShrink, LevelsStand, heads_in, heads_of, heads_under, no_child, node_over, nodes_over}
+use Rattle.bdb_leaves.specs.Levels.{AreChildren, HasKey, IsChild, IsLaidBy, KeyStandsOn, IsKeptPage, LevelsAreFormed, LevelsAreLater}
+use Rattle.bdb_leaves.specs.Levels.{LevelsAreNumbered, LevelsGoOn, LevelsKeepPages, LevelsShrink, LevelsStand, heads_in, heads_of, heads_under}
+use Rattle.bdb_leaves.specs.Levels.{no_child, node_over, nodes_over}
 use Rattle.bdb_leaves.specs.declared.levels.Child.{Child}
 use Rattle.bdb_leaves.proofs.InnerLemmas.{IsRaised, chain_as, children_are_formed, children_stand, few_raised, raised_stands}
 use Rattle.bdb_leaves.proofs.LevelHeadLemmas.{raising_head, raising_other}
@@ -175,7 +178,8 @@ levels_stand inner level old new below above nodes pages g laid are all heads la
     let group : List Node = get_or groups k [] in
     let page = by.pages k under in
     let low : base + k < length new.pages = omega (arith, under, count) in
-    page_over inner level old new g (base + k) below nodes group page.holds page.some low (later.same (base + k) (all (base + k) (omega arith) low)) are
+    page_over inner level old new g (base + k) below nodes group page.holds page.some low
+    (later.same (base + k) (all (base + k) (omega arith) low)) are
     (λ node at. group_node groups nodes k node laid.joined_is under at)
     (λ h at. two h (in_flat_map (heads_under inner) groups group h (member_at groups [] k under) at))))
 
@@ -229,7 +233,7 @@ levels_are_formed inner level old new above nodes p laid high low under =
     (children_are_formed inner new.order (bytes_of new (length old.pages + k)) (length old.pages + k) level (get_or laid.groups k []) page.holds high
     page.some)
 
-member_or_not : (hs : List ℕ) (h : ℕ) → Contains hs h ⊎ (Contains hs h → ⊥)
+pub member_or_not : (hs : List ℕ) (h : ℕ) → Contains hs h ⊎ (Contains hs h → ⊥)
 member_or_not [] h = inr (λ at. no_member [] h refl at)
 member_or_not (x ∷ xs) h =
     elim (cases_eq x h) [

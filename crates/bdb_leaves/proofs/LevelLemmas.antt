@@ -1,5 +1,6 @@
 -- A level of internal pages that takes a child: on its last page, or on a new one.
-use Rattle.std.proofs.Common.{◌≡◌, ℕ, zero, suc, ◌+◌, ◌-◌, ◌<◌, Bool, false, List, [], ◌∷◌, ◌++◌, length, get_or, set, Option, Some, arith, refl, sym, ◌∙◌, ap, subst, inl, inr, length-append, length-set, append_assoc}
+use Rattle.std.proofs.Common.{◌≡◌, ℕ, zero, suc, ◌+◌, ◌-◌, ◌<◌, Bool, false, List, [], ◌∷◌, ◌++◌, length, get_or, set, Option, Some, arith, refl, sym}
+use Rattle.std.proofs.Common.{◌∙◌, ap, subst, inl, inr, length-append, length-set, append_assoc}
 use Rattle.std.specs.Prelude.{SomeIff}
 use Rattle.std.specs.List.{Contains, flat_map, sum_by}
 use Rattle.std.proofs.lemmas.Bool.{cases_lt}
@@ -12,7 +13,8 @@ use Rattle.bdb_levels.specs.declared.inner_type.InnerType.{InnerType}
 use Rattle.bdb_levels.specs.Nodes.{Node, no_node}
 use Rattle.bdb_pack.specs.Built.{AreWhole, Built, bytes_of}
 use Rattle.bdb_leaves.specs.Inner.{HoldsChildren, HoldsChildrenOn, child_cost, nodes_cost}
-use Rattle.bdb_leaves.specs.Levels.{AreChildren, CanBeAsked, CanPush, HasKey, IsChild, IsLaid, IsLaidBy, IsLaidPage, IsStarted, IsTaken, LacksRoom, LaidNow, TakesNow, heads_in, heads_of, heads_under, no_child, raising}
+use Rattle.bdb_leaves.specs.Levels.{AreChildren, CanBeAsked, CanPush, HasKey, IsChild, IsLaid, IsLaidBy, IsLaidPage, IsStarted, IsTaken, LacksRoom}
+use Rattle.bdb_leaves.specs.Levels.{LaidNow, TakesNow, heads_in, heads_of, heads_under, no_child, raising}
 use Rattle.bdb_leaves.specs.declared.levels.Child.{Child}
 use Rattle.bdb_leaves.proofs.LevelHeadLemmas.{raising_append, raising_count, raising_like, raising_order}
 use Rattle.bdb_leaves.proofs.LevelTakeLemmas.{HeadsFew, Keeps, heads_few, holds_kept, key_kept, raising_keeps}

@@ -1,5 +1,6 @@
 -- Keys of leaves, and an internal page that takes a child or has no room for it, or is started with one.
-use Rattle.std.proofs.Common.{◌≡◌, ℕ, ◌+◌, ◌-◌, ◌<◌, ◌≤◌, true, false, List, [], ◌∷◌, ◌++◌, length, get_or, replicate, Option, Some, None, arith, refl, sym, ◌∙◌, ap, subst, inl, inr, length-set, length-append}
+use Rattle.std.proofs.Common.{◌≡◌, ℕ, ◌+◌, ◌-◌, ◌<◌, ◌≤◌, true, false, List, [], ◌∷◌, ◌++◌, length, get_or, replicate, Option, Some, None, arith}
+use Rattle.std.proofs.Common.{refl, sym, ◌∙◌, ap, subst, inl, inr, length-set, length-append}
 use Rattle.std.specs.Option.{option_map}
 use Rattle.std.specs.List.{Contains}
 use Rattle.std.proofs.lemmas.Bool.{cases_eq, leb-false, leb-true}
@@ -31,7 +32,8 @@ use Rattle.bdb_pack.specs.Placing.{HasRoom, begun_header, high_free_of, page_and
 use Rattle.bdb_pack.proofs.HeaderLemmas.{length-header}
 use Rattle.bdb_pack.proofs.OpenLemmas.{open_is}
 use Rattle.bdb_pack.proofs.PlacedLemmas.{is_below}
-use Rattle.bdb_leaves.specs.Inner.{CanTakeChild, CountsFew, HoldsChildren, HoldsChildrenOn, added_key, child_cost, child_item, inner_header, inner_number, with_inner}
+use Rattle.bdb_leaves.specs.Inner.{CanTakeChild, CountsFew, HoldsChildren, HoldsChildrenOn, added_key, child_cost, child_item, inner_header}
+use Rattle.bdb_leaves.specs.Inner.{inner_number, with_inner}
 use Rattle.bdb_leaves.specs.LeafEntries.{Entry, HoldsEntries, room_of, type_number}
 use Rattle.bdb_leaves.specs.Levels.{BeginsWithKey, HasKey, IsStarted, IsTaken, KeyStandsOn, LacksRoom, heads_of, raising, stored_heads, stored_key}
 use Rattle.bdb_leaves.specs.declared.leaf_type.LeafType.{LeafType}

@@ -24,7 +24,7 @@ use Rattle.bdb_leaves.specs.Levels.{AreChildren, BeginsWithKey, HasKey, IsChild,
 use Rattle.bdb_leaves.specs.Moved.{LinkedFrom}
 use Rattle.bdb_leaves.specs.declared.leaves.Leaves.{Leaves}
 use Rattle.bdb_leaves.specs.Placed.{IsOneValue, IsPlacedBySize, Placed, PlacedEntry, PlacedPairs, PlacedTree, StandsBySize, entries_of}
-use Rattle.bdb_leaves.specs.Puts.{CountsFewFrom}
+use Rattle.bdb_leaves.specs.Puts.{CountsOneFrom}
 use Rattle.bdb_leaves.specs.Rooted.{CountsLeaves, IsOneLeaf, zip_units}
 use Rattle.bdb_leaves.specs.declared.leaf_type.LeafType.{LeafType}
 use Rattle.bdb_leaves.specs.declared.leaf_type.LeafType.TheVariants.{Pairs, Records, SortedData}
@@ -35,7 +35,7 @@ use Rattle.bdb_leaves.specs.declared.leaf_type.LeafType.TheVariants.{Pairs, Reco
 pub record IsFirst (size before : ℕ) (built : Built) (entry : Entry) : Type 0 where
   pub value : List ℕ
   pub by_size : StandsBySize size entry.item.content value
-  pub few : CountsFewFrom before built entry.item.content
+  pub heads : CountsOneFrom before built entry.item.content
 
 -- entries that begin so
 pub record Begins (size before : ℕ) (built : Built) (entries : List Entry) : Type 0 where
@@ -45,15 +45,16 @@ pub record Begins (size before : ℕ) (built : Built) (entries : List Entry) : T
   pub first : IsFirst size before built entry
 
 unit_begins : (type : LeafType) (size before : ℕ) (built : Built) (unit : Placed) → IsPlacedBySize size unit
-    → All (CountsFewFrom before built) (unit_contents type unit) → Begins size before built (entries_of unit)
+    → All (CountsOneFrom before built) (unit_contents type unit) → Begins size before built (entries_of unit)
 unit_begins type size before built (PlacedEntry entry) sizes few = record {
   entry = _;
   others = [];
   is = refl;
-  first = record { value = entry.value; by_size = sizes; few = first_few type few };
+  first = record { value = entry.value; by_size = sizes; heads = first_few type few };
 }
   where
-    first_few : (type : LeafType) → All (CountsFewFrom before built) (unit_contents type (PlacedEntry entry)) → CountsFewFrom before built entry.item.content
+    first_few : (type : LeafType) → All (CountsOneFrom before built) (unit_contents type (PlacedEntry entry))
+        → CountsOneFrom before built entry.item.content
     first_few Pairs few = few 0 entry.item.content (omega arith)
     first_few Records few = few 0 entry.item.content (omega arith)
     first_few SortedData few = few 0 entry.item.content (omega arith)
@@ -61,11 +62,11 @@ unit_begins type size before built (PlacedPairs key first more) sizes few = reco
   entry = _;
   others = _;
   is = refl;
-  first = record { value = key.value; by_size = sizes.0; few = first_few type few };
+  first = record { value = key.value; by_size = sizes.0; heads = first_few type few };
 }
   where
-    first_few : (type : LeafType) → All (CountsFewFrom before built) (unit_contents type (PlacedPairs key first more))
-        → CountsFewFrom before built key.item.content
+    first_few : (type : LeafType) → All (CountsOneFrom before built) (unit_contents type (PlacedPairs key first more))
+        → CountsOneFrom before built key.item.content
     first_few Pairs few = few 0 key.item.content (omega arith)
     first_few Records few = few 0 key.item.content (omega arith)
     first_few SortedData few = few 0 key.item.content (omega arith)
@@ -73,21 +74,21 @@ unit_begins type size before built (PlacedTree key root values) sizes few = reco
   entry = _;
   others = _;
   is = refl;
-  first = record { value = key.value; by_size = sizes.0; few = first_few type few };
+  first = record { value = key.value; by_size = sizes.0; heads = first_few type few };
 }
   where
-    first_few : (type : LeafType) → All (CountsFewFrom before built) (unit_contents type (PlacedTree key root values))
-        → CountsFewFrom before built key.item.content
+    first_few : (type : LeafType) → All (CountsOneFrom before built) (unit_contents type (PlacedTree key root values))
+        → CountsOneFrom before built key.item.content
     first_few Pairs few = few 0 key.item.content (omega arith)
     first_few Records few = few 0 key.item.content (omega arith)
     first_few SortedData few = few 0 key.item.content (omega arith)
 
 units_begin : (type : LeafType) (size before : ℕ) (built : Built) (units : List Placed) → 0 < length units → All (IsPlacedBySize size) units
-    → All (CountsFewFrom before built) (flat_map (unit_contents type) units) → Begins size before built (flat_map entries_of units)
+    → All (CountsOneFrom before built) (flat_map (unit_contents type) units) → Begins size before built (flat_map entries_of units)
 units_begin type size before built [] some sizes few = absurd (omega (arith, some))
 units_begin type size before built (unit ∷ units) some sizes few =
     let one = unit_begins type size before built unit (sizes 0 unit (omega arith))
-    (all_left (CountsFewFrom before built) (unit_contents type unit) (flat_map (unit_contents type) units) few) in
+    (all_left (CountsOneFrom before built) (unit_contents type unit) (flat_map (unit_contents type) units) few) in
     record {
       entry = one.entry;
       others = one.others ++ flat_map entries_of units;
@@ -121,14 +122,16 @@ leaf_is_node type counted size before built p units begins =
         (refl, one_value size begins.entry.item.content begins.first.value begins.first.by_size)
 
 -- its key stands in it, or in a chain that counts few references
-key_stands : (before : ℕ) (built : Built) (content : Content) → IsOneValue content → CountsFewFrom before built content → KeyStandsOn built content
+key_stands : (before : ℕ) (built : Built) (content : Content) → IsOneValue content → CountsOneFrom before built content → KeyStandsOn built content
 key_stands before built (Inline bytes) one few = tt
-key_stands before built (Chain head total) one few = (few.1, few.2)
+key_stands before built (Chain head total) one (low, under, counts) =
+    let few = counts.one in (under, record { long = counts.long; type_is = counts.type_is; few = omega (arith, few) })
 key_stands before built (Set blocks) one few = absurd one
 key_stands before built (Tree root) one few = absurd one
 key_stands before built Unknown one few = absurd one
 
-leaf_is_child : (type : LeafType) (counted : Bool) (size before : ℕ) (built : Built) (p previous next : ℕ) (units : List Placed) → p < length built.pages
+leaf_is_child : (type : LeafType) (counted : Bool) (size before : ℕ) (built : Built) (p previous next : ℕ) (units : List Placed)
+    → p < length built.pages
     → HoldsEntriesOn type built p previous next (flat_map entries_of units) → Begins size before built (flat_map entries_of units)
     → IsChild (inner_of type) built (leaf_child type counted p (flat_map entries_of units)) (leaf_node type counted p (flat_map entries_of units))
 leaf_is_child type counted size before built p previous next units low holds begins =
@@ -145,7 +148,7 @@ leaf_is_child type counted size before built p previous next units low holds beg
       holds = subst (HoldsEntriesOn type built p previous next) begins.is holds;
       key_is = refl;
       stands = key_stands before built begins.entry.item.content (one_value size begins.entry.item.content begins.first.value begins.first.by_size)
-          begins.first.few;
+          begins.first.heads;
     }
 
     key_of_type : (inner : InnerType) → HasKey inner built p (first_content (flat_map entries_of units))
@@ -178,16 +181,18 @@ cost_small type counted size before built p units legal begins =
 -- a leaf's units, each placed by its size
 pub record Fills (type : LeafType) (size before : ℕ) (built : Built) (units : List Placed) : Type 0 where
   pub sizes : All (IsPlacedBySize size) units
-  pub few : All (CountsFewFrom before built) (flat_map (unit_contents type) units)
+  pub heads : All (CountsOneFrom before built) (flat_map (unit_contents type) units)
 
 pub record AreNodes (type : LeafType) (counted : Bool) (size : ℕ) (built : Built) (ps : List ℕ) (groups : List (List Placed)) : Type 0 where
   pub nodes : AllZip (IsNodeOf type) (zip_units ps groups) (leaf_nodes type counted ps (map (flat_map entries_of) groups))
   pub children : AreChildren (inner_of type) built (leaf_children type counted ps (map (flat_map entries_of) groups))
       (leaf_nodes type counted ps (map (flat_map entries_of) groups))
-  pub costs : (node : Node) → Contains (leaf_nodes type counted ps (map (flat_map entries_of) groups)) node → child_cost (inner_of type) node + 40 ≤ size
+  pub costs : (node : Node) → Contains (leaf_nodes type counted ps (map (flat_map entries_of) groups)) node
+      → child_cost (inner_of type) node + 40 ≤ size
   pub units : All HasUnits (zip_units ps groups)
 
-pub are_nodes : (type : LeafType) (counted : Bool) (size before : ℕ) (built : Built) (previous : ℕ) (ps : List ℕ) (groups : List (List Placed)) (beyond : ℕ)
+pub are_nodes : (type : LeafType) (counted : Bool) (size before : ℕ) (built : Built) (previous : ℕ) (ps : List ℕ) (groups : List (List Placed))
+    (beyond : ℕ)
     → is_page_size size ≡ true → LinkedFrom type built previous ps (map (flat_map entries_of) groups) beyond
     → ((p : ℕ) → Contains ps p → p < length built.pages) → All (λ units. 0 < length units) groups → All (Fills type size before built) groups
     → AreNodes type counted size built ps groups
@@ -197,15 +202,21 @@ are_nodes type counted size before built previous [] (units ∷ groups) beyond l
 are_nodes type counted size before built previous (p ∷ ps) [] beyond legal linked low some fills = absurd linked
 are_nodes type counted size before built previous (p ∷ ps) (units ∷ groups) beyond legal (holds, linked) low some fills =
     let one = fills 0 units (omega arith) in
-    let begins = units_begin type size before built units (some 0 units (omega arith)) one.sizes one.few in
+    let begins = units_begin type size before built units (some 0 units (omega arith)) one.sizes one.heads in
     let rest = are_nodes type counted size before built p ps groups beyond legal linked (λ q at. low q (later_member p ps q at))
     (λ k d under. some (suc k) d (omega (arith, under))) (λ k d under. fills (suc k) d (omega (arith, under))) in
     record {
       nodes = (leaf_is_node type counted size before built p units (inr begins), rest.nodes);
-      children = (leaf_is_child type counted size before built p previous (first_of ps beyond) units (low p (first_member p ps)) holds begins, rest.children);
+      children = (
+        leaf_is_child type counted size before built p previous (first_of ps beyond) units
+            (low p (first_member p ps)) holds begins,
+        rest.children,
+      );
       costs = λ node at.
-          elim (member_cases (leaf_node type counted p (flat_map entries_of units)) (leaf_nodes type counted ps (map (flat_map entries_of) groups)) node at) [
-            | inl here ↦ subst (λ (n : Node). child_cost (inner_of type) n + 40 ≤ size) here (cost_small type counted size before built p units legal begins)
+          elim (member_cases (leaf_node type counted p (flat_map entries_of units))
+          (leaf_nodes type counted ps (map (flat_map entries_of) groups)) node at) [
+            | inl here ↦ subst (λ (n : Node). child_cost (inner_of type) n + 40 ≤ size) here
+                (cost_small type counted size before built p units legal begins)
             | inr later ↦ rest.costs node later
           ];
       units = All-cons HasUnits (record { page = p; units = units }) (zip_units ps groups) (some 0 units (omega arith)) rest.units;
@@ -220,7 +231,8 @@ each_leaf P (units ∷ groups) all =
     All-cons (All P) units groups (all_left P units (flat_map (λ leaf. leaf) groups) all)
     (each_leaf P groups (all_right P units (flat_map (λ leaf. leaf) groups) all))
 
-pub each_content : (P : Content → Type 0) (type : LeafType) (groups : List (List Placed)) → All P (flat_map (unit_contents type) (flat_map (λ leaf. leaf) groups))
+pub each_content : (P : Content → Type 0) (type : LeafType) (groups : List (List Placed))
+    → All P (flat_map (unit_contents type) (flat_map (λ leaf. leaf) groups))
     → All (λ units. All P (flat_map (unit_contents type) units)) groups
 each_content P type [] all = All-nil (λ units. All P (flat_map (unit_contents type) units))
 each_content P type (units ∷ groups) all =
@@ -231,7 +243,8 @@ each_content P type (units ∷ groups) all =
     (each_content P type groups
     (all_right P (flat_map (unit_contents type) units) (flat_map (unit_contents type) (flat_map (λ leaf. leaf) groups)) split))
 
-pub all_units : (closed : List (List Placed)) (units : List Placed) → flat_map (λ leaf. leaf) (closed ++ (units ∷ [])) ≡ flat_map (λ leaf. leaf) closed ++ units
+pub all_units : (closed : List (List Placed)) (units : List Placed)
+    → flat_map (λ leaf. leaf) (closed ++ (units ∷ [])) ≡ flat_map (λ leaf. leaf) closed ++ units
 all_units closed units =
     flat_map-append (λ leaf. leaf) closed (units ∷ []) ∙ ap (λ us. flat_map (λ leaf. leaf) closed ++ us) (append-nil units)
 
@@ -277,15 +290,16 @@ leaf_rooted leaves built counted before closed units none whole filled =
     units_of_last : AreFilled leaves built before closed units → Fills leaves.leaf_type built.size before built units
     units_of_last filled = record {
       sizes = all_right (IsPlacedBySize built.size) (flat_map (λ leaf. leaf) closed) units filled.sizes;
-      few = all_right (CountsFewFrom before built) (flat_map (unit_contents leaves.leaf_type) (flat_map (λ leaf. leaf) closed))
+      heads = all_right (CountsOneFrom before built) (flat_map (unit_contents leaves.leaf_type) (flat_map (λ leaf. leaf) closed))
           (flat_map (unit_contents leaves.leaf_type) units)
-          (subst (All (CountsFewFrom before built)) (flat_map-append (unit_contents leaves.leaf_type) (flat_map (λ leaf. leaf) closed) units) filled.few);
+          (subst (All (CountsOneFrom before built))
+          (flat_map-append (unit_contents leaves.leaf_type) (flat_map (λ leaf. leaf) closed) units) filled.heads);
     }
 
     begins_or_none : (us : List Placed) → Fills leaves.leaf_type built.size before built us
         → (us ≡ []) ⊎ Begins built.size before built (flat_map entries_of us)
     begins_or_none [] fills = inl refl
-    begins_or_none (unit ∷ us) fills = inr (units_begin leaves.leaf_type built.size before built (unit ∷ us) (omega arith) fills.sizes fills.few)
+    begins_or_none (unit ∷ us) fills = inr (units_begin leaves.leaf_type built.size before built (unit ∷ us) (omega arith) fills.sizes fills.heads)
 
 -- Which of the two.
 
@@ -294,12 +308,14 @@ none_of [] none = refl
 none_of (x ∷ xs) none = absurd (omega (arith, none))
 
 -- several leaves have a unit on the last
-pub last_has_unit : (leaves : Leaves) (built : Built) (before : ℕ) (closed : List (List Placed)) (units : List Placed) → (length leaves.closed.items ≡ 0 → ⊥)
+pub last_has_unit : (leaves : Leaves) (built : Built) (before : ℕ) (closed : List (List Placed)) (units : List Placed)
+    → (length leaves.closed.items ≡ 0 → ⊥)
     → AreFilled leaves built before closed units → (closed ≡ []) ⊎ (0 < length units) → 0 < length units
 last_has_unit leaves built before closed units several filled (inr some) = some
 last_has_unit leaves built before closed units several filled (inl none) =
     absurd (no_leaves leaves.closed.items several
-    (subst (λ groups. LeavesFrom leaves.leaf_type built 0 leaves.closed.items (map (flat_map entries_of) groups) leaves.last) none filled.hold.closed_hold))
+    (subst (λ groups. LeavesFrom leaves.leaf_type built 0 leaves.closed.items
+    (map (flat_map entries_of) groups) leaves.last) none filled.hold.closed_hold))
   where
     no_leaves : (ps : List ℕ) → (length ps ≡ 0 → ⊥) → LeavesFrom leaves.leaf_type built 0 ps [] leaves.last → ⊥
     no_leaves [] several hold = several refl

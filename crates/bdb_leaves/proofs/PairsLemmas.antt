@@ -1,5 +1,6 @@
 -- A key with its data that is put on the last leaf.
-use Rattle.std.proofs.Common.{◌≡◌, ℕ, suc, ◌+◌, ◌-◌, ◌*◌, ◌<◌, ◌≤◌, false, List, [], ◌∷◌, ◌++◌, length, map, get_or, take, arith, refl, sym, ◌∙◌, ap, subst, length-append}
+use Rattle.std.proofs.Common.{◌≡◌, ℕ, suc, ◌+◌, ◌-◌, ◌*◌, ◌<◌, ◌≤◌, false, List, [], ◌∷◌, ◌++◌, length, map, get_or, take, arith, refl, sym, ◌∙◌, ap}
+use Rattle.std.proofs.Common.{subst, length-append}
 use Rattle.std.specs.Prelude.{◌%◌}
 use Rattle.std.specs.List.{All, sum_by}
 use Rattle.std.proofs.lemmas.List.{append_assoc, get_or-append-add, map-append, take_more}
@@ -17,10 +18,11 @@ use Rattle.bdb_leaves.specs.Leaves.{AreLeaves, AreSomeLeaves, last_of}
 use Rattle.bdb_leaves.specs.Placed.{ValueItem}
 use Rattle.bdb_leaves.specs.Puts.{IsGrown, IsPut}
 use Rattle.bdb_leaves.specs.Units.{value_cost}
-use Rattle.bdb_leaves.specs.Runs.{ArePairsPut, ValuesStand, HasWholePairs, IsLiveItem, IsRunPut, held_by_item, more_cost, more_entries, pair_entries, pairs_cost}
+use Rattle.bdb_leaves.specs.Runs.{ArePairsPut, ValuesStand, HasWholePairs, IsLiveItem, IsRunPut, held_by_item, more_cost, more_entries, pair_entries}
+use Rattle.bdb_leaves.specs.Runs.{pairs_cost}
 use Rattle.bdb_leaves.specs.declared.leaves.Leaves.{Leaves}
 use Rattle.bdb_leaves.proofs.HeldLemmas.{after_two}
-use Rattle.bdb_leaves.proofs.RunLemmas.{all_map, few_kept, later_before, leaf_room, put_is_run, runs_follow, some_after}
+use Rattle.bdb_leaves.proofs.RunLemmas.{all_map, one_kept, later_before, leaf_room, put_is_run, runs_follow, some_after}
 
 -- The key of the last pair.
 
@@ -77,7 +79,8 @@ key_again leaves old one new key first others held low run grown count some =
       room =
           let order : new.order ≡ one.order = grown.kept.order in
           let before = leaf_room leaves one some.closed (some.entries ++ added) (run.hold some.closed some.entries some.hold) in
-          let after = leaf_room leaves new some.closed (some.entries ++ (added ++ (shared_entry key ∷ []))) (hold some.closed some.entries some.hold) in
+          let after = leaf_room leaves new some.closed (some.entries ++ (added ++ (shared_entry key ∷ [])))
+          (hold some.closed some.entries some.hold) in
           let was = run.room in
           let cost_one : (es : List Entry) → sum_by (entry_cost one.order) es ≡ sum_by (entry_cost old.order) es =
           λ es. ap (λ o. sum_by (entry_cost o) es) run.kept.order in
@@ -106,14 +109,15 @@ key_again leaves old one new key first others held low run grown count some =
           ap (λ o. page_code o p (bytes_of new p)) grown.kept.order
           ∙ (ap (page_code one.order p) (grown.kept.same p (omega (arith, under, count)) (λ e. omega (arith, e, low, above)))
           ∙ run.formed p above (omega (arith, under, count)));
-      few = all_map (λ held. few_kept (length old.pages) (length old.pages) one new held.0 (omega arith) grown.kept.order (omega (arith, count))
-          (λ h above under. grown.kept.same h under (λ e. omega (arith, e, low, above)))) held run.few;
+      heads = all_map (λ held. one_kept (length old.pages) (length old.pages) one new held.0 (omega arith) grown.kept.order (omega (arith, count))
+          (λ h above under. grown.kept.same h under (λ e. omega (arith, e, low, above)))) held run.heads;
       count = count ∙ run.count;
     }
 
 -- the item of a value that is put
 pub live_put : (leaves : Leaves) (old new : Built) (value : List ℕ) → (put : IsPut leaves old new value false) → IsLiveItem old.size put.item value
-live_put leaves old new value put = let stored = put.stored in record { live = stored.deleted_is; cost = λ order. ap (λ n. 2 + n) (stored.cost order) }
+live_put leaves old new value put = let stored = put.stored in
+    record { live = stored.deleted_is; cost = λ order. ap (λ n. 2 + n) (stored.cost order) }
 
 -- the key and its first datum
 pub first_pair : (leaves : Leaves) (old one new : Built) (key first : List ℕ) → HasWholePairs leaves old → IsPut leaves old one key false
@@ -165,7 +169,8 @@ next_pair leaves old now one new key first value values has so_far grown count p
           (subst (λ n. IsLiveItem n put.item value) again.kept.size (live_put leaves one new value put));
       run = subst (λ es. IsRunPut leaves old new es (map_held so_far.key_item so_far.first_item others)) (sym all)
           (subst (IsRunPut leaves old new ((added ++ (shared_entry so_far.key_item ∷ [])) ++ (own_entry put.item ∷ [])))
-          (ap (λ hs. (so_far.key_item.content, key) ∷ (so_far.first_item.content, first) ∷ hs) (sym (map-append held_by_item so_far.others (datum ∷ []))))
+          (ap (λ hs. (so_far.key_item.content, key) ∷ (so_far.first_item.content, first) ∷ hs)
+          (sym (map-append held_by_item so_far.others (datum ∷ []))))
           (runs_follow leaves old one new _ _ _ _ there again.kept.size again run));
     }
   where
@@ -277,7 +282,8 @@ more_pairs leaves old now one new key first more n has so_far low grown count pu
     (next_pair leaves old now one new key first (get_or more n []) (take n more) has so_far grown count put)
 
 -- the leaves, and the room for the first datum, once the key is there
-pub first_room : (leaves : Leaves) (old one : Built) (key first : List ℕ) (more : List (List ℕ)) → HasWholePairs leaves old → IsPut leaves old one key false
+pub first_room : (leaves : Leaves) (old one : Built) (key first : List ℕ) (more : List (List ℕ)) → HasWholePairs leaves old
+    → IsPut leaves old one key false
     → pairs_cost old.size key first more ≤ room_of old.order (bytes_of old leaves.last)
     → AreSomeLeaves leaves one × (2 + value_cost one.size first ≤ room_of one.order (bytes_of one leaves.last))
 first_room leaves old one key first more has put room =

@@ -10,7 +10,8 @@ use Rattle.bdb_format.specs.Page.{Content, Inline, Set, Chain, Tree, Unknown}
 use Rattle.bdb_layout.proofs.WritingLemmas.{length-leaf_chain, length-leaf_inline, length-leaf_tree}
 use Rattle.bdb_leaves.specs.LeafEntries.{Entry, entry_cost, item_cost, own_entry, shared_entry}
 use Rattle.bdb_leaves.specs.Units.{value_cost}
-use Rattle.bdb_leaves.specs.Placed.{IsStoredBySize, PlacedEntry, PlacedPairs, PlacedTree, StandsBySize, UnitsCost, ValueItem, further_entries, tree_item}
+use Rattle.bdb_leaves.specs.Placed.{IsStoredBySize, PlacedEntry, PlacedPairs, PlacedTree, StandsBySize, UnitsCost, ValueItem, further_entries}
+use Rattle.bdb_leaves.specs.Placed.{tree_item}
 
 content_cost : (order : Order) (size : ℕ) (content : Content) (deleted : Bool) (value : List ℕ) → StandsBySize size content value
     → item_cost order (record { content = content; deleted = deleted }) ≡ value_cost size value

@@ -16,10 +16,14 @@ use Rattle.bdb_format.specs.Lists.{btree_list, listed_pair, recno_list}
 use Rattle.bdb_levels.specs.Contents.{BeginsWith, Follow}
 use Rattle.bdb_leaves.specs.LeafEntries.{Entry}
 use Rattle.bdb_leaves.specs.Units.{entry_unit, group_unit, key_of, keyed_units, listed_keyed, listed_record}
-use Rattle.bdb_leaves.specs.Placed.{HasLength, HoldsUnits, IsAllowed, IsOneValue, KeepsRules, LeafUnits, PairsFollow, Placed, PlacedEntry, PlacedPairs, PlacedTree, RecordsKeepLength, StandsPlaced, UnitsAreListed, UnitsAreRead, UnitsKeepRules, entries_of, has_several, has_wrong_root, pages_of, unit_of, units_in, values_in}
+use Rattle.bdb_leaves.specs.Placed.{HasLength, HoldsUnits, IsAllowed, IsOneValue, KeepsRules, LeafUnits, PairsFollow, Placed, PlacedEntry}
+use Rattle.bdb_leaves.specs.Placed.{PlacedPairs, PlacedTree, RecordsKeepLength, StandsPlaced, UnitsAreListed, UnitsAreRead, UnitsKeepRules}
+use Rattle.bdb_leaves.specs.Placed.{entries_of, has_several, has_wrong_root, pages_of, unit_of, units_in, values_in}
 use Rattle.bdb_leaves.specs.declared.leaf_type.LeafType.TheVariants.{Pairs, Records}
-use Rattle.bdb_leaves.proofs.UnitLemmas.{Group, IsRun, IsSorted, all_in_order, all_of_group, keys_of, list_of_records, list_of_runs, none_at, none_unsorted, runs_follow, units_of_runs}
-use Rattle.bdb_leaves.proofs.PlacedLemmas.{Located, all_are_runs, all_located, all_pairs_are_runs, all_stand, Stands, further_pair, is_run, located_in, located_on, pairs_are_runs, run_of, runs_on, unit_of_run, units_located, units_of_located}
+use Rattle.bdb_leaves.proofs.UnitLemmas.{Group, IsRun, IsSorted, all_in_order, all_of_group, keys_of, list_of_records, list_of_runs, none_at}
+use Rattle.bdb_leaves.proofs.UnitLemmas.{none_unsorted, runs_follow, units_of_runs}
+use Rattle.bdb_leaves.proofs.PlacedLemmas.{Located, all_are_runs, all_located, all_pairs_are_runs, all_stand, Stands, further_pair, is_run}
+use Rattle.bdb_leaves.proofs.PlacedLemmas.{located_in, located_on, pairs_are_runs, run_of, runs_on, unit_of_run, units_located, units_of_located}
 
 -- The items of a leaf of records.
 

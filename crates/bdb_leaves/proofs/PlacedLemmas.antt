@@ -11,7 +11,8 @@ use Rattle.bdb_format.specs.Chains.{value_of}
 use Rattle.bdb_format.specs.Contents.{StoredPair, data_of, pairs_in, pairs_of}
 use Rattle.bdb_leaves.specs.LeafEntries.{Entry, own_entry, pair_in, pairs_from, shared_entry}
 use Rattle.bdb_leaves.specs.Units.{group_unit}
-use Rattle.bdb_leaves.specs.Placed.{HoldsUnits, IsDatum, IsOneValue, LeafUnits, Placed, PlacedEntry, PlacedPairs, PlacedTree, StandsPlaced, ValueItem, entries_of, further_entries, pairs_on, tree_item, unit_of, units_in}
+use Rattle.bdb_leaves.specs.Placed.{HoldsUnits, IsDatum, IsOneValue, LeafUnits, Placed, PlacedEntry, PlacedPairs, PlacedTree, StandsPlaced, ValueItem}
+use Rattle.bdb_leaves.specs.Placed.{entries_of, further_entries, pairs_on, tree_item, unit_of, units_in}
 use Rattle.bdb_leaves.specs.declared.leaf_type.LeafType.TheVariants.{Pairs}
 use Rattle.bdb_leaves.proofs.UnitLemmas.{Group, HasKey, IsRun, Shares, all_of_group, data_in}
 

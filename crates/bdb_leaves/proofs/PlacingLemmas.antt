@@ -110,7 +110,8 @@ root_placed old copied numbered new first root whole legal fits low last copy nu
     ∙ (ap (λ (b : Built). with_page b first (with_field b.order (bytes_of b first) 8 first)) copy
     ∙ ap (λ bs. with_page one first (with_field old.order bs 8 first)) (bytes_with old first page under)) in
     let is_all : new ≡ all = drops ∙ ap without_last is_two in
-    let stays : (p : ℕ) → p < root → bytes_of all p ≡ bytes_of two p = λ p here. get_or-take (length two.pages - 1) two.pages p [] (omega (arith, here, rest)) in
+    let stays : (p : ℕ) → p < root
+    → bytes_of all p ≡ bytes_of two p = λ p here. get_or-take (length two.pages - 1) two.pages p [] (omega (arith, here, rest)) in
     let there : bytes_of all first ≡ bytes = stays first low ∙ bytes_with one first bytes (omega (arith, under, count_one)) in
     let long : length bytes ≡ old.size =
     length-field old.order page 8 first (omega arith) (omega (arith, whole root (omega (arith, last)), (size_bounds old.size legal).0))

@@ -1,5 +1,6 @@
 -- A unit that is pushed: the last leaf has room for it, or a new one.
-use Rattle.std.proofs.Common.{Bool, ◌≡◌, ℕ, suc, ◌+◌, ◌-◌, ◌<◌, ◌≤◌, true, false, cond, if◌then◌else◌, List, [], ◌∷◌, ◌++◌, length, map, arith, refl, sym, ◌∙◌, ap, subst, inl, inr, length-append, true≢false}
+use Rattle.std.proofs.Common.{Bool, ◌≡◌, ℕ, suc, ◌+◌, ◌-◌, ◌<◌, ◌≤◌, true, false, cond, if◌then◌else◌, List, [], ◌∷◌, ◌++◌, length, map, arith, refl}
+use Rattle.std.proofs.Common.{sym, ◌∙◌, ap, subst, inl, inr, length-append, true≢false}
 use Rattle.std.specs.Prelude.{◌/◌, ◌%◌, nat_le, nat_lt}
 use Rattle.std.specs.Cmp.Derive.{both_true}
 use Rattle.std.specs.List.{All, flat_map}
@@ -40,7 +41,8 @@ some_leaves leaves built before closed units filled =
     record { closed = map (flat_map entries_of) closed; entries = flat_map entries_of units; hold = filled.hold }
 
 -- a last leaf that has no room has a unit
-some_units : (leaves : Leaves) (built : Built) (cost before : ℕ) (closed : List (List Placed)) (units : List Placed) → AreFilled leaves built before closed units
+some_units : (leaves : Leaves) (built : Built) (cost before : ℕ) (closed : List (List Placed)) (units : List Placed)
+    → AreFilled leaves built before closed units
     → AreWhole built → has_room leaves built cost ≡ false → cost ≤ built.size - 26 → 0 < length units
 some_units leaves built cost before closed [] filled whole test fits =
     let room = filled.hold.last_holds.room in
@@ -82,7 +84,8 @@ pub filled_now : (b : Bool) (leaves next : Leaves) (old one new : Built) (cost :
     → FilledNow b next new before closed units placed
 filled_now true leaves next old one new cost placed whole test fits (same, kept) put before closed units filled =
     unit_added next one new before closed units placed
-    (subst (λ (b : Built). AreFilled next b before closed units) (sym kept) (subst (λ (l : Leaves). AreFilled l old before closed units) (sym same) filled)) put
+    (subst (λ (b : Built). AreFilled next b before closed units) (sym kept)
+    (subst (λ (l : Leaves). AreFilled l old before closed units) (sym same) filled)) put
 filled_now false leaves next old one new cost placed whole test fits opened put before closed units filled =
     unit_added next one new before (closed ++ (units ∷ [])) [] placed
     (leaf_opened leaves next old one before closed units filled (some_units leaves old cost before closed units filled whole test fits) opened) put
@@ -172,13 +175,15 @@ entry_fits size value legal =
 
 -- An entry.
 
-pub entry_ready : (leaves next : Leaves) (old one : Built) (value : List ℕ) (deleted : Bool) → AreSomeFilled leaves old → is_page_size old.size ≡ true → AreWhole old
+pub entry_ready : (leaves next : Leaves) (old one : Built) (value : List ℕ) (deleted : Bool) → AreSomeFilled leaves old → is_page_size old.size ≡ true
+    → AreWhole old
     → HasRoomNow (has_room leaves old (unit_cost old.size (EntryUnit value deleted))) leaves next old one
     → IsReady leaves next old one (2 + value_cost old.size value)
 entry_ready leaves next old one value deleted some legal whole made =
     ready _ leaves next old one (2 + value_cost old.size value) some refl made (entry_fits old.size value legal) whole
 
-pub entry_pushed : (leaves next : Leaves) (old one new : Built) (value : List ℕ) (deleted : Bool) → AreSomeFilled leaves old → is_page_size old.size ≡ true → AreWhole old
+pub entry_pushed : (leaves next : Leaves) (old one new : Built) (value : List ℕ) (deleted : Bool) → AreSomeFilled leaves old
+    → is_page_size old.size ≡ true → AreWhole old
     → (leaves.leaf_type ≡ Pairs → ⊥) → HasRoomNow (has_room leaves old (unit_cost old.size (EntryUnit value deleted))) leaves next old one
     → IsPut next one new value deleted → IsPushed leaves next old new (EntryUnit value deleted)
 entry_pushed leaves next old one new value deleted some legal whole other made put =
@@ -199,7 +204,8 @@ pairs_fit size key first more legal few =
       ap (λ b. cond b (value_cost size key + 16) (set_cost size key (first ∷ more))) few ∙ whole,
     )
   where
-    by_count : (more : List (List ℕ)) → has_own_tree size key (first ∷ more) ≡ false → set_cost size key (first ∷ more) ≡ pairs_cost size key first more
+    by_count : (more : List (List ℕ)) → has_own_tree size key (first ∷ more) ≡ false
+        → set_cost size key (first ∷ more) ≡ pairs_cost size key first more
         → pairs_cost size key first more ≤ size - 26
     by_count [] few whole =
         let bounds = size_bounds size legal in
@@ -221,7 +227,8 @@ whole_units g [] stand = refl
 whole_units g (unit ∷ units) stand =
     let one = whole_unit unit (stand 0 unit (omega arith)) in
     let rest = whole_units g units (λ k d low. stand (suc k) d (omega (arith, low))) in
-    ap (λ n. n % 2) (length-append (entries_of unit) (flat_map entries_of units)) ∙ both (length (entries_of unit)) (length (flat_map entries_of units)) one rest
+    ap (λ n. n % 2) (length-append (entries_of unit) (flat_map entries_of units))
+    ∙ both (length (entries_of unit)) (length (flat_map entries_of units)) one rest
   where
     both : (n m : ℕ) → n % 2 ≡ 0 → m % 2 ≡ 0 → (n + m) % 2 ≡ 0
     both n m one two = omega (arith, one, two)
@@ -247,7 +254,8 @@ whole_of leaves built before closed units type filled =
       closed = map (flat_map entries_of) closed;
       entries = flat_map entries_of units;
       hold = filled.hold;
-      even = whole_units g units (subst (λ t. All (StandsPlaced t g) units) type (all_right (StandsPlaced leaves.leaf_type g) (flat_map (λ leaf. leaf) closed) units stand));
+      even = whole_units g units
+          (subst (λ t. All (StandsPlaced t g) units) type (all_right (StandsPlaced leaves.leaf_type g) (flat_map (λ leaf. leaf) closed) units stand));
     }
 
 pub whole_now : (b : Bool) (leaves next : Leaves) (old one : Built) (cost : ℕ) → AreSomeFilled leaves old → leaves.leaf_type ≡ Pairs → AreWhole old
@@ -260,7 +268,8 @@ whole_now false leaves next old one cost some type whole test fits opened =
     (leaf_opened leaves next old one some.before some.closed some.units some.filled
     (some_units leaves old cost some.before some.closed some.units some.filled whole test fits) opened)
 
-pub pairs_ready : (leaves next : Leaves) (old one : Built) (key first : List ℕ) (more : List (List ℕ)) → AreSomeFilled leaves old → is_page_size old.size ≡ true
+pub pairs_ready : (leaves next : Leaves) (old one : Built) (key first : List ℕ) (more : List (List ℕ)) → AreSomeFilled leaves old
+    → is_page_size old.size ≡ true
     → AreWhole old
     → leaves.leaf_type ≡ Pairs → has_own_tree old.size key (first ∷ more) ≡ false
     → HasRoomNow (has_room leaves old (unit_cost old.size (KeyedUnit key (first ∷ more)))) leaves next old one

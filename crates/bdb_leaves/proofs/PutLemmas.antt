@@ -1,5 +1,6 @@
 -- A value that is stored, and put on the last leaf.
-use Rattle.std.proofs.Common.{◌≡◌, ℕ, suc, zero, ◌+◌, ◌-◌, ◌*◌, ◌<◌, ◌≤◌, ◌^◌, Bool, true, cond, List, [], ◌∷◌, ◌++◌, length, get_or, None, arith, refl, sym, ◌∙◌, ap, subst, inl, inr, length-append}
+use Rattle.std.proofs.Common.{◌≡◌, ℕ, suc, zero, ◌+◌, ◌-◌, ◌*◌, ◌<◌, ◌≤◌, ◌^◌, Bool, true, cond, List, [], ◌∷◌, ◌++◌, length, get_or, None, arith}
+use Rattle.std.proofs.Common.{refl, sym, ◌∙◌, ap, subst, inl, inr, length-append}
 use Rattle.std.specs.Prelude.{◌/◌}
 use Rattle.std.proofs.Math.Nat.{mul-le-mul_right}
 use Rattle.std.proofs.lemmas.Bool.{cases_lt, le-leb, lt-leb}
@@ -18,11 +19,10 @@ use Rattle.bdb_pack.specs.Values.{AreChainPages, HasChain, chain_page}
 use Rattle.bdb_pack.proofs.PieceLemmas.{chain_pages_are_formed}
 use Rattle.bdb_pack.proofs.CountLemmas.{chains_are_counted}
 use Rattle.bdb_pack.proofs.StoredLemmas.{stored_values_stand}
-use Rattle.bdb_leaves.specs.Inner.{CountsFew}
+use Rattle.bdb_leaves.specs.Inner.{CountsOne}
 use Rattle.bdb_leaves.specs.LeafEntries.{CanTakeEntry, Entry, HoldsEntries, item_cost, room_of, type_number}
-use Rattle.bdb_leaves.specs.Leaves.{AreLeaves, AreSomeLeaves, last_of}
+use Rattle.bdb_leaves.specs.Leaves.{AreLeaves, AreSomeLeaves, KeepsAll, last_of}
 use Rattle.bdb_leaves.specs.Puts.{IsItemOf}
-use Rattle.bdb_leaves.specs.Sets.{KeepsAll}
 use Rattle.bdb_leaves.specs.Units.{chain_pages, value_cost}
 use Rattle.bdb_leaves.specs.declared.leaves.Leaves.{Leaves}
 use Rattle.bdb_leaves.proofs.LeavesLemmas.{leaves_kept, at_most_last}
@@ -56,7 +56,7 @@ inline_item old new value deleted fits short same =
       same = λ p low. refl;
       stands = λ g counted later. (refl, short, refl);
       formed = λ p low high. absurd (omega (arith, low, high));
-      few = tt;
+      heads = tt;
       count = rw (le-leb (length value) (old.size / 8) short) (omega arith);
     })
 
@@ -96,7 +96,8 @@ long_pages : (size : ℕ) (value : List ℕ) (pages : ℕ) → size / 8 < length
 long_pages size value pages long enough fewest =
     rw (lt-leb (length value) (size / 8) long) (filled_up (length value) (size - 26) pages (omega (arith, long)) enough fewest)
 
-pub chain_item : (old new : Built) (value : List ℕ) (deleted : Bool) (head total : ℕ) → IsWritable (OnLeaf (record { content = Chain head total; deleted = deleted }))
+pub chain_item : (old new : Built) (value : List ℕ) (deleted : Bool) (head total : ℕ)
+    → IsWritable (OnLeaf (record { content = Chain head total; deleted = deleted }))
     → is_page_size old.size ≡ true → 1 ≤ length old.pages → length value ≤ (2 ^ 21 - length old.pages) * (old.size - 26)
     → old.size / 8 < length value → total ≡ length value → HasChain old new value head
     → IsItemOf old new value deleted (record { content = Chain head total; deleted = deleted })
@@ -130,12 +131,13 @@ chain_item old new value deleted head total fits legal some room long is has =
           ∙ subst (λ q. page_code old.order q (get_or has.added k []) ≡ None) (let e : head + k ≡ p = omega (arith, has.first, at) in e)
           (pieces_formed old.order old.size head 0 value has.added legal (omega (arith, has.first, few, count)) (omega arith) has.chain k
           (omega (arith, high, count, at))));
-      few = first_counts has.added few has.chain count has.pages;
+      heads = first_counts has.added few has.chain count has.pages;
       count = count ∙ ap (λ n. first + n) (sym (long_pages old.size value (length has.added) long counted.0 last));
     }
   where
-    first_counts : (added : List (List ℕ)) → length new.pages < 2 ^ 32 → AreChainPages old.order old.size head 0 value added → length new.pages ≡ length old.pages + length added
-        → new.pages ≡ old.pages ++ added → (length old.pages ≤ head) × (head < length new.pages) × CountsFew new.order (bytes_of new head)
+    first_counts : (added : List (List ℕ)) → length new.pages < 2 ^ 32 → AreChainPages old.order old.size head 0 value added
+        → length new.pages ≡ length old.pages + length added
+        → new.pages ≡ old.pages ++ added → (length old.pages ≤ head) × (head < length new.pages) × CountsOne new.order (bytes_of new head)
     first_counts [] low chain count pages = let none : length value ≡ 0 = ap length chain in absurd (omega (arith, long, none))
     first_counts (page ∷ more) low chain count pages =
         let bounds = size_bounds old.size legal in
@@ -146,9 +148,9 @@ chain_item old new value deleted head total fits legal some room long is has =
         ∙ (get_or-append-add old.pages (page ∷ more) 0 [] ∙ chain.1)) in (
           omega (arith, has.first),
           omega (arith, has.first, count),
-          subst (λ o. CountsFew o (bytes_of new head)) (sym has.order)
-              (subst (CountsFew old.order) (sym here)
-              (record { long = omega (arith, law.4, bounds.0); type_is = law.2; few = omega (arith, law.3) })),
+          subst (λ o. CountsOne o (bytes_of new head)) (sym has.order)
+              (subst (CountsOne old.order) (sym here)
+              (record { long = omega (arith, law.4, bounds.0); type_is = law.2; one = law.3 })),
         )
 
     some_pages : (added : List (List ℕ)) → AreChainPages old.order old.size head 0 value added → 0 < length added
@@ -167,8 +169,10 @@ pages_stay leaves old new is closed entries hold =
     record {
       closed_hold = leaves_kept leaves.leaf_type old new 0 leaves.closed.items closed leaves.last is.order
           (λ q among. let most = rise.1 q among in is.same q (omega (arith, most, up, there))) hold.closed_hold;
-      last_holds = subst (λ o. HoldsEntries leaves.leaf_type o (bytes_of new leaves.last) leaves.last (last_of 0 leaves.closed.items) 0 entries) (sym is.order)
-          (subst (λ bs. HoldsEntries leaves.leaf_type old.order bs leaves.last (last_of 0 leaves.closed.items) 0 entries) (sym (is.same leaves.last there))
+      last_holds = subst (λ o. HoldsEntries leaves.leaf_type o (bytes_of new leaves.last) leaves.last (last_of 0 leaves.closed.items) 0 entries)
+          (sym is.order)
+          (subst (λ bs. HoldsEntries leaves.leaf_type old.order bs leaves.last (last_of 0 leaves.closed.items) 0 entries)
+          (sym (is.same leaves.last there))
           hold.last_holds);
       after = up;
       there = omega (arith, there, grows);
@@ -182,7 +186,12 @@ leaves_stay leaves old new value deleted item is =
 pub some_stay : (leaves : Leaves) (old new : Built) (value : List ℕ) (deleted : Bool) (item : Item) → IsItemOf old new value deleted item
     → AreSomeLeaves leaves old → AreSomeLeaves leaves new
 some_stay leaves old new value deleted item is some =
-    record { closed = some.closed; entries = some.entries; hold = leaves_stay leaves old new value deleted item is some.closed some.entries some.hold }
+    record {
+      closed = some.closed;
+      entries = some.entries;
+      hold =
+          leaves_stay leaves old new value deleted item is some.closed some.entries some.hold;
+    }
 
 -- the last leaf takes the item
 pub takes_put : (leaves : Leaves) (old new : Built) (value : List ℕ) (deleted : Bool) (item : Item) → IsItemOf old new value deleted item

@@ -1,10 +1,12 @@
 -- The pages that are no leaves, as units are put on leaves.
-use Rattle.std.proofs.Common.{◌≡◌, ℕ, ◌+◌, ◌<◌, ◌≤◌, Bool, true, false, not, List, [], ◌∷◌, ◌++◌, length, map, get_or, arith, refl, sym, ◌∙◌, ap, subst, inl, inr, true≢false}
+use Rattle.std.proofs.Common.{◌≡◌, ℕ, ◌+◌, ◌<◌, ◌≤◌, Bool, true, false, not, List, [], ◌∷◌, ◌++◌, length, map, get_or, arith, refl, sym, ◌∙◌, ap}
+use Rattle.std.proofs.Common.{subst, inl, inr, true≢false}
 use Rattle.std.specs.Prelude.{◌==◌, ◌&&◌, ◌||◌}
 use Rattle.std.specs.List.{All, Contains, flat_map}
 use Rattle.std.proofs.lemmas.Bool.{and_parts, cases_Bool, cases_lt, eq-eqb, ne_eqb, not-true, or_left, or_right}
 use Rattle.std.proofs.lemmas.List.{append-nil, append_assoc, map-append}
-use Rattle.std.proofs.lemmas.List.Elements.{All-append, All-cons, All-nil, All-push, Contains-append_cases, Contains-append_left, Contains-append_right}
+use Rattle.std.proofs.lemmas.List.Elements.{All-append, All-cons, All-nil, All-push, Contains-append_cases, Contains-append_left}
+use Rattle.std.proofs.lemmas.List.Elements.{Contains-append_right}
 use Rattle.std.proofs.lemmas.Grind.{flat_map-append}
 use Rattle.bdb_format.specs.Numbers.{byte_at}
 use Rattle.bdb_format.specs.Page.{Content, Inline, Set, Chain, Tree, Unknown}
@@ -22,15 +24,15 @@ use Rattle.bdb_pack.specs.Built.{Built, bytes_of}
 use Rattle.bdb_leaves.specs.Filled.{AllStand, AreFilled, AscendIn, IsUnitPut, StandOn, all_contents, rest_of, unit_contents}
 use Rattle.bdb_leaves.specs.LeafEntries.{Entry, HoldsEntriesOn, type_number}
 use Rattle.bdb_grove.proofs.BranchLemmas.{of_list}
-use Rattle.bdb_leaves.specs.Inner.{CountsFew}
-use Rattle.bdb_leaves.specs.Puts.{CountsFewFrom}
+use Rattle.bdb_leaves.specs.Inner.{CountsOne}
+use Rattle.bdb_leaves.specs.Puts.{CountsOneFrom}
 use Rattle.bdb_leaves.specs.declared.leaf_type.LeafType.TheVariants.{Pairs, Records, SortedData}
 use Rattle.bdb_leaves.specs.Leaves.{AreLeaves, IsOpened, KeepsOthers, LeavesFrom, last_of}
 use Rattle.bdb_leaves.specs.Placed.{IsPlacedBySize, Placed, StandsPlaced, entries_of}
 use Rattle.bdb_leaves.specs.declared.leaf_type.LeafType.{LeafType}
 use Rattle.bdb_leaves.specs.declared.leaves.Leaves.{Leaves}
 use Rattle.bdb_leaves.proofs.LeavesLemmas.{at_most_last}
-use Rattle.bdb_leaves.proofs.RunLemmas.{all_map, few_kept, later_before}
+use Rattle.bdb_leaves.proofs.RunLemmas.{all_map, one_kept, later_before}
 use Rattle.bdb_leaves.proofs.StandLemmas.{ascend_bounds, ascend_follow, ascend_on}
 
 -- Leaves among pages.
@@ -128,17 +130,19 @@ no_leaf SortedData is = omega (arith, is)
 
 -- first pages of chains stay, since the one page that changes is a leaf
 heads_kept : (leaves : Leaves) (old new : Built) (before : ℕ) (closed : List (List Entry)) (entries : List Entry) (contents : List Content)
-    → AreLeaves leaves old closed entries → KeepsOthers leaves.last old new → All (CountsFewFrom before old) contents → All (CountsFewFrom before new) contents
+    → AreLeaves leaves old closed entries → KeepsOthers leaves.last old new → All (CountsOneFrom before old) contents
+    → All (CountsOneFrom before new) contents
 heads_kept leaves old new before closed entries contents hold kept few k d low = stays (get_or contents k d) (few k d low)
   where
-    stays : (content : Content) → CountsFewFrom before old content → CountsFewFrom before new content
+    stays : (content : Content) → CountsOneFrom before old content → CountsOneFrom before new content
     stays (Inline bytes) few = tt
     stays (Chain head total) (above, under, counts) = (
       above,
       (let grows = kept.grows in omega (arith, under, grows)),
-      subst (λ o. CountsFew o (bytes_of new head)) (sym kept.order)
-          (subst (CountsFew old.order)
-          (sym (kept.same head under (λ e. no_leaf leaves.leaf_type (sym hold.last_holds.type_is ∙ (ap (λ p. byte_at (bytes_of old p) 25) (sym e) ∙ counts.type_is)))))
+      subst (λ o. CountsOne o (bytes_of new head)) (sym kept.order)
+          (subst (CountsOne old.order)
+          (sym (kept.same head under
+          (λ e. no_leaf leaves.leaf_type (sym hold.last_holds.type_is ∙ (ap (λ p. byte_at (bytes_of old p) 25) (sym e) ∙ counts.type_is)))))
           counts),
     )
     stays (Set blocks) few = tt
@@ -181,17 +185,20 @@ unit_added leaves old new before closed units unit filled put =
           (λ p two. let there = between_is a b p two in (there.1, refl)) later) in
           record {
             on = subst (StandOn g (rest_of before leaves new)) (sym (contents_more type closed units unit))
-                (stand_both g (rest_of before leaves old) (between a b) (rest_of before leaves new) (all_contents type closed units) (unit_contents type unit)
+                (stand_both g (rest_of before leaves old) (between a b) (rest_of before leaves new) (all_contents type closed units)
+                (unit_contents type unit)
                 union apart was.on now.on);
             placed = units_more (StandsPlaced type g) closed units unit was.placed now.placed;
           };
       sizes = subst (λ n. All (IsPlacedBySize n) (flat_map (λ leaf. leaf) closed ++ (units ++ (unit ∷ [])))) (sym put.kept.size)
           (units_more (IsPlacedBySize old.size) closed units unit filled.sizes put.sizes);
-      few = subst (All (CountsFewFrom before new)) (sym (contents_more type closed units unit))
-          (All-append (CountsFewFrom before new) (all_contents type closed units) (unit_contents type unit)
-          (heads_kept leaves old new before (map (flat_map entries_of) closed) (flat_map entries_of units) (all_contents type closed units) filled.hold put.kept
-          filled.few)
-          (all_map (λ content. few_kept a before new new content first refl (omega arith) (λ h above under. refl)) (unit_contents type unit) put.few));
+      heads = subst (All (CountsOneFrom before new)) (sym (contents_more type closed units unit))
+          (All-append (CountsOneFrom before new) (all_contents type closed units) (unit_contents type unit)
+          (heads_kept leaves old new before (map (flat_map entries_of) closed) (flat_map entries_of units)
+          (all_contents type closed units) filled.hold put.kept
+          filled.heads)
+          (all_map (λ content. one_kept a before new new content first refl (omega arith) (λ h above under. refl))
+          (unit_contents type unit) put.heads));
       formed = λ p is.
           elim (in_either (rest_of before leaves old p) (between a b p) (sym (union p) ∙ is)) [
             | inl one ↦
@@ -217,7 +224,8 @@ rest_opened before a numbers low under p =
     (λ is.
     let parts = rest_is before (a + 1) (numbers ++ (a ∷ [])) p is in
     let none = none_of_both numbers (a ∷ []) p parts.2 in
-    is_rest before a numbers p parts.0 (elim (cases_lt p a) [ inl below ↦ below | inr above ↦ absurd (one_of a p none.1 (omega (arith, above, parts.1))) ]) none.0)
+    is_rest before a numbers p parts.0
+    (elim (cases_lt p a) [ inl below ↦ below | inr above ↦ absurd (one_of a p none.1 (omega (arith, above, parts.1))) ]) none.0)
     (λ is.
     let parts = rest_is before a numbers p is in
     is_rest before (a + 1) (numbers ++ (a ∷ [])) p parts.0 (omega (arith, parts.1))
@@ -237,7 +245,8 @@ rest_opened before a numbers low under p =
     one_of a p none same = true≢false (sym (eq-eqb p a same) ∙ none_passes (λ q. p == q) (a ∷ []) a none (first_member a []))
 
 pub leaf_opened : (leaves next : Leaves) (old new : Built) (before : ℕ) (closed : List (List Placed)) (units : List Placed)
-    → AreFilled leaves old before closed units → 0 < length units → IsOpened leaves next old new → AreFilled next new before (closed ++ (units ∷ [])) []
+    → AreFilled leaves old before closed units → 0 < length units → IsOpened leaves next old new
+    → AreFilled next new before (closed ++ (units ∷ [])) []
 leaf_opened leaves next old new before closed units filled some opened =
     let type : LeafType = leaves.leaf_type in
     let numbers : List ℕ = leaves.closed.items ++ (leaves.last ∷ []) in
@@ -258,12 +267,14 @@ leaf_opened leaves next old new before closed units filled some opened =
       some = All-push (λ leaf. 0 < length leaf) closed units filled.some some;
       low = filled.low;
       new = λ p is.
-          elim (Contains-append_cases numbers (a ∷ []) p (subst (λ ns. Contains ns p) now_numbers (of_list (next.closed.items ++ (next.last ∷ [])) p is))) [
+          elim (Contains-append_cases numbers (a ∷ []) p
+          (subst (λ ns. Contains ns p) now_numbers (of_list (next.closed.items ++ (next.last ∷ [])) p is))) [
             | inl one ↦ filled.new p (is_one numbers p one)
             | inr last ↦ let same : a ≡ p = only_member a p last in omega (arith, first, same)
           ];
       ascend = subst (λ t. AscendIn before (length new.pages) (flat_map content_pages (all_contents t (closed ++ (units ∷ [])) []))) (sym opened.type)
-          (subst (λ us. AscendIn before (length new.pages) (flat_map content_pages (flat_map (unit_contents type) us))) (sym (closed_more closed units))
+          (subst (λ us. AscendIn before (length new.pages) (flat_map content_pages (flat_map (unit_contents type) us)))
+          (sym (closed_more closed units))
           (subst (λ n. AscendIn before n (flat_map content_pages (all_contents type closed units))) (sym count)
           (ascend_on before a (a + 1) _ (omega arith) filled.ascend)));
       stands = λ g counted later.
@@ -281,10 +292,11 @@ leaf_opened leaves next old new before closed units filled some opened =
           });
       sizes = subst (λ n. All (IsPlacedBySize n) (flat_map (λ leaf. leaf) (closed ++ (units ∷ [])) ++ [])) (sym opened.kept.size)
           (subst (All (IsPlacedBySize old.size)) (sym (closed_more closed units)) filled.sizes);
-      few = subst (λ t. All (CountsFewFrom before new) (all_contents t (closed ++ (units ∷ [])) [])) (sym opened.type)
-          (subst (λ us. All (CountsFewFrom before new) (flat_map (unit_contents type) us)) (sym (closed_more closed units))
-          (heads_kept leaves old new before (map (flat_map entries_of) closed) (flat_map entries_of units) (all_contents type closed units) filled.hold
-          opened.kept filled.few));
+      heads = subst (λ t. All (CountsOneFrom before new) (all_contents t (closed ++ (units ∷ [])) [])) (sym opened.type)
+          (subst (λ us. All (CountsOneFrom before new) (flat_map (unit_contents type) us)) (sym (closed_more closed units))
+          (heads_kept leaves old new before (map (flat_map entries_of) closed) (flat_map entries_of units)
+          (all_contents type closed units) filled.hold
+          opened.kept filled.heads));
       formed = λ p is.
           let one : rest_of before leaves old p ≡ true = sym (rest p) ∙ is in
           ap (λ o. page_code o p (bytes_of new p)) opened.kept.order ∙ (ap (page_code old.order p) (kept p one).1 ∙ filled.formed p one);
@@ -313,24 +325,27 @@ leaf_begun leaves built before positive none last count holds =
       some = All-nil (λ leaf. 0 < length leaf);
       low = positive;
       new = λ p is.
-          let same : before ≡ p = only_member before p (subst (λ ns. Contains ns p) numbers (of_list (leaves.closed.items ++ (leaves.last ∷ [])) p is)) in
+          let same : before ≡ p = only_member before p
+          (subst (λ ns. Contains ns p) numbers (of_list (leaves.closed.items ++ (leaves.last ∷ [])) p is)) in
           omega (arith, same);
       ascend = none_ascend leaves.leaf_type;
       stands = λ g counted later.
           record {
-            on = none_stand leaves.leaf_type g (branch_is_known g (between before before) (rest_of before leaves built) [] [] empty (λ e at. at) (λ e at. at) (no_branch g before));
+            on = none_stand leaves.leaf_type g
+                (branch_is_known g (between before before) (rest_of before leaves built) [] [] empty (λ e at. at) (λ e at. at) (no_branch g before));
             placed = All-nil (StandsPlaced leaves.leaf_type g);
           };
       sizes = All-nil (IsPlacedBySize built.size);
-      few = none_few leaves.leaf_type;
+      heads = none_few leaves.leaf_type;
       formed = λ p is. let within = between_is before before p (sym (empty p) ∙ is) in absurd (omega (arith, within.0, within.1));
     }
   where
-    none_few : (type : LeafType) → All (CountsFewFrom before built) (all_contents type [] [])
-    none_few type = All-nil (CountsFewFrom before built)
+    none_few : (type : LeafType) → All (CountsOneFrom before built) (all_contents type [] [])
+    none_few type = All-nil (CountsOneFrom before built)
 
     none_ascend : (type : LeafType) → AscendIn before (length built.pages) (flat_map content_pages (all_contents type [] []))
     none_ascend type = omega (arith, count)
 
-    none_stand : (type : LeafType) (g : File) → IsBranch g (rest_of before leaves built) [] → StandOn g (rest_of before leaves built) (all_contents type [] [])
+    none_stand : (type : LeafType) (g : File) → IsBranch g (rest_of before leaves built) []
+        → StandOn g (rest_of before leaves built) (all_contents type [] [])
     none_stand type g branch = record { branch = branch; fit = All-nil (ContentFits g) }

@@ -14,8 +14,8 @@ use Rattle.bdb_grove.proofs.ChainLemmas.{between_is, is_between}
 use Rattle.bdb_pack.specs.Built.{Built, bytes_of, file_so_far}
 use Rattle.bdb_leaves.specs.LeafEntries.{Entry, entry_cost, own_entry, room_of}
 use Rattle.bdb_leaves.specs.Leaves.{AreLeaves, AreSomeLeaves}
-use Rattle.bdb_leaves.specs.Puts.{CountsFewFrom, IsPut, ValueStands}
-use Rattle.bdb_leaves.specs.Inner.{CountsFew}
+use Rattle.bdb_leaves.specs.Puts.{CountsOneFrom, IsPut, ValueStands}
+use Rattle.bdb_leaves.specs.Inner.{CountsOne}
 use Rattle.std.proofs.lemmas.List.Elements.{All-append, All-cons, All-nil}
 use Rattle.bdb_leaves.specs.Runs.{IsRunPut, ValuesStand}
 use Rattle.bdb_leaves.specs.Units.{chain_pages}
@@ -64,17 +64,17 @@ values_follow g size first middle beyond (u ∷ us) vs (between, low, high, here
 -- Runs.
 
 -- a chain whose first page stays
-pub few_kept : (low lower : ℕ) (old new : Built) (content : Content) → lower ≤ low → new.order ≡ old.order → length old.pages ≤ length new.pages
-    → ((h : ℕ) → low ≤ h → h < length old.pages → bytes_of new h ≡ bytes_of old h) → CountsFewFrom low old content → CountsFewFrom lower new content
-few_kept low lower old new (Inline bytes) less order more same few = tt
-few_kept low lower old new (Chain head total) less order more same (above, under, counts) = (
+pub one_kept : (low lower : ℕ) (old new : Built) (content : Content) → lower ≤ low → new.order ≡ old.order → length old.pages ≤ length new.pages
+    → ((h : ℕ) → low ≤ h → h < length old.pages → bytes_of new h ≡ bytes_of old h) → CountsOneFrom low old content → CountsOneFrom lower new content
+one_kept low lower old new (Inline bytes) less order more same few = tt
+one_kept low lower old new (Chain head total) less order more same (above, under, counts) = (
   omega (arith, less, above),
   omega (arith, under, more),
-  subst (λ o. CountsFew o (bytes_of new head)) (sym order) (subst (CountsFew old.order) (sym (same head above under)) counts),
+  subst (λ o. CountsOne o (bytes_of new head)) (sym order) (subst (CountsOne old.order) (sym (same head above under)) counts),
 )
-few_kept low lower old new (Set blocks) less order more same few = tt
-few_kept low lower old new (Tree root) less order more same few = tt
-few_kept low lower old new Unknown less order more same few = tt
+one_kept low lower old new (Set blocks) less order more same few = tt
+one_kept low lower old new (Tree root) less order more same few = tt
+one_kept low lower old new Unknown less order more same few = tt
 
 pub all_map : {X : Type 0} {P Q : X → Type 0} → ((x : X) → P x → Q x) → (xs : List X) → All P xs → All Q xs
 all_map f xs all k d low = f (get_or xs k d) (all k d low)
@@ -95,14 +95,16 @@ runs_follow leaves old one new xs ys us vs low size first second =
           subst (AreLeaves leaves new closed) (append_assoc entries xs ys) (second.hold closed (entries ++ xs) (first.hold closed entries hold));
       room =
           let one_room = first.room in
-          let two_room : room_of new.order (bytes_of new leaves.last) + sum_by (entry_cost old.order) ys ≡ room_of one.order (bytes_of one leaves.last) =
+          let two_room : room_of new.order (bytes_of new leaves.last) + sum_by (entry_cost old.order) ys ≡ room_of one.order
+          (bytes_of one leaves.last) =
           subst (λ o. room_of new.order (bytes_of new leaves.last) + sum_by (entry_cost o) ys ≡ room_of one.order (bytes_of one leaves.last))
           first.kept.order second.room in
           omega (arith, one_room, two_room, sum_by-append (entry_cost old.order) xs ys);
       stands = λ g counted later.
           values_follow g old.size (length old.pages) (length one.pages) (length new.pages) us vs
           (first.stands g counted
-          (later_before one new (between (length old.pages) (length one.pages)) (between (length old.pages) (length new.pages)) g second.kept.order more
+          (later_before one new (between (length old.pages) (length one.pages))
+          (between (length old.pages) (length new.pages)) g second.kept.order more
           (λ p at. let s = between_is _ _ p at in is_between (length old.pages) (length new.pages) p s.0 (omega (arith, s.1, more)))
           (λ p at. let s = between_is _ _ p at in (s.1, second.kept.same p s.1 (λ e. omega (arith, e, low, s.0)))) later))
           (subst (λ n. ValuesStand g n (length one.pages) (length new.pages) vs) size
@@ -117,10 +119,11 @@ runs_follow leaves old one new xs ys us vs low size first second =
                 ∙ (ap (page_code one.order p) (second.kept.same p before (λ e. omega (arith, e, low, above))) ∙ first.formed p above before)
             | inr after ↦ second.formed p after under
           ];
-      few = All-append (λ (one : Content × List ℕ). CountsFewFrom (length old.pages) new one.0) us vs
-          (all_map (λ held. few_kept (length old.pages) (length old.pages) one new held.0 (omega arith) second.kept.order more
-          (λ h above under. second.kept.same h under (λ e. omega (arith, e, low, above)))) us first.few)
-          (all_map (λ held. few_kept (length one.pages) (length old.pages) new new held.0 grows refl (omega arith) (λ h above under. refl)) vs second.few);
+      heads = All-append (λ (one : Content × List ℕ). CountsOneFrom (length old.pages) new one.0) us vs
+          (all_map (λ held. one_kept (length old.pages) (length old.pages) one new held.0 (omega arith) second.kept.order more
+          (λ h above under. second.kept.same h under (λ e. omega (arith, e, low, above)))) us first.heads)
+          (all_map (λ held. one_kept (length one.pages) (length old.pages) new new held.0 grows refl (omega arith)
+          (λ h above under. refl)) vs second.heads);
       count =
           let before = first.count in
           let after : length new.pages ≡ length one.pages + sum_by (λ (held : Content × List ℕ). chain_pages old.size held.1) vs =
@@ -175,10 +178,10 @@ put_is_run leaves old new value deleted low put some =
           ap (λ o. page_code o p (bytes_of new p)) grown.kept.order
           ∙ (ap (page_code one.order p) (grown.kept.same p (omega (arith, under, count)) (λ e. omega (arith, e, low, above)))
           ∙ stored.formed p above (omega (arith, under, count)));
-      few = All-cons (λ (one : Content × List ℕ). CountsFewFrom (length old.pages) new one.0) (put.item.content, value) []
-          (few_kept (length old.pages) (length old.pages) one new put.item.content (omega arith) grown.kept.order (omega (arith, count))
-          (λ h above under. grown.kept.same h under (λ e. omega (arith, e, low, above))) stored.few)
-          (All-nil (λ (one : Content × List ℕ). CountsFewFrom (length old.pages) new one.0));
+      heads = All-cons (λ (one : Content × List ℕ). CountsOneFrom (length old.pages) new one.0) (put.item.content, value) []
+          (one_kept (length old.pages) (length old.pages) one new put.item.content (omega arith) grown.kept.order (omega (arith, count))
+          (λ h above under. grown.kept.same h under (λ e. omega (arith, e, low, above))) stored.heads)
+          (All-nil (λ (one : Content × List ℕ). CountsOneFrom (length old.pages) new one.0));
       count =
           let here = stored.count in
           omega (arith, count, here, sum_by-cons (λ (held : Content × List ℕ). chain_pages old.size held.1) (put.item.content, value) []);

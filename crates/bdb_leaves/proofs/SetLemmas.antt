@@ -14,13 +14,13 @@ use Rattle.bdb_grove.specs.Part.{between}
 use Rattle.bdb_grove.proofs.ChainLemmas.{between_is}
 use Rattle.bdb_pack.specs.Built.{Built, file_so_far}
 use Rattle.bdb_leaves.specs.Filled.{AreFilled, AreSpreadOver, FilledNow, IsPushed, SpreadNow}
-use Rattle.bdb_leaves.specs.Finished.{HasFirstRoot, KeepsOlder}
+use Rattle.bdb_leaves.specs.Finished.{HasFirstRoot}
 use Rattle.bdb_leaves.specs.Grown.{live_entry}
 use Rattle.bdb_leaves.specs.Laid.{has_sorted_data}
-use Rattle.bdb_leaves.specs.Leaves.{KeepsOthers, has_room}
+use Rattle.bdb_leaves.specs.Leaves.{KeepsAll, KeepsBefore, KeepsOthers, has_room}
 use Rattle.bdb_leaves.specs.Moved.{numbers_of}
 use Rattle.bdb_leaves.specs.Placed.{Placed, unit_of}
-use Rattle.bdb_leaves.specs.Sets.{IsSetBuilt, IsSetFilled, KeepsAll, SetStands, set_type}
+use Rattle.bdb_leaves.specs.Sets.{IsSetBuilt, IsSetFilled, SetStands, set_type}
 use Rattle.bdb_leaves.specs.Spread.{leaves_and_levels}
 use Rattle.bdb_leaves.specs.Units.{chain_pages, unit_cost}
 use Rattle.bdb_leaves.specs.declared.leaf_type.LeafType.{LeafType}
@@ -158,7 +158,7 @@ set_built old mid new sorted values leaves root set has =
           omega (arith, leaves_and_chains, tree, same);
     }
   where
-    keeps : KeepsOlder (length old.pages) mid new
+    keeps : KeepsBefore (length old.pages) mid new
     keeps = finished_trees_keep_older_pages leaves mid new true (length old.pages) set.closed set.units root set.filled has
 
     before : length old.pages ≤ length mid.pages

@@ -1,5 +1,6 @@
 -- A key whose data have a tree of their own.
-use Rattle.std.proofs.Common.{◌≡◌, ℕ, ◌+◌, ◌-◌, ◌<◌, ◌≤◌, Bool, true, false, cond, if◌then◌else◌, List, [], ◌∷◌, ◌++◌, length, arith, refl, sym, ◌∙◌, ap, subst, inl, inr, length-append, true≢false}
+use Rattle.std.proofs.Common.{◌≡◌, ℕ, ◌+◌, ◌-◌, ◌<◌, ◌≤◌, Bool, true, false, cond, if◌then◌else◌, List, [], ◌∷◌, ◌++◌, length, arith, refl, sym, ◌∙◌}
+use Rattle.std.proofs.Common.{ap, subst, inl, inr, length-append, true≢false}
 use Rattle.std.specs.Prelude.{◌^◌}
 use Rattle.std.specs.List.{All, flat_map}
 use Rattle.std.proofs.lemmas.Bool.{cases_lt, cases_Bool}
@@ -24,8 +25,9 @@ use Rattle.bdb_pack.specs.Built.{AreWhole, Built, bytes_of, file_so_far}
 use Rattle.bdb_leaves.specs.Filled.{AreSomeFilled, AscendIn, IsPushed, StandOn, leaves_added, unit_contents, FilledNow, rest_of}
 use Rattle.bdb_leaves.specs.LeafEntries.{CanTakeEntry, Entry, HoldsEntriesOn, entry_cost, item_cost, own_entry, room_of}
 use Rattle.bdb_leaves.specs.Leaves.{AreLeaves, AreSomeLeaves, HasRoomNow, has_room, last_of}
-use Rattle.bdb_leaves.specs.Placed.{Placed, PlacedTree, StandsPlaced, ValueItem, tree_item, IsPlacedBySize, PlacedEntry, PlacedPairs, has_wrong_root, unit_of, values_in}
-use Rattle.bdb_leaves.specs.Puts.{CountsFewFrom, IsGrown, IsPut}
+use Rattle.bdb_leaves.specs.Placed.{Placed, PlacedTree, StandsPlaced, ValueItem, tree_item, IsPlacedBySize, PlacedEntry, PlacedPairs, has_wrong_root}
+use Rattle.bdb_leaves.specs.Placed.{unit_of, values_in}
+use Rattle.bdb_leaves.specs.Puts.{CountsOneFrom, IsGrown, IsPut}
 use Rattle.bdb_leaves.specs.Runs.{HasWholePairs, IsRunPut, ValuesStand}
 use Rattle.bdb_leaves.specs.Sets.{IsSetBuilt, IsTreePut, SetStands, IsKeyedPushed}
 use Rattle.bdb_leaves.specs.Spread.{own_pages, set_pages}
@@ -40,7 +42,7 @@ use Rattle.bdb_leaves.proofs.FilledLemmas.{by_size, counted_so_far, later_self, 
 use Rattle.bdb_leaves.proofs.PairsLemmas.{live_put, some_of}
 use Rattle.bdb_leaves.proofs.PushLemmas.{IsReady, cost_few, pushed, ready, room_count, whole_now}
 use Rattle.bdb_leaves.proofs.PutLemmas.{pages_stay}
-use Rattle.bdb_leaves.proofs.RunLemmas.{few_kept, later_before, put_is_run}
+use Rattle.bdb_leaves.proofs.RunLemmas.{one_kept, later_before, put_is_run}
 use Rattle.bdb_leaves.proofs.StandLemmas.{ascend_follow, values_stand_on, ascend_bounds}
 
 tree_contents : (type : LeafType) (unit : ValueItem) (root : ℕ) (values : List (List ℕ))
@@ -138,11 +140,11 @@ tree_put leaves old one two new key values sorted root has put set grown count m
             };
         sizes =
             let key_there = key_stands f counted itself in (by_size f old.size a key_there.0 put.item.content key key_there.3, many);
-        few = subst (All (CountsFewFrom a new)) (sym contents)
-            (All-cons (CountsFewFrom a new) put.item.content (Tree root ∷ [])
-            (few_kept a a one new put.item.content (omega arith) order (omega (arith, more, count)) (λ h low high. kept h low high)
-            (All-head (λ (one_held : Content × List ℕ). CountsFewFrom a one one_held.0) (put.item.content, key) [] run.few))
-            (All-cons (CountsFewFrom a new) (Tree root) [] tt (All-nil (CountsFewFrom a new))));
+        heads = subst (All (CountsOneFrom a new)) (sym contents)
+            (All-cons (CountsOneFrom a new) put.item.content (Tree root ∷ [])
+            (one_kept a a one new put.item.content (omega arith) order (omega (arith, more, count)) (λ h low high. kept h low high)
+            (All-head (λ (one_held : Content × List ℕ). CountsOneFrom a one one_held.0) (put.item.content, key) [] run.heads))
+            (All-cons (CountsOneFrom a new) (Tree root) [] tt (All-nil (CountsOneFrom a new))));
         formed = λ p low high. elim (cases_lt p b) [
           | inl below ↦ ap (λ o. page_code o p (bytes_of new p)) order ∙ (ap (page_code one.order p) (kept p low below) ∙ run.formed p low below)
           | inr above ↦

@@ -1,5 +1,6 @@
 -- Things that are put on pages from left to right.
-use Rattle.std.proofs.Common.{◌≡◌, ℕ, suc, ◌+◌, ◌-◌, ◌<◌, ◌≤◌, List, [], ◌∷◌, ◌++◌, length, map, get_or, arith, refl, sym, ◌∙◌, ap, subst, inl, inr, length-append}
+use Rattle.std.proofs.Common.{◌≡◌, ℕ, suc, ◌+◌, ◌-◌, ◌<◌, ◌≤◌, List, [], ◌∷◌, ◌++◌, length, map, get_or, arith, refl, sym, ◌∙◌, ap, subst, inl, inr}
+use Rattle.std.proofs.Common.{length-append}
 use Rattle.std.specs.List.{flat_map, sum_by}
 use Rattle.std.proofs.lemmas.Bool.{cases_lt, le-leb, lt-leb}
 use Rattle.std.proofs.lemmas.List.{append-nil, append_assoc, map-append}
@@ -7,7 +8,7 @@ use Rattle.std.proofs.lemmas.List.Sums.{sum_by-cons, sum_by_push}
 use Rattle.bdb_levels.specs.declared.inner_type.InnerType.{InnerType}
 use Rattle.bdb_levels.specs.Nodes.{Node, no_node}
 use Rattle.bdb_leaves.specs.Inner.{child_cost, first_cost, nodes_cost}
-use Rattle.bdb_leaves.specs.Spread.{spread_items, spread_on, spread_units}
+use Rattle.bdb_leaves.specs.Spread.{spread_items, spread_nodes, spread_on, spread_units}
 use Rattle.bdb_leaves.specs.Units.{AreSpread, TreeUnit, page_room, unit_cost}
 
 -- Steps.
@@ -121,24 +122,28 @@ level_greedy inner room node nodes ((next ∷ more) ∷ groups) some fits full =
     )
 
 -- groups of nodes, each with room on its page, and the first of each next one without room on the page before
-pub level_is_spread : (inner : InnerType) (room : ℕ) (groups : List (List Node))
+pub nodes_are_spread : (inner : InnerType) (room : ℕ) (groups : List (List Node))
     → ((k : ℕ) → k < length groups → 0 < length (get_or groups k []))
     → ((k : ℕ) → k < length groups → nodes_cost inner (get_or groups k []) ≤ room)
     → ((k : ℕ) → k + 1 < length groups
     → room < nodes_cost inner (get_or groups k []) + child_cost inner (get_or (get_or groups (k + 1) []) 0 no_node))
-    → spread_items room (first_cost inner) (map (child_cost inner) (flat_map (λ group. group) groups)) ≡ map (map (child_cost inner)) groups
-level_is_spread inner room [] some fits full = refl
-level_is_spread inner room ([] ∷ groups) some fits full = let none = some 0 (omega arith) in absurd (omega (arith, none))
-level_is_spread inner room ((node ∷ nodes) ∷ groups) some fits full =
-    spread_map (child_cost inner) room (λ cost. first_cost inner) (λ cost. cost) (room - first_cost inner) (node ∷ [])
-    (nodes ++ flat_map (λ group. group) groups)
-    ∙ ap (map (map (child_cost inner)))
-    (greedy_is_spread room (λ other. first_cost inner) (child_cost inner) (room - first_cost inner) (node ∷ []) nodes groups
+    → spread_nodes inner room (flat_map (λ group. group) groups) ≡ groups
+nodes_are_spread inner room [] some fits full = refl
+nodes_are_spread inner room ([] ∷ groups) some fits full = let none = some 0 (omega arith) in absurd (omega (arith, none))
+nodes_are_spread inner room ((node ∷ nodes) ∷ groups) some fits full =
+    greedy_is_spread room (λ other. first_cost inner) (child_cost inner) (room - first_cost inner) (node ∷ []) nodes groups
     (level_greedy inner room node nodes groups (λ k under. some k (omega (arith, under))) (λ k under. fits k (omega (arith, under)))
     (λ k under.
     subst (λ j. room < nodes_cost inner (get_or ((node ∷ nodes) ∷ groups) k [])
     + child_cost inner (get_or (get_or ((node ∷ nodes) ∷ groups) j []) 0 no_node))
-    (let e : k + 1 ≡ suc k = omega arith in e) (full k (omega (arith, under))))))
+    (let e : k + 1 ≡ suc k = omega arith in e) (full k (omega (arith, under)))))
+
+-- what their items take is spread so too
+pub items_are_spread : (inner : InnerType) (room : ℕ) (nodes : List Node)
+    → spread_items room (first_cost inner) (map (child_cost inner) nodes) ≡ map (map (child_cost inner)) (spread_nodes inner room nodes)
+items_are_spread inner room [] = refl
+items_are_spread inner room (node ∷ nodes) =
+    spread_map (child_cost inner) room (λ cost. first_cost inner) (λ cost. cost) (room - first_cost inner) (node ∷ []) nodes
 
 -- The last page.
 

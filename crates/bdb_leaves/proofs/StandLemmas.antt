@@ -52,7 +52,8 @@ pub inline_read : (g : File) (bytes : List ℕ) → value_of g (Inline bytes) �
 unfolding value_of
 inline_read g bytes = refl
 
-chain_fits : (g : File) (size head total beyond : ℕ) (value : List ℕ) → total ≡ length value → StandsIn g size value head beyond → ChainFits g head total
+chain_fits : (g : File) (size head total beyond : ℕ) (value : List ℕ) → total ≡ length value → StandsIn g size value head beyond
+    → ChainFits g head total
 chain_fits g size head total beyond value is stands =
     let first = first_link g head stands.pieces stands.run in
     let whole : joined (pieces_of g head) ≡ value = sym (value_joined g head total) ∙ (stands.chain.value total ∙ stands.joined_is) in

@@ -42,7 +42,8 @@ stays_rest false leaves next old one new before low under opened more p is =
 
 -- so what stood in later files stands in those of now
 pub stays_now : (b : Bool) (leaves next : Leaves) (old one new : Built) (before : ℕ) (closed : List (List Placed)) (units : List Placed)
-    → AreFilled leaves old before closed units → HasRoomNow b leaves next old one → length one.pages ≤ length new.pages → KeepsOthers leaves.last old new
+    → AreFilled leaves old before closed units → HasRoomNow b leaves next old one → length one.pages ≤ length new.pages
+    → KeepsOthers leaves.last old new
     → (g : File) → IsLater (rest_of before next new) (file_so_far new) g → IsLater (rest_of before leaves old) (file_so_far old) g
 stays_now b leaves next old one new before closed units filled made more kept g later =
     let low = leaves_low leaves old _ _ filled.hold in
@@ -52,8 +53,8 @@ stays_now b leaves next old one new before closed units filled made more kept g 
     let parts = rest_is before (length old.pages) (numbers_of leaves) p is in (
       parts.1,
       kept.same p parts.1 (λ same.
-      let last = is_one (numbers_of leaves) leaves.last
-      (Contains-append_right leaves.closed.items (leaves.last ∷ []) leaves.last (first_member leaves.last [])) in
-      cc (sym parts.2 ∙ (ap (is_of (numbers_of leaves)) same ∙ last))),
+          let last = is_one (numbers_of leaves) leaves.last
+          (Contains-append_right leaves.closed.items (leaves.last ∷ []) leaves.last (first_member leaves.last [])) in
+          cc (sym parts.2 ∙ (ap (is_of (numbers_of leaves)) same ∙ last))),
     ))
     later

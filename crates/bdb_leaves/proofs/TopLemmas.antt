@@ -1,7 +1,7 @@
 -- The last level of a tree, and its root.
 use Rattle.std.proofs.Common.{◌≡◌, ◌⊎◌, ℕ, ◌+◌, ◌-◌, ◌<◌, ◌≤◌, Bool, true, List, [], ◌∷◌, ◌++◌, length, get_or}
 use Rattle.std.proofs.Common.{arith, refl, sym, ◌∙◌, ap, subst, inl, inr, length-take}
-use Rattle.std.specs.List.{Contains, flat_map, range_with_len}
+use Rattle.std.specs.List.{AllZip, Contains, flat_map, range_with_len}
 use Rattle.std.proofs.lemmas.List.{append-nil, get_or-take}
 use Rattle.bdb_format.specs.File.{header_in, page_at}
 use Rattle.bdb_format.specs.Reading.{abstract_page}
@@ -12,12 +12,14 @@ use Rattle.bdb_levels.specs.Nodes.{AreOver, IsOver, Node}
 use Rattle.bdb_pack.specs.Built.{Built, file_so_far, without_last}
 use Rattle.bdb_leaves.specs.Inner.{HoldsChildrenOn}
 use Rattle.bdb_leaves.specs.Levels.{AreChildren, IsLaid, heads_in, heads_of, heads_under, no_child, node_over}
-use Rattle.bdb_leaves.specs.Tower.{EndsInRoot}
+use Rattle.bdb_leaves.specs.Spread.{IsNodeOver, spread_nodes}
+use Rattle.bdb_leaves.specs.Tower.{CountsAll, EndsInRoot}
 use Rattle.bdb_leaves.specs.declared.levels.Child.{Child}
 use Rattle.bdb_leaves.proofs.LaterLemmas.{later_chain, later_fewer}
 use Rattle.bdb_leaves.proofs.LevelLawLemmas.{group_node, head_counts, levels_are_later, member_at, page_over}
+use Rattle.bdb_leaves.proofs.LevelLemmas.{as_many}
 use Rattle.bdb_leaves.proofs.RunLemmas.{page_so_far}
-use Rattle.bdb_leaves.proofs.TowerLemmas.{IsBuilding, heads_among, heads_in_are, heads_low, is_under, pages_under, under_are}
+use Rattle.bdb_leaves.proofs.TowerLemmas.{IsBuilding, counts_more, heads_among, heads_in_are, heads_low, is_under, level_spread, pages_under, under_are}
 
 -- a level was laid over those so far
 pub record IsTopped (inner : InnerType) (old now : Built) (nodes : List Node) (above : List Child) : Type 0 where
@@ -25,6 +27,7 @@ pub record IsTopped (inner : InnerType) (old now : Built) (nodes : List Node) (a
   pub level : ℕ
   pub below : List Child
   pub high : 1 ≤ level
+  pub many : 1 < length below
   pub built : IsBuilding inner old was nodes level below
   pub laid : IsLaid inner (level + 1) was now above built.top
 
@@ -55,6 +58,11 @@ only_group : (groups : List (List Node)) (nodes : List Node) → length groups �
 only_group [] nodes one joined = absurd (omega (arith, one))
 only_group (group ∷ []) nodes one joined = sym (append-nil group) ∙ joined
 only_group (group ∷ other ∷ groups) nodes one joined = absurd (omega (arith, one))
+
+only_one : (groups : List (List Node)) → length groups ≡ 1 → groups ≡ get_or groups 0 [] ∷ []
+only_one [] one = absurd (omega (arith, one))
+only_one (group ∷ []) one = refl
+only_one (group ∷ other ∷ groups) one = absurd (omega (arith, one))
 
 -- what stood before the last level is, without its one page, as before
 was_later : (inner : InnerType) (level : ℕ) (was now : Built) (above : List Child) (nodes : List Node) (pages : ℕ → Bool)
@@ -101,6 +109,8 @@ ends_in_root inner old now nodes children above are top one =
     let fewer : Built = without_last now in
     let count : length fewer.pages ≡ n = omega (arith, length-take (length now.pages - 1) now.pages, end, is) in
     let all_of : built.top ≡ group ++ [] = sym (only_group groups built.top (omega (arith, many, one)) laid.joined_is) ∙ sym (append-nil group) in
+    let groups_are : spread_nodes inner (old.size - 26) built.top ≡ groups =
+    subst (λ size. spread_nodes inner (size - 26) built.top ≡ groups) built.size (level_spread inner (level + 1) was now above built.top laid) in
     let named : (h : ℕ) → Contains (heads_in inner groups) h → Contains (flat_map (heads_of inner) nodes) h =
     λ h at. heads_among inner built.top nodes h built.keys (heads_in_are inner groups built.top h laid.joined_is at) in
     let low_head : (h : ℕ) → Contains (flat_map (heads_of inner) nodes) h → h < n =
@@ -135,4 +145,16 @@ ends_in_root inner old now nodes children above are top one =
           built.tower g (pages_under pages n) ((root_node ∷ []) ∷ []) root_node
           (λ q high_enough here. is_under pages n q (all q high_enough (omega (arith, here, is))) here)
           (λ h at. is_under pages n h (heads h at) (low_head h at)) before (level_over, refl);
+      spread = λ p.
+          let several = top.many in
+          built.spread ((node_over p group ∷ []) ∷ []) (
+            omega (arith, several, as_many inner was top.below built.top built.are),
+            subst (AllZip IsNodeOver (node_over p group ∷ [])) (sym (groups_are ∙ only_one groups (omega (arith, many, one)))) (refl, tt),
+            refl,
+          );
+      counts = λ p.
+          subst (CountsAll old now)
+          (sym (built.named_are ((node_over p group ∷ []) ∷ [])
+          ∙ (ap (λ gs. built.named ++ (heads_in inner gs ++ [])) groups_are ∙ ap (λ hs. built.named ++ hs) (append-nil (heads_in inner groups)))))
+          (counts_more inner (level + 1) old was now above built.top built.named built.counts grows laid);
     }

@@ -1,11 +1,14 @@
 -- Levels that are laid over pages of a tree, one after the other.
-use Rattle.std.proofs.Common.{◌≡◌, ℕ, zero, suc, ◌+◌, ◌-◌, ◌<◌, ◌≤◌, ◌&&◌, Bool, true, List, [], ◌∷◌, ◌++◌, length, map, get_or, None, arith, refl, sym, ◌∙◌, ap, subst, inl, inr}
-use Rattle.std.specs.List.{Contains, flat_map, range_with_len}
+use Rattle.std.proofs.Common.{◌≡◌, ℕ, zero, suc, ◌+◌, ◌-◌, ◌<◌, ◌≤◌, ◌&&◌, Bool, true, List, [], ◌∷◌, ◌++◌, length, map, get_or, None, arith, refl}
+use Rattle.std.proofs.Common.{sym, ◌∙◌, ap, subst, inl, inr}
+use Rattle.std.specs.List.{AllZip, Contains, flat_map, range_with_len}
 use Rattle.std.proofs.lemmas.Bool.{and_parts, cases_lt, lt-leb, lt-ltb, ltb-true}
 use Rattle.std.proofs.lemmas.Grind.{flat_map-append}
 use Rattle.std.proofs.lemmas.List.{append-nil, append_assoc, get_or_default, length-map}
+use Rattle.std.proofs.lemmas.List.Elements.{Contains-append_cases, Contains-append_left, Contains-append_right}
 use Rattle.std.proofs.Math.Dec.{ltb}
 use Rattle.bdb_format.specs.File.{File}
+use Rattle.bdb_format.specs.Reading.{entries_of}
 use Rattle.bdb_format.specs.Rows.{page_code}
 use Rattle.bdb_format.proofs.MemberLemmas.{first_member, in_flat_map, later_member, member_cases, no_member, of_flat_map}
 use Rattle.bdb_grove.specs.Growing.{IsLater}
@@ -17,16 +20,17 @@ use Rattle.bdb_levels.specs.Roots.{key_heads, pages_of}
 use Rattle.bdb_pack.specs.Built.{AreWhole, Built, bytes_of, file_so_far}
 use Rattle.bdb_leaves.specs.Inner.{child_cost, first_cost, key_cost}
 use Rattle.bdb_leaves.specs.Levels.{AreChildren, IsLaid, heads_in, heads_of, heads_under, no_child, node_over, nodes_over}
-use Rattle.bdb_leaves.specs.Spread.{first_or, pages_over, spread_items}
-use Rattle.bdb_leaves.specs.Tower.{EndsInRoot, HasTower}
+use Rattle.bdb_leaves.specs.Spread.{AreSpreadLevels, IsNodeOver, first_or, named_heads, pages_over, spread_items, spread_nodes}
+use Rattle.bdb_leaves.specs.Tower.{CountsAll, EndsInRoot, HasTower}
 use Rattle.bdb_leaves.specs.declared.levels.Child.{Child}
 use Rattle.bdb_leaves.proofs.FilledLemmas.{later_self}
-use Rattle.bdb_leaves.proofs.LevelLawLemmas.{keys_of, levels_are_formed, levels_are_later, levels_go_on, levels_keep_pages, levels_shrink, levels_stand, member_at}
+use Rattle.bdb_leaves.proofs.LevelLawLemmas.{keys_of, levels_are_formed, levels_are_later, levels_go_on, levels_keep_pages, levels_shrink}
+use Rattle.bdb_leaves.proofs.LevelLawLemmas.{levels_stand, member_at, member_or_not}
 use Rattle.bdb_leaves.proofs.LaterLemmas.{later_chain}
 use Rattle.bdb_leaves.proofs.LevelLemmas.{as_many}
 use Rattle.bdb_leaves.proofs.LevelTakeLemmas.{heads_few}
 use Rattle.bdb_leaves.proofs.RunLemmas.{later_before}
-use Rattle.bdb_leaves.proofs.SpreadLemmas.{level_is_spread}
+use Rattle.bdb_leaves.proofs.SpreadLemmas.{items_are_spread, nodes_are_spread}
 
 -- Keys.
 
@@ -131,22 +135,26 @@ costs_over inner p ((node ∷ nodes) ∷ groups) some =
     ap (λ cs. child_cost inner node ∷ cs) (costs_over inner (p + 1) groups (λ k under. some (suc k) (omega (arith, under))))
     ∙ ap (λ c. c ∷ map (child_cost inner) (nodes_over (p + 1) groups)) (cost_like inner node (node_over p (node ∷ nodes)) refl)
 
--- a level is spread as its items are
-level_spread : (inner : InnerType) (level : ℕ) (old new : Built) (above : List Child) (nodes : List Node)
-    → (laid : IsLaid inner level old new above nodes)
-    → spread_items (old.size - 26) (first_cost inner) (map (child_cost inner) nodes) ≡ map (map (child_cost inner)) laid.groups
+-- the nodes of a level are spread over its pages
+pub level_spread : (inner : InnerType) (level : ℕ) (old new : Built) (above : List Child) (nodes : List Node)
+    → (laid : IsLaid inner level old new above nodes) → spread_nodes inner (old.size - 26) nodes ≡ laid.groups
 level_spread inner level old new above nodes laid =
     let by = laid.laid in
     let count = by.count in
     let size = by.size in
-    ap (λ (l : List Node). spread_items (old.size - 26) (first_cost inner) (map (child_cost inner) l)) (sym laid.joined_is)
-    ∙ level_is_spread inner (old.size - 26) laid.groups (λ k under. (by.pages k under).some)
+    ap (spread_nodes inner (old.size - 26)) (sym laid.joined_is)
+    ∙ nodes_are_spread inner (old.size - 26) laid.groups (λ k under. (by.pages k under).some)
     (λ k under.
     let page = by.pages k under in
     let room = page.holds.room in
     let long : length (bytes_of new (length old.pages + k)) ≡ new.size = by.whole (length old.pages + k) (omega (arith, under, count)) in
     omega (arith, room, long, size))
     by.filled
+
+-- each of these stands over its group
+pub stand_over : (p : ℕ) (groups : List (List Node)) → AllZip IsNodeOver (nodes_over p groups) groups
+stand_over p [] = tt
+stand_over p (group ∷ groups) = (refl, stand_over (p + 1) groups)
 
 -- over two pages or more stand those of the next level, and those over it
 pages_counted : (inner : InnerType) (level most : ℕ) (old new : Built) (above : List Child) (nodes : List Node)
@@ -161,7 +169,7 @@ pages_counted inner level most old new above nodes laid many =
     let two : 1 < length costs = omega (arith, many, length-map nodes (child_cost inner)) in
     two_or_more most room (first_cost inner) costs two
     ∙ (ap (λ (gs : List (List ℕ)). length gs + pages_over most room (first_cost inner) (map (first_or 0) gs))
-    (level_spread inner level old new above nodes laid)
+    (items_are_spread inner room nodes ∙ ap (map (map (child_cost inner))) (level_spread inner level old new above nodes laid))
     ∙ (ap (λ n. n + pages_over most room (first_cost inner) (map (first_or 0) (map (map (child_cost inner)) groups)))
     (length-map groups (map (child_cost inner)))
     ∙ ap (λ cs. length groups + pages_over most room (first_cost inner) cs)
@@ -195,6 +203,12 @@ pub record IsBuilding (inner : InnerType) (old now : Built) (nodes : List Node) 
       → ((p : ℕ) → length old.pages ≤ p → p < length now.pages → pages p ≡ true)
       → ((h : ℕ) → Contains (flat_map (heads_of inner) nodes) h → pages h ≡ true) → IsLater pages (file_so_far now) g
       → IsTower inner g level top above root → IsTower inner g 1 nodes (levels ++ above) root
+  pub spread : (above : List (List Node)) → AreSpreadLevels inner (old.size - 26) top above
+      → AreSpreadLevels inner (old.size - 26) nodes (levels ++ above)
+  pub named : List ℕ
+  pub named_are : (above : List (List Node)) → named_heads inner (old.size - 26) nodes (levels ++ above)
+      ≡ named ++ named_heads inner (old.size - 26) top above
+  pub counts : CountsAll old now named
   pub later : (pages : ℕ → Bool) → ((p : ℕ) → pages p ≡ true → p < length old.pages) → IsLater pages (file_so_far old) (file_so_far now)
   pub formed : (p : ℕ) → length old.pages ≤ p → p < length now.pages → page_code now.order p (bytes_of now p) ≡ None
   pub form_kept : (p : ℕ) → p < length old.pages → page_code now.order p (bytes_of now p) ≡ page_code old.order p (bytes_of old p)
@@ -220,6 +234,10 @@ none_built inner old nodes children whole are =
       grows = omega arith;
       numbers = ap (range_with_len (length old.pages)) (sym none);
       tower = λ g pages above root all heads later tower. tower;
+      spread = λ above spread. spread;
+      named = [];
+      named_are = λ above. refl;
+      counts = record { two = λ p low at. absurd (no_member [] p refl at); same = λ p low other. refl };
       later = λ pages among. later_self old pages;
       formed = λ p low under. absurd (omega (arith, low, under));
       form_kept = λ p low. refl;
@@ -239,6 +257,26 @@ under_are pages n p at = let (there, low) = and_parts (pages p) (ltb p n) at in 
 pub is_under : (pages : ℕ → Bool) (n p : ℕ) → pages p ≡ true → p < n → pages_under pages n p ≡ true
 is_under pages n p there low = ap (λ b. b && ltb p n) there ∙ lt-ltb p n low
 
+-- a level more names more heads
+pub counts_more : (inner : InnerType) (level : ℕ) (old now new : Built) (above : List Child) (nodes : List Node) (named : List ℕ)
+    → CountsAll old now named → length old.pages ≤ length now.pages → (laid : IsLaid inner level now new above nodes)
+    → CountsAll old new (named ++ heads_in inner laid.groups)
+counts_more inner level old now new above nodes named counts grows laid =
+    let heads : List ℕ = heads_in inner laid.groups in
+    let keeps = λ (p : ℕ) (low : p < length old.pages). levels_keep_pages inner level now new above nodes p laid (omega (arith, low, grows)) in
+    record {
+      two = λ p low at. elim (member_or_not heads p) [
+        | inl here ↦ (keeps p low).two here
+        | inr out ↦
+            ap (λ o. entries_of o (bytes_of new p)) laid.laid.order
+            ∙ (ap (entries_of now.order) ((keeps p low).same out)
+            ∙ counts.two p low (elim (Contains-append_cases named heads p at) [ inl was ↦ was | inr here ↦ absurd (out here) ]))
+      ];
+      same = λ p low other.
+          (keeps p low).same (λ at. other (Contains-append_right named heads p at))
+          ∙ counts.same p low (λ at. other (Contains-append_left named heads p at));
+    }
+
 pub level_built : (inner : InnerType) (old now new : Built) (nodes : List Node) (level : ℕ) (below children above : List Child)
     → AreChildren inner old below nodes → 1 ≤ level → (built : IsBuilding inner old now nodes level children)
     → IsLaid inner (level + 1) now new above built.top → 1 < length children → length above < length children
@@ -248,6 +286,9 @@ level_built inner old now new nodes level below children above are high built la
     let row : List Node = nodes_over n laid.groups in
     let low_now = built.grows in
     let count = laid.laid.count in
+    let groups_are : spread_nodes inner (old.size - 26) built.top ≡ laid.groups =
+    subst (λ size. spread_nodes inner (size - 26) built.top ≡ laid.groups) built.size
+    (level_spread inner (level + 1) now new above built.top laid) in
     let kept = λ (p : ℕ) (low : p < n). (levels_keep_pages inner (level + 1) now new above built.top p laid low).form in
     let named : (h : ℕ) → Contains (heads_in inner laid.groups) h → Contains (flat_map (heads_of inner) nodes) h =
     λ h at. heads_among inner built.top nodes h built.keys (heads_in_are inner laid.groups built.top h laid.joined_is at) in
@@ -278,6 +319,21 @@ level_built inner old now new nodes level below children above are high built la
                 (λ p low here. all p (omega (arith, low, low_now)) here) (λ h at. heads h (named h at)) later,
             tower,
           ));
+      spread = λ others spread.
+          subst (AreSpreadLevels inner (old.size - 26) nodes) (sym (append_assoc built.levels (row ∷ []) others))
+          (built.spread (row ∷ others) (
+            omega (arith, many, as_many inner now children built.top built.are),
+            subst (AllZip IsNodeOver row) (sym groups_are) (stand_over n laid.groups),
+            spread,
+          ));
+      named = built.named ++ heads_in inner laid.groups;
+      named_are = λ others.
+          let room : ℕ = old.size - 26 in
+          ap (named_heads inner room nodes) (append_assoc built.levels (row ∷ []) others)
+          ∙ (built.named_are (row ∷ others)
+          ∙ (ap (λ gs. built.named ++ (heads_in inner gs ++ named_heads inner room row others)) groups_are
+          ∙ sym (append_assoc built.named (heads_in inner laid.groups) (named_heads inner room row others))));
+      counts = counts_more inner (level + 1) old now new above built.top built.named built.counts low_now laid;
       later = λ pages among. later_chain (file_so_far old) (file_so_far now) (file_so_far new) pages (built.later pages among)
           (levels_are_later inner (level + 1) now new above built.top pages laid (λ p at. let low = among p at in omega (arith, low, low_now)));
       formed = λ p low here. elim (cases_lt p n) [
@@ -365,6 +421,10 @@ tower_built inner old now nodes level children built one ends =
       numbers = built.numbers;
       tower = λ g pages all heads later. subst (λ (l : List (List Node)). IsTower inner g 1 nodes l root) (append-nil built.levels)
           (built.tower g pages [] root all heads later is);
+      spread = subst (AreSpreadLevels inner (old.size - 26) nodes) (append-nil built.levels) (built.spread [] (ap length is));
+      counts = subst (CountsAll old now)
+          (sym (append-nil built.named) ∙ (sym (built.named_are []) ∙ ap (named_heads inner (old.size - 26) nodes) (append-nil built.levels)))
+          built.counts;
       later = built.later;
       formed = built.formed;
       form_kept = built.form_kept;

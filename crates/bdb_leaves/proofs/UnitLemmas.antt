@@ -12,7 +12,8 @@ use Rattle.bdb_format.specs.Less.{less}
 use Rattle.bdb_format.specs.Page.{Item}
 use Rattle.bdb_format.specs.File.{File}
 use Rattle.bdb_format.specs.Contents.{StoredPair, data_of}
-use Rattle.bdb_format.specs.ContentRows.{ascends, ascends_from, groups, has_unsorted, is_out_of_order, is_unsorted, live_data, neighbours, neighbours_from}
+use Rattle.bdb_format.specs.ContentRows.{ascends, ascends_from, groups, has_unsorted, is_out_of_order, is_unsorted, live_data, neighbours}
+use Rattle.bdb_format.specs.ContentRows.{neighbours_from}
 use Rattle.bdb_format.specs.Lists.{BytesKey, listed_entry, listed_pair}
 use Rattle.bdb_levels.specs.Contents.{Follow, FollowFrom, Follows}
 use Rattle.bdb_leaves.specs.Units.{entry_unit, group_unit, keyed_units, listed_keyed, listed_record}

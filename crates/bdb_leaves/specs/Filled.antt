@@ -13,7 +13,7 @@ use Rattle.bdb_pack.specs.Built.{AreWhole, Built, bytes_of, file_so_far}
 use Rattle.bdb_leaves.specs.LeafEntries.{Entry, contents_of}
 use Rattle.bdb_leaves.specs.Leaves.{AreLeaves, KeepsOthers, has_room}
 use Rattle.bdb_leaves.specs.Moved.{first_leaf}
-use Rattle.bdb_leaves.specs.Puts.{CountsFewFrom}
+use Rattle.bdb_leaves.specs.Puts.{CountsOneFrom}
 use Rattle.bdb_leaves.specs.Placed.{IsPlacedBySize, Placed, StandsPlaced, entries_of, unit_of}
 use Rattle.bdb_leaves.specs.Spread.{own_pages, spread_units}
 use Rattle.bdb_leaves.specs.Units.{TreeUnit, page_room, unit_cost, unit_has_tree}
@@ -48,7 +48,7 @@ pub record IsUnitPut (leaves : Leaves) (old new : Built) (unit : Placed) : Type 
   pub stands : (g : File) → IsCounted g → IsLater (between (length old.pages) (length new.pages)) (file_so_far new) g
       → UnitStands leaves.leaf_type g old.size (length old.pages) (length new.pages) unit
   pub sizes : IsPlacedBySize old.size unit
-  pub few : All (CountsFewFrom (length old.pages) new) (unit_contents leaves.leaf_type unit)
+  pub heads : All (CountsOneFrom (length old.pages) new) (unit_contents leaves.leaf_type unit)
   pub formed : (p : ℕ) → length old.pages ≤ p → p < length new.pages → page_code new.order p (bytes_of new p) ≡ None
   pub count : (sorted : Bool) → unit_has_tree old.size (unit_of unit) ≡ false
       → length new.pages ≡ length old.pages + own_pages old.size sorted (unit_of unit)
@@ -78,7 +78,7 @@ pub record AreFilled (leaves : Leaves) (built : Built) (before : ℕ) (closed : 
   pub stands : (g : File) → IsCounted g → IsLater (rest_of before leaves built) (file_so_far built) g
       → AllStand leaves.leaf_type g (rest_of before leaves built) closed units
   pub sizes : All (IsPlacedBySize built.size) (flat_map (λ leaf. leaf) closed ++ units)
-  pub few : All (CountsFewFrom before built) (all_contents leaves.leaf_type closed units)
+  pub heads : All (CountsOneFrom before built) (all_contents leaves.leaf_type closed units)
   pub formed : (p : ℕ) → rest_of before leaves built p ≡ true → page_code built.order p (bytes_of built p) ≡ None
 
 -- some units; where there are several leaves the last has one too

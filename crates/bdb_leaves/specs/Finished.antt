@@ -13,17 +13,18 @@ use Rattle.bdb_leaves.specs.Filled.{AreFilled, AreSpreadOver, rest_of}
 use Rattle.bdb_leaves.specs.Inner.{HoldsChildrenOn, child_cost, first_cost}
 use Rattle.bdb_leaves.specs.Laid.{HasUnits, IsLaid, IsNodeOf, inner_of, is_laid}
 use Rattle.bdb_leaves.specs.LeafEntries.{with_field}
+use Rattle.bdb_leaves.specs.Leaves.{KeepsBefore}
 use Rattle.bdb_leaves.specs.Levels.{heads_of}
 use Rattle.bdb_leaves.specs.Moved.{IsFirstMoved, first_leaf, numbers_of}
 use Rattle.bdb_leaves.specs.Placed.{LeafUnits, Placed, unit_of}
 use Rattle.bdb_leaves.specs.Rooted.{CountsLeaves, IsOneLeaf, placed_on}
-use Rattle.bdb_leaves.specs.Spread.{leaves_and_levels, pages_over}
-use Rattle.bdb_leaves.specs.Tower.{levels_to}
+use Rattle.bdb_leaves.specs.Spread.{AreSpreadLevels, leaves_and_levels, named_heads, pages_over}
+use Rattle.bdb_leaves.specs.Tower.{CountsNamed, levels_to}
 use Rattle.bdb_leaves.specs.declared.leaf_type.LeafType.{LeafType}
 use Rattle.bdb_leaves.specs.declared.leaves.Leaves.{Leaves}
 
--- The last page is placed on another, with the number of that, and dropped from the end; no other page changes. The nodes that it holds as an internal
--- page it holds there.
+-- The last page is placed on another, with the number of that, and dropped from the end; no other page changes. The nodes that it holds as an
+-- internal page it holds there.
 pub record IsRootPlaced (first root : ℕ) (old new : Built) : Type 0 where
   pub size : new.size ≡ old.size
   pub order : new.order ≡ old.order
@@ -48,6 +49,9 @@ pub record HasTowerOn (inner : InnerType) (old new : Built) (nodes : List Node) 
   pub tower : (g : File) (pages : ℕ → Bool) → ((p : ℕ) → length old.pages ≤ p → p < length new.pages → pages p ≡ true) → pages first ≡ true
       → ((h : ℕ) → Contains (flat_map (heads_of inner) nodes) h → pages h ≡ true) → IsLater pages (file_so_far new) g
       → IsTower inner g 1 nodes (levels_to levels top) top
+  pub spread : AreSpreadLevels inner (old.size - 26) nodes (levels_to levels top)
+  pub counts : CountsNamed (λ (p : ℕ). (p < length old.pages) × (p ≡ first → ⊥)) old new
+      (named_heads inner (old.size - 26) nodes (levels_to levels top))
   pub later : (pages : ℕ → Bool) → ((p : ℕ) → pages p ≡ true → (p < length old.pages) × (p ≡ first → ⊥))
       → IsLater pages (file_so_far old) (file_so_far new)
   pub formed : (p : ℕ) → length old.pages ≤ p → p < length new.pages → page_code new.order p (bytes_of new p) ≡ None
@@ -60,7 +64,8 @@ pub record HasTowerOn (inner : InnerType) (old new : Built) (nodes : List Node) 
       ≡ length old.pages + pages_over (length nodes) (old.size - 26) (first_cost inner) (map (child_cost inner) nodes)
 
 -- The first of several leaves is moved behind the pages that stood, and levels are laid over the leaves, with the root in its place.
-pub record HasRootOn (leaves : Leaves) (old new : Built) (counted : Bool) (closed : List (List Placed)) (units : List Placed) (root : ℕ) : Type 0 where
+pub record HasRootOn (leaves : Leaves) (old new : Built) (counted : Bool) (closed : List (List Placed)) (units : List Placed)
+    (root : ℕ) : Type 0 where
   pub next : Leaves
   pub between : Built
   pub several : 1 ≤ length leaves.closed.items
@@ -105,19 +110,11 @@ FinishedTreesAreFormed =
     → AreFilled leaves old before closed units → HasFirstRoot leaves old new counted closed units root
     → (p : ℕ) → before ≤ p → p < length new.pages → page_code new.order p (bytes_of new p) ≡ None
 
--- pages of which those before a number are as they were, and none is dropped
-pub record KeepsOlder (before : ℕ) (old new : Built) : Type 0 where
-  pub size : new.size ≡ old.size
-  pub order : new.order ≡ old.order
-  pub whole : AreWhole new
-  pub grows : length old.pages ≤ length new.pages
-  pub same : (p : ℕ) → p < before → bytes_of new p ≡ bytes_of old p
-
 -- The pages before the leaves were begun stay.
 abbrev pub FinishedTreesKeepOlderPages : Type 0
 FinishedTreesKeepOlderPages =
     (leaves : Leaves) (old new : Built) (counted : Bool) (before : ℕ) (closed : List (List Placed)) (units : List Placed) (root : ℕ)
-    → AreFilled leaves old before closed units → HasFirstRoot leaves old new counted closed units root → KeepsOlder before old new
+    → AreFilled leaves old before closed units → HasFirstRoot leaves old new counted closed units root → KeepsBefore before old new
 
 -- Its leaves and the levels over them are as many pages as its units say, where these were spread by what they take.
 abbrev pub FinishedTreesAreCounted : Type 0
@@ -133,7 +130,8 @@ FinishedTreesAreLaid =
     (leaves : Leaves) (old new : Built) (counted : Bool) (before : ℕ) (closed : List (List Placed)) (units : List Placed) (root : ℕ)
     → AreFilled leaves old before closed units → (on : HasRootOn leaves old new counted closed units root)
     → (g : File) → IsCounted g → IsLater (between before (length new.pages)) (file_so_far new) g
-    → IsLaid leaves.leaf_type g (rest_of before leaves old) (placed_on on.next closed units) on.nodes (levels_to on.tower.levels on.tower.top) on.tower.top
+    → IsLaid leaves.leaf_type g (rest_of before leaves old) (placed_on on.next closed units) on.nodes
+    (levels_to on.tower.levels on.tower.top) on.tower.top
     × ((p : ℕ)
     → is_laid (rest_of before leaves old) (placed_on on.next closed units) (levels_to on.tower.levels on.tower.top) p
     ≡ between before (length new.pages) p)

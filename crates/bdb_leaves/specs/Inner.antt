@@ -109,6 +109,12 @@ pub record CountsFew (order : Order) (bytes : List ℕ) : Type 0 where
   pub type_is : byte_at bytes 25 ≡ 7
   pub few : entries_of order bytes ≤ 2
 
+-- and one that counts one
+pub record CountsOne (order : Order) (bytes : List ℕ) : Type 0 where
+  pub long : 26 ≤ length bytes
+  pub type_is : byte_at bytes 25 ≡ 7
+  pub one : entries_of order bytes ≡ 1
+
 -- The laws.
 
 -- an internal page with items has no row of form

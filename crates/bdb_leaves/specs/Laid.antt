@@ -42,7 +42,8 @@ filled type leaf = record { page = leaf.page; contents = contents_of type (entri
 abbrev pub held_by_leaves : LeafType → List LeafUnits → List ℕ
 held_by_leaves type placed = flat_map pages_held (map (filled type) placed)
 
--- Leaves in their order, the first of them after a page: each has the entries of its units between its neighbours, 0 after the last; and the units stand.
+-- Leaves in their order, the first of them after a page: each has the entries of its units between its neighbours, 0 after the last; and
+-- the units stand.
 abbrev pub AreLaid : LeafType → File → ℕ → List LeafUnits → Type 0
 AreLaid type g before [] = Unit {0}
 AreLaid type g before (leaf ∷ placed) =
@@ -69,7 +70,8 @@ abbrev pub tree_pages : List LeafUnits → List (List Node) → List ℕ
 tree_pages placed above = pages_of placed ++ level_pages above
 
 -- Leaves, what they name, and levels over them up to the root.
-pub record IsLaid (type : LeafType) (g : File) (rest : ℕ → Bool) (placed : List LeafUnits) (nodes : List Node) (above : List (List Node)) (root : Node) : Type 0 where
+pub record IsLaid (type : LeafType) (g : File) (rest : ℕ → Bool) (placed : List LeafUnits) (nodes : List Node) (above : List (List Node))
+    (root : Node) : Type 0 where
   pub no_queue : g.kind ≡ Queue → ⊥
   pub leaves : AreLaid type g 0 placed
   -- the pages of the tree are none of the rest, and none stands twice
@@ -143,11 +145,13 @@ LaidTreesHaveLeaves =
 -- and have their kinds and links, of metadata and of sets
 abbrev pub LaidTreesAreLinked : Type 0
 LaidTreesAreLinked =
-    (type : LeafType) (g : File) (rest : ℕ → Bool) (placed : List LeafUnits) (nodes : List Node) (above : List (List Node)) (root : Node) (sort : Sort)
+    (type : LeafType) (g : File) (rest : ℕ → Bool) (placed : List LeafUnits) (nodes : List Node) (above : List (List Node)) (root : Node)
+    (sort : Sort)
     → IsLaid type g rest placed nodes above root → has_type (leaf_types sort) (Some (type_number type)) ≡ true
     → has_wrong_place g sort root.page ≡ false
 
--- a set holds the values of its live units, in their order; its root has the type of sorted data or of unsorted ones, and it fits where a datum names it
+-- a set holds the values of its live units, in their order; its root has the type of sorted data or of unsorted ones, and it
+-- fits where a datum names it
 abbrev pub LaidSetsHoldData : Type 0
 LaidSetsHoldData =
     (type : LeafType) (g : File) (rest : ℕ → Bool) (placed : List LeafUnits) (nodes : List Node) (above : List (List Node)) (root : Node)

@@ -170,7 +170,8 @@ pub record IsLeafIn (type : LeafType) (g : File) (p previous next : ℕ) (entrie
 -- a leaf that holds entries has no row of form; one of pairs has two for each
 abbrev pub LeavesAreFormed : Type 0
 LeavesAreFormed =
-    (type : LeafType) (order : Order) (bytes : List ℕ) (p previous next : ℕ) (entries : List Entry) → HoldsEntries type order bytes p previous next entries
+    (type : LeafType) (order : Order) (bytes : List ℕ) (p previous next : ℕ) (entries : List Entry)
+    → HoldsEntries type order bytes p previous next entries
     → (type ≡ Pairs → length entries % 2 ≡ 0) → page_code order p bytes ≡ None
 
 -- in each file that keeps its page it is a leaf with them

@@ -41,6 +41,17 @@ pub record KeepsOthers (p : ℕ) (old new : Built) : Type 0 where
   pub grows : length old.pages ≤ length new.pages
   pub same : (q : ℕ) → q < length old.pages → (q ≡ p → ⊥) → bytes_of new q ≡ bytes_of old q
 
+-- pages of which those before one are as they were, and none is gone
+pub record KeepsBefore (first : ℕ) (old new : Built) : Type 0 where
+  pub size : new.size ≡ old.size
+  pub order : new.order ≡ old.order
+  pub grows : length old.pages ≤ length new.pages
+  pub same : (p : ℕ) → p < first → bytes_of new p ≡ bytes_of old p
+
+-- so are all pages that stood
+abbrev pub KeepsAll : Built → Built → Type 0
+KeepsAll old new = KeepsBefore (length old.pages) old new
+
 -- a new last leaf behind all pages; the one before it is closed
 pub record IsOpened (leaves next : Leaves) (old new : Built) : Type 0 where
   pub type : next.leaf_type ≡ leaves.leaf_type
@@ -49,7 +60,8 @@ pub record IsOpened (leaves next : Leaves) (old new : Built) : Type 0 where
   pub count : length new.pages ≡ length old.pages + 1
   pub room : room_of new.order (bytes_of new next.last) ≡ old.size - 26
   pub kept : KeepsOthers leaves.last old new
-  pub hold : (closed : List (List Entry)) (entries : List Entry) → AreLeaves leaves old closed entries → AreLeaves next new (closed ++ (entries ∷ [])) []
+  pub hold : (closed : List (List Entry)) (entries : List Entry) → AreLeaves leaves old closed entries
+      → AreLeaves next new (closed ++ (entries ∷ [])) []
 
 -- the leaves, of which the last has room for so many bytes: as before, or with a new last one
 abbrev pub HasRoomNow : Bool → Leaves → Leaves → Built → Built → Type 0

@@ -10,7 +10,8 @@ use Rattle.bdb_format.specs.File.{File, page_at}
 use Rattle.bdb_format.specs.Chains.{value_of}
 use Rattle.bdb_format.specs.Leaves.{leaves}
 use Rattle.bdb_format.specs.Contents.{StoredPair, data_of, pairs_of}
-use Rattle.bdb_format.specs.ContentRows.{ascends, has_duplicate, has_unsorted, has_wrong_record, has_wrong_set, is_out_of_order, is_wrong_set, neighbours}
+use Rattle.bdb_format.specs.ContentRows.{ascends, has_duplicate, has_unsorted, has_wrong_record, has_wrong_set, is_out_of_order, is_wrong_set}
+use Rattle.bdb_format.specs.ContentRows.{neighbours}
 use Rattle.bdb_format.specs.Lists.{list_of}
 use Rattle.bdb_levels.specs.Contents.{BeginsWith, Follow, pairs_below}
 use Rattle.bdb_levels.specs.Nodes.{Node}

@@ -9,7 +9,7 @@ use Rattle.bdb_grove.specs.Part.{between}
 use Rattle.bdb_pack.specs.Built.{Built, bytes_of, file_so_far}
 use Rattle.bdb_pack.specs.Items.{HasPlace, IsWritable, OnLeaf}
 use Rattle.bdb_pack.specs.Stored.{StandsIn}
-use Rattle.bdb_leaves.specs.Inner.{CountsFew}
+use Rattle.bdb_leaves.specs.Inner.{CountsOne}
 use Rattle.bdb_leaves.specs.LeafEntries.{Entry, item_cost, own_entry}
 use Rattle.bdb_leaves.specs.Leaves.{AreLeaves, KeepsOthers}
 use Rattle.bdb_leaves.specs.Units.{chain_pages, value_cost}
@@ -24,13 +24,13 @@ ValueStands g size first beyond (Set blocks) value = ⊥
 ValueStands g size first beyond (Tree root) value = ⊥
 ValueStands g size first beyond Unknown value = ⊥
 
--- the first page of a chain that a content names is there, from a number on, and counts two references at most
-abbrev pub CountsFewFrom : ℕ → Built → Content → Type 0
-CountsFewFrom low built (Inline bytes) = Unit {0}
-CountsFewFrom low built (Chain head total) = (low ≤ head) × (head < length built.pages) × CountsFew built.order (bytes_of built head)
-CountsFewFrom low built (Set blocks) = Unit {0}
-CountsFewFrom low built (Tree root) = Unit {0}
-CountsFewFrom low built Unknown = Unit {0}
+-- the first page of a chain that a content names is there, from a number on, and counts one reference
+abbrev pub CountsOneFrom : ℕ → Built → Content → Type 0
+CountsOneFrom low built (Inline bytes) = Unit {0}
+CountsOneFrom low built (Chain head total) = (low ≤ head) × (head < length built.pages) × CountsOne built.order (bytes_of built head)
+CountsOneFrom low built (Set blocks) = Unit {0}
+CountsOneFrom low built (Tree root) = Unit {0}
+CountsOneFrom low built Unknown = Unit {0}
 
 -- an item for a value, which is stored in a chain behind all pages where it's long
 pub record IsItemOf (old new : Built) (value : List ℕ) (deleted : Bool) (item : Item) : Type 0 where
@@ -45,7 +45,7 @@ pub record IsItemOf (old new : Built) (value : List ℕ) (deleted : Bool) (item 
   pub stands : (g : File) → IsCounted g → IsLater (between (length old.pages) (length new.pages)) (file_so_far new) g
       → ValueStands g old.size (length old.pages) (length new.pages) item.content value
   pub formed : (p : ℕ) → length old.pages ≤ p → p < length new.pages → page_code new.order p (bytes_of new p) ≡ None
-  pub few : CountsFewFrom (length old.pages) new item.content
+  pub heads : CountsOneFrom (length old.pages) new item.content
   pub count : length new.pages ≡ length old.pages + chain_pages old.size value
 
 -- entries that a leaf gets at its end, while no other page changes

@@ -12,7 +12,7 @@ use Rattle.bdb_pack.specs.Built.{Built, bytes_of, file_so_far}
 use Rattle.bdb_leaves.specs.LeafEntries.{Entry, entry_cost, own_entry, room_of, shared_entry}
 use Rattle.bdb_leaves.specs.Leaves.{AreLeaves, KeepsOthers}
 use Rattle.bdb_leaves.specs.Placed.{ValueItem}
-use Rattle.bdb_leaves.specs.Puts.{CountsFewFrom, ValueStands}
+use Rattle.bdb_leaves.specs.Puts.{CountsOneFrom, ValueStands}
 use Rattle.bdb_leaves.specs.Units.{chain_pages, value_cost}
 use Rattle.bdb_leaves.specs.declared.leaf_type.LeafType.TheVariants.{Pairs}
 use Rattle.bdb_leaves.specs.declared.leaves.Leaves.{Leaves}
@@ -26,12 +26,13 @@ ValuesStand g size first beyond (held ∷ more) =
 -- Entries are added to the last leaf, and these contents are stored behind all pages, while no other page changes.
 pub record IsRunPut (leaves : Leaves) (old new : Built) (added : List Entry) (held : List (Content × List ℕ)) : Type 0 where
   pub kept : KeepsOthers leaves.last old new
-  pub hold : (closed : List (List Entry)) (entries : List Entry) → AreLeaves leaves old closed entries → AreLeaves leaves new closed (entries ++ added)
+  pub hold : (closed : List (List Entry)) (entries : List Entry) → AreLeaves leaves old closed entries
+      → AreLeaves leaves new closed (entries ++ added)
   pub room : room_of new.order (bytes_of new leaves.last) + sum_by (entry_cost old.order) added ≡ room_of old.order (bytes_of old leaves.last)
   pub stands : (g : File) → IsCounted g → IsLater (between (length old.pages) (length new.pages)) (file_so_far new) g
       → ValuesStand g old.size (length old.pages) (length new.pages) held
   pub formed : (p : ℕ) → length old.pages ≤ p → p < length new.pages → page_code new.order p (bytes_of new p) ≡ None
-  pub few : All (λ (one : Content × List ℕ). CountsFewFrom (length old.pages) new one.0) held
+  pub heads : All (λ (one : Content × List ℕ). CountsOneFrom (length old.pages) new one.0) held
   pub count : length new.pages ≡ length old.pages + sum_by (λ (one : Content × List ℕ). chain_pages old.size one.1) held
 
 -- a datum's item with its value

@@ -11,19 +11,13 @@ use Rattle.bdb_grove.specs.Part.{between}
 use Rattle.bdb_pack.specs.Built.{Built, bytes_of, file_so_far}
 use Rattle.bdb_leaves.specs.Filled.{AreFilled, AreSpreadOver, IsPushed, IsUnitPut, StandOn, leaves_added, rest_of}
 use Rattle.bdb_leaves.specs.Grown.{live_entry}
+use Rattle.bdb_leaves.specs.Leaves.{KeepsAll}
 use Rattle.bdb_leaves.specs.Placed.{Placed, PlacedTree, has_wrong_root, unit_of}
 use Rattle.bdb_leaves.specs.Spread.{own_pages, set_pages}
 pub use Rattle.bdb_leaves.specs.Spread.{set_type}
 use Rattle.bdb_leaves.specs.Units.{KeyedUnit, TreeUnit, chain_pages}
 use Rattle.bdb_leaves.specs.declared.leaf_type.LeafType.{LeafType}
 use Rattle.bdb_leaves.specs.declared.leaves.Leaves.{Leaves}
-
--- pages that stood, to which others may be added
-pub record KeepsAll (old new : Built) : Type 0 where
-  pub size : new.size ≡ old.size
-  pub order : new.order ≡ old.order
-  pub grows : length old.pages ≤ length new.pages
-  pub same : (p : ℕ) → p < length old.pages → bytes_of new p ≡ bytes_of old p
 
 -- Behind the pages that stood are leaves with these values, each of them live.
 pub record IsSetFilled (old new : Built) (type : LeafType) (values : List (List ℕ)) (leaves : Leaves) : Type 0 where

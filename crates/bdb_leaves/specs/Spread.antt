@@ -1,12 +1,14 @@
 -- How many pages a tree has: units are spread over leaves by what they take, each level over the pages below it, and long values have chains.
 -- Source: docs/FORMAT.md, "Built trees" and "Stored values".
-use Rattle.std.specs.Prelude.{ℕ, zero, suc, ◌+◌, ◌-◌, ◌/◌, nat_le, if◌then◌else◌, Bool, true, false, List, [], ◌∷◌, ◌++◌, length, map}
-use Rattle.std.specs.List.{sum_by}
+use Rattle.std.specs.Prelude.{◌≡◌, ℕ, zero, suc, ◌+◌, ◌-◌, ◌/◌, ◌<◌, nat_le, if◌then◌else◌, Bool, true, false, List, [], ◌∷◌, ◌++◌, length, map}
+use Rattle.std.specs.List.{AllZip, sum_by}
 use Rattle.bdb_format.specs.Numbers.{pad4}
 use Rattle.bdb_levels.specs.declared.inner_type.InnerType.{InnerType}
 use Rattle.bdb_levels.specs.declared.inner_type.InnerType.TheVariants.{Keyed, Numbered}
-use Rattle.bdb_leaves.specs.Inner.{first_cost}
+use Rattle.bdb_levels.specs.Nodes.{Node}
+use Rattle.bdb_leaves.specs.Inner.{child_cost, first_cost}
 use Rattle.bdb_leaves.specs.Laid.{inner_of}
+use Rattle.bdb_leaves.specs.Levels.{heads_in, node_over}
 use Rattle.bdb_leaves.specs.Units.{TreeUnit, KeyedUnit, EntryUnit, chain_pages, has_own_tree, page_room, unit_cost}
 use Rattle.bdb_leaves.specs.declared.leaf_type.LeafType.{LeafType}
 use Rattle.bdb_leaves.specs.declared.leaf_type.LeafType.TheVariants.{Records, SortedData}
@@ -53,6 +55,27 @@ pages_over (suc most) room first costs =
     else
     (let groups : List (List ℕ) = spread_items room first costs in
     length groups + pages_over most room first (map (first_or 0) groups))
+
+-- the nodes below each page of a level, by what their items take
+abbrev pub spread_nodes : InnerType → ℕ → List Node → List (List Node)
+spread_nodes inner room [] = []
+spread_nodes inner room (node ∷ nodes) =
+    spread_on room (λ (other : Node). first_cost inner) (child_cost inner) (room - first_cost inner) (node ∷ []) nodes
+
+-- a node stands over others: it counts what they count together, and has their leaves and the key of the first
+abbrev pub IsNodeOver : Node → List Node → Type 0
+IsNodeOver node nodes = node ≡ node_over node.page nodes
+
+-- Levels over nodes, up to one of a single page: each stands over all pages of the one below, whose items are spread over its pages.
+abbrev pub AreSpreadLevels : InnerType → ℕ → List Node → List (List Node) → Type 0
+AreSpreadLevels inner room nodes [] = length nodes ≡ 1
+AreSpreadLevels inner room nodes (level ∷ levels) =
+    (1 < length nodes) × AllZip IsNodeOver level (spread_nodes inner room nodes) × AreSpreadLevels inner room level levels
+
+-- the heads of chains that the items of levels name
+abbrev pub named_heads : InnerType → ℕ → List Node → List (List Node) → List ℕ
+named_heads inner room nodes [] = []
+named_heads inner room nodes (level ∷ levels) = heads_in inner (spread_nodes inner room nodes) ++ named_heads inner room level levels
 
 -- Values and trees.
 

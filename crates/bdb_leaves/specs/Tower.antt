@@ -2,6 +2,7 @@
 use Rattle.std.specs.Prelude.{◌≡◌, ℕ, ◌+◌, ◌-◌, ◌<◌, ◌≤◌, Bool, true, List, [], ◌∷◌, ◌++◌, length, map, None}
 use Rattle.std.specs.List.{Contains, flat_map, range_with_len}
 use Rattle.bdb_format.specs.File.{File, page_at}
+use Rattle.bdb_format.specs.Reading.{entries_of}
 use Rattle.bdb_format.specs.Rows.{page_code}
 use Rattle.bdb_grove.specs.Growing.{IsLater, IsSamePage}
 use Rattle.bdb_levels.specs.declared.inner_type.InnerType.{InnerType}
@@ -10,11 +11,20 @@ use Rattle.bdb_levels.specs.Roots.{pages_of}
 use Rattle.bdb_pack.specs.Built.{AreWhole, Built, bytes_of, file_so_far, without_last}
 use Rattle.bdb_leaves.specs.Inner.{HoldsChildrenOn, child_cost, first_cost}
 use Rattle.bdb_leaves.specs.Levels.{heads_of, node_over}
-use Rattle.bdb_leaves.specs.Spread.{pages_over}
+use Rattle.bdb_leaves.specs.Spread.{AreSpreadLevels, named_heads, pages_over}
 
 -- the levels with the root
 abbrev pub levels_to : List (List Node) → Node → List (List Node)
 levels_to levels top = levels ++ ((top ∷ []) ∷ [])
+
+-- Of pages that stood heads of chains that are named count two references, and all others stay.
+pub record CountsNamed (stood : ℕ → Type 0) (old new : Built) (named : List ℕ) : Type 0 where
+  pub two : (p : ℕ) → stood p → Contains named p → entries_of new.order (bytes_of new p) ≡ 2
+  pub same : (p : ℕ) → stood p → (Contains named p → ⊥) → bytes_of new p ≡ bytes_of old p
+
+-- all did
+abbrev pub CountsAll : Built → Built → List ℕ → Type 0
+CountsAll old new named = CountsNamed (λ (p : ℕ). p < length old.pages) old new named
 
 -- Of levels over two nodes or more the root is the last page. It holds the nodes of the level below it. The levels stand in each later file of the
 -- other pages where any page holds these.
@@ -32,6 +42,8 @@ pub record EndsInRoot (inner : InnerType) (old new : Built) (nodes : List Node) 
       → ((h : ℕ) → Contains (flat_map (heads_of inner) nodes) h → pages h ≡ true) → IsLater pages (file_so_far (without_last new)) g
       → HoldsChildrenOn inner on p level below → p < length on.pages → IsSamePage (page_at (file_so_far on) p) (page_at g p)
       → IsTower inner g 1 nodes (levels_to levels (node_over p below)) (node_over p below)
+  pub spread : (p : ℕ) → AreSpreadLevels inner (old.size - 26) nodes (levels_to levels (node_over p below))
+  pub counts : (p : ℕ) → CountsAll old new (named_heads inner (old.size - 26) nodes (levels_to levels (node_over p below)))
 
 -- Behind the pages that stood are those of levels over these nodes, the last of them the root; where there is one node it's the root itself.
 -- The pages that stood are as before, but that heads of chains of keys may count more.
@@ -47,6 +59,8 @@ pub record HasTower (inner : InnerType) (old new : Built) (nodes : List Node) (r
   pub tower : (g : File) (pages : ℕ → Bool) → ((p : ℕ) → length old.pages ≤ p → p < length new.pages → pages p ≡ true)
       → ((h : ℕ) → Contains (flat_map (heads_of inner) nodes) h → pages h ≡ true) → IsLater pages (file_so_far new) g
       → IsTower inner g 1 nodes above top
+  pub spread : AreSpreadLevels inner (old.size - 26) nodes above
+  pub counts : CountsAll old new (named_heads inner (old.size - 26) nodes above)
   pub later : (pages : ℕ → Bool) → ((p : ℕ) → pages p ≡ true → p < length old.pages) → IsLater pages (file_so_far old) (file_so_far new)
   pub formed : (p : ℕ) → length old.pages ≤ p → p < length new.pages → page_code new.order p (bytes_of new p) ≡ None
   pub form_kept : (p : ℕ) → p < length old.pages → page_code new.order p (bytes_of new p) ≡ page_code old.order p (bytes_of old p)

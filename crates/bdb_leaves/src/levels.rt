@@ -5,7 +5,8 @@ ghost use Rattle.bdb_layout.specs.Seen.{key_seen};
 ghost use Rattle.bdb_levels.specs.Nodes.{Node};
 ghost use Rattle.bdb_levels.specs.declared.inner_type.InnerType.TheVariants.{Keyed, Numbered};
 ghost use Rattle.bdb_pack.specs.Built.{AreWhole};
-ghost use Rattle.bdb_leaves.specs.Levels.{AnswersTo, AreChildren, BeginsWithKey, CanBeAsked, CanPush, IsLaid, LastAnswers, Pushes, Starts, raising, stored_heads, stored_key};
+ghost use Rattle.bdb_leaves.specs.Levels.{AnswersTo, AreChildren, BeginsWithKey, CanBeAsked, CanPush, IsLaid, LastAnswers, Pushes, Starts, raising};
+ghost use Rattle.bdb_leaves.specs.Levels.{stored_heads, stored_key};
 
 use crate::inner::{add_inner, append_child, append_count, raise_count};
 use bdb_format::RecnoItem;

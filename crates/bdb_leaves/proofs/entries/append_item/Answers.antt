@@ -7,8 +7,10 @@ append_leaf-requires-clause-place c = item_placed c.args.pages.now c.args.leaf (
 
 pub returns-clause-holds : goal.returns-clause-holds
 returns-clause-holds c =
-    item_held c.args.pages.now c.append_leaf.new.self c.args.leaf (leaf_item_seen c.args.item.now) c.requires.leaf c.append_leaf.ensures c.requires.takes
+    item_held c.args.pages.now c.append_leaf.new.self c.args.leaf
+    (leaf_item_seen c.args.item.now) c.requires.leaf c.append_leaf.ensures c.requires.takes
 
 pub returns-clause-long : goal.returns-clause-long
 returns-clause-long c =
-    item_long c.args.pages.now c.append_leaf.new.self c.args.leaf (leaf_item_seen c.args.item.now) c.requires.leaf c.append_leaf.ensures c.requires.takes
+    item_long c.args.pages.now c.append_leaf.new.self c.args.leaf
+    (leaf_item_seen c.args.item.now) c.requires.leaf c.append_leaf.ensures c.requires.takes

@@ -13,5 +13,6 @@ returns-in-Inline c =
 pub returns-in-Chain : goal.returns-in-Chain
 returns-in-Chain c =
     let is = subst (IsStored c.args.pages.now c.push_value.new.pages c.args.value.now) c.in-Chain.is c.in_ok-push_value.ensures in
-    chain_item c.args.pages.now c.push_value.new.pages c.args.value.now c.args.deleted _ _ (omega arith, omega arith) c.requires.legal c.requires.first
+    chain_item c.args.pages.now c.push_value.new.pages c.args.value.now c.args.deleted _ _
+    (omega arith, omega arith) c.requires.legal c.requires.first
     (c.if-not-has_pages_for.ensures refl) is.0 is.1 is.2

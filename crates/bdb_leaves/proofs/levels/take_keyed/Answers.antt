@@ -7,7 +7,8 @@ use Rattle.bdb_pack.specs.Items.{OnInternal, PageItem}
 use Rattle.bdb_pack.specs.OnPages.{has_room_on}
 use Rattle.bdb_levels.specs.Roots.{key_heads}
 use Rattle.bdb_leaves.specs.Levels.{raising, stored_heads, stored_key}
-use Rattle.bdb_leaves.proofs.LevelTakeLemmas.{added_later, can_take, has_shape, head_there, heads_few, keeps_raised, keyed_same, lacks, stored_heads_are, taken}
+use Rattle.bdb_leaves.proofs.LevelTakeLemmas.{added_later, can_take, has_shape, head_there, heads_few, keeps_raised, keyed_same, lacks}
+use Rattle.bdb_leaves.proofs.LevelTakeLemmas.{stored_heads_are, taken}
 use Rattle.bdb_leaves.proofs.levels.take_keyed.Goals as goal
 
 pub returns-then-not-has_room_for_internal : goal.returns-then-not-has_room_for_internal

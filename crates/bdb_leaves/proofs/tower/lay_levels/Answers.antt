@@ -60,6 +60,7 @@ loop-alloc-preserved c =
         level = c.loop-alloc.level;
         below = c.loop-alloc.row.items;
         high = c.loop-alloc.invariant.low;
+        many = omega (arith, c.loop-alloc-test.true, c.len.ensures);
         built = c.loop-alloc.invariant.built nodes are;
         laid = is_laid c nodes are;
       });

@@ -7,7 +7,8 @@ use Rattle.bdb_leaves.proofs.units.more_cost.Goals as goal
 
 pub overflow_add-cost-in-loop-value : goal.overflow_add-cost-in-loop-value
 overflow_add-cost-in-loop-value c =
-    let here = c.as_slice.ensures ∙ (c.value-item.is ∙ get_or_default c.args.more.now c.loop-value.value-index c.value-item.result [] c.loop-value-test.true) in
+    let here = c.as_slice.ensures
+    ∙ (c.value-item.is ∙ get_or_default c.args.more.now c.loop-value.value-index c.value-item.result [] c.loop-value-test.true) in
     omega (
       arith,
       c.requires,
@@ -19,7 +20,8 @@ overflow_add-cost-in-loop-value c =
 
 pub loop-value-preserved : goal.loop-value-preserved
 loop-value-preserved c =
-    let here = c.as_slice.ensures ∙ (c.value-item.is ∙ get_or_default c.args.more.now c.loop-value.value-index c.value-item.result [] c.loop-value-test.true) in
+    let here = c.as_slice.ensures
+    ∙ (c.value-item.is ∙ get_or_default c.args.more.now c.loop-value.value-index c.value-item.result [] c.loop-value-test.true) in
     omega (
       arith,
       c.loop-value.invariant,

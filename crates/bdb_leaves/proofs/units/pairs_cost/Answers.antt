@@ -10,4 +10,5 @@ more_cost-requires c =
 pub returns : goal.returns
 returns c =
     let first = c.value_cost-2.ensures ∙ ap (value_cost c.args.size) c.as_slice.ensures in
-    omega (arith, c.value_cost.ensures, first, c.more_cost.ensures) ∙ sym (pairs_fit c.args.size c.args.key.now c.args.first.now c.args.more.now c.requires.legal c.requires.few).1
+    omega (arith, c.value_cost.ensures, first, c.more_cost.ensures)
+    ∙ sym (pairs_fit c.args.size c.args.key.now c.args.first.now c.args.more.now c.requires.legal c.requires.few).1

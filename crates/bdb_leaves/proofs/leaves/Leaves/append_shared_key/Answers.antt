@@ -6,7 +6,8 @@ use Rattle.bdb_leaves.proofs.leaves.Leaves.append_shared_key.Goals as goal
 pub returns-clause-grown : goal.returns-clause-grown
 returns-clause-grown c =
     grown c.args.self.now c.args.pages.now c.append_shared_key.new.pages shared_key
-    (page_written c.args.pages.now c.append_shared_key.new.pages c.args.self.now.last _ c.append_shared_key.ensures.page) c.append_shared_key.ensures.long
+    (page_written c.args.pages.now c.append_shared_key.new.pages c.args.self.now.last _ c.append_shared_key.ensures.page)
+    c.append_shared_key.ensures.long
     (subst (λ t. (previous next : ℕ) (entries : List Entry) → HoldsEntriesOn t c.args.pages.now c.args.self.now.last previous next entries
     → HoldsEntriesOn t c.append_shared_key.new.pages c.args.self.now.last previous next (entries ++ (shared_key entries ∷ [])))
     (sym c.requires.pairs) c.append_shared_key.ensures.holds)

@@ -10,7 +10,8 @@ returns c =
     room_now _ c.args.self.now _ c.args.pages.now c.add_leaf.new.pages (lt-leb _ _ (omega (arith, c.if-cost-room.false, c.room.ensures)))
     (opened c.args.self.now _ c.args.pages.now c.set_next.new.pages c.add_leaf.new.pages
     (c.set_next.ensures.page
-    ∙ ap (λ n. with_page c.args.pages.now c.args.self.now.last (with_field c.args.pages.now.order (bytes_of c.args.pages.now c.args.self.now.last) 16 n))
+    ∙ ap (λ n. with_page c.args.pages.now c.args.self.now.last
+    (with_field c.args.pages.now.order (bytes_of c.args.pages.now c.args.self.now.last) 16 n))
     c.count-next.ensures)
     c.in_ok-self.ensures.pages refl c.in_ok-push.ensures.items c.in_ok-self.ensures.number
     (λ previous before entries holds.

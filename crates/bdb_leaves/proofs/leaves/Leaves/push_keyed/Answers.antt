@@ -28,5 +28,6 @@ returns-clause-pushed c =
 
 pub returns-then-has_own_tree-clause-filled : goal.returns-then-has_own_tree-clause-filled
 returns-then-has_own_tree-clause-filled c =
-    some_pushed c.args.self.now c.push_tree.new.self c.args.pages.now c.push_tree.new.pages (KeyedUnit c.args.key.now c.args.values.now) c.requires.filled
+    some_pushed c.args.self.now c.push_tree.new.self c.args.pages.now c.push_tree.new.pages
+    (KeyedUnit c.args.key.now c.args.values.now) c.requires.filled
     c.in_ok-push_tree.ensures.pushed

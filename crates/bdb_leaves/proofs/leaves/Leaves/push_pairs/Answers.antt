@@ -9,7 +9,8 @@ use Rattle.bdb_leaves.proofs.leaves.Leaves.push_pairs.Goals as goal
 
 pub put_pairs-requires-clause-leaves : goal.put_pairs-requires-clause-leaves
 put_pairs-requires-clause-leaves c =
-    (pairs_ready c.args.self.now c.make_room.new.self c.args.pages.now c.make_room.new.pages c.args.key.now c.args.first.now c.args.more.now c.requires.filled
+    (pairs_ready c.args.self.now c.make_room.new.self c.args.pages.now c.make_room.new.pages c.args.key.now c.args.first.now c.args.more.now
+    c.requires.filled
     c.requires.legal c.size.ensures.whole c.requires.leaf c.requires.few
     (subst (λ n. HasRoomNow (has_room c.args.self.now c.args.pages.now n) c.args.self.now c.make_room.new.self c.args.pages.now c.make_room.new.pages)
     (c.pairs_cost-cost.ensures ∙ ap (λ n. unit_cost n (KeyedUnit c.args.key.now (c.args.first.now ∷ c.args.more.now))) c.size.ensures.size)
@@ -22,7 +23,8 @@ put_pairs-requires-clause-room c =
     (subst (λ n. HasRoomNow (has_room c.args.self.now c.args.pages.now n) c.args.self.now c.make_room.new.self c.args.pages.now c.make_room.new.pages)
     (c.pairs_cost-cost.ensures ∙ ap (λ n. unit_cost n (KeyedUnit c.args.key.now (c.args.first.now ∷ c.args.more.now))) c.size.ensures.size)
     c.in_ok-make_room.ensures)).0 in
-    subst (λ n. pairs_cost n c.args.key.now c.args.first.now c.args.more.now ≤ room_of c.make_room.new.pages.order (bytes_of c.make_room.new.pages c.make_room.new.self.last))
+    subst (λ n. pairs_cost n c.args.key.now c.args.first.now c.args.more.now ≤ room_of c.make_room.new.pages.order
+    (bytes_of c.make_room.new.pages c.make_room.new.self.last))
     (sym is.size) is.room
 
 pub returns-clause-pushed : goal.returns-clause-pushed
@@ -36,4 +38,5 @@ returns-clause-pushed c =
 
 pub returns-clause-filled : goal.returns-clause-filled
 returns-clause-filled c =
-    some_pushed c.args.self.now c.make_room.new.self c.args.pages.now c.put_pairs.new.pages (KeyedUnit c.args.key.now (c.args.first.now ∷ c.args.more.now)) c.requires.filled (returns-clause-pushed c)
+    some_pushed c.args.self.now c.make_room.new.self c.args.pages.now c.put_pairs.new.pages
+    (KeyedUnit c.args.key.now (c.args.first.now ∷ c.args.more.now)) c.requires.filled (returns-clause-pushed c)

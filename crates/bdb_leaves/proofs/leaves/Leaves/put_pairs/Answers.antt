@@ -24,16 +24,19 @@ put-requires-2-clause-room c =
 
 pub loop-value-init : goal.loop-value-init
 loop-value-init c =
-    first_pair c.args.self.now c.args.pages.now c.put.new.pages c.put-2.new.pages c.args.key.now c.args.first.now c.requires.leaves c.in_ok-put.ensures
+    first_pair c.args.self.now c.args.pages.now c.put.new.pages c.put-2.new.pages c.args.key.now c.args.first.now c.requires.leaves
+    c.in_ok-put.ensures
     (subst (λ v. IsPut c.args.self.now c.put.new.pages c.put-2.new.pages v _) c.as_slice.ensures c.in_ok-put-2.ensures)
 
 pub append_shared_key-requires-clause-leaves : goal.append_shared_key-requires-clause-leaves
 append_shared_key-requires-clause-leaves c =
-    some_after c.args.self.now c.args.pages.now c.loop-value.pages _ _ c.loop-value.invariant.run (some_of c.args.self.now c.args.pages.now c.requires.leaves)
+    some_after c.args.self.now c.args.pages.now c.loop-value.pages _ _ c.loop-value.invariant.run
+    (some_of c.args.self.now c.args.pages.now c.requires.leaves)
 
 pub append_shared_key-requires-clause-shares : goal.append_shared_key-requires-clause-shares
 append_shared_key-requires-clause-shares c =
-    takes_key c.args.self.now c.args.pages.now c.loop-value.pages c.args.key.now c.args.first.now c.args.more.now c.loop-value.value-index c.requires.leaves
+    takes_key c.args.self.now c.args.pages.now c.loop-value.pages c.args.key.now c.args.first.now c.args.more.now c.loop-value.value-index
+    c.requires.leaves
     c.loop-value.invariant c.requires.room (omega arith)
 
 pub put-requires-in-loop-value-clause-leaves : goal.put-requires-in-loop-value-clause-leaves
@@ -51,18 +54,21 @@ put-requires-in-loop-value-clause-room c =
     subst
     (λ v. 2 + value_cost c.append_shared_key.new.pages.size v
     ≤ room_of c.append_shared_key.new.pages.order (bytes_of c.append_shared_key.new.pages c.args.self.now.last))
-    (sym (c.as_slice-in-loop-value.ensures ∙ (c.value-item.is ∙ get_or_default c.args.more.now c.loop-value.value-index c.value-item.result [] (omega arith))))
+    (sym (c.as_slice-in-loop-value.ensures
+    ∙ (c.value-item.is ∙ get_or_default c.args.more.now c.loop-value.value-index c.value-item.result [] (omega arith))))
     (room_again c.args.self.now c.args.pages.now c.loop-value.pages c.append_shared_key.new.pages c.args.key.now c.args.first.now c.args.more.now
     c.loop-value.value-index c.requires.leaves c.loop-value.invariant c.requires.room (omega arith) c.append_shared_key.ensures.grown
     c.append_shared_key.ensures.count).1
 
 pub loop-value-preserved : goal.loop-value-preserved
 loop-value-preserved c =
-    more_pairs c.args.self.now c.args.pages.now c.loop-value.pages c.append_shared_key.new.pages c.put-in-loop-value.new.pages c.args.key.now c.args.first.now
+    more_pairs c.args.self.now c.args.pages.now c.loop-value.pages c.append_shared_key.new.pages c.put-in-loop-value.new.pages c.args.key.now
+    c.args.first.now
     c.args.more.now c.loop-value.value-index c.requires.leaves c.loop-value.invariant (omega arith) c.append_shared_key.ensures.grown
     c.append_shared_key.ensures.count
     (subst (λ v. IsPut c.args.self.now c.append_shared_key.new.pages c.put-in-loop-value.new.pages v _)
-    (c.as_slice-in-loop-value.ensures ∙ (c.value-item.is ∙ get_or_default c.args.more.now c.loop-value.value-index c.value-item.result [] (omega arith)))
+    (c.as_slice-in-loop-value.ensures
+    ∙ (c.value-item.is ∙ get_or_default c.args.more.now c.loop-value.value-index c.value-item.result [] (omega arith)))
     c.in_ok-put-3.ensures)
 
 pub returns : goal.returns
