@@ -14,7 +14,7 @@ use Rattle.bdb_pack.specs.Built.{Built, file_so_far}
 use Rattle.bdb_leaves.specs.Counted.{AreCounted, CountedNow}
 use Rattle.bdb_leaves.specs.Filled.{AreFilled, IsPushed, rest_of}
 use Rattle.bdb_leaves.specs.Laid.{AreLaid}
-use Rattle.bdb_leaves.specs.Leaves.{KeepsOthers, LeavesFrom, first_of, has_room}
+use Rattle.bdb_leaves.specs.Leaves.{KeepsBefore, KeepsOthers, LeavesFrom, first_of, has_room}
 use Rattle.bdb_leaves.specs.Moved.{first_leaf, numbers_of}
 use Rattle.bdb_leaves.specs.Rooted.{placed_on}
 use Rattle.bdb_leaves.specs.Placed.{HoldsUnits, LeafUnits, Placed, PlacedEntry, PlacedPairs, PlacedTree, StandsPlaced, entries_of, has_wrong_root, pages_of, unit_of}
@@ -32,7 +32,7 @@ use Rattle.bdb_leaves.proofs.NodesLemmas.{all_units}
 use Rattle.bdb_leaves.proofs.PlacedLaws.{units_are_read}
 use Rattle.bdb_leaves.proofs.RestLemmas.{is_one}
 use Rattle.bdb_leaves.proofs.RunLemmas.{page_so_far}
-use Rattle.bdb_mktree.specs.Building.{Building, KeepsBefore, all_placed, units_of}
+use Rattle.bdb_mktree.specs.Building.{Building, all_placed, units_of}
 use Rattle.bdb_mktree.specs.Units.{IsNext, IsTreeKind, KeysAscend, Suits, leaf_type_of}
 use Rattle.bdb_mktree.specs.declared.builder.TreeBuilder.{TreeBuilder}
 
@@ -72,10 +72,12 @@ read_on g kind (leaf ∷ placed) is all =
     elim is [
       | inl btree ↦
           ap (λ k. units_on g k leaf.page) btree
-          ∙ (units_are_read g leaf).0 (subst (λ k. HoldsUnits (leaf_type_of k) g leaf) btree (All-head (HoldsUnits (leaf_type_of kind) g) leaf placed all))
+          ∙ (units_are_read g leaf).0 (subst (λ k. HoldsUnits (leaf_type_of k) g leaf) btree
+          (All-head (HoldsUnits (leaf_type_of kind) g) leaf placed all))
       | inr recno ↦
           ap (λ k. units_on g k leaf.page) recno
-          ∙ (units_are_read g leaf).1 (subst (λ k. HoldsUnits (leaf_type_of k) g leaf) recno (All-head (HoldsUnits (leaf_type_of kind) g) leaf placed all))
+          ∙ (units_are_read g leaf).1 (subst (λ k. HoldsUnits (leaf_type_of k) g leaf) recno
+          (All-head (HoldsUnits (leaf_type_of kind) g) leaf placed all))
     ] in
     ap (λ us. us ++ flat_map (units_on g kind) (pages_of placed)) here
     ∙ ap (λ us. map unit_of leaf.units ++ us) (read_on g kind placed is (All-tail (HoldsUnits (leaf_type_of kind) g) leaf placed all))
@@ -103,7 +105,8 @@ none_closed : (type : LeafType) (built : Built) (closed : List ℕ) (last : ℕ)
 none_closed type built [] last from = refl
 none_closed type built (p ∷ ps) last from = absurd from
 
-pub first_begun : (leaves : Leaves) (built : Built) (before : ℕ) → AreFilled leaves built before [] [] → leaves.last ≡ before → first_leaf leaves ≡ before
+pub first_begun : (leaves : Leaves) (built : Built) (before : ℕ) → AreFilled leaves built before [] [] → leaves.last ≡ before
+    → first_leaf leaves ≡ before
 first_begun leaves built before filled is =
     ap (λ ps. first_of ps leaves.last) (none_closed leaves.leaf_type built leaves.closed.items leaves.last filled.hold.closed_hold) ∙ is
 

@@ -102,7 +102,8 @@ in_order settings (PlacedEntry entry) suits sorted = refl
 in_order settings (PlacedPairs key first more) suits sorted = suits.in_order sorted
 in_order settings (PlacedTree key root values) suits sorted = suits.in_order sorted
 
-are_allowed : (g : File) (size : ℕ) (settings : Settings) (units : List Placed) → All (Suits settings) (map unit_of units) → All (IsPlacedBySize size) units
+are_allowed : (g : File) (size : ℕ) (settings : Settings) (units : List Placed) → All (Suits settings) (map unit_of units)
+    → All (IsPlacedBySize size) units
     → All (λ unit. has_wrong_root g settings.sorted unit ≡ false) units → All (IsAllowed g settings.duplicates settings.sorted) units
 are_allowed g size settings [] suit sizes roots = All-nil (IsAllowed g settings.duplicates settings.sorted)
 are_allowed g size settings (unit ∷ units) suit sizes roots =
@@ -114,10 +115,12 @@ are_allowed g size settings (unit ∷ units) suit sizes roots =
       in_order = in_order settings unit suits;
       root = All-head (λ unit. has_wrong_root g settings.sorted unit ≡ false) unit units roots;
     })
-    (are_allowed g size settings units (All-tail (Suits settings) (unit_of unit) (map unit_of units) suit) (All-tail (IsPlacedBySize size) unit units sizes)
+    (are_allowed g size settings units (All-tail (Suits settings) (unit_of unit) (map unit_of units) suit)
+    (All-tail (IsPlacedBySize size) unit units sizes)
     (All-tail (λ unit. has_wrong_root g settings.sorted unit ≡ false) unit units roots))
 
-has_length : (settings : Settings) (n : ℕ) (unit : Placed) → settings.fixed ≡ true → n ≡ settings.re_len → Suits settings (unit_of unit) → HasLength n unit
+has_length : (settings : Settings) (n : ℕ) (unit : Placed) → settings.fixed ≡ true → n ≡ settings.re_len → Suits settings (unit_of unit)
+    → HasLength n unit
 has_length settings n (PlacedEntry entry) fixed is suits = λ live. suits.long fixed live ∙ sym is
 has_length settings n (PlacedPairs key first more) fixed is suits = tt
 has_length settings n (PlacedTree key root values) fixed is suits = tt
@@ -138,20 +141,27 @@ all_on [] groups is = ap (flat_map (λ leaf. leaf)) is
 all_on (leaf ∷ placed) groups is =
     ap (λ us. leaf.units ++ us) (all_on placed (map (λ (leaf : LeafUnits). leaf.units) placed) refl) ∙ ap (flat_map (λ leaf. leaf)) is
 
+rest_between : (leaves : Leaves) (old new : Built) (first : ℕ) → length old.pages ≤ length new.pages → (p : ℕ) → rest_of first leaves old p ≡ true
+    → between first (length new.pages) p ≡ true
+rest_between leaves old new first grows p rest =
+    let parts = rest_is first (length old.pages) (numbers_of leaves) p rest in
+    is_between first (length new.pages) p parts.0 (omega (arith, parts.1, grows))
+
 -- the pages that stood and are no leaves stand in later files than the finished tree
-rest_later : (leaves : Leaves) (old new : Built) (counted : Bool) (first : ℕ) (closed : List (List Placed)) (units : List Placed) (root : ℕ) (g : File)
+rest_later : (leaves : Leaves) (old new : Built) (counted : Bool) (first : ℕ) (closed : List (List Placed)) (units : List Placed) (root : ℕ)
+    (g : File)
     → AreFilled leaves old first closed units → HasFirstRoot leaves old new counted closed units root → length old.pages ≤ length new.pages
     → IsLater (between first (length new.pages)) (file_so_far new) g → IsLater (rest_of first leaves old) (file_so_far old) g
 rest_later leaves old new counted first closed units root g filled (is, inl one) grows later =
     later_fewer (file_so_far old) g (rest_of first leaves old) (between first (length new.pages))
-    (λ p rest. let parts = rest_is first (length old.pages) (numbers_of leaves) p rest in is_between first (length new.pages) p parts.0 (omega (arith, parts.1, grows)))
+    (rest_between leaves old new first grows)
     (subst (λ b. IsLater (between first (length new.pages)) (file_so_far b) g) one.same later)
 rest_later leaves old new counted first closed units root g filled (is, inr on) grows later =
     later_chain (file_so_far old) (file_so_far new) g (rest_of first leaves old)
     ((finished_trees_keep_pages leaves old new counted closed units root on).0 (rest_of first leaves old)
     (λ p rest. let parts = rest_is first (length old.pages) (numbers_of leaves) p rest in (parts.1, parts.2)))
     (later_fewer (file_so_far new) g (rest_of first leaves old) (between first (length new.pages))
-    (λ p rest. let parts = rest_is first (length old.pages) (numbers_of leaves) p rest in is_between first (length new.pages) p parts.0 (omega (arith, parts.1, grows)))
+    (rest_between leaves old new first grows)
     later)
 
 -- the part with the list of its units
@@ -201,10 +211,13 @@ finished_part builder old new root building has grows g meta counted later says 
 
     list_is : (kind : Kind) → kind ≡ settings.kind → list_of_units kind (units_in tree.placed) ≡ list_of_units settings.kind (units_of builder old)
     list_is kind same =
-        ap (λ k. list_of_units k (units_in tree.placed)) same ∙ ap (list_of_units settings.kind) (units_are ∙ sym (building_read builder old building))
+        ap (λ k. list_of_units k (units_in tree.placed)) same ∙ ap (list_of_units settings.kind)
+        (units_are ∙ sym (building_read builder old building))
 
     counts_of : (t : LeafType) → is_counted settings.kind settings.recnum ≡ true → type ≡ t → AllZip (Counts t) tree.placed tree.nodes
-    counts_of t is same = subst (λ t. AllZip (Counts t) tree.placed tree.nodes) same (subst (λ c. CountsLeaves c type tree.placed tree.nodes) is tree.counts)
+    counts_of t is same =
+        subst (λ t. AllZip (Counts t) tree.placed tree.nodes) same
+        (subst (λ c. CountsLeaves c type tree.placed tree.nodes) is tree.counts)
 
     by_kind : SuitsTree type g meta tree.placed tree.nodes
         × (list_of_units (btree_kind meta) (units_in tree.placed) ≡ list_of_units settings.kind (units_of builder old))
@@ -258,9 +271,10 @@ tree_built builder old new root building has =
       count =
           finished_trees_have_size builder.settings.sorted builder.leaves old new counted first building.closed building.units root building.counted has
           ∙ (ap (λ t. first + tree_size t old.size builder.settings.sorted (map unit_of (all_placed building.closed building.units))) building.type
-          ∙ (ap (λ us. first + tree_size (leaf_type_of builder.settings.kind) old.size builder.settings.sorted us) (sym (building_read builder old building))
+          ∙ (ap (λ us. first + tree_size (leaf_type_of builder.settings.kind) old.size builder.settings.sorted us)
+          (sym (building_read builder old building))
           ∙ ap (λ n. first + tree_size (leaf_type_of builder.settings.kind) n builder.settings.sorted (units_of builder old)) (sym older.size)));
-      kept = record { size = older.size; order = older.order; grows = older.grows; same = older.same };
+      kept = older;
       formed = finished_trees_are_formed builder.leaves old new counted first building.closed building.units root building.counted.filled has;
       part = finished_part builder old new root building has older.grows;
     }

@@ -46,7 +46,8 @@ before_other key value other units first none =
       | inr other_key ↦ other_key
     ] in
     ap (with_pair key value) first.is
-    ∙ (ap (λ b. cond b (KeyedUnit other (value ∷ first.values) ∷ first.others) (KeyedUnit key (value ∷ []) ∷ KeyedUnit other first.values ∷ first.others)) test
+    ∙ (ap (λ b. cond b (KeyedUnit other (value ∷ first.values) ∷ first.others)
+    (KeyedUnit key (value ∷ []) ∷ KeyedUnit other first.values ∷ first.others)) test
     ∙ ap (λ us. KeyedUnit key (value ∷ []) ∷ us) (sym first.is))
 
 before_same : (key value : List ℕ) (values : List (List ℕ)) (units : List TreeUnit)
@@ -219,7 +220,8 @@ is_there pairs place number there ascend more is here fits =
 
 -- The list that units give back.
 
-with_listed : (key value : List ℕ) (units : List TreeUnit) → flat_map listed_keyed (with_pair key value units) ≡ (BytesKey key, value) ∷ flat_map listed_keyed units
+with_listed : (key value : List ℕ) (units : List TreeUnit) → flat_map listed_keyed (with_pair key value units) ≡
+    (BytesKey key, value) ∷ flat_map listed_keyed units
 with_listed key value [] = refl
 with_listed key value (KeyedUnit other values ∷ units) = by_test (bytes_eq key other) refl
   where
@@ -255,7 +257,8 @@ missing_listed (suc n) next units =
     let same : (next + 1) + n ≡ next + suc n = omega arith in
     missing_listed n (next + 1) units ∙ ap (λ m. flat_map listed_record (enumerate_from m units)) same
 
-records_listed : (next : ℕ) (pairs : List Pair) → AscendFrom next pairs → flat_map listed_record (enumerate_from next (record_units next pairs)) ≡ listed pairs
+records_listed : (next : ℕ) (pairs : List Pair) → AscendFrom next pairs
+    → flat_map listed_record (enumerate_from next (record_units next pairs)) ≡ listed pairs
 records_listed next [] ascend = refl
 records_listed next (pair ∷ pairs) (has, most, ascend) =
     let at : next + (number_in pair.key - next) ≡ number_in pair.key = omega (arith, most) in
@@ -265,7 +268,8 @@ records_listed next (pair ∷ pairs) (has, most, ascend) =
     (number_listed pair.key has)
     ∙ ap (λ more. (listed_key pair.key, pair.value) ∷ more) (records_listed (number_in pair.key + 1) pairs ascend)))
 
-pub units_listed : (kind : Kind) (pairs : List Pair) → IsTreeKind kind → AreKeysOf kind pairs → list_of_units kind (units_in kind pairs) ≡ listed pairs
+pub units_listed : (kind : Kind) (pairs : List Pair) → IsTreeKind kind → AreKeysOf kind pairs
+    → list_of_units kind (units_in kind pairs) ≡ listed pairs
 units_listed kind pairs is keys = elim is [
   | inl btree ↦ ap (λ k. list_of_units k (units_in k pairs)) btree ∙ keyed_listed pairs (subst (λ k. AreKeysOf k pairs) btree keys)
   | inr recno ↦ ap (λ k. list_of_units k (units_in k pairs)) recno ∙ records_listed 1 pairs (subst (λ k. AreKeysOf k pairs) recno keys)

@@ -31,7 +31,8 @@ record Stand (settings : Settings) (key value : List ℕ) (units : List TreeUnit
   keys : ascends (map key_of units) ≡ true
 
 -- a pair by itself
-alone : (settings : Settings) (key value : List ℕ) → settings.kind ≡ Btree → IsShort key → IsShort value → Stand settings key value (with_pair key value [])
+alone : (settings : Settings) (key value : List ℕ) → settings.kind ≡ Btree → IsShort key → IsShort value
+    → Stand settings key value (with_pair key value [])
 alone settings key value btree short_key short = record {
   values = [];
   others = [];
@@ -49,7 +50,8 @@ ordered false above is asked = cc
 -- a pair before units that stand
 before : (settings : Settings) (key value next_key next_value : List ℕ) (values : List (List ℕ)) (units : List TreeUnit) → settings.kind ≡ Btree
     → IsShort key → IsShort value → All (Suits settings) (KeyedUnit next_key (next_value ∷ values) ∷ units)
-    → All IsShortUnit (KeyedUnit next_key (next_value ∷ values) ∷ units) → ascends (map key_of (KeyedUnit next_key (next_value ∷ values) ∷ units)) ≡ true
+    → All IsShortUnit (KeyedUnit next_key (next_value ∷ values) ∷ units)
+    → ascends (map key_of (KeyedUnit next_key (next_value ∷ values) ∷ units)) ≡ true
     → (less key next_key || (bytes_eq key next_key && is_further settings value next_value)) ≡ true
     → Stand settings key value (with_pair key value (KeyedUnit next_key (next_value ∷ values) ∷ units))
 before settings key value next_key next_value values units btree short_key short_value suit short keys follow = by_test (bytes_eq key next_key) refl
@@ -59,7 +61,8 @@ before settings key value next_key next_value values units btree short_key short
 
     by_test : (b : Bool) → bytes_eq key next_key ≡ b
         → Stand settings key value
-        (cond b (KeyedUnit next_key (value ∷ next_value ∷ values) ∷ units) (KeyedUnit key (value ∷ []) ∷ KeyedUnit next_key (next_value ∷ values) ∷ units))
+        (cond b (KeyedUnit next_key (value ∷ next_value ∷ values) ∷ units)
+        (KeyedUnit key (value ∷ []) ∷ KeyedUnit next_key (next_value ∷ values) ∷ units))
     by_test true same =
         let key_is : key ≡ next_key = eq_same key next_key same in
         let further : is_further settings value next_value ≡ true =
@@ -167,7 +170,8 @@ records_suit settings next (pair ∷ pairs) recno each =
     let rest = records_suit settings (number_in pair.key + 1) pairs recno (All-tail (IsPairFor settings) pair pairs each) in
     let unit : TreeUnit = EntryUnit pair.value false in
     let units : List TreeUnit = record_units (number_in pair.key + 1) pairs in (
-      All-append (Suits settings) (replicate (number_in pair.key - next) missing) (unit ∷ units) (missing_suit settings (number_in pair.key - next) recno)
+      All-append (Suits settings) (replicate (number_in pair.key - next) missing) (unit ∷ units)
+          (missing_suit settings (number_in pair.key - next) recno)
           (All-cons (Suits settings) unit units
           (record { kind = recno; missing = λ gone. cc; long = λ fixed live. is.long recno fixed }) rest.0),
       All-append IsShortUnit (replicate (number_in pair.key - next) missing) (unit ∷ units) (missing_short (number_in pair.key - next))

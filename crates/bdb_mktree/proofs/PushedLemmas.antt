@@ -10,9 +10,10 @@ use Rattle.bdb_format.specs.ContentRows.{ascends, ascends_from}
 use Rattle.bdb_format.specs.Less.{less}
 use Rattle.bdb_format.specs.Lists.{ListKey}
 use Rattle.bdb_pack.specs.Built.{Built}
+use Rattle.bdb_leaves.specs.Leaves.{KeepsBefore}
 use Rattle.bdb_leaves.specs.Moved.{first_leaf}
 use Rattle.bdb_leaves.specs.Units.{TreeUnit, key_of, list_of_units}
-use Rattle.bdb_mktree.specs.Building.{ArePushed, Building, CanBePushed, IsTreeBuilt, KeepsBefore, units_of}
+use Rattle.bdb_mktree.specs.Building.{ArePushed, Building, CanBePushed, IsTreeBuilt, units_of}
 use Rattle.bdb_mktree.specs.Units.{IsNext, IsShortUnit, KeysAscend, Suits}
 use Rattle.bdb_mktree.specs.declared.builder.TreeBuilder.{TreeBuilder}
 use Rattle.bdb_mktree.proofs.OrderLemmas.{FitUnits}
@@ -48,22 +49,24 @@ kept_on first old mid new one two =
 
 -- The first unit that is left can be pushed.
 
-pub can_push : (builder next : TreeBuilder) (old new : Built) (all : List TreeUnit) (unit : TreeUnit) (left : List TreeUnit)
-    → ArePushed builder next old new all (unit ∷ left)
+pub can_push : (builder next : TreeBuilder) (old new : Built) (all some : List TreeUnit) (unit : TreeUnit) (left : List TreeUnit)
+    → ArePushed builder next old new all some → some ≡ unit ∷ left
     → Suits next.settings unit × IsNext next.settings (units_of next new) unit × IsShortUnit unit
-can_push builder next old new all unit left are = (
-  subst (λ s. Suits s unit) (sym are.settings) (All-head (Suits builder.settings) unit left are.suit),
-  subst (λ s. IsNext s (units_of next new) unit) (sym are.settings)
-      (comes_next builder.settings (units_of next new) unit left (subst (KeysAscend builder.settings) (sym are.units) are.keys)),
-  All-head IsShortUnit unit left are.short,
-)
+can_push builder next old new all some unit left pushed is =
+    let are = subst (ArePushed builder next old new all) is pushed in (
+      subst (λ s. Suits s unit) (sym are.settings) (All-head (Suits builder.settings) unit left are.suit),
+      subst (λ s. IsNext s (units_of next new) unit) (sym are.settings)
+          (comes_next builder.settings (units_of next new) unit left (subst (KeysAscend builder.settings) (sym are.units) are.keys)),
+      All-head IsShortUnit unit left are.short,
+    )
 
 -- and is
-pub pushed_next : (builder next last : TreeBuilder) (old mid new : Built) (all : List TreeUnit) (unit : TreeUnit) (left : List TreeUnit)
-    → ArePushed builder next old mid all (unit ∷ left) → Building last new → units_of last new ≡ units_of next mid ++ (unit ∷ [])
+pub pushed_next : (builder next last : TreeBuilder) (old mid new : Built) (all some : List TreeUnit) (unit : TreeUnit) (left : List TreeUnit)
+    → ArePushed builder next old mid all some → some ≡ unit ∷ left → Building last new → units_of last new ≡ units_of next mid ++ (unit ∷ [])
     → last.settings ≡ next.settings → first_leaf last.leaves ≡ first_leaf next.leaves → KeepsBefore (first_leaf next.leaves) mid new
     → ArePushed builder last old new all left
-pushed_next builder next last old mid new all unit left are building units settings first kept =
+pushed_next builder next last old mid new all some unit left pushed is building units settings first kept =
+    let are = subst (ArePushed builder next old mid all) is pushed in
     record {
       building = building;
       settings = settings ∙ are.settings;

@@ -14,6 +14,7 @@ use Rattle.bdb_grove.specs.Part.{IsPart, between}
 use Rattle.bdb_pack.specs.Built.{Built, bytes_of, file_so_far}
 use Rattle.bdb_leaves.specs.Counted.{AreCounted}
 use Rattle.bdb_leaves.specs.Filled.{rest_of}
+use Rattle.bdb_leaves.specs.Leaves.{KeepsBefore}
 use Rattle.bdb_leaves.specs.Moved.{first_leaf, numbers_of}
 use Rattle.bdb_leaves.specs.Placed.{Placed, has_wrong_root, unit_of}
 use Rattle.bdb_leaves.specs.Spread.{tree_size}
@@ -28,13 +29,6 @@ units_of builder built = flat_map (units_on (file_so_far built) builder.settings
 -- the units on leaves
 abbrev pub all_placed : List (List Placed) → List Placed → List Placed
 all_placed closed units = flat_map (λ leaf. leaf) closed ++ units
-
--- the pages before one are as they were, and none is gone
-pub record KeepsBefore (first : ℕ) (old new : Built) : Type 0 where
-  pub size : new.size ≡ old.size
-  pub order : new.order ≡ old.order
-  pub grows : length old.pages ≤ length new.pages
-  pub same : (p : ℕ) → p < first → bytes_of new p ≡ bytes_of old p
 
 -- A builder with its pages: from the first leaf on they are leaves with units that suit the settings, spread over them by what they take, and what
 -- these units hold.

@@ -1,7 +1,8 @@
 ghost use Rattle.std.specs.Prelude.{◌≡◌, ◌≤◌, ◌∷◌, ◌++◌, [], IfOk, length};
+ghost use Rattle.bdb_leaves.specs.Leaves.{KeepsBefore};
 ghost use Rattle.bdb_leaves.specs.Moved.{first_leaf};
 ghost use Rattle.bdb_leaves.specs.Units.{list_of_units};
-ghost use Rattle.bdb_mktree.specs.Building.{Building, IsTreeBuilt, KeepsBefore, units_of};
+ghost use Rattle.bdb_mktree.specs.Building.{Building, IsTreeBuilt, units_of};
 ghost use Rattle.bdb_mktree.specs.Units.{IsNext, IsShortUnit, IsTreeKind, Suits, is_counted, leaf_type_of, unit_seen};
 
 use crate::Unit;

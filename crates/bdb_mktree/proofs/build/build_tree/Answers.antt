@@ -21,5 +21,6 @@ returns c =
     (units_in c.args.settings.now.kind c.args.list.now) (listed c.args.list.now) (length c.args.pages.now.pages) c.in_ok-root.root
     c.args.settings.now c.in_ok-push_list.ensures c.in_ok-builder.ensures.empty c.in_ok-builder.ensures.settings c.in_ok-builder.ensures.first
     c.in_ok-builder.ensures.kept
-    (units_listed c.args.settings.now.kind c.args.list.now c.requires.kind (keys_fit c.args.settings.now c.args.list.now c.requires.kind c.requires.list))
+    (units_listed c.args.settings.now.kind c.args.list.now c.requires.kind
+    (keys_fit c.args.settings.now c.args.list.now c.requires.kind c.requires.list))
     c.in_ok-root.ensures

@@ -25,7 +25,8 @@ returns c =
     let values = c.split_at-2.ensures.back ∙ (ap (drop c.args.start) c.values.ensures ∙ drop-map _ c.args.start c.args.list.now) in
     let n = c.run_length-many.result in
     let run = is_run c.args.list.now c.args.start n c.split_at.result.1.now c.split_at-2.result.1.now c.as_slice.result.now c.index-keys-0.result
-    c.requires.keys c.requires.more keys values (sym c.index-keys-0.is ∙ (c.in-Bytes.is ∙ ap Bytes (sym c.as_slice.ensures))) c.run_length-many.ensures in
+    c.requires.keys c.requires.more keys values (sym c.index-keys-0.is ∙
+    (c.in-Bytes.is ∙ ap Bytes (sym c.as_slice.ensures))) c.run_length-many.ensures in
     subst (λ vs. IsRunAt c.args.list.now c.args.start (KeyedUnit c.as_slice-2.result.now vs) (c.args.start + n)) (sym c.split_at-3.ensures.front)
     (subst (λ k. IsRunAt c.args.list.now c.args.start (KeyedUnit k (take n c.split_at-2.result.1.now)) (c.args.start + n))
     (c.as_slice.ensures ∙ sym c.as_slice-2.ensures) run)
