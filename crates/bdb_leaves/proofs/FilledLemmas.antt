@@ -15,6 +15,7 @@ use Rattle.bdb_grove.specs.Leaves.{content_pages}
 use Rattle.bdb_grove.specs.Part.{between}
 use Rattle.bdb_pack.specs.Built.{Built, file_so_far}
 use Rattle.bdb_leaves.specs.Filled.{AscendIn, IsUnitPut, StandOn, unit_contents}
+use Rattle.bdb_leaves.specs.Layout.{HasTreeOn}
 use Rattle.bdb_leaves.specs.LeafEntries.{own_content}
 use Rattle.bdb_leaves.specs.Leaves.{AreSomeLeaves}
 use Rattle.bdb_leaves.specs.Placed.{HasValue, IsDatum, IsOneValue, IsPlacedBySize, IsStoredBySize, Placed, PlacedEntry, PlacedPairs, StandsBySize}
@@ -90,8 +91,8 @@ run_is_unit : (leaves : Leaves) (old new : Built) (unit : Placed) (held : List (
     → ((g : File) → ValuesStand g old.size (length old.pages) (length new.pages) held → StandsPlaced leaves.leaf_type g unit)
     → ((g : File) → ValuesStand g old.size (length old.pages) (length new.pages) held → IsPlacedBySize old.size unit)
     → ((sorted : Bool) → sum_by (λ (one : Content × List ℕ). chain_pages old.size one.1) held ≡ own_pages old.size sorted (unit_of unit))
-    → IsUnitPut leaves old new unit
-run_is_unit leaves old new unit held some run contents placed sizes own =
+    → HasTreeOn new (between (length old.pages) (length new.pages)) unit → IsUnitPut leaves old new unit
+run_is_unit leaves old new unit held some run contents placed sizes own tree =
     let grows = run.kept.grows in
     let f : File = file_so_far new in
     let counted = counted_so_far new (omega (arith, some, grows)) in
@@ -114,6 +115,7 @@ run_is_unit leaves old new unit held some run contents placed sizes own =
           (all_over (CountsOneFrom (length old.pages) new) (λ (one : Content × List ℕ). one.0) held run.heads);
       formed = run.formed;
       count = λ sorted few. run.count ∙ ap (λ n. length old.pages + n) (own sorted);
+      tree = tree;
     }
 
 -- an entry
@@ -136,7 +138,7 @@ entry_is_unit leaves old new value deleted other positive low put some =
     (entry_contents leaves.leaf_type entry)
     (λ g stand. entry_stands leaves.leaf_type g entry other (value_read g old.size (length old.pages) stand.0 put.item.content value stand.3))
     (λ g stand. by_size g old.size (length old.pages) stand.0 put.item.content value stand.3)
-    (λ sorted. sum_by-cons (λ (one : Content × List ℕ). chain_pages old.size one.1) (put.item.content, value) [] ∙ omega arith)
+    (λ sorted. sum_by-cons (λ (one : Content × List ℕ). chain_pages old.size one.1) (put.item.content, value) [] ∙ omega arith) tt
 
 -- a key with its data
 
@@ -200,4 +202,4 @@ pairs_are_unit leaves old new key first more type positive put small =
     (λ sorted.
     sum_by-cons (λ (one : Content × List ℕ). chain_pages old.size one.1) (held_by_item k) (map held_by_item (f ∷ put.others))
     ∙ rw (ap (λ vs. has_own_tree old.size key (first ∷ vs)) put.values ∙ small)
-    (ap (λ n. chain_pages old.size key + n) (data_pages old.size (f ∷ put.others))))
+    (ap (λ n. chain_pages old.size key + n) (data_pages old.size (f ∷ put.others)))) tt

@@ -120,7 +120,7 @@ head_is_no_leaf leaves old closed entries p hold at few =
     ∙ few.type_is)
 
 -- so it stays
-one_moved : (leaves next : Leaves) (old mid : Built) (before : ℕ) (closed : List (List Entry)) (entries : List Entry) (content : Content)
+pub one_moved : (leaves next : Leaves) (old mid : Built) (before : ℕ) (closed : List (List Entry)) (entries : List Entry) (content : Content)
     → 1 ≤ length leaves.closed.items → AreLeaves leaves old closed entries → IsFirstMoved leaves next old mid → CountsOneFrom before old content
     → CountsOneFrom before mid content
 one_moved leaves next old mid before closed entries (Inline bytes) several hold moved few = tt

@@ -14,7 +14,9 @@ pub mod LaidBranchLemmas
 pub mod LaidLemmas
 pub mod LaidPartLemmas
 pub mod LaidSetLemmas
+pub mod LastingLemmas
 pub mod LaterLemmas
+pub mod LayoutLemmas
 pub mod LeafLemmas
 pub mod LeavesLemmas
 pub mod LevelHeadLemmas

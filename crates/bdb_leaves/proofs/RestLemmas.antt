@@ -14,14 +14,16 @@ use Rattle.bdb_format.specs.File.{File}
 use Rattle.bdb_format.specs.Rows.{page_code}
 use Rattle.bdb_format.proofs.ListLemmas.{only_member}
 use Rattle.bdb_format.proofs.MemberLemmas.{first_member, none_pass, none_passes}
+use Rattle.bdb_grove.specs.Growing.{IsLater}
 use Rattle.bdb_grove.specs.Leaves.{ContentFits, content_pages}
 use Rattle.bdb_grove.specs.Part.{IsBranch, between}
 use Rattle.bdb_grove.proofs.BranchLemmas.{branch_is_known, branches_stand_together, no_branch}
 use Rattle.bdb_grove.proofs.ChainLemmas.{between_is, is_between, same_test}
 use Rattle.bdb_grove.proofs.BesideLemmas.{in_either}
 use Rattle.bdb_levels.specs.Roots.{is_of}
-use Rattle.bdb_pack.specs.Built.{Built, bytes_of}
+use Rattle.bdb_pack.specs.Built.{Built, bytes_of, file_so_far}
 use Rattle.bdb_leaves.specs.Filled.{AllStand, AreFilled, AscendIn, IsUnitPut, StandOn, all_contents, rest_of, unit_contents}
+use Rattle.bdb_leaves.specs.Layout.{HasTreeOn}
 use Rattle.bdb_leaves.specs.LeafEntries.{Entry, HoldsEntriesOn, type_number}
 use Rattle.bdb_grove.proofs.BranchLemmas.{of_list}
 use Rattle.bdb_leaves.specs.Inner.{CountsOne}
@@ -31,6 +33,7 @@ use Rattle.bdb_leaves.specs.Leaves.{AreLeaves, IsOpened, KeepsOthers, LeavesFrom
 use Rattle.bdb_leaves.specs.Placed.{IsPlacedBySize, Placed, StandsPlaced, entries_of}
 use Rattle.bdb_leaves.specs.declared.leaf_type.LeafType.{LeafType}
 use Rattle.bdb_leaves.specs.declared.leaves.Leaves.{Leaves}
+use Rattle.bdb_leaves.proofs.LastingLemmas.{has_tree_stays}
 use Rattle.bdb_leaves.proofs.LeavesLemmas.{at_most_last}
 use Rattle.bdb_leaves.proofs.RunLemmas.{all_map, one_kept, later_before}
 use Rattle.bdb_leaves.proofs.StandLemmas.{ascend_bounds, ascend_follow, ascend_on}
@@ -164,6 +167,15 @@ unit_added leaves old new before closed units unit filled put =
     λ p one two. let here = rest_is before a numbers p one in let there = between_is a b p two in omega (arith, here.1, there.0) in
     let kept : (p : ℕ) → rest_of before leaves old p ≡ true → (p < a) × (bytes_of new p ≡ bytes_of old p) =
     λ p one. let here = rest_is before a numbers p one in (here.1, put.kept.same p here.1 (λ e. not_last leaves p e here.2)) in
+    let within_old : (p : ℕ) → rest_of before leaves old p ≡ true → rest_of before leaves new p ≡ true =
+    λ p one. union p ∙ ap (λ x. x || between a b p) one in
+    let within_new : (p : ℕ) → between a b p ≡ true → rest_of before leaves new p ≡ true =
+    λ p two. union p ∙ or_right (rest_of before leaves old p) (between a b p) two in
+    let was_later : (g : File) → IsLater (rest_of before leaves new) (file_so_far new) g → IsLater (rest_of before leaves old) (file_so_far old) g =
+    λ g later. later_before old new (rest_of before leaves old) (rest_of before leaves new) g put.kept.order grows within_old kept later in
+    let now_later : (g : File) → IsLater (rest_of before leaves new) (file_so_far new) g → IsLater (between a b) (file_so_far new) g =
+    λ g later. later_before new new (between a b) (rest_of before leaves new) g refl (omega arith) within_new
+    (λ p two. let there = between_is a b p two in (there.1, refl)) later in
     record {
       hold = subst (AreLeaves leaves new (map (flat_map entries_of) closed))
           (sym (flat_map-append entries_of units (unit ∷ []) ∙ ap (λ es. flat_map entries_of units ++ es) (append-nil (entries_of unit))))
@@ -176,13 +188,8 @@ unit_added leaves old new before closed units unit filled put =
           ∙ flat_map-append content_pages (all_contents type closed units) (unit_contents type unit)))
           (ascend_follow before a b _ _ filled.ascend put.ascend);
       stands = λ g counted later.
-          let was = filled.stands g counted
-          (later_before old new (rest_of before leaves old) (rest_of before leaves new) g put.kept.order grows
-          (λ p one. sym (sym (union p ∙ ap (λ x. x || between a b p) one))) kept later) in
-          let now = put.stands g counted
-          (later_before new new (between a b) (rest_of before leaves new) g refl (omega arith)
-          (λ p two. union p ∙ or_right (rest_of before leaves old p) (between a b p) two)
-          (λ p two. let there = between_is a b p two in (there.1, refl)) later) in
+          let was = filled.stands g counted (was_later g later) in
+          let now = put.stands g counted (now_later g later) in
           record {
             on = subst (StandOn g (rest_of before leaves new)) (sym (contents_more type closed units unit))
                 (stand_both g (rest_of before leaves old) (between a b) (rest_of before leaves new) (all_contents type closed units)
@@ -205,6 +212,12 @@ unit_added leaves old new before closed units unit filled put =
                 ap (λ o. page_code o p (bytes_of new p)) put.kept.order ∙ (ap (page_code old.order p) (kept p one).1 ∙ filled.formed p one)
             | inr two ↦ let there = between_is a b p two in put.formed p there.0 there.1
           ];
+      trees = units_more (HasTreeOn new (rest_of before leaves new)) closed units unit
+          (all_map (λ one has. has_tree_stays old new (rest_of before leaves old) (rest_of before leaves new) one put.kept.size put.kept.order
+          was_later (λ p at. (within_old p at, omega (arith, (kept p at).0, grows), (kept p at).1)) has)
+          (flat_map (λ leaf. leaf) closed ++ units) filled.trees)
+          (has_tree_stays new new (between a b) (rest_of before leaves new) unit refl refl now_later
+          (λ p at. (within_new p at, (between_is a b p at).1, refl)) put.tree);
     }
 
 -- A leaf more.
@@ -261,6 +274,9 @@ leaf_opened leaves next old new before closed units filled some opened =
     ∙ (ap (λ n. between before n p && not (is_of (numbers ++ (a ∷ [])) p)) count ∙ rest_opened before a numbers first (λ q is. (low q is).0) p) in
     let kept : (p : ℕ) → rest_of before leaves old p ≡ true → (p < a) × (bytes_of new p ≡ bytes_of old p) =
     λ p one. let here = rest_is before a numbers p one in (here.1, opened.kept.same p here.1 (λ e. not_last leaves p e here.2)) in
+    let was_later : (g : File) → IsLater (rest_of before next new) (file_so_far new) g → IsLater (rest_of before leaves old) (file_so_far old) g =
+    λ g later. later_before old new (rest_of before leaves old) (rest_of before next new) g opened.kept.order opened.kept.grows
+    (λ p one. rest p ∙ one) kept later in
     record {
       hold = subst (λ es. AreLeaves next new es []) (sym (map-append (flat_map entries_of) closed (units ∷ [])))
           (opened.hold (map (flat_map entries_of) closed) (flat_map entries_of units) filled.hold);
@@ -278,9 +294,7 @@ leaf_opened leaves next old new before closed units filled some opened =
           (subst (λ n. AscendIn before n (flat_map content_pages (all_contents type closed units))) (sym count)
           (ascend_on before a (a + 1) _ (omega arith) filled.ascend)));
       stands = λ g counted later.
-          let was = filled.stands g counted
-          (later_before old new (rest_of before leaves old) (rest_of before next new) g opened.kept.order opened.kept.grows
-          (λ p one. rest p ∙ one) kept later) in
+          let was = filled.stands g counted (was_later g later) in
           subst (λ t. AllStand t g (rest_of before next new) (closed ++ (units ∷ [])) []) (sym opened.type)
           (record {
             on = subst (λ us. StandOn g (rest_of before next new) (flat_map (unit_contents type) us)) (sym (closed_more closed units))
@@ -300,6 +314,10 @@ leaf_opened leaves next old new before closed units filled some opened =
       formed = λ p is.
           let one : rest_of before leaves old p ≡ true = sym (rest p) ∙ is in
           ap (λ o. page_code o p (bytes_of new p)) opened.kept.order ∙ (ap (page_code old.order p) (kept p one).1 ∙ filled.formed p one);
+      trees = subst (All (HasTreeOn new (rest_of before next new))) (sym (closed_more closed units))
+          (all_map (λ one has. has_tree_stays old new (rest_of before leaves old) (rest_of before next new) one opened.kept.size opened.kept.order
+          was_later (λ p at. (rest p ∙ at, omega (arith, (kept p at).0, count), (kept p at).1)) has)
+          (flat_map (λ leaf. leaf) closed ++ units) filled.trees);
     }
 
 -- The first leaf.
@@ -338,6 +356,7 @@ leaf_begun leaves built before positive none last count holds =
       sizes = All-nil (IsPlacedBySize built.size);
       heads = none_few leaves.leaf_type;
       formed = λ p is. let within = between_is before before p (sym (empty p) ∙ is) in absurd (omega (arith, within.0, within.1));
+      trees = All-nil (HasTreeOn built (rest_of before leaves built));
     }
   where
     none_few : (type : LeafType) → All (CountsOneFrom before built) (all_contents type [] [])

@@ -17,6 +17,7 @@ use Rattle.bdb_leaves.specs.Filled.{AreFilled, AreSpreadOver, FilledNow, IsPushe
 use Rattle.bdb_leaves.specs.Finished.{HasFirstRoot}
 use Rattle.bdb_leaves.specs.Grown.{live_entry}
 use Rattle.bdb_leaves.specs.Laid.{has_sorted_data}
+use Rattle.bdb_leaves.specs.Layout.{IsTreeOn}
 use Rattle.bdb_leaves.specs.Leaves.{KeepsAll, KeepsBefore, KeepsOthers, has_room}
 use Rattle.bdb_leaves.specs.Moved.{numbers_of}
 use Rattle.bdb_leaves.specs.Placed.{Placed, unit_of}
@@ -29,6 +30,7 @@ use Rattle.bdb_leaves.specs.declared.leaves.Leaves.{Leaves}
 use Rattle.bdb_leaves.proofs.FilledLemmas.{counted_so_far, later_self}
 use Rattle.bdb_leaves.proofs.GrownLaws.{grown_sets_stand}
 use Rattle.bdb_leaves.proofs.KeptLemmas.{finished_trees_are_formed, finished_trees_keep_older_pages}
+use Rattle.bdb_leaves.proofs.LayoutLemmas.{finished_trees_are_laid_out}
 use Rattle.bdb_leaves.proofs.NodesLemmas.{all_units}
 use Rattle.bdb_leaves.proofs.PushedLaws.{pushed_units_spread}
 use Rattle.bdb_leaves.proofs.RestLemmas.{is_one}
@@ -156,6 +158,9 @@ set_built old mid new sorted values leaves root set has =
           ∙ (ap (λ n. leaves_and_levels leaves.leaf_type n (map live_entry values)) set.kept.size
           ∙ ap (λ type. leaves_and_levels type old.size (map live_entry values)) set.type_is) in
           omega (arith, leaves_and_chains, tree, same);
+      tree = subst (λ type. IsTreeOn type new (between (length old.pages) (length new.pages)) true (map live_entry values) root) set.type_is
+          (subst (λ us. IsTreeOn leaves.leaf_type new (between (length old.pages) (length new.pages)) true us root) set.units_are
+          (finished_trees_are_laid_out leaves mid new true (length old.pages) set.closed set.units root set.filled set.spread has));
     }
   where
     keeps : KeepsBefore (length old.pages) mid new

@@ -1,6 +1,6 @@
 -- A key whose data have a tree of their own.
 use Rattle.std.proofs.Common.{◌≡◌, ℕ, ◌+◌, ◌-◌, ◌<◌, ◌≤◌, Bool, true, false, cond, if◌then◌else◌, List, [], ◌∷◌, ◌++◌, length, arith, refl, sym, ◌∙◌}
-use Rattle.std.proofs.Common.{ap, subst, inl, inr, length-append, true≢false}
+use Rattle.std.proofs.Common.{ap, map, subst, inl, inr, length-append, true≢false}
 use Rattle.std.specs.Prelude.{◌^◌}
 use Rattle.std.specs.List.{All, flat_map}
 use Rattle.std.proofs.lemmas.Bool.{cases_lt, cases_Bool}
@@ -23,6 +23,7 @@ use Rattle.bdb_grove.proofs.ChainLemmas.{between_is, is_between}
 use Rattle.bdb_layout.proofs.WritingLemmas.{length-leaf_tree}
 use Rattle.bdb_pack.specs.Built.{AreWhole, Built, bytes_of, file_so_far}
 use Rattle.bdb_leaves.specs.Filled.{AreSomeFilled, AscendIn, IsPushed, StandOn, leaves_added, unit_contents, FilledNow, rest_of}
+use Rattle.bdb_leaves.specs.Layout.{live_entry}
 use Rattle.bdb_leaves.specs.LeafEntries.{CanTakeEntry, Entry, HoldsEntriesOn, entry_cost, item_cost, own_entry, room_of}
 use Rattle.bdb_leaves.specs.Leaves.{AreLeaves, AreSomeLeaves, HasRoomNow, has_room, last_of}
 use Rattle.bdb_leaves.specs.Placed.{Placed, PlacedTree, StandsPlaced, ValueItem, tree_item, IsPlacedBySize, PlacedEntry, PlacedPairs, has_wrong_root}
@@ -30,7 +31,7 @@ use Rattle.bdb_leaves.specs.Placed.{unit_of, values_in}
 use Rattle.bdb_leaves.specs.Puts.{CountsOneFrom, IsGrown, IsPut}
 use Rattle.bdb_leaves.specs.Runs.{HasWholePairs, IsRunPut, ValuesStand}
 use Rattle.bdb_leaves.specs.Sets.{IsSetBuilt, IsTreePut, SetStands, IsKeyedPushed}
-use Rattle.bdb_leaves.specs.Spread.{own_pages, set_pages}
+use Rattle.bdb_leaves.specs.Spread.{own_pages, set_pages, set_type}
 use Rattle.bdb_leaves.specs.Units.{KeyedUnit, chain_pages, has_own_tree, set_cost, unit_cost, value_cost, key_of}
 use Rattle.bdb_levels.specs.Roots.{is_of}
 use Rattle.bdb_levels.proofs.NodeLemmas.{all_right}
@@ -39,6 +40,7 @@ use Rattle.bdb_leaves.specs.declared.leaf_type.LeafType.{LeafType}
 use Rattle.bdb_leaves.specs.declared.leaf_type.LeafType.TheVariants.{Pairs, Records, SortedData}
 use Rattle.bdb_leaves.specs.declared.leaves.Leaves.{Leaves}
 use Rattle.bdb_leaves.proofs.FilledLemmas.{by_size, counted_so_far, later_self, value_read}
+use Rattle.bdb_leaves.proofs.LastingLemmas.{tree_stays}
 use Rattle.bdb_leaves.proofs.PairsLemmas.{live_put, some_of}
 use Rattle.bdb_leaves.proofs.PushLemmas.{IsReady, cost_few, pushed, ready, room_count, whole_now}
 use Rattle.bdb_leaves.proofs.PutLemmas.{pages_stay}
@@ -153,6 +155,12 @@ tree_put leaves old one two new key values sorted root has put set grown count m
               ∙ set.formed p above (omega (arith, high, count)))
         ];
         count = λ by_order few. absurd (true≢false (sym many ∙ few));
+        tree = (
+          sorted,
+          tree_stays (set_type sorted) two new (between b (length two.pages)) (between a d) true (map live_entry values) root grown.kept.size
+              grown.kept.order set_later
+              (λ p at. let s = between_is b (length two.pages) p at in (set_within p at, omega (arith, s.1, count), set_same p at)) set.tree,
+        );
       };
       right = λ g counted_g later. (set_stands g counted_g later).right;
       count =
@@ -224,13 +232,20 @@ tree_put leaves old one two new key values sorted root has put set grown count m
         (λ p at. let s = between_is a b p at in is_between a d p s.0 (omega (arith, s.1, more, count)))
         (λ p at. let s = between_is a b p at in (s.1, kept p s.0 s.1)) later)
 
+    -- the pages of the set stay
+    set_within : (p : ℕ) → between b (length two.pages) p ≡ true → between a d p ≡ true
+    set_within p at = let s = between_is b (length two.pages) p at in is_between a d p (omega (arith, s.0, start)) (omega (arith, s.1, count))
+
+    set_same : (p : ℕ) → between b (length two.pages) p ≡ true → bytes_of new p ≡ bytes_of two p
+    set_same p at = let s = between_is b (length two.pages) p at in grown.kept.same p s.1 (λ e. omega (arith, e, there, s.0, start))
+
+    set_later : (g : File) → IsLater (between a d) f g → IsLater (between b (length two.pages)) (file_so_far two) g
+    set_later g later =
+        later_before two new (between b (length two.pages)) (between a d) g grown.kept.order (omega (arith, count)) set_within
+        (λ p at. ((between_is b (length two.pages) p at).1, set_same p at)) later
+
     set_stands : (g : File) → IsCounted g → IsLater (between a d) f g → SetStands g b (length two.pages) sorted values root
-    set_stands g counted_g later =
-        set.stands g counted_g
-        (later_before two new (between b (length two.pages)) (between a d) g grown.kept.order (omega (arith, count))
-        (λ p at. let s = between_is b (length two.pages) p at in is_between a d p (omega (arith, s.0, start)) (omega (arith, s.1, count)))
-        (λ p at.
-        let s = between_is b (length two.pages) p at in (s.1, grown.kept.same p s.1 (λ e. omega (arith, e, there, s.0, start)))) later)
+    set_stands g counted_g later = set.stands g counted_g (set_later g later)
 
 -- The unit is pushed.
 

@@ -12,6 +12,7 @@ use Rattle.bdb_pack.specs.Built.{AreWhole, Built, bytes_of, file_so_far}
 use Rattle.bdb_leaves.specs.Filled.{AreFilled, AreSpreadOver, rest_of}
 use Rattle.bdb_leaves.specs.Inner.{HoldsChildrenOn, child_cost, first_cost}
 use Rattle.bdb_leaves.specs.Laid.{HasUnits, IsLaid, IsNodeOf, inner_of, is_laid}
+use Rattle.bdb_leaves.specs.Layout.{IsTreeOn}
 use Rattle.bdb_leaves.specs.LeafEntries.{with_field}
 use Rattle.bdb_leaves.specs.Leaves.{KeepsBefore}
 use Rattle.bdb_leaves.specs.Levels.{heads_of}
@@ -102,6 +103,13 @@ FirstRootsAreLaid =
     → AreFilled leaves old before closed units → HasFirstRoot leaves old new counted closed units root
     → (g : File) → IsCounted g → IsLater (between before (length new.pages)) (file_so_far new) g
     → HasLaidTree leaves.leaf_type g (rest_of before leaves old) before (length new.pages) counted (closed ++ (units ∷ [])) root
+
+-- Where its units were spread by what they take, it is laid out, and the heads of its chains count their references.
+abbrev pub FinishedTreesAreLaidOut : Type 0
+FinishedTreesAreLaidOut =
+    (leaves : Leaves) (old new : Built) (counted : Bool) (before : ℕ) (closed : List (List Placed)) (units : List Placed) (root : ℕ)
+    → AreFilled leaves old before closed units → AreSpreadOver old.size closed units → HasFirstRoot leaves old new counted closed units root
+    → IsTreeOn leaves.leaf_type new (between before (length new.pages)) counted (map unit_of (flat_map (λ leaf. leaf) closed ++ units)) root
 
 -- None of these pages has a row of form.
 abbrev pub FinishedTreesAreFormed : Type 0

@@ -11,14 +11,10 @@ use Rattle.bdb_pack.specs.Built.{Built, file_so_far}
 use Rattle.bdb_leaves.specs.Filled.{AreFilled, StandOn}
 use Rattle.bdb_leaves.specs.Finished.{HasFirstRoot}
 use Rattle.bdb_leaves.specs.Laid.{has_sorted_data}
+pub use Rattle.bdb_leaves.specs.Layout.{live_entry}
 use Rattle.bdb_leaves.specs.Placed.{Placed, unit_of}
-use Rattle.bdb_leaves.specs.Units.{TreeUnit, EntryUnit}
 use Rattle.bdb_leaves.specs.declared.leaf_type.LeafType.TheVariants.{Pairs}
 use Rattle.bdb_leaves.specs.declared.leaves.Leaves.{Leaves}
-
--- a datum of a set, or a record
-abbrev pub live_entry : List ℕ → TreeUnit
-live_entry value = EntryUnit value false
 
 -- A finished tree of live entries is a set of their values, which stands where a datum names its root.
 abbrev pub GrownSetsStand : Type 0

@@ -4,6 +4,7 @@ pub mod Finished
 pub mod Grown
 pub mod Inner
 pub mod Laid
+pub mod Layout
 pub mod LeafChildren
 pub mod LeafEntries
 pub mod Leaves

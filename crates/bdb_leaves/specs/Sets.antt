@@ -1,5 +1,5 @@
 -- Sets of the data of a key: leaves that are filled with them, and the tree that is laid over these. Source: docs/FORMAT.md, "Built trees".
-use Rattle.std.specs.Prelude.{◌≡◌, ◌⊎◌, ℕ, ◌+◌, ◌<◌, ◌≤◌, Bool, false, List, [], ◌∷◌, ◌++◌, length, map, None}
+use Rattle.std.specs.Prelude.{◌≡◌, ◌⊎◌, ℕ, ◌+◌, ◌<◌, ◌≤◌, Bool, true, false, List, [], ◌∷◌, ◌++◌, length, map, None}
 use Rattle.std.specs.List.{flat_map, sum_by}
 use Rattle.bdb_format.specs.Page.{Item, Tree}
 use Rattle.bdb_format.specs.File.{File}
@@ -10,7 +10,7 @@ use Rattle.bdb_grove.specs.Growing.{IsCounted, IsLater}
 use Rattle.bdb_grove.specs.Part.{between}
 use Rattle.bdb_pack.specs.Built.{Built, bytes_of, file_so_far}
 use Rattle.bdb_leaves.specs.Filled.{AreFilled, AreSpreadOver, IsPushed, IsUnitPut, StandOn, leaves_added, rest_of}
-use Rattle.bdb_leaves.specs.Grown.{live_entry}
+use Rattle.bdb_leaves.specs.Layout.{IsTreeOn, live_entry}
 use Rattle.bdb_leaves.specs.Leaves.{KeepsAll}
 use Rattle.bdb_leaves.specs.Placed.{Placed, PlacedTree, has_wrong_root, unit_of}
 use Rattle.bdb_leaves.specs.Spread.{own_pages, set_pages}
@@ -46,6 +46,7 @@ pub record IsSetBuilt (old new : Built) (sorted : Bool) (values : List (List ℕ
   pub stands : (g : File) → IsCounted g → IsLater (between (length old.pages) (length new.pages)) (file_so_far new) g
       → SetStands g (length old.pages) (length new.pages) sorted values root
   pub count : length new.pages ≡ length old.pages + set_pages old.size sorted values
+  pub tree : IsTreeOn (set_type sorted) new (between (length old.pages) (length new.pages)) true (map live_entry values) root
 
 -- A key whose data have a tree of their own is put on the last leaf.
 pub record IsTreePut (leaves : Leaves) (old new : Built) (sorted : Bool) (key : List ℕ) (values : List (List ℕ)) : Type 0 where

@@ -1,8 +1,8 @@
 //! Laws of leaves that take entries.
 ghost use Rattle.bdb_leaves.specs.Counted.{BegunLeavesAreCounted, FinishedTreesHaveSize, PushedUnitsAreCounted};
 ghost use Rattle.bdb_leaves.specs.Filled.{PushedUnitsSpread, UnitsFit};
-ghost use Rattle.bdb_leaves.specs.Finished.{FinishedTreesAreCounted, FinishedTreesAreFormed, FinishedTreesAreLaid, FirstRootsAreLaid};
-ghost use Rattle.bdb_leaves.specs.Finished.{FinishedTreesKeepOlderPages, FinishedTreesKeepPages};
+ghost use Rattle.bdb_leaves.specs.Finished.{FinishedTreesAreCounted, FinishedTreesAreFormed, FinishedTreesAreLaid, FinishedTreesAreLaidOut};
+ghost use Rattle.bdb_leaves.specs.Finished.{FinishedTreesKeepOlderPages, FinishedTreesKeepPages, FirstRootsAreLaid};
 ghost use Rattle.bdb_leaves.specs.Grown.{GrownSetsStand};
 ghost use Rattle.bdb_leaves.specs.Inner.{ChildrenAreFormed, ChildrenStand, RaisedPagesStand};
 ghost use Rattle.bdb_leaves.specs.Laid.{LaidSetsHoldData, LaidTreesAreBranches, LaidTreesAreLinked, LaidTreesAreParts, LaidTreesHaveLeaves};
@@ -132,6 +132,11 @@ pub fn levels_shrink()
 /// A finished tree, of one leaf or of several, is laid in each later file; it has all pages since its leaves were begun.
 pub fn first_roots_are_laid()
     ensures { FirstRootsAreLaid }
+{}
+
+/// Where its units were spread by what they take, it is laid out, and the heads of its chains count their references.
+pub fn finished_trees_are_laid_out()
+    ensures { FinishedTreesAreLaidOut }
 {}
 
 /// None of these pages has a fault of form.

@@ -1,0 +1,184 @@
+-- Finished trees are laid out, and the heads of their chains count their references.
+use Rattle.std.proofs.Common.{◌≡◌, ℕ, ◌<◌, ◌≤◌, Bool, true, List, [], ◌∷◌, ◌++◌, length, map, arith, refl, sym, ◌∙◌, ap, subst, inl, inr}
+use Rattle.std.specs.List.{All, AllZip, Contains, flat_map}
+use Rattle.std.proofs.lemmas.List.Elements.{All-contains}
+use Rattle.std.proofs.lemmas.Simd.{map-map}
+use Rattle.bdb_format.specs.File.{File}
+use Rattle.bdb_format.specs.Numbers.{byte_at}
+use Rattle.bdb_format.specs.Page.{Content, Inline, Set, Chain, Tree, Unknown}
+use Rattle.bdb_format.specs.Reading.{entries_of as count_on}
+use Rattle.bdb_format.proofs.ListLemmas.{only_member}
+use Rattle.bdb_format.proofs.MemberLemmas.{no_member, of_flat_map}
+use Rattle.bdb_grove.specs.Growing.{IsCounted, IsLater}
+use Rattle.bdb_grove.specs.Part.{between}
+use Rattle.bdb_grove.proofs.ChainLemmas.{is_between}
+use Rattle.bdb_levels.specs.Nodes.{Node}
+use Rattle.bdb_levels.specs.Roots.{key_heads}
+use Rattle.bdb_pack.specs.Built.{Built, bytes_of, file_so_far}
+use Rattle.bdb_leaves.specs.Filled.{AreFilled, AreSpreadOver, all_contents, rest_of}
+use Rattle.bdb_leaves.specs.Finished.{FinishedTreesAreLaidOut, HasFirstRoot, HasRootOn}
+use Rattle.bdb_leaves.specs.Inner.{CountsOne}
+use Rattle.bdb_leaves.specs.Laid.{IsLaid, IsNodeOf, inner_of, is_laid}
+use Rattle.bdb_leaves.specs.Layout.{HeadCounts, IsTreeOn, TreeParts, heads_named, leaf_heads}
+use Rattle.bdb_leaves.specs.Leaves.{KeepsBefore, first_of}
+use Rattle.bdb_leaves.specs.Moved.{first_leaf, numbers_of}
+use Rattle.bdb_leaves.specs.Placed.{IsPlacedBySize, LeafUnits, Placed, entries_of, unit_of}
+use Rattle.bdb_leaves.specs.Puts.{CountsOneFrom}
+use Rattle.bdb_leaves.specs.Rooted.{CountsLeaves, leaf_with, placed_on, zip_units}
+use Rattle.bdb_leaves.specs.Spread.{AreSpreadLevels, named_heads, spread_units}
+use Rattle.bdb_leaves.specs.Tower.{levels_to}
+use Rattle.bdb_leaves.specs.Units.{page_room}
+use Rattle.bdb_leaves.specs.declared.leaf_type.LeafType.{LeafType}
+use Rattle.bdb_leaves.specs.declared.leaves.Leaves.{Leaves}
+use Rattle.bdb_leaves.proofs.FilledLemmas.{counted_so_far, later_self}
+use Rattle.bdb_leaves.proofs.FinishLemmas.{zero_at}
+use Rattle.bdb_leaves.proofs.FinishedLaws.{finished_trees_are_laid}
+use Rattle.bdb_leaves.proofs.FinishedLemmas.{moved_from, one_moved}
+use Rattle.bdb_leaves.proofs.GrownLemmas.{as_many, contents_held, zip_all, zip_groups}
+use Rattle.bdb_leaves.proofs.KeptLemmas.{finished_trees_keep_older_pages}
+use Rattle.bdb_leaves.proofs.NumberedLemmas.{are_numbered, leaf_is_laid}
+use Rattle.bdb_leaves.proofs.StandLemmas.{ascend_bounds}
+
+-- Heads of chains.
+
+-- the head that a content names counts one reference
+head_one : (before : ℕ) (built : Built) (content : Content) (h : ℕ) → CountsOneFrom before built content → Contains (key_heads content) h
+    → (before ≤ h) × (h < length built.pages) × CountsOne built.order (bytes_of built h)
+head_one before built (Inline bytes) h counts at = absurd (no_member [] h refl at)
+head_one before built (Chain head total) h counts at =
+    subst (λ k. (before ≤ k) × (k < length built.pages) × CountsOne built.order (bytes_of built k)) (only_member head h at) counts
+head_one before built (Set blocks) h counts at = absurd (no_member [] h refl at)
+head_one before built (Tree root) h counts at = absurd (no_member [] h refl at)
+head_one before built Unknown h counts at = absurd (no_member [] h refl at)
+
+-- a head of the leaves is one that their contents name
+head_held : (type : LeafType) (placed : List LeafUnits) (closed : List (List Placed)) (units : List Placed) (h : ℕ)
+    → flat_map (λ (leaf : LeafUnits). leaf.units) placed ≡ flat_map (λ leaf. leaf) closed ++ units → Contains (leaf_heads type placed) h
+    → (content : Content) × Contains (all_contents type closed units) content × Contains (key_heads content) h
+head_held type placed closed units h is at =
+    of_flat_map key_heads (all_contents type closed units) h
+    (subst (λ cs. Contains (flat_map key_heads cs) h) (sym (contents_held type placed (flat_map (λ leaf. leaf) closed ++ units) is)) at)
+
+-- Trees.
+
+-- the units of leaves are spread over them
+leaves_spread : (placed : List LeafUnits) (size : ℕ) (closed : List (List Placed)) (units : List Placed) → AreSpreadOver size closed units
+    → map (λ (leaf : LeafUnits). leaf.units) placed ≡ closed ++ (units ∷ [])
+    → map (λ (leaf : LeafUnits). map unit_of leaf.units) placed ≡ spread_units size (map unit_of (flat_map (λ leaf. leaf) closed ++ units))
+leaves_spread placed size closed units spread is =
+    sym (map-map (map unit_of) (λ (leaf : LeafUnits). leaf.units) placed) ∙ (ap (map (map unit_of)) is ∙ sym spread)
+
+-- a tree in each later file, of so many pages, is one that stands
+tree_on : (leaves : Leaves) (old new : Built) (counted : Bool) (before : ℕ) (closed : List (List Placed)) (units : List Placed) (root : ℕ)
+    (tree : TreeParts) → AreFilled leaves old before closed units → AreSpreadOver old.size closed units → KeepsBefore before old new
+    → map (λ (leaf : LeafUnits). leaf.units) tree.placed ≡ closed ++ (units ∷ [])
+    → flat_map (λ (leaf : LeafUnits). leaf.units) tree.placed ≡ flat_map (λ leaf. leaf) closed ++ units
+    → CountsLeaves counted leaves.leaf_type tree.placed tree.nodes
+    → AreSpreadLevels (inner_of leaves.leaf_type) (page_room new.size) tree.nodes tree.above → tree.top.page ≡ root
+    → ((g : File) → IsCounted g → IsLater (between before (length new.pages)) (file_so_far new) g
+    → IsLaid leaves.leaf_type g (rest_of before leaves old) tree.placed tree.nodes tree.above tree.top
+    × ((p : ℕ) → is_laid (rest_of before leaves old) tree.placed tree.above p ≡ between before (length new.pages) p))
+    → ((h : ℕ) → Contains (leaf_heads leaves.leaf_type tree.placed) h
+    → HeadCounts new (between before (length new.pages)) (heads_named leaves.leaf_type new.size tree) h)
+    → IsTreeOn leaves.leaf_type new (between before (length new.pages)) counted (map unit_of (flat_map (λ leaf. leaf) closed ++ units)) root
+tree_on leaves old new counted before closed units root tree filled spread keeps groups_are units_are counts levels top laid heads =
+    let first = ascend_bounds before (length old.pages) _ filled.ascend in
+    let low = filled.low in
+    let grows = keeps.grows in
+    record {
+      tree = tree;
+      root_is = top;
+      out = record {
+        spread = subst (λ n. map (λ (leaf : LeafUnits). map unit_of leaf.units) tree.placed
+            ≡ spread_units n (map unit_of (flat_map (λ leaf. leaf) closed ++ units))) (sym keeps.size)
+            (leaves_spread tree.placed old.size closed units spread groups_are);
+        sizes = subst (λ n. All (IsPlacedBySize n) (flat_map (λ (leaf : LeafUnits). leaf.units) tree.placed)) (sym keeps.size)
+            (subst (All (IsPlacedBySize old.size)) (sym units_are) filled.sizes);
+        counts = counts;
+        levels = levels;
+      };
+      rest = rest_of before leaves old;
+      first = before;
+      beyond = length new.pages;
+      all = (laid (file_so_far new) (counted_so_far new (omega (arith, first, low, grows))) (later_self new (between before (length new.pages)))).1;
+      stands = λ g is_counted later. (laid g is_counted later).0;
+      heads = heads;
+    }
+
+-- of several leaves, the heads count as the levels name them
+several_heads : (leaves : Leaves) (old new : Built) (counted : Bool) (before : ℕ) (closed : List (List Placed)) (units : List Placed) (root : ℕ)
+    → AreFilled leaves old before closed units → (on : HasRootOn leaves old new counted closed units root)
+    → flat_map (λ (leaf : LeafUnits). leaf.units) (placed_on on.next closed units) ≡ flat_map (λ leaf. leaf) closed ++ units
+    → (h : ℕ) → Contains (leaf_heads leaves.leaf_type (placed_on on.next closed units)) h
+    → HeadCounts new (between before (length new.pages))
+    (named_heads (inner_of leaves.leaf_type) (page_room on.between.size) on.nodes (levels_to on.tower.levels on.tower.top)) h
+several_heads leaves old new counted before closed units root filled on units_are h at =
+    let type : LeafType = leaves.leaf_type in
+    let mid : Built = on.between in
+    let (content, among, head) = head_held type (placed_on on.next closed units) closed units h units_are at in
+    let was : CountsOneFrom before old content = All-contains (CountsOneFrom before old) (all_contents type closed units) content filled.heads among in
+    let moved : CountsOneFrom before mid content =
+    one_moved leaves on.next old mid before (map (flat_map entries_of) closed) (flat_map entries_of units) content on.several filled.hold on.moved was
+    in
+    let (low, under, one) = head_one before mid content h moved head in
+    let other : h ≡ first_leaf leaves → ⊥ =
+    λ same.
+    let blank : byte_at (bytes_of mid h) 25 ≡ 0 =
+    ap (λ k. byte_at (bytes_of mid k) 25) same ∙ (ap (λ bs. byte_at bs 25) on.moved.blank ∙ zero_at old.size 25) in
+    let seven = one.type_is in
+    omega (arith, blank, seven) in
+    let grows = on.tower.grows in
+    record {
+      there = is_between before (length new.pages) h low (omega (arith, under, grows));
+      low = omega (arith, under, grows);
+      one = λ out. ap (λ o. count_on o (bytes_of new h)) on.tower.order
+          ∙ (ap (count_on mid.order) (on.tower.counts.same h (under, other) out) ∙ one.one);
+      two = λ named. on.tower.counts.two h (under, other) named;
+    }
+
+pub finished_trees_are_laid_out : FinishedTreesAreLaidOut
+finished_trees_are_laid_out leaves old new counted before closed units root filled spread (is, inl one) =
+    let type : LeafType = leaves.leaf_type in
+    let leaf : LeafUnits = leaf_with leaves.last units in
+    let placed : List LeafUnits = placed_on leaves closed units in
+    let alone : leaf ∷ [] ≡ placed =
+    sym (ap (λ ns. zip_units (ns ++ (leaves.last ∷ [])) (closed ++ (units ∷ []))) one.numbers
+    ∙ ap (λ groups. zip_units (leaves.last ∷ []) (groups ++ (units ∷ []))) one.closed_is) in
+    let known = are_numbered leaves old before closed units filled in
+    subst (λ (b : Built). IsTreeOn type b (between before (length b.pages)) counted (map unit_of (flat_map (λ leaf. leaf) closed ++ units)) root)
+    (sym one.same)
+    (tree_on leaves old old counted before closed units root
+    (record { placed = placed; nodes = one.node ∷ []; above = []; top = one.node }) filled spread
+    (record { size = refl; order = refl; grows = omega arith; same = λ p low. refl })
+    known.groups_are known.units_are (subst (λ ps. CountsLeaves counted type ps (one.node ∷ [])) alone one.counts) refl
+    (one.node_is.page ∙ (sym (ap (λ ns. first_of ns leaves.last) one.numbers) ∙ sym is))
+    (leaf_is_laid leaves old before closed units one.node filled
+    (subst (λ ps. AllZip (IsNodeOf type) ps (one.node ∷ [])) alone (one.node_is, tt)))
+    (λ h at.
+    let (content, among, head) = head_held type placed closed units h known.units_are at in
+    let (low, under, counts) = head_one before old content h
+    (All-contains (CountsOneFrom before old) (all_contents type closed units) content filled.heads among) head in
+    record {
+      there = is_between before (length old.pages) h low under;
+      low = under;
+      one = λ out. counts.one;
+      two = λ named. absurd (no_member [] h refl named);
+    }))
+finished_trees_are_laid_out leaves old new counted before closed units root filled spread (is, inr on) =
+    let type : LeafType = leaves.leaf_type in
+    let groups : List (List Placed) = closed ++ (units ∷ []) in
+    let numbers : List ℕ = numbers_of on.next in
+    let above : List (List Node) = levels_to on.tower.levels on.tower.top in
+    let placed : List LeafUnits = placed_on on.next closed units in
+    let many = as_many type on.between 0 numbers groups 0 (moved_from leaves on.next old on.between before closed units filled on.moved) in
+    let units_are = zip_all numbers closed units many in
+    tree_on leaves old new counted before closed units root
+    (record { placed = placed; nodes = on.nodes; above = above; top = on.tower.top }) filled spread
+    (finished_trees_keep_older_pages leaves old new counted before closed units root filled (is, inr on))
+    (zip_groups numbers groups many) units_are on.counts
+    (subst (λ n. AreSpreadLevels (inner_of type) (page_room n) on.nodes above) (sym on.tower.size) on.tower.spread)
+    (on.tower.top_is ∙ sym is)
+    (finished_trees_are_laid leaves old new counted before closed units root filled on)
+    (subst (λ n. (h : ℕ) → Contains (leaf_heads type placed) h
+    → HeadCounts new (between before (length new.pages)) (named_heads (inner_of type) (page_room n) on.nodes above) h) (sym on.tower.size)
+    (several_heads leaves old new counted before closed units root filled on units_are))

@@ -1,0 +1,71 @@
+-- How the units of a tree are laid out on its pages, and that a tree stands so. Source: docs/FORMAT.md, "Built trees" and "Stored values".
+use Rattle.std.specs.Prelude.{◌≡◌, ℕ, ◌<◌, Bool, true, false, List, length, map}
+use Rattle.std.specs.List.{All, Contains, flat_map}
+use Rattle.bdb_format.specs.File.{File}
+use Rattle.bdb_format.specs.Reading.{entries_of as count_on}
+use Rattle.bdb_grove.specs.Growing.{IsCounted, IsLater}
+use Rattle.bdb_grove.specs.Part.{between}
+use Rattle.bdb_levels.specs.Nodes.{Node}
+use Rattle.bdb_levels.specs.Roots.{key_heads}
+use Rattle.bdb_pack.specs.Built.{Built, bytes_of, file_so_far}
+use Rattle.bdb_leaves.specs.Laid.{IsLaid, entries_on, inner_of, is_laid}
+use Rattle.bdb_leaves.specs.LeafEntries.{contents_of}
+use Rattle.bdb_leaves.specs.Placed.{IsPlacedBySize, LeafUnits, Placed, PlacedEntry, PlacedPairs, PlacedTree, unit_of}
+use Rattle.bdb_leaves.specs.Rooted.{CountsLeaves}
+use Rattle.bdb_leaves.specs.Spread.{AreSpreadLevels, named_heads, set_type, spread_units}
+use Rattle.bdb_leaves.specs.Units.{EntryUnit, TreeUnit, page_room}
+use Rattle.bdb_leaves.specs.declared.leaf_type.LeafType.{LeafType}
+
+-- a tree: its leaves with their units, these as the levels know them, the levels, and the root
+pub record TreeParts : Type 0 where
+  pub placed : List LeafUnits
+  pub nodes : List Node
+  pub above : List (List Node)
+  pub top : Node
+
+-- Units are laid out: they are spread over the leaves by what they take, each value stands by its size, a leaf's number of pairs or entries is told
+-- where that is counted, and the levels are spread over the leaves up to the root.
+pub record IsLaidOut (type : LeafType) (size : ℕ) (counted : Bool) (units : List TreeUnit) (tree : TreeParts) : Type 0 where
+  pub spread : map (λ (leaf : LeafUnits). map unit_of leaf.units) tree.placed ≡ spread_units size units
+  pub sizes : All (IsPlacedBySize size) (flat_map (λ (leaf : LeafUnits). leaf.units) tree.placed)
+  pub counts : CountsLeaves counted type tree.placed tree.nodes
+  pub levels : AreSpreadLevels (inner_of type) (page_room size) tree.nodes tree.above
+
+-- the heads of the chains of what leaves hold
+abbrev pub leaf_heads : LeafType → List LeafUnits → List ℕ
+leaf_heads type placed = flat_map key_heads (flat_map (λ (leaf : LeafUnits). contents_of type (entries_on leaf)) placed)
+
+-- those that items of its levels name too
+abbrev pub heads_named : LeafType → ℕ → TreeParts → List ℕ
+heads_named type size tree = named_heads (inner_of type) (page_room size) tree.nodes tree.above
+
+-- The head of a chain is among pages. It counts two references where it is one of those that are named too, and else one.
+pub record HeadCounts (built : Built) (pages : ℕ → Bool) (named : List ℕ) (h : ℕ) : Type 0 where
+  pub there : pages h ≡ true
+  pub low : h < length built.pages
+  pub one : (Contains named h → ⊥) → count_on built.order (bytes_of built h) ≡ 1
+  pub two : Contains named h → count_on built.order (bytes_of built h) ≡ 2
+
+-- A tree of these units is laid out, and stands so in each later file that keeps these pages. It has all pages from one number up to another, and the
+-- heads of its chains count their references.
+pub record IsTreeOn (type : LeafType) (built : Built) (pages : ℕ → Bool) (counted : Bool) (units : List TreeUnit) (root : ℕ) : Type 0 where
+  pub tree : TreeParts
+  pub root_is : tree.top.page ≡ root
+  pub out : IsLaidOut type built.size counted units tree
+  pub rest : ℕ → Bool
+  pub first : ℕ
+  pub beyond : ℕ
+  pub all : (p : ℕ) → is_laid rest tree.placed tree.above p ≡ between first beyond p
+  pub stands : (g : File) → IsCounted g → IsLater pages (file_so_far built) g → IsLaid type g rest tree.placed tree.nodes tree.above tree.top
+  pub heads : (h : ℕ) → Contains (leaf_heads type tree.placed) h → HeadCounts built pages (heads_named type built.size tree) h
+
+-- a datum of a set, or a record
+abbrev pub live_entry : List ℕ → TreeUnit
+live_entry value = EntryUnit value false
+
+-- where the data of a unit have a tree, it stands, sorted or not
+abbrev pub HasTreeOn : Built → (ℕ → Bool) → Placed → Type 0
+HasTreeOn built pages (PlacedEntry entry) = Unit {0}
+HasTreeOn built pages (PlacedPairs key first more) = Unit {0}
+HasTreeOn built pages (PlacedTree key root values) =
+    (sorted : Bool) × IsTreeOn (set_type sorted) built pages true (map live_entry values) root
