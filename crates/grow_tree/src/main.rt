@@ -1,0 +1,108 @@
+//! Reads a dump text from standard input and builds the tree of its last section, a btree's or a recno's, behind a page of metadata;
+//! writes how many pages there are. With a word it only reads, and writes how many pairs there are; with two it writes the file.
+#![tactic(auto)]
+
+use bdb_io::{ReadError, StdSink, StdSource, put_all, read_image};
+use bdb_mktree_tests::built;
+use bdb_model::{Bytes, Pair, PairList, Settings, TextPairs};
+use bdb_text::read_dump;
+use std::alloc::{AllocError, Global};
+use std::env;
+use std::process::ExitCode;
+
+/// The most bytes that a text may have.
+const MOST: u64 = 1073741824;
+
+/// What is to be written.
+#[derive(Clone, Copy)]
+enum Told {
+    Pages,
+    Pairs,
+    File,
+}
+
+fn told_by(words: usize) -> Told {
+    match words {
+        0 | 1 => Told::Pages,
+        2 => Told::Pairs,
+        _ => Told::File,
+    }
+}
+
+fn main(rt: HostRuntime) -> ExitCode {
+    let told = match env::args(&rt) {
+        Ok(args) => told_by(args.len()),
+        Err(_) => return ExitCode::from(7),
+    };
+    let mut source = StdSource::new(rt.stdin());
+    let text = match read_image(rt.alloc(), &mut source, MOST) {
+        Ok(text) => text,
+        Err(ReadError::Memory) => return ExitCode::from(7),
+        Err(_) => return ExitCode::from(4),
+    };
+    match answer(rt.alloc(), text.bytes(), told) {
+        Ok(bytes) if put_all(&mut StdSink::new(rt.stdout()), bytes.as_slice()).is_ok() => {
+            ExitCode::from(0)
+        }
+        Ok(_) => ExitCode::from(5),
+        Err(_) => ExitCode::from(7),
+    }
+}
+
+// What is written of a text: nothing where it is none, or where no tree can be built of its last section.
+fn answer(alloc: Global, text: &[u8], told: Told) -> Result<Bytes, AllocError> {
+    let nothing = Bytes::new(alloc);
+    let Ok(sections) = read_dump(alloc, text) else {
+        return Ok(nothing);
+    };
+    let mut sections = sections;
+    let Some(section) = sections.pop() else {
+        return Ok(nothing);
+    };
+    let list = list_of(alloc, section.pairs)?;
+    answer_of(alloc, &section.settings, &list, told)
+}
+
+fn answer_of(
+    alloc: Global,
+    settings: &Settings,
+    list: &PairList,
+    told: Told,
+) -> Result<Bytes, AllocError> {
+    if matches!(told, Told::Pairs) {
+        return count(alloc, list.len(), "pairs");
+    }
+    match built(alloc, settings, list)? {
+        Some(image) if matches!(told, Told::File) => Ok(image.bytes),
+        Some(image) => count(
+            alloc,
+            image.bytes.as_slice().len() / (settings.page_size as usize).max(1),
+            "pages",
+        ),
+        None => Ok(Bytes::new(alloc)),
+    }
+}
+
+fn count(alloc: Global, count: usize, what: &str) -> Result<Bytes, AllocError> {
+    let line = format!(in alloc; "{count} {what}\n")?;
+    let mut bytes = Bytes::new(alloc);
+    bytes.push_all(line.as_bytes())?;
+    Ok(bytes)
+}
+
+// The pairs in their order, moved.
+fn list_of(alloc: Global, pairs: TextPairs) -> Result<PairList, AllocError> {
+    let mut pairs = pairs;
+    let mut reversed = Vec::new(alloc);
+    while let Some(pair) = pairs.pop() {
+        reversed.push(pair)?;
+    }
+    let mut list = PairList::new(alloc);
+    while let Some(pair) = reversed.pop() {
+        list.push(Pair {
+            key: pair.key,
+            value: pair.value,
+        })?;
+    }
+    Ok(list)
+}
