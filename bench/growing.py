@@ -9,20 +9,13 @@ Markdown table of user time and peak memory, the least of three runs. Where the 
 """
 import os
 import pathlib
-import shutil
-import sys
 import tempfile
 
-from reading import TOP, least, write_text
+from reading import arguments, least, write_text
 
 
 def main():
-    program = sys.argv[1] if len(sys.argv) > 1 else str(TOP / "crates/grow_tree/out/grow_tree")
-    most = int(sys.argv[2]) if len(sys.argv) > 2 else 1000000
-    if not pathlib.Path(program).is_file():
-        sys.exit(f"{program} isn't there; `rt run` in crates/grow_tree builds it")
-    if shutil.which("db5.3_load") is None:
-        sys.exit("db5.3_load not found; Debian's package db5.3-util has it")
+    program, most = arguments("grow_tree")
     print("| pairs | `grow_tree`, reads and builds, s | only reads, s | builds, s | `db5.3_load`, s | peak MB | its peak MB |")
     print("|---:|---:|---:|---:|---:|---:|---:|")
     with tempfile.TemporaryDirectory() as folder:

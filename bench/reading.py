@@ -36,13 +36,18 @@ def least(words, text, before=lambda: None):
     return min(run[0] for run in runs), min(run[2] for run in runs)
 
 
-def main():
-    program = sys.argv[1] if len(sys.argv) > 1 else str(TOP / "crates/dump_again/out/dump_again")
-    pairs = int(sys.argv[2]) if len(sys.argv) > 2 else 1000000
+def arguments(name):
+    """The built program of a crate, and the number of pairs; ends where the program or the original's is missing."""
+    program = sys.argv[1] if len(sys.argv) > 1 else str(TOP / "crates" / name / "out" / name)
     if not pathlib.Path(program).is_file():
-        sys.exit(f"{program} isn't there; `rt run` in crates/dump_again builds it")
+        sys.exit(f"{program} isn't there; `rt run` in crates/{name} builds it")
     if shutil.which("db5.3_load") is None:
         sys.exit("db5.3_load not found; Debian's package db5.3-util has it")
+    return program, int(sys.argv[2]) if len(sys.argv) > 2 else 1000000
+
+
+def main():
+    program, pairs = arguments("dump_again")
     with tempfile.TemporaryDirectory() as folder:
         text, image = os.path.join(folder, "text"), os.path.join(folder, "image")
         write_text(text, pairs)
