@@ -2,6 +2,7 @@
 use Rattle.std.specs.Prelude.{◌≡◌, ℕ, ◌<◌, Bool, true, false, List, length, map}
 use Rattle.std.specs.List.{All, Contains, flat_map}
 use Rattle.bdb_format.specs.File.{File}
+use Rattle.bdb_format.specs.Page.{Content}
 use Rattle.bdb_format.specs.Reading.{entries_of as count_on}
 use Rattle.bdb_grove.specs.Growing.{IsCounted, IsLater}
 use Rattle.bdb_grove.specs.Part.{between}
@@ -63,9 +64,10 @@ pub record IsTreeOn (type : LeafType) (built : Built) (pages : ℕ → Bool) (co
 abbrev pub live_entry : List ℕ → TreeUnit
 live_entry value = EntryUnit value false
 
--- where the data of a unit have a tree, it stands, sorted or not
-abbrev pub HasTreeOn : Built → (ℕ → Bool) → Placed → Type 0
-HasTreeOn built pages (PlacedEntry entry) = Unit {0}
-HasTreeOn built pages (PlacedPairs key first more) = Unit {0}
-HasTreeOn built pages (PlacedTree key root values) =
-    (sorted : Bool) × IsTreeOn (set_type sorted) built pages true (map live_entry values) root
+-- where the data of a unit have a tree, it stands, sorted or not; its chains are none that these contents name
+abbrev pub HasTreeOn : Built → (ℕ → Bool) → List Content → Placed → Type 0
+HasTreeOn built pages contents (PlacedEntry entry) = Unit {0}
+HasTreeOn built pages contents (PlacedPairs key first more) = Unit {0}
+HasTreeOn built pages contents (PlacedTree key root values) =
+    (sorted : Bool) × (on : IsTreeOn (set_type sorted) built pages true (map live_entry values) root)
+    × ((h : ℕ) → Contains (leaf_heads (set_type sorted) on.tree.placed) h → Contains (flat_map key_heads contents) h → ⊥)

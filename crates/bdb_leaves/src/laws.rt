@@ -2,7 +2,7 @@
 ghost use Rattle.bdb_leaves.specs.Counted.{BegunLeavesAreCounted, FinishedTreesHaveSize, PushedUnitsAreCounted};
 ghost use Rattle.bdb_leaves.specs.Filled.{PushedUnitsSpread, UnitsFit};
 ghost use Rattle.bdb_leaves.specs.Finished.{FinishedTreesAreCounted, FinishedTreesAreFormed, FinishedTreesAreLaid, FinishedTreesAreLaidOut};
-ghost use Rattle.bdb_leaves.specs.Finished.{FinishedTreesKeepOlderPages, FinishedTreesKeepPages, FirstRootsAreLaid};
+ghost use Rattle.bdb_leaves.specs.Finished.{FinishedTreesKeepOlderPages, FinishedTreesKeepPages, FinishedTreesKeepTrees, FirstRootsAreLaid};
 ghost use Rattle.bdb_leaves.specs.Grown.{GrownSetsStand};
 ghost use Rattle.bdb_leaves.specs.Inner.{ChildrenAreFormed, ChildrenStand, RaisedPagesStand};
 ghost use Rattle.bdb_leaves.specs.Laid.{LaidSetsHoldData, LaidTreesAreBranches, LaidTreesAreLinked, LaidTreesAreParts, LaidTreesHaveLeaves};
@@ -137,6 +137,11 @@ pub fn first_roots_are_laid()
 /// Where its units were spread by what they take, it is laid out, and the heads of its chains count their references.
 pub fn finished_trees_are_laid_out()
     ensures { FinishedTreesAreLaidOut }
+{}
+
+/// The trees of its units' data stand as they did.
+pub fn finished_trees_keep_trees()
+    ensures { FinishedTreesKeepTrees }
 {}
 
 /// None of these pages has a fault of form.
