@@ -80,7 +80,8 @@ node_heads Keyed type (leaf ∷ placed) (node ∷ nodes) h is (here, zip) at =
     (elim (Contains-append_cases (key_heads node.key) (flat_map (heads_of Keyed) nodes) h at) [
       | inl first ↦ Contains-append_left (flat_map key_heads contents) (flat_map key_heads others) h
           (key_held type leaf node.key h (subst (λ i. IsKeyOf i (entries_on leaf) node.key) is here.key) first)
-      | inr later ↦ Contains-append_right (flat_map key_heads contents) (flat_map key_heads others) h (node_heads Keyed type placed nodes h is zip later)
+      | inr later ↦ Contains-append_right (flat_map key_heads contents) (flat_map key_heads others) h
+          (node_heads Keyed type placed nodes h is zip later)
     ])
 
 -- Trees.
@@ -141,7 +142,8 @@ several_heads leaves old new counted before closed units root filled on units_ar
     let mid : Built = on.between in
     let (content, among, head) = of_flat_map key_heads (all_contents type closed units) h
     (subst (λ hs. Contains hs h) (heads_held type (placed_on on.next closed units) closed units units_are) at) in
-    let was : CountsOneFrom before old content = All-contains (CountsOneFrom before old) (all_contents type closed units) content filled.heads among in
+    let was : CountsOneFrom before old content = All-contains (CountsOneFrom before old)
+    (all_contents type closed units) content filled.heads among in
     let moved : CountsOneFrom before mid content =
     one_moved leaves on.next old mid before (map (flat_map entries_of) closed) (flat_map entries_of units) content on.several filled.hold on.moved was
     in

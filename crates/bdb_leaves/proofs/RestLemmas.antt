@@ -146,10 +146,10 @@ no_leaf SortedData is = omega (arith, is)
 heads_kept : (leaves : Leaves) (old new : Built) (before : ℕ) (closed : List (List Entry)) (entries : List Entry) (contents : List Content)
     → AreLeaves leaves old closed entries → KeepsOthers leaves.last old new → All (CountsOneFrom before old) contents
     → All (CountsOneFrom before new) contents
-heads_kept leaves old new before closed entries contents hold kept few k d low = stays (get_or contents k d) (few k d low)
+heads_kept leaves old new before closed entries contents hold kept counts k d low = stays (get_or contents k d) (counts k d low)
   where
     stays : (content : Content) → CountsOneFrom before old content → CountsOneFrom before new content
-    stays (Inline bytes) few = tt
+    stays (Inline bytes) counts = tt
     stays (Chain head total) (above, under, counts) = (
       above,
       (let grows = kept.grows in omega (arith, under, grows)),
@@ -159,9 +159,9 @@ heads_kept leaves old new before closed entries contents hold kept few k d low =
           (λ e. no_leaf leaves.leaf_type (sym hold.last_holds.type_is ∙ (ap (λ p. byte_at (bytes_of old p) 25) (sym e) ∙ counts.type_is)))))
           counts),
     )
-    stays (Set blocks) few = tt
-    stays (Tree root) few = tt
-    stays Unknown few = tt
+    stays (Set blocks) counts = tt
+    stays (Tree root) counts = tt
+    stays Unknown counts = tt
 
 pub unit_added : (leaves : Leaves) (old new : Built) (before : ℕ) (closed : List (List Placed)) (units : List Placed) (unit : Placed)
     → AreFilled leaves old before closed units → IsUnitPut leaves old new unit → AreFilled leaves new before closed (units ++ (unit ∷ []))
@@ -236,7 +236,8 @@ unit_added leaves old new before closed units unit filled put =
             ],
           )) has)
           (flat_map (λ leaf. leaf) closed ++ units) filled.trees)
-          (has_tree_stays new new (between a b) (rest_of before leaves new) (unit_contents type unit) (all_contents type closed (units ++ (unit ∷ []))) unit
+          (has_tree_stays new new (between a b) (rest_of before leaves new) (unit_contents type unit)
+          (all_contents type closed (units ++ (unit ∷ []))) unit
           refl refl now_later
           (λ h is under out. (
             within_new h is,
@@ -388,13 +389,13 @@ leaf_begun leaves built before positive none last count holds =
             placed = All-nil (StandsPlaced leaves.leaf_type g);
           };
       sizes = All-nil (IsPlacedBySize built.size);
-      heads = none_few leaves.leaf_type;
+      heads = none_named leaves.leaf_type;
       formed = λ p is. let within = between_is before before p (sym (empty p) ∙ is) in absurd (omega (arith, within.0, within.1));
       trees = All-nil (HasTreeOn built (rest_of before leaves built) (all_contents leaves.leaf_type [] []));
     }
   where
-    none_few : (type : LeafType) → All (CountsOneFrom before built) (all_contents type [] [])
-    none_few type = All-nil (CountsOneFrom before built)
+    none_named : (type : LeafType) → All (CountsOneFrom before built) (all_contents type [] [])
+    none_named type = All-nil (CountsOneFrom before built)
 
     none_ascend : (type : LeafType) → AscendIn before (length built.pages) (flat_map content_pages (all_contents type [] []))
     none_ascend type = omega (arith, count)

@@ -66,15 +66,15 @@ values_follow g size first middle beyond (u ∷ us) vs (between, low, high, here
 -- a chain whose first page stays
 pub one_kept : (low lower : ℕ) (old new : Built) (content : Content) → lower ≤ low → new.order ≡ old.order → length old.pages ≤ length new.pages
     → ((h : ℕ) → low ≤ h → h < length old.pages → bytes_of new h ≡ bytes_of old h) → CountsOneFrom low old content → CountsOneFrom lower new content
-one_kept low lower old new (Inline bytes) less order more same few = tt
+one_kept low lower old new (Inline bytes) less order more same counts = tt
 one_kept low lower old new (Chain head total) less order more same (above, under, counts) = (
   omega (arith, less, above),
   omega (arith, under, more),
   subst (λ o. CountsOne o (bytes_of new head)) (sym order) (subst (CountsOne old.order) (sym (same head above under)) counts),
 )
-one_kept low lower old new (Set blocks) less order more same few = tt
-one_kept low lower old new (Tree root) less order more same few = tt
-one_kept low lower old new Unknown less order more same few = tt
+one_kept low lower old new (Set blocks) less order more same counts = tt
+one_kept low lower old new (Tree root) less order more same counts = tt
+one_kept low lower old new Unknown less order more same counts = tt
 
 pub all_map : {X : Type 0} {P Q : X → Type 0} → ((x : X) → P x → Q x) → (xs : List X) → All P xs → All Q xs
 all_map f xs all k d low = f (get_or xs k d) (all k d low)

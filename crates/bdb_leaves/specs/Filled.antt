@@ -82,7 +82,8 @@ pub record AreFilled (leaves : Leaves) (built : Built) (before : ℕ) (closed : 
   pub sizes : All (IsPlacedBySize built.size) (flat_map (λ leaf. leaf) closed ++ units)
   pub heads : All (CountsOneFrom before built) (all_contents leaves.leaf_type closed units)
   pub formed : (p : ℕ) → rest_of before leaves built p ≡ true → page_code built.order p (bytes_of built p) ≡ None
-  pub trees : All (HasTreeOn built (rest_of before leaves built) (all_contents leaves.leaf_type closed units)) (flat_map (λ leaf. leaf) closed ++ units)
+  pub trees : All (HasTreeOn built (rest_of before leaves built) (all_contents leaves.leaf_type closed units))
+      (flat_map (λ leaf. leaf) closed ++ units)
 
 -- some units; where there are several leaves the last has one too
 pub record AreSomeFilled (leaves : Leaves) (built : Built) : Type 0 where
