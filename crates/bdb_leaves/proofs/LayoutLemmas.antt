@@ -1,13 +1,15 @@
 -- Finished trees are laid out, and the heads of their chains count their references.
 use Rattle.std.proofs.Common.{◌≡◌, ℕ, ◌<◌, ◌≤◌, Bool, true, List, [], ◌∷◌, ◌++◌, length, map, arith, refl, sym, ◌∙◌, ap, subst, inl, inr}
-use Rattle.std.proofs.Common.{true≢false}
+use Rattle.std.proofs.Common.{false, true≢false}
 use Rattle.std.specs.List.{All, AllZip, Contains, flat_map}
 use Rattle.std.proofs.lemmas.Grind.{flat_map-append}
 use Rattle.std.proofs.lemmas.List.Elements.{All-contains, Contains-append_cases, Contains-append_left, Contains-append_right}
 use Rattle.std.proofs.lemmas.Simd.{map-map}
 use Rattle.bdb_format.specs.File.{File}
 use Rattle.bdb_format.specs.Numbers.{byte_at}
-use Rattle.bdb_format.specs.Page.{Content, Inline}
+use Rattle.bdb_format.specs.Page.{Content, Inline, Tree}
+use Rattle.bdb_format.specs.ContentRows.{is_wrong_set}
+use Rattle.bdb_format.specs.References.{has_type}
 use Rattle.bdb_format.specs.Reading.{entries_of as count_on}
 use Rattle.bdb_format.proofs.MemberLemmas.{no_member, of_flat_map}
 use Rattle.bdb_grove.specs.Growing.{IsCounted, IsLater}
@@ -21,7 +23,7 @@ use Rattle.bdb_pack.specs.Built.{Built, bytes_of, file_so_far}
 use Rattle.bdb_leaves.specs.Filled.{AreFilled, AreSpreadOver, all_contents, rest_of}
 use Rattle.bdb_leaves.specs.Finished.{FinishedTreesAreLaidOut, FinishedTreesKeepTrees, HasFirstRoot, HasRootOn}
 use Rattle.bdb_leaves.specs.Laid.{IsKeyOf, IsLaid, IsNodeOf, entries_on, inner_of, is_laid}
-use Rattle.bdb_leaves.specs.Layout.{HasTreeOn, HeadCounts, IsTreeOn, TreeParts, heads_named, leaf_heads}
+use Rattle.bdb_leaves.specs.Layout.{HasTreeOn, HeadCounts, IsTreeOn, TreeParts, TreesAreSorted, heads_named, leaf_heads}
 use Rattle.bdb_leaves.specs.LeafEntries.{contents_of}
 use Rattle.bdb_leaves.specs.Leaves.{KeepsBefore, first_of}
 use Rattle.bdb_leaves.specs.Levels.{heads_of}
@@ -29,10 +31,11 @@ use Rattle.bdb_leaves.specs.Moved.{first_leaf, numbers_of, second_leaf}
 use Rattle.bdb_leaves.specs.Placed.{IsPlacedBySize, LeafUnits, Placed, entries_of, unit_of}
 use Rattle.bdb_leaves.specs.Puts.{CountsOneFrom}
 use Rattle.bdb_leaves.specs.Rooted.{CountsLeaves, leaf_with, placed_on, zip_units}
-use Rattle.bdb_leaves.specs.Spread.{AreSpreadLevels, named_heads, spread_units}
+use Rattle.bdb_leaves.specs.Spread.{AreSpreadLevels, named_heads, set_type, spread_units}
 use Rattle.bdb_leaves.specs.Tower.{levels_to}
 use Rattle.bdb_leaves.specs.Units.{page_room}
 use Rattle.bdb_leaves.specs.declared.leaf_type.LeafType.{LeafType}
+use Rattle.bdb_leaves.specs.declared.leaf_type.LeafType.TheVariants.{Records, SortedData}
 use Rattle.bdb_leaves.specs.declared.leaves.Leaves.{Leaves}
 use Rattle.bdb_leaves.proofs.FilledLemmas.{counted_so_far, later_self}
 use Rattle.bdb_leaves.proofs.FinishLemmas.{zero_at}
@@ -41,6 +44,7 @@ use Rattle.bdb_leaves.proofs.FinishedLemmas.{first_two, moved_from, one_moved}
 use Rattle.bdb_leaves.proofs.GrownLemmas.{as_many, contents_held, zip_all, zip_groups}
 use Rattle.bdb_leaves.proofs.KeptLemmas.{finished_trees_keep_older_pages}
 use Rattle.bdb_leaves.proofs.LaidBranchLemmas.{key_first}
+use Rattle.bdb_leaves.proofs.LaidLemmas.{root_type_is}
 use Rattle.bdb_leaves.proofs.LastingLemmas.{has_tree_stays, head_one, heads_one}
 use Rattle.bdb_leaves.proofs.LaterLemmas.{later_chain, later_fewer}
 use Rattle.bdb_leaves.proofs.NumberedLemmas.{are_numbered, leaf_is_laid}
@@ -257,3 +261,18 @@ finished_trees_keep_trees leaves old new counted before closed units root filled
           ∙ on.moved.same h under (no_leaf h (first_leaf leaves) at two.0) (no_leaf h (second_leaf leaves) at two.1),
       out,
     )) has) all filled.trees
+
+-- the root of a set of the other kind has a wrong type
+other_wrong : (sorted asked : Bool) (g : File) (rest : ℕ → Bool) (placed : List LeafUnits) (nodes : List Node) (above : List (List Node)) (top : Node)
+    → IsLaid (set_type sorted) g rest placed nodes above top → is_wrong_set g asked (Tree top.page) ≡ false → sorted ≡ asked
+other_wrong true true g rest placed nodes above top laid right = refl
+other_wrong false false g rest placed nodes above top laid right = refl
+other_wrong true false g rest placed nodes above top laid right =
+    absurd (true≢false (sym (root_type_is SortedData g rest placed nodes above top laid (has_type (3 ∷ 12 ∷ [])) true refl refl) ∙ right))
+other_wrong false true g rest placed nodes above top laid right =
+    absurd (true≢false (sym (root_type_is Records g rest placed nodes above top laid (has_type (4 ∷ 6 ∷ [])) true refl refl) ∙ right))
+
+pub trees_are_sorted : TreesAreSorted
+trees_are_sorted built pages contents key root values sorted (kind, on, apart) g is_counted later right =
+    other_wrong kind sorted g on.rest on.tree.placed on.tree.nodes on.tree.above on.tree.top (on.stands g is_counted later)
+    (ap (λ p. is_wrong_set g sorted (Tree p)) on.root_is ∙ right)

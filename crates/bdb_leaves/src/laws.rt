@@ -6,6 +6,7 @@ ghost use Rattle.bdb_leaves.specs.Finished.{FinishedTreesKeepOlderPages, Finishe
 ghost use Rattle.bdb_leaves.specs.Grown.{GrownSetsStand};
 ghost use Rattle.bdb_leaves.specs.Inner.{ChildrenAreFormed, ChildrenStand, RaisedPagesStand};
 ghost use Rattle.bdb_leaves.specs.Laid.{LaidSetsHoldData, LaidTreesAreBranches, LaidTreesAreLinked, LaidTreesAreParts, LaidTreesHaveLeaves};
+ghost use Rattle.bdb_leaves.specs.Layout.{TreesAreSorted};
 ghost use Rattle.bdb_leaves.specs.LeafEntries.{LeavesAreFormed, LeavesStand};
 ghost use Rattle.bdb_leaves.specs.Levels.{LevelsAreFormed, LevelsAreLater, LevelsAreNumbered, LevelsGoOn, LevelsKeepPages, LevelsShrink, LevelsStand};
 ghost use Rattle.bdb_leaves.specs.Placed.{PairsFollow, RecordsKeepLength, UnitsAreListed, UnitsAreRead, UnitsCost, UnitsKeepRules};
@@ -142,6 +143,11 @@ pub fn finished_trees_are_laid_out()
 /// The trees of its units' data stand as they did.
 pub fn finished_trees_keep_trees()
     ensures { FinishedTreesKeepTrees }
+{}
+
+/// The tree of a unit's data is sorted where its root has the type of a sorted set, and else not.
+pub fn trees_are_sorted()
+    ensures { TreesAreSorted }
 {}
 
 /// None of these pages has a fault of form.
