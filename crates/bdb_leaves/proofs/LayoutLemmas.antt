@@ -1,5 +1,5 @@
 -- Finished trees are laid out, and the heads of their chains count their references.
-use Rattle.std.proofs.Common.{◌≡◌, ℕ, ◌<◌, ◌≤◌, Bool, true, List, [], ◌∷◌, ◌++◌, length, map, arith, refl, sym, ◌∙◌, ap, subst, inl, inr}
+use Rattle.std.proofs.Common.{◌≡◌, ℕ, Bool, true, List, [], ◌∷◌, ◌++◌, length, map, arith, refl, sym, ◌∙◌, ap, subst, inl, inr}
 use Rattle.std.proofs.Common.{false, true≢false}
 use Rattle.std.specs.List.{All, AllZip, Contains, flat_map}
 use Rattle.std.proofs.lemmas.Grind.{flat_map-append}
@@ -7,7 +7,7 @@ use Rattle.std.proofs.lemmas.List.Elements.{All-contains, Contains-append_cases,
 use Rattle.std.proofs.lemmas.Simd.{map-map}
 use Rattle.bdb_format.specs.File.{File}
 use Rattle.bdb_format.specs.Numbers.{byte_at}
-use Rattle.bdb_format.specs.Page.{Content, Inline, Tree}
+use Rattle.bdb_format.specs.Page.{Content, Tree}
 use Rattle.bdb_format.specs.ContentRows.{is_wrong_set}
 use Rattle.bdb_format.specs.References.{has_type}
 use Rattle.bdb_format.specs.Reading.{entries_of as count_on}
@@ -21,7 +21,7 @@ use Rattle.bdb_levels.specs.Nodes.{Node}
 use Rattle.bdb_levels.specs.Roots.{key_heads}
 use Rattle.bdb_pack.specs.Built.{Built, bytes_of, file_so_far}
 use Rattle.bdb_leaves.specs.Filled.{AreFilled, AreSpreadOver, all_contents, rest_of}
-use Rattle.bdb_leaves.specs.Finished.{FinishedTreesAreLaidOut, FinishedTreesKeepTrees, HasFirstRoot, HasRootOn}
+use Rattle.bdb_leaves.specs.Finished.{FinishedTreesAreLaidOut, FinishedTreesKeepTrees, HasRootOn}
 use Rattle.bdb_leaves.specs.Laid.{IsKeyOf, IsLaid, IsNodeOf, entries_on, inner_of, is_laid}
 use Rattle.bdb_leaves.specs.Layout.{HasTreeOn, HeadCounts, IsTreeOn, TreeParts, TreesAreSorted, heads_named, leaf_heads}
 use Rattle.bdb_leaves.specs.LeafEntries.{contents_of}
