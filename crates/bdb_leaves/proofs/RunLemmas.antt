@@ -139,24 +139,25 @@ put_is_run leaves old new value deleted low put some =
     let one : Built = put.between in
     let stored = put.stored in
     let grown = put.grown in
-    let more = stored.grows in
+    let more = stored.kept.grows in
     let count = put.count in
     let hold : (closed : List (List Entry)) (entries : List Entry) → AreLeaves leaves old closed entries
     → AreLeaves leaves new closed (entries ++ (own_entry put.item ∷ [])) =
     λ closed entries hold. grown.hold closed entries (leaves_stay leaves old one value deleted put.item stored closed entries hold) in
     record {
       kept = record {
-        size = grown.kept.size ∙ stored.size;
-        order = grown.kept.order ∙ stored.order;
+        size = grown.kept.size ∙ stored.kept.size;
+        order = grown.kept.order ∙ stored.kept.order;
         grows = omega (arith, more, count);
-        same = λ q under other. grown.kept.same q (omega (arith, under, more)) other ∙ stored.same q under;
+        same = λ q under other. grown.kept.same q (omega (arith, under, more)) other ∙ stored.kept.same q under;
       };
       hold = hold;
       room =
           let before = leaf_room leaves old some.closed some.entries some.hold in
           let after = leaf_room leaves new some.closed (some.entries ++ (own_entry put.item ∷ [])) (hold some.closed some.entries some.hold) in
-          let order : new.order ≡ old.order = grown.kept.order ∙ stored.order in
-          let long : length (bytes_of new leaves.last) ≡ length (bytes_of old leaves.last) = grown.long ∙ ap length (stored.same leaves.last low) in
+          let order : new.order ≡ old.order = grown.kept.order ∙ stored.kept.order in
+          let long : length (bytes_of new leaves.last) ≡ length (bytes_of old leaves.last) = grown.long
+          ∙ ap length (stored.kept.same leaves.last low) in
           let sums : sum_by (entry_cost new.order) (some.entries ++ (own_entry put.item ∷ []))
           ≡ sum_by (entry_cost old.order) some.entries + sum_by (entry_cost old.order) (own_entry put.item ∷ []) =
           ap (λ o. sum_by (entry_cost o) (some.entries ++ (own_entry put.item ∷ []))) order
