@@ -91,7 +91,7 @@ run_is_unit : (leaves : Leaves) (old new : Built) (unit : Placed) (held : List (
     → ((g : File) → ValuesStand g old.size (length old.pages) (length new.pages) held → StandsPlaced leaves.leaf_type g unit)
     → ((g : File) → ValuesStand g old.size (length old.pages) (length new.pages) held → IsPlacedBySize old.size unit)
     → ((sorted : Bool) → sum_by (λ (one : Content × List ℕ). chain_pages old.size one.1) held ≡ own_pages old.size sorted (unit_of unit))
-    → HasTreeOn new (between (length old.pages) (length new.pages)) unit → IsUnitPut leaves old new unit
+    → HasTreeOn new (between (length old.pages) (length new.pages)) (unit_contents leaves.leaf_type unit) unit → IsUnitPut leaves old new unit
 run_is_unit leaves old new unit held some run contents placed sizes own tree =
     let grows = run.kept.grows in
     let f : File = file_so_far new in

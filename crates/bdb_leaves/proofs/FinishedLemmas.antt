@@ -113,17 +113,17 @@ type_at type built previous (q ∷ ps) (entries ∷ all) beyond p (up, holds, re
 -- the head of a chain is no leaf
 head_is_no_leaf : (leaves : Leaves) (old : Built) (closed : List (List Entry)) (entries : List Entry) (p : ℕ) → AreLeaves leaves old closed entries
     → Contains (numbers_of leaves) p → CountsOne old.order (bytes_of old p) → ⊥
-head_is_no_leaf leaves old closed entries p hold at few =
+head_is_no_leaf leaves old closed entries p hold at counts =
     no_leaf leaves.leaf_type
     (sym (type_at leaves.leaf_type old 0 (numbers_of leaves) (closed ++ (entries ∷ [])) 0 p
     (leaf_closed leaves.leaf_type old 0 leaves.closed.items closed leaves.last 0 entries hold.closed_hold hold.after hold.last_holds) at)
-    ∙ few.type_is)
+    ∙ counts.type_is)
 
 -- so it stays
 pub one_moved : (leaves next : Leaves) (old mid : Built) (before : ℕ) (closed : List (List Entry)) (entries : List Entry) (content : Content)
     → 1 ≤ length leaves.closed.items → AreLeaves leaves old closed entries → IsFirstMoved leaves next old mid → CountsOneFrom before old content
     → CountsOneFrom before mid content
-one_moved leaves next old mid before closed entries (Inline bytes) several hold moved few = tt
+one_moved leaves next old mid before closed entries (Inline bytes) several hold moved counts = tt
 one_moved leaves next old mid before closed entries (Chain head total) several hold moved (above, under, counts) =
     let count = moved.count in
     let leaf : (p : ℕ) → Contains (numbers_of leaves) p → head ≡ p → ⊥ =
@@ -134,9 +134,9 @@ one_moved leaves next old mid before closed entries (Chain head total) several h
       subst (λ o. CountsOne o (bytes_of mid head)) (sym moved.order)
           (subst (CountsOne old.order) (sym (moved.same head under (leaf (first_leaf leaves) two.0) (leaf (second_leaf leaves) two.1))) counts),
     )
-one_moved leaves next old mid before closed entries (Set blocks) several hold moved few = tt
-one_moved leaves next old mid before closed entries (Tree root) several hold moved few = tt
-one_moved leaves next old mid before closed entries Unknown several hold moved few = tt
+one_moved leaves next old mid before closed entries (Set blocks) several hold moved counts = tt
+one_moved leaves next old mid before closed entries (Tree root) several hold moved counts = tt
+one_moved leaves next old mid before closed entries Unknown several hold moved counts = tt
 
 -- The lowest level.
 
@@ -151,15 +151,15 @@ moved_nodes leaves next old mid counted before closed units legal several filled
     (subst (λ size. All (IsPlacedBySize size) all) (sym moved.size)
     (subst (All (IsPlacedBySize old.size)) (sym (all_units closed units)) filled.sizes)) in
     let stay : All (CountsOneFrom before mid) (all_contents type closed units) =
-    all_map (λ content few. one_moved leaves next old mid before (map (flat_map entries_of) closed)
+    all_map (λ content counts. one_moved leaves next old mid before (map (flat_map entries_of) closed)
     (flat_map entries_of units) content several filled.hold
-    moved few) (all_contents type closed units) filled.heads in
-    let few = each_content (CountsOneFrom before mid) type groups
+    moved counts) (all_contents type closed units) filled.heads in
+    let counts = each_content (CountsOneFrom before mid) type groups
     (subst (λ us. All (CountsOneFrom before mid) (flat_map (unit_contents type) us)) (sym (all_units closed units)) stay) in
     are_nodes type counted mid.size before mid 0 (numbers_of next) groups 0 (ap is_page_size moved.size ∙ legal)
     (moved_from leaves next old mid before closed units filled moved)
     (moved_there leaves next old mid several moved) (All-push (λ us. 0 < length us) closed units filled.some some)
-    (λ k d low. record { sizes = sizes k d low; heads = few k d low })
+    (λ k d low. record { sizes = sizes k d low; heads = counts k d low })
 
 -- the leaves as children, of whatever type the levels over them are said to be
 level_of : (leaves next : Leaves) (old mid : Built) (counted : Bool) (groups : List (List Placed)) (inner : InnerType) (children : List Child)

@@ -117,7 +117,7 @@ first_is : (type : LeafType) (item : Item) (entries : List Entry) (key : Content
 first_is type item entries key is =
     (contents_of type entries, begins type item entries ∙ ap (λ content. content ∷ contents_of type entries) (sym is.0), is.1)
 
-key_first : (type : LeafType) (units : List Placed) (key : Content) → IsKeyOf Keyed (flat_map entries_of units) key
+pub key_first : (type : LeafType) (units : List Placed) (key : Content) → IsKeyOf Keyed (flat_map entries_of units) key
     → ((bytes : List ℕ) × (key ≡ Inline bytes)) ⊎ IsFirst type (flat_map entries_of units) key
 key_first type [] key is = inl is
 key_first type (PlacedEntry entry ∷ units) key is = inr (first_is type entry.item (flat_map entries_of units) key is)

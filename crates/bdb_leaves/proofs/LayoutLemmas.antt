@@ -1,63 +1,92 @@
 -- Finished trees are laid out, and the heads of their chains count their references.
-use Rattle.std.proofs.Common.{◌≡◌, ℕ, ◌<◌, ◌≤◌, Bool, true, List, [], ◌∷◌, ◌++◌, length, map, arith, refl, sym, ◌∙◌, ap, subst, inl, inr}
+use Rattle.std.proofs.Common.{◌≡◌, ℕ, Bool, true, List, [], ◌∷◌, ◌++◌, length, map, arith, refl, sym, ◌∙◌, ap, subst, inl, inr}
+use Rattle.std.proofs.Common.{false, true≢false}
 use Rattle.std.specs.List.{All, AllZip, Contains, flat_map}
-use Rattle.std.proofs.lemmas.List.Elements.{All-contains}
+use Rattle.std.proofs.lemmas.Grind.{flat_map-append}
+use Rattle.std.proofs.lemmas.List.Elements.{All-contains, Contains-append_cases, Contains-append_left, Contains-append_right}
 use Rattle.std.proofs.lemmas.Simd.{map-map}
 use Rattle.bdb_format.specs.File.{File}
 use Rattle.bdb_format.specs.Numbers.{byte_at}
-use Rattle.bdb_format.specs.Page.{Content, Inline, Set, Chain, Tree, Unknown}
+use Rattle.bdb_format.specs.Page.{Content, Tree}
+use Rattle.bdb_format.specs.ContentRows.{is_wrong_set}
+use Rattle.bdb_format.specs.References.{has_type}
 use Rattle.bdb_format.specs.Reading.{entries_of as count_on}
-use Rattle.bdb_format.proofs.ListLemmas.{only_member}
 use Rattle.bdb_format.proofs.MemberLemmas.{no_member, of_flat_map}
 use Rattle.bdb_grove.specs.Growing.{IsCounted, IsLater}
 use Rattle.bdb_grove.specs.Part.{between}
 use Rattle.bdb_grove.proofs.ChainLemmas.{is_between}
+use Rattle.bdb_levels.specs.declared.inner_type.InnerType.{InnerType}
+use Rattle.bdb_levels.specs.declared.inner_type.InnerType.TheVariants.{Keyed, Numbered}
 use Rattle.bdb_levels.specs.Nodes.{Node}
 use Rattle.bdb_levels.specs.Roots.{key_heads}
 use Rattle.bdb_pack.specs.Built.{Built, bytes_of, file_so_far}
 use Rattle.bdb_leaves.specs.Filled.{AreFilled, AreSpreadOver, all_contents, rest_of}
-use Rattle.bdb_leaves.specs.Finished.{FinishedTreesAreLaidOut, HasFirstRoot, HasRootOn}
-use Rattle.bdb_leaves.specs.Inner.{CountsOne}
-use Rattle.bdb_leaves.specs.Laid.{IsLaid, IsNodeOf, inner_of, is_laid}
-use Rattle.bdb_leaves.specs.Layout.{HeadCounts, IsTreeOn, TreeParts, heads_named, leaf_heads}
+use Rattle.bdb_leaves.specs.Finished.{FinishedTreesAreLaidOut, FinishedTreesKeepTrees, HasRootOn}
+use Rattle.bdb_leaves.specs.Laid.{IsKeyOf, IsLaid, IsNodeOf, entries_on, inner_of, is_laid}
+use Rattle.bdb_leaves.specs.Layout.{HasTreeOn, HeadCounts, IsTreeOn, TreeParts, TreesAreSorted, heads_named, leaf_heads}
+use Rattle.bdb_leaves.specs.LeafEntries.{contents_of}
 use Rattle.bdb_leaves.specs.Leaves.{KeepsBefore, first_of}
-use Rattle.bdb_leaves.specs.Moved.{first_leaf, numbers_of}
+use Rattle.bdb_leaves.specs.Levels.{heads_of}
+use Rattle.bdb_leaves.specs.Moved.{first_leaf, numbers_of, second_leaf}
 use Rattle.bdb_leaves.specs.Placed.{IsPlacedBySize, LeafUnits, Placed, entries_of, unit_of}
 use Rattle.bdb_leaves.specs.Puts.{CountsOneFrom}
 use Rattle.bdb_leaves.specs.Rooted.{CountsLeaves, leaf_with, placed_on, zip_units}
-use Rattle.bdb_leaves.specs.Spread.{AreSpreadLevels, named_heads, spread_units}
+use Rattle.bdb_leaves.specs.Spread.{AreSpreadLevels, named_heads, set_type, spread_units}
 use Rattle.bdb_leaves.specs.Tower.{levels_to}
 use Rattle.bdb_leaves.specs.Units.{page_room}
 use Rattle.bdb_leaves.specs.declared.leaf_type.LeafType.{LeafType}
+use Rattle.bdb_leaves.specs.declared.leaf_type.LeafType.TheVariants.{Records, SortedData}
 use Rattle.bdb_leaves.specs.declared.leaves.Leaves.{Leaves}
 use Rattle.bdb_leaves.proofs.FilledLemmas.{counted_so_far, later_self}
 use Rattle.bdb_leaves.proofs.FinishLemmas.{zero_at}
-use Rattle.bdb_leaves.proofs.FinishedLaws.{finished_trees_are_laid}
-use Rattle.bdb_leaves.proofs.FinishedLemmas.{moved_from, one_moved}
+use Rattle.bdb_leaves.proofs.FinishedLaws.{finished_trees_are_laid, finished_trees_keep_pages}
+use Rattle.bdb_leaves.proofs.FinishedLemmas.{first_two, moved_from, one_moved}
 use Rattle.bdb_leaves.proofs.GrownLemmas.{as_many, contents_held, zip_all, zip_groups}
 use Rattle.bdb_leaves.proofs.KeptLemmas.{finished_trees_keep_older_pages}
+use Rattle.bdb_leaves.proofs.LaidBranchLemmas.{key_first}
+use Rattle.bdb_leaves.proofs.LaidLemmas.{root_type_is}
+use Rattle.bdb_leaves.proofs.LastingLemmas.{has_tree_stays, head_one, heads_one}
+use Rattle.bdb_leaves.proofs.LaterLemmas.{later_chain, later_fewer}
 use Rattle.bdb_leaves.proofs.NumberedLemmas.{are_numbered, leaf_is_laid}
+use Rattle.bdb_leaves.proofs.RestLemmas.{is_one, rest_is}
+use Rattle.bdb_leaves.proofs.RunLemmas.{all_map}
 use Rattle.bdb_leaves.proofs.StandLemmas.{ascend_bounds}
 
 -- Heads of chains.
 
--- the head that a content names counts one reference
-head_one : (before : ℕ) (built : Built) (content : Content) (h : ℕ) → CountsOneFrom before built content → Contains (key_heads content) h
-    → (before ≤ h) × (h < length built.pages) × CountsOne built.order (bytes_of built h)
-head_one before built (Inline bytes) h counts at = absurd (no_member [] h refl at)
-head_one before built (Chain head total) h counts at =
-    subst (λ k. (before ≤ k) × (k < length built.pages) × CountsOne built.order (bytes_of built k)) (only_member head h at) counts
-head_one before built (Set blocks) h counts at = absurd (no_member [] h refl at)
-head_one before built (Tree root) h counts at = absurd (no_member [] h refl at)
-head_one before built Unknown h counts at = absurd (no_member [] h refl at)
+-- the heads of the leaves are those that their contents name
+heads_held : (type : LeafType) (placed : List LeafUnits) (closed : List (List Placed)) (units : List Placed)
+    → flat_map (λ (leaf : LeafUnits). leaf.units) placed ≡ flat_map (λ leaf. leaf) closed ++ units
+    → leaf_heads type placed ≡ flat_map key_heads (all_contents type closed units)
+heads_held type placed closed units is =
+    ap (flat_map key_heads) (sym (contents_held type placed (flat_map (λ leaf. leaf) closed ++ units) is))
 
--- a head of the leaves is one that their contents name
-head_held : (type : LeafType) (placed : List LeafUnits) (closed : List (List Placed)) (units : List Placed) (h : ℕ)
-    → flat_map (λ (leaf : LeafUnits). leaf.units) placed ≡ flat_map (λ leaf. leaf) closed ++ units → Contains (leaf_heads type placed) h
-    → (content : Content) × Contains (all_contents type closed units) content × Contains (key_heads content) h
-head_held type placed closed units h is at =
-    of_flat_map key_heads (all_contents type closed units) h
-    (subst (λ cs. Contains (flat_map key_heads cs) h) (sym (contents_held type placed (flat_map (λ leaf. leaf) closed ++ units) is)) at)
+-- the heads that the keys of nodes name are among them
+key_held : (type : LeafType) (leaf : LeafUnits) (key : Content) (h : ℕ) → IsKeyOf Keyed (entries_on leaf) key → Contains (key_heads key) h
+    → Contains (flat_map key_heads (contents_of type (entries_on leaf))) h
+key_held type leaf key h is at =
+    elim (key_first type leaf.units key is) [
+      | inl inline ↦ absurd (no_member [] h refl (subst (λ k. Contains (key_heads k) h) inline.1 at))
+      | inr first ↦ subst (λ cs. Contains (flat_map key_heads cs) h) (sym first.1)
+          (Contains-append_left (key_heads key) (flat_map key_heads first.0) h at)
+    ]
+
+node_heads : (inner : InnerType) (type : LeafType) (placed : List LeafUnits) (nodes : List Node) (h : ℕ) → inner_of type ≡ inner
+    → AllZip (IsNodeOf type) placed nodes → Contains (flat_map (heads_of inner) nodes) h → Contains (leaf_heads type placed) h
+node_heads Numbered type placed nodes h is zip at = absurd (no_member [] h refl (of_flat_map (heads_of Numbered) nodes h at).2)
+node_heads Keyed type [] [] h is zip at = absurd (no_member [] h refl at)
+node_heads Keyed type [] (node ∷ nodes) h is zip at = absurd zip
+node_heads Keyed type (leaf ∷ placed) [] h is zip at = absurd zip
+node_heads Keyed type (leaf ∷ placed) (node ∷ nodes) h is (here, zip) at =
+    let contents : List Content = contents_of type (entries_on leaf) in
+    let others : List Content = flat_map (λ (other : LeafUnits). contents_of type (entries_on other)) placed in
+    subst (λ hs. Contains hs h) (sym (flat_map-append key_heads contents others))
+    (elim (Contains-append_cases (key_heads node.key) (flat_map (heads_of Keyed) nodes) h at) [
+      | inl first ↦ Contains-append_left (flat_map key_heads contents) (flat_map key_heads others) h
+          (key_held type leaf node.key h (subst (λ i. IsKeyOf i (entries_on leaf) node.key) is here.key) first)
+      | inr later ↦ Contains-append_right (flat_map key_heads contents) (flat_map key_heads others) h
+          (node_heads Keyed type placed nodes h is zip later)
+    ])
 
 -- Trees.
 
@@ -115,8 +144,10 @@ several_heads : (leaves : Leaves) (old new : Built) (counted : Bool) (before : �
 several_heads leaves old new counted before closed units root filled on units_are h at =
     let type : LeafType = leaves.leaf_type in
     let mid : Built = on.between in
-    let (content, among, head) = head_held type (placed_on on.next closed units) closed units h units_are at in
-    let was : CountsOneFrom before old content = All-contains (CountsOneFrom before old) (all_contents type closed units) content filled.heads among in
+    let (content, among, head) = of_flat_map key_heads (all_contents type closed units) h
+    (subst (λ hs. Contains hs h) (heads_held type (placed_on on.next closed units) closed units units_are) at) in
+    let was : CountsOneFrom before old content = All-contains (CountsOneFrom before old)
+    (all_contents type closed units) content filled.heads among in
     let moved : CountsOneFrom before mid content =
     one_moved leaves on.next old mid before (map (flat_map entries_of) closed) (flat_map entries_of units) content on.several filled.hold on.moved was
     in
@@ -155,9 +186,8 @@ finished_trees_are_laid_out leaves old new counted before closed units root fill
     (leaf_is_laid leaves old before closed units one.node filled
     (subst (λ ps. AllZip (IsNodeOf type) ps (one.node ∷ [])) alone (one.node_is, tt)))
     (λ h at.
-    let (content, among, head) = head_held type placed closed units h known.units_are at in
-    let (low, under, counts) = head_one before old content h
-    (All-contains (CountsOneFrom before old) (all_contents type closed units) content filled.heads among) head in
+    let (low, under, counts) = heads_one before old (all_contents type closed units) h filled.heads
+    (subst (λ hs. Contains hs h) (heads_held type placed closed units known.units_are) at) in
     record {
       there = is_between before (length old.pages) h low under;
       low = under;
@@ -182,3 +212,67 @@ finished_trees_are_laid_out leaves old new counted before closed units root fill
     (subst (λ n. (h : ℕ) → Contains (leaf_heads type placed) h
     → HeadCounts new (between before (length new.pages)) (named_heads (inner_of type) (page_room n) on.nodes above) h) (sym on.tower.size)
     (several_heads leaves old new counted before closed units root filled on units_are))
+
+-- The trees of data.
+
+pub finished_trees_keep_trees : FinishedTreesKeepTrees
+finished_trees_keep_trees leaves old new counted before closed units root filled (is, inl one) =
+    let type : LeafType = leaves.leaf_type in
+    let all : List Placed = flat_map (λ leaf. leaf) closed ++ units in
+    let rest : ℕ → Bool = rest_of before leaves old in
+    let contents : List Content = all_contents type closed units in
+    let within : (p : ℕ) → rest p ≡ true → between before (length old.pages) p ≡ true =
+    λ p at. let here = rest_is before (length old.pages) (numbers_of leaves) p at in is_between before (length old.pages) p here.0 here.1 in
+    subst (λ (b : Built). All (HasTreeOn b (between before (length b.pages)) contents) all) (sym one.same)
+    (all_map (λ unit has. has_tree_stays old old rest (between before (length old.pages)) contents contents unit refl refl
+    (λ g later. later_fewer (file_so_far old) g rest (between before (length old.pages)) within later)
+    (λ h at under out. (within h at, under, refl, out)) has) all filled.trees)
+finished_trees_keep_trees leaves old new counted before closed units root filled (is, inr on) =
+    let type : LeafType = leaves.leaf_type in
+    let all : List Placed = flat_map (λ leaf. leaf) closed ++ units in
+    let m : ℕ = length old.pages in
+    let b : ℕ = length new.pages in
+    let numbers : List ℕ = numbers_of leaves in
+    let rest : ℕ → Bool = rest_of before leaves old in
+    let contents : List Content = all_contents type closed units in
+    let count = on.moved.count in
+    let grows = on.tower.grows in
+    let two = first_two leaves on.several in
+    let many = as_many type on.between 0 (numbers_of on.next) (closed ++ (units ∷ [])) 0
+    (moved_from leaves on.next old on.between before closed units filled on.moved) in
+    let named : (h : ℕ) → Contains (flat_map (heads_of (inner_of type)) on.nodes) h → Contains (flat_map key_heads contents) h =
+    λ h at. subst (λ hs. Contains hs h)
+    (heads_held type (placed_on on.next closed units) closed units (zip_all (numbers_of on.next) closed units many))
+    (node_heads (inner_of type) type (placed_on on.next closed units) on.nodes h refl on.nodes_are at) in
+    let within : (p : ℕ) → rest p ≡ true → between before b p ≡ true =
+    λ p at. let here = rest_is before m numbers p at in is_between before b p here.0 (omega (arith, here.1, count, grows)) in
+    let no_leaf : (p q : ℕ) → rest p ≡ true → Contains numbers q → p ≡ q → ⊥ =
+    λ p q at leaf e. true≢false (sym (is_one numbers p (subst (Contains numbers) (sym e) leaf)) ∙ (rest_is before m numbers p at).2) in
+    all_map (λ unit has. has_tree_stays old new rest (between before b) contents contents unit (on.tower.size ∙ on.moved.size)
+    (on.tower.order ∙ on.moved.order)
+    (λ g later. later_chain (file_so_far old) (file_so_far new) g rest
+    ((finished_trees_keep_pages leaves old new counted closed units root on).0 rest
+    (λ p at. let here = rest_is before m numbers p at in (here.1, here.2)))
+    (later_fewer (file_so_far new) g rest (between before b) within later))
+    (λ h at under out. (
+      within h at,
+      omega (arith, under, count, grows),
+      on.tower.kept h (omega (arith, under, count)) (no_leaf h (first_leaf leaves) at two.0) (λ key. out (named h key))
+          ∙ on.moved.same h under (no_leaf h (first_leaf leaves) at two.0) (no_leaf h (second_leaf leaves) at two.1),
+      out,
+    )) has) all filled.trees
+
+-- the root of a set of the other kind has a wrong type
+other_wrong : (sorted asked : Bool) (g : File) (rest : ℕ → Bool) (placed : List LeafUnits) (nodes : List Node) (above : List (List Node)) (top : Node)
+    → IsLaid (set_type sorted) g rest placed nodes above top → is_wrong_set g asked (Tree top.page) ≡ false → sorted ≡ asked
+other_wrong true true g rest placed nodes above top laid right = refl
+other_wrong false false g rest placed nodes above top laid right = refl
+other_wrong true false g rest placed nodes above top laid right =
+    absurd (true≢false (sym (root_type_is SortedData g rest placed nodes above top laid (has_type (3 ∷ 12 ∷ [])) true refl refl) ∙ right))
+other_wrong false true g rest placed nodes above top laid right =
+    absurd (true≢false (sym (root_type_is Records g rest placed nodes above top laid (has_type (4 ∷ 6 ∷ [])) true refl refl) ∙ right))
+
+pub trees_are_sorted : TreesAreSorted
+trees_are_sorted built pages contents key root values sorted (kind, on, apart) g is_counted later right =
+    other_wrong kind sorted g on.rest on.tree.placed on.tree.nodes on.tree.above on.tree.top (on.stands g is_counted later)
+    (ap (λ p. is_wrong_set g sorted (Tree p)) on.root_is ∙ right)

@@ -261,10 +261,16 @@ counts_told type (p ∷ ps) (units ∷ groups) = (one type, counts_told type ps 
     one Records = refl
     one SortedData = refl
 
+none_told : (type : LeafType) (ps : List ℕ) (all : List (List Entry)) → All (λ (node : Node). node.count ≡ 0) (leaf_nodes type false ps all)
+none_told type [] all = All-nil (λ (node : Node). node.count ≡ 0)
+none_told type (p ∷ ps) [] = All-nil (λ (node : Node). node.count ≡ 0)
+none_told type (p ∷ ps) (entries ∷ all) =
+    All-cons (λ (node : Node). node.count ≡ 0) (leaf_node type false p entries) (leaf_nodes type false ps all) refl (none_told type ps all)
+
 pub leaves_counted : (counted : Bool) (type : LeafType) (ps : List ℕ) (groups : List (List Placed))
     → CountsLeaves counted type (zip_units ps groups) (leaf_nodes type counted ps (map (flat_map entries_of) groups))
 leaves_counted true type ps groups = counts_told type ps groups
-leaves_counted false type ps groups = tt
+leaves_counted false type ps groups = none_told type ps (map (flat_map entries_of) groups)
 
 -- One leaf.
 

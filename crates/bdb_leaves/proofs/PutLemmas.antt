@@ -50,10 +50,7 @@ inline_item old new value deleted fits short same =
       fits = fits;
       place = λ type index. tt;
       cost = λ order. inline_cost order old.size value deleted short;
-      size = refl;
-      order = refl;
-      grows = omega arith;
-      same = λ p low. refl;
+      kept = record { size = refl; order = refl; grows = omega arith; same = λ p low. refl };
       stands = λ g counted later. (refl, short, refl);
       formed = λ p low high. absurd (omega (arith, low, high));
       heads = tt;
@@ -114,10 +111,12 @@ chain_item old new value deleted head total fits legal some room long is has =
       fits = fits;
       place = λ type index. tt;
       cost = λ order. chain_cost order old.size head total value deleted long;
-      size = has.size;
-      order = has.order;
-      grows = omega (arith, count);
-      same = λ p low. ap (λ ps. get_or ps p []) has.pages ∙ get_or_append_left old.pages has.added [] p low;
+      kept = record {
+        size = has.size;
+        order = has.order;
+        grows = omega (arith, count);
+        same = λ p low. ap (λ ps. get_or ps p []) has.pages ∙ get_or_append_left old.pages has.added [] p low;
+      };
       stands = λ g later_counted later.
           (long, is, has.first, stored_values_stand old new value head g has legal positive some few later_counted later);
       formed = λ p low high.
@@ -181,7 +180,7 @@ pages_stay leaves old new is closed entries hold =
 pub leaves_stay : (leaves : Leaves) (old new : Built) (value : List ℕ) (deleted : Bool) (item : Item) → IsItemOf old new value deleted item
     → (closed : List (List Entry)) (entries : List Entry) → AreLeaves leaves old closed entries → AreLeaves leaves new closed entries
 leaves_stay leaves old new value deleted item is =
-    pages_stay leaves old new (record { size = is.size; order = is.order; grows = is.grows; same = is.same })
+    pages_stay leaves old new is.kept
 
 pub some_stay : (leaves : Leaves) (old new : Built) (value : List ℕ) (deleted : Bool) (item : Item) → IsItemOf old new value deleted item
     → AreSomeLeaves leaves old → AreSomeLeaves leaves new
@@ -200,7 +199,7 @@ takes_put leaves old new value deleted item is some room =
     let stay = some_stay leaves old new value deleted item is some in
     let there = some.hold.there in
     let same : room_of new.order (bytes_of new leaves.last) ≡ room_of old.order (bytes_of old leaves.last) =
-    ap (λ o. room_of o (bytes_of new leaves.last)) is.order ∙ ap (room_of old.order) (is.same leaves.last there) in
+    ap (λ o. room_of o (bytes_of new leaves.last)) is.kept.order ∙ ap (room_of old.order) (is.kept.same leaves.last there) in
     record {
       type = leaves.leaf_type;
       previous = last_of 0 leaves.closed.items;

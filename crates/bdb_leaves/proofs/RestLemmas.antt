@@ -1,6 +1,6 @@
 -- The pages that are no leaves, as units are put on leaves.
 use Rattle.std.proofs.Common.{◌≡◌, ℕ, ◌+◌, ◌<◌, ◌≤◌, Bool, true, false, not, List, [], ◌∷◌, ◌++◌, length, map, get_or, arith, refl, sym, ◌∙◌, ap}
-use Rattle.std.proofs.Common.{subst, inl, inr, true≢false}
+use Rattle.std.proofs.Common.{◌⊎◌, subst, inl, inr, true≢false}
 use Rattle.std.specs.Prelude.{◌==◌, ◌&&◌, ◌||◌}
 use Rattle.std.specs.List.{All, Contains, flat_map}
 use Rattle.std.proofs.lemmas.Bool.{and_parts, cases_Bool, cases_lt, eq-eqb, ne_eqb, not-true, or_left, or_right}
@@ -20,6 +20,7 @@ use Rattle.bdb_grove.specs.Part.{IsBranch, between}
 use Rattle.bdb_grove.proofs.BranchLemmas.{branch_is_known, branches_stand_together, no_branch}
 use Rattle.bdb_grove.proofs.ChainLemmas.{between_is, is_between, same_test}
 use Rattle.bdb_grove.proofs.BesideLemmas.{in_either}
+use Rattle.bdb_levels.specs.Roots.{key_heads}
 use Rattle.bdb_levels.specs.Roots.{is_of}
 use Rattle.bdb_pack.specs.Built.{Built, bytes_of, file_so_far}
 use Rattle.bdb_leaves.specs.Filled.{AllStand, AreFilled, AscendIn, IsUnitPut, StandOn, all_contents, rest_of, unit_contents}
@@ -33,7 +34,7 @@ use Rattle.bdb_leaves.specs.Leaves.{AreLeaves, IsOpened, KeepsOthers, LeavesFrom
 use Rattle.bdb_leaves.specs.Placed.{IsPlacedBySize, Placed, StandsPlaced, entries_of}
 use Rattle.bdb_leaves.specs.declared.leaf_type.LeafType.{LeafType}
 use Rattle.bdb_leaves.specs.declared.leaves.Leaves.{Leaves}
-use Rattle.bdb_leaves.proofs.LastingLemmas.{has_tree_stays}
+use Rattle.bdb_leaves.proofs.LastingLemmas.{has_tree_stays, heads_one}
 use Rattle.bdb_leaves.proofs.LeavesLemmas.{at_most_last}
 use Rattle.bdb_leaves.proofs.RunLemmas.{all_map, one_kept, later_before}
 use Rattle.bdb_leaves.proofs.StandLemmas.{ascend_bounds, ascend_follow, ascend_on}
@@ -108,6 +109,16 @@ contents_more type closed units unit =
     ∙ (flat_map-append (unit_contents type) (flat_map (λ leaf. leaf) closed ++ units) (unit ∷ [])
     ∙ ap (λ cs. all_contents type closed units ++ cs) (append-nil (unit_contents type unit)))
 
+-- the heads that they name
+heads_more : (type : LeafType) (closed : List (List Placed)) (units : List Placed) (unit : Placed) (h : ℕ)
+    → Contains (flat_map key_heads (all_contents type closed (units ++ (unit ∷ [])))) h
+    → Contains (flat_map key_heads (all_contents type closed units)) h ⊎ Contains (flat_map key_heads (unit_contents type unit)) h
+heads_more type closed units unit h at =
+    Contains-append_cases (flat_map key_heads (all_contents type closed units)) (flat_map key_heads (unit_contents type unit)) h
+    (subst (λ hs. Contains hs h)
+    (ap (flat_map key_heads) (contents_more type closed units unit)
+    ∙ flat_map-append key_heads (all_contents type closed units) (unit_contents type unit)) at)
+
 -- a list of units, after one more
 units_more : (P : Placed → Type 0) (closed : List (List Placed)) (units : List Placed) (unit : Placed)
     → All P (flat_map (λ leaf. leaf) closed ++ units) → P unit → All P (flat_map (λ leaf. leaf) closed ++ (units ++ (unit ∷ [])))
@@ -135,10 +146,10 @@ no_leaf SortedData is = omega (arith, is)
 heads_kept : (leaves : Leaves) (old new : Built) (before : ℕ) (closed : List (List Entry)) (entries : List Entry) (contents : List Content)
     → AreLeaves leaves old closed entries → KeepsOthers leaves.last old new → All (CountsOneFrom before old) contents
     → All (CountsOneFrom before new) contents
-heads_kept leaves old new before closed entries contents hold kept few k d low = stays (get_or contents k d) (few k d low)
+heads_kept leaves old new before closed entries contents hold kept counts k d low = stays (get_or contents k d) (counts k d low)
   where
     stays : (content : Content) → CountsOneFrom before old content → CountsOneFrom before new content
-    stays (Inline bytes) few = tt
+    stays (Inline bytes) counts = tt
     stays (Chain head total) (above, under, counts) = (
       above,
       (let grows = kept.grows in omega (arith, under, grows)),
@@ -148,9 +159,9 @@ heads_kept leaves old new before closed entries contents hold kept few k d low =
           (λ e. no_leaf leaves.leaf_type (sym hold.last_holds.type_is ∙ (ap (λ p. byte_at (bytes_of old p) 25) (sym e) ∙ counts.type_is)))))
           counts),
     )
-    stays (Set blocks) few = tt
-    stays (Tree root) few = tt
-    stays Unknown few = tt
+    stays (Set blocks) counts = tt
+    stays (Tree root) counts = tt
+    stays Unknown counts = tt
 
 pub unit_added : (leaves : Leaves) (old new : Built) (before : ℕ) (closed : List (List Placed)) (units : List Placed) (unit : Placed)
     → AreFilled leaves old before closed units → IsUnitPut leaves old new unit → AreFilled leaves new before closed (units ++ (unit ∷ []))
@@ -212,12 +223,33 @@ unit_added leaves old new before closed units unit filled put =
                 ap (λ o. page_code o p (bytes_of new p)) put.kept.order ∙ (ap (page_code old.order p) (kept p one).1 ∙ filled.formed p one)
             | inr two ↦ let there = between_is a b p two in put.formed p there.0 there.1
           ];
-      trees = units_more (HasTreeOn new (rest_of before leaves new)) closed units unit
-          (all_map (λ one has. has_tree_stays old new (rest_of before leaves old) (rest_of before leaves new) one put.kept.size put.kept.order
-          was_later (λ p at. (within_old p at, omega (arith, (kept p at).0, grows), (kept p at).1)) has)
+      trees = units_more (HasTreeOn new (rest_of before leaves new) (all_contents type closed (units ++ (unit ∷ [])))) closed units unit
+          (all_map (λ one has. has_tree_stays old new (rest_of before leaves old) (rest_of before leaves new) (all_contents type closed units)
+          (all_contents type closed (units ++ (unit ∷ []))) one put.kept.size put.kept.order was_later
+          (λ h is under out. (
+            within_old h is,
+            omega (arith, under, grows),
+            (kept h is).1,
+            λ at. elim (heads_more type closed units unit h at) [
+              | inl was ↦ out was
+              | inr own ↦ let above = heads_one a new (unit_contents type unit) h put.heads own in omega (arith, above.0, under)
+            ],
+          )) has)
           (flat_map (λ leaf. leaf) closed ++ units) filled.trees)
-          (has_tree_stays new new (between a b) (rest_of before leaves new) unit refl refl now_later
-          (λ p at. (within_new p at, (between_is a b p at).1, refl)) put.tree);
+          (has_tree_stays new new (between a b) (rest_of before leaves new) (unit_contents type unit)
+          (all_contents type closed (units ++ (unit ∷ []))) unit
+          refl refl now_later
+          (λ h is under out. (
+            within_new h is,
+            under,
+            refl,
+            λ at. elim (heads_more type closed units unit h at) [
+              | inl was ↦
+                  let below = heads_one before old (all_contents type closed units) h filled.heads was in
+                  let there = between_is a b h is in omega (arith, below.1, there.0)
+              | inr own ↦ out own
+            ],
+          )) put.tree);
     }
 
 -- A leaf more.
@@ -314,10 +346,13 @@ leaf_opened leaves next old new before closed units filled some opened =
       formed = λ p is.
           let one : rest_of before leaves old p ≡ true = sym (rest p) ∙ is in
           ap (λ o. page_code o p (bytes_of new p)) opened.kept.order ∙ (ap (page_code old.order p) (kept p one).1 ∙ filled.formed p one);
-      trees = subst (All (HasTreeOn new (rest_of before next new))) (sym (closed_more closed units))
-          (all_map (λ one has. has_tree_stays old new (rest_of before leaves old) (rest_of before next new) one opened.kept.size opened.kept.order
-          was_later (λ p at. (rest p ∙ at, omega (arith, (kept p at).0, count), (kept p at).1)) has)
-          (flat_map (λ leaf. leaf) closed ++ units) filled.trees);
+      trees = subst (λ t. All (HasTreeOn new (rest_of before next new) (all_contents t (closed ++ (units ∷ [])) []))
+          (flat_map (λ leaf. leaf) (closed ++ (units ∷ [])) ++ [])) (sym opened.type)
+          (subst (λ us. All (HasTreeOn new (rest_of before next new) (flat_map (unit_contents type) us)) us) (sym (closed_more closed units))
+          (all_map (λ one has. has_tree_stays old new (rest_of before leaves old) (rest_of before next new) (all_contents type closed units)
+          (all_contents type closed units) one opened.kept.size opened.kept.order was_later
+          (λ h is under out. (rest h ∙ is, omega (arith, under, count), (kept h is).1, out)) has)
+          (flat_map (λ leaf. leaf) closed ++ units) filled.trees));
     }
 
 -- The first leaf.
@@ -354,13 +389,13 @@ leaf_begun leaves built before positive none last count holds =
             placed = All-nil (StandsPlaced leaves.leaf_type g);
           };
       sizes = All-nil (IsPlacedBySize built.size);
-      heads = none_few leaves.leaf_type;
+      heads = none_named leaves.leaf_type;
       formed = λ p is. let within = between_is before before p (sym (empty p) ∙ is) in absurd (omega (arith, within.0, within.1));
-      trees = All-nil (HasTreeOn built (rest_of before leaves built));
+      trees = All-nil (HasTreeOn built (rest_of before leaves built) (all_contents leaves.leaf_type [] []));
     }
   where
-    none_few : (type : LeafType) → All (CountsOneFrom before built) (all_contents type [] [])
-    none_few type = All-nil (CountsOneFrom before built)
+    none_named : (type : LeafType) → All (CountsOneFrom before built) (all_contents type [] [])
+    none_named type = All-nil (CountsOneFrom before built)
 
     none_ascend : (type : LeafType) → AscendIn before (length built.pages) (flat_map content_pages (all_contents type [] []))
     none_ascend type = omega (arith, count)

@@ -66,15 +66,15 @@ values_follow g size first middle beyond (u ∷ us) vs (between, low, high, here
 -- a chain whose first page stays
 pub one_kept : (low lower : ℕ) (old new : Built) (content : Content) → lower ≤ low → new.order ≡ old.order → length old.pages ≤ length new.pages
     → ((h : ℕ) → low ≤ h → h < length old.pages → bytes_of new h ≡ bytes_of old h) → CountsOneFrom low old content → CountsOneFrom lower new content
-one_kept low lower old new (Inline bytes) less order more same few = tt
+one_kept low lower old new (Inline bytes) less order more same counts = tt
 one_kept low lower old new (Chain head total) less order more same (above, under, counts) = (
   omega (arith, less, above),
   omega (arith, under, more),
   subst (λ o. CountsOne o (bytes_of new head)) (sym order) (subst (CountsOne old.order) (sym (same head above under)) counts),
 )
-one_kept low lower old new (Set blocks) less order more same few = tt
-one_kept low lower old new (Tree root) less order more same few = tt
-one_kept low lower old new Unknown less order more same few = tt
+one_kept low lower old new (Set blocks) less order more same counts = tt
+one_kept low lower old new (Tree root) less order more same counts = tt
+one_kept low lower old new Unknown less order more same counts = tt
 
 pub all_map : {X : Type 0} {P Q : X → Type 0} → ((x : X) → P x → Q x) → (xs : List X) → All P xs → All Q xs
 all_map f xs all k d low = f (get_or xs k d) (all k d low)
@@ -139,24 +139,25 @@ put_is_run leaves old new value deleted low put some =
     let one : Built = put.between in
     let stored = put.stored in
     let grown = put.grown in
-    let more = stored.grows in
+    let more = stored.kept.grows in
     let count = put.count in
     let hold : (closed : List (List Entry)) (entries : List Entry) → AreLeaves leaves old closed entries
     → AreLeaves leaves new closed (entries ++ (own_entry put.item ∷ [])) =
     λ closed entries hold. grown.hold closed entries (leaves_stay leaves old one value deleted put.item stored closed entries hold) in
     record {
       kept = record {
-        size = grown.kept.size ∙ stored.size;
-        order = grown.kept.order ∙ stored.order;
+        size = grown.kept.size ∙ stored.kept.size;
+        order = grown.kept.order ∙ stored.kept.order;
         grows = omega (arith, more, count);
-        same = λ q under other. grown.kept.same q (omega (arith, under, more)) other ∙ stored.same q under;
+        same = λ q under other. grown.kept.same q (omega (arith, under, more)) other ∙ stored.kept.same q under;
       };
       hold = hold;
       room =
           let before = leaf_room leaves old some.closed some.entries some.hold in
           let after = leaf_room leaves new some.closed (some.entries ++ (own_entry put.item ∷ [])) (hold some.closed some.entries some.hold) in
-          let order : new.order ≡ old.order = grown.kept.order ∙ stored.order in
-          let long : length (bytes_of new leaves.last) ≡ length (bytes_of old leaves.last) = grown.long ∙ ap length (stored.same leaves.last low) in
+          let order : new.order ≡ old.order = grown.kept.order ∙ stored.kept.order in
+          let long : length (bytes_of new leaves.last) ≡ length (bytes_of old leaves.last) = grown.long
+          ∙ ap length (stored.kept.same leaves.last low) in
           let sums : sum_by (entry_cost new.order) (some.entries ++ (own_entry put.item ∷ []))
           ≡ sum_by (entry_cost old.order) some.entries + sum_by (entry_cost old.order) (own_entry put.item ∷ []) =
           ap (λ o. sum_by (entry_cost o) (some.entries ++ (own_entry put.item ∷ []))) order

@@ -2,7 +2,7 @@
 use Rattle.std.proofs.Common.{◌≡◌, ℕ, ◌+◌, ◌-◌, ◌<◌, ◌≤◌, Bool, true, false, cond, if◌then◌else◌, List, [], ◌∷◌, ◌++◌, length, arith, refl, sym, ◌∙◌}
 use Rattle.std.proofs.Common.{ap, map, subst, inl, inr, length-append, true≢false}
 use Rattle.std.specs.Prelude.{◌^◌}
-use Rattle.std.specs.List.{All, flat_map}
+use Rattle.std.specs.List.{All, Contains, flat_map}
 use Rattle.std.proofs.lemmas.Bool.{cases_lt, cases_Bool}
 use Rattle.std.proofs.lemmas.Grind.{flat_map-append}
 use Rattle.std.proofs.lemmas.List.{append_assoc}
@@ -21,9 +21,10 @@ use Rattle.bdb_grove.specs.Part.{IsBranch, between}
 use Rattle.bdb_grove.proofs.BranchLemmas.{branches_follow}
 use Rattle.bdb_grove.proofs.ChainLemmas.{between_is, is_between}
 use Rattle.bdb_layout.proofs.WritingLemmas.{length-leaf_tree}
+use Rattle.bdb_levels.specs.Roots.{key_heads}
 use Rattle.bdb_pack.specs.Built.{AreWhole, Built, bytes_of, file_so_far}
 use Rattle.bdb_leaves.specs.Filled.{AreSomeFilled, AscendIn, IsPushed, StandOn, leaves_added, unit_contents, FilledNow, rest_of}
-use Rattle.bdb_leaves.specs.Layout.{live_entry}
+use Rattle.bdb_leaves.specs.Layout.{IsTreeOn, TreeParts, leaf_heads, live_entry}
 use Rattle.bdb_leaves.specs.LeafEntries.{CanTakeEntry, Entry, HoldsEntriesOn, entry_cost, item_cost, own_entry, room_of}
 use Rattle.bdb_leaves.specs.Leaves.{AreLeaves, AreSomeLeaves, HasRoomNow, has_room, last_of}
 use Rattle.bdb_leaves.specs.Placed.{Placed, PlacedTree, StandsPlaced, ValueItem, tree_item, IsPlacedBySize, PlacedEntry, PlacedPairs, has_wrong_root}
@@ -40,7 +41,7 @@ use Rattle.bdb_leaves.specs.declared.leaf_type.LeafType.{LeafType}
 use Rattle.bdb_leaves.specs.declared.leaf_type.LeafType.TheVariants.{Pairs, Records, SortedData}
 use Rattle.bdb_leaves.specs.declared.leaves.Leaves.{Leaves}
 use Rattle.bdb_leaves.proofs.FilledLemmas.{by_size, counted_so_far, later_self, value_read}
-use Rattle.bdb_leaves.proofs.LastingLemmas.{tree_stays}
+use Rattle.bdb_leaves.proofs.LastingLemmas.{heads_one, tree_stays}
 use Rattle.bdb_leaves.proofs.PairsLemmas.{live_put, some_of}
 use Rattle.bdb_leaves.proofs.PushLemmas.{IsReady, cost_few, pushed, ready, room_count, whole_now}
 use Rattle.bdb_leaves.proofs.PutLemmas.{pages_stay}
@@ -157,9 +158,14 @@ tree_put leaves old one two new key values sorted root has put set grown count m
         count = λ by_order few. absurd (true≢false (sym many ∙ few));
         tree = (
           sorted,
-          tree_stays (set_type sorted) two new (between b (length two.pages)) (between a d) true (map live_entry values) root grown.kept.size
-              grown.kept.order set_later
-              (λ p at. let s = between_is b (length two.pages) p at in (set_within p at, omega (arith, s.1, count), set_same p at)) set.tree,
+          set_on.0,
+          subst (λ (t : TreeParts). (h : ℕ) → Contains (leaf_heads (set_type sorted) t.placed) h
+              → Contains (flat_map key_heads (unit_contents leaves.leaf_type unit)) h → ⊥) (sym set_on.1)
+              (λ h at key.
+              let above = between_is b (length two.pages) h (set.tree.heads h at).there in
+              let below = heads_one a one (put.item.content ∷ Tree root ∷ []) h own_heads
+              (subst (λ cs. Contains (flat_map key_heads cs) h) contents key) in
+              omega (arith, above.0, below.1)),
         );
       };
       right = λ g counted_g later. (set_stands g counted_g later).right;
@@ -243,6 +249,16 @@ tree_put leaves old one two new key values sorted root has put set grown count m
     set_later g later =
         later_before two new (between b (length two.pages)) (between a d) g grown.kept.order (omega (arith, count)) set_within
         (λ p at. ((between_is b (length two.pages) p at).1, set_same p at)) later
+
+    set_on : (now : IsTreeOn (set_type sorted) new (between a d) true (map live_entry values) root) × (now.tree ≡ set.tree.tree)
+    set_on = tree_stays (set_type sorted) two new (between b (length two.pages)) (between a d) true (map live_entry values) root grown.kept.size
+        grown.kept.order set_later set.tree
+        (λ h at is. let s = between_is b (length two.pages) h is in (set_within h is, omega (arith, s.1, count), set_same h is))
+
+    own_heads : All (CountsOneFrom a one) (put.item.content ∷ Tree root ∷ [])
+    own_heads = All-cons (CountsOneFrom a one) put.item.content (Tree root ∷ [])
+        (All-head (λ (one_held : Content × List ℕ). CountsOneFrom a one one_held.0) (put.item.content, key) [] run.heads)
+        (All-cons (CountsOneFrom a one) (Tree root) [] tt (All-nil (CountsOneFrom a one)))
 
     set_stands : (g : File) → IsCounted g → IsLater (between a d) f g → SetStands g b (length two.pages) sorted values root
     set_stands g counted_g later = set.stands g counted_g (set_later g later)

@@ -1,5 +1,5 @@
 -- What a pushed unit leaves as it was: the number of the first leaf, and the pages that are no leaves.
-use Rattle.std.proofs.Common.{Bool, ◌≡◌, ℕ, ◌+◌, ◌<◌, ◌≤◌, true, false, List, [], ◌∷◌, ◌++◌, length, arith, refl, sym, ◌∙◌, ap, subst}
+use Rattle.std.proofs.Common.{Bool, ◌≡◌, ℕ, ◌+◌, ◌<◌, ◌≤◌, true, false, List, [], ◌∷◌, ◌++◌, length, arith, refl, sym, ◌∙◌, ap}
 use Rattle.std.proofs.lemmas.List.Elements.{Contains-append_right}
 use Rattle.bdb_format.specs.File.{File}
 use Rattle.bdb_format.proofs.MemberLemmas.{first_member}
@@ -9,7 +9,7 @@ use Rattle.bdb_pack.specs.Built.{Built, file_so_far}
 use Rattle.bdb_leaves.specs.Filled.{AreFilled, rest_of}
 use Rattle.bdb_leaves.specs.Leaves.{HasRoomNow, KeepsOthers, first_of}
 use Rattle.bdb_leaves.specs.Moved.{first_leaf, numbers_of}
-use Rattle.bdb_leaves.specs.Placed.{Placed, entries_of}
+use Rattle.bdb_leaves.specs.Placed.{Placed}
 use Rattle.bdb_leaves.specs.declared.leaves.Leaves.{Leaves}
 use Rattle.bdb_leaves.proofs.RestLemmas.{is_one, is_rest, leaves_low, rest_is, rest_opened}
 use Rattle.bdb_leaves.proofs.RunLemmas.{later_before}

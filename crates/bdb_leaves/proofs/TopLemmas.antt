@@ -19,7 +19,8 @@ use Rattle.bdb_leaves.proofs.LaterLemmas.{later_chain, later_fewer}
 use Rattle.bdb_leaves.proofs.LevelLawLemmas.{group_node, head_counts, levels_are_later, member_at, page_over}
 use Rattle.bdb_leaves.proofs.LevelLemmas.{as_many}
 use Rattle.bdb_leaves.proofs.RunLemmas.{page_so_far}
-use Rattle.bdb_leaves.proofs.TowerLemmas.{IsBuilding, counts_more, heads_among, heads_in_are, heads_low, is_under, level_spread, pages_under, under_are}
+use Rattle.bdb_leaves.proofs.TowerLemmas.{IsBuilding, counts_more, heads_among, heads_in_are, heads_low, is_under, level_spread, pages_under}
+use Rattle.bdb_leaves.proofs.TowerLemmas.{under_are}
 
 -- a level was laid over those so far
 pub record IsTopped (inner : InnerType) (old now : Built) (nodes : List Node) (above : List Child) : Type 0 where

@@ -53,7 +53,7 @@ pub record IsUnitPut (leaves : Leaves) (old new : Built) (unit : Placed) : Type 
   pub formed : (p : ℕ) → length old.pages ≤ p → p < length new.pages → page_code new.order p (bytes_of new p) ≡ None
   pub count : (sorted : Bool) → unit_has_tree old.size (unit_of unit) ≡ false
       → length new.pages ≡ length old.pages + own_pages old.size sorted (unit_of unit)
-  pub tree : HasTreeOn new (between (length old.pages) (length new.pages)) unit
+  pub tree : HasTreeOn new (between (length old.pages) (length new.pages)) (unit_contents leaves.leaf_type unit) unit
 
 -- The leaves with the units that were put on them.
 
@@ -82,7 +82,8 @@ pub record AreFilled (leaves : Leaves) (built : Built) (before : ℕ) (closed : 
   pub sizes : All (IsPlacedBySize built.size) (flat_map (λ leaf. leaf) closed ++ units)
   pub heads : All (CountsOneFrom before built) (all_contents leaves.leaf_type closed units)
   pub formed : (p : ℕ) → rest_of before leaves built p ≡ true → page_code built.order p (bytes_of built p) ≡ None
-  pub trees : All (HasTreeOn built (rest_of before leaves built)) (flat_map (λ leaf. leaf) closed ++ units)
+  pub trees : All (HasTreeOn built (rest_of before leaves built) (all_contents leaves.leaf_type closed units))
+      (flat_map (λ leaf. leaf) closed ++ units)
 
 -- some units; where there are several leaves the last has one too
 pub record AreSomeFilled (leaves : Leaves) (built : Built) : Type 0 where

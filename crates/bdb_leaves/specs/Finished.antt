@@ -9,10 +9,10 @@ use Rattle.bdb_levels.specs.declared.inner_type.InnerType.{InnerType}
 use Rattle.bdb_levels.specs.Nodes.{IsTower, Node}
 use Rattle.bdb_levels.specs.Roots.{is_of, pages_of}
 use Rattle.bdb_pack.specs.Built.{AreWhole, Built, bytes_of, file_so_far}
-use Rattle.bdb_leaves.specs.Filled.{AreFilled, AreSpreadOver, rest_of}
+use Rattle.bdb_leaves.specs.Filled.{AreFilled, AreSpreadOver, all_contents, rest_of}
 use Rattle.bdb_leaves.specs.Inner.{HoldsChildrenOn, child_cost, first_cost}
 use Rattle.bdb_leaves.specs.Laid.{HasUnits, IsLaid, IsNodeOf, inner_of, is_laid}
-use Rattle.bdb_leaves.specs.Layout.{IsTreeOn}
+use Rattle.bdb_leaves.specs.Layout.{HasTreeOn, IsTreeOn}
 use Rattle.bdb_leaves.specs.LeafEntries.{with_field}
 use Rattle.bdb_leaves.specs.Leaves.{KeepsBefore}
 use Rattle.bdb_leaves.specs.Levels.{heads_of}
@@ -110,6 +110,13 @@ FinishedTreesAreLaidOut =
     (leaves : Leaves) (old new : Built) (counted : Bool) (before : ℕ) (closed : List (List Placed)) (units : List Placed) (root : ℕ)
     → AreFilled leaves old before closed units → AreSpreadOver old.size closed units → HasFirstRoot leaves old new counted closed units root
     → IsTreeOn leaves.leaf_type new (between before (length new.pages)) counted (map unit_of (flat_map (λ leaf. leaf) closed ++ units)) root
+
+-- The trees of its units' data stand as they did.
+abbrev pub FinishedTreesKeepTrees : Type 0
+FinishedTreesKeepTrees =
+    (leaves : Leaves) (old new : Built) (counted : Bool) (before : ℕ) (closed : List (List Placed)) (units : List Placed) (root : ℕ)
+    → AreFilled leaves old before closed units → HasFirstRoot leaves old new counted closed units root
+    → All (HasTreeOn new (between before (length new.pages)) (all_contents leaves.leaf_type closed units)) (flat_map (λ leaf. leaf) closed ++ units)
 
 -- None of these pages has a row of form.
 abbrev pub FinishedTreesAreFormed : Type 0

@@ -2,6 +2,8 @@
 use Rattle.std.specs.Prelude.{◌≡◌, ℕ, ◌<◌, Bool, true, false, List, length, map}
 use Rattle.std.specs.List.{All, Contains, flat_map}
 use Rattle.bdb_format.specs.File.{File}
+use Rattle.bdb_format.specs.Page.{Content, Tree}
+use Rattle.bdb_format.specs.ContentRows.{is_wrong_set}
 use Rattle.bdb_format.specs.Reading.{entries_of as count_on}
 use Rattle.bdb_grove.specs.Growing.{IsCounted, IsLater}
 use Rattle.bdb_grove.specs.Part.{between}
@@ -10,7 +12,7 @@ use Rattle.bdb_levels.specs.Roots.{key_heads}
 use Rattle.bdb_pack.specs.Built.{Built, bytes_of, file_so_far}
 use Rattle.bdb_leaves.specs.Laid.{IsLaid, entries_on, inner_of, is_laid}
 use Rattle.bdb_leaves.specs.LeafEntries.{contents_of}
-use Rattle.bdb_leaves.specs.Placed.{IsPlacedBySize, LeafUnits, Placed, PlacedEntry, PlacedPairs, PlacedTree, unit_of}
+use Rattle.bdb_leaves.specs.Placed.{IsPlacedBySize, LeafUnits, Placed, PlacedEntry, PlacedPairs, PlacedTree, ValueItem, unit_of}
 use Rattle.bdb_leaves.specs.Rooted.{CountsLeaves}
 use Rattle.bdb_leaves.specs.Spread.{AreSpreadLevels, named_heads, set_type, spread_units}
 use Rattle.bdb_leaves.specs.Units.{EntryUnit, TreeUnit, page_room}
@@ -63,9 +65,19 @@ pub record IsTreeOn (type : LeafType) (built : Built) (pages : ℕ → Bool) (co
 abbrev pub live_entry : List ℕ → TreeUnit
 live_entry value = EntryUnit value false
 
--- where the data of a unit have a tree, it stands, sorted or not
-abbrev pub HasTreeOn : Built → (ℕ → Bool) → Placed → Type 0
-HasTreeOn built pages (PlacedEntry entry) = Unit {0}
-HasTreeOn built pages (PlacedPairs key first more) = Unit {0}
-HasTreeOn built pages (PlacedTree key root values) =
-    (sorted : Bool) × IsTreeOn (set_type sorted) built pages true (map live_entry values) root
+-- where the data of a unit have a tree, it stands, sorted or not; its chains are none that these contents name
+abbrev pub HasTreeOn : Built → (ℕ → Bool) → List Content → Placed → Type 0
+HasTreeOn built pages contents (PlacedEntry entry) = Unit {0}
+HasTreeOn built pages contents (PlacedPairs key first more) = Unit {0}
+HasTreeOn built pages contents (PlacedTree key root values) =
+    (sorted : Bool) × (on : IsTreeOn (set_type sorted) built pages true (map live_entry values) root)
+    × ((h : ℕ) → Contains (leaf_heads (set_type sorted) on.tree.placed) h → Contains (flat_map key_heads contents) h → ⊥)
+
+-- The law.
+
+-- its data are sorted where its root has the type of a sorted set, and else not
+abbrev pub TreesAreSorted : Type 0
+TreesAreSorted =
+    (built : Built) (pages : ℕ → Bool) (contents : List Content) (key : ValueItem) (root : ℕ) (values : List (List ℕ)) (sorted : Bool)
+    → (has : HasTreeOn built pages contents (PlacedTree key root values))
+    → (g : File) → IsCounted g → IsLater pages (file_so_far built) g → is_wrong_set g sorted (Tree root) ≡ false → has.0 ≡ sorted

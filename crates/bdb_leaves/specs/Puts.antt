@@ -11,7 +11,7 @@ use Rattle.bdb_pack.specs.Items.{HasPlace, IsWritable, OnLeaf}
 use Rattle.bdb_pack.specs.Stored.{StandsIn}
 use Rattle.bdb_leaves.specs.Inner.{CountsOne}
 use Rattle.bdb_leaves.specs.LeafEntries.{Entry, item_cost, own_entry}
-use Rattle.bdb_leaves.specs.Leaves.{AreLeaves, KeepsOthers}
+use Rattle.bdb_leaves.specs.Leaves.{AreLeaves, KeepsAll, KeepsOthers}
 use Rattle.bdb_leaves.specs.Units.{chain_pages, value_cost}
 use Rattle.bdb_leaves.specs.declared.leaves.Leaves.{Leaves}
 
@@ -38,10 +38,7 @@ pub record IsItemOf (old new : Built) (value : List ℕ) (deleted : Bool) (item 
   pub fits : IsWritable (OnLeaf item)
   pub place : (type index : ℕ) → HasPlace type index (OnLeaf item)
   pub cost : (order : Order) → item_cost order item ≡ value_cost old.size value
-  pub size : new.size ≡ old.size
-  pub order : new.order ≡ old.order
-  pub grows : length old.pages ≤ length new.pages
-  pub same : (p : ℕ) → p < length old.pages → bytes_of new p ≡ bytes_of old p
+  pub kept : KeepsAll old new
   pub stands : (g : File) → IsCounted g → IsLater (between (length old.pages) (length new.pages)) (file_so_far new) g
       → ValueStands g old.size (length old.pages) (length new.pages) item.content value
   pub formed : (p : ℕ) → length old.pages ≤ p → p < length new.pages → page_code new.order p (bytes_of new p) ≡ None

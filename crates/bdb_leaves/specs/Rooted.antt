@@ -1,6 +1,6 @@
 -- Leaves with the units on them, and a tree that is one leaf. Source: docs/FORMAT.md, "Built trees".
 use Rattle.std.specs.Prelude.{◌≡◌, ℕ, Bool, true, false, List, [], ◌∷◌, ◌++◌}
-use Rattle.std.specs.List.{AllZip}
+use Rattle.std.specs.List.{All, AllZip}
 use Rattle.bdb_levels.specs.Nodes.{Node}
 use Rattle.bdb_pack.specs.Built.{AreWhole, Built}
 use Rattle.bdb_leaves.specs.Laid.{Counts, IsNodeOf}
@@ -21,10 +21,10 @@ zip_units (p ∷ ps) (units ∷ groups) = leaf_with p units ∷ zip_units ps gro
 abbrev pub placed_on : Leaves → List (List Placed) → List Placed → List LeafUnits
 placed_on leaves closed units = zip_units (leaves.closed.items ++ (leaves.last ∷ [])) (closed ++ (units ∷ []))
 
--- a leaf's number of pairs or entries is told, where leaves are counted
+-- a leaf's number of pairs or entries is told, where leaves are counted, and else 0
 abbrev pub CountsLeaves : Bool → LeafType → List LeafUnits → List Node → Type 0
 CountsLeaves true type placed nodes = AllZip (Counts type) placed nodes
-CountsLeaves false type placed nodes = Unit {0}
+CountsLeaves false type placed nodes = All (λ (node : Node). node.count ≡ 0) nodes
 
 -- One leaf is the root itself, and nothing changes.
 pub record IsOneLeaf (leaves : Leaves) (old new : Built) (counted : Bool) (closed : List (List Placed)) (units : List Placed) : Type 0 where

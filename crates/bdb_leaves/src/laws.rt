@@ -2,10 +2,11 @@
 ghost use Rattle.bdb_leaves.specs.Counted.{BegunLeavesAreCounted, FinishedTreesHaveSize, PushedUnitsAreCounted};
 ghost use Rattle.bdb_leaves.specs.Filled.{PushedUnitsSpread, UnitsFit};
 ghost use Rattle.bdb_leaves.specs.Finished.{FinishedTreesAreCounted, FinishedTreesAreFormed, FinishedTreesAreLaid, FinishedTreesAreLaidOut};
-ghost use Rattle.bdb_leaves.specs.Finished.{FinishedTreesKeepOlderPages, FinishedTreesKeepPages, FirstRootsAreLaid};
+ghost use Rattle.bdb_leaves.specs.Finished.{FinishedTreesKeepOlderPages, FinishedTreesKeepPages, FinishedTreesKeepTrees, FirstRootsAreLaid};
 ghost use Rattle.bdb_leaves.specs.Grown.{GrownSetsStand};
 ghost use Rattle.bdb_leaves.specs.Inner.{ChildrenAreFormed, ChildrenStand, RaisedPagesStand};
 ghost use Rattle.bdb_leaves.specs.Laid.{LaidSetsHoldData, LaidTreesAreBranches, LaidTreesAreLinked, LaidTreesAreParts, LaidTreesHaveLeaves};
+ghost use Rattle.bdb_leaves.specs.Layout.{TreesAreSorted};
 ghost use Rattle.bdb_leaves.specs.LeafEntries.{LeavesAreFormed, LeavesStand};
 ghost use Rattle.bdb_leaves.specs.Levels.{LevelsAreFormed, LevelsAreLater, LevelsAreNumbered, LevelsGoOn, LevelsKeepPages, LevelsShrink, LevelsStand};
 ghost use Rattle.bdb_leaves.specs.Placed.{PairsFollow, RecordsKeepLength, UnitsAreListed, UnitsAreRead, UnitsCost, UnitsKeepRules};
@@ -137,6 +138,16 @@ pub fn first_roots_are_laid()
 /// Where its units were spread by what they take, it is laid out, and the heads of its chains count their references.
 pub fn finished_trees_are_laid_out()
     ensures { FinishedTreesAreLaidOut }
+{}
+
+/// The trees of its units' data stand as they did.
+pub fn finished_trees_keep_trees()
+    ensures { FinishedTreesKeepTrees }
+{}
+
+/// The tree of a unit's data is sorted where its root has the type of a sorted set, and else not.
+pub fn trees_are_sorted()
+    ensures { TreesAreSorted }
 {}
 
 /// None of these pages has a fault of form.
