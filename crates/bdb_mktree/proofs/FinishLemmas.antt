@@ -22,6 +22,7 @@ use Rattle.bdb_pack.specs.Built.{Built, file_so_far}
 use Rattle.bdb_leaves.specs.Filled.{AreFilled, rest_of}
 use Rattle.bdb_leaves.specs.Finished.{HasFirstRoot, HasLaidTree}
 use Rattle.bdb_leaves.specs.Laid.{Counts, Suits as SuitsTree, is_laid}
+use Rattle.bdb_leaves.specs.Layout.{IsTreeOn}
 use Rattle.bdb_leaves.specs.Moved.{first_leaf, numbers_of}
 use Rattle.bdb_leaves.specs.Placed.{HasLength, IsAllowed, IsPlacedBySize, LeafUnits, Placed, PlacedEntry, PlacedPairs, PlacedTree, has_several, has_wrong_root, unit_of, units_in, values_in}
 use Rattle.bdb_leaves.specs.Rooted.{CountsLeaves}
@@ -36,6 +37,7 @@ use Rattle.bdb_leaves.proofs.GrownLaws.{first_roots_are_laid}
 use Rattle.bdb_leaves.proofs.GrownLemmas.{all_joined, map_joined}
 use Rattle.bdb_leaves.proofs.KeptLemmas.{finished_trees_are_formed, finished_trees_keep_older_pages}
 use Rattle.bdb_leaves.proofs.LaidPartLemmas.{laid_trees_are_parts}
+use Rattle.bdb_leaves.proofs.LayoutLemmas.{finished_trees_are_laid_out}
 use Rattle.bdb_leaves.proofs.LaterLemmas.{later_chain, later_fewer}
 use Rattle.bdb_leaves.proofs.NodesLemmas.{all_units}
 use Rattle.bdb_leaves.proofs.RestLemmas.{rest_is}
@@ -275,6 +277,13 @@ tree_built builder old new root building has =
           (sym (building_read builder old building))
           ∙ ap (λ n. first + tree_size (leaf_type_of builder.settings.kind) n builder.settings.sorted (units_of builder old)) (sym older.size)));
       kept = older;
+      laid_out =
+          subst (λ us. IsTreeOn (leaf_type_of builder.settings.kind) new (between first (length new.pages)) counted us root)
+          (sym (building_read builder old building))
+          (subst (λ t. IsTreeOn t new (between first (length new.pages)) counted (map unit_of (all_placed building.closed building.units)) root)
+          building.type
+          (finished_trees_are_laid_out builder.leaves old new counted first building.closed building.units root building.counted.filled
+          building.counted.spread has));
       formed = finished_trees_are_formed builder.leaves old new counted first building.closed building.units root building.counted.filled has;
       part = finished_part builder old new root building has older.grows;
     }

@@ -145,6 +145,7 @@ all_built builder next old begun mid new units list first root settings are none
     record {
       root_is = now.root_is;
       count = now.count;
+      laid_out = now.laid_out;
       kept = kept_on first old mid new (kept_on first old begun mid kept (subst (λ n. KeepsBefore n begun mid) at are.kept)) now.kept;
       formed = now.formed;
       part = now.part;
