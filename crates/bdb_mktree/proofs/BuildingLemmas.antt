@@ -1,16 +1,15 @@
 -- Trees that are being built: the units that are read from their leaves, and one more.
-use Rattle.std.proofs.Common.{Bool, ◌≡◌, ℕ, ◌<◌, ◌≤◌, true, false, List, [], ◌∷◌, ◌++◌, length, map, arith, refl, sym, ◌∙◌, ap, subst, inl, inr, length-append}
+use Rattle.std.proofs.Common.{Bool, ◌≡◌, ℕ, ◌+◌, ◌<◌, ◌≤◌, true, false, List, [], ◌∷◌, ◌++◌, length, map, arith, refl, sym, ◌∙◌, ap, subst, inl, inr, length-append}
 use Rattle.std.specs.Prelude.{◌⊎◌}
-use Rattle.std.specs.List.{All, Contains, flat_map}
+use Rattle.std.specs.List.{All, flat_map}
 use Rattle.std.proofs.lemmas.List.{append_assoc, map-append}
 use Rattle.std.proofs.lemmas.List.Elements.{All-head, All-nil, All-push, All-tail, Contains-append_right}
 use Rattle.bdb_format.specs.declared.kinds.Kind.{Kind}
-use Rattle.bdb_format.specs.declared.kinds.Kind.TheVariants.{Btree, Recno}
 use Rattle.bdb_format.specs.declared.settings.Settings.{Settings}
 use Rattle.bdb_format.specs.File.{File}
 use Rattle.bdb_format.specs.HeadOf.{is_page_size}
 use Rattle.bdb_format.proofs.MemberLemmas.{first_member}
-use Rattle.bdb_grove.specs.Growing.{IsCounted, IsLater}
+use Rattle.bdb_grove.specs.Growing.{IsLater}
 use Rattle.bdb_pack.specs.Built.{Built, file_so_far}
 use Rattle.bdb_leaves.specs.Counted.{AreCounted, CountedNow}
 use Rattle.bdb_leaves.specs.Filled.{AreFilled, IsPushed, rest_of}
@@ -22,7 +21,6 @@ use Rattle.bdb_leaves.specs.Placed.{HoldsUnits, LeafUnits, Placed, PlacedEntry, 
 use Rattle.bdb_leaves.specs.Sets.{IsKeyedPushed}
 use Rattle.bdb_leaves.specs.Units.{EntryUnit, TreeUnit, unit_cost, units_on}
 use Rattle.bdb_leaves.specs.declared.leaf_type.LeafType.{LeafType}
-use Rattle.bdb_leaves.specs.declared.leaf_type.LeafType.TheVariants.{Pairs, Records}
 use Rattle.bdb_leaves.specs.declared.leaves.Leaves.{Leaves}
 use Rattle.bdb_leaves.proofs.CountedLaws.{begun_leaves_are_counted, pushed_units_are_counted}
 use Rattle.bdb_leaves.proofs.FilledLemmas.{counted_so_far, later_self}

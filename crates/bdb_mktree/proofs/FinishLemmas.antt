@@ -1,10 +1,9 @@
 -- A tree that is finished is the part of its database.
-use Rattle.std.proofs.Common.{Bool, ◌≡◌, ℕ, ◌<◌, ◌≤◌, true, false, cond, List, [], ◌∷◌, ◌++◌, length, map, arith, refl, sym, ◌∙◌, ap, subst, inl, inr, true≢false}
+use Rattle.std.proofs.Common.{Bool, ◌≡◌, ℕ, ◌+◌, ◌<◌, ◌≤◌, true, false, cond, List, [], ◌∷◌, ◌++◌, length, map, arith, refl, sym, ◌∙◌, ap, subst, inl, inr}
 use Rattle.std.proofs.Math.Path.{fun_ext}
-use Rattle.std.specs.Prelude.{◌⊎◌, nat_lt}
+use Rattle.std.specs.Prelude.{nat_lt}
 use Rattle.std.specs.List.{All, AllZip, flat_map}
 use Rattle.std.proofs.lemmas.Bool.{and_parts, cases_Bool, ltb-true}
-use Rattle.std.proofs.lemmas.List.{map-append}
 use Rattle.std.proofs.lemmas.List.Elements.{All-cons, All-head, All-nil, All-tail}
 use Rattle.bdb_format.specs.declared.kinds.Kind.{Kind}
 use Rattle.bdb_format.specs.declared.kinds.Kind.TheVariants.{Btree, Recno}
@@ -16,11 +15,9 @@ use Rattle.bdb_format.specs.File.{File}
 use Rattle.bdb_format.specs.Flags.{btree_kind, counts_records, has_duplicates, is_fixed, is_recno, is_sorted}
 use Rattle.bdb_format.specs.ContentRows.{ascends}
 use Rattle.bdb_format.specs.Databases.{btree_settings, recno_settings, settings_of}
-use Rattle.bdb_format.specs.Lists.{ListKey}
 use Rattle.bdb_grove.specs.Growing.{IsCounted, IsLater}
 use Rattle.bdb_grove.specs.Part.{IsPart, between}
 use Rattle.bdb_grove.proofs.ChainLemmas.{is_between}
-use Rattle.bdb_levels.specs.Nodes.{Node}
 use Rattle.bdb_pack.specs.Built.{Built, file_so_far}
 use Rattle.bdb_leaves.specs.Filled.{AreFilled, rest_of}
 use Rattle.bdb_leaves.specs.Finished.{HasFirstRoot, HasLaidTree}
@@ -29,7 +26,7 @@ use Rattle.bdb_leaves.specs.Moved.{first_leaf, numbers_of}
 use Rattle.bdb_leaves.specs.Placed.{HasLength, IsAllowed, IsPlacedBySize, LeafUnits, Placed, PlacedEntry, PlacedPairs, PlacedTree, has_several, has_wrong_root, unit_of, units_in, values_in}
 use Rattle.bdb_leaves.specs.Rooted.{CountsLeaves}
 use Rattle.bdb_leaves.specs.Spread.{tree_size}
-use Rattle.bdb_leaves.specs.Units.{TreeUnit, has_own_tree, key_of, list_of_units}
+use Rattle.bdb_leaves.specs.Units.{key_of, list_of_units}
 use Rattle.bdb_leaves.specs.declared.leaf_type.LeafType.{LeafType}
 use Rattle.bdb_leaves.specs.declared.leaf_type.LeafType.TheVariants.{Pairs, Records}
 use Rattle.bdb_leaves.specs.declared.leaves.Leaves.{Leaves}
@@ -42,8 +39,8 @@ use Rattle.bdb_leaves.proofs.LaidPartLemmas.{laid_trees_are_parts}
 use Rattle.bdb_leaves.proofs.LaterLemmas.{later_chain, later_fewer}
 use Rattle.bdb_leaves.proofs.NodesLemmas.{all_units}
 use Rattle.bdb_leaves.proofs.RestLemmas.{rest_is}
-use Rattle.bdb_mktree.specs.Building.{Building, IsTreeBuilt, KeepsBefore, all_placed, units_of}
-use Rattle.bdb_mktree.specs.Units.{IsTreeKind, KeysAscend, Suits, is_counted, leaf_type_of}
+use Rattle.bdb_mktree.specs.Building.{Building, IsTreeBuilt, all_placed, units_of}
+use Rattle.bdb_mktree.specs.Units.{Suits, is_counted, leaf_type_of}
 use Rattle.bdb_mktree.specs.declared.builder.TreeBuilder.{TreeBuilder}
 use Rattle.bdb_mktree.proofs.BuildingLemmas.{building_read}
 
@@ -61,7 +58,7 @@ says_btree size order meta settings is btree =
     elim (cases_Bool (is_recno meta)) [
       | inl recno ↦
           let same = sym (ap (λ b. cond b (recno_settings size order meta) (btree_settings size order meta)) recno) ∙ is in
-          absurd (cc (ap (λ (s : Settings). s.kind) same ∙ btree))
+          let other_kind : Recno ≡ Btree = ap (λ (s : Settings). s.kind) same ∙ btree in absurd (cc other_kind)
       | inr other ↦
           let same = sym (ap (λ b. cond b (recno_settings size order meta) (btree_settings size order meta)) other) ∙ is in
           record {
@@ -86,7 +83,7 @@ says_recno size order meta settings is recno =
           record { kind = here; fixed = ap (λ (s : Settings). s.fixed) same; long = ap (λ (s : Settings). s.re_len) same }
       | inr other ↦
           let same = sym (ap (λ b. cond b (recno_settings size order meta) (btree_settings size order meta)) other) ∙ is in
-          absurd (cc (ap (λ (s : Settings). s.kind) same ∙ recno))
+          let other_kind : Btree ≡ Recno = ap (λ (s : Settings). s.kind) same ∙ recno in absurd (cc other_kind)
     ]
 
 -- Units that suit the settings.

@@ -1,19 +1,21 @@
 -- Units that are pushed one after the other.
-use Rattle.std.proofs.Common.{◌≡◌, ℕ, ◌≤◌, true, List, [], ◌∷◌, ◌++◌, length, map, arith, refl, sym, ◌∙◌, ap, subst}
+use Rattle.std.proofs.Common.{◌≡◌, ℕ, true, List, [], ◌∷◌, ◌++◌, map, arith, refl, sym, ◌∙◌, ap, subst}
 use Rattle.std.specs.Cmp.Derive.{both_true}
 use Rattle.std.specs.List.{All}
 use Rattle.std.proofs.lemmas.Bool.{and_parts}
-use Rattle.std.proofs.lemmas.List.{append_assoc, map-append}
+use Rattle.std.proofs.lemmas.List.{append-nil, append_assoc, map-append}
 use Rattle.std.proofs.lemmas.List.Elements.{All-head, All-tail}
 use Rattle.bdb_format.specs.declared.settings.Settings.{Settings}
 use Rattle.bdb_format.specs.ContentRows.{ascends, ascends_from}
 use Rattle.bdb_format.specs.Less.{less}
+use Rattle.bdb_format.specs.Lists.{ListKey}
 use Rattle.bdb_pack.specs.Built.{Built}
 use Rattle.bdb_leaves.specs.Moved.{first_leaf}
-use Rattle.bdb_leaves.specs.Units.{TreeUnit, key_of}
-use Rattle.bdb_mktree.specs.Building.{ArePushed, Building, CanBePushed, KeepsBefore, units_of}
+use Rattle.bdb_leaves.specs.Units.{TreeUnit, key_of, list_of_units}
+use Rattle.bdb_mktree.specs.Building.{ArePushed, Building, CanBePushed, IsTreeBuilt, KeepsBefore, units_of}
 use Rattle.bdb_mktree.specs.Units.{IsNext, IsShortUnit, KeysAscend, Suits}
 use Rattle.bdb_mktree.specs.declared.builder.TreeBuilder.{TreeBuilder}
+use Rattle.bdb_mktree.proofs.OrderLemmas.{FitUnits}
 
 -- Keys before others ascend as all do.
 
@@ -105,9 +107,11 @@ pushed_on builder next last old mid new all some left one two =
 
 -- Before the first unit.
 
-pub can_begin : (builder : TreeBuilder) (built : Built) (units : List TreeUnit) → Building builder built → units_of builder built ≡ []
-    → All (Suits builder.settings) units → KeysAscend builder.settings units → All IsShortUnit units → CanBePushed builder built units
-can_begin builder built units building none suit keys short =
+pub can_begin : (builder : TreeBuilder) (built : Built) (settings : Settings) (units : List TreeUnit) → Building builder built
+    → units_of builder built ≡ [] → builder.settings ≡ settings → FitUnits settings units → CanBePushed builder built units
+can_begin builder built settings units building none says fit =
+    let suit = subst (λ s. All (Suits s) units) (sym says) fit.suit in
+    let keys = subst (λ s. KeysAscend s units) (sym says) fit.keys in
     record {
       building = building;
       settings = refl;
@@ -115,6 +119,30 @@ can_begin builder built units building none suit keys short =
       kept = record { size = refl; order = refl; grows = omega arith; same = λ p low. refl };
       units = refl;
       suit = suit;
-      short = short;
+      short = fit.short;
       keys = subst (λ us. KeysAscend builder.settings (us ++ units)) (sym none) keys;
+    }
+
+-- After the last unit all are there, and the tree is built of them.
+
+pub all_built : (builder next : TreeBuilder) (old begun mid new : Built) (units : List TreeUnit) (list : List (ListKey × List ℕ)) (first root : ℕ)
+    (settings : Settings) → ArePushed builder next begun mid units [] → units_of builder begun ≡ [] → builder.settings ≡ settings
+    → first_leaf builder.leaves ≡ first → KeepsBefore first old begun → list_of_units settings.kind units ≡ list
+    → IsTreeBuilt next.settings (first_leaf next.leaves) mid new (units_of next mid) (list_of_units next.settings.kind (units_of next mid)) root
+    → IsTreeBuilt settings first old new units list root
+all_built builder next old begun mid new units list first root settings are none says at kept gives built =
+    let units_are : units_of next mid ≡ units =
+    sym (append-nil (units_of next mid)) ∙ (are.units ∙ ap (λ us. us ++ units) none) in
+    let told : next.settings ≡ settings = are.settings ∙ says in
+    let now : IsTreeBuilt settings first mid new units list root =
+    subst (λ l. IsTreeBuilt settings first mid new units l root) gives
+    (subst (λ us. IsTreeBuilt settings first mid new us (list_of_units settings.kind us) root) units_are
+    (subst (λ n. IsTreeBuilt settings n mid new (units_of next mid) (list_of_units settings.kind (units_of next mid)) root) (are.first ∙ at)
+    (subst (λ s. IsTreeBuilt s (first_leaf next.leaves) mid new (units_of next mid) (list_of_units s.kind (units_of next mid)) root) told built))) in
+    record {
+      root_is = now.root_is;
+      count = now.count;
+      kept = kept_on first old mid new (kept_on first old begun mid kept (subst (λ n. KeepsBefore n begun mid) at are.kept)) now.kept;
+      formed = now.formed;
+      part = now.part;
     }

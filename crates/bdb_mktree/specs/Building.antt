@@ -1,5 +1,5 @@
 -- Trees that are being built: a builder with its pages, and the units that these hold. Source: docs/FORMAT.md, "Built trees".
-use Rattle.std.specs.Prelude.{◌≡◌, ◌⊎◌, ℕ, ◌+◌, ◌<◌, ◌≤◌, IsTrue, false, List, [], ◌∷◌, ◌++◌, length, map, None}
+use Rattle.std.specs.Prelude.{◌≡◌, ◌⊎◌, ℕ, ◌+◌, ◌<◌, ◌≤◌, IsTrue, false, List, [], ◌++◌, length, map, None}
 use Rattle.std.specs.List.{All, flat_map}
 use Rattle.bdb_format.specs.declared.metadata.BtreeMeta.{BtreeMeta}
 use Rattle.bdb_format.specs.declared.settings.Settings.{Settings}

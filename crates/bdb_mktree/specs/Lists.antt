@@ -1,5 +1,5 @@
 -- The units of a list of pairs, and the lists that a tree can be built of. Source: docs/FORMAT.md, "Built trees".
-use Rattle.std.specs.Prelude.{◌≡◌, ℕ, ◌+◌, ◌-◌, ◌≤◌, ◌==◌, ◌&&◌, ◌||◌, nat_lt, not, if◌then◌else◌, Bool, true, false, List, [], ◌∷◌, ◌++◌, length, replicate}
+use Rattle.std.specs.Prelude.{◌≡◌, ℕ, ◌+◌, ◌-◌, ◌≤◌, ◌<◌, ◌^◌, drop, ◌&&◌, ◌||◌, nat_lt, not, if◌then◌else◌, Bool, true, false, List, [], ◌∷◌, ◌++◌, length, replicate}
 use Rattle.std.specs.List.{All}
 use Rattle.std.specs.Str.{bytes_eq}
 use Rattle.bdb_format.specs.declared.kinds.Kind.{Kind}
@@ -71,6 +71,13 @@ abbrev pub AscendFrom : ℕ → List Pair → Type 0
 AscendFrom next [] = Unit {0}
 AscendFrom next (pair ∷ pairs) = HasNumber pair.key × (next ≤ number_in pair.key) × AscendFrom (number_in pair.key + 1) pairs
 
+-- the keys are those of the kind, and the numbers of records ascend from 1
+abbrev pub AreKeysOf : Kind → List Pair → Type 0
+AreKeysOf Btree pairs = All (λ (pair : Pair). HasBytes pair.key) pairs
+AreKeysOf Recno pairs = AscendFrom 1 pairs
+AreKeysOf Hash pairs = Unit {0}
+AreKeysOf Queue pairs = Unit {0}
+
 abbrev pub IsKeyFor : Kind → Key → Type 0
 IsKeyFor Btree key = HasBytes key × IsShort (bytes_in key)
 IsKeyFor Recno key = HasNumber key × (1 ≤ number_in key)
@@ -83,12 +90,15 @@ pub record IsPairFor (settings : Settings) (pair : Pair) : Type 0 where
   pub short : IsShort pair.value
   pub long : settings.kind ≡ Recno → settings.fixed ≡ true → length pair.value ≡ settings.re_len
 
--- a pair may come right after another: its key is above the other's; or it is a further datum of the same key, where duplicates may stand, and
--- above the other one where they are sorted
+-- a datum may be one more of a key: where duplicates may stand, and where they are sorted above the one before it
+abbrev pub is_further : Settings → List ℕ → List ℕ → Bool
+is_further settings before value = settings.duplicates && (not settings.sorted || less before value)
+
+-- a pair may come right after another: its key is above the other's, or its datum is one more of the same key
 abbrev pub keyed_follow : Settings → Pair → Pair → Bool
 keyed_follow settings before pair =
     less (bytes_in before.key) (bytes_in pair.key)
-    || (bytes_eq (bytes_in before.key) (bytes_in pair.key) && settings.duplicates && (not settings.sorted || less before.value pair.value))
+    || (bytes_eq (bytes_in before.key) (bytes_in pair.key) && is_further settings before.value pair.value)
 
 abbrev pub may_follow : Kind → Settings → Pair → Pair → Bool
 may_follow Btree settings before pair = keyed_follow settings before pair
@@ -105,3 +115,18 @@ is_in_order settings (pair ∷ next ∷ pairs) = may_follow settings.kind settin
 pub record IsListFor (settings : Settings) (pairs : List Pair) : Type 0 where
   pub each : All (IsPairFor settings) pairs
   pub in_order : is_in_order settings pairs ≡ true
+
+-- Units one after the other.
+
+-- the pairs from one place up to another are this unit, and those from there on are not of it
+pub record IsRunAt (pairs : List Pair) (start : ℕ) (unit : TreeUnit) (end : ℕ) : Type 0 where
+  pub ahead : start < end
+  pub within : end ≤ length pairs
+  pub units : keyed_units (drop start pairs) ≡ unit ∷ keyed_units (drop end pairs)
+
+-- the record with a number is this unit: that of the pair at a place, or a missing one before it
+pub record IsRecordAt (pairs : List Pair) (place number : ℕ) (unit : TreeUnit) (end : ℕ) : Type 0 where
+  pub within : end ≤ length pairs
+  pub units : record_units number (drop place pairs) ≡ unit ∷ record_units (number + 1) (drop end pairs)
+  pub ascend : AscendFrom (number + 1) (drop end pairs)
+  pub few : number < 2 ^ 32

@@ -2,8 +2,8 @@ ghost use Rattle.std.specs.Prelude.{◌≡◌, ◌≤◌, ◌<◌, [], IfOk, dro
 ghost use Rattle.std.specs.List.{All, prefix_len};
 ghost use Rattle.bdb_model.specs.Pairs.{listed};
 ghost use Rattle.bdb_mktree.specs.Building.{ArePushed, CanBePushed, IsTreeBuilt};
-ghost use Rattle.bdb_mktree.specs.Lists.{AscendFrom, HasBytes, IsListFor, has_key, keyed_units, number_in, record_units, units_in};
-ghost use Rattle.bdb_mktree.specs.Units.{IsTreeKind};
+ghost use Rattle.bdb_mktree.specs.Lists.{AreKeysOf, AscendFrom, HasBytes, IsListFor, IsRecordAt, IsRunAt, has_key, keyed_units, number_in, record_units, units_in};
+ghost use Rattle.bdb_mktree.specs.Units.{IsTreeKind, unit_seen};
 
 use crate::{TreeBuilder, Unit};
 use bdb_format::{Kind, Settings};
@@ -35,35 +35,37 @@ fn run_length(keys: &[Key], key: &[u8]) -> usize
     n
 }
 
-// Pushes the key at a place with all its data, and answers the place behind them.
-fn push_run(
-    builder: &mut TreeBuilder,
-    pages: &mut Pages,
-    list: &PairList,
-    start: usize,
-) -> Result<usize, AllocError>
+/// A unit of a list, and the place behind its pairs.
+#[derive(Clone, Copy)]
+struct Next<'a> {
+    unit: Unit<'a>,
+    end: usize,
+}
+
+// The key at a place with all its data.
+fn run_at<'a>(list: &'a PairList, start: usize) -> Next<'a>
     requires keys { All (λ pair. HasBytes pair.key) list.now }
     requires more { start < length list.now }
-    requires can { CanBePushed builder.old pages.old (keyed_units (drop start list.now)) }
-    ensures ahead { IfOk result (λ end. (start < end) × (end ≤ length list.now)) }
-    ensures pushed { IfOk result (λ end. ArePushed builder.old builder.new pages.old pages.new
-        (keyed_units (drop start list.now)) (keyed_units (drop end list.now))) }
+    ensures { IsRunAt list.now start (unit_seen result.unit) result.end }
 {
-    let keys = &list.keys()[start..];
+    let (_, keys) = list.keys().split_at(start);
+    let (_, values) = list.values().split_at(start);
     let Key::Bytes(key) = &keys[0] else {
         unreachable!()
     };
-    let end = start + run_length(keys, key.as_slice());
-    let unit = Unit::Keyed {
-        key: key.as_slice(),
-        values: &list.values()[start..end],
-    };
-    builder.push(pages, &unit)?;
-    Ok(end)
+    let many = run_length(keys, key.as_slice());
+    let (values, _) = values.split_at(many);
+    Next {
+        unit: Unit::Keyed {
+            key: key.as_slice(),
+            values,
+        },
+        end: start + many,
+    }
 }
 
-/// Pushes each key of a list with all its data.
-pub(crate) fn push_keys(
+// Pushes each key of a list with all its data.
+fn push_keys(
     builder: &mut TreeBuilder,
     pages: &mut Pages,
     list: &PairList,
@@ -74,7 +76,9 @@ pub(crate) fn push_keys(
 {
     let mut start = 0;
     while start < list.len() {
-        start = push_run(builder, pages, list, start)?;
+        let next = run_at(list, start);
+        builder.push(pages, &next.unit)?;
+        start = next.end;
     }
     Ok(())
 }
@@ -89,8 +93,31 @@ fn number_of(key: &Key) -> u32
     }
 }
 
-/// Pushes each record of a list, and those that are missing before it.
-pub(crate) fn push_records(
+// The record with a number: that of the pair at a place, or a missing one before it.
+fn record_at<'a>(list: &'a PairList, place: usize, number: u64) -> Next<'a>
+    requires ascend { AscendFrom number (drop place list.now) }
+    requires more { place < length list.now }
+    ensures { IsRecordAt list.now place number (unit_seen result.unit) result.end }
+{
+    if number < u64::from(number_of(&list.keys()[place])) {
+        let unit = Unit::Entry {
+            value: &[],
+            deleted: true,
+        };
+        return Next { unit, end: place };
+    }
+    let unit = Unit::Entry {
+        value: list.values()[place].as_slice(),
+        deleted: false,
+    };
+    Next {
+        unit,
+        end: place + 1,
+    }
+}
+
+// Pushes each record of a list, and those that are missing before it.
+fn push_records(
     builder: &mut TreeBuilder,
     pages: &mut Pages,
     list: &PairList,
@@ -102,23 +129,30 @@ pub(crate) fn push_records(
     let mut number = 1;
     let mut place = 0;
     while place < list.len() {
-        let missing = number < u64::from(number_of(&list.keys()[place]));
-        let value = if missing {
-            &[]
-        } else {
-            list.values()[place].as_slice()
-        };
-        let unit = Unit::Entry {
-            value,
-            deleted: missing,
-        };
-        builder.push(pages, &unit)?;
-        if !missing {
-            place += 1;
-        }
+        let next = record_at(list, place, number);
+        builder.push(pages, &next.unit)?;
+        place = next.end;
         number += 1;
     }
     Ok(())
+}
+
+// Pushes the units of a list.
+fn push_list(
+    builder: &mut TreeBuilder,
+    pages: &mut Pages,
+    kind: Kind,
+    list: &PairList,
+) -> Result<(), AllocError>
+    requires keys { AreKeysOf kind list.now }
+    requires can { CanBePushed builder.old pages.old (units_in kind list.now) }
+    ensures { IfOk result (λ _. ArePushed builder.old builder.new pages.old pages.new (units_in kind list.now) []) }
+{
+    match kind {
+        Kind::Btree => push_keys(builder, pages, list),
+        Kind::Recno => push_records(builder, pages, list),
+        Kind::Hash | Kind::Queue => Ok(()),
+    }
 }
 
 /// Builds the tree of a list behind all pages, and answers its root, which is the tree's first page. The page size and the order of
@@ -138,11 +172,7 @@ pub fn build_tree(
         (units_in settings.now.kind list.now) (listed list.now) root) }
 {
     let mut builder = TreeBuilder::start(alloc, pages, settings)?;
-    if settings.kind == Kind::Recno {
-        push_records(&mut builder, pages, list)?;
-    } else {
-        push_keys(&mut builder, pages, list)?;
-    }
+    push_list(&mut builder, pages, settings.kind, list)?;
     let root = builder.finish(pages)?;
     Ok(root)
 }
