@@ -89,11 +89,12 @@ fn fits_at(settings: &Settings, list: &PairList, i: usize) -> bool
     requires { i < length list.now }
     ensures { IsTrue result → IsListFor settings.now (drop (i + 1) list.now) → IsListFor settings.now (drop i list.now) }
 {
+    let count = list.len();
     let pair = pair_at(list, i);
     if !is_pair_for(settings, &pair) {
         return false;
     }
-    if i + 1 == list.len() {
+    if i + 1 == count {
         return true;
     }
     let next = pair_at(list, i + 1);

@@ -157,7 +157,7 @@ const RECNOS: [Told; 12] = [
 fn builds_btrees(rt: HostRuntime) -> Result<(), Fail> {
     for order in ORDERS {
         for told in &BTREES {
-            assert!(rt; is_row_built(rt.alloc(), order, &row_of(told))?, "{} keys of {} data", told.3, told.5);
+            assert!(rt; is_row_built(rt.alloc(), order, &row_of(told))?, "flags {}, {} keys of {} data", told.0, told.3, told.5);
         }
     }
     Ok(())
@@ -167,7 +167,7 @@ fn builds_btrees(rt: HostRuntime) -> Result<(), Fail> {
 fn builds_sets(rt: HostRuntime) -> Result<(), Fail> {
     for order in ORDERS {
         for told in &SETS {
-            assert!(rt; is_row_built(rt.alloc(), order, &row_of(told))?, "{} keys of {} data", told.3, told.5);
+            assert!(rt; is_row_built(rt.alloc(), order, &row_of(told))?, "flags {}, {} keys of {} data", told.0, told.3, told.5);
         }
     }
     Ok(())
@@ -177,7 +177,7 @@ fn builds_sets(rt: HostRuntime) -> Result<(), Fail> {
 fn builds_recnos(rt: HostRuntime) -> Result<(), Fail> {
     for order in ORDERS {
         for told in &RECNOS {
-            assert!(rt; is_row_built(rt.alloc(), order, &row_of(told))?, "{} keys of {} data", told.3, told.5);
+            assert!(rt; is_row_built(rt.alloc(), order, &row_of(told))?, "flags {}, {} keys of {} data", told.0, told.3, told.5);
         }
     }
     Ok(())
