@@ -72,13 +72,7 @@ pub fn image_of(
     let size = settings.page_size as usize;
     let mut page = vec![in alloc; 0u8; size]?;
     let last = (pages.len().min(MOST) / size).saturating_sub(1) as u32;
-    put_btree_meta(
-        &mut page,
-        settings.order,
-        0,
-        last,
-        &meta(settings, root),
-    );
+    put_btree_meta(&mut page, settings.order, 0, last, &meta(settings, root));
     let mut bytes = Bytes::new(alloc);
     bytes.push_all(&page)?;
     bytes.push_all(pages.get(size..).unwrap_or(&[]))?;

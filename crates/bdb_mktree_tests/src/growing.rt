@@ -58,12 +58,7 @@ impl Growing {
     }
 
     /// With a pair after the others. It stays as it is where the key isn't above theirs, or a value is too long.
-    pub fn with_pair(
-        self,
-        alloc: Global,
-        key: &[u8],
-        value: Bytes,
-    ) -> Result<Growing, AllocError> {
+    pub fn with_pair(self, alloc: Global, key: &[u8], value: Bytes) -> Result<Growing, AllocError> {
         if !is_above(&self.last, key) || key.len() >= 1 << 32 {
             return Ok(self);
         }

@@ -8,6 +8,8 @@ mod judging;
 mod lists;
 #[cfg(test)]
 mod rows;
+#[cfg(test)]
+mod spelled;
 
 pub use building::{Image, built, image_of};
 pub use growing::Growing;
