@@ -1,98 +1,91 @@
-ghost use Rattle.std.specs.Prelude.{IsTrue};
-ghost use Rattle.std.specs.List.{All};
-ghost use Rattle.bdb_format.specs.HeadOf.{is_page_size};
-ghost use Rattle.bdb_leaves.specs.Runs.{IsShort};
+//! A btree that takes pairs one by one.
 
-use bdb_format::{Bytes, Order};
-use bdb_leaves::{LeafType, Leaves};
+ghost use Rattle.std.specs.Prelude.{◌≡◌, IsTrue};
+ghost use Rattle.bdb_format.specs.HeadOf.{is_page_size};
+ghost use Rattle.bdb_format.specs.declared.kinds.Kind.TheVariants.{Btree};
+ghost use Rattle.bdb_mktree_tests.specs.Checked.{is_above};
+
+use bdb_format::{Bytes, Settings};
+use bdb_mktree::{TreeBuilder, Unit};
+use bdb_overflow::{Datum, is_less};
 use bdb_pack::Pages;
 use std::alloc::{AllocError, Global};
 use std::marker::Model;
 
-/// A tree that is being built behind a zero page, which is kept for its metadata.
+// Whether a key is above the last one, where there is one.
+fn is_above(last: &Option<Bytes>, key: &[u8]) -> bool
+    ensures { result ≡ is_above last.now key.now }
+{
+    match last {
+        None => true,
+        Some(last) => is_less(&Datum::Inline(last.as_slice()), &Datum::Inline(key)),
+    }
+}
+
+/// A btree that is being built behind a zero page, which is kept for its metadata.
 #[derive(Drop)]
 pub struct Growing {
     pages: Pages,
-    leaves: Leaves,
+    builder: TreeBuilder,
+    last: Option<Bytes>,
 }
 
 impl Model for Growing {
     ghost use Rattle.bdb_pack.specs.Built.{Built};
-    ghost use Rattle.bdb_mktree_tests.specs.Growing.{IsGrowing};
+    ghost use Rattle.bdb_mktree_tests.specs.Checked.{IsGrowing};
 
     ghost Value = { Built };
 
     ghost view = { λ g. g.pages };
 
-    ghost invariant = { λ g. IsGrowing g.pages g.leaves };
+    ghost invariant = { λ g. IsGrowing g.pages g.builder g.last };
 }
 
 impl Growing {
-    /// A tree without units.
-    pub fn new(
-        alloc: Global,
-        size: u32,
-        order: Order,
-        leaf_type: LeafType,
-    ) -> Result<Growing, AllocError>
-        requires { IsTrue (is_page_size size) }
+    /// A tree without pairs.
+    pub fn new(alloc: Global, settings: &Settings) -> Result<Growing, AllocError>
+        requires kind { settings.now.kind ≡ Btree }
+        requires size { IsTrue (is_page_size settings.now.page_size) }
     {
-        let mut pages = Pages::new(alloc, size, order);
+        let mut pages = Pages::new(alloc, settings.page_size, settings.order);
         pages.add()?;
-        let leaves = Leaves::start(alloc, &mut pages, leaf_type)?;
-        Ok(Growing { pages, leaves })
+        let builder = TreeBuilder::start(alloc, &mut pages, settings)?;
+        Ok(Growing {
+            pages,
+            builder,
+            last: None,
+        })
     }
 
-    /// With a record, or a datum of a set, after the others; a tree of keys stays as it is.
-    pub fn with_entry(self, value: &[u8], deleted: bool) -> Result<Growing, AllocError> {
-        if matches!(self.leaves.leaf_type(), LeafType::Pairs) || value.len() >= 1 << 32 {
+    /// With a pair after the others. It stays as it is where the key isn't above theirs, or a value is too long.
+    pub fn with_pair(self, alloc: Global, key: &[u8], value: Bytes) -> Result<Growing, AllocError> {
+        if !is_above(&self.last, key) || key.len() >= 1 << 32 {
+            return Ok(self);
+        }
+        if value.as_slice().len() >= 1 << 32 {
             return Ok(self);
         }
         let mut pages = self.pages;
-        let mut leaves = self.leaves;
-        pages.size();
-        leaves.push_entry(&mut pages, value, deleted)?;
-        Ok(Growing { pages, leaves })
+        let mut builder = self.builder;
+        let mut last = Bytes::new(alloc);
+        last.push_all(key)?;
+        let values = [value];
+        let unit = Unit::Keyed {
+            key,
+            values: &values,
+        };
+        builder.push(&mut pages, &unit)?;
+        Ok(Growing {
+            pages,
+            builder,
+            last: Some(last),
+        })
     }
 
-    /// With a key and its data after the others, a tree of these being sorted where that is asked; a tree of records stays as it is.
-    pub fn with_key(
-        self,
-        alloc: Global,
-        sorted: bool,
-        key: &[u8],
-        data: &[Bytes],
-    ) -> Result<Growing, AllocError> {
-        if !matches!(self.leaves.leaf_type(), LeafType::Pairs) || key.len() >= 1 << 32 {
-            return Ok(self);
-        }
-        if data.is_empty() || !are_short(data) {
-            return Ok(self);
-        }
+    /// The root, with the bytes of all pages.
+    pub fn finish(self) -> Result<(u32, Bytes), AllocError> {
         let mut pages = self.pages;
-        let mut leaves = self.leaves;
-        pages.size();
-        leaves.push_keyed(alloc, &mut pages, sorted, key, data)?;
-        Ok(Growing { pages, leaves })
-    }
-
-    /// Lays the levels, and answers the root with the bytes of all pages.
-    pub fn finish(self, alloc: Global, counted: bool) -> Result<(u32, Bytes), AllocError> {
-        let mut pages = self.pages;
-        pages.size();
-        let root = self.leaves.finish(alloc, &mut pages, counted)?;
+        let root = self.builder.finish(&mut pages)?;
         Ok((root, pages.into_bytes()))
     }
-}
-
-// Whether each value is shorter than 2^32 bytes.
-fn are_short(values: &[Bytes]) -> bool
-    ensures { IsTrue result → All IsShort values.now }
-{
-    for value in values {
-        if value.as_slice().len() >= 1 << 32 {
-            return false;
-        }
-    }
-    true
 }

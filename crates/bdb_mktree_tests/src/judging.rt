@@ -1,89 +1,221 @@
-//! The verdict on a tree that was built, once it stands under metadata, and what is read of it.
+//! The verdict on a file that was built, and what is read of it.
 
-ghost use Rattle.std.specs.Prelude.{◌≡◌, ◌<◌, length};
+ghost use Rattle.std.specs.Prelude.{◌≡◌, ◌<◌, ◌≤◌, ◌^◌, length};
 ghost use Rattle.bdb_format.specs.Databases.{databases};
 ghost use Rattle.bdb_format.specs.File.{file_of};
 
+use crate::{Image, built};
 use bdb_file::{Db, Sound, verify};
-use bdb_format::{BtreeMeta, Bytes, Order, Steps};
-use bdb_meta::put_btree_meta;
-use bdb_overflow::KeyView;
+use bdb_format::{Bytes, Kind, Order, Settings, Steps};
+use bdb_model::{Key, PairList};
+use bdb_overflow::{Datum, KeyView, is_same};
 use std::alloc::{AllocError, Global};
 use std::marker::Brand;
 use std::sync::ledger::{Blank, Ledger};
 
-/// The bytes of the longest image.
-pub const MOST: usize = 1 << 20;
-
-/// The pages of a tree, of 512 bytes each, behind metadata. Of more than `MOST` bytes it names a wrong last page.
-pub fn image_of(
-    alloc: Global,
-    order: Order,
-    meta: &BtreeMeta,
-    pages: &[u8],
-) -> Result<Bytes, AllocError> {
-    let mut page = [0u8; 512];
-    let last = (pages.len().min(MOST) / 512).saturating_sub(1) as u32;
-    put_btree_meta(&mut page, order, 0, last, meta);
-    let mut image = Bytes::new(alloc);
-    image.push_all(&page)?;
-    image.push_all(pages.get(512..).unwrap_or(&[]))?;
-    Ok(image)
+fn is_datum(datum: &Datum<'_>, bytes: &Bytes) -> bool {
+    is_same(datum, &Datum::Inline(bytes.as_slice()))
 }
 
-// Adds a line for each pair of a list: the key or its number, a space, and the datum.
-fn add_list(alloc: Global, text: &mut Bytes, sound: &Sound<'_>, db: Db) -> Result<(), AllocError>
+fn is_key(view: &KeyView<'_>, key: &Key) -> bool {
+    match (view, key) {
+        (KeyView::Bytes(datum), Key::Bytes(bytes)) => is_datum(datum, bytes),
+        (KeyView::Number(number), Key::Number(other)) => number == other,
+        _ => false,
+    }
+}
+
+// Whether these are the key and the datum at a place of a list.
+fn is_pair_at(list: &PairList, place: usize, key: &KeyView<'_>, datum: &Datum<'_>) -> bool {
+    match (list.keys().get(place), list.values().get(place)) {
+        (Some(other), Some(value)) => is_key(key, other) && is_datum(datum, value),
+        _ => false,
+    }
+}
+
+// Whether a database has just the pairs of a list.
+fn scans(alloc: Global, sound: &Sound<'_>, db: Db, list: &PairList) -> Result<bool, AllocError>
     requires { db < length (databases (file_of sound.now)) }
 {
+    let mut place: usize = 0;
     for (key, value) in sound.scan(alloc, db)? {
-        match key {
-            KeyView::Bytes(key) => text.push_all(key.copy(alloc)?.as_slice())?,
-            KeyView::Number(number) => {
-                let digits = format!(in alloc; "{number}")?;
-                text.push_all(digits.as_bytes())?;
-            }
+        if !is_pair_at(list, place, &key, &value) {
+            return Ok(false);
         }
-        text.push_all(b" ")?;
-        text.push_all(value.copy(alloc)?.as_slice())?;
-        text.push_all(b"\n")?;
+        place = place.saturating_add(1);
     }
-    Ok(())
+    Ok(place == list.len())
 }
 
-fn list_counted<L: Ledger>(
+// A key as `get` is asked for it: a number by its digits.
+fn asked(alloc: Global, key: &Key) -> Result<Bytes, AllocError> {
+    let mut bytes = Bytes::new(alloc);
+    match key {
+        Key::Bytes(key) => bytes.push_all(key.as_slice())?,
+        Key::Number(number) => {
+            let digits = format!(in alloc; "{number}")?;
+            bytes.push_all(digits.as_bytes())?;
+        }
+    }
+    Ok(bytes)
+}
+
+fn same_key(list: &PairList, a: usize, b: usize) -> bool {
+    match (list.keys().get(a), list.keys().get(b)) {
+        (Some(Key::Bytes(a)), Some(Key::Bytes(b))) => a.as_slice() == b.as_slice(),
+        (Some(Key::Number(a)), Some(Key::Number(b))) => a == b,
+        _ => false,
+    }
+}
+
+// The place behind the pairs that have the key at a place, where a database has just their data under it.
+fn found_run<L: Ledger>(
     alloc: Global,
-    image: &[u8],
+    sound: &Sound<'_>,
+    db: Db,
+    list: &PairList,
+    start: usize,
     steps: &mut Steps<L>,
-) -> Result<Option<Bytes>, AllocError> {
-    if image.len() > MOST {
+) -> Result<Option<usize>, AllocError>
+    requires { db < length (databases (file_of sound.now)) }
+{
+    let Some(key) = list.keys().get(start) else {
+        return Ok(None);
+    };
+    let key = asked(alloc, key)?;
+    let mut place = start;
+    for datum in sound.get(db, key.as_slice(), steps) {
+        match list.values().get(place) {
+            Some(value) if same_key(list, start, place) && is_datum(&datum, value) => {
+                place = place.saturating_add(1);
+            }
+            _ => return Ok(None),
+        }
+    }
+    if same_key(list, start, place) {
         return Ok(None);
     }
-    match verify(alloc, image, steps) {
-        Ok(sound) => {
-            let mut text = Bytes::new(alloc);
-            for i in 0..sound.databases() {
-                add_list(alloc, &mut text, &sound, sound.database(i))?;
-            }
-            Ok(Some(text))
-        }
-        Err(_) => Ok(None),
-    }
+    Ok(Some(place))
 }
 
-fn list_blank<L: Ledger>(
+// Whether a database has under each key of a list just its data.
+fn finds<L: Ledger>(
+    alloc: Global,
+    sound: &Sound<'_>,
+    db: Db,
+    list: &PairList,
+    steps: &mut Steps<L>,
+) -> Result<bool, AllocError>
+    requires { db < length (databases (file_of sound.now)) }
+{
+    let mut start = 0;
+    for _ in 0..list.len() {
+        if start >= list.len() {
+            return Ok(true);
+        }
+        let Some(next) = found_run(alloc, sound, db, list, start, steps)? else {
+            return Ok(false);
+        };
+        start = next;
+    }
+    Ok(start == list.len())
+}
+
+fn gives_counted<L: Ledger>(
     alloc: Global,
     image: &[u8],
+    list: &PairList,
+    absent: &[u8],
+    steps: &mut Steps<L>,
+) -> Result<bool, AllocError> {
+    if image.len() > 1 << 30 {
+        return Ok(false);
+    }
+    let Ok(sound) = verify(alloc, image, steps) else {
+        return Ok(false);
+    };
+    if sound.databases() != 1 {
+        return Ok(false);
+    }
+    let db = sound.database(0);
+    let none = sound.get(db, absent, steps).next().is_none();
+    Ok(none && scans(alloc, &sound, db, list)? && finds(alloc, &sound, db, list, steps)?)
+}
+
+fn gives_blank<L: Ledger>(
+    alloc: Global,
+    image: &[u8],
+    list: &PairList,
+    absent: &[u8],
     blank: Blank,
-) -> Result<Option<Bytes>, AllocError>
+) -> Result<bool, AllocError>
     requires name { blank.name ≡ L.name }
     requires parts { blank.parts ≡ L.parts }
     requires one { L.parts ≡ 1 }
 {
     let mut steps = Steps::<L>::new(blank);
-    list_counted(alloc, image, &mut steps)
+    gives_counted(alloc, image, list, absent, &mut steps)
 }
 
-/// The list of a sound image of at most `MOST` bytes; nothing where it isn't sound.
-pub fn list_of(alloc: Global, image: &[u8]) -> Result<Option<Bytes>, AllocError> {
-    list_blank::<Brand>(alloc, image, Blank::new(1))
+/// Whether an image is sound and has one database, with just the pairs of a list, in their order and under their keys, and nothing under another key.
+pub fn gives(
+    alloc: Global,
+    image: &[u8],
+    list: &PairList,
+    absent: &[u8],
+) -> Result<bool, AllocError> {
+    gives_blank::<Brand>(alloc, image, list, absent, Blank::new(1))
+}
+
+/// How many levels a tree has, and how many pages its file, the metadata among them.
+#[derive(Clone, Copy)]
+pub struct Shape {
+    pub levels: u8,
+    pub pages: usize,
+}
+
+// Whether a file has so many pages, and the root on page 1 so many levels.
+fn has_shape(settings: &Settings, image: &Image, shape: Shape) -> bool {
+    let bytes = image.bytes.as_slice();
+    let size = settings.page_size as usize;
+    image.root == 1
+        && bytes.len() == shape.pages.saturating_mul(size)
+        && bytes.get(size.saturating_add(24)) == Some(&shape.levels)
+}
+
+/// Whether the tree of a list is built with a shape, its file is sound and gives the list, and nothing under another key.
+pub fn is_built(
+    alloc: Global,
+    settings: &Settings,
+    list: &PairList,
+    shape: Shape,
+    absent: &[u8],
+) -> Result<bool, AllocError> {
+    let Some(image) = built(alloc, settings, list)? else {
+        return Ok(false);
+    };
+    let right = has_shape(settings, &image, shape);
+    Ok(right && gives(alloc, image.bytes.as_slice(), list, absent)?)
+}
+
+/// The settings that these flags of metadata say, of records of a length where they have one.
+pub fn settings(order: Order, page_size: u32, flags: u32, re_len: u32) -> Settings {
+    Settings {
+        kind: if flags & 0x02 != 0 {
+            Kind::Recno
+        } else {
+            Kind::Btree
+        },
+        page_size,
+        order,
+        duplicates: flags & 0x41 != 0,
+        sorted: flags & 0x40 != 0,
+        recnum: flags & 0x04 != 0,
+        renumber: false,
+        fixed: flags & 0x08 != 0,
+        re_len,
+        re_pad: 0x20,
+        minkey: 2,
+        ffactor: 0,
+    }
 }
