@@ -1,8 +1,11 @@
 //! Lists that are spelled pair by pair, lists of which no tree is built, and a tree that grows pair by pair. Values: docs/FORMAT.md, "Built trees".
 
+ghost use Rattle.std.specs.Prelude.{◌≡◌};
+ghost use Rattle.bdb_format.specs.declared.kinds.Kind.TheVariants.{Btree};
+
 use crate::judging::{Shape, gives, is_built, settings};
 use crate::{Growing, image_of, is_list_for};
-use bdb_format::{Bytes, Kind, Order};
+use bdb_format::{Bytes, Kind, Order, Settings};
 use bdb_model::{Key, Pair, PairList};
 use std::alloc::{AllocError, Global};
 use std::test::Fail;
@@ -142,9 +145,30 @@ fn refuses_lists_out_of_order(rt: HostRuntime) -> Result<(), Fail> {
     Ok(())
 }
 
+// The settings of a btree of single data on pages of 512 bytes.
+fn plain(order: Order) -> Settings
+    ensures kind { result.kind ≡ Btree }
+    ensures size { result.page_size ≡ 512 }
+{
+    Settings {
+        kind: Kind::Btree,
+        page_size: 512,
+        order,
+        duplicates: false,
+        sorted: false,
+        recnum: false,
+        renumber: false,
+        fixed: false,
+        re_len: 0,
+        re_pad: 0x20,
+        minkey: 2,
+        ffactor: 0,
+    }
+}
+
 // The root and the pages of a btree that takes the pairs of a list one by one.
 fn grown(alloc: Global, order: Order, list: &PairList) -> Result<(u32, Bytes), AllocError> {
-    let settings = settings(order, 512, 0, 0);
+    let settings = plain(order);
     let mut tree = Growing::new(alloc, &settings)?;
     for (key, value) in list.keys().iter().zip(list.values()) {
         if let Key::Bytes(key) = key {
@@ -172,7 +196,7 @@ fn grows_pair_by_pair(rt: HostRuntime) -> Result<(), Fail> {
     for order in ORDERS {
         let list = twenty(rt.alloc())?;
         let (root, pages) = grown(rt.alloc(), order, &list)?;
-        let settings = settings(order, 512, 0, 0);
+        let settings = plain(order);
         let image = image_of(rt.alloc(), &settings, root, pages.as_slice())?;
         assert!(rt; image.root == 1 && image.bytes.as_slice().len() == 4 * 512);
         assert!(rt; gives(rt.alloc(), image.bytes.as_slice(), &list, b"a")?);
