@@ -69,7 +69,12 @@ fn list_of(alloc: Global, row: &Row) -> Result<PairList, AllocError> {
 
 fn is_row_built(alloc: Global, order: Order, row: &Row) -> Result<bool, AllocError> {
     let list = list_of(alloc, row)?;
-    let settings = settings(order, row.page_size, row.flags, row.long as u32);
+    let settings = settings(
+        order,
+        row.page_size,
+        row.flags,
+        u32::try_from(row.long).unwrap_or(0),
+    );
     let shape = Shape {
         levels: row.levels,
         pages: row.pages,
