@@ -1,4 +1,4 @@
-use Rattle.std.proofs.Common.{◌≤◌, ℕ, drop, length}
+use Rattle.std.proofs.Common.{◌≤◌, drop, length}
 use Rattle.bdb_mktree.specs.Lists.{IsListFor}
 use Rattle.bdb_mktree_tests.proofs.lists.is_list_for.Given as goal
 

@@ -1,4 +1,4 @@
-use Rattle.std.proofs.Common.{◌≡◌, true, ◌++◌, ap, sym, subst, ◌∙◌, arith, Some}
+use Rattle.std.proofs.Common.{◌≡◌, true, ◌++◌, ap, sym, subst, ◌∙◌, Some}
 use Rattle.bdb_mktree_tests.specs.Checked.{IsGrowing, is_above}
 use Rattle.bdb_mktree_tests.proofs.CheckedLemmas.{grown}
 use Rattle.bdb_mktree_tests.proofs.growing.Growing.with_pair.Goals as goal
