@@ -1,0 +1,4 @@
+pub mod KeyOrderLemmas
+pub mod PutLemmas
+pub mod StableLemmas
+pub mod SettlingLemmas

@@ -1,0 +1,3 @@
+pub mod LoadErrors
+pub mod Loaded
+pub mod Settling
