@@ -1,4 +1,7 @@
+pub mod ErrorLemmas
 pub mod KeyOrderLemmas
+pub mod ListLawLemmas
+pub mod OrderedLemmas
 pub mod PutLemmas
-pub mod StableLemmas
 pub mod SettlingLemmas
+pub mod StableLemmas

@@ -15,7 +15,7 @@ true_from b never = by_case b refl
     by_case true is = refl
     by_case false is = absurd (never is)
 
-or_false : (a b : Bool) → (a || b) ≡ false → a ≡ false
+pub or_false : (a b : Bool) → (a || b) ≡ false → a ≡ false
 or_false true b is = absurd cc
 or_false false b is = refl
 

@@ -3,6 +3,7 @@
 
 mod errors;
 mod filling;
+pub mod laws;
 mod load_error;
 mod order;
 mod sections;
