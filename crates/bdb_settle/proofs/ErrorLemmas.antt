@@ -43,7 +43,8 @@ pub record IsSound (settings : Settings) (pair : TextPair) : Type 0 where
 
 sound_pair : (settings : Settings) (pair : TextPair) → pair_errors settings pair ≡ [] → IsSound settings pair
 sound_pair settings pair none =
-    let parts = both_empty (where_so (is_too_long settings pair) (RecordTooLong pair.line)) (where_so (is_zero pair.key) (RecordZero pair.line)) none in
+    let parts = both_empty (where_so (is_too_long settings pair) (RecordTooLong pair.line))
+        (where_so (is_zero pair.key) (RecordZero pair.line)) none in
     record {
       short = not_so (is_too_long settings pair) (RecordTooLong pair.line) parts.0;
       number = not_so (is_zero pair.key) (RecordZero pair.line) parts.1;

@@ -59,10 +59,12 @@ pub pairs_weakly : (settings : Settings) → IsStrictWeakOrder (stands_before se
 pairs_weakly settings = record { one_way = one_way; chain = chain }
   where
     one_way : (a b : Pair) → stands_before settings a b ≡ true → stands_before settings b a ≡ false
-    one_way a b = turns_one_way (key_less a.key b.key) (key_less b.key a.key) (sorts_data settings && less a.value b.value) (sorts_data settings && less b.value a.value)
+    one_way a b = turns_one_way (key_less a.key b.key) (key_less b.key a.key) (sorts_data settings && less a.value b.value)
+      (sorts_data settings && less b.value a.value)
         (key_one_way a.key b.key) (data_one_way (sorts_data settings) a.value b.value)
 
-    turns_chain : (ab ba bc cb ac ca m n o : Bool) → (ab ≡ false → bc ≡ false → ac ≡ false) → (bc ≡ false → ca ≡ false → ba ≡ false) → (ca ≡ false → ab ≡ false → cb ≡ false)
+    turns_chain : (ab ba bc cb ac ca m n o : Bool) → (ab ≡ false → bc ≡ false → ac ≡ false) → (bc ≡ false → ca ≡ false → ba ≡ false)
+        → (ca ≡ false → ab ≡ false → cb ≡ false)
         → (m ≡ false → n ≡ false → o ≡ false) → (ab || (not ba && m)) ≡ false → (bc || (not cb && n)) ≡ false → (ac || (not ca && o)) ≡ false
     turns_chain true ba bc cb ac ca m n o one two three values first second = absurd cc
     turns_chain false ba true cb ac ca m n o one two three values first second = absurd cc
@@ -72,9 +74,11 @@ pairs_weakly settings = record { one_way = one_way; chain = chain }
 
     chain : (a b c : Pair) → stands_before settings a b ≡ false → stands_before settings b c ≡ false → stands_before settings a c ≡ false
     chain a b c =
-        turns_chain (key_less a.key b.key) (key_less b.key a.key) (key_less b.key c.key) (key_less c.key b.key) (key_less a.key c.key) (key_less c.key a.key)
+        turns_chain (key_less a.key b.key) (key_less b.key a.key) (key_less b.key c.key) (key_less c.key b.key) (key_less a.key c.key)
+          (key_less c.key a.key)
         (sorts_data settings && less a.value b.value) (sorts_data settings && less b.value c.value) (sorts_data settings && less a.value c.value)
-        (key_chain a.key b.key c.key) (key_chain b.key c.key a.key) (key_chain c.key a.key b.key) (data_chain (sorts_data settings) a.value b.value c.value)
+        (key_chain a.key b.key c.key) (key_chain b.key c.key a.key) (key_chain c.key a.key b.key)
+          (data_chain (sorts_data settings) a.value b.value c.value)
 
 -- Comparisons answer by it.
 
@@ -84,7 +88,8 @@ by_bytes Equal a b is = rw is (sym (less_self b))
 by_bytes Greater a b is = sym (less_not_back b a is)
 
 -- bytes that another list shows, where data are sorted
-pub by_shown : (settings : Settings) (a b a_shown b_shown : List ℕ) (r : Ordering) → sorts_data settings ≡ true → a_shown ≡ a → b_shown ≡ b → OrderingIs r a_shown b_shown
+pub by_shown : (settings : Settings) (a b a_shown b_shown : List ℕ) (r : Ordering) → sorts_data settings ≡ true → a_shown ≡ a → b_shown ≡ b
+    → OrderingIs r a_shown b_shown
     → is_lt r ≡ (sorts_data settings && less a b)
 by_shown settings a b a_shown b_shown r sorts at_a at_b is =
     by_bytes r a_shown b_shown is ∙ ap (λ x. less x b_shown) at_a ∙ ap (less a) at_b ∙ ap (λ s. s && less a b) (sym sorts)

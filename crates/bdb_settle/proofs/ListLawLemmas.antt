@@ -1,5 +1,6 @@
 -- Lists that are loaded without errors are such that trees can be built of them.
-use Rattle.std.proofs.Common.{◌≡◌, ℕ, ◌+◌, ◌-◌, ◌%◌, ◌<◌, ◌≤◌, ◌^◌, Bool, true, false, cond, not, List, [], ◌∷◌, ◌++◌, length, map, replicate, refl, sym, ◌∙◌, ap, subst, arith, inl, inr, true≢false, length-append}
+use Rattle.std.proofs.Common.{◌≡◌, ℕ, ◌+◌, ◌-◌, ◌%◌, ◌<◌, ◌≤◌, ◌^◌, Bool, true, false, cond, not, List, []}
+use Rattle.std.proofs.Common.{◌∷◌, ◌++◌, length, map, replicate, refl, sym, ◌∙◌, ap, subst, arith, inl, inr, true≢false, length-append}
 use Rattle.std.specs.Prelude.{◌&&◌, ◌||◌, nat_lt}
 use Rattle.std.specs.Cmp.Derive.{both_true}
 use Rattle.std.specs.List.{All, fold}
@@ -29,7 +30,8 @@ use Rattle.bdb_settle.proofs.OrderedLemmas.{Ordered, OrderedFrom, fold_all, fold
 
 -- Each pair.
 
-filled_length : (settings : Settings) (value : List ℕ) → has_length settings ≡ true → (has_length settings && nat_lt settings.re_len (length value)) ≡ false
+filled_length : (settings : Settings) (value : List ℕ) → has_length settings ≡ true
+    → (has_length settings && nat_lt settings.re_len (length value)) ≡ false
     → length (filled_value settings value) ≡ settings.re_len
 filled_length settings value fixed fits =
     let test : nat_lt settings.re_len (length value) ≡ false = sym (ap (λ b. b && nat_lt settings.re_len (length value)) fixed) ∙ fits in
@@ -52,7 +54,8 @@ key_fits kind key (inl btree) of_kind short is = subst (λ k. IsKeyFor k key) (s
 key_fits kind key (inr recno) of_kind short is =
     let numbered = subst (λ k. IsKeyOf k key) recno of_kind in subst (λ k. IsKeyFor k key) (sym recno) (numbered, positive key numbered is)
 
-pair_fits : (settings : Settings) (pair : TextPair) → IsTreeKind settings.kind → settings.re_len < 2 ^ 32 → FitsFields settings.kind pair → IsSound settings pair
+pair_fits : (settings : Settings) (pair : TextPair) → IsTreeKind settings.kind → settings.re_len < 2 ^ 32 → FitsFields settings.kind pair
+    → IsSound settings pair
     → IsPairFor settings (filled settings pair)
 pair_fits settings pair kind below fits sound = record {
   key = key_fits settings.kind pair.key kind fits.key fits.key_short sound.number;
@@ -102,7 +105,8 @@ by_numbers true above sorts keeps is_less is_above sorts_is keeps_is after = ref
 by_numbers false true sorts keeps is_less is_above sorts_is keeps_is after = absurd cc
 by_numbers false false sorts keeps is_less is_above sorts_is keeps_is after = let never = rw (sorts_is, keeps_is) at after in absurd cc
 
-keyed_next : (settings : Settings) (a b : Key) (first then : List ℕ) → settings.kind ≡ Btree → (settings.sorted ≡ true → settings.duplicates ≡ true) → HasBytes a → HasBytes b
+keyed_next : (settings : Settings) (a b : Key) (first then : List ℕ) → settings.kind ≡ Btree → (settings.sorted ≡ true → settings.duplicates ≡ true)
+    → HasBytes a → HasBytes b
     → follows (stands_before settings) (keeps_data settings) (record { key = a; value = first }) (record { key = b; value = then }) ≡ true
     → may_follow settings.kind settings (record { key = a; value = first }) (record { key = b; value = then }) ≡ true
 keyed_next settings (Number number) b first then btree both has_a has_b after = absurd has_a
@@ -112,7 +116,8 @@ keyed_next settings (Bytes a) (Bytes b) first then btree both has_a has_b after 
     let keeps : keeps_data settings ≡ (settings.duplicates && not settings.sorted) =
     ap (λ k. settings.duplicates && not settings.sorted && not (has_records k)) btree ∙ and_true (settings.duplicates && not settings.sorted) in
     ap (λ k. may_follow k settings (record { key = Bytes a; value = first }) (record { key = Bytes b; value = then })) btree
-    ∙ by_bytes (less a b) (less b a) (bytes_eq a b) settings.duplicates settings.sorted (sorts_data settings) (keeps_data settings) (less first then) (less then first)
+    ∙ by_bytes (less a b) (less b a) (bytes_eq a b) settings.duplicates settings.sorted (sorts_data settings) (keeps_data settings) (less first then)
+      (less then first)
     sorts keeps both (λ not_below not_above. ap (λ k. bytes_eq a k) (sym (same_unless_less a b not_below not_above)) ∙ eq_self a) after
 
 numbered_next : (settings : Settings) (a b : Key) (first then : List ℕ) → settings.kind ≡ Recno → HasNumber a → HasNumber b
@@ -131,13 +136,16 @@ next_may_follow : (settings : Settings) (a b : Pair) → IsTreeKind settings.kin
     → IsKeyFor settings.kind a.key → IsKeyFor settings.kind b.key → follows (stands_before settings) (keeps_data settings) a b ≡ true
     → may_follow settings.kind settings a b ≡ true
 next_may_follow settings a b (inl btree) both key_a key_b after =
-    keyed_next settings a.key b.key a.value b.value btree both (subst (λ k. IsKeyFor k a.key) btree key_a).0 (subst (λ k. IsKeyFor k b.key) btree key_b).0 after
+    keyed_next settings a.key b.key a.value b.value btree both (subst (λ k. IsKeyFor k a.key) btree key_a).0
+      (subst (λ k. IsKeyFor k b.key) btree key_b).0 after
 next_may_follow settings a b (inr recno) both key_a key_b after =
-    numbered_next settings a.key b.key a.value b.value recno (subst (λ k. IsKeyFor k a.key) recno key_a).0 (subst (λ k. IsKeyFor k b.key) recno key_b).0 after
+    numbered_next settings a.key b.key a.value b.value recno (subst (λ k. IsKeyFor k a.key) recno key_a).0
+      (subst (λ k. IsKeyFor k b.key) recno key_b).0 after
 
 -- Lists.
 
-from_is_in_order : (settings : Settings) (pair : Pair) (pairs : List Pair) → IsTreeKind settings.kind → (settings.sorted ≡ true → settings.duplicates ≡ true)
+from_is_in_order : (settings : Settings) (pair : Pair) (pairs : List Pair) → IsTreeKind settings.kind
+    → (settings.sorted ≡ true → settings.duplicates ≡ true)
     → All (IsPairFor settings) (pair ∷ pairs) → OrderedFrom (stands_before settings) (keeps_data settings) pair pairs
     → is_in_order settings (pair ∷ pairs) ≡ true
 from_is_in_order settings pair [] kind both each ordered = refl
@@ -145,7 +153,8 @@ from_is_in_order settings pair (next ∷ pairs) kind both each ordered =
     let first = All-head (IsPairFor settings) pair (next ∷ pairs) each in
     let later = All-tail (IsPairFor settings) pair (next ∷ pairs) each in
     let second = All-head (IsPairFor settings) next pairs later in
-    both_true (next_may_follow settings pair next kind both first.key second.key ordered.0) (from_is_in_order settings next pairs kind both later ordered.1)
+    both_true (next_may_follow settings pair next kind both first.key second.key ordered.0)
+      (from_is_in_order settings next pairs kind both later ordered.1)
 
 list_is_in_order : (settings : Settings) (pairs : List Pair) → IsTreeKind settings.kind → (settings.sorted ≡ true → settings.duplicates ≡ true)
     → All (IsPairFor settings) pairs → Ordered (stands_before settings) (keeps_data settings) pairs → is_in_order settings pairs ≡ true
@@ -156,11 +165,13 @@ section_loads : (section : Section) → IsTreeKind section.settings.kind → IsF
     → IsListFor section.settings (loaded section.settings section.pairs)
 section_loads section kind fit sound =
     let settings = section.settings in
-    let each = fold_all (IsPairFor settings) settings (map (filled settings) section.pairs) [] (pairs_fit settings section.pairs kind fit.length fit.pairs sound)
+    let each = fold_all (IsPairFor settings) settings (map (filled settings) section.pairs) []
+      (pairs_fit settings section.pairs kind fit.length fit.pairs sound)
       (All-nil (IsPairFor settings)) in
     record {
       each = each;
-      in_order = list_is_in_order settings (loaded settings section.pairs) kind fit.sorted each (fold_ordered settings (map (filled settings) section.pairs) [] tt);
+      in_order = list_is_in_order settings (loaded settings section.pairs) kind fit.sorted each
+        (fold_ordered settings (map (filled settings) section.pairs) [] tt);
     }
 
 pub load_into_lists : LoadIntoLists

@@ -12,7 +12,8 @@ use Rattle.bdb_settle.proofs.PutLemmas.{below, or_false}
 
 -- What holds of each pair.
 
-put_all : (P : Pair → Type 0) (before : Pair → Pair → Bool) (keeps : Bool) (pair : Pair) (list : List Pair) → P pair → All P list → All P (put before keeps pair list)
+put_all : (P : Pair → Type 0) (before : Pair → Pair → Bool) (keeps : Bool) (pair : Pair) (list : List Pair) → P pair → All P list
+    → All P (put before keeps pair list)
 put_all P before keeps pair [] one all = All-cons P pair [] one (All-nil P)
 put_all P before keeps pair (other ∷ others) one all =
     by_tests (before pair other) (before other pair || keeps) (All-head P other others all) (All-tail P other others all)
@@ -24,7 +25,8 @@ put_all P before keeps pair (other ∷ others) one all =
     by_tests false true first later more = All-cons P other (put before keeps pair others) first more
     by_tests false false first later more = All-cons P pair others one later
 
-pub fold_all : (P : Pair → Type 0) (settings : Settings) (pairs list : List Pair) → All P pairs → All P list → All P (fold (with_pair settings) list pairs)
+pub fold_all : (P : Pair → Type 0) (settings : Settings) (pairs list : List Pair) → All P pairs → All P list
+    → All P (fold (with_pair settings) list pairs)
 fold_all P settings [] list each all = all
 fold_all P settings (pair ∷ pairs) list each all =
     fold_all P settings pairs (with_pair settings list pair) (All-tail P pair pairs each)
@@ -64,7 +66,8 @@ module _ (before : Pair → Pair → Bool) (weak : IsStrictWeakOrder before) (ke
   or_false_later false b is = is
 
   -- a pair in the place of one that it neither stands before nor behind
-  instead : (old new : Pair) (rest : List Pair) → keeps ≡ false → before old new ≡ false → OrderedFrom before keeps old rest → OrderedFrom before keeps new rest
+  instead : (old new : Pair) (rest : List Pair) → keeps ≡ false → before old new ≡ false → OrderedFrom before keeps old rest
+      → OrderedFrom before keeps new rest
   instead old new [] alone tie ordered = tt
   instead old new (next ∷ rest) alone tie ordered =
       (before_follows new next (below before weak new old next tie (follows_alone old next alone ordered.0)), ordered.1)
@@ -98,4 +101,5 @@ pub fold_ordered : (settings : Settings) (pairs list : List Pair) → Ordered (s
     → Ordered (stands_before settings) (keeps_data settings) (fold (with_pair settings) list pairs)
 fold_ordered settings [] list ordered = ordered
 fold_ordered settings (pair ∷ pairs) list ordered =
-    fold_ordered settings pairs (with_pair settings list pair) (put_ordered (stands_before settings) (pairs_weakly settings) (keeps_data settings) pair list ordered)
+    fold_ordered settings pairs (with_pair settings list pair)
+      (put_ordered (stands_before settings) (pairs_weakly settings) (keeps_data settings) pair list ordered)

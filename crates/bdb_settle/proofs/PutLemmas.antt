@@ -65,13 +65,16 @@ module _ (before : Pair → Pair → Bool) (weak : IsStrictWeakOrder before) whe
       both_more other others true xo oy ox is_yo is_xo is_oy is_ox same =
           let low : before x other ≡ true = above x y other is (weak.one_way y other is_yo) in
           ap (put before keeps x) (put_before y other others is_yo) ∙ put_before x y (other ∷ others) is
-          ∙ sym (ap (put before keeps y) (put_before x other others low) ∙ behind (other ∷ others) ∙ ap (λ l. x ∷ l) (put_before y other others is_yo))
+          ∙ sym (ap (put before keeps y) (put_before x other others low) ∙ behind (other ∷ others)
+          ∙ ap (λ l. x ∷ l) (put_before y other others is_yo))
       both_more other others false true true ox is_yo is_xo is_oy is_ox same =
           ap (put before keeps x) (put_after y other others is_yo is_oy) ∙ put_before x other (put before keeps y others) is_xo
-          ∙ sym (ap (put before keeps y) (put_before x other others is_xo) ∙ behind (other ∷ others) ∙ ap (λ l. x ∷ l) (put_after y other others is_yo is_oy))
+          ∙ sym (ap (put before keeps y) (put_before x other others is_xo) ∙ behind (other ∷ others)
+          ∙ ap (λ l. x ∷ l) (put_after y other others is_yo is_oy))
       both_more other others false true false ox is_yo is_xo is_oy is_ox same =
           ap (put before keeps x) (put_instead y other others is_yo is_oy) ∙ put_before x y others is
-          ∙ sym (ap (put before keeps y) (put_before x other others is_xo) ∙ behind (other ∷ others) ∙ ap (λ l. x ∷ l) (put_instead y other others is_yo is_oy))
+          ∙ sym (ap (put before keeps y) (put_before x other others is_xo) ∙ behind (other ∷ others)
+          ∙ ap (λ l. x ∷ l) (put_instead y other others is_yo is_oy))
       both_more other others false false true true is_yo is_xo is_oy is_ox same =
           ap (put before keeps x) (put_after y other others is_yo is_oy) ∙ put_after x other (put before keeps y others) is_xo is_ox
           ∙ ap (λ l. other ∷ l) same
@@ -86,4 +89,5 @@ module _ (before : Pair → Pair → Bool) (weak : IsStrictWeakOrder before) whe
       pub put_both : (list : List Pair) → put before keeps x (put before keeps y list) ≡ put before keeps y (put before keeps x list)
       put_both [] = put_before x y [] is ∙ sym (behind [])
       put_both (other ∷ others) =
-          both_more other others (before y other) (before x other) (before other y || keeps) (before other x || keeps) refl refl refl refl (put_both others)
+          both_more other others (before y other) (before x other) (before other y || keeps) (before other x || keeps) refl refl refl refl
+          (put_both others)

@@ -1,5 +1,6 @@
 -- One pass over pairs in their order makes the list.
-use Rattle.std.proofs.Common.{◌≡◌, suc, ◌+◌, Bool, true, false, not, List, [], ◌∷◌, ◌++◌, length, get_or, map, refl, sym, ◌∙◌, ap, subst, arith, true≢false, append_assoc, ◌-◌, reverse}
+use Rattle.std.proofs.Common.{◌≡◌, suc, ◌+◌, Bool, true, false, not, List, [], ◌∷◌, ◌++◌, length}
+use Rattle.std.proofs.Common.{get_or, map, refl, sym, ◌∙◌, ap, subst, arith, true≢false, append_assoc, ◌-◌, reverse}
 use Rattle.std.specs.Prelude.{◌&&◌, ◌||◌, if◌then◌else◌, None, slice_get}
 use Rattle.std.specs.Cmp.{IsStrictWeakOrder}
 use Rattle.std.specs.List.{All, fold}
@@ -22,7 +23,8 @@ sorted_rest before x xs sorted k d low high =
 
 pub ascend_from : (before : Pair → Pair → Bool) (last : Pair) (rest : List Pair) → IsSortedBy before (last ∷ rest) → Ascend before last rest
 ascend_from before last [] sorted = tt
-ascend_from before last (x ∷ rest) sorted = (sorted 0 x (omega arith) (omega arith), ascend_from before x rest (sorted_rest before last (x ∷ rest) sorted))
+ascend_from before last (x ∷ rest) sorted =
+    (sorted 0 x (omega arith) (omega arith), ascend_from before x rest (sorted_rest before last (x ∷ rest) sorted))
 
 -- what stays where a pair comes stays where a later one does
 module _ (before : Pair → Pair → Bool) (weak : IsStrictWeakOrder before) (keeps : Bool) where
@@ -75,8 +77,8 @@ map_more [] x = refl
 map_more (y ∷ ys) x = ap (λ zs. unnumbered y ∷ zs) (map_more ys x)
 
 -- behind the last pair the next one is put where that stays, and else in its place
-pub stepped : (settings : Settings) (all : List Pair) (list : List TextPair) (last pair : Pair) (rest : List Pair) → IsSettledTo settings all list last (pair ∷ rest)
-    → (b : Bool) → (stands_before settings last pair || keeps_data settings) ≡ b
+pub stepped : (settings : Settings) (all : List Pair) (list : List TextPair) (last pair : Pair) (rest : List Pair)
+    → IsSettledTo settings all list last (pair ∷ rest) → (b : Bool) → (stands_before settings last pair || keeps_data settings) ≡ b
     → IsSettledTo settings all (if b then list ++ (unnumbered last ∷ []) else list) pair rest
 stepped settings all list last pair rest so true is =
     let before = stands_before settings in
@@ -91,7 +93,8 @@ stepped settings all list last pair rest so true is =
           (All-cons (λ other. stays before keeps pair other ≡ true) last [] here (All-nil (λ other. stays before keeps pair other ≡ true)));
       ascend = so.ascend.1;
       whole = so.whole ∙ ap (λ l. fold (with_pair settings) l rest)
-          (put_behind before (pairs_weakly settings) keeps pair so.done (last ∷ []) still ∙ ap (λ l. so.done ++ l) end ∙ sym (append_assoc so.done (last ∷ []) (pair ∷ [])));
+          (put_behind before (pairs_weakly settings) keeps pair so.done (last ∷ []) still ∙ ap (λ l. so.done ++ l) end
+            ∙ sym (append_assoc so.done (last ∷ []) (pair ∷ [])));
     }
 stepped settings all list last pair rest so false is =
     let before = stands_before settings in

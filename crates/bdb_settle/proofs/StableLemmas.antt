@@ -45,7 +45,8 @@ all_fail p q step [] none = All-nil (λ y. q y ≡ false)
 all_fail p q step (x ∷ xs) none =
     All-cons (λ y. q y ≡ false) x xs (step x (All-head (λ y. p y ≡ false) x xs none)) (all_fail p q step xs (All-tail (λ y. p y ≡ false) x xs none))
 
-without_it : (b : Bool) (x : Pair) (front back xs : List Pair) → (b ≡ true → front ≡ []) → front ++ cond b (x ∷ back) back ≡ cond b (x ∷ xs) xs → front ++ back ≡ xs
+without_it : (b : Bool) (x : Pair) (front back xs : List Pair) → (b ≡ true → front ≡ []) → front ++ cond b (x ∷ back) back ≡ cond b (x ∷ xs) xs
+    → front ++ back ≡ xs
 without_it true x front back xs none same =
     let e : front ≡ [] = none refl in
     let whole : x ∷ back ≡ x ∷ xs = sym (ap (λ f. f ++ (x ∷ back)) e) ∙ same in
@@ -98,7 +99,8 @@ module _ (before : Pair → Pair → Bool) (weak : IsStrictWeakOrder before) whe
         first_of x front back (more list y) (All-tail (λ y. ties before x y ≡ false) y front none)
         ∙ ap (λ l. fold more l (front ++ back)) (swapped x y list (All-head (λ y. ties before x y ≡ false) y front none))
 
-    pub fold_alike : (xs ys list : List Pair) → ((z : Pair) → filter (ties before z) ys ≡ filter (ties before z) xs) → fold more list ys ≡ fold more list xs
+    pub fold_alike : (xs ys list : List Pair) → ((z : Pair) → filter (ties before z) ys ≡ filter (ties before z) xs)
+        → fold more list ys ≡ fold more list xs
     fold_alike [] [] list alike = refl
     fold_alike [] (y ∷ ys) list alike =
         let none : y ∷ filter (ties before y) ys ≡ [] = rw (tied_itself y) at (alike y) in absurd cc

@@ -1,5 +1,6 @@
 -- Why sections can't be loaded. Source: README.md, "The rules".
-use Rattle.std.specs.Prelude.{◌≡◌, ℕ, ◌+◌, ◌-◌, ◌*◌, ◌/◌, nat_lt, ◌==◌, ◌&&◌, ◌||◌, not, if◌then◌else◌, Bool, true, false, List, [], ◌∷◌, ◌++◌, length, Option, Some, None, is_some}
+use Rattle.std.specs.Prelude.{◌≡◌, ℕ, ◌+◌, ◌-◌, ◌*◌, ◌/◌, nat_lt, ◌==◌, ◌&&◌, ◌||◌, not, if◌then◌else◌}
+use Rattle.std.specs.Prelude.{Bool, true, false, List, [], ◌∷◌, ◌++◌, length, Option, Some, None, is_some}
 use Rattle.std.specs.List.{flat_map, fold}
 use Rattle.bdb_format.specs.declared.kinds.Kind.{Kind}
 use Rattle.bdb_format.specs.declared.kinds.Kind.TheVariants.{Btree, Recno, Hash, Queue}
@@ -73,7 +74,8 @@ is_among_names alone section = is_queue section.settings.kind && (is_some sectio
 
 abbrev pub header_errors : Bool → Section → List LoadError
 header_errors alone section =
-    where_so (is_too_wide section.settings) (RecordTooLong section.header_line) ++ where_so (is_among_names alone section) (QueueAmongNames section.header_line)
+    where_so (is_too_wide section.settings) (RecordTooLong section.header_line)
+      ++ where_so (is_among_names alone section) (QueueAmongNames section.header_line)
 
 abbrev pub section_errors : Bool → Section → List LoadError
 section_errors alone section = header_errors alone section ++ flat_map (pair_errors section.settings) section.pairs

@@ -1,6 +1,7 @@
 ghost use Rattle.std.specs.Prelude.{◌≡◌, ◌==◌, length};
 ghost use Rattle.std.specs.List.{flat_map, fold};
-ghost use Rattle.bdb_settle.specs.LoadErrors.{header_errors, is_among_names, is_queue, is_sooner, is_too_long, is_too_wide, is_zero, line_of, code_of, load_error, pair_errors, section_errors, slot_size, sooner, where_so};
+ghost use Rattle.bdb_settle.specs.LoadErrors.{header_errors, is_among_names, is_queue, is_sooner, is_too_long, is_too_wide, is_zero};
+ghost use Rattle.bdb_settle.specs.LoadErrors.{line_of, code_of, load_error, pair_errors, section_errors, slot_size, sooner, where_so};
 
 use crate::LoadError;
 use crate::filling::has_length;
