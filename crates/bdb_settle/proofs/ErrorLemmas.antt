@@ -1,0 +1,64 @@
+-- Where there is no first error, none holds.
+use Rattle.std.proofs.Common.{◌≡◌, ℕ, Bool, true, false, cond, not, List, [], ◌∷◌, ◌++◌, length, refl, sym, ◌∙◌, ap, Option, Some, None}
+use Rattle.std.specs.List.{All, flat_map, fold}
+use Rattle.std.specs.Prelude.{◌==◌}
+use Rattle.std.proofs.lemmas.List.Elements.{All-cons, All-nil}
+use Rattle.bdb_format.specs.declared.settings.Settings.{Settings}
+use Rattle.bdb_model.specs.declared.pairs.TextPair.{TextPair}
+use Rattle.bdb_model.specs.declared.sections.Section.{Section}
+use Rattle.bdb_settle.specs.declared.load_error.LoadError.{LoadError}
+use Rattle.bdb_settle.specs.declared.load_error.LoadError.TheVariants.{RecordTooLong, RecordZero}
+use Rattle.bdb_settle.specs.LoadErrors.{header_errors, is_sooner, is_too_long, is_zero, load_error, pair_errors, section_errors, sooner, where_so}
+
+still_some : (first : LoadError) (errors : List LoadError) → fold sooner (Some first) errors ≡ None → ⊥
+still_some first [] none = absurd cc
+still_some first (error ∷ errors) none = by_test (is_sooner error first) none (still_some error errors) (still_some first errors)
+  where
+    by_test : (b : Bool) → fold sooner (cond b (Some error) (Some first)) errors ≡ None → (fold sooner (Some error) errors ≡ None → ⊥)
+        → (fold sooner (Some first) errors ≡ None → ⊥) → ⊥
+    by_test true none one other = one none
+    by_test false none one other = other none
+
+no_errors : (errors : List LoadError) → fold sooner None errors ≡ None → errors ≡ []
+no_errors [] none = refl
+no_errors (error ∷ errors) none = absurd (still_some error errors none)
+
+both_empty : {X : Type 0} (xs ys : List X) → xs ++ ys ≡ [] → (xs ≡ []) × (ys ≡ [])
+both_empty [] ys none = (refl, none)
+both_empty (x ∷ xs) ys none = absurd cc
+
+each_empty : {X Y : Type 0} (f : X → List Y) (xs : List X) → flat_map f xs ≡ [] → All (λ x. f x ≡ []) xs
+each_empty f [] none = All-nil (λ x. f x ≡ [])
+each_empty f (x ∷ xs) none =
+    let parts = both_empty (f x) (flat_map f xs) none in All-cons (λ x. f x ≡ []) x xs parts.0 (each_empty f xs parts.1)
+
+not_so : (b : Bool) (error : LoadError) → where_so b error ≡ [] → b ≡ false
+not_so true error none = absurd cc
+not_so false error none = refl
+
+-- a pair of a section without errors
+pub record IsSound (settings : Settings) (pair : TextPair) : Type 0 where
+  pub short : is_too_long settings pair ≡ false
+  pub number : is_zero pair.key ≡ false
+
+sound_pair : (settings : Settings) (pair : TextPair) → pair_errors settings pair ≡ [] → IsSound settings pair
+sound_pair settings pair none =
+    let parts = both_empty (where_so (is_too_long settings pair) (RecordTooLong pair.line))
+        (where_so (is_zero pair.key) (RecordZero pair.line)) none in
+    record {
+      short = not_so (is_too_long settings pair) (RecordTooLong pair.line) parts.0;
+      number = not_so (is_zero pair.key) (RecordZero pair.line) parts.1;
+    }
+
+pub all_map : {X : Type 0} (P Q : X → Type 0) → ((x : X) → P x → Q x) → (xs : List X) → All P xs → All Q xs
+all_map P Q step xs all k d below = step _ (all k d below)
+
+-- where no section has an error, no pair of one has
+pub sound_pairs : (sections : List Section) → load_error sections ≡ None → All (λ section. All (IsSound section.settings) section.pairs) sections
+sound_pairs sections none =
+    let alone = length sections == 1 in
+    all_map (λ section. section_errors alone section ≡ []) (λ section. All (IsSound section.settings) section.pairs)
+    (λ section empty. all_map (λ pair. pair_errors section.settings pair ≡ []) (IsSound section.settings) (sound_pair section.settings) section.pairs
+      (each_empty (pair_errors section.settings) section.pairs
+      (both_empty (header_errors alone section) (flat_map (pair_errors section.settings) section.pairs) empty).1))
+    sections (each_empty (section_errors alone) sections (no_errors (flat_map (section_errors alone) sections) none))

@@ -1,0 +1,7 @@
+pub mod ErrorLemmas
+pub mod KeyOrderLemmas
+pub mod ListLawLemmas
+pub mod OrderedLemmas
+pub mod PutLemmas
+pub mod SettlingLemmas
+pub mod StableLemmas

@@ -1,0 +1,8 @@
+use Rattle.std.proofs.Common.{◌≡◌, take}
+use Rattle.std.specs.List.{flat_map, fold}
+use Rattle.bdb_settle.specs.LoadErrors.{pair_errors, sooner}
+use Rattle.bdb_settle.proofs.errors.with_pairs.Given as goal
+
+-- The first error, with those of the pairs so far.
+abbrev pub invariant-loop-pair : goal.invariant-loop-pair
+invariant-loop-pair l = l.first ≡ fold sooner l.fn.first (flat_map (pair_errors l.settings) (take l.pair-index l.pair-items))

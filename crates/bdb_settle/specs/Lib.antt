@@ -1,0 +1,4 @@
+pub mod ListLaw
+pub mod LoadErrors
+pub mod Loaded
+pub mod Settling

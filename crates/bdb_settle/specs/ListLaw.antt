@@ -1,0 +1,38 @@
+-- Which sections load into lists that trees can be built of. Source: docs/FORMAT.md, "Built trees".
+use Rattle.std.specs.Prelude.{◌≡◌, ℕ, ◌<◌, ◌^◌, true, List, Option, None}
+use Rattle.std.specs.List.{All}
+use Rattle.bdb_format.specs.declared.kinds.Kind.{Kind}
+use Rattle.bdb_format.specs.declared.kinds.Kind.TheVariants.{Btree, Recno, Hash, Queue}
+use Rattle.bdb_format.specs.declared.settings.Settings.{Settings}
+use Rattle.bdb_model.specs.declared.pairs.Key.{Key}
+use Rattle.bdb_model.specs.declared.pairs.TextPair.{TextPair}
+use Rattle.bdb_model.specs.declared.sections.Section.{Section}
+use Rattle.bdb_leaves.specs.Runs.{IsShort}
+use Rattle.bdb_mktree.specs.Lists.{HasBytes, HasNumber, IsListFor, bytes_in}
+use Rattle.bdb_mktree.specs.Units.{IsTreeKind}
+use Rattle.bdb_settle.specs.LoadErrors.{load_error}
+use Rattle.bdb_settle.specs.Loaded.{loaded}
+
+-- bytes for btree and hash, numbers for recno and queue
+abbrev pub IsKeyOf : Kind → Key → Type 0
+IsKeyOf Btree key = HasBytes key
+IsKeyOf Recno key = HasNumber key
+IsKeyOf Hash key = HasBytes key
+IsKeyOf Queue key = HasNumber key
+
+-- a pair with a key of the kind, whose bytes have lengths that fit their fields
+pub record FitsFields (kind : Kind) (pair : TextPair) : Type 0 where
+  pub key : IsKeyOf kind pair.key
+  pub key_short : IsShort (bytes_in pair.key)
+  pub short : IsShort pair.value
+
+-- a section of such pairs; sorted duplicates are duplicates too
+pub record IsFit (section : Section) : Type 0 where
+  pub pairs : All (FitsFields section.settings.kind) section.pairs
+  pub length : section.settings.re_len < 2 ^ 32
+  pub sorted : section.settings.sorted ≡ true → section.settings.duplicates ≡ true
+
+-- where no error holds, each section of a btree or recno loads into such a list
+abbrev pub LoadIntoLists : Type 0
+LoadIntoLists = (sections : List Section) → load_error sections ≡ None
+    → All (λ section. IsTreeKind section.settings.kind → IsFit section → IsListFor section.settings (loaded section.settings section.pairs)) sections

@@ -1,0 +1,77 @@
+-- What loading does to the pairs of a section. Source: README.md, "The rules"; the order of keys: docs/FORMAT.md, "Order of keys".
+use Rattle.std.specs.Prelude.{ℕ, ◌-◌, ◌%◌, nat_lt, ◌&&◌, ◌||◌, not, if◌then◌else◌, Bool, true, false, List, [], ◌∷◌, ◌++◌, length, map, replicate}
+use Rattle.std.specs.List.{fold}
+use Rattle.bdb_format.specs.declared.kinds.Kind.{Kind}
+use Rattle.bdb_format.specs.declared.kinds.Kind.TheVariants.{Btree, Recno, Hash, Queue}
+use Rattle.bdb_format.specs.declared.settings.Settings.{Settings}
+use Rattle.bdb_format.specs.Less.{less}
+use Rattle.bdb_model.specs.declared.list.Pair.{Pair}
+use Rattle.bdb_model.specs.declared.pairs.Key.{Key}
+use Rattle.bdb_model.specs.declared.pairs.Key.TheVariants.{Bytes, Number}
+use Rattle.bdb_model.specs.declared.pairs.TextPair.{TextPair}
+use Rattle.bdb_model.specs.declared.sections.Section.{Section}
+
+-- Order.
+
+-- bytes in byte order, numbers ascending; no kind has both
+abbrev pub key_less : Key → Key → Bool
+key_less (Bytes a) (Bytes b) = less a b
+key_less (Bytes a) (Number n) = false
+key_less (Number m) (Bytes b) = true
+key_less (Number m) (Number n) = nat_lt m n
+
+-- whether keys are numbers of records
+abbrev pub has_records : Kind → Bool
+has_records Btree = false
+has_records Recno = true
+has_records Hash = false
+has_records Queue = true
+
+-- whether the data of a key stand in byte order, each once
+abbrev pub sorts_data : Settings → Bool
+sorts_data settings = settings.sorted && not (has_records settings.kind)
+
+-- whether the data of a key stand one behind the other, as they come
+abbrev pub keeps_data : Settings → Bool
+keeps_data settings = settings.duplicates && not settings.sorted && not (has_records settings.kind)
+
+-- a pair stands before another: its key is less, or it is the same and its datum is less, where data are sorted
+abbrev pub stands_before : Settings → Pair → Pair → Bool
+stands_before settings a b = key_less a.key b.key || (not (key_less b.key a.key) && (sorts_data settings && less a.value b.value))
+
+-- Lists.
+
+-- a pair goes behind those that stand before it; one that neither stands before it nor behind it is replaced, or passed where all data are kept
+abbrev pub put : (Pair → Pair → Bool) → Bool → Pair → List Pair → List Pair
+put before keeps pair [] = pair ∷ []
+put before keeps pair (other ∷ others) =
+    if before pair other then pair ∷ other ∷ others
+    else (if before other pair || keeps then other ∷ put before keeps pair others else pair ∷ others)
+
+-- a list with one pair more
+abbrev pub with_pair : Settings → List Pair → Pair → List Pair
+with_pair settings list pair = put (stands_before settings) (keeps_data settings) pair list
+
+-- whether records have a fixed length
+abbrev pub has_length : Settings → Bool
+has_length settings = settings.fixed && has_records settings.kind
+
+-- a record that is shorter than the fixed length is filled up at its end with the low byte of re_pad
+abbrev pub filled_value : Settings → List ℕ → List ℕ
+filled_value settings value = if has_length settings then value ++ replicate (settings.re_len - length value) (settings.re_pad % 256) else value
+
+abbrev pub filled : Settings → TextPair → Pair
+filled settings pair = record { key = pair.key; value = filled_value settings pair.value }
+
+-- the list of the pairs of a section, taken in turn from the empty list on
+abbrev pub loaded : Settings → List TextPair → List Pair
+loaded settings pairs = fold (with_pair settings) [] (map (filled settings) pairs)
+
+-- Sections.
+
+abbrev pub unnumbered : Pair → TextPair
+unnumbered pair = record { key = pair.key; value = pair.value; line = 0 }
+
+-- a section with its list, in which no line has a number
+abbrev pub loaded_section : Section → Section
+loaded_section section = record section { header_line = 0; pairs = map unnumbered (loaded section.settings section.pairs) }

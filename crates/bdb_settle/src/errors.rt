@@ -1,0 +1,168 @@
+ghost use Rattle.std.specs.Prelude.{◌≡◌, ◌==◌, length};
+ghost use Rattle.std.specs.List.{flat_map, fold};
+ghost use Rattle.bdb_settle.specs.LoadErrors.{header_errors, is_among_names, is_queue, is_sooner, is_too_long, is_too_wide, is_zero};
+ghost use Rattle.bdb_settle.specs.LoadErrors.{line_of, code_of, load_error, pair_errors, section_errors, slot_size, sooner, where_so};
+
+use crate::LoadError;
+use crate::filling::has_length;
+use bdb_format::{Kind, Settings};
+use bdb_model::{Key, Section, Sections, TextPair, TextPairs};
+
+/// The line of an error.
+fn line_of(error: LoadError) -> u64
+    ensures { result ≡ line_of error }
+{
+    match error {
+        LoadError::RecordTooLong(line)
+        | LoadError::RecordZero(line)
+        | LoadError::QueueAmongNames(line) => line,
+        LoadError::TooLarge | LoadError::Memory => 0,
+    }
+}
+
+/// The place of an error among those of a line.
+fn code_of(error: LoadError) -> u8
+    ensures { result ≡ code_of error }
+{
+    match error {
+        LoadError::RecordTooLong(_) => 1,
+        LoadError::RecordZero(_) => 2,
+        LoadError::TooLarge => 3,
+        LoadError::QueueAmongNames(_) => 4,
+        LoadError::Memory => 0,
+    }
+}
+
+/// Whether an error has the lesser line, or on one line the lesser code.
+fn is_sooner(a: LoadError, b: LoadError) -> bool
+    ensures { result ≡ is_sooner a b }
+{
+    line_of(a) < line_of(b) || (line_of(a) == line_of(b) && code_of(a) < code_of(b))
+}
+
+/// The first of two errors.
+fn sooner(first: Option<LoadError>, error: LoadError) -> Option<LoadError>
+    ensures { result ≡ sooner first error }
+{
+    match first {
+        Some(first) if !is_sooner(error, first) => Some(first),
+        _ => Some(error),
+    }
+}
+
+/// The first error, where another one holds or doesn't.
+fn sooner_where(first: Option<LoadError>, holds: bool, error: LoadError) -> Option<LoadError>
+    ensures { result ≡ fold sooner first (where_so holds error) }
+{
+    if holds { sooner(first, error) } else { first }
+}
+
+/// Whether a datum is longer than the fixed length.
+fn is_too_long(settings: &Settings, pair: &TextPair) -> bool
+    ensures { result ≡ is_too_long settings.now pair.now }
+{
+    has_length(settings) && (settings.re_len as usize) < pair.value.as_slice().len()
+}
+
+/// Whether a key is the number 0.
+fn is_zero(key: &Key) -> bool
+    ensures { result ≡ is_zero key.now }
+{
+    match key {
+        Key::Bytes(_) => false,
+        Key::Number(number) => *number == 0,
+    }
+}
+
+/// The first error, with those of a pair.
+
+fn with_pair(first: Option<LoadError>, settings: &Settings, pair: &TextPair) -> Option<LoadError>
+    ensures { result ≡ fold sooner first (pair_errors settings.now pair.now) }
+{
+    let first = sooner_where(
+        first,
+        is_too_long(settings, pair),
+        LoadError::RecordTooLong(pair.line),
+    );
+    sooner_where(first, is_zero(&pair.key), LoadError::RecordZero(pair.line))
+}
+
+/// The first error, with those of pairs.
+fn with_pairs(first: Option<LoadError>, settings: &Settings, pairs: &TextPairs) -> Option<LoadError>
+    ensures { result ≡ fold sooner first (flat_map (pair_errors settings.now) pairs.now) }
+{
+    let mut first = first;
+    for pair in pairs.as_slice() {
+        first = with_pair(first, settings, pair);
+    }
+    first
+}
+
+/// Whether a kind is that of queues.
+fn is_queue(kind: Kind) -> bool
+    ensures { result ≡ is_queue kind }
+{
+    match kind {
+        Kind::Btree | Kind::Recno | Kind::Hash => false,
+        Kind::Queue => true,
+    }
+}
+
+/// The bytes that a record of a queue takes on its page.
+fn slot_size(re_len: u32) -> u64
+    ensures { result ≡ slot_size re_len }
+{
+    (u64::from(re_len) + 1 + 3) / 4 * 4
+}
+
+/// Whether a queue's record doesn't fit a page.
+fn is_too_wide(settings: &Settings) -> bool
+    ensures { result ≡ is_too_wide settings.now }
+{
+    is_queue(settings.kind)
+        && u64::from(settings.page_size.saturating_sub(28)) < slot_size(settings.re_len)
+}
+
+/// Whether a queue has a name, or isn't alone.
+fn is_among_names(alone: bool, section: &Section) -> bool
+    ensures { result ≡ is_among_names alone section.now }
+{
+    is_queue(section.settings.kind) && (section.name.is_some() || !alone)
+}
+
+/// The first error, with those of a header.
+fn with_header(first: Option<LoadError>, alone: bool, section: &Section) -> Option<LoadError>
+    ensures { result ≡ fold sooner first (header_errors alone section.now) }
+{
+    let line = section.header_line;
+    let first = sooner_where(
+        first,
+        is_too_wide(&section.settings),
+        LoadError::RecordTooLong(line),
+    );
+    sooner_where(
+        first,
+        is_among_names(alone, section),
+        LoadError::QueueAmongNames(line),
+    )
+}
+
+/// The first error, with those of a section.
+fn with_section(first: Option<LoadError>, alone: bool, section: &Section) -> Option<LoadError>
+    ensures { result ≡ fold sooner first (section_errors alone section.now) }
+{
+    let first = with_header(first, alone, section);
+    with_pairs(first, &section.settings, &section.pairs)
+}
+
+/// The first error of sections.
+pub(crate) fn load_error(sections: &Sections) -> Option<LoadError>
+    ensures { result ≡ load_error sections.now }
+{
+    let alone = sections.len() == 1;
+    let mut first = None;
+    for section in sections.as_slice() {
+        first = with_section(first, alone, section);
+    }
+    first
+}

@@ -1,0 +1,13 @@
+//! What loading does to the pairs of sections.
+#![tactic(auto)]
+
+mod errors;
+mod filling;
+pub mod laws;
+mod load_error;
+mod order;
+mod sections;
+mod settling;
+
+pub use load_error::LoadError;
+pub use sections::settle;

@@ -1,0 +1,28 @@
+ghost use Rattle.std.specs.Prelude.{◌≡◌};
+
+use std::alloc::AllocError;
+
+/// Why sections aren't loaded. A number is that of a line of the text.
+#[derive(Clone, Copy, Debug, PartialEq, Eq)]
+pub enum LoadError {
+    /// A datum is longer than its record, or a queue's record than its page.
+    RecordTooLong(u64),
+    /// The number of a record is 0.
+    RecordZero(u64),
+    /// The file would have too many pages. `settle` doesn't answer it.
+    TooLarge,
+    /// A queue has a name, or isn't alone.
+    QueueAmongNames(u64),
+    /// Memory is wanting.
+    Memory,
+}
+
+impl From<AllocError> for LoadError {
+    ghost use Rattle.bdb_settle.specs.declared.load_error.LoadError.TheVariants.{Memory};
+
+    ghost from_gives = { λ _ error. error ≡ Memory };
+
+    fn from(_error: AllocError) -> LoadError {
+        LoadError::Memory
+    }
+}
