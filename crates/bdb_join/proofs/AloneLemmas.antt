@@ -1,0 +1,130 @@
+-- One part alone, under page 0.
+use Rattle.std.proofs.Common.{◌≡◌, ◌⊎◌, ℕ, zero, suc, ◌+◌, ◌≤◌, false, ◌&&◌, [], ◌∷◌, length, map, None, arith, refl, sym, ◌∙◌, ap, subst, inl, inr}
+use Rattle.std.specs.Prelude.{◌==◌, nat_lt}
+use Rattle.std.specs.List.{Contains, list_any}
+use Rattle.std.proofs.lemmas.Bool.{cases_Bool, and_left, and_right}
+use Rattle.bdb_format.specs.Page.{Metadata, Meta}
+use Rattle.bdb_format.specs.File.{File, file_of, page_at}
+use Rattle.bdb_format.specs.Graph.{is_meta}
+use Rattle.bdb_format.specs.Contents.{StoredPair}
+use Rattle.bdb_format.specs.ContentRows.{fields_in, repeated}
+use Rattle.bdb_format.specs.Master.{is_named_kind, is_none, master_in, master_pairs, master_rows, misses_target, named_by, naming, pairs_under}
+use Rattle.bdb_format.specs.Databases.{Database, databases, databases_under}
+use Rattle.bdb_format.specs.Verdict.{first_judgement, holding, master_faults}
+use Rattle.bdb_format.proofs.ListLemmas.{only_member}
+use Rattle.bdb_format.proofs.MemberLemmas.{first_member}
+use Rattle.bdb_format.proofs.VerdictLemmas.{AllFail, no_faults, none_holds}
+use Rattle.bdb_grove.specs.Part.{IsPart, Part}
+use Rattle.bdb_join.specs.Alone.{JoinsAlone, StandsAlone}
+use Rattle.bdb_join.specs.Joining.{AreJoined, HoldsLists, IsInPartOf, IsMetaOf, Joint, ShareOut, free_of}
+use Rattle.bdb_join.proofs.JoinLemmas.{joins_under_master}
+use Rattle.bdb_join.proofs.RoleLemmas.{no_meta_inside}
+
+-- the part under page 0
+abbrev joint_of : Part → Joint
+joint_of part = record { meta = 0; part = part }
+
+-- The part is joined.
+
+both_at_zero : (part : Part) (j : Joint) → Contains (joint_of part ∷ []) j → joint_of part ≡ j
+both_at_zero part j at = only_member (joint_of part) j at
+
+-- two joints of this list are one
+one_joint : (part : Part) (j k : Joint) → Contains (joint_of part ∷ []) j → Contains (joint_of part ∷ []) k → j ≡ k
+one_joint part j k one two = sym (both_at_zero part j one) ∙ both_at_zero part k two
+
+-- what is so of the joint is so of each of the list
+of_joint : (part : Part) (P : Joint → Type 0) → P (joint_of part) → (j : Joint) → Contains (joint_of part ∷ []) j → P j
+of_joint part P is j at = subst P (both_at_zero part j at) is
+
+zero_outside : (file : File) (part : Part) → StandsAlone file part → part.pages 0 ≡ false
+zero_outside file part alone =
+    elim (cases_Bool (part.pages 0)) [ inl inside ↦ absurd (omega (arith, alone.is.branch.grove.low 0 inside)) | inr outside ↦ outside ]
+
+each_shared : (file : File) (part : Part) (p : ℕ) → StandsAlone file part → p ≤ file.last
+    → IsMetaOf (joint_of part ∷ []) p ⊎ IsInPartOf (joint_of part ∷ []) p
+each_shared file part zero alone high = inl (joint_of part, first_member (joint_of part) [], refl)
+each_shared file part (suc p) alone high = inr (joint_of part, first_member (joint_of part) [], alone.all (suc p) (omega arith) high)
+
+shared_out : (file : File) (part : Part) → StandsAlone file part → ShareOut file (joint_of part ∷ [])
+shared_out file part alone =
+    record {
+      each = λ p high. each_shared file part p alone high;
+      meta_there = of_joint part (λ (j : Joint). j.meta ≤ file.last) (omega arith);
+      one_part = λ j k p one two _ _. one_joint part j k one two;
+      one_meta = λ j k one two _. one_joint part j k one two;
+      no_meta = λ j k one two.
+          of_joint part (λ (a : Joint). k.part.pages a.meta ≡ false)
+          (of_joint part (λ (b : Joint). b.part.pages 0 ≡ false) (zero_outside file part alone) k two) j one;
+    }
+
+joined : (file : File) (part : Part) → StandsAlone file part → AreJoined file (joint_of part ∷ [])
+joined file part alone =
+    record {
+      forest = alone.forest;
+      shared_out = shared_out file part alone;
+      parts = of_joint part (λ (j : Joint). IsPart file j.part) alone.is;
+      named = of_joint part (λ (j : Joint). page_at file j.meta ≡ Meta j.part.fields) alone.named;
+      no_free = of_joint part (λ (j : Joint). free_of j.part.fields ≡ 0) alone.no_free;
+    }
+
+-- Stage 7: page 0 is no master, and no other page is metadata.
+
+no_pairs : (file : File) (part : Part) → StandsAlone file part → master_pairs file ≡ []
+unfolding master_pairs
+no_pairs file part alone = ap (λ page. pairs_under file (master_in page)) alone.named ∙ ap (pairs_under file) alone.no_master
+
+no_named_kind : (file : File) (part : Part) (p : ℕ) → StandsAlone file part → p ≤ file.last → is_named_kind file p ≡ false
+no_named_kind file part zero alone high = refl
+no_named_kind file part (suc p) alone high =
+    elim (cases_Bool (is_meta (page_at file (suc p)))) [
+      | inl is ↦
+          absurd (no_meta_inside file (joint_of part ∷ []) (joint_of part) (suc p) (joined file part alone) (first_member (joint_of part) [])
+          (alone.all (suc p) (omega arith) high) is)
+      | inr no' ↦ and_right (nat_lt 0 (suc p)) (is_meta (page_at file (suc p))) no'
+    ]
+
+master_rows_fail : (file : File) (p : ℕ) → master_pairs file ≡ [] → is_named_kind file p ≡ false → AllFail (master_rows file p)
+master_rows_fail file p none other = (
+  and_left (is_named_kind file p) (length (naming file p) == 0) other,
+  (
+    ap (λ pairs. list_any (λ (pair : StoredPair). pair.page == p && is_none (named_by file pair.data_item)) pairs) none,
+    (
+      ap (λ pairs. list_any (λ (pair : StoredPair). pair.page == p && misses_target file (named_by file pair.data_item)) pairs) none,
+      (
+        ap (λ pairs. list_any (λ (pair : StoredPair). pair.page == p) (repeated pairs)) none,
+        (and_left (is_named_kind file p) (nat_lt 1 (length (naming file p))) other, tt),
+      ),
+    ),
+  ),
+)
+
+master_none : (file : File) (part : Part) → StandsAlone file part → master_faults file ≡ []
+unfolding master_faults
+master_none file part alone =
+    no_faults 7 0 (file.last + 1) (λ p. holding (master_rows file p)) (λ p low high.
+    none_holds (master_rows file p)
+    (master_rows_fail file p (no_pairs file part alone) (no_named_kind file part p alone (omega arith))))
+
+-- Its databases.
+
+one_database : (file : File) (part : Part) → StandsAlone file part → databases file ≡ record { name = None; fields = part.fields } ∷ []
+unfolding databases
+one_database file part alone =
+    ap (λ page. databases_under file (master_in page)) alone.named
+    ∙ (ap (databases_under file) alone.no_master ∙ ap (λ page. map (unnamed) (fields_in page)) alone.named)
+  where
+    unnamed : Metadata → Database
+    unnamed fields = record { name = None; fields = fields }
+
+pub joins_alone : JoinsAlone
+joins_alone image part form alone =
+    let file : File = file_of image in
+    let holds : HoldsLists image (joint_of part ∷ []) =
+    joins_under_master image (joint_of part ∷ []) (record { form = form; joined = joined file part alone }) (master_none file part alone) in
+    record {
+      sound = holds.sound;
+      verdict = ap first_judgement holds.sound;
+      alone = one_database file part alone;
+      list = alone.is.list;
+    }
