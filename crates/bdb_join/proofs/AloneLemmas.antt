@@ -1,5 +1,5 @@
 -- One part alone, under page 0.
-use Rattle.std.proofs.Common.{◌≡◌, ◌⊎◌, ℕ, zero, suc, ◌+◌, ◌≤◌, false, ◌&&◌, [], ◌∷◌, length, map, None, arith, refl, sym, ◌∙◌, ap, subst, inl, inr}
+use Rattle.std.proofs.Common.{◌≡◌, ◌⊎◌, ℕ, zero, suc, ◌+◌, ◌≤◌, true, false, ◌&&◌, [], ◌∷◌, length, map, None, arith, refl, sym, ◌∙◌, ap, subst, inl, inr}
 use Rattle.std.specs.Prelude.{◌==◌, nat_lt}
 use Rattle.std.specs.List.{Contains, list_any}
 use Rattle.std.proofs.lemmas.Bool.{cases_Bool, and_left, and_right}
@@ -74,13 +74,15 @@ no_pairs : (file : File) (part : Part) → StandsAlone file part → master_pair
 unfolding master_pairs
 no_pairs file part alone = ap (λ page. pairs_under file (master_in page)) alone.named ∙ ap (pairs_under file) alone.no_master
 
+pub no_other_meta : (file : File) (part : Part) (p : ℕ) → StandsAlone file part → 1 ≤ p → p ≤ file.last → is_meta (page_at file p) ≡ true → ⊥
+no_other_meta file part p alone above high is =
+    no_meta_inside file (joint_of part ∷ []) (joint_of part) p (joined file part alone) (first_member (joint_of part) []) (alone.all p above high) is
+
 no_named_kind : (file : File) (part : Part) (p : ℕ) → StandsAlone file part → p ≤ file.last → is_named_kind file p ≡ false
 no_named_kind file part zero alone high = refl
 no_named_kind file part (suc p) alone high =
     elim (cases_Bool (is_meta (page_at file (suc p)))) [
-      | inl is ↦
-          absurd (no_meta_inside file (joint_of part ∷ []) (joint_of part) (suc p) (joined file part alone) (first_member (joint_of part) [])
-          (alone.all (suc p) (omega arith) high) is)
+      | inl is ↦ absurd (no_other_meta file part (suc p) alone (omega arith) high is)
       | inr no' ↦ and_right (nat_lt 0 (suc p)) (is_meta (page_at file (suc p))) no'
     ]
 

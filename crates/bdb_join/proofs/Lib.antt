@@ -1,8 +1,12 @@
 pub mod AloneLemmas
+pub mod CommonLemmas
+pub mod HeadLemmas
 pub mod JoinLemmas
 pub mod MetaLemmas
 pub mod OwnerLemmas
 pub mod ReachLemmas
+pub mod ReadLemmas
 pub mod RoleLemmas
 pub mod SourceLemmas
 pub mod StageLemmas
+pub mod WrittenLemmas
