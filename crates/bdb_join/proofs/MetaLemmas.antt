@@ -1,5 +1,5 @@
 -- The references of metadata are those to the entrances of its part.
-use Rattle.std.proofs.Common.{◌≡◌, ℕ, ◌+◌, Bool, true, false, cond, [], ◌∷◌, ◌++◌, map, length, refl, sym, ◌∙◌, ap, subst}
+use Rattle.std.proofs.Common.{◌≡◌, ℕ, ◌+◌, Bool, true, false, cond, List, [], ◌∷◌, ◌++◌, map, length, refl, sym, ◌∙◌, ap, subst}
 use Rattle.std.specs.Prelude.{◌==◌}
 use Rattle.std.specs.List.{Contains, filter, range_with_len, enumerate_from}
 use Rattle.std.proofs.lemmas.List.{map-id}
@@ -50,7 +50,8 @@ pub record NamesEntrance (fields : Metadata) (r : Reference) : Type 0 where
 pub names_entrance : (file : File) (m : ℕ) (fields : Metadata) (r : Reference) → (file.kind ≡ QueueFile → ⊥) → page_at file m ≡ Meta fields
     → free_of fields ≡ 0 → Contains (refs file m) r → NamesEntrance fields r
 names_entrance file m fields r forest is none at =
-    let named = of_references 0 (map (entrance_of fields) (entrances fields)) r (subst (λ rs. Contains rs r) (refs_of_meta file m fields forest is none) at) in
+    let targets : List (Sort × ℕ) = map (entrance_of fields) (entrances fields) in
+    let named = of_references 0 targets r (subst (λ rs. Contains rs r) (refs_of_meta file m fields forest is none) at) in
     let found = of_map (entrance_of fields) (entrances fields) (r.sort, r.target) named in
     record {
       target = subst (Contains (entrances fields)) (ap (λ (t : Sort × ℕ). t.1) found.2) found.1;

@@ -15,8 +15,8 @@ use Rattle.bdb_pack.proofs.CutLemmas.{all_size, page_of_cut}
 use Rattle.bdb_join.specs.Written.{ImagesAreRead}
 
 -- the bytes of a page of the image are those of the list
-pub page_read : (built : Built) (image : List ℕ) (head : Head) (p : ℕ) → AreWhole built → image ≡ joined_pages built.pages → head.page_size ≡ built.size
-    → p < length built.pages → page_bytes head image p ≡ bytes_of built p
+pub page_read : (built : Built) (image : List ℕ) (head : Head) (p : ℕ) → AreWhole built → image ≡ joined_pages built.pages
+    → head.page_size ≡ built.size → p < length built.pages → page_bytes head image p ≡ bytes_of built p
 page_read built image head p whole is size low =
     let all = all_size built.size built.pages whole in
     ap (λ s. take s (drop (p * s) image)) size

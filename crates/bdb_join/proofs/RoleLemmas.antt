@@ -7,7 +7,8 @@ use Rattle.bdb_format.specs.declared.metadata.FileKind.{FileKind}
 use Rattle.bdb_format.specs.declared.metadata.FileKind.TheVariants.{Btree, Hash as HashFile, Queue as QueueFile}
 use Rattle.bdb_format.specs.Page.{Metadata, BtreeFields, HashFields, QueueFields, Page}
 use Rattle.bdb_format.specs.File.{File, page_at, header_in}
-use Rattle.bdb_format.specs.Graph.{Owner, owners, is_anchor, is_anchor_in, is_meta, is_head_reference, has_heads_alone, HasRole, IsOwnedOnce, IsSharedHead}
+use Rattle.bdb_format.specs.Graph.{Owner, owners, is_anchor, is_anchor_in, is_meta}
+use Rattle.bdb_format.specs.Graph.{is_head_reference, has_heads_alone, HasRole, IsOwnedOnce, IsSharedHead}
 use Rattle.bdb_format.proofs.GraphLemmas.{IsOwner, is_owner, anchor_unowned}
 use Rattle.bdb_format.proofs.MemberLemmas.{first_member, later_member, member_cases, no_member}
 use Rattle.bdb_grove.specs.Part.{IsOwnedBy, are_heads_alone, entrances, entrance_sort, owners_among}

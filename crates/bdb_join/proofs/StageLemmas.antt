@@ -1,5 +1,6 @@
 -- Stages 6 and 8 of joined parts, and stages 1 and 2 of their image.
-use Rattle.std.proofs.Common.{◌≡◌, ℕ, zero, suc, ◌+◌, ◌-◌, ◌<◌, ◌≤◌, Bool, true, false, ◌&&◌, List, [], ◌∷◌, map, None, arith, refl, sym, ◌∙◌, ap, subst, inl, inr, true≢false}
+use Rattle.std.proofs.Common.{◌≡◌, ℕ, zero, suc, ◌+◌, ◌-◌, ◌<◌, ◌≤◌, Bool, true, false, ◌&&◌, List}
+use Rattle.std.proofs.Common.{[], ◌∷◌, map, None, arith, refl, sym, ◌∙◌, ap, subst, inl, inr, true≢false}
 use Rattle.std.specs.Prelude.{◌==◌}
 use Rattle.std.specs.List.{Contains, filter, list_any, range_with_len}
 use Rattle.std.specs.Option.{option_to_list}
@@ -8,7 +9,8 @@ use Rattle.bdb_format.specs.declared.metadata.Head.{Head}
 use Rattle.bdb_format.specs.declared.references.Reference.{Reference}
 use Rattle.bdb_format.specs.declared.references.Sort.TheVariants.{Root}
 use Rattle.bdb_format.specs.Table.{Row, ◌:?◌, first_row}
-use Rattle.bdb_format.specs.Page.{Metadata, BtreeFields, HashFields, QueueFields, Page, Zero, Free, Meta, Hash, Internal, RecnoInternal, Leaf, RecnoLeaf, DupLeaf, Overflow, Queue, NoType}
+use Rattle.bdb_format.specs.Page.{Metadata, BtreeFields, HashFields, QueueFields, Page, Zero, Free, Meta}
+use Rattle.bdb_format.specs.Page.{Hash, Internal, RecnoInternal, Leaf, RecnoLeaf, DupLeaf, Overflow, Queue, NoType}
 use Rattle.bdb_format.specs.Reading.{abstract_page}
 use Rattle.bdb_format.specs.HeadOf.{head_of, head_rows}
 use Rattle.bdb_format.specs.Rows.{form_code}
@@ -18,7 +20,8 @@ use Rattle.bdb_format.specs.Graph.{Owner, all_references, held_by, is_meta}
 use Rattle.bdb_format.specs.Chains.{chains_in, is_wrong_length}
 use Rattle.bdb_format.specs.Leaves.{LeafPlace, is_root_reference, is_wrong_leaf, is_wrong_link, leaf_places, leaves, places_from, root_references}
 use Rattle.bdb_format.specs.ContentRows.{contents_rows, database_rows, fields_in, fields_of, holds_code, holds_somewhere}
-use Rattle.bdb_format.specs.Verdict.{holding, by_page, tail_rows, head_faults, tail_faults, form_faults, structure_rows, structure_faults, contents_faults}
+use Rattle.bdb_format.specs.Verdict.{holding, by_page, tail_rows, head_faults}
+use Rattle.bdb_format.specs.Verdict.{tail_faults, form_faults, structure_rows, structure_faults, contents_faults}
 use Rattle.bdb_format.proofs.ListLemmas.{only_member}
 use Rattle.bdb_format.proofs.MemberLemmas.{no_member, none_passes, none_pass, of_map, of_flat_map, of_filter, of_range}
 use Rattle.bdb_format.proofs.VerdictLemmas.{AllFail, all_fail, no_faults, none_holds}
@@ -66,8 +69,8 @@ places_of file owner = places_from owner.reference.sort 0 (leaves file owner.ref
 abbrev names_root : Owner → Bool
 names_root owner = is_root_reference owner.reference.sort
 
-owner_right : (file : File) (joints : List Joint) (owner : Owner) → AreJoined file joints → Contains (all_references file) owner → names_root owner ≡ true
-    → has_wrong_place file owner.reference.sort owner.reference.target ≡ false
+owner_right : (file : File) (joints : List Joint) (owner : Owner) → AreJoined file joints → Contains (all_references file) owner
+    → names_root owner ≡ true → has_wrong_place file owner.reference.sort owner.reference.target ≡ false
 unfolding all_references
 owner_right file joints owner all at is =
     let page = of_flat_map (held_by file) (range_with_len 0 (file.last + 1)) owner at in

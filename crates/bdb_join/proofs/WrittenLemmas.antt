@@ -1,12 +1,13 @@
 -- A tree under metadata that is written over page 0.
-use Rattle.std.proofs.Common.{◌≡◌, ℕ, zero, suc, ◌+◌, ◌*◌, ◌-◌, ◌<◌, ◌≤◌, true, List, [], ◌∷◌, ◌++◌, length, None, set, arith, append_assoc, refl, sym, ◌∙◌, ap, subst, length-append}
+use Rattle.std.proofs.Common.{◌≡◌, ℕ, zero, suc, ◌+◌, ◌*◌, ◌-◌, ◌<◌, ◌≤◌, true, List, []}
+use Rattle.std.proofs.Common.{◌∷◌, ◌++◌, length, None, set, arith, append_assoc, refl, sym, ◌∙◌, ap, subst, length-append}
 use Rattle.std.proofs.lemmas.List.{append-nil, get_or-map, get_or-set_other, get_or-set_same, length-replicate, length-set}
 use Rattle.bdb_format.specs.declared.kinds.Order.{Order}
 use Rattle.bdb_format.specs.declared.metadata.BtreeMeta.{BtreeMeta}
 use Rattle.bdb_format.specs.declared.metadata.FileKind.TheVariants.{Btree}
 use Rattle.bdb_format.specs.declared.metadata.Head.{Head}
 use Rattle.bdb_format.specs.Spelling.{btree_bytes, common_bytes, zeros}
-use Rattle.bdb_format.specs.Numbers.{byte_at, four_at, spelled}
+use Rattle.bdb_format.specs.Numbers.{spelled}
 use Rattle.bdb_format.specs.Page.{BtreeFields, Meta, NoType, Page}
 use Rattle.bdb_format.specs.Reading.{abstract_page}
 use Rattle.bdb_format.specs.HeadOf.{head_of, is_page_size}
@@ -46,20 +47,32 @@ page_length built page meta spells =
     ap length spells.bytes
     ∙ length-btree built.order built.size 0 (length built.pages - 1) meta (omega (arith, (size_bounds built.size spells.legal).0))
 
+-- the head of a file with such a page 0
+abbrev head_for : Built → Head
+head_for built = record {
+  order = built.order;
+  page_size = built.size;
+  kind = Btree;
+  last = length built.pages - 1;
+  pages = length built.pages;
+}
+
 -- what is read from the page, and from an image that begins with it
 reads_page : (built : Built) (page : List ℕ) (meta : BtreeMeta) (rest : List ℕ) → SpellsMeta built page meta
-    → ReadsAs built.order Btree built.size 0 (length built.pages - 1) (page ++ rest)
+    → ReadsAs (head_for built) 0 (page ++ rest)
 unfolding btree_bytes
 reads_page built page meta rest spells =
-    let n : ℕ = length built.pages - 1 in
+    let common : List ℕ = common_bytes built.order Btree built.size 0 meta.free (length built.pages - 1) meta.flags in
     let behind : List ℕ =
     zeros 4 ++ (spelled 4 built.order meta.minkey ++ (spelled 4 built.order meta.re_len ++ (spelled 4 built.order meta.re_pad
     ++ (spelled 4 built.order meta.root ++ zeros (built.size - 92))))) in
-    let is : page ++ rest ≡ common_bytes built.order Btree built.size 0 meta.free n meta.flags ++ (behind ++ rest) =
-    ap (λ bs. bs ++ rest) spells.bytes ∙ append_assoc (common_bytes built.order Btree built.size 0 meta.free n meta.flags) behind rest in
-    subst (ReadsAs built.order Btree built.size 0 n) (sym is)
-    (reads_common built.order Btree built.size 0 meta.free n meta.flags (behind ++ rest)
-    (omega (arith, (size_bounds built.size spells.legal).1)) (omega arith) (omega (arith, spells.few, spells.some)))
+    let is : page ++ rest ≡ common ++ (behind ++ rest) = ap (λ bs. bs ++ rest) spells.bytes ∙ append_assoc common behind rest in
+    subst (ReadsAs (head_for built) 0) (sym is)
+    (reads_common (head_for built) 0 meta.free meta.flags (behind ++ rest) (omega (arith, (size_bounds built.size spells.legal).1)) (omega arith)
+    (omega (arith, spells.few, spells.some)))
+
+reads_alone : (built : Built) (page : List ℕ) (meta : BtreeMeta) → SpellsMeta built page meta → ReadsAs (head_for built) 0 page
+reads_alone built page meta spells = subst (ReadsAs (head_for built) 0) (append-nil page) (reads_page built page meta [] spells)
 
 -- The image.
 
@@ -68,16 +81,16 @@ begins : (pages : List (List ℕ)) (page : List ℕ) → 1 ≤ length pages → 
 begins [] page some = absurd (omega arith)
 begins (old ∷ pages) page some = (joined_pages pages, refl)
 
-whole_after : (built : Built) (page : List ℕ) (meta : BtreeMeta) (image : List ℕ) → IsWritten built page meta image → AreWhole (with_page built 0 page)
+whole_after : (built : Built) (page : List ℕ) (meta : BtreeMeta) (image : List ℕ) → IsWritten built page meta image
+    → AreWhole (with_page built 0 page)
 whole_after built page meta image is = page_whole built 0 page is.whole (omega (arith, is.spells.some)) (page_length built page meta is.spells)
 
-is_image : (built : Built) (page : List ℕ) (meta : BtreeMeta) (image : List ℕ) → IsWritten built page meta image
-    → IsImage built.order Btree built.size (length built.pages) (length built.pages - 1) image
-is_image built page meta image is =
+head_is : (built : Built) (page : List ℕ) (meta : BtreeMeta) (image : List ℕ) → IsWritten built page meta image
+    → IsImage (head_for built) image
+head_is built page meta image is =
     let first = begins built.pages page is.spells.some in
     record {
-      reads = subst (ReadsAs built.order Btree built.size 0 (length built.pages - 1)) (sym (is.image_is ∙ first.1))
-          (reads_page built page meta first.0 is.spells);
+      reads = subst (ReadsAs (head_for built) 0) (sym (is.image_is ∙ first.1)) (reads_page built page meta first.0 is.spells);
       legal = is.spells.legal;
       long = ap length is.image_is
           ∙ ((all_size built.size (set built.pages 0 page) (whole_after built page meta image is)).1
@@ -88,21 +101,20 @@ is_image built page meta image is =
 has_head : (built : Built) (page : List ℕ) (meta : BtreeMeta) (image : List ℕ) → IsWritten built page meta image
     → HasHead (with_page built 0 page) image
 has_head built page meta image is =
-    let n : ℕ = length built.pages in
-    let facts = is_image built page meta image is in
-    let head : head_of image ≡ record { order = built.order; page_size = built.size; kind = Btree; last = n - 1; pages = n } =
-    image_head built.order Btree built.size n (n - 1) image facts in
-    let same : length (set built.pages 0 page) ≡ n = length-set built.pages 0 page in
+    let facts : IsImage (head_for built) image = head_is built page meta image is in
+    let head : head_of image ≡ head_for built = image_head (head_for built) image facts in
+    let same : length (set built.pages 0 page) ≡ length built.pages = length-set built.pages 0 page in
+    let btree : (head_of image).kind ≡ Btree = ap (λ (h : Head). h.kind) head in
     record {
-      accepted = head_accepted built.order Btree built.size n (n - 1) image facts;
+      accepted = head_accepted (head_for built) image facts;
       tells = record {
         size = ap (λ (h : Head). h.page_size) head;
         order = ap (λ (h : Head). h.order) head;
         last = omega (arith, ap (λ (h : Head). h.last) head, same, is.spells.some);
         pages = ap (λ (h : Head). h.pages) head ∙ sym same;
-        kind = λ queue. let btree : (head_of image).kind ≡ Btree = ap (λ (h : Head). h.kind) head in cc;
+        kind = λ queue. cc;
       };
-      kind = ap (λ (h : Head). h.kind) head;
+      kind = btree;
     }
 
 pub written_pages_are_read : WrittenPagesAreRead
@@ -152,12 +164,11 @@ zero_named built page meta image is =
     let low : 0 < length built.pages = omega (arith, is.spells.some) in
     let same : length after.pages ≡ length built.pages = length-set built.pages 0 page in
     let bytes : bytes_of after 0 ≡ page = get_or-set_same built.pages 0 page [] low in
-    let type : byte_at page 25 ≡ 9 =
-    ap (λ bs. byte_at bs 25) (sym (append-nil page)) ∙ (reads_page built page meta [] is.spells).type in
     let legal : is_page_size (length page) ≡ true = ap is_page_size (page_length built page meta is.spells) ∙ is.spells.legal in
     ap (λ (f : File). page_at f 0) (written_pages_are_read built page meta image is).1
     ∙ (page_so_far after 0 (omega (arith, low, same))
-    ∙ (ap (abstract_page built.order) bytes ∙ (tree_page built.order page legal type ∙ ap (λ m. Meta (BtreeFields m)) is.spells.fields)))
+    ∙ (ap (abstract_page built.order) bytes
+    ∙ (tree_page built.order page legal (reads_alone built page meta is.spells).type ∙ ap (λ m. Meta (BtreeFields m)) is.spells.fields)))
 
 -- the file has as many pages as there are
 last_of : (built : Built) (page : List ℕ) (meta : BtreeMeta) (image : List ℕ) → IsWritten built page meta image
@@ -190,16 +201,15 @@ zero_formed built page meta image is =
     page_read after image (head_of image) 0 (whole_after built page meta image is) is.image_is head.tells.size
     (omega (arith, low, length-set built.pages 0 page))
     ∙ get_or-set_same built.pages 0 page [] low in
-    let reads : ReadsAs built.order Btree built.size 0 (length built.pages - 1) page =
-    subst (ReadsAs built.order Btree built.size 0 (length built.pages - 1)) (append-nil page) (reads_page built page meta [] is.spells) in
+    let same : head_of image ≡ head_for built = image_head (head_for built) image (head_is built page meta image is) in
     ap (form_code (head_of image) 0) bytes
-    ∙ page_accepted (head_of image) built.size (length built.pages - 1) page meta.flags
-    (subst (λ order. ReadsAs order Btree built.size 0 (length built.pages - 1) page) (sym head.tells.order) reads) head.kind
-    (page_length built page meta is.spells)
-    (ap (λ order. four_at order page 48) head.tells.order ∙ ap (λ (m : BtreeMeta). m.flags) is.spells.fields) is.spells.flags
+    ∙ (ap (λ h. form_code h 0 page) same
+    ∙ page_accepted (head_for built) page meta.flags (reads_alone built page meta is.spells) refl (page_length built page meta is.spells)
+    (ap (λ (m : BtreeMeta). m.flags) is.spells.fields) is.spells.flags)
 
-above_formed : (built : Built) (page : List ℕ) (meta : BtreeMeta) (list : List (ListKey × List ℕ)) (image : List ℕ) (p : ℕ) → HoldsTree built meta list
-    → IsWritten built page meta image → 1 ≤ p → p ≤ (head_of image).last → form_code (head_of image) p (page_bytes (head_of image) image p) ≡ None
+above_formed : (built : Built) (page : List ℕ) (meta : BtreeMeta) (list : List (ListKey × List ℕ)) (image : List ℕ) (p : ℕ)
+    → HoldsTree built meta list → IsWritten built page meta image → 1 ≤ p → p ≤ (head_of image).last
+    → form_code (head_of image) p (page_bytes (head_of image) image p) ≡ None
 above_formed built page meta list image p holds is above high =
     let head : Head = head_of image in
     let has = has_head built page meta image is in
