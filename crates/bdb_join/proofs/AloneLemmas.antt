@@ -71,23 +71,24 @@ joined file part alone =
 
 -- Stage 7: page 0 is no master, and no other page is metadata.
 
-no_pairs : (file : File) (part : Part) → StandsAlone file part → master_pairs file ≡ []
+pub no_pairs_at : (file : File) (fields : Metadata) → page_at file 0 ≡ Meta fields → master_in (Meta fields) ≡ None → master_pairs file ≡ []
 unfolding master_pairs
-no_pairs file part alone = ap (λ page. pairs_under file (master_in page)) alone.named ∙ ap (pairs_under file) alone.no_master
+no_pairs_at file fields named none = ap (λ page. pairs_under file (master_in page)) named ∙ ap (pairs_under file) none
+
+-- a page is of a named kind where it's metadata above page 0 alone
+pub named_kind : (file : File) (p : ℕ) → (1 ≤ p → is_meta (page_at file p) ≡ true → ⊥) → is_named_kind file p ≡ false
+named_kind file zero other = refl
+named_kind file (suc p) other =
+    elim (cases_Bool (is_meta (page_at file (suc p)))) [
+      | inl is ↦ absurd (other (omega arith) is)
+      | inr no' ↦ and_right (nat_lt 0 (suc p)) (is_meta (page_at file (suc p))) no'
+    ]
 
 pub no_other_meta : (file : File) (part : Part) (p : ℕ) → StandsAlone file part → 1 ≤ p → p ≤ file.last → is_meta (page_at file p) ≡ true → ⊥
 no_other_meta file part p alone above high is =
     no_meta_inside file (joint_of part ∷ []) (joint_of part) p (joined file part alone) (first_member (joint_of part) []) (alone.all p above high) is
 
-no_named_kind : (file : File) (part : Part) (p : ℕ) → StandsAlone file part → p ≤ file.last → is_named_kind file p ≡ false
-no_named_kind file part zero alone high = refl
-no_named_kind file part (suc p) alone high =
-    elim (cases_Bool (is_meta (page_at file (suc p)))) [
-      | inl is ↦ absurd (no_other_meta file part (suc p) alone (omega arith) high is)
-      | inr no' ↦ and_right (nat_lt 0 (suc p)) (is_meta (page_at file (suc p))) no'
-    ]
-
-master_rows_fail : (file : File) (p : ℕ) → master_pairs file ≡ [] → is_named_kind file p ≡ false → AllFail (master_rows file p)
+pub master_rows_fail : (file : File) (p : ℕ) → master_pairs file ≡ [] → is_named_kind file p ≡ false → AllFail (master_rows file p)
 master_rows_fail file p none other = (
   and_left (is_named_kind file p) (length (naming file p) == 0) other,
   (
@@ -107,18 +108,21 @@ unfolding master_faults
 master_none file part alone =
     no_faults 7 0 (file.last + 1) (λ p. holding (master_rows file p)) (λ p low high.
     none_holds (master_rows file p)
-    (master_rows_fail file p (no_pairs file part alone) (no_named_kind file part p alone (omega arith))))
+    (master_rows_fail file p (no_pairs_at file part.fields alone.named alone.no_master)
+    (named_kind file p (λ above is. no_other_meta file part p alone above (omega arith) is))))
 
 -- Its databases.
 
-one_database : (file : File) (part : Part) → StandsAlone file part → databases file ≡ record { name = None; fields = part.fields } ∷ []
+-- page 0 that is no master is the database
+pub unnamed_at : (file : File) (fields : Metadata) → page_at file 0 ≡ Meta fields → master_in (Meta fields) ≡ None
+    → databases file ≡ record { name = None; fields = fields } ∷ []
 unfolding databases
-one_database file part alone =
-    ap (λ page. databases_under file (master_in page)) alone.named
-    ∙ (ap (databases_under file) alone.no_master ∙ ap (λ page. map (unnamed) (fields_in page)) alone.named)
+unnamed_at file fields named none =
+    ap (λ page. databases_under file (master_in page)) named
+    ∙ (ap (databases_under file) none ∙ ap (λ page. map unnamed (fields_in page)) named)
   where
     unnamed : Metadata → Database
-    unnamed fields = record { name = None; fields = fields }
+    unnamed other = record { name = None; fields = other }
 
 pub joins_alone : JoinsAlone
 joins_alone image part form alone =
@@ -128,6 +132,6 @@ joins_alone image part form alone =
     record {
       sound = holds.sound;
       verdict = ap first_judgement holds.sound;
-      alone = one_database file part alone;
+      alone = unnamed_at file part.fields alone.named alone.no_master;
       list = alone.is.list;
     }

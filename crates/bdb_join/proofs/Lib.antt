@@ -4,6 +4,7 @@ pub mod HeadLemmas
 pub mod JoinLemmas
 pub mod MetaLemmas
 pub mod OwnerLemmas
+pub mod QueueLemmas
 pub mod ReachLemmas
 pub mod ReadLemmas
 pub mod RoleLemmas

@@ -115,7 +115,7 @@ no_code code (row ∷ rows) fail =
     or_from (row.code == code && row.holds) (holds_code code rows) (and_right (row.code == code) row.holds fail.0) (no_code code rows fail.1)
 
 -- a page with these fields is metadata with them
-fields_are : (page : Page) (fields : Metadata) → Contains (fields_in page) fields → page ≡ Meta fields
+pub fields_are : (page : Page) (fields : Metadata) → Contains (fields_in page) fields → page ≡ Meta fields
 fields_are (Meta other) fields at = ap (λ f. Meta f) (only_member other fields at)
 fields_are Zero fields at = absurd (no_member [] fields refl at)
 fields_are (Free header) fields at = absurd (no_member [] fields refl at)
@@ -129,7 +129,7 @@ fields_are (Overflow header piece) fields at = absurd (no_member [] fields refl 
 fields_are (Queue number records) fields at = absurd (no_member [] fields refl at)
 fields_are NoType fields at = absurd (no_member [] fields refl at)
 
-fields_same : (fields other : Metadata) → Meta fields ≡ Meta other → fields ≡ other
+pub fields_same : (fields other : Metadata) → Meta fields ≡ Meta other → fields ≡ other
 fields_same fields other same = cc
 
 -- each page of the list is that of a number
@@ -150,7 +150,7 @@ meta_contents file joints p code fields all pages at =
       | inr (j, member, inside) ↦ absurd (no_meta_inside file joints j there.0 all member inside (ap is_meta is))
     ]
 
-numbered_fail : (from n : ℕ) (test : ℕ → Bool) → ((code : ℕ) → test code ≡ false) → AllFail (map (λ code. code :? test code) (range_with_len from n))
+pub numbered_fail : (from n : ℕ) (test : ℕ → Bool) → ((code : ℕ) → test code ≡ false) → AllFail (map (λ code. code :? test code) (range_with_len from n))
 numbered_fail from zero test none = tt
 numbered_fail from (suc n) test none = (none from, numbered_fail (from + 1) n test none)
 

@@ -1,3 +1,4 @@
 pub mod Alone
 pub mod Joining
+pub mod Queues
 pub mod Written

@@ -1,6 +1,7 @@
 //! Laws that join parts of a file under their metadata pages.
 ghost use Rattle.bdb_join.specs.Alone.{JoinsAlone};
 ghost use Rattle.bdb_join.specs.Joining.{JoinsUnderMaster};
+ghost use Rattle.bdb_join.specs.Queues.{QueuesAreSound};
 ghost use Rattle.bdb_join.specs.Written.{ImagesAreRead, WrittenPagesAreRead, WrittenTreesAreSound};
 
 /// One part under page 0, which is no master, makes a sound file, whose one database has the list of the part.
@@ -27,4 +28,9 @@ pub fn written_pages_are_read()
 /// the list of the tree.
 pub fn written_trees_are_sound()
     ensures { WrittenTreesAreSound }
+{}
+
+/// A queue for which no row of stages 1 and 2 holds is sound, and has one database.
+pub fn queues_are_sound()
+    ensures { QueuesAreSound }
 {}
