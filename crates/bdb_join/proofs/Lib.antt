@@ -1,8 +1,12 @@
 pub mod AloneLemmas
 pub mod CommonLemmas
+pub mod FirstLemmas
 pub mod HeadLemmas
 pub mod JoinLemmas
+pub mod KnownLemmas
+pub mod MasterLemmas
 pub mod MetaLemmas
+pub mod NamedLemmas
 pub mod OwnerLemmas
 pub mod QueueLemmas
 pub mod ReachLemmas

@@ -1,10 +1,10 @@
 -- A queue whose pages have their form is sound: it has no references, and each page is an anchor.
 use Rattle.std.proofs.Common.{◌≡◌, ℕ, zero, suc, ◌+◌, ◌≤◌, Bool, true, false, List, [], ◌∷◌, map, None}
-use Rattle.std.proofs.Common.{arith, refl, sym, ◌∙◌, ap, get_or, inl, inr}
+use Rattle.std.proofs.Common.{arith, refl, sym, ◌∙◌, ap, inl, inr}
 use Rattle.std.specs.Prelude.{◌==◌, ◌&&◌}
 use Rattle.std.specs.List.{enumerate_from, list_any, range_with_len}
 use Rattle.std.specs.Option.{option_to_list}
-use Rattle.std.proofs.lemmas.Bool.{and_parts, cases_Bool, eqb-true, or_left}
+use Rattle.std.proofs.lemmas.Bool.{cases_Bool, eqb-true, or_left}
 use Rattle.bdb_format.specs.declared.metadata.FileKind.TheVariants.{Queue as QueueFile}
 use Rattle.bdb_format.specs.declared.metadata.Head.{Head}
 use Rattle.bdb_format.specs.declared.metadata.QueueMeta.{QueueMeta}
@@ -15,8 +15,7 @@ use Rattle.bdb_format.specs.Numbers.{byte_at}
 use Rattle.bdb_format.specs.Page.{Metadata, QueueFields, Page, Zero, Free, Meta, Hash, Internal, RecnoInternal}
 use Rattle.bdb_format.specs.Page.{Leaf, RecnoLeaf, DupLeaf, Overflow, Queue, NoType}
 use Rattle.bdb_format.specs.Reading.{abstract_page, is_zero, page_as, page_type, queue_fields}
-use Rattle.bdb_format.specs.Rows.{form_code, may_have_type, metadata_rows}
-use Rattle.bdb_format.specs.Table.{first_row}
+use Rattle.bdb_format.specs.Rows.{form_code, may_have_type}
 use Rattle.bdb_format.specs.File.{File, file_of, page_at, page_bytes}
 use Rattle.bdb_format.specs.References.{fit_code, refs, targets_of}
 use Rattle.bdb_format.specs.Graph.{Owner, all_references, held_by, is_anchor, is_anchor_in, is_meta, is_reserve}
@@ -29,12 +28,12 @@ use Rattle.bdb_format.specs.Verdict.{ownership_faults, reach_faults, reference_f
 use Rattle.bdb_format.proofs.GraphLemmas.{each_page_has_one_role, type_fits, typed_page, zero_page}
 use Rattle.bdb_format.proofs.MemberLemmas.{is_empty, no_member, none_pass, of_flat_map, of_map}
 use Rattle.bdb_format.proofs.PageLemmas.{later_type}
-use Rattle.bdb_format.proofs.VerdictLemmas.{AllFail, no_code, no_codes_at, no_faults, none_holds, none_in, none_is_first_row, none_within}
-use Rattle.bdb_graph.proofs.CodeLemmas.{first_page_code, is_same}
+use Rattle.bdb_format.proofs.VerdictLemmas.{no_code, no_codes_at, no_faults, none_holds, none_in, none_within}
 use Rattle.bdb_graph.proofs.HeldLemmas.{kind_is, last_page, page_is}
 use Rattle.bdb_graph.proofs.ReachLemmas.{at_end}
 use Rattle.bdb_join.specs.Queues.{QueuesAreSound}
 use Rattle.bdb_join.proofs.AloneLemmas.{master_rows_fail, named_kind, no_pairs_at, unnamed_at}
+use Rattle.bdb_join.proofs.FirstLemmas.{first_type}
 use Rattle.bdb_join.proofs.StageLemmas.{ArePages, fields_are, fields_same, numbered_fail, pages_of_file}
 
 -- Its pages.
@@ -50,24 +49,6 @@ record IsQueueFile (file : File) (meta : QueueMeta) : Type 0 where
   kind : file.kind ≡ QueueFile
   named : page_at file 0 ≡ Meta (QueueFields meta)
   pages : (p : ℕ) → 1 ≤ p → p ≤ file.last → is_records (page_at file p) ≡ true
-
-zero_byte : (page : List ℕ) (k : ℕ) → is_zero page ≡ true → get_or page k 0 ≡ 0
-zero_byte [] k zeros = refl
-zero_byte (b ∷ page) zero zeros = eqb-true b 0 (and_parts (b == 0) (is_zero page) zeros).0
-zero_byte (b ∷ page) (suc k) zeros = zero_byte page k (and_parts (b == 0) (is_zero page) zeros).1
-
-first_page : (head : Head) (page : List ℕ) → head.kind ≡ QueueFile → form_code head 0 page ≡ None
-    → abstract_page head.order page ≡ Meta (QueueFields (queue_fields head.order page))
-unfolding metadata_rows
-first_page head page queue none =
-    let rows = metadata_rows head.order page 0 head.last QueueFile in
-    let fail : AllFail rows =
-    none_is_first_row rows (ap (λ k. first_row (metadata_rows head.order page 0 head.last k)) (sym queue) ∙ (sym (first_page_code head page) ∙ none)) in
-    let type : byte_at page 25 ≡ 10 = is_same (byte_at page 25) 10 fail.1.0 in
-    elim (cases_Bool (is_zero page)) [
-      | inl zeros ↦ absurd (omega (arith, type, zero_byte page 25 zeros))
-      | inr some ↦ typed_page head.order page some ∙ ap (λ b. page_as head.order page (page_type b)) type
-    ]
 
 later_page : (head : Head) (p : ℕ) (page : List ℕ) → head.kind ≡ QueueFile → form_code head (suc p) page ≡ None
     → is_records (abstract_page head.order page) ≡ true
@@ -97,7 +78,7 @@ queue_file image none queue =
     let kind : head.kind ≡ QueueFile = sym (kind_is image) ∙ queue in
     record {
       kind = queue;
-      named = page_is image 0 (omega arith) ∙ first_page head (page_bytes head image 0) kind (formed image 0 none (omega arith));
+      named = page_is image 0 (omega arith) ∙ first_type head (page_bytes head image 0) QueueFile kind (formed image 0 none (omega arith));
       pages = λ p above high. later p above (omega (arith, high, last_page image));
     }
   where

@@ -150,7 +150,8 @@ meta_contents file joints p code fields all pages at =
       | inr (j, member, inside) ↦ absurd (no_meta_inside file joints j there.0 all member inside (ap is_meta is))
     ]
 
-pub numbered_fail : (from n : ℕ) (test : ℕ → Bool) → ((code : ℕ) → test code ≡ false) → AllFail (map (λ code. code :? test code) (range_with_len from n))
+pub numbered_fail : (from n : ℕ) (test : ℕ → Bool) → ((code : ℕ) → test code ≡ false)
+    → AllFail (map (λ code. code :? test code) (range_with_len from n))
 numbered_fail from zero test none = tt
 numbered_fail from (suc n) test none = (none from, numbered_fail (from + 1) n test none)
 

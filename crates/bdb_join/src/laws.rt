@@ -1,6 +1,7 @@
 //! Laws that join parts of a file under their metadata pages.
 ghost use Rattle.bdb_join.specs.Alone.{JoinsAlone};
 ghost use Rattle.bdb_join.specs.Joining.{JoinsUnderMaster};
+ghost use Rattle.bdb_join.specs.Masters.{JoinsAll};
 ghost use Rattle.bdb_join.specs.Queues.{QueuesAreSound};
 ghost use Rattle.bdb_join.specs.Written.{ImagesAreRead, WrittenPagesAreRead, WrittenTreesAreSound};
 
@@ -33,4 +34,9 @@ pub fn written_trees_are_sound()
 /// A queue for which no row of stages 1 and 2 holds is sound, and has one database.
 pub fn queues_are_sound()
     ensures { QueuesAreSound }
+{}
+
+/// Parts under the metadata pages that a master's list names make a sound file, whose databases are those of the list.
+pub fn joins_all()
+    ensures { JoinsAll }
 {}
