@@ -1,6 +1,6 @@
 -- What is read of the fields that all metadata has.
-use Rattle.std.proofs.Common.{◌≡◌, ℕ, ◌^◌, ◌<◌, List, [], ◌∷◌, ◌++◌, take, drop, arith, append_assoc, refl, ◌∙◌, ap, length-append}
-use Rattle.std.specs.Prelude.{if◌then◌else◌}
+use Rattle.std.proofs.Common.{◌≡◌, ℕ, true, false, cond, ◌^◌, ◌<◌, List, [], ◌∷◌, ◌++◌, take, drop, arith, append_assoc, refl, ◌∙◌, ap, length-append}
+use Rattle.std.specs.Prelude.{◌==◌, if◌then◌else◌}
 use Rattle.std.proofs.lemmas.List.{take_at}
 use Rattle.bdb_format.specs.declared.kinds.Order.{Order}
 use Rattle.bdb_format.specs.declared.kinds.Order.TheVariants.{Big, Little}
@@ -10,7 +10,7 @@ use Rattle.bdb_format.specs.declared.metadata.Head.{Head}
 use Rattle.bdb_format.specs.HeadOf.{is_magic, order_of}
 use Rattle.bdb_format.specs.Numbers.{byte_at, four_at, number, number_at, spelled}
 use Rattle.bdb_format.specs.Rows.{magic_of, type_of, version_of}
-use Rattle.bdb_format.specs.Spelling.{common_bytes, lsn_bytes, zeros}
+use Rattle.bdb_format.specs.Spelling.{common_bytes, last_field, lsn_bytes, zeros}
 use Rattle.bdb_format.proofs.SpellingLemmas.{byte_at-in, drop-behind, length-spelled, number_at-in}
 use Rattle.bdb_meta.proofs.FilledLemmas.{zeros-spelled}
 
@@ -24,7 +24,7 @@ pub record ReadsAs (head : Head) (number : ℕ) (bytes : List ℕ) : Type 0 wher
   pub plain : byte_at bytes 24 ≡ 0
   pub type : byte_at bytes 25 ≡ type_of head.kind
   pub flags : byte_at bytes 26 ≡ 0
-  pub last_is : four_at head.order bytes 32 ≡ head.last
+  pub last_is : four_at head.order bytes 32 ≡ last_field number head.last
   pub partitions : four_at head.order bytes 36 ≡ 0
 
 -- from bytes in either order the magic number is told from itself turned round
@@ -47,6 +47,9 @@ small_version Btree = omega arith
 small_version Hash = omega arith
 small_version Queue = omega arith
 
+small_field : (number last : ℕ) → last < 2 ^ 32 → last_field number last < 2 ^ 32
+small_field number last small = elim (number == 0) as (λ b. cond b last 0 < 2 ^ 32) [ true ↦ small | false ↦ omega arith ]
+
 order_read : (order : Order) (kind : FileKind) (bytes rest : List ℕ) → drop 12 bytes ≡ spelled 4 order (magic_of kind) ++ rest
     → order_of bytes ≡ order
 unfolding number_at
@@ -58,16 +61,17 @@ order_read order kind bytes rest at =
 
 -- what all metadata spells is read back
 pub reads_common : (head : Head) (number free flags : ℕ) (rest : List ℕ) → head.page_size < 2 ^ 32 → number < 2 ^ 32 → head.last < 2 ^ 32
-    → ReadsAs head number (common_bytes head.order head.kind head.page_size number free head.last flags ++ rest)
+    → ReadsAs head number (common_bytes head.order head.kind head.page_size number free (last_field number head.last) flags ++ rest)
 unfolding common_bytes
 reads_common head number free flags rest small_size small_number small_last =
     let order : Order = head.order in
+    let last : ℕ = last_field number head.last in
     let magic : ℕ = magic_of head.kind in
     let version : ℕ = version_of head.kind in
     let type : ℕ = type_of head.kind in
-    let bytes : List ℕ = common_bytes order head.kind head.page_size number free head.last flags ++ rest in
+    let bytes : List ℕ = common_bytes order head.kind head.page_size number free last flags ++ rest in
     let end : List ℕ = zeros 8 ++ (spelled 4 order flags ++ (zeros 20 ++ rest)) in
-    let behind : List ℕ = spelled 4 order free ++ (spelled 4 order head.last ++ (spelled 4 order 0 ++ end)) in
+    let behind : List ℕ = spelled 4 order free ++ (spelled 4 order last ++ (spelled 4 order 0 ++ end)) in
     let bits : List ℕ = 0 ∷ type ∷ 0 ∷ 0 ∷ behind in
     let from_size : List ℕ = spelled 4 order head.page_size ++ bits in
     let from_version : List ℕ = spelled 4 order version ++ from_size in
@@ -93,8 +97,8 @@ reads_common head number free flags rest small_size small_number small_last =
       plain = byte_at-in bytes 24 24 [] 0 (type ∷ 0 ∷ 0 ∷ behind) at24 refl;
       type = byte_at-in bytes 24 25 (0 ∷ []) type (0 ∷ 0 ∷ behind) at24 refl;
       flags = byte_at-in bytes 24 26 (0 ∷ type ∷ []) 0 (0 ∷ behind) at24 refl;
-      last_is = number_at-in 4 order head.last bytes 28 32 (spelled 4 order free) (spelled 4 order 0 ++ end) at28
-          (omega (arith, length-spelled 4 order free)) small_last;
-      partitions = number_at-in 4 order 0 bytes 28 36 (spelled 4 order free ++ spelled 4 order head.last) end
+      last_is = number_at-in 4 order last bytes 28 32 (spelled 4 order free) (spelled 4 order 0 ++ end) at28
+          (omega (arith, length-spelled 4 order free)) (small_field number head.last small_last);
+      partitions = number_at-in 4 order 0 bytes 28 36 (spelled 4 order free ++ spelled 4 order last) end
           (at28 ∙ simp append_assoc) (simp (length-append, length-spelled)) (omega arith);
     }

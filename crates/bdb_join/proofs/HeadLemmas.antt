@@ -1,9 +1,9 @@
 -- The head of an image whose page 0 is metadata of a kind, and the rows of such a page.
 use Rattle.std.proofs.Common.{◌≡◌, ℕ, zero, suc, ◌+◌, ◌*◌, ◌/◌, ◌%◌, ◌<◌, ◌≤◌, ◌||◌, ◌&&◌}
-use Rattle.std.proofs.Common.{true, false, List, [], ◌∷◌, length, None, arith, refl, sym, ◌∙◌, ap}
+use Rattle.std.proofs.Common.{Bool, true, false, List, [], ◌∷◌, length, Option, None, Some, arith, refl, sym, ◌∙◌, ap}
 use Rattle.std.specs.Prelude.{◌==◌, nat_le, nat_lt, not}
 use Rattle.std.proofs.Math.Nat.{mul-div_cancel, mul-mod_left}
-use Rattle.std.proofs.lemmas.Bool.{eq-eqb, le-ltb, lt-leb, ne_eqb}
+use Rattle.std.proofs.lemmas.Bool.{and_right, eq-eqb, le-ltb, lt-leb, ne_eqb}
 use Rattle.bdb_format.specs.declared.kinds.Order.{Order}
 use Rattle.bdb_format.specs.declared.metadata.FileKind.{FileKind}
 use Rattle.bdb_format.specs.declared.metadata.FileKind.TheVariants.{Btree, Hash, Queue}
@@ -11,10 +11,12 @@ use Rattle.bdb_format.specs.declared.metadata.Head.{Head}
 use Rattle.bdb_format.specs.HeadOf.{file_kind, head_of, head_rows, heap_magic, is_magic}
 use Rattle.bdb_format.specs.HeadOf.{is_page_size, is_past, last_page, magic_at, order_of, pages_of}
 use Rattle.bdb_format.specs.Numbers.{byte_at, four_at, has_bit}
-use Rattle.bdb_format.specs.Rows.{are_wrong_flags, form_code, is_queue, magic_of, metadata_rows, type_of, version_of}
+use Rattle.bdb_format.specs.Rows.{are_wrong_flags, body_code, form_code, identity_rows, is_queue}
+use Rattle.bdb_format.specs.Rows.{is_tree_type, magic_of, metadata_rows, page_code, type_of, version_of}
+use Rattle.bdb_format.specs.Reading.{is_zero, page_type}
 use Rattle.bdb_format.specs.Table.{Row, first_row}
 use Rattle.bdb_format.proofs.VerdictLemmas.{AllFail, none_is_first_row}
-use Rattle.bdb_graph.proofs.CodeLemmas.{first_page_code}
+use Rattle.bdb_graph.proofs.CodeLemmas.{code_by, first_page_code, tree_metadata}
 use Rattle.bdb_graph.proofs.FormedLemmas.{size_bounds}
 use Rattle.bdb_meta.specs.RowGroups.{flag_rows}
 use Rattle.bdb_join.proofs.CommonLemmas.{ReadsAs}
@@ -145,39 +147,87 @@ head_accepted head image is =
 
 -- Page 0.
 
--- no row of form holds for btree metadata on page 0
-pub page_accepted : (head : Head) (page : List ℕ) (flags : ℕ) → ReadsAs head 0 page → head.kind ≡ Btree → length page ≡ head.page_size
-    → four_at head.order page 48 ≡ flags → first_row (flag_rows 0 flags) ≡ None → form_code head 0 page ≡ None
-unfolding metadata_rows
-page_accepted head page flags reads kind long flags_are none =
-    first_page_code head page
-    ∙ (ap (λ k. first_row (metadata_rows head.order page 0 head.last k)) kind
-    ∙ first_of_none (metadata_rows head.order page 0 head.last Btree)
-    (number, (type, (refl, (refl, (size, (plain, (sum, (parted, (compressed, (wrong_flags, tt)))))))))))
-  where
-    fail : AllFail (flag_rows 0 flags)
-    fail = none_is_first_row (flag_rows 0 flags) none
+-- btree metadata of a page of this number, without a row of flags
+pub record IsBtreePage (head : Head) (number : ℕ) (page : List ℕ) (flags : ℕ) : Type 0 where
+  pub reads : ReadsAs head number page
+  pub kind : head.kind ≡ Btree
+  pub legal : is_page_size head.page_size ≡ true
+  pub long : length page ≡ head.page_size
+  pub flags_are : four_at head.order page 48 ≡ flags
+  pub none : first_row (flag_rows number flags) ≡ None
 
-    number : not (four_at head.order page 8 == 0) ≡ false
-    number = ap not (eq-eqb (four_at head.order page 8) 0 reads.number_is)
+page_type_is : (head : Head) (number : ℕ) (page : List ℕ) (flags : ℕ) → IsBtreePage head number page flags → byte_at page 25 ≡ 9
+page_type_is head number page flags is = is.reads.type ∙ ap type_of is.kind
+
+-- no row of metadata holds for it
+rows_accepted : (head : Head) (number : ℕ) (page : List ℕ) (flags : ℕ) → IsBtreePage head number page flags
+    → first_row (metadata_rows head.order page number head.last Btree) ≡ None
+unfolding metadata_rows
+rows_accepted head number page flags is =
+    first_of_none (metadata_rows head.order page number head.last Btree)
+    (own, (type, (magic, (version, (size, (plain, (sum, (parted, (compressed, (wrong_flags, tt))))))))))
+  where
+    fail : AllFail (flag_rows number flags)
+    fail = none_is_first_row (flag_rows number flags) is.none
+
+    own : not (four_at head.order page 8 == number) ≡ false
+    own = ap not (eq-eqb (four_at head.order page 8) number is.reads.number_is)
 
     type : not (byte_at page 25 == 9) ≡ false
-    type = ap not (eq-eqb (byte_at page 25) 9 (reads.type ∙ ap type_of kind))
+    type = ap not (eq-eqb (byte_at page 25) 9 (page_type_is head number page flags is))
+
+    magic : (nat_lt 0 number && not (four_at head.order page 12 == magic_of Btree)) ≡ false
+    magic =
+        and_right (nat_lt 0 number) (not (four_at head.order page 12 == magic_of Btree))
+        (ap not (eq-eqb (four_at head.order page 12) (magic_of Btree) (is.reads.magic ∙ ap magic_of is.kind)))
+
+    version : (nat_lt 0 number && not (four_at head.order page 16 == version_of Btree)) ≡ false
+    version =
+        and_right (nat_lt 0 number) (not (four_at head.order page 16 == version_of Btree))
+        (ap not (eq-eqb (four_at head.order page 16) (version_of Btree) (is.reads.version ∙ ap version_of is.kind)))
 
     size : not (four_at head.order page 20 == length page) ≡ false
-    size = ap not (eq-eqb (four_at head.order page 20) (length page) (reads.size_is ∙ sym long))
+    size = ap not (eq-eqb (four_at head.order page 20) (length page) (is.reads.size_is ∙ sym is.long))
 
     plain : not (byte_at page 24 == 0) ≡ false
-    plain = ap (λ b. not (b == 0)) reads.plain
+    plain = ap (λ b. not (b == 0)) is.reads.plain
 
     sum : has_bit (byte_at page 26) 0x01 ≡ false
-    sum = ap (λ b. has_bit b 0x01) reads.flags
+    sum = ap (λ b. has_bit b 0x01) is.reads.flags
 
     parted : (has_bit (byte_at page 26) 0x06 || not (four_at head.order page 36 == 0)) ≡ false
-    parted = ap (λ b. has_bit b 0x06 || not (four_at head.order page 36 == 0)) reads.flags ∙ ap (λ n. not (n == 0)) reads.partitions
+    parted = ap (λ b. has_bit b 0x06 || not (four_at head.order page 36 == 0)) is.reads.flags ∙ ap (λ n. not (n == 0)) is.reads.partitions
 
     compressed : has_bit (four_at head.order page 48) 0x80 ≡ false
-    compressed = ap (λ n. has_bit n 0x80) flags_are ∙ fail.0
+    compressed = ap (λ n. has_bit n 0x80) is.flags_are ∙ fail.0
 
-    wrong_flags : are_wrong_flags 0 (four_at head.order page 48) ≡ false
-    wrong_flags = ap (λ n. are_wrong_flags 0 n) flags_are ∙ fail.1.0
+    wrong_flags : are_wrong_flags number (four_at head.order page 48) ≡ false
+    wrong_flags = ap (λ n. are_wrong_flags number n) is.flags_are ∙ fail.1.0
+
+none_by : (zeros : Bool) (identity typed : Option ℕ) → identity ≡ None → typed ≡ None → code_by zeros identity typed ≡ None
+none_by true identity typed one two = refl
+none_by false None typed one two = two
+none_by false (Some code) typed one two = absurd cc
+
+-- above page 0 its number and its type are right
+code_accepted : (head : Head) (number : ℕ) (page : List ℕ) (flags : ℕ) → IsBtreePage head number page flags → page_code head.order number page ≡ None
+unfolding page_code
+code_accepted head number page flags is =
+    let type : byte_at page 25 ≡ 9 = page_type_is head number page flags is in
+    none_by (is_zero page) (first_row (identity_rows head.order page number is_tree_type)) (body_code head.order page (page_type (byte_at page 25)))
+    (first_of_none (identity_rows head.order page number is_tree_type)
+    (ap not (eq-eqb (four_at head.order page 8) number is.reads.number_is), (ap (λ b. not (is_tree_type b)) type, tt)))
+    (ap (λ b. body_code head.order page (page_type b)) type)
+
+-- no row of form holds for btree metadata
+pub page_accepted : (head : Head) (number : ℕ) (page : List ℕ) (flags : ℕ) → IsBtreePage head number page flags → form_code head number page ≡ None
+page_accepted head zero page flags is =
+    first_page_code head page
+    ∙ (ap (λ k. first_row (metadata_rows head.order page 0 head.last k)) is.kind ∙ rows_accepted head 0 page flags is)
+page_accepted head (suc n) page flags is =
+    tree_metadata head (suc n) page Btree (omega arith) (λ queue. no_queue is.kind queue) (code_accepted head (suc n) page flags is)
+    (ap is_page_size is.long ∙ is.legal) (page_type_is head (suc n) page flags is)
+    ∙ rows_accepted head (suc n) page flags is
+  where
+    no_queue : head.kind ≡ Btree → head.kind ≡ Queue → ⊥
+    no_queue btree queue = cc

@@ -1,5 +1,6 @@
 pub mod AloneLemmas
 pub mod CommonLemmas
+pub mod FiledLemmas
 pub mod FirstLemmas
 pub mod HeadLemmas
 pub mod JoinLemmas

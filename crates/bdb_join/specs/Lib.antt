@@ -1,4 +1,5 @@
 pub mod Alone
+pub mod Filed
 pub mod Joining
 pub mod Masters
 pub mod Queues

@@ -25,19 +25,23 @@ ImagesAreRead =
     (built : Built) (image : List ℕ) → AreWhole built → image ≡ joined_pages built.pages → TellsPages built image → (head_of image).kind ≡ Btree
     → file_of image ≡ file_so_far built
 
--- the bytes of a page spell these fields as metadata of page 0, which says how many pages there are, and no row of flags holds for it
-pub record SpellsMeta (built : Built) (page : List ℕ) (meta : BtreeMeta) : Type 0 where
+-- the bytes of a page spell these fields as metadata of a page of this number, and no row of flags holds for it
+pub record SpellsMeta (built : Built) (number : ℕ) (page : List ℕ) (meta : BtreeMeta) : Type 0 where
+  pub bytes : page ≡ btree_bytes built.order built.size number (length built.pages - 1) meta
+  pub fields : btree_fields built.order page ≡ meta
+  pub flags : first_row (flag_rows number meta.flags) ≡ None
+
+-- whole pages of a legal size, at least one, and no more than page 0 can say
+pub record AreLegal (built : Built) : Type 0 where
   pub legal : IsTrue (is_page_size built.size)
   pub some : 1 ≤ length built.pages
   pub few : length built.pages ≤ 2 ^ 32
-  pub bytes : page ≡ btree_bytes built.order built.size 0 (length built.pages - 1) meta
-  pub fields : btree_fields built.order page ≡ meta
-  pub flags : first_row (flag_rows 0 meta.flags) ≡ None
-
--- the image of whole pages after such a page is written over page 0
-pub record IsWritten (built : Built) (page : List ℕ) (meta : BtreeMeta) (image : List ℕ) : Type 0 where
   pub whole : AreWhole built
-  pub spells : SpellsMeta built page meta
+
+-- the image of such pages after btree metadata is written over page 0
+pub record IsWritten (built : Built) (page : List ℕ) (meta : BtreeMeta) (image : List ℕ) : Type 0 where
+  pub pages : AreLegal built
+  pub spells : SpellsMeta built 0 page meta
   pub image_is : image ≡ joined_pages (with_page built 0 page).pages
 
 -- page 0 of an image has no row of stage 1, and says what the pages are

@@ -1,5 +1,6 @@
 //! Laws that join parts of a file under their metadata pages.
 ghost use Rattle.bdb_join.specs.Alone.{JoinsAlone};
+ghost use Rattle.bdb_join.specs.Filed.{FiledPartsAreJoined};
 ghost use Rattle.bdb_join.specs.Joining.{JoinsUnderMaster};
 ghost use Rattle.bdb_join.specs.Masters.{JoinsAll};
 ghost use Rattle.bdb_join.specs.Queues.{QueuesAreSound};
@@ -39,4 +40,9 @@ pub fn queues_are_sound()
 /// Parts under the metadata pages that a master's list names make a sound file, whose databases are those of the list.
 pub fn joins_all()
     ensures { JoinsAll }
+{}
+
+/// Parts whose btree metadata is written on pages of their own, page 0 among them, are an image with form of joined parts.
+pub fn filed_parts_are_joined()
+    ensures { FiledPartsAreJoined }
 {}
