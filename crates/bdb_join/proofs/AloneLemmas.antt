@@ -38,34 +38,25 @@ one_joint part j k one two = sym (both_at_zero part j one) ∙ both_at_zero part
 pub of_joint : (part : Part) (P : Joint → Type 0) → P (joint_of part) → (j : Joint) → Contains (joint_of part ∷ []) j → P j
 of_joint part P is j at = subst P (both_at_zero part j at) is
 
-zero_outside : (file : File) (part : Part) → StandsAlone file part → part.pages 0 ≡ false
-zero_outside file part alone =
-    elim (cases_Bool (part.pages 0)) [ inl inside ↦ absurd (omega (arith, alone.is.branch.grove.low 0 inside)) | inr outside ↦ outside ]
-
 each_shared : (file : File) (part : Part) (p : ℕ) → ((q : ℕ) → 1 ≤ q → q ≤ file.last → part.pages q ≡ true) → p ≤ file.last
     → IsMetaOf (joint_of part ∷ []) p ⊎ IsInPartOf (joint_of part ∷ []) p
 each_shared file part zero all high = inl (joint_of part, first_member (joint_of part) [], refl)
 each_shared file part (suc p) all high = inr (joint_of part, first_member (joint_of part) [], all (suc p) (omega arith) high)
 
 -- page 0 and a part of all other pages share the file out
-pub shared_alone : (file : File) (part : Part) → ((p : ℕ) → 1 ≤ p → p ≤ file.last → part.pages p ≡ true) → part.pages 0 ≡ false
-    → ShareOut file (joint_of part ∷ [])
-shared_alone file part all zero_out =
+pub shared_alone : (file : File) (part : Part) → ((p : ℕ) → 1 ≤ p → p ≤ file.last → part.pages p ≡ true) → ShareOut file (joint_of part ∷ [])
+shared_alone file part all =
     record {
       each = λ p high. each_shared file part p all high;
       meta_there = of_joint part (λ (j : Joint). j.meta ≤ file.last) (omega arith);
       one_part = λ j k p one two _ _. one_joint part j k one two;
-      one_meta = λ j k one two _. one_joint part j k one two;
-      no_meta = λ j k one two.
-          of_joint part (λ (a : Joint). k.part.pages a.meta ≡ false)
-          (of_joint part (λ (b : Joint). b.part.pages 0 ≡ false) zero_out k two) j one;
     }
 
 joined : (file : File) (part : Part) → StandsAlone file part → AreJoined file (joint_of part ∷ [])
 joined file part alone =
     record {
       forest = alone.forest;
-      shared_out = shared_alone file part alone.all (zero_outside file part alone);
+      shared_out = shared_alone file part alone.all;
       parts = of_joint part (λ (j : Joint). IsPart file j.part) alone.is;
       named = of_joint part (λ (j : Joint). page_at file j.meta ≡ Meta j.part.fields) alone.named;
       no_free = of_joint part (λ (j : Joint). free_of j.part.fields ≡ 0) alone.no_free;

@@ -1,5 +1,5 @@
 -- A tree under metadata that is written over page 0.
-use Rattle.std.proofs.Common.{◌≡◌, ℕ, ◌+◌, ◌-◌, ◌<◌, ◌≤◌, true, false, List, [], ◌∷◌, length, None, set}
+use Rattle.std.proofs.Common.{◌≡◌, ℕ, ◌+◌, ◌-◌, ◌<◌, ◌≤◌, true, List, [], ◌∷◌, length, None, set}
 use Rattle.std.proofs.Common.{arith, refl, sym, ◌∙◌, ap}
 use Rattle.std.specs.List.{Contains}
 use Rattle.std.proofs.lemmas.List.{get_or-set_other, get_or-set_same, length-set}
@@ -13,7 +13,7 @@ use Rattle.bdb_format.specs.Lists.{ListKey}
 use Rattle.bdb_format.proofs.MemberLemmas.{first_member}
 use Rattle.bdb_graph.proofs.HeldLemmas.{last_page}
 use Rattle.bdb_grove.specs.Growing.{IsCounted, IsLater}
-use Rattle.bdb_grove.specs.Part.{IsPart, Part, between}
+use Rattle.bdb_grove.specs.Part.{IsPart, Part}
 use Rattle.bdb_grove.proofs.ChainLemmas.{between_is, is_between}
 use Rattle.bdb_pack.specs.Built.{Built, bytes_of, file_so_far, with_page}
 use Rattle.bdb_pack.proofs.CutLemmas.{page_whole}
@@ -64,7 +64,7 @@ filed built page meta list image holds is =
       grows = sym count;
       first = (joint_of part, first_member (joint_of part) [], refl);
       shared_out = shared_alone (file_so_far after) part
-          (λ p above high. is_between 1 (length built.pages) p above (omega (arith, high, count, is.pages.some))) zero_out;
+          (λ p above high. is_between 1 (length built.pages) p above (omega (arith, high, count, is.pages.some)));
       spelled = of_joint part (IsSpelled after) (record { meta = meta; is = refl; spells = top.spells; no_free = holds.no_free });
       same = λ j p member inside.
           of_joint part (λ (k : Joint). k.part.pages p ≡ true → bytes_of after p ≡ bytes_of built p)
@@ -86,9 +86,6 @@ filed built page meta list image holds is =
 
     count : length after.pages ≡ length built.pages
     count = length-set built.pages 0 page
-
-    zero_out : between 1 (length built.pages) 0 ≡ false
-    zero_out = refl
 
 pub written_trees_are_sound : WrittenTreesAreSound
 written_trees_are_sound built page meta list image holds is =

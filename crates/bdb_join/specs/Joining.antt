@@ -1,6 +1,6 @@
 -- Parts of a file that are joined under their metadata pages. A joint is a metadata page with the part that it names.
 -- Source: docs/FORMAT.md, "Faults".
-use Rattle.std.specs.Prelude.{◌≡◌, ◌⊎◌, ℕ, ◌+◌, ◌≤◌, true, false, List, [], None}
+use Rattle.std.specs.Prelude.{◌≡◌, ◌⊎◌, ℕ, ◌+◌, ◌≤◌, true, List, [], None}
 use Rattle.std.specs.List.{Contains}
 use Rattle.bdb_format.specs.declared.metadata.FileKind.TheVariants.{Queue}
 use Rattle.bdb_format.specs.Table.{first_row}
@@ -36,10 +36,8 @@ pub record ShareOut (file : File) (joints : List Joint) : Type 0 where
   -- each page is metadata or of a part
   pub each : (p : ℕ) → p ≤ file.last → IsMetaOf joints p ⊎ IsInPartOf joints p
   pub meta_there : (j : Joint) → Contains joints j → j.meta ≤ file.last
-  -- of one part, or of one joint's metadata, alone
+  -- of one part alone
   pub one_part : (j k : Joint) (p : ℕ) → Contains joints j → Contains joints k → j.part.pages p ≡ true → k.part.pages p ≡ true → j ≡ k
-  pub one_meta : (j k : Joint) → Contains joints j → Contains joints k → j.meta ≡ k.meta → j ≡ k
-  pub no_meta : (j k : Joint) → Contains joints j → Contains joints k → k.part.pages j.meta ≡ false
 
 -- the metadata pages name their parts, and no free page
 pub record AreJoined (file : File) (joints : List Joint) : Type 0 where
