@@ -1,0 +1,103 @@
+-- The pairs of a page of sound form hold items of known kinds.
+use Rattle.std.proofs.Common.{◌≡◌, ℕ, ◌+◌, ◌*◌, ◌/◌, ◌<◌, ◌≤◌, Bool, true, false, cond, List, [], length, map, Some, None, get_or}
+use Rattle.std.proofs.Common.{arith, refl, sym, ap, subst, inl, inr}
+use Rattle.std.specs.Prelude.{◌&&◌, ◌||◌, not}
+use Rattle.std.specs.List.{Contains, range_with_len}
+use Rattle.std.proofs.lemmas.Bool.{cases_Bool, not-false}
+use Rattle.std.proofs.lemmas.List.FromFn.{get_or-map-range_with_len, length-map-range_with_len}
+use Rattle.bdb_format.specs.declared.kinds.Order.{Order}
+use Rattle.bdb_format.specs.declared.metadata.Head.{Head}
+use Rattle.bdb_format.specs.declared.pages.ItemFault.TheVariants.{Extent, Kind, Offset}
+use Rattle.bdb_format.specs.Contents.{StoredPair, pair_at, pairs_in}
+use Rattle.bdb_format.specs.File.{File}
+use Rattle.bdb_format.specs.Numbers.{byte_at}
+use Rattle.bdb_format.specs.Page.{Chain, Content, Inline, Item, Listed, Set, Tree, Unknown}
+use Rattle.bdb_format.specs.Page.{PageType, HashPage, LeafPage}
+use Rattle.bdb_format.specs.Reading.{abstract_page, entries_of, hash_item_at, is_zero, leaf_item_at, listed, page_as, page_type}
+use Rattle.bdb_format.specs.Reading.{kind_at, offset_of}
+use Rattle.bdb_format.specs.References.{is_shared_key, no_item}
+use Rattle.bdb_format.specs.Rows.{form_code, hash_rows, is_hash_kind, is_leaf_kind, item_rows, leaf_rows, listed_code, typed_code}
+use Rattle.bdb_format.specs.Table.{first_row}
+use Rattle.bdb_format.proofs.GraphLemmas.{typed_none, typed_page, zero_page}
+use Rattle.bdb_format.proofs.ItemLemmas.{no_item_row}
+use Rattle.bdb_format.proofs.MemberLemmas.{no_member, of_map, of_range}
+
+-- content of a known kind
+abbrev pub IsKnown : Content → Type 0
+IsKnown content = content ≡ Unknown → ⊥
+
+-- One item.
+
+-- of three rows none of which holds the second doesn't
+second_fails : {C : Type 0} (a b c : Bool) (x y z : C) → cond a (Some x) (cond b (Some y) (cond c (Some z) None)) ≡ None → b ≡ false
+second_fails false false c x y z none = refl
+second_fails a b c x y z none = absurd cc
+
+leaf_kinds : (a b c typed odd : Bool) (bytes : List ℕ) (root head total : ℕ) → (a || c || (b && typed && odd)) ≡ true
+    → IsKnown (cond a (Inline bytes) (cond b (Tree root) (cond c (Chain head total) Unknown)))
+leaf_kinds true b c typed odd bytes root head total may same = cc
+leaf_kinds false true c typed odd bytes root head total may same = cc
+leaf_kinds false false true typed odd bytes root head total may same = cc
+leaf_kinds false false false typed odd bytes root head total may same = cc
+
+leaf_known : (order : Order) (page : List ℕ) (i : ℕ) → first_row (leaf_rows order page i) ≡ None → IsKnown (leaf_item_at order page i).content
+unfolding leaf_rows leaf_item_at
+leaf_known order page i none =
+    let kind : ℕ = kind_at page (offset_of order page i) in
+    leaf_kinds _ _ _ _ _ _ _ _ _ (not-false _ (second_fails _ (not (is_leaf_kind (byte_at page 25) i kind)) _ Offset Kind Extent none))
+
+hash_kinds : (a b c d odd : Bool) (bytes : List ℕ) (blocks : List (List ℕ)) (head total root : ℕ) → (a || c || (odd && (b || d))) ≡ true
+    → IsKnown (cond a (Inline bytes) (cond b (Set blocks) (cond c (Chain head total) (cond d (Tree root) Unknown))))
+hash_kinds true b c d odd bytes blocks head total root may same = cc
+hash_kinds false true c d odd bytes blocks head total root may same = cc
+hash_kinds false false true d odd bytes blocks head total root may same = cc
+hash_kinds false false false true odd bytes blocks head total root may same = cc
+hash_kinds false false false false true bytes blocks head total root may same = cc
+hash_kinds false false false false false bytes blocks head total root may same = cc
+
+hash_known : (order : Order) (page : List ℕ) (i : ℕ) → first_row (hash_rows order page i) ≡ None → IsKnown (hash_item_at order page i).content
+unfolding hash_rows hash_item_at
+hash_known order page i none =
+    let kind : ℕ = byte_at page (offset_of order page i) in
+    hash_kinds _ _ _ _ _ _ _ _ _ _ (not-false _ (second_fails _ (not (is_hash_kind i kind)) _ Offset Kind Extent none))
+
+-- The pairs of a page.
+
+-- a page with an index, none of whose items has a row that holds
+indexed_known : (file : File) (p : ℕ) (order : Order) (page : List ℕ) (t : PageType) (item : ℕ → Item) (shares : Listed Item → ℕ → Bool)
+    (pair : StoredPair) → listed_code order page t ≡ None
+    → ((i : ℕ) → first_row (item_rows t order page i) ≡ None → IsKnown (item i).content)
+    → Contains (map (pair_at file p (listed order page item) (shares (listed order page item)))
+    (range_with_len 0 (length (listed order page item).items / 2))) pair → IsKnown pair.data_item
+unfolding listed
+indexed_known file p order page t item shares pair none each at =
+    let items : List Item = map item (range_with_len 0 (entries_of order page)) in
+    let found = of_map (pair_at file p (listed order page item) (shares (listed order page item))) (range_with_len 0 (length items / 2)) pair at in
+    let within : (0 ≤ found.0) × (found.0 < 0 + length items / 2) = of_range 0 (length items / 2) found.0 found.1 in
+    let i : ℕ = 2 * found.0 + 1 in
+    let inside : i < entries_of order page = omega (arith, within.1, length-map-range_with_len item 0 (entries_of order page)) in
+    let read : get_or items i no_item ≡ item i = get_or-map-range_with_len item 0 (entries_of order page) i i no_item inside (omega arith) in
+    let known : IsKnown (get_or items i no_item).content =
+    subst (λ (x : Item). IsKnown x.content) (sym read) (each i (no_item_row order page t i none inside)) in
+    subst (λ (x : StoredPair). IsKnown x.data_item) found.2 known
+
+typed_known : (file : File) (head : Head) (p : ℕ) (page : List ℕ) (t : PageType) (pair : StoredPair) → typed_code head p page t ≡ None
+    → Contains (pairs_in file p (page_as head.order page t)) pair → IsKnown pair.data_item
+typed_known file head p page LeafPage pair none at =
+    indexed_known file p head.order page LeafPage (leaf_item_at head.order page) (λ leaf i. is_shared_key leaf.offsets (2 * i)) pair none
+    (leaf_known head.order page) at
+typed_known file head p page HashPage pair none at =
+    indexed_known file p head.order page HashPage (hash_item_at head.order page) (λ leaf i. false) pair none (hash_known head.order page) at
+typed_known file head p page t pair none at = absurd (no_member [] pair refl at)
+
+-- no pair of a page of sound form holds an unknown item
+pub pairs_known : (file : File) (head : Head) (p : ℕ) (page : List ℕ) (pair : StoredPair) → form_code head p page ≡ None
+    → Contains (pairs_in file p (abstract_page head.order page)) pair → IsKnown pair.data_item
+pairs_known file head p page pair none at =
+    elim (cases_Bool (is_zero page)) [
+      | inl zeros ↦
+          absurd (no_member (pairs_in file p (abstract_page head.order page)) pair (ap (pairs_in file p) (zero_page head.order page zeros)) at)
+      | inr some ↦
+          typed_known file head p page (page_type (byte_at page 25)) pair (typed_none head p page some none)
+          (subst (λ read. Contains (pairs_in file p read) pair) (typed_page head.order page some) at)
+    ]
