@@ -1,4 +1,4 @@
--- Why sections can't be loaded. Source: README.md, "The rules".
+-- Why sections can't be loaded. Source: docs/FORMAT.md, "What loading does to a list".
 use Rattle.std.specs.Prelude.{◌≡◌, ℕ, ◌+◌, ◌-◌, ◌*◌, ◌/◌, nat_lt, ◌==◌, ◌&&◌, ◌||◌, not, if◌then◌else◌}
 use Rattle.std.specs.Prelude.{Bool, true, false, List, [], ◌∷◌, ◌++◌, length, Option, Some, None, is_some}
 use Rattle.std.specs.List.{flat_map, fold}

@@ -1,4 +1,4 @@
--- What loading does to the pairs of a section. Source: README.md, "The rules"; the order of keys: docs/FORMAT.md, "Order of keys".
+-- What loading does to the pairs of a section. Source: docs/FORMAT.md, "What loading does to a list" and "Order of keys".
 use Rattle.std.specs.Prelude.{ℕ, ◌-◌, ◌%◌, nat_lt, ◌&&◌, ◌||◌, not, if◌then◌else◌, Bool, true, false, List, [], ◌∷◌, ◌++◌, length, map, replicate}
 use Rattle.std.specs.List.{fold}
 use Rattle.bdb_format.specs.declared.kinds.Kind.{Kind}

@@ -1,4 +1,4 @@
--- Lists in the making.
+-- Lists in the making. Source: docs/FORMAT.md, "What loading does to a list".
 use Rattle.std.specs.Prelude.{◌≡◌, Bool, true, false, not, ◌||◌, ◌&&◌, List, [], ◌∷◌, ◌++◌, map}
 use Rattle.std.specs.List.{All, fold}
 use Rattle.std.specs.declared.cmp.Ordering.{Ordering}
