@@ -2,9 +2,11 @@
 //! writes how many pages there are. With a word it only reads, and writes how many pairs there are; with two it writes the file.
 #![tactic(auto)]
 
+ghost use Rattle.std.specs.Prelude.{◌≤◌, ◌^◌, length};
+
 use bdb_io::{ReadError, StdSink, StdSource, put_all, read_image};
 use bdb_mktree_tests::built;
-use bdb_model::{Bytes, Pair, PairList, Settings, TextPairs};
+use bdb_model::{Bytes, Pair, PairList, Settings, TextPair, TextPairs};
 use bdb_text::read_dump;
 use std::alloc::{AllocError, Global};
 use std::env;
@@ -50,7 +52,9 @@ fn main(rt: HostRuntime) -> ExitCode {
 }
 
 // What is written of a text: nothing where it is none, or where no tree can be built of its last section.
-fn answer(alloc: Global, text: &[u8], told: Told) -> Result<Bytes, AllocError> {
+fn answer(alloc: Global, text: &[u8], told: Told) -> Result<Bytes, AllocError>
+    requires { length text.now ≤ 2 ^ 30 }
+{
     let nothing = Bytes::new(alloc);
     let Ok(sections) = read_dump(alloc, text) else {
         return Ok(nothing);
@@ -90,13 +94,19 @@ fn count(alloc: Global, count: usize, what: &str) -> Result<Bytes, AllocError> {
     Ok(bytes)
 }
 
-// The pairs in their order, moved.
-fn list_of(alloc: Global, pairs: TextPairs) -> Result<PairList, AllocError> {
+// The pairs from the last one to the first.
+fn reversed(alloc: Global, pairs: TextPairs) -> Result<Vec<TextPair>, AllocError> {
     let mut pairs = pairs;
     let mut reversed = Vec::new(alloc);
     while let Some(pair) = pairs.pop() {
         reversed.push(pair)?;
     }
+    Ok(reversed)
+}
+
+// The pairs in their order, moved.
+fn list_of(alloc: Global, pairs: TextPairs) -> Result<PairList, AllocError> {
+    let mut reversed = reversed(alloc, pairs)?;
     let mut list = PairList::new(alloc);
     while let Some(pair) = reversed.pop() {
         list.push(Pair {
