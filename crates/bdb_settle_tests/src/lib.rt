@@ -2,8 +2,8 @@
 #![tactic(auto)]
 
 #[cfg(test)]
+mod answers;
+#[cfg(test)]
 mod lists;
 #[cfg(test)]
 mod refused;
-#[cfg(test)]
-mod settled;
