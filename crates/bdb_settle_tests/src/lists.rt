@@ -39,7 +39,8 @@ fn keys_are_in_their_order(rt: HostRuntime) -> Result<(), Fail> {
         ),
         // two sections stay in the order given
         (
-            b"VERSION=3\nformat=print\ndatabase=y\ntype=btree\nHEADER=END\n b\n 1\n a\n 2\nDATA=END\nVERSION=3\nformat=print\ndatabase=x\ntype=recno\nHEADER=END\n c\nDATA=END\n",
+            b"VERSION=3\nformat=print\ndatabase=y\ntype=btree\nHEADER=END\n b\n 1\n a\n 2\nDATA=END\n\
+              VERSION=3\nformat=print\ndatabase=x\ntype=recno\nHEADER=END\n c\nDATA=END\n",
             b"y:\na 2\nb 1\nx:\n1 c\n",
         ),
     ];

@@ -50,12 +50,14 @@ fn least_line_is_answered(rt: HostRuntime) -> Result<(), Fail> {
         ),
         // two sections, the second a queue
         (
-            b"VERSION=3\ndatabase=a\nformat=print\nkeys=1\ntype=recno\nHEADER=END\n 0\n a\nDATA=END\nVERSION=3\ndatabase=b\nre_len=4\ntype=queue\nHEADER=END\nDATA=END\n",
+            b"VERSION=3\ndatabase=a\nformat=print\nkeys=1\ntype=recno\nHEADER=END\n 0\n a\nDATA=END\n\
+              VERSION=3\ndatabase=b\nre_len=4\ntype=queue\nHEADER=END\nDATA=END\n",
             b"zero, line 7",
         ),
         // two sections, the first a queue
         (
-            b"VERSION=3\ndatabase=b\nre_len=4\ntype=queue\nHEADER=END\nDATA=END\nVERSION=3\ndatabase=a\nformat=print\nkeys=1\ntype=recno\nHEADER=END\n 0\n a\nDATA=END\n",
+            b"VERSION=3\ndatabase=b\nre_len=4\ntype=queue\nHEADER=END\nDATA=END\n\
+              VERSION=3\ndatabase=a\nformat=print\nkeys=1\ntype=recno\nHEADER=END\n 0\n a\nDATA=END\n",
             b"among names, line 5",
         ),
     ];
