@@ -1,5 +1,5 @@
 -- Where there is no first error, none holds.
-use Rattle.std.proofs.Common.{◌≡◌, ℕ, Bool, true, false, cond, not, List, [], ◌∷◌, ◌++◌, length, refl, sym, ◌∙◌, ap, Option, Some, None}
+use Rattle.std.proofs.Common.{◌≡◌, Bool, true, false, cond, List, [], ◌∷◌, ◌++◌, length, refl, Some, None}
 use Rattle.std.specs.List.{All, flat_map, fold}
 use Rattle.std.specs.Prelude.{◌==◌}
 use Rattle.std.proofs.lemmas.List.Elements.{All-cons, All-nil}
@@ -44,7 +44,7 @@ pub record IsSound (settings : Settings) (pair : TextPair) : Type 0 where
 sound_pair : (settings : Settings) (pair : TextPair) → pair_errors settings pair ≡ [] → IsSound settings pair
 sound_pair settings pair none =
     let parts = both_empty (where_so (is_too_long settings pair) (RecordTooLong pair.line))
-        (where_so (is_zero pair.key) (RecordZero pair.line)) none in
+    (where_so (is_zero pair.key) (RecordZero pair.line)) none in
     record {
       short = not_so (is_too_long settings pair) (RecordTooLong pair.line) parts.0;
       number = not_so (is_zero pair.key) (RecordZero pair.line) parts.1;
@@ -59,6 +59,6 @@ sound_pairs sections none =
     let alone = length sections == 1 in
     all_map (λ section. section_errors alone section ≡ []) (λ section. All (IsSound section.settings) section.pairs)
     (λ section empty. all_map (λ pair. pair_errors section.settings pair ≡ []) (IsSound section.settings) (sound_pair section.settings) section.pairs
-      (each_empty (pair_errors section.settings) section.pairs
-      (both_empty (header_errors alone section) (flat_map (pair_errors section.settings) section.pairs) empty).1))
+    (each_empty (pair_errors section.settings) section.pairs
+    (both_empty (header_errors alone section) (flat_map (pair_errors section.settings) section.pairs) empty).1))
     sections (each_empty (section_errors alone) sections (no_errors (flat_map (section_errors alone) sections) none))

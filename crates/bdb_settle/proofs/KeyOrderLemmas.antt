@@ -60,7 +60,7 @@ pairs_weakly settings = record { one_way = one_way; chain = chain }
   where
     one_way : (a b : Pair) → stands_before settings a b ≡ true → stands_before settings b a ≡ false
     one_way a b = turns_one_way (key_less a.key b.key) (key_less b.key a.key) (sorts_data settings && less a.value b.value)
-      (sorts_data settings && less b.value a.value)
+        (sorts_data settings && less b.value a.value)
         (key_one_way a.key b.key) (data_one_way (sorts_data settings) a.value b.value)
 
     turns_chain : (ab ba bc cb ac ca m n o : Bool) → (ab ≡ false → bc ≡ false → ac ≡ false) → (bc ≡ false → ca ≡ false → ba ≡ false)
@@ -75,10 +75,10 @@ pairs_weakly settings = record { one_way = one_way; chain = chain }
     chain : (a b c : Pair) → stands_before settings a b ≡ false → stands_before settings b c ≡ false → stands_before settings a c ≡ false
     chain a b c =
         turns_chain (key_less a.key b.key) (key_less b.key a.key) (key_less b.key c.key) (key_less c.key b.key) (key_less a.key c.key)
-          (key_less c.key a.key)
+        (key_less c.key a.key)
         (sorts_data settings && less a.value b.value) (sorts_data settings && less b.value c.value) (sorts_data settings && less a.value c.value)
         (key_chain a.key b.key c.key) (key_chain b.key c.key a.key) (key_chain c.key a.key b.key)
-          (data_chain (sorts_data settings) a.value b.value c.value)
+        (data_chain (sorts_data settings) a.value b.value c.value)
 
 -- Comparisons answer by it.
 

@@ -3,7 +3,7 @@ use Rattle.std.proofs.Common.{◌≡◌, ℕ, ◌+◌, ◌-◌, ◌%◌, ◌<◌
 use Rattle.std.proofs.Common.{◌∷◌, ◌++◌, length, map, replicate, refl, sym, ◌∙◌, ap, subst, arith, inl, inr, true≢false, length-append}
 use Rattle.std.specs.Prelude.{◌&&◌, ◌||◌, nat_lt}
 use Rattle.std.specs.Cmp.Derive.{both_true}
-use Rattle.std.specs.List.{All, fold}
+use Rattle.std.specs.List.{All}
 use Rattle.std.specs.Str.{bytes_eq}
 use Rattle.std.proofs.lemmas.Bool.Decides.{nat_tests}
 use Rattle.std.proofs.lemmas.List.{length-replicate}
@@ -24,7 +24,7 @@ use Rattle.bdb_mktree.specs.Lists.{HasBytes, HasNumber, IsKeyFor, IsListFor, IsP
 use Rattle.bdb_mktree.specs.Units.{IsTreeKind}
 use Rattle.bdb_settle.specs.ListLaw.{FitsFields, IsFit, IsKeyOf, LoadIntoLists}
 use Rattle.bdb_settle.specs.LoadErrors.{is_zero}
-use Rattle.bdb_settle.specs.Loaded.{filled, filled_value, has_length, has_records, keeps_data, loaded, sorts_data, stands_before, with_pair}
+use Rattle.bdb_settle.specs.Loaded.{filled, filled_value, has_length, has_records, keeps_data, loaded, sorts_data, stands_before}
 use Rattle.bdb_settle.proofs.ErrorLemmas.{IsSound, all_map, sound_pairs}
 use Rattle.bdb_settle.proofs.OrderedLemmas.{Ordered, OrderedFrom, fold_all, fold_ordered, follows}
 
@@ -117,7 +117,7 @@ keyed_next settings (Bytes a) (Bytes b) first then btree both has_a has_b after 
     ap (λ k. settings.duplicates && not settings.sorted && not (has_records k)) btree ∙ and_true (settings.duplicates && not settings.sorted) in
     ap (λ k. may_follow k settings (record { key = Bytes a; value = first }) (record { key = Bytes b; value = then })) btree
     ∙ by_bytes (less a b) (less b a) (bytes_eq a b) settings.duplicates settings.sorted (sorts_data settings) (keeps_data settings) (less first then)
-      (less then first)
+    (less then first)
     sorts keeps both (λ not_below not_above. ap (λ k. bytes_eq a k) (sym (same_unless_less a b not_below not_above)) ∙ eq_self a) after
 
 numbered_next : (settings : Settings) (a b : Key) (first then : List ℕ) → settings.kind ≡ Recno → HasNumber a → HasNumber b
@@ -137,10 +137,10 @@ next_may_follow : (settings : Settings) (a b : Pair) → IsTreeKind settings.kin
     → may_follow settings.kind settings a b ≡ true
 next_may_follow settings a b (inl btree) both key_a key_b after =
     keyed_next settings a.key b.key a.value b.value btree both (subst (λ k. IsKeyFor k a.key) btree key_a).0
-      (subst (λ k. IsKeyFor k b.key) btree key_b).0 after
+    (subst (λ k. IsKeyFor k b.key) btree key_b).0 after
 next_may_follow settings a b (inr recno) both key_a key_b after =
     numbered_next settings a.key b.key a.value b.value recno (subst (λ k. IsKeyFor k a.key) recno key_a).0
-      (subst (λ k. IsKeyFor k b.key) recno key_b).0 after
+    (subst (λ k. IsKeyFor k b.key) recno key_b).0 after
 
 -- Lists.
 
@@ -154,7 +154,7 @@ from_is_in_order settings pair (next ∷ pairs) kind both each ordered =
     let later = All-tail (IsPairFor settings) pair (next ∷ pairs) each in
     let second = All-head (IsPairFor settings) next pairs later in
     both_true (next_may_follow settings pair next kind both first.key second.key ordered.0)
-      (from_is_in_order settings next pairs kind both later ordered.1)
+    (from_is_in_order settings next pairs kind both later ordered.1)
 
 list_is_in_order : (settings : Settings) (pairs : List Pair) → IsTreeKind settings.kind → (settings.sorted ≡ true → settings.duplicates ≡ true)
     → All (IsPairFor settings) pairs → Ordered (stands_before settings) (keeps_data settings) pairs → is_in_order settings pairs ≡ true
@@ -166,12 +166,12 @@ section_loads : (section : Section) → IsTreeKind section.settings.kind → IsF
 section_loads section kind fit sound =
     let settings = section.settings in
     let each = fold_all (IsPairFor settings) settings (map (filled settings) section.pairs) []
-      (pairs_fit settings section.pairs kind fit.length fit.pairs sound)
-      (All-nil (IsPairFor settings)) in
+    (pairs_fit settings section.pairs kind fit.length fit.pairs sound)
+    (All-nil (IsPairFor settings)) in
     record {
       each = each;
       in_order = list_is_in_order settings (loaded settings section.pairs) kind fit.sorted each
-        (fold_ordered settings (map (filled settings) section.pairs) [] tt);
+          (fold_ordered settings (map (filled settings) section.pairs) [] tt);
     }
 
 pub load_into_lists : LoadIntoLists

@@ -1,5 +1,5 @@
 -- What pairs are put into stays in order.
-use Rattle.std.proofs.Common.{◌≡◌, ℕ, Bool, true, false, cond, not, List, [], ◌∷◌, refl, sym, ◌∙◌, ap, true≢false}
+use Rattle.std.proofs.Common.{◌≡◌, Bool, true, false, cond, not, List, [], ◌∷◌, refl, ◌∙◌, ap}
 use Rattle.std.specs.Prelude.{◌&&◌, ◌||◌}
 use Rattle.std.specs.Cmp.{IsStrictWeakOrder}
 use Rattle.std.specs.List.{All, fold}
@@ -102,4 +102,4 @@ pub fold_ordered : (settings : Settings) (pairs list : List Pair) → Ordered (s
 fold_ordered settings [] list ordered = ordered
 fold_ordered settings (pair ∷ pairs) list ordered =
     fold_ordered settings pairs (with_pair settings list pair)
-      (put_ordered (stands_before settings) (pairs_weakly settings) (keeps_data settings) pair list ordered)
+    (put_ordered (stands_before settings) (pairs_weakly settings) (keeps_data settings) pair list ordered)

@@ -94,7 +94,7 @@ stepped settings all list last pair rest so true is =
       ascend = so.ascend.1;
       whole = so.whole ∙ ap (λ l. fold (with_pair settings) l rest)
           (put_behind before (pairs_weakly settings) keeps pair so.done (last ∷ []) still ∙ ap (λ l. so.done ++ l) end
-            ∙ sym (append_assoc so.done (last ∷ []) (pair ∷ [])));
+          ∙ sym (append_assoc so.done (last ∷ []) (pair ∷ [])));
     }
 stepped settings all list last pair rest so false is =
     let before = stands_before settings in

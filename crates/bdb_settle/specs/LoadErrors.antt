@@ -75,7 +75,7 @@ is_among_names alone section = is_queue section.settings.kind && (is_some sectio
 abbrev pub header_errors : Bool → Section → List LoadError
 header_errors alone section =
     where_so (is_too_wide section.settings) (RecordTooLong section.header_line)
-      ++ where_so (is_among_names alone section) (QueueAmongNames section.header_line)
+    ++ where_so (is_among_names alone section) (QueueAmongNames section.header_line)
 
 abbrev pub section_errors : Bool → Section → List LoadError
 section_errors alone section = header_errors alone section ++ flat_map (pair_errors section.settings) section.pairs

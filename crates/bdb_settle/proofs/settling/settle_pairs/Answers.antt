@@ -13,6 +13,6 @@ returns c =
     let settings = c.args.settings.now in
     let is : fold (with_pair settings) [] c.sort_pairs.new.pairs.items ≡ loaded settings c.args.pairs =
     fold_alike (stands_before settings) (pairs_weakly settings) (keeps_data settings) c.in_ok-all.all.items c.sort_pairs.new.pairs.items []
-      c.sort_pairs.ensures.stable
+    c.sort_pairs.ensures.stable
     ∙ ap (fold (with_pair settings) []) c.in_ok-all.ensures in
     subst (λ (l : List Pair). IfOk c.settle_sorted.result (λ list. list ≡ map unnumbered l)) is c.settle_sorted.ensures

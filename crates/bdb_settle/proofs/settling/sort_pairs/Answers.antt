@@ -15,4 +15,4 @@ returns-clause-sorted c =
 pub returns-clause-stable : goal.returns-clause-stable
 returns-clause-stable c =
     c.sort_by.ensures.stable (stands_before c.args.settings.now) (pairs_weakly c.args.settings.now)
-      (always_returns_same _ _ _ (λ a r f k. search rules))
+    (always_returns_same _ _ _ (λ a r f k. search rules))
