@@ -75,7 +75,6 @@ fn is_zero(key: &Key) -> bool
 }
 
 /// The first error, with those of a pair.
-
 fn with_pair(first: Option<LoadError>, settings: &Settings, pair: &TextPair) -> Option<LoadError>
     ensures { result ≡ fold sooner first (pair_errors settings.now pair.now) }
 {
