@@ -1,5 +1,5 @@
 -- The pairs of a page of sound form hold items of known kinds.
-use Rattle.std.proofs.Common.{◌≡◌, ℕ, ◌+◌, ◌*◌, ◌/◌, ◌<◌, ◌≤◌, Bool, true, false, cond, List, [], length, map, Some, None, get_or}
+use Rattle.std.proofs.Common.{◌≡◌, ℕ, ◌+◌, ◌*◌, ◌/◌, ◌<◌, ◌≤◌, Bool, true, false, cond, List, [], length, map, None, get_or}
 use Rattle.std.proofs.Common.{arith, refl, sym, ap, subst, inl, inr}
 use Rattle.std.specs.Prelude.{◌&&◌, ◌||◌, not}
 use Rattle.std.specs.List.{Contains, range_with_len}
@@ -7,7 +7,6 @@ use Rattle.std.proofs.lemmas.Bool.{cases_Bool, not-false}
 use Rattle.std.proofs.lemmas.List.FromFn.{get_or-map-range_with_len, length-map-range_with_len}
 use Rattle.bdb_format.specs.declared.kinds.Order.{Order}
 use Rattle.bdb_format.specs.declared.metadata.Head.{Head}
-use Rattle.bdb_format.specs.declared.pages.ItemFault.TheVariants.{Extent, Kind, Offset}
 use Rattle.bdb_format.specs.Contents.{StoredPair, pair_at, pairs_in}
 use Rattle.bdb_format.specs.File.{File}
 use Rattle.bdb_format.specs.Numbers.{byte_at}
@@ -28,11 +27,6 @@ IsKnown content = content ≡ Unknown → ⊥
 
 -- One item.
 
--- of three rows none of which holds the second doesn't
-second_fails : {C : Type 0} (a b c : Bool) (x y z : C) → cond a (Some x) (cond b (Some y) (cond c (Some z) None)) ≡ None → b ≡ false
-second_fails false false c x y z none = refl
-second_fails a b c x y z none = absurd cc
-
 leaf_kinds : (a b c typed odd : Bool) (bytes : List ℕ) (root head total : ℕ) → (a || c || (b && typed && odd)) ≡ true
     → IsKnown (cond a (Inline bytes) (cond b (Tree root) (cond c (Chain head total) Unknown)))
 leaf_kinds true b c typed odd bytes root head total may same = cc
@@ -44,7 +38,8 @@ leaf_known : (order : Order) (page : List ℕ) (i : ℕ) → first_row (leaf_row
 unfolding leaf_rows leaf_item_at
 leaf_known order page i none =
     let kind : ℕ = kind_at page (offset_of order page i) in
-    leaf_kinds _ _ _ _ _ _ _ _ _ (not-false _ (second_fails _ (not (is_leaf_kind (byte_at page 25) i kind)) _ Offset Kind Extent none))
+    let fails : not (is_leaf_kind (byte_at page 25) i kind) ≡ false = grind (arith, none) in
+    leaf_kinds _ _ _ _ _ _ _ _ _ (not-false _ fails)
 
 hash_kinds : (a b c d odd : Bool) (bytes : List ℕ) (blocks : List (List ℕ)) (head total root : ℕ) → (a || c || (odd && (b || d))) ≡ true
     → IsKnown (cond a (Inline bytes) (cond b (Set blocks) (cond c (Chain head total) (cond d (Tree root) Unknown))))
@@ -59,7 +54,8 @@ hash_known : (order : Order) (page : List ℕ) (i : ℕ) → first_row (hash_row
 unfolding hash_rows hash_item_at
 hash_known order page i none =
     let kind : ℕ = byte_at page (offset_of order page i) in
-    hash_kinds _ _ _ _ _ _ _ _ _ _ (not-false _ (second_fails _ (not (is_hash_kind i kind)) _ Offset Kind Extent none))
+    let fails : not (is_hash_kind i kind) ≡ false = grind (arith, none) in
+    hash_kinds _ _ _ _ _ _ _ _ _ _ (not-false _ fails)
 
 -- The pairs of a page.
 

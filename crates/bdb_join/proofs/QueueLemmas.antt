@@ -1,8 +1,8 @@
 -- A queue whose pages have their form is sound: it has no references, and each page is an anchor.
-use Rattle.std.proofs.Common.{◌≡◌, ℕ, zero, suc, ◌+◌, ◌≤◌, Bool, true, false, List, [], ◌∷◌, map, None}
+use Rattle.std.proofs.Common.{◌≡◌, ℕ, zero, suc, ◌+◌, ◌≤◌, Bool, true, false, List, [], ◌∷◌, map, None, subst}
 use Rattle.std.proofs.Common.{arith, refl, sym, ◌∙◌, ap, inl, inr}
 use Rattle.std.specs.Prelude.{◌==◌, ◌&&◌}
-use Rattle.std.specs.List.{enumerate_from, list_any, range_with_len}
+use Rattle.std.specs.List.{Contains, enumerate_from, list_any, range_with_len}
 use Rattle.std.specs.Option.{option_to_list}
 use Rattle.std.proofs.lemmas.Bool.{cases_Bool, eqb-true, or_left}
 use Rattle.bdb_format.specs.declared.metadata.FileKind.TheVariants.{Queue as QueueFile}
@@ -26,6 +26,7 @@ use Rattle.bdb_format.specs.Master.{master_rows}
 use Rattle.bdb_format.specs.Verdict.{contents_faults, fails_as, faults_of, first_judgement, form_faults, holding, master_faults}
 use Rattle.bdb_format.specs.Verdict.{ownership_faults, reach_faults, reference_faults, reference_rows, some_fails, structure_faults, structure_rows}
 use Rattle.bdb_format.proofs.GraphLemmas.{each_page_has_one_role, type_fits, typed_page, zero_page}
+use Rattle.bdb_format.proofs.ListLemmas.{only_member}
 use Rattle.bdb_format.proofs.MemberLemmas.{is_empty, no_member, none_pass, of_flat_map, of_map}
 use Rattle.bdb_format.proofs.PageLemmas.{later_type}
 use Rattle.bdb_format.proofs.VerdictLemmas.{no_code, no_codes_at, no_faults, none_holds, none_in, none_within}
@@ -34,7 +35,7 @@ use Rattle.bdb_graph.proofs.ReachLemmas.{at_end}
 use Rattle.bdb_join.specs.Queues.{QueuesAreSound}
 use Rattle.bdb_join.proofs.AloneLemmas.{master_rows_fail, named_kind, no_pairs_at, unnamed_at}
 use Rattle.bdb_join.proofs.FirstLemmas.{first_type}
-use Rattle.bdb_join.proofs.StageLemmas.{ArePages, fields_are, fields_same, numbered_fail, pages_of_file}
+use Rattle.bdb_join.proofs.StageLemmas.{ArePages, no_fields, numbered_fail, pages_of_file}
 
 -- Its pages.
 
@@ -176,11 +177,13 @@ master_none file meta is =
     (named_kind file p (λ above found. no_meta_in (page_at file p) (is.pages p above (omega arith)) found))))
 
 -- the only metadata is that of page 0
-only_fields : (file : File) (meta : QueueMeta) (q : ℕ) (fields : Metadata) → IsQueueFile file meta → q ≤ file.last → page_at file q ≡ Meta fields
-    → QueueFields meta ≡ fields
-only_fields file meta zero fields is high read = fields_same (QueueFields meta) fields (sym is.named ∙ read)
-only_fields file meta (suc q) fields is high read =
-    absurd (no_meta_in (page_at file (suc q)) (is.pages (suc q) (omega arith) high) (ap is_meta read))
+only_fields : (file : File) (meta : QueueMeta) (q : ℕ) (fields : Metadata) → IsQueueFile file meta → q ≤ file.last
+    → Contains (fields_in (page_at file q)) fields → QueueFields meta ≡ fields
+only_fields file meta zero fields is high on =
+    only_member (QueueFields meta) fields (subst (λ page. Contains (fields_in page) fields) is.named on)
+only_fields file meta (suc q) fields is high on =
+    absurd (no_member (fields_in (page_at file (suc q))) fields
+    (no_fields (page_at file (suc q)) (no_meta_in (page_at file (suc q)) (is.pages (suc q) (omega arith) high))) on)
 
 contents_none : (file : File) (meta : QueueMeta) → IsQueueFile file meta → ArePages file → contents_faults file ≡ []
 unfolding contents_faults
@@ -190,7 +193,8 @@ contents_none file meta is pages =
     none_pass (λ fields. holds_code code (database_rows file fields p)) (fields_of file) (λ fields at.
     let page = of_flat_map fields_in file.pages fields at in
     let there = pages page.0 page.1 in
-    let same : QueueFields meta ≡ fields = only_fields file meta there.0 fields is there.1 (there.2 ∙ fields_are page.0 fields page.2) in
+    let same : QueueFields meta ≡ fields = only_fields file meta there.0 fields is there.1
+    (subst (λ q. Contains (fields_in q) fields) (sym there.2) page.2) in
     ap (λ f. holds_code code (database_rows file f p)) (sym same)))))
 
 pub queues_are_sound : QueuesAreSound

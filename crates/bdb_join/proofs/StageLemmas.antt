@@ -9,8 +9,7 @@ use Rattle.bdb_format.specs.declared.metadata.Head.{Head}
 use Rattle.bdb_format.specs.declared.references.Reference.{Reference}
 use Rattle.bdb_format.specs.declared.references.Sort.TheVariants.{Root}
 use Rattle.bdb_format.specs.Table.{Row, ◌:?◌, first_row}
-use Rattle.bdb_format.specs.Page.{Metadata, BtreeFields, HashFields, QueueFields, Page, Zero, Free, Meta}
-use Rattle.bdb_format.specs.Page.{Hash, Internal, RecnoInternal, Leaf, RecnoLeaf, DupLeaf, Overflow, Queue, NoType}
+use Rattle.bdb_format.specs.Page.{Metadata, BtreeFields, HashFields, QueueFields, Page, Meta}
 use Rattle.bdb_format.specs.Reading.{abstract_page}
 use Rattle.bdb_format.specs.HeadOf.{head_of, head_rows}
 use Rattle.bdb_format.specs.Rows.{form_code}
@@ -114,20 +113,10 @@ no_code code [] fail = refl
 no_code code (row ∷ rows) fail =
     or_from (row.code == code && row.holds) (holds_code code rows) (and_right (row.code == code) row.holds fail.0) (no_code code rows fail.1)
 
--- a page with these fields is metadata with them
-pub fields_are : (page : Page) (fields : Metadata) → Contains (fields_in page) fields → page ≡ Meta fields
-fields_are (Meta other) fields at = ap (λ f. Meta f) (only_member other fields at)
-fields_are Zero fields at = absurd (no_member [] fields refl at)
-fields_are (Free header) fields at = absurd (no_member [] fields refl at)
-fields_are (Hash page) fields at = absurd (no_member [] fields refl at)
-fields_are (Internal page) fields at = absurd (no_member [] fields refl at)
-fields_are (RecnoInternal page) fields at = absurd (no_member [] fields refl at)
-fields_are (Leaf page) fields at = absurd (no_member [] fields refl at)
-fields_are (RecnoLeaf page) fields at = absurd (no_member [] fields refl at)
-fields_are (DupLeaf page) fields at = absurd (no_member [] fields refl at)
-fields_are (Overflow header piece) fields at = absurd (no_member [] fields refl at)
-fields_are (Queue number records) fields at = absurd (no_member [] fields refl at)
-fields_are NoType fields at = absurd (no_member [] fields refl at)
+-- a page that is no metadata has no fields
+pub no_fields : (page : Page) → (is_meta page ≡ true → ⊥) → fields_in page ≡ []
+no_fields (Meta other) none = absurd (none refl)
+no_fields page none = refl
 
 pub fields_same : (fields other : Metadata) → Meta fields ≡ Meta other → fields ≡ other
 fields_same fields other same = cc
@@ -141,13 +130,16 @@ meta_contents : (file : File) (joints : List Joint) (p code : ℕ) (fields : Met
 meta_contents file joints p code fields all pages at =
     let page = of_flat_map fields_in file.pages fields at in
     let there = pages page.0 page.1 in
-    let is : page_at file there.0 ≡ Meta fields = there.2 ∙ fields_are page.0 fields page.2 in
+    let on : Contains (fields_in (page_at file there.0)) fields = subst (λ q. Contains (fields_in q) fields) (sym there.2) page.2 in
     elim (all.shared_out.each there.0 there.1) [
       | inl (j, member, meta) ↦
-          let same : j.part.fields ≡ fields = fields_same j.part.fields fields (sym (page_of_meta file joints j there.0 all member meta) ∙ is) in
+          let same : j.part.fields ≡ fields =
+          only_member j.part.fields fields
+          (subst (λ q. Contains (fields_in q) fields) (page_of_meta file joints j there.0 all member meta) on) in
           no_code code (database_rows file fields p) (subst (λ f. AllFail (database_rows file f p)) same
           (all_fail (database_rows file j.part.fields p) ((all.parts j member).contents p)))
-      | inr (j, member, inside) ↦ absurd (no_meta_inside file joints j there.0 all member inside (ap is_meta is))
+      | inr (j, member, inside) ↦ absurd (no_member (fields_in (page_at file there.0)) fields (no_fields (page_at file there.0)
+          (no_meta_inside file joints j there.0 all member inside)) on)
     ]
 
 pub numbered_fail : (from n : ℕ) (test : ℕ → Bool) → ((code : ℕ) → test code ≡ false)
