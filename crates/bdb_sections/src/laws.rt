@@ -1,0 +1,7 @@
+//! What follows from the definitions alone.
+ghost use Rattle.bdb_sections.specs.Fit.{ReadSectionsAreFit};
+
+/// The sections that a text is read as can be loaded: settings don't go against each other, keys are those of the kind, names are apart.
+pub fn read_sections_are_fit()
+    ensures { ReadSectionsAreFit }
+{}
