@@ -1,0 +1,42 @@
+-- The data of pairs, one after the other.
+use Rattle.std.proofs.Common.{◌≡◌, ℕ, ◌+◌, ◌*◌, ◌<◌, ◌≤◌, List, [], length, get_or, take, arith, sym, ◌∙◌, ap}
+use Rattle.std.specs.List.{All, sum_by}
+use Rattle.std.proofs.lemmas.List.{get_or-map, length-map, take_all}
+use Rattle.std.proofs.lemmas.List.Elements.{All-get_or}
+use Rattle.std.proofs.lemmas.List.Sums.{sum_by_more}
+use Rattle.bdb_model.specs.declared.pairs.TextPair.{TextPair}
+use Rattle.bdb_leaves.specs.Runs.{IsShort}
+use Rattle.bdb_need.specs.Counting.{values_in}
+
+-- there is a datum for each pair
+pub length-values : (pairs : List TextPair) → length (values_in pairs) ≡ length pairs
+length-values pairs = length-map pairs (λ (pair : TextPair). pair.value)
+
+pub value_here : (pairs : List TextPair) (i : ℕ) (pair : TextPair) (value : List ℕ) → i < length pairs → pair ≡ get_or pairs i pair
+    → value ≡ pair.value → value ≡ get_or (values_in pairs) i []
+value_here pairs i pair value within is value_is =
+    value_is ∙ (ap (λ (p : TextPair). p.value) is ∙ sym (get_or-map (λ (p : TextPair). p.value) pairs i pair [] within))
+
+pub short_here : (pairs : List TextPair) (i : ℕ) (value : List ℕ) → All IsShort (values_in pairs) → i < length pairs
+    → value ≡ get_or (values_in pairs) i [] → IsShort value
+short_here pairs i value short within is =
+    let long = length-values pairs in
+    rw is (All-get_or IsShort (values_in pairs) i [] (omega (arith, within, long)) short)
+
+-- a sum over the data passed, and one more
+pub sum_more : (f : List ℕ → ℕ) (pairs : List TextPair) (i : ℕ) (value : List ℕ) (total more most : ℕ) → i < length pairs
+    → value ≡ get_or (values_in pairs) i [] → (total ≡ sum_by f (take i (values_in pairs))) × (total ≤ i * most) → more ≡ f value → more ≤ most
+    → (total + more ≡ sum_by f (take (i + 1) (values_in pairs))) × (total + more ≤ (i + 1) * most)
+sum_more f pairs i value total more most within value_is so_far more_is few =
+    let long = length-values pairs in
+    let step = sum_by_more f (values_in pairs) i [] (omega (arith, within, long)) in
+    let here = more_is ∙ ap f value_is in (
+      omega (arith, step, here, so_far.0),
+      omega (arith, so_far.1, few),
+    )
+
+pub sum_end : (f : List ℕ → ℕ) (pairs : List TextPair) (i : ℕ) (total : ℕ) → length pairs ≤ i → total ≡ sum_by f (take i (values_in pairs))
+    → total ≡ sum_by f (values_in pairs)
+sum_end f pairs i total past is =
+    let long = length-values pairs in
+    is ∙ ap (sum_by f) (take_all i (values_in pairs) (omega (arith, past, long)))

@@ -1,0 +1,9 @@
+pub mod BehindLemmas
+pub mod DataLemmas
+pub mod FirstsLemmas
+pub mod KeyLemmas
+pub mod LevelLemmas
+pub mod OpenLemmas
+pub mod RecordLemmas
+pub mod SectionLemmas
+pub mod TreeLemmas

@@ -1,0 +1,146 @@
+ghost use Rattle.std.specs.Prelude.{◌≡◌, ◌+◌, ◌≤◌, ◌<◌, ◌*◌, ◌^◌, IfOk, IsTrue, drop, length};
+ghost use Rattle.std.specs.List.{All, prefix_len, sum_by};
+ghost use Rattle.bdb_format.specs.HeadOf.{is_page_size};
+ghost use Rattle.bdb_leaves.specs.Runs.{IsShort};
+ghost use Rattle.bdb_leaves.specs.Spread.{own_pages, tree_size};
+ghost use Rattle.bdb_leaves.specs.Units.{KeyedUnit, has_own_tree, page_room, unit_cost};
+ghost use Rattle.bdb_leaves.specs.declared.leaf_type.LeafType.TheVariants.{Pairs};
+ghost use Rattle.bdb_mktree.specs.Lists.{HasBytes, IsRunAt, has_key, keyed_units};
+ghost use Rattle.bdb_mktree.specs.Units.{IsShortUnit};
+ghost use Rattle.bdb_model.specs.Pairs.{keys_of};
+ghost use Rattle.bdb_need.specs.Counting.{values_in};
+ghost use Rattle.bdb_need.specs.Need.{pairs_in};
+
+use crate::costs::{chain_pages, item_cost, page_room, value_cost};
+use crate::data::{data_chains, data_cost, data_pages};
+use crate::keyed_leaves::KeyedLeaves;
+use bdb_model::{Key, TextPair};
+use std::alloc::{AllocError, Global};
+
+// Whether a key of a list is this one.
+fn is_key(other: &Key, key: &[u8]) -> bool
+    ensures { result ≡ has_key key.now other.now }
+{
+    match other {
+        Key::Bytes(bytes) => bytes.as_slice() == key,
+        Key::Number(_) => false,
+    }
+}
+
+// How many pairs from the first on have this key.
+fn run_length(pairs: &[TextPair], key: &[u8]) -> usize
+    ensures { result ≡ prefix_len (has_key key.now) (keys_of (pairs_in pairs.now)) }
+{
+    let mut n = 0;
+    for pair in pairs {
+        if !is_key(&pair.key, key) {
+            return n;
+        }
+        n += 1;
+    }
+    n
+}
+
+/// The pairs of a key, one after the other.
+#[derive(Clone, Copy)]
+struct Run<'a> {
+    key: &'a [u8],
+    pairs: &'a [TextPair],
+}
+
+// The pairs of the key at a place.
+fn run_at<'a>(pairs: &'a [TextPair], start: usize) -> Run<'a>
+    requires keys { All (λ pair. HasBytes pair.key) (pairs_in pairs.now) }
+    requires more { start < length pairs.now }
+    ensures { IsRunAt (pairs_in pairs.now) start (KeyedUnit result.key.now (values_in result.pairs.now)) (start + length result.pairs.now) }
+{
+    let (_, rest) = pairs.split_at(start);
+    let Key::Bytes(key) = &rest[0].key else {
+        unreachable!()
+    };
+    let (run, _) = rest.split_at(run_length(rest, key.as_slice()));
+    Run {
+        key: key.as_slice(),
+        pairs: run,
+    }
+}
+
+/// What a key with its data takes of its leaf.
+#[derive(Clone, Copy)]
+struct Taken {
+    cost: usize,
+    /// Whether the data have a tree of their own.
+    has_tree: bool,
+}
+
+impl Run<'_> {
+    // What the key takes of its leaf: with all its data, or with the root of their tree where they would take too much.
+    fn taken(&self, size: usize) -> Taken
+        requires { IsTrue (is_page_size size) }
+        ensures cost { result.cost ≡ unit_cost size (KeyedUnit self.now.key.now (values_in self.now.pairs.now)) }
+        ensures tree { result.has_tree ≡ has_own_tree size self.now.key.now (values_in self.now.pairs.now) }
+        ensures fits { result.cost ≤ page_room size }
+    {
+        let key = value_cost(size, self.key);
+        let cost = key as u128 + data_cost(size, self.pairs);
+        let most = (page_room(size) / 4) as u128;
+        if self.pairs.len() > 1 && cost > most {
+            return Taken {
+                cost: key + 16,
+                has_tree: true,
+            };
+        }
+        Taken {
+            cost: cost as usize,
+            has_tree: false,
+        }
+    }
+
+    // The pages of its own: the chains of the key and its data, and the tree of the data where there is one.
+    fn own_pages(
+        &self,
+        alloc: Global,
+        size: usize,
+        sorted: bool,
+        has_tree: bool,
+    ) -> Result<u128, AllocError>
+        requires legal { IsTrue (is_page_size size) }
+        requires short { IsShortUnit (KeyedUnit self.now.key.now (values_in self.now.pairs.now)) }
+        requires tree { has_tree ≡ has_own_tree size self.now.key.now (values_in self.now.pairs.now) }
+        ensures pages { IfOk result (λ pages. pages ≡ own_pages size sorted (KeyedUnit self.now.key.now (values_in self.now.pairs.now))) }
+        ensures few { IfOk result (λ pages. pages ≤ (length self.now.pairs.now + 1) * 2 ^ 33) }
+    {
+        let chains = chain_pages(size, self.key) + data_chains(size, self.pairs);
+        if !has_tree {
+            return Ok(chains);
+        }
+        let tree = data_pages(alloc, size, sorted, self.pairs)?;
+        Ok(chains + tree)
+    }
+}
+
+/// The pages of a btree with these pairs.
+pub(crate) fn keyed_pages(
+    alloc: Global,
+    size: usize,
+    sorted: bool,
+    pairs: &[TextPair],
+) -> Result<u128, AllocError>
+    requires legal { IsTrue (is_page_size size) }
+    requires keys { All (λ pair. HasBytes pair.key) (pairs_in pairs.now) }
+    requires short { All IsShortUnit (keyed_units (pairs_in pairs.now)) }
+    ensures pages { IfOk result (λ pages. pages ≡ tree_size Pairs size sorted (keyed_units (pairs_in pairs.now))) }
+    ensures few { IfOk result (λ pages. pages < 2 ^ 100) }
+{
+    let mut leaves = KeyedLeaves::new(alloc, page_room(size));
+    let mut own: u128 = 0;
+    let mut start = 0;
+    while start < pairs.len() {
+        let run = run_at(pairs, start);
+        let taken = run.taken(size);
+        leaves.put(taken.cost, item_cost(size, run.key))?;
+        own += run.own_pages(alloc, size, sorted, taken.has_tree)?;
+        start += run.pairs.len();
+    }
+    Ok(own + leaves.tree_pages())
+}

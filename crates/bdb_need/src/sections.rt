@@ -1,0 +1,42 @@
+ghost use Rattle.std.specs.Prelude.{◌≡◌, ◌≤◌, ◌<◌, ◌^◌, IfOk, IsTrue};
+ghost use Rattle.bdb_format.specs.HeadOf.{is_page_size};
+ghost use Rattle.bdb_leaves.specs.Spread.{tree_size};
+ghost use Rattle.bdb_mktree.specs.Lists.{IsListFor, units_in};
+ghost use Rattle.bdb_mktree.specs.Units.{IsTreeKind, leaf_type_of};
+ghost use Rattle.bdb_need.specs.Need.{IsOneTree, need, pairs_in};
+
+use crate::keys::keyed_pages;
+use crate::records::record_pages;
+use bdb_format::{Kind, Settings};
+use bdb_model::{Sections, TextPairs};
+use std::alloc::{AllocError, Global};
+
+/// How many pages the tree of a list has, its root and the chains and trees of its data among them.
+pub fn tree_pages(alloc: Global, settings: &Settings, list: &TextPairs) -> Result<u128, AllocError>
+    requires kind { IsTreeKind settings.now.kind }
+    requires legal { IsTrue (is_page_size settings.now.page_size) }
+    requires list { IsListFor settings.now (pairs_in list.now) }
+    ensures pages { IfOk result (λ pages. pages ≡ tree_size (leaf_type_of settings.now.kind) settings.now.page_size settings.now.sorted
+        (units_in settings.now.kind (pairs_in list.now))) }
+    ensures few { IfOk result (λ pages. pages < 2 ^ 100) }
+{
+    let size = settings.page_size as usize;
+    match settings.kind {
+        Kind::Btree => keyed_pages(alloc, size, settings.sorted, list.as_slice()),
+        Kind::Recno => Ok(record_pages(size, list.as_slice())),
+        Kind::Hash | Kind::Queue => unreachable!(),
+    }
+}
+
+/// How many pages loading these sections needs: those of the file that is made of them.
+pub fn need(alloc: Global, sections: &Sections) -> Result<u128, AllocError>
+    requires { IsOneTree sections.now }
+    ensures pages { IfOk result (λ pages. pages ≡ need sections.now) }
+    ensures few { IfOk result (λ pages. pages ≤ 2 ^ 100) }
+{
+    let Some(section) = sections.get(0) else {
+        unreachable!()
+    };
+    let pages = tree_pages(alloc, &section.settings, &section.pairs)?;
+    Ok(1 + pages)
+}
