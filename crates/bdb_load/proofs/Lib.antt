@@ -1,0 +1,4 @@
+pub mod LoadLemmas
+pub mod ReadLemmas
+pub mod SettingsLemmas
+pub mod TreeLemmas

@@ -1,0 +1,3 @@
+pub mod Builds
+pub mod Loading
+pub mod Settled
