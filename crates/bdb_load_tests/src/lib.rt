@@ -1,0 +1,11 @@
+//! Tests of `load`: dump texts, the images that are built of them, and what `run` says of these.
+#![tactic(auto)]
+
+#[cfg(test)]
+mod asked;
+#[cfg(test)]
+mod kept;
+#[cfg(test)]
+mod loaded;
+#[cfg(test)]
+mod sizes;

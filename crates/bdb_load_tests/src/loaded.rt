@@ -1,0 +1,42 @@
+// The image of a dump text, or why there is none.
+use bdb_format::Bytes;
+use bdb_io::Image;
+use bdb_load::{is_one_tree, load};
+use bdb_settle::LoadError;
+use bdb_text::read_dump;
+use std::alloc::{AllocError, Global};
+
+/// What is answered to a text.
+#[derive(Drop)]
+pub(crate) enum Answer {
+    Image(Image),
+    Error(LoadError),
+    /// It isn't read, or isn't one section of a btree or recno.
+    Other,
+}
+
+/// Loads a text of at most 1 MiB into an image of at most so many bytes.
+pub(crate) fn loaded(alloc: Global, text: &[u8], most: u64) -> Answer {
+    if text.len() > 1048576 || most > 1073741824 {
+        return Answer::Other;
+    }
+    let Ok(sections) = read_dump(alloc, text) else {
+        return Answer::Other;
+    };
+    if !is_one_tree(&sections) {
+        return Answer::Other;
+    }
+    match load(alloc, sections, most) {
+        Ok(image) => Answer::Image(image),
+        Err(error) => Answer::Error(error),
+    }
+}
+
+/// The bytes of the image of a text; none where there is no image.
+pub(crate) fn image_of(alloc: Global, text: &[u8]) -> Result<Bytes, AllocError> {
+    let mut bytes = Bytes::new(alloc);
+    if let Answer::Image(image) = loaded(alloc, text, 1073741824) {
+        bytes.push_all(image.bytes())?;
+    }
+    Ok(bytes)
+}
