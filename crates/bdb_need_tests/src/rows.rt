@@ -113,8 +113,8 @@ fn row_of(kind: Kind, told: &Told) -> Row {
     }
 }
 
-// Pages of 512 bytes have room for 486. A key takes pad4(3 + its length) bytes, a datum 4 more than that; in a chain, from 65 bytes on, an item takes 12.
-// Over leaves the first item of a page takes 14, each other 2 + pad4(12 + length), of a key in a chain 26. One page is metadata.
+// Pages of 512 bytes have room for 486. A key takes pad4(3 + its length) bytes, a datum 4 more than that; in a chain, from 65 bytes on, an
+// item takes 12. Over leaves the first item of a page takes 14, each other 2 + pad4(12 + length), of a key in a chain 26. One page is metadata.
 const BTREES: [Told; 13] = [
     (Data::One, 512, 1, 1, 1, 5000, 13), // a leaf, and a chain of 10 pages of 486 and one of 140
     (Data::One, 512, 15, 1, 1, 20, 2), // 4 + 28 a key: a full leaf of 15
