@@ -1,0 +1,72 @@
+//! The pages of a section whose list is tested first.
+
+ghost use Rattle.std.specs.Prelude.{◌≡◌, IfOk, IsTrue};
+ghost use Rattle.bdb_format.specs.HeadOf.{is_page_size};
+ghost use Rattle.bdb_mktree.specs.Units.{IsTreeKind};
+ghost use Rattle.bdb_need.specs.Need.{pairs_in};
+
+use bdb_format::{Bytes, Kind};
+use bdb_mktree_tests::is_list_for;
+use bdb_model::{Key, Pair, PairList, Section, Sections, TextPairs};
+use bdb_need::need;
+use std::alloc::{AllocError, Global};
+
+fn copy_of(alloc: Global, bytes: &Bytes) -> Result<Bytes, AllocError>
+    ensures { IfOk result (λ copy. copy ≡ bytes.now) }
+{
+    let mut copy = Bytes::new(alloc);
+    copy.push_all(bytes.as_slice())?;
+    Ok(copy)
+}
+
+fn key_of(alloc: Global, key: &Key) -> Result<Key, AllocError>
+    ensures { IfOk result (λ copy. copy ≡ key.now) }
+{
+    match key {
+        Key::Bytes(bytes) => Ok(Key::Bytes(copy_of(alloc, bytes)?)),
+        Key::Number(number) => Ok(Key::Number(*number)),
+    }
+}
+
+// The pairs without their lines.
+fn list_of(alloc: Global, pairs: &TextPairs) -> Result<PairList, AllocError>
+    ensures { IfOk result (λ list. list ≡ pairs_in pairs.now) }
+{
+    let mut list = PairList::new(alloc);
+    for pair in pairs.as_slice() {
+        let key = key_of(alloc, &pair.key)?;
+        let value = copy_of(alloc, &pair.value)?;
+        list.push(Pair { key, value })?;
+    }
+    Ok(list)
+}
+
+fn is_page_size(size: u32) -> bool
+    ensures { result ≡ is_page_size size }
+{
+    matches!(size, 512 | 1024 | 2048 | 4096 | 8192 | 16384 | 32768)
+}
+
+fn is_tree_kind(kind: Kind) -> bool
+    ensures { IsTrue result → IsTreeKind kind }
+{
+    match kind {
+        Kind::Btree | Kind::Recno => true,
+        Kind::Hash | Kind::Queue => false,
+    }
+}
+
+/// How many pages a section needs; nothing where it has a name, or isn't a btree or recno with a list in its order.
+pub fn counted(alloc: Global, section: Section) -> Result<Option<u128>, AllocError> {
+    let settings = section.settings;
+    if section.name.is_some() || !is_page_size(settings.page_size) || !is_tree_kind(settings.kind) {
+        return Ok(None);
+    }
+    let list = list_of(alloc, &section.pairs)?;
+    if !is_list_for(&settings, &list) {
+        return Ok(None);
+    }
+    let mut sections = Sections::new(alloc);
+    sections.push(section)?;
+    Ok(Some(need(alloc, &sections)?))
+}
