@@ -11,7 +11,8 @@ pub pairs_none : (kind : Kind) (seed : ℕ) → [] ≡ generated kind seed 0
 unfolding generated
 pairs_none kind seed = refl
 
-pub pairs_next : (kind : Kind) (seed x i : ℕ) → x ≡ number_from seed i → generated kind seed (i + 1) ≡ generated kind seed i ++ (pair_of kind x i ∷ [])
+pub pairs_next : (kind : Kind) (seed x i : ℕ) → x ≡ number_from seed i
+    → generated kind seed (i + 1) ≡ generated kind seed i ++ (pair_of kind x i ∷ [])
 unfolding generated
 pairs_next kind seed x i is =
     rw is (map-range_with_len_more (λ n. pair_of kind (number_from seed n) n) 0 i i (omega arith))
