@@ -40,7 +40,7 @@ use Rattle.bdb_mkqueue.specs.Written.{IsWrittenQueue, WrittenQueuesAreSound}
 -- The page of metadata.
 
 -- it fills its page
-length-queue : (order : Order) (size last : ℕ) (meta : QueueMeta) → 92 ≤ size → length (queue_bytes order size last meta) ≡ size
+pub length-queue : (order : Order) (size last : ℕ) (meta : QueueMeta) → 92 ≤ size → length (queue_bytes order size last meta) ≡ size
 unfolding queue_bytes
 length-queue order size last meta least = simp (length-append, length-spelled, length-replicate {A = ℕ}, length-common) (omega arith)
 
