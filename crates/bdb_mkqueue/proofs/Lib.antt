@@ -7,3 +7,4 @@ pub mod StepLemmas
 pub mod LastLemmas
 pub mod BuiltLemmas
 pub mod WrittenLemmas
+pub mod FileLemmas

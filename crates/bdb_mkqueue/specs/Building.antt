@@ -50,7 +50,7 @@ pub record IsQueueBuilt (settings : Settings) (list : List Pair) (old new : Buil
 
 -- While records are laid.
 
--- the slots of a page lie on it, and there is one at least
+-- a page has room for its header and for its slots, of which there is one at least
 pub record HasRoom (size : ℕ) (meta : QueueMeta) : Type 0 where
   pub some : 1 ≤ meta.per_page
   pub room : meta.per_page * pad4 (meta.re_len + 1) ≤ size - 28

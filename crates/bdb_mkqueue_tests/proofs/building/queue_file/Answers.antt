@@ -1,6 +1,6 @@
 use Rattle.std.proofs.Common.{arith, sym, ◌∙◌, ap}
 use Rattle.bdb_format.specs.HeadOf.{is_page_size}
-use Rattle.bdb_mkqueue_tests.proofs.CheckedLemmas.{filed, zero_first}
+use Rattle.bdb_mkqueue.proofs.FileLemmas.{filed, zero_first}
 use Rattle.bdb_mkqueue_tests.proofs.building.queue_file.Goals as goal
 
 pub put_queue_meta-requires-clause-zero : goal.put_queue_meta-requires-clause-zero
