@@ -1,0 +1,6 @@
+//! Pairs that are generated from a number, as input for trials.
+#![tactic(auto)]
+
+mod pairs;
+
+pub use pairs::generate;

@@ -1,0 +1,107 @@
+-- What is promised of a queue that was built.
+use Rattle.std.proofs.Common.{◌≡◌, ℕ, ◌+◌, ◌-◌, ◌^◌, ◌<◌, ◌≤◌, Bool, false, cond, List, [], ◌∷◌, length, Option, Some, None}
+use Rattle.std.proofs.Common.{arith, refl, sym, ◌∙◌, ap, subst}
+use Rattle.std.specs.Prelude.{◌==◌, ◌||◌, nat_lt, not}
+use Rattle.std.specs.List.{All}
+use Rattle.std.proofs.Math.Nat.{div-le_self}
+use Rattle.std.proofs.lemmas.Bool.{eq-eqb, le-ltb, ne_eqb}
+use Rattle.bdb_format.specs.declared.metadata.QueueMeta.{QueueMeta}
+use Rattle.bdb_format.specs.declared.settings.Settings.{Settings}
+use Rattle.bdb_format.specs.Numbers.{four_at}
+use Rattle.bdb_format.specs.Reading.{queue_fields}
+use Rattle.bdb_format.specs.Rows.{queue_code, queue_rows, records_per_page}
+use Rattle.bdb_format.specs.Table.{first_row}
+use Rattle.bdb_model.specs.declared.list.Pair.{Pair}
+use Rattle.bdb_pack.specs.Built.{Built}
+use Rattle.bdb_mkqueue.specs.Building.{HasRoom, IsQueueBuilt, IsQueueOn, KeepsFirst, SaysQueue}
+use Rattle.bdb_mkqueue.specs.Layout.{queue_meta, queue_size, slots_of}
+use Rattle.bdb_mkqueue.specs.Lists.{AscendFrom, HasLength, HasNext, IsListFor, first_number, next_number, number_in}
+use Rattle.bdb_mkqueue.proofs.LastLemmas.{next_last}
+use Rattle.bdb_mkqueue.proofs.ListLemmas.{SaysList, queue_listed}
+use Rattle.bdb_mkqueue.proofs.PageLemmas.{page_formed}
+use Rattle.bdb_mkqueue.proofs.RecordLemmas.{next_low}
+use Rattle.bdb_mkqueue.proofs.StepLemmas.{no_pair, records_long}
+
+-- the next number fits its field
+next_few : (list : List Pair) → All HasNext list → next_number 1 list < 2 ^ 32
+next_few [] each = omega arith
+next_few (x ∷ xs) each =
+    let list : List Pair = x ∷ xs in
+    let few = each (length list - 1) no_pair (omega arith) in
+    omega (arith, next_last list (omega arith), few)
+
+-- so there are few pages
+size_few : (k : ℕ) (list : List Pair) → next_number 1 list < 2 ^ 32 → AscendFrom 1 list → 1 + queue_size k list ≤ 2 ^ 32
+size_few k [] few is = omega arith
+size_few k (x ∷ xs) few is =
+    let n : ℕ = next_number 1 (x ∷ xs) - 1 in
+    let after : number_in x.key + 1 ≤ next_number (number_in x.key + 1) xs = next_low (number_in x.key + 1) xs is.1 in
+    omega (arith, div-le_self (n - 1) k, few, after, is.0)
+
+first_low : (list : List Pair) → AscendFrom 1 list → (1 ≤ first_number list) × (first_number list ≤ next_number 1 list)
+first_low [] is = (omega arith, omega arith)
+first_low (x ∷ xs) is =
+    let after : number_in x.key + 1 ≤ next_number (number_in x.key + 1) xs = next_low (number_in x.key + 1) xs is.1 in
+    (is.0, omega (arith, after))
+
+-- records have the length that the metadata says
+pub lengths_for : (settings : Settings) (list : List Pair) (meta : QueueMeta) → IsListFor settings list → meta ≡ queue_meta settings list
+    → All (HasLength meta.re_len) list
+lengths_for settings list meta for is = subst (λ n. All (HasLength n) list) (sym (ap (λ (m : QueueMeta). m.re_len) is)) for.long
+
+says_list : (settings : Settings) (list : List Pair) (meta : QueueMeta) → IsListFor settings list → meta ≡ queue_meta settings list
+    → SaysList meta list
+says_list settings list meta for is =
+    record {
+      first = ap (λ (m : QueueMeta). m.first) is;
+      next = ap (λ (m : QueueMeta). m.current) is;
+      ascend = for.ascend;
+      long = λ r value at. records_long list meta.re_len r value (lengths_for settings list meta for is) at;
+    }
+
+-- rows of metadata that don't hold
+no_rows : (extent none some first current wrapped : Bool) → extent ≡ false → none ≡ false → some ≡ false → first ≡ false → current ≡ false
+    → wrapped ≡ false
+    → cond {A = Option ℕ} extent (Some 15) (cond (none || some) (Some 16) (cond (first || current) (Some 17) (cond wrapped (Some 18) None))) ≡ None
+no_rows extent none some first current wrapped one two three four five six = rw (one, two, three, four, five, six) refl
+
+meta_formed : (settings : Settings) (list : List Pair) (built : Built) (meta : QueueMeta) (page : List ℕ) → IsListFor settings list
+    → meta ≡ queue_meta settings list → built.size ≡ settings.page_size → HasRoom built.size meta → SaysQueue built meta page
+    → first_row (queue_rows built.order page) ≡ None
+meta_formed settings list built meta page for is size room says =
+    let first = first_low list for.ascend in
+    let read : QueueMeta = queue_fields built.order page in
+    let count : ℕ = records_per_page (length page) read.re_len in
+    let fields : (queue_fields built.order page) ≡ queue_meta settings list = says.fields ∙ is in
+    let per_page : read.per_page ≡ count =
+    ap (λ (m : QueueMeta). m.per_page) fields
+    ∙ (ap (λ s. records_per_page s settings.re_len) (sym (says.size ∙ size))
+    ∙ ap (records_per_page (length page)) (sym (ap (λ (m : QueueMeta). m.re_len) fields))) in
+    let some : 1 ≤ read.per_page = omega (arith, ap (λ (m : QueueMeta). m.per_page) says.fields, room.some) in
+    let first_is : read.first ≡ first_number list = ap (λ (m : QueueMeta). m.first) fields in
+    let next_is : read.current ≡ next_number 1 list = ap (λ (m : QueueMeta). m.current) fields in
+    no_rows (not (four_at built.order page 92 == 0)) (count == 0) (not (read.per_page == count)) (read.first == 0) (read.current == 0)
+    (nat_lt read.current read.first)
+    (ap not (eq-eqb (four_at built.order page 92) 0 says.extent))
+    (ne_eqb count 0 (λ none. omega (arith, none, per_page, some)))
+    (ap not (eq-eqb read.per_page count per_page))
+    (ne_eqb read.first 0 (λ none. omega (arith, none, first_is, first.0)))
+    (ne_eqb read.current 0 (λ none. omega (arith, none, next_is, first.0, first.1)))
+    (le-ltb read.current read.first (omega (arith, first_is, next_is, first.1)))
+
+pub queue_built : (settings : Settings) (list : List Pair) (old new : Built) (meta : QueueMeta) → IsListFor settings list
+    → old.size ≡ settings.page_size → meta ≡ queue_meta settings list → HasRoom new.size meta → IsQueueOn meta list new → KeepsFirst old new
+    → IsQueueBuilt settings list old new meta
+queue_built settings list old new meta for size is room on kept =
+    let few : length new.pages ≤ 2 ^ 32 =
+    let fits = size_few meta.per_page list (next_few list for.few) for.ascend in omega (arith, fits, on.count) in
+    record {
+      meta_is = is;
+      kept = kept;
+      laid_out = on;
+      formed = λ p above low.
+          ap (queue_code new.order p) (on.pages p above low)
+          ∙ page_formed new.order new.size meta.re_len p (slots_of list meta.per_page p) (omega (arith, low, few));
+      meta_formed = λ page says. meta_formed settings list new meta page for is (kept.size ∙ size) room says;
+      lists = λ file has. queue_listed meta list new file room (says_list settings list meta for is) on few has;
+    }

@@ -1,0 +1,10 @@
+pub mod RecordLemmas
+pub mod NumberLemmas
+pub mod SlotLemmas
+pub mod PageLemmas
+pub mod ListLemmas
+pub mod StepLemmas
+pub mod LastLemmas
+pub mod BuiltLemmas
+pub mod WrittenLemmas
+pub mod FileLemmas

@@ -1,0 +1,232 @@
+-- A queue under metadata that is written over page 0.
+use Rattle.std.proofs.Common.{◌≡◌, ℕ, zero, suc, ◌+◌, ◌-◌, ◌*◌, ◌<◌, ◌≤◌, false, List, [], ◌∷◌, ◌++◌, length, set, None}
+use Rattle.std.proofs.Common.{append_assoc, arith, refl, sym, ◌∙◌, ap, subst, length-append}
+use Rattle.std.specs.Prelude.{◌==◌, ◌||◌, not}
+use Rattle.std.proofs.lemmas.Bool.{eq-eqb}
+use Rattle.std.proofs.lemmas.List.{append-nil, get_or-set_other, get_or-set_same, length-replicate, length-set, replicate-append-replicate}
+use Rattle.bdb_format.specs.declared.kinds.Order.{Order}
+use Rattle.bdb_format.specs.declared.metadata.FileKind.TheVariants.{Queue}
+use Rattle.bdb_format.specs.declared.metadata.Head.{Head}
+use Rattle.bdb_format.specs.declared.metadata.QueueMeta.{QueueMeta}
+use Rattle.bdb_format.specs.Table.{Row, first_row}
+use Rattle.bdb_format.specs.Page.{Meta, QueueFields}
+use Rattle.bdb_format.specs.Numbers.{byte_at, four_at, has_bit, spelled}
+use Rattle.bdb_format.specs.Reading.{abstract_page}
+use Rattle.bdb_format.specs.Rows.{form_code, metadata_rows, queue_rows, type_of}
+use Rattle.bdb_format.specs.Spelling.{common_bytes, queue_bytes, zeros}
+use Rattle.bdb_format.specs.HeadOf.{head_of, head_rows, is_page_size}
+use Rattle.bdb_format.specs.File.{file_of, page_at, page_bytes}
+use Rattle.bdb_format.specs.Databases.{Database}
+use Rattle.bdb_format.specs.Verdict.{faults_in, or_else, tail_faults}
+use Rattle.bdb_format.proofs.SpellingLemmas.{length-spelled, number_at-in}
+use Rattle.bdb_format.proofs.VerdictLemmas.{AllFail, none_in, none_is_first_row}
+use Rattle.bdb_graph.proofs.CodeLemmas.{first_page_code, form_queue}
+use Rattle.bdb_graph.proofs.FormedLemmas.{size_bounds}
+use Rattle.bdb_graph.proofs.HeldLemmas.{kind_is, last_page, page_is}
+use Rattle.bdb_graph.proofs.MetaLemmas.{queue_page}
+use Rattle.bdb_meta.proofs.CommonLemmas.{length-common}
+use Rattle.bdb_meta.proofs.FilledLemmas.{zeros-spelled}
+use Rattle.bdb_pack.specs.Built.{AreWhole, Built, bytes_of, joined_pages, with_page}
+use Rattle.bdb_pack.proofs.CutLemmas.{all_size, page_whole}
+use Rattle.bdb_join.specs.Queues.{IsSoundQueue}
+use Rattle.bdb_join.proofs.CommonLemmas.{ReadsAs, reads_common}
+use Rattle.bdb_join.proofs.HeadLemmas.{IsImage, head_accepted, image_head}
+use Rattle.bdb_join.proofs.QueueLemmas.{queues_are_sound}
+use Rattle.bdb_join.proofs.ReadLemmas.{page_read}
+use Rattle.bdb_join.proofs.StageLemmas.{form_none, head_none, tail_none}
+use Rattle.bdb_mkqueue.specs.Building.{HasPages, SaysQueue}
+use Rattle.bdb_mkqueue.specs.Written.{IsWrittenQueue, WrittenQueuesAreSound}
+
+-- The page of metadata.
+
+-- it fills its page
+pub length-queue : (order : Order) (size last : ℕ) (meta : QueueMeta) → 92 ≤ size → length (queue_bytes order size last meta) ≡ size
+unfolding queue_bytes
+length-queue order size last meta least = simp (length-append, length-spelled, length-replicate {A = ℕ}, length-common) (omega arith)
+
+page_long : (built : Built) (page : List ℕ) (meta : QueueMeta) (image : List ℕ) → IsWrittenQueue built page meta image → length page ≡ built.size
+page_long built page meta image is =
+    ap length is.bytes
+    ∙ length-queue built.order built.size (length built.pages - 1) meta (omega (arith, (size_bounds built.size is.pages.legal).0))
+
+-- the head of the file of a queue with these pages
+abbrev head_for : Built → Head
+head_for built = record {
+  order = built.order;
+  page_size = built.size;
+  kind = Queue;
+  last = length built.pages - 1;
+  pages = length built.pages;
+}
+
+-- what is read from the page, and from bytes that begin with it
+reads_page : (built : Built) (page : List ℕ) (meta : QueueMeta) (image rest : List ℕ) → IsWrittenQueue built page meta image
+    → ReadsAs (head_for built) 0 (page ++ rest)
+unfolding queue_bytes
+reads_page built page meta image rest is =
+    let last : ℕ = length built.pages - 1 in
+    let common : List ℕ = common_bytes built.order Queue built.size 0 0 last 0 in
+    let behind : List ℕ =
+    spelled 4 built.order meta.first ++ (spelled 4 built.order meta.current ++ (spelled 4 built.order meta.re_len
+    ++ (spelled 4 built.order meta.re_pad ++ (spelled 4 built.order meta.per_page ++ zeros (built.size - 92))))) in
+    let same : page ++ rest ≡ common ++ (behind ++ rest) = ap (λ bs. bs ++ rest) is.bytes ∙ append_assoc common behind rest in
+    subst (ReadsAs (head_for built) 0) (sym same)
+    (reads_common (head_for built) 0 0 0 (behind ++ rest) (omega (arith, (size_bounds built.size is.pages.legal).1)) (omega arith)
+    (omega (arith, is.pages.few, is.pages.some)))
+
+-- no pages in an extent
+no_extent : (built : Built) (page : List ℕ) (meta : QueueMeta) (image : List ℕ) → IsWrittenQueue built page meta image
+    → four_at built.order page 92 ≡ 0
+unfolding queue_bytes
+no_extent built page meta image is =
+    let order : Order = built.order in
+    let common : List ℕ = common_bytes order Queue built.size 0 0 (length built.pages - 1) 0 in
+    let numbers : List ℕ =
+    spelled 4 order meta.first ++ (spelled 4 order meta.current ++ (spelled 4 order meta.re_len
+    ++ (spelled 4 order meta.re_pad ++ spelled 4 order meta.per_page))) in
+    let left : ℕ = built.size - 96 in
+    let long : 4 + left ≡ built.size - 92 = omega (arith, (size_bounds built.size is.pages.legal).0) in
+    let cut : zeros (built.size - 92) ≡ spelled 4 order 0 ++ zeros left =
+    ap zeros (sym long) ∙ (sym (replicate-append-replicate 4 left 0) ∙ ap (λ bs. bs ++ zeros left) (sym (zeros-spelled order))) in
+    let whole : page ≡ (common ++ numbers) ++ (spelled 4 order 0 ++ zeros left) =
+    is.bytes
+    ∙ (ap (λ bs. common ++ (spelled 4 order meta.first ++ (spelled 4 order meta.current ++ (spelled 4 order meta.re_len
+    ++ (spelled 4 order meta.re_pad ++ (spelled 4 order meta.per_page ++ bs)))))) cut ∙ simp append_assoc) in
+    let front : 92 ≡ 0 + length (common ++ numbers) = simp (length-append, length-spelled, length-common) in
+    number_at-in 4 order 0 page 0 92 (common ++ numbers) (zeros left) whole front (omega arith)
+
+-- Its rows.
+
+first_of_none : (rows : List (Row ℕ)) → AllFail rows → first_row rows ≡ None
+first_of_none [] fail = refl
+first_of_none (row ∷ rows) fail = rw (fail.0) (first_of_none rows fail.1)
+
+meta_accepted : (head : Head) (page : List ℕ) → head.kind ≡ Queue → ReadsAs head 0 page → length page ≡ head.page_size
+    → first_row (queue_rows head.order page) ≡ None → form_code head 0 page ≡ None
+unfolding metadata_rows
+meta_accepted head page kind reads long none =
+    let own : not (four_at head.order page 8 == 0) ≡ false = ap not (eq-eqb (four_at head.order page 8) 0 reads.number_is) in
+    let type : not (byte_at page 25 == 10) ≡ false = ap (λ b. not (b == 10)) (reads.type ∙ ap type_of kind) in
+    let size : not (four_at head.order page 20 == length page) ≡ false =
+    ap not (eq-eqb (four_at head.order page 20) (length page) (reads.size_is ∙ sym long)) in
+    let plain : not (byte_at page 24 == 0) ≡ false = ap (λ b. not (b == 0)) reads.plain in
+    let sum : has_bit (byte_at page 26) 0x01 ≡ false = ap (λ b. has_bit b 0x01) reads.flags in
+    let parted : (has_bit (byte_at page 26) 0x06 || not (four_at head.order page 36 == 0)) ≡ false =
+    ap (λ b. has_bit b 0x06 || not (four_at head.order page 36 == 0)) reads.flags ∙ ap (λ n. not (n == 0)) reads.partitions in
+    first_page_code head page
+    ∙ (ap (λ k. first_row (metadata_rows head.order page 0 head.last k)) kind
+    ∙ first_of_none (metadata_rows head.order page 0 head.last Queue)
+    (own, (type, (refl, (refl, (size, (plain, (sum, (parted, none_is_first_row (queue_rows head.order page) none)))))))))
+
+-- The image.
+
+begins : (pages : List (List ℕ)) (page : List ℕ) → 1 ≤ length pages → (rest : List ℕ) × (joined_pages (set pages 0 page) ≡ page ++ rest)
+begins [] page some = absurd (omega arith)
+begins (first ∷ pages) page some = (joined_pages pages, refl)
+
+after_whole : (built : Built) (page : List ℕ) (meta : QueueMeta) (image : List ℕ) → IsWrittenQueue built page meta image
+    → AreWhole (with_page built 0 page)
+after_whole built page meta image is =
+    page_whole built 0 page is.pages.whole (omega (arith, is.pages.some)) (page_long built page meta image is)
+
+says_head : (built : Built) (page : List ℕ) (meta : QueueMeta) (image : List ℕ) → IsWrittenQueue built page meta image
+    → IsImage (head_for built) image
+says_head built page meta image is =
+    let first = begins built.pages page is.pages.some in
+    let count : length (set built.pages 0 page) ≡ length built.pages = length-set built.pages 0 page in
+    record {
+      reads = subst (ReadsAs (head_for built) 0) (sym (is.image_is ∙ first.1)) (reads_page built page meta image first.0 is);
+      legal = is.pages.legal;
+      long = ap length is.image_is
+          ∙ ((all_size built.size (set built.pages 0 page) (after_whole built page meta image is)).1 ∙ ap (λ n. n * built.size) count);
+      whole = omega (arith, is.pages.some);
+    }
+
+-- its pages
+page_of_image : (built : Built) (page : List ℕ) (meta : QueueMeta) (image : List ℕ) (p : ℕ) → IsWrittenQueue built page meta image
+    → head_of image ≡ head_for built → p < length built.pages → page_bytes (head_of image) image p ≡ bytes_of (with_page built 0 page) p
+page_of_image built page meta image p is head low =
+    page_read (with_page built 0 page) image (head_of image) p (after_whole built page meta image is) is.image_is
+    (ap (λ (h : Head). h.page_size) head) (omega (arith, low, length-set built.pages 0 page))
+
+first_page : (built : Built) (page : List ℕ) → 1 ≤ length built.pages → bytes_of (with_page built 0 page) 0 ≡ page
+first_page built page some = get_or-set_same built.pages 0 page [] (omega (arith, some))
+
+later_page : (built : Built) (page : List ℕ) (p : ℕ) → 1 ≤ p → bytes_of (with_page built 0 page) p ≡ bytes_of built p
+later_page built page p above = get_or-set_other built.pages 0 p page [] (λ same. omega (arith, above, same))
+
+same_database : (database : Database) (meta other : QueueMeta) → meta ≡ other → database ≡ record { name = None; fields = QueueFields meta }
+    → database ≡ record { name = None; fields = QueueFields other }
+same_database database meta other same is = is ∙ ap (λ m. let d : Database = record { name = None; fields = QueueFields m } in d) same
+
+pub written_queues_are_sound : WrittenQueuesAreSound
+written_queues_are_sound settings list old built meta page image queue is =
+    record {
+      sound = sound.sound;
+      verdict = sound.verdict;
+      alone = sound.alone ∙ ap (λ m. let d : Database = record { name = None; fields = QueueFields m } in d ∷ []) meta_same;
+      listed_is = queue.lists (file_of image) pages;
+    }
+  where
+    head : head_of image ≡ head_for built
+    head = image_head (head_for built) image (says_head built page meta image is)
+
+    last : (head_of image).last + 1 ≡ length built.pages
+    last = omega (arith, ap (λ (h : Head). h.last) head, is.pages.some)
+
+    accepted : first_row (head_rows image) ≡ None
+    accepted = head_accepted (head_for built) image (says_head built page meta image is)
+
+    whole : (head_of image).last + 1 ≡ (head_of image).pages
+    whole = last ∙ sym (ap (λ (h : Head). h.pages) head)
+
+    reads : ReadsAs (head_for built) 0 page
+    reads = subst (ReadsAs (head_for built) 0) (append-nil page) (reads_page built page meta image [] is)
+
+    says : SaysQueue built meta page
+    says = record { size = page_long built page meta image is; fields = is.fields; extent = no_extent built page meta image is }
+
+    formed : (p : ℕ) → p ≤ (head_of image).last → form_code (head_of image) p (page_bytes (head_of image) image p) ≡ None
+    formed zero high =
+        ap (form_code (head_of image) 0) (page_of_image built page meta image 0 is head (omega (arith, last)) ∙ first_page built page is.pages.some)
+        ∙ (ap (λ h. form_code h 0 page) head
+        ∙ meta_accepted (head_for built) page refl reads (page_long built page meta image is) (queue.meta_formed page says))
+    formed (suc n) high =
+        ap (form_code (head_of image) (suc n))
+        (page_of_image built page meta image (suc n) is head (omega (arith, last, high)) ∙ later_page built page (suc n) (omega arith))
+        ∙ (ap (λ h. form_code h (suc n) (bytes_of built (suc n))) head
+        ∙ (form_queue (head_for built) (suc n) (bytes_of built (suc n)) (omega arith) refl
+        ∙ queue.formed (suc n) (omega arith) (omega (arith, last, high))))
+
+    none : faults_in (1 ∷ 2 ∷ []) image ≡ []
+    none =
+        none_in image (1 ∷ 2 ∷ []) (
+          ap (λ faults. or_else faults (λ _. tail_faults image)) (head_none image accepted) ∙ tail_none image whole,
+          (form_none image formed, tt),
+        )
+
+    sound : IsSoundQueue image
+    sound = queues_are_sound image none (kind_is image ∙ ap (λ (h : Head). h.kind) head)
+
+    page_at_0 : page_at (file_of image) 0 ≡ Meta (QueueFields meta)
+    page_at_0 =
+        page_is image 0 (omega arith)
+        ∙ (ap (abstract_page (head_of image).order)
+        (page_of_image built page meta image 0 is head (omega (arith, is.pages.some)) ∙ first_page built page is.pages.some)
+        ∙ (ap (λ (h : Head). abstract_page h.order page) head
+        ∙ (queue_page built.order page (ap is_page_size (page_long built page meta image is) ∙ is.pages.legal) reads.type
+        ∙ ap (λ m. Meta (QueueFields m)) is.fields)))
+
+    meta_same : sound.meta ≡ meta
+    meta_same = let both : Meta (QueueFields sound.meta) ≡ Meta (QueueFields meta) = sym sound.named ∙ page_at_0 in cc
+
+    pages : HasPages built (file_of image)
+    pages = record {
+      last = ap (λ n. n + 1) (last_page image) ∙ last;
+      same = λ p above high.
+          let low : p ≤ (head_of image).last = omega (arith, high, last_page image) in
+          page_is image p low
+          ∙ (ap (abstract_page (head_of image).order)
+          (page_of_image built page meta image p is head (omega (arith, low, last)) ∙ later_page built page p above)
+          ∙ ap (λ (h : Head). abstract_page h.order (bytes_of built p)) head);
+    }

@@ -1,0 +1,10 @@
+use Rattle.std.proofs.Common.{arith}
+use Rattle.bdb_graph.proofs.FormedLemmas.{size_bounds}
+use Rattle.bdb_mkqueue.proofs.StepLemmas.{header_written}
+use Rattle.bdb_mkqueue.proofs.build.begin_page.Goals as goal
+
+pub returns : goal.returns
+returns c =
+    header_written c.args.pages.now c.args.number c.order-order.result _ _ c.size-size.ensures.whole c.requires
+    (omega (arith, (size_bounds c.size-size.result c.size-size.ensures.legal).0, c.size-size.ensures.size)) c.order-order.ensures
+    c.page_mut.ensures.value c.put_header.ensures

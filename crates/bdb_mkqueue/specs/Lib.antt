@@ -1,0 +1,4 @@
+pub mod Building
+pub mod Layout
+pub mod Lists
+pub mod Written

@@ -1,0 +1,155 @@
+ghost use Rattle.std.specs.Prelude.{◌≡◌, ◌+◌, ◌-◌, ◌*◌, ◌<◌, ◌≤◌, ◌^◌, ◌∷◌, IfOk, length, take};
+ghost use Rattle.std.specs.List.{All};
+ghost use Rattle.bdb_format.specs.Numbers.{pad4};
+ghost use Rattle.bdb_mkqueue.specs.Building.{HasRoom, IsQueueBuilt, IsQueueOn, KeepsFirst, reached, with_header, with_more, with_record};
+ghost use Rattle.bdb_mkqueue.specs.Layout.{queue_meta};
+ghost use Rattle.bdb_mkqueue.specs.Lists.{AscendFrom, HasLength, HasNext, IsListFor, first_number, next_number};
+
+use crate::records::{number_of, page_of, put_record, records_per_page, slot_of};
+use bdb_format::{Header, QueueMeta, Settings};
+use bdb_layout::put_header;
+use bdb_model::PairList;
+use bdb_pack::Pages;
+use std::alloc::AllocError;
+
+// The longest file that is read has no more pages.
+const MAX_PAGES: u32 = 1 << 21;
+
+// Adds so many zero pages behind all pages.
+fn add_pages(pages: &mut Pages, n: u32) -> Result<(), AllocError>
+    requires { length pages.old.pages + n ≤ 2 ^ 21 }
+    ensures { IfOk result (λ _. pages.new ≡ with_more n pages.old) }
+{
+    for _added in 0..n {
+        pages.add()?;
+    }
+    Ok(())
+}
+
+// Writes the header of a page of records.
+fn begin_page(pages: &mut Pages, number: u32)
+    requires { number < length pages.old.pages }
+    ensures { pages.new ≡ with_header pages.old number }
+{
+    // That all pages are whole is known with their size.
+    let _size = pages.size();
+    let order = pages.order();
+    let header = Header {
+        number,
+        previous: 0,
+        next: 0,
+        entries: 0,
+        high_free: 0,
+        level: 0,
+        page_type: 11,
+    };
+    put_header(pages.page_mut(number), order, &header);
+}
+
+// Adds and begins a page for records, and adds those before it, where it isn't there yet.
+fn reach_page(pages: &mut Pages, number: u32) -> Result<(), AllocError>
+    ensures { IfOk result (λ _. pages.new ≡ reached pages.old number) }
+{
+    let count = pages.count();
+    if number < count {
+        return Ok(());
+    }
+    if number >= MAX_PAGES {
+        return Err(AllocError);
+    }
+    add_pages(pages, number + 1 - count)?;
+    begin_page(pages, number);
+    Ok(())
+}
+
+// Puts a record into a slot of a page.
+fn write_record(pages: &mut Pages, meta: &QueueMeta, page: u32, slot: u32, value: &[u8])
+    requires page { page < length pages.old.pages }
+    requires room { 28 + slot * pad4 (meta.now.re_len + 1) + 1 + length value.now ≤ pages.old.size }
+    ensures { pages.new ≡ with_record meta.now pages.old page slot value.now }
+{
+    let _size = pages.size();
+    put_record(pages.page_mut(page), meta, slot, value);
+}
+
+// Puts the record at a place of a list behind those before it.
+fn push_record(
+    pages: &mut Pages,
+    meta: &QueueMeta,
+    list: &PairList,
+    place: usize,
+) -> Result<(), AllocError>
+    requires ascend { AscendFrom 1 list.now }
+    requires long { All (HasLength meta.now.re_len) list.now }
+    requires room { HasRoom pages.old.size meta.now }
+    requires place { place < length list.now }
+    requires queue { IsQueueOn meta.now (take place list.now) pages.old }
+    ensures queue { IfOk result (λ _. IsQueueOn meta.now (take (place + 1) list.now) pages.new) }
+    ensures kept { IfOk result (λ _. KeepsFirst pages.old pages.new) }
+{
+    let number = number_of(&list.keys()[place]);
+    let page = page_of(meta, number);
+    reach_page(pages, page)?;
+    let slot = slot_of(meta, number);
+    write_record(pages, meta, page, slot, list.values()[place].as_slice());
+    Ok(())
+}
+
+// The number of the first record of a list, and the one after the last.
+fn first_number(list: &PairList) -> u32
+    ensures { result ≡ first_number list.now }
+{
+    match list.keys().first() {
+        Some(key) => number_of(key),
+        None => 1,
+    }
+}
+
+fn next_number(list: &PairList) -> u32
+    requires { All HasNext list.now }
+    ensures { result ≡ next_number 1 list.now }
+{
+    match list.keys().last() {
+        Some(key) => number_of(key) + 1,
+        None => 1,
+    }
+}
+
+// The metadata of the queue of a list.
+fn queue_meta(settings: &Settings, list: &PairList) -> QueueMeta
+    requires low { 28 ≤ settings.now.page_size }
+    requires high { settings.now.page_size ≤ 32768 }
+    requires few { All HasNext list.now }
+    ensures { result ≡ queue_meta settings.now list.now }
+{
+    QueueMeta {
+        first: first_number(list),
+        current: next_number(list),
+        re_len: settings.re_len,
+        re_pad: settings.re_pad,
+        per_page: records_per_page(settings.page_size as usize, settings.re_len),
+    }
+}
+
+/// Builds the queue of a list behind a page that is kept for its metadata, and answers that. The page size and the order of the settings are
+/// those of the pages. It is also refused where the page of a record would be one of 2^21 or above.
+pub fn build_queue(
+    pages: &mut Pages,
+    settings: &Settings,
+    list: &PairList,
+) -> Result<QueueMeta, AllocError>
+    requires size { pages.old.size ≡ settings.now.page_size }
+    requires order { pages.old.order ≡ settings.now.order }
+    requires one { length pages.old.pages ≡ 1 }
+    requires room { pad4 (settings.now.re_len + 1) ≤ settings.now.page_size - 28 }
+    requires list { IsListFor settings.now list.now }
+    ensures { IfOk result (λ meta. IsQueueBuilt settings.now list.now pages.old pages.new meta) }
+{
+    // That it is a legal size is known with it.
+    let _size = pages.size();
+    let meta = queue_meta(settings, list);
+    for place in 0..list.len() {
+        push_record(pages, &meta, list, place)?;
+    }
+    Ok(meta)
+}

@@ -1,0 +1,65 @@
+ghost use Rattle.std.specs.Prelude.{◌≡◌, ◌+◌, ◌*◌, ◌<◌, ◌≤◌, ◌^◌, ◌∷◌, length};
+ghost use Rattle.bdb_format.specs.Numbers.{overwritten, pad4};
+ghost use Rattle.bdb_format.specs.Rows.{records_per_page};
+ghost use Rattle.bdb_mkqueue.specs.Layout.{page_of, slot_of};
+ghost use Rattle.bdb_mkqueue.specs.Lists.{number_in};
+
+use bdb_format::QueueMeta;
+use bdb_model::Key;
+
+/// The number of a record.
+pub(crate) fn number_of(key: &Key) -> u32
+    ensures { result ≡ number_in key.now }
+{
+    match key {
+        Key::Bytes(_) => 0,
+        Key::Number(number) => *number,
+    }
+}
+
+// The bytes of a slot: one, the record, and what pads them.
+fn slot_size(re_len: u32) -> usize
+    ensures size { result ≡ pad4 (re_len + 1) }
+    ensures room { re_len + 1 ≤ result }
+    ensures high { result ≤ re_len + 4 }
+{
+    (re_len as usize + 1).div_ceil(4) * 4
+}
+
+/// How many records of `re_len` bytes stand on a page of `size` bytes.
+pub(crate) fn records_per_page(size: usize, re_len: u32) -> u32
+    requires low { 28 ≤ size }
+    requires high { size ≤ 32768 }
+    ensures { result ≡ records_per_page size re_len }
+{
+    ((size - 28) / slot_size(re_len)) as u32
+}
+
+/// The page of a record.
+pub(crate) fn page_of(meta: &QueueMeta, number: u32) -> u32
+    requires number { 1 ≤ number }
+    requires some { 1 ≤ meta.now.per_page }
+    ensures { result ≡ page_of meta.now.per_page number }
+{
+    1 + (number - 1) / meta.per_page
+}
+
+/// The slot of a record on its page.
+pub(crate) fn slot_of(meta: &QueueMeta, number: u32) -> u32
+    requires number { 1 ≤ number }
+    requires some { 1 ≤ meta.now.per_page }
+    ensures { result ≡ slot_of meta.now.per_page number }
+{
+    (number - 1) % meta.per_page
+}
+
+/// Writes a record into a slot of its page: a byte that says that it's valid, and its bytes.
+pub(crate) fn put_record(page: &mut [u8], meta: &QueueMeta, slot: u32, value: &[u8])
+    requires room { 28 + slot * pad4 (meta.now.re_len + 1) + 1 + length value.now ≤ length page.old }
+    requires short { length page.old ≤ 32768 }
+    ensures { page.new ≡ overwritten page.old (28 + slot * pad4 (meta.now.re_len + 1)) (1 ∷ value.now) }
+{
+    let at = 28 + slot as usize * slot_size(meta.re_len);
+    page[at] = 1;
+    page[at + 1..at + 1 + value.len()].copy_from_slice(value);
+}
