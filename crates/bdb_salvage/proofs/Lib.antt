@@ -1,0 +1,4 @@
+pub mod PageLemmas
+pub mod WalkLemmas
+pub mod ChainLemmas
+pub mod WholeLemmas

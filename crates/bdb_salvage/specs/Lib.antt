@@ -1,0 +1,4 @@
+pub mod Guesses
+pub mod Reads
+pub mod Salvage
+pub mod Links
