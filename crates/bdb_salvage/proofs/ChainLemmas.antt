@@ -1,14 +1,14 @@
 -- A whole chain of the pages that a guess reads is one of the image.
 use Rattle.std.proofs.Common.{◌≡◌, ◌⊎◌, ℕ, zero, suc, ◌+◌, ◌/◌, ◌<◌, ◌≤◌, Bool, true, false, cond, List, [], ◌∷◌, map, length, take, drop, arith, refl, sym, ◌∙◌, ap, inl, inr, eqb-true}
-use Rattle.std.specs.Prelude.{◌==◌, ◌&&◌, not, nat_lt, nat_le, Option, Some, None}
+use Rattle.std.specs.Prelude.{◌==◌, ◌&&◌, not, nat_lt, Option, Some, None}
 use Rattle.std.proofs.Common.{ltb-false}
 use Rattle.bdb_format.specs.declared.kinds.Order.{Order}
 use Rattle.bdb_format.specs.Chains.{chain_in, next_of, piece_in, pieces_of}
 use Rattle.bdb_format.specs.File.{File, file_as, header_in, page_at}
 use Rattle.bdb_format.specs.HeadOf.{is_page_size}
 use Rattle.bdb_format.specs.Numbers.{byte_at, four_at, two_at}
-use Rattle.bdb_format.specs.Page.{Page, Zero, Overflow, NoType, PageType}
-use Rattle.bdb_format.specs.Reading.{abstract_page, header_of, is_zero, page_as, page_type}
+use Rattle.bdb_format.specs.Page.{Page, Zero, PageType}
+use Rattle.bdb_format.specs.Reading.{abstract_page, is_zero, page_as, page_type}
 use Rattle.bdb_format.specs.Rows.{page_code}
 use Rattle.bdb_form.specs.Formed.{HoldsData}
 use Rattle.bdb_form.proofs.FormedLemmas.{holds_data, tree_body}

@@ -1,15 +1,20 @@
 -- The pages that a guess reads.
-use Rattle.std.proofs.Common.{◌≡◌, ℕ, ◌+◌, ◌*◌, ◌/◌, ◌^◌, ◌<◌, ◌≤◌, true, false, List, map, length, drop, arith, refl, sym, ◌∙◌, ap, length-drop, length-take}
+use Rattle.std.proofs.Common.{◌≡◌, ℕ, ◌*◌, ◌/◌, ◌^◌, ◌<◌, ◌≤◌, true, false, List, map, length, drop, arith, refl, sym, ◌∙◌, ap, length-drop, length-take}
+use Rattle.std.proofs.Common.{inl, inr, ◌-◌}
+use Rattle.std.proofs.lemmas.Bool.{cases_lt}
 use Rattle.std.specs.Prelude.{Option, Some, None, Result, Ok, Err}
 use Rattle.std.specs.List.{range_with_len}
 use Rattle.std.proofs.Math.Nat.{div-le_of_le-mul}
 use Rattle.std.proofs.lemmas.List.{get_or_past}
 use Rattle.std.proofs.lemmas.List.FromFn.{get_or-map-range_with_len, length-map-range_with_len}
 use Rattle.bdb_form.specs.declared.view.PageView.{PageView}
+use Rattle.bdb_form.specs.declared.view.PageView.TheVariants.{Zero as ZeroView, Free, Meta, Leaf, Internal, RecnoLeaf, RecnoInternal, DupLeaf, Hash, Overflow, Queue}
+use Rattle.bdb_form.specs.Formed.{MetaPage, QueuePage as QueueSeen}
+use Rattle.bdb_format.specs.declared.pages.Header.{Header}
 use Rattle.bdb_form.specs.Formed.{unless}
-use Rattle.bdb_form.specs.Seen.{form_seen, page_seen}
+use Rattle.bdb_form.specs.Seen.{form_seen, header_seen, page_seen}
 use Rattle.bdb_format.specs.declared.kinds.Order.{Order}
-use Rattle.bdb_format.specs.File.{File, page_at}
+use Rattle.bdb_format.specs.File.{File, header_in, page_at}
 use Rattle.bdb_format.specs.HeadOf.{is_page_size}
 use Rattle.bdb_format.specs.Chains.{piece_in}
 use Rattle.bdb_format.specs.Numbers.{byte_at, four_at, two_at}
@@ -19,7 +24,7 @@ use Rattle.bdb_format.specs.Rows.{page_code}
 use Rattle.bdb_graph.proofs.FormedLemmas.{size_bounds}
 use Rattle.bdb_overflow.specs.Whole.{bytes_of}
 use Rattle.bdb_overflow.proofs.WholeLemmas.{page_length}
-use Rattle.bdb_salvage.specs.Links.{view_page}
+use Rattle.bdb_salvage.specs.Kept.{slots_in}
 use Rattle.bdb_salvage.specs.Salvage.{salvaged_file, salvaged_page, unless_code}
 
 pub count_is : (order : Order) (size : ℕ) (image : List ℕ) → (salvaged_file order size image).count ≡ length image / size
@@ -122,3 +127,55 @@ pub answer_short : (size : ℕ) (order : Order) (image : List ℕ) (p : ℕ) (fi
 answer_short size order image p file is legal there page same =
     let eq : length (piece_in page) ≡ length (piece_in (page_at (salvaged_file order size image) p)) = ap (λ x. length (piece_in x)) (same ∙ ap (λ f. page_at f p) is) in
     omega (arith, eq, short_page order size image p legal there)
+
+pub last_is : (order : Order) (size : ℕ) (image : List ℕ) → (salvaged_file order size image).last ≡ length image / size - 1
+unfolding salvaged_file Rattle.bdb_format.specs.File.file_as
+last_is order size image = refl
+
+-- The header of a page that has one.
+
+pub seen_header : (view : PageView) → ((m : MetaPage) → view ≡ Meta m → ⊥) → ((q : QueueSeen) → view ≡ Queue q → ⊥) → header_seen view ≡ header_in (page_seen view)
+seen_header (ZeroView view) meta queue = refl
+seen_header (Free view) meta queue = refl
+seen_header (Meta view) meta queue = absurd (meta view refl)
+seen_header (Leaf view) meta queue = refl
+seen_header (Internal view) meta queue = refl
+seen_header (RecnoLeaf view) meta queue = refl
+seen_header (RecnoInternal view) meta queue = refl
+seen_header (DupLeaf view) meta queue = refl
+seen_header (Hash view) meta queue = refl
+seen_header (Overflow view) meta queue = refl
+seen_header (Queue view) meta queue = absurd (queue view refl)
+
+pub next_seen : (view : PageView) → ((m : MetaPage) → view ≡ Meta m → ⊥) → ((q : QueueSeen) → view ≡ Queue q → ⊥) → (header_seen view).next ≡ (header_in (page_seen view)).next
+next_seen view meta queue = ap (λ (h : Header). h.next) (seen_header view meta queue)
+
+pub level_seen : (view : PageView) → ((m : MetaPage) → view ≡ Meta m → ⊥) → ((q : QueueSeen) → view ≡ Queue q → ⊥) → (header_seen view).level ≡ (header_in (page_seen view)).level
+level_seen view meta queue = ap (λ (h : Header). h.level) (seen_header view meta queue)
+
+-- A page with items has no fault.
+
+coded_some : (order : Order) (page : List ℕ) (code : Option ℕ) → 1 ≤ length (slots_in (unless_code code (abstract_page order page))) → code ≡ None
+coded_some order page None some = refl
+coded_some order page (Some code) some = absurd (omega (arith, some))
+
+pub known_there : (order : Order) (size : ℕ) (image : List ℕ) (p : ℕ) → 1 ≤ length (slots_in (page_at (salvaged_file order size image) p)) → p < length image / size
+known_there order size image p some =
+    elim (cases_lt p (length image / size)) [
+      | inl lt ↦ lt
+      | inr ge ↦ absurd (let none : length (slots_in (page_at (salvaged_file order size image) p)) ≡ 0 = ap (λ page. length (slots_in page)) (page_past order size image p ge) in omega (arith, none, some))
+    ]
+
+pub known_code : (order : Order) (size : ℕ) (image : List ℕ) (p : ℕ) → 1 ≤ length (slots_in (page_at (salvaged_file order size image) p))
+    → page_code order (four_at order (bytes_of size image p) 8) (bytes_of size image p) ≡ None
+unfolding salvaged_page
+known_code order size image p some =
+    let page : List ℕ = bytes_of size image p in
+    let same : length (slots_in (page_at (salvaged_file order size image) p)) ≡ length (slots_in (salvaged_page order page)) = ap (λ x. length (slots_in x)) (page_is order size image p (known_there order size image p some)) in
+    coded_some order page (page_code order (four_at order page 8) page) (omega (arith, same, some))
+
+pub known_same : (order : Order) (size : ℕ) (image : List ℕ) (p : ℕ) → 1 ≤ length (slots_in (page_at (salvaged_file order size image) p))
+    → abstract_page order (bytes_of size image p) ≡ page_at (salvaged_file order size image) p
+unfolding salvaged_page
+known_same order size image p some =
+    sym (page_is order size image p (known_there order size image p some) ∙ ap (λ code. unless_code code (abstract_page order (bytes_of size image p))) (known_code order size image p some))

@@ -13,7 +13,7 @@ use Rattle.bdb_salvage.specs.Salvage.{follows, is_link}
 abbrev pub size_of : File → List ℕ → ℕ
 size_of file ps = length (joined (map (λ q. piece_in (page_at file q)) ps))
 
-whole_is_rest : (file : File) (test : Page → Bool) (head : ℕ) → row_length file test head ≡ rest_length file test file.count 0 head 0
+pub whole_is_rest : (file : File) (test : Page → Bool) (head : ℕ) → row_length file test head ≡ rest_length file test file.count 0 head 0
 unfolding row_length pieces_of
 whole_is_rest file test head =
     let n : ℕ = size_of file (chain_in file.count file head) in

@@ -1,6 +1,6 @@
 -- A row is whole where it has a length.
-use Rattle.std.proofs.Common.{◌≡◌, ℕ, Bool, true, false, cond, List, length, refl, sym, ◌∙◌, ap}
-use Rattle.std.specs.Prelude.{◌==◌, ◌&&◌, Option, Some, None}
+use Rattle.std.proofs.Common.{◌≡◌, ℕ, Bool, true, false, cond, length, refl, ◌∙◌, ap}
+use Rattle.std.specs.Prelude.{◌==◌, ◌&&◌, Some, None}
 use Rattle.bdb_format.specs.Chains.{joined, pieces_of}
 use Rattle.bdb_format.specs.File.{File}
 use Rattle.bdb_format.specs.Page.{Page}
@@ -36,3 +36,12 @@ unfolding is_whole
 whole_by file head total n some =
     ap (λ b. b && length (joined (pieces_of file head)) == total) (some_row file is_overflow head n some)
     ∙ ap (λ m. m == total) (row_long file is_overflow head n some)
+
+-- a whole chain is a whole row
+pub whole_row : (file : File) (head total : ℕ) → is_whole file head total ≡ true → is_row file is_overflow head ≡ true
+unfolding is_whole
+whole_row file head total whole = left _ _ whole
+  where
+    left : (a b : Bool) → (a && b) ≡ true → a ≡ true
+    left true b both = refl
+    left false b both = absurd cc

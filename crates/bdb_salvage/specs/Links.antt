@@ -2,13 +2,13 @@
 use Rattle.std.specs.Prelude.{ℕ, ◌+◌, ◌==◌, ◌&&◌, if◌then◌else◌, Bool, length, map, Option, Some, None}
 use Rattle.bdb_form.specs.declared.view.PageView.{PageView}
 use Rattle.bdb_form.specs.Seen.{page_seen}
-use Rattle.bdb_format.specs.Chains.{chain_in, joined, next_of, piece_in, pieces_of}
+use Rattle.bdb_format.specs.Chains.{chain_in, joined, piece_in, pieces_of}
 use Rattle.bdb_format.specs.File.{File, header_in, page_at}
 use Rattle.bdb_format.specs.Page.{Page, NoType}
 use Rattle.bdb_salvage.specs.declared.links.Link.{Link}
 use Rattle.bdb_salvage.specs.declared.links.RowKind.{RowKind}
 use Rattle.bdb_salvage.specs.declared.links.RowKind.TheVariants.{Overflow, Records, SortedData}
-use Rattle.bdb_salvage.specs.Salvage.{follows, is_link, is_overflow, is_record_leaf, is_row, is_sorted_leaf}
+use Rattle.bdb_salvage.specs.Salvage.{follows, is_overflow, is_record_leaf, is_row, is_sorted_leaf}
 
 -- the page of a view; one without a type where there's none
 abbrev pub view_page : Option PageView → Page

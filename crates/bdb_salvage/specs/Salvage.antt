@@ -1,14 +1,14 @@
 -- What salvage gives from the whole pages of an image, read in an order and with a page size that are guessed. Source: docs/FORMAT.md, "Salvage".
-use Rattle.std.specs.Prelude.{ℕ, zero, suc, ◌+◌, ◌*◌, ◌/◌, ◌==◌, ◌&&◌, not, if◌then◌else◌, Bool, true, false, List, [], ◌∷◌, map, length, take, drop, Option, Some, None, is_none}
+use Rattle.std.specs.Prelude.{ℕ, zero, suc, ◌+◌, ◌*◌, ◌/◌, ◌==◌, ◌&&◌, not, if◌then◌else◌, Bool, true, false, List, [], ◌∷◌, map, length, take, drop, get_or, Option, Some, None, is_none}
 use Rattle.std.specs.List.{flat_map, list_any, range_with_len}
 use Rattle.bdb_format.specs.declared.kinds.Order.{Order}
 use Rattle.bdb_format.specs.declared.references.Sort.TheVariants.{Child}
 use Rattle.bdb_format.specs.Numbers.{four_at}
-use Rattle.bdb_format.specs.Page.{Content, Inline, Set, Chain, Tree, Unknown, Item, Listed, Page, Hash, Leaf, RecnoLeaf, DupLeaf, Overflow, NoType}
+use Rattle.bdb_format.specs.Page.{Content, Inline, Set, Chain, Tree, Unknown, Item, Page, Hash, Leaf, RecnoLeaf, DupLeaf, Overflow, NoType}
 use Rattle.bdb_format.specs.Reading.{abstract_page}
 use Rattle.bdb_format.specs.Rows.{page_code}
 use Rattle.bdb_format.specs.File.{File, file_as, header_in, page_at}
-use Rattle.bdb_format.specs.References.{fit_code, item_at}
+use Rattle.bdb_format.specs.References.{fit_code, no_item}
 use Rattle.bdb_format.specs.Chains.{chain, joined, next_of, pieces_of}
 use Rattle.bdb_format.specs.Leaves.{children_in}
 use Rattle.bdb_format.specs.Contents.{entries_in}
@@ -82,9 +82,9 @@ unfoldable pub down_in : ℕ → File → ℕ → Option ℕ
 down_in zero file p = None
 down_in (suc levels) file p = down_by (down_in levels file) (fits_below file p) p (children_in (page_at file p))
 
--- the end of the way down from a root
-abbrev pub down : File → ℕ → Option ℕ
-down file root = if root == 0 then None else down_in (header_in (page_at file root)).level file root
+-- the end of the way down from a root; a level is a byte, and falls by one from page to page
+unfoldable pub down : File → ℕ → Option ℕ
+down file root = if root == 0 then None else down_in 255 file root
 
 -- a leaf as a list of it alone, where a whole row of leaves of its type begins there
 abbrev pub row_from : File → Option ℕ → List ℕ
@@ -129,15 +129,19 @@ pub record ItemPair : Type 0 where
   pub key : Item
   pub value : Item
 
-abbrev pub listed_pairs : Listed Item → List ItemPair
-listed_pairs page =
-    map (λ i. record { key = item_at page (2 * i); value = item_at page (2 * i + 1) }) (range_with_len 0 (length page.items / 2))
+-- the items of a page that holds pairs: a key at an even index, its data at the next
+abbrev pub paired_items : Page → List Item
+paired_items (Leaf page) = page.items
+paired_items (Hash page) = page.items
+paired_items page = []
 
--- the pairs of a page that holds pairs, live or deleted
+-- the pair at a place
+abbrev pub pair_in : List Item → ℕ → ItemPair
+pair_in items i = record { key = get_or items (2 * i) no_item; value = get_or items (2 * i + 1) no_item }
+
+-- the pairs of a page, live or deleted
 abbrev pub item_pairs : Page → List ItemPair
-item_pairs (Leaf page) = listed_pairs page
-item_pairs (Hash page) = listed_pairs page
-item_pairs page = []
+item_pairs page = map (pair_in (paired_items page)) (range_with_len 0 (length (paired_items page) / 2))
 
 -- a pair whose data item is live gives its key with each of its data
 unfoldable pub stored_pair : File → ItemPair → List (List ℕ × List ℕ)
