@@ -100,7 +100,8 @@ data_places file Unknown = []
 abbrev pub kept_pair : File → ℕ → List Item → ℕ → List KeptPair
 kept_pair file p items i =
     if is_valued file (slot_at items (2 * i)).content
-    then map (λ place. record { page = p; index = i; live = not (slot_at items (2 * i + 1)).deleted; place = place }) (data_places file (slot_at items (2 * i + 1)).content)
+    then map (λ place. record { page = p; index = i; live = not (slot_at items (2 * i + 1)).deleted; place = place })
+    (data_places file (slot_at items (2 * i + 1)).content)
     else []
 
 abbrev pub kept_in : File → ℕ → List Item → List KeptPair
@@ -153,7 +154,8 @@ under key values = map (λ value. (key, value)) values
 -- the key of a kept pair with each of its data
 unfoldable pub given : File → KeptPair → List (List ℕ × List ℕ)
 given file kept =
-    under (value_of file (item_of file kept.page (2 * kept.index)).content) (data_at file (item_of file kept.page (2 * kept.index + 1)).content kept.place)
+    under (value_of file (item_of file kept.page (2 * kept.index)).content)
+    (data_at file (item_of file kept.page (2 * kept.index + 1)).content kept.place)
 
 -- what a kept pair gives: nothing where it's deleted
 abbrev pub given_live : File → KeptPair → List (List ℕ × List ℕ)

@@ -27,7 +27,9 @@ salvaged_page order page = unless_code (page_code order (four_at order page 8) p
 -- the whole pages of an image, those without a type on which a row holds
 unfoldable pub salvaged_file : Order → ℕ → List ℕ → File
 salvaged_file order size image =
-    record (file_as order size image) { pages = map (λ p. salvaged_page order (take size (drop (p * size) image))) (range_with_len 0 (length image / size)) }
+    record (file_as order size image) {
+      pages = map (λ p. salvaged_page order (take size (drop (p * size) image))) (range_with_len 0 (length image / size));
+    }
 
 -- Pages that follow each other.
 

@@ -31,4 +31,5 @@ go_on below p Broken = None
 -- a page that is there has one of these types and this level
 abbrev pub fits_as : File → List ℕ → ℕ → ℕ → Bool
 fits_as file types level child =
-    not (child == 0 || nat_lt file.last child) && (has_type types (plain_type (page_at file child)) && level == (header_in (page_at file child)).level)
+    not (child == 0 || nat_lt file.last child)
+    && (has_type types (plain_type (page_at file child)) && level == (header_in (page_at file child)).level)

@@ -101,7 +101,8 @@ fn record_types(level: u8) -> &'static [u8]
 /// Whether a page fits as a child of an internal page of this level.
 #[tactic(auto, using(crate::proofs::WayLemmas::keyed_fits))]
 fn fits_keyed(pages: &WholePages<'_>, level: u8, child: u32) -> bool
-    ensures { (p : ℕ) (view : Listed InternalItem) → page_at pages.now p ≡ Internal view → view.header.level ≡ level → result ≡ fits_below pages.now p child }
+    ensures { (p : ℕ) (view : Listed InternalItem) → page_at pages.now p ≡ Internal view → view.header.level ≡ level
+        → result ≡ fits_below pages.now p child }
 {
     fits(pages, keyed_types(level), level.saturating_sub(1), child)
 }
@@ -109,7 +110,8 @@ fn fits_keyed(pages: &WholePages<'_>, level: u8, child: u32) -> bool
 /// The same in a tree of records.
 #[tactic(auto, using(crate::proofs::WayLemmas::record_fits))]
 fn fits_records(pages: &WholePages<'_>, level: u8, child: u32) -> bool
-    ensures { (p : ℕ) (view : Listed RecnoItem) → page_at pages.now p ≡ RecnoInternal view → view.header.level ≡ level → result ≡ fits_below pages.now p child }
+    ensures { (p : ℕ) (view : Listed RecnoItem) → page_at pages.now p ≡ RecnoInternal view → view.header.level ≡ level
+        → result ≡ fits_below pages.now p child }
 {
     fits(pages, record_types(level), level.saturating_sub(1), child)
 }

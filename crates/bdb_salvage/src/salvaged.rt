@@ -92,7 +92,8 @@ fn salvage_as<'a, L: Ledger>(
 /// How many of some values, in the order of their pages, are on pages below a number.
 fn below(values: &[KeptValue], page: u64) -> usize
     ensures bound { result ≤ length values.now }
-    ensures below { (before after : List KeptValue) → values.now ≡ before ++ after → AreBelow page before → AreFrom page after → result ≡ length before }
+    ensures below { (before after : List KeptValue) → values.now ≡ before ++ after → AreBelow page before → AreFrom page after
+        → result ≡ length before }
 {
     values.partition_point(|value| u64::from(value.page) < page)
 }

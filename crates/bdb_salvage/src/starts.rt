@@ -65,7 +65,8 @@ fn mark_row(taken: &mut [bool], row: RowPages<'_>)
 /// Marks the pages of the row from a page on, where one starts there.
 fn mark_started(taken: &mut [bool], pages: &WholePages<'_>, page: u32, starts: bool)
     requires { IsTrue starts → All (λ p. p < length taken.old) (chain pages.now page) }
-    ensures marks { (count : ℕ) (ps : List ℕ) → Marks count taken.old ps → Marks count taken.new (ps ++ (if starts then chain pages.now page else [])) }
+    ensures marks { (count : ℕ) (ps : List ℕ) → Marks count taken.old ps
+        → Marks count taken.new (ps ++ (if starts then chain pages.now page else [])) }
     ensures length { length taken.new ≡ length taken.old }
 {
     if starts {
