@@ -1,0 +1,15 @@
+pub mod PageLemmas
+pub mod SlotLemmas
+pub mod WalkLemmas
+pub mod ChainLemmas
+pub mod WholeLemmas
+pub mod SurveyLemmas
+pub mod WayLemmas
+pub mod ListLemmas
+pub mod StoredLemmas
+pub mod LooseLemmas
+pub mod KeptLemmas
+pub mod MarkLemmas
+pub mod SplitLemmas
+pub mod GuessLemmas
+pub mod LeftLemmas

@@ -1,0 +1,47 @@
+-- Lists that are made piece by piece.
+use Rattle.std.proofs.Common.{◌≡◌, ℕ, suc, subst, ◌+◌, List, [], ◌∷◌, ◌++◌, map, arith, refl, sym, ◌∙◌, ap}
+use Rattle.std.specs.List.{All, Contains, flat_map, range_with_len}
+use Rattle.std.proofs.lemmas.List.{flat_map_more, map-append}
+use Rattle.std.proofs.lemmas.List.Elements.{All-contains}
+use Rattle.bdb_format.proofs.ListLemmas.{all_of, only_member, range_more}
+use Rattle.bdb_format.proofs.MemberLemmas.{of_flat_map}
+
+-- the same of each is the same of all
+pub flat_map_alike : {X Y : Type 0} (f g : X → List Y) (xs : List X) → ((x : X) → f x ≡ g x) → flat_map f xs ≡ flat_map g xs
+flat_map_alike f g [] same = refl
+flat_map_alike f g (x ∷ xs) same = ap (λ ys. ys ++ flat_map f xs) (same x) ∙ ap (λ ys. g x ++ ys) (flat_map_alike f g xs same)
+
+pub flat_map_none : {X Y : Type 0} (xs : List X) → flat_map {X = X} {A = Y} (λ x. []) xs ≡ []
+flat_map_none [] = refl
+flat_map_none (x ∷ xs) = flat_map_none xs
+
+pub map_of_pieces : {X Y Z : Type 0} (f : Y → Z) (g : X → List Y) (xs : List X) → map f (flat_map g xs) ≡ flat_map (λ x. map f (g x)) xs
+map_of_pieces f g [] = refl
+map_of_pieces f g (x ∷ xs) = map-append f (g x) (flat_map g xs) ∙ ap (λ ys. map f (g x) ++ ys) (map_of_pieces f g xs)
+
+-- one piece more, after what was there
+pub more_pieces : {Y : Type 0} (f : ℕ → List Y) (before : List Y) (n : ℕ) → (before ++ flat_map f (range_with_len 0 n)) ++ f n ≡ before ++ flat_map f (range_with_len 0 (n + 1))
+more_pieces f before n =
+    let zero_more : 0 + n ≡ n = omega arith in
+    flat_map_more f before (range_with_len 0 n) n
+    ∙ ap (λ ns. before ++ flat_map f ns) (sym (range_more 0 n ∙ ap (λ m. range_with_len 0 n ++ m ∷ []) zero_more))
+
+-- What holds of all.
+
+pub all_first : {X : Type 0} (P : X → Type 0) (x : X) (xs : List X) → All P (x ∷ xs) → P x
+all_first P x xs all = all 0 x (omega arith)
+
+pub all_rest : {X : Type 0} (P : X → Type 0) (x : X) (xs : List X) → All P (x ∷ xs) → All P xs
+all_rest P x xs all = λ k d inside. all (suc k) d (omega (arith, inside))
+
+-- what holds of each piece holds of all
+pub all_pieces : {X Y : Type 0} (P : Y → Type 0) (f : X → List Y) (xs : List X) → ((x : X) → Contains xs x → All P (f x)) → All P (flat_map f xs)
+all_pieces {X = X} P f xs each =
+    all_of P (flat_map f xs) (λ y inside. let from : (x : X) × Contains xs x × Contains (f x) y = of_flat_map f xs y inside in All-contains P (f from.0) y (each from.0 from.1) from.2)
+
+-- of one at most
+pub all_one : {X : Type 0} (P : X → Type 0) (x : X) → P x → All P (x ∷ [])
+all_one P x holds = all_of P (x ∷ []) (λ y inside. subst P (only_member x y inside) holds)
+
+pub all_none : {X : Type 0} (P : X → Type 0) → All P []
+all_none P = λ k d inside. absurd (omega (arith, inside))

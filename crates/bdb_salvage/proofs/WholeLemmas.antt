@@ -1,0 +1,47 @@
+-- A row is whole where it has a length.
+use Rattle.std.proofs.Common.{◌≡◌, ℕ, Bool, true, false, cond, length, refl, ◌∙◌, ap}
+use Rattle.std.specs.Prelude.{◌==◌, ◌&&◌, Some, None}
+use Rattle.bdb_format.specs.Chains.{joined, pieces_of}
+use Rattle.bdb_format.specs.File.{File}
+use Rattle.bdb_format.specs.Page.{Page}
+use Rattle.bdb_salvage.specs.Links.{row_length}
+use Rattle.bdb_salvage.specs.Salvage.{is_overflow, is_row, is_whole}
+
+none_case : (b : Bool) (n : ℕ) → cond b (Some n) None ≡ None → b ≡ false
+none_case true n none = absurd cc
+none_case false n none = refl
+
+some_case : (b : Bool) (n m : ℕ) → cond b (Some n) None ≡ Some m → (b ≡ true) × (n ≡ m)
+some_case true n m some = (refl, cc)
+some_case false n m some = absurd cc
+
+pub no_row : (file : File) (test : Page → Bool) (head : ℕ) → row_length file test head ≡ None → is_row file test head ≡ false
+unfolding row_length
+no_row file test head none = none_case (is_row file test head) (length (joined (pieces_of file head))) none
+
+pub some_row : (file : File) (test : Page → Bool) (head n : ℕ) → row_length file test head ≡ Some n → is_row file test head ≡ true
+unfolding row_length
+some_row file test head n some = (some_case (is_row file test head) (length (joined (pieces_of file head))) n some).0
+
+row_long : (file : File) (test : Page → Bool) (head n : ℕ) → row_length file test head ≡ Some n → length (joined (pieces_of file head)) ≡ n
+unfolding row_length
+row_long file test head n some = (some_case (is_row file test head) (length (joined (pieces_of file head))) n some).1
+
+pub not_whole : (file : File) (head total : ℕ) → row_length file is_overflow head ≡ None → is_whole file head total ≡ false
+unfolding is_whole
+not_whole file head total none = ap (λ b. b && length (joined (pieces_of file head)) == total) (no_row file is_overflow head none)
+
+pub whole_by : (file : File) (head total n : ℕ) → row_length file is_overflow head ≡ Some n → is_whole file head total ≡ (n == total)
+unfolding is_whole
+whole_by file head total n some =
+    ap (λ b. b && length (joined (pieces_of file head)) == total) (some_row file is_overflow head n some)
+    ∙ ap (λ m. m == total) (row_long file is_overflow head n some)
+
+-- a whole chain is a whole row
+pub whole_row : (file : File) (head total : ℕ) → is_whole file head total ≡ true → is_row file is_overflow head ≡ true
+unfolding is_whole
+whole_row file head total whole = left _ _ whole
+  where
+    left : (a b : Bool) → (a && b) ≡ true → a ≡ true
+    left true b both = refl
+    left false b both = absurd cc

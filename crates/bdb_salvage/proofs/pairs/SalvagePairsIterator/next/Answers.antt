@@ -1,0 +1,15 @@
+use Rattle.std.proofs.Common.{◌≡◌, [], ◌∙◌}
+use Rattle.bdb_format.specs.File.{File}
+use Rattle.bdb_salvage.specs.Kept.{file_in, left_of}
+use Rattle.bdb_salvage.proofs.LeftLemmas.{next_pairs, pairs_rest}
+use Rattle.bdb_salvage.proofs.pairs.SalvagePairsIterator.next.Goals as goal
+
+-- The next kept pair.
+pub loop-pair-preserved : goal.loop-pair-preserved
+loop-pair-preserved c =
+    let file : File = file_in c.loop-pair.self-inside.salvaged.now in
+    let none : left_of c.loop-pair.self-inside.here ≡ [] = c.in-None.ensures.0 in
+    record {
+      left = next_pairs file c.loop-pair.self-inside.here c.live_entry-self-inside.result c.loop-pair.self-inside.pairs c.next.new.self c.in_ok-pair.pair none c.in_ok-pair.ensures.steps c.live_entry-self-inside.ensures ∙ c.loop-pair.invariant.left;
+      kept = pairs_rest file c.loop-pair.self-inside.pairs c.next.new.self c.in_ok-pair.pair c.in_ok-pair.ensures.steps c.loop-pair.invariant.kept;
+    }

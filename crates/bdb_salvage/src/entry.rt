@@ -1,0 +1,113 @@
+ghost use Rattle.std.specs.Prelude.{◌≡◌, ◌+◌, ◌*◌, IsTrue};
+ghost use Rattle.std.specs.Iterator.{YieldsFirstBy};
+ghost use Rattle.bdb_layout.specs.Seen.{content_seen};
+ghost use Rattle.bdb_overflow.specs.Datum.{datum_seen};
+ghost use Rattle.bdb_salvage.specs.Entries.{data_left, pair_read};
+ghost use Rattle.bdb_salvage.specs.Kept.{IsKeptPair, data_at, data_here, file_in, given, is_held, item_of};
+
+use crate::Salvaged;
+use crate::kept::{DataPlace, KeptPair};
+use crate::set_values::SetValues;
+use crate::whole_pages::WholePages;
+use bdb_layout::{Content, DupBlocks};
+use bdb_overflow::Datum;
+use std::marker::Model;
+
+/// The data of a pair that are left.
+#[derive(Drop)]
+enum PairData<'s, 'a> {
+    None,
+    One(Datum<'a>),
+    Blocks(DupBlocks<'a>),
+    Set(SetValues<'s, 'a>),
+}
+
+/// The data of a pair that are left, each with the pair's key.
+#[derive(Drop)]
+pub(crate) struct Entry<'s, 'a> {
+    key: Datum<'a>,
+    values: PairData<'s, 'a>,
+}
+
+impl<'s, 'a> Model for Entry<'s, 'a> {
+    ghost use Rattle.std.specs.Prelude.{List, ℕ};
+    ghost use Rattle.bdb_overflow.specs.Datum.{datum_seen};
+    ghost use Rattle.bdb_salvage.specs.Entries.{data_left};
+    ghost use Rattle.bdb_salvage.specs.Kept.{under};
+
+    ghost Value = { List (List ℕ × List ℕ) };
+
+    ghost view = { λ v. under (datum_seen v.key) (data_left v.values) };
+}
+
+/// The data in a data item.
+#[tactic(auto, using(crate::proofs::WholeLemmas::whole_row), unfolding(bdb_format::specs::Chains::value_of))]
+fn data_here<'s, 'a>(pages: &WholePages<'a>, content: Content<'a>) -> PairData<'s, 'a>
+    requires { IsTrue (is_held pages.now (content_seen content)) }
+    ensures { data_left result ≡ data_here pages.now (content_seen content.entry) }
+{
+    match content {
+        Content::Inline(bytes) => PairData::One(Datum::Inline(bytes)),
+        Content::Set(blocks) => PairData::Blocks(blocks),
+        Content::Overflow { head, .. } => PairData::One(Datum::Chained(pages.pieces(head))),
+        Content::OffPage { .. } => PairData::None,
+    }
+}
+
+/// The data of a pair.
+fn pair_data<'s, 'a>(salvaged: &'s Salvaged<'a>, pair: KeptPair) -> PairData<'s, 'a>
+    requires { IsKeptPair (file_in salvaged.now) pair }
+    ensures { data_left result ≡ data_at (file_in salvaged.now) (item_of (file_in salvaged.now) pair.page (2 * pair.index + 1)).content pair.place }
+{
+    match pair.place {
+        DataPlace::Here => {
+            let pages = salvaged.pages();
+            let content = pages.content(pair.page, 2 * u32::from(pair.index) + 1);
+            data_here(&pages, content)
+        }
+        DataPlace::Set { leaf } => PairData::Set(SetValues::over(salvaged, leaf)),
+    }
+}
+
+impl<'s, 'a> PairData<'s, 'a> {
+    /// The next datum.
+    fn next(&mut self) -> Option<Datum<'a>>
+        ensures { YieldsFirstBy datum_seen data_left self.old result self.new }
+    {
+        match self {
+            PairData::None => None,
+            PairData::Blocks(blocks) => match blocks.next() {
+                Some(bytes) => Some(Datum::Inline(bytes)),
+                None => None,
+            },
+            PairData::Set(values) => values.next(),
+            PairData::One(datum) => {
+                let datum = datum.again();
+                *self = PairData::None;
+                Some(datum)
+            }
+        }
+    }
+}
+
+impl<'s, 'a> Entry<'s, 'a> {
+    /// A pair with its data.
+    #[tactic(auto, unfolding(crate::specs::Kept::given))]
+    pub(crate) fn of(salvaged: &'s Salvaged<'a>, pair: KeptPair) -> Entry<'s, 'a>
+        requires { IsKeptPair (file_in salvaged.now) pair }
+        ensures { result ≡ given (file_in salvaged.now) pair }
+    {
+        Entry {
+            key: salvaged.pages().value(pair.page, 2 * u32::from(pair.index)),
+            values: pair_data(salvaged, pair),
+        }
+    }
+
+    /// The key with the next datum.
+    pub(crate) fn next(&mut self) -> Option<(Datum<'a>, Datum<'a>)>
+        ensures { YieldsFirstBy pair_read (λ left. left) self.old result self.new }
+    {
+        let datum = self.values.next()?;
+        Some((self.key.again(), datum))
+    }
+}

@@ -1,0 +1,95 @@
+ghost use Rattle.std.specs.Prelude.{◌≡◌, ◌++◌, ◌<◌, IfOk, OnOk, length};
+ghost use Rattle.bdb_format.specs.Contents.{entries_in};
+ghost use Rattle.bdb_format.specs.File.{page_at};
+ghost use Rattle.bdb_format.specs.Chains.{chain};
+ghost use Rattle.std.specs.List.{flat_map};
+ghost use Rattle.bdb_salvage.specs.Kept.{kept_value, kept_values, listed_option, values_in};
+ghost use Rattle.bdb_salvage.specs.Marks.{Marks};
+ghost use Rattle.bdb_salvage.specs.Salvage.{set_starts};
+ghost use Rattle.bdb_salvage.specs.Slots.{slots_seen};
+
+use crate::kept::KeptValue;
+use crate::slots::{Slots, entry_slots};
+use crate::starts::is_marked;
+use crate::survey::Survey;
+use std::alloc::{AllocError, Global};
+
+/// The entry at a place, if it's live and has a whole value.
+fn kept_value(
+    survey: &Survey<'_>,
+    slots: &Slots<'_>,
+    page: u32,
+    index: u16,
+    loose: bool,
+) -> Option<KeptValue>
+    requires { index < length (slots_seen slots.now) }
+    ensures { listed_option result ≡ kept_value survey.now page loose (slots_seen slots.now) index }
+{
+    if slots.is_deleted(index) {
+        return None;
+    }
+    if survey.is_valued(&slots.content(index)) {
+        Some(KeptValue { page, index, loose })
+    } else {
+        None
+    }
+}
+
+/// Adds a value, if there is one.
+fn push_value(kept: &mut Vec<KeptValue>, value: Option<KeptValue>) -> Result<(), AllocError>
+    ensures { OnOk result (kept.new.items ≡ kept.old.items ++ listed_option value) }
+{
+    match value {
+        Some(value) => kept.push(value)?,
+        None => {}
+    }
+    Ok(())
+}
+
+/// Adds the live entries among some items that have a whole value.
+fn keep_among(
+    kept: &mut Vec<KeptValue>,
+    survey: &Survey<'_>,
+    slots: &Slots<'_>,
+    page: u32,
+    loose: bool,
+) -> Result<(), AllocError>
+    ensures { OnOk result (kept.new.items ≡ kept.old.items ++ values_in survey.now page loose (slots_seen slots.now)) }
+{
+    for index in 0..slots.count() {
+        push_value(kept, kept_value(survey, slots, page, index, loose))?;
+    }
+    Ok(())
+}
+
+/// The same of a leaf.
+fn keep_leaf(
+    kept: &mut Vec<KeptValue>,
+    survey: &Survey<'_>,
+    page: u32,
+    loose: bool,
+) -> Result<(), AllocError>
+    ensures { OnOk result (kept.new.items ≡ kept.old.items ++ values_in survey.now page loose (entries_in (page_at survey.now page))) }
+{
+    match entry_slots(survey.pages().page(page)) {
+        Some(slots) => keep_among(kept, survey, &slots, page, loose),
+        None => Ok(()),
+    }
+}
+
+/// The live entries of all leaves of records and of sorted data that have a whole value, in the order of page
+/// and slot.
+pub(crate) fn kept_values(
+    alloc: Global,
+    survey: &Survey<'_>,
+    taken: &[bool],
+) -> Result<Vec<KeptValue>, AllocError>
+    requires { Marks survey.now.count taken.now (flat_map (chain survey.now) (set_starts survey.now)) }
+    ensures { IfOk result (λ kept. kept.items ≡ kept_values survey.now) }
+{
+    let mut kept = Vec::new(alloc);
+    for page in 0..survey.pages().count() {
+        keep_leaf(&mut kept, survey, page, !is_marked(taken, page))?;
+    }
+    Ok(kept)
+}

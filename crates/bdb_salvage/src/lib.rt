@@ -1,0 +1,29 @@
+//! What can be had from the pages of a damaged image, one by one.
+#![tactic(auto)]
+
+mod chain;
+mod down;
+mod entry;
+mod error;
+mod guess;
+mod kept;
+mod kept_pairs;
+mod kept_values;
+mod links;
+mod loose;
+mod pairs;
+mod places;
+mod row_leaves;
+mod salvaged;
+mod set_values;
+mod slots;
+mod starts;
+mod survey;
+mod whole_pages;
+
+pub use chain::chain_of;
+pub use error::SalvageError;
+pub use guess::Guess;
+pub use loose::LooseItems;
+pub use pairs::SalvagePairs;
+pub use salvaged::{Salvaged, salvage};
