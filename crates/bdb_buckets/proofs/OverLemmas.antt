@@ -80,7 +80,8 @@ inside g pages ps p r branch at held =
     branch.grove.entered r.target (in_flat_map (names g) ps p r.target at (in_map (λ (s : Reference). s.target) (refs g p) r held))
 
 -- pages over a branch that is entered by what they name, one after the other
-pub stand_over : (g : File) (first beyond : ℕ) (ps : List ℕ) → 1 ≤ first → ((p : ℕ) → Contains ps p → (1 ≤ p) × (p ≤ g.last) × (between first beyond p ≡ false))
+pub stand_over : (g : File) (first beyond : ℕ) (ps : List ℕ) → 1 ≤ first
+    → ((p : ℕ) → Contains ps p → (1 ≤ p) × (p ≤ g.last) × (between first beyond p ≡ false))
     → ((p : ℕ) → Contains ps p → IsRight g p) → Ascend 0 ps → AscendIn first beyond (flat_map (names g) ps)
     → IsBranch g (between first beyond) (flat_map (names g) ps)
     → IsBranch g (λ q. between first beyond q || list_any (λ p. q == p) ps) ps
@@ -104,9 +105,11 @@ stand_over g first beyond ps low there right rise ascend branch =
     (λ p at. (right p at).chains) (λ p r at. (right p at).sets r) branch
 
 -- a page right before the pages that it stands over
-over_next : (g : File) (previous p beyond : ℕ) → 1 ≤ p → beyond ≤ g.last + 1 → IsOver g previous p (p + 1) beyond → IsBranch g (between p beyond) (p ∷ [])
+over_next : (g : File) (previous p beyond : ℕ) → 1 ≤ p → beyond ≤ g.last + 1 → IsOver g previous p (p + 1) beyond
+    → IsBranch g (between p beyond) (p ∷ [])
 over_next g previous p beyond low high over =
-    branch_is_known g (λ q. between (p + 1) beyond q || list_any (λ r. q == r) (p ∷ [])) (between p beyond) (p ∷ []) (p ∷ []) same (λ e at. at) (λ e at. at)
+    branch_is_known g (λ q. between (p + 1) beyond q || list_any (λ r. q == r) (p ∷ [])) (between p beyond) (p ∷ []) (p ∷ []) same (λ e at. at)
+        (λ e at. at)
     (stand_over g (p + 1) beyond (p ∷ []) (omega arith)
     (λ q at. subst (λ n. (1 ≤ n) × (n ≤ g.last) × (between (p + 1) beyond n ≡ false)) (only_member p q at) (low, omega (arith, last, high), not_over))
     (λ q at. subst (IsRight g) (only_member p q at) over.right) (omega (arith, low), tt)
@@ -142,7 +145,8 @@ over_next g previous p beyond low high over =
         or_right true is = refl
         or_right false is = is
 
-pub bucket_over : (g : File) (sorted : Bool) (previous p first beyond : ℕ) (pages : List (List PlacedUnit)) → IsCounted g → 1 ≤ first → beyond ≤ g.last + 1
+pub bucket_over : (g : File) (sorted : Bool) (previous p first beyond : ℕ) (pages : List (List PlacedUnit)) → IsCounted g → 1 ≤ first
+    → beyond ≤ g.last + 1
     → BucketStands g sorted previous p first beyond pages → IsOver g previous p first beyond
 bucket_over g sorted previous p first beyond [] counted low high stands = absurd stands
 bucket_over g sorted previous p first beyond (units ∷ []) counted low high (is, stand) =
@@ -170,7 +174,8 @@ bucket_over g sorted previous p first beyond (units ∷ more ∷ pages) counted 
           (branches_follow g first next beyond (flat_map content_pages (contents_on units)) (next ∷ []) up (omega (arith, last)) contents.branch
           (over_next g p next beyond (omega (arith, low, up)) high over));
       ascend = subst (AscendIn first beyond) (sym all)
-          (ascend_follow first next beyond (flat_map content_pages (contents_on units)) (next ∷ []) contents.ascend (omega arith, omega (arith, last)));
+          (ascend_follow first next beyond (flat_map content_pages (contents_on units)) (next ∷ []) contents.ascend
+              (omega arith, omega (arith, last)));
       right = page_right g p previous next (contents_on units) counted.no_queue is contents.fit (λ other. over.here);
     }
 
@@ -183,7 +188,8 @@ pub record AreOver (g : File) (p n first beyond : ℕ) : Type 0 where
   pub right : (q : ℕ) → Contains (range_with_len p n) q → IsRight g q
   pub here : (q : ℕ) → Contains (range_with_len p n) q → IsNextOf g 0 q
 
-pub table_over : (g : File) (sorted : Bool) (p first beyond : ℕ) (buckets : List (List (List PlacedUnit))) → IsCounted g → 1 ≤ first → beyond ≤ g.last + 1
+pub table_over : (g : File) (sorted : Bool) (p first beyond : ℕ) (buckets : List (List (List PlacedUnit))) → IsCounted g → 1 ≤ first
+    → beyond ≤ g.last + 1
     → TableStands g sorted p first beyond buckets → AreOver g p (length buckets) first beyond × (first ≤ beyond)
 table_over g sorted p first beyond [] counted low high same = (
   record {

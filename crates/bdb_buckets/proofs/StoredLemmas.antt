@@ -1,5 +1,6 @@
 -- The pairs that are read from the pages of a table are the keys that stand there, with their data.
-use Rattle.std.proofs.Common.{◌≡◌, ℕ, zero, suc, ◌+◌, ◌*◌, ◌<◌, ◌≤◌, Bool, true, false, List, [], ◌∷◌, ◌++◌, get_or, map, length, arith, refl, sym, ◌∙◌, ap, subst}
+use Rattle.std.proofs.Common.{◌≡◌, ℕ, zero, suc, ◌+◌, ◌*◌, ◌<◌, ◌≤◌, Bool, true, false, List, [], ◌∷◌, ◌++◌, get_or, map, length, arith, refl, sym,
+    ◌∙◌, ap, subst}
 use Rattle.std.specs.Prelude.{◌/◌, ◌==◌, not}
 use Rattle.std.specs.List.{flat_map, range_with_len}
 use Rattle.std.proofs.lemmas.Bool.{ne_eqb}
@@ -120,7 +121,8 @@ flat_one : {X : Type 0} (xs : List (List X)) (x : List X) → flat_map (λ y. y)
 flat_one xs x = refl
 
 -- the pages of a bucket, in so many turns, have its keys
-pub bucket_stored : (g : File) (sorted : Bool) (turns previous p first beyond : ℕ) (pages : List (List PlacedUnit)) → 1 ≤ first → beyond < first + turns
+pub bucket_stored : (g : File) (sorted : Bool) (turns previous p first beyond : ℕ) (pages : List (List PlacedUnit)) → 1 ≤ first
+    → beyond < first + turns
     → BucketStands g sorted previous p first beyond pages → AreStored g sorted (flat_map (pairs_of g) (chain_in turns g p)) (units_on pages)
 bucket_stored g sorted turns previous p first beyond [] low few stands = absurd stands
 bucket_stored g sorted zero previous p first beyond (units ∷ []) low few (is, stand) =
