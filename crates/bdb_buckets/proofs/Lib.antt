@@ -1,0 +1,7 @@
+pub mod AscendLemmas
+pub mod OverLemmas
+pub mod PageLemmas
+pub mod DealLemmas
+pub mod StoredLemmas
+pub mod ListLemmas
+pub mod TableLemmas

@@ -1,0 +1,122 @@
+-- What data take of a page of a table.
+use Rattle.std.proofs.Common.{◌≡◌, ℕ, ◌+◌, ◌-◌, ◌<◌, ◌≤◌, Bool, true, false, cond, List, [], ◌∷◌, length, get_or, take, arith, refl, sym, ◌∙◌, ap,
+    inl, inr}
+use Rattle.std.specs.Prelude.{◌/◌, ◌&&◌, nat_le}
+use Rattle.std.specs.List.{All, list_all, sum_by}
+use Rattle.std.proofs.lemmas.Bool.{and_left, and_parts, and_right, cases_lt, le-leb, leb-true, lt-leb}
+use Rattle.std.proofs.lemmas.List.Elements.{All-cons, All-nil}
+use Rattle.std.proofs.lemmas.List.Folds.{list_all_at, list_all_more}
+use Rattle.std.proofs.lemmas.List.Sums.{sum_by-take-le, sum_by_more, sum_by_more_le}
+use Rattle.bdb_format.specs.HeadOf.{is_page_size}
+use Rattle.bdb_graph.proofs.FormedLemmas.{size_bounds}
+use Rattle.bdb_mkhash.specs.Costs.{cost_in, data_cost, data_form, first_value, is_inline, item_cost, set_cost, stand_together}
+use Rattle.bdb_mkhash.specs.declared.form.DataForm.{DataForm}
+use Rattle.bdb_mkhash.specs.declared.form.DataForm.TheVariants.{One, Set, Tree}
+
+abbrev block_cost : List ℕ → ℕ
+block_cost value = 4 + length value
+
+-- A long value, or too much, does not stand together.
+
+pub long_apart : (size : ℕ) (values : List (List ℕ)) (i : ℕ) → i < length values → size / 8 < length (get_or values i [])
+    → stand_together size values ≡ false
+long_apart size values i low long =
+    and_left (list_all (is_inline size) values) (nat_le (set_cost values) ((size - 26) / 4))
+    (list_all_at (is_inline size) values i [] low (lt-leb (length (get_or values i [])) (size / 8) long))
+
+pub much_apart : (size cost : ℕ) (values : List (List ℕ)) (i : ℕ) → cost ≡ 3 + sum_by block_cost (take i values) → (size - 26) / 4 < cost
+    → stand_together size values ≡ false
+much_apart size cost values i is much =
+    and_right (list_all (is_inline size) values) (nat_le (set_cost values) ((size - 26) / 4))
+    (lt-leb (set_cost values) ((size - 26) / 4) (omega (arith, is, much, sum_by-take-le block_cost values i)))
+
+pub cost_more : (values : List (List ℕ)) (i : ℕ) → i < length values
+    → sum_by block_cost (take (i + 1) values) ≡ sum_by block_cost (take i values) + (4 + length (get_or values i []))
+cost_more values i low = sum_by_more block_cost values i [] low
+
+pub inline_more : (size : ℕ) (values : List (List ℕ)) (i : ℕ) → i < length values → list_all (is_inline size) (take i values) ≡ true
+    → length (get_or values i []) ≤ size / 8 → list_all (is_inline size) (take (i + 1) values) ≡ true
+inline_more size values i low all short =
+    list_all_more (is_inline size) values i [] low ∙ (ap (λ b. b && is_inline size (get_or values i [])) all ∙ le-leb (length (get_or values i []))
+        (size / 8) short)
+
+-- What stands together is little.
+
+pub together_few : (size : ℕ) (values : List (List ℕ)) → stand_together size values ≡ true → set_cost values ≤ (size - 26) / 4
+together_few size values is = leb-true (set_cost values) ((size - 26) / 4)
+    (and_parts (list_all (is_inline size) values) (nat_le (set_cost values) ((size - 26) / 4)) is).1
+
+all_inline : (size : ℕ) (values : List (List ℕ)) → list_all (is_inline size) values ≡ true → All (λ value. length value ≤ size / 8) values
+all_inline size [] is = All-nil (λ value. length value ≤ size / 8)
+all_inline size (value ∷ values) is =
+    let parts = and_parts (is_inline size value) (list_all (is_inline size) values) is in
+    All-cons (λ (v : List ℕ). length v ≤ size / 8) value values (leb-true (length value) (size / 8) parts.0) (all_inline size values parts.1)
+
+pub together_inline : (size : ℕ) (values : List (List ℕ)) → stand_together size values ≡ true → All (λ value. length value ≤ size / 8) values
+together_inline size values is = all_inline size values (and_parts (list_all (is_inline size) values) (nat_le (set_cost values) ((size - 26) / 4))
+    is).0
+
+pub cost_left : (values : List (List ℕ)) (i : ℕ) → i < length values
+    → sum_by block_cost (take i values) + (4 + length (get_or values i [])) ≤ sum_by block_cost values
+cost_left values i low = sum_by_more_le block_cost values i [] low
+
+-- Forms.
+
+pub form_one : (size : ℕ) (values : List (List ℕ)) → length values ≡ 1 → One ≡ data_form size values
+form_one size [] one = absurd (omega (arith, one))
+form_one size (value ∷ []) one = refl
+form_one size (value ∷ next ∷ values) one = absurd (omega (arith, one))
+
+pub form_more : (size : ℕ) (values : List (List ℕ)) → (length values ≡ 1 → ⊥) → (length values ≡ 0 → ⊥)
+    → data_form size values ≡ cond (stand_together size values) Set Tree
+form_more size [] several some = absurd (some refl)
+form_more size (value ∷ []) several some = absurd (several refl)
+form_more size (value ∷ next ∷ values) several some = refl
+
+pub form_none : (size : ℕ) (values : List (List ℕ)) → length values ≡ 0 → Tree ≡ data_form size values
+form_none size [] none = refl
+form_none size (value ∷ values) none = absurd (omega (arith, none))
+
+pub one_long : (size : ℕ) (values : List (List ℕ)) → One ≡ data_form size values → length values ≡ 1
+one_long size [] form = absurd cc
+one_long size (value ∷ []) form = refl
+one_long size (value ∷ next ∷ values) form = by_test (stand_together size (value ∷ next ∷ values)) form
+  where
+    by_test : (b : Bool) → One ≡ cond b Set Tree → length (value ∷ next ∷ values) ≡ 1
+    by_test true is = absurd cc
+    by_test false is = absurd cc
+
+pub set_together : (size : ℕ) (values : List (List ℕ)) → Set ≡ data_form size values → stand_together size values ≡ true
+set_together size [] form = absurd cc
+set_together size (value ∷ []) form = absurd cc
+set_together size (value ∷ next ∷ values) form = by_test (stand_together size (value ∷ next ∷ values)) refl form
+  where
+    by_test : (b : Bool) → stand_together size (value ∷ next ∷ values) ≡ b → Set ≡ cond b Set Tree
+        → stand_together size (value ∷ next ∷ values) ≡ true
+    by_test true is form = is
+    by_test false is form = absurd cc
+
+pub first_is : (values : List (List ℕ)) (d : List ℕ) → length values ≡ 1 → get_or values 0 d ≡ first_value values
+first_is [] d one = absurd (omega (arith, one))
+first_is (value ∷ values) d one = refl
+
+-- an item takes at most an eighth of a page and 3, or 14
+pub item_few : (size : ℕ) (value : List ℕ) → is_page_size size ≡ true → item_cost size value ≤ size / 8 + 3
+item_few size value legal =
+    let bounds = size_bounds size legal in
+    elim (cases_lt (size / 8) (length value)) [
+      | inl long ↦ let is : item_cost size value ≡ 14 = ap (λ b. cond b (3 + length value) 14) (lt-leb (length value) (size / 8) long) in omega
+          (arith, is, bounds.0)
+      | inr short ↦ let is : item_cost size value ≡ 3 + length value = ap (λ b. cond b (3 + length value) 14)
+          (le-leb (length value) (size / 8) short) in
+          omega (arith, is, short)
+    ]
+
+-- data take less than half of a page
+pub data_few : (size : ℕ) (values : List (List ℕ)) → is_page_size size ≡ true → data_cost size values ≤ size / 4
+data_few size values legal = by_form (data_form size values) refl
+  where
+    by_form : (f : DataForm) → data_form size values ≡ f → cost_in f size values ≤ size / 4
+    by_form One is = let few = item_few size (first_value values) legal in let bounds = size_bounds size legal in omega (arith, few, bounds.0)
+    by_form Set is = let few = together_few size values (set_together size values (sym is)) in omega (arith, few)
+    by_form Tree is = let bounds = size_bounds size legal in omega (arith, bounds.0)

@@ -1,0 +1,10 @@
+pub mod BucketLemmas
+pub mod CostLemmas
+pub mod FillLemmas
+pub mod OpenLemmas
+pub mod PageLemmas
+pub mod SetLemmas
+pub mod SpreadLemmas
+pub mod StoreLemmas
+pub mod TableLemmas
+pub mod BuildLemmas

@@ -1,0 +1,14 @@
+use Rattle.std.proofs.Common.{◌-◌, ◌≤◌, drop, length, map}
+use Rattle.bdb_mkhash.specs.Buckets.{table_units}
+use Rattle.bdb_mkhash.specs.Units.{units_seen}
+use Rattle.bdb_mkhash.proofs.BucketLemmas.{AreDealt}
+use Rattle.bdb_mkhash.proofs.buckets.deal.Given as goal
+
+-- The keys passed are dealt.
+abbrev pub invariant-loop-start : goal.invariant-loop-start
+invariant-loop-start l =
+    (l.start ≤ length l.list)
+    × AreDealt l.bits (table_units l.fn.list) (table_units (drop l.start l.fn.list)) (map (λ bucket. units_seen bucket.items) l.buckets.items)
+
+abbrev pub decreases-loop-start : goal.decreases-loop-start
+decreases-loop-start l = length l.list - l.start

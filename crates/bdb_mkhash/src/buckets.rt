@@ -1,0 +1,103 @@
+ghost use Rattle.std.specs.Prelude.{◌≡◌, ℕ, ◌+◌, ◌<◌, ◌≤◌, ◌^◌, List, IfOk, IsTrue, length, map, replicate, []};
+ghost use Rattle.std.specs.List.{All};
+ghost use Rattle.bdb_format.specs.HeadOf.{is_page_size};
+ghost use Rattle.bdb_buckets.specs.Tables.{Keyed, bucket_among};
+ghost use Rattle.bdb_mktree.specs.Lists.{HasBytes};
+ghost use Rattle.bdb_mkhash.specs.Buckets.{bits_for, buckets_of, table_cost, table_units};
+ghost use Rattle.bdb_mkhash.specs.Units.{units_seen};
+
+use crate::runs::run_at;
+use crate::unit::{Unit, unit_cost};
+use bdb_layout::{bucket_of, hash5};
+use bdb_model::PairList;
+use std::alloc::{AllocError, Global};
+
+/// What all keys of a list take of pages of so many bytes.
+pub(crate) fn table_cost(size: usize, list: &PairList) -> Result<u64, AllocError>
+    requires legal { IsTrue (is_page_size size) }
+    requires keys { All (λ pair. HasBytes pair.key) list.now }
+    ensures { IfOk result (λ cost. cost ≡ table_cost size (table_units list.now)) }
+{
+    let mut cost: u64 = 0;
+    let mut start = 0;
+    while start < list.len() {
+        let next = run_at(list, start);
+        cost = cost
+            .checked_add(unit_cost(size, &next.unit) as u64)
+            .ok_or(AllocError)?;
+        start = next.end;
+    }
+    Ok(cost)
+}
+
+/// How many bits the number of a bucket has: half the room of a page for each bucket is enough for a cost. It is refused
+/// where there would be more than 2^21 buckets.
+pub(crate) fn bits_for(size: usize, cost: u64) -> Result<u32, AllocError>
+    requires { IsTrue (is_page_size size) }
+    ensures bits { IfOk result (λ bits. bits ≡ bits_for size cost) }
+    ensures some { IfOk result (λ bits. 1 ≤ bits) }
+    ensures few { IfOk result (λ bits. bits ≤ 21) }
+{
+    let half = ((size - 26) / 2) as u64;
+    for bits in 1..22 {
+        if cost <= (1 << bits) * half {
+            return Ok(bits);
+        }
+    }
+    Err(AllocError)
+}
+
+/// How many buckets have a number of so many bits.
+pub(crate) fn bucket_count(bits: u32) -> u32
+    requires { bits ≤ 21 }
+    ensures count { result ≡ 2 ^ bits }
+    ensures few { result ≤ 2 ^ 21 }
+{
+    1 << bits
+}
+
+// The bucket of a key among so many.
+fn bucket_among(bits: u32, key: &[u8]) -> u32
+    requires some { 1 ≤ bits }
+    requires few { bits ≤ 21 }
+    ensures bucket { result ≡ bucket_among bits key.now }
+    ensures low { result < 2 ^ bits }
+{
+    let count = bucket_count(bits);
+    bucket_of(hash5(key), count - 1, count - 1, count / 2 - 1)
+}
+
+// Buckets without units.
+fn no_units<'a>(alloc: Global, bits: u32) -> Result<Vec<Vec<Unit<'a>>>, AllocError>
+    requires { bits ≤ 21 }
+    ensures { IfOk result (λ buckets. map (λ bucket. units_seen bucket.items) buckets.items ≡ replicate (2 ^ bits) []) }
+{
+    let count = bucket_count(bits) as usize;
+    let mut buckets = Vec::with_capacity(alloc, count)?;
+    for _bucket in 0..count {
+        buckets.push(Vec::new(alloc))?;
+    }
+    Ok(buckets)
+}
+
+/// The units of each bucket, in the order of the list.
+pub(crate) fn deal<'a>(
+    alloc: Global,
+    list: &'a PairList,
+    bits: u32,
+) -> Result<Vec<Vec<Unit<'a>>>, AllocError>
+    requires some { 1 ≤ bits }
+    requires few { bits ≤ 21 }
+    requires keys { All (λ pair. HasBytes pair.key) list.now }
+    ensures { IfOk result (λ buckets. map (λ bucket. units_seen bucket.items) buckets.items ≡ buckets_of bits (table_units list.now)) }
+{
+    let mut buckets = no_units(alloc, bits)?;
+    let mut start = 0;
+    while start < list.len() {
+        let next = run_at(list, start);
+        let b = bucket_among(bits, next.unit.key) as usize;
+        buckets[b].push(next.unit)?;
+        start = next.end;
+    }
+    Ok(buckets)
+}

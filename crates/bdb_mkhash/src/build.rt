@@ -1,0 +1,68 @@
+ghost use Rattle.std.specs.Prelude.{◌≡◌, ◌≤◌, ◌+◌, ◌-◌, ◌++◌, IfOk, length, replicate};
+ghost use Rattle.bdb_format.specs.declared.kinds.Kind.TheVariants.{Hash as HashKind};
+ghost use Rattle.bdb_model.specs.Pairs.{listed};
+ghost use Rattle.bdb_buckets.specs.Tables.{table_meta};
+ghost use Rattle.bdb_mkhash.specs.Buckets.{table_units};
+ghost use Rattle.bdb_mkhash.specs.Table.{IsTableBuilt, IsTableList};
+
+use crate::buckets::{bits_for, bucket_count, deal, table_cost};
+use crate::fill::{add_buckets, fill_buckets};
+use bdb_format::{HashMeta, Settings};
+use bdb_model::PairList;
+use bdb_pack::Pages;
+use std::alloc::{AllocError, Global};
+
+// The spares of a table with so many bits to the number of a bucket, whose first page this is.
+fn spares_of(first: u32, bits: u32) -> [u32; 32]
+    requires { bits ≤ 21 }
+    ensures { result ≡ replicate (bits + 1) first ++ replicate (31 - bits) 0 }
+{
+    let mut spares = [0; 32];
+    for group in 0..bits as usize + 1 {
+        spares[group] = first;
+    }
+    spares
+}
+
+// The metadata of a table with so many bits to the number of a bucket, whose first page this is.
+fn table_meta(settings: &Settings, first: u32, bits: u32) -> HashMeta
+    requires some { 1 ≤ bits }
+    requires few { bits ≤ 21 }
+    ensures { result ≡ table_meta settings.now first bits }
+{
+    let count = bucket_count(bits);
+    let duplicates = if settings.duplicates { 0x01 } else { 0 };
+    let sorted = if settings.sorted { 0x04 } else { 0 };
+    HashMeta {
+        flags: duplicates + sorted,
+        max_bucket: count - 1,
+        high_mask: count - 1,
+        low_mask: count / 2 - 1,
+        ffactor: settings.ffactor,
+        spares: spares_of(first, bits),
+        free: 0,
+    }
+}
+
+/// Builds the table of a list behind all pages, and answers its metadata. The page size and the order of the settings are
+/// those of the pages. It is also refused where there are 2^21 pages.
+pub fn build_table(
+    alloc: Global,
+    pages: &mut Pages,
+    settings: &Settings,
+    list: &PairList,
+) -> Result<HashMeta, AllocError>
+    requires kind { settings.now.kind ≡ HashKind }
+    requires size { pages.old.size ≡ settings.now.page_size }
+    requires order { pages.old.order ≡ settings.now.order }
+    requires some { 1 ≤ length pages.old.pages }
+    requires list { IsTableList settings.now list.now }
+    ensures { IfOk result (λ meta. IsTableBuilt settings.now pages.old pages.new (table_units list.now) (listed list.now) meta) }
+{
+    let bits = bits_for(pages.size(), table_cost(pages.size(), list)?)?;
+    let buckets = deal(alloc, list, bits)?;
+    let first = pages.count();
+    add_buckets(pages, bucket_count(bits))?;
+    fill_buckets(alloc, pages, first, settings.sorted, buckets.as_slice())?;
+    Ok(table_meta(settings, first, bits))
+}

@@ -1,0 +1,67 @@
+ghost use Rattle.std.specs.Prelude.{◌≡◌, ◌+◌, ◌<◌, ◌≤◌, ◌^◌, ◌∷◌, ◌++◌, [], ℕ, List, IfOk, IsTrue, length};
+ghost use Rattle.bdb_format.specs.HeadOf.{is_page_size};
+ghost use Rattle.bdb_format.specs.Page.{Content as PageContent};
+ghost use Rattle.bdb_layout.specs.Seen.{HasOrder, hash_content_seen};
+ghost use Rattle.bdb_pack.specs.Built.{AreWhole, bytes_of, with_page};
+ghost use Rattle.bdb_pack.specs.OnPages.{IsBegunOn};
+ghost use Rattle.bdb_mkhash.specs.Filling.{IsGrown};
+ghost use Rattle.bdb_mkhash.specs.Pages.{CanTakeContent, HoldsContentsOn, with_hash_page, with_next};
+
+use bdb_format::Header;
+use bdb_layout::{HashItem, put_u32};
+use bdb_pack::Pages;
+use std::alloc::AllocError;
+
+/// How many pages a file may have.
+pub(crate) const MAX_PAGES: u32 = 1 << 21;
+
+/// Adds a page of a table without items behind all pages, where a number is left for it, and answers that. `previous` is
+/// the page before it in its bucket, 0 where it is the first.
+pub(crate) fn add_page(pages: &mut Pages, previous: u32) -> Result<u32, AllocError>
+    requires legal { IsTrue (is_page_size pages.old.size) }
+    ensures number { IfOk result (λ number. number ≡ length pages.old.pages) }
+    ensures pages { IfOk result (λ _. pages.new ≡ with_hash_page pages.old previous) }
+    ensures holds { IfOk result (λ number. HoldsContentsOn pages.new number previous 0 []) }
+    ensures few { IfOk result (λ _. length pages.old.pages < 2 ^ 21) }
+{
+    if pages.count() >= MAX_PAGES {
+        return Err(AllocError);
+    }
+    let number = pages.add()?;
+    pages.begin(
+        number,
+        &Header {
+            number,
+            previous,
+            next: 0,
+            entries: 0,
+            high_free: 0,
+            level: 0,
+            page_type: 13,
+        },
+    );
+    Ok(number)
+}
+
+/// Writes which page comes after a page.
+pub(crate) fn set_next(pages: &mut Pages, page: u32, next: u32)
+    requires page { page < length pages.old.pages }
+    requires whole { AreWhole pages.old }
+    requires begun { IsBegunOn pages.old page }
+    ensures page { pages.new ≡ with_page pages.old page (with_next pages.old.order (bytes_of pages.old page) next) }
+    ensures holds { (previous before : ℕ) (contents : List PageContent) → HoldsContentsOn pages.old page previous before contents
+        → HoldsContentsOn pages.new page previous next contents }
+{
+    let order = pages.order();
+    put_u32(pages.page_mut(page), 16, order, next);
+}
+
+/// Adds an item at the end of a page.
+pub(crate) fn append_item(pages: &mut Pages, page: u32, item: &HashItem<'_>)
+    requires page { page < length pages.old.pages }
+    requires takes { CanTakeContent pages.old page (hash_content_seen item.now) }
+    requires same_order { HasOrder pages.old.order item.now }
+    ensures { IsGrown page pages.old pages.new (hash_content_seen item.now) }
+{
+    pages.append_hash(page, item);
+}

@@ -1,0 +1,35 @@
+ghost use Rattle.std.specs.Prelude.{◌≡◌, ◌-◌, ◌*◌, ◌<◌, ◌≤◌, ◌^◌, IfOk, IsTrue, length};
+ghost use Rattle.bdb_format.specs.HeadOf.{is_page_size};
+ghost use Rattle.bdb_layout.specs.Seen.{HasOrder, hash_content_seen};
+ghost use Rattle.bdb_leaves.specs.Runs.{IsShort};
+ghost use Rattle.bdb_mkhash.specs.Filling.{IsHashItem};
+
+use crate::page::MAX_PAGES;
+use bdb_layout::HashItem;
+use bdb_pack::{Pages, Stored, push_value};
+use std::alloc::AllocError;
+
+// Whether there are numbers left for the pages of a value's chain.
+fn has_pages_for(pages: &Pages, value: &[u8]) -> bool
+    ensures { IsTrue result → length value.now ≤ (2 ^ 21 - length pages.now.pages) * (pages.now.size - 26) }
+{
+    let left = MAX_PAGES.saturating_sub(pages.count()) as usize;
+    value.len() <= left * (pages.size() - 26)
+}
+
+/// Stores a value, and answers its item: of a short one it has the bytes, of a longer one it names the chain.
+pub(crate) fn store<'a>(pages: &mut Pages, value: &'a [u8]) -> Result<HashItem<'a>, AllocError>
+    requires short { IsShort value.now }
+    requires first { 1 ≤ length pages.old.pages }
+    requires legal { IsTrue (is_page_size pages.old.size) }
+    ensures item { IfOk result (λ item. IsHashItem pages.old pages.new value.now (hash_content_seen item)) }
+    ensures order { IfOk result (λ item. HasOrder pages.new.order item) }
+{
+    if !has_pages_for(pages, value) {
+        return Err(AllocError);
+    }
+    match push_value(pages, value)? {
+        Stored::Inline => Ok(HashItem::Inline(value)),
+        Stored::Chain { head, total } => Ok(HashItem::Overflow { head, total }),
+    }
+}

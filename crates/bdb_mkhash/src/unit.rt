@@ -1,0 +1,94 @@
+ghost use Rattle.std.specs.Prelude.{◌≡◌, ◌<◌, ◌≤◌, ◌-◌, ◌/◌, IsTrue, length};
+ghost use Rattle.bdb_format.specs.HeadOf.{is_page_size};
+ghost use Rattle.bdb_mkhash.specs.Costs.{data_cost, data_form, item_cost, set_cost, stand_together, unit_cost};
+ghost use Rattle.bdb_mkhash.specs.Units.{unit_seen};
+
+use crate::form::DataForm;
+use bdb_format::Bytes;
+
+/// A key of a table with all its data, one at least.
+#[derive(Clone, Copy)]
+pub(crate) struct Unit<'a> {
+    pub(crate) key: &'a [u8],
+    pub(crate) values: &'a [Bytes],
+}
+
+// The entry of a value's item, and the item, on a page of so many bytes.
+fn item_cost(size: usize, value: &[u8]) -> usize
+    requires { IsTrue (is_page_size size) }
+    ensures { result ≡ item_cost size value.now }
+{
+    if value.len() <= size / 8 {
+        3 + value.len()
+    } else {
+        14
+    }
+}
+
+// Whether several data stand on the page. It ends where they take too much, so that no sum is too large.
+fn stand_together(size: usize, values: &[Bytes]) -> bool
+    requires { IsTrue (is_page_size size) }
+    ensures { result ≡ stand_together size values.now }
+{
+    let most = (size - 26) / 4;
+    let mut cost = 3;
+    for value in values {
+        let len = value.as_slice().len();
+        if len > size / 8 {
+            return false;
+        }
+        if cost > most {
+            return false;
+        }
+        cost += 4 + len;
+    }
+    cost <= most
+}
+
+/// How data stand on a page of so many bytes.
+pub(crate) fn data_form(size: usize, values: &[Bytes]) -> DataForm
+    requires { IsTrue (is_page_size size) }
+    ensures { result ≡ data_form size values.now }
+{
+    if values.len() == 1 {
+        return DataForm::One;
+    }
+    if !values.is_empty() && stand_together(size, values) {
+        return DataForm::Set;
+    }
+    DataForm::Tree
+}
+
+// The entry and the item of a set on the page.
+fn set_cost(size: usize, values: &[Bytes]) -> usize
+    requires legal { IsTrue (is_page_size size) }
+    requires few { IsTrue (stand_together size values.now) }
+    ensures { result ≡ set_cost values.now }
+{
+    let mut cost = 3;
+    for value in values {
+        cost += 4 + value.as_slice().len();
+    }
+    cost
+}
+
+// What the data of a key take of a page.
+fn data_cost(size: usize, values: &[Bytes]) -> usize
+    requires { IsTrue (is_page_size size) }
+    ensures cost { result ≡ data_cost size values.now }
+    ensures few { result < size }
+{
+    match data_form(size, values) {
+        DataForm::One => item_cost(size, values[0].as_slice()),
+        DataForm::Set => set_cost(size, values),
+        DataForm::Tree => 10,
+    }
+}
+
+/// What a key with its data takes of a page.
+pub(crate) fn unit_cost(size: usize, unit: &Unit<'_>) -> usize
+    requires { IsTrue (is_page_size size) }
+    ensures { result ≡ unit_cost size (unit_seen unit.now) }
+{
+    item_cost(size, unit.key) + data_cost(size, unit.values)
+}
