@@ -1,9 +1,10 @@
 -- Levels of which the last page, the root, is placed on an earlier one.
-use Rattle.std.proofs.Common.{◌≡◌, ℕ, zero, suc, ◌-◌, ◌<◌, ◌≤◌, ◌&&◌, not, Bool, true, List, [], length, replicate}
+use Rattle.std.proofs.Common.{◌≡◌, ℕ, zero, suc, ◌+◌, ◌-◌, ◌<◌, ◌≤◌, ◌&&◌, not, Bool, true, List, [], ◌∷◌, length, replicate}
 use Rattle.std.proofs.Common.{arith, refl, sym, ◌∙◌, ap, subst, length-take}
-use Rattle.std.specs.List.{Contains, flat_map, range_with_len}
+use Rattle.std.specs.List.{Contains, flat_map, range_with_len, sum_by}
 use Rattle.std.proofs.lemmas.Bool.{and_parts, eqb-false, ne_eqb, not-true}
 use Rattle.std.proofs.lemmas.List.{get_or-take}
+use Rattle.std.proofs.lemmas.List.Sums.{sum_by-cons}
 use Rattle.std.proofs.Math.Dec.{eqb}
 use Rattle.bdb_format.specs.File.{page_at}
 use Rattle.bdb_format.specs.Numbers.{byte_at}
@@ -64,9 +65,9 @@ head_stands inner old children nodes first h are blank at =
 
 -- The levels.
 
-form_same : (first root p : ℕ) (now new : Built) → IsRootPlaced first root now new → p < root → (p ≡ first → ⊥)
+form_same : (first root sum p : ℕ) (now new : Built) → IsRootPlaced first root sum now new → p < root → (p ≡ first → ⊥)
     → page_code new.order p (bytes_of new p) ≡ page_code now.order p (bytes_of now p)
-form_same first root p now new placed low other =
+form_same first root sum p now new placed low other =
     ap (λ o. page_code o p (bytes_of new p)) placed.order ∙ ap (page_code now.order p) (placed.same p low other)
 
 -- the pages of a set below a number, but for one
@@ -89,10 +90,23 @@ ends_of inner old mid nodes root children are several tower =
     let many = as_many inner old children nodes are in
     tower.ends (omega (arith, several, many))
 
-pub tower_on : (inner : InnerType) (old mid new : Built) (nodes : List Node) (first root : ℕ) (children : List Child)
+-- children count what their nodes do
+counted_alike : (inner : InnerType) (old : Built) (children : List Child) (nodes : List Node) → AreChildren inner old children nodes
+    → sum_by (λ (child : Child). child.count) children ≡ sum_by (λ (node : Node). node.count) nodes
+counted_alike inner old [] [] are = refl
+counted_alike inner old [] (node ∷ nodes) are = absurd are
+counted_alike inner old (child ∷ children) [] are = absurd are
+counted_alike inner old (child ∷ children) (node ∷ nodes) are =
+    let rest = counted_alike inner old children nodes are.1 in
+    sum_by-cons (λ (other : Child). other.count) child children
+    ∙ (ap (λ n. n + sum_by (λ (other : Child). other.count) children) (sym are.0.count_is)
+    ∙ (ap (λ n. node.count + n) rest ∙ sym (sum_by-cons (λ (other : Node). other.count) node nodes)))
+
+pub tower_on : (inner : InnerType) (old mid new : Built) (nodes : List Node) (first root sum : ℕ) (children : List Child)
     → AreChildren inner old children nodes → 2 ≤ length children → first < length old.pages → bytes_of old first ≡ replicate old.size 0
-    → HasTower inner old mid nodes root → IsRootPlaced first root mid new → HasTowerOn inner old new nodes first
-tower_on inner old mid new nodes first root children are several stood blank tower placed =
+    → HasTower inner old mid nodes root → sum ≡ sum_by (λ (child : Child). child.count) children
+    → IsRootPlaced first root sum mid new → HasTowerOn inner old new nodes first
+tower_on inner old mid new nodes first root sum children are several stood blank tower adds placed =
     let ends = ends_of inner old mid nodes root children are several tower in
     let count = placed.count in
     let low_root = ends.low in
@@ -150,9 +164,10 @@ tower_on inner old mid new nodes first root children are several stood blank tow
                 (here.same p at);
           };
       formed = λ p low here.
-          form_same first root p mid new placed (omega (arith, here, count)) (λ e. omega (arith, e, low, stood))
+          form_same first root sum p mid new placed (omega (arith, here, count)) (λ e. omega (arith, e, low, stood))
           ∙ tower.formed p low (omega (arith, here, count, last));
       root_formed = children_are_formed inner new.order (bytes_of new first) first ends.level ends.below holds ends.high ends.some;
-      form_kept = λ p low other. form_same first root p mid new placed (omega (arith, low, low_root)) other ∙ tower.form_kept p low;
+      summed = placed.summed ∙ (adds ∙ counted_alike inner old children nodes are);
+      form_kept = λ p low other. form_same first root sum p mid new placed (omega (arith, low, low_root)) other ∙ tower.form_kept p low;
       kept = λ p low other no_head. placed.same p (omega (arith, low, low_root)) other ∙ tower.kept p low no_head;
     }

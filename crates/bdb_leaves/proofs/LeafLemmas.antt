@@ -159,7 +159,7 @@ number_written order page number previous next long low before after =
       next_is = field_behind order page 8 number 16 (omega arith) long (omega arith) ∙ after;
     }
 
-previous_written : (order : Order) (page : List ℕ) (number previous next : ℕ) → 26 ≤ length page → previous < 2 ^ 32 → four_at order page 8 ≡ number
+pub previous_written : (order : Order) (page : List ℕ) (number previous next : ℕ) → 26 ≤ length page → previous < 2 ^ 32 → four_at order page 8 ≡ number
     → four_at order page 16 ≡ next → HasLinks order page (with_field order page 12 previous) number previous next
 previous_written order page number previous next long low own after =
     record {

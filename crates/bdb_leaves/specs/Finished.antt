@@ -1,7 +1,8 @@
 -- Trees whose root stands on their first page. Source: docs/FORMAT.md, "Built trees".
 use Rattle.std.specs.Prelude.{◌≡◌, ◌⊎◌, ℕ, ◌+◌, ◌-◌, ◌<◌, ◌≤◌, Bool, true, false, List, [], ◌∷◌, ◌++◌, length, map, None}
-use Rattle.std.specs.List.{All, AllZip, Contains, flat_map, range_with_len}
+use Rattle.std.specs.List.{All, AllZip, Contains, flat_map, range_with_len, sum_by}
 use Rattle.bdb_format.specs.File.{File}
+use Rattle.bdb_format.specs.Numbers.{four_at}
 use Rattle.bdb_format.specs.Rows.{page_code}
 use Rattle.bdb_grove.specs.Growing.{IsCounted, IsLater}
 use Rattle.bdb_grove.specs.Part.{between}
@@ -24,14 +25,15 @@ use Rattle.bdb_leaves.specs.Tower.{CountsNamed, levels_to}
 use Rattle.bdb_leaves.specs.declared.leaf_type.LeafType.{LeafType}
 use Rattle.bdb_leaves.specs.declared.leaves.Leaves.{Leaves}
 
--- The last page is placed on another, with the number of that, and dropped from the end; no other page changes. The nodes that it holds as an
--- internal page it holds there.
-pub record IsRootPlaced (first root : ℕ) (old new : Built) : Type 0 where
+-- The last page is placed on another, with the number of that and a sum where other pages have the one before them, and dropped from the end; no
+-- other page changes. The nodes that it holds as an internal page it holds there.
+pub record IsRootPlaced (first root sum : ℕ) (old new : Built) : Type 0 where
   pub size : new.size ≡ old.size
   pub order : new.order ≡ old.order
   pub whole : AreWhole new
   pub count : length new.pages ≡ root
-  pub bytes : bytes_of new first ≡ with_field old.order (bytes_of old root) 8 first
+  pub bytes : bytes_of new first ≡ with_field old.order (with_field old.order (bytes_of old root) 8 first) 12 sum
+  pub summed : four_at new.order (bytes_of new first) 12 ≡ sum
   pub same : (p : ℕ) → p < root → (p ≡ first → ⊥) → bytes_of new p ≡ bytes_of old p
   pub holds : (inner : InnerType) (level : ℕ) (nodes : List Node) → HoldsChildrenOn inner old root level nodes
       → HoldsChildrenOn inner new first level nodes
@@ -57,6 +59,8 @@ pub record HasTowerOn (inner : InnerType) (old new : Built) (nodes : List Node) 
       → IsLater pages (file_so_far old) (file_so_far new)
   pub formed : (p : ℕ) → length old.pages ≤ p → p < length new.pages → page_code new.order p (bytes_of new p) ≡ None
   pub root_formed : page_code new.order first (bytes_of new first) ≡ None
+  -- the root says how many pairs or entries are counted below it
+  pub summed : four_at new.order (bytes_of new first) 12 ≡ sum_by (λ (node : Node). node.count) nodes
   pub form_kept : (p : ℕ) → p < length old.pages → (p ≡ first → ⊥)
       → page_code new.order p (bytes_of new p) ≡ page_code old.order p (bytes_of old p)
   pub kept : (p : ℕ) → p < length old.pages → (p ≡ first → ⊥) → (Contains (flat_map (heads_of inner) nodes) p → ⊥)

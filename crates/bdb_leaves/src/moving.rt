@@ -22,6 +22,17 @@ pub(crate) fn set_number(pages: &mut Pages, page: u32, number: u32)
     put_u32(pages.page_mut(page), 8, order, number);
 }
 
+/// Writes how many entries a counted tree has, where the pages of a level have the one before them: its root is alone.
+pub(crate) fn set_sum(pages: &mut Pages, page: u32, sum: u32)
+    requires page { page < length pages.old.pages }
+    requires legal { IsTrue (is_page_size pages.old.size) }
+    requires whole { AreWhole pages.old }
+    ensures { pages.new ≡ with_page pages.old page (with_field pages.old.order (bytes_of pages.old page) 12 sum) }
+{
+    let order = pages.order();
+    put_u32(pages.page_mut(page), 12, order, sum);
+}
+
 // Makes a page one of zeros.
 fn blank(pages: &mut Pages, page: u32)
     requires page { page < length pages.old.pages }

@@ -1,5 +1,6 @@
 ghost use Rattle.std.specs.Prelude.{◌≡◌, ◌+◌, ◌<◌, ◌≤◌, IfOk, IsTrue, List, length, replicate};
-ghost use Rattle.std.specs.List.{Contains};
+ghost use Rattle.std.specs.List.{Contains, sum_by};
+ghost use Rattle.bdb_leaves.specs.declared.levels.Child.{Child as Below};
 ghost use Rattle.bdb_format.specs.HeadOf.{is_page_size};
 ghost use Rattle.bdb_levels.specs.Nodes.{Node};
 ghost use Rattle.bdb_pack.specs.Built.{AreWhole, bytes_of};
@@ -8,22 +9,35 @@ ghost use Rattle.bdb_leaves.specs.Inner.{child_cost};
 ghost use Rattle.bdb_leaves.specs.Levels.{AreChildren};
 
 use crate::levels::Child;
-use crate::moving::set_number;
+use crate::moving::{set_number, set_sum};
 use crate::tower::lay_levels;
 use bdb_levels::InnerType;
 use bdb_pack::Pages;
 use std::alloc::{AllocError, Global};
 
-/// Places the last page, the root of a tree, on another page, whose number it has there.
-fn place_root(pages: &mut Pages, first: u32, root: u32)
+// The sum of what children count. It is refused where it doesn't fit its field.
+fn sum_of(children: &[Child]) -> Result<u32, AllocError>
+    ensures { IfOk result (λ sum. sum ≡ sum_by (λ (child : Below). child.count) children.now) }
+{
+    let mut sum: u32 = 0;
+    for child in children {
+        sum = sum.checked_add(child.count).ok_or(AllocError)?;
+    }
+    Ok(sum)
+}
+
+/// Places the last page, the root of a tree, on another page, whose number it has there, with the sum of what the items of the
+/// tree count.
+fn place_root(pages: &mut Pages, first: u32, root: u32, sum: u32)
     requires legal { IsTrue (is_page_size pages.old.size) }
     requires whole { AreWhole pages.old }
     requires last { root + 1 ≡ length pages.old.pages }
     requires first { first < root }
-    ensures { IsRootPlaced first root pages.old pages.new }
+    ensures { IsRootPlaced first root sum pages.old pages.new }
 {
     pages.copy_over(root, first);
     set_number(pages, first, first);
+    set_sum(pages, first, sum);
     pages.drop_last();
 }
 
@@ -47,7 +61,8 @@ pub(crate) fn lay_levels_on(
     ensures { IfOk result (λ _. (nodes : List Node) → AreChildren inner pages.old below.items nodes
         → HasTowerOn inner pages.old pages.new nodes first) }
 {
+    let sum = sum_of(&below)?;
     let root = lay_levels(alloc, pages, inner, below)?;
-    place_root(pages, first, root);
+    place_root(pages, first, root, sum);
     Ok(())
 }
