@@ -18,7 +18,7 @@ use Rattle.bdb_leaves.proofs.RunLemmas.{all_map}
 use Rattle.bdb_mktree.specs.Lists.{bytes_in}
 use Rattle.bdb_mktree.specs.Units.{IsTreeKind}
 use Rattle.bdb_settle.specs.ListLaw.{FitsFields, IsFit, IsKeyOf}
-use Rattle.bdb_load.specs.Loading.{IsLoadable, IsTreeSettings}
+use Rattle.bdb_load.specs.Loading.{IsLoadable, IsTreeSettings, is_one_tree}
 
 key_of : (kind : Kind) (key : Key) → is_number key ≡ holds_records kind → IsKeyOf kind key
 key_of Btree (Bytes bytes) is = tt
@@ -82,3 +82,9 @@ none_of (Some x) none = absurd (cc none)
 pub on_true : (b : Bool) (P Q : Type 0) → (P → Q) → OnTrue b P → OnTrue b Q
 on_true true P Q step holds = step holds
 on_true false P Q step holds = tt
+
+-- sections of which there isn't one alone
+pub not_one : (sections : List Section) → (length sections ≡ 1 → ⊥) → is_one_tree sections ≡ false
+not_one [] several = refl
+not_one (section ∷ []) several = absurd (several refl)
+not_one (section ∷ other ∷ others) several = refl

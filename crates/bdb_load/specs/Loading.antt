@@ -1,6 +1,7 @@
 -- What can be loaded, and why it isn't. Source: docs/FORMAT.md, "Loading".
-use Rattle.std.specs.Prelude.{◌≡◌, ◌⊎◌, ℕ, nat_lt, if◌then◌else◌, IsTrue, true, false, List, [], ◌∷◌, length, Option, Some, None, ◌+◌, ◌*◌}
-use Rattle.bdb_format.specs.declared.kinds.Kind.TheVariants.{Recno}
+use Rattle.std.specs.Prelude.{◌≡◌, ◌⊎◌, ℕ, nat_lt, if◌then◌else◌, IsTrue, true, false, List, [], ◌∷◌, length, Option, Some, None, ◌+◌, ◌*◌, ◌&&◌, Bool, is_none}
+use Rattle.bdb_format.specs.declared.kinds.Kind.{Kind}
+use Rattle.bdb_format.specs.declared.kinds.Kind.TheVariants.{Btree, Recno, Hash, Queue}
 use Rattle.bdb_format.specs.declared.settings.Settings.{Settings}
 use Rattle.bdb_format.specs.HeadOf.{head_of, is_page_size}
 use Rattle.bdb_format.specs.File.{file_of}
@@ -37,6 +38,19 @@ pub record IsLoadable (sections : List Section) : Type 0 where
   pub unnamed : section.name ≡ None
   pub settings : IsTreeSettings section.settings
   pub fit : IsFit section
+
+-- a btree or a recno
+abbrev pub is_tree : Kind → Bool
+is_tree Btree = true
+is_tree Recno = true
+is_tree Hash = false
+is_tree Queue = false
+
+-- one section, without a name, of a btree or recno
+abbrev pub is_one_tree : List Section → Bool
+is_one_tree [] = false
+is_one_tree (section ∷ []) = is_none section.name && is_tree section.settings.kind
+is_one_tree (section ∷ other ∷ others) = false
 
 -- the image would be larger than a number of bytes
 abbrev pub size_error : ℕ → List Section → Option LoadError

@@ -3,7 +3,7 @@ ghost use Rattle.std.specs.Bool.{OnTrue};
 ghost use Rattle.bdb_model.specs.Sections.{Reads};
 ghost use Rattle.bdb_mktree.specs.Units.{IsTreeKind};
 ghost use Rattle.bdb_load.specs.Builds.{Builds};
-ghost use Rattle.bdb_load.specs.Loading.{IsLoadRefusal, IsLoadable, loading_error};
+ghost use Rattle.bdb_load.specs.Loading.{IsLoadRefusal, IsLoadable, is_one_tree, is_tree, loading_error};
 
 use crate::trees::section_image;
 use bdb_format::Kind;
@@ -25,7 +25,8 @@ fn are_too_many(pages: u128, page_size: u32, max: u64) -> bool
 
 // Whether a kind is that of trees.
 fn is_tree(kind: Kind) -> bool
-    ensures { OnTrue result (IsTreeKind kind) }
+    ensures kind { result ≡ is_tree kind }
+    ensures tree { OnTrue result (IsTreeKind kind) }
 {
     match kind {
         Kind::Btree | Kind::Recno => true,
@@ -35,7 +36,8 @@ fn is_tree(kind: Kind) -> bool
 
 /// Whether the sections that a text is read as are one, without a name, of a btree or recno.
 pub fn is_one_tree(sections: &Sections) -> bool
-    ensures { OnTrue result ((text : List ℕ) → Reads text sections.now → length text < 2 ^ 32 → IsLoadable sections.now) }
+    ensures is { result ≡ is_one_tree sections.now }
+    ensures loads { OnTrue result ((text : List ℕ) → Reads text sections.now → length text < 2 ^ 32 → IsLoadable sections.now) }
 {
     let [section] = sections.as_slice() else {
         return false;

@@ -6,8 +6,8 @@ use Rattle.bdb_load.specs.Loading.{IsLoadable}
 use Rattle.bdb_load.proofs.ReadLemmas.{none_of, on_true, one_of, read_loadable}
 use Rattle.bdb_load.proofs.loading.is_one_tree.Goals as goal
 
-pub returns-then-is_none : goal.returns-then-is_none
-returns-then-is_none c =
+pub returns-then-is_none-clause-loads : goal.returns-then-is_none-clause-loads
+returns-then-is_none-clause-loads c =
     let all : List Section = c.args.sections.now in
     let section : Section = c.section-item.result in
     let one : c.as_slice.result.now ≡ section ∷ [] =
@@ -15,4 +15,4 @@ returns-then-is_none c =
     on_true c.is_tree.result (IsTreeKind section.settings.kind)
     ((text : List ℕ) → Reads text all → length text < 2 ^ 32 → IsLoadable all)
     (λ kind text reads few. read_loadable text all section reads few (sym c.as_slice.ensures ∙ one) (none_of section.name (c.if-is_none.ensures)) kind)
-    c.is_tree.ensures
+    c.is_tree.ensures.tree
