@@ -1,6 +1,5 @@
 -- Keys that are dealt into buckets: put back into the order of their keys they are what they were, and no two are the same.
-use Rattle.std.proofs.Common.{◌≡◌, ℕ, zero, suc, ◌+◌, ◌<◌, ◌≤◌, Bool, true, false, cond, List, [], ◌∷◌, ◌++◌, map, append_assoc, arith, refl, sym,
-    ◌∙◌, ap, subst, inl, inr}
+use Rattle.std.proofs.Common.{◌≡◌, ℕ, zero, suc, ◌+◌, ◌<◌, ◌≤◌, Bool, true, false, cond, List, [], ◌∷◌, ◌++◌, map, append_assoc, arith, refl, sym, ◌∙◌, ap, subst, inl, inr}
 use Rattle.std.specs.Prelude.{◌==◌}
 use Rattle.std.specs.List.{filter, flat_map, range_with_len}
 use Rattle.std.proofs.lemmas.Bool.{and_parts, cases_eq, eq-eqb, ne_eqb}
@@ -110,7 +109,7 @@ dealt_one bucket unit units first (suc n) low high =
             after = rest.after;
             with =
                 ap (λ b. cond b (unit ∷ bucket_units bucket first units) (bucket_units bucket first units) ++ deal bucket (unit ∷ units) (first + 1)
-                    n)
+                n)
                 (ne_eqb (bucket unit) first other)
                 ∙ (ap (λ us. bucket_units bucket first units ++ us) rest.with
                 ∙ sym (append_assoc (bucket_units bucket first units) rest.before (unit ∷ rest.after)));

@@ -109,7 +109,7 @@ over_next : (g : File) (previous p beyond : ℕ) → 1 ≤ p → beyond ≤ g.la
     → IsBranch g (between p beyond) (p ∷ [])
 over_next g previous p beyond low high over =
     branch_is_known g (λ q. between (p + 1) beyond q || list_any (λ r. q == r) (p ∷ [])) (between p beyond) (p ∷ []) (p ∷ []) same (λ e at. at)
-        (λ e at. at)
+    (λ e at. at)
     (stand_over g (p + 1) beyond (p ∷ []) (omega arith)
     (λ q at. subst (λ n. (1 ≤ n) × (n ≤ g.last) × (between (p + 1) beyond n ≡ false)) (only_member p q at) (low, omega (arith, last, high), not_over))
     (λ q at. subst (IsRight g) (only_member p q at) over.right) (omega (arith, low), tt)
@@ -175,7 +175,7 @@ bucket_over g sorted previous p first beyond (units ∷ more ∷ pages) counted 
           (over_next g p next beyond (omega (arith, low, up)) high over));
       ascend = subst (AscendIn first beyond) (sym all)
           (ascend_follow first next beyond (flat_map content_pages (contents_on units)) (next ∷ []) contents.ascend
-              (omega arith, omega (arith, last)));
+          (omega arith, omega (arith, last)));
       right = page_right g p previous next (contents_on units) counted.no_queue is contents.fit (λ other. over.here);
     }
 

@@ -1,6 +1,5 @@
 -- A table that stands is the part of the database with its metadata.
-use Rattle.std.proofs.Common.{◌≡◌, ℕ, zero, suc, ◌+◌, ◌-◌, ◌<◌, ◌≤◌, Bool, true, false, cond, List, [], ◌∷◌, ◌++◌, get_or, map, length, replicate,
-    None, arith, refl, sym, ◌∙◌, ap, subst}
+use Rattle.std.proofs.Common.{◌≡◌, ℕ, zero, suc, ◌+◌, ◌-◌, ◌<◌, ◌≤◌, Bool, true, false, cond, List, [], ◌∷◌, ◌++◌, get_or, map, length, replicate, None, arith, refl, sym, ◌∙◌, ap, subst}
 use Rattle.std.specs.Prelude.{◌^◌, ◌/◌, ◌==◌, ◌&&◌, ◌||◌, not, nat_lt, bit_and}
 use Rattle.std.specs.List.{Contains, filter, flat_map, list_any, range_with_len}
 use Rattle.std.proofs.lemmas.Bool.{and_right, eq-eqb, lt-ltb, ltb-true, or_from}
@@ -13,8 +12,7 @@ use Rattle.bdb_format.specs.declared.settings.Settings.{Settings}
 use Rattle.bdb_format.specs.ByPage.{holding}
 use Rattle.bdb_format.specs.Chains.{chain_in}
 use Rattle.bdb_format.specs.Contents.{StoredPair, bucket_pairs, pairs_of, table_pairs}
-use Rattle.bdb_format.specs.ContentRows.{ascends, bucket_of_key, database_rows, has_duplicate, has_unsorted, has_wrong_bucket, has_wrong_set,
-    is_duplicate, is_set, is_wrong_set, repeated}
+use Rattle.bdb_format.specs.ContentRows.{ascends, bucket_of_key, database_rows, has_duplicate, has_unsorted, has_wrong_bucket, has_wrong_set, is_duplicate, is_set, is_wrong_set, repeated}
 use Rattle.bdb_format.specs.Flags.{has_duplicates, is_sorted}
 use Rattle.bdb_format.specs.File.{File, header_in, page_at}
 use Rattle.bdb_format.specs.Hashing.{bucket, first_page, group, hash5}
@@ -31,8 +29,7 @@ use Rattle.bdb_grove.specs.Growing.{IsCounted}
 use Rattle.bdb_grove.specs.Part.{IsBranch, between, entrance_asks, entrances}
 use Rattle.bdb_grove.proofs.GroveLemmas.{fits_asked}
 use Rattle.bdb_grove.proofs.LeafLemmas.{ascend_once}
-use Rattle.bdb_buckets.specs.Tables.{Keyed, PlacedUnit, SuitsTable, TableStands, TablesAreParts, bucket_among, dealt, listed_unit, table_meta,
-    units_on}
+use Rattle.bdb_buckets.specs.Tables.{Keyed, PlacedUnit, SuitsTable, TableStands, TablesAreParts, bucket_among, dealt, listed_unit, table_meta, units_on}
 use Rattle.bdb_buckets.proofs.AscendLemmas.{range_ascends}
 use Rattle.bdb_buckets.proofs.DealLemmas.{deal, dealt_apart, dealt_back}
 use Rattle.bdb_buckets.proofs.ListLemmas.{all_stored, list_is, none_repeated, none_unsorted, stored_each}
@@ -141,7 +138,7 @@ has_pairs g settings first bits beyond units buckets counted low high few are st
         (subst (λ p. AreStored g settings.sorted (flat_map (pairs_of g) (chain_in g.count g p)) (units_on (get_or buckets b [])))
         (sym (first_pages settings first bits b few under))
         (table_stored g settings.sorted first (first + 2 ^ bits) beyond buckets (omega (arith, low))
-            (let some = pow_pos bits in omega (arith, high, last, low, some))
+        (let some = pow_pos bits in omega (arith, high, last, low, some))
         stands b (omega (arith, under, many))))
 
 -- a key that is dealt is one of the keys
@@ -185,7 +182,7 @@ module _ (g : File) (settings : Settings) (first bits : ℕ) (units : List Keyed
       ∙ none_at p (λ pair. is_wrong_set g settings.sorted pair.data_item) (table_pairs g (table_meta settings first bits))
       (λ pair at.
       (stored_each g settings.sorted (table_pairs g (table_meta settings first bits)) (deal (λ unit. bucket_among bits unit.key) units 0 (2 ^ bits))
-          pair has.all at).2.right)
+      pair has.all at).2.right)
 
   none_out_of_order : (p : ℕ) → (is_sorted (HashFields (table_meta settings first bits)) && has_unsorted g
       (table_pairs g (table_meta settings first bits)) p) ≡ false
@@ -197,7 +194,7 @@ module _ (g : File) (settings : Settings) (first bits : ℕ) (units : List Keyed
       by_flag false is = refl
       by_flag true is =
           none_unsorted g settings.sorted (table_pairs g (table_meta settings first bits))
-              (deal (λ unit. bucket_among bits unit.key) units 0 (2 ^ bits)) p has.all
+          (deal (λ unit. bucket_among bits unit.key) units 0 (2 ^ bits)) p has.all
           (all_of (λ (unit : Keyed). ascends unit.values ≡ true) (deal (λ unit. bucket_among bits unit.key) units 0 (2 ^ bits))
           (λ unit at. All-contains (λ (one : Keyed). ascends one.values ≡ true) units unit (suits.in_order is) (of_deal bits units unit at)))
 
@@ -208,7 +205,7 @@ module _ (g : File) (settings : Settings) (first bits : ℕ) (units : List Keyed
       let under = (of_range 0 (2 ^ bits - 1 + 1) b listed).1 in
       let some = pow_pos bits in
       none_at p (λ pair. not (bucket_of_key (table_meta settings first bits) pair.key == b)) (bucket_pairs g (table_meta settings first bits) b)
-          (λ pair at.
+      (λ pair at.
       let found = stored_each g settings.sorted (bucket_pairs g (table_meta settings first bits) b) (dealt bits units b) pair
       (has.each b (omega (arith, under, some))) at in
       ap (λ k. not (bucket_among bits k == b)) found.2.key
@@ -218,7 +215,7 @@ module _ (g : File) (settings : Settings) (first bits : ℕ) (units : List Keyed
   none_twice p =
       ap (list_any (λ (pair : StoredPair). pair.page == p))
       (none_repeated g settings.sorted (table_pairs g (table_meta settings first bits))
-          (deal (λ unit. bucket_among bits unit.key) units 0 (2 ^ bits)) has.all
+      (deal (λ unit. bucket_among bits unit.key) units 0 (2 ^ bits)) has.all
       (dealt_apart (λ unit. bucket_among bits unit.key) (2 ^ bits) units (λ unit. among_low bits unit.key) suits.keys))
 
   no_rows : (p : ℕ) → holding (database_rows g (HashFields (table_meta settings first bits)) p) ≡ []
@@ -229,7 +226,7 @@ module _ (g : File) (settings : Settings) (first bits : ℕ) (units : List Keyed
   unfolding hash_list
   table_list =
       list_is g settings.sorted (table_pairs g (table_meta settings first bits)) (deal (λ unit. bucket_among bits unit.key) units 0 (2 ^ bits))
-          has.all
+      has.all
       ∙ ap (flat_map listed_unit) (dealt_back (λ unit. bucket_among bits unit.key) (2 ^ bits) units (λ unit. among_low bits unit.key) suits.keys)
 
 -- The part.

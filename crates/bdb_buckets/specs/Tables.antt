@@ -121,7 +121,7 @@ abbrev pub TablesAreParts : Type 0
 TablesAreParts =
     (g : File) (settings : Settings) (first bits beyond : ℕ) (units : List Keyed) (buckets : List (List (List PlacedUnit))) → IsCounted g → 1 ≤ first
     → beyond ≤ g.last + 1 → 1 ≤ bits → bits ≤ 31 → SuitsTable settings units
-        → map units_on buckets ≡ map (dealt bits units) (range_with_len 0 (2 ^ bits))
+    → map units_on buckets ≡ map (dealt bits units) (range_with_len 0 (2 ^ bits))
     → TableStands g settings.sorted first (first + 2 ^ bits) beyond buckets
     → IsPart g (record {
       pages = between first beyond;

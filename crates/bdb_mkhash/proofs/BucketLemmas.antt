@@ -1,6 +1,5 @@
 -- The number of buckets, and keys that are dealt into them.
-use Rattle.std.proofs.Common.{◌≡◌, ℕ, zero, suc, ◌+◌, ◌-◌, ◌*◌, ◌<◌, ◌≤◌, Bool, true, false, cond, List, [], ◌∷◌, ◌++◌, get_or, set, drop, map,
-    length, replicate, append_assoc, pow-suc, arith, refl, sym, ◌∙◌, ap, inl, inr}
+use Rattle.std.proofs.Common.{◌≡◌, ℕ, zero, suc, ◌+◌, ◌-◌, ◌*◌, ◌<◌, ◌≤◌, Bool, true, false, cond, List, [], ◌∷◌, ◌++◌, get_or, set, drop, map, length, replicate, append_assoc, pow-suc, arith, refl, sym, ◌∙◌, ap, inl, inr}
 use Rattle.std.specs.Prelude.{◌^◌, ◌/◌, ◌==◌, nat_le}
 use Rattle.std.specs.List.{find, range_with_len}
 use Rattle.std.specs.Option.{unwrap_or}
@@ -30,7 +29,7 @@ found_at test a (suc n) d k low high passes none =
       | inr other ↦
           let here : test a ≡ false = none a (omega arith) (omega (arith, low, other)) in
           let rest = found_at test (a + 1) n d k (omega (arith, low, other)) (omega (arith, high)) passes
-              (λ j from under. none j (omega (arith, from)) under) in
+          (λ j from under. none j (omega (arith, from)) under) in
           grind (arith, here, rest)
     ]
 
@@ -38,7 +37,7 @@ pub bits_found : (size cost bits : ℕ) → 1 ≤ bits → bits ≤ 21 → cost 
     → ((k : ℕ) → 1 ≤ k → k < bits → 2 ^ k * (page_room size / 2) < cost) → bits ≡ bits_for size cost
 bits_found size cost bits some few enough more =
     sym (found_at (λ k. nat_le cost (2 ^ k * (page_room size / 2))) 1 31 32 bits some (omega (arith, few))
-        (le-leb cost (2 ^ bits * (page_room size / 2)) enough)
+    (le-leb cost (2 ^ bits * (page_room size / 2)) enough)
     (λ j from under. lt-leb cost (2 ^ j * (page_room size / 2)) (more j from under)))
 
 -- a power of two from two on
@@ -97,12 +96,12 @@ dealt_more bits done unit low =
       | inl same ↦
           ap (λ j. get_or (set (buckets_of bits done) j (dealt bits done j ++ (unit ∷ []))) k d) same
           ∙ (get_or-set_same (buckets_of bits done) k (dealt bits done k ++ (unit ∷ [])) d
-              (omega (arith, inside, length-map-range_with_len (dealt bits done) 0 n))
+          (omega (arith, inside, length-map-range_with_len (dealt bits done) 0 n))
           ∙ sym (after ∙ (grown ∙ ap (λ t. dealt bits done k ++ cond t (unit ∷ []) []) (eq-eqb b k same))))
       | inr other ↦
           get_or-set_other (buckets_of bits done) b k (dealt bits done b ++ (unit ∷ [])) d (λ same. other (sym same))
           ∙ (before ∙ sym (after ∙ (grown ∙ (ap (λ t. dealt bits done k ++ cond t (unit ∷ []) []) (ne_eqb b k other) ∙ append-nil
-              (dealt bits done k)))))
+          (dealt bits done k)))))
     ])
   where
     n : ℕ
@@ -123,7 +122,7 @@ one_dealt bits all left unit old new before low is =
       are = is
           ∙ (ap (λ bs. set bs b (get_or bs b [] ++ (unit ∷ []))) before.are
           ∙ (ap (λ us. set (buckets_of bits before.done) b (us ++ (unit ∷ [])))
-              (get_or-map-range_with_len (dealt bits before.done) 0 (2 ^ bits) b b [] low e)
+          (get_or-map-range_with_len (dealt bits before.done) 0 (2 ^ bits) b b [] low e)
           ∙ dealt_more bits before.done unit low));
     }
 

@@ -30,8 +30,7 @@ use Rattle.bdb_mktree.specs.Lists.{HasBytes, keyed_units}
 use Rattle.bdb_mktree.specs.Units.{IsShortUnit as IsShortTreeUnit, Suits}
 use Rattle.bdb_mktree.proofs.ListLemmas.{units_listed}
 use Rattle.bdb_mktree.proofs.OrderLemmas.{FitUnits, keys_fit, units_fit}
-use Rattle.bdb_buckets.specs.Tables.{Keyed, PlacedUnit, SuitsTable, TableStands, bucket_among, dealt, key_of, listed_unit, table_meta, unit_of,
-    units_on}
+use Rattle.bdb_buckets.specs.Tables.{Keyed, PlacedUnit, SuitsTable, TableStands, bucket_among, dealt, key_of, listed_unit, table_meta, unit_of, units_on}
 use Rattle.bdb_buckets.proofs.DealLemmas.{deal, dealt_back, insert_unit, units_by_key}
 use Rattle.bdb_buckets.proofs.TableLemmas.{among_low, tables_are_parts}
 use Rattle.bdb_mkhash.specs.Buckets.{buckets_of, keyed_of, spread_bucket, table_bits, table_units}
@@ -199,10 +198,10 @@ table_built settings old mid new pairs bits buckets meta list some bits_are one 
           ∙ (ap (sum_by (λ bucket. length (spread_bucket old.size bucket))) are
           ∙ ap (λ b. sum_by (λ bucket. length (spread_bucket old.size bucket)) (buckets_of b units)) bits_are) in
           let own : sum_by (λ bucket. sum_by (own_pages mid.size settings.sorted) bucket) buckets ≡ sum_by (own_pages old.size settings.sorted)
-              units =
+          units =
           ap (λ s. sum_by (λ bucket. sum_by (own_pages s settings.sorted) bucket) buckets) kept.size
           ∙ (ap (sum_by (λ bucket. sum_by (own_pages old.size settings.sorted) bucket)) are ∙ sum_dealt (own_pages old.size settings.sorted) bits
-              units suits.keys) in
+          units suits.keys) in
           omega (arith, all, pages_are, own, many, count);
       formed = λ p low high. filled.formed p (inside p low high);
       fields = meta_is ∙ ap (table_meta settings (length old.pages)) bits_are;
@@ -216,17 +215,17 @@ table_built settings old mid new pairs bits buckets meta list some bits_are one 
       part = λ g counted later.
           let up = later.grows in
           subst (λ m. IsPart g (record { pages = between (length old.pages) (length new.pages); fields = HashFields m; list = listed pairs }))
-              (sym meta_is)
+          (sym meta_is)
           (subst (λ l. IsPart g (record {
             pages = between (length old.pages) (length new.pages);
             fields = HashFields (table_meta settings (length old.pages) bits);
             list = l;
           })) (list_back settings pairs list)
           (tables_are_parts g settings (length old.pages) bits (length new.pages) units filled.pages counted some
-              (omega (arith, up, some, grows, more)) one
+          (omega (arith, up, some, grows, more)) one
           (omega (arith, few)) suits keys_on
           (subst (λ n. TableStands g settings.sorted (length old.pages) n (length new.pages) filled.pages) count
-              (filled.stands g counted (all_later g later)))));
+          (filled.stands g counted (all_later g later)))));
     }
   where
     units : List Keyed
@@ -271,7 +270,7 @@ table_built settings old mid new pairs bits buckets meta list some bits_are one 
         → IsLater (of_buckets (length old.pages) (length buckets) (length mid.pages) (length new.pages)) (file_so_far new) g
     all_later g later =
         later_before new new (of_buckets (length old.pages) (length buckets) (length mid.pages) (length new.pages))
-            (between (length old.pages) (length new.pages))
+        (between (length old.pages) (length new.pages))
         g refl (omega arith)
         (λ q at. let is = within q at in is_between (length old.pages) (length new.pages) q is.0 is.1)
         (λ q at. ((within q at).1, refl)) later

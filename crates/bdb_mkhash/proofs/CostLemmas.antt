@@ -1,6 +1,5 @@
 -- What data take of a page of a table.
-use Rattle.std.proofs.Common.{◌≡◌, ℕ, ◌+◌, ◌-◌, ◌<◌, ◌≤◌, Bool, true, false, cond, List, [], ◌∷◌, length, get_or, take, arith, refl, sym, ◌∙◌, ap,
-    inl, inr}
+use Rattle.std.proofs.Common.{◌≡◌, ℕ, ◌+◌, ◌-◌, ◌<◌, ◌≤◌, Bool, true, false, cond, List, [], ◌∷◌, length, get_or, take, arith, refl, sym, ◌∙◌, ap, inl, inr}
 use Rattle.std.specs.Prelude.{◌/◌, ◌&&◌, nat_le}
 use Rattle.std.specs.List.{All, list_all, sum_by}
 use Rattle.std.proofs.lemmas.Bool.{and_left, and_parts, and_right, cases_lt, le-leb, leb-true, lt-leb}
@@ -38,7 +37,7 @@ pub inline_more : (size : ℕ) (values : List (List ℕ)) (i : ℕ) → i < leng
     → length (get_or values i []) ≤ size / 8 → list_all (is_inline size) (take (i + 1) values) ≡ true
 inline_more size values i low all short =
     list_all_more (is_inline size) values i [] low ∙ (ap (λ b. b && is_inline size (get_or values i [])) all ∙ le-leb (length (get_or values i []))
-        (size / 8) short)
+    (size / 8) short)
 
 -- What stands together is little.
 

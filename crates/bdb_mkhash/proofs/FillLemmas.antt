@@ -23,8 +23,7 @@ use Rattle.bdb_leaves.specs.Units.{page_room}
 use Rattle.bdb_leaves.proofs.RunLemmas.{later_before}
 use Rattle.bdb_buckets.specs.Tables.{Keyed, PlacedUnit, UnitStands, UnitsStand, contents_of, contents_on, unit_of}
 use Rattle.bdb_mkhash.specs.Costs.{own_pages, unit_cost}
-use Rattle.bdb_mkhash.specs.Filling.{AreEmptyPages, ArePut, IsEmptyPage, IsFollowed, IsOpenPage, IsPageFilled, IsUnitPut, IsWholePage, no_unit,
-    room_on}
+use Rattle.bdb_mkhash.specs.Filling.{AreEmptyPages, ArePut, IsEmptyPage, IsFollowed, IsOpenPage, IsPageFilled, IsUnitPut, IsWholePage, no_unit, room_on}
 use Rattle.bdb_mkhash.specs.Units.{IsShortUnit, unit_seen, units_seen}
 use Rattle.bdb_mkhash.specs.declared.unit.Unit.{Unit as CodeUnit}
 use Rattle.bdb_mkhash.specs.Pages.{HoldsContents, HoldsContentsOn, content_cost, with_hash_page, with_next}
@@ -106,7 +105,7 @@ put_more p old now new sorted units unit empty put one =
       stands = λ g counted later.
           units_follow g sorted a b d put.placed (one.placed ∷ [])
           (put.stands g counted (later_of p a b now new (between a d) g one.kept low (omega arith)
-              (λ q from under. is_between a d q from (omega (arith, under, more))) later))
+          (λ q from under. is_between a d q from (omega (arith, under, more))) later))
           (subst (λ n. UnitStands g sorted b n one.placed) (sym one.beyond) (one.stands g counted (rest_later g later)), sym one.beyond);
       formed = λ q from under. elim (cases_lt q b) [
         | inl below ↦
@@ -220,7 +219,7 @@ bucket_added old now new k number kept count empty at added holds few =
 pub is_followed : (p : ℕ) (old mid new : Built) (next : ℕ) → p < length old.pages → mid ≡ with_hash_page old p → next ≡ length old.pages
     → HoldsContentsOn mid next p 0 [] → new ≡ with_page mid p (with_next mid.order (bytes_of mid p) next)
     → ((previous before : ℕ) (contents : List Content) → HoldsContentsOn mid p previous before contents
-        → HoldsContentsOn new p previous next contents)
+    → HoldsContentsOn new p previous next contents)
     → IsFollowed p old new next
 is_followed p old mid new next low added number holds set_is links =
     record {

@@ -1,6 +1,5 @@
 -- The keys of a bucket, page by page.
-use Rattle.std.proofs.Common.{◌≡◌, ◌⊎◌, ℕ, ◌+◌, ◌-◌, ◌<◌, ◌≤◌, Bool, true, false, List, [], ◌∷◌, ◌++◌, map, length, get_or, take, take-add, drop,
-    None, append_assoc, arith, refl, sym}
+use Rattle.std.proofs.Common.{◌≡◌, ◌⊎◌, ℕ, ◌+◌, ◌-◌, ◌<◌, ◌≤◌, Bool, true, false, List, [], ◌∷◌, ◌++◌, map, length, get_or, take, take-add, drop, None, append_assoc, arith, refl, sym}
 use Rattle.std.proofs.Common.{◌∙◌, ap, subst, inl, inr, length-append, length-drop, true≢false}
 use Rattle.std.specs.Prelude.{◌==◌, ◌&&◌, ◌||◌, not}
 use Rattle.std.specs.List.{sum_by}
@@ -66,7 +65,7 @@ pub page_stands : (built : Built) (p previous next : ℕ) (contents : List Conte
     → HoldsContentsOn built p previous next contents → pages p ≡ true → IsLater pages (file_so_far built) g → IsHashIn g p previous next contents
 page_stands built p previous next contents pages g low holds at later =
     let here : page_at (file_so_far built) p ≡ abstract_page built.order (bytes_of built p) = get_or-map (abstract_page built.order) built.pages p
-        [] NoType low in
+    [] NoType low in
     hash_pages_stand built p previous next contents g holds
     (same_hash (page_at (file_so_far built) p) (page_at g p) holds.page (later.same p at) (here ∙ holds.is) ∙ here)
 
@@ -106,7 +105,7 @@ bucket_begun p old now sorted units n there empty filled =
       spread =
           spread_taken room_size cost cost room_size [] units n (omega (arith, taken))
           ∙ (ap (λ k. spread_on room_size cost cost k (take n units) (drop n units))
-              (let e : room_size - sum_by cost (take n units) ≡ room_on now p = omega (arith, taken) in e)
+          (let e : room_size - sum_by cost (take n units) ≡ room_on now p = omega (arith, taken) in e)
           ∙ ap (λ us. spread_on room_size cost cost (room_on now p) us (drop n units)) (sym filled.put.are));
       full = filled.full;
       count = let count = filled.put.count in omega (arith, count);
@@ -189,7 +188,7 @@ module _ (p : ℕ) (old now mid new : Built) (sorted : Bool) (units : List Keyed
       later_before now new (between was.start n) (closed_of p a (next + 1) next) g order_is (omega (arith, grows_new))
       (λ q at. let is = between_is was.start n q at in
       is_closed p a (next + 1) next q (is_further p a (next + 1) q (omega (arith, is.0, from)) (omega (arith, is.1, number)))
-          (λ e. omega (arith, e, is.1, number)))
+      (λ e. omega (arith, e, is.1, number)))
       (λ q at. let is = between_is was.start n q at in (is.1, stay q is.1 (λ e. omega (arith, e, is.0, before_own)))) later
 
   closed_later : (g : File) → IsLater (closed_of p a (next + 1) next) (file_so_far new) g
@@ -247,8 +246,11 @@ module _ (p : ℕ) (old now mid new : Built) (sorted : Bool) (units : List Keyed
       ]
 
       not_next : (q : ℕ) → n ≤ q → (q ≡ next → ⊥) → length mid.pages ≡ n + 1 → length mid.pages ≤ q
-      not_next q above other count = elim (cases_eq q n) [ inl same ↦ absurd (other (same ∙ sym number)) | inr more ↦ omega
-          (arith, above, more, count) ]
+      not_next q above other count = elim (cases_eq q n) [
+        | inl same ↦ absurd (other (same ∙ sym number))
+        | inr more ↦ omega
+            (arith, above, more, count)
+      ]
 
   abbrev cost : Keyed → ℕ
   cost = unit_cost old.size
@@ -259,7 +261,7 @@ module _ (p : ℕ) (old now mid new : Built) (sorted : Bool) (units : List Keyed
   room_new : room_on new next + sum_by cost (take m (drop done units)) ≡ page_room old.size
   room_new =
       let room = filled.put.room in let same = cost_same (take m (drop done units)) in let size = ap page_room size_is in omega
-          (arith, room, same, size)
+      (arith, room, same, size)
 
   no_room : room_on now current < cost (get_or units done no_unit)
   no_room = elim was.full [ inl all ↦ absurd (omega (arith, all, left)) | inr full ↦ full.1 ]
@@ -273,7 +275,7 @@ module _ (p : ℕ) (old now mid new : Built) (sorted : Bool) (units : List Keyed
       let split = drop_more units done no_unit left in
       ap (spread_on (page_room old.size) cost cost (room_on now current) (map unit_of was.last)) split
       ∙ (spread_over (page_room old.size) cost (room_on now current) (map unit_of was.last) (drop (done + 1) units) (get_or units done no_unit)
-          no_room
+      no_room
       (unit_fits old.size (get_or units done no_unit) legal)
       ∙ (ap (λ us. map unit_of was.last ∷ spread_on (page_room old.size) cost cost (page_room old.size) [] us) (sym split)
       ∙ ap (λ ps. map unit_of was.last ∷ ps)

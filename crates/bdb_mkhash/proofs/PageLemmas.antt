@@ -32,8 +32,7 @@ use Rattle.bdb_leaves.proofs.EntryLemmas.{bytes_with}
 use Rattle.bdb_leaves.proofs.LeafLemmas.{HasLinks, linked_begun, linked_page, offset_linked, with_links}
 use Rattle.bdb_buckets.specs.Pages.{hash_item}
 use Rattle.bdb_mkhash.specs.Filling.{IsGrown}
-use Rattle.bdb_mkhash.specs.Pages.{CanTakeContent, HashPagesAreFormed, HashPagesStand, HoldsContents, HoldsContentsOn, content_cost, page_header,
-    room_of, with_hash_page, with_next}
+use Rattle.bdb_mkhash.specs.Pages.{CanTakeContent, HashPagesAreFormed, HashPagesStand, HoldsContents, HoldsContentsOn, content_cost, page_header, room_of, with_hash_page, with_next}
 
 -- The page by its bytes.
 

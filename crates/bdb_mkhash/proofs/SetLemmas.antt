@@ -1,6 +1,5 @@
 -- A set that is spelled is a run of its blocks.
-use Rattle.std.proofs.Common.{◌≡◌, ℕ, suc, ◌+◌, ◌<◌, true, false, List, [], ◌∷◌, ◌++◌, length, get_or, take, refl, sym, ap, ◌∙◌, arith,
-    append_assoc, length-append, le-ltb, eq-eqb}
+use Rattle.std.proofs.Common.{◌≡◌, ℕ, suc, ◌+◌, ◌<◌, true, false, List, [], ◌∷◌, ◌++◌, length, get_or, take, refl, sym, ap, ◌∙◌, arith, append_assoc, length-append, le-ltb, eq-eqb}
 use Rattle.std.specs.Prelude.{◌^◌, nat_lt, ◌==◌, Some}
 use Rattle.std.specs.Option.{option_map}
 use Rattle.std.specs.List.{All, flat_map}
@@ -72,7 +71,7 @@ block_added order values i run value low before is =
     ∙ (append_assoc run s (value ++ s)
     ∙ (ap (λ bs. bs ++ (s ++ (value ++ s))) before
     ∙ (ap (λ bs. flat_map (block_bytes order) (take i values) ++ bs)
-        (sym (append-nil (block_bytes order value)) ∙ ap (λ v. flat_map (block_bytes order) (v ∷ [])) is)
+    (sym (append-nil (block_bytes order value)) ∙ ap (λ v. flat_map (block_bytes order) (v ∷ [])) is)
     ∙ (sym (flat_map-append (block_bytes order) (take i values) (get_or values i [] ∷ []))
     ∙ ap (flat_map (block_bytes order)) (sym (take_more values i [] low))))))
 

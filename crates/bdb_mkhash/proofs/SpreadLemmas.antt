@@ -1,6 +1,5 @@
 -- How keys are spread over the pages of a bucket.
-use Rattle.std.proofs.Common.{◌≡◌, ℕ, zero, suc, ◌+◌, ◌-◌, ◌<◌, ◌≤◌, Bool, true, false, cond, List, [], ◌∷◌, ◌++◌, take, drop, append_assoc, arith,
-    refl, sym, ◌∙◌, ap}
+use Rattle.std.proofs.Common.{◌≡◌, ℕ, zero, suc, ◌+◌, ◌-◌, ◌<◌, ◌≤◌, Bool, true, false, cond, List, [], ◌∷◌, ◌++◌, take, drop, append_assoc, arith, refl, sym, ◌∙◌, ap}
 use Rattle.std.specs.Prelude.{nat_le}
 use Rattle.std.specs.List.{flat_map, sum_by}
 use Rattle.std.proofs.lemmas.Bool.{le-leb, lt-leb}
@@ -33,7 +32,7 @@ spread_over room cost left page xs x over fits =
     ap (λ b. cond b (spread_on room cost cost (left - cost x) (page ++ (x ∷ [])) xs) (page ∷ spread_on room cost cost (room - cost x) (x ∷ []) xs))
     (lt-leb (cost x) left over)
     ∙ ap (λ ps. page ∷ ps) (sym (ap (λ b. cond b (spread_on room cost cost (room - cost x) (x ∷ []) xs)
-        ([] ∷ spread_on room cost cost (room - cost x) (x ∷ []) xs))
+    ([] ∷ spread_on room cost cost (room - cost x) (x ∷ []) xs))
     (le-leb (cost x) room fits)))
 
 -- the pages hold all things, in their order
@@ -42,12 +41,12 @@ pub spread_all : {A : Type 0} (room : ℕ) (first cost : A → ℕ) (left : ℕ)
 spread_all room first cost left page [] = refl
 spread_all room first cost left page (x ∷ xs) =
     by_test (nat_le (cost x) left) (spread_all room first cost (left - cost x) (page ++ (x ∷ [])) xs)
-        (spread_all room first cost (room - first x) (x ∷ []) xs)
+    (spread_all room first cost (room - first x) (x ∷ []) xs)
   where
     by_test : (b : Bool) → flat_map (λ p. p) (spread_on room first cost (left - cost x) (page ++ (x ∷ [])) xs) ≡ (page ++ (x ∷ [])) ++ xs
         → flat_map (λ p. p) (spread_on room first cost (room - first x) (x ∷ []) xs) ≡ (x ∷ []) ++ xs
         → flat_map (λ p. p) (cond b (spread_on room first cost (left - cost x) (page ++ (x ∷ [])) xs)
-            (page ∷ spread_on room first cost (room - first x) (x ∷ []) xs))
+        (page ∷ spread_on room first cost (room - first x) (x ∷ []) xs))
         ≡ page ++ (x ∷ xs)
     by_test true here there = here ∙ append_assoc page (x ∷ []) xs
     by_test false here there = ap (λ ys. page ++ ys) there

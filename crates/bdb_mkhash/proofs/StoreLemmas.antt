@@ -1,6 +1,5 @@
 -- Values, sets and trees of data that are put on a page of a table.
-use Rattle.std.proofs.Common.{◌≡◌, ℕ, ◌+◌, ◌-◌, ◌*◌, ◌<◌, ◌≤◌, Bool, true, false, cond, List, [], ◌∷◌, ◌++◌, length, get_or, None, Some, arith,
-    refl, sym}
+use Rattle.std.proofs.Common.{◌≡◌, ℕ, ◌+◌, ◌-◌, ◌*◌, ◌<◌, ◌≤◌, Bool, true, false, cond, List, [], ◌∷◌, ◌++◌, length, get_or, None, Some, arith, refl, sym}
 use Rattle.std.proofs.Common.{◌∙◌, ap, subst, inl, inr, length-append}
 use Rattle.std.specs.Prelude.{◌^◌, ◌/◌, Option}
 use Rattle.std.specs.Option.{option_map}
@@ -205,7 +204,7 @@ value_put_stands p old new sorted value put low g counted later =
     let count = put.grown.count in
     let up = later.grows in
     let before = later_of p (length old.pages) (length put.between.pages) put.between new (between (length old.pages) (length new.pages)) g
-        put.grown.kept low
+    put.grown.kept low
     (omega arith) (λ q from under. is_between (length old.pages) (length new.pages) q from (omega (arith, under, count))) later in
     subst (λ n. ValueHere g sorted (length old.pages) n put.content value) (sym count)
     (value_here g sorted old.size (length old.pages) (length put.between.pages) put.content value counted (omega (arith, low))
@@ -287,8 +286,14 @@ blocks_long order (value ∷ values) =
     ∙ (ap (λ k. k + length (value ++ spelled 2 order n)) (length-spelled 2 order n)
     ∙ (ap (λ k. 2 + k) (length-append value (spelled 2 order n)) ∙ ap (λ k. 2 + (n + k)) (length-spelled 2 order n) ∙ (omega arith))) in
     let rest = blocks_long order values in
-    omega (arith, length-append (block_bytes order value) (flat_map (block_bytes order) values), one, rest, sum_by-cons
-        (λ (v : List ℕ). 4 + length v) value values)
+    omega (
+      arith,
+      length-append (block_bytes order value) (flat_map (block_bytes order) values),
+      one,
+      rest,
+      sum_by-cons
+          (λ (v : List ℕ). 4 + length v) value values,
+    )
 
 set_cost_is : (order : Order) (values : List (List ℕ)) → content_cost order (Set values) ≡ set_cost values
 unfolding hash_bytes
@@ -435,7 +440,7 @@ room_left p old mid unit page put room =
     let size = put.grown.kept.size ∙ put.stored.item.kept.size in
     let long = value_put_long p old mid unit.key put page.there in
     let sum : sum_by (content_cost mid.order) (page.contents ++ (put.content ∷ [])) ≡ sum_by (content_cost old.order) page.contents + item_cost
-        old.size unit.key =
+    old.size unit.key =
     ap (λ o. sum_by (content_cost o) (page.contents ++ (put.content ∷ []))) order
     ∙ (sum_by_push (content_cost old.order) page.contents put.content
     ∙ ap (λ n. sum_by (content_cost old.order) page.contents + n) (put.stored.cost old.order)) in
@@ -478,14 +483,14 @@ unit_put p old mid new sorted unit low put data' =
         | inl below ↦
             ap (λ o. page_code o q (bytes_of new q)) data'.kept.order
             ∙ (ap (page_code mid.order q) (data'.kept.same q below (λ e. omega (arith, e, from, low))) ∙ value_put_formed p old mid unit.key put low
-                q from below)
+            q from below)
         | inr above ↦ data'.formed q above under
       ];
       count =
           let one = put.grown.count ∙ put.stored.item.count in
           let two = data'.count in
           let same : pages_in (data_form mid.size unit.values) mid.size sorted unit.values ≡ pages_in (data_form old.size unit.values) old.size
-              sorted unit.values =
+          sorted unit.values =
           ap (λ n. pages_in (data_form n unit.values) n sorted unit.values) size in
           omega (arith, one, two, same);
     }
@@ -509,5 +514,5 @@ unit_put p old mid new sorted unit low put data' =
         let grows = kept_key.grows in
         later_before new new (between (length mid.pages) (length new.pages)) (between (length old.pages) (length new.pages)) g refl (omega arith)
         (λ q at. let is = between_is (length mid.pages) (length new.pages) q at in is_between (length old.pages) (length new.pages) q
-            (omega (arith, is.0, grows)) is.1)
+        (omega (arith, is.0, grows)) is.1)
         (λ q at. ((between_is (length mid.pages) (length new.pages) q at).1, refl)) later

@@ -1,6 +1,5 @@
 -- The keys of all buckets, and the table.
-use Rattle.std.proofs.Common.{◌≡◌, ◌⊎◌, ℕ, suc, ◌+◌, ◌<◌, ◌≤◌, Bool, true, false, List, [], ◌∷◌, ◌++◌, map, length, get_or, take, None, arith, refl,
-    sym}
+use Rattle.std.proofs.Common.{◌≡◌, ◌⊎◌, ℕ, suc, ◌+◌, ◌<◌, ◌≤◌, Bool, true, false, List, [], ◌∷◌, ◌++◌, map, length, get_or, take, None, arith, refl, sym}
 use Rattle.std.proofs.Common.{◌∙◌, ap, subst, inl, inr, length-append, length-take, true≢false}
 use Rattle.std.specs.Prelude.{◌||◌}
 use Rattle.std.specs.List.{sum_by}
@@ -190,7 +189,7 @@ module _ (p n : ℕ) (old now new : Built) (sorted : Bool) (buckets : List (List
         let pages_are : length one.pages ≡ length (spread_bucket old.size bucket) =
         sym (length-map one.pages (map unit_of)) ∙ (ap length one.spread ∙ ap (λ s. length (spread_bucket s bucket)) was.size) in
         let own : sum_by (own_pages now.size sorted) bucket ≡ sum_by (own_pages old.size sorted) bucket = ap
-            (λ s. sum_by (own_pages s sorted) bucket) was.size in
+        (λ s. sum_by (own_pages s sorted) bucket) was.size in
         omega (
           arith,
           before,
@@ -237,4 +236,4 @@ bucket_next p n i page old now new sorted all bucket empty filled low many is sa
     let e : page ≡ p + length (take i all) = omega (arith, long, is) in
     subst (AreFilled p old new sorted) (ap (λ b. take i all ++ (b ∷ [])) same ∙ sym (take_more all i [] low))
     (buckets_more p n old now new sorted (take i all) bucket empty filled (omega (arith, long, low, many))
-        (subst (λ q. IsBucketFilled q now new sorted bucket) e one))
+    (subst (λ q. IsBucketFilled q now new sorted bucket) e one))

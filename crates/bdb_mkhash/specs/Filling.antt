@@ -1,7 +1,6 @@
 -- What is put on pages of a table: items, keys with their data, the keys of a page, of a bucket, and of all buckets.
 -- Source: docs/FORMAT.md, "Built tables" and "Stored values".
-use Rattle.std.specs.Prelude.{◌≡◌, ◌⊎◌, ℕ, ◌+◌, ◌%◌, ◌<◌, ◌≤◌, ◌==◌, ◌&&◌, ◌||◌, not, Bool, true, false, List, [], ◌∷◌, ◌++◌, drop, get_or, length,
-    map, take, None}
+use Rattle.std.specs.Prelude.{◌≡◌, ◌⊎◌, ℕ, ◌+◌, ◌%◌, ◌<◌, ◌≤◌, ◌==◌, ◌&&◌, ◌||◌, not, Bool, true, false, List, [], ◌∷◌, ◌++◌, drop, get_or, length, map, take, None}
 use Rattle.std.specs.List.{sum_by}
 use Rattle.bdb_format.specs.declared.kinds.Order.{Order}
 use Rattle.bdb_format.specs.Page.{Content}
@@ -18,8 +17,7 @@ use Rattle.bdb_leaves.specs.Puts.{IsItemOf}
 use Rattle.bdb_leaves.specs.Spread.{spread_on}
 use Rattle.bdb_leaves.specs.Units.{page_room}
 use Rattle.bdb_buckets.specs.Pages.{hash_item}
-use Rattle.bdb_buckets.specs.Tables.{BucketStands, ContentsStand, Keyed, PlacedUnit, TableStands, UnitStands, UnitsStand, contents_of, contents_on,
-    unit_of}
+use Rattle.bdb_buckets.specs.Tables.{BucketStands, ContentsStand, Keyed, PlacedUnit, TableStands, UnitStands, UnitsStand, contents_of, contents_on, unit_of}
 use Rattle.bdb_mkhash.specs.Buckets.{spread_bucket}
 use Rattle.bdb_mkhash.specs.Costs.{data_cost, data_form, item_cost, own_pages, pages_in, unit_cost}
 use Rattle.bdb_mkhash.specs.Pages.{HoldsContentsOn, content_cost, room_of}
@@ -206,7 +204,7 @@ pub record AreFilled (p : ℕ) (old new : Built) (sorted : Bool) (buckets : List
   pub formed : (q : ℕ) → of_buckets p (length buckets) (length old.pages) (length new.pages) q ≡ true → page_code new.order q (bytes_of new q) ≡ None
   pub count : length new.pages + length buckets
       ≡ length old.pages + sum_by (λ bucket. length (spread_bucket old.size bucket)) buckets + sum_by
-          (λ bucket. sum_by (own_pages old.size sorted) bucket) buckets
+      (λ bucket. sum_by (own_pages old.size sorted) bucket) buckets
 
 -- pages without keys, as many, from a number on
 abbrev pub AreEmptyPages : ℕ → ℕ → Built → Type 0

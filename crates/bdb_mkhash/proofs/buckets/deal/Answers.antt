@@ -7,8 +7,13 @@ use Rattle.bdb_mkhash.proofs.buckets.deal.Goals as goal
 
 pub index_mut-requires : goal.index_mut-requires
 index_mut-requires c =
-    omega (arith, dealt_length c.args.bits _ _ _ c.loop-start.invariant.1, length-map c.loop-start.buckets.items
-        (λ bucket. units_seen bucket.items), c.bucket_among-b.ensures.low)
+    omega (
+      arith,
+      dealt_length c.args.bits _ _ _ c.loop-start.invariant.1,
+      length-map c.loop-start.buckets.items
+          (λ bucket. units_seen bucket.items),
+      c.bucket_among-b.ensures.low,
+    )
 
 pub loop-start-init : goal.loop-start-init
 loop-start-init c = (omega arith, none_dealt c.args.bits (table_units c.args.list.now) _ c.in_ok-buckets.ensures)
@@ -22,7 +27,7 @@ loop-start-preserved c =
     let low = c.bucket_among-b.ensures.low in
     let run = run_unit c.args.list.now c.loop-start.start c.run_at-next.result.end _ _ c.run_at-next.ensures in
     let pushed = pushed_seen (λ bucket. units_seen bucket.items) c.loop-start.buckets.items c.bucket_among-b.result c.index_mut.result.now
-        c.push.new.self unit
+    c.push.new.self unit
     (omega (arith, many, long, low)) c.index_mut.ensures.value
     (ap (map unit_seen) c.in_ok-push.ensures.items ∙ map-append unit_seen c.index_mut.result.now.items (c.run_at-next.result.unit ∷ [])) in (
       c.run_at-next.ensures.within,

@@ -52,12 +52,12 @@ returns c =
     let are = ap (map (λ bucket. units_seen bucket.items)) c.as_slice.ensures.value ∙ c.in_ok-buckets.ensures in
     let cost = c.in_ok-table_cost.ensures ∙ ap (λ s. table_cost s units) c.size-2.ensures.size in
     let bits = c.in_ok-bits.ensures.bits ∙ (ap (λ s. bits_for s c.in_ok-table_cost.field-0) c.size.ensures.size ∙ ap
-        (bits_for c.args.pages.now.size) cost) in
+    (bits_for c.args.pages.now.size) cost) in
     table_built c.args.settings.now c.args.pages.now c.add_buckets.new.pages c.fill_buckets.new.pages c.args.list.now c.in_ok-bits.bits
     (map (λ bucket. units_seen bucket.items) c.as_slice.result.now) c.table_meta.result c.requires.list c.requires.some bits c.in_ok-bits.ensures.some
     c.in_ok-bits.ensures.few are c.in_ok-add_buckets.ensures.kept
     (c.in_ok-add_buckets.ensures.count ∙ ap (λ n. length c.args.pages.now.pages + n) c.bucket_count.ensures.count)
     (subst (λ p. AreFilled p c.add_buckets.new.pages c.fill_buckets.new.pages c.args.settings.now.sorted
-        (map (λ bucket. units_seen bucket.items) c.as_slice.result.now))
+    (map (λ bucket. units_seen bucket.items) c.as_slice.result.now))
     c.count-first.ensures c.in_ok-fill_buckets.ensures)
     (c.table_meta.ensures ∙ ap (λ p. table_meta c.args.settings.now p c.in_ok-bits.bits) c.count-first.ensures)

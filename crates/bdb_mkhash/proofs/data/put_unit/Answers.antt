@@ -13,5 +13,5 @@ put_data-requires-clause-room c =
 pub returns : goal.returns
 returns c =
     unit_put c.args.page c.args.pages.now c.put_value.new.pages c.put_data.new.pages c.args.sorted (unit_seen c.args.unit.now) c.requires.open.there
-        c.in_ok-put_value.ensures
+    c.in_ok-put_value.ensures
     c.in_ok-put_data.ensures

@@ -9,7 +9,7 @@ fill_bucket-requires-clause-there c =
     let long = length-map c.args.buckets.now (λ bucket. units_seen bucket.items) in
     (at_bucket c.args.first (length c.args.buckets.now) c.loop-units.units-index c.loop-units.page c.args.pages.now c.loop-units.pages c.args.sorted
     (map (λ bucket. units_seen bucket.items) c.args.buckets.now) c.requires.empty c.loop-units.invariant.1
-        (omega (arith, long, c.loop-units-test.true)) long
+    (omega (arith, long, c.loop-units-test.true)) long
     c.loop-units.invariant.0).0
 
 pub fill_bucket-requires-clause-empty : goal.fill_bucket-requires-clause-empty
@@ -17,7 +17,7 @@ fill_bucket-requires-clause-empty c =
     let long = length-map c.args.buckets.now (λ bucket. units_seen bucket.items) in
     (at_bucket c.args.first (length c.args.buckets.now) c.loop-units.units-index c.loop-units.page c.args.pages.now c.loop-units.pages c.args.sorted
     (map (λ bucket. units_seen bucket.items) c.args.buckets.now) c.requires.empty c.loop-units.invariant.1
-        (omega (arith, long, c.loop-units-test.true)) long
+    (omega (arith, long, c.loop-units-test.true)) long
     c.loop-units.invariant.0).1
 
 pub loop-units-preserved : goal.loop-units-preserved
@@ -29,6 +29,6 @@ loop-units-preserved c =
           c.requires.empty c.loop-units.invariant.1 (omega (arith, long, c.loop-units-test.true)) long c.loop-units.invariant.0
           (ap units_seen c.as_slice.ensures.value ∙ (ap (λ bucket. units_seen bucket.items) c.units-item.is
           ∙ sym (get_or-map (λ bucket. units_seen bucket.items) c.args.buckets.now c.loop-units.units-index c.units-item.result []
-              c.loop-units-test.true)))
+          c.loop-units-test.true)))
           c.in_ok-fill_bucket.ensures,
     )

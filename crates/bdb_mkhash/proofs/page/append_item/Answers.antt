@@ -8,4 +8,4 @@ append_hash-requires-clause-place c = item_placed c.args.pages.now c.args.page (
 pub returns : goal.returns
 returns c =
     item_grown c.args.pages.now c.append_hash.new.self c.args.page (hash_content_seen c.args.item.now) c.requires.page c.append_hash.ensures
-        c.requires.takes
+    c.requires.takes

@@ -7,4 +7,4 @@ use Rattle.bdb_mkhash.proofs.unit.stand_together.Given as goal
 abbrev pub invariant-loop-value : goal.invariant-loop-value
 invariant-loop-value l =
     (l.cost ≡ 3 + sum_by (λ value. 4 + length value) (take l.value-index l.values)) ×
-        (list_all (is_inline l.size) (take l.value-index l.values) ≡ true)
+    (list_all (is_inline l.size) (take l.value-index l.values) ≡ true)
