@@ -2,11 +2,11 @@
 #![tactic(auto)]
 
 mod building;
-#[cfg(test)]
-mod judging;
 mod lists;
 #[cfg(test)]
 mod rows;
+#[cfg(test)]
+mod settings;
 #[cfg(test)]
 mod spelled;
 

@@ -1,9 +1,10 @@
 //! Queues of one, two and several pages, in both orders. Values: docs/FORMAT.md, "Built queues".
 
 use crate::built;
-use crate::judging::{gives, settings};
+use crate::settings::settings;
 use bdb_format::{Bytes, Kind, Order};
 use bdb_gen::generate;
+use bdb_judging::gives;
 use bdb_layout::u32_at;
 use bdb_model::{Key, Pair, PairList};
 use std::alloc::{AllocError, Global};

@@ -1,7 +1,7 @@
 //! The bytes of a small queue, spelled from docs/FORMAT.md, "Queue metadata" and "Built queues".
 
 use crate::built;
-use crate::judging::settings;
+use crate::settings::settings;
 use bdb_format::{Bytes, Order};
 use bdb_model::{Key, Pair, PairList};
 use std::alloc::{AllocError, Global};

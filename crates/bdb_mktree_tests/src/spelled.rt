@@ -3,9 +3,10 @@
 ghost use Rattle.std.specs.Prelude.{◌≡◌};
 ghost use Rattle.bdb_format.specs.declared.kinds.Kind.TheVariants.{Btree};
 
-use crate::judging::{Shape, gives, is_built, settings};
+use crate::judging::{Shape, is_built, settings};
 use crate::{Growing, image_of, is_list_for};
 use bdb_format::{Bytes, Kind, Order, Settings};
+use bdb_judging::gives;
 use bdb_model::{Key, Pair, PairList};
 use std::alloc::{AllocError, Global};
 use std::test::Fail;

@@ -1,0 +1,167 @@
+//! The verdict on a file that was built, and what is read of it.
+
+ghost use Rattle.std.specs.Prelude.{◌≡◌, ◌<◌, ◌≤◌, ◌^◌, length};
+ghost use Rattle.bdb_format.specs.Databases.{databases};
+ghost use Rattle.bdb_format.specs.File.{file_of};
+
+use bdb_file::{Db, Sound, verify};
+use bdb_format::{Bytes, Steps};
+use bdb_model::{Key, PairList};
+use bdb_overflow::{Datum, KeyView, is_same};
+use std::alloc::{AllocError, Global};
+use std::marker::Brand;
+use std::sync::ledger::{Blank, Ledger};
+
+fn is_datum(datum: &Datum<'_>, bytes: &Bytes) -> bool {
+    is_same(datum, &Datum::Inline(bytes.as_slice()))
+}
+
+fn is_key(view: &KeyView<'_>, key: &Key) -> bool {
+    match (view, key) {
+        (KeyView::Bytes(datum), Key::Bytes(bytes)) => is_datum(datum, bytes),
+        (KeyView::Number(number), Key::Number(other)) => number == other,
+        _ => false,
+    }
+}
+
+// Whether these are the key and the datum at a place of a list.
+fn is_pair_at(list: &PairList, place: usize, key: &KeyView<'_>, datum: &Datum<'_>) -> bool {
+    match (list.keys().get(place), list.values().get(place)) {
+        (Some(other), Some(value)) => is_key(key, other) && is_datum(datum, value),
+        _ => false,
+    }
+}
+
+// Whether a database has just the pairs of a list.
+fn scans(alloc: Global, sound: &Sound<'_>, db: Db, list: &PairList) -> Result<bool, AllocError>
+    requires { db < length (databases (file_of sound.now)) }
+{
+    let mut place: usize = 0;
+    for (key, value) in sound.scan(alloc, db)? {
+        if !is_pair_at(list, place, &key, &value) {
+            return Ok(false);
+        }
+        place = place.saturating_add(1);
+    }
+    Ok(place == list.len())
+}
+
+// A key as `get` is asked for it: a number by its digits.
+fn asked(alloc: Global, key: &Key) -> Result<Bytes, AllocError> {
+    let mut bytes = Bytes::new(alloc);
+    match key {
+        Key::Bytes(key) => bytes.push_all(key.as_slice())?,
+        Key::Number(number) => {
+            let digits = format!(in alloc; "{number}")?;
+            bytes.push_all(digits.as_bytes())?;
+        }
+    }
+    Ok(bytes)
+}
+
+fn same_key(list: &PairList, a: usize, b: usize) -> bool {
+    match (list.keys().get(a), list.keys().get(b)) {
+        (Some(Key::Bytes(a)), Some(Key::Bytes(b))) => a.as_slice() == b.as_slice(),
+        (Some(Key::Number(a)), Some(Key::Number(b))) => a == b,
+        _ => false,
+    }
+}
+
+// The place behind the pairs that have the key at a place, where a database has just their data under it.
+fn found_run<L: Ledger>(
+    alloc: Global,
+    sound: &Sound<'_>,
+    db: Db,
+    list: &PairList,
+    start: usize,
+    steps: &mut Steps<L>,
+) -> Result<Option<usize>, AllocError>
+    requires { db < length (databases (file_of sound.now)) }
+{
+    let Some(key) = list.keys().get(start) else {
+        return Ok(None);
+    };
+    let key = asked(alloc, key)?;
+    let mut place = start;
+    for datum in sound.get(db, key.as_slice(), steps) {
+        match list.values().get(place) {
+            Some(value) if same_key(list, start, place) && is_datum(&datum, value) => {
+                place = place.saturating_add(1);
+            }
+            _ => return Ok(None),
+        }
+    }
+    if same_key(list, start, place) {
+        return Ok(None);
+    }
+    Ok(Some(place))
+}
+
+// Whether a database has under each key of a list just its data.
+fn finds<L: Ledger>(
+    alloc: Global,
+    sound: &Sound<'_>,
+    db: Db,
+    list: &PairList,
+    steps: &mut Steps<L>,
+) -> Result<bool, AllocError>
+    requires { db < length (databases (file_of sound.now)) }
+{
+    let mut start = 0;
+    for _ in 0..list.len() {
+        if start >= list.len() {
+            return Ok(true);
+        }
+        let Some(next) = found_run(alloc, sound, db, list, start, steps)? else {
+            return Ok(false);
+        };
+        start = next;
+    }
+    Ok(start == list.len())
+}
+
+fn gives_counted<L: Ledger>(
+    alloc: Global,
+    image: &[u8],
+    list: &PairList,
+    absent: &[u8],
+    steps: &mut Steps<L>,
+) -> Result<bool, AllocError> {
+    if image.len() > 1 << 30 {
+        return Ok(false);
+    }
+    let Ok(sound) = verify(alloc, image, steps) else {
+        return Ok(false);
+    };
+    if sound.databases() != 1 {
+        return Ok(false);
+    }
+    let db = sound.database(0);
+    let none = sound.get(db, absent, steps).next().is_none();
+    Ok(none && scans(alloc, &sound, db, list)? && finds(alloc, &sound, db, list, steps)?)
+}
+
+fn gives_blank<L: Ledger>(
+    alloc: Global,
+    image: &[u8],
+    list: &PairList,
+    absent: &[u8],
+    blank: Blank,
+) -> Result<bool, AllocError>
+    requires name { blank.name ≡ L.name }
+    requires parts { blank.parts ≡ L.parts }
+    requires one { L.parts ≡ 1 }
+{
+    let mut steps = Steps::<L>::new(blank);
+    gives_counted(alloc, image, list, absent, &mut steps)
+}
+
+/// Whether an image is sound and has one database, with just the pairs of a list, in their order and under their keys, and nothing under another key.
+pub fn gives(
+    alloc: Global,
+    image: &[u8],
+    list: &PairList,
+    absent: &[u8],
+) -> Result<bool, AllocError> {
+    gives_blank::<Brand>(alloc, image, list, absent, Blank::new(1))
+}

@@ -1,0 +1,6 @@
+//! For tests: whether a file that was built is sound and gives a list.
+#![tactic(auto)]
+
+mod judging;
+
+pub use judging::gives;
