@@ -1,8 +1,7 @@
 -- The image of a queue.
 use Rattle.std.proofs.Common.{◌≡◌, ℕ, ◌+◌, ◌-◌, ◌*◌, ◌<◌, ◌≤◌, ◌^◌, true, List, [], ◌∷◌, ◌++◌, length, take, None}
-use Rattle.std.proofs.Common.{arith, refl, sym, ◌∙◌, ap}
+use Rattle.std.proofs.Common.{arith, sym, ◌∙◌, ap}
 use Rattle.bdb_format.specs.declared.kinds.Kind.TheVariants.{Queue as QueueKind}
-use Rattle.bdb_format.specs.declared.kinds.Order.{Order}
 use Rattle.bdb_format.specs.declared.metadata.FileKind.TheVariants.{Queue}
 use Rattle.bdb_format.specs.declared.metadata.Head.{Head}
 use Rattle.bdb_format.specs.declared.metadata.QueueMeta.{QueueMeta}
@@ -10,12 +9,11 @@ use Rattle.bdb_format.specs.declared.settings.Settings.{Settings}
 use Rattle.bdb_format.specs.Databases.{settings_of}
 use Rattle.bdb_format.specs.File.{file_of}
 use Rattle.bdb_format.specs.Lists.{list_of}
-use Rattle.bdb_format.specs.HeadOf.{head_of, is_page_size}
+use Rattle.bdb_format.specs.HeadOf.{is_page_size}
 use Rattle.bdb_format.specs.Numbers.{spelled}
-use Rattle.bdb_format.specs.Page.{Metadata, QueueFields}
+use Rattle.bdb_format.specs.Page.{QueueFields}
 use Rattle.bdb_format.specs.Reading.{queue_fields}
-use Rattle.bdb_format.specs.Rows.{records_per_page}
-use Rattle.bdb_format.specs.Spelling.{common_bytes, queue_bytes, zeros}
+use Rattle.bdb_format.specs.Spelling.{queue_bytes, zeros}
 use Rattle.bdb_graph.proofs.FormedLemmas.{size_bounds}
 use Rattle.bdb_model.specs.declared.list.Pair.{Pair}
 use Rattle.bdb_pack.specs.Built.{AreWhole, Built, bytes_of, joined_pages, with_page, with_zeros, written_over}

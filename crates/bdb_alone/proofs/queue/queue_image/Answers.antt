@@ -1,6 +1,5 @@
-use Rattle.std.proofs.Common.{◌^◌, arith, sym, ◌∙◌, ap}
+use Rattle.std.proofs.Common.{arith, sym, ◌∙◌, ap}
 use Rattle.bdb_format.specs.HeadOf.{is_page_size}
-use Rattle.bdb_pack.specs.Built.{Built, joined_pages}
 use Rattle.bdb_mkqueue.proofs.FileLemmas.{zero_first}
 use Rattle.bdb_alone.proofs.QueueLemmas.{queue_filed}
 use Rattle.bdb_alone.proofs.queue.queue_image.Goals as goal
