@@ -60,7 +60,8 @@ no_errors : (section : Section) → All (IsSound section.settings) section.pairs
 no_errors section sound =
     let settings : Settings = as_btree section.settings in
     let none : flat_map (pair_errors settings) section.pairs ≡ [] =
-    no_pair_errors settings section.pairs (all_map (IsSound section.settings) (IsSound settings) (btree_sound section.settings) section.pairs sound) in
+    no_pair_errors settings section.pairs
+    (all_map (IsSound section.settings) (IsSound settings) (btree_sound section.settings) section.pairs sound) in
     rw none refl
 
 btree_fits : (section : Section) → section.settings.kind ≡ Hash → IsFit section → IsFit (btree_section section)

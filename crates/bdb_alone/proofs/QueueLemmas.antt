@@ -44,7 +44,8 @@ under_queue built page meta image legal spelled_as image_is = record {
 }
 
 -- The pages of a queue that was built behind a zero page, and its metadata, which is written over that.
-pub record IsQueueFiled (settings : Settings) (list : List Pair) (empty added built : Built) (meta : QueueMeta) (count : ℕ) (lent page image : List ℕ) : Type 0 where
+pub record IsQueueFiled (settings : Settings) (list : List Pair) (empty added built : Built) (meta : QueueMeta) (count : ℕ)
+    (lent page image : List ℕ) : Type 0 where
   pub kind : settings.kind ≡ QueueKind
   pub own : settings ≡ file_settings settings
   pub size : empty.size ≡ settings.page_size
@@ -105,7 +106,9 @@ queue_filed settings list empty added built meta count lent page image is =
         ∙ (ap (λ s. queue_bytes built.order s (count - 1) meta) long ∙ ap (λ n. queue_bytes built.order built.size (n - 1) meta) is.count_is))
 
     fills : length page ≡ built.size
-    fills = ap length spelled_as ∙ length-queue built.order built.size (length built.pages - 1) meta (omega (arith, (size_bounds built.size is.legal).0))
+    fills =
+        ap length spelled_as
+        ∙ length-queue built.order built.size (length built.pages - 1) meta (omega (arith, (size_bounds built.size is.legal).0))
 
     image_is : image ≡ joined_pages (with_page built 0 page).pages
     image_is = is.image_is ∙ ap (λ (b : Built). joined_pages b.pages) (written_whole built 0 page is.whole (omega (arith, some)) fills)

@@ -53,7 +53,8 @@ says_settings settings first bits both =
     said_by settings.page_size settings.order settings.duplicates settings.sorted settings.ffactor both
 
 -- The pages of a table that was built behind a zero page, and its metadata, which is written over that.
-pub record IsTableFiled (settings : Settings) (list : List Pair) (empty added built : Built) (meta : HashMeta) (count elements : ℕ) (lent page image : List ℕ) : Type 0 where
+pub record IsTableFiled (settings : Settings) (list : List Pair) (empty added built : Built) (meta : HashMeta) (count elements : ℕ)
+    (lent page image : List ℕ) : Type 0 where
   pub kind : settings.kind ≡ HashKind
   pub own : settings ≡ file_settings settings
   pub both : settings.sorted ≡ true → settings.duplicates ≡ true

@@ -39,7 +39,7 @@ abbrev pub IsQueueImage : Settings → List Pair → List ℕ → Type 0
 IsQueueImage settings pairs image =
     IsImageOf settings pairs (1 + queue_pages settings pairs) (queue_first settings pairs) (QueueFields (queue_meta settings pairs)) image
 
--- the pages of a table, its metadata, whose buckets begin on page 1, and the metadata as page 0 spells it: with the number of pairs as that of elements
+-- the pages of a table, its metadata, whose buckets begin on page 1, and the metadata as page 0 spells it: the elements are the pairs
 abbrev pub table_pages : Settings → List Pair → ℕ
 table_pages settings pairs = table_size settings.page_size settings.sorted (table_units pairs)
 

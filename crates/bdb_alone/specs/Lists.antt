@@ -20,7 +20,8 @@ LoadIntoTables = (sections : List Section) → load_error sections ≡ None
 abbrev pub TextHasNext : TextPair → Type 0
 TextHasNext pair = HasNext (record { key = pair.key; value = pair.value })
 
--- where no error holds, each section of a queue whose records have one length and numbers below 2^32 - 1 loads into a list that a queue can be built of
+-- where no error holds, each section of a queue whose records have one length and numbers below 2^32 - 1 loads into a list that a queue can be
+-- built of
 abbrev pub LoadIntoQueues : Type 0
 LoadIntoQueues = (sections : List Section) → load_error sections ≡ None
     → All (λ section. section.settings.kind ≡ Queue → section.settings.fixed ≡ true → IsFit section → All TextHasNext section.pairs
