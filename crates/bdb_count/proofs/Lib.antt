@@ -1,0 +1,4 @@
+pub mod DataLemmas
+pub mod QueueLemmas
+pub mod TableLemmas
+pub mod UnitLemmas
