@@ -5,10 +5,13 @@ mod costs;
 mod data;
 mod keyed_leaves;
 mod levels;
+mod master;
 mod queue;
 mod runs;
+mod sections;
 mod table;
 mod units;
 
 pub use queue::queue_pages;
+pub use sections::need;
 pub use table::table_pages;
