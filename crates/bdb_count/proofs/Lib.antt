@@ -1,0 +1,5 @@
+pub mod DataLemmas
+pub mod NeedLemmas
+pub mod QueueLemmas
+pub mod TableLemmas
+pub mod UnitLemmas

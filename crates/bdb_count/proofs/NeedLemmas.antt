@@ -1,0 +1,119 @@
+-- The sections of a file, and its master.
+use Rattle.std.proofs.Common.{◌≡◌, ℕ, ◌+◌, ◌<◌, ◌≤◌, ◌^◌, Bool, true, false, cond, List, ◌++◌, [], ◌∷◌, length, map, get_or, take, Some, None, arith, refl, sym, ◌∙◌, ap, subst, inl}
+use Rattle.std.specs.Prelude.{is_some, slice_get}
+use Rattle.std.specs.List.{All, sum_by}
+use Rattle.std.proofs.lemmas.List.{take_all}
+use Rattle.std.proofs.lemmas.List.Elements.{All-cons, All-get_or, All-head, All-nil, All-tail}
+use Rattle.std.proofs.lemmas.List.Sums.{sum_by_more}
+use Rattle.bdb_format.specs.declared.kinds.Kind.TheVariants.{Btree}
+use Rattle.bdb_format.specs.declared.settings.Settings.{Settings}
+use Rattle.bdb_model.specs.declared.list.Pair.{Pair}
+use Rattle.bdb_model.specs.declared.pairs.TextPair.{TextPair}
+use Rattle.bdb_model.specs.declared.sections.Section.{Section}
+use Rattle.bdb_leaves.specs.Runs.{IsShort}
+use Rattle.bdb_mktree.specs.Lists.{IsListFor}
+use Rattle.bdb_need.specs.Need.{pairs_in, tree_pages}
+use Rattle.bdb_settle.specs.ListLaw.{FitsFields}
+use Rattle.bdb_settle.specs.LoadErrors.{load_error}
+use Rattle.bdb_settle.specs.Loaded.{loaded, loaded_section, unnumbered}
+use Rattle.bdb_settle.proofs.ListLawLemmas.{load_into_lists}
+use Rattle.bdb_count.specs.Need.{AreSettled, IsSettled, master_pages, master_settings, name_in, name_pair, need_of, section_pages}
+
+listed_again : (pairs : List Pair) → pairs_in (map unnumbered pairs) ≡ pairs
+listed_again [] = refl
+listed_again (pair ∷ pairs) = ap (λ ps. pair ∷ ps) (listed_again pairs)
+
+-- the section of the master that is made up
+abbrev pub made_up : ℕ → List TextPair → Section
+made_up size pairs = record { name = None; settings = master_settings size; header_line = 0; pairs = pairs }
+
+names_fit : (sections : List Section) → All (λ (section : Section). IsShort (name_in section.name)) sections
+    → All (FitsFields Btree) (map name_pair sections)
+names_fit [] all = All-nil (FitsFields Btree)
+names_fit (section ∷ sections) all =
+    let short : length (name_in section.name) < 2 ^ 32 =
+    All-head (λ (s : Section). IsShort (name_in s.name)) section sections all in
+    All-cons (FitsFields Btree) (name_pair section) (map name_pair sections)
+    (record { key = tt; key_short = short; short = omega arith })
+    (names_fit sections (All-tail (λ (s : Section). IsShort (name_in s.name)) section sections all))
+
+pub pushed_one : (size : ℕ) (old new : List Section) (settings : Settings) (pairs : List TextPair) → old ≡ [] → settings ≡ master_settings size
+    → new ≡ old ++ (record { name = None; settings = settings; header_line = 0; pairs = pairs } ∷ []) → new ≡ made_up size pairs ∷ []
+pushed_one size old new settings pairs none settings_are pushed =
+    pushed
+    ∙ (ap (λ (ss : List Section). ss ++ (record { name = None; settings = settings; header_line = 0; pairs = pairs } ∷ [])) none
+    ∙ ap (λ (s : Settings). record { name = None; settings = s; header_line = 0; pairs = pairs } ∷ []) settings_are)
+
+-- what settling makes of it
+pub master_is : (size : ℕ) (settled master : List Section) (found : Section) (pairs : List TextPair) → master ≡ made_up size pairs ∷ []
+    → settled ≡ map loaded_section master → Some found ≡ slice_get settled 0 → found ≡ loaded_section (made_up size pairs)
+master_is size settled master found pairs one lists at =
+    let all : settled ≡ loaded_section (made_up size pairs) ∷ [] = lists ∙ ap (map loaded_section) one in
+    let is : Some found ≡ Some (loaded_section (made_up size pairs)) = at ∙ ap (λ (ss : List Section). slice_get ss 0) all in
+    cc
+
+pub master_list : (size : ℕ) (master sections : List Section) (found : Section) (pairs : List TextPair) → master ≡ made_up size pairs ∷ []
+    → load_error master ≡ None → pairs ≡ map name_pair sections → All (λ (section : Section). IsShort (name_in section.name)) sections
+    → found ≡ loaded_section (made_up size pairs) → IsListFor found.settings (pairs_in found.pairs)
+master_list size master sections found pairs one none are short is =
+    let sound : load_error (made_up size pairs ∷ []) ≡ None = ap load_error (sym one) ∙ none in
+    let fit : All (FitsFields Btree) pairs = subst (All (FitsFields Btree)) (sym are) (names_fit sections short) in
+    let list : IsListFor (master_settings size) (loaded (master_settings size) pairs) =
+    load_into_lists (made_up size pairs ∷ []) sound 0 (made_up size pairs) (omega arith) (inl refl)
+    (record { pairs = fit; length = omega arith; sorted = λ is. absurd cc }) in
+    subst (λ (s : Section). IsListFor s.settings (pairs_in s.pairs)) (sym is)
+    (subst (λ ps. IsListFor (master_settings size) ps) (sym (listed_again (loaded (master_settings size) pairs))) list)
+
+pub master_counted : (size pages : ℕ) (sections : List Section) (found : Section) (pairs : List TextPair) → pairs ≡ map name_pair sections
+    → found ≡ loaded_section (made_up size pairs) → pages ≡ tree_pages found.settings (pairs_in found.pairs)
+    → pages ≡ tree_pages (master_settings size) (loaded (master_settings size) (map name_pair sections))
+master_counted size pages sections found pairs are is pages_are =
+    pages_are
+    ∙ (ap (λ (s : Section). tree_pages s.settings (pairs_in s.pairs)) is
+    ∙ (ap (tree_pages (master_settings size)) (listed_again (loaded (master_settings size) pairs))
+    ∙ ap (λ ps. tree_pages (master_settings size) (loaded (master_settings size) ps)) are))
+
+-- Sections one after the other.
+
+pub section_here : (size i : ℕ) (sections : List Section) (section : Section) → All (IsSettled size) sections → i < length sections
+    → section ≡ get_or sections i section → IsSettled size section
+section_here size i sections section all within is =
+    subst (IsSettled size) (sym is) (All-get_or (IsSettled size) sections i section within all)
+
+pub section_more : (size i pages more : ℕ) (sections : List Section) (section : Section) → i < length sections
+    → section ≡ get_or sections i section → pages ≡ sum_by (section_pages size) (take i sections) → 1 + more ≡ section_pages size section
+    → pages + (1 + more) ≡ sum_by (section_pages size) (take (i + 1) sections)
+section_more size i pages more sections section within is so_far more_is =
+    let step = sum_by_more (section_pages size) sections i section within in
+    let same = ap (section_pages size) is in
+    omega (arith, step, same, so_far, more_is)
+
+pub sections_end : (size i pages : ℕ) (sections : List Section) → length sections ≤ i → pages ≡ sum_by (section_pages size) (take i sections)
+    → pages ≡ sum_by (section_pages size) sections
+sections_end size i pages sections past is = is ∙ ap (sum_by (section_pages size)) (take_all i sections past)
+
+-- the first is the one that is found
+pub first_is : (sections : List Section) (settled : AreSettled sections) (found : Section) → Some found ≡ slice_get sections 0
+    → found ≡ settled.first
+first_is sections settled found at =
+    let same : Some found ≡ Some settled.first = at ∙ ap (λ (ss : List Section). slice_get ss 0) settled.are in cc
+
+-- all pages of sections with names
+pub need_named : (sections : List Section) (settled : AreSettled sections) (found : Section) (own master pages : ℕ)
+    → Some found ≡ slice_get sections 0 → is_some found.name ≡ true → own ≡ sum_by (section_pages found.settings.page_size) sections
+    → master ≡ master_pages found.settings.page_size sections → pages ≡ own + (1 + master) → pages ≡ need_of sections
+need_named sections settled found own master pages at named own_is master_is pages_are =
+    let one = first_is sections settled found at in
+    let size : ℕ = settled.first.settings.page_size in
+    let all : List Section = settled.first ∷ settled.rest in
+    let has_name : is_some settled.first.name ≡ true =
+    ap (λ (s : Section). is_some s.name) (sym one) ∙ named in
+    let own_all : own ≡ sum_by (section_pages size) all =
+    own_is
+    ∙ (ap (λ (s : Section). sum_by (section_pages s.settings.page_size) sections) one ∙ ap (sum_by (section_pages size)) settled.are) in
+    let master_all : master ≡ master_pages size all =
+    master_is ∙ (ap (λ (s : Section). master_pages s.settings.page_size sections) one ∙ ap (master_pages size) settled.are) in
+    let whole : need_of all ≡ (1 + master_pages size all) + sum_by (section_pages size) all =
+    ap (λ (b : Bool). cond b (1 + master_pages size all) 0 + sum_by (section_pages size) all) has_name in
+    let same = ap need_of settled.are in
+    omega (arith, pages_are, own_all, master_all, whole, same)

@@ -1,0 +1,8 @@
+use Rattle.std.proofs.Common.{◌≡◌, take}
+use Rattle.std.specs.List.{sum_by}
+use Rattle.bdb_count.specs.Need.{section_pages}
+use Rattle.bdb_count.proofs.sections.sections_pages.Given as goal
+
+-- The sections passed are counted.
+abbrev pub invariant-loop-section : goal.invariant-loop-section
+invariant-loop-section l = l.pages ≡ sum_by (section_pages l.size) (take l.section-index l.sections)

@@ -1,0 +1,10 @@
+use Rattle.std.proofs.Common.{length, ◌-◌}
+use Rattle.bdb_count.proofs.TableLemmas.{KeysPlaced}
+use Rattle.bdb_count.proofs.table.bucket_pages.Given as goal
+
+-- The keys before the place are on their pages.
+abbrev pub invariant-loop-start : goal.invariant-loop-start
+invariant-loop-start l = KeysPlaced l.size l.bits l.pairs l.start l.pages l.left.items
+
+abbrev pub decreases-loop-start : goal.decreases-loop-start
+decreases-loop-start l = length l.pairs - l.start

@@ -1,0 +1,13 @@
+use Rattle.std.proofs.Common.{arith, length}
+use Rattle.bdb_graph.proofs.FormedLemmas.{size_bounds}
+use Rattle.bdb_count.proofs.TableLemmas.{next_counted}
+use Rattle.bdb_count.proofs.table.count_totals.Goals as goal
+
+pub loop-start-preserved : goal.loop-start-preserved
+loop-start-preserved c =
+    let run = c.run_at-run.result in
+    let bounds = size_bounds c.args.size c.requires.legal in
+    let fits = c.unit_cost.ensures.fits in
+    next_counted c.args.size c.args.sorted c.args.pairs.now run.pairs.now c.loop-start.start (length run.pairs.now) c.loop-start.totals.cost
+    c.loop-start.totals.own c.unit_cost.result c.in_ok-totals.field-0 run.key.now c.loop-start.invariant c.run_at-run.ensures
+    c.unit_cost.ensures.cost (omega (arith, bounds, fits)) c.in_ok-totals.ensures.pages c.in_ok-totals.ensures.few

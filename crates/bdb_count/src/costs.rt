@@ -1,0 +1,55 @@
+ghost use Rattle.std.specs.Prelude.{◌≡◌, ◌+◌, ◌≤◌, ◌<◌, ◌^◌, IsTrue};
+ghost use Rattle.bdb_format.specs.HeadOf.{is_page_size};
+ghost use Rattle.bdb_leaves.specs.Runs.{IsShort};
+ghost use Rattle.bdb_leaves.specs.Spread.{key_item_cost};
+ghost use Rattle.bdb_leaves.specs.Units.{chain_pages, page_room, value_cost};
+
+/// The bytes of a page behind its header.
+pub(crate) fn page_room(size: usize) -> usize
+    requires { IsTrue (is_page_size size) }
+    ensures room { result ≡ page_room size }
+    ensures few { result < 2 ^ 15 }
+{
+    size - 26
+}
+
+/// The bytes of a value's item on a leaf of a tree of data.
+pub(crate) fn value_cost(size: usize, value: &[u8]) -> usize
+    requires { IsTrue (is_page_size size) }
+    ensures cost { result ≡ value_cost size value.now }
+    ensures few { result ≤ 4200 }
+    ensures fits { result + 2 ≤ page_room size }
+{
+    if value.len() <= size / 8 {
+        (value.len() + 6) / 4 * 4
+    } else {
+        12
+    }
+}
+
+/// How many pages the chain of a value has: none where it stands in its item.
+pub(crate) fn chain_pages(size: usize, value: &[u8]) -> u128
+    requires legal { IsTrue (is_page_size size) }
+    requires short { IsShort value.now }
+    ensures pages { result ≡ chain_pages size value.now }
+    ensures few { result ≤ 2 ^ 32 }
+{
+    if value.len() <= size / 8 {
+        return 0;
+    }
+    let room = page_room(size);
+    ((value.len() + room - 1) / room) as u128
+}
+
+/// What the item over a leaf takes of its page where it isn't the first; the leaf begins with this datum.
+pub(crate) fn item_over(size: usize, value: &[u8]) -> u16
+    requires { IsTrue (is_page_size size) }
+    ensures cost { result ≡ key_item_cost size value.now }
+    ensures fits { result + 14 ≤ page_room size }
+{
+    if value.len() <= size / 8 {
+        (2 + (value.len() + 15) / 4 * 4) as u16
+    } else {
+        26
+    }
+}

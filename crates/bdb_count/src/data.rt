@@ -1,0 +1,81 @@
+ghost use Rattle.std.specs.Prelude.{◌≡◌, ◌+◌, ◌≤◌, ◌*◌, ◌^◌, IfOk, IsTrue, length};
+ghost use Rattle.std.specs.List.{All, sum_by};
+ghost use Rattle.bdb_format.specs.HeadOf.{is_page_size};
+ghost use Rattle.bdb_leaves.specs.Runs.{IsShort};
+ghost use Rattle.bdb_leaves.specs.Spread.{leaves_and_levels, set_type};
+ghost use Rattle.bdb_leaves.specs.Units.{chain_pages};
+ghost use Rattle.bdb_leaves.specs.declared.leaf_type.LeafType.TheVariants.{Records, SortedData};
+ghost use Rattle.bdb_need.specs.Counting.{data_units, values_in};
+
+use crate::costs::{chain_pages, item_over, page_room, value_cost};
+use crate::keyed_leaves::KeyedLeaves;
+use crate::levels::levels_over_counts;
+use bdb_model::TextPair;
+use std::alloc::{AllocError, Global};
+
+/// The pages of the chains of data.
+pub(crate) fn data_chains(size: usize, pairs: &[TextPair]) -> u128
+    requires legal { IsTrue (is_page_size size) }
+    requires short { All IsShort (values_in pairs.now) }
+    ensures pages { result ≡ sum_by (chain_pages size) (values_in pairs.now) }
+    ensures few { result ≤ length pairs.now * 2 ^ 32 }
+{
+    let mut pages: u128 = 0;
+    for pair in pairs {
+        pages += chain_pages(size, pair.value.as_slice());
+    }
+    pages
+}
+
+// The leaves of sorted data, with the levels over them.
+fn sorted_pages(alloc: Global, size: usize, pairs: &[TextPair]) -> Result<u128, AllocError>
+    requires { IsTrue (is_page_size size) }
+    ensures pages { IfOk result (λ pages. pages ≡ leaves_and_levels SortedData size (data_units (values_in pairs.now))) }
+    ensures few { IfOk result (λ pages. pages ≤ 3 * (length pairs.now + 1)) }
+{
+    let mut leaves = KeyedLeaves::new(alloc, page_room(size));
+    for pair in pairs {
+        let value = pair.value.as_slice();
+        leaves.put(2 + value_cost(size, value), item_over(size, value))?;
+    }
+    Ok(leaves.tree_pages())
+}
+
+// The leaves of data in the order in which they came, with the levels over them.
+fn unsorted_pages(size: usize, pairs: &[TextPair]) -> u128
+    requires { IsTrue (is_page_size size) }
+    ensures pages { result ≡ leaves_and_levels Records size (data_units (values_in pairs.now)) }
+    ensures few { result ≤ 3 * (length pairs.now + 1) }
+{
+    let room = page_room(size);
+    let mut leaves: u128 = 1;
+    let mut left = room;
+    for pair in pairs {
+        let cost = 2 + value_cost(size, pair.value.as_slice());
+        if cost <= left {
+            left -= cost;
+        } else {
+            leaves += 1;
+            left = room - cost;
+        }
+    }
+    leaves + levels_over_counts(leaves, room)
+}
+
+/// The leaves of the tree of a key's data, with the levels over them.
+pub(crate) fn data_pages(
+    alloc: Global,
+    size: usize,
+    sorted: bool,
+    pairs: &[TextPair],
+) -> Result<u128, AllocError>
+    requires { IsTrue (is_page_size size) }
+    ensures pages { IfOk result (λ pages. pages ≡ leaves_and_levels (set_type sorted) size (data_units (values_in pairs.now))) }
+    ensures few { IfOk result (λ pages. pages ≤ 3 * (length pairs.now + 1)) }
+{
+    if sorted {
+        sorted_pages(alloc, size, pairs)
+    } else {
+        Ok(unsorted_pages(size, pairs))
+    }
+}

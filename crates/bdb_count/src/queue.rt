@@ -1,0 +1,52 @@
+ghost use Rattle.std.specs.Prelude.{◌≡◌, ◌+◌, ◌-◌, ◌≤◌, ◌<◌, ◌^◌, IsTrue};
+ghost use Rattle.bdb_format.specs.HeadOf.{is_page_size};
+ghost use Rattle.bdb_format.specs.Numbers.{pad4};
+ghost use Rattle.bdb_format.specs.Rows.{records_per_page};
+ghost use Rattle.bdb_mkqueue.specs.Layout.{queue_size};
+ghost use Rattle.bdb_mkqueue.specs.Lists.{AscendFrom, number_in};
+ghost use Rattle.bdb_need.specs.Need.{pairs_in};
+
+use bdb_format::Settings;
+use bdb_model::{Key, TextPairs};
+
+// The number of a record.
+fn number_of(key: &Key) -> u64
+    ensures number { result ≡ number_in key.now }
+    ensures few { result < 2 ^ 32 }
+{
+    match key {
+        Key::Bytes(_) => 0,
+        Key::Number(number) => u64::from(*number),
+    }
+}
+
+// The bytes of a slot: one, the record, and what pads them.
+fn slot_size(re_len: u32) -> u64
+    ensures size { result ≡ pad4 (re_len + 1) }
+    ensures room { re_len + 1 ≤ result }
+{
+    (u64::from(re_len) + 1).div_ceil(4) * 4
+}
+
+// How many records of `re_len` bytes stand on a page of `size` bytes.
+fn records_per_page(size: u32, re_len: u32) -> u64
+    requires low { 28 ≤ size }
+    ensures { result ≡ records_per_page size re_len }
+{
+    u64::from(size - 28) / slot_size(re_len)
+}
+
+/// How many pages the queue of a list has, its metadata not counted: those up to the page of its greatest record.
+pub fn queue_pages(settings: &Settings, list: &TextPairs) -> u64
+    requires legal { IsTrue (is_page_size settings.now.page_size) }
+    requires room { pad4 (settings.now.re_len + 1) ≤ settings.now.page_size - 28 }
+    requires ascend { AscendFrom 1 (pairs_in list.now) }
+    ensures pages { result ≡ queue_size (records_per_page settings.now.page_size settings.now.re_len) (pairs_in list.now) }
+    ensures few { result ≤ 2 ^ 32 }
+{
+    let per_page = records_per_page(settings.page_size, settings.re_len);
+    match list.as_slice().last() {
+        Some(pair) => 1 + (number_of(&pair.key) - 1) / per_page,
+        None => 0,
+    }
+}

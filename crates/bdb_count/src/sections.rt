@@ -1,0 +1,69 @@
+ghost use Rattle.std.specs.Prelude.{◌≡◌, ◌+◌, ◌<◌, ◌^◌, IfOk, IsTrue};
+ghost use Rattle.std.specs.List.{All, sum_by};
+ghost use Rattle.bdb_format.specs.HeadOf.{is_page_size};
+ghost use Rattle.bdb_count.specs.Need.{AreSettled, IsListOf, IsSettled, list_pages, need_of, section_pages, sized};
+ghost use Rattle.bdb_need.specs.Need.{pairs_in};
+
+use crate::master::master_pages;
+use crate::queue::queue_pages;
+use crate::table::table_pages;
+use bdb_format::{Kind, Settings};
+use bdb_model::{Section, Sections, TextPairs};
+use bdb_need::tree_pages;
+use std::alloc::{AllocError, Global};
+
+// The pages of the database of a list, its metadata not counted.
+fn list_pages(alloc: Global, settings: &Settings, list: &TextPairs) -> Result<u128, AllocError>
+    requires legal { IsTrue (is_page_size settings.now.page_size) }
+    requires list { IsListOf settings.now.kind settings.now (pairs_in list.now) }
+    ensures pages { IfOk result (λ pages. pages ≡ list_pages settings.now.kind settings.now (pairs_in list.now)) }
+    ensures few { IfOk result (λ pages. pages < 2 ^ 101) }
+{
+    match settings.kind {
+        Kind::Btree | Kind::Recno => tree_pages(alloc, settings, list),
+        Kind::Hash => table_pages(alloc, settings, list),
+        Kind::Queue => Ok(u128::from(queue_pages(settings, list))),
+    }
+}
+
+// The settings of a section, with the page size of the file.
+fn sized(size: u32, section: &Section) -> Settings
+    ensures { result ≡ sized size section.now }
+{
+    let mut settings = section.settings;
+    settings.page_size = size;
+    settings
+}
+
+// The pages of sections, each with its metadata.
+fn sections_pages(alloc: Global, size: u32, sections: &[Section]) -> Result<u128, AllocError>
+    requires legal { IsTrue (is_page_size size) }
+    requires each { All (IsSettled size) sections.now }
+    ensures { IfOk result (λ pages. pages ≡ sum_by (section_pages size) sections.now) }
+{
+    let mut pages: u128 = 0;
+    for section in sections {
+        let more = list_pages(alloc, &sized(size, section), &section.pairs)?;
+        pages = pages.checked_add(1 + more).ok_or(AllocError)?;
+    }
+    Ok(pages)
+}
+
+/// How many pages loading needs: those of the file that is made of the sections. The page size is that of the first section; where
+/// that has a name, each has one, and there is a master.
+pub fn need(alloc: Global, sections: &Sections) -> Result<u128, AllocError>
+    requires { AreSettled sections.now }
+    ensures { IfOk result (λ pages. pages ≡ need_of sections.now) }
+{
+    let Some(first) = sections.get(0) else {
+        unreachable!()
+    };
+    let size = first.settings.page_size;
+    let own = sections_pages(alloc, size, sections.as_slice())?;
+    if first.name.is_none() {
+        return Ok(own);
+    }
+    let master = master_pages(alloc, size, sections.as_slice())?;
+    let pages = own.checked_add(1 + master).ok_or(AllocError)?;
+    Ok(pages)
+}

@@ -1,0 +1,116 @@
+ghost use Rattle.std.specs.Prelude.{◌≡◌, ◌+◌, ◌<◌, ◌≤◌, ◌*◌, ◌^◌, IfOk, IsTrue, length};
+ghost use Rattle.std.specs.List.{All};
+ghost use Rattle.bdb_format.specs.HeadOf.{is_page_size};
+ghost use Rattle.bdb_leaves.specs.Runs.{IsShort};
+ghost use Rattle.bdb_leaves.specs.Units.{page_room};
+ghost use Rattle.bdb_mkhash.specs.Costs.{data_cost, data_form, item_cost, own_pages, pages_in, unit_cost};
+ghost use Rattle.bdb_need.specs.Counting.{values_in};
+ghost use Rattle.bdb_count.specs.Counts.{keyed, set_or_none};
+
+use crate::costs::chain_pages;
+use crate::data::{data_chains, data_pages};
+use crate::runs::Run;
+use bdb_model::TextPair;
+use std::alloc::{AllocError, Global};
+
+// What the item of a tree of data takes of a page, with its entry.
+const TREE_COST: usize = 10;
+
+// What a value takes of a page: the entry of its item, and the item.
+fn item_cost(size: usize, value: &[u8]) -> usize
+    requires { IsTrue (is_page_size size) }
+    ensures { result ≡ item_cost size value.now }
+{
+    if value.len() <= size / 8 {
+        3 + value.len()
+    } else {
+        14
+    }
+}
+
+// What several data take of a page as a set there, or `None` where they don't stand together.
+fn set_cost(size: usize, pairs: &[TextPair]) -> Option<usize>
+    requires { IsTrue (is_page_size size) }
+    ensures { result ≡ set_or_none size (values_in pairs.now) }
+{
+    let most = (size - 26) / 4;
+    let mut cost = 3;
+    for pair in pairs {
+        let len = pair.value.as_slice().len();
+        if len > size / 8 {
+            return None;
+        }
+        cost += 4 + len;
+        if cost > most {
+            return None;
+        }
+    }
+    Some(cost)
+}
+
+// What the data of a key take of a page.
+fn data_cost(size: usize, pairs: &[TextPair]) -> usize
+    requires legal { IsTrue (is_page_size size) }
+    requires some { 0 < length pairs.now }
+    ensures cost { result ≡ data_cost size (values_in pairs.now) }
+{
+    if pairs.len() == 1 {
+        return item_cost(size, pairs[0].value.as_slice());
+    }
+    match set_cost(size, pairs) {
+        Some(cost) => cost,
+        None => TREE_COST,
+    }
+}
+
+// The pages that the data of a key have of their own: chains, and the tree of them.
+fn data_own_pages(
+    alloc: Global,
+    size: usize,
+    sorted: bool,
+    pairs: &[TextPair],
+) -> Result<u128, AllocError>
+    requires legal { IsTrue (is_page_size size) }
+    requires some { 0 < length pairs.now }
+    requires short { All IsShort (values_in pairs.now) }
+    ensures pages { IfOk result (λ pages. pages ≡ pages_in (data_form size (values_in pairs.now)) size sorted (values_in pairs.now)) }
+    ensures few { IfOk result (λ pages. pages ≤ length pairs.now * 2 ^ 33) }
+{
+    if pairs.len() == 1 {
+        return Ok(chain_pages(size, pairs[0].value.as_slice()));
+    }
+    if set_cost(size, pairs).is_some() {
+        return Ok(0);
+    }
+    let chains = data_chains(size, pairs);
+    let tree = data_pages(alloc, size, sorted, pairs)?;
+    Ok(chains + tree)
+}
+
+/// What a key with its data takes of a page.
+pub(crate) fn unit_cost(size: usize, run: &Run<'_>) -> usize
+    requires legal { IsTrue (is_page_size size) }
+    requires some { 0 < length run.now.pairs.now }
+    ensures cost { result ≡ unit_cost size (keyed run.now.key.now run.now.pairs.now) }
+    ensures fits { result ≤ page_room size }
+{
+    item_cost(size, run.key) + data_cost(size, run.pairs)
+}
+
+/// The pages that a key and its data have of their own.
+pub(crate) fn own_pages(
+    alloc: Global,
+    size: usize,
+    sorted: bool,
+    run: &Run<'_>,
+) -> Result<u128, AllocError>
+    requires legal { IsTrue (is_page_size size) }
+    requires some { 0 < length run.now.pairs.now }
+    requires key { IsShort run.now.key.now }
+    requires short { All IsShort (values_in run.now.pairs.now) }
+    ensures pages { IfOk result (λ pages. pages ≡ own_pages size sorted (keyed run.now.key.now run.now.pairs.now)) }
+    ensures few { IfOk result (λ pages. pages ≤ (length run.now.pairs.now + 1) * 2 ^ 33) }
+{
+    let data = data_own_pages(alloc, size, sorted, run.pairs)?;
+    Ok(chain_pages(size, run.key) + data)
+}
