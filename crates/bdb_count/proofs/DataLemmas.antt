@@ -1,6 +1,5 @@
 -- Leaves of data that have no keys over them.
-use Rattle.std.proofs.Common.{◌≡◌, ℕ, suc, ◌+◌, ◌-◌, ◌<◌, ◌≤◌, List, [], ◌∷◌, length, map, replicate, arith, refl, sym, ◌∙◌, ap}
-use Rattle.std.proofs.lemmas.List.{length-replicate}
+use Rattle.std.proofs.Common.{◌≡◌, ℕ, ◌+◌, ◌-◌, ◌<◌, ◌≤◌, List, [], ◌∷◌, length, map, replicate, arith, refl, sym, ◌∙◌, ap}
 use Rattle.bdb_leaves.specs.Spread.{leaves_and_levels, pages_over, spread_units}
 use Rattle.bdb_leaves.specs.Units.{TreeUnit, page_room, unit_cost}
 use Rattle.bdb_leaves.specs.declared.leaf_type.LeafType.TheVariants.{Records}

@@ -1,16 +1,12 @@
 -- The greatest record of a queue.
-use Rattle.std.proofs.Common.{◌≡◌, ℕ, ◌+◌, ◌-◌, ◌<◌, ◌≤◌, List, [], ◌∷◌, length, get_or, Some, arith, refl, sym, ◌∙◌, ap}
+use Rattle.std.proofs.Common.{◌≡◌, ℕ, ◌+◌, ◌-◌, ◌≤◌, List, [], ◌∷◌, length, get_or, Some, arith, refl, sym, ◌∙◌, ap}
 use Rattle.std.specs.Prelude.{slice_get, ◌/◌}
 use Rattle.std.proofs.lemmas.Option.{get_or_from_slice_get, slice_get_within}
-use Rattle.bdb_format.specs.HeadOf.{is_page_size}
-use Rattle.bdb_format.specs.Numbers.{pad4}
-use Rattle.bdb_format.specs.Rows.{records_per_page}
-use Rattle.bdb_graph.proofs.FormedLemmas.{size_bounds}
 use Rattle.bdb_model.specs.declared.pairs.TextPair.{TextPair}
 use Rattle.bdb_mkqueue.specs.Layout.{queue_size}
 use Rattle.bdb_mkqueue.specs.Lists.{AscendFrom, next_number, number_in}
 use Rattle.bdb_mkqueue.proofs.RecordLemmas.{next_low}
-use Rattle.bdb_need.specs.Need.{pairs_in, unlined}
+use Rattle.bdb_need.specs.Need.{pairs_in}
 
 -- the number after the last
 next_of : (x : TextPair) (xs : List TextPair) (d : TextPair)

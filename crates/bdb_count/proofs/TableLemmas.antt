@@ -1,6 +1,6 @@
 -- The buckets of a table: how many they are, and their pages, counted as keys are put on them one after the other.
 use Rattle.std.proofs.Common.{◌≡◌, ℕ, zero, suc, ◌+◌, ◌-◌, ◌*◌, ◌<◌, ◌≤◌, ◌^◌, Bool, true, false, cond, List, [], ◌∷◌, length, map, replicate, get_or, set, drop, arith, refl, sym, ◌∙◌, ap, subst, inl, inr}
-use Rattle.std.specs.Prelude.{◌/◌, ◌==◌, nat_le}
+use Rattle.std.specs.Prelude.{◌/◌, nat_le}
 use Rattle.std.specs.List.{All, find, range_with_len, sum_by}
 use Rattle.std.specs.Option.{unwrap_or}
 use Rattle.std.proofs.Math.ListN.{drop_of_length-le}
@@ -10,7 +10,6 @@ use Rattle.std.proofs.lemmas.List.Elements.{All-head, All-tail}
 use Rattle.std.proofs.lemmas.List.Sums.{sum_by-cons}
 use Rattle.bdb_model.specs.declared.list.Pair.{Pair}
 use Rattle.bdb_model.specs.declared.pairs.TextPair.{TextPair}
-use Rattle.bdb_leaves.specs.Runs.{IsShort}
 use Rattle.bdb_leaves.specs.Units.{KeyedUnit, TreeUnit, page_room}
 use Rattle.bdb_mktree.specs.Lists.{IsRunAt, keyed_units}
 use Rattle.bdb_mktree.specs.Units.{IsShortUnit}

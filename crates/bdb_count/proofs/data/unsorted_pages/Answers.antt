@@ -1,4 +1,4 @@
-use Rattle.std.proofs.Common.{false, ◌∙◌, ◌+◌, ap, arith, drop, subst, sym}
+use Rattle.std.proofs.Common.{false, ◌+◌, ap, arith, drop, subst, sym}
 use Rattle.bdb_leaves.specs.Units.{EntryUnit}
 use Rattle.bdb_need.specs.Counting.{data_units, values_in}
 use Rattle.bdb_need.proofs.DataLemmas.{value_here}

@@ -1,5 +1,4 @@
-use Rattle.std.proofs.Common.{◌≡◌, ◌≤◌, ◌+◌, drop}
-use Rattle.bdb_leaves.specs.Units.{page_room}
+use Rattle.std.proofs.Common.{◌≤◌, ◌+◌, drop}
 use Rattle.bdb_need.specs.Counting.{data_units, values_in}
 use Rattle.bdb_count.proofs.DataLemmas.{SpreadTo}
 use Rattle.bdb_count.proofs.data.unsorted_pages.Given as goal

@@ -1,5 +1,4 @@
 use Rattle.std.proofs.Common.{◌≡◌, [], ◌∷◌}
-use Rattle.bdb_model.specs.declared.sections.Section.{Section}
 use Rattle.bdb_count.proofs.NeedLemmas.{made_up, master_counted, master_is, master_list, pushed_one}
 use Rattle.bdb_count.proofs.master.master_pages.Goals as goal
 

@@ -1,4 +1,4 @@
-use Rattle.std.proofs.Common.{◌≡◌, ◌-◌, Some, length, arith, subst, sym, ◌∙◌, ap}
+use Rattle.std.proofs.Common.{◌≡◌, ◌-◌, Some, length, subst, sym, ◌∙◌, ap}
 use Rattle.std.specs.Prelude.{◌/◌, ◌+◌, slice_get}
 use Rattle.bdb_count.proofs.QueueLemmas.{IsGreatest, last_greatest}
 use Rattle.bdb_count.proofs.queue.queue_pages.Goals as goal

@@ -1,4 +1,4 @@
-use Rattle.std.proofs.Common.{arith, refl}
+use Rattle.std.proofs.Common.{refl}
 use Rattle.bdb_count.proofs.UnitLemmas.{set_long, set_more, set_much}
 use Rattle.bdb_count.proofs.units.set_cost.Goals as goal
 
