@@ -1,15 +1,19 @@
 -- Lists that are loaded without errors are such that tables and queues can be built of them.
-use Rattle.std.proofs.Common.{◌≡◌, ℕ, ◌+◌, ◌-◌, ◌%◌, ◌≤◌, Bool, true, false, cond, not, List, [], ◌∷◌, ◌++◌, length, map, replicate, None}
+use Rattle.std.proofs.Common.{◌≡◌, ℕ, ◌+◌, ◌-◌, ◌*◌, ◌%◌, ◌<◌, ◌≤◌, ◌^◌, Bool, true, false, cond, not, List, [], ◌∷◌, ◌++◌, length, map}
+use Rattle.std.proofs.Common.{get_or, replicate, Option, Some, None}
 use Rattle.std.proofs.Common.{refl, sym, ◌∙◌, ap, subst, arith, inl, length-append}
-use Rattle.std.specs.Prelude.{◌&&◌, ◌||◌, nat_lt}
+use Rattle.std.specs.Prelude.{◌&&◌, ◌||◌, ◌==◌, ◌/◌, nat_lt, is_some}
 use Rattle.std.specs.Cmp.Derive.{both_true}
-use Rattle.std.specs.List.{All, flat_map}
+use Rattle.std.specs.List.{All, flat_map, fold}
+use Rattle.std.proofs.Math.Nat.{div-mul-le_self, lt-div-mul-add, mul-le-mul_left}
 use Rattle.std.proofs.lemmas.Bool.Decides.{nat_tests}
+use Rattle.std.proofs.lemmas.Nat.{le-div}
 use Rattle.std.proofs.lemmas.List.{length-replicate}
 use Rattle.std.proofs.lemmas.List.Elements.{All-cons, All-head, All-nil, All-tail}
 use Rattle.bdb_format.specs.declared.kinds.Kind.TheVariants.{Btree, Hash, Queue}
 use Rattle.bdb_format.specs.declared.settings.Settings.{Settings}
 use Rattle.bdb_format.specs.Less.{less}
+use Rattle.bdb_format.specs.Numbers.{pad4}
 use Rattle.bdb_model.specs.declared.list.Pair.{Pair}
 use Rattle.bdb_model.specs.declared.pairs.Key.{Key}
 use Rattle.bdb_model.specs.declared.pairs.Key.TheVariants.{Bytes, Number}
@@ -17,19 +21,50 @@ use Rattle.bdb_model.specs.declared.pairs.TextPair.{TextPair}
 use Rattle.bdb_model.specs.declared.sections.Section.{Section}
 use Rattle.bdb_mktree.specs.Lists.{HasNumber, IsListFor as IsTreeListFor}
 use Rattle.bdb_settle.specs.ListLaw.{FitsFields, IsFit, IsKeyOf}
-use Rattle.bdb_settle.specs.LoadErrors.{is_zero, load_error, pair_errors, where_so}
-use Rattle.bdb_settle.specs.declared.load_error.LoadError.TheVariants.{RecordTooLong, RecordZero}
+use Rattle.bdb_settle.specs.LoadErrors.{header_errors, is_among_names, is_queue, is_sooner, is_too_wide, is_zero, load_error, pair_errors}
+use Rattle.bdb_settle.specs.LoadErrors.{section_errors, sooner, where_so}
+use Rattle.bdb_settle.specs.declared.load_error.LoadError.{LoadError}
+use Rattle.bdb_settle.specs.declared.load_error.LoadError.TheVariants.{QueueAmongNames, RecordTooLong, RecordZero}
 use Rattle.bdb_settle.specs.Loaded.{filled, filled_value, has_length, has_records, keeps_data, loaded, sorts_data, stands_before}
 use Rattle.bdb_settle.proofs.ErrorLemmas.{IsSound, all_map, sound_pairs}
 use Rattle.bdb_settle.proofs.ListLawLemmas.{load_into_lists}
 use Rattle.bdb_settle.proofs.OrderedLemmas.{Ordered, OrderedFrom, fold_all, fold_ordered, follows}
 use Rattle.bdb_mkhash.specs.Table.{IsTableList}
-use Rattle.bdb_mkqueue.specs.Lists.{AscendFrom, HasLength, HasNext, IsListFor, number_in}
-use Rattle.bdb_alone.specs.Lists.{LoadIntoQueues, LoadIntoTables, TextHasNext}
+use Rattle.bdb_mkqueue.specs.Lists.{AscendFrom, HasLength, HasNext, IsListFor, next_number, number_in}
+use Rattle.bdb_mkqueue.proofs.RecordLemmas.{next_low}
+use Rattle.bdb_alone.specs.Lists.{LoadIntoQueues, LoadIntoTables, QueuesAreAlone, RecordsAreFew, TextHasNext}
 
 and_false : (b : Bool) → (b && false) ≡ false
 and_false true = refl
 and_false false = refl
+
+-- Errors.
+
+still_some : (first : LoadError) (errors : List LoadError) → fold sooner (Some first) errors ≡ None → ⊥
+still_some first [] none = absurd cc
+still_some first (error ∷ errors) none = by_test (is_sooner error first) none (still_some error errors) (still_some first errors)
+  where
+    by_test : (b : Bool) → fold sooner (cond b (Some error) (Some first)) errors ≡ None → (fold sooner (Some error) errors ≡ None → ⊥)
+        → (fold sooner (Some first) errors ≡ None → ⊥) → ⊥
+    by_test true none one other = one none
+    by_test false none one other = other none
+
+none_hold : (errors : List LoadError) → fold sooner None errors ≡ None → errors ≡ []
+none_hold [] none = refl
+none_hold (error ∷ errors) none = absurd (still_some error errors none)
+
+both_empty : {X : Type 0} (xs ys : List X) → xs ++ ys ≡ [] → (xs ≡ []) × (ys ≡ [])
+both_empty [] ys none = (refl, none)
+both_empty (x ∷ xs) ys none = absurd cc
+
+each_empty : {X Y : Type 0} (f : X → List Y) (xs : List X) → flat_map f xs ≡ [] → All (λ x. f x ≡ []) xs
+each_empty f [] none = All-nil (λ x. f x ≡ [])
+each_empty f (x ∷ xs) none =
+    let parts = both_empty (f x) (flat_map f xs) none in All-cons (λ x. f x ≡ []) x xs parts.0 (each_empty f xs parts.1)
+
+not_so : (b : Bool) (error : LoadError) → where_so b error ≡ [] → b ≡ false
+not_so true error none = absurd cc
+not_so false error none = refl
 
 -- Tables: the section is loaded as that of a btree is.
 
@@ -93,11 +128,10 @@ load_into_tables sections none =
 
 -- Queues.
 
--- a record of a queue: it has a number from 1 on, whose next one fits its field, and the length of all
+-- a record of a queue: it has a number from 1 on, and the length of all
 pub record IsRecord (re_len : ℕ) (pair : Pair) : Type 0 where
   pub numbered : HasNumber pair.key
   pub positive : 1 ≤ number_in pair.key
-  pub next : HasNext pair
   pub long : HasLength re_len pair
 
 filled_length : (settings : Settings) (value : List ℕ) → has_length settings ≡ true
@@ -114,25 +148,28 @@ positive_of (Bytes bytes) never is = absurd never
 positive_of (Number number) numbered is = grind (arith, nat_tests)
 
 is_record : (settings : Settings) (pair : TextPair) → settings.kind ≡ Queue → settings.fixed ≡ true → FitsFields settings.kind pair
-    → TextHasNext pair → IsSound settings pair → IsRecord settings.re_len (filled settings pair)
-is_record settings pair queue fixed fits next sound =
+    → IsSound settings pair → IsRecord settings.re_len (filled settings pair)
+is_record settings pair queue fixed fits sound =
     let numbered : HasNumber pair.key = subst (λ k. IsKeyOf k pair.key) queue fits.key in
     record {
       numbered = numbered;
       positive = positive_of pair.key numbered sound.number;
-      next = next;
       long = filled_length settings pair.value (both_true fixed (ap has_records queue)) sound.short;
     }
 
 are_records : (settings : Settings) (pairs : List TextPair) → settings.kind ≡ Queue → settings.fixed ≡ true → All (FitsFields settings.kind) pairs
-    → All TextHasNext pairs → All (IsSound settings) pairs → All (IsRecord settings.re_len) (map (filled settings) pairs)
-are_records settings [] queue fixed fits next sound = All-nil (IsRecord settings.re_len)
-are_records settings (pair ∷ pairs) queue fixed fits next sound =
+    → All (IsSound settings) pairs → All (IsRecord settings.re_len) (map (filled settings) pairs)
+are_records settings [] queue fixed fits sound = All-nil (IsRecord settings.re_len)
+are_records settings (pair ∷ pairs) queue fixed fits sound =
     All-cons (IsRecord settings.re_len) (filled settings pair) (map (filled settings) pairs)
-    (is_record settings pair queue fixed (All-head (FitsFields settings.kind) pair pairs fits) (All-head TextHasNext pair pairs next)
-    (All-head (IsSound settings) pair pairs sound))
-    (are_records settings pairs queue fixed (All-tail (FitsFields settings.kind) pair pairs fits) (All-tail TextHasNext pair pairs next)
-    (All-tail (IsSound settings) pair pairs sound))
+    (is_record settings pair queue fixed (All-head (FitsFields settings.kind) pair pairs fits) (All-head (IsSound settings) pair pairs sound))
+    (are_records settings pairs queue fixed (All-tail (FitsFields settings.kind) pair pairs fits) (All-tail (IsSound settings) pair pairs sound))
+
+have_next : (settings : Settings) (pairs : List TextPair) → All TextHasNext pairs → All HasNext (map (filled settings) pairs)
+have_next settings [] next = All-nil HasNext
+have_next settings (pair ∷ pairs) next =
+    All-cons HasNext (filled settings pair) (map (filled settings) pairs) (All-head TextHasNext pair pairs next)
+    (have_next settings pairs (All-tail TextHasNext pair pairs next))
 
 by_numbers : (below above sorts keeps is_less is_above : Bool) → sorts ≡ false → keeps ≡ false
     → ((below || (not above && (sorts && is_less))) || (not (above || (not below && (sorts && is_above))) && keeps)) ≡ true → below ≡ true
@@ -169,21 +206,37 @@ ascend settings [] queue each ordered = tt
 ascend settings (pair ∷ pairs) queue each ordered =
     ((All-head (IsRecord settings.re_len) pair pairs each).positive, ascend_from settings pair pairs queue each ordered)
 
-queue_loads : (section : Section) → All (IsSound section.settings) section.pairs → section.settings.kind ≡ Queue → section.settings.fixed ≡ true
-    → IsFit section → All TextHasNext section.pairs → IsListFor section.settings (loaded section.settings section.pairs)
-queue_loads section sound queue fixed fit next =
+-- the records of a section of a queue
+pub record HasRecords (section : Section) : Type 0 where
+  pub ascend : AscendFrom 1 (loaded section.settings section.pairs)
+  pub long : All (HasLength section.settings.re_len) (loaded section.settings section.pairs)
+
+records_load : (section : Section) → All (IsSound section.settings) section.pairs → section.settings.kind ≡ Queue → section.settings.fixed ≡ true
+    → IsFit section → HasRecords section
+records_load section sound queue fixed fit =
     let settings : Settings = section.settings in
     let each : All (IsRecord settings.re_len) (loaded settings section.pairs) =
     fold_all (IsRecord settings.re_len) settings (map (filled settings) section.pairs) []
-    (are_records settings section.pairs queue fixed fit.pairs next sound) (All-nil (IsRecord settings.re_len)) in
+    (are_records settings section.pairs queue fixed fit.pairs sound) (All-nil (IsRecord settings.re_len)) in
     record {
       ascend = ascend settings (loaded settings section.pairs) queue each (fold_ordered settings (map (filled settings) section.pairs) [] tt);
-      few = all_pairs (IsRecord settings.re_len) HasNext (λ pair is. is.next) (loaded settings section.pairs) each;
       long = all_pairs (IsRecord settings.re_len) (HasLength settings.re_len) (λ pair is. is.long) (loaded settings section.pairs) each;
     }
   where
     all_pairs : (P Q : Pair → Type 0) → ((pair : Pair) → P pair → Q pair) → (pairs : List Pair) → All P pairs → All Q pairs
     all_pairs P Q step pairs all = all_map P Q step pairs all
+
+queue_loads : (section : Section) → All (IsSound section.settings) section.pairs → section.settings.kind ≡ Queue → section.settings.fixed ≡ true
+    → IsFit section → All TextHasNext section.pairs → IsListFor section.settings (loaded section.settings section.pairs)
+queue_loads section sound queue fixed fit next =
+    let records : HasRecords section = records_load section sound queue fixed fit in
+    record {
+      ascend = records.ascend;
+      few =
+          fold_all HasNext section.settings (map (filled section.settings) section.pairs) [] (have_next section.settings section.pairs next)
+          (All-nil HasNext);
+      long = records.long;
+    }
 
 pub load_into_queues : LoadIntoQueues
 load_into_queues sections none =
@@ -191,3 +244,108 @@ load_into_queues sections none =
     (λ section. section.settings.kind ≡ Queue → section.settings.fixed ≡ true → IsFit section → All TextHasNext section.pairs
     → IsListFor section.settings (loaded section.settings section.pairs))
     queue_loads sections (sound_pairs sections none)
+
+-- A queue's header.
+
+-- a section of a queue whose header has no error
+pub record HasSoundHeader (alone : Bool) (section : Section) : Type 0 where
+  pub narrow : is_too_wide section.settings ≡ false
+  pub apart : is_among_names alone section ≡ false
+
+sound_header : (alone : Bool) (section : Section) → header_errors alone section ≡ [] → HasSoundHeader alone section
+sound_header alone section none =
+    let wide = where_so (is_too_wide section.settings) (RecordTooLong section.header_line) in
+    let among = where_so (is_among_names alone section) (QueueAmongNames section.header_line) in
+    let parts = both_empty wide among none in
+    record {
+      narrow = not_so (is_too_wide section.settings) (RecordTooLong section.header_line) parts.0;
+      apart = not_so (is_among_names alone section) (QueueAmongNames section.header_line) parts.1;
+    }
+
+-- where no section has an error, no header of one has
+sound_headers : (sections : List Section) → load_error sections ≡ None → All (HasSoundHeader (length sections == 1)) sections
+sound_headers sections none =
+    let alone = length sections == 1 in
+    all_map (λ section. section_errors alone section ≡ []) (HasSoundHeader alone)
+    (λ section empty. sound_header alone section
+    (both_empty (header_errors alone section) (flat_map (pair_errors section.settings) section.pairs) empty).0)
+    sections (each_empty (section_errors alone) sections (none_hold (flat_map (section_errors alone) sections) none))
+
+queue_header : (alone : Bool) (section : Section) → section.settings.kind ≡ Queue → HasSoundHeader alone section
+    → (pad4 (section.settings.re_len + 1) ≤ section.settings.page_size - 28) × (section.name ≡ None) × (alone ≡ true)
+queue_header alone section queue sound =
+    let narrow : nat_lt (section.settings.page_size - 28) (pad4 (section.settings.re_len + 1)) ≡ false =
+    sym (ap (λ k. is_queue k && nat_lt (section.settings.page_size - 28) (pad4 (section.settings.re_len + 1))) queue) ∙ sound.narrow in
+    let apart : (is_some section.name || not alone) ≡ false =
+    sym (ap (λ k. is_queue k && (is_some section.name || not alone)) queue) ∙ sound.apart in (
+      at_most (section.settings.page_size - 28) (pad4 (section.settings.re_len + 1)) narrow,
+      no_name section.name (not alone) apart,
+      is_alone section.name alone apart,
+    )
+  where
+    at_most : (a b : ℕ) → nat_lt a b ≡ false → b ≤ a
+    at_most a b is = grind (arith, nat_tests)
+
+    no_name : (name : Option (List ℕ)) (b : Bool) → (is_some name || b) ≡ false → name ≡ None
+    no_name None b is = refl
+    no_name (Some name) b is = absurd cc
+
+    is_alone : (name : Option (List ℕ)) (b : Bool) → (is_some name || not b) ≡ false → b ≡ true
+    is_alone name true is = refl
+    is_alone None false is = absurd cc
+    is_alone (Some name) false is = absurd cc
+
+-- the only one of sections
+only_one : (sections : List Section) (k : ℕ) (d : Section) → k < length sections → (length sections == 1) ≡ true → sections ≡ get_or sections k d ∷ []
+only_one [] k d low one = absurd (omega arith)
+only_one (section ∷ []) k d low one =
+    let first : k ≡ 0 = omega arith in ap (λ i. get_or (section ∷ []) i d ∷ []) (sym first)
+only_one (section ∷ other ∷ others) k d low one =
+    absurd (let is : length (section ∷ other ∷ others) ≡ 1 = grind (arith, nat_tests) in omega (arith, is))
+
+pub queues_are_alone : QueuesAreAlone
+queues_are_alone sections none k d low queue fixed fit =
+    let section : Section = get_or sections k d in
+    let sound : All (IsSound section.settings) section.pairs = sound_pairs sections none k d low in
+    let header = queue_header (length sections == 1) section queue (sound_headers sections none k d low) in
+    let records : HasRecords section = records_load section sound queue fixed fit in
+    record {
+      alone = only_one sections k d low header.2;
+      unnamed = header.1;
+      room = header.0;
+      ascend = records.ascend;
+      long = records.long;
+    }
+
+-- Numbers of records.
+
+next_fits : (least : ℕ) (pairs : List Pair) → AscendFrom least pairs → next_number least pairs < 2 ^ 32 → All HasNext pairs
+next_fits least [] ascend low = All-nil HasNext
+next_fits least (pair ∷ pairs) ascend low =
+    let after : number_in pair.key + 1 ≤ next_number (number_in pair.key + 1) pairs = next_low (number_in pair.key + 1) pairs ascend.1 in
+    All-cons HasNext pair pairs (omega (arith, after, low)) (next_fits (number_in pair.key + 1) pairs ascend.1 low)
+
+-- a page has no more records than a quarter of its bytes
+quarter : (size slot : ℕ) → 4 ≤ slot → (size - 28) / slot * 4 ≤ size
+quarter size slot low =
+    let all : (size - 28) / slot * slot ≤ size - 28 = div-mul-le_self (size - 28) slot in
+    let more : (size - 28) / slot * 4 ≤ (size - 28) / slot * slot = mul-le-mul_left ((size - 28) / slot) low in omega (arith, all, more)
+
+few_numbers : (number per_page size : ℕ) → 1 ≤ per_page → per_page * 4 ≤ size → (1 + (number - 1) / per_page) * size ≤ 2 ^ 30 → number < 2 ^ 32 - 1
+few_numbers number per_page size some room few =
+    let q : ℕ = (number - 1) / per_page in
+    let below : number - 1 < q * per_page + per_page = lt-div-mul-add {a = number - 1} {b = per_page} some in
+    let whole : (1 + q) * (per_page * 4) ≤ (1 + q) * size = mul-le-mul_left (1 + q) room in
+    let same : (1 + q) * (per_page * 4) ≡ (q * per_page + per_page) * 4 = omega arith in
+    omega (arith, below, whole, same, few)
+
+pub records_are_few : RecordsAreFew
+records_are_few settings [] legal room ascend few = All-nil HasNext
+records_are_few settings (pair ∷ pairs) legal room ascend few =
+    let slot : ℕ = pad4 (settings.re_len + 1) in
+    let per_page : ℕ = (settings.page_size - 28) / slot in
+    let four : 4 ≤ slot = omega arith in
+    let some : 1 ≤ per_page = le-div 1 (settings.page_size - 28) slot (omega (arith, four)) (omega (arith, room)) in
+    let low : next_number 1 (pair ∷ pairs) - 1 < 2 ^ 32 - 1 =
+    few_numbers (next_number 1 (pair ∷ pairs) - 1) per_page settings.page_size some (quarter settings.page_size slot four) few in
+    next_fits 1 (pair ∷ pairs) ascend (omega (arith, low))

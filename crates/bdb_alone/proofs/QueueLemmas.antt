@@ -23,7 +23,7 @@ use Rattle.bdb_mkqueue.specs.Building.{IsQueueBuilt}
 use Rattle.bdb_mkqueue.specs.Layout.{queue_meta, queue_size}
 use Rattle.bdb_mkqueue.specs.Written.{IsSoundQueueOf, IsWrittenQueue}
 use Rattle.bdb_mkqueue.proofs.WrittenLemmas.{length-queue, written_queues_are_sound}
-use Rattle.bdb_load.specs.Settled.{file_settings, own_settings}
+use Rattle.bdb_alone.specs.Settled.{file_settings, own_settings}
 use Rattle.bdb_alone.specs.Images.{IsQueueImage, queue_first, queue_pages}
 use Rattle.bdb_alone.proofs.FirstLemmas.{IsUnderMeta, head_is, image_first, image_length}
 

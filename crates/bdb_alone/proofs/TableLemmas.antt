@@ -26,8 +26,8 @@ use Rattle.bdb_join.specs.Written.{AreLegal}
 use Rattle.bdb_buckets.specs.Tables.{table_meta}
 use Rattle.bdb_mkhash.specs.Buckets.{table_bits, table_size, table_units}
 use Rattle.bdb_mkhash.specs.Table.{IsTableBuilt}
-use Rattle.bdb_load.specs.Settled.{file_settings, own_settings}
-use Rattle.bdb_load.proofs.TreeLemmas.{first_zero}
+use Rattle.bdb_alone.specs.Settled.{file_settings, own_settings}
+use Rattle.bdb_alone.proofs.TreeLemmas.{first_zero}
 use Rattle.bdb_alone.specs.Images.{IsTableImage, table_fields, table_first, table_pages}
 use Rattle.bdb_alone.specs.Written.{IsWrittenTable, table_part}
 use Rattle.bdb_alone.proofs.FirstLemmas.{IsUnderMeta, head_is, image_first, image_length}
@@ -141,7 +141,7 @@ table_filed settings list empty added built meta count elements lent page image 
     fills : length page ≡ built.size
     fills =
         ap length spelled_as
-        ∙ length-table built.order built.size (length built.pages - 1) elements meta (omega (arith, (size_bounds built.size is.legal).0)) spares
+        ∙ length-table built.order built.size 0 (length built.pages - 1) elements meta (omega (arith, (size_bounds built.size is.legal).0)) spares
 
     written : IsWrittenTable built page elements meta image
     written = record {

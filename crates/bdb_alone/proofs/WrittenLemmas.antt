@@ -35,7 +35,7 @@ use Rattle.bdb_buckets.specs.Tables.{table_meta}
 use Rattle.bdb_mkhash.specs.Buckets.{table_bits, table_cost}
 use Rattle.bdb_alone.specs.Written.{IsWrittenTable, WrittenTablesAreSound, table_part}
 use Rattle.bdb_alone.proofs.FirstLemmas.{IsUnderMeta, head_for, head_is, reads_page, says_head, still_whole}
-use Rattle.bdb_alone.proofs.MetaLemmas.{IsTablePage, buckets_fit, keyed_right, length-table, some_bits, table_accepted}
+use Rattle.bdb_alone.proofs.MetaLemmas.{IsTablePage, buckets_fit, few_flags, keyed_right, length-table, some_bits, table_accepted}
 
 -- the metadata has a spare for each group
 spares_long : (built : Built) (page : List ℕ) (elements : ℕ) (meta : HashMeta) (image : List ℕ) → IsWrittenTable built page elements meta image
@@ -48,7 +48,7 @@ pub page_long : (built : Built) (page : List ℕ) (elements : ℕ) (meta : HashM
     → length page ≡ built.size
 page_long built page elements meta image is =
     ap length is.bytes
-    ∙ length-table built.order built.size (length built.pages - 1) elements meta (omega (arith, (size_bounds built.size is.pages.legal).0))
+    ∙ length-table built.order built.size 0 (length built.pages - 1) elements meta (omega (arith, (size_bounds built.size is.pages.legal).0))
     (spares_long built page elements meta image is)
 
 pub under_table : (built : Built) (page : List ℕ) (elements : ℕ) (meta : HashMeta) (image : List ℕ) → IsWrittenTable built page elements meta image
@@ -167,13 +167,17 @@ written_tables_are_sound settings old built units list meta elements page image 
     bits : ℕ
     bits = table_bits old.size units
 
-    meta_page : IsTablePage settings (head_for built Hash) page bits
+    meta_page : IsTablePage settings (head_for built Hash) 0 1 page bits (table_meta settings 1 bits).flags
     meta_page = record {
       reads = reads;
-      kind = refl;
+      top = λ zero. refl;
+      forest = λ queue. cc;
+      legal = is.pages.legal;
       long = under.long;
-      key = keyed_right built.order built.size (length built.pages - 1) elements meta page is.bytes;
+      key = keyed_right built.order built.size 0 (length built.pages - 1) elements meta page is.bytes;
       fields = is.fields ∙ (table.fields ∙ ap (λ n. table_meta settings n bits) one);
+      known = omega (arith, few_flags settings.duplicates settings.sorted);
+      above = omega arith;
       some = some_bits old.size (table_cost old.size units);
       room = omega (arith, table.count, one, buckets_fit old.size settings.sorted units);
     }
@@ -202,7 +206,8 @@ written_tables_are_sound settings old built units list meta elements page image 
     formed : (p : ℕ) → p ≤ (head_of image).last → form_code (head_of image) p (page_bytes (head_of image) image p) ≡ None
     formed zero high =
         ap (form_code (head_of image) 0) first_bytes
-        ∙ (ap (λ h. form_code h 0 page) head ∙ table_accepted settings (head_for built Hash) page bits meta_page)
+        ∙ (ap (λ h. form_code h 0 page) head
+        ∙ table_accepted settings (head_for built Hash) 0 1 page bits (table_meta settings 1 bits).flags meta_page)
     formed (suc n) high =
         let there : suc n < length built.pages = omega (arith, high, last) in
         ap (form_code (head_of image) (suc n)) (page_of (suc n) (omega arith) there)

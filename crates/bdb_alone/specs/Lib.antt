@@ -1,3 +1,5 @@
 pub mod Images
 pub mod Lists
+pub mod Settled
+pub mod Trees
 pub mod Written

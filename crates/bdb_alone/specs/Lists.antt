@@ -1,15 +1,20 @@
 -- Which sections load into lists that a table, or a queue, can be built of. Source: docs/FORMAT.md, "What loading does to a list", "Built tables" and
 -- "Built queues".
-use Rattle.std.specs.Prelude.{◌≡◌, true, List, None}
+use Rattle.std.specs.Prelude.{◌≡◌, ◌+◌, ◌-◌, ◌*◌, ◌≤◌, ◌^◌, IsTrue, true, List, [], ◌∷◌, None}
 use Rattle.std.specs.List.{All}
 use Rattle.bdb_format.specs.declared.kinds.Kind.TheVariants.{Hash, Queue}
+use Rattle.bdb_format.specs.declared.settings.Settings.{Settings}
+use Rattle.bdb_format.specs.HeadOf.{is_page_size}
+use Rattle.bdb_format.specs.Numbers.{pad4}
+use Rattle.bdb_model.specs.declared.list.Pair.{Pair}
 use Rattle.bdb_model.specs.declared.pairs.TextPair.{TextPair}
 use Rattle.bdb_model.specs.declared.sections.Section.{Section}
 use Rattle.bdb_settle.specs.ListLaw.{IsFit}
 use Rattle.bdb_settle.specs.LoadErrors.{load_error}
 use Rattle.bdb_settle.specs.Loaded.{loaded}
 use Rattle.bdb_mkhash.specs.Table.{IsTableList}
-use Rattle.bdb_mkqueue.specs.Lists.{HasNext, IsListFor}
+use Rattle.bdb_mkqueue.specs.Lists.{AscendFrom, HasLength, HasNext, IsListFor}
+use Rattle.bdb_alone.specs.Images.{queue_pages}
 
 -- where no error holds, each section of a hash loads into a list that a table can be built of
 abbrev pub LoadIntoTables : Type 0
@@ -26,3 +31,22 @@ abbrev pub LoadIntoQueues : Type 0
 LoadIntoQueues = (sections : List Section) → load_error sections ≡ None
     → All (λ section. section.settings.kind ≡ Queue → section.settings.fixed ≡ true → IsFit section → All TextHasNext section.pairs
     → IsListFor section.settings (loaded section.settings section.pairs)) sections
+
+-- a section of a queue as it loads: it is alone, without a name, its record fits a page, numbers ascend from 1, and records have one length
+pub record IsQueueAlone (sections : List Section) (section : Section) : Type 0 where
+  pub alone : sections ≡ section ∷ []
+  pub unnamed : section.name ≡ None
+  pub room : pad4 (section.settings.re_len + 1) ≤ section.settings.page_size - 28
+  pub ascend : AscendFrom 1 (loaded section.settings section.pairs)
+  pub long : All (HasLength section.settings.re_len) (loaded section.settings section.pairs)
+
+-- where no error holds, each section of a queue, whose records have one length, is such
+abbrev pub QueuesAreAlone : Type 0
+QueuesAreAlone = (sections : List Section) → load_error sections ≡ None
+    → All (λ section. section.settings.kind ≡ Queue → section.settings.fixed ≡ true → IsFit section → IsQueueAlone sections section) sections
+
+-- where the pages of a queue have at most 2^30 bytes, the number after that of each record fits its field
+abbrev pub RecordsAreFew : Type 0
+RecordsAreFew = (settings : Settings) (pairs : List Pair) → IsTrue (is_page_size settings.page_size)
+    → pad4 (settings.re_len + 1) ≤ settings.page_size - 28 → AscendFrom 1 pairs
+    → queue_pages settings pairs * settings.page_size ≤ 2 ^ 30 → All HasNext pairs

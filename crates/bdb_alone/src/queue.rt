@@ -3,7 +3,7 @@ ghost use Rattle.bdb_format.specs.declared.kinds.Kind.TheVariants.{Queue as Queu
 ghost use Rattle.bdb_format.specs.HeadOf.{is_page_size};
 ghost use Rattle.bdb_format.specs.Numbers.{pad4};
 ghost use Rattle.bdb_mkqueue.specs.Lists.{IsListFor};
-ghost use Rattle.bdb_load.specs.Settled.{file_settings};
+ghost use Rattle.bdb_alone.specs.Settled.{file_settings};
 ghost use Rattle.bdb_alone.specs.Images.{IsQueueImage};
 
 use bdb_format::Settings;

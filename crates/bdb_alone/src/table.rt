@@ -2,7 +2,7 @@ ghost use Rattle.std.specs.Prelude.{◌≡◌, IfOk, IsTrue, length, true};
 ghost use Rattle.bdb_format.specs.declared.kinds.Kind.TheVariants.{Hash as HashKind};
 ghost use Rattle.bdb_format.specs.HeadOf.{is_page_size};
 ghost use Rattle.bdb_mkhash.specs.Table.{IsTableList};
-ghost use Rattle.bdb_load.specs.Settled.{file_settings};
+ghost use Rattle.bdb_alone.specs.Settled.{file_settings};
 ghost use Rattle.bdb_alone.specs.Images.{IsTableImage};
 
 use bdb_format::Settings;
@@ -13,8 +13,8 @@ use bdb_model::PairList;
 use bdb_pack::Pages;
 use std::alloc::{AllocError, Global};
 
-// How many pairs there are, where that fits its field.
-fn element_count(list: &PairList) -> Result<u32, AllocError>
+/// How many pairs there are, where that fits the field of the metadata of a hash.
+pub fn element_count(list: &PairList) -> Result<u32, AllocError>
     ensures { IfOk result (λ count. count ≡ length list.now) }
 {
     match u32::try_from(list.len()) {

@@ -55,7 +55,7 @@ among_low bits key =
     not_below false is low = refl
 
 -- the group of a bucket is one whose spare is the first page
-group_low : (bits b : ℕ) → bits ≤ 31 → b < 2 ^ bits → group b ≤ bits
+pub group_low : (bits b : ℕ) → bits ≤ 31 → b < 2 ^ bits → group b ≤ bits
 unfolding group
 group_low bits b few low = least_passing (λ g. nat_lt b (2 ^ g)) 0 33 33 bits refl (omega arith) (lt-ltb b (2 ^ bits) low)
 

@@ -1,4 +1,3 @@
-pub mod DataLemmas
 pub mod NeedLemmas
 pub mod QueueLemmas
 pub mod TableLemmas

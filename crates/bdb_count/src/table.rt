@@ -9,11 +9,11 @@ ghost use Rattle.bdb_mkhash.specs.Costs.{own_pages};
 ghost use Rattle.bdb_mkhash.specs.Table.{IsTableList};
 ghost use Rattle.bdb_need.specs.Need.{pairs_in};
 
-use crate::runs::run_at;
 use crate::units::{own_pages, unit_cost};
 use bdb_format::Settings;
 use bdb_layout::{bucket_of, hash5};
 use bdb_model::{TextPair, TextPairs};
+use bdb_need::run_at;
 use std::alloc::{AllocError, Global};
 
 /// What all keys of a list take of the pages of buckets, and how many pages they have of their own.

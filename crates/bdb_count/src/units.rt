@@ -7,10 +7,8 @@ ghost use Rattle.bdb_mkhash.specs.Costs.{data_cost, data_form, item_cost, own_pa
 ghost use Rattle.bdb_need.specs.Counting.{values_in};
 ghost use Rattle.bdb_count.specs.Counts.{keyed, set_or_none};
 
-use crate::costs::chain_pages;
-use crate::data::{data_chains, data_pages};
-use crate::runs::Run;
 use bdb_model::TextPair;
+use bdb_need::{Run, chain_pages, data_chains, data_pages};
 use std::alloc::{AllocError, Global};
 
 // What the item of a tree of data takes of a page, with its entry.

@@ -24,7 +24,7 @@ use Rattle.bdb_grove.specs.Growing.{IsCounted, IsLater}
 use Rattle.bdb_meta.proofs.CommonLemmas.{length-common}
 use Rattle.bdb_pack.specs.Built.{Built, bytes_of, file_so_far, joined_pages}
 use Rattle.bdb_pack.proofs.CutLemmas.{all_size}
-use Rattle.bdb_join.specs.Filed.{AreFiled, FiledPartsAreJoined, IsSpelled}
+use Rattle.bdb_join.specs.Filed.{AreFiled, BtreesAreSpelled, FiledPartsAreJoined, IsSpelled, head_for}
 use Rattle.bdb_join.specs.Joining.{AreJoined, IsMetaOf, Joint, free_of}
 use Rattle.bdb_join.specs.Written.{AreLegal, HasHead, SpellsMeta}
 use Rattle.bdb_join.proofs.CommonLemmas.{ReadsAs, reads_common}
@@ -44,16 +44,6 @@ pub page_length : (built : Built) (number : ℕ) (page : List ℕ) (meta : Btree
 page_length built number page meta pages spells =
     ap length spells.bytes
     ∙ length-btree built.order built.size number (length built.pages - 1) meta (omega (arith, (size_bounds built.size pages.legal).0))
-
--- the head of a file of btree metadata with these pages
-abbrev head_for : Built → Head
-head_for built = record {
-  order = built.order;
-  page_size = built.size;
-  kind = Btree;
-  last = length built.pages - 1;
-  pages = length built.pages;
-}
 
 -- what is read from such a page, and from bytes that begin with it
 reads_page : (built : Built) (number : ℕ) (page : List ℕ) (meta : BtreeMeta) (rest : List ℕ) → AreLegal built → number < length built.pages
@@ -80,6 +70,17 @@ btree_page built number page meta pages there spells =
       long = page_length built number page meta pages spells;
       flags_are = ap (λ (m : BtreeMeta). m.flags) spells.fields;
       none = spells.flags;
+    }
+
+pub btrees_are_spelled : BtreesAreSpelled
+btrees_are_spelled built joint meta pages there is spells no_free =
+    let page : List ℕ = bytes_of built joint.meta in
+    let legal : is_page_size (length page) ≡ true = ap is_page_size (page_length built joint.meta page meta pages spells) ∙ pages.legal in
+    let btree : IsBtreePage (head_for built) joint.meta page meta.flags = btree_page built joint.meta page meta pages there spells in
+    record {
+      says = tree_page built.order page legal btree.reads.type ∙ (ap (λ m. Meta (BtreeFields m)) spells.fields ∙ sym (ap (λ f. Meta f) is));
+      formed = page_accepted (head_for built) joint.meta page meta.flags btree;
+      no_free = ap free_of is ∙ no_free;
     }
 
 -- The image.
@@ -177,13 +178,7 @@ named : (before after : Built) (joints : List Joint) (j : Joint) → AreFiled be
     → page_at (file_so_far after) j.meta ≡ Meta j.part.fields
 named before after joints j filed member =
     let spelled : IsSpelled after j = filed.spelled j member in
-    let there : j.meta < length after.pages = meta_there before after joints j filed member in
-    let page : List ℕ = bytes_of after j.meta in
-    let legal : is_page_size (length page) ≡ true =
-    ap is_page_size (page_length after j.meta page spelled.meta filed.pages spelled.spells) ∙ filed.pages.legal in
-    let type : byte_at page 25 ≡ 9 = (btree_page after j.meta page spelled.meta filed.pages there spelled.spells).reads.type in
-    page_so_far after j.meta there
-    ∙ (tree_page after.order page legal type ∙ (ap (λ m. Meta (BtreeFields m)) spelled.spells.fields ∙ sym (ap (λ f. Meta f) spelled.is)))
+    page_so_far after j.meta (meta_there before after joints j filed member) ∙ spelled.says
 
 joined : (before after : Built) (joints : List Joint) → AreFiled before after joints → AreJoined (file_so_far after) joints
 joined before after joints filed =
@@ -192,7 +187,7 @@ joined before after joints filed =
       shared_out = filed.shared_out;
       parts = λ j member. filed.parts j member (file_so_far after) (counted after filed.pages.some) (later before after joints j filed member);
       named = λ j member. named before after joints j filed member;
-      no_free = λ j member. let spelled : IsSpelled after j = filed.spelled j member in ap free_of spelled.is ∙ spelled.no_free;
+      no_free = λ j member. let spelled : IsSpelled after j = filed.spelled j member in spelled.no_free;
     }
 
 -- Form.
@@ -217,32 +212,19 @@ page_formed before after joints p filed low =
     elim (filed.shared_out.each p (omega (arith, low))) [
       | inl (j, member, is) ↦
           let spelled : IsSpelled after j = filed.spelled j member in
-          subst (λ q. form_code (head_for after) q (bytes_of after q) ≡ None) is
-          (page_accepted (head_for after) j.meta (bytes_of after j.meta) spelled.meta.flags
-          (btree_page after j.meta (bytes_of after j.meta) spelled.meta filed.pages (meta_there before after joints j filed member) spelled.spells))
+          subst (λ q. form_code (head_for after) q (bytes_of after q) ≡ None) is spelled.formed
       | inr (j, member, inside) ↦ part_formed before after joints j p filed member inside low
     ]
 
--- page 0 is the metadata of a joint
-topped : (before after : Built) (joints : List Joint) (image : List ℕ) → AreFiled before after joints → image ≡ joined_pages after.pages
-    → (meta : BtreeMeta) × IsTopped after meta image
-topped before after joints image filed is = of filed.first
-  where
-    of : IsMetaOf joints 0 → (meta : BtreeMeta) × IsTopped after meta image
-    of (j, member, zero') =
-        let spelled : IsSpelled after j = filed.spelled j member in (
-          spelled.meta,
-          record {
-            pages = filed.pages;
-            spells = subst (λ q. SpellsMeta after q (bytes_of after q) spelled.meta) zero' spelled.spells;
-            image_is = is;
-          },
-        )
+-- page 0 is metadata of a btree
+topped : (before after : Built) (joints : List Joint) (image : List ℕ) → (filed : AreFiled before after joints) → image ≡ joined_pages after.pages
+    → IsTopped after filed.top image
+topped before after joints image filed is = record { pages = filed.pages; spells = filed.spells; image_is = is }
 
 pub filed_parts_are_joined : FiledPartsAreJoined
 filed_parts_are_joined before after joints image filed is =
     let top = topped before after joints image filed is in
-    let head : HasHead after image = has_head after top.0 image top.1 in
+    let head : HasHead after image = has_head after filed.top image top in
     record {
       form = record {
         head = head.accepted;
@@ -250,8 +232,8 @@ filed_parts_are_joined before after joints image filed is =
         formed = λ p high.
             let low : p < length after.pages = omega (arith, high, head.tells.last) in
             ap (form_code (head_of image) p) (page_read after image (head_of image) p filed.pages.whole is head.tells.size low)
-            ∙ (ap (λ h. form_code h p (bytes_of after p)) (says_head after top.0 image top.1)
+            ∙ (ap (λ h. form_code h p (bytes_of after p)) (says_head after filed.top image top)
             ∙ page_formed before after joints p filed low);
       };
-      joined = subst (λ f. AreJoined f joints) (sym (read_back after top.0 image top.1)) (joined before after joints filed);
+      joined = subst (λ f. AreJoined f joints) (sym (read_back after filed.top image top)) (joined before after joints filed);
     }

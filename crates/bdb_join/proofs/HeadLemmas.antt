@@ -22,7 +22,7 @@ use Rattle.bdb_meta.specs.RowGroups.{flag_rows}
 use Rattle.bdb_join.proofs.CommonLemmas.{ReadsAs}
 
 -- no row is the first that holds where none does
-first_of_none : (rows : List (Row ℕ)) → AllFail rows → first_row rows ≡ None
+pub first_of_none : (rows : List (Row ℕ)) → AllFail rows → first_row rows ≡ None
 first_of_none [] fail = refl
 first_of_none (row ∷ rows) fail = rw (fail.0) (first_of_none rows fail.1)
 
@@ -204,7 +204,7 @@ rows_accepted head number page flags is =
     wrong_flags : are_wrong_flags number (four_at head.order page 48) ≡ false
     wrong_flags = ap (λ n. are_wrong_flags number n) is.flags_are ∙ fail.1.0
 
-none_by : (zeros : Bool) (identity typed : Option ℕ) → identity ≡ None → typed ≡ None → code_by zeros identity typed ≡ None
+pub none_by : (zeros : Bool) (identity typed : Option ℕ) → identity ≡ None → typed ≡ None → code_by zeros identity typed ≡ None
 none_by true identity typed one two = refl
 none_by false None typed one two = two
 none_by false (Some code) typed one two = absurd cc

@@ -21,7 +21,7 @@ use Rattle.bdb_join.specs.Filed.{AreFiled, IsSpelled}
 use Rattle.bdb_join.specs.Joining.{IsJoined, Joint}
 use Rattle.bdb_join.specs.Written.{HoldsTree, IsWritten, WrittenPagesAreRead, WrittenTreesAreSound, tree_part}
 use Rattle.bdb_join.proofs.AloneLemmas.{joint_of, joins_alone, of_joint, shared_alone}
-use Rattle.bdb_join.proofs.FiledLemmas.{IsTopped, filed_parts_are_joined, has_head, page_length, read_back}
+use Rattle.bdb_join.proofs.FiledLemmas.{IsTopped, btrees_are_spelled, filed_parts_are_joined, has_head, page_length, read_back}
 
 -- the pages after page 0 is written over
 topped : (built : Built) (page : List ℕ) (meta : BtreeMeta) (image : List ℕ) → IsWritten built page meta image
@@ -63,9 +63,12 @@ filed built page meta list image holds is =
       order = refl;
       grows = sym count;
       first = (joint_of part, first_member (joint_of part) [], refl);
+      top = meta;
+      spells = top.spells;
       shared_out = shared_alone (file_so_far after) part
           (λ p above high. is_between 1 (length built.pages) p above (omega (arith, high, count, is.pages.some)));
-      spelled = of_joint part (IsSpelled after) (record { meta = meta; is = refl; spells = top.spells; no_free = holds.no_free });
+      spelled = of_joint part (IsSpelled after)
+          (btrees_are_spelled after (joint_of part) meta top.pages (omega (arith, top.pages.some)) refl top.spells holds.no_free);
       same = λ j p member inside.
           of_joint part (λ (k : Joint). k.part.pages p ≡ true → bytes_of after p ≡ bytes_of built p)
           (λ within. above_stay built page p (between_is 1 (length built.pages) p within).0) j member inside;

@@ -1,6 +1,6 @@
 //! Laws that join parts of a file under their metadata pages.
 ghost use Rattle.bdb_join.specs.Alone.{JoinsAlone};
-ghost use Rattle.bdb_join.specs.Filed.{FiledPartsAreJoined};
+ghost use Rattle.bdb_join.specs.Filed.{BtreesAreSpelled, FiledPartsAreJoined};
 ghost use Rattle.bdb_join.specs.Joining.{JoinsUnderMaster};
 ghost use Rattle.bdb_join.specs.Masters.{JoinsAll};
 ghost use Rattle.bdb_join.specs.Queues.{QueuesAreSound};
@@ -42,7 +42,13 @@ pub fn joins_all()
     ensures { JoinsAll }
 {}
 
-/// Parts whose btree metadata is written on pages of their own, page 0 among them, are an image with form of joined parts.
+/// Btree metadata that is spelled on its page is read as it is, and has no row of form.
+pub fn btrees_are_spelled()
+    ensures { BtreesAreSpelled }
+{}
+
+/// Parts whose metadata is written on pages of their own, page 0 among them, which has that of a btree, are an image with form of joined
+/// parts.
 pub fn filed_parts_are_joined()
     ensures { FiledPartsAreJoined }
 {}

@@ -80,7 +80,7 @@ nodes_many type (p ∷ ps) (group ∷ groups) (node ∷ nodes) many (is, zip) =
     let rest = nodes_many type ps groups nodes (omega (arith, many)) zip in omega (arith, rest)
 
 -- over one page at most stands none
-few_over : (most room first : ℕ) (costs : List ℕ) → length costs ≤ 1 → pages_over most room first costs ≡ 0
+pub few_over : (most room first : ℕ) (costs : List ℕ) → length costs ≤ 1 → pages_over most room first costs ≡ 0
 few_over zero room first costs few = refl
 few_over (suc most) room first costs few = rw (le-leb (length costs) 1 few) refl
 

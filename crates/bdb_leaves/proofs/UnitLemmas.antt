@@ -2,7 +2,7 @@
 use Rattle.std.proofs.Common.{◌≡◌, ℕ, ◌+◌, Bool, true, false, not, cond, List, [], ◌∷◌, ◌++◌, map, get_or, refl, sym, ◌∙◌, ap, inl, inr, true≢false}
 use Rattle.std.specs.Prelude.{◌==◌, ◌&&◌}
 use Rattle.std.specs.List.{All, enumerate_from, filter, flat_map, list_any, take_while}
-use Rattle.std.proofs.lemmas.Bool.{and_right, or_from}
+use Rattle.std.proofs.lemmas.Bool.{and_parts, and_right, or_from}
 use Rattle.std.proofs.lemmas.List.{map-append}
 use Rattle.std.proofs.lemmas.Grind.{flat_map-append}
 use Rattle.std.proofs.lemmas.List.Elements.{All-append, All-head, All-nil, All-tail}
@@ -113,10 +113,6 @@ list_of_records g n (item ∷ items) = ap (λ list. listed_entry g (n, item) ++ 
 abbrev pub keys_of : List Group → List (List ℕ)
 keys_of runs = map (λ (run : Group). run.0.key) runs
 
-both : (a b : Bool) → (a && b) ≡ true → (a ≡ true) × (b ≡ true)
-both true b is = (refl, is)
-both false b is = absurd (true≢false (sym is))
-
 follow_more : (key : List ℕ) (last : StoredPair) (more rest : List StoredPair) → last.key ≡ key → All Shares more
     → All (HasKey key) more → ((pair : StoredPair) → pair.key ≡ key → FollowFrom pair rest) → FollowFrom last (more ++ rest)
 follow_more key last [] rest is share each after = after last is
@@ -135,7 +131,7 @@ follow_after : (runs : List Group) (key : List ℕ) → All IsRun runs → ascen
     → (pair : StoredPair) → pair.key ≡ key → FollowFrom pair (flat_map all_of_group runs)
 follow_after [] key all ascend pair is = tt
 follow_after (run ∷ runs) key all ascend pair is =
-    let parts = both (less key run.0.key) (ascends_from run.0.key (keys_of runs)) ascend in (
+    let parts = and_parts (less key run.0.key) (ascends_from run.0.key (keys_of runs)) ascend in (
       inr (ap (λ k. less k run.0.key) is ∙ parts.0),
       follow_run run (flat_map all_of_group runs) (All-head IsRun run runs all) (follow_after runs run.0.key (All-tail IsRun run runs all) parts.1),
     )
@@ -179,9 +175,9 @@ pub all_in_order : (pairs : List StoredPair) (p : ℕ) → Follow pairs
 all_in_order [] p follow = refl
 all_in_order (pair ∷ pairs) p follow = in_order_from pair pairs p follow
 
-ascends_later : (value : List ℕ) (values : List (List ℕ)) → ascends_from value values ≡ true → ascends values ≡ true
+pub ascends_later : (value : List ℕ) (values : List (List ℕ)) → ascends_from value values ≡ true → ascends values ≡ true
 ascends_later value [] ascend = refl
-ascends_later value (next ∷ values) ascend = (both (less value next) (ascends_from next values) ascend).1
+ascends_later value (next ∷ values) ascend = (and_parts (less value next) (ascends_from next values) ascend).1
 
 -- the last of ascending values ascend
 ascends_end : (xs ys : List (List ℕ)) → ascends (xs ++ ys) ≡ true → ascends ys ≡ true

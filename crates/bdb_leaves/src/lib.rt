@@ -18,3 +18,4 @@ mod units;
 
 pub use leaf_type::LeafType;
 pub use leaves::Leaves;
+pub use sets::build_set;

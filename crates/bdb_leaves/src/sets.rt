@@ -48,8 +48,9 @@ fn fill_set(
     Ok(leaves)
 }
 
-/// Builds the tree of a key's data, behind all pages, and answers its root.
-pub(crate) fn build_set(
+/// Builds the tree of a key's data, behind all pages, and answers its root. With `sorted` the data ascend, and the items over the
+/// leaves have the first datum of each.
+pub fn build_set(
     alloc: Global,
     pages: &mut Pages,
     sorted: bool,

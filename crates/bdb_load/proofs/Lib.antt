@@ -1,4 +1,10 @@
-pub mod LoadLemmas
+pub mod AgainLemmas
+pub mod AlikeLemmas
+pub mod ApartLemmas
+pub mod BuildLemmas
+pub mod FitLemmas
+pub mod KindLemmas
+pub mod LengthLemmas
+pub mod MasterLemmas
+pub mod NameLemmas
 pub mod ReadLemmas
-pub mod SettingsLemmas
-pub mod TreeLemmas

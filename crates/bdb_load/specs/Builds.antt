@@ -12,7 +12,7 @@ use Rattle.bdb_model.specs.declared.sections.Section.{Section}
 use Rattle.bdb_model.specs.Pairs.{listed}
 use Rattle.bdb_model.specs.Written.{header_lines}
 use Rattle.bdb_settle.specs.Loaded.{loaded, loaded_section}
-use Rattle.bdb_need.specs.Need.{need}
+use Rattle.bdb_count.specs.Need.{need_of}
 
 -- Sections in the byte order of their names.
 
@@ -43,7 +43,7 @@ pub record IsLoadedAs (image : List ℕ) (first : Settings) (section : Section) 
 -- how many bytes the image of sections has
 abbrev pub image_size : List Section → ℕ
 image_size [] = 0
-image_size (section ∷ sections) = need (map loaded_section (section ∷ sections)) * section.settings.page_size
+image_size (section ∷ sections) = need_of (map loaded_section (section ∷ sections)) * section.settings.page_size
 
 abbrev pub AreLoadedAs : List ℕ → List Section → Type 0
 AreLoadedAs image [] = databases (file_of image) ≡ []

@@ -1,71 +1,82 @@
--- The settings of a built database, and the metadata that says them. Source: docs/FORMAT.md, "Settings" and "Metadata pages".
-use Rattle.std.specs.Prelude.{ℕ, ◌+◌, ◌-◌, Bool, true, false, List, length}
+-- Sections with their lists, and the image that is built of them. Source: docs/FORMAT.md, "Loading", "Settings" and "Pages of a loaded file".
+use Rattle.std.specs.Prelude.{◌≡◌, ℕ, ◌+◌, ◌-◌, ◌*◌, ◌≤◌, IsTrue, true, false, List, [], ◌∷◌, length, None, is_some}
+use Rattle.std.specs.List.{All, AllZip}
 use Rattle.bdb_format.specs.declared.kinds.Kind.{Kind}
 use Rattle.bdb_format.specs.declared.kinds.Kind.TheVariants.{Btree, Recno, Hash, Queue}
-use Rattle.bdb_format.specs.declared.kinds.Order.{Order}
-use Rattle.bdb_format.specs.declared.metadata.BtreeMeta.{BtreeMeta}
 use Rattle.bdb_format.specs.declared.settings.Settings.{Settings}
-use Rattle.bdb_format.specs.Spelling.{btree_bytes}
-use Rattle.bdb_format.specs.Databases.{plain_settings}
-use Rattle.bdb_pack.specs.Built.{Built}
+use Rattle.bdb_format.specs.Databases.{databases, settings_of}
+use Rattle.bdb_format.specs.File.{file_of}
+use Rattle.bdb_format.specs.HeadOf.{head_of, is_page_size}
+use Rattle.bdb_format.specs.Lists.{list_of}
+use Rattle.bdb_format.specs.Numbers.{pad4}
+use Rattle.bdb_format.specs.Page.{Metadata}
+use Rattle.bdb_format.specs.Verdict.{verdict_of}
+use Rattle.bdb_model.specs.declared.list.Pair.{Pair}
+use Rattle.bdb_model.specs.declared.sections.Section.{Section}
+use Rattle.bdb_model.specs.Pairs.{listed}
+use Rattle.bdb_mktree.specs.Lists.{IsListFor as IsTreeList}
+use Rattle.bdb_mkhash.specs.Table.{IsTableList}
+use Rattle.bdb_mkqueue.specs.Lists.{IsListFor as IsQueueList}
+use Rattle.bdb_need.specs.Need.{pairs_in}
+use Rattle.bdb_count.specs.Need.{list_pages, need_of}
+use Rattle.bdb_alone.specs.Trees.{IsTreeSettings}
+use Rattle.bdb_named.specs.Images.{IsDatabaseOf, IsNamed}
+use Rattle.bdb_load.specs.Builds.{in_name_order}
+use Rattle.bdb_load.specs.Order.{AreApart}
 
--- what settings say of a kind, in a file of a page size and an order: what belongs to other kinds is as a header without its keyword says
-abbrev pub own_settings : Kind → ℕ → Order → Settings → Settings
-own_settings Btree page_size order settings = record (plain_settings Btree page_size order) {
-  duplicates = settings.duplicates;
-  sorted = settings.sorted;
-  recnum = settings.recnum;
-  minkey = settings.minkey;
-}
-own_settings Recno page_size order settings = record (plain_settings Recno page_size order) {
-  renumber = settings.renumber;
-  fixed = settings.fixed;
-  re_len = settings.re_len;
-  re_pad = settings.re_pad;
-}
-own_settings Hash page_size order settings = record (plain_settings Hash page_size order) {
-  duplicates = settings.duplicates;
-  sorted = settings.sorted;
-  ffactor = settings.ffactor;
-}
-own_settings Queue page_size order settings = record (plain_settings Queue page_size order) {
-  fixed = true;
-  re_len = settings.re_len;
-  re_pad = settings.re_pad;
-}
+-- One section alone.
 
--- the settings of a database in its own file
-abbrev pub file_settings : Settings → Settings
-file_settings settings = own_settings settings.kind settings.page_size settings.order settings
+-- settings and a list of a kind that an image can be built of
+abbrev pub IsBuildable : Kind → Settings → List Pair → Type 0
+IsBuildable Btree settings list = IsTreeSettings settings × IsTreeList settings list
+IsBuildable Recno settings list = IsTreeSettings settings × IsTreeList settings list
+IsBuildable Hash settings list =
+    IsTrue (is_page_size settings.page_size) × (settings.sorted ≡ true → settings.duplicates ≡ true) × IsTableList settings list
+IsBuildable Queue settings list =
+    IsTrue (is_page_size settings.page_size) × (pad4 (settings.re_len + 1) ≤ settings.page_size - 28) × IsQueueList settings list
 
--- a flag, where it is set
-abbrev pub flag : Bool → ℕ → ℕ
-flag true bit = bit
-flag false bit = 0
+-- a sound image of one database, without a name: it has these settings and this list, and as many pages as the list takes
+pub record IsAloneImage (settings : Settings) (pairs : List Pair) (image : List ℕ) : Type 0 where
+  pub sound : verdict_of image ≡ None
+  pub size : length image ≡ (1 + list_pages settings.kind settings pairs) * settings.page_size
+  pub fields : Metadata
+  pub alone : databases (file_of image) ≡ record { name = None; fields = fields } ∷ []
+  pub settings_are : settings_of (head_of image).page_size (head_of image).order fields ≡ settings
+  pub list : list_of (file_of image) fields ≡ listed pairs
 
-abbrev pub btree_flags : Bool → Bool → Bool → ℕ
-btree_flags duplicates sorted recnum = flag duplicates 0x01 + flag recnum 0x04 + flag sorted 0x40
+-- All sections.
 
-abbrev pub recno_flags : Bool → Bool → ℕ
-recno_flags fixed renumber = 0x02 + flag fixed 0x08 + flag renumber 0x10
+-- what is so of several sections, or of one with a name: names are apart
+pub record AreNamedApart (size : ℕ) (sections : List Section) : Type 0 where
+  pub legal : IsTrue (is_page_size size)
+  pub each : All (IsNamed size) sections
+  pub apart : AreApart sections
 
-abbrev pub flags_of : Kind → Settings → ℕ
-flags_of Btree settings = btree_flags settings.duplicates settings.sorted settings.recnum
-flags_of Recno settings = recno_flags settings.fixed settings.renumber
-flags_of Hash settings = 0
-flags_of Queue settings = 0
+-- what is so of a section without a name, before these: none follows it
+pub record IsUnnamedAlone (section : Section) (rest : List Section) : Type 0 where
+  pub none : rest ≡ []
+  pub built : IsBuildable section.settings.kind section.settings (pairs_in section.pairs)
 
--- the metadata of a tree with these settings and this root
-abbrev pub tree_meta : Settings → ℕ → BtreeMeta
-tree_meta settings root = record {
-  flags = flags_of settings.kind settings;
-  minkey = settings.minkey;
-  re_len = settings.re_len;
-  re_pad = settings.re_pad;
-  root = root;
-  free = 0;
-}
+-- sections with their lists, of which an image can be built
+pub record AreBuildable (sections : List Section) : Type 0 where
+  pub first : Section
+  pub rest : List Section
+  pub are : sections ≡ first ∷ rest
+  pub unnamed : is_some first.name ≡ false → IsUnnamedAlone first rest
+  pub named : is_some first.name ≡ true → AreNamedApart first.settings.page_size sections
 
--- the bytes of page 0 for these pages
-abbrev pub first_bytes : Built → BtreeMeta → List ℕ
-first_bytes built meta = btree_bytes built.order built.size 0 (length built.pages - 1) meta
+-- the page size of the first section
+abbrev pub size_in : List Section → ℕ
+size_in [] = 0
+size_in (section ∷ sections) = section.settings.page_size
+
+-- a sound image of sections with their lists, of as many pages as they need
+pub record AreBuilt (first : Settings) (sections : List Section) (image : List ℕ) : Type 0 where
+  pub sound : verdict_of image ≡ None
+  pub size : length image ≡ need_of sections * first.page_size
+  pub databases : AllZip (IsDatabaseOf first.page_size first.order image) (in_name_order sections) (databases (file_of image))
+
+-- the page size and the order are those of the first section
+abbrev pub IsImageOfSections : List Section → List ℕ → Type 0
+IsImageOfSections [] image = ⊥
+IsImageOfSections (section ∷ sections) image = AreBuilt section.settings (section ∷ sections) image

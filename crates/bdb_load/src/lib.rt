@@ -1,9 +1,10 @@
 //! From the sections of a dump text to a sound image.
 #![tactic(auto)]
 
+mod alone;
+pub mod laws;
+mod lengths;
 mod loading;
-mod metadata;
-mod pairs;
-mod trees;
+mod order;
 
-pub use loading::{is_one_tree, load};
+pub use loading::load;

@@ -1,17 +1,17 @@
-ghost use Rattle.std.specs.Prelude.{◌≡◌, ℕ, ◌*◌, ◌<◌, ◌≤◌, ◌^◌, nat_lt, None, List, length, IfErr, IfOk, OnOk};
-ghost use Rattle.std.specs.Bool.{OnTrue};
-ghost use Rattle.bdb_model.specs.Sections.{Reads};
-ghost use Rattle.bdb_mktree.specs.Units.{IsTreeKind};
+ghost use Rattle.std.specs.Prelude.{◌≡◌, ◌*◌, ◌≤◌, ◌^◌, nat_lt, None, IfErr, IfOk, OnOk};
 ghost use Rattle.bdb_load.specs.Builds.{Builds};
-ghost use Rattle.bdb_load.specs.Loading.{IsLoadRefusal, IsLoadable, is_one_tree, is_tree, loading_error};
+ghost use Rattle.bdb_load.specs.Loading.{AreLoadable, IsLoadRefusal, loading_error};
+ghost use Rattle.bdb_load.specs.Settled.{AreBuildable, IsImageOfSections, size_in};
 
-use crate::trees::section_image;
-use bdb_format::Kind;
+use crate::alone::section_image;
+use crate::lengths::are_short;
+use crate::order::in_name_order;
+use bdb_count::need;
 use bdb_io::Image;
 use bdb_model::Sections;
-use bdb_need::need;
+use bdb_named::named_image;
 use bdb_settle::{LoadError, settle};
-use std::alloc::Global;
+use std::alloc::{AllocError, Global};
 
 // Whether so many pages have more bytes than a number.
 fn are_too_many(pages: u128, page_size: u32, max: u64) -> bool
@@ -23,44 +23,52 @@ fn are_too_many(pages: u128, page_size: u32, max: u64) -> bool
     }
 }
 
-// Whether a kind is that of trees.
-fn is_tree(kind: Kind) -> bool
-    ensures kind { result ≡ is_tree kind }
-    ensures tree { OnTrue result (IsTreeKind kind) }
+// The page size of the first section.
+fn page_size(sections: &Sections) -> u32
+    ensures { result ≡ size_in sections.now }
 {
-    match kind {
-        Kind::Btree | Kind::Recno => true,
-        Kind::Hash | Kind::Queue => false,
+    match sections.get(0) {
+        Some(section) => section.settings.page_size,
+        None => 0,
     }
 }
 
-/// Whether the sections that a text is read as are one, without a name, of a btree or recno.
-pub fn is_one_tree(sections: &Sections) -> bool
-    ensures is { result ≡ is_one_tree sections.now }
-    ensures loads { OnTrue result ((text : List ℕ) → Reads text sections.now → length text < 2 ^ 32 → IsLoadable sections.now) }
+// The image of sections with their lists: under their names where the first has one, and else that of the only one.
+fn settled_image(alloc: Global, settled: Sections) -> Result<Image, AllocError>
+    requires { AreBuildable settled }
+    ensures { IfOk result (λ image. IsImageOfSections settled image) }
 {
-    let [section] = sections.as_slice() else {
-        return false;
+    let Some(first) = settled.get(0) else {
+        unreachable!()
     };
-    section.name.is_none() && is_tree(section.settings.kind)
+    let settings = first.settings;
+    if first.name.is_some() {
+        let sorted = in_name_order(alloc, settled)?;
+        return named_image(alloc, settings.page_size, settings.order, sorted);
+    }
+    let mut settled = settled;
+    let Some(section) = settled.pop() else {
+        unreachable!()
+    };
+    section_image(alloc, section)
 }
 
-/// The image of sections: a sound file with their databases, of at most `max` bytes. The sections are one, without a name, of a
-/// btree or recno. An error is the first of the sections, or that the image would have more than `max` bytes, or want of memory.
+/// The image of sections: a sound file with their databases, of at most `max` bytes, in the page size and the order of the first. An error
+/// is the first of the sections, or that the image would have more than `max` bytes, or want of memory.
 pub fn load(alloc: Global, sections: Sections, max: u64) -> Result<Image, LoadError>
     requires max { max ≤ 2 ^ 30 }
-    requires tree { IsLoadable sections }
+    requires fit { AreLoadable sections }
     ensures built { IfOk result (λ image. Builds sections image) }
     ensures sound { OnOk result (loading_error max sections ≡ None) }
     ensures refused { IfErr result (IsLoadRefusal (loading_error max sections)) }
 {
-    let mut settled = settle(alloc, sections)?;
-    let pages = need(alloc, &settled)?;
-    let Some(section) = settled.pop() else {
+    if !are_short(&sections) {
         return Err(LoadError::Memory);
-    };
-    if are_too_many(pages, section.settings.page_size, max) {
+    }
+    let settled = settle(alloc, sections)?;
+    let pages = need(alloc, &settled)?;
+    if are_too_many(pages, page_size(&settled), max) {
         return Err(LoadError::TooLarge);
     }
-    Ok(section_image(alloc, section)?)
+    Ok(settled_image(alloc, settled)?)
 }

@@ -6,6 +6,10 @@ mod asked;
 #[cfg(test)]
 mod kept;
 #[cfg(test)]
+mod kinds;
+#[cfg(test)]
 mod loaded;
+#[cfg(test)]
+mod names;
 #[cfg(test)]
 mod sizes;

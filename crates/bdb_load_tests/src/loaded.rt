@@ -1,7 +1,7 @@
 // The image of a dump text, or why there is none.
 use bdb_format::Bytes;
 use bdb_io::Image;
-use bdb_load::{is_one_tree, load};
+use bdb_load::load;
 use bdb_settle::LoadError;
 use bdb_text::read_dump;
 use std::alloc::{AllocError, Global};
@@ -11,11 +11,12 @@ use std::alloc::{AllocError, Global};
 pub(crate) enum Answer {
     Image(Image),
     Error(LoadError),
-    /// It isn't read, or isn't one section of a btree or recno.
+    /// It isn't read.
     Other,
 }
 
 /// Loads a text of at most 1 MiB into an image of at most so many bytes.
+#[tactic(auto, using(bdb_load::proofs::ReadLemmas::read_sections_are_loadable))]
 pub(crate) fn loaded(alloc: Global, text: &[u8], most: u64) -> Answer {
     if text.len() > 1048576 || most > 1073741824 {
         return Answer::Other;
@@ -23,9 +24,6 @@ pub(crate) fn loaded(alloc: Global, text: &[u8], most: u64) -> Answer {
     let Ok(sections) = read_dump(alloc, text) else {
         return Answer::Other;
     };
-    if !is_one_tree(&sections) {
-        return Answer::Other;
-    }
     match load(alloc, sections, most) {
         Ok(image) => Answer::Image(image),
         Err(error) => Answer::Error(error),

@@ -6,11 +6,22 @@ ghost use Rattle.bdb_mktree.specs.Lists.{HasBytes};
 ghost use Rattle.bdb_mkhash.specs.Buckets.{bits_for, buckets_of, table_cost, table_units};
 ghost use Rattle.bdb_mkhash.specs.Units.{units_seen};
 
-use crate::runs::run_at;
 use crate::unit::{Unit, unit_cost};
 use bdb_layout::{bucket_of, hash5};
+use bdb_mktree::{Run, run_at};
 use bdb_model::PairList;
 use std::alloc::{AllocError, Global};
+
+// A key of a list as it is stored.
+fn unit_of<'a>(run: &Run<'a>) -> Unit<'a>
+    ensures key { result.key.now ≡ run.now.key.now }
+    ensures values { result.values.now ≡ run.now.values.now }
+{
+    Unit {
+        key: run.key,
+        values: run.values,
+    }
+}
 
 /// What all keys of a list take of pages of so many bytes.
 pub(crate) fn table_cost(size: usize, list: &PairList) -> Result<u64, AllocError>
@@ -21,11 +32,12 @@ pub(crate) fn table_cost(size: usize, list: &PairList) -> Result<u64, AllocError
     let mut cost: u64 = 0;
     let mut start = 0;
     while start < list.len() {
-        let next = run_at(list, start);
+        let run = run_at(list, start);
+        let unit = unit_of(&run);
         cost = cost
-            .checked_add(unit_cost(size, &next.unit) as u64)
+            .checked_add(unit_cost(size, &unit) as u64)
             .ok_or(AllocError)?;
-        start = next.end;
+        start = run.end;
     }
     Ok(cost)
 }
@@ -94,10 +106,11 @@ pub(crate) fn deal<'a>(
     let mut buckets = no_units(alloc, bits)?;
     let mut start = 0;
     while start < list.len() {
-        let next = run_at(list, start);
-        let b = bucket_among(bits, next.unit.key) as usize;
-        buckets[b].push(next.unit)?;
-        start = next.end;
+        let run = run_at(list, start);
+        let unit = unit_of(&run);
+        let b = bucket_among(bits, unit.key) as usize;
+        buckets[b].push(unit)?;
+        start = run.end;
     }
     Ok(buckets)
 }

@@ -9,11 +9,12 @@ ghost use Rattle.bdb_mkhash.specs.declared.form.DataForm.TheVariants.{One as One
 
 use crate::form::DataForm;
 use crate::page::append_item;
-use crate::sets::{build_set, spell_set};
+use crate::sets::spell_set;
 use crate::store::store;
 use crate::unit::{Unit, data_form};
 use bdb_format::Bytes;
 use bdb_layout::{DupBlocks, HashItem};
+use bdb_leaves::build_set;
 use bdb_pack::Pages;
 use std::alloc::{AllocError, Global};
 

@@ -7,7 +7,6 @@ mod data;
 mod fill;
 mod form;
 mod page;
-mod runs;
 mod sets;
 mod store;
 mod unit;

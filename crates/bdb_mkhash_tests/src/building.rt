@@ -28,7 +28,7 @@ fn is_page_size(size: u32) -> bool
 }
 
 // A table's pages behind metadata, in place of their first one. Of more than `MOST` bytes it names a wrong last page.
-#[tactic(auto, using(bdb_mktree_tests::proofs::CheckedLemmas::zeros_are_zero))]
+#[tactic(auto, using(bdb_pack::proofs::AddedLemmas::zeros_are))]
 fn image_of(
     alloc: Global,
     settings: &Settings,

@@ -18,9 +18,11 @@ use Rattle.bdb_format.specs.Spelling.{header_bytes, zeros}
 use Rattle.bdb_format.specs.Table.{first_row}
 use Rattle.bdb_format.proofs.GraphLemmas.{typed_page, zero_page}
 use Rattle.bdb_graph.proofs.CodeLemmas.{code_by}
+use Rattle.bdb_pack.proofs.AddedLemmas.{zeros_are}
 use Rattle.bdb_pack.proofs.CutLemmas.{suc-times}
 use Rattle.bdb_pack.proofs.HeaderLemmas.{header_read, length-header}
 use Rattle.bdb_mkqueue.specs.Layout.{queue_page, records_header, records_page, slot_bytes}
+use Rattle.bdb_join.proofs.HeadLemmas.{none_by}
 
 -- Slots.
 
@@ -239,15 +241,6 @@ records_some order size re_len p slots on small =
     (omega (arith, length-records order size re_len p slots on, on.long))
     (ap (λ byte. byte == 0) (records_type order size re_len p slots small))
 
-pub zeros_are : (n : ℕ) → is_zero (zeros n) ≡ true
-zeros_are zero = refl
-zeros_are (suc n) = zeros_are n
-
-none_by : (empty : Bool) (identity : Option ℕ) → identity ≡ None → code_by empty identity None ≡ None
-none_by true identity none = refl
-none_by false None none = refl
-none_by false (Some code) none = absurd cc
-
 zero_by : (empty : Bool) (identity : Option ℕ) → empty ≡ true → code_by empty identity None ≡ None
 zero_by true identity is = refl
 zero_by false identity is = absurd cc
@@ -264,8 +257,8 @@ records_formed order size re_len p slots small =
     let own : not (four_at order page 8 == p) ≡ false =
     ap not (eq-eqb (four_at order page 8) p (records_number order size re_len p slots small)) in
     let type : not (byte_at page 25 == 11) ≡ false = ap (λ b. not (b == 11)) (records_type order size re_len p slots small) in
-    none_by (is_zero page) (first_row (identity_rows order page p is_queue_type))
-    (ap (λ b. cond b (Some 1) (cond (not (byte_at page 25 == 11)) (Some 2) None)) own ∙ ap (λ b. cond b (Some 2) None) type)
+    none_by (is_zero page) (first_row (identity_rows order page p is_queue_type)) None
+    (ap (λ b. cond b (Some 1) (cond (not (byte_at page 25 == 11)) (Some 2) None)) own ∙ ap (λ b. cond b (Some 2) None) type) refl
 
 code_if : (b : Bool) (order : Order) (p : ℕ) (one two : List ℕ) → queue_code order p one ≡ None → queue_code order p two ≡ None
     → queue_code order p (cond b one two) ≡ None

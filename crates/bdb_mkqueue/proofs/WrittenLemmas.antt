@@ -30,7 +30,7 @@ use Rattle.bdb_pack.specs.Built.{AreWhole, Built, bytes_of, joined_pages, with_p
 use Rattle.bdb_pack.proofs.CutLemmas.{all_size, page_whole}
 use Rattle.bdb_join.specs.Queues.{IsSoundQueue}
 use Rattle.bdb_join.proofs.CommonLemmas.{ReadsAs, reads_common}
-use Rattle.bdb_join.proofs.HeadLemmas.{IsImage, head_accepted, image_head}
+use Rattle.bdb_join.proofs.HeadLemmas.{IsImage, first_of_none, head_accepted, image_head}
 use Rattle.bdb_join.proofs.QueueLemmas.{queues_are_sound}
 use Rattle.bdb_join.proofs.ReadLemmas.{page_read}
 use Rattle.bdb_join.proofs.StageLemmas.{form_none, head_none, tail_none}
@@ -96,10 +96,6 @@ no_extent built page meta image is =
     number_at-in 4 order 0 page 0 92 (common ++ numbers) (zeros left) whole front (omega arith)
 
 -- Its rows.
-
-first_of_none : (rows : List (Row ℕ)) → AllFail rows → first_row rows ≡ None
-first_of_none [] fail = refl
-first_of_none (row ∷ rows) fail = rw (fail.0) (first_of_none rows fail.1)
 
 meta_accepted : (head : Head) (page : List ℕ) → head.kind ≡ Queue → ReadsAs head 0 page → length page ≡ head.page_size
     → first_row (queue_rows head.order page) ≡ None → form_code head 0 page ≡ None

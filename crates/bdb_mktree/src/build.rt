@@ -1,67 +1,22 @@
 ghost use Rattle.std.specs.Prelude.{◌≡◌, ◌≤◌, ◌<◌, [], IfOk, drop, length};
-ghost use Rattle.std.specs.List.{All, prefix_len};
+ghost use Rattle.std.specs.List.{All};
 ghost use Rattle.bdb_model.specs.Pairs.{listed};
 ghost use Rattle.bdb_mktree.specs.Building.{ArePushed, CanBePushed, IsTreeBuilt};
-ghost use Rattle.bdb_mktree.specs.Lists.{AreKeysOf, AscendFrom, HasBytes, IsListFor, IsRecordAt, IsRunAt, has_key, keyed_units, number_in, record_units, units_in};
+ghost use Rattle.bdb_mktree.specs.Lists.{AreKeysOf, AscendFrom, HasBytes, IsListFor, IsRecordAt, keyed_units, number_in, record_units, units_in};
 ghost use Rattle.bdb_mktree.specs.Units.{IsTreeKind, unit_seen};
 
+use crate::runs::run_at;
 use crate::{TreeBuilder, Unit};
 use bdb_format::{Kind, Settings};
 use bdb_model::{Key, PairList};
 use bdb_pack::Pages;
 use std::alloc::{AllocError, Global};
 
-// Whether a key of a list is this one.
-fn is_key(other: &Key, key: &[u8]) -> bool
-    ensures { result ≡ has_key key.now other.now }
-{
-    match other {
-        Key::Bytes(bytes) => bytes.as_slice() == key,
-        Key::Number(_) => false,
-    }
-}
-
-// How many keys from the first on are this one.
-fn run_length(keys: &[Key], key: &[u8]) -> usize
-    ensures { result ≡ prefix_len (has_key key.now) keys.now }
-{
-    let mut n = 0;
-    for other in keys {
-        if !is_key(other, key) {
-            return n;
-        }
-        n += 1;
-    }
-    n
-}
-
-/// A unit of a list, and the place behind its pairs.
+/// A record of a list, and the place of the next one to come.
 #[derive(Clone, Copy)]
 struct Next<'a> {
     unit: Unit<'a>,
     end: usize,
-}
-
-// The key at a place with all its data.
-fn run_at<'a>(list: &'a PairList, start: usize) -> Next<'a>
-    requires keys { All (λ pair. HasBytes pair.key) list.now }
-    requires more { start < length list.now }
-    ensures { IsRunAt list.now start (unit_seen result.unit) result.end }
-{
-    let (_, keys) = list.keys().split_at(start);
-    let (_, values) = list.values().split_at(start);
-    let Key::Bytes(key) = &keys[0] else {
-        unreachable!()
-    };
-    let many = run_length(keys, key.as_slice());
-    let (values, _) = values.split_at(many);
-    Next {
-        unit: Unit::Keyed {
-            key: key.as_slice(),
-            values,
-        },
-        end: start + many,
-    }
 }
 
 // Pushes each key of a list with all its data.
@@ -76,9 +31,13 @@ fn push_keys(
 {
     let mut start = 0;
     while start < list.len() {
-        let next = run_at(list, start);
-        builder.push(pages, &next.unit)?;
-        start = next.end;
+        let run = run_at(list, start);
+        let unit = Unit::Keyed {
+            key: run.key,
+            values: run.values,
+        };
+        builder.push(pages, &unit)?;
+        start = run.end;
     }
     Ok(())
 }

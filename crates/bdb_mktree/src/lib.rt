@@ -3,8 +3,10 @@
 
 mod build;
 mod builder;
+mod runs;
 mod unit;
 
 pub use build::build_tree;
 pub use builder::TreeBuilder;
+pub use runs::{Run, run_at};
 pub use unit::Unit;

@@ -12,10 +12,6 @@ use Rattle.bdb_mktree.specs.Building.{Building, units_of}
 use Rattle.bdb_mktree.specs.declared.builder.TreeBuilder.{TreeBuilder}
 use Rattle.bdb_mktree_tests.specs.Checked.{IsGrowing, is_above}
 
-pub zeros_are_zero : (n : ℕ) → is_zero (replicate n 0) ≡ true
-zeros_are_zero zero = refl
-zeros_are_zero (suc n) = zeros_are_zero n
-
 -- a key above the last one keeps the order
 more_from : (value : List ℕ) (keys : List (List ℕ)) (last key : List ℕ) → ascends_from value (keys ++ (last ∷ [])) ≡ true → less last key ≡ true
     → ascends_from value ((keys ++ (last ∷ [])) ++ (key ∷ [])) ≡ true

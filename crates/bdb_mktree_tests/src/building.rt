@@ -60,7 +60,7 @@ fn meta(settings: &Settings, root: u32) -> BtreeMeta {
 }
 
 /// A tree's pages behind metadata, in place of their first one. Of more than `MOST` bytes it names a wrong last page.
-#[tactic(auto, using(crate::proofs::CheckedLemmas::zeros_are_zero))]
+#[tactic(auto, using(bdb_pack::proofs::AddedLemmas::zeros_are))]
 pub fn image_of(
     alloc: Global,
     settings: &Settings,

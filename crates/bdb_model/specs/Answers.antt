@@ -12,7 +12,7 @@ use Rattle.bdb_model.specs.TextSpelling.{spelling}
 use Rattle.bdb_model.specs.Lines.{line}
 use Rattle.bdb_model.specs.Written.{kind_text, database_text, dump_text}
 use Rattle.bdb_model.specs.FaultNames.{fault_name, unsupported_name}
-use Rattle.bdb_model.specs.Command.{Request, Verify, ListAll, Get, Dump, Command, command_of}
+use Rattle.bdb_model.specs.Command.{Request, Verify, ListAll, Get, Dump}
 
 -- a status, and what is written to the output and to the error sink
 pub record Answer : Type 0 where
@@ -110,16 +110,3 @@ abbrev pub judged_answer : Option Judgement → Request → List ℕ → Answer
 judged_answer None request image = sound_answer request image
 judged_answer (Some (Faulty fault)) request image = told 1 (fault_line fault)
 judged_answer (Some (LeftOut name page)) request image = told 3 (unsupported_line name page)
-
--- what a command is answered over an input
-abbrev pub command_answer : Command → List ℕ → Answer
-command_answer command input =
-    if nat_lt command.limit (length input) then told 6 (too_large_line command.limit) else judged_answer (verdict_of input) command.request input
-
-abbrev pub words_answer : Option Command → List ℕ → Answer
-words_answer None input = usage
-words_answer (Some command) input = command_answer command input
-
--- the answer to words and an input
-unfoldable pub answer_of : List (List ℕ) → List ℕ → Answer
-answer_of words input = words_answer (command_of words) input

@@ -13,11 +13,6 @@ pub data Request : Type 0 where
   Get : Option (List ℕ) → List ℕ → Bool → Request
   Dump : Option (List ℕ) → Bool → Request
 
--- a command: the longest input that it takes, and what it asks
-pub record Command : Type 0 where
-  pub limit : ℕ
-  pub request : Request
-
 -- Options and operands.
 
 -- an option of a command: its word, and whether the next word is its value
@@ -160,12 +155,7 @@ text_request (Some name) prints = Some (Dump name prints)
 abbrev pub dump_request : Arguments → Option Request
 dump_request all = text_request (asked_name (value_given name_option all.given)) (is_given print_option all.given)
 
--- a command of the table: its word, the options and the number of operands that it has, and what it asks by them
-pub record CommandRow : Type 0 where
-  pub word : List ℕ
-  pub options : List OptionRow
-  pub operands : ℕ
-  pub asks : Arguments → Option Request
+-- the options that commands have
 
 abbrev pub max_bytes_row : OptionRow
 max_bytes_row = record { word = max_bytes; takes_value = true }
@@ -178,42 +168,3 @@ hex_row = record { word = hex_option; takes_value = false }
 
 abbrev pub print_row : OptionRow
 print_row = record { word = print_option; takes_value = false }
-
--- a command without operands and without options of its own
-abbrev pub plain_row : List ℕ → Request → CommandRow
-plain_row word request = record { word = word; options = max_bytes_row ∷ []; operands = 0; asks = λ all. Some request }
-
-abbrev pub verify_row : CommandRow
-verify_row = plain_row (codes "verify") Verify
-
-abbrev pub list_row : CommandRow
-list_row = plain_row (codes "list") ListAll
-
-abbrev pub get_row : CommandRow
-get_row = record { word = codes "get"; options = max_bytes_row ∷ name_row ∷ hex_row ∷ print_row ∷ []; operands = 1; asks = get_request }
-
-abbrev pub dump_row : CommandRow
-dump_row = record { word = codes "dump"; options = max_bytes_row ∷ name_row ∷ print_row ∷ []; operands = 0; asks = dump_request }
-
-abbrev pub commands : List CommandRow
-commands = verify_row ∷ list_row ∷ get_row ∷ dump_row ∷ []
-
-abbrev pub within : Option ℕ → Option Request → Option Command
-within None request = None
-within (Some limit) None = None
-within (Some limit) (Some request) = Some (record { limit = limit; request = request })
-
--- a command of the table with its arguments, of which the operands are as many as it has
-abbrev pub command_with : CommandRow → Option Arguments → Option Command
-command_with row None = None
-command_with row (Some all) = if length all.operands == row.operands then within (limit_of (value_given max_bytes all.given)) (row.asks all) else None
-
--- the command of a table that the first word names
-abbrev pub command_in : List CommandRow → List ℕ → List (List ℕ) → Option Command
-command_in [] word words = None
-command_in (row ∷ rows) word words = if bytes_eq word row.word then command_with row (once (arguments row.options words)) else command_in rows word words
-
--- the command that the words are, unless they are none
-unfoldable pub command_of : List (List ℕ) → Option Command
-command_of [] = None
-command_of (word ∷ words) = command_in commands word words

@@ -37,5 +37,3 @@ pub mod Sections
 pub mod FaultNames
 pub mod Command
 pub mod Answers
-pub mod Output
-pub mod Run

@@ -1,18 +1,13 @@
 -- Levels that are counted one after the other.
-use Rattle.std.proofs.Common.{◌≡◌, ℕ, zero, suc, ◌+◌, ◌-◌, ◌*◌, ◌<◌, ◌≤◌, List, ◌∷◌, length, map, replicate, arith, refl, sym, ◌∙◌, ap}
+use Rattle.std.proofs.Common.{◌≡◌, ℕ, zero, suc, ◌+◌, ◌-◌, ◌*◌, ◌<◌, ◌≤◌, List, ◌∷◌, length, map, replicate, arith, sym, ◌∙◌, ap}
 use Rattle.std.specs.Prelude.{◌/◌}
 use Rattle.std.specs.List.{All}
-use Rattle.std.proofs.lemmas.Bool.{le-leb}
 use Rattle.std.proofs.lemmas.List.{length-replicate}
 use Rattle.std.proofs.lemmas.List.Elements.{All-replicate}
 use Rattle.std.proofs.lemmas.Nat.{mul-le}
+use Rattle.bdb_leaves.proofs.TreeCountLemmas.{few_over}
 use Rattle.bdb_leaves.specs.Spread.{first_or, pages_over, spread_items}
 use Rattle.bdb_need.proofs.BehindLemmas.{All-behind, behind, equal_level, heads_of_items, level_halves, level_on, levels_few, self}
-
--- no level stands over one page
-pub none_over : (most room first : ℕ) (costs : List ℕ) → length costs ≤ 1 → pages_over most room first costs ≡ 0
-none_over zero room first costs few = refl
-none_over (suc most) room first costs few = rw (le-leb (length costs) 1 few) refl
 
 -- Items that all take 10 bytes.
 
@@ -59,7 +54,7 @@ pub counts_end : (room pages total below : ℕ) → below ≤ 1 → CountsDone r
     → total ≡ pages_over pages room 10 (replicate pages 10)
 counts_end room pages total below few done =
     let long = length-replicate {A = ℕ} below 10 in
-    let none = none_over done.most room 10 (replicate below 10) (omega (arith, long, few)) in
+    let none = few_over done.most room 10 (replicate below 10) (omega (arith, long, few)) in
     let sum = done.sum in
     omega (arith, none, sum)
 
@@ -135,7 +130,7 @@ keys_next room all items next total some are done = by_most done.most done.enoug
 pub keys_end : (room : ℕ) (all items : List ℕ) (total first : ℕ) → length items ≡ 0 → KeysDone room all total items
     → total ≡ pages_over (length all + 1) room 14 (first ∷ all)
 keys_end room all items total first none done =
-    let over = none_over done.most room 14 (first ∷ items) (omega (arith, none)) in
+    let over = few_over done.most room 14 (first ∷ items) (omega (arith, none)) in
     let sum = done.sum first in
     omega (arith, over, sum)
 

@@ -22,7 +22,7 @@ use Rattle.bdb_need.proofs.OpenLemmas.{pages-behind}
 
 -- Trees whose items count records.
 
-same_for_all : {A : Type 0} (c : ℕ) (xs : List A) → map (λ x. c) xs ≡ replicate (length xs) c
+pub same_for_all : {A : Type 0} (c : ℕ) (xs : List A) → map (λ x. c) xs ≡ replicate (length xs) c
 same_for_all c [] = refl
 same_for_all c (x ∷ xs) = ap (λ (ns : List ℕ). c ∷ ns) (same_for_all c xs)
 

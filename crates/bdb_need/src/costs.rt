@@ -27,7 +27,7 @@ pub(crate) fn value_cost(size: usize, value: &[u8]) -> usize
 }
 
 /// How many pages the chain of a value has: none where it stands on the leaf.
-pub(crate) fn chain_pages(size: usize, value: &[u8]) -> u128
+pub fn chain_pages(size: usize, value: &[u8]) -> u128
     requires legal { IsTrue (is_page_size size) }
     requires short { IsShort value.now }
     ensures pages { result ≡ chain_pages size value.now }

@@ -14,7 +14,7 @@ use bdb_model::TextPair;
 use std::alloc::{AllocError, Global};
 
 /// The pages of the chains of data.
-pub(crate) fn data_chains(size: usize, pairs: &[TextPair]) -> u128
+pub fn data_chains(size: usize, pairs: &[TextPair]) -> u128
     requires legal { IsTrue (is_page_size size) }
     requires short { All IsShort (values_in pairs.now) }
     ensures pages { result ≡ sum_by (chain_pages size) (values_in pairs.now) }
@@ -68,7 +68,7 @@ fn unsorted_pages(size: usize, pairs: &[TextPair]) -> u128
 }
 
 /// The leaves of the tree of a key's data, with the levels over them.
-pub(crate) fn data_pages(
+pub fn data_pages(
     alloc: Global,
     size: usize,
     sorted: bool,

@@ -1,69 +1,21 @@
 ghost use Rattle.std.specs.Prelude.{◌≡◌, ◌+◌, ◌≤◌, ◌<◌, ◌*◌, ◌^◌, IfOk, IsTrue, drop, length};
-ghost use Rattle.std.specs.List.{All, prefix_len, sum_by};
+ghost use Rattle.std.specs.List.{All};
 ghost use Rattle.bdb_format.specs.HeadOf.{is_page_size};
 ghost use Rattle.bdb_leaves.specs.Runs.{IsShort};
 ghost use Rattle.bdb_leaves.specs.Spread.{own_pages, tree_size};
 ghost use Rattle.bdb_leaves.specs.Units.{KeyedUnit, has_own_tree, page_room, unit_cost};
 ghost use Rattle.bdb_leaves.specs.declared.leaf_type.LeafType.TheVariants.{Pairs};
-ghost use Rattle.bdb_mktree.specs.Lists.{HasBytes, IsRunAt, has_key, keyed_units};
+ghost use Rattle.bdb_mktree.specs.Lists.{HasBytes, keyed_units};
 ghost use Rattle.bdb_mktree.specs.Units.{IsShortUnit};
-ghost use Rattle.bdb_model.specs.Pairs.{keys_of};
 ghost use Rattle.bdb_need.specs.Counting.{values_in};
 ghost use Rattle.bdb_need.specs.Need.{pairs_in};
 
 use crate::costs::{chain_pages, item_cost, page_room, value_cost};
 use crate::data::{data_chains, data_cost, data_pages};
 use crate::keyed_leaves::KeyedLeaves;
-use bdb_model::{Key, TextPair};
+use crate::runs::{Run, run_at};
+use bdb_model::TextPair;
 use std::alloc::{AllocError, Global};
-
-// Whether a key of a list is this one.
-fn is_key(other: &Key, key: &[u8]) -> bool
-    ensures { result ≡ has_key key.now other.now }
-{
-    match other {
-        Key::Bytes(bytes) => bytes.as_slice() == key,
-        Key::Number(_) => false,
-    }
-}
-
-// How many pairs from the first on have this key.
-fn run_length(pairs: &[TextPair], key: &[u8]) -> usize
-    ensures { result ≡ prefix_len (has_key key.now) (keys_of (pairs_in pairs.now)) }
-{
-    let mut n = 0;
-    for pair in pairs {
-        if !is_key(&pair.key, key) {
-            return n;
-        }
-        n += 1;
-    }
-    n
-}
-
-/// The pairs of a key, one after the other.
-#[derive(Clone, Copy)]
-struct Run<'a> {
-    key: &'a [u8],
-    pairs: &'a [TextPair],
-}
-
-// The pairs of the key at a place.
-fn run_at<'a>(pairs: &'a [TextPair], start: usize) -> Run<'a>
-    requires keys { All (λ pair. HasBytes pair.key) (pairs_in pairs.now) }
-    requires more { start < length pairs.now }
-    ensures { IsRunAt (pairs_in pairs.now) start (KeyedUnit result.key.now (values_in result.pairs.now)) (start + length result.pairs.now) }
-{
-    let (_, rest) = pairs.split_at(start);
-    let Key::Bytes(key) = &rest[0].key else {
-        unreachable!()
-    };
-    let (run, _) = rest.split_at(run_length(rest, key.as_slice()));
-    Run {
-        key: key.as_slice(),
-        pairs: run,
-    }
-}
 
 /// What a key with its data takes of its leaf.
 #[derive(Clone, Copy)]

@@ -8,6 +8,10 @@ mod keys;
 mod levels;
 mod open_page;
 mod records;
+mod runs;
 mod sections;
 
-pub use sections::{need, tree_pages};
+pub use costs::chain_pages;
+pub use data::{data_chains, data_pages};
+pub use runs::{Run, run_at};
+pub use sections::tree_pages;

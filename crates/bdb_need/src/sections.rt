@@ -3,12 +3,12 @@ ghost use Rattle.bdb_format.specs.HeadOf.{is_page_size};
 ghost use Rattle.bdb_leaves.specs.Spread.{tree_size};
 ghost use Rattle.bdb_mktree.specs.Lists.{IsListFor, units_in};
 ghost use Rattle.bdb_mktree.specs.Units.{IsTreeKind, leaf_type_of};
-ghost use Rattle.bdb_need.specs.Need.{IsOneTree, need, pairs_in};
+ghost use Rattle.bdb_need.specs.Need.{pairs_in};
 
 use crate::keys::keyed_pages;
 use crate::records::record_pages;
 use bdb_format::{Kind, Settings};
-use bdb_model::{Sections, TextPairs};
+use bdb_model::TextPairs;
 use std::alloc::{AllocError, Global};
 
 /// How many pages the tree of a list has, its root and the chains and trees of its data among them.
@@ -26,17 +26,4 @@ pub fn tree_pages(alloc: Global, settings: &Settings, list: &TextPairs) -> Resul
         Kind::Recno => Ok(record_pages(size, list.as_slice())),
         Kind::Hash | Kind::Queue => unreachable!(),
     }
-}
-
-/// How many pages loading these sections needs: those of the file that is made of them.
-pub fn need(alloc: Global, sections: &Sections) -> Result<u128, AllocError>
-    requires { IsOneTree sections.now }
-    ensures pages { IfOk result (λ pages. pages ≡ need sections.now) }
-    ensures few { IfOk result (λ pages. pages ≤ 2 ^ 100) }
-{
-    let Some(section) = sections.get(0) else {
-        unreachable!()
-    };
-    let pages = tree_pages(alloc, &section.settings, &section.pairs)?;
-    Ok(1 + pages)
 }

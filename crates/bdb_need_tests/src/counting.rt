@@ -7,8 +7,8 @@ ghost use Rattle.bdb_need.specs.Need.{pairs_in};
 
 use bdb_format::{Bytes, Kind};
 use bdb_mktree_tests::is_list_for;
-use bdb_model::{Key, Pair, PairList, Section, Sections, TextPairs};
-use bdb_need::need;
+use bdb_model::{Key, Pair, PairList, Section, TextPairs};
+use bdb_need::tree_pages;
 use std::alloc::{AllocError, Global};
 
 fn copy_of(alloc: Global, bytes: &Bytes) -> Result<Bytes, AllocError>
@@ -56,7 +56,8 @@ fn is_tree_kind(kind: Kind) -> bool
     }
 }
 
-/// How many pages a section needs; nothing where it has a name, or isn't a btree or recno with a list in its order.
+/// How many pages the file of a section needs, with its metadata page; nothing where it has a name, or isn't a btree or recno with a list in
+/// its order.
 pub fn counted(alloc: Global, section: Section) -> Result<Option<u128>, AllocError> {
     let settings = section.settings;
     if section.name.is_some() || !is_page_size(settings.page_size) || !is_tree_kind(settings.kind) {
@@ -66,7 +67,6 @@ pub fn counted(alloc: Global, section: Section) -> Result<Option<u128>, AllocErr
     if !is_list_for(&settings, &list) {
         return Ok(None);
     }
-    let mut sections = Sections::new(alloc);
-    sections.push(section)?;
-    Ok(Some(need(alloc, &sections)?))
+    let pages = tree_pages(alloc, &settings, &section.pairs)?;
+    Ok(Some(1 + pages))
 }

@@ -12,7 +12,7 @@ use Rattle.bdb_pack.specs.Placing.{FitsFields, begun_page}
 use Rattle.bdb_pack.proofs.BegunLemmas.{begun_on}
 use Rattle.bdb_pack.proofs.HeaderLemmas.{begun_pages_take_items}
 
-zeros_are : (n : ℕ) → is_zero (replicate n 0) ≡ true
+pub zeros_are : (n : ℕ) → is_zero (replicate n 0) ≡ true
 zeros_are zero = refl
 zeros_are (suc n) = zeros_are n
 

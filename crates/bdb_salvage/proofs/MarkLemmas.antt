@@ -2,7 +2,7 @@
 use Rattle.std.proofs.Common.{◌≡◌, ℕ, zero, suc, ◌+◌, ◌-◌, ◌*◌, ◌/◌, ◌<◌, ◌≤◌, Bool, true, false, cond, List, [], ◌∷◌, ◌++◌, map, length, drop, arith, refl, sym, ◌∙◌, ap, subst, inl, inr, eqb-true}
 use Rattle.std.specs.Prelude.{◌==◌, ◌&&◌, not, Option, Some, None, slice_index_or, take}
 use Rattle.std.specs.List.{All, Contains, flat_map, range_with_len}
-use Rattle.std.proofs.lemmas.Bool.{cases_lt, eq-eqb}
+use Rattle.std.proofs.lemmas.Bool.{and_parts, cases_lt, eq-eqb}
 use Rattle.std.proofs.lemmas.List.{get_or_default, take_more}
 use Rattle.std.proofs.Math.Seq.{take-append_seam}
 use Rattle.std.proofs.lemmas.Grind.{flat_map-append}
@@ -154,17 +154,13 @@ link_here file test before p past none is = here_of file test p past none (and_r
     and_right true b both = both
     and_right false b both = absurd cc
 
-both_of : (a b : Bool) → (a && b) ≡ true → (a ≡ true) × (b ≡ true)
-both_of true b both = (refl, both)
-both_of false b both = absurd cc
-
 row_here : (file : File) (test : Page → Bool) (before : ℕ) (ps : List ℕ) → IsPast file → test NoType ≡ false → follows file test before ps ≡ true → (q : ℕ) → Contains ps q → q < file.count
 row_here file test before [] past none all q inside = absurd (no_member [] q refl inside)
-row_here file test before (p ∷ []) past none all q inside = subst (λ n. n < file.count) (only_member p q inside) (link_here file test before p past none (both_of _ _ all).0)
+row_here file test before (p ∷ []) past none all q inside = subst (λ n. n < file.count) (only_member p q inside) (link_here file test before p past none (and_parts _ _ all).0)
 row_here file test before (p ∷ (r ∷ rest)) past none all q inside =
     elim (member_cases p (r ∷ rest) q inside) [
-      | inl same ↦ subst (λ n. n < file.count) same (link_here file test before p past none (both_of _ _ all).0)
-      | inr later ↦ row_here file test p (r ∷ rest) past none (both_of _ _ all).1 q later
+      | inl same ↦ subst (λ n. n < file.count) same (link_here file test before p past none (and_parts _ _ all).0)
+      | inr later ↦ row_here file test p (r ∷ rest) past none (and_parts _ _ all).1 q later
     ]
 
 like_none : (page : Page) → is_like page NoType ≡ false

@@ -251,6 +251,7 @@ settings_fit header says =
         records = λ on. absurd (cc on);
         re_len = lit< tt;
         wide = λ queue. absurd (cc queue);
+        fixed = λ queue. absurd (cc queue);
       })
       | inr other ↦ elim other [
         | inl hash ↦ rw hash (record {
@@ -260,6 +261,7 @@ settings_fit header says =
           records = λ on. absurd (cc on);
           re_len = lit< tt;
           wide = λ queue. absurd (cc queue);
+          fixed = λ queue. absurd (cc queue);
         })
         | inr records ↦ elim records [
           | inl recno ↦ rw recno (record {
@@ -269,6 +271,7 @@ settings_fit header says =
             records = λ on. refl;
             re_len = number_small (header (codes "re_len"));
             wide = λ queue. absurd (cc queue);
+            fixed = λ queue. absurd (cc queue);
           })
           | inr queue ↦
               let is_queue : has_type (codes "queue") header ≡ true = rw queue refl in
@@ -280,6 +283,7 @@ settings_fit header says =
                 records = λ on. refl;
                 re_len = number_small (header (codes "re_len"));
                 wide = λ same. narrow;
+                fixed = λ same. refl;
               })
         ]
       ]

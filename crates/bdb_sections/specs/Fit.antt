@@ -36,6 +36,8 @@ pub record AreFitSettings (settings : Settings) : Type 0 where
   pub records : holds_records settings.kind ≡ true → settings.duplicates ≡ false
   pub re_len : settings.re_len < 2 ^ 32
   pub wide : settings.kind ≡ Queue → (settings.re_len == 0) ≡ false
+  -- the records of a queue have one length
+  pub fixed : settings.kind ≡ Queue → settings.fixed ≡ true
 
 -- a section of such settings and pairs
 pub record IsFitSection (most : ℕ) (section : Section) : Type 0 where

@@ -1,6 +1,6 @@
 -- Answers over a sound file.
 use Rattle.std.proofs.Common.{◌≡◌, ℕ, ◌<◌, Bool, true, false, List, [], ◌∷◌, ◌++◌, length, inl, inr, refl, sym, subst, ◌∙◌, ap, arith, ◌≤◌}
-use Rattle.std.specs.Prelude.{Option, Some, None, Ok, Err, Result, if◌then◌else◌}
+use Rattle.std.specs.Prelude.{Option, Some, None, Ok, Err, Result, if◌then◌else◌, nat_lt, string_bytes}
 use Rattle.std.specs.Io.KnownBytes.{Appends}
 use Rattle.std.proofs.lemmas.Option.{slice_get-get_or}
 use Rattle.bdb_format.specs.declared.kinds.Kind.TheVariants.{Btree, Recno}
@@ -13,16 +13,30 @@ use Rattle.bdb_model.specs.Lines.{line}
 use Rattle.bdb_model.specs.Written.{database_text, dump_text, kind_text}
 use Rattle.bdb_model.specs.Numbers.{has_bit}
 use Rattle.bdb_model.specs.Page.{Metadata, BtreeFields, HashFields, QueueFields}
-use Rattle.bdb_model.specs.Answers.{Answer, data_at, data_named, data_of_database, fault_line, found, judged_answer, database_line, name_text, not_found, sound_answer, told, unsupported_line, value_line, values_text, database_in, dumped, section_answer}
+use Rattle.bdb_model.specs.Answers.{Answer, done, data_at, data_named, data_of_database, fault_line, found, judged_answer, database_line, name_text, not_found, sound_answer, told, unsupported_line, value_line, values_text, database_in, dumped, section_answer}
 use Rattle.bdb_model.specs.Flags.{kind_of}
 use Rattle.bdb_model.specs.Change.{Change}
-use Rattle.bdb_model.specs.Command.{Command, Request, Verify, ListAll, Get, Dump, within}
+use Rattle.bdb_model.specs.Command.{Request, Verify, ListAll, Get, Dump}
 use Rattle.bdb_model.specs.Databases.{Database, btree_settings, data_under, databases, place_of, recno_settings, settings_of}
 use Rattle.bdb_model.specs.File.{File, file_of}
 use Rattle.bdb_model.specs.Verdict.{Faulty, Judgement, LeftOut, verdict_of}
 use Rattle.bdb_file.specs.Named.{database_at, no_database}
 use Rattle.bdb_file.specs.Whole.{IsVerdictOf}
-use Rattle.bdb_tool.specs.Parts.{Finishes, HasOwnStatus, IsRefused, Reports, Tells}
+use Rattle.bdb_tool.specs.Parts.{Answered, Ends, Finishes, HasOwnStatus, IsRefusalTold, IsRefused, Reports, Tells, Unanswered}
+use Rattle.bdb_format.specs.declared.kinds.Kind.{Kind}
+use Rattle.bdb_format.proofs.KnownLemmas.{keeps_itself}
+use Rattle.bdb_model.specs.declared.faults.TextFault.{TextFault}
+use Rattle.bdb_model.specs.declared.sections.Section.{Section}
+use Rattle.bdb_model.specs.Reasons.{text_fault}
+use Rattle.bdb_settle.specs.declared.load_error.LoadError.{LoadError}
+use Rattle.bdb_settle.specs.declared.load_error.LoadError.TheVariants.{RecordTooLong, RecordZero, TooLarge, QueueAmongNames, Memory as MemoryError}
+use Rattle.bdb_load.specs.Builds.{image_size}
+use Rattle.bdb_load.specs.Loading.{loading_error}
+use Rattle.bdb_writing.specs.declared.refusal.Refusal.{Refusal}
+use Rattle.bdb_writing.specs.declared.refusal.Refusal.TheVariants.{Faulty as FaultyText, TooLarge as TooLargeImage, Memory as MemoryRefusal}
+use Rattle.bdb_writing.specs.Loads.{IsAnswerBy, IsErrorAnswer, IsLoadAnswer, IsTextAnswer}
+use Rattle.bdb_writing.specs.Refusals.{IsRefusal}
+use Rattle.bdb_writing.specs.Trials.{IsTrialAnswer, IsTrialBy, trial_sections}
 use Rattle.bdb_tool.proofs.FinishLemmas.{memory_finishes, told_finishes, written_finishes}
 use Rattle.bdb_model.specs.Faults.{AppendsPrefix, Rose}
 use Rattle.bdb_tool.specs.declared.printing.Cut.{Cut}
@@ -40,6 +54,10 @@ line_cut a b f g given text is part later rose = record { written = record { par
 
 pub no_line : (a : Option (List ℕ)) (f : ℕ) (text : List ℕ) → Writes text (moved a a f f) (Err Memory)
 no_line a f text = record { written = record { part = nothing_of a text; cause = λ is. cc }; later = omega arith }
+
+-- a text was written that is another
+pub same_text : (given text : List ℕ) (out : Change) (result : Result Unit Cut) → given ≡ text → Writes given out result → Writes text out result
+same_text given text out result is writes = subst (λ bytes. Writes bytes out result) is writes
 
 -- Statuses.
 
@@ -74,16 +92,11 @@ answer_own request image = judged_own (verdict_of image) request image
 
 -- A sound file.
 
-request_is : (limit : ℕ) (asked : Option Request) (command : Command) → within (Some limit) asked ≡ Some command → asked ≡ Some command.request
-request_is limit None command is = absurd cc
-request_is limit (Some request) command is = let same : record { limit = limit; request = request } ≡ command = cc in ap (λ (c : Command). Some c.request) same
-
-pub sound_finishes : (limit : ℕ) (asked : Option Request) (command : Command) (image file : List ℕ) (out err : Change) (status : ℕ)
-    → ((request : Request) → asked ≡ Some request → Finishes (sound_answer request file) out err status) → within (Some limit) asked ≡ Some command
-    → verdict_of image ≡ None → file ≡ image → Finishes (judged_answer (verdict_of image) command.request image) out err status
-sound_finishes limit asked command image file out err status finishes is sound same =
-    subst (λ verdict. Finishes (judged_answer verdict command.request image) out err status) (sym sound)
-    (subst (λ bytes. Finishes (sound_answer command.request bytes) out err status) same (finishes command.request (request_is limit asked command is)))
+pub sound_finishes : (image file : List ℕ) (asked : Request) (out err : Change) (status : ℕ) → Finishes (sound_answer asked file) out err status → verdict_of image ≡ None → file ≡ image
+    → Finishes (judged_answer (verdict_of image) asked image) out err status
+sound_finishes image file asked out err status finishes sound same =
+    subst (λ verdict. Finishes (judged_answer verdict asked image) out err status) (sym sound)
+    (subst (λ bytes. Finishes (sound_answer asked bytes) out err status) same finishes)
 
 -- A file that isn't sound.
 
@@ -170,3 +183,52 @@ all_finishes prints image asked name out err written status none is writes repor
     let same : None ≡ name = cc in
     subst (λ it. Finishes (dumped prints image it) out err status) same
     (written_finishes (dump_text prints image (databases (file_of image))) out err written status writes reports)
+
+-- Commands that build a file.
+
+bad_own : (text : List ℕ) (answer : Answer) → answer ≡ told 8 text → HasOwnStatus answer
+bad_own text answer is = rw is (record { no_read_fault = λ four. omega arith; no_write_fault = λ five. omega arith; no_memory = λ seven. omega arith })
+
+large_own : (text : List ℕ) (answer : Answer) → answer ≡ told 6 text → HasOwnStatus answer
+large_own text answer is = rw is (record { no_read_fault = λ four. omega arith; no_write_fault = λ five. omega arith; no_memory = λ seven. omega arith })
+
+done_own : (text : List ℕ) (answer : Answer) → answer ≡ done text → HasOwnStatus answer
+done_own text answer is = rw is (low_own (done text) (omega arith))
+
+error_own : (limit : ℕ) (error : LoadError) (answer : Answer) → IsErrorAnswer limit error answer → HasOwnStatus answer
+error_own limit (RecordTooLong number) answer is = bad_own _ answer is
+error_own limit (RecordZero number) answer is = bad_own _ answer is
+error_own limit TooLarge answer is = large_own _ answer is
+error_own limit (QueueAmongNames number) answer is = bad_own _ answer is
+error_own limit MemoryError answer is = absurd is
+
+load_own : (limit : ℕ) (error : Option LoadError) (sections : List Section) (answer : Answer) → IsLoadAnswer limit error sections answer → HasOwnStatus answer
+load_own limit (Some error) sections answer is = error_own limit error answer is
+load_own limit None sections answer is = done_own is.image answer is.answer_is
+
+text_own_by : (limit : ℕ) (fault : Option TextFault) (text : List ℕ) (answer : Answer) → IsAnswerBy limit fault text answer → HasOwnStatus answer
+text_own_by limit (Some fault) text answer is = bad_own _ answer is
+text_own_by limit None text answer is = load_own limit (loading_error limit is.sections) is.sections answer is.answered
+
+pub text_own : (limit : ℕ) (text : List ℕ) (answer : Answer) → IsTextAnswer limit text answer → HasOwnStatus answer
+text_own limit text answer is = text_own_by limit (text_fault text) text answer is
+
+trial_own_by : (beyond : Bool) (limit : ℕ) (kind : Kind) (seed count : ℕ) (answer : Answer) → IsTrialBy beyond limit kind seed count answer → HasOwnStatus answer
+trial_own_by true limit kind seed count answer is = large_own _ answer is
+trial_own_by false limit kind seed count answer is = done_own _ answer is.answer_is
+
+pub trial_own : (limit : ℕ) (kind : Kind) (seed count : ℕ) (answer : Answer) → IsTrialAnswer limit kind seed count answer → HasOwnStatus answer
+trial_own limit kind seed count answer is = trial_own_by (nat_lt limit (image_size (trial_sections kind seed count))) limit kind seed count answer is
+
+-- an output was written, or cut off, and that was told
+pub written_ends : (allowed : Answer → Type 0) (text : List ℕ) (out err : Change) (written : Result Unit Cut) (status : ℕ) → allowed (done text) → Writes text out written → Reports written err status → Ends allowed out err status
+written_ends allowed text out err written status is writes reports = Answered (done text) is (written_finishes text out err written status writes reports)
+
+-- it was told why nothing is built
+pub refusal_ends : (allowed : Answer → Type 0) (refusal : Refusal) (written : Option (List ℕ)) (faults : ℕ) (err : Change) (status : ℕ) → IsRefusal allowed refusal → IsRefusalTold refusal err status
+    → Ends allowed (moved written written faults faults) err status
+refusal_ends allowed (FaultyText line) written faults err status is tells =
+    Answered (told 8 (string_bytes line)) is (told_finishes 8 (string_bytes line) written faults err status (λ five. omega arith) (λ seven. omega arith) tells)
+refusal_ends allowed (TooLargeImage line) written faults err status is tells =
+    Answered (told 6 (string_bytes line)) is (told_finishes 6 (string_bytes line) written faults err status (λ five. omega arith) (λ seven. omega arith) tells)
+refusal_ends allowed MemoryRefusal written faults err status is tells = Unanswered (keeps_itself written) tells

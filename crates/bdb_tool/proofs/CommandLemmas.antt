@@ -4,7 +4,8 @@ use Rattle.std.specs.Prelude.{Some, None, codes, slice_get}
 use Rattle.std.specs.Str.{bytes_eq}
 use Rattle.std.proofs.lemmas.List.{drop_all}
 use Rattle.std.proofs.lemmas.Option.{slice_get_within}
-use Rattle.bdb_model.specs.Command.{Request, Arguments, Given, arguments, command_of, command_with, dump_row, get_row, limit_of, list_row, max_bytes, once, plain_row, value_given, verify_row, within}
+use Rattle.bdb_model.specs.Command.{Arguments, Given, arguments, limit_of, max_bytes, once, value_given}
+use Rattle.bdb_tool.specs.Commands.{Action, command_of, command_with, dump_row, get_row, list_row, load_row, plain_row, trial_action, trial_row, verify_row, within}
 use Rattle.bdb_tool.proofs.StepLemmas.{from_place, past_place}
 
 -- Operands.
@@ -34,17 +35,44 @@ get_without given (key ∷ second ∷ operands) other =
     let many : (length (key ∷ second ∷ operands) == 1) ≡ false = ne_eqb _ _ (λ one. omega arith) in rw many refl
 
 -- another command has none
-pub plain_with : (word : List ℕ) (request : Request) (given : List Given) (words : List (List ℕ)) (place : ℕ) → place < length words → command_with (plain_row word request) (Some (given_with given (drop place words))) ≡ None
-plain_with word request given words place within =
+pub plain_with : (word : List ℕ) (action : Action) (given : List Given) (words : List (List ℕ)) (place : ℕ) → place < length words → command_with (plain_row word action) (Some (given_with given (drop place words))) ≡ None
+plain_with word action given words place within =
     let some : (length (drop place words) == 0) ≡ false = ne_eqb _ _ (λ none. omega (arith, length-drop place words)) in rw some refl
 
-pub plain_without : (word : List ℕ) (request : Request) (given : List Given) (words : List (List ℕ)) (place : ℕ) → length words ≤ place
-    → command_with (plain_row word request) (Some (given_with given (drop place words))) ≡ within (limit_of (value_given max_bytes given)) (Some request)
-plain_without word request given words place past = rw (drop_all place words past) refl
+pub plain_without : (word : List ℕ) (action : Action) (given : List Given) (words : List (List ℕ)) (place : ℕ) → length words ≤ place
+    → command_with (plain_row word action) (Some (given_with given (drop place words))) ≡ within (limit_of (value_given max_bytes given)) (Some action)
+plain_without word action given words place past = rw (drop_all place words past) refl
 
 pub dump_with : (given : List Given) (words : List (List ℕ)) (place : ℕ) → place < length words → command_with dump_row (Some (given_with given (drop place words))) ≡ None
 dump_with given words place within =
     let some : (length (drop place words) == 0) ≡ false = ne_eqb _ _ (λ none. omega (arith, length-drop place words)) in rw some refl
+
+-- `trial` has three
+pub not_three : (given : List Given) (operands : List (List ℕ)) → length operands ≢ 3 → command_with trial_row (Some (given_with given operands)) ≡ None
+not_three given operands other = rw (ne_eqb (length operands) 3 other) refl
+
+pub three : (given : List Given) (kind seed count : List ℕ) → command_with trial_row (Some (given_with given (kind ∷ seed ∷ count ∷ []))) ≡ within (limit_of (value_given max_bytes given)) (trial_action (kind ∷ seed ∷ count ∷ []))
+three given kind seed count = refl
+
+-- three words from a place on
+pub three_words : (words : List (List ℕ)) (place : ℕ) (kind seed count : List ℕ) → Some kind ≡ slice_get words place → Some seed ≡ slice_get words (place + 1) → Some count ≡ slice_get words (place + 2) → length words ≤ place + 3
+    → drop place words ≡ kind ∷ seed ∷ count ∷ []
+three_words words place kind seed count first second third last =
+    let two : place + 1 + 1 ≡ place + 2 = omega arith in
+    let three_on : place + 2 + 1 ≡ place + 3 = omega arith in
+    from_place words place kind first
+    ∙ ap (λ (rest : List (List ℕ)). kind ∷ rest) (from_place words (place + 1) seed second
+    ∙ ap (λ (rest : List (List ℕ)). seed ∷ rest) (ap (λ n. drop n words) two ∙ from_place words (place + 2) count third
+    ∙ ap (λ (rest : List (List ℕ)). count ∷ rest) (ap (λ n. drop n words) three_on ∙ drop_all (place + 3) words last)))
+
+-- fewer or more than three words from a place on
+pub fewer_words : (words : List (List ℕ)) (place at : ℕ) → None ≡ slice_get words at → at ≤ place + 2 → length (drop place words) ≢ 3
+fewer_words words place at none near three_left =
+    let past = ap length (past_place words at none) in
+    omega (arith, length-drop place words, length-drop at words, past, three_left)
+
+pub more_words : (words : List (List ℕ)) (place : ℕ) → place + 3 < length words → length (drop place words) ≢ 3
+more_words words place more three_left = omega (arith, length-drop place words, three_left)
 
 -- The first word.
 
@@ -73,7 +101,17 @@ unfolding command_of
 dump_word [] word there no_verify no_list no_get is = cc
 dump_word (first ∷ words) word there no_verify no_list no_get is = let same : first ≡ word = cc in rw (same, no_verify, no_list, no_get, is) refl
 
-pub other_word : (words : List (List ℕ)) (word : List ℕ) → Some word ≡ slice_get words 0 → bytes_eq word (codes "verify") ≡ false → bytes_eq word (codes "list") ≡ false → bytes_eq word (codes "get") ≡ false → bytes_eq word (codes "dump") ≡ false → command_of words ≡ None
+pub load_word : (words : List (List ℕ)) (word : List ℕ) → Some word ≡ slice_get words 0 → bytes_eq word (codes "verify") ≡ false → bytes_eq word (codes "list") ≡ false → bytes_eq word (codes "get") ≡ false → bytes_eq word (codes "dump") ≡ false → bytes_eq word (codes "load") ≡ true → command_of words ≡ command_with load_row (once (arguments load_row.options (drop 1 words)))
 unfolding command_of
-other_word [] word there no_verify no_list no_get no_dump = cc
-other_word (first ∷ words) word there no_verify no_list no_get no_dump = let same : first ≡ word = cc in rw (same, no_verify, no_list, no_get, no_dump) refl
+load_word [] word there no_verify no_list no_get no_dump is = cc
+load_word (first ∷ words) word there no_verify no_list no_get no_dump is = let same : first ≡ word = cc in rw (same, no_verify, no_list, no_get, no_dump, is) refl
+
+pub trial_word : (words : List (List ℕ)) (word : List ℕ) → Some word ≡ slice_get words 0 → bytes_eq word (codes "verify") ≡ false → bytes_eq word (codes "list") ≡ false → bytes_eq word (codes "get") ≡ false → bytes_eq word (codes "dump") ≡ false → bytes_eq word (codes "load") ≡ false → bytes_eq word (codes "trial") ≡ true → command_of words ≡ command_with trial_row (once (arguments trial_row.options (drop 1 words)))
+unfolding command_of
+trial_word [] word there no_verify no_list no_get no_dump no_load is = cc
+trial_word (first ∷ words) word there no_verify no_list no_get no_dump no_load is = let same : first ≡ word = cc in rw (same, no_verify, no_list, no_get, no_dump, no_load, is) refl
+
+pub other_word : (words : List (List ℕ)) (word : List ℕ) → Some word ≡ slice_get words 0 → bytes_eq word (codes "verify") ≡ false → bytes_eq word (codes "list") ≡ false → bytes_eq word (codes "get") ≡ false → bytes_eq word (codes "dump") ≡ false → bytes_eq word (codes "load") ≡ false → bytes_eq word (codes "trial") ≡ false → command_of words ≡ None
+unfolding command_of
+other_word [] word there no_verify no_list no_get no_dump no_load no_trial = cc
+other_word (first ∷ words) word there no_verify no_list no_get no_dump no_load no_trial = let same : first ≡ word = cc in rw (same, no_verify, no_list, no_get, no_dump, no_load, no_trial) refl

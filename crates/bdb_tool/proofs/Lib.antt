@@ -1,7 +1,6 @@
 pub mod PrintingLemmas
 pub mod PrinterLemmas
 pub mod DumpLemmas
-pub mod NameLemmas
 pub mod FinishLemmas
 pub mod RunLemmas
 pub mod CommandLemmas

@@ -1,25 +1,29 @@
 -- From what a run takes, and how it writes its answer, to its whole promise.
-use Rattle.std.proofs.Common.{◌≡◌, ◌≢◌, ◌⊎◌, ℕ, ◌+◌, ◌<◌, ◌≤◌, List, [], length, inl, inr, refl, sym, subst, ◌∙◌, ap, arith, length-append, append-nil}
-use Rattle.std.specs.Prelude.{Option, Some, None, if◌then◌else◌}
+use Rattle.std.proofs.Common.{◌≡◌, ◌≢◌, ◌⊎◌, ℕ, ◌+◌, ◌<◌, ◌≤◌, ◌&&◌, Bool, true, false, List, [], length, inl, inr, refl, sym, subst, ◌∙◌, ap, arith, length-append, append-nil}
+use Rattle.std.specs.Prelude.{Option, Some, None, nat_lt}
 use Rattle.std.specs.Io.KnownBytes.{Consumes, IsAtEnd}
 use Rattle.std.proofs.lemmas.Bool.{le-ltb, lt-ltb}
-use Rattle.bdb_model.specs.Answers.{Answer, answer_of, command_answer, judged_answer, told, too_large_line, usage, words_answer}
-use Rattle.bdb_model.specs.Change.{Change, GainsPart, HasFailed, IsUncalled}
-use Rattle.bdb_model.specs.Command.{Command, command_of}
-use Rattle.bdb_model.specs.Faults.{Took}
+use Rattle.bdb_model.specs.Answers.{Answer, judged_answer, told, too_large_line, usage}
+use Rattle.bdb_model.specs.Change.{Change, GainsPart, HasFailed, IsUncalled, Stays}
+use Rattle.bdb_model.specs.Faults.{Rose, Took}
 use Rattle.bdb_model.specs.Lines.{memory_line, read_fault_line, write_fault_line}
-use Rattle.bdb_model.specs.Output.{AnswersInPart, IsInput, Output}
-use Rattle.bdb_model.specs.Run.{ErrorLine, IsAnswered, OfAnswer, OfMemory, OfReadFault, OfWriteFault, RunsAs}
 use Rattle.bdb_model.specs.Verdict.{verdict_of}
 use Rattle.bdb_format.proofs.KnownLemmas.{keeps_itself}
-use Rattle.bdb_tool.specs.Parts.{Finishes, IsToldStop, Tells}
+use Rattle.bdb_writing.specs.Loads.{IsTextAnswer}
+use Rattle.bdb_writing.specs.Trials.{IsTrialAnswer}
+use Rattle.bdb_tool.specs.Commands.{Ask, Command, Load, command_of, reads_input}
+use Rattle.bdb_tool.specs.Outputs.{AnswersInPart, IsActionAnswer, IsAnswerBy, IsAnswerTo, IsCommandAnswer, IsInput, Output, StatusIs}
+use Rattle.bdb_tool.specs.Parts.{Answered, Ends, Finishes, IsTaskAnswered, IsToldStop, Tells, Unanswered}
+use Rattle.bdb_tool.specs.Runs.{ErrorLine, IsAnswered, OfAnswer, OfMemory, OfReadFault, OfWriteFault, RunsAs}
+use Rattle.bdb_tool.specs.Tasks.{AreReading, IsRead, IsStopped, IsTaken, IsTooLong}
+use Rattle.bdb_tool.specs.WordsSeen.{trial_seen}
+use Rattle.bdb_tool.specs.declared.command.Trial.{Trial as CodeTrial}
 use Rattle.bdb_tool.specs.declared.task.Stop.{Stop}
 use Rattle.bdb_tool.specs.declared.task.Stop.TheVariants.{Usage, TooLarge, ReadFault, Memory as MemoryStop}
-use Rattle.bdb_tool.proofs.FinishLemmas.{memory_finishes, told_finishes}
-use Rattle.bdb_tool.specs.Tasks.{AreCommand, IsTask, IsStopped, IsTaken, IsTooLong}
-use Rattle.bdb_tool.specs.WordsSeen.{command_seen}
 use Rattle.bdb_tool.specs.declared.task.Task.{Task}
-use Rattle.bdb_tool.proofs.AnswerLemmas.{answer_own}
+use Rattle.bdb_tool.specs.declared.task.Task.TheVariants.{Ask as AskTask, Load as LoadTask, Trial as TrialTask}
+use Rattle.bdb_tool.proofs.AnswerLemmas.{answer_own, text_own, trial_own}
+use Rattle.bdb_tool.proofs.FinishLemmas.{memory_finishes, told_finishes}
 use Rattle.bdb_tool.proofs.PrintingLemmas.{moved}
 
 -- The input.
@@ -42,28 +46,59 @@ long_input limit (Some xs) None (bytes, took, len) = absurd took
 long_input limit (Some xs) (Some ys) (bytes, took, len) =
     (xs, refl, rw took (omega (arith, len, length-append bytes ys)))
 
--- The answer.
+-- The answers.
 
-pub output_of : (words : List (List ℕ)) (input : List ℕ) → Output words input (answer_of words input).out (answer_of words input).err (answer_of words input).status
-output_of words input = record { out_is = refl; err_is = refl; status_is = refl }
+output_of : (words : List (List ℕ)) (input : List ℕ) (answer : Answer) → IsAnswerTo words input answer → Output words input answer.out answer.err answer.status
+output_of words input answer is = record { answer = answer; answers = is; out_is = refl; err_is = refl; status_is = refl }
 
-usage_answer : (words : List (List ℕ)) (input : List ℕ) → command_of words ≡ None → answer_of words input ≡ usage
-unfolding answer_of
-usage_answer words input none = ap (λ command. words_answer command input) none
+usage_answers : (words : List (List ℕ)) (input : List ℕ) → command_of words ≡ None → IsAnswerTo words input usage
+usage_answers words input none = subst (λ command. IsCommandAnswer command input usage) (sym none) refl
 
-some_answer : (words : List (List ℕ)) (input : List ℕ) (command : Command) → command_of words ≡ Some command → answer_of words input ≡ command_answer command input
-unfolding answer_of
-some_answer words input command is = ap (λ command. words_answer command input) is
+command_answers : (words : List (List ℕ)) (input : List ℕ) (command : Command) (answer : Answer) → command_of words ≡ Some command → IsCommandAnswer (Some command) input answer → IsAnswerTo words input answer
+command_answers words input command answer is answers = subst (λ it. IsCommandAnswer it input answer) (sym is) answers
 
-within_answer : (command : Command) (input : List ℕ) → length input ≤ command.limit → command_answer command input ≡ judged_answer (verdict_of input) command.request input
-within_answer command input within =
-    ap (λ beyond. if beyond then told 6 (too_large_line command.limit) else judged_answer (verdict_of input) command.request input) (le-ltb command.limit (length input) within)
+within_limit : (reads : Bool) (limit : ℕ) (input : List ℕ) → length input ≤ limit → (reads && nat_lt limit (length input)) ≡ false
+within_limit true limit input within = le-ltb limit (length input) within
+within_limit false limit input within = refl
 
-beyond_answer : (command : Command) (input : List ℕ) → command.limit < length input → command_answer command input ≡ told 6 (too_large_line command.limit)
-beyond_answer command input beyond =
-    ap (λ is. if is then told 6 (too_large_line command.limit) else judged_answer (verdict_of input) command.request input) (lt-ltb command.limit (length input) beyond)
+-- an answer to an input within the limit
+within_answers : (words : List (List ℕ)) (input : List ℕ) (command : Command) (answer : Answer) → command_of words ≡ Some command → length input ≤ command.limit → IsActionAnswer command.action command.limit input answer
+    → IsAnswerTo words input answer
+within_answers words input command answer is within answers =
+    command_answers words input command answer is
+    (subst (λ beyond. IsAnswerBy beyond command input answer) (sym (within_limit (reads_input command.action) command.limit input within)) answers)
+
+beyond_limit : (reads : Bool) (limit : ℕ) (input : List ℕ) → reads ≡ true → limit < length input → (reads && nat_lt limit (length input)) ≡ true
+beyond_limit true limit input is beyond = lt-ltb limit (length input) beyond
+beyond_limit false limit input is beyond = absurd cc
+
+-- the answer to an input beyond the limit
+beyond_answers : (words : List (List ℕ)) (input : List ℕ) (command : Command) → command_of words ≡ Some command → reads_input command.action ≡ true → command.limit < length input
+    → IsAnswerTo words input (told 6 (too_large_line command.limit))
+beyond_answers words input command is reads beyond =
+    command_answers words input command (told 6 (too_large_line command.limit)) is
+    (subst (λ it. IsAnswerBy it command input (told 6 (too_large_line command.limit))) (sym (beyond_limit (reads_input command.action) command.limit input reads beyond)) refl)
+
+-- no answer depends on the input of a command that reads none
+unread_answers : (words : List (List ℕ)) (input : List ℕ) (command : Command) (answer : Answer) → command_of words ≡ Some command → reads_input command.action ≡ false → IsActionAnswer command.action command.limit input answer
+    → IsAnswerTo words input answer
+unread_answers words input command answer is unread answers =
+    command_answers words input command answer is
+    (subst (λ beyond. IsAnswerBy beyond command input answer) (sym (ap (λ reads. reads && nat_lt command.limit (length input)) unread)) answers)
 
 -- The whole promise.
+
+no_command : (words : List (List ℕ)) (command : Command) → command_of words ≡ Some command → command_of words ≡ None → ⊥
+no_command words command is none = let both : Some command ≡ None = sym is ∙ none in absurd cc
+
+same_command : (words : List (List ℕ)) (a b : Command) → command_of words ≡ Some a → command_of words ≡ Some b → a ≡ b
+same_command words a b as_a as_b = let both : Some a ≡ Some b = sym as_a ∙ as_b in cc
+
+reads_same : (words : List (List ℕ)) (a b : Command) → command_of words ≡ Some a → command_of words ≡ Some b → reads_input a.action ≡ reads_input b.action
+reads_same words a b as_a as_b = ap (λ (command : Command). reads_input command.action) (same_command words a b as_a as_b)
+
+both_ways : (reads : Bool) → reads ≡ true → reads ≡ false → ⊥
+both_ways reads is other = let both : true ≡ false = sym is ∙ other in absurd cc
 
 own_status : (answer : Answer) (out err : Change) (status : ℕ) → Finishes answer out err status → IsAnswered status → status ≡ answer.status
 own_status answer out err status finishes answered =
@@ -73,24 +108,25 @@ not_a_read_fault : (answer : Answer) (out err : Change) (status : ℕ) → answe
 not_a_read_fault answer out err status other finishes is =
     elim finishes.status_is [ inl own ↦ other (sym own ∙ is) | inr (inl five) ↦ omega arith | inr (inr seven) ↦ omega arith ]
 
-begun_line : (words : List (List ℕ)) (source err : Change) (input : List ℕ) → IsInput source.before input → GainsPart err write_fault_line ⊎ (GainsPart err memory_line ⊎ GainsPart err (answer_of words input).err)
+begun_line : (words : List (List ℕ)) (source err : Change) (input : List ℕ) (answer : Answer) → IsInput source.before input → IsAnswerTo words input answer → GainsPart err write_fault_line ⊎ (GainsPart err memory_line ⊎ GainsPart err answer.err)
     → (text : List ℕ) × ErrorLine words source text × GainsPart err text
-begun_line words source err input is (inl part) = (write_fault_line, OfWriteFault refl, part)
-begun_line words source err input is (inr (inl part)) = (memory_line, OfMemory refl, part)
-begun_line words source err input is (inr (inr part)) = ((answer_of words input).err, OfAnswer input (answer_of words input).out (answer_of words input).status is (output_of words input), part)
+begun_line words source err input answer is answers (inl part) = (write_fault_line, OfWriteFault refl, part)
+begun_line words source err input answer is answers (inr (inl part)) = (memory_line, OfMemory refl, part)
+begun_line words source err input answer is answers (inr (inr part)) = (answer.err, OfAnswer input answer.out answer.status is (output_of words input answer answers), part)
 
 -- when the source is called
 pub record CallsSource (words : List (List ℕ)) (source : Change) (status : ℕ) : Type 0 where
   pub usage : command_of words ≡ None → ((status ≡ 2) ⊎ (status ≡ 5)) × IsUncalled source
-  pub read_whole : (command : Command) → command_of words ≡ Some command → IsAnswered status → IsAtEnd source.now ⊎ ((status ≡ 6) × Took (command.limit + 1) source.before source.now)
+  pub unread : (command : Command) → command_of words ≡ Some command → reads_input command.action ≡ false → IsUncalled source
+  pub read_whole : (command : Command) → command_of words ≡ Some command → reads_input command.action ≡ true → IsAnswered status → IsAtEnd source.now ⊎ ((status ≡ 6) × Took (command.limit + 1) source.before source.now)
 
-part_of : (words : List (List ℕ)) (source out : Change) (input : List ℕ) → IsInput source.before input → GainsPart out (answer_of words input).out → AnswersInPart words source out
-part_of words source out input is part = inr (input, is, (answer_of words input).out, (answer_of words input).err, (answer_of words input).status, output_of words input, part)
+part_of : (words : List (List ℕ)) (source out : Change) (input : List ℕ) (answer : Answer) → IsInput source.before input → IsAnswerTo words input answer → GainsPart out answer.out → AnswersInPart words source out
+part_of words source out input answer is answers part = inr (input, is, answer.out, answer.err, answer.status, output_of words input answer answers, part)
 
-finished_runs : (words : List (List ℕ)) (source out err : Change) (input : List ℕ) (status : ℕ) → IsInput source.before input → (answer_of words input).status ≢ 4 → Finishes (answer_of words input) out err status → CallsSource words source status
-    → RunsAs words source out err status
-finished_runs words source out err input status is other finishes calls =
-    let answer : Answer = answer_of words input in
+-- an answer that was written, or not whole
+finished_runs : (words : List (List ℕ)) (source out err : Change) (input : List ℕ) (answer : Answer) (status : ℕ) → IsInput source.before input → IsAnswerTo words input answer → answer.status ≢ 4 → Finishes answer out err status
+    → CallsSource words source status → RunsAs words source out err status
+finished_runs words source out err input answer status is answers other finishes calls =
     record {
       answers = λ answered.
           let own : status ≡ answer.status = own_status answer out err status finishes answered in (
@@ -100,72 +136,126 @@ finished_runs words source out err input status is other finishes calls =
             finishes.printed own,
             answer.err,
             finishes.told own,
-            subst (Output words input answer.out answer.err) (sym own) (output_of words input),
+            subst (Output words input answer.out answer.err) (sym own) (output_of words input answer answers),
           );
       read_fault = λ four. absurd (not_a_read_fault answer out err status other finishes four);
       write_fault = finishes.failed;
-      part_on_fault = λ _. part_of words source out input is finishes.part;
+      part_on_fault = λ _. part_of words source out input answer is answers finishes.part;
       write_fault_line_told = finishes.write_fault_line_told;
-      error_line_begun = λ five _. begun_line words source err input is (finishes.error_line_begun five);
-      memory = λ seven. (part_of words source out input is finishes.part, finishes.memory seven);
+      error_line_begun = λ five _. begun_line words source err input answer is answers (finishes.error_line_begun five);
+      memory = λ seven. (part_of words source out input answer is answers finishes.part, finishes.memory seven);
       usage = calls.usage;
+      unread = calls.unread;
       read_whole = calls.read_whole;
     }
 
-no_command : (words : List (List ℕ)) (command : Command) → command_of words ≡ Some command → command_of words ≡ None → ⊥
-no_command words command is none = let both : Some command ≡ None = sym is ∙ none in absurd cc
+-- memory was wanting before an answer was known
+unanswered_runs : (words : List (List ℕ)) (source out err : Change) (status : ℕ) (command : Command) → command_of words ≡ Some command → (reads_input command.action ≡ false → IsUncalled source) → Stays out → Tells memory_line 7 err status
+    → RunsAs words source out err status
+unanswered_runs words source out err status command is uncalled stays tells = record {
+  answers = λ answered. absurd (elim tells.status_is [ inl seven ↦ answered.2 seven | inr five ↦ answered.1 five ]);
+  read_fault = λ four. absurd (elim tells.status_is [ inl seven ↦ omega arith | inr five ↦ omega arith ]);
+  write_fault = λ five. inr (tells.failed five);
+  part_on_fault = λ _. inl stays;
+  write_fault_line_told = λ five unfailed. absurd (unfailed (tells.failed five));
+  error_line_begun = λ five _. (memory_line, OfMemory refl, tells.part five);
+  memory = λ seven. (inl stays, tells.told seven);
+  usage = λ none. absurd (no_command words command is none);
+  unread = λ other other_is unread. uncalled (reads_same words command other is other_is ∙ unread);
+  read_whole = λ other other_is reads answered. absurd (elim tells.status_is [ inl seven ↦ answered.2 seven | inr five ↦ answered.1 five ]);
+}
 
--- a task that was answered
-pub request_runs : (words : List (List ℕ)) (source out err : Change) (command : Command) (image : List ℕ) (status : ℕ) → IsTask words source command image
-    → Finishes (judged_answer (verdict_of image) command.request image) out err status → RunsAs words source out err status
-request_runs words source out err command image status task finishes =
-    let is : answer_of words image ≡ judged_answer (verdict_of image) command.request image = some_answer words image command task.command_is ∙ within_answer command image task.within in
-    finished_runs words source out err image status (whole_input source.before source.now image task.bytes task.end)
-    (subst (λ (answer : Answer). answer.status ≢ 4) (sym is) (answer_own command.request image).no_read_fault)
-    (subst (λ answer. Finishes answer out err status) (sym is) finishes)
-    (record {
-      usage = λ none. absurd (no_command words command task.command_is none);
-      read_whole = λ _ _ _. inl task.end;
-    })
+-- an answer of a relation was written, or memory was wanting before one was known
+ended_runs : (words : List (List ℕ)) (source out err : Change) (input : List ℕ) (command : Command) (allowed : Answer → Type 0) (status : ℕ) → IsInput source.before input → command_of words ≡ Some command
+    → ((answer : Answer) → allowed answer → IsAnswerTo words input answer × (answer.status ≢ 4)) → (reads_input command.action ≡ false → IsUncalled source) → CallsSource words source status → Ends allowed out err status
+    → RunsAs words source out err status
+ended_runs words source out err input command allowed status is command_is answers uncalled calls (Answered answer allows finishes) =
+    finished_runs words source out err input answer status is (answers answer allows).0 (answers answer allows).1 finishes calls
+ended_runs words source out err input command allowed status is command_is answers uncalled calls (Unanswered stays tells) =
+    unanswered_runs words source out err status command command_is uncalled stays tells
+
+-- a source that was read to its end
+calls_read : (words : List (List ℕ)) (source : Change) (command : Command) (status : ℕ) → command_of words ≡ Some command → reads_input command.action ≡ true → IsAtEnd source.now → CallsSource words source status
+calls_read words source command status is reads end = record {
+  usage = λ none. absurd (no_command words command is none);
+  unread = λ other other_is unread. absurd (both_ways (reads_input command.action) reads (reads_same words command other is other_is ∙ unread));
+  read_whole = λ _ _ _ _. inl end;
+}
+
+-- a source that wasn't called
+calls_nothing : (words : List (List ℕ)) (source : Change) (command : Command) (status : ℕ) → command_of words ≡ Some command → reads_input command.action ≡ false → IsUncalled source → CallsSource words source status
+calls_nothing words source command status is unread uncalled = record {
+  usage = λ none. absurd (no_command words command is none);
+  unread = λ _ _ _. uncalled;
+  read_whole = λ other other_is reads. absurd (both_ways (reads_input command.action) (reads_same words command other is other_is ∙ reads) unread);
+}
+
+-- what is asked of a file
+asked_runs : (words : List (List ℕ)) (source out err : Change) (command : Command) (image : List ℕ) (answer : Answer) (status : ℕ) → IsRead words source command image → IsActionAnswer command.action command.limit image answer → answer.status ≢ 4
+    → Finishes answer out err status → RunsAs words source out err status
+asked_runs words source out err command image answer status read answers other finishes =
+    finished_runs words source out err image answer status (whole_input source.before source.now image read.input_is.bytes read.input_is.end)
+    (within_answers words image command answer read.command_is read.input_is.within answers) other finishes (calls_read words source command status read.command_is read.reads read.input_is.end)
+
+-- a text that is loaded
+loaded_runs : (words : List (List ℕ)) (source out err : Change) (limit : ℕ) (text : List ℕ) (status : ℕ) → IsRead words source (record { limit = limit; action = Load }) text → Ends (IsTextAnswer limit text) out err status
+    → RunsAs words source out err status
+loaded_runs words source out err limit text status read ends =
+    let command : Command = record { limit = limit; action = Load } in
+    ended_runs words source out err text command (IsTextAnswer limit text) status (whole_input source.before source.now text read.input_is.bytes read.input_is.end) read.command_is
+    (λ answer allows. (within_answers words text command answer read.command_is read.input_is.within allows, (text_own limit text answer allows).no_read_fault))
+    (λ unread. absurd (both_ways true refl unread)) (calls_read words source command status read.command_is read.reads read.input_is.end) ends
+
+-- a trial
+tried_runs : (words : List (List ℕ)) (source out err : Change) (limit : ℕ) (trial : CodeTrial) (status : ℕ) → command_of words ≡ Some (record { limit = limit; action = trial_seen trial }) → IsUncalled source
+    → Ends (IsTrialAnswer limit trial.kind trial.seed trial.count) out err status → RunsAs words source out err status
+tried_runs words source out err limit trial status is uncalled ends =
+    let command : Command = record { limit = limit; action = trial_seen trial } in
+    let input = some_input source.before in
+    ended_runs words source out err input.0 command (IsTrialAnswer limit trial.kind trial.seed trial.count) status input.1 is
+    (λ answer allows. (unread_answers words input.0 command answer is refl allows, (trial_own limit trial.kind trial.seed trial.count answer allows).no_read_fault))
+    (λ _. uncalled) (calls_nothing words source command status is refl uncalled) ends
+
+pub taken_runs : (words : List (List ℕ)) (source out err : Change) (task : Task) (status : ℕ) → IsTaken words source task → IsTaskAnswered task out err status → RunsAs words source out err status
+taken_runs words source out err (AskTask request image) status taken answered =
+    let command : Command = record { limit = taken.limit; action = Ask taken.asked } in
+    asked_runs words source out err command image (judged_answer (verdict_of image) taken.asked image) status taken.read refl (answer_own taken.asked image).no_read_fault (answered taken.asked taken.seen)
+taken_runs words source out err (LoadTask text limit) status taken answered = loaded_runs words source out err limit text status taken.read answered
+taken_runs words source out err (TrialTask trial limit) status taken answered = tried_runs words source out err limit trial status taken.command_is taken.uncalled answered
 
 -- words that are no command
-pub usage_runs : (words : List (List ℕ)) (source err : Change) (written : Option (List ℕ)) (faults status : ℕ) → command_of words ≡ None → IsUncalled source → Finishes usage (moved written written faults faults) err status → ((status ≡ 2) ⊎ (status ≡ 5))
+usage_runs : (words : List (List ℕ)) (source err : Change) (written : Option (List ℕ)) (faults status : ℕ) → command_of words ≡ None → IsUncalled source → Finishes usage (moved written written faults faults) err status → ((status ≡ 2) ⊎ (status ≡ 5))
     → RunsAs words source (moved written written faults faults) err status
 usage_runs words source err written faults status none uncalled finishes own =
     let input = some_input source.before in
-    let is : answer_of words input.0 ≡ usage = usage_answer words input.0 none in
-    finished_runs words source (moved written written faults faults) err input.0 status input.1 (subst (λ (answer : Answer). answer.status ≢ 4) (sym is) (λ four. omega arith))
-    (subst (λ answer. Finishes answer (moved written written faults faults) err status) (sym is) finishes)
+    finished_runs words source (moved written written faults faults) err input.0 usage status input.1 (usage_answers words input.0 none) (λ four. omega arith) finishes
     (record {
       usage = λ _. (own, uncalled);
+      unread = λ _ _ _. uncalled;
       read_whole = λ command some. absurd (no_command words command some none);
     })
 
-same_limit : (words : List (List ℕ)) (a b : Command) → command_of words ≡ Some a → command_of words ≡ Some b → a.limit ≡ b.limit
-same_limit words a b as_a as_b = let both : Some a ≡ Some b = sym as_a ∙ as_b in let same : a ≡ b = cc in ap (λ (command : Command). command.limit) same
-
 -- an input beyond the limit
-pub too_long_runs : (words : List (List ℕ)) (source out err : Change) (limit status : ℕ) → IsTooLong words source limit → Finishes (told 6 (too_large_line limit)) out err status → RunsAs words source out err status
+too_long_runs : (words : List (List ℕ)) (source out err : Change) (limit status : ℕ) → IsTooLong words source limit → Finishes (told 6 (too_large_line limit)) out err status → RunsAs words source out err status
 too_long_runs words source out err limit status long finishes =
+    let command = long.reading.command in
     let input = long_input limit source.before source.now long.took in
-    let beyond : long.command.limit < length input.0 = subst (λ n. n < length input.0) long.limit_is input.2 in
-    let is : answer_of words input.0 ≡ told 6 (too_large_line limit) =
-    some_answer words input.0 long.command long.command_is ∙ beyond_answer long.command input.0 beyond ∙ ap (λ n. told 6 (too_large_line n)) (sym long.limit_is) in
-    finished_runs words source out err input.0 status input.1 (subst (λ (answer : Answer). answer.status ≢ 4) (sym is) (λ four. omega arith))
-    (subst (λ answer. Finishes answer out err status) (sym is) finishes)
+    let beyond : command.limit < length input.0 = subst (λ n. n < length input.0) long.limit_is input.2 in
+    finished_runs words source out err input.0 (told 6 (too_large_line limit)) status input.1
+    (subst (λ n. IsAnswerTo words input.0 (told 6 (too_large_line n))) (sym long.limit_is) (beyond_answers words input.0 command long.reading.command_is long.reading.reads beyond)) (λ four. omega arith) finishes
     (record {
-      usage = λ none. absurd (no_command words long.command long.command_is none);
-      read_whole = λ command some answered.
-          inr (
-            own_status (told 6 (too_large_line limit)) out err status finishes answered,
-            subst (λ n. Took (n + 1) source.before source.now) (long.limit_is ∙ same_limit words long.command command long.command_is some) long.took,
-          );
+      usage = λ none. absurd (no_command words command long.reading.command_is none);
+      unread = λ other other_is unread. absurd (both_ways (reads_input command.action) long.reading.reads (reads_same words command other long.reading.command_is other_is ∙ unread));
+      read_whole = λ other other_is _ answered. inr (
+        own_status (told 6 (too_large_line limit)) out err status finishes answered,
+        subst (λ n. Took (n + 1) source.before source.now) (long.limit_is ∙ ap (λ (c : Command). c.limit) (same_command words command other long.reading.command_is other_is)) long.took,
+      );
     })
 
 -- Where nothing is answered.
 
 -- the source failed
-pub read_fault_runs : (words : List (List ℕ)) (source err : Change) (written : Option (List ℕ)) (faults status : ℕ) → AreCommand words → HasFailed source → Tells read_fault_line 4 err status
+read_fault_runs : (words : List (List ℕ)) (source err : Change) (written : Option (List ℕ)) (faults status : ℕ) → AreReading words → HasFailed source → Tells read_fault_line 4 err status
     → RunsAs words source (moved written written faults faults) err status
 read_fault_runs words source err written faults status are failed tells = record {
   answers = λ answered. absurd (elim tells.status_is [ inl four ↦ answered.0 four | inr five ↦ answered.1 five ]);
@@ -176,24 +266,14 @@ read_fault_runs words source err written faults status are failed tells = record
   error_line_begun = λ five _. (read_fault_line, OfReadFault failed refl, tells.part five);
   memory = λ seven. absurd (elim tells.status_is [ inl four ↦ omega arith | inr five ↦ omega arith ]);
   usage = λ none. absurd (no_command words are.command are.command_is none);
-  read_whole = λ _ _ answered. absurd (elim tells.status_is [ inl four ↦ answered.0 four | inr five ↦ answered.1 five ]);
+  unread = λ other other_is unread. absurd (both_ways (reads_input are.command.action) are.reads (reads_same words are.command other are.command_is other_is ∙ unread));
+  read_whole = λ _ _ _ answered. absurd (elim tells.status_is [ inl four ↦ answered.0 four | inr five ↦ answered.1 five ]);
 }
 
 -- memory was wanting before there was a task
-pub memory_runs : (words : List (List ℕ)) (source err : Change) (written : Option (List ℕ)) (faults status : ℕ) → AreCommand words → Tells memory_line 7 err status → RunsAs words source (moved written written faults faults) err status
-memory_runs words source err written faults status are tells = record {
-  answers = λ answered. absurd (elim tells.status_is [ inl seven ↦ answered.2 seven | inr five ↦ answered.1 five ]);
-  read_fault = λ four. absurd (elim tells.status_is [ inl seven ↦ omega arith | inr five ↦ omega arith ]);
-  write_fault = λ five. inr (tells.failed five);
-  part_on_fault = λ _. inl (keeps_itself written);
-  write_fault_line_told = λ five unfailed. absurd (unfailed (tells.failed five));
-  error_line_begun = λ five _. (memory_line, OfMemory refl, tells.part five);
-  memory = λ seven. (inl (keeps_itself written), tells.told seven);
-  usage = λ none. absurd (no_command words are.command are.command_is none);
-  read_whole = λ _ _ answered. absurd (elim tells.status_is [ inl seven ↦ answered.2 seven | inr five ↦ answered.1 five ]);
-}
-
--- All that a run does.
+memory_runs : (words : List (List ℕ)) (source err : Change) (written : Option (List ℕ)) (faults status : ℕ) → AreReading words → Tells memory_line 7 err status → RunsAs words source (moved written written faults faults) err status
+memory_runs words source err written faults status are tells =
+    unanswered_runs words source (moved written written faults faults) err status are.command are.command_is (λ unread. absurd (both_ways (reads_input are.command.action) are.reads unread)) (keeps_itself written) tells
 
 pub stopped_runs : (words : List (List ℕ)) (source err : Change) (written : Option (List ℕ)) (faults : ℕ) (stop : Stop) (status : ℕ) → IsStopped words source stop → IsToldStop stop err status → RunsAs words source (moved written written faults faults) err status
 stopped_runs words source err written faults Usage status stopped told_line =
@@ -207,6 +287,18 @@ stopped_runs words source err written faults (TooLarge limit) status stopped (in
 stopped_runs words source err written faults ReadFault status stopped told_line = read_fault_runs words source err written faults status stopped.0 stopped.1 told_line
 stopped_runs words source err written faults MemoryStop status stopped told_line = memory_runs words source err written faults status stopped told_line
 
-pub taken_runs : (words : List (List ℕ)) (source out err : Change) (task : Task) (status : ℕ) → IsTaken words source task
-    → ((command : Command) → command_seen task.command ≡ Some command → Finishes (judged_answer (verdict_of task.image) command.request task.image) out err status) → RunsAs words source out err status
-taken_runs words source out err task status taken answered = request_runs words source out err taken.command task.image status taken.taken (answered taken.command taken.seen)
+-- Without faults.
+
+pub never_rose : Rose 0 0 → ⊥
+never_rose rose = elim rose [ inl more ↦ omega arith | inr last ↦ omega arith ]
+
+-- what has no faults tells an answer, but for want of memory
+pub pure_status : (words : List (List ℕ)) (bytes : List ℕ) (source out err : Change) (status : ℕ) → RunsAs words source out err status → source.before ≡ Some bytes → (HasFailed source → ⊥) → (HasFailed out → ⊥) → (HasFailed err → ⊥) → status ≢ 7
+    → StatusIs words bytes status
+pure_status words bytes source out err status runs before no_source no_out no_err no_memory =
+    let found = runs.answers (λ four. no_source (runs.read_fault four).0, λ five. elim (runs.write_fault five) [ inl failed ↦ no_out failed | inr failed ↦ no_err failed ], no_memory) in
+    record {
+      written = found.2;
+      told = found.4;
+      answer = subst (λ input. Output words input found.2 found.4 status) (subst (λ left. IsInput left found.0) before found.1) found.6;
+    }

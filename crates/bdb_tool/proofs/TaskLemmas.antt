@@ -1,48 +1,66 @@
 -- From the words and the source to a task.
-use Rattle.std.proofs.Common.{◌≡◌, ℕ, ◌+◌, ◌≤◌, List, length, refl, subst, ◌∙◌, ap}
+use Rattle.std.proofs.Common.{◌≡◌, ℕ, ◌+◌, true, List, refl, subst, sym, ◌∙◌, ap}
 use Rattle.std.specs.Prelude.{Option, Some, None, IsTrue, is_some}
-use Rattle.std.specs.Io.KnownBytes.{Consumes, IsAtEnd}
-use Rattle.bdb_model.specs.Change.{Change}
-use Rattle.bdb_model.specs.Command.{Request, Command, command_of, within}
+use Rattle.bdb_model.specs.Change.{Change, IsUncalled}
+use Rattle.bdb_model.specs.Command.{Request}
 use Rattle.bdb_model.specs.Faults.{Took}
-use Rattle.bdb_tool.specs.declared.command.Command.{Command as CodeCommand}
-use Rattle.bdb_tool.specs.declared.task.Task.{Task}
-use Rattle.bdb_tool.specs.Tasks.{AreCommand, IsTaken, IsTooLong}
-use Rattle.bdb_tool.specs.WordsSeen.{IsSeen, request_seen, command_seen}
+use Rattle.bdb_tool.specs.Commands.{Action, Ask, Load, Command, asking, command_of, reads_input, within}
+use Rattle.bdb_tool.specs.declared.command.Action.TheVariants.{Ask as AskWord, Load as LoadWord, Trial as TrialWord}
+use Rattle.bdb_tool.specs.declared.command.Request.{Request as CodeRequest}
+use Rattle.bdb_tool.specs.declared.command.Trial.{Trial as CodeTrial}
+use Rattle.bdb_tool.specs.declared.task.Stop.{Stop}
+use Rattle.bdb_tool.specs.declared.task.Stop.TheVariants.{Usage, TooLarge, ReadFault, Memory}
+use Rattle.bdb_tool.specs.Tasks.{AreReading, IsAsked, IsInputWithin, IsStopped, IsTextRead, IsTried, IsUnreadable}
+use Rattle.bdb_tool.specs.WordsSeen.{IsSeen, request_seen}
 
 some_value : {A : Type 0} (value : Option A) → IsTrue (is_some value) → (x : A) × (value ≡ Some x)
 some_value None is = absurd cc
 some_value (Some x) is = (x, refl)
 
-abbrev made : ℕ → Request → Command
-made limit request = record { limit = limit; request = request }
+abbrev made : ℕ → Action → Command
+made limit action = record { limit = limit; action = action }
 
--- what a command is made of
-pub made_of : (limit : ℕ) (request : Option Request) (model : Command) → within (Some limit) request ≡ Some model → (request ≡ Some model.request) × (limit ≡ model.limit)
-made_of limit None model is = absurd cc
-made_of limit (Some request) model is =
-    let same : made limit request ≡ model = cc in
-    (ap (λ (command : Command). Some command.request) same, ap (λ (command : Command). command.limit) same)
+-- a command that asks something
+asks : (limit : ℕ) (request : Option Request) → IsTrue (is_some (within (Some limit) (asking request))) → (asked : Request) × (request ≡ Some asked)
+asks limit None is = absurd cc
+asks limit (Some asked) is = (asked, refl)
 
-pub seen_command : (words : List (List ℕ)) (command : CodeCommand) → IsSeen (command_of words) command → (model : Command) × (command_seen command ≡ Some model) × (command_of words ≡ Some model)
-seen_command words command seen =
-    let some = some_value (command_seen command) seen.1 in
-    (some.0, some.1, seen.0 ∙ some.1)
+pub asks_request : (limit : ℕ) (request : CodeRequest) → IsTrue (is_some (within (Some limit) (asking (request_seen request)))) → IsTrue (is_some (request_seen request))
+asks_request limit request is = let asked = asks limit (request_seen request) is in rw asked.1 refl
 
-pub are_command : (words : List (List ℕ)) (command : CodeCommand) → IsSeen (command_of words) command → AreCommand words
-are_command words command seen = let found = seen_command words command seen in record { command = found.0; command_is = found.2 }
+-- a command that reads its input
+abbrev reading : (words : List (List ℕ)) (limit : ℕ) (action : Action) → command_of words ≡ Some (made limit action) → reads_input action ≡ true → AreReading words
+reading words limit action is reads = record { command = made limit action; command_is = is; reads = reads }
 
-pub is_taken : (words : List (List ℕ)) (source : Change) (task : Task) → IsSeen (command_of words) task.command → Consumes source.before source.now task.image → IsAtEnd source.now → length task.image ≤ task.command.limit
-    → IsTaken words source task
-is_taken words source task seen bytes end within =
-    let found = seen_command words task.command seen in
+pub is_asked : (words : List (List ℕ)) (source : Change) (limit : ℕ) (request : CodeRequest) (image : List ℕ) → IsSeen (command_of words) (record { limit = limit; action = AskWord request }) → IsInputWithin limit source image
+    → IsAsked words source request image
+is_asked words source limit request image seen input =
+    let asked = asks limit (request_seen request) seen.1 in
     record {
-      command = found.0;
-      seen = found.1;
-      taken = record { command_is = found.2; bytes = bytes; end = end; within = subst (λ n. length task.image ≤ n) (made_of task.command.limit (request_seen task.command.request) found.0 found.1).1 within };
+      limit = limit;
+      asked = asked.0;
+      seen = asked.1;
+      read = record { command_is = seen.0 ∙ ap (λ it. within (Some limit) (asking it)) asked.1; reads = refl; input_is = input };
     }
 
-pub is_too_long : (words : List (List ℕ)) (source : Change) (command : CodeCommand) → IsSeen (command_of words) command → Took (command.limit + 1) source.before source.now → IsTooLong words source command.limit
-is_too_long words source command seen took =
-    let found = seen_command words command seen in
-    record { command = found.0; command_is = found.2; limit_is = (made_of command.limit (request_seen command.request) found.0 found.1).1; took = took }
+pub is_text_read : (words : List (List ℕ)) (source : Change) (limit : ℕ) (text : List ℕ) → IsSeen (command_of words) (record { limit = limit; action = LoadWord }) → IsInputWithin limit source text → IsTextRead words source text limit
+is_text_read words source limit text seen input = record { read = record { command_is = seen.0; reads = refl; input_is = input } }
+
+pub is_tried : (words : List (List ℕ)) (source : Change) (limit : ℕ) (trial : CodeTrial) → IsSeen (command_of words) (record { limit = limit; action = TrialWord trial }) → IsUncalled source → IsTried words source trial limit
+is_tried words source limit trial seen uncalled = record { command_is = seen.0; uncalled = uncalled }
+
+-- no input, of a command that reads it
+not_read : (words : List (List ℕ)) (source : Change) (limit : ℕ) (action : Action) (stop : Stop) → command_of words ≡ Some (made limit action) → reads_input action ≡ true → IsUnreadable limit source stop → IsStopped words source stop
+not_read words source limit action Usage is reads unread = absurd unread
+not_read words source limit action (TooLarge longest) is reads unread =
+    record { reading = reading words limit action is reads; limit_is = unread.0; took = subst (λ n. Took (n + 1) source.before source.now) (sym unread.0) unread.1 }
+not_read words source limit action ReadFault is reads unread = (reading words limit action is reads, unread)
+not_read words source limit action Memory is reads unread = reading words limit action is reads
+
+pub asked_unread : (words : List (List ℕ)) (source : Change) (limit : ℕ) (request : CodeRequest) (stop : Stop) → IsSeen (command_of words) (record { limit = limit; action = AskWord request }) → IsUnreadable limit source stop → IsStopped words source stop
+asked_unread words source limit request stop seen unread =
+    let asked = asks limit (request_seen request) seen.1 in
+    not_read words source limit (Ask asked.0) stop (seen.0 ∙ ap (λ it. within (Some limit) (asking it)) asked.1) refl unread
+
+pub text_unread : (words : List (List ℕ)) (source : Change) (limit : ℕ) (stop : Stop) → IsSeen (command_of words) (record { limit = limit; action = LoadWord }) → IsUnreadable limit source stop → IsStopped words source stop
+text_unread words source limit stop seen unread = not_read words source limit Load stop seen.0 refl unread

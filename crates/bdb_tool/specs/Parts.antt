@@ -1,14 +1,23 @@
 -- The two halves of a run: what it takes from the words and the source, and how it writes the answer.
-use Rattle.std.specs.Prelude.{◌≡◌, ◌≢◌, ◌⊎◌, ℕ, List, [], Result, Ok, Err}
+use Rattle.std.specs.Prelude.{◌≡◌, ◌≢◌, ◌⊎◌, ℕ, List, [], Result, Ok, Err, Some, string_bytes}
 use Rattle.bdb_format.specs.declared.kinds.Verdict.{Verdict}
 use Rattle.bdb_format.specs.declared.kinds.Verdict.TheVariants.{Fault, Unsupported, Memory as MemoryVerdict}
-use Rattle.bdb_model.specs.Answers.{Answer, fault_line, too_large_line, unsupported_line, usage}
-use Rattle.bdb_model.specs.Change.{Change, Gains, GainsPart, HasFailed}
+use Rattle.bdb_format.specs.Verdict.{verdict_of}
+use Rattle.bdb_model.specs.Answers.{Answer, fault_line, judged_answer, too_large_line, unsupported_line, usage}
+use Rattle.bdb_model.specs.Change.{Change, Gains, GainsPart, HasFailed, Stays}
+use Rattle.bdb_model.specs.Command.{Request}
 use Rattle.bdb_model.specs.Lines.{memory_line, read_fault_line, write_fault_line}
 use Rattle.bdb_tool.specs.declared.printing.Cut.{Cut}
 use Rattle.bdb_tool.specs.declared.printing.Cut.TheVariants.{WriteFault, Memory}
+use Rattle.bdb_tool.specs.WordsSeen.{request_seen}
+use Rattle.bdb_tool.specs.declared.task.Task.{Task}
+use Rattle.bdb_tool.specs.declared.task.Task.TheVariants.{Ask as AskTask, Load as LoadTask, Trial as TrialTask}
 use Rattle.bdb_tool.specs.declared.task.Stop.{Stop}
 use Rattle.bdb_tool.specs.declared.task.Stop.TheVariants.{Usage, TooLarge, ReadFault, Memory as MemoryStop}
+use Rattle.bdb_writing.specs.declared.refusal.Refusal.{Refusal}
+use Rattle.bdb_writing.specs.declared.refusal.Refusal.TheVariants.{Faulty as FaultyText, TooLarge as TooLargeImage, Memory as MemoryRefusal}
+use Rattle.bdb_writing.specs.Loads.{IsTextAnswer}
+use Rattle.bdb_writing.specs.Trials.{IsTrialAnswer}
 
 -- a text was written to the error sink for this status, or that sink failed
 pub record Tells (text : List ℕ) (wanted : ℕ) (err : Change) (status : ℕ) : Type 0 where
@@ -52,3 +61,21 @@ abbrev pub IsRefused : Verdict → Change → ℕ → Type 0
 IsRefused (Fault fault) err status = Tells (fault_line fault) 1 err status ⊎ Tells memory_line 7 err status
 IsRefused (Unsupported name page) err status = Tells (unsupported_line name page) 3 err status ⊎ Tells memory_line 7 err status
 IsRefused MemoryVerdict err status = Tells memory_line 7 err status
+
+-- it was told why nothing is built
+abbrev pub IsRefusalTold : Refusal → Change → ℕ → Type 0
+IsRefusalTold (FaultyText line) err status = Tells (string_bytes line) 8 err status
+IsRefusalTold (TooLargeImage line) err status = Tells (string_bytes line) 6 err status
+IsRefusalTold MemoryRefusal err status = Tells memory_line 7 err status
+
+-- one of the answers that are allowed was written, or memory was wanting before one was known
+pub data Ends (allowed : Answer → Type 0) (out err : Change) (status : ℕ) : Type 0 where
+  Answered : (answer : Answer) → allowed answer → Finishes answer out err status → Ends allowed out err status
+  Unanswered : Stays out → Tells memory_line 7 err status → Ends allowed out err status
+
+-- a task was answered
+abbrev pub IsTaskAnswered : Task → Change → Change → ℕ → Type 0
+IsTaskAnswered (AskTask request image) out err status =
+    (asked : Request) → request_seen request ≡ Some asked → Finishes (judged_answer (verdict_of image) asked image) out err status
+IsTaskAnswered (LoadTask text limit) out err status = Ends (IsTextAnswer limit text) out err status
+IsTaskAnswered (TrialTask trial limit) out err status = Ends (IsTrialAnswer limit trial.kind trial.seed trial.count) out err status

@@ -1,42 +1,95 @@
 -- What a run takes from the words and the source before it answers.
-use Rattle.std.specs.Prelude.{◌≡◌, ℕ, ◌+◌, ◌≤◌, List, length, Some, None}
+use Rattle.std.specs.Prelude.{◌≡◌, ℕ, ◌+◌, ◌≤◌, ◌^◌, IsTrue, true, List, length, Some, None, is_some}
 use Rattle.std.specs.Io.KnownBytes.{Consumes, IsAtEnd}
 use Rattle.bdb_model.specs.Change.{Change, HasFailed, IsUncalled}
-use Rattle.bdb_model.specs.Command.{Command, command_of}
+use Rattle.bdb_model.specs.Command.{Request}
 use Rattle.bdb_model.specs.Faults.{Took}
-use Rattle.bdb_tool.specs.WordsSeen.{command_seen}
+use Rattle.bdb_tool.specs.Commands.{Ask, Command, Load, command_of, reads_input}
+use Rattle.bdb_tool.specs.WordsSeen.{IsFitTrial, request_seen, trial_seen}
+use Rattle.bdb_tool.specs.declared.command.Request.{Request as CodeRequest}
+use Rattle.bdb_tool.specs.declared.command.Trial.{Trial as CodeTrial}
 use Rattle.bdb_tool.specs.declared.task.Task.{Task}
+use Rattle.bdb_tool.specs.declared.task.Task.TheVariants.{Ask as AskTask, Load as LoadTask, Trial as TrialTask}
 use Rattle.bdb_tool.specs.declared.task.Stop.{Stop}
 use Rattle.bdb_tool.specs.declared.task.Stop.TheVariants.{Usage, TooLarge, ReadFault, Memory}
 
--- the words are a command, and the image is what the source had, to its end and within the limit
-pub record IsTask (words : List (List ℕ)) (source : Change) (command : Command) (image : List ℕ) : Type 0 where
-  pub command_is : command_of words ≡ Some command
-  pub bytes : Consumes source.before source.now image
+-- Reading the input.
+
+-- these bytes are what the source had, to its end and within a limit
+pub record IsInputWithin (limit : ℕ) (source : Change) (input : List ℕ) : Type 0 where
+  pub bytes : Consumes source.before source.now input
   pub end : IsAtEnd source.now
-  pub within : length image ≤ command.limit
+  pub within : length input ≤ limit
 
--- the words are a command, of which one byte more than its limit was read
+-- why there is no input within a limit
+abbrev pub IsUnreadable : ℕ → Change → Stop → Type 0
+IsUnreadable limit source Usage = ⊥
+IsUnreadable limit source (TooLarge longest) = (longest ≡ limit) × Took (limit + 1) source.before source.now
+IsUnreadable limit source ReadFault = HasFailed source
+IsUnreadable limit source Memory = Unit {0}
+
+-- Commands.
+
+-- the words are a command that reads its input
+pub record AreReading (words : List (List ℕ)) : Type 0 where
+  pub command : Command
+  pub command_is : command_of words ≡ Some command
+  pub reads : reads_input command.action ≡ true
+
+-- the words are a command that reads its input, and these bytes are the input
+pub record IsRead (words : List (List ℕ)) (source : Change) (command : Command) (input : List ℕ) : Type 0 where
+  pub command_is : command_of words ≡ Some command
+  pub reads : reads_input command.action ≡ true
+  pub input_is : IsInputWithin command.limit source input
+
+-- the words are a command, of whose input one byte more than its limit was read
 pub record IsTooLong (words : List (List ℕ)) (source : Change) (limit : ℕ) : Type 0 where
-  pub command : Command
-  pub command_is : command_of words ≡ Some command
-  pub limit_is : limit ≡ command.limit
+  pub reading : AreReading words
+  pub limit_is : limit ≡ reading.command.limit
   pub took : Took (limit + 1) source.before source.now
-
--- the words are some command
-pub record AreCommand (words : List (List ℕ)) : Type 0 where
-  pub command : Command
-  pub command_is : command_of words ≡ Some command
 
 -- why there is no task
 abbrev pub IsStopped : List (List ℕ) → Change → Stop → Type 0
 IsStopped words source Usage = (command_of words ≡ None) × IsUncalled source
 IsStopped words source (TooLarge limit) = IsTooLong words source limit
-IsStopped words source ReadFault = AreCommand words × HasFailed source
-IsStopped words source Memory = AreCommand words
+IsStopped words source ReadFault = AreReading words × HasFailed source
+IsStopped words source Memory = AreReading words
 
--- what is asked is what the words say, and the image is the whole input
-pub record IsTaken (words : List (List ℕ)) (source : Change) (task : Task) : Type 0 where
-  pub command : Command
-  pub seen : command_seen task.command ≡ Some command
-  pub taken : IsTask words source command task.image
+-- Tasks.
+
+-- the words ask this of a file, and the image is the input
+pub record IsAsked (words : List (List ℕ)) (source : Change) (request : CodeRequest) (image : List ℕ) : Type 0 where
+  pub limit : ℕ
+  pub asked : Request
+  pub seen : request_seen request ≡ Some asked
+  pub read : IsRead words source (record { limit = limit; action = Ask asked }) image
+
+-- the words ask to load the text, which is the input
+pub record IsTextRead (words : List (List ℕ)) (source : Change) (text : List ℕ) (limit : ℕ) : Type 0 where
+  pub read : IsRead words source (record { limit = limit; action = Load }) text
+
+-- the words ask for a trial, and nothing was read
+pub record IsTried (words : List (List ℕ)) (source : Change) (trial : CodeTrial) (limit : ℕ) : Type 0 where
+  pub command_is : command_of words ≡ Some (record { limit = limit; action = trial_seen trial })
+  pub uncalled : IsUncalled source
+
+-- what there is to do is what the words say
+abbrev pub IsTaken : List (List ℕ) → Change → Task → Type 0
+IsTaken words source (AskTask request image) = IsAsked words source request image
+IsTaken words source (LoadTask text limit) = IsTextRead words source text limit
+IsTaken words source (TrialTask trial limit) = IsTried words source trial limit
+
+-- a request that was read of words, of an image that isn't too long
+pub record IsFitAsk (request : CodeRequest) (image : List ℕ) : Type 0 where
+  pub seen : IsTrue (is_some (request_seen request))
+  pub size : length image ≤ 2 ^ 30
+
+pub record IsFitLoad (text : List ℕ) (limit : ℕ) : Type 0 where
+  pub size : length text ≤ 2 ^ 30
+  pub within : limit ≤ 2 ^ 30
+
+-- a task that can be done
+abbrev pub IsFitTask : Task → Type 0
+IsFitTask (AskTask request image) = IsFitAsk request image
+IsFitTask (LoadTask text limit) = IsFitLoad text limit
+IsFitTask (TrialTask trial limit) = IsFitTrial trial × (limit ≤ 2 ^ 30)

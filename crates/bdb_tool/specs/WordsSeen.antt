@@ -1,6 +1,7 @@
 -- What the values of the code are in the definitions of a command line's words.
-use Rattle.std.specs.Prelude.{ℕ, ◌≡◌, ◌<◌, ◌≤◌, ◌++◌, Bool, true, false, not, if◌then◌else◌, List, [], ◌∷◌, drop, length, Option, Some, IsTrue, is_some, option_copied}
-use Rattle.bdb_model.specs.Command.{Request, Verify, ListAll, Command, OptionRow, Given, Arguments, arguments, asked_name, hex_option, hex_row, is_given, key_request, max_bytes, max_bytes_row, name_option, name_row, only_operands, print_option, print_row, row_of, text_request, value_given, with_option, within}
+use Rattle.std.specs.Prelude.{ℕ, ◌≡◌, ◌<◌, ◌≤◌, ◌^◌, ◌++◌, Bool, true, false, not, List, [], ◌∷◌, drop, length, Option, Some, IsTrue, is_some, option_copied, ⊤}
+use Rattle.bdb_model.specs.Command.{Request, Verify, ListAll, OptionRow, Given, Arguments, arguments, asked_name, hex_option, hex_row, is_given, key_request, max_bytes, max_bytes_row, name_option, name_row, only_operands, print_option, print_row, row_of, text_request, value_given, with_option}
+use Rattle.bdb_tool.specs.Commands.{Action, Load, Trial, Command, asking, within}
 use Rattle.bdb_model.specs.TextSpelling.{bytes_spelled}
 use Rattle.bdb_tool.specs.declared.options.OptionWord.{OptionWord}
 use Rattle.bdb_tool.specs.declared.options.OptionWord.TheVariants.{MaxBytes as MaxBytesWord, Name as NameWord, Hex as HexWord, Print as PrintWord}
@@ -9,7 +10,10 @@ use Rattle.bdb_tool.specs.declared.options.GivenOption.TheVariants.{MaxBytes, Na
 use Rattle.bdb_tool.specs.declared.options.Arguments.{Arguments as ReadArguments}
 use Rattle.bdb_tool.specs.declared.command.Request.{Request as CodeRequest}
 use Rattle.bdb_tool.specs.declared.command.Request.TheVariants.{Verify as VerifyWord, List as ListWord, Get as GetWord, Dump as DumpWord}
+use Rattle.bdb_tool.specs.declared.command.Action.{Action as CodeAction}
+use Rattle.bdb_tool.specs.declared.command.Action.TheVariants.{Ask as AskWord, Load as LoadWord, Trial as TrialWord}
 use Rattle.bdb_tool.specs.declared.command.Command.{Command as CodeCommand}
+use Rattle.bdb_tool.specs.declared.command.Trial.{Trial as CodeTrial}
 use Rattle.bdb_tool.specs.declared.options.Step.{Step}
 use Rattle.bdb_tool.specs.declared.options.Step.TheVariants.{Given as GivenStep, Operands}
 
@@ -80,9 +84,32 @@ request_seen ListWord = Some ListAll
 request_seen (GetWord it) = key_request (asked_name (option_copied it.name)) (bytes_spelled (not it.hex) it.key.now) it.print
 request_seen (DumpWord it) = text_request (asked_name (option_copied it.name)) it.print
 
+abbrev pub trial_seen : CodeTrial → Action
+trial_seen trial = Trial trial.kind trial.seed trial.count
+
+abbrev pub action_seen : CodeAction → Option Action
+action_seen (AskWord request) = asking (request_seen request)
+action_seen LoadWord = Some Load
+action_seen (TrialWord trial) = Some (trial_seen trial)
+
 abbrev pub command_seen : CodeCommand → Option Command
-command_seen command = within (Some command.limit) (request_seen command.request)
+command_seen command = within (Some command.limit) (action_seen command.action)
 
 -- what is seen of a command is the command that the words are
 abbrev pub IsSeen : Option Command → CodeCommand → Type 0
-IsSeen request command = (request ≡ command_seen command) × IsTrue (is_some (command_seen command))
+IsSeen words command = (words ≡ command_seen command) × IsTrue (is_some (command_seen command))
+
+-- pairs can be generated from the seed, so many
+pub record IsFitTrial (trial : CodeTrial) : Type 0 where
+  pub seed : trial.seed < 2 ^ 31
+  pub count : trial.count ≤ 200000
+
+abbrev pub IsFitAction : CodeAction → Type 0
+IsFitAction (AskWord request) = ⊤
+IsFitAction LoadWord = ⊤
+IsFitAction (TrialWord trial) = IsFitTrial trial
+
+-- what is done can be done, within a limit
+pub record IsFitCommand (command : CodeCommand) : Type 0 where
+  pub limit : command.limit ≤ 2 ^ 30
+  pub action : IsFitAction command.action

@@ -1,42 +1,41 @@
 ghost use Rattle.std.specs.Prelude.{◌≡◌, ◌⊎◌, ◌≤◌, ◌^◌, [], IfOk, IsTrue, MatchOption, List, Option, Some, is_some, length, not, option_copied, ℕ};
 ghost use Rattle.bdb_model.specs.Answers.{data_named, dumped, found, judged_answer, fault_line, sound_answer, sound_line, unsupported_line};
 ghost use Rattle.bdb_model.specs.Change.{change};
-ghost use Rattle.bdb_model.specs.Command.{Command, Request as ModelRequest, asked_name, key_request, text_request};
+ghost use Rattle.bdb_model.specs.Command.{Request as ModelRequest, asked_name, key_request, text_request};
 ghost use Rattle.bdb_model.specs.File.{file_of};
 ghost use Rattle.bdb_model.specs.HeadOf.{head_of};
 ghost use Rattle.bdb_model.specs.Lines.{memory_line};
 ghost use Rattle.bdb_model.specs.TextSpelling.{bytes_spelled};
 ghost use Rattle.bdb_model.specs.Verdict.{verdict_of};
-ghost use Rattle.bdb_tool.specs.Parts.{Finishes, IsRefused, Tells};
+ghost use Rattle.bdb_tool.specs.Parts.{Finishes, IsRefused, IsTaskAnswered, Tells};
 ghost use Rattle.bdb_tool.specs.Printing.{Writes};
-ghost use Rattle.bdb_tool.specs.WordsSeen.{request_seen, command_seen};
+ghost use Rattle.bdb_tool.specs.Tasks.{IsFitTask};
+ghost use Rattle.bdb_tool.specs.WordsSeen.{request_seen};
 
+use crate::building::{answer_load, answer_trial};
 use crate::command::{Lookup, Request, Selection};
 use crate::dumping::{write_section, write_sections};
-use crate::finish::{report, tell, tell_memory};
+use crate::finish::{put, report, tell, tell_memory};
 use crate::listing::{write_found, write_list};
 use crate::printing::Cut;
 use crate::status::{FAULT, NOT_FOUND, UNSUPPORTED};
 use crate::task::Task;
 use crate::text::{fault_line, sound_line, unsupported_line};
 use bdb_file::{Found, Sound, verify};
-use bdb_io::{Sink, put_all};
+use bdb_io::Sink;
 use bdb_model::{Bytes, Fault, Steps, Unsupported, Verdict};
 use bdb_text::{SpellError, read_spelling};
 use std::alloc::{AllocError, Global};
 use std::sync::ledger::Ledger;
 
 /// Writes the line of a sound file.
-#[tactic(auto, using(crate::proofs::AnswerLemmas::line_written, crate::proofs::AnswerLemmas::line_cut, crate::proofs::AnswerLemmas::no_line))]
+#[tactic(auto, using(crate::proofs::AnswerLemmas::no_line, crate::proofs::AnswerLemmas::same_text))]
 fn print_sound<K: Sink>(alloc: Global, sound: &Sound<'_>, out: &mut K) -> Result<(), Cut>
     ensures { Writes (sound_line (head_of sound.now).pages) (change K.written K.faults out.old out.new) result }
 {
-    let Ok(line) = sound_line(alloc, sound.head().pages) else {
-        return Err(Cut::Memory);
-    };
-    match put_all(out, line.as_bytes()) {
-        Ok(()) => Ok(()),
-        Err(_) => Err(Cut::WriteFault),
+    match sound_line(alloc, sound.head().pages) {
+        Ok(line) => put(out, line.as_bytes()),
+        Err(_) => Err(Cut::Memory),
     }
 }
 
@@ -217,20 +216,39 @@ fn refuse<E: Sink>(alloc: Global, verdict: Verdict, err: &mut E) -> u8
     }
 }
 
-/// Answers a task.
-pub(crate) fn answer<K: Sink, E: Sink, L: Ledger>(
+/// Answers what is asked of a file.
+fn answer_file<K: Sink, E: Sink, L: Ledger>(
     alloc: Global,
-    task: &Task<'_>,
+    image: &[u8],
+    request: &Request<'_>,
     out: &mut K,
     err: &mut E,
     steps: &mut Steps<L>,
 ) -> u8
-    requires size { length task.now.image ≤ 2 ^ 30 }
-    requires seen { IsTrue (is_some (command_seen task.now.command)) }
-    ensures { (command : Command) → command_seen task.now.command ≡ Some command → Finishes (judged_answer (verdict_of task.now.image) command.request task.now.image) (change K.written K.faults out.old out.new) (change E.written E.faults err.old err.new) result }
+    requires size { length image.now ≤ 2 ^ 30 }
+    requires seen { IsTrue (is_some (request_seen request.now)) }
+    ensures { (asked : ModelRequest) → request_seen request.now ≡ Some asked → Finishes (judged_answer (verdict_of image.now) asked image.now) (change K.written K.faults out.old out.new) (change E.written E.faults err.old err.new) result }
 {
-    match verify(alloc, task.image.bytes(), steps) {
-        Ok(sound) => answer_sound(alloc, &sound, &task.command.request, out, err, steps),
+    match verify(alloc, image, steps) {
+        Ok(sound) => answer_sound(alloc, &sound, request, out, err, steps),
         Err(verdict) => refuse(alloc, verdict, err),
+    }
+}
+
+/// Answers a task, which is given up.
+pub(crate) fn answer<K: Sink, E: Sink, L: Ledger>(
+    alloc: Global,
+    task: Task<'_>,
+    out: &mut K,
+    err: &mut E,
+    steps: &mut Steps<L>,
+) -> u8
+    requires { IsFitTask task }
+    ensures { IsTaskAnswered task.entry (change K.written K.faults out.old out.new) (change E.written E.faults err.old err.new) result }
+{
+    match task {
+        Task::Ask(request, image) => answer_file(alloc, image.bytes(), &request, out, err, steps),
+        Task::Load(text, limit) => answer_load(alloc, text, limit, out, err),
+        Task::Trial(trial, limit) => answer_trial(alloc, trial, limit, out, err, steps),
     }
 }

@@ -1,10 +1,12 @@
 //! The command that the words of a command line are. Nothing here allocates.
-ghost use Rattle.std.specs.Prelude.{◌≡◌, ◌≢◌, ◌≤◌, ◌^◌, [], ◌∷◌, IfSome, Some, List, MatchOption, drop, is_some, not, option_copied, ℕ};
-ghost use Rattle.bdb_model.specs.Command.{Request as ModelRequest, arguments, asked_name, command_of, command_with, dump_row, get_row, limit_of, once, plain_row, within};
-ghost use Rattle.bdb_tool.specs.WordsSeen.{IsSeen};
+ghost use Rattle.std.specs.Prelude.{◌≡◌, ◌≢◌, ◌≤◌, ◌^◌, [], ◌∷◌, IfSome, Some, List, MatchOption, drop, is_some, length, not, option_copied, ℕ};
+ghost use Rattle.bdb_format.specs.Digits.{number_in};
+ghost use Rattle.bdb_model.specs.Command.{arguments, asked_name, limit_of, once};
+ghost use Rattle.bdb_tool.specs.Commands.{Action as ModelAction, at_most, command_of, command_with, dump_row, get_row, kind_named, plain_row, trial_row};
+ghost use Rattle.bdb_tool.specs.WordsSeen.{IsFitAction, IsFitCommand, IsSeen, action_seen};
 
 use crate::options::{OptionWord, read_arguments};
-use bdb_format::number_in;
+use bdb_format::{Kind, number_in};
 use bdb_model::Words;
 use bdb_text::is_spelling;
 
@@ -36,15 +38,45 @@ pub enum Request<'w> {
     Dump(Selection<'w>),
 }
 
-/// A command: the longest input that it takes, in bytes, and what it asks.
+/// What `trial` generates: so many pairs of a kind, from a seed.
+#[derive(Clone, Copy)]
+pub struct Trial {
+    pub kind: Kind,
+    pub seed: u32,
+    pub count: u32,
+}
+
+/// What a command does.
+#[derive(Clone, Copy)]
+pub enum Action<'w> {
+    Ask(Request<'w>),
+    Load,
+    Trial(Trial),
+}
+
+/// A command: the longest input that it takes, or the longest image that it builds, in bytes, and what it does.
 #[derive(Clone, Copy)]
 pub struct Command<'w> {
     pub limit: u32,
-    pub request: Request<'w>,
+    pub action: Action<'w>,
+}
+
+/// The operands of `trial`.
+#[derive(Clone, Copy)]
+struct TrialWords<'w> {
+    kind: &'w [u8],
+    seed: &'w [u8],
+    count: &'w [u8],
 }
 
 /// The longest input that any command takes, in bytes.
 const LONGEST: u32 = 1 << 30;
+
+/// The greatest seed of `trial`.
+const GREATEST_SEED: u32 = 2147483647;
+
+/// The most pairs that `trial` makes.
+const MOST_PAIRS: u32 = 200000;
 
 /// The options of a command without any of its own.
 const PLAIN: [OptionWord; 1] = [OptionWord::MaxBytes];
@@ -63,22 +95,14 @@ const SELECTION: [OptionWord; 3] = [OptionWord::MaxBytes, OptionWord::Name, Opti
 /// The command that the words are, unless they are none.
 pub fn command_of<'w>(words: &'w Words) -> Option<Command<'w>>
     ensures command { MatchOption result (command_of words.now ≡ None) (IsSeen (command_of words.now)) }
-    ensures limit { IfSome result (λ command. command.limit ≤ 2 ^ 30) }
+    ensures fit { IfSome result IsFitCommand }
 {
     let word = words.get(0)?;
     if word == b"verify".as_slice() {
-        let limit = plain_limit(words)?;
-        return Some(Command {
-            limit,
-            request: Request::Verify,
-        });
+        return plain_command(words, Action::Ask(Request::Verify));
     }
     if word == b"list".as_slice() {
-        let limit = plain_limit(words)?;
-        return Some(Command {
-            limit,
-            request: Request::List,
-        });
+        return plain_command(words, Action::Ask(Request::List));
     }
     if word == b"get".as_slice() {
         return lookup_command(words);
@@ -86,25 +110,34 @@ pub fn command_of<'w>(words: &'w Words) -> Option<Command<'w>>
     if word == b"dump".as_slice() {
         return dump_command(words);
     }
+    if word == b"load".as_slice() {
+        return plain_command(words, Action::Load);
+    }
+    if word == b"trial".as_slice() {
+        return trial_command(words);
+    }
     None
 }
 
-// The limit of a command without operands and without options of its own.
-fn plain_limit(words: &Words) -> Option<u32>
-    ensures seen { (word : List ℕ) (request : ModelRequest) → command_with (plain_row word request) (once (arguments (plain_row word request).options (drop 1 words.now))) ≡ within result (Some request) }
-    ensures limit { IfSome result (λ limit. limit ≤ 2 ^ 30) }
+// A command without operands and without options of its own.
+fn plain_command<'w>(words: &'w Words, action: Action<'w>) -> Option<Command<'w>>
+    requires fit { IsFitAction action }
+    ensures command { (word : List ℕ) (does : ModelAction) → action_seen action.entry ≡ Some does
+        → MatchOption result (command_with (plain_row word does) (once (arguments (plain_row word does).options (drop 1 words.now))) ≡ None) (IsSeen (command_with (plain_row word does) (once (arguments (plain_row word does).options (drop 1 words.now))))) }
+    ensures fit { IfSome result IsFitCommand }
 {
     let read = read_arguments(words, &PLAIN)?;
     if read.operands < words.len() {
         return None;
     }
-    limit_of(read.max_bytes)
+    let limit = limit_of(read.max_bytes)?;
+    Some(Command { limit, action })
 }
 
 // The command `get`.
 fn lookup_command<'w>(words: &'w Words) -> Option<Command<'w>>
     ensures command { MatchOption result (command_with get_row (once (arguments get_row.options (drop 1 words.now))) ≡ None) (IsSeen (command_with get_row (once (arguments get_row.options (drop 1 words.now))))) }
-    ensures limit { IfSome result (λ command. command.limit ≤ 2 ^ 30) }
+    ensures fit { IfSome result IsFitCommand }
 {
     let read = read_arguments(words, &LOOKUP)?;
     let key = sole_operand(words, read.operands)?;
@@ -118,14 +151,14 @@ fn lookup_command<'w>(words: &'w Words) -> Option<Command<'w>>
         hex: read.hex,
         print: read.print,
     };
-    let request = Request::Get(lookup);
-    Some(Command { limit, request })
+    let action = Action::Ask(Request::Get(lookup));
+    Some(Command { limit, action })
 }
 
 // The command `dump`.
 fn dump_command<'w>(words: &'w Words) -> Option<Command<'w>>
     ensures command { MatchOption result (command_with dump_row (once (arguments dump_row.options (drop 1 words.now))) ≡ None) (IsSeen (command_with dump_row (once (arguments dump_row.options (drop 1 words.now))))) }
-    ensures limit { IfSome result (λ command. command.limit ≤ 2 ^ 30) }
+    ensures fit { IfSome result IsFitCommand }
 {
     let read = read_arguments(words, &SELECTION)?;
     if read.operands < words.len() {
@@ -139,8 +172,68 @@ fn dump_command<'w>(words: &'w Words) -> Option<Command<'w>>
         name: read.name,
         print: read.print,
     };
-    let request = Request::Dump(selection);
-    Some(Command { limit, request })
+    let action = Action::Ask(Request::Dump(selection));
+    Some(Command { limit, action })
+}
+
+// The command `trial`.
+fn trial_command<'w>(words: &'w Words) -> Option<Command<'w>>
+    ensures command { MatchOption result (command_with trial_row (once (arguments trial_row.options (drop 1 words.now))) ≡ None) (IsSeen (command_with trial_row (once (arguments trial_row.options (drop 1 words.now))))) }
+    ensures fit { IfSome result IsFitCommand }
+{
+    let read = read_arguments(words, &PLAIN)?;
+    let operands = trial_words(words, read.operands)?;
+    let limit = limit_of(read.max_bytes)?;
+    let trial = Trial {
+        kind: kind_named(operands.kind)?,
+        seed: number_to(GREATEST_SEED, operands.seed)?,
+        count: number_to(MOST_PAIRS, operands.count)?,
+    };
+    let action = Action::Trial(trial);
+    Some(Command { limit, action })
+}
+
+// The three words from a place on, if there are just three.
+fn trial_words<'w>(words: &'w Words, place: usize) -> Option<TrialWords<'w>>
+    ensures { MatchOption result (length (drop place words.now) ≢ 3) (λ it. drop place words.now ≡ it.kind.now ∷ it.seed.now ∷ it.count.now ∷ []) }
+{
+    let end = words.len();
+    let kind = words.get(place)?;
+    let seed = words.get(place + 1)?;
+    let count = words.get(place + 2)?;
+    if place + 3 < end {
+        return None;
+    }
+    Some(TrialWords { kind, seed, count })
+}
+
+// The kind that a word names.
+fn kind_named(word: &[u8]) -> Option<Kind>
+    ensures { result ≡ kind_named word.now }
+{
+    if word == b"btree".as_slice() {
+        Some(Kind::Btree)
+    } else if word == b"hash".as_slice() {
+        Some(Kind::Hash)
+    } else if word == b"recno".as_slice() {
+        Some(Kind::Recno)
+    } else if word == b"queue".as_slice() {
+        Some(Kind::Queue)
+    } else {
+        None
+    }
+}
+
+// The number that a word of digits says, if it is at most another.
+fn number_to(most: u32, word: &[u8]) -> Option<u32>
+    ensures seen { result ≡ at_most most (number_in word.now) }
+    ensures within { IfSome result (λ number. number ≤ most) }
+{
+    let number = u32::try_from(number_in(word)?).ok()?;
+    if number > most {
+        return None;
+    }
+    Some(number)
 }
 
 // The one word from a place on, if there is just one.

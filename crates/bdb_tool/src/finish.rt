@@ -2,6 +2,7 @@ ghost use Rattle.std.specs.Prelude.{◌≢◌};
 ghost use Rattle.bdb_model.specs.Change.{change};
 ghost use Rattle.bdb_model.specs.Lines.{memory_line};
 ghost use Rattle.bdb_tool.specs.Parts.{Reports, Tells};
+ghost use Rattle.bdb_tool.specs.Printing.{Writes};
 
 use crate::printing::Cut;
 use crate::status::{DONE, MEMORY, WRITE_FAULT};
@@ -23,6 +24,17 @@ pub(crate) fn tell_memory<E: Sink>(err: &mut E) -> u8
     ensures { Tells memory_line 7 (change E.written E.faults err.old err.new) result }
 {
     tell(err, b"out of memory\n", MEMORY)
+}
+
+/// Writes a text to the output.
+#[tactic(auto, using(crate::proofs::AnswerLemmas::line_written, crate::proofs::AnswerLemmas::line_cut))]
+pub(crate) fn put<K: Sink>(out: &mut K, text: &[u8]) -> Result<(), Cut>
+    ensures { Writes text.now (change K.written K.faults out.old out.new) result }
+{
+    match put_all(out, text) {
+        Ok(()) => Ok(()),
+        Err(_) => Err(Cut::WriteFault),
+    }
 }
 
 /// The status of a text that was written, with the line of what kept it from being written whole.

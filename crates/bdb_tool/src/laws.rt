@@ -1,6 +1,6 @@
 //! What follows from the promise of `run`.
 ghost use Rattle.std.specs.Prelude.{◌≢◌};
-ghost use Rattle.bdb_model.specs.Output.{StatusIs};
+ghost use Rattle.bdb_tool.specs.Outputs.{StatusIs};
 
 use crate::run;
 use bdb_io::{PureSink, PureSource};

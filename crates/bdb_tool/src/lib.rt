@@ -2,6 +2,7 @@
 #![tactic(auto)]
 
 mod answer;
+mod building;
 mod command;
 mod dumping;
 mod finish;

@@ -1,7 +1,7 @@
 ghost use Rattle.std.specs.Prelude.{◌≡◌};
 ghost use Rattle.bdb_model.specs.Change.{IsUntouched, change};
-ghost use Rattle.bdb_model.specs.Run.{RunsAs};
 ghost use Rattle.bdb_tool.specs.Parts.{IsToldStop};
+ghost use Rattle.bdb_tool.specs.Runs.{RunsAs};
 
 use crate::answer::answer;
 use crate::finish::{tell, tell_memory};
@@ -13,7 +13,7 @@ use bdb_model::{Steps, Words};
 use std::alloc::Global;
 use std::sync::ledger::{Blank, Ledger};
 
-/// All that the program does: reads the source as the words say, writes to `out` and `err`, and answers the exit
+/// All that the program does: reads the source where the words ask for it, writes to `out` and `err`, and answers the exit
 /// status, one of those in `status`. The base isn't called.
 pub fn run<S: Source, B: Source, K: Sink, E: Sink, L: Ledger>(
     alloc: Global,
@@ -65,7 +65,7 @@ fn run_alone<S: Source, K: Sink, E: Sink, L: Ledger>(
     ensures { RunsAs words.now (change S.left S.faults source.old source.new) (change K.written K.faults out.old out.new) (change E.written E.faults err.old err.new) result }
 {
     match task_of(alloc, words, source) {
-        Ok(task) => answer(alloc, &task, out, err, steps),
+        Ok(task) => answer(alloc, task, out, err, steps),
         Err(stop) => stopped(alloc, stop, err),
     }
 }

@@ -18,11 +18,14 @@ pub const READ_FAULT: u8 = 4;
 /// Writing failed.
 pub const WRITE_FAULT: u8 = 5;
 
-/// The input is longer than the limit.
+/// The input is longer than the limit, or the image that is built would be.
 pub const TOO_LARGE: u8 = 6;
 
 /// Memory was wanting.
 pub const MEMORY: u8 = 7;
+
+/// The text has a fault, or can't be loaded.
+pub const BAD_TEXT: u8 = 8;
 
 /// No database has the name, or the key has no data in it.
 pub const NOT_FOUND: u8 = 9;

@@ -1,17 +1,24 @@
-ghost use Rattle.std.specs.Prelude.{◌^◌, ◌≤◌, IfOk, MatchResult, length};
+//! What there is to do, and what it is done with.
+ghost use Rattle.std.specs.Prelude.{◌^◌, ◌≤◌, IfOk, IsTrue, List, MatchResult, is_some, ℕ};
 ghost use Rattle.bdb_model.specs.Change.{change};
-ghost use Rattle.bdb_tool.specs.Tasks.{IsStopped, IsTaken};
+ghost use Rattle.bdb_tool.specs.Commands.{command_of};
+ghost use Rattle.bdb_tool.specs.Tasks.{IsFitTask, IsInputWithin, IsStopped, IsTaken, IsUnreadable};
+ghost use Rattle.bdb_tool.specs.WordsSeen.{IsFitCommand, IsSeen, command_seen};
 
-use crate::command::{Command, command_of};
+use crate::command::{Action, Command, Request, Trial, command_of};
 use bdb_io::{Image, ReadError, Source, read_image};
 use bdb_model::Words;
 use std::alloc::Global;
 
-/// A command, and the image that it is asked of.
+/// What there is to do. A number is the limit of the command, in bytes.
 #[derive(Drop)]
-pub(crate) struct Task<'w> {
-    pub(crate) command: Command<'w>,
-    pub(crate) image: Image,
+pub(crate) enum Task<'w> {
+    /// Something is asked of an image.
+    Ask(Request<'w>, Image),
+    /// A text is loaded.
+    Load(Image, u32),
+    /// Pairs are generated.
+    Trial(Trial, u32),
 }
 
 /// Why a run has no task to answer.
@@ -25,23 +32,53 @@ pub(crate) enum Stop {
     Memory,
 }
 
-/// What the words ask for, and what the source gives to its end.
-#[tactic(auto, using(crate::proofs::TaskLemmas::is_taken, crate::proofs::TaskLemmas::is_too_long, crate::proofs::TaskLemmas::are_command, bdb_format::proofs::KnownLemmas::keeps_itself))]
+// What a source has to its end, of at most so many bytes.
+fn input_of<S: Source>(alloc: Global, source: &mut S, limit: u32) -> Result<Image, Stop>
+    requires { limit ≤ 2 ^ 30 }
+    ensures { MatchResult result (IsInputWithin limit (change S.left S.faults source.old source.new)) (IsUnreadable limit (change S.left S.faults source.old source.new)) }
+{
+    match read_image(alloc, source, u64::from(limit)) {
+        Ok(image) => Ok(image),
+        Err(ReadError::TooLarge) => Err(Stop::TooLarge(limit)),
+        Err(ReadError::ReadFault) => Err(Stop::ReadFault),
+        Err(ReadError::Memory) => Err(Stop::Memory),
+    }
+}
+
+// What a command does, with the input where it reads one.
+fn task_with<'w, S: Source>(
+    alloc: Global,
+    command: Command<'w>,
+    source: &mut S,
+) -> Result<Task<'w>, Stop>
+    requires { IsFitCommand command }
+    ensures task { (words : List (List ℕ)) → IsSeen (command_of words) command.entry → MatchResult result (IsTaken words (change S.left S.faults source.old source.new)) (IsStopped words (change S.left S.faults source.old source.new)) }
+    ensures fit { IsTrue (is_some (command_seen command.entry)) → IfOk result IsFitTask }
+{
+    match command.action {
+        Action::Ask(request) => match input_of(alloc, source, command.limit) {
+            Ok(image) => Ok(Task::Ask(request, image)),
+            Err(stop) => Err(stop),
+        },
+        Action::Load => match input_of(alloc, source, command.limit) {
+            Ok(text) => Ok(Task::Load(text, command.limit)),
+            Err(stop) => Err(stop),
+        },
+        Action::Trial(trial) => Ok(Task::Trial(trial, command.limit)),
+    }
+}
+
+/// What the words say is to be done, and the input where they ask for one.
 pub(crate) fn task_of<'w, S: Source>(
     alloc: Global,
     words: &'w Words,
     source: &mut S,
 ) -> Result<Task<'w>, Stop>
     ensures task { MatchResult result (IsTaken words.now (change S.left S.faults source.old source.new)) (IsStopped words.now (change S.left S.faults source.old source.new)) }
-    ensures limit { IfOk result (λ task. length task.image ≤ 2 ^ 30) }
+    ensures fit { IfOk result IsFitTask }
 {
     let Some(command) = command_of(words) else {
         return Err(Stop::Usage);
     };
-    match read_image(alloc, source, u64::from(command.limit)) {
-        Ok(image) => Ok(Task { command, image }),
-        Err(ReadError::TooLarge) => Err(Stop::TooLarge(command.limit)),
-        Err(ReadError::ReadFault) => Err(Stop::ReadFault),
-        Err(ReadError::Memory) => Err(Stop::Memory),
-    }
+    task_with(alloc, command, source)
 }

@@ -4,6 +4,8 @@
 #[cfg(test)]
 mod asking;
 #[cfg(test)]
+mod building;
+#[cfg(test)]
 mod dumping;
 #[cfg(test)]
 mod failing;
@@ -23,6 +25,8 @@ mod outside;
 mod reading;
 #[cfg(test)]
 mod running;
+#[cfg(test)]
+mod texts;
 #[cfg(test)]
 mod usage;
 #[cfg(test)]

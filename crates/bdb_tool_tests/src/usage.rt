@@ -7,12 +7,11 @@ use crate::running::Told::Done;
 use crate::running::{NOT_FOUND, Row, SOUND, USAGE, check, check_rows, ran_over};
 use std::test::Fail;
 
-const NO_COMMAND: [&[&str]; 49] = [
+const NO_COMMAND: [&[&str]; 73] = [
     &[],
     &[""],
     &["--"],
     &["Verify"],
-    &["load"],
     &["dump", "x"],
     &["dump", "--hex"],
     &["dump", "--name"],
@@ -34,7 +33,19 @@ const NO_COMMAND: [&[&str]; 49] = [
     &["get", "a", "--print"],
     &["get", "a", "--"],
     &["get", "--", "a", "--print"],
+    &["load", "x"],
+    &["load", "--", "x"],
+    &["salvage"],
+    &["trial"],
+    &["trial", "btree", "1"],
+    &["trial", "btree", "1", "2", "3"],
+    &["trial", "--", "btree", "1"],
     // options
+    &["load", "--print"],
+    &["load", "--name", "a"],
+    &["load", "--max-bytes"],
+    &["trial", "--hex", "btree", "1", "2"],
+    &["trial", "btree", "--max-bytes", "9", "1", "2"],
     &["verify", "---"],
     &["verify", "--hex"],
     &["verify", "--max"],
@@ -56,6 +67,19 @@ const NO_COMMAND: [&[&str]; 49] = [
     &["verify", "--max-bytes", "00000001024"],
     &["list", "--max-bytes", "1k"],
     &["get", "--max-bytes", "", "a"],
+    &["load", "--max-bytes", "0"],
+    &["trial", "--max-bytes", "1073741825", "btree", "1", "2"],
+    &["trial", "heap", "1", "2"],
+    &["trial", "Btree", "1", "2"],
+    &["trial", "", "1", "2"],
+    &["trial", "hash", "x", "2"],
+    &["trial", "hash", "", "2"],
+    &["trial", "hash", "-1", "2"],
+    &["trial", "hash", "2147483648", "2"],
+    &["trial", "hash", "00000000001", "2"],
+    &["trial", "hash", "1", "200001"],
+    &["trial", "hash", "1", ""],
+    &["trial", "hash", "1", "0x1"],
     // spellings
     &["get", "\\q"],
     &["get", "a\\"],

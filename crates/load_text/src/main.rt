@@ -1,13 +1,12 @@
-//! Reads a dump text from standard input and loads its one section, a btree's or a recno's, without a name; writes how many pages the
-//! file has. With the word `read` it only reads, with `settle` it makes the section's list, and writes how many pairs there are; with
-//! `write` it writes the file.
+//! Reads a dump text from standard input and loads its sections; writes how many pages the file has. With the word `read` it only
+//! reads, with `settle` it makes the lists of the sections, and writes how many pairs the last one has; with `write` it writes the file.
 #![tactic(auto)]
 
 ghost use Rattle.std.specs.Prelude.{◌≤◌, ◌^◌, length};
 
 use bdb_format::Bytes;
 use bdb_io::{Image, ReadError, StdSink, StdSource, put_all, read_image};
-use bdb_load::{is_one_tree, load};
+use bdb_load::load;
 use bdb_model::Sections;
 use bdb_settle::{LoadError, settle};
 use bdb_text::{TextError, read_dump};
@@ -29,7 +28,7 @@ enum Task {
 
 /// Why nothing is written.
 enum Refusal {
-    /// It isn't a text, or one whose sections can be loaded.
+    /// It isn't a text, or its sections can't be loaded.
     Text,
     Memory,
 }
@@ -75,6 +74,7 @@ fn main(rt: HostRuntime) -> ExitCode {
 }
 
 // What is written of a text.
+#[tactic(auto, using(bdb_load::proofs::ReadLemmas::read_sections_are_loadable))]
 fn answer(alloc: Global, text: Image, task: Task) -> Result<Image, Refusal>
     requires { length text ≤ 2 ^ 30 }
 {
@@ -91,9 +91,6 @@ fn answer(alloc: Global, text: Image, task: Task) -> Result<Image, Refusal>
         },
         Task::CountPages | Task::WriteFile => {
             let size = page_size(&sections);
-            if !is_one_tree(&sections) {
-                return Err(Refusal::Text);
-            }
             match load(alloc, sections, MOST) {
                 Ok(image) => file_of(alloc, image, task, size),
                 Err(error) => Err(refused(error)),

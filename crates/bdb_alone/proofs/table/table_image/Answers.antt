@@ -1,7 +1,7 @@
 use Rattle.std.proofs.Common.{arith, sym, ◌∙◌, ap, subst, IsTrue}
 use Rattle.bdb_format.specs.Reading.{is_zero}
 use Rattle.bdb_format.specs.HeadOf.{is_page_size}
-use Rattle.bdb_load.proofs.TreeLemmas.{first_zero, still_zero}
+use Rattle.bdb_alone.proofs.TreeLemmas.{first_zero, still_zero}
 use Rattle.bdb_alone.proofs.TableLemmas.{table_filed}
 use Rattle.bdb_alone.proofs.table.table_image.Goals as goal
 

@@ -1,31 +1,22 @@
-use Rattle.std.proofs.Common.{refl, sym, ◌∙◌}
+use Rattle.std.proofs.Common.{refl, sym}
 use Rattle.std.specs.Prelude.{codes}
 use Rattle.bdb_model.specs.Command.{ListAll, Verify}
-use Rattle.bdb_tool.proofs.CommandLemmas.{dump_word, get_word, list_word, no_word, other_word, verify_word}
+use Rattle.bdb_tool.specs.Commands.{Ask, Load}
+use Rattle.bdb_tool.proofs.CommandLemmas.{dump_word, get_word, list_word, load_word, no_word, other_word, trial_word, verify_word}
 use Rattle.bdb_tool.proofs.command.command_of.Goals as goal
 
 pub returns-in_err-word-clause-command : goal.returns-in_err-word-clause-command
 returns-in_err-word-clause-command c = rw c.from_residual.ensures (no_word c.args.words.now c.in_err-word.ensures)
 
-pub returns-in_err-limit-clause-command : goal.returns-in_err-limit-clause-command
-returns-in_err-limit-clause-command c =
-    let words = verify_word c.args.words.now c.in_ok-word.word.now c.in_ok-word.ensures (rw c.as_slice.ensures at (sym c.if-eq.ensures)) in
-    rw c.from_residual-in_err-limit.ensures (words ∙ c.in_err-limit.ensures.seen (codes "verify") Verify)
-
 pub returns-then-eq-clause-command : goal.returns-then-eq-clause-command
 returns-then-eq-clause-command c =
     let words = verify_word c.args.words.now c.in_ok-word.word.now c.in_ok-word.ensures (rw c.as_slice.ensures at (sym c.if-eq.ensures)) in
-    (words ∙ c.in_ok-limit.ensures.seen (codes "verify") Verify, refl)
-
-pub returns-in_err-limit-2-clause-command : goal.returns-in_err-limit-2-clause-command
-returns-in_err-limit-2-clause-command c =
-    let words = list_word c.args.words.now c.in_ok-word.word.now c.in_ok-word.ensures (rw c.as_slice.ensures at (sym c.if-eq.ensures)) (rw c.as_slice-2.ensures at (sym c.if-eq-2.ensures)) in
-    rw c.from_residual-in_err-limit-2.ensures (words ∙ c.in_err-limit-2.ensures.seen (codes "list") ListAll)
+    rw words (c.plain_command.ensures.command (codes "verify") (Ask Verify) refl)
 
 pub returns-then-eq-2-clause-command : goal.returns-then-eq-2-clause-command
 returns-then-eq-2-clause-command c =
     let words = list_word c.args.words.now c.in_ok-word.word.now c.in_ok-word.ensures (rw c.as_slice.ensures at (sym c.if-eq.ensures)) (rw c.as_slice-2.ensures at (sym c.if-eq-2.ensures)) in
-    (words ∙ c.in_ok-limit-2.ensures.seen (codes "list") ListAll, refl)
+    rw words (c.plain_command-then-eq-2.ensures.command (codes "list") (Ask ListAll) refl)
 
 pub returns-then-eq-3-clause-command : goal.returns-then-eq-3-clause-command
 returns-then-eq-3-clause-command c =
@@ -37,6 +28,16 @@ returns-then-eq-4-clause-command c =
     let words = dump_word c.args.words.now c.in_ok-word.word.now c.in_ok-word.ensures (rw c.as_slice.ensures at (sym c.if-eq.ensures)) (rw c.as_slice-2.ensures at (sym c.if-eq-2.ensures)) (rw c.as_slice-3.ensures at (sym c.if-eq-3.ensures)) (rw c.as_slice-4.ensures at (sym c.if-eq-4.ensures)) in
     rw words c.dump_command.ensures.command
 
+pub returns-then-eq-5-clause-command : goal.returns-then-eq-5-clause-command
+returns-then-eq-5-clause-command c =
+    let words = load_word c.args.words.now c.in_ok-word.word.now c.in_ok-word.ensures (rw c.as_slice.ensures at (sym c.if-eq.ensures)) (rw c.as_slice-2.ensures at (sym c.if-eq-2.ensures)) (rw c.as_slice-3.ensures at (sym c.if-eq-3.ensures)) (rw c.as_slice-4.ensures at (sym c.if-eq-4.ensures)) (rw c.as_slice-5.ensures at (sym c.if-eq-5.ensures)) in
+    rw words (c.plain_command-then-eq-5.ensures.command (codes "load") Load refl)
+
+pub returns-then-eq-6-clause-command : goal.returns-then-eq-6-clause-command
+returns-then-eq-6-clause-command c =
+    let words = trial_word c.args.words.now c.in_ok-word.word.now c.in_ok-word.ensures (rw c.as_slice.ensures at (sym c.if-eq.ensures)) (rw c.as_slice-2.ensures at (sym c.if-eq-2.ensures)) (rw c.as_slice-3.ensures at (sym c.if-eq-3.ensures)) (rw c.as_slice-4.ensures at (sym c.if-eq-4.ensures)) (rw c.as_slice-5.ensures at (sym c.if-eq-5.ensures)) (rw c.as_slice-6.ensures at (sym c.if-eq-6.ensures)) in
+    rw words c.trial_command.ensures.command
+
 pub returns-clause-command : goal.returns-clause-command
 returns-clause-command c =
-    other_word c.args.words.now c.in_ok-word.word.now c.in_ok-word.ensures (rw c.as_slice.ensures at (sym c.if-eq.ensures)) (rw c.as_slice-2.ensures at (sym c.if-eq-2.ensures)) (rw c.as_slice-3.ensures at (sym c.if-eq-3.ensures)) (rw c.as_slice-4.ensures at (sym c.if-eq-4.ensures))
+    other_word c.args.words.now c.in_ok-word.word.now c.in_ok-word.ensures (rw c.as_slice.ensures at (sym c.if-eq.ensures)) (rw c.as_slice-2.ensures at (sym c.if-eq-2.ensures)) (rw c.as_slice-3.ensures at (sym c.if-eq-3.ensures)) (rw c.as_slice-4.ensures at (sym c.if-eq-4.ensures)) (rw c.as_slice-5.ensures at (sym c.if-eq-5.ensures)) (rw c.as_slice-6.ensures at (sym c.if-eq-6.ensures))

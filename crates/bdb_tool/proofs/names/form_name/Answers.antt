@@ -1,7 +1,7 @@
 use Rattle.std.proofs.Common.{◌≡◌, [], arith, inl, inr, refl, subst, sym}
 use Rattle.std.proofs.lemmas.Bool.{cases_lt}
 use Rattle.bdb_model.specs.FaultNames.{form_names, numbered_name}
-use Rattle.bdb_tool.proofs.NameLemmas.{beyond_names}
+use Rattle.bdb_writing.proofs.NameLemmas.{beyond_names}
 use Rattle.bdb_tool.proofs.names.form_name.Goals as goal
 
 pub returns-in_default : goal.returns-in_default

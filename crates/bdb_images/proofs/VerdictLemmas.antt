@@ -1,0 +1,75 @@
+-- What a run of `verify` tells.
+use Rattle.std.proofs.Common.{◌≡◌, ◌≢◌, ℕ, ◌^◌, ne_eqb, Bool, true, false, List, [], length, ap, arith, inl, inr, refl, subst, sym, ◌∙◌}
+use Rattle.std.specs.Prelude.{IfOk, Result, Some, nat_lt, if◌then◌else◌}
+use Rattle.std.specs.Io.KnownBytes.{Appends}
+use Rattle.bdb_format.specs.Verdict.{verdict_of}
+use Rattle.bdb_model.specs.Answers.{Answer, judged_answer, told, too_large_line}
+use Rattle.bdb_model.specs.Change.{Change, Gains, HasFailed}
+use Rattle.bdb_model.specs.Faults.{Rose}
+use Rattle.bdb_model.specs.Command.{Verify}
+use Rattle.bdb_tool.specs.Commands.{Ask, Command, command_of}
+use Rattle.bdb_tool.specs.Outputs.{IsAnswerBy, IsAnswerTo, IsCommandAnswer, IsInput}
+use Rattle.bdb_tool.specs.Runs.{IsAnswered, RunsAs}
+use Rattle.bdb_images.specs.Lines.{first_line, text_told, verify_answer, verify_words}
+
+abbrev verify_command : Command
+verify_command = record { limit = 2 ^ 30; action = Ask Verify }
+
+command_is : command_of verify_words ≡ Some verify_command
+unfolding command_of
+command_is = refl
+
+by_size : (beyond : Bool) (image : List ℕ) (answer : Answer) → IsAnswerBy beyond verify_command image answer
+    → answer ≡ (if beyond then told 6 (too_large_line (2 ^ 30)) else judged_answer (verdict_of image) Verify image)
+by_size true image answer is = is
+by_size false image answer is = is
+
+-- there is one answer to `verify`
+one_answer : (image : List ℕ) (answer : Answer) → IsAnswerTo verify_words image answer → answer ≡ verify_answer image
+one_answer image answer is =
+    by_size (nat_lt (2 ^ 30) (length image)) image answer (subst (λ command. IsCommandAnswer command image answer) command_is is)
+
+-- what was written is the answer
+pub record TellsVerdict (image : List ℕ) (out err : Change) (status : ℕ) : Type 0 where
+  pub status_is : status ≡ (verify_answer image).status
+  pub out_is : Gains out (verify_answer image).out
+  pub err_is : Gains err (verify_answer image).err
+
+pub tells_verdict : (image : List ℕ) (source out err : Change) (status : ℕ) → RunsAs verify_words source out err status → source.before ≡ Some image → IsAnswered status → TellsVerdict image out err status
+tells_verdict image source out err status runs before answered =
+    let found = runs.answers answered in
+    let input : found.0 ≡ image = subst (λ left. IsInput left found.0) before found.1 in
+    let answer = one_answer found.0 found.6.answer found.6.answers ∙ ap verify_answer input in
+    record {
+      status_is = found.6.status_is ∙ ap (λ (a : Answer). a.status) answer;
+      out_is = subst (Gains out) (found.6.out_is ∙ ap (λ (a : Answer). a.out) answer) found.3;
+      err_is = subst (Gains err) (found.6.err_is ∙ ap (λ (a : Answer). a.err) answer) found.5;
+    }
+
+printed_whole : (sink : Change) (printed text : List ℕ) → sink.before ≡ Some [] → sink.now ≡ Some printed → Gains sink text → printed ≡ text
+printed_whole sink printed text before now gains = subst (λ b. Appends b (Some printed) text) before (subst (λ n. Appends sink.before n text) now gains)
+
+told_done : (answer : Answer) → answer.status ≡ 0 → answer.out ≡ text_told answer
+told_done answer is = rw is refl
+
+told_line : (answer : Answer) → answer.status ≢ 0 → answer.err ≡ text_told answer
+told_line answer other = rw (ne_eqb answer.status 0 other) refl
+
+-- the output where the command was done
+pub verdict_printed : (words : List (List ℕ)) (image printed : List ℕ) (source out err : Change) (status : ℕ) → words ≡ verify_words → RunsAs words source out err status → source.before ≡ Some image → status ≡ 0
+    → out.before ≡ Some [] → out.now ≡ Some printed → printed ≡ text_told (verify_answer image)
+verdict_printed words image printed source out err status words_are runs before is out_before out_now =
+    let tells = tells_verdict image source out err status (subst (λ ws. RunsAs ws source out err status) words_are runs) before (λ four. omega arith, λ five. omega arith, λ seven. omega arith) in
+    printed_whole out printed (verify_answer image).out out_before out_now tells.out_is ∙ told_done (verify_answer image) (sym tells.status_is ∙ is)
+
+-- the error line where it wasn't
+pub verdict_line : (words : List (List ℕ)) (image printed : List ℕ) (source out err : Change) (status : ℕ) → words ≡ verify_words → RunsAs words source out err status → source.before ≡ Some image → (HasFailed source → ⊥) → status ≢ 0 → status ≢ 5
+    → status ≢ 7 → err.before ≡ Some [] → err.now ≡ Some printed → printed ≡ text_told (verify_answer image)
+verdict_line words image printed source out err status words_are runs before never other no_fault no_memory err_before err_now =
+    let tells = tells_verdict image source out err status (subst (λ ws. RunsAs ws source out err status) words_are runs) before (λ four. never (runs.read_fault four).0, no_fault, no_memory) in
+    printed_whole err printed (verify_answer image).err err_before err_now tells.err_is ∙ told_line (verify_answer image) (λ zero_is. other (tells.status_is ∙ zero_is))
+
+-- bytes that are the first line of a text
+pub first_line_of : {E : Type 0} (result : Result (List ℕ) E) (piece line text whole : List ℕ) → piece ≡ whole → line ≡ first_line piece → whole ≡ text → IfOk result (λ bytes. bytes ≡ line) → IfOk result (λ verdict. verdict ≡ first_line text)
+first_line_of result piece line text whole piece_is line_is text_is ok =
+    subst (λ it. IfOk result (λ bytes. bytes ≡ it)) (line_is ∙ ap first_line (piece_is ∙ text_is)) ok

@@ -1,0 +1,13 @@
+pub mod LaterLemmas
+pub mod SettledLemmas
+pub mod NumberedLemmas
+pub mod KeyedLemmas
+pub mod ContentsLemmas
+pub mod SoundLemmas
+pub mod AlikeLemmas
+pub mod NameLemmas
+pub mod BytesLemmas
+pub mod WrittenLemmas
+pub mod HeaderLemmas
+pub mod SectionLemmas
+pub mod DumpLemmas

@@ -1,0 +1,5 @@
+use Rattle.bdb_join.proofs.NamedLemmas.{joins_all}
+use Rattle.bdb_load.proofs.laws.joins_all.Goals as goal
+
+pub returns : goal.returns
+returns c = joins_all

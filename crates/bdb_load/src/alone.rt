@@ -1,0 +1,33 @@
+ghost use Rattle.std.specs.Prelude.{◌≡◌, IfOk};
+ghost use Rattle.bdb_alone.specs.Settled.{file_settings};
+ghost use Rattle.bdb_need.specs.Need.{pairs_in};
+ghost use Rattle.bdb_load.specs.Settled.{IsAloneImage, IsBuildable};
+
+use bdb_alone::{file_settings, listed_pairs, queue_image, table_image, tree_image};
+use bdb_format::{Kind, Settings};
+use bdb_io::Image;
+use bdb_model::{PairList, Section};
+use std::alloc::{AllocError, Global};
+
+// The image of a list as the only database of its file, of each kind.
+fn list_image(alloc: Global, settings: &Settings, list: &PairList) -> Result<Image, AllocError>
+    requires own { settings.now ≡ file_settings settings.now }
+    requires built { IsBuildable settings.now.kind settings.now list.now }
+    ensures { IfOk result (λ image. IsAloneImage settings.now list.now image) }
+{
+    match settings.kind {
+        Kind::Btree | Kind::Recno => tree_image(alloc, settings, list),
+        Kind::Hash => table_image(alloc, settings, list),
+        Kind::Queue => queue_image(alloc, settings, list),
+    }
+}
+
+/// The image of one section, with its list, as the only database of its file.
+pub(crate) fn section_image(alloc: Global, section: Section) -> Result<Image, AllocError>
+    requires { IsBuildable section.settings.kind section.settings (pairs_in section.pairs) }
+    ensures { IfOk result (λ image. IsAloneImage (file_settings section.settings) (pairs_in section.pairs) image) }
+{
+    let settings = file_settings(&section.settings);
+    let list = listed_pairs(alloc, section.pairs)?;
+    list_image(alloc, &settings, &list)
+}

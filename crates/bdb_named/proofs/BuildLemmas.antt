@@ -1,0 +1,319 @@
+-- Databases that are built under names.
+use Rattle.std.proofs.Common.{◌≡◌, ℕ, ◌+◌, ◌-◌, ◌≤◌, ◌&&◌, Bool, true, false, List, [], ◌∷◌, length, None}
+use Rattle.std.proofs.Common.{arith, refl, sym, ◌∙◌, ap, subst, inl, inr}
+use Rattle.bdb_format.specs.declared.kinds.Kind.{Kind}
+use Rattle.bdb_format.specs.declared.kinds.Kind.TheVariants.{Btree, Recno, Hash, Queue}
+use Rattle.bdb_format.specs.declared.kinds.Order.{Order}
+use Rattle.bdb_format.specs.declared.metadata.BtreeMeta.{BtreeMeta}
+use Rattle.bdb_format.specs.declared.metadata.HashMeta.{HashMeta}
+use Rattle.bdb_format.specs.declared.settings.Settings.{Settings}
+use Rattle.bdb_format.specs.Databases.{settings_of}
+use Rattle.bdb_format.specs.Page.{BtreeFields, HashFields}
+use Rattle.bdb_format.specs.Spelling.{table_bytes}
+use Rattle.bdb_format.specs.Table.{first_row}
+use Rattle.bdb_meta.specs.RowGroups.{flag_rows}
+use Rattle.bdb_grove.specs.Part.{IsPart, between}
+use Rattle.bdb_model.specs.declared.list.Pair.{Pair}
+use Rattle.bdb_model.specs.declared.sections.Section.{Section}
+use Rattle.bdb_model.specs.Pairs.{listed}
+use Rattle.bdb_pack.specs.Built.{Built}
+use Rattle.bdb_join.proofs.FiledLemmas.{btrees_are_spelled}
+use Rattle.bdb_leaves.specs.Spread.{tree_size}
+use Rattle.bdb_leaves.proofs.RunLemmas.{all_map}
+use Rattle.bdb_mktree.specs.Building.{IsTreeBuilt}
+use Rattle.bdb_mktree.specs.Lists.{IsKeyFor, IsListFor, IsPairFor, is_in_order, may_follow, units_in}
+use Rattle.bdb_mktree.specs.Units.{IsTreeKind, leaf_type_of}
+use Rattle.bdb_buckets.specs.Tables.{table_meta}
+use Rattle.bdb_mkhash.specs.Buckets.{table_bits, table_cost, table_size, table_units}
+use Rattle.bdb_mkhash.specs.Table.{IsTableBuilt}
+use Rattle.bdb_need.specs.Need.{pairs_in, tree_pages}
+use Rattle.bdb_count.specs.Need.{IsListOf, list_pages, sized}
+use Rattle.bdb_alone.specs.Settled.{file_settings, own_settings}
+use Rattle.bdb_alone.specs.Trees.{IsTreeSettings}
+use Rattle.bdb_alone.proofs.MetaLemmas.{buckets_fit, some_bits}
+use Rattle.bdb_alone.proofs.SettingsLemmas.{fit_in_file, only_duplicates, own_size}
+use Rattle.bdb_named.specs.declared.metadata.DatabaseMeta.TheVariants.{Table, Tree}
+use Rattle.bdb_named.specs.declared.metadata.DatabaseMeta.{DatabaseMeta}
+use Rattle.bdb_named.specs.Images.{AreNamedSettings, IsNamed}
+use Rattle.bdb_named.specs.Layout.{named_table_meta, named_tree_meta}
+use Rattle.bdb_named.specs.Standing.{CanBeSpelled, Counts, HoldsPart, IsDatabaseBuilt, IsSectionBuilt, part_between}
+use Rattle.bdb_named.specs.Written.{fields_of}
+use Rattle.bdb_named.proofs.TableMetaLemmas.{table_settings, tables_are_spelled, tables_have_names}
+use Rattle.bdb_named.proofs.TreeMetaLemmas.{trees_have_names}
+
+-- Trees.
+
+tree_list : (k : Kind) (settings : Settings) (list : List Pair) → IsTreeKind k → list_pages k settings list ≡ tree_pages settings list
+tree_list Btree settings list is = refl
+tree_list Recno settings list is = refl
+tree_list Hash settings list is = absurd (elim is [ inl e ↦ cc e | inr e ↦ cc e ])
+tree_list Queue settings list is = absurd (elim is [ inl e ↦ cc e | inr e ↦ cc e ])
+
+-- a tree behind all pages, for settings as they are in a file
+pub record IsTreeBehind (settings : Settings) (list : List Pair) (old new : Built) (root : ℕ) (meta : BtreeMeta) : Type 0 where
+  pub fit : IsTreeSettings settings
+  pub own : settings ≡ file_settings settings
+  pub size : old.size ≡ settings.page_size
+  pub order : old.order ≡ settings.order
+  pub tree : IsTreeBuilt settings (length old.pages) old new (units_in settings.kind list) (listed list) root
+  pub meta_is : meta ≡ named_tree_meta settings root
+
+-- its metadata says the settings, and breaks no row of flags
+named : (settings : Settings) (root number : ℕ) → IsTreeSettings settings → settings ≡ file_settings settings → 1 ≤ number
+    → (settings_of settings.page_size settings.order (BtreeFields (named_tree_meta settings root)) ≡ settings)
+    × (first_row (flag_rows number (named_tree_meta settings root).flags) ≡ None)
+named settings root number fit own above =
+    subst (λ (s : Settings). (settings_of s.page_size s.order (BtreeFields (named_tree_meta s root)) ≡ s)
+    × (first_row (flag_rows number (named_tree_meta s root).flags) ≡ None)) (sym own)
+    (trees_have_names settings root number fit above)
+
+pub tree_built : (settings : Settings) (list : List Pair) (old new : Built) (root : ℕ) (meta : BtreeMeta)
+    → IsTreeBehind settings list old new root meta → IsDatabaseBuilt settings list old new (Tree meta)
+tree_built settings list old new root meta is =
+    record {
+      kept = is.tree.kept;
+      count = count;
+      counts = tt;
+      says = says;
+      holds = record {
+        there = omega arith;
+        formed = is.tree.formed;
+        part = λ g counted later.
+            is.tree.part g meta counted later
+            (ap (λ n. settings_of n new.order (BtreeFields meta)) size
+            ∙ (ap (λ o. settings_of settings.page_size o (BtreeFields meta)) order ∙ says))
+            (ap (λ (m : BtreeMeta). m.root) is.meta_is);
+      };
+      spelled = λ built number pages above there room written.
+          btrees_are_spelled built (record {
+            meta = number;
+            part = record { pages = between (length old.pages) (length new.pages); fields = BtreeFields meta; list = listed list };
+          })
+          meta pages there refl
+          (record {
+            bytes = written.bytes;
+            fields = written.fields;
+            flags = ap (λ (m : BtreeMeta). first_row (flag_rows number m.flags)) is.meta_is ∙ (named settings root number is.fit is.own above).1;
+          })
+          (ap (λ (m : BtreeMeta). m.free) is.meta_is);
+    }
+  where
+    size : new.size ≡ settings.page_size
+    size = is.tree.kept.size ∙ is.size
+
+    order : new.order ≡ settings.order
+    order = is.tree.kept.order ∙ is.order
+
+    count : length new.pages ≡ length old.pages + list_pages settings.kind settings list
+    count =
+        is.tree.count
+        ∙ (ap (λ n. length old.pages + tree_size (leaf_type_of settings.kind) n settings.sorted (units_in settings.kind list)) size
+        ∙ ap (λ n. length old.pages + n) (sym (tree_list settings.kind settings list is.fit.kind)))
+
+    says : settings_of settings.page_size settings.order (BtreeFields meta) ≡ settings
+    says =
+        ap (λ m. settings_of settings.page_size settings.order (BtreeFields m)) is.meta_is
+        ∙ (named settings root 1 is.fit is.own (omega arith)).0
+
+-- Tables.
+
+-- a table behind all pages, for settings as they are in a file
+pub record IsTableBehind (settings : Settings) (list : List Pair) (old new : Built) (built meta : HashMeta) (elements : ℕ) : Type 0 where
+  pub kind : settings.kind ≡ Hash
+  pub own : settings ≡ file_settings settings
+  pub both : settings.sorted ≡ true → settings.duplicates ≡ true
+  pub size : old.size ≡ settings.page_size
+  pub order : old.order ≡ settings.order
+  pub some : 1 ≤ length old.pages
+  pub table : IsTableBuilt settings old new (table_units list) (listed list) built
+  pub meta_is : meta ≡ named_table_meta built
+  pub counted : elements ≡ length list
+
+pub table_built : (settings : Settings) (list : List Pair) (old new : Built) (built meta : HashMeta) (elements : ℕ)
+    → IsTableBehind settings list old new built meta elements → IsDatabaseBuilt settings list old new (Table meta elements)
+table_built settings list old new built meta elements is =
+    record {
+      kept = is.table.kept;
+      count =
+          is.table.count
+          ∙ (ap (λ n. length old.pages + table_size n settings.sorted (table_units list)) is.size
+          ∙ ap (λ k. length old.pages + list_pages k settings list) (sym is.kind));
+      counts = is.counted;
+      says =
+          ap (λ m. settings_of settings.page_size settings.order (HashFields m)) meta_is
+          ∙ (table_settings settings settings.page_size settings.order (length old.pages) bits is.both
+          ∙ (ap (λ k. own_settings k settings.page_size settings.order settings) (sym is.kind) ∙ sym is.own));
+      holds = record {
+        there = omega arith;
+        formed = is.table.formed;
+        part = λ g counted later.
+            subst (λ m. IsPart g (record { pages = pages; fields = HashFields m; list = listed list })) (sym meta_is)
+            (tables_have_names g pages settings (length old.pages) bits (listed list)
+            (subst (λ m. IsPart g (record { pages = pages; fields = HashFields m; list = listed list })) is.table.fields
+            (is.table.part g counted later)));
+      };
+      spelled = λ after number legal above there room written.
+          tables_are_spelled after
+          (record { meta = number; part = record { pages = pages; fields = HashFields meta; list = listed list } })
+          settings (length old.pages) bits elements legal above there (some_bits old.size (table_cost old.size (table_units list))) is.some
+          (omega (arith, is.table.count, room, is.some, buckets_fit old.size settings.sorted (table_units list)))
+          (ap (λ m. HashFields m) meta_is)
+          (written.bytes
+          ∙ ap (table_bytes after.order after.size number (length after.pages - 1) elements) meta_is)
+          (written.fields ∙ meta_is);
+    }
+  where
+    bits : ℕ
+    bits = table_bits old.size (table_units list)
+
+    pages : ℕ → Bool
+    pages = between (length old.pages) (length new.pages)
+
+    meta_is : meta ≡ named_table_meta (table_meta settings (length old.pages) bits)
+    meta_is = is.meta_is ∙ ap named_table_meta is.table.fields
+
+-- Settings and lists of a section in a file.
+
+-- the page size and the order that settings have of their own take no part
+pub in_file : (k : Kind) (size : ℕ) (order : Order) (settings : Settings)
+    → own_settings k size order (record settings { page_size = size; order = order }) ≡ own_settings k size order settings
+in_file Btree size order settings = refl
+in_file Recno size order settings = refl
+in_file Hash size order settings = refl
+in_file Queue size order settings = refl
+
+-- lists in the order of other settings
+same_order : (one two : Settings) (pairs : List Pair) → ((a b : Pair) → may_follow two.kind two a b ≡ may_follow one.kind one a b)
+    → is_in_order two pairs ≡ is_in_order one pairs
+same_order one two [] same = refl
+same_order one two (a ∷ []) same = refl
+same_order one two (a ∷ b ∷ pairs) same =
+    ap (λ t. t && is_in_order two (b ∷ pairs)) (same a b)
+    ∙ ap (λ t. may_follow one.kind one a b && t) (same_order one two (b ∷ pairs) same)
+
+same_list : (one two : Settings) (pairs : List Pair) → ((a b : Pair) → may_follow two.kind two a b ≡ may_follow one.kind one a b)
+    → ((pair : Pair) → IsPairFor one pair → IsPairFor two pair) → IsListFor one pairs → IsListFor two pairs
+same_list one two pairs follow each is = record {
+  each = all_map {P = IsPairFor one} {Q = IsPairFor two} each pairs is.each;
+  in_order = same_order one two pairs follow ∙ is.in_order;
+}
+
+-- a list for the settings of a section is one for those in the file
+pub own_list : (k : Kind) (size : ℕ) (order : Order) (settings : Settings) (pairs : List Pair) → settings.kind ≡ k
+    → IsListOf k (record settings { page_size = size }) pairs → IsListOf k (own_settings k size order settings) pairs
+own_list Btree size order settings pairs same is =
+    same_list (record settings { page_size = size }) (own_settings Btree size order settings) pairs
+    (λ a b. ap (λ k. may_follow k (record settings { page_size = size }) a b) (sym same))
+    (λ pair fit. record { key = subst (λ k. IsKeyFor k pair.key) same fit.key; short = fit.short; long = λ e. absurd (cc e) })
+    is
+own_list Recno size order settings pairs same is =
+    same_list (record settings { page_size = size }) (own_settings Recno size order settings) pairs
+    (λ a b. ap (λ k. may_follow k (record settings { page_size = size }) a b) (sym same))
+    (λ pair fit. record { key = subst (λ k. IsKeyFor k pair.key) same fit.key; short = fit.short; long = λ e fixed. fit.long same fixed })
+    is
+own_list Hash size order settings pairs same is =
+    same_list (record settings { page_size = size; kind = Btree }) (record (own_settings Hash size order settings) { kind = Btree }) pairs
+    (λ a b. refl) (λ pair fit. record { key = fit.key; short = fit.short; long = λ e. absurd (cc e) }) is
+own_list Queue size order settings pairs same is = is
+
+-- settings of a recno sort no data
+no_sorting : (settings : Settings) → AreNamedSettings settings → settings.kind ≡ Recno → settings.sorted ≡ false
+no_sorting settings are recno =
+    elim are [
+      | inl tree ↦ only_duplicates settings.sorted settings.duplicates tree.sorted (tree.records recno)
+      | inr hash ↦ absurd (cc (hash.0, recno))
+    ]
+
+-- and it takes as many pages
+pub own_pages : (k : Kind) (size : ℕ) (order : Order) (settings : Settings) (pairs : List Pair) → settings.kind ≡ k
+    → AreNamedSettings (record settings { page_size = size })
+    → list_pages (own_settings k size order settings).kind (own_settings k size order settings) pairs
+    ≡ list_pages k (record settings { page_size = size }) pairs
+own_pages Btree size order settings pairs same are = ap (λ k. tree_size (leaf_type_of k) size settings.sorted (units_in k pairs)) (sym same)
+own_pages Recno size order settings pairs same are =
+    ap (λ s. tree_size (leaf_type_of Recno) size s (units_in Recno pairs)) (sym (no_sorting (record settings { page_size = size }) are same))
+    ∙ ap (λ k. tree_size (leaf_type_of k) size settings.sorted (units_in k pairs)) (sym same)
+own_pages Hash size order settings pairs same are = refl
+own_pages Queue size order settings pairs same are =
+    absurd (elim are [ inl tree ↦ elim tree.kind [ inl e ↦ cc (e, same) | inr e ↦ cc (e, same) ] | inr hash ↦ cc (hash.0, same) ])
+
+-- the settings of a section in the file are those of a tree, or of a hash
+pub own_tree : (k : Kind) (size : ℕ) (order : Order) (settings : Settings) → settings.kind ≡ k → IsTreeKind k
+    → AreNamedSettings (record settings { page_size = size }) → IsTreeSettings (own_settings k size order settings)
+own_tree k size order settings same tree are =
+    elim are [
+      | inl is ↦
+          subst (λ q. IsTreeSettings (own_settings q size order settings)) same
+          (subst IsTreeSettings (in_file settings.kind size order settings)
+          (fit_in_file (record settings { page_size = size; order = order })
+          (record { kind = is.kind; page_size = is.page_size; sorted = is.sorted; counted = is.counted; records = is.records })))
+      | inr hash ↦ absurd (elim tree [ inl e ↦ cc (e, same, hash.0) | inr e ↦ cc (e, same, hash.0) ])
+    ]
+
+pub own_sorted : (k : Kind) (size : ℕ) (order : Order) (settings : Settings) → settings.kind ≡ k → k ≡ Hash
+    → AreNamedSettings (record settings { page_size = size }) → (own_settings k size order settings).sorted ≡ true
+    → (own_settings k size order settings).duplicates ≡ true
+own_sorted k size order settings same is are =
+    let both : settings.sorted ≡ true → settings.duplicates ≡ true = elim are [ inl tree ↦ tree.sorted | inr hash ↦ hash.1 ] in
+    subst (λ q. (own_settings q size order settings).sorted ≡ true → (own_settings q size order settings).duplicates ≡ true) (sym is) both
+
+pub never_queue : (settings : Settings) → AreNamedSettings settings → settings.kind ≡ Queue → ⊥
+never_queue settings are queue =
+    elim are [ inl tree ↦ elim tree.kind [ inl e ↦ cc (e, queue) | inr e ↦ cc (e, queue) ] | inr hash ↦ cc (hash.0, queue) ]
+
+own_order : (k : Kind) (size : ℕ) (order : Order) (settings : Settings) → (own_settings k size order settings).order ≡ order
+own_order Btree size order settings = refl
+own_order Recno size order settings = refl
+own_order Hash size order settings = refl
+own_order Queue size order settings = refl
+
+-- A section.
+
+-- the database of its list was built behind all pages, for its settings in the file
+pub record IsSectionAt (section : Section) (size : ℕ) (settings : Settings) (list : List Pair) (old : Built) : Type 0 where
+  pub named : IsNamed size section
+  pub size_is : old.size ≡ size
+  pub settings_are : settings ≡ own_settings section.settings.kind size old.order section.settings
+  pub list_is : list ≡ pairs_in section.pairs
+
+pub section_built : (section : Section) (size : ℕ) (settings : Settings) (list : List Pair) (old new : Built) (meta : DatabaseMeta)
+    → IsSectionAt section size settings list old → IsDatabaseBuilt settings list old new meta → IsSectionBuilt section old new meta
+section_built section size settings list old new meta is built =
+    record {
+      kept = built.kept;
+      laid = record {
+        count =
+            built.count
+            ∙ ap (λ n. length old.pages + n)
+            (ap (λ s. list_pages s.kind s list) is.settings_are
+            ∙ (ap (list_pages own.kind own) is.list_is
+            ∙ (own_pages section.settings.kind size old.order section.settings (pairs_in section.pairs) refl is.named.settings
+            ∙ ap (λ n. list_pages section.settings.kind (sized n section) (pairs_in section.pairs)) (sym size_is))));
+        counts = subst (λ l. Counts meta (length l)) is.list_is built.counts;
+        says =
+            ap (λ n. settings_of n new.order (fields_of meta)) (size_is ∙ sym own_size_is)
+            ∙ (ap (λ o. settings_of settings.page_size o (fields_of meta)) (built.kept.order ∙ sym own_order_is)
+            ∙ (built.says ∙ (is.settings_are ∙ again)));
+        holds = subst (λ l. HoldsPart new (length old.pages) (length new.pages) (fields_of meta) (listed l)) is.list_is
+            built.holds;
+        spelled = subst (λ l. CanBeSpelled (length new.pages) meta
+            (part_between (length old.pages) (length new.pages) (fields_of meta) (listed l))) is.list_is built.spelled;
+      };
+    }
+  where
+    own : Settings
+    own = own_settings section.settings.kind size old.order section.settings
+
+    size_is : new.size ≡ size
+    size_is = built.kept.size ∙ is.size_is
+
+    own_size_is : settings.page_size ≡ size
+    own_size_is = ap (λ (s : Settings). s.page_size) is.settings_are ∙ own_size section.settings.kind size old.order section.settings
+
+    own_order_is : settings.order ≡ old.order
+    own_order_is = ap (λ (s : Settings). s.order) is.settings_are ∙ own_order section.settings.kind size old.order section.settings
+
+    again : own ≡ own_settings section.settings.kind new.size new.order section.settings
+    again =
+        ap (λ n. own_settings section.settings.kind n old.order section.settings) (sym size_is)
+        ∙ ap (λ o. own_settings section.settings.kind new.size o section.settings) (sym built.kept.order)

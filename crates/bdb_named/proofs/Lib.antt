@@ -1,0 +1,10 @@
+pub mod BuildLemmas
+pub mod EntryLemmas
+pub mod MasterLemmas
+pub mod NamedLemmas
+pub mod NamingLemmas
+pub mod RowLemmas
+pub mod StandingLemmas
+pub mod TableMetaLemmas
+pub mod TreeMetaLemmas
+pub mod WritingLemmas

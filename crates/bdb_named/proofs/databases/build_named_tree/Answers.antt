@@ -1,0 +1,14 @@
+use Rattle.bdb_named.proofs.BuildLemmas.{tree_built}
+use Rattle.bdb_named.proofs.databases.build_named_tree.Goals as goal
+
+pub returns : goal.returns
+returns c =
+    tree_built c.args.settings.now c.args.list.now c.args.pages.now c.build_tree.new.pages c.in_ok-root.root c.named_tree_meta.result
+    (record {
+      fit = c.requires.fit;
+      own = c.requires.own;
+      size = c.requires.size;
+      order = c.requires.order;
+      tree = c.in_ok-root.ensures;
+      meta_is = c.named_tree_meta.ensures;
+    })

@@ -1,0 +1,60 @@
+-- Sound images of databases under names. Source: docs/FORMAT.md, "Pages of a loaded file", "Metadata pages", "Databases of a file" and
+-- "Stage 7, the master".
+use Rattle.std.specs.Prelude.{◌≡◌, ◌⊎◌, ℕ, ◌+◌, ◌*◌, true, List, length, map, replicate, Some, None}
+use Rattle.std.specs.List.{All, AllZip, sum_by}
+use Rattle.bdb_format.specs.declared.kinds.Kind.TheVariants.{Hash}
+use Rattle.bdb_format.specs.declared.kinds.Order.{Order}
+use Rattle.bdb_format.specs.declared.settings.Settings.{Settings}
+use Rattle.bdb_format.specs.ContentRows.{ascends}
+use Rattle.bdb_format.specs.Databases.{Database, databases, settings_of}
+use Rattle.bdb_format.specs.File.{file_of}
+use Rattle.bdb_format.specs.HeadOf.{head_of}
+use Rattle.bdb_format.specs.Lists.{list_of}
+use Rattle.bdb_format.specs.Verdict.{verdict_of}
+use Rattle.bdb_model.specs.declared.list.Pair.{Pair}
+use Rattle.bdb_model.specs.declared.pairs.Key.TheVariants.{Bytes}
+use Rattle.bdb_model.specs.declared.sections.Section.{Section}
+use Rattle.bdb_model.specs.Pairs.{listed}
+use Rattle.bdb_leaves.specs.Runs.{IsShort}
+use Rattle.bdb_need.specs.Need.{pairs_in, tree_pages}
+use Rattle.bdb_count.specs.Need.{IsListOf, master_settings, name_in, section_pages, sized}
+use Rattle.bdb_alone.specs.Settled.{own_settings}
+use Rattle.bdb_alone.specs.Trees.{IsTreeSettings}
+
+-- the settings of a section are those of a tree or a hash that don't go against each other, in a file of this page size
+abbrev pub AreNamedSettings : Settings → Type 0
+AreNamedSettings settings = IsTreeSettings settings ⊎ ((settings.kind ≡ Hash) × (settings.sorted ≡ true → settings.duplicates ≡ true))
+
+-- a section with a name that fits its field, and with its list
+pub record IsNamed (size : ℕ) (section : Section) : Type 0 where
+  pub name : List ℕ
+  pub name_is : section.name ≡ Some name
+  pub short : IsShort name
+  pub settings : AreNamedSettings (sized size section)
+  pub list : IsListOf section.settings.kind (sized size section) (pairs_in section.pairs)
+
+-- sections with names, in the byte order of these, none twice
+pub record AreNamed (size : ℕ) (sections : List Section) : Type 0 where
+  pub each : All (IsNamed size) sections
+  pub ascend : ascends (map (λ (section : Section). name_in section.name) sections) ≡ true
+
+-- the pages of the master of sections in the order of their names, its metadata not counted: each name has four bytes of data
+abbrev pub name_entry : Section → Pair
+name_entry section = record { key = Bytes (name_in section.name); value = replicate 4 0 }
+
+abbrev pub names_pages : ℕ → List Section → ℕ
+names_pages size sections = tree_pages (master_settings size) (map name_entry sections)
+
+-- a database of an image is that of a section: it has its name, its list and its settings, in a file of this page size and order
+pub record IsDatabaseOf (size : ℕ) (order : Order) (image : List ℕ) (section : Section) (database : Database) : Type 0 where
+  pub name : database.name ≡ section.name
+  pub settings_are : settings_of (head_of image).page_size (head_of image).order database.fields
+      ≡ own_settings section.settings.kind size order section.settings
+  pub list : list_of (file_of image) database.fields ≡ listed (pairs_in section.pairs)
+
+-- A sound image of sections under their names: it has the pages of the master and its metadata, those of each section and its metadata, and the
+-- databases of the sections in the order of their names.
+pub record IsNamedImage (size : ℕ) (order : Order) (sections : List Section) (image : List ℕ) : Type 0 where
+  pub sound : verdict_of image ≡ None
+  pub long : length image ≡ (1 + names_pages size sections + sum_by (section_pages size) sections) * size
+  pub databases : AllZip (IsDatabaseOf size order image) sections (databases (file_of image))

@@ -1,0 +1,5 @@
+pub mod Images
+pub mod Laws
+pub mod Layout
+pub mod Standing
+pub mod Written

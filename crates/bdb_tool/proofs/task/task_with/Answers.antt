@@ -1,0 +1,8 @@
+use Rattle.bdb_tool.proofs.TaskLemmas.{asked_unread, text_unread}
+use Rattle.bdb_tool.proofs.task.task_with.Goals as goal
+
+pub returns-in-Err-clause-task : goal.returns-in-Err-clause-task
+returns-in-Err-clause-task g c = λ words seen. asked_unread words _ c.args.command.limit c.in-Ask.request c.in-Err.stop (rw c.in-Ask.is at seen) c.in-Err.ensures
+
+pub returns-in-Err-input_of-clause-task : goal.returns-in-Err-input_of-clause-task
+returns-in-Err-input_of-clause-task g c = λ words seen. text_unread words _ c.args.command.limit c.in-Err-input_of.stop (rw c.in-Load.is at seen) c.in-Err-input_of.ensures

@@ -1,0 +1,60 @@
+-- The answers to words and an input: a status, and what is written to the output and to the error sink. Source: README.md, "Use".
+use Rattle.std.specs.Prelude.{◌≡◌, ◌⊎◌, ℕ, nat_lt, ◌&&◌, Bool, true, false, List, length, Option, Some, None, ⊤}
+use Rattle.bdb_format.specs.Verdict.{verdict_of}
+use Rattle.bdb_model.specs.Answers.{Answer, judged_answer, told, too_large_line, usage}
+use Rattle.bdb_model.specs.Change.{Change, Gains, GainsPart, Stays}
+use Rattle.bdb_tool.specs.Commands.{Action, Ask, Command, Load, Trial, command_of, reads_input}
+use Rattle.bdb_writing.specs.Loads.{IsTextAnswer}
+use Rattle.bdb_writing.specs.Trials.{IsTrialAnswer}
+
+-- an answer to an input that isn't too long; `load` and `trial` may have several
+abbrev pub IsActionAnswer : Action → ℕ → List ℕ → Answer → Type 0
+IsActionAnswer (Ask request) limit input answer = answer ≡ judged_answer (verdict_of input) request input
+IsActionAnswer Load limit input answer = IsTextAnswer limit input answer
+IsActionAnswer (Trial kind seed count) limit input answer = IsTrialAnswer limit kind seed count answer
+
+-- an answer to an input, by whether it is too long
+abbrev pub IsAnswerBy : Bool → Command → List ℕ → Answer → Type 0
+IsAnswerBy true command input answer = answer ≡ told 6 (too_large_line command.limit)
+IsAnswerBy false command input answer = IsActionAnswer command.action command.limit input answer
+
+abbrev pub is_too_long : Command → List ℕ → Bool
+is_too_long command input = reads_input command.action && nat_lt command.limit (length input)
+
+-- an answer to a command, or to words that are none
+abbrev pub IsCommandAnswer : Option Command → List ℕ → Answer → Type 0
+IsCommandAnswer None input answer = answer ≡ usage
+IsCommandAnswer (Some command) input answer = IsAnswerBy (is_too_long command input) command input answer
+
+-- an answer to words and an input
+abbrev pub IsAnswerTo : List (List ℕ) → List ℕ → Answer → Type 0
+IsAnswerTo words input answer = IsCommandAnswer (command_of words) input answer
+
+-- a status and two texts are an answer to these words and this input
+pub record Output (words : List (List ℕ)) (input out err : List ℕ) (status : ℕ) : Type 0 where
+  pub answer : Answer
+  pub answers : IsAnswerTo words input answer
+  pub out_is : out ≡ answer.out
+  pub err_is : err ≡ answer.err
+  pub status_is : status ≡ answer.status
+
+-- the input is what the source had left; where it tells nothing, it may be any
+abbrev pub IsInput : Option (List ℕ) → List ℕ → Type 0
+IsInput None input = ⊤
+IsInput (Some left) input = input ≡ left
+
+-- the status and all that was written are an answer to the words and the input
+abbrev pub Answers : List (List ℕ) → Change → Change → Change → ℕ → Type 0
+Answers words source out err status =
+    (input : List ℕ) × IsInput source.before input × (written : List ℕ) × Gains out written × (told : List ℕ) × Gains err told × Output words input written told status
+
+-- what was written to the output is a prefix of an answer to the words and the input, or nothing
+abbrev pub AnswersInPart : List (List ℕ) → Change → Change → Type 0
+AnswersInPart words source out =
+    Stays out ⊎ ((input : List ℕ) × IsInput source.before input × (written : List ℕ) × (told : List ℕ) × (status : ℕ) × Output words input written told status × GainsPart out written)
+
+-- the status of an answer to these words and this input, whatever is written
+pub record StatusIs (words : List (List ℕ)) (input : List ℕ) (status : ℕ) : Type 0 where
+  pub written : List ℕ
+  pub told : List ℕ
+  pub answer : Output words input written told status

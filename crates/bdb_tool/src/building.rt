@@ -1,0 +1,64 @@
+//! The commands that build a file.
+ghost use Rattle.std.specs.Prelude.{◌≤◌, ◌^◌, length};
+ghost use Rattle.bdb_model.specs.Change.{change};
+ghost use Rattle.bdb_tool.specs.Parts.{Ends, IsRefusalTold};
+ghost use Rattle.bdb_tool.specs.WordsSeen.{IsFitTrial};
+ghost use Rattle.bdb_writing.specs.Loads.{IsTextAnswer};
+ghost use Rattle.bdb_writing.specs.Trials.{IsTrialAnswer};
+
+use crate::command::Trial;
+use crate::finish::{put, report, tell, tell_memory};
+use crate::status::{BAD_TEXT, TOO_LARGE};
+use bdb_io::{Image, Sink};
+use bdb_model::Steps;
+use bdb_writing::{Refusal, load_text, trial_text};
+use std::alloc::Global;
+use std::sync::ledger::Ledger;
+
+// Tells why nothing is built.
+fn tell_refusal<E: Sink>(refusal: Refusal, err: &mut E) -> u8
+    ensures { IsRefusalTold refusal (change E.written E.faults err.old err.new) result }
+{
+    match refusal {
+        Refusal::Faulty(line) => tell(err, line.as_bytes(), BAD_TEXT),
+        Refusal::TooLarge(line) => tell(err, line.as_bytes(), TOO_LARGE),
+        Refusal::Memory => tell_memory(err),
+    }
+}
+
+/// Answers `load` of a text, which is given up once it is read. Nothing is written before the image stands whole.
+pub(crate) fn answer_load<K: Sink, E: Sink>(
+    alloc: Global,
+    text: Image,
+    limit: u32,
+    out: &mut K,
+    err: &mut E,
+) -> u8
+    requires text { length text ≤ 2 ^ 30 }
+    requires limit { limit ≤ 2 ^ 30 }
+    ensures { Ends (IsTextAnswer limit text) (change K.written K.faults out.old out.new) (change E.written E.faults err.old err.new) result }
+{
+    match load_text(alloc, text, limit) {
+        Ok(image) => report(put(out, image.bytes()), err),
+        Err(refusal) => tell_refusal(refusal, err),
+    }
+}
+
+/// Answers `trial`.
+pub(crate) fn answer_trial<K: Sink, E: Sink, L: Ledger>(
+    alloc: Global,
+    trial: Trial,
+    limit: u32,
+    out: &mut K,
+    err: &mut E,
+    steps: &mut Steps<L>,
+) -> u8
+    requires trial { IsFitTrial trial }
+    requires limit { limit ≤ 2 ^ 30 }
+    ensures { Ends (IsTrialAnswer limit trial.kind trial.seed trial.count) (change K.written K.faults out.old out.new) (change E.written E.faults err.old err.new) result }
+{
+    match trial_text(alloc, trial.kind, trial.seed, trial.count, limit, steps) {
+        Ok(text) => report(put(out, text.as_bytes()), err),
+        Err(refusal) => tell_refusal(refusal, err),
+    }
+}

@@ -1,0 +1,60 @@
+-- From the sections of a text to its answer.
+use Rattle.std.proofs.Common.{◌≡◌, ℕ, true, List, ap, inl, inr, refl, subst, sym, ◌∙◌}
+use Rattle.std.specs.Prelude.{Option, Some, None, Result, Ok, Err, MatchResult, is_none, is_some}
+use Rattle.bdb_model.specs.declared.faults.TextFault.{TextFault}
+use Rattle.bdb_model.specs.declared.sections.Section.{Section}
+use Rattle.bdb_model.specs.Answers.{Answer, done, told}
+use Rattle.bdb_model.specs.Reasons.{text_fault}
+use Rattle.bdb_model.specs.Sections.{Reads}
+use Rattle.bdb_settle.specs.declared.load_error.LoadError.{LoadError}
+use Rattle.bdb_text.proofs.ReadLemmas.{reads_or_faults}
+use Rattle.bdb_load.specs.Builds.{Builds}
+use Rattle.bdb_load.specs.Loading.{IsLoadRefusal, loading_error}
+use Rattle.bdb_writing.specs.declared.refusal.Refusal.{Refusal}
+use Rattle.bdb_writing.specs.Lines.{reason_line}
+use Rattle.bdb_writing.specs.Loads.{IsAnswerBy, IsErrorAnswer, IsLoadAnswer, IsTextAnswer}
+use Rattle.bdb_writing.specs.Refusals.{IsRefusal, Says}
+use Rattle.bdb_writing.proofs.RefusalLemmas.{says_allowed, still_refused}
+
+-- a text with a fault
+pub fault_refused : (limit : ℕ) (text : List ℕ) (fault : TextFault) (refusal : Refusal) → text_fault text ≡ Some fault → Says (told 8 (reason_line fault)) refusal → IsRefusal (IsTextAnswer limit text) refusal
+fault_refused limit text fault refusal is says =
+    says_allowed (IsTextAnswer limit text) (told 8 (reason_line fault)) refusal says
+    (subst (λ found. IsAnswerBy limit found text (told 8 (reason_line fault))) (sym is) refl)
+
+-- an image that was built
+pub image_answers : (limit : ℕ) (sections : List Section) (image : List ℕ) → loading_error limit sections ≡ None → Builds sections image
+    → IsLoadAnswer limit (loading_error limit sections) sections (done image)
+image_answers limit sections image none built =
+    subst (λ found. IsLoadAnswer limit found sections (done image)) (sym none) (record { image = image; built = built; answer_is = refl })
+
+-- a load error that was told
+pub error_refused : (limit : ℕ) (sections : List Section) (error : LoadError) (refusal : Refusal) → IsLoadRefusal (loading_error limit sections) error → IsRefusal (IsErrorAnswer limit error) refusal
+    → IsRefusal (IsLoadAnswer limit (loading_error limit sections) sections) refusal
+error_refused limit sections error refusal (inl memory) refused =
+    still_refused (IsErrorAnswer limit error) (IsLoadAnswer limit (loading_error limit sections) sections) refusal
+    (λ answer is. absurd (subst (λ e. IsErrorAnswer limit e answer) memory is)) refused
+error_refused limit sections error refusal (inr is) refused =
+    subst (λ found. IsRefusal (IsLoadAnswer limit found sections) refusal) (sym is) refused
+
+-- a text that is read has no fault
+no_fault : (fault : Option TextFault) → is_none fault ≡ true → fault ≡ None
+no_fault None is = refl
+no_fault (Some fault) is = absurd cc
+
+read_without_fault : (text : List ℕ) (sections : List Section) → Reads text sections → text_fault text ≡ None
+read_without_fault text sections read = no_fault (text_fault text) (sym (reads_or_faults text) ∙ ap is_some read)
+
+-- an answer to the sections that a text is read as
+pub sections_answer : (limit : ℕ) (text : List ℕ) (sections : List Section) (answer : Answer) → Reads text sections → IsLoadAnswer limit (loading_error limit sections) sections answer
+    → IsTextAnswer limit text answer
+sections_answer limit text sections answer read answered =
+    subst (λ found. IsAnswerBy limit found text answer) (sym (read_without_fault text sections read)) (record { sections = sections; read = read; answered = answered })
+
+-- what loading the sections of a text gives is what loading the text gives
+pub text_loaded : (limit : ℕ) (text : List ℕ) (sections : List Section) (loaded : Result (List ℕ) Refusal) → Reads text sections
+    → MatchResult loaded (λ image. IsLoadAnswer limit (loading_error limit sections) sections (done image)) (IsRefusal (IsLoadAnswer limit (loading_error limit sections) sections))
+    → MatchResult loaded (λ image. IsTextAnswer limit text (done image)) (IsRefusal (IsTextAnswer limit text))
+text_loaded limit text sections (Ok image) read answered = sections_answer limit text sections (done image) read answered
+text_loaded limit text sections (Err refusal) read refused =
+    still_refused (IsLoadAnswer limit (loading_error limit sections) sections) (IsTextAnswer limit text) refusal (λ answer. sections_answer limit text sections answer read) refused

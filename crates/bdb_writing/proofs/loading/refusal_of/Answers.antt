@@ -1,0 +1,17 @@
+use Rattle.std.proofs.Common.{refl}
+use Rattle.bdb_settle.specs.declared.load_error.LoadError.TheVariants.{RecordTooLong, RecordZero, QueueAmongNames}
+use Rattle.bdb_writing.specs.Loads.{IsErrorAnswer}
+use Rattle.bdb_writing.proofs.RefusalLemmas.{says_allowed}
+use Rattle.bdb_writing.proofs.loading.refusal_of.Goals as goal
+
+pub returns-in-RecordTooLong : goal.returns-in-RecordTooLong
+returns-in-RecordTooLong c =
+    rw c.in-RecordTooLong.is (says_allowed (IsErrorAnswer c.args.limit (RecordTooLong _)) _ _ (c.faulty.ensures _ c.error_line.ensures) refl)
+
+pub returns-in-RecordZero : goal.returns-in-RecordZero
+returns-in-RecordZero c =
+    rw c.in-RecordZero.is (says_allowed (IsErrorAnswer c.args.limit (RecordZero _)) _ _ (c.faulty-in-RecordZero.ensures _ c.error_line-in-RecordZero.ensures) refl)
+
+pub returns-in-QueueAmongNames : goal.returns-in-QueueAmongNames
+returns-in-QueueAmongNames c =
+    rw c.in-QueueAmongNames.is (says_allowed (IsErrorAnswer c.args.limit (QueueAmongNames _)) _ _ (c.faulty-in-QueueAmongNames.ensures _ c.error_line-in-QueueAmongNames.ensures) refl)

@@ -1,0 +1,4 @@
+pub mod Lines
+pub mod Loads
+pub mod Refusals
+pub mod Trials

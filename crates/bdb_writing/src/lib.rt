@@ -1,0 +1,13 @@
+//! What the commands that build a file write: the image of a dump text, and the lines of a trial, or why there are none.
+#![tactic(auto)]
+
+mod loading;
+mod names;
+mod pairs;
+mod refusal;
+mod texts;
+mod trial;
+
+pub use loading::load_text;
+pub use refusal::Refusal;
+pub use trial::trial_text;
