@@ -1,14 +1,14 @@
 #!/usr/bin/env python3
 """Times `bdbtool` beside the original library's tools, both in one run on the same files.
 
-usage: times.py verify|kinds|chains|dump [PROGRAM]
+usage: times.py verify|kinds|chains|dump|load [PROGRAM]
 
 PROGRAM is the built program; without it, crates/bdbtool/out/bdbtool. The files are made with `db5.3_load` in a temporary folder.
 Prints a Markdown table. `verify` stands beside `db5.3_verify`, on a btree and a hash of tenfold growing numbers of pairs: seconds by
 the clock, and how pages and seconds grew from the row above. A kind ends where a run takes a minute, or where ten times the pairs
 wouldn't fit into the longest input. `kinds` has `verify` on files of each kind of about 100 MB, and `chains` on chains of pages that
 grow longer, one by one: seconds of user time. `dump` stands beside `db5.3_dump -k`, on a file of each kind: seconds of user time, and peak
-memory. Where the program or the library's tools are missing, nothing is timed. docs/BENCH.md says how to read the tables.
+memory. `load` stands beside `db5.3_load`, on the texts that `dump` gives of such files and of files with a quarter of the items. Where the program or the library's tools are missing, nothing is timed. docs/BENCH.md says how to read the tables.
 """
 import os
 import pathlib
@@ -43,6 +43,9 @@ FREE_PAGES = 18_000
 MILLION = 1_000_000
 LONG_VALUES, LONG_BYTES = 1_000, 100_000
 DUMP_COLUMNS = ("File", "Items", "Bytes of the file", "`bdbtool`", "`db5.3_dump -k`", "Ratio", "Peak of `bdbtool`, bytes", "Peak by file", "Bytes an item above 1.3 files")
+
+# `load`
+LOAD_COLUMNS = ("Text", "Items", "Bytes of the text", "Bytes of the file", "`bdbtool`", "`db5.3_load`", "Ratio", "`bdbtool` grew", "Peak of `bdbtool`, bytes", "Bytes an item above the text and two files")
 
 
 class Step(NamedTuple):
@@ -205,20 +208,24 @@ def spent(words, image):
     return Spent(usage.ru_utime, 1024 * usage.ru_maxrss)
 
 
-def least(words, image):
-    """The least that a few runs take."""
-    runs = [spent(words, image) for _ in range(RUNS)]
+def least(words, image, before=lambda: None):
+    """The least that a few runs take, each after a step before it."""
+    runs = []
+    for _ in range(RUNS):
+        before()
+        runs.append(spent(words, image))
     return Spent(min(run.user for run in runs), min(run.peak for run in runs))
 
 
-def samples():
-    """The files to dump."""
+def samples(share=1):
+    """The files to dump, or such files with a share of the items."""
+    many, few = MILLION // share, LONG_VALUES // share
     return [
-        Sample("btree", "btree", MILLION, pairs(MILLION, 40)),
-        Sample("hash", "hash", MILLION, pairs(MILLION, 40)),
-        Sample("recno", "recno", MILLION, records(MILLION)),
-        Sample("queue", "queue", MILLION, records(MILLION)),
-        Sample("btree, long values", "btree", LONG_VALUES, long_pairs(LONG_VALUES, LONG_BYTES)),
+        Sample("btree", "btree", many, pairs(many, 40)),
+        Sample("hash", "hash", many, pairs(many, 40)),
+        Sample("recno", "recno", many, records(many)),
+        Sample("queue", "queue", many, records(many)),
+        Sample("btree, long values", "btree", few, long_pairs(few, LONG_BYTES)),
     ]
 
 
@@ -238,6 +245,31 @@ def time_dump(program, folder):
     print_head(DUMP_COLUMNS)
     for sample in samples():
         print_dump(program, sample, folder)
+
+
+def print_load(program, sample, folder, before):
+    """A row of the table of `load`, and what the program took."""
+    image, text, built = make(sample.name, sample.kind, sample.lines, folder), folder / "text", folder / "built.db"
+    for words, given, taken in (([program, "dump"], image, text), ([program, "load"], text, built)):
+        with given.open("rb") as standard_input, taken.open("wb") as standard_output:
+            subprocess.run(words, stdin=standard_input, stdout=standard_output, check=True)
+    image.unlink()
+    size = built.stat().st_size
+    own = least([program, "load"], text)
+    original = least(["db5.3_load", "-h", folder, built], text, lambda: built.unlink(missing_ok=True))
+    long = text.stat().st_size
+    grew = "–" if before is None else f"× {own.user / before.user:.1f}"
+    above = max(0, own.peak - long - 2 * size) / sample.items
+    times = [f"{own.user:.3g}", f"{original.user:.3g}", f"{own.user / original.user:.3g}"]
+    print_row([sample.name, f"{sample.items:,}", f"{long:,}", f"{size:,}", *times, grew, f"{own.peak:,}", f"{above:.1f}"])
+    return own
+
+
+def time_load(program, folder):
+    """The table of `load`."""
+    print_head(LOAD_COLUMNS)
+    for quarter, whole in zip(samples(4), samples()):
+        print_load(program, whole, folder, print_load(program, quarter, folder, None))
 
 
 def free_list(pages, folder):
@@ -289,6 +321,7 @@ TABLES = {
     "kinds": ("db5.3_verify", time_kinds),
     "chains": ("db5.3_verify", time_chains),
     "dump": ("db5.3_dump", time_dump),
+    "load": ("db5.3_load", time_load),
 }
 
 

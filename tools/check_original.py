@@ -1,0 +1,179 @@
+#!/usr/bin/env python3
+"""Holds what the built program loads and dumps against the original library's tools, on each dump text of real/dumps.
+
+usage: check_original.py [PROGRAM [PAIRS]]
+
+PROGRAM is the built program bdbtool; without it, crates/bdbtool/out/bdbtool. Each text is loaded in both byte orders, and
+
+- the file passes `db5.3_verify`, and `db5.3_dump` of it has the names and pairs that PROGRAM's `dump` of it has;
+- what `db5.3_load` builds of that dump, in either spelling, is sound for PROGRAM, and has the same names and pairs.
+
+A text that is refused counts as such, and so does a dump that the original can't load as it is meant: one whose re_pad isn't a digit, or a
+printed one of a recno or queue. Then the dump of each file of real/files that is sound, and of a file of each kind of PAIRS pairs (a million, where
+none are given; 0 leaves these out) that the original makes, is loaded and dumped by PROGRAM: it is the same text, in either spelling. Prints a line for each that is answered otherwise, and then how many hold; the exit status is 1 where one
+doesn't hold. Without the original's tools nothing is asked.
+"""
+import pathlib
+import re
+import shutil
+import subprocess
+import sys
+import tempfile
+
+TOP = pathlib.Path(__file__).resolve().parent.parent
+SECONDS_A_RUN = 120
+TOOLS = ("db5.3_verify", "db5.3_dump", "db5.3_load")
+REFUSED = 8
+
+
+def run(*words, given=b""):
+    return subprocess.run(words, input=given, capture_output=True, timeout=SECONDS_A_RUN, check=False)
+
+
+def printed(text):
+    """The bytes that a printed spelling stands for."""
+    return re.sub(rb"\\(\\|[0-9a-fA-F]{2})", lambda it: b"\\" if it[1] == b"\\" else bytes.fromhex(it[1].decode()), text)
+
+
+def databases(text):
+    """For each database of a dump text its name, or None, and its pairs; those of a hash in the order of their keys."""
+    found = []
+    for part in text.split(b"VERSION=3\n")[1:]:
+        head, _, body = part.partition(b"HEADER=END\n")
+        header = dict(line.partition(b"=")[::2] for line in head.split(b"\n") if line)
+        read = printed if header.get(b"format") == b"print" else lambda it: bytes.fromhex(it.decode())
+        data = [read(line[1:]) for line in body.split(b"\n") if line.startswith(b" ")]
+        pairs = list(zip(data[::2], data[1::2]))
+        if header.get(b"type") == b"hash":
+            pairs.sort(key=lambda pair: pair[0])
+        name = header.get(b"database")
+        found.append((None if name is None else printed(name), pairs))
+    return found
+
+
+def in_order(text, order):
+    """The text, with this byte order in its first header."""
+    head, end, rest = text.partition(b"HEADER=END\n")
+    kept = b"".join(line + b"\n" for line in head.split(b"\n") if line and not line.startswith(b"db_lorder="))
+    return kept + b"db_lorder=" + order + b"\n" + end + rest
+
+
+def unloadable(text):
+    """Why the original can't load a dump text as it is meant, or None."""
+    if re.search(rb"^re_pad=(?![0-9]$)", text, re.M):
+        return "it reads re_pad as a character"
+    if re.search(rb"^format=print$", text, re.M) and re.search(rb"^type=(recno|queue)$", text, re.M):
+        return "it reads printed numbers of records as digits of bytes"
+    return None
+
+
+def loaded_wrong(program, folder, text):
+    """What is wrong with the file of a text, and the file; a text that is refused has none."""
+    ran = run(program, "load", given=text)
+    if ran.returncode == REFUSED:
+        return None, None
+    if ran.returncode:
+        return f"load ended with {ran.returncode}: {ran.stderr.decode()}", None
+    file = folder / "built.db"
+    file.write_bytes(ran.stdout)
+    verified = run("db5.3_verify", str(file))
+    if verified.returncode:
+        return f"db5.3_verify: {verified.stderr.decode()[:200]}", None
+    original, ours = run("db5.3_dump", "-k", str(file)), run(program, "dump", given=ran.stdout)
+    if databases(original.stdout) != databases(ours.stdout):
+        return "db5.3_dump has other pairs", None
+    return None, ran.stdout
+
+
+def dumped_wrong(program, folder, image, spelling):
+    """What is wrong with the original's file of our dump of an image; None too where it can't load it."""
+    dump = run(program, "dump", *spelling, given=image).stdout
+    if unloadable(dump):
+        return None
+    file = folder / "original.db"
+    file.unlink(missing_ok=True)
+    ran = run("db5.3_load", str(file), given=dump)
+    if ran.returncode:
+        return f"db5.3_load: {ran.stderr.decode()[:200]}"
+    built = file.read_bytes()
+    verdict = run(program, "verify", given=built)
+    if verdict.returncode:
+        return f"what db5.3_load builds isn't sound: {verdict.stderr.decode()}"
+    if databases(run(program, "dump", given=built).stdout) != databases(dump):
+        return "what db5.3_load builds has other pairs"
+    return None
+
+
+def dumped_again_wrong(program, image, spelling):
+    """Whether the dump of an image, loaded and dumped, is another text; not where the image isn't sound, or has no database."""
+    dump = run(program, "dump", *spelling, given=image)
+    if dump.returncode or not dump.stdout:
+        return False
+    built = run(program, "load", given=dump.stdout)
+    return built.returncode != 0 or run(program, "dump", *spelling, given=built.stdout).stdout != dump.stdout
+
+
+def large_file(folder, kind, pairs):
+    """A file of so many pairs, or records, that the original makes."""
+    text, file = folder / "text", folder / f"{kind}.db"
+    with text.open("w") as lines:
+        length = "re_len=20\n" if kind == "queue" else ""
+        lines.write(f"VERSION=3\nformat=print\ntype={kind}\n{length}db_pagesize=4096\nHEADER=END\n")
+        for i in range(pairs):
+            key = "" if kind in ("recno", "queue") else f" {i * 2654435761 % 2**32:08x}\n"
+            lines.write(f"{key} {i:020d}\n")
+        lines.write("DATA=END\n")
+    with text.open("rb") as given:
+        subprocess.run(["db5.3_load", str(file)], stdin=given, check=True)
+    return file
+
+
+def check_again(program, folder, pairs):
+    """How many dumps were asked for, and how many are the same text once more."""
+    files = sorted((TOP / "real/files").iterdir())
+    files += [large_file(folder, kind, pairs) for kind in ("btree", "hash", "recno", "queue") if pairs]
+    asked = held = 0
+    for file in files:
+        for spelling in (), ("--print",):
+            wrong = dumped_again_wrong(program, file.read_bytes(), spelling)
+            asked += 1
+            held += not wrong
+            if wrong:
+                print(f"{file.name}, dump {' '.join(spelling)}: loaded and dumped, it is another text")
+    return asked, held
+
+
+def main():
+    program = sys.argv[1] if len(sys.argv) > 1 else str(TOP / "crates/bdbtool/out/bdbtool")
+    pairs = int(sys.argv[2]) if len(sys.argv) > 2 else 1_000_000
+    lacking = [tool for tool in TOOLS if shutil.which(tool) is None]
+    if lacking:
+        print(f"skipped: {', '.join(lacking)} isn't there; apt-get install db5.3-util")
+        return
+    files = sorted((TOP / "real/dumps").iterdir())
+    asked = held = refused = passed_over = 0
+    with tempfile.TemporaryDirectory() as room:
+        folder = pathlib.Path(room)
+        for file in files:
+            for order in (b"1234", b"4321"):
+                wrong, image = loaded_wrong(program, folder, in_order(file.read_bytes(), order))
+                refused += wrong is None and image is None
+                asked += 1
+                held += wrong is None
+                if wrong:
+                    print(f"{file.name}, {order.decode()}: {wrong}")
+                for spelling in ((), ("--print",)) if image is not None else ():
+                    passed_over += unloadable(run(program, "dump", *spelling, given=image).stdout) is not None
+                    wrong = dumped_wrong(program, folder, image, spelling)
+                    asked += 1
+                    held += wrong is None
+                    if wrong:
+                        print(f"{file.name}, {order.decode()}, dump {' '.join(spelling)}: {wrong}")
+        again, same = check_again(program, folder, pairs)
+    print(f"{held} of {asked} hold; {refused} texts refused by name, {passed_over} dumps that the original can't load")
+    print(f"{same} of {again} dumps are the same text, loaded and dumped")
+    sys.exit(held != asked or same != again)
+
+
+if __name__ == "__main__":
+    main()
