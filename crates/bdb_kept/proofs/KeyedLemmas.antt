@@ -4,7 +4,7 @@ use Rattle.std.proofs.Common.{inr, true≢false}
 use Rattle.std.specs.Prelude.{◌&&◌, ◌==◌}
 use Rattle.std.specs.List.{Contains, flat_map, take_while}
 use Rattle.std.specs.Str.{bytes_eq}
-use Rattle.std.proofs.lemmas.Bool.{and_parts, eq-eqb, not-false, or_parts}
+use Rattle.std.proofs.lemmas.Bool.{and_parts, eq-eqb, not-false, or_parts, true_from_ne_false}
 use Rattle.std.proofs.lemmas.List.Elements.{Contains-append_left, Contains-append_right}
 use Rattle.std.proofs.lemmas.List.Sums.{take_while-cons}
 use Rattle.bdb_format.specs.declared.settings.Settings.{Settings}
@@ -274,17 +274,13 @@ group_rises : (file : File) (pair : StoredPair) (group : List StoredPair) → is
 group_rises file pair group none =
     ascends_rise (flat_map (live_data file) (pair ∷ group)) (not-false (ascends (flat_map (live_data file) (pair ∷ group))) none)
 
-true_unless : (b : Bool) → (b ≡ false → ⊥) → b ≡ true
-true_unless true never = refl
-true_unless false never = absurd (never refl)
-
 shared_goes : (settings : Settings) (file : File) (pair : StoredPair) (pairs : List StoredPair) → AreInOrder settings file (pair ∷ pairs)
     → (other : StoredPair) → (less pair.key other.key ≡ true) ⊎ Shared pair.key pairs other → GoesBefore settings file pair other
 shared_goes settings file pair pairs order other (inl above) = inl above
 shared_goes settings file pair pairs order other (inr shared) =
     inr (
       shared.same,
-      true_unless settings.duplicates (λ alone.
+      true_from_ne_false settings.duplicates (λ alone.
           true≢false (sym shared.shares ∙ order.apart other (later_member pair pairs other (of_sharing pairs other shared.among)) alone)),
       (λ is x y at_x at_y.
           later_across (λ a b. less a b ≡ true) (live_data file pair) (flat_map (live_data file) (sharing pairs)) x y

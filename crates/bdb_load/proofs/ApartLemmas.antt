@@ -8,6 +8,7 @@ use Rattle.std.specs.List.{All, fold, list_any, sum_by}
 use Rattle.std.proofs.lemmas.List.Elements.{All-cons, All-head, All-nil, All-tail}
 use Rattle.std.proofs.lemmas.List.Folds.{list_any-append}
 use Rattle.std.proofs.lemmas.List.Sums.{sum_by-cons}
+use Rattle.std.proofs.lemmas.Bool.{and_parts}
 use Rattle.bdb_format.specs.ContentRows.{ascends, ascends_from}
 use Rattle.bdb_format.specs.Databases.{is_name}
 use Rattle.bdb_format.specs.Less.{less}
@@ -15,6 +16,7 @@ use Rattle.bdb_btree.proofs.LessLemmas.{same_unless_less}
 use Rattle.bdb_overflow.proofs.KeyLemmas.{eq_self}
 use Rattle.bdb_model.specs.declared.sections.Section.{Section}
 use Rattle.bdb_sections.specs.Fit.{AreNamedBehind}
+use Rattle.bdb_settle.proofs.PutLemmas.{or_false}
 use Rattle.bdb_load.specs.Builds.{in_name_order, name_of, put_named}
 use Rattle.bdb_load.specs.Order.{AreApart, IsApart, named_before, with_named}
 use Rattle.bdb_load.proofs.NameLemmas.{swapped}
@@ -110,21 +112,13 @@ after_apart a b apart not_before = by_tests (named_before a b) (named_before b a
     by_tests true false apart is = absurd cc
     by_tests false false apart is = absurd cc
 
-first_true : (a b : Bool) → (a && b) ≡ true → a ≡ true
-first_true true b is = refl
-first_true false b is = absurd cc
-
-second_true : (a b : Bool) → (a && b) ≡ true → b ≡ true
-second_true true b is = is
-second_true false b is = absurd cc
-
 ascends_behind : (value : List ℕ) (section : Section) (list : List Section) → less value (name_of section) ≡ true
     → ascends_from value (map name_of list) ≡ true → All (IsApart section) list → ascends_from value (map name_of (put_named section list)) ≡ true
 ascends_behind value section [] low up all = both_true low refl
 ascends_behind value section (other ∷ others) low up all =
-    let first : less value (name_of other) ≡ true = first_true (less value (name_of other)) (ascends_from (name_of other) (map name_of others)) up in
+    let first : less value (name_of other) ≡ true = (and_parts (less value (name_of other)) (ascends_from (name_of other) (map name_of others)) up).0 in
     let rest : ascends_from (name_of other) (map name_of others) ≡ true =
-    second_true (less value (name_of other)) (ascends_from (name_of other) (map name_of others)) up in
+    (and_parts (less value (name_of other)) (ascends_from (name_of other) (map name_of others)) up).1 in
     by_test (named_before section other) refl first rest
     (λ is. ascends_behind (name_of other) section others (after_apart section other (All-head (IsApart section) other others all) is) rest
     (All-tail (IsApart section) other others all))
@@ -158,10 +152,6 @@ order_ascends (section ∷ sections) apart =
 abbrev pub HasName : Section → Type 0
 HasName section = is_some section.name ≡ true
 
-or_left : (a b : Bool) → (a || b) ≡ false → a ≡ false
-or_left true b is = absurd cc
-or_left false b is = refl
-
 or_right : (a b : Bool) → (a || b) ≡ false → b ≡ false
 or_right true b is = absurd cc
 or_right false b is = is
@@ -175,7 +165,7 @@ named_behind : (name : Option (List ℕ)) (names : List (Option (List ℕ))) (se
 named_behind name names [] named = All-nil HasName
 named_behind name names (section ∷ sections) named =
     All-cons HasName section sections
-    (some_name section.name (or_left (is_none section.name) (list_any is_none (name ∷ names)) named.0))
+    (some_name section.name (or_false (is_none section.name) (list_any is_none (name ∷ names)) named.0))
     (named_behind name (names ++ (section.name ∷ [])) sections named.2)
 
 -- where the first section has a name, each has
@@ -189,13 +179,13 @@ pub alone_unnamed : (section : Section) (sections : List Section) → is_some se
 alone_unnamed section [] unnamed named = refl
 alone_unnamed section (other ∷ others) unnamed named =
     let some : is_none section.name ≡ false =
-    or_left (is_none section.name) false (or_right (is_none other.name) (list_any is_none (section.name ∷ [])) named.2.0) in
+    or_false (is_none section.name) false (or_right (is_none other.name) (list_any is_none (section.name ∷ [])) named.2.0) in
     absurd (true≢false (sym (some_name section.name some) ∙ unnamed))
 
 not_this : (names more : List (Option (List ℕ))) (name other : Option (List ℕ)) → list_any (is_name other) (names ++ name ∷ more) ≡ false
     → is_name other name ≡ false
 not_this names more name other none =
-    or_left (is_name other name) (list_any (is_name other) more)
+    or_false (is_name other name) (list_any (is_name other) more)
     (or_right (list_any (is_name other) names) (list_any (is_name other) (name ∷ more))
     (sym (list_any-append (is_name other) names (name ∷ more)) ∙ none))
 

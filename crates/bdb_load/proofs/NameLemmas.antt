@@ -8,7 +8,7 @@ use Rattle.std.specs.declared.cmp.Ordering.{Ordering}
 use Rattle.std.specs.declared.cmp.Ordering.TheVariants.{Less as Below, Equal, Greater}
 use Rattle.std.specs.List.{All, filter, fold}
 use Rattle.std.specs.List.Sorted.{IsSortedBy, IsStableBy, ties}
-use Rattle.std.proofs.lemmas.Bool.{false_from_ne_true}
+use Rattle.std.proofs.lemmas.Bool.{false_from_ne_true, true_from_ne_false}
 use Rattle.std.proofs.lemmas.List.Elements.{All-cons, All-head, All-nil, All-push, All-tail, filter-append}
 use Rattle.bdb_format.specs.Less.{less}
 use Rattle.bdb_format.proofs.LessLemmas.{less_self}
@@ -26,13 +26,9 @@ names_weakly = record {
   chain = λ a b c first second. key_chain (Bytes (name_of a)) (Bytes (name_of b)) (Bytes (name_of c)) first second;
 }
 
-true_from : (b : Bool) → (b ≡ false → ⊥) → b ≡ true
-true_from true never = refl
-true_from false never = absurd (never refl)
-
 -- what stands before one that stands before a third, or beside it, stands before the third
 above : (a b c : Section) → named_before a b ≡ true → named_before c b ≡ false → named_before a c ≡ true
-above a b c is not_above = true_from (named_before a c) (λ no. true≢false (sym is ∙ names_weakly.chain a c b no not_above))
+above a b c is not_above = true_from_ne_false (named_before a c) (λ no. true≢false (sym is ∙ names_weakly.chain a c b no not_above))
 
 put_ahead : (x other : Section) (others : List Section) → named_before x other ≡ true → put_named x (other ∷ others) ≡ x ∷ other ∷ others
 put_ahead x other others is = rw is refl
