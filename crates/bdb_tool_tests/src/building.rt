@@ -195,7 +195,7 @@ const LOADS: [Load; 4] = [
 ];
 
 // Words of `trial`, and the first line that it writes.
-const TRIALS: [(&[&str], &[u8]); 6] = [
+const TRIALS: [(&[&str], &[u8]); 7] = [
     (
         &["trial", "btree", "1", "2"],
         b"btree: 2 pairs, 2 pages, sound\n",
@@ -219,6 +219,11 @@ const TRIALS: [(&[&str], &[u8]); 6] = [
     (
         &["trial", "--", "btree", "0000000003", "0000001280"],
         b"btree: 1280 pairs, 19 pages, sound\n",
+    ),
+    // 203 records on a page
+    (
+        &["trial", "queue", "1", "200000"],
+        b"queue: 200000 pairs, 987 pages, sound\n",
     ),
 ];
 

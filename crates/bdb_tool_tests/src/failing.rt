@@ -1,6 +1,6 @@
 //! What is written where a sink fails.
 
-use crate::building::FAULTY;
+use crate::building::{FAULTY, UNLOADED};
 use crate::files::{DUPLICATES_UNTOLD, ONE_PAIR, OUT_OF_ORDER, VERSION_10};
 use crate::images::File;
 use crate::outside::Narrow;
@@ -95,7 +95,7 @@ fn tells_a_write_fault_at_each_call(rt: HostRuntime) -> Result<(), Fail> {
 #[test]
 fn ends_where_the_error_sink_fails(rt: HostRuntime) -> Result<(), Fail> {
     let alloc = rt.alloc();
-    for (given, file, told) in REFUSED.iter().chain(FAULTY.iter()) {
+    for (given, file, told) in REFUSED.iter().chain(FAULTY.iter()).chain(UNLOADED.iter()) {
         let line = told.err();
         for taken in 0..line.len() {
             let mut source = source_over(alloc, file)?;
