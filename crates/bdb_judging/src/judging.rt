@@ -1,8 +1,9 @@
 //! The verdict on a file that was built, and what is read of it.
 
-ghost use Rattle.std.specs.Prelude.{◌≡◌, ◌<◌, ◌≤◌, ◌^◌, length};
+ghost use Rattle.std.specs.Prelude.{◌≡◌, ◌<◌, ◌≤◌, ◌^◌, IfOk, None, length, true};
 ghost use Rattle.bdb_format.specs.Databases.{databases};
 ghost use Rattle.bdb_format.specs.File.{file_of};
+ghost use Rattle.bdb_format.specs.Verdict.{verdict_of};
 
 use bdb_file::{Db, Sound, verify};
 use bdb_format::{Bytes, Steps};
@@ -126,7 +127,9 @@ fn gives_counted<L: Ledger>(
     list: &PairList,
     absent: &[u8],
     steps: &mut Steps<L>,
-) -> Result<bool, AllocError> {
+) -> Result<bool, AllocError>
+    ensures sound { IfOk result (λ so. so ≡ true → verdict_of image.now ≡ None) }
+{
     if image.len() > 1 << 30 {
         return Ok(false);
     }
@@ -151,6 +154,7 @@ fn gives_blank<L: Ledger>(
     requires name { blank.name ≡ L.name }
     requires parts { blank.parts ≡ L.parts }
     requires one { L.parts ≡ 1 }
+    ensures sound { IfOk result (λ so. so ≡ true → verdict_of image.now ≡ None) }
 {
     let mut steps = Steps::<L>::new(blank);
     gives_counted(alloc, image, list, absent, &mut steps)
@@ -162,6 +166,8 @@ pub fn gives(
     image: &[u8],
     list: &PairList,
     absent: &[u8],
-) -> Result<bool, AllocError> {
+) -> Result<bool, AllocError>
+    ensures sound { IfOk result (λ so. so ≡ true → verdict_of image.now ≡ None) }
+{
     gives_blank::<Brand>(alloc, image, list, absent, Blank::new(1))
 }
