@@ -1,0 +1,6 @@
+pub mod CountLemmas
+pub mod HashLemmas
+pub mod ListLemmas
+pub mod NameLemmas
+pub mod OneTreeLemmas
+pub mod TreeLemmas
