@@ -11,12 +11,14 @@ use Rattle.bdb_format.specs.Leaves.{leaves}
 use Rattle.bdb_format.specs.Lists.{ListKey, BytesKey, NumberKey, btree_list, list_of}
 use Rattle.bdb_format.specs.Master.{master_in}
 use Rattle.bdb_format.specs.Page.{Metadata, BtreeFields}
-use Rattle.bdb_format.specs.Verdict.{faults_of}
-use Rattle.bdb_graph.specs.Linked.{FitsDupRoot}
+use Rattle.bdb_format.specs.Verdict.{master_faults, structure_faults}
+use Rattle.bdb_graph.specs.Linked.{FitsDupRoot, IsForest}
 
--- no row holds, and the file is one of trees and tables
+-- no row of the first seven stages holds, and the file is one of trees and tables
 pub record IsSoundForest (image : List ℕ) : Type 0 where
-  pub sound : faults_of image ≡ []
+  pub forest : IsForest image
+  pub structure : structure_faults (file_of image) ≡ []
+  pub master : master_faults (file_of image) ≡ []
   pub kind : (file_of image).kind ≢ Queue
 
 -- The lists of all databases.
