@@ -1,5 +1,7 @@
 pub mod CountLemmas
+pub mod FieldLemmas
 pub mod HashLemmas
+pub mod LeafLemmas
 pub mod ListLemmas
 pub mod MetaLemmas
 pub mod NameLemmas
