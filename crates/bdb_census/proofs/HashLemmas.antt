@@ -156,6 +156,10 @@ abbrev AllUpTo : ℕ → List ℕ → Type 0
 AllUpTo n [] = Unit {0}
 AllUpTo n (x ∷ xs) = (x ≤ n) × AllUpTo n xs
 
+abbrev pub AllHash : File → List ℕ → Type 0
+AllHash file [] = Unit {0}
+AllHash file (x ∷ xs) = (is_hash_page file x ≡ true) × AllHash file xs
+
 turn_is : (turns : ℕ) (file : File) (p : ℕ) → chain_in (suc turns) file p ≡ p ∷ cond (next_of file p == 0) [] (chain_in turns file (next_of file p))
 unfolding chain_in
 turn_is turns file p = ap (λ ps. p ∷ ps) (same (next_of file p == 0) (chain_in turns file (next_of file p)))
@@ -174,9 +178,10 @@ record IsRow (turns : ℕ) (file : File) (p : ℕ) : Type 0 where
   is : chain_in (suc turns) file p ≡ p ∷ after
   way : IsWayDown file p after
   inside : AllUpTo file.last after
+  kinds : AllHash file after
 
 last_row : (turns : ℕ) (file : File) (p : ℕ) → (next_of file p == 0) ≡ true → IsRow turns file p
-last_row turns file p last = record { after = []; is = turn_is turns file p ∙ ap (λ b. p ∷ cond b [] (chain_in turns file (next_of file p))) last; way = tt; inside = tt }
+last_row turns file p last = record { after = []; is = turn_is turns file p ∙ ap (λ b. p ∷ cond b [] (chain_in turns file (next_of file p))) last; way = tt; inside = tt; kinds = tt }
 
 row_of : (turns : ℕ) (image : List ℕ) (p : ℕ) → IsForest image → p ≤ (file_of image).last → is_hash_page (file_of image) p ≡ true → IsRow turns (file_of image) p
 row_of zero image p forest low is =
@@ -186,6 +191,7 @@ row_of zero image p forest low is =
       is = turn_is zero file p ∙ (ap (λ ps. p ∷ cond (next_of file p == 0) [] ps) (no_turn file (next_of file p)) ∙ ap (λ ps. p ∷ ps) (both (next_of file p == 0)));
       way = tt;
       inside = tt;
+      kinds = tt;
     }
   where
     both : (b : Bool) → ◌≡◌ {A = List ℕ} (cond b [] []) []
@@ -203,6 +209,7 @@ row_of (suc t) image p forest low is =
             is = turn_is (suc t) file p ∙ (ap (λ b. p ∷ cond b [] (chain_in (suc t) file (next_of file p))) more ∙ ap (λ ps. p ∷ ps) rest.is);
             way = (next.names, rest.way);
             inside = (next.inside, rest.inside);
+            kinds = (next.kind, rest.kinds);
           }
     ]
 

@@ -6,4 +6,5 @@ pub mod ListLemmas
 pub mod MetaLemmas
 pub mod NameLemmas
 pub mod OneTreeLemmas
+pub mod ReadLemmas
 pub mod TreeLemmas

@@ -69,7 +69,7 @@ first_of_range f n = ap (λ k. sum_by f (range_with_len 0 k)) (add-one n) ∙ su
 
 -- The pairs of a master.
 
-master_is : (page : Page) (meta : BtreeMeta) → master_in page ≡ Some meta → page ≡ Meta (BtreeFields meta)
+pub master_is : (page : Page) (meta : BtreeMeta) → master_in page ≡ Some meta → page ≡ Meta (BtreeFields meta)
 master_is (Meta (BtreeFields found)) meta is =
     elim (names_databases found) as (λ b. ◌≡◌ {A = Option BtreeMeta} (cond b (Some found) None) (Some meta) → ◌≡◌ {A = Page} (Meta (BtreeFields found)) (Meta (BtreeFields meta))) [
       | true ↦ λ same. cc
