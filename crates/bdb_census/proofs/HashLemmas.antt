@@ -35,7 +35,7 @@ use Rattle.bdb_graph.proofs.FirstLemmas.{formed_last}
 use Rattle.bdb_graph.proofs.HeldLemmas.{last_page}
 use Rattle.bdb_tree.proofs.ShapeLemmas.{no_queue}
 use Rattle.bdb_format.proofs.TypeLemmas.{AllTypes, of_type}
-use Rattle.bdb_format.proofs.ListLemmas.{in_enumerated}
+use Rattle.bdb_format.proofs.ListLemmas.{in_enumerated, only_member}
 use Rattle.bdb_format.proofs.ReferenceLemmas.{forest_names, of_all}
 use Rattle.bdb_graph.proofs.ChildLemmas.{is_queue_page}
 use Rattle.bdb_census.specs.Counting.{AreParts}
@@ -259,13 +259,22 @@ counted : (image : List ℕ) → (file_of image).count ≡ (head_of image).pages
 unfolding file_of
 counted image = refl
 
+some_room : (image : List ℕ) → IsForest image → 0 < (file_of image).count
+some_room image forest = omega (arith, last_page image, formed_last image (head_of image) forest.formed, counted image)
+
+all_turns : (image : List ℕ) (p : ℕ) → IsForest image → p ≤ (file_of image).last → is_hash_page (file_of image) p ≡ true
+    → chain_in (suc (file_of image).count) (file_of image) p ≡ chain (file_of image) p
+all_turns image p forest low is =
+    let file : File = file_of image in
+    let room : file.last < file.count = omega (arith, last_page image, formed_last image (head_of image) forest.formed, counted image) in
+    enough file.count file p (omega (arith, row_few file.count image p forest low is))
+
 -- a row is its first page, and the row from the next page on
 row_is : (image : List ℕ) (p : ℕ) → IsForest image → p ≤ (file_of image).last → is_hash_page (file_of image) p ≡ true
     → chain (file_of image) p ≡ p ∷ cond (next_of (file_of image) p == 0) [] (chain (file_of image) (next_of (file_of image) p))
 row_is image p forest low is =
     let file : File = file_of image in
-    let room : file.last < file.count = omega (arith, last_page image, formed_last image (head_of image) forest.formed, counted image) in
-    sym (enough file.count file p (omega (arith, row_few file.count image p forest low is))) ∙ turn_is file.count file p
+    sym (all_turns image p forest low is) ∙ turn_is file.count file p
 
 -- Sums.
 
@@ -554,7 +563,7 @@ row_below image weight owner forest weighs at is =
     let file : File = file_of image in
     let held = of_all file owner at in
     let target : ℕ = owner.reference.target in
-    let room : 0 < file.count = omega (arith, last_page image, formed_last image (head_of image) forest.formed, counted image) in
+    let room : 0 < file.count = some_room image forest in
     elim (cases_Bool (is_hash_page file target)) [
       | inl hash ↦ ap (λ b. cond b (sum_by weight (chain file target)) 0) hash
       | inr other ↦
@@ -593,3 +602,37 @@ hash_pages_are_of_buckets image weight forest weighs =
           ap (λ b. cond b (f owner.reference.target) 0) is ∙ (one ∙ sym (ap (λ b. cond b (below owner) 0) is))
     ]) in
     counted ∙ (held ∙ (all ∙ (rows ∙ sym (sum_filter below test (all_references file)))))
+
+-- The pages of a bucket.
+
+in_row : (file : File) (xs : List ℕ) (q : ℕ) → AllHash file xs → Contains xs q → is_hash_page file q ≡ true
+in_row file [] q all at = absurd (no_member [] q refl at)
+in_row file (x ∷ xs) q all at =
+    elim (member_cases x xs q at) [ inl same ↦ subst (λ p. is_hash_page file p ≡ true) same all.0 | inr later ↦ in_row file xs q all.1 later ]
+
+row_pages : (image : List ℕ) (p q : ℕ) → IsForest image → p ≤ (file_of image).last → is_hash_page (file_of image) p ≡ true
+    → Contains (chain (file_of image) p) q → is_hash_page (file_of image) q ≡ true
+row_pages image p q forest low is at =
+    let file : File = file_of image in
+    let row : IsRow file.count file p = row_of file.count image p forest low is in
+    let same : chain file p ≡ p ∷ row.after = sym (all_turns image p forest low is) ∙ row.is in
+    in_row file (p ∷ row.after) q (is, row.kinds) (subst (λ ps. Contains ps q) same at)
+
+-- each is a hash page, or the bucket is a zero page
+pub bucket_page_is : (image : List ℕ) (owner : Owner) (q : ℕ) → IsForest image → Contains (all_references (file_of image)) owner
+    → is_bucket owner.reference.sort ≡ true
+    → Contains (chain (file_of image) owner.reference.target) q
+    → (is_hash_page (file_of image) q ≡ true) ⊎ (is_zero_page (page_at (file_of image) q) ≡ true)
+bucket_page_is image owner q forest held is at =
+    let file : File = file_of image in
+    let p : ℕ = owner.reference.target in
+    let there = of_all file owner held in
+    let fits : fit_code file owner.holder owner.reference ≡ None =
+    each_fits file owner.holder owner.reference (sound_graph image forest.linked).references there.0 there.1 in
+    elim (bucket_kind file owner.holder owner.reference fits is) [
+      | inl hash ↦ inl (row_pages image p q forest (target_inside file owner.holder owner.reference fits) hash at)
+      | inr zeros ↦
+          let alone : chain file p ≡ p ∷ [] = one_page file.count file p (some_room image forest) (is_zero_next (page_at file p) zeros) in
+          let same : p ≡ q = only_member p q (subst (λ ps. Contains ps q) alone at) in
+          inr (subst (λ n. is_zero_page (page_at file n) ≡ true) same zeros)
+    ]

@@ -1,4 +1,5 @@
 pub mod CountLemmas
+pub mod DatabaseLemmas
 pub mod FieldLemmas
 pub mod HashLemmas
 pub mod LeafLemmas

@@ -4,15 +4,18 @@ use Rattle.std.specs.List.{Contains, flat_map, range_with_len, sum_by}
 use Rattle.bdb_format.specs.declared.metadata.BtreeMeta.{BtreeMeta}
 use Rattle.bdb_format.specs.declared.metadata.FileKind.TheVariants.{Queue}
 use Rattle.bdb_format.specs.ContentRows.{fields_of}
-use Rattle.bdb_format.specs.Contents.{StoredPair, data_of, live_values, pairs_of}
+use Rattle.bdb_format.specs.Contents.{StoredPair, bucket_pages, data_of, live_values, pairs_of}
 use Rattle.bdb_format.specs.Databases.{Database, databases}
 use Rattle.bdb_format.specs.File.{File, file_of, page_at}
+use Rattle.bdb_format.specs.Graph.{is_spare}
 use Rattle.bdb_format.specs.Leaves.{leaves}
 use Rattle.bdb_format.specs.Lists.{ListKey, BytesKey, NumberKey, btree_list, list_of}
 use Rattle.bdb_format.specs.Master.{master_in}
-use Rattle.bdb_format.specs.Page.{Metadata, BtreeFields}
+use Rattle.bdb_format.specs.Page.{Metadata, BtreeFields, HashFields, QueueFields}
 use Rattle.bdb_format.specs.Verdict.{master_faults, structure_faults}
 use Rattle.bdb_graph.specs.Linked.{FitsDupRoot, IsForest}
+use Rattle.bdb_census.specs.HashSums.{is_hash_page}
+use Rattle.bdb_census.specs.TreeSums.{leaf_weight}
 
 -- no row of the first seven stages holds, and the file is one of trees and tables
 pub record IsSoundForest (image : List ℕ) : Type 0 where
@@ -57,6 +60,36 @@ abbrev pub MetadataAreDatabases : Type 0
 MetadataAreDatabases =
     (image : List ℕ) (weight : Metadata → ℕ) → IsSoundForest image
     → sum_by weight (fields_of (file_of image)) ≡ sum_by weight (named_fields (file_of image))
+
+-- The pages.
+
+-- the leaves of metadata's root
+abbrev pub leaves_below : File → Metadata → List ℕ
+leaves_below file (BtreeFields meta) = leaves file meta.root
+leaves_below file (HashFields meta) = []
+leaves_below file (QueueFields meta) = []
+
+-- the pages of its buckets
+abbrev pub buckets_below : File → Metadata → List ℕ
+buckets_below file (BtreeFields meta) = []
+buckets_below file (HashFields meta) = flat_map (bucket_pages file meta) (range_with_len 0 (meta.max_bucket + 1))
+buckets_below file (QueueFields meta) = []
+
+-- Where the leaves of sets off the page weigh nothing, all leaves weigh what those below metadata do.
+abbrev pub LeavesAreOfDatabases : Type 0
+LeavesAreOfDatabases =
+    (image : List ℕ) (weight : ℕ → ℕ) → IsForest image → (file_of image).kind ≢ Queue
+    → ((root : ℕ) → FitsDupRoot (file_of image) root → sum_by weight (leaves (file_of image) root) ≡ 0)
+    → sum_by (leaf_weight (file_of image) weight) (range_with_len 0 ((file_of image).last + 1))
+    ≡ sum_by (λ fields. sum_by weight (leaves_below (file_of image) fields)) (fields_of (file_of image))
+
+-- Where the pages that a table may hold in reserve weigh nothing, all hash pages weigh what the buckets of metadata do.
+abbrev pub HashPagesAreOfTables : Type 0
+HashPagesAreOfTables =
+    (image : List ℕ) (weight : ℕ → ℕ) → IsForest image → (file_of image).kind ≢ Queue
+    → ((p : ℕ) → p ≤ (file_of image).last → is_spare (page_at (file_of image) p) ≡ true → weight p ≡ 0)
+    → sum_by (λ p. if is_hash_page (file_of image) p then weight p else 0) (range_with_len 0 ((file_of image).last + 1))
+    ≡ sum_by (λ fields. sum_by weight (buckets_below (file_of image) fields)) (fields_of (file_of image))
 
 -- The pairs.
 
