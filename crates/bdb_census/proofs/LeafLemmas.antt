@@ -122,6 +122,15 @@ pub recno_leaf_type : (image : List ℕ) (meta : BtreeMeta) (q : ℕ) → IsFore
     → Contains (leaves (file_of image) meta.root) q → type_in (page_at (file_of image) q) ≡ Some 6
 recno_leaf_type image meta q forest has is at = recno_leaf image meta.root q forest (root_type image meta true forest has is) at
 
+-- and no pairs
+pub no_pairs_in_recno : (image : List ℕ) (meta : BtreeMeta) (q : ℕ) → IsForest image → HasMetadata (file_of image) (BtreeFields meta)
+    → is_recno meta ≡ true
+    → Contains (leaves (file_of image) meta.root) q → pairs_of (file_of image) q ≡ []
+no_pairs_in_recno image meta q forest has is at =
+    let file : File = file_of image in
+    let tree : IsTreePage file meta.root = root_is_tree image meta.root forest (inl (root_fits image (head_of image) meta forest.formed has)) in
+    no_pairs_on image q forest (leaf_fits image meta.root q forest tree at) (ap (has_type (5 ∷ [])) (recno_leaf_type image meta q forest has is at))
+
 -- one of a btree has pairs
 pub btree_leaf_type : (image : List ℕ) (meta : BtreeMeta) (q : ℕ) → IsSoundForest image → HasMetadata (file_of image) (BtreeFields meta)
     → is_recno meta ≡ false

@@ -7,5 +7,6 @@ pub mod ListLemmas
 pub mod MetaLemmas
 pub mod NameLemmas
 pub mod OneTreeLemmas
+pub mod PairLemmas
 pub mod ReadLemmas
 pub mod TreeLemmas
