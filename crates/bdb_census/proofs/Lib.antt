@@ -9,4 +9,5 @@ pub mod NameLemmas
 pub mod OneTreeLemmas
 pub mod PairLemmas
 pub mod ReadLemmas
+pub mod RecordLemmas
 pub mod TreeLemmas
