@@ -127,9 +127,9 @@ hash_pages_are_of_tables image weight forest kind spare =
     let weighs : WeighsHash file h = record {
       other = λ p other. ap (λ b. cond b (weight p) 0) other;
       spare = λ p is. elim (cases_Bool (is_hash_page file p)) [
-            | inr other ↦ ap (λ b. cond b (weight p) 0) other
-            | inl hash ↦ nothing (is_hash_page file p) (weight p) (spare p (typed_inside image (2 ∷ 13 ∷ []) p hash) is)
-          ];
+        | inr other ↦ ap (λ b. cond b (weight p) 0) other
+        | inl hash ↦ nothing (is_hash_page file p) (weight p) (spare p (typed_inside image (2 ∷ 13 ∷ []) p hash) is)
+      ];
     } in
     let of : OfMetadata (as_bucket f) = record {
       structure = record { free = λ t. refl; head = λ t. refl; chained = λ t. refl; set = λ t. refl };

@@ -10,4 +10,5 @@ pub mod OneTreeLemmas
 pub mod PairLemmas
 pub mod ReadLemmas
 pub mod RecordLemmas
+pub mod SetLemmas
 pub mod TreeLemmas

@@ -240,7 +240,7 @@ metadata_are_databases image weight sound =
     let f : ℕ → ℕ = meta_weight file weight in
     let all : sum_by weight (fields_of file) ≡ f 0 + sum_by f (range_with_len 1 file.last) = fields_by_page image weight ∙ first_of_range f file.last in
     elim (master_in (page_at file 0)) as (λ master. master_in (page_at file 0) ≡ master
-        → sum_by weight (fields_of file) ≡ sum_by weight (master_fields master ++ map (λ (database : Database). database.fields) (databases_under file master))) [
+    → sum_by weight (fields_of file) ≡ sum_by weight (master_fields master ++ map (λ (database : Database). database.fields) (databases_under file master))) [
       | None ↦ λ is.
           let alone = sum_map weight (λ (database : Database). database.fields) (database_on file None (Some 0)) ∙ database_weight file weight None (Some 0) in
           omega (arith, all, no_others file weight is sound.master, alone)

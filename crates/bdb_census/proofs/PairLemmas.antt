@@ -88,7 +88,7 @@ entries_in_bytes : (order : Order) (page : List ℕ) (is : Listed Item) → abst
 unfolding abstract_page
 entries_in_bytes order page is same =
     elim (is_zero page) as (λ zeros. ◌≡◌ {A = Page} (elim zeros [ true ↦ Zero | false ↦ page_as order page (page_type (byte_at page 25)) ]) (Hash is)
-        → length is.items ≡ is.header.entries) [
+    → length is.items ≡ is.header.entries) [
       | true ↦ λ none. absurd cc
       | false ↦ λ some. entries_as order page (page_type (byte_at page 25)) is some
     ] same
@@ -198,7 +198,7 @@ list_weighs image weight (BtreeFields meta) sound has =
     let file : File = file_of image in
     let v : ℕ → ℕ = pairs_weight file (λ pair. sum_by weight (given_pair file pair)) in
     elim (is_recno meta) as (λ b. is_recno meta ≡ b → sum_by v (leaves file meta.root) + 0
-        ≡ sum_by (by_bytes weight) (cond b (recno_list file meta.root) (btree_list file meta.root))) [
+    ≡ sum_by (by_bytes weight) (cond b (recno_list file meta.root) (btree_list file meta.root))) [
       | true ↦ λ recno.
           let none : sum_by v (leaves file meta.root) ≡ 0 = sum_none v (leaves file meta.root) (λ q at.
           ap (sum_by (λ pair. sum_by weight (given_pair file pair))) (no_pairs_in_recno image meta q sound.forest has recno at)) in

@@ -24,7 +24,7 @@ use Rattle.bdb_graph.specs.Linked.{FitsDupRoot, FitsTreeRoot, HasMetadata, IsFor
 use Rattle.bdb_graph.proofs.LinkedLemmas.{root_fits}
 use Rattle.bdb_tree.proofs.TreeLemmas.{leaf_inside}
 use Rattle.bdb_census.specs.Counting.{times}
-use Rattle.bdb_census.specs.Databases.{IsOfSet, IsOfSets, IsSoundForest, RecordsAreOfDatabases, all_lists, by_value, leaves_below, left_on}
+use Rattle.bdb_census.specs.Databases.{IsOfSet, IsOfSets, IsSoundForest, NoLeafOfBoth, RecordsAreOfDatabases, all_lists, by_value, leaves_below, left_on}
 use Rattle.bdb_census.specs.TreeSums.{leaf_weight}
 use Rattle.bdb_census.proofs.CountLemmas.{sum_none, sum_parts, sum_same}
 use Rattle.bdb_census.proofs.DatabaseLemmas.{fields_same, leaves_are_of_databases}
@@ -71,8 +71,7 @@ in_roots file sort root is passes =
     in_filter (λ (owner : Owner). is_root_reference owner.reference.sort) (all_references file) is.owner is.held (ap is_root_reference is.sort_is ∙ passes)
 
 -- a leaf below metadata is in no set
-pub no_leaf_of_both : (image : List ℕ) (root set q : ℕ) → IsForest image → FitsTreeRoot (file_of image) root → FitsDupRoot (file_of image) set
-    → Contains (leaves (file_of image) root) q → Contains (leaves (file_of image) set) q → ⊥
+pub no_leaf_of_both : NoLeafOfBoth
 no_leaf_of_both image root set q forest is set_is at other =
     let file : File = file_of image in
     let leaf = set_leaf_fits image set q forest set_is other in
@@ -139,7 +138,7 @@ recno_weighs file weight root =
     sum_parts (by_value weight) (listed_entry file) (enumerate_from 1 entries)
     ∙ (sum_same (λ entry. sum_by (by_value weight) (listed_entry file entry)) (λ (entry : ℕ × Item). w entry.1) (enumerate_from 1 entries) (λ entry at.
     elim entry.1.deleted as (λ b. sum_by (by_value weight) (cond b [] ((NumberKey entry.0, value_of file entry.1.content) ∷ []))
-        ≡ cond b 0 (weight (value_of file entry.1.content))) [
+    ≡ cond b 0 (weight (value_of file entry.1.content))) [
       | true ↦ refl
       | false ↦ omega arith
     ])
@@ -177,7 +176,7 @@ list_weighs image weight taken (BtreeFields meta) sound of has =
     let r : ℕ → ℕ = record_weight file taken weight in
     let target : FitsTreeRoot file meta.root = root_fits image (head_of image) meta sound.forest.formed has in
     elim (is_recno meta) as (λ b. is_recno meta ≡ b → sum_by r (leaves file meta.root)
-        ≡ sum_by (by_value weight) (cond b (recno_list file meta.root) (btree_list file meta.root))) [
+    ≡ sum_by (by_value weight) (cond b (recno_list file meta.root) (btree_list file meta.root))) [
       | true ↦ λ recno.
           sum_same r (λ q. sum_by weight (live_values file (page_at file q))) (leaves file meta.root) (λ q at.
           let free : taken q ≡ false = elim (cases_Bool (taken q)) [

@@ -1,5 +1,5 @@
 -- What the databases of a file hold together, and what its pages do. Source: docs/FORMAT.md, "Lists of databases" and "Salvage".
-use Rattle.std.specs.Prelude.{◌≡◌, ◌≢◌, ℕ, ◌+◌, ◌*◌, ◌<◌, ◌≤◌, ◌/◌, not, if◌then◌else◌, Bool, true, List, [], ◌∷◌, ◌++◌, map, length, Option, Some, None}
+use Rattle.std.specs.Prelude.{◌≡◌, ◌≢◌, ℕ, ◌+◌, ◌*◌, ◌<◌, ◌≤◌, ◌/◌, not, if◌then◌else◌, Bool, true, List, [], ◌∷◌, ◌++◌, map, length, get_or, Option, Some, None}
 use Rattle.std.specs.List.{Contains, flat_map, range_with_len, sum_by}
 use Rattle.bdb_format.specs.declared.metadata.BtreeMeta.{BtreeMeta}
 use Rattle.bdb_format.specs.declared.metadata.FileKind.TheVariants.{Queue}
@@ -11,9 +11,11 @@ use Rattle.bdb_format.specs.Graph.{is_spare}
 use Rattle.bdb_format.specs.Leaves.{leaves}
 use Rattle.bdb_format.specs.Lists.{ListKey, BytesKey, NumberKey, btree_list, list_of}
 use Rattle.bdb_format.specs.Master.{master_in}
-use Rattle.bdb_format.specs.Page.{Metadata, BtreeFields, HashFields, QueueFields}
+use Rattle.bdb_format.specs.Page.{Metadata, BtreeFields, HashFields, QueueFields, Tree}
+use Rattle.bdb_format.specs.References.{no_item}
 use Rattle.bdb_format.specs.Verdict.{master_faults, structure_faults}
-use Rattle.bdb_graph.specs.Linked.{FitsDupRoot, IsForest}
+use Rattle.bdb_graph.specs.Linked.{FitsDupRoot, FitsTreeRoot, IsForest}
+use Rattle.bdb_tree.specs.Noted.{paired}
 use Rattle.bdb_census.specs.HashSums.{is_hash_page}
 use Rattle.bdb_census.specs.TreeSums.{leaf_weight}
 
@@ -131,3 +133,21 @@ RecordsAreOfDatabases =
     (image : List ℕ) (weight : List ℕ → ℕ) (taken : ℕ → Bool) → IsSoundForest image → IsOfSets (file_of image) taken
     → sum_by weight (flat_map (left_on (file_of image) taken) (range_with_len 0 ((file_of image).last + 1)))
     ≡ sum_by (by_value weight) (all_lists (file_of image))
+
+-- the root of a set off the page stands in the data item of a pair
+pub record IsSetOfPair (file : File) (root : ℕ) : Type 0 where
+  pub page : ℕ
+  pub inside : page ≤ file.last
+  pub index : ℕ
+  pub below : 2 * index + 1 < length (paired (page_at file page))
+  pub names : (get_or (paired (page_at file page)) (2 * index + 1) no_item).content ≡ Tree root
+
+-- Each set off the page is that of a pair.
+abbrev pub SetsAreOfPairs : Type 0
+SetsAreOfPairs = (image : List ℕ) (root : ℕ) → IsForest image → FitsDupRoot (file_of image) root → IsSetOfPair (file_of image) root
+
+-- A leaf of a set stands below no metadata.
+abbrev pub NoLeafOfBoth : Type 0
+NoLeafOfBoth =
+    (image : List ℕ) (root set q : ℕ) → IsForest image → FitsTreeRoot (file_of image) root → FitsDupRoot (file_of image) set
+    → Contains (leaves (file_of image) root) q → Contains (leaves (file_of image) set) q → ⊥
