@@ -62,13 +62,16 @@ times_more : (q x : ℕ) (xs : List ℕ) (k : ℕ) → times q (x ∷ xs) * k �
 times_more q x xs k = ap (λ n. n * k) (sum_by-cons (λ y. cond (y == q) 1 0) x xs) ∙ weigh (x == q) (times q xs) k
 
 -- a sum over the pages that are named is one over all pages, each as often as it's named
-pub by_page : (f : ℕ → ℕ) (n : ℕ) (xs : List ℕ) → ((x : ℕ) → Contains xs x → x < n) → sum_by f xs ≡ sum_by (λ q. times q xs * f q) (range_with_len 0 n)
+pub by_page : (f : ℕ → ℕ) (n : ℕ) (xs : List ℕ) → ((x : ℕ) → Contains xs x → x < n) → sum_by f xs
+    ≡ sum_by (λ q. times q xs * f q) (range_with_len 0 n)
 by_page f n [] below = sym (sum_none (λ q. times q [] * f q) (range_with_len 0 n) (λ q at. omega arith))
 by_page f n (x ∷ xs) below =
     let rest : sum_by f xs ≡ sum_by (λ q. times q xs * f q) (range_with_len 0 n) = by_page f n xs (λ y at. below y (later_member x xs y at)) in
-    let one : sum_by (λ q. cond (x == q) (f q) 0) (range_with_len 0 n) ≡ f x = one_of_range f x 0 n (omega arith) (omega (arith, below x (first_member x xs))) in
+    let one : sum_by (λ q. cond (x == q) (f q) 0) (range_with_len 0 n) ≡ f x = one_of_range f x 0 n (omega arith)
+    (omega (arith, below x (first_member x xs))) in
     let both = sum_plus (λ q. cond (x == q) (f q) 0) (λ q. times q xs * f q) (range_with_len 0 n) in
-    let split = sum_same (λ q. times q (x ∷ xs) * f q) (λ q. cond (x == q) (f q) 0 + times q xs * f q) (range_with_len 0 n) (λ q at. times_more q x xs (f q)) in
+    let split = sum_same (λ q. times q (x ∷ xs) * f q) (λ q. cond (x == q) (f q) 0 + times q xs * f q) (range_with_len 0 n)
+    (λ q at. times_more q x xs (f q)) in
     omega (arith, sum_by-cons f x xs)
 
 pub parts_are_entrances : PartsAreEntrances
@@ -84,7 +87,8 @@ parts_are_entrances n targets whole own entrance parts =
       | inr one ↦ ap (λ k. k * whole q) one ∙ omega arith
     ]) in
     let held = sum_parts whole targets pages in
-    let split = sum_same (λ q. sum_by whole (targets q) + own q) (λ q. whole q + entrance q) pages (λ q at. parts.splits q (omega (arith, of_range 0 n q at))) in
+    let split = sum_same (λ q. sum_by whole (targets q) + own q) (λ q. whole q + entrance q) pages
+    (λ q at. parts.splits q (omega (arith, of_range 0 n q at))) in
     let left = sum_plus (λ q. sum_by whole (targets q)) own pages in
     let right = sum_plus whole entrance pages in
     omega arith

@@ -1,5 +1,6 @@
 -- What leaves and hash pages weigh, those below metadata do.
-use Rattle.std.proofs.Common.{◌≡◌, ◌≢◌, ◌⊎◌, ℕ, ◌+◌, ◌≤◌, Bool, true, false, cond, List, [], ◌∷◌, length, arith, refl, sym, ◌∙◌, ap, inl, inr, true≢false}
+use Rattle.std.proofs.Common.{◌≡◌, ◌≢◌, ◌⊎◌, ℕ, ◌+◌, ◌≤◌, Bool, true, false, cond, List, [], ◌∷◌, length, arith, refl, sym, ◌∙◌, ap, inl, inr}
+use Rattle.std.proofs.Common.{true≢false}
 use Rattle.std.specs.Prelude.{Option, Some, None}
 use Rattle.std.specs.List.{Contains, filter, flat_map, range_with_len, sum_by}
 use Rattle.std.proofs.lemmas.Bool.{cases_Bool, cases_lt}
@@ -54,7 +55,8 @@ abbrev as_database : (ℕ → ℕ) → Sort → ℕ → ℕ
 as_database f Root target = f target
 as_database f sort target = 0
 
-by_sort : (f : ℕ → ℕ) (sort : Sort) (target : ℕ) → (sort ≡ DuplicateRoot → f target ≡ 0) → cond (is_root_reference sort) (f target) 0 ≡ as_database f sort target
+by_sort : (f : ℕ → ℕ) (sort : Sort) (target : ℕ) → (sort ≡ DuplicateRoot → f target ≡ 0) → cond (is_root_reference sort) (f target) 0
+    ≡ as_database f sort target
 by_sort f Root target set = refl
 by_sort f DuplicateRoot target set = set refl
 by_sort f sort target set = refl
@@ -79,10 +81,13 @@ leaves_are_of_databases image weight forest kind sets =
     } in
     leaves_are_of_trees image weight forest
     ∙ (sum_filter below is_root (all_references file)
-    ∙ (sum_same (λ owner. cond (is_root owner) (below owner) 0) (λ (owner : Owner). as_database f owner.reference.sort owner.reference.target) (all_references file) (λ owner at.
-    by_sort f owner.reference.sort owner.reference.target (λ is. sets owner.reference.target (record { owner = owner; held = at; sort_is = is; target_is = refl })))
+    ∙ (sum_same (λ owner. cond (is_root owner) (below owner) 0) (λ (owner : Owner). as_database f owner.reference.sort owner.reference.target)
+    (all_references file) (λ owner at.
+    by_sort f owner.reference.sort owner.reference.target
+    (λ is. sets owner.reference.target (record { owner = owner; held = at; sort_is = is; target_is = refl })))
     ∙ (metadata_weight image (as_database f) kind of
-    ∙ sum_same (fields_weight (as_database f)) (λ fields. sum_by weight (leaves_below file fields)) (fields_of file) (λ fields at. root_weight file weight fields))))
+    ∙ sum_same (fields_weight (as_database f)) (λ fields. sum_by weight (leaves_below file fields)) (fields_of file)
+    (λ fields at. root_weight file weight fields))))
 
 -- Hash pages.
 
@@ -138,7 +143,8 @@ hash_pages_are_of_tables image weight forest kind spare =
     } in
     hash_pages_are_of_buckets image h forest weighs
     ∙ (sum_filter (λ (owner : Owner). sum_by h (chain file owner.reference.target)) test all
-    ∙ (sum_same (λ (owner : Owner). cond (test owner) (sum_by h (chain file owner.reference.target)) 0) (λ (owner : Owner). as_bucket f owner.reference.sort owner.reference.target) all
+    ∙ (sum_same (λ (owner : Owner). cond (test owner) (sum_by h (chain file owner.reference.target)) 0)
+    (λ (owner : Owner). as_bucket f owner.reference.sort owner.reference.target) all
     (λ owner at.
     let p : ℕ = owner.reference.target in
     elim (cases_Bool (test owner)) [
@@ -155,4 +161,5 @@ hash_pages_are_of_tables image weight forest kind spare =
           ap (λ b. cond b (sum_by h (chain file p)) 0) is ∙ (same ∙ sym (sym (by_bucket f owner.reference.sort p) ∙ ap (λ b. cond b (f p) 0) is))
     ])
     ∙ (metadata_weight image (as_bucket f) kind of
-    ∙ sum_same (fields_weight (as_bucket f)) (λ fields. sum_by weight (buckets_below file fields)) (fields_of file) (λ fields at. bucket_weight file weight fields))))
+    ∙ sum_same (fields_weight (as_bucket f)) (λ fields. sum_by weight (buckets_below file fields)) (fields_of file)
+    (λ fields at. bucket_weight file weight fields))))

@@ -1,5 +1,6 @@
 -- What the hash pages of a file weigh is what those of its buckets do: each is named once, or weighs nothing.
-use Rattle.std.proofs.Common.{◌≡◌, ◌⊎◌, ℕ, zero, suc, ◌+◌, ◌<◌, ◌≤◌, Bool, true, false, cond, List, [], ◌∷◌, ◌++◌, map, length, arith, refl, sym, ◌∙◌, ap, subst, inl, inr, true≢false}
+use Rattle.std.proofs.Common.{◌≡◌, ◌⊎◌, ℕ, zero, suc, ◌+◌, ◌<◌, ◌≤◌, Bool, true, false, cond, List, [], ◌∷◌, ◌++◌, map, length, arith, refl, sym}
+use Rattle.std.proofs.Common.{◌∙◌, ap, subst, inl, inr, true≢false}
 use Rattle.std.specs.Prelude.{◌==◌, ◌||◌, ◌&&◌, not, Option, Some, None, get_or}
 use Rattle.std.specs.List.{Contains, IsDistinct, AllByRecursion, enumerate_from, flat_map, list_any, range_with_len, sum_by}
 use Rattle.std.proofs.lemmas.Bool.{and_parts, cases_Bool, eqb-true, ne_eqb}
@@ -10,7 +11,8 @@ use Rattle.bdb_format.specs.declared.metadata.FileKind.{FileKind}
 use Rattle.bdb_format.specs.declared.metadata.FileKind.TheVariants.{Btree, Hash as HashFile, Queue as QueueFile}
 use Rattle.bdb_format.specs.declared.references.Reference.{Reference}
 use Rattle.bdb_format.specs.declared.references.Sort.{Sort}
-use Rattle.bdb_format.specs.declared.references.Sort.TheVariants.{Free as FreeRef, Root, Bucket, HashNext, Child, OverflowHead, OverflowNext, DuplicateRoot}
+use Rattle.bdb_format.specs.declared.references.Sort.TheVariants.{Free as FreeRef, Root, Bucket, HashNext, Child, OverflowHead, OverflowNext}
+use Rattle.bdb_format.specs.declared.references.Sort.TheVariants.{DuplicateRoot}
 use Rattle.bdb_format.specs.Chains.{chain, chain_in, next_of}
 use Rattle.bdb_format.specs.File.{File, file_of, header_in, page_at, type_in}
 use Rattle.bdb_format.specs.Graph.{OneRole, Owner, all_references, held_by, is_anchor, is_head_reference, is_meta, is_spare, owners}
@@ -18,13 +20,16 @@ use Rattle.bdb_format.specs.Hashing.{first_page}
 use Rattle.bdb_format.specs.declared.pages.RecnoItem.{RecnoItem}
 use Rattle.bdb_format.specs.HeadOf.{head_of}
 use Rattle.bdb_format.specs.Numbers.{has_bit}
-use Rattle.bdb_format.specs.Page.{Content, Inline, Set, Chain, Tree, Unknown, Item, InternalItem, Listed, BtreeFields, HashFields, QueueFields, Page, Zero, Free, Meta, Hash, Internal, RecnoInternal, Leaf, RecnoLeaf, DupLeaf, Overflow, Queue, NoType, PageType, HashPage}
+use Rattle.bdb_format.specs.Page.{Content, Inline, Set, Chain, Tree, Unknown, Item, InternalItem, Listed, BtreeFields, HashFields, QueueFields}
+use Rattle.bdb_format.specs.Page.{Page, Zero, Free, Meta, Hash, Internal, RecnoInternal, Leaf, RecnoLeaf, DupLeaf, Overflow, Queue, NoType}
+use Rattle.bdb_format.specs.Page.{PageType, HashPage}
 use Rattle.bdb_format.specs.declared.kinds.Order.{Order}
 use Rattle.bdb_format.specs.Numbers.{byte_at}
 use Rattle.bdb_format.specs.Reading.{abstract_page, hash_item_at, is_zero, listed, page_as, page_type}
 use Rattle.bdb_graph.proofs.HeldLemmas.{page_is}
 use Rattle.bdb_format.specs.File.{page_bytes}
-use Rattle.bdb_format.specs.References.{Asked, asked_by, child_types, contents_in, content_targets, fit_code, fit_rows, has_type, is_zero_page, targets_in, targets_of, refs, root_types, unless_zero}
+use Rattle.bdb_format.specs.References.{Asked, asked_by, child_types, contents_in, content_targets, fit_code, fit_rows, has_type, is_zero_page}
+use Rattle.bdb_format.specs.References.{targets_in, targets_of, refs, root_types, unless_zero}
 use Rattle.bdb_format.proofs.GraphLemmas.{each_fits, each_page_has_one_role, is_owner, owner_fits, reserve_is}
 use Rattle.bdb_format.proofs.MemberLemmas.{first_member, in_map, later_member, member_cases, no_member, of_map}
 use Rattle.bdb_format.proofs.VerdictLemmas.{AllFail, none_is_first_row}
@@ -42,7 +47,8 @@ use Rattle.bdb_census.specs.Counting.{AreParts}
 use Rattle.bdb_census.specs.HashSums.{HashPagesAreOfBuckets, WeighsHash, is_bucket, is_hash_page}
 use Rattle.bdb_census.proofs.CountLemmas.{parts_are_entrances, sum_none, sum_parts, sum_plus, sum_same}
 use Rattle.bdb_census.proofs.NameLemmas.{OfStructure, named_sum, named_weight, sum_map, sum_refs}
-use Rattle.bdb_census.proofs.TreeLemmas.{all_pass, named_as_owned, no_anchor, page_zero_type, pages, passed_by, some_member, sum_filter, target_inside, targets}
+use Rattle.bdb_census.proofs.TreeLemmas.{all_pass, named_as_owned, no_anchor, page_zero_type, pages, passed_by, some_member, sum_filter}
+use Rattle.bdb_census.proofs.TreeLemmas.{target_inside, targets}
 
 -- what the pages of a row weigh, from a hash page on; another page weighs nothing
 abbrev whole : File → (ℕ → ℕ) → ℕ → ℕ
@@ -106,11 +112,14 @@ names_other file p r fits is =
 
 -- The next page of a bucket.
 
-hash_next : (p : ℕ) (page : Page) (listed : Listed Item) → page ≡ Hash listed → ((header_in page).next == 0) ≡ false → Contains (targets_in p page) (HashNext, (header_in page).next)
+hash_next : (p : ℕ) (page : Page) (listed : Listed Item) → page ≡ Hash listed → ((header_in page).next == 0) ≡ false
+    → Contains (targets_in p page) (HashNext, (header_in page).next)
 hash_next p page listed is more =
     subst (λ (page : Page). ((header_in page).next == 0) ≡ false → Contains (targets_in p page) (HashNext, (header_in page).next)) (sym is)
-    (λ some. Contains-append_right (flat_map content_targets (contents_in (Hash listed))) (unless_zero HashNext listed.header.next) (HashNext, listed.header.next)
-    (subst (λ b. Contains {X = Sort × ℕ} (cond b [] ((HashNext, listed.header.next) ∷ [])) (HashNext, listed.header.next)) (sym some) (first_member (HashNext, listed.header.next) []))) more
+    (λ some. Contains-append_right (flat_map content_targets (contents_in (Hash listed))) (unless_zero HashNext listed.header.next)
+    (HashNext, listed.header.next)
+    (subst (λ b. Contains {X = Sort × ℕ} (cond b [] ((HashNext, listed.header.next) ∷ [])) (HashNext, listed.header.next)) (sym some)
+    (first_member (HashNext, listed.header.next) []))) more
 
 -- a hash page with a next page names it, and that is a hash page
 pub record IsNext (file : File) (p q : ℕ) : Type 0 where
@@ -122,7 +131,13 @@ next_fits : (file : File) (p : ℕ) (r : Reference) → fit_code file p r ≡ No
 unfolding fit_code
 next_fits file p r fits sort =
     let asked : Asked = asked_by p (page_at file p) HashNext in
-    let by_sort : fit_code file p (record { place = r.place; sort = HashNext; target = r.target }) ≡ None = subst (λ s. fit_code file p (record { place = r.place; sort = s; target = r.target }) ≡ None) sort fits in
+    let by_sort : fit_code file p (record {
+      place =
+          r.place;
+      sort = HashNext;
+      target = r.target;
+    }) ≡ None =
+    subst (λ s. fit_code file p (record { place = r.place; sort = s; target = r.target }) ≡ None) sort fits in
     let fail : AllFail (fit_rows file asked r.target) = none_is_first_row (fit_rows file asked r.target) by_sort in
     of_or (has_type (2 ∷ 13 ∷ []) (type_in (page_at file r.target))) (is_zero_page (page_at file r.target)) fail.1.0
   where
@@ -130,7 +145,8 @@ next_fits file p r fits sort =
     of_or true c passed = refl
     of_or false c passed = absurd cc
 
-pub next_is : (image : List ℕ) (p : ℕ) → IsForest image → p ≤ (file_of image).last → is_hash_page (file_of image) p ≡ true → (next_of (file_of image) p == 0) ≡ false
+pub next_is : (image : List ℕ) (p : ℕ) → IsForest image → p ≤ (file_of image).last → is_hash_page (file_of image) p ≡ true
+    → (next_of (file_of image) p == 0) ≡ false
     → IsNext (file_of image) p (next_of (file_of image) p)
 unfolding refs
 next_is image p forest low is more =
@@ -138,11 +154,13 @@ next_is image p forest low is more =
     let page = hash_is (page_at file p) is in
     let kind : file.kind ≡ QueueFile → ⊥ = no_queue image (head_of image) p forest.formed low (ap is_queue_page page.1) in
     let name : Contains (targets_of file.kind p (page_at file p)) (HashNext, next_of file p) =
-    subst (λ names. Contains names (HashNext, next_of file p)) (sym (forest_names file.kind p (page_at file p) kind)) (hash_next p (page_at file p) page.0 page.1 more) in
+    subst (λ names. Contains names (HashNext, next_of file p)) (sym (forest_names file.kind p (page_at file p) kind))
+    (hash_next p (page_at file p) page.0 page.1 more) in
     let found = in_enumerated 0 (targets_of file.kind p (page_at file p)) (HashNext, next_of file p) name in
     let r : Reference = record { place = found.0; sort = HashNext; target = next_of file p } in
     let held : Contains (refs file p) r =
-    in_map (λ (named : ℕ × (Sort × ℕ)). record { place = named.0; sort = named.1.0; target = named.1.1 }) (enumerate_from 0 (targets_of file.kind p (page_at file p))) (found.0, (HashNext, next_of file p)) found.1 in
+    in_map (λ (named : ℕ × (Sort × ℕ)). record { place = named.0; sort = named.1.0; target = named.1.1 })
+    (enumerate_from 0 (targets_of file.kind p (page_at file p))) (found.0, (HashNext, next_of file p)) found.1 in
     let fits : fit_code file p r ≡ None = each_fits file p r (sound_graph image forest.linked).references low held in
     record {
       names = record { reference = r; held = held; target = refl; other = refl };
@@ -181,14 +199,24 @@ record IsRow (turns : ℕ) (file : File) (p : ℕ) : Type 0 where
   kinds : AllHash file after
 
 last_row : (turns : ℕ) (file : File) (p : ℕ) → (next_of file p == 0) ≡ true → IsRow turns file p
-last_row turns file p last = record { after = []; is = turn_is turns file p ∙ ap (λ b. p ∷ cond b [] (chain_in turns file (next_of file p))) last; way = tt; inside = tt; kinds = tt }
+last_row turns file p last =
+    record {
+      after = [];
+      is = turn_is turns file p ∙ ap (λ b. p ∷ cond b [] (chain_in turns file (next_of file p))) last;
+      way = tt;
+      inside =
+          tt;
+      kinds = tt;
+    }
 
-row_of : (turns : ℕ) (image : List ℕ) (p : ℕ) → IsForest image → p ≤ (file_of image).last → is_hash_page (file_of image) p ≡ true → IsRow turns (file_of image) p
+row_of : (turns : ℕ) (image : List ℕ) (p : ℕ) → IsForest image → p ≤ (file_of image).last → is_hash_page (file_of image) p ≡ true
+    → IsRow turns (file_of image) p
 row_of zero image p forest low is =
     let file : File = file_of image in
     record {
       after = [];
-      is = turn_is zero file p ∙ (ap (λ ps. p ∷ cond (next_of file p == 0) [] ps) (no_turn file (next_of file p)) ∙ ap (λ ps. p ∷ ps) (both (next_of file p == 0)));
+      is = turn_is zero file p ∙ (ap (λ ps. p ∷ cond (next_of file p == 0) [] ps) (no_turn file (next_of file p))
+          ∙ ap (λ ps. p ∷ ps) (both (next_of file p == 0)));
       way = tt;
       inside = tt;
       kinds = tt;
@@ -234,7 +262,8 @@ few_distinct : (n : ℕ) (xs : List ℕ) → AllDistinct xs → AllUpTo n xs →
 few_distinct n xs all inside = length-le_from_distinct_below xs (n + 1) (distinct xs all) (λ q one. below n xs q inside one)
 
 -- a row has no more pages than there are
-row_few : (turns : ℕ) (image : List ℕ) (p : ℕ) → IsForest image → p ≤ (file_of image).last → is_hash_page (file_of image) p ≡ true → length (chain_in (suc turns) (file_of image) p) ≤ (file_of image).last + 1
+row_few : (turns : ℕ) (image : List ℕ) (p : ℕ) → IsForest image → p ≤ (file_of image).last → is_hash_page (file_of image) p ≡ true
+    → length (chain_in (suc turns) (file_of image) p) ≤ (file_of image).last + 1
 row_few turns image p forest low is =
     let file : File = file_of image in
     let row : IsRow turns file p = row_of turns image p forest low is in
@@ -247,11 +276,15 @@ enough : (turns : ℕ) (file : File) (p : ℕ) → length (chain_in (suc turns) 
 enough zero file p few = absurd (omega (arith, few, ap length (turn_is zero file p)))
 enough (suc t) file p few =
     elim (cases_Bool (next_of file p == 0)) [
-      | inl last ↦ turn_is (suc t) file p ∙ (ap (λ b. p ∷ cond b [] (chain_in (suc t) file (next_of file p))) last ∙ (sym (ap (λ b. p ∷ cond b [] (chain_in t file (next_of file p))) last) ∙ sym (turn_is t file p)))
+      | inl last ↦ turn_is (suc t) file p
+          ∙ (ap (λ b. p ∷ cond b [] (chain_in (suc t) file (next_of file p))) last
+          ∙ (sym (ap (λ b. p ∷ cond b [] (chain_in t file (next_of file p))) last) ∙ sym (turn_is t file p)))
       | inr more ↦
-          let here : chain_in (suc (suc t)) file p ≡ p ∷ chain_in (suc t) file (next_of file p) = turn_is (suc t) file p ∙ ap (λ b. p ∷ cond b [] (chain_in (suc t) file (next_of file p))) more in
+          let here : chain_in (suc (suc t)) file p ≡ p ∷ chain_in (suc t) file (next_of file p) =
+          turn_is (suc t) file p ∙ ap (λ b. p ∷ cond b [] (chain_in (suc t) file (next_of file p))) more in
           let one : length (chain_in (suc (suc t)) file p) ≡ suc (length (chain_in (suc t) file (next_of file p))) = ap length here in
-          let rest : chain_in (suc t) file (next_of file p) ≡ chain_in t file (next_of file p) = enough t file (next_of file p) (omega (arith, few, one)) in
+          let rest : chain_in (suc t) file (next_of file p) ≡ chain_in t file (next_of file p) =
+          enough t file (next_of file p) (omega (arith, few, one)) in
           here ∙ (ap (λ ps. p ∷ ps) rest ∙ (sym (ap (λ b. p ∷ cond b [] (chain_in t file (next_of file p))) more) ∙ sym (turn_is t file p)))
     ]
 
@@ -288,17 +321,21 @@ as_next f sort target = 0
 abbrev next_part : (ℕ → ℕ) → (Sort × ℕ) → ℕ
 next_part f name = as_next f name.0 name.1
 
-as_parts : (f : ℕ → ℕ) (sort : Sort) (target : ℕ) → (leads_in sort ≡ false → f target ≡ 0) → f target ≡ as_next f sort target + as_bucket f sort target
+as_parts : (f : ℕ → ℕ) (sort : Sort) (target : ℕ) → (leads_in sort ≡ false → f target ≡ 0) → f target
+    ≡ as_next f sort target + as_bucket f sort target
 as_parts f HashNext target none = omega arith
 as_parts f Bucket target none = omega arith
 as_parts f sort target none = omega (arith, none refl)
 
-named_parts : (image : List ℕ) (weight : ℕ → ℕ) (p : ℕ) (r : Reference) → IsForest image → p ≤ (file_of image).last → Contains (refs (file_of image) p) r
-    → whole (file_of image) weight r.target ≡ as_next (whole (file_of image) weight) r.sort r.target + as_bucket (whole (file_of image) weight) r.sort r.target
+named_parts : (image : List ℕ) (weight : ℕ → ℕ) (p : ℕ) (r : Reference) → IsForest image → p ≤ (file_of image).last
+    → Contains (refs (file_of image) p) r
+    → whole (file_of image) weight r.target ≡ as_next (whole (file_of image) weight) r.sort r.target + as_bucket
+    (whole (file_of image) weight) r.sort r.target
 named_parts image weight p r forest low at =
     let file : File = file_of image in
     as_parts (whole file weight) r.sort r.target (λ other.
-    ap (λ b. cond b (sum_by weight (chain file r.target)) 0) (names_other file p r (each_fits file p r (sound_graph image forest.linked).references low at) other))
+    ap (λ b. cond b (sum_by weight (chain file r.target)) 0)
+    (names_other file p r (each_fits file p r (sound_graph image forest.linked).references low at) other))
 
 -- Of the names of a page only a hash page's next page counts.
 
@@ -345,14 +382,16 @@ other_byte byte two thirteen =
     kept (byte == 11) _ _ (λ o p l e. cc) (
     kept (byte == 12) _ _ (λ o p l e. cc) (λ o p l e. cc))))))))))))
 
-typed_hash : (order : Order) (page : List ℕ) (t : PageType) (is : Listed Item) → page_as order page t ≡ Hash is → t ≡ HashPage → is.header.page_type ≡ byte_at page 25
+typed_hash : (order : Order) (page : List ℕ) (t : PageType) (is : Listed Item) → page_as order page t ≡ Hash is → t ≡ HashPage → is.header.page_type
+    ≡ byte_at page 25
 unfolding listed
 typed_hash order page t is same hash =
     let here : Hash (listed order page (hash_item_at order page)) ≡ Hash is = sym (ap (page_as order page) hash) ∙ same in
     let inner : listed order page (hash_item_at order page) ≡ is = cc in
     ap (λ (l : Listed Item). l.header.page_type) (sym inner)
 
-type_of_byte : (order : Order) (page : List ℕ) (is : Listed Item) → page_as order page (page_type (byte_at page 25)) ≡ Hash is → has_type (2 ∷ 13 ∷ []) (Some is.header.page_type) ≡ true
+type_of_byte : (order : Order) (page : List ℕ) (is : Listed Item) → page_as order page (page_type (byte_at page 25)) ≡ Hash is
+    → has_type (2 ∷ 13 ∷ []) (Some is.header.page_type) ≡ true
 type_of_byte order page is same =
     let byte : ℕ = byte_at page 25 in
     elim (cases_Bool (byte == 2)) [
@@ -369,18 +408,22 @@ type_of_byte order page is same =
       ]
     ]
 
-abstract_hash : (order : Order) (page : List ℕ) (is : Listed Item) → abstract_page order page ≡ Hash is → has_type (2 ∷ 13 ∷ []) (Some is.header.page_type) ≡ true
+abstract_hash : (order : Order) (page : List ℕ) (is : Listed Item) → abstract_page order page ≡ Hash is
+    → has_type (2 ∷ 13 ∷ []) (Some is.header.page_type) ≡ true
 unfolding abstract_page
 abstract_hash order page is same =
-    elim (is_zero page) as (λ zeros. ◌≡◌ {A = Page} (elim zeros [ true ↦ Zero | false ↦ page_as order page (page_type (byte_at page 25)) ]) (Hash is) → has_type (2 ∷ 13 ∷ []) (Some is.header.page_type) ≡ true) [
+    elim (is_zero page) as (λ zeros. ◌≡◌ {A = Page} (elim zeros [ true ↦ Zero | false ↦ page_as order page (page_type (byte_at page 25)) ])
+    (Hash is) → has_type (2 ∷ 13 ∷ []) (Some is.header.page_type) ≡ true) [
       | true ↦ λ none. absurd cc
       | false ↦ λ some. type_of_byte order page is some
     ] same
 
-pub hash_type : (image : List ℕ) (p : ℕ) (is : Listed Item) → IsForest image → p ≤ (file_of image).last → page_at (file_of image) p ≡ Hash is → is_hash_page (file_of image) p ≡ true
+pub hash_type : (image : List ℕ) (p : ℕ) (is : Listed Item) → IsForest image → p ≤ (file_of image).last → page_at (file_of image) p ≡ Hash is
+    → is_hash_page (file_of image) p ≡ true
 hash_type image p is forest low same =
     let head = head_of image in
-    let abstract : abstract_page head.order (page_bytes head image p) ≡ Hash is = sym (page_is image p (omega (arith, low, last_page image))) ∙ same in
+    let abstract : abstract_page head.order (page_bytes head image p) ≡ Hash is =
+    sym (page_is image p (omega (arith, low, last_page image))) ∙ same in
     ap (λ (page : Page). has_type (2 ∷ 13 ∷ []) (type_in page)) same ∙ abstract_hash head.order (page_bytes head image p) is abstract
 
 -- Sums, page by page.
@@ -393,10 +436,13 @@ no_hash_no_following : (f : ℕ → ℕ) (page : Page) → ((listed : Listed Ite
 no_hash_no_following f (Hash page) no' = absurd (no' page refl)
 no_hash_no_following f page no' = refl
 
-hash_following : (f : ℕ → ℕ) (page : Page) (listed : Listed Item) → page ≡ Hash listed → following f page ≡ cond ((header_in page).next == 0) 0 (f (header_in page).next)
-hash_following f page listed is = subst (λ (page : Page). following f page ≡ cond ((header_in page).next == 0) 0 (f (header_in page).next)) (sym is) refl
+hash_following : (f : ℕ → ℕ) (page : Page) (listed : Listed Item) → page ≡ Hash listed → following f page
+    ≡ cond ((header_in page).next == 0) 0 (f (header_in page).next)
+hash_following f page listed is =
+    subst (λ (page : Page). following f page ≡ cond ((header_in page).next == 0) 0 (f (header_in page).next)) (sym is) refl
 
-next_names : (f : ℕ → ℕ) (kind : FileKind) (p : ℕ) (page : Page) → (kind ≡ QueueFile → following f page ≡ 0) → sum_by (next_part f) (targets_of kind p page) ≡ following f page
+next_names : (f : ℕ → ℕ) (kind : FileKind) (p : ℕ) (page : Page) → (kind ≡ QueueFile → following f page ≡ 0)
+    → sum_by (next_part f) (targets_of kind p page) ≡ following f page
 next_names f Btree p page none = next_sum f p page
 next_names f HashFile p page none = next_sum f p page
 next_names f QueueFile p page none = sym (none refl)
@@ -406,7 +452,8 @@ named_next : (image : List ℕ) (f : ℕ → ℕ) (p : ℕ) → IsForest image �
 named_next image f p forest low =
     let file : File = file_of image in
     sum_refs (as_next f) file p
-    ∙ next_names f file.kind p (page_at file p) (λ queue. no_following f (page_at file p) (λ is. no_queue image (head_of image) p forest.formed low is queue))
+    ∙ next_names f file.kind p (page_at file p)
+    (λ queue. no_following f (page_at file p) (λ is. no_queue image (head_of image) p forest.formed low is queue))
 
 added : (a b c : ℕ) → a ≡ 0 → b ≡ 0 → c ≡ 0 → a + b ≡ c
 added a b c p q r = omega arith
@@ -414,8 +461,10 @@ added a b c p q r = omega arith
 turned : (a b c d : ℕ) → a ≡ c → d ≡ b + c → a + b ≡ d
 turned a b c d p q = omega arith
 
-rest_sum : (image : List ℕ) (weight : ℕ → ℕ) (p : ℕ) → IsForest image → p ≤ (file_of image).last → is_hash_page (file_of image) p ≡ true → (b : Bool) → (next_of (file_of image) p == 0) ≡ b
-    → cond (next_of (file_of image) p == 0) 0 (whole (file_of image) weight (next_of (file_of image) p)) ≡ sum_by weight (cond (next_of (file_of image) p == 0) [] (chain (file_of image) (next_of (file_of image) p)))
+rest_sum : (image : List ℕ) (weight : ℕ → ℕ) (p : ℕ) → IsForest image → p ≤ (file_of image).last → is_hash_page (file_of image) p ≡ true
+    → (b : Bool) → (next_of (file_of image) p == 0) ≡ b
+    → cond (next_of (file_of image) p == 0) 0 (whole (file_of image) weight (next_of (file_of image) p)) ≡ sum_by weight
+    (cond (next_of (file_of image) p == 0) [] (chain (file_of image) (next_of (file_of image) p)))
 rest_sum image weight p forest low is true last =
     let file : File = file_of image in
     ap (λ b. cond b 0 (whole file weight (next_of file p))) last ∙ sym (ap (λ b. sum_by weight (cond b [] (chain file (next_of file p)))) last)
@@ -428,7 +477,8 @@ rest_sum image weight p forest low is false more =
 
 -- the whole of a hash page is its own part and what follows it
 hash_whole : (image : List ℕ) (weight : ℕ → ℕ) (p : ℕ) → IsForest image → WeighsHash (file_of image) weight → p ≤ (file_of image).last
-    → sum_by (λ (r : Reference). as_next (whole (file_of image) weight) r.sort r.target) (refs (file_of image) p) + weight p ≡ whole (file_of image) weight p
+    → sum_by (λ (r : Reference). as_next (whole (file_of image) weight) r.sort r.target) (refs (file_of image) p) + weight p ≡ whole
+    (file_of image) weight p
 hash_whole image weight p forest weighs low =
     let file : File = file_of image in
     let f : ℕ → ℕ = whole file weight in
@@ -445,7 +495,8 @@ hash_whole image weight p forest weighs low =
           let row : chain file p ≡ p ∷ cond (next_of file p == 0) [] (chain file (next_of file p)) = row_is image p forest low is in
           let parts : f p ≡ weight p + sum_by weight (cond (next_of file p == 0) [] (chain file (next_of file p))) =
           all ∙ (ap (sum_by weight) row ∙ sum_by-cons weight p (cond (next_of file p == 0) [] (chain file (next_of file p)))) in
-          turned _ _ _ _ (named ∙ (hash_following f (page_at file p) page.0 page.1 ∙ rest_sum image weight p forest low is (next_of file p == 0) refl)) parts
+          turned _ _ _ _ (named
+          ∙ (hash_following f (page_at file p) page.0 page.1 ∙ rest_sum image weight p forest low is (next_of file p == 0) refl)) parts
     ]
 
 hash_no_meta : (page : Page) (is : Listed Item) → page ≡ Hash is → (is_queue_page page ≡ false) × (is_meta page ≡ false)
@@ -453,7 +504,8 @@ hash_no_meta page is same = (ap is_queue_page same, ap is_meta same)
 
 spare_next : (page : Page) (is : Listed Item) → page ≡ Hash is → is_spare page ≡ true → ((header_in page).next == 0) ≡ true
 spare_next page is same spare =
-    subst (λ (page : Page). is_spare page ≡ true → ((header_in page).next == 0) ≡ true) (sym same) (λ s. (and_parts (is.header.entries == 0 && is.header.previous == 0) (is.header.next == 0) s).1) spare
+    subst (λ (page : Page). is_spare page ≡ true → ((header_in page).next == 0) ≡ true) (sym same)
+    (λ s. (and_parts (is.header.entries == 0 && is.header.previous == 0) (is.header.next == 0) s).1) spare
 
 head_leads_out : (sort : Sort) → is_head_reference sort ≡ true → leads_in sort ≡ false
 head_leads_out OverflowHead is = refl
@@ -463,7 +515,8 @@ once_or_none : (image : List ℕ) (weight : ℕ → ℕ) (p : ℕ) → IsForest 
     → (whole (file_of image) weight p ≡ 0) ⊎ (length (owners (file_of image) p) ≡ 1)
 unfolding is_anchor
 once_or_none image weight zero forest weighs low =
-    inl (ap (λ b. cond b (sum_by weight (chain (file_of image) 0)) 0) (page_zero_type image (2 ∷ 13 ∷ []) forest (record { tree = refl; table = refl; queue = refl; none = refl })))
+    inl (ap (λ b. cond b (sum_by weight (chain (file_of image) 0)) 0)
+    (page_zero_type image (2 ∷ 13 ∷ []) forest (record { tree = refl; table = refl; queue = refl; none = refl })))
 once_or_none image weight (suc p') forest weighs low =
     let file : File = file_of image in
     let p : ℕ = suc p' in
@@ -475,7 +528,8 @@ once_or_none image weight (suc p') forest weighs low =
           let page = hash_is (page_at file p) is in
           let no_meta = hash_no_meta (page_at file p) page.0 page.1 in
           elim one.role [
-            | inl anchor ↦ absurd (no_anchor file.kind (page_at file p) (no_queue image (head_of image) p forest.formed low no_meta.0) no_meta.1 anchor)
+            | inl anchor ↦ absurd
+                (no_anchor file.kind (page_at file p) (no_queue image (head_of image) p forest.formed low no_meta.0) no_meta.1 anchor)
             | inr (inl reserve) ↦
                 let spare : is_spare (page_at file p) ≡ true = (reserve_is file p reserve).spare in
                 let last : (next_of file p == 0) ≡ true = spare_next (page_at file p) page.0 page.1 spare in
@@ -486,9 +540,12 @@ once_or_none image weight (suc p') forest weighs low =
             | inr (inr (inr shared)) ↦
                 let some : (owner : Owner) × Contains (owners file p) owner = some_member (owners file p) shared.1 in
                 let owner : Owner = some.0 in
-                let head : is_head_reference owner.reference.sort ≡ true = all_pass (λ (o : Owner). is_head_reference o.reference.sort) (owners file p) owner shared.0 some.1 in
+                let head : is_head_reference owner.reference.sort ≡ true =
+                all_pass (λ (o : Owner). is_head_reference o.reference.sort) (owners file p) owner shared.0 some.1 in
                 let names : owner.reference.target ≡ p = (is_owner file p owner some.1).names in
-                let other : is_hash_page file owner.reference.target ≡ false = names_other file owner.holder owner.reference (owner_fits file p owner sound.references some.1) (head_leads_out owner.reference.sort head) in
+                let other : is_hash_page file owner.reference.target ≡ false =
+                names_other file owner.holder owner.reference (owner_fits file p owner sound.references some.1)
+                (head_leads_out owner.reference.sort head) in
                 absurd (true≢false (sym is ∙ (ap (is_hash_page file) (sym names) ∙ other)))
           ]
     ]
@@ -504,7 +561,8 @@ split_sum image weight q forest weighs low =
     let f : ℕ → ℕ = whole file weight in
     let held : List Reference = refs file q in
     let all : sum_by f (targets file q) ≡ sum_by (λ (r : Reference). f r.target) held = sum_map f (λ (r : Reference). r.target) held in
-    let each = sum_same (λ (r : Reference). f r.target) (λ (r : Reference). as_next f r.sort r.target + as_bucket f r.sort r.target) held (λ r at. named_parts image weight q r forest low at) in
+    let each = sum_same (λ (r : Reference). f r.target) (λ (r : Reference). as_next f r.sort r.target + as_bucket f r.sort r.target) held
+    (λ r at. named_parts image weight q r forest low at) in
     let two = sum_plus (λ (r : Reference). as_next f r.sort r.target) (λ (r : Reference). as_bucket f r.sort r.target) held in
     joined _ _ _ _ _ (all ∙ (each ∙ two)) (hash_whole image weight q forest weighs low)
   where
@@ -520,10 +578,15 @@ parts image weight forest weighs =
     record {
       below = λ q x low at.
           let held : (r : Reference) × Contains (refs file q) r × (r.target ≡ x) = of_map (λ (r : Reference). r.target) (refs file q) x at in
-          let inside : held.0.target ≤ file.last = target_inside file q held.0 (each_fits file q held.0 sound.references (less q file.last low) held.1) in
+          let inside : held.0.target ≤ file.last =
+          target_inside file q held.0 (each_fits file q held.0 sound.references (less q file.last low) held.1) in
           within x held.0.target file.last held.2 inside;
       once = λ q low.
-          elim (once_or_none image weight q forest weighs (less q file.last low)) [ inl none ↦ inl none | inr one ↦ inr (named_as_owned file q ∙ one) ];
+          elim (once_or_none image weight q forest weighs (less q file.last low)) [
+            | inl none ↦ inl none
+            | inr one ↦ inr
+                (named_as_owned file q ∙ one)
+          ];
       splits = λ q low. split_sum image weight q forest weighs (less q file.last low);
     }
   where
@@ -543,7 +606,8 @@ one_page : (turns : ℕ) (file : File) (p : ℕ) → 0 < turns → (next_of file
 one_page zero file p some last = absurd (omega arith)
 one_page (suc t) file p some last = turn_is t file p ∙ ap (λ b. p ∷ cond b [] (chain_in t file (next_of file p))) last
 
-bucket_kind : (file : File) (p : ℕ) (r : Reference) → fit_code file p r ≡ None → is_bucket r.sort ≡ true → (is_hash_page file r.target ≡ true) ⊎ (is_zero_page (page_at file r.target) ≡ true)
+bucket_kind : (file : File) (p : ℕ) (r : Reference) → fit_code file p r ≡ None → is_bucket r.sort ≡ true
+    → (is_hash_page file r.target ≡ true) ⊎ (is_zero_page (page_at file r.target) ≡ true)
 unfolding fit_code
 bucket_kind file p r fits is =
     let asked : Asked = asked_by p (page_at file p) r.sort in
@@ -557,7 +621,8 @@ bucket_kind file p r fits is =
     bucket_types holder page Bucket is = refl
     bucket_types holder page sort is = absurd cc
 
-row_below : (image : List ℕ) (weight : ℕ → ℕ) (owner : Owner) → IsForest image → WeighsHash (file_of image) weight → Contains (all_references (file_of image)) owner → is_bucket owner.reference.sort ≡ true
+row_below : (image : List ℕ) (weight : ℕ → ℕ) (owner : Owner) → IsForest image → WeighsHash (file_of image) weight
+    → Contains (all_references (file_of image)) owner → is_bucket owner.reference.sort ≡ true
     → whole (file_of image) weight owner.reference.target ≡ sum_by weight (chain (file_of image) owner.reference.target)
 row_below image weight owner forest weighs at is =
     let file : File = file_of image in
@@ -568,12 +633,14 @@ row_below image weight owner forest weighs at is =
       | inl hash ↦ ap (λ b. cond b (sum_by weight (chain file target)) 0) hash
       | inr other ↦
           let zeros : is_zero_page (page_at file target) ≡ true =
-          elim (bucket_kind file owner.holder owner.reference (each_fits file owner.holder owner.reference (sound_graph image forest.linked).references held.0 held.1) is) [
+          elim (bucket_kind file owner.holder owner.reference
+          (each_fits file owner.holder owner.reference (sound_graph image forest.linked).references held.0 held.1) is) [
             | inl hash ↦ absurd (true≢false (sym hash ∙ other))
             | inr zeros ↦ zeros
           ] in
           ap (λ b. cond b (sum_by weight (chain file target)) 0) other
-          ∙ sym (ap (sum_by weight) (one_page file.count file target room (is_zero_next (page_at file target) zeros)) ∙ alone (weight target) (weighs.other target other))
+          ∙ sym (ap (sum_by weight) (one_page file.count file target room (is_zero_next (page_at file target) zeros))
+          ∙ alone (weight target) (weighs.other target other))
     ]
   where
     alone : (n : ℕ) → n ≡ 0 → 0 + n ≡ 0
@@ -591,7 +658,8 @@ hash_pages_are_of_buckets image weight forest weighs =
     let counted : sum_by weight (pages file) ≡ sum_by entrances (pages file) =
     parts_are_entrances (file.last + 1) (targets file) f weight entrances (parts image weight forest weighs) in
     let held : sum_by entrances (pages file) ≡ sum_by (λ q. sum_by g (held_by file q)) (pages file) =
-    sum_same entrances (λ q. sum_by g (held_by file q)) (pages file) (λ q at. sym (sum_map g (λ r. record { holder = q; reference = r }) (refs file q))) in
+    sum_same entrances (λ q. sum_by g (held_by file q)) (pages file)
+    (λ q at. sym (sum_map g (λ r. record { holder = q; reference = r }) (refs file q))) in
     let all : sum_by (λ q. sum_by g (held_by file q)) (pages file) ≡ sum_by g (all_references file) = sym (sum_parts g (held_by file) (pages file)) in
     let rows : sum_by g (all_references file) ≡ sum_by (λ owner. cond (test owner) (below owner) 0) (all_references file) =
     sum_same g (λ owner. cond (test owner) (below owner) 0) (all_references file) (λ owner at.

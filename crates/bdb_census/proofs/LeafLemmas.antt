@@ -1,5 +1,6 @@
 -- The types of leaves of databases and of sets off the page.
-use Rattle.std.proofs.Common.{◌≡◌, ◌⊎◌, ℕ, zero, suc, ◌+◌, ◌<◌, ◌≤◌, Bool, true, false, cond, List, [], ◌∷◌, arith, refl, sym, ◌∙◌, ap, subst, inl, inr, true≢false}
+use Rattle.std.proofs.Common.{◌≡◌, ◌⊎◌, ℕ, zero, suc, ◌+◌, ◌<◌, ◌≤◌, Bool, true, false, cond, List, [], ◌∷◌, arith, refl, sym, ◌∙◌, ap, subst, inl}
+use Rattle.std.proofs.Common.{inr, true≢false}
 use Rattle.std.specs.Prelude.{◌==◌, ◌&&◌, Option, Some, None}
 use Rattle.std.specs.List.{Contains, flat_map}
 use Rattle.std.proofs.lemmas.Bool.{eq-eqb}
@@ -23,7 +24,8 @@ use Rattle.bdb_graph.specs.Linked.{FitsDupRoot, FitsLeafPage, HasMetadata, IsFor
 use Rattle.bdb_graph.proofs.LinkedLemmas.{root_fits}
 use Rattle.bdb_tree.specs.Trees.{IsRoot, IsTreePage}
 use Rattle.bdb_tree.proofs.ShapeLemmas.{IsInnerPage, IsLeafPage, is_tree_in}
-use Rattle.bdb_tree.proofs.TreeLemmas.{HasTypeAt, IsChild, child_is, leaf_fits, leaf_is_tree, leaf_low, leaves_of_inner, leaves_of_leaf, level, meta_root_type, place_of_root}
+use Rattle.bdb_tree.proofs.TreeLemmas.{HasTypeAt, IsChild, child_is, leaf_fits, leaf_is_tree, leaf_low, leaves_of_inner, leaves_of_leaf, level}
+use Rattle.bdb_tree.proofs.TreeLemmas.{meta_root_type, place_of_root}
 use Rattle.bdb_tree.proofs.TreeLemmas.{recno_leaf, root_is_tree, tree_cases, tree_is, tree_level}
 use Rattle.bdb_census.specs.Databases.{IsSoundForest}
 
@@ -56,7 +58,8 @@ kind_is_right file place none low at =
 
 -- a leaf of a tree hasn't the type that the reference to the root forbids
 leaf_kind : (image : List ℕ) (sort : Sort) (root q : ℕ) → IsSoundForest image → is_root_reference sort ≡ true → IsTarget (file_of image) sort root
-    → q ≤ (file_of image).last → Contains (leaves (file_of image) root) q → has_type (wrong_leaf_types sort) (type_in (page_at (file_of image) q)) ≡ false
+    → q ≤ (file_of image).last → Contains (leaves (file_of image) root) q → has_type (wrong_leaf_types sort) (type_in (page_at (file_of image) q))
+    ≡ false
 leaf_kind image sort root q sound is target low at =
     let file : File = file_of image in
     let has : HasPlace (places_from sort 0 (leaves file root)) sort q = place_at sort 0 (leaves file root) q at in
@@ -78,7 +81,8 @@ no_pairs file p (Hash page) tree other = absurd cc
 no_pairs file p page tree other = refl
 
 -- a leaf of another type than 5 has no pairs
-no_pairs_on : (image : List ℕ) (p : ℕ) → IsForest image → FitsLeafPage (file_of image) p → has_type (5 ∷ []) (type_in (page_at (file_of image) p)) ≡ false
+no_pairs_on : (image : List ℕ) (p : ℕ) → IsForest image → FitsLeafPage (file_of image) p → has_type (5 ∷ []) (type_in (page_at (file_of image) p))
+    ≡ false
     → pairs_of (file_of image) p ≡ []
 unfolding pairs_of
 no_pairs_on image p forest leaf other =
@@ -86,7 +90,8 @@ no_pairs_on image p forest leaf other =
     no_pairs file p (page_at file p) (tree_is image p forest (leaf_is_tree file p leaf)) other
 
 -- nor has a leaf of a set
-pub no_pairs_in_set : (image : List ℕ) (root q : ℕ) → IsSoundForest image → FitsDupRoot (file_of image) root → Contains (leaves (file_of image) root) q
+pub no_pairs_in_set : (image : List ℕ) (root q : ℕ) → IsSoundForest image → FitsDupRoot (file_of image) root
+    → Contains (leaves (file_of image) root) q
     → pairs_of (file_of image) q ≡ []
 no_pairs_in_set image root q sound is at =
     let tree : IsTreePage (file_of image) root = root_is_tree image root sound.forest (inr is) in
@@ -96,9 +101,11 @@ no_pairs_in_set image root q sound is at =
 -- Databases.
 
 -- a leaf below a page of keys has keys
-keyed_leaf : (levels : ℕ) (image : List ℕ) (p q : ℕ) → IsForest image → level (file_of image) p ≡ levels → HasTypeAt (file_of image) (3 ∷ 5 ∷ 12 ∷ []) p
+keyed_leaf : (levels : ℕ) (image : List ℕ) (p q : ℕ) → IsForest image → level (file_of image) p ≡ levels
+    → HasTypeAt (file_of image) (3 ∷ 5 ∷ 12 ∷ []) p
     → Contains (leaves (file_of image) p) q → HasTypeAt (file_of image) (3 ∷ 5 ∷ 12 ∷ []) q
-keyed_leaf zero image p q forest is keyed at = absurd (omega (arith, is, tree_level image p forest (tree_keyed (type_in (page_at (file_of image) p)) keyed)))
+keyed_leaf zero image p q forest is keyed at =
+    absurd (omega (arith, is, tree_level image p forest (tree_keyed (type_in (page_at (file_of image) p)) keyed)))
 keyed_leaf (suc n) image p q forest is keyed at =
     let file : File = file_of image in
     elim (tree_cases image p forest (tree_keyed (type_in (page_at file p)) keyed)) [
@@ -118,7 +125,8 @@ root_type image meta b forest has is =
     subst (λ b. HasTypeAt (file_of image) (cond b (4 ∷ 6 ∷ []) (3 ∷ 5 ∷ [])) meta.root) is (meta_root_type image meta forest has)
 
 -- a leaf of a recno has records
-pub recno_leaf_type : (image : List ℕ) (meta : BtreeMeta) (q : ℕ) → IsForest image → HasMetadata (file_of image) (BtreeFields meta) → is_recno meta ≡ true
+pub recno_leaf_type : (image : List ℕ) (meta : BtreeMeta) (q : ℕ) → IsForest image → HasMetadata (file_of image) (BtreeFields meta) → is_recno meta
+    ≡ true
     → Contains (leaves (file_of image) meta.root) q → type_in (page_at (file_of image) q) ≡ Some 6
 recno_leaf_type image meta q forest has is at = recno_leaf image meta.root q forest (root_type image meta true forest has is) at
 
@@ -144,7 +152,8 @@ btree_leaf_type image meta q sound has is at =
     (root_type image meta false sound.forest has is) in
     let here : HasTypeAt file (3 ∷ 5 ∷ 12 ∷ []) q = keyed_leaf (level file meta.root) image meta.root q sound.forest refl keyed at in
     let right = leaf_kind image Root meta.root q sound refl target (leaf_low image meta.root q sound.forest tree at) at in
-    of_type (λ type. has_type (3 ∷ 5 ∷ 12 ∷ []) type ≡ true → has_type (12 ∷ []) type ≡ false → type ≡ Some 5) (5 ∷ 6 ∷ 12 ∷ []) (type_in (page_at file q))
+    of_type (λ type. has_type (3 ∷ 5 ∷ 12 ∷ []) type ≡ true → has_type (12 ∷ []) type ≡ false → type ≡ Some 5) (5 ∷ 6 ∷ 12 ∷ [])
+    (type_in (page_at file q))
     (λ keyed other. refl, (λ keyed other. absurd cc, (λ keyed other. absurd cc, tt)))
     (leaf_fits image meta.root q sound.forest tree at) here right
 

@@ -12,7 +12,8 @@ use Rattle.bdb_format.specs.Lists.{by_key, insert_pair}
 insert_sum : (f : StoredPair → ℕ) (pair : StoredPair) (pairs : List StoredPair) → sum_by f (insert_pair pair pairs) ≡ f pair + sum_by f pairs
 insert_sum f pair [] = sum_by-cons f pair []
 insert_sum f pair (other ∷ others) =
-    elim (less other.key pair.key) as (λ b. sum_by f (cond b (other ∷ insert_pair pair others) (pair ∷ other ∷ others)) ≡ f pair + sum_by f (other ∷ others)) [
+    elim (less other.key pair.key) as (λ b. sum_by f (cond b (other ∷ insert_pair pair others) (pair ∷ other ∷ others)) ≡ f pair + sum_by f
+    (other ∷ others)) [
       | true ↦ omega (arith, sum_by-cons f other (insert_pair pair others), insert_sum f pair others, sum_by-cons f other others)
       | false ↦ sum_by-cons f pair (other ∷ others)
     ]

@@ -1,5 +1,6 @@
 -- The metadata pages of a file are page 0 and those that its master names, each once.
-use Rattle.std.proofs.Common.{◌≡◌, ◌≢◌, ◌⊎◌, ℕ, zero, suc, ◌+◌, ◌*◌, ◌<◌, ◌≤◌, ◌^◌, Bool, true, false, cond, List, [], ◌∷◌, ◌++◌, map, length, add-one, arith, refl, sym, ◌∙◌, ap, inl, inr}
+use Rattle.std.proofs.Common.{◌≡◌, ◌≢◌, ◌⊎◌, ℕ, zero, suc, ◌+◌, ◌*◌, ◌<◌, ◌≤◌, ◌^◌, Bool, true, false, cond, List, [], ◌∷◌, ◌++◌, map, length}
+use Rattle.std.proofs.Common.{add-one, arith, refl, sym, ◌∙◌, ap, inl, inr}
 use Rattle.std.specs.Prelude.{◌==◌, ◌&&◌, nat_lt, not, Option, Some, None}
 use Rattle.std.specs.List.{Contains, filter, flat_map, range_with_len, sum_by}
 use Rattle.std.specs.Option.{option_to_list}
@@ -56,7 +57,8 @@ fields_by_page image weight =
     let f : Page → ℕ = λ page. sum_by weight (fields_in page) in
     sum_parts weight fields_in (map read pages)
     ∙ (sum_map f read pages
-    ∙ sum_same (λ p. f (read p)) (meta_weight (file_of image) weight) pages (λ p at. ap f (sym (page_is image p (omega (arith, of_range 0 (head.last + 1) p at))))))
+    ∙ sum_same (λ p. f (read p)) (meta_weight (file_of image) weight) pages
+    (λ p at. ap f (sym (page_is image p (omega (arith, of_range 0 (head.last + 1) p at))))))
 
 meta_type : (page : Page) → is_meta page ≡ true → has_type (8 ∷ 9 ∷ 10 ∷ []) (type_in page) ≡ true
 meta_type (Meta (BtreeFields meta)) is = refl
@@ -71,7 +73,8 @@ first_of_range f n = ap (λ k. sum_by f (range_with_len 0 k)) (add-one n) ∙ su
 
 pub master_is : (page : Page) (meta : BtreeMeta) → master_in page ≡ Some meta → page ≡ Meta (BtreeFields meta)
 master_is (Meta (BtreeFields found)) meta is =
-    elim (names_databases found) as (λ b. ◌≡◌ {A = Option BtreeMeta} (cond b (Some found) None) (Some meta) → ◌≡◌ {A = Page} (Meta (BtreeFields found)) (Meta (BtreeFields meta))) [
+    elim (names_databases found) as (λ b. ◌≡◌ {A = Option BtreeMeta} (cond b (Some found) None) (Some meta)
+    → ◌≡◌ {A = Page} (Meta (BtreeFields found)) (Meta (BtreeFields meta))) [
       | true ↦ λ same. cc
       | false ↦ λ none. absurd cc
     ] is
@@ -93,14 +96,17 @@ tree_pair_inside image meta pair forest has at =
     let file : File = file_of image in
     let found = of_flat_map (pairs_of file) (leaves file meta.root) pair at in
     let low : found.0 ≤ file.last =
-    leaf_low image meta.root found.0 forest (root_is_tree image meta.root forest (inl (root_fits image (head_of image) meta forest.formed has))) found.1 in
+    leaf_low image meta.root found.0 forest (root_is_tree image meta.root forest (inl (root_fits image (head_of image) meta forest.formed has)))
+    found.1 in
     omega (arith, low, pair_page file found.0 (page_at file found.0) pair found.2)
 
-pub master_pair_inside : (image : List ℕ) (pair : StoredPair) → IsForest image → Contains (master_pairs (file_of image)) pair → pair.page ≤ (file_of image).last
+pub master_pair_inside : (image : List ℕ) (pair : StoredPair) → IsForest image → Contains (master_pairs (file_of image)) pair
+    → pair.page ≤ (file_of image).last
 unfolding master_pairs
 master_pair_inside image pair forest at =
     let file : File = file_of image in
-    elim (master_in (page_at file 0)) as (λ master. master_in (page_at file 0) ≡ master → Contains (pairs_under file master) pair → pair.page ≤ file.last) [
+    elim (master_in (page_at file 0)) as (λ master. master_in (page_at file 0) ≡ master → Contains (pairs_under file master) pair
+    → pair.page ≤ file.last) [
       | None ↦ λ is none. absurd (no_member [] pair refl none)
       | Some meta ↦ λ is some.
           let held = of_filter (λ (pair : StoredPair). pair.live) (tree_pairs file meta.root) pair some in
@@ -123,9 +129,11 @@ names_meta image pair p forest none at names =
     let file : File = file_of image in
     let fail = rows_fail file pair.page none (master_pair_inside image pair forest at) in
     let hits : (pair.page == pair.page && misses_target file (named_by file pair.data_item)) ≡ false =
-    none_passes (λ (other : StoredPair). other.page == pair.page && misses_target file (named_by file other.data_item)) (master_pairs file) pair fail.1.1.0 at in
+    none_passes (λ (other : StoredPair). other.page == pair.page && misses_target file (named_by file other.data_item))
+    (master_pairs file) pair fail.1.1.0 at in
     let right : not (is_named_kind file p) ≡ false =
-    sym (ap (misses_target file) names) ∙ second_false (pair.page == pair.page) (misses_target file (named_by file pair.data_item)) (eq-eqb pair.page pair.page refl) hits in
+    sym (ap (misses_target file) names) ∙ second_false (pair.page == pair.page) (misses_target file (named_by file pair.data_item))
+    (eq-eqb pair.page pair.page refl) hits in
     let both = and_parts (nat_lt 0 p) (is_meta (page_at file p)) (not-false _ right) in
     record { above = ltb-true 0 p both.0; is = both.1 }
 
@@ -145,18 +153,24 @@ times_named file q =
     let one : ℕ → ℕ = λ p. cond (p == q) 1 0 in
     let test : StoredPair → Bool = λ (pair : StoredPair). is_page (named_by file pair.data_item) q in
     sum_parts one (named_page file) (master_pairs file)
-    ∙ (sum_same (λ pair. sum_by one (named_page file pair)) (λ pair. cond (test pair) 1 0) (master_pairs file) (λ pair at. one_named (named_by file pair.data_item) q)
+    ∙ (sum_same (λ pair. sum_by one (named_page file pair)) (λ pair. cond (test pair) 1 0) (master_pairs file)
+    (λ pair at. one_named (named_by file pair.data_item) q)
     ∙ sym (length-filter test (master_pairs file)))
 
 database_weight : (file : File) (weight : Metadata → ℕ) (name : Option (List ℕ)) (o : Option ℕ)
     → sum_by (λ (database : Database). weight database.fields) (database_on file name o) ≡ sum_by (meta_weight file weight) (option_to_list o)
 database_weight file weight name None = refl
 database_weight file weight name (Some p) =
-    omega (arith, sum_map (λ (database : Database). weight database.fields) (λ fields. record { name = name; fields = fields }) (fields_in (page_at file p)))
+    omega (
+      arith,
+      sum_map (λ (database : Database). weight database.fields) (λ fields. record { name = name; fields = fields })
+          (fields_in (page_at file p)),
+    )
 
 -- the databases that pairs name weigh what the pages that they name do
 databases_weight : (file : File) (weight : Metadata → ℕ) (pairs : List StoredPair)
-    → sum_by weight (map (λ (database : Database). database.fields) (flat_map (named_database file) pairs)) ≡ sum_by (meta_weight file weight) (flat_map (named_page file) pairs)
+    → sum_by weight (map (λ (database : Database). database.fields) (flat_map (named_database file) pairs)) ≡ sum_by (meta_weight file weight)
+    (flat_map (named_page file) pairs)
 databases_weight file weight pairs =
     let g : Database → ℕ = λ (database : Database). weight database.fields in
     sum_map weight (λ (database : Database). database.fields) (flat_map (named_database file) pairs)
@@ -183,7 +197,8 @@ named_once file p none low above is =
     let fail = rows_fail file p none low in
     let kind : is_named_kind file p ≡ true = both (nat_lt 0 p) (is_meta (page_at file p)) (lt-ltb 0 p above) is in
     let some : (length (naming file p) == 0) ≡ false = second_false (is_named_kind file p) (length (naming file p) == 0) kind fail.0 in
-    let few : nat_lt 1 (length (naming file p)) ≡ false = second_false (is_named_kind file p) (nat_lt 1 (length (naming file p))) kind fail.1.1.1.1.0 in
+    let few : nat_lt 1 (length (naming file p)) ≡ false =
+    second_false (is_named_kind file p) (nat_lt 1 (length (naming file p))) kind fail.1.1.1.1.0 in
     let one_at_most : length (naming file p) ≤ 1 = ltb-false 1 (length (naming file p)) few in
     let not_none : length (naming file p) ≢ 0 = eqb-false (length (naming file p)) 0 some in
     omega arith
@@ -202,7 +217,8 @@ no_others file weight is none =
       | inr other ↦ other
       | inl meta ↦
           let empty : master_pairs file ≡ [] = ap (pairs_under file) is in
-          let unnamed : length (naming file p) ≡ 0 = ap (λ pairs. length (filter (λ (pair : StoredPair). is_page (named_by file pair.data_item) p) pairs)) empty in
+          let unnamed : length (naming file p) ≡ 0 =
+          ap (λ pairs. length (filter (λ (pair : StoredPair). is_page (named_by file pair.data_item) p) pairs)) empty in
           let once : length (naming file p) ≡ 1 = named_once file p none (omega (arith, within.1)) within.0 meta in
           absurd (omega (arith, unnamed, once))
     ]))
@@ -219,7 +235,8 @@ others_are_named image weight sound =
     let named : (p : ℕ) → Contains targets p → NamesMeta file p = λ p at. named_inside image p sound.forest sound.master at in
     let paged : sum_by f targets ≡ sum_by often (range_with_len 0 (file.last + 1)) = by_page f (file.last + 1) targets (λ p at.
     omega (arith, typed_inside image (8 ∷ 9 ∷ 10 ∷ []) p (meta_type (page_at file p) (named p at).is))) in
-    let never : times 0 targets ≡ 0 = sum_none (λ p. cond (p == 0) 1 0) targets (λ p at. ap (λ b. cond b 1 0) (ne_eqb p 0 (λ is. omega (arith, is, (named p at).above)))) in
+    let never : times 0 targets ≡ 0 =
+    sum_none (λ p. cond (p == 0) 1 0) targets (λ p at. ap (λ b. cond b 1 0) (ne_eqb p 0 (λ is. omega (arith, is, (named p at).above)))) in
     let first : often 0 ≡ 0 = ap (λ n. n * f 0) never ∙ omega arith in
     let each = sum_same often f (range_with_len 1 file.last) (λ q at.
     let within = of_range 1 file.last q at in
@@ -238,22 +255,27 @@ unfolding databases
 metadata_are_databases image weight sound =
     let file : File = file_of image in
     let f : ℕ → ℕ = meta_weight file weight in
-    let all : sum_by weight (fields_of file) ≡ f 0 + sum_by f (range_with_len 1 file.last) = fields_by_page image weight ∙ first_of_range f file.last in
+    let all : sum_by weight (fields_of file) ≡ f 0 + sum_by f (range_with_len 1 file.last) =
+    fields_by_page image weight ∙ first_of_range f file.last in
     elim (master_in (page_at file 0)) as (λ master. master_in (page_at file 0) ≡ master
-    → sum_by weight (fields_of file) ≡ sum_by weight (master_fields master ++ map (λ (database : Database). database.fields) (databases_under file master))) [
+    → sum_by weight (fields_of file) ≡ sum_by weight
+    (master_fields master ++ map (λ (database : Database). database.fields) (databases_under file master))) [
       | None ↦ λ is.
-          let alone = sum_map weight (λ (database : Database). database.fields) (database_on file None (Some 0)) ∙ database_weight file weight None (Some 0) in
+          let alone = sum_map weight (λ (database : Database). database.fields) (database_on file None (Some 0))
+          ∙ database_weight file weight None (Some 0) in
           omega (arith, all, no_others file weight is sound.master, alone)
       | Some meta ↦ λ is.
           let named = databases_weight file weight (master_pairs file) in
-          let here : f 0 ≡ weight (BtreeFields meta) = ap (λ page. sum_by weight (fields_in page)) (master_is (page_at file 0) meta is) ∙ one (weight (BtreeFields meta)) in
+          let here : f 0 ≡ weight (BtreeFields meta) =
+          ap (λ page. sum_by weight (fields_in page)) (master_is (page_at file 0) meta is) ∙ one (weight (BtreeFields meta)) in
           omega (
             arith,
             all,
             others_are_named image weight sound,
             named,
             here,
-            sum_by-cons weight (BtreeFields meta) (map (λ (database : Database). database.fields) (flat_map (named_database file) (master_pairs file))),
+            sum_by-cons weight (BtreeFields meta)
+                (map (λ (database : Database). database.fields) (flat_map (named_database file) (master_pairs file))),
           )
     ] refl
   where

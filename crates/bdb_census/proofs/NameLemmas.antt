@@ -7,11 +7,13 @@ use Rattle.std.proofs.lemmas.List.Sums.{sum_by-cons, sum_by-append}
 use Rattle.bdb_format.specs.declared.pages.RecnoItem.{RecnoItem}
 use Rattle.bdb_format.specs.declared.references.Reference.{Reference}
 use Rattle.bdb_format.specs.declared.references.Sort.{Sort}
-use Rattle.bdb_format.specs.declared.references.Sort.TheVariants.{Free as FreeRef, Root, Bucket, HashNext, Child, OverflowHead, OverflowNext, DuplicateRoot}
+use Rattle.bdb_format.specs.declared.references.Sort.TheVariants.{Free as FreeRef, Root, Bucket, HashNext, Child, OverflowHead, OverflowNext}
+use Rattle.bdb_format.specs.declared.references.Sort.TheVariants.{DuplicateRoot}
 use Rattle.bdb_format.specs.File.{File, page_at}
 use Rattle.bdb_format.specs.Hashing.{first_page}
 use Rattle.bdb_format.specs.Leaves.{children_in}
-use Rattle.bdb_format.specs.Page.{Content, Inline, Set, Chain, Tree, Unknown, InternalItem, BtreeFields, HashFields, QueueFields, Page, Zero, Free, Meta, Hash, Internal, RecnoInternal, Leaf, RecnoLeaf, DupLeaf, Overflow, Queue, NoType}
+use Rattle.bdb_format.specs.Page.{Content, Inline, Set, Chain, Tree, Unknown, InternalItem, BtreeFields, HashFields, QueueFields, Page, Zero, Free}
+use Rattle.bdb_format.specs.Page.{Meta, Hash, Internal, RecnoInternal, Leaf, RecnoLeaf, DupLeaf, Overflow, Queue, NoType}
 use Rattle.bdb_format.specs.References.{content_targets, contents_in, first_free, internal_targets, refs, targets_in, targets_of, unless_zero}
 use Rattle.bdb_census.proofs.CountLemmas.{sum_none, sum_parts, sum_same}
 
@@ -27,7 +29,8 @@ sum_placed f n (x ∷ xs) =
 
 -- a sum over references is one over names
 pub sum_refs : (f : Sort → ℕ → ℕ) (file : File) (p : ℕ)
-    → sum_by (λ (r : Reference). f r.sort r.target) (refs file p) ≡ sum_by (λ (name : Sort × ℕ). f name.0 name.1) (targets_of file.kind p (page_at file p))
+    → sum_by (λ (r : Reference). f r.sort r.target) (refs file p) ≡ sum_by (λ (name : Sort × ℕ). f name.0 name.1)
+    (targets_of file.kind p (page_at file p))
 unfolding refs
 sum_refs f file p =
     let names : List (Sort × ℕ) = targets_of file.kind p (page_at file p) in

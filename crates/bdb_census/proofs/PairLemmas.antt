@@ -1,5 +1,6 @@
 -- What the pairs of all pages give, the lists of the databases have.
-use Rattle.std.proofs.Common.{◌≡◌, ◌≢◌, ◌⊎◌, ℕ, ◌+◌, ◌*◌, ◌/◌, ◌≤◌, Bool, true, false, cond, List, [], ◌∷◌, ◌++◌, map, length, arith, refl, sym, ◌∙◌, ap, subst, inl, inr, true≢false}
+use Rattle.std.proofs.Common.{◌≡◌, ◌≢◌, ◌⊎◌, ℕ, ◌+◌, ◌*◌, ◌/◌, ◌≤◌, Bool, true, false, cond, List, [], ◌∷◌, ◌++◌, map, length, arith, refl, sym}
+use Rattle.std.proofs.Common.{◌∙◌, ap, subst, inl, inr, true≢false}
 use Rattle.std.specs.Prelude.{◌==◌, ◌&&◌, Option, Some, None}
 use Rattle.std.specs.List.{enumerate_from, flat_map, range_with_len, sum_by}
 use Rattle.std.proofs.lemmas.Bool.{and_parts, cases_Bool, eqb-true}
@@ -10,7 +11,8 @@ use Rattle.bdb_format.specs.declared.metadata.HashMeta.{HashMeta}
 use Rattle.bdb_format.specs.declared.metadata.QueueMeta.{QueueMeta}
 use Rattle.bdb_format.specs.Chains.{value_of}
 use Rattle.bdb_format.specs.ContentRows.{fields_of}
-use Rattle.bdb_format.specs.Contents.{StoredPair, bucket_pages, bucket_pairs, data_of, pair_at, pairs_in, pairs_of, table_pairs, tree_entries, tree_pairs}
+use Rattle.bdb_format.specs.Contents.{StoredPair, bucket_pages, bucket_pairs, data_of, pair_at, pairs_in, pairs_of, table_pairs, tree_entries}
+use Rattle.bdb_format.specs.Contents.{tree_pairs}
 use Rattle.bdb_format.specs.Databases.{Database, databases}
 use Rattle.bdb_format.specs.File.{File, file_of, page_at, page_bytes, type_in}
 use Rattle.bdb_format.specs.Flags.{is_recno}
@@ -19,7 +21,8 @@ use Rattle.bdb_format.specs.HeadOf.{head_of}
 use Rattle.bdb_format.specs.Leaves.{leaves}
 use Rattle.bdb_format.specs.Lists.{ListKey, BytesKey, NumberKey, btree_list, by_key, hash_list, list_of, listed_entry, listed_pair, recno_list}
 use Rattle.bdb_format.specs.Master.{master_in}
-use Rattle.bdb_format.specs.Page.{Content, Item, Listed, Metadata, BtreeFields, HashFields, QueueFields, Page, PageType, HashPage, Zero, Free, Meta, Hash, Internal, RecnoInternal, Leaf, RecnoLeaf, DupLeaf, Overflow, Queue, NoType}
+use Rattle.bdb_format.specs.Page.{Content, Item, Listed, Metadata, BtreeFields, HashFields, QueueFields, Page, PageType, HashPage, Zero, Free, Meta}
+use Rattle.bdb_format.specs.Page.{Hash, Internal, RecnoInternal, Leaf, RecnoLeaf, DupLeaf, Overflow, Queue, NoType}
 use Rattle.bdb_format.specs.Reading.{abstract_page, hash_item_at, is_zero, listed, page_as, page_type}
 use Rattle.bdb_format.specs.Numbers.{byte_at}
 use Rattle.bdb_format.specs.References.{has_type}
@@ -28,7 +31,8 @@ use Rattle.bdb_format.proofs.PageLemmas.{header_listed, length_items}
 use Rattle.bdb_format.proofs.TypeLemmas.{of_type}
 use Rattle.bdb_graph.specs.Linked.{HasMetadata, IsForest}
 use Rattle.bdb_graph.proofs.HeldLemmas.{last_page, page_is}
-use Rattle.bdb_census.specs.Databases.{IsSoundForest, PairsAreOfDatabases, all_lists, buckets_below, by_bytes, given_on, given_pair, leaves_below, master_fields, master_list, named_fields}
+use Rattle.bdb_census.specs.Databases.{IsSoundForest, PairsAreOfDatabases, all_lists, buckets_below, by_bytes, given_on, given_pair, leaves_below}
+use Rattle.bdb_census.specs.Databases.{master_fields, master_list, named_fields}
 use Rattle.bdb_census.specs.HashSums.{is_hash_page}
 use Rattle.bdb_census.specs.TreeSums.{leaf_weight}
 use Rattle.bdb_census.proofs.CountLemmas.{sum_none, sum_parts, sum_plus, sum_same}
@@ -66,7 +70,8 @@ never_both type hash leaf =
 -- the pairs of a page are those of a leaf or those of a hash page
 page_parts : (image : List ℕ) (weight : StoredPair → ℕ) (p : ℕ) → IsForest image → p ≤ (file_of image).last
     → pairs_weight (file_of image) weight p
-    ≡ leaf_weight (file_of image) (pairs_weight (file_of image) weight) p + cond (is_hash_page (file_of image) p) (pairs_weight (file_of image) weight p) 0
+    ≡ leaf_weight (file_of image) (pairs_weight (file_of image) weight) p + cond (is_hash_page (file_of image) p)
+    (pairs_weight (file_of image) weight p) 0
 unfolding pairs_of
 page_parts image weight p forest low =
     let file : File = file_of image in
@@ -94,9 +99,11 @@ entries_in_bytes order page is same =
     ] same
 
 -- a hash page has as many items as its header counts
-entries_are : (image : List ℕ) (p : ℕ) (is : Listed Item) → p ≤ (file_of image).last → page_at (file_of image) p ≡ Hash is → length is.items ≡ is.header.entries
+entries_are : (image : List ℕ) (p : ℕ) (is : Listed Item) → p ≤ (file_of image).last → page_at (file_of image) p ≡ Hash is → length is.items
+    ≡ is.header.entries
 entries_are image p is low same =
-    entries_in_bytes (head_of image).order (page_bytes (head_of image) image p) is (sym (page_is image p (omega (arith, low, last_page image))) ∙ same)
+    entries_in_bytes (head_of image).order (page_bytes (head_of image) image p) is (sym (page_is image p (omega (arith, low, last_page image)))
+    ∙ same)
 
 no_spare_pairs : (file : File) (p : ℕ) (page : Page) → ((listed : Listed Item) → page ≡ Hash listed → length listed.items ≡ listed.header.entries)
     → is_spare page ≡ true → pairs_in file p page ≡ []
@@ -130,7 +137,8 @@ pairs_below image weight sound =
     let h : ℕ → ℕ = λ p. cond (is_hash_page file p) (v p) 0 in
     let below : Metadata → ℕ = λ fields. sum_by v (leaves_below file fields) in
     let buckets : Metadata → ℕ = λ fields. sum_by v (buckets_below file fields) in
-    let each = sum_same v (λ p. leaf_weight file v p + h p) pages (λ p at. page_parts image weight p sound.forest (omega (arith, of_range 0 (file.last + 1) p at))) in
+    let each = sum_same v (λ p. leaf_weight file v p + h p) pages
+    (λ p at. page_parts image weight p sound.forest (omega (arith, of_range 0 (file.last + 1) p at))) in
     let two = sum_plus (leaf_weight file v) h pages in
     let trees : sum_by (leaf_weight file v) pages ≡ sum_by below (fields_of file) =
     leaves_are_of_databases image v sound.forest sound.kind (λ root set.
@@ -141,7 +149,8 @@ pairs_below image weight sound =
 
 -- The lists.
 
-one_listed : (file : File) (weight : List ℕ × List ℕ → ℕ) (pair : StoredPair) → sum_by (by_bytes weight) (listed_pair file pair) ≡ sum_by weight (given_pair file pair)
+one_listed : (file : File) (weight : List ℕ × List ℕ → ℕ) (pair : StoredPair) → sum_by (by_bytes weight) (listed_pair file pair)
+    ≡ sum_by weight (given_pair file pair)
 one_listed file weight pair =
     let values : List (List ℕ) = data_of file pair.data_item in
     let listed : List ℕ → ListKey × List ℕ = λ value. (BytesKey pair.key, value) in
@@ -156,7 +165,8 @@ pairs_listed : (file : File) (weight : List ℕ × List ℕ → ℕ) (pairs : Li
     → sum_by (by_bytes weight) (flat_map (listed_pair file) pairs) ≡ sum_by (λ pair. sum_by weight (given_pair file pair)) pairs
 pairs_listed file weight pairs =
     sum_parts (by_bytes weight) (listed_pair file) pairs
-    ∙ sum_same (λ pair. sum_by (by_bytes weight) (listed_pair file pair)) (λ pair. sum_by weight (given_pair file pair)) pairs (λ pair at. one_listed file weight pair)
+    ∙ sum_same (λ pair. sum_by (by_bytes weight) (listed_pair file pair)) (λ pair. sum_by weight (given_pair file pair)) pairs
+    (λ pair at. one_listed file weight pair)
 
 pub btree_weighs : (file : File) (weight : List ℕ × List ℕ → ℕ) (root : ℕ)
     → sum_by (by_bytes weight) (btree_list file root) ≡ sum_by (pairs_weight file (λ pair. sum_by weight (given_pair file pair))) (leaves file root)
@@ -165,7 +175,8 @@ btree_weighs file weight root =
     pairs_listed file weight (tree_pairs file root) ∙ sum_parts (λ pair. sum_by weight (given_pair file pair)) (pairs_of file) (leaves file root)
 
 hash_weighs : (file : File) (weight : List ℕ × List ℕ → ℕ) (meta : HashMeta)
-    → sum_by (by_bytes weight) (hash_list file meta) ≡ sum_by (pairs_weight file (λ pair. sum_by weight (given_pair file pair))) (buckets_below file (HashFields meta))
+    → sum_by (by_bytes weight) (hash_list file meta) ≡ sum_by (pairs_weight file (λ pair. sum_by weight (given_pair file pair)))
+    (buckets_below file (HashFields meta))
 unfolding hash_list table_pairs
 hash_weighs file weight meta =
     let f : StoredPair → ℕ = λ pair. sum_by weight (given_pair file pair) in
@@ -220,7 +231,8 @@ all_listed image f sound =
     let fields : List Metadata = map (λ (database : Database). database.fields) all in
     let same : sum_by f rest ≡ sum_by g fields =
     sum_parts f (λ (database : Database). list_of file database.fields) all ∙ sym (sum_map g (λ (database : Database). database.fields) all) in
-    elim (master_in (page_at file 0)) as (λ m. master_in (page_at file 0) ≡ m → sum_by f (master_list file m ++ rest) ≡ sum_by g (master_fields m ++ fields)) [
+    elim (master_in (page_at file 0)) as (λ m. master_in (page_at file 0) ≡ m → sum_by f (master_list file m ++ rest) ≡ sum_by g
+    (master_fields m ++ fields)) [
       | None ↦ λ is. same
       | Some meta ↦ λ is.
           let list : sum_by f (btree_list file meta.root) ≡ g (BtreeFields meta) =
@@ -238,5 +250,6 @@ pairs_are_of_databases image weight sound =
     sum_parts weight (given_on file) pages
     ∙ (sum_same (λ p. sum_by weight (given_on file p)) v pages (λ p at. sum_parts weight (given_pair file) (pairs_of file p))
     ∙ (pairs_below image f sound
-    ∙ (fields_same image (λ fields. sum_by v (leaves_below file fields) + sum_by v (buckets_below file fields)) listed (λ fields has. list_weighs image weight fields sound has)
+    ∙ (fields_same image (λ fields. sum_by v (leaves_below file fields) + sum_by v (buckets_below file fields)) listed
+    (λ fields has. list_weighs image weight fields sound has)
     ∙ (metadata_are_databases image listed sound ∙ sym (all_listed image (by_bytes weight) sound)))))

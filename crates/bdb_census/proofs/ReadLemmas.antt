@@ -1,5 +1,6 @@
 -- Metadata as it's read from its page: that of a queue stands in no file of trees and tables, and that of a master is of a btree.
-use Rattle.std.proofs.Common.{◌≡◌, ◌≢◌, ◌⊎◌, ℕ, zero, suc, ◌+◌, ◌<◌, ◌≤◌, Bool, true, false, cond, List, length, Option, Some, None, arith, refl, sym, ◌∙◌, ap, subst, inl, inr, true≢false}
+use Rattle.std.proofs.Common.{◌≡◌, ◌≢◌, ◌⊎◌, ℕ, zero, suc, ◌+◌, ◌<◌, ◌≤◌, Bool, true, false, cond, List, length, Option, Some, None, arith, refl}
+use Rattle.std.proofs.Common.{sym, ◌∙◌, ap, subst, inl, inr, true≢false}
 use Rattle.std.specs.Prelude.{◌==◌, not}
 use Rattle.std.proofs.lemmas.Bool.{cases_eq}
 use Rattle.bdb_format.specs.declared.kinds.Order.{Order}
@@ -82,7 +83,8 @@ no_queue_type HashFile (suc p) other may = true≢false (sym may ∙ later_type 
 no_queue_type QueueFile p other may = other refl
 
 -- metadata of a queue is in a queue file alone
-pub no_queue_meta : (image : List ℕ) (meta : QueueMeta) → IsForest image → (file_of image).kind ≢ QueueFile → HasMetadata (file_of image) (QueueFields meta) → ⊥
+pub no_queue_meta : (image : List ℕ) (meta : QueueMeta) → IsForest image → (file_of image).kind ≢ QueueFile
+    → HasMetadata (file_of image) (QueueFields meta) → ⊥
 no_queue_meta image meta forest kind has =
     let page : List ℕ = page_bytes (head_of image) image has.page in
     let is : IsMetaPage image has.page (QueueFields meta) = page_of_meta image (QueueFields meta) forest has in
@@ -109,4 +111,5 @@ master_keys image meta forest is =
     let fail : AllFail (metadata_rows order page 0 0 BtreeFile) =
     none_is_first_row (metadata_rows order page 0 0 BtreeFile) (tree_formed (head_of image) 0 page read.size read.read.0 read.formed) in
     let flags : four_at order page 48 ≡ meta.flags = ap (λ (m : BtreeMeta). m.flags) read.read.1 in
-    no_recno meta.flags (subst (λ n. are_wrong_flags 0 n ≡ false) flags fail.1.1.1.1.1.1.1.1.1.0) (flags_of_master (page_at (file_of image) 0) meta is)
+    no_recno meta.flags (subst (λ n. are_wrong_flags 0 n ≡ false) flags fail.1.1.1.1.1.1.1.1.1.0)
+    (flags_of_master (page_at (file_of image) 0) meta is)

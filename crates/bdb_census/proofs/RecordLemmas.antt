@@ -1,5 +1,6 @@
 -- What the records that stand in no set off the page weigh, those of the lists of databases do.
-use Rattle.std.proofs.Common.{◌≡◌, ◌≢◌, ◌⊎◌, ℕ, ◌+◌, ◌≤◌, Bool, true, false, cond, List, [], ◌∷◌, map, arith, refl, sym, ◌∙◌, ap, subst, inl, inr, true≢false}
+use Rattle.std.proofs.Common.{◌≡◌, ◌≢◌, ◌⊎◌, ℕ, ◌+◌, ◌≤◌, Bool, true, false, cond, List, [], ◌∷◌, map, arith, refl, sym, ◌∙◌, ap, subst, inl, inr}
+use Rattle.std.proofs.Common.{true≢false}
 use Rattle.std.specs.Prelude.{◌==◌, not, Option, Some, None}
 use Rattle.std.specs.List.{Contains, enumerate_from, filter, flat_map, range_with_len, sum_by}
 use Rattle.std.proofs.lemmas.Bool.{cases_Bool, eq-eqb}
@@ -24,7 +25,8 @@ use Rattle.bdb_graph.specs.Linked.{FitsDupRoot, FitsTreeRoot, HasMetadata, IsFor
 use Rattle.bdb_graph.proofs.LinkedLemmas.{root_fits}
 use Rattle.bdb_tree.proofs.TreeLemmas.{leaf_inside}
 use Rattle.bdb_census.specs.Counting.{times}
-use Rattle.bdb_census.specs.Databases.{IsOfSet, IsOfSets, IsSoundForest, NoLeafOfBoth, RecordsAreOfDatabases, all_lists, by_value, leaves_below, left_on}
+use Rattle.bdb_census.specs.Databases.{IsOfSet, IsOfSets, IsSoundForest, NoLeafOfBoth, RecordsAreOfDatabases, all_lists, by_value, leaves_below}
+use Rattle.bdb_census.specs.Databases.{left_on}
 use Rattle.bdb_census.specs.TreeSums.{leaf_weight}
 use Rattle.bdb_census.proofs.CountLemmas.{sum_none, sum_parts, sum_same}
 use Rattle.bdb_census.proofs.DatabaseLemmas.{fields_same, leaves_are_of_databases}
@@ -65,10 +67,12 @@ some_times q ps at =
     let one : ◌≡◌ {A = ℕ} (cond (q == q) 1 0) 1 = ap (λ b. cond b 1 0) (eq-eqb q q refl) in
     omega (arith, one, one_member (λ p. cond (p == q) 1 0) ps q at)
 
-in_roots : (file : File) (sort : Sort) (root : ℕ) (is : IsTarget file sort root) → is_root_reference sort ≡ true → Contains (root_references file) is.owner
+in_roots : (file : File) (sort : Sort) (root : ℕ) (is : IsTarget file sort root) → is_root_reference sort ≡ true
+    → Contains (root_references file) is.owner
 unfolding root_references
 in_roots file sort root is passes =
-    in_filter (λ (owner : Owner). is_root_reference owner.reference.sort) (all_references file) is.owner is.held (ap is_root_reference is.sort_is ∙ passes)
+    in_filter (λ (owner : Owner). is_root_reference owner.reference.sort) (all_references file) is.owner is.held
+    (ap is_root_reference is.sort_is ∙ passes)
 
 -- a leaf below metadata is in no set
 pub no_leaf_of_both : NoLeafOfBoth
@@ -77,11 +81,13 @@ no_leaf_of_both image root set q forest is set_is at other =
     let leaf = set_leaf_fits image set q forest set_is other in
     let f : Owner → ℕ = λ (owner : Owner). times q (leaves file owner.reference.target) in
     let one : sum_by f (root_references file) ≡ 1 = each_leaf_is_in_one_tree image q forest (leaf_inside image q leaf) leaf in
-    let here : 1 ≤ f is.owner = some_times q (leaves file is.owner.reference.target) (subst (λ r. Contains (leaves file r) q) (sym is.target_is) at) in
+    let here : 1 ≤ f is.owner =
+    some_times q (leaves file is.owner.reference.target) (subst (λ r. Contains (leaves file r) q) (sym is.target_is) at) in
     let there : 1 ≤ f set_is.owner =
     some_times q (leaves file set_is.owner.reference.target) (subst (λ r. Contains (leaves file r) q) (sym set_is.target_is) other) in
     let both : f is.owner + f set_is.owner ≤ sum_by f (root_references file) =
-    two_members f (root_references file) is.owner set_is.owner (in_roots file Root root is refl) (in_roots file DuplicateRoot set set_is refl) (λ same.
+    two_members f (root_references file) is.owner set_is.owner (in_roots file Root root is refl) (in_roots file DuplicateRoot set set_is refl)
+    (λ same.
     apart (sym is.sort_is ∙ (ap (λ (owner : Owner). owner.reference.sort) same ∙ set_is.sort_is))) in
     absurd (omega arith)
   where
@@ -101,11 +107,14 @@ no_entries page other = refl
 
 no_values : (file : File) (taken : ℕ → Bool) (weight : List ℕ → ℕ) (p : ℕ) → entries_in (page_at file p) ≡ [] → record_weight file taken weight p ≡ 0
 no_values file taken weight p none =
-    let entries : List Item → List (List ℕ) = λ items. map (λ (item : Item). value_of file item.content) (filter (λ (item : Item). not item.deleted) items) in
-    elim (taken p) as (λ b. sum_by weight (cond b [] (live_values file (page_at file p))) ≡ 0) [ true ↦ refl | false ↦ ap (λ items. sum_by weight (entries items)) none ]
+    let entries : List Item → List (List ℕ) =
+    λ items. map (λ (item : Item). value_of file item.content) (filter (λ (item : Item). not item.deleted) items) in
+    elim (taken p) as (λ b. sum_by weight (cond b [] (live_values file (page_at file p))) ≡ 0)
+    [ true ↦ refl | false ↦ ap (λ items. sum_by weight (entries items)) none ]
 
 -- records stand on leaves alone
-on_leaves : (file : File) (taken : ℕ → Bool) (weight : List ℕ → ℕ) (p : ℕ) → record_weight file taken weight p ≡ leaf_weight file (record_weight file taken weight) p
+on_leaves : (file : File) (taken : ℕ → Bool) (weight : List ℕ → ℕ) (p : ℕ) → record_weight file taken weight p
+    ≡ leaf_weight file (record_weight file taken weight) p
 on_leaves file taken weight p =
     let n : ℕ = record_weight file taken weight p in
     elim (cases_Bool (has_type (5 ∷ 6 ∷ 12 ∷ []) (type_in (page_at file p)))) [
@@ -119,7 +128,8 @@ on_leaves file taken weight p =
 abbrev entry_weight : File → (List ℕ → ℕ) → Item → ℕ
 entry_weight file weight item = cond item.deleted 0 (weight (value_of file item.content))
 
-live_weigh : (file : File) (weight : List ℕ → ℕ) (page : Page) → sum_by weight (live_values file page) ≡ sum_by (entry_weight file weight) (entries_in page)
+live_weigh : (file : File) (weight : List ℕ → ℕ) (page : Page) → sum_by weight (live_values file page)
+    ≡ sum_by (entry_weight file weight) (entries_in page)
 live_weigh file weight page =
     let f : Item → ℕ = λ (item : Item). weight (value_of file item.content) in
     let live : Item → Bool = λ (item : Item). not item.deleted in
@@ -136,7 +146,8 @@ recno_weighs file weight root =
     let entries : List Item = tree_entries file root in
     let w : Item → ℕ = entry_weight file weight in
     sum_parts (by_value weight) (listed_entry file) (enumerate_from 1 entries)
-    ∙ (sum_same (λ entry. sum_by (by_value weight) (listed_entry file entry)) (λ (entry : ℕ × Item). w entry.1) (enumerate_from 1 entries) (λ entry at.
+    ∙ (sum_same (λ entry. sum_by (by_value weight) (listed_entry file entry)) (λ (entry : ℕ × Item). w entry.1) (enumerate_from 1 entries)
+    (λ entry at.
     elim entry.1.deleted as (λ b. sum_by (by_value weight) (cond b [] ((NumberKey entry.0, value_of file entry.1.content) ∷ []))
     ≡ cond b 0 (weight (value_of file entry.1.content))) [
       | true ↦ refl
@@ -170,7 +181,8 @@ hash_weighs file weight meta = pairs_weigh file weight (by_key (table_pairs file
 -- the list of a database weighs what the records of the leaves below its metadata do
 list_weighs : (image : List ℕ) (weight : List ℕ → ℕ) (taken : ℕ → Bool) (fields : Metadata) → IsSoundForest image → IsOfSets (file_of image) taken
     → HasMetadata (file_of image) fields
-    → sum_by (record_weight (file_of image) taken weight) (leaves_below (file_of image) fields) ≡ sum_by (by_value weight) (list_of (file_of image) fields)
+    → sum_by (record_weight (file_of image) taken weight) (leaves_below (file_of image) fields) ≡ sum_by (by_value weight)
+    (list_of (file_of image) fields)
 list_weighs image weight taken (BtreeFields meta) sound of has =
     let file : File = file_of image in
     let r : ℕ → ℕ = record_weight file taken weight in

@@ -1,5 +1,6 @@
 -- What the leaves of a file weigh is what those of its trees weigh: each page of a tree is named once, and what a page leads to is below it.
-use Rattle.std.proofs.Common.{◌≡◌, ◌⊎◌, ℕ, zero, suc, ◌+◌, ◌<◌, ◌≤◌, Bool, true, false, cond, List, [], ◌∷◌, map, length, arith, refl, sym, ◌∙◌, ap, subst, inl, inr, true≢false}
+use Rattle.std.proofs.Common.{◌≡◌, ◌⊎◌, ℕ, zero, suc, ◌+◌, ◌<◌, ◌≤◌, Bool, true, false, cond, List, [], ◌∷◌, map, length, arith, refl, sym, ◌∙◌, ap}
+use Rattle.std.proofs.Common.{subst, inl, inr, true≢false}
 use Rattle.std.specs.Prelude.{◌==◌, ◌||◌, ◌&&◌, not, nat_lt, Option, Some, None}
 use Rattle.std.specs.List.{Contains, filter, flat_map, list_all, range_with_len, sum_by}
 use Rattle.std.specs.Option.{unwrap_or}
@@ -10,7 +11,8 @@ use Rattle.bdb_format.specs.declared.metadata.FileKind.TheVariants.{Btree, Hash 
 use Rattle.bdb_format.specs.declared.metadata.Head.{Head}
 use Rattle.bdb_format.specs.declared.references.Reference.{Reference}
 use Rattle.bdb_format.specs.declared.references.Sort.{Sort}
-use Rattle.bdb_format.specs.declared.references.Sort.TheVariants.{Free as FreeRef, Root, Bucket, HashNext, Child, OverflowHead, OverflowNext, DuplicateRoot}
+use Rattle.bdb_format.specs.declared.references.Sort.TheVariants.{Free as FreeRef, Root, Bucket, HashNext, Child, OverflowHead, OverflowNext}
+use Rattle.bdb_format.specs.declared.references.Sort.TheVariants.{DuplicateRoot}
 use Rattle.bdb_format.specs.File.{File, file_of, page_at, page_bytes, type_in}
 use Rattle.bdb_format.specs.Graph.{OneRole, Owner, all_references, held_by, is_anchor, is_anchor_in, is_head_reference, is_meta, is_spare, owners}
 use Rattle.bdb_format.specs.HeadOf.{head_of}
@@ -24,7 +26,8 @@ use Rattle.bdb_graph.proofs.ChildLemmas.{is_queue_page}
 use Rattle.bdb_graph.proofs.CodeLemmas.{first_page_code}
 use Rattle.bdb_graph.proofs.FirstLemmas.{formed_page}
 use Rattle.bdb_graph.proofs.HeldLemmas.{page_is}
-use Rattle.bdb_format.specs.Page.{BtreeFields, HashFields, QueueFields, Page, Zero, Free, Meta, Hash, Internal, RecnoInternal, Leaf, RecnoLeaf, DupLeaf, Overflow, Queue, NoType}
+use Rattle.bdb_format.specs.Page.{BtreeFields, HashFields, QueueFields, Page, Zero, Free, Meta, Hash, Internal, RecnoInternal, Leaf, RecnoLeaf}
+use Rattle.bdb_format.specs.Page.{DupLeaf, Overflow, Queue, NoType}
 use Rattle.bdb_format.specs.References.{Asked, asked_by, fit_code, fit_rows, has_type, is_zero_page, targets_of, refs}
 use Rattle.bdb_format.proofs.GraphLemmas.{each_fits, each_page_has_one_role, is_owner, owner_fits, reserve_is}
 use Rattle.bdb_format.proofs.MemberLemmas.{first_member, member_cases, no_member, of_map}
@@ -69,7 +72,8 @@ named_as_owned file q =
     let test : Owner → Bool = λ (owner : Owner). owner.reference.target == q in
     let all : List ℕ = range_with_len 0 (file.last + 1) in
     sum_parts one (λ p. map (λ (r : Reference). r.target) (refs file p)) all
-    ∙ (sum_same (λ p. sum_by one (map (λ (r : Reference). r.target) (refs file p))) (λ p. sum_by (λ (owner : Owner). cond (test owner) 1 0) (held_by file p)) all (λ p at.
+    ∙ (sum_same (λ p. sum_by one (map (λ (r : Reference). r.target) (refs file p)))
+    (λ p. sum_by (λ (owner : Owner). cond (test owner) 1 0) (held_by file p)) all (λ p at.
     sum_map one (λ (r : Reference). r.target) (refs file p)
     ∙ sym (sum_map (λ (owner : Owner). cond (test owner) 1 0) (λ r. record { holder = p; reference = r }) (refs file p)))
     ∙ (sym (sum_parts (λ (owner : Owner). cond (test owner) 1 0) (held_by file) all)
@@ -103,7 +107,8 @@ leads_in Root = true
 leads_in DuplicateRoot = true
 leads_in sort = false
 
-outside : (holder : ℕ) (page : Page) (sort : Sort) → leads_in sort ≡ false → AllTypes (λ type. has_type tree_types type ≡ false) (asked_by holder page sort).types
+outside : (holder : ℕ) (page : Page) (sort : Sort) → leads_in sort ≡ false
+    → AllTypes (λ type. has_type tree_types type ≡ false) (asked_by holder page sort).types
 outside holder page FreeRef is = (refl, tt)
 outside holder page Bucket is = (refl, (refl, tt))
 outside holder page HashNext is = (refl, (refl, tt))
@@ -125,12 +130,15 @@ as_parts f DuplicateRoot target none = omega arith
 as_parts f sort target none = omega (arith, none refl)
 
 -- a reference names a child, or a root, or no page of a tree
-named_parts : (image : List ℕ) (weight : ℕ → ℕ) (p : ℕ) (r : Reference) → IsForest image → p ≤ (file_of image).last → Contains (refs (file_of image) p) r
-    → whole (file_of image) weight r.target ≡ as_child (whole (file_of image) weight) r.sort r.target + as_root (whole (file_of image) weight) r.sort r.target
+named_parts : (image : List ℕ) (weight : ℕ → ℕ) (p : ℕ) (r : Reference) → IsForest image → p ≤ (file_of image).last
+    → Contains (refs (file_of image) p) r
+    → whole (file_of image) weight r.target ≡ as_child (whole (file_of image) weight) r.sort r.target + as_root
+    (whole (file_of image) weight) r.sort r.target
 named_parts image weight p r forest low at =
     let file : File = file_of image in
     as_parts (whole file weight) r.sort r.target (λ other.
-    ap (λ b. cond b (weight_below file weight r.target) 0) (names_other file p r (each_fits file p r (sound_graph image forest.linked).references low at) other))
+    ap (λ b. cond b (weight_below file weight r.target) 0)
+    (names_other file p r (each_fits file p r (sound_graph image forest.linked).references low at) other))
 
 -- Owners of a page of a tree.
 
@@ -141,17 +149,20 @@ pub record NoMetaType (types : List ℕ) : Type 0 where
   pub queue : has_type types (Some 10) ≡ false
   pub none : has_type types None ≡ false
 
-meta_as : (types : List ℕ) (order : Order) (page : List ℕ) (kind : FileKind) (byte : ℕ) → NoMetaType types → byte ≡ type_of kind → has_type types (type_in (page_as order page (page_type byte))) ≡ false
+meta_as : (types : List ℕ) (order : Order) (page : List ℕ) (kind : FileKind) (byte : ℕ) → NoMetaType types → byte ≡ type_of kind
+    → has_type types (type_in (page_as order page (page_type byte))) ≡ false
 meta_as types order page Btree byte no' is = ap (λ b. has_type types (type_in (page_as order page (page_type b)))) is ∙ no'.tree
 meta_as types order page HashFile byte no' is = ap (λ b. has_type types (type_in (page_as order page (page_type b)))) is ∙ no'.table
 meta_as types order page QueueFile byte no' is = ap (λ b. has_type types (type_in (page_as order page (page_type b)))) is ∙ no'.queue
 
-meta_abstract : (types : List ℕ) (head : Head) (page : List ℕ) → NoMetaType types → first_row (metadata_rows head.order page 0 head.last head.kind) ≡ None → has_type types (type_in (abstract_page head.order page)) ≡ false
+meta_abstract : (types : List ℕ) (head : Head) (page : List ℕ) → NoMetaType types → first_row (metadata_rows head.order page 0 head.last head.kind)
+    ≡ None → has_type types (type_in (abstract_page head.order page)) ≡ false
 unfolding metadata_rows abstract_page
 meta_abstract types head page no' none =
     let fail = none_is_first_row (metadata_rows head.order page 0 head.last head.kind) none in
     let type : byte_at page 25 ≡ type_of head.kind = eqb-true (byte_at page 25) (type_of head.kind) (not-false _ fail.1.0) in
-    elim (is_zero page) as (λ zeros. has_type types (type_in (elim zeros [ true ↦ Zero | false ↦ page_as head.order page (page_type (byte_at page 25)) ])) ≡ false) [
+    elim (is_zero page) as (λ zeros. has_type types
+    (type_in (elim zeros [ true ↦ Zero | false ↦ page_as head.order page (page_type (byte_at page 25)) ])) ≡ false) [
       | true ↦ no'.none
       | false ↦ meta_as types head.order page head.kind (byte_at page 25) no' type
     ]
@@ -162,12 +173,14 @@ page_zero_type image types forest no' =
     let head : Head = head_of image in
     let page : List ℕ = page_bytes head image 0 in
     let none : form_code head 0 page ≡ None = formed_page image 0 forest.formed.form (omega arith) in
-    ap (λ (page : Page). has_type types (type_in page)) (page_is image 0 (omega arith)) ∙ meta_abstract types head page no' (sym (first_page_code head page) ∙ none)
+    ap (λ (page : Page). has_type types (type_in page)) (page_is image 0 (omega arith))
+    ∙ meta_abstract types head page no' (sym (first_page_code head page) ∙ none)
 
 page_zero_no_tree : (image : List ℕ) → IsForest image → is_tree (file_of image) 0 ≡ false
 page_zero_no_tree image forest = page_zero_type image tree_types forest (record { tree = refl; table = refl; queue = refl; none = refl })
 
-forest_page : (page : Page) → has_type tree_types (type_in page) ≡ true → IsFormedPage page → (is_queue_page page ≡ false) × (is_meta page ≡ false) × (is_spare page ≡ false)
+forest_page : (page : Page) → has_type tree_types (type_in page) ≡ true → IsFormedPage page
+    → (is_queue_page page ≡ false) × (is_meta page ≡ false) × (is_spare page ≡ false)
 forest_page Zero tree formed = absurd cc
 forest_page (Free header) tree formed = absurd cc
 forest_page (Meta (BtreeFields meta)) tree formed = absurd cc
@@ -203,7 +216,8 @@ head_leads_out OverflowHead is = refl
 head_leads_out sort is = absurd cc
 
 -- a page of a tree is named once
-named_once : (image : List ℕ) (q : ℕ) → IsForest image → q ≤ (file_of image).last → is_tree (file_of image) q ≡ true → length (owners (file_of image) q) ≡ 1
+named_once : (image : List ℕ) (q : ℕ) → IsForest image → q ≤ (file_of image).last → is_tree (file_of image) q ≡ true
+    → length (owners (file_of image) q) ≡ 1
 unfolding is_anchor
 named_once image zero forest low tree = absurd (true≢false (sym tree ∙ page_zero_no_tree image forest))
 named_once image (suc q') forest low tree =
@@ -219,9 +233,12 @@ named_once image (suc q') forest low tree =
       | inr (inr (inr shared)) ↦
           let some : (owner : Owner) × Contains (owners file q) owner = some_member (owners file q) shared.1 in
           let owner : Owner = some.0 in
-          let head : is_head_reference owner.reference.sort ≡ true = all_pass (λ (o : Owner). is_head_reference o.reference.sort) (owners file q) owner shared.0 some.1 in
+          let head : is_head_reference owner.reference.sort ≡ true =
+          all_pass (λ (o : Owner). is_head_reference o.reference.sort) (owners file q) owner shared.0 some.1 in
           let names : owner.reference.target ≡ q = (is_owner file q owner some.1).names in
-          let other : is_tree file owner.reference.target ≡ false = names_other file owner.holder owner.reference (owner_fits file q owner sound.references some.1) (head_leads_out owner.reference.sort head) in
+          let other : is_tree file owner.reference.target ≡ false =
+          names_other file owner.holder owner.reference (owner_fits file q owner sound.references some.1)
+          (head_leads_out owner.reference.sort head) in
           absurd (true≢false (sym tree ∙ (ap (is_tree file) (sym names) ∙ other)))
     ]
 
@@ -246,7 +263,8 @@ inner_no_leaf page children are = absurd cc
 
 -- what the children of a page weigh, and its own part, are its whole
 inner_parts : (image : List ℕ) (weight : ℕ → ℕ) (q : ℕ) → IsForest image
-    → sum_by (whole (file_of image) weight) (unwrap_or (children_in (page_at (file_of image) q)) []) + leaf_weight (file_of image) weight q ≡ whole (file_of image) weight q
+    → sum_by (whole (file_of image) weight) (unwrap_or (children_in (page_at (file_of image) q)) []) + leaf_weight (file_of image) weight q ≡ whole
+    (file_of image) weight q
 inner_parts image weight q forest =
     let file : File = file_of image in
     let f : ℕ → ℕ = whole file weight in
@@ -261,7 +279,8 @@ inner_parts image weight q forest =
           elim (tree_cases image q forest tree) [
             | inl inner ↦
                 let own : leaf_weight file weight q ≡ 0 = ap (λ b. cond b (weight q) 0) (inner_no_leaf (page_at file q) inner.children inner.are) in
-                let each : sum_by f inner.children ≡ sum_by (weight_below file weight) inner.children = sum_same f (weight_below file weight) inner.children (λ c at.
+                let each : sum_by f inner.children ≡ sum_by (weight_below file weight) inner.children =
+                sum_same f (weight_below file weight) inner.children (λ c at.
                 ap (λ b. cond b (weight_below file weight c) 0) (child_is image q c inner.children forest inner.are at).tree) in
                 let below : weight_below file weight q ≡ sum_by (weight_below file weight) inner.children =
                 ap (sum_by weight) (leaves_of_inner image q inner.children forest inner.are) ∙ sum_parts weight (leaves file) inner.children in
@@ -294,14 +313,16 @@ child_names f QueueFile q page none = sym (ap (sum_by f) (none refl))
 
 -- the references of a page to children lead to the pages below it
 named_sum : (image : List ℕ) (f : ℕ → ℕ) (q : ℕ) → IsForest image → q ≤ (file_of image).last
-    → sum_by (λ (r : Reference). as_child f r.sort r.target) (refs (file_of image) q) ≡ sum_by f (unwrap_or (children_in (page_at (file_of image) q)) [])
+    → sum_by (λ (r : Reference). as_child f r.sort r.target) (refs (file_of image) q) ≡ sum_by f
+    (unwrap_or (children_in (page_at (file_of image) q)) [])
 named_sum image f q forest low =
     let file : File = file_of image in
     sum_refs (as_child f) file q
     ∙ child_names f file.kind q (page_at file q) (λ queue.
     elim (cases_Bool (is_tree file q)) [
       | inr other ↦ no_children (page_at file q) other
-      | inl tree ↦ absurd (no_queue image (head_of image) q forest.formed low (forest_page (page_at file q) tree (formed_at image q forest low)).0 queue)
+      | inl tree ↦ absurd (no_queue image (head_of image) q forest.formed low (forest_page (page_at file q) tree (formed_at image q forest low)).0
+          queue)
     ])
 
 pub target_inside : (file : File) (p : ℕ) (r : Reference) → fit_code file p r ≡ None → r.target ≤ file.last
@@ -320,7 +341,8 @@ split_sum image weight q forest low =
     let f : ℕ → ℕ = whole file weight in
     let held : List Reference = refs file q in
     let all : sum_by f (targets file q) ≡ sum_by (λ (r : Reference). f r.target) held = sum_map f (λ (r : Reference). r.target) held in
-    let each = sum_same (λ (r : Reference). f r.target) (λ (r : Reference). as_child f r.sort r.target + as_root f r.sort r.target) held (λ r at. named_parts image weight q r forest low at) in
+    let each = sum_same (λ (r : Reference). f r.target) (λ (r : Reference). as_child f r.sort r.target + as_root f r.sort r.target) held
+    (λ r at. named_parts image weight q r forest low at) in
     let two = sum_plus (λ (r : Reference). as_child f r.sort r.target) (λ (r : Reference). as_root f r.sort r.target) held in
     joined _ _ _ _ _ _ (all ∙ (each ∙ two)) (named_sum image f q forest low) (inner_parts image weight q forest)
   where
@@ -336,7 +358,8 @@ parts image weight forest =
     record {
       below = λ q x low at.
           let held : (r : Reference) × Contains (refs file q) r × (r.target ≡ x) = of_map (λ (r : Reference). r.target) (refs file q) x at in
-          let inside : held.0.target ≤ file.last = target_inside file q held.0 (each_fits file q held.0 sound.references (less q file.last low) held.1) in
+          let inside : held.0.target ≤ file.last =
+          target_inside file q held.0 (each_fits file q held.0 sound.references (less q file.last low) held.1) in
           within x held.0.target file.last held.2 inside;
       once = λ q low.
           elim (cases_Bool (is_tree file q)) [
@@ -366,7 +389,8 @@ sum_filter f test (x ∷ xs) =
           ap (sum_by f) kept ∙ omega (arith, sum_filter f test xs, sum_by-cons (λ y. cond (test y) (f y) 0) x xs)
     ]
 
-root_of : (file : File) (owner : Owner) (sort : Sort) → owner.reference.sort ≡ sort → Contains (all_references file) owner → is_root_reference sort ≡ true → IsRoot file owner.reference.target
+root_of : (file : File) (owner : Owner) (sort : Sort) → owner.reference.sort ≡ sort → Contains (all_references file) owner → is_root_reference sort
+    ≡ true → IsRoot file owner.reference.target
 root_of file owner Root same at is = inl (record { owner = owner; held = at; sort_is = same; target_is = refl })
 root_of file owner DuplicateRoot same at is = inr (record { owner = owner; held = at; sort_is = same; target_is = refl })
 root_of file owner sort same at is = absurd cc
@@ -383,13 +407,15 @@ leaves_are_of_trees image weight forest =
     let counted : sum_by (leaf_weight file weight) (pages file) ≡ sum_by entrances (pages file) =
     parts_are_entrances (file.last + 1) (targets file) f (leaf_weight file weight) entrances (parts image weight forest) in
     let held : sum_by entrances (pages file) ≡ sum_by (λ q. sum_by g (held_by file q)) (pages file) =
-    sum_same entrances (λ q. sum_by g (held_by file q)) (pages file) (λ q at. sym (sum_map g (λ r. record { holder = q; reference = r }) (refs file q))) in
+    sum_same entrances (λ q. sum_by g (held_by file q)) (pages file)
+    (λ q at. sym (sum_map g (λ r. record { holder = q; reference = r }) (refs file q))) in
     let all : sum_by (λ q. sum_by g (held_by file q)) (pages file) ≡ sum_by g (all_references file) = sym (sum_parts g (held_by file) (pages file)) in
     let trees : sum_by g (all_references file) ≡ sum_by (λ owner. cond (is_root owner) (below owner) 0) (all_references file) =
     sum_same g (λ owner. cond (is_root owner) (below owner) 0) (all_references file) (λ owner at.
     elim (cases_Bool (is_root owner)) [
       | inl is ↦
-          let tree : is_tree file owner.reference.target ≡ true = root_is_tree image owner.reference.target forest (root_of file owner owner.reference.sort refl at is) in
+          let tree : is_tree file owner.reference.target ≡ true =
+          root_is_tree image owner.reference.target forest (root_of file owner owner.reference.sort refl at is) in
           ap (λ b. cond b (f owner.reference.target) 0) is ∙ (ap (λ b. cond b (below owner) 0) tree ∙ sym (ap (λ b. cond b (below owner) 0) is))
       | inr other ↦ ap (λ b. cond b (f owner.reference.target) 0) other ∙ sym (ap (λ b. cond b (below owner) 0) other)
     ]) in

@@ -28,7 +28,8 @@ abbrev pub HashPagesAreOfBuckets : Type 0
 HashPagesAreOfBuckets =
     (image : List ℕ) (weight : ℕ → ℕ) → IsForest image → WeighsHash (file_of image) weight
     → sum_by weight (range_with_len 0 ((file_of image).last + 1))
-    ≡ sum_by (λ (owner : Owner). sum_by weight (chain (file_of image) owner.reference.target)) (filter (λ (owner : Owner). is_bucket owner.reference.sort) (all_references (file_of image)))
+    ≡ sum_by (λ (owner : Owner). sum_by weight (chain (file_of image) owner.reference.target))
+    (filter (λ (owner : Owner). is_bucket owner.reference.sort) (all_references (file_of image)))
 
 -- pairs in the order of their keys weigh the same
 abbrev pub SortedPairsWeighTheSame : Type 0
