@@ -4,7 +4,6 @@ pub mod Kept
 pub mod Links
 pub mod Marks
 pub mod Reads
-pub mod Salvage
 pub mod Slots
 pub mod Split
 pub mod Ways
