@@ -1,0 +1,20 @@
+-- What salvage reads of a sound file. Source: docs/FORMAT.md, "Salvage".
+use Rattle.std.specs.Prelude.{◌≡◌, ◌≤◌, ℕ, List, []}
+use Rattle.bdb_format.specs.declared.metadata.FileKind.TheVariants.{Queue}
+use Rattle.bdb_format.specs.File.{file_of, page_at}
+use Rattle.bdb_format.specs.HeadOf.{head_of}
+use Rattle.bdb_format.specs.Verdict.{structure_faults}
+use Rattle.bdb_graph.specs.Linked.{IsForest}
+use Rattle.bdb_whole.specs.Guessed.{guessed}
+
+-- no row of the first six stages holds, and the file is a btree or hash file
+pub record IsStructured (image : List ℕ) : Type 0 where
+  pub forest : IsForest image
+  pub structure : structure_faults (file_of image) ≡ []
+  pub kind : (head_of image).kind ≡ Queue → ⊥
+
+-- up to the last page, salvage reads the pages of a sound file
+abbrev pub SalvagedPagesAreThose : Type 0
+SalvagedPagesAreThose =
+    (image : List ℕ) (p : ℕ) → IsForest image → ((head_of image).kind ≡ Queue → ⊥) → p ≤ (file_of image).last
+    → page_at (guessed image) p ≡ page_at (file_of image) p
