@@ -1,2 +1,4 @@
 pub mod PageLemmas
 pub mod ChainLemmas
+pub mod AlikeLemmas
+pub mod ItemLemmas
