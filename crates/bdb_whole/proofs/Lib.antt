@@ -2,3 +2,4 @@ pub mod PageLemmas
 pub mod ChainLemmas
 pub mod AlikeLemmas
 pub mod ItemLemmas
+pub mod SetLemmas

@@ -59,7 +59,7 @@ salvaged_same : (order : Order) (page : List ℕ) → page_code order (four_at o
 unfolding salvaged_page
 salvaged_same order page none = ap (λ code. unless_code code (abstract_page order page)) none
 
-counted : (image : List ℕ) → (head_of image).pages ≡ length image / (head_of image).page_size
+pub counted : (image : List ℕ) → (head_of image).pages ≡ length image / (head_of image).page_size
 unfolding head_of
 counted image = refl
 

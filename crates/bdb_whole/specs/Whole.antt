@@ -1,11 +1,16 @@
 -- What salvage reads of a sound file. Source: docs/FORMAT.md, "Salvage".
-use Rattle.std.specs.Prelude.{◌≡◌, ◌≤◌, ℕ, List, []}
+use Rattle.std.specs.Prelude.{◌≡◌, ◌<◌, ◌≤◌, ℕ, List, []}
+use Rattle.std.specs.List.{All}
 use Rattle.bdb_format.specs.declared.metadata.FileKind.TheVariants.{Queue}
 use Rattle.bdb_format.specs.File.{file_of, page_at}
 use Rattle.bdb_format.specs.HeadOf.{head_of}
 use Rattle.bdb_format.specs.Verdict.{structure_faults}
 use Rattle.bdb_graph.specs.Linked.{IsForest}
 use Rattle.bdb_whole.specs.Guessed.{guessed}
+
+-- each number is a byte
+abbrev pub AreBytes : List ℕ → Type 0
+AreBytes bytes = All (λ (byte : ℕ). byte < 256) bytes
 
 -- no row of the first six stages holds, and the file is a btree or hash file
 pub record IsStructured (image : List ℕ) : Type 0 where
