@@ -3,3 +3,4 @@ pub mod ChainLemmas
 pub mod AlikeLemmas
 pub mod ItemLemmas
 pub mod SetLemmas
+pub mod PairLemmas
