@@ -4,3 +4,4 @@ pub mod AlikeLemmas
 pub mod ItemLemmas
 pub mod SetLemmas
 pub mod PairLemmas
+pub mod TakenLemmas

@@ -85,10 +85,10 @@ data_is image Unknown sound are whole sets = refl
 -- Pairs.
 
 -- the items of a page that holds pairs: no key is a set, each chain that they name is whole, each set fits
-record HasPairs (image : List ℕ) (page : Listed Item) : Type 0 where
-  sets : SetsAreData page.items
-  whole : (i : ℕ) → i < length page.items → NamesWhole (file_of image) (item_at page i).content
-  fit : (i root : ℕ) → i < length page.items → (item_at page i).content ≡ Tree root → FitsDupRoot (file_of image) root
+pub record HasPairs (image : List ℕ) (items : List Item) : Type 0 where
+  pub sets : SetsAreData items
+  pub whole : (i : ℕ) → i < length items → NamesWhole (file_of image) (get_or items i no_item).content
+  pub fit : (i root : ℕ) → i < length items → (get_or items i no_item).content ≡ Tree root → FitsDupRoot (file_of image) root
 
 -- what a live pair gives, by the key and the data that the file has
 abbrev pub given : File → StoredPair → List (List ℕ × List ℕ)
@@ -98,7 +98,14 @@ key_alone : (items : List Item) (i : ℕ) → SetsAreData items → 2 * i < leng
 key_alone items i sets below =
     elim (sets (2 * i) below) [ inl alone ↦ alone | inr odd ↦ absurd (omega (arith, odd)) ]
 
-pair_is : (image : List ℕ) (p : ℕ) (page : Listed Item) (shares : ℕ → Bool) (i : ℕ) → IsStructured image → AreBytes image → HasPairs image page
+-- each key is whole
+pub key_whole : (image : List ℕ) (items : List Item) (i : ℕ) → IsStructured image → HasPairs image items → 2 * i < length items
+    → whole_values (guessed image) (get_or items (2 * i) no_item).content ≡ value_of (file_of image) (get_or items (2 * i) no_item).content ∷ []
+key_whole image items i sound has below =
+    let content : Content = (get_or items (2 * i) no_item).content in
+    same_values image content sound ∙ alone_whole (file_of image) content (key_alone items i has.sets below) (has.whole (2 * i) below)
+
+pair_is : (image : List ℕ) (p : ℕ) (page : Listed Item) (shares : ℕ → Bool) (i : ℕ) → IsStructured image → AreBytes image → HasPairs image page.items
     → i < length page.items / 2 → stored_pair (guessed image) (pair_in page.items i) ≡ given (file_of image) (pair_at (file_of image) p page shares i)
 unfolding stored_pair
 pair_is image p page shares i sound are has below =
@@ -107,8 +114,7 @@ pair_is image p page shares i sound are has below =
     let value : Item = item_at page (2 * i + 1) in
     let first : 2 * i < length page.items = omega (arith, below) in
     let second : 2 * i + 1 < length page.items = omega (arith, below) in
-    let keys : whole_values (guessed image) key.content ≡ value_of file key.content ∷ [] =
-    same_values image key.content sound ∙ alone_whole file key.content (key_alone page.items i has.sets first) (has.whole (2 * i) first) in
+    let keys : whole_values (guessed image) key.content ≡ value_of file key.content ∷ [] = key_whole image page.items i sound has first in
     let data' : whole_data (guessed image) value.content ≡ data_of file value.content =
     data_is image value.content sound are (has.whole (2 * i + 1) second) (λ root is. has.fit (2 * i + 1) root second is) in
     let pairs : List ℕ → List (List ℕ) → List (List ℕ × List ℕ) = λ bytes values. map (λ v. (bytes, v)) values in
@@ -125,7 +131,7 @@ flat_map-map : {X Y Z : Type 0} (f : Y → List Z) (g : X → Y) (xs : List X) �
 flat_map-map f g [] = refl
 flat_map-map f g (x ∷ xs) = ap (λ zs. f (g x) ++ zs) (flat_map-map f g xs)
 
-all_pairs : (image : List ℕ) (p : ℕ) (page : Listed Item) (shares : ℕ → Bool) → IsStructured image → AreBytes image → HasPairs image page
+all_pairs : (image : List ℕ) (p : ℕ) (page : Listed Item) (shares : ℕ → Bool) → IsStructured image → AreBytes image → HasPairs image page.items
     → flat_map (stored_pair (guessed image)) (map (pair_in page.items) (range_with_len 0 (length page.items / 2)))
     ≡ flat_map (given (file_of image)) (map (pair_at (file_of image) p page shares) (range_with_len 0 (length page.items / 2)))
 all_pairs image p page shares sound are has =
@@ -136,7 +142,7 @@ all_pairs image p page shares sound are has =
     ∙ sym (flat_map-map (given (file_of image)) (pair_at (file_of image) p page shares) places))
 
 leaf_pairs : (image : List ℕ) (p : ℕ) (page : Listed Item) → IsStructured image → p ≤ (file_of image).last → page_at (file_of image) p ≡ Leaf page
-    → HasPairs image page
+    → HasPairs image page.items
 leaf_pairs image p page sound low is =
     let formed : IsFormedPage (Leaf page) = subst IsFormedPage is (formed_at image p sound.forest low) in
     record {
@@ -146,7 +152,7 @@ leaf_pairs image p page sound low is =
     }
 
 hash_pairs : (image : List ℕ) (p : ℕ) (page : Listed Item) → IsStructured image → p ≤ (file_of image).last → page_at (file_of image) p ≡ Hash page
-    → HasPairs image page
+    → HasPairs image page.items
 hash_pairs image p page sound low is =
     let formed : IsFormedPage (Hash page) = subst IsFormedPage is (formed_at image p sound.forest low) in
     record {
@@ -155,6 +161,15 @@ hash_pairs image p page sound low is =
           (in_map (λ (item : Item). item.content) page.items (item_at page i) (Contains-get_or page.items i no_item below));
       fit = λ i root below set. hash_dup_root image p i root page sound.forest low is below set;
     }
+
+-- each page's items are such, where it has any
+pub has_pairs : (image : List ℕ) (p : ℕ) → IsStructured image → p ≤ (file_of image).last → HasPairs image (paired_items (page_at (file_of image) p))
+has_pairs image p sound low = of (page_at (file_of image) p) refl
+  where
+    of : (page : Page) → page_at (file_of image) p ≡ page → HasPairs image (paired_items page)
+    of (Leaf page) is = leaf_pairs image p page sound low is
+    of (Hash page) is = hash_pairs image p page sound low is
+    of page is = record { sets = λ i below. absurd (omega arith); whole = λ i below. absurd (omega arith); fit = λ i root below set. absurd (omega arith) }
 
 page_pairs : (image : List ℕ) (p : ℕ) (page : Page) → IsStructured image → AreBytes image → p ≤ (file_of image).last → page_at (file_of image) p ≡ page
     → flat_map (stored_pair (guessed image)) (item_pairs page) ≡ flat_map (given (file_of image)) (pairs_in (file_of image) p page)
