@@ -1,7 +1,8 @@
-pub mod PageLemmas
-pub mod ChainLemmas
 pub mod AlikeLemmas
+pub mod ChainLemmas
 pub mod ItemLemmas
-pub mod SetLemmas
+pub mod KeptLemmas
+pub mod PageLemmas
 pub mod PairLemmas
+pub mod SetLemmas
 pub mod TakenLemmas

@@ -14,6 +14,7 @@ use Rattle.bdb_graph.specs.Linked.{FitsDupRoot}
 use Rattle.bdb_stored.specs.Salvage.{item_pairs, live_value, live_whole, pair_in, paired_items, stored_on, stored_pair, whole_data, whole_set, whole_values}
 use Rattle.bdb_tree.proofs.ShapeLemmas.{AreAlone, IsAlone, IsFormedPage, SetsAreData, formed_at}
 use Rattle.bdb_tree.proofs.TreeLemmas.{flat_map_same, hash_dup_root, leaf_dup_root, leaf_low, root_is_tree}
+use Rattle.bdb_census.specs.Databases.{given_on, given_pair}
 use Rattle.bdb_whole.specs.Guessed.{guessed}
 use Rattle.bdb_whole.specs.Whole.{AreBytes, IsStructured}
 use Rattle.bdb_whole.proofs.AlikeLemmas.{same_values, same_values_on}
@@ -90,10 +91,6 @@ pub record HasPairs (image : List ℕ) (items : List Item) : Type 0 where
   pub whole : (i : ℕ) → i < length items → NamesWhole (file_of image) (get_or items i no_item).content
   pub fit : (i root : ℕ) → i < length items → (get_or items i no_item).content ≡ Tree root → FitsDupRoot (file_of image) root
 
--- what a live pair gives, by the key and the data that the file has
-abbrev pub given : File → StoredPair → List (List ℕ × List ℕ)
-given file pair = if pair.live then map (λ value. (pair.key, value)) (data_of file pair.data_item) else []
-
 key_alone : (items : List Item) (i : ℕ) → SetsAreData items → 2 * i < length items → IsAlone (get_or items (2 * i) no_item).content
 key_alone items i sets below =
     elim (sets (2 * i) below) [ inl alone ↦ alone | inr odd ↦ absurd (omega (arith, odd)) ]
@@ -106,7 +103,7 @@ key_whole image items i sound has below =
     same_values image content sound ∙ alone_whole (file_of image) content (key_alone items i has.sets below) (has.whole (2 * i) below)
 
 pair_is : (image : List ℕ) (p : ℕ) (page : Listed Item) (shares : ℕ → Bool) (i : ℕ) → IsStructured image → AreBytes image → HasPairs image page.items
-    → i < length page.items / 2 → stored_pair (guessed image) (pair_in page.items i) ≡ given (file_of image) (pair_at (file_of image) p page shares i)
+    → i < length page.items / 2 → stored_pair (guessed image) (pair_in page.items i) ≡ given_pair (file_of image) (pair_at (file_of image) p page shares i)
 unfolding stored_pair
 pair_is image p page shares i sound are has below =
     let file : File = file_of image in
@@ -133,13 +130,13 @@ flat_map-map f g (x ∷ xs) = ap (λ zs. f (g x) ++ zs) (flat_map-map f g xs)
 
 all_pairs : (image : List ℕ) (p : ℕ) (page : Listed Item) (shares : ℕ → Bool) → IsStructured image → AreBytes image → HasPairs image page.items
     → flat_map (stored_pair (guessed image)) (map (pair_in page.items) (range_with_len 0 (length page.items / 2)))
-    ≡ flat_map (given (file_of image)) (map (pair_at (file_of image) p page shares) (range_with_len 0 (length page.items / 2)))
+    ≡ flat_map (given_pair (file_of image)) (map (pair_at (file_of image) p page shares) (range_with_len 0 (length page.items / 2)))
 all_pairs image p page shares sound are has =
     let places : List ℕ = range_with_len 0 (length page.items / 2) in
     flat_map-map (stored_pair (guessed image)) (pair_in page.items) places
-    ∙ (flat_map_same (λ i. stored_pair (guessed image) (pair_in page.items i)) (λ i. given (file_of image) (pair_at (file_of image) p page shares i)) places
+    ∙ (flat_map_same (λ i. stored_pair (guessed image) (pair_in page.items i)) (λ i. given_pair (file_of image) (pair_at (file_of image) p page shares i)) places
     (λ i at. pair_is image p page shares i sound are has (omega (arith, (of_range 0 (length page.items / 2) i at).1)))
-    ∙ sym (flat_map-map (given (file_of image)) (pair_at (file_of image) p page shares) places))
+    ∙ sym (flat_map-map (given_pair (file_of image)) (pair_at (file_of image) p page shares) places))
 
 leaf_pairs : (image : List ℕ) (p : ℕ) (page : Listed Item) → IsStructured image → p ≤ (file_of image).last → page_at (file_of image) p ≡ Leaf page
     → HasPairs image page.items
@@ -172,7 +169,7 @@ has_pairs image p sound low = of (page_at (file_of image) p) refl
     of page is = record { sets = λ i below. absurd (omega arith); whole = λ i below. absurd (omega arith); fit = λ i root below set. absurd (omega arith) }
 
 page_pairs : (image : List ℕ) (p : ℕ) (page : Page) → IsStructured image → AreBytes image → p ≤ (file_of image).last → page_at (file_of image) p ≡ page
-    → flat_map (stored_pair (guessed image)) (item_pairs page) ≡ flat_map (given (file_of image)) (pairs_in (file_of image) p page)
+    → flat_map (stored_pair (guessed image)) (item_pairs page) ≡ flat_map (given_pair (file_of image)) (pairs_in (file_of image) p page)
 page_pairs image p (Leaf page) sound are low is =
     all_pairs image p page (λ i. is_shared_key page.offsets (2 * i)) sound are (leaf_pairs image p page sound low is)
 page_pairs image p (Hash page) sound are low is = all_pairs image p page (λ i. false) sound are (hash_pairs image p page sound low is)
@@ -180,7 +177,7 @@ page_pairs image p page sound are low is = refl
 
 -- the pairs that salvage finds on a page are those that the page has, with all their data
 pub stored_is : (image : List ℕ) (p : ℕ) → IsStructured image → AreBytes image → p ≤ (file_of image).last
-    → stored_on (guessed image) p ≡ flat_map (given (file_of image)) (pairs_of (file_of image) p)
+    → stored_on (guessed image) p ≡ given_on (file_of image) p
 unfolding pairs_of
 stored_is image p sound are low =
     ap (λ page. flat_map (stored_pair (guessed image)) (item_pairs page)) (same_page image p sound.forest sound.kind low)
