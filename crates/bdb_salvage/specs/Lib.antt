@@ -1,5 +1,6 @@
 pub mod Entries
 pub mod Guesses
+pub mod KeepsAll
 pub mod Kept
 pub mod Links
 pub mod Marks

@@ -27,7 +27,8 @@ one_way file p (x ∷ xs) [] a b = absurd (a.1 b)
 one_way file p (x ∷ xs) (y ∷ ys) a b = omega (arith, one_way file (previous_of file p) xs ys a.2 b.2)
 
 -- a page on the way back has a way back of its own, no longer
-from_there : (file : File) (p q : ℕ) (xs : List ℕ) → LeadsBack file p xs → Contains xs q → (ys : List ℕ) × LeadsBack file q ys × (length ys ≤ length xs)
+from_there : (file : File) (p q : ℕ) (xs : List ℕ) → LeadsBack file p xs → Contains xs q
+    → (ys : List ℕ) × LeadsBack file q ys × (length ys ≤ length xs)
 from_there file p q [] back at = absurd (no_member [] q refl at)
 from_there file p q (x ∷ xs) back at =
     elim (member_cases x xs q at) [
@@ -44,7 +45,8 @@ not_behind file before p xs back names some at =
 
 not_in : (x : ℕ) (ys : List ℕ) → (Contains ys x → ⊥) → NotIn x ys
 not_in x [] out = tt
-not_in x (y ∷ ys) out = (λ same. out (subst (λ z. Contains (y ∷ ys) z) (sym same) (first_member y ys)), not_in x ys (λ at. out (later_member y ys x at)))
+not_in x (y ∷ ys) out =
+    (λ same. out (subst (λ z. Contains (y ∷ ys) z) (sym same) (first_member y ys)), not_in x ys (λ at. out (later_member y ys x at)))
 
 -- what a link says
 record Links (file : File) (before p : ℕ) : Type 0 where
@@ -66,7 +68,8 @@ first_follows file test before p [] is = links file test before p (and_parts (is
 first_follows file test before p (q ∷ ps) is = links file test before p (and_parts (is_link file test before p) (follows file test p (q ∷ ps)) is).0
 
 -- pages that follow are distinct, and none of those behind
-distinct_from : (file : File) (test : Page → Bool) (before : ℕ) (behind ps : List ℕ) → LeadsBack file before behind → follows file test before ps ≡ true
+distinct_from : (file : File) (test : Page → Bool) (before : ℕ) (behind ps : List ℕ) → LeadsBack file before behind
+    → follows file test before ps ≡ true
     → AllDistinct ps × ((q : ℕ) → Contains ps q → Contains behind q → ⊥)
 distinct_from file test before behind [] back is = absurd cc
 distinct_from file test before behind (p ∷ []) back is =

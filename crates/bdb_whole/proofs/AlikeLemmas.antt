@@ -1,5 +1,5 @@
 -- What salvage reads of a sound file by next pages, pieces and items is what the file has.
-use Rattle.std.proofs.Common.{◌≡◌, ℕ, zero, suc, Bool, true, false, List, [], ◌∷◌, ◌++◌, length, map, refl, sym, ◌∙◌, ap}
+use Rattle.std.proofs.Common.{◌≡◌, ℕ, zero, suc, Bool, true, false, List, [], ◌∷◌, ◌++◌, length, map, refl, ◌∙◌, ap}
 use Rattle.std.specs.Prelude.{◌==◌, ◌&&◌, not, if◌then◌else◌}
 use Rattle.std.specs.List.{flat_map}
 use Rattle.bdb_format.specs.Chains.{chain, chain_in, joined, next_of, piece_in, pieces_of}
@@ -65,7 +65,8 @@ same_whole image head total sound =
     ap (λ b. b && length (joined (pieces_of (guessed image) head)) == total) (same_row image is_overflow head sound refl)
     ∙ ap (λ pieces. is_row (file_of image) is_overflow head && length (joined pieces) == total) (same_pieces image head sound)
 
-pub same_values : (image : List ℕ) (content : Content) → IsStructured image → whole_values (guessed image) content ≡ whole_values (file_of image) content
+pub same_values : (image : List ℕ) (content : Content) → IsStructured image
+    → whole_values (guessed image) content ≡ whole_values (file_of image) content
 unfolding whole_values
 same_values image (Inline bytes) sound = refl
 same_values image (Set blocks) sound = refl
@@ -87,4 +88,5 @@ pub same_values_on : (image : List ℕ) (p : ℕ) → IsStructured image → liv
 unfolding live_whole
 same_values_on image p sound =
     ap (flat_map (live_value (guessed image))) (seen_alike entries_in image p sound.forest sound.kind refl)
-    ∙ flat_same (live_value (guessed image)) (live_value (file_of image)) (entries_in (page_at (file_of image) p)) (λ item. same_live image item sound)
+    ∙ flat_same (live_value (guessed image)) (live_value (file_of image)) (entries_in (page_at (file_of image) p))
+    (λ item. same_live image item sound)

@@ -1,18 +1,16 @@
 -- Each chain that an item of a sound file names is whole: each page names the one before it, no page comes twice, and the total is right.
-use Rattle.std.proofs.Common.{◌≡◌, ◌⊎◌, ℕ, zero, suc, ◌+◌, ◌<◌, ◌≤◌, Bool, true, false, List, [], ◌∷◌, length, arith, refl, sym, ◌∙◌, ap, subst, inl, inr}
-use Rattle.std.specs.Prelude.{◌==◌, ◌&&◌, ◌||◌, not, nat_lt, Option, Some, None}
+use Rattle.std.proofs.Common.{◌≡◌, ◌⊎◌, ℕ, zero, suc, ◌+◌, ◌≤◌, Bool, true, false, List, [], ◌∷◌, length, arith, refl, sym, ◌∙◌, ap, subst, inl, inr}
+use Rattle.std.specs.Prelude.{◌==◌, ◌&&◌, not, nat_lt, Some, None}
 use Rattle.std.specs.List.{Contains}
 use Rattle.std.proofs.lemmas.Bool.{cases_Bool, cases_eq, eq-eqb, eqb-false, eqb-true, ltb-false, ne_eqb, not-false, or_parts}
 use Rattle.bdb_format.specs.declared.kinds.Order.{Order}
-use Rattle.bdb_format.specs.declared.metadata.FileKind.TheVariants.{Queue}
 use Rattle.bdb_format.specs.declared.references.Reference.{Reference}
-use Rattle.bdb_format.specs.declared.references.Sort.{Sort}
-use Rattle.bdb_format.specs.declared.references.Sort.TheVariants.{OverflowHead, OverflowNext}
-use Rattle.bdb_format.specs.Chains.{chain_in, chain_rows, chains_in, content_chains, is_wrong_length, joined, next_of, pieces_of}
+use Rattle.bdb_format.specs.declared.references.Sort.TheVariants.{OverflowNext}
+use Rattle.bdb_format.specs.Chains.{chain_in, chains_in, content_chains, is_wrong_length, joined, next_of, pieces_of}
 use Rattle.bdb_format.specs.File.{File, file_of, header_in, page_at, page_bytes, type_in}
 use Rattle.bdb_format.specs.HeadOf.{head_of}
 use Rattle.bdb_format.specs.Numbers.{byte_at}
-use Rattle.bdb_format.specs.Page.{Content, Chain, Page, Overflow, PageType, FreePage, HashPage, InternalPage, RecnoInternalPage, LeafPage, RecnoLeafPage, OverflowPage, HashMetaPage, BtreeMetaPage, QueueMetaPage, QueuePage, DupLeafPage, OtherPage}
+use Rattle.bdb_format.specs.Page.{Chain, Page, Overflow, PageType, FreePage, HashPage, InternalPage, RecnoInternalPage, LeafPage, RecnoLeafPage, OverflowPage, HashMetaPage, BtreeMetaPage, QueueMetaPage, QueuePage, DupLeafPage, OtherPage}
 use Rattle.bdb_format.specs.Reading.{abstract_page, is_zero, listed, page_as, page_type}
 use Rattle.bdb_format.specs.References.{asked_by, contents_in, fit_code, fit_rows, is_zero_page, has_type, refs, targets_in}
 use Rattle.bdb_format.specs.Verdict.{reference_faults, structure_faults, structure_rows}
@@ -111,7 +109,8 @@ head_on_chain image head forest is =
 abbrev next_reference : ℕ → Reference
 next_reference target = record { place = 0; sort = OverflowNext; target = target }
 
-next_target : (p : ℕ) (page : Page) → is_overflow page ≡ true → ((header_in page).next ≡ 0 → ⊥) → targets_in p page ≡ (OverflowNext, (header_in page).next) ∷ []
+next_target : (p : ℕ) (page : Page) → is_overflow page ≡ true → ((header_in page).next ≡ 0 → ⊥)
+    → targets_in p page ≡ (OverflowNext, (header_in page).next) ∷ []
 next_target p (Overflow header piece) is more = rw (ne_eqb header.next 0 more) refl
 next_target p page is more = absurd cc
 
@@ -144,7 +143,8 @@ not_zero p above = ap not (ne_eqb p 0 (λ is. omega arith))
 pub linked : (file : File) (test : Page → Bool) (before p : ℕ) → 1 ≤ p → test (page_at file p) ≡ true → (header_in (page_at file p)).previous ≡ before
     → is_link file test before p ≡ true
 linked file test before p above is back =
-    and_both (not (p == 0) && test (page_at file p)) ((header_in (page_at file p)).previous == before) (and_both (not (p == 0)) (test (page_at file p)) (not_zero p above) is)
+    and_both (not (p == 0) && test (page_at file p)) ((header_in (page_at file p)).previous == before)
+    (and_both (not (p == 0)) (test (page_at file p)) (not_zero p above) is)
     (eq-eqb (header_in (page_at file p)).previous before back)
 
 pub follows_last : (file : File) (test : Page → Bool) (before p : ℕ) → is_link file test before p ≡ true → next_of file p ≡ 0
@@ -161,7 +161,8 @@ pub turn_ends : (turns : ℕ) (file : File) (p : ℕ) → next_of file p ≡ 0 �
 unfolding chain_in
 turn_ends turns file p last = rw (eq-eqb (next_of file p) 0 last) refl
 
-pub turn_goes_on : (turns : ℕ) (file : File) (p : ℕ) → (next_of file p ≡ 0 → ⊥) → chain_in (suc turns) file p ≡ p ∷ chain_in turns file (next_of file p)
+pub turn_goes_on : (turns : ℕ) (file : File) (p : ℕ) → (next_of file p ≡ 0 → ⊥)
+    → chain_in (suc turns) file p ≡ p ∷ chain_in turns file (next_of file p)
 unfolding chain_in
 turn_goes_on turns file p more = rw (ne_eqb (next_of file p) 0 more) refl
 
@@ -190,7 +191,8 @@ row_or_long (suc turns) image before p sound on =
       | inr more ↦
           let on_next : OnChain file p next = next_on_chain image before p sound on more in
           elim (row_or_long turns image p next sound on_next) [
-            | inl row ↦ inl (ap (follows file is_overflow before) (turn_goes_on turns file p more) ∙ follows_more file is_overflow before p (chain_in turns file next) link row)
+            | inl row ↦ inl (ap (follows file is_overflow before) (turn_goes_on turns file p more)
+                ∙ follows_more file is_overflow before p (chain_in turns file next) link row)
             | inr long ↦
                 inr (record {
                   after = next ∷ long.after;
@@ -227,7 +229,8 @@ total_is image p head total sound low held =
 
 -- so each chain that a content of a page names is whole
 pub named_whole : (image : List ℕ) (p head total : ℕ) → IsStructured image → p ≤ (file_of image).last
-    → Contains (contents_in (page_at (file_of image) p)) (Chain head total) → FitsChain (file_of image) head → is_whole (file_of image) head total ≡ true
+    → Contains (contents_in (page_at (file_of image) p)) (Chain head total) → FitsChain (file_of image) head
+    → is_whole (file_of image) head total ≡ true
 unfolding is_whole
 named_whole image p head total sound low held fits =
     let file : File = file_of image in

@@ -3,8 +3,8 @@ use Rattle.std.proofs.Common.{◌≡◌, ℕ, zero, suc, ◌+◌, ◌-◌, ◌<�
 use Rattle.std.specs.Prelude.{if◌then◌else◌}
 use Rattle.std.specs.List.{count_by, flat_map, range_with_len, sum_by}
 use Rattle.std.proofs.lemmas.List.Sums.{sum_by-append, sum_by-cons}
-use Rattle.bdb_format.specs.Contents.{entries_in, live_values}
-use Rattle.bdb_format.specs.File.{File, file_of, page_at}
+use Rattle.bdb_format.specs.Contents.{entries_in}
+use Rattle.bdb_format.specs.File.{File, file_of}
 use Rattle.bdb_format.specs.HeadOf.{head_of}
 use Rattle.bdb_format.specs.Lists.{ListKey, BytesKey, NumberKey}
 use Rattle.bdb_format.proofs.ListLemmas.{range_more}
@@ -19,7 +19,7 @@ use Rattle.bdb_census.proofs.MetaLemmas.{sound_forest}
 use Rattle.bdb_census.proofs.PairLemmas.{pairs_are_of_databases}
 use Rattle.bdb_census.proofs.RecordLemmas.{records_are_of_databases}
 use Rattle.bdb_whole.specs.Guessed.{guessed}
-use Rattle.bdb_whole.specs.Kept.{IsSoundFile, KeepsLists, SoundFilesAreKept, on_pair, on_record}
+use Rattle.bdb_whole.specs.Kept.{SoundFilesAreKept, on_pair, on_record}
 use Rattle.bdb_whole.specs.Whole.{AreBytes, IsStructured}
 use Rattle.bdb_whole.proofs.PageLemmas.{counted, none_in_file, seen_alike}
 use Rattle.bdb_whole.proofs.PairLemmas.{live_is, stored_is}
@@ -34,7 +34,8 @@ sum_last f n =
     ∙ omega (arith, sum_by-append f (range_with_len 0 n) (n ∷ []), sum_by-cons f n [])
 
 -- where the rest gives nothing, a sum ends before it
-cut_at : (f : ℕ → ℕ) (n more : ℕ) → ((p : ℕ) → n ≤ p → p < n + more → f p ≡ 0) → sum_by f (range_with_len 0 (n + more)) ≡ sum_by f (range_with_len 0 n)
+cut_at : (f : ℕ → ℕ) (n more : ℕ) → ((p : ℕ) → n ≤ p → p < n + more → f p ≡ 0)
+    → sum_by f (range_with_len 0 (n + more)) ≡ sum_by f (range_with_len 0 n)
 cut_at f n zero none = ap (λ k. sum_by f (range_with_len 0 k)) (let same : n + 0 ≡ n = omega arith in same)
 cut_at f n (suc more) none =
     let same : n + suc more ≡ (n + more) + 1 = omega arith in
@@ -49,7 +50,13 @@ whole_sum image f sound none =
     let last : ℕ = (file_of image).last in
     let more : ℕ = (guessed image).count - (last + 1) in
     let same : (guessed image).count ≡ (last + 1) + more =
-    omega (arith, last_page image, formed_last image (head_of image) sound.forest.formed, counted image, count_is (head_of image).order (head_of image).page_size image) in
+    omega (
+      arith,
+      last_page image,
+      formed_last image (head_of image) sound.forest.formed,
+      counted image,
+      count_is (head_of image).order (head_of image).page_size image,
+    ) in
     ap (λ n. sum_by f (range_with_len 0 n)) same ∙ cut_at f (last + 1) more (λ p low high. none p (omega arith))
 
 -- what all pages give weighs what the pages of the file give
@@ -75,7 +82,8 @@ nothing_loose : (image : List ℕ) (p : ℕ) → IsStructured image → (file_of
 unfolding live_whole
 nothing_loose image p sound past =
     let none : live_whole (guessed image) p ≡ [] =
-    ap (flat_map (live_value (guessed image))) (seen_alike entries_in image p sound.forest sound.kind refl ∙ ap entries_in (none_in_file image p past)) in
+    ap (flat_map (live_value (guessed image)))
+    (seen_alike entries_in image p sound.forest sound.kind refl ∙ ap entries_in (none_in_file image p past)) in
     ap (λ values. if is_taken (guessed image) p then [] else values) none ∙ if_same (is_taken (guessed image) p)
   where
     if_same : (b : Bool) → ◌≡◌ {A = List (List ℕ)} (if b then [] else []) []

@@ -1,6 +1,6 @@
 -- The pages of a sound file are those that salvage reads; above the last page it reads none that hold something.
-use Rattle.std.proofs.Common.{◌≡◌, ◌⊎◌, ℕ, ◌+◌, ◌-◌, ◌*◌, ◌/◌, ◌<◌, ◌≤◌, Bool, true, false, List, [], ◌∷◌, map, length, take, drop, arith, refl, sym, ◌∙◌, ap, subst, inl, inr, true≢false}
-use Rattle.std.specs.Prelude.{◌==◌, Option, Some, None, not}
+use Rattle.std.proofs.Common.{◌≡◌, ◌⊎◌, ℕ, ◌+◌, ◌-◌, ◌/◌, ◌<◌, ◌≤◌, true, false, List, [], map, length, arith, refl, sym, ◌∙◌, ap, subst, inl, inr}
+use Rattle.std.specs.Prelude.{◌==◌, Option, None}
 use Rattle.std.specs.List.{range_with_len}
 use Rattle.std.proofs.lemmas.Bool.{cases_Bool, cases_lt, eqb-true, not-false}
 use Rattle.std.proofs.lemmas.List.{get_or_past}
@@ -39,7 +39,8 @@ own_number order p page some none =
     let identity : Option ℕ = first_row (identity_rows order page p is_tree_type) in
     let passed : code_by false identity (body_code order page (page_type (byte_at page 25))) ≡ None =
     subst (λ b. code_by b identity (body_code order page (page_type (byte_at page 25))) ≡ None) some none in
-    let rows = none_is_first_row (identity_rows order page p is_tree_type) (identity_none identity (body_code order page (page_type (byte_at page 25))) passed) in
+    let rows = none_is_first_row (identity_rows order page p is_tree_type)
+    (identity_none identity (body_code order page (page_type (byte_at page 25))) passed) in
     eqb-true (four_at order page 8) p (not-false (four_at order page 8 == p) rows.0)
 
 zero_code : (order : Order) (p : ℕ) (page : List ℕ) → is_zero page ≡ true → page_code order p page ≡ None
@@ -55,7 +56,8 @@ own_code order p page none =
       | inr some ↦ ap (λ n. page_code order n page) (own_number order p page some none) ∙ none
     ]
 
-salvaged_same : (order : Order) (page : List ℕ) → page_code order (four_at order page 8) page ≡ None → salvaged_page order page ≡ abstract_page order page
+salvaged_same : (order : Order) (page : List ℕ) → page_code order (four_at order page 8) page ≡ None
+    → salvaged_page order page ≡ abstract_page order page
 unfolding salvaged_page
 salvaged_same order page none = ap (λ code. unless_code code (abstract_page order page)) none
 
@@ -79,12 +81,15 @@ same_page image p forest kind low =
 -- The pages above the last.
 
 -- are zero pages
-tail_zero : (image : List ℕ) (p : ℕ) → IsForest image → (head_of image).last < p → p < (head_of image).pages → is_zero (page_bytes (head_of image) image p) ≡ true
+tail_zero : (image : List ℕ) (p : ℕ) → IsForest image → (head_of image).last < p → p < (head_of image).pages
+    → is_zero (page_bytes (head_of image) image p) ≡ true
 unfolding tail_faults
 tail_zero image p forest past there =
     let head : Head = head_of image in
-    let none : tail_faults image ≡ [] = (or_else_none (head_faults image) (tail_faults image) (none_within 1 2 image 1 forest.formed.form (omega arith) (omega arith))).1 in
-    let codes : holding (tail_rows head image p) ≡ [] = no_codes_at 1 (head.last + 1) (head.pages - (head.last + 1)) p (λ q. holding (tail_rows head image q)) none (omega arith) (omega arith) in
+    let none : tail_faults image ≡ [] =
+    (or_else_none (head_faults image) (tail_faults image) (none_within 1 2 image 1 forest.formed.form (omega arith) (omega arith))).1 in
+    let codes : holding (tail_rows head image p) ≡ [] =
+    no_codes_at 1 (head.last + 1) (head.pages - (head.last + 1)) p (λ q. holding (tail_rows head image q)) none (omega arith) (omega arith) in
     not-false (is_zero (page_bytes head image p)) (all_fail (tail_rows head image p) codes).0
 
 salvaged_zero : (order : Order) (page : List ℕ) → is_zero page ≡ true → salvaged_page order page ≡ Zero
@@ -94,17 +99,20 @@ salvaged_zero order page zeros =
 pub none_in_file : (image : List ℕ) (p : ℕ) → (file_of image).last < p → page_at (file_of image) p ≡ NoType
 unfolding file_of
 none_in_file image p past =
-    get_or_past (map (λ q. abstract_page (head_of image).order (page_bytes (head_of image) image q)) (range_with_len 0 ((head_of image).last + 1))) p NoType
-    (omega (arith, past, length-map-range_with_len (λ q. abstract_page (head_of image).order (page_bytes (head_of image) image q)) 0 ((head_of image).last + 1)))
+    let page : ℕ → Page = λ q. abstract_page (head_of image).order (page_bytes (head_of image) image q) in
+    let pages : ℕ = (head_of image).last + 1 in
+    get_or_past (map page (range_with_len 0 pages)) p NoType (omega (arith, past, length-map-range_with_len page 0 pages))
 
-above : (image : List ℕ) (p : ℕ) → IsForest image → (file_of image).last < p → (page_at (guessed image) p ≡ Zero) ⊎ (page_at (guessed image) p ≡ NoType)
+above : (image : List ℕ) (p : ℕ) → IsForest image → (file_of image).last < p
+    → (page_at (guessed image) p ≡ Zero) ⊎ (page_at (guessed image) p ≡ NoType)
 above image p forest past =
     let head : Head = head_of image in
     elim (cases_lt p (length image / head.page_size)) [
       | inr outside ↦ inr (page_past head.order head.page_size image p outside)
       | inl there ↦
           inl (page_is head.order head.page_size image p there
-          ∙ salvaged_zero head.order (page_bytes head image p) (tail_zero image p forest (omega (arith, past, last_page image)) (omega (arith, there, counted image))))
+          ∙ salvaged_zero head.order (page_bytes head image p)
+          (tail_zero image p forest (omega (arith, past, last_page image)) (omega (arith, there, counted image))))
     ]
 
 -- What is read off a page is the same in both files, where a zero page and none at all give the same.

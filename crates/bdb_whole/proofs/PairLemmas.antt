@@ -1,17 +1,17 @@
 -- What a pair of a sound file gives to salvage is what it gives to the list of its database.
 use Rattle.std.proofs.Common.{◌≡◌, ℕ, suc, ◌+◌, ◌*◌, ◌/◌, ◌<◌, ◌≤◌, Bool, true, false, List, [], ◌∷◌, ◌++◌, append-nil, length, map, get_or, arith, refl, sym, ◌∙◌, ap, subst, inl, inr}
-use Rattle.std.specs.Prelude.{◌%◌, not, if◌then◌else◌}
+use Rattle.std.specs.Prelude.{not, if◌then◌else◌}
 use Rattle.std.specs.List.{Contains, filter, flat_map, range_with_len}
 use Rattle.std.proofs.lemmas.List.Elements.{Contains-get_or}
 use Rattle.bdb_format.specs.Chains.{value_of}
-use Rattle.bdb_format.specs.Contents.{StoredPair, data_of, entries_in, live_values, pair_at, pairs_in, pairs_of}
+use Rattle.bdb_format.specs.Contents.{data_of, entries_in, live_values, pair_at, pairs_in, pairs_of}
 use Rattle.bdb_format.specs.File.{File, file_of, page_at}
 use Rattle.bdb_format.specs.Leaves.{leaves}
 use Rattle.bdb_format.specs.Page.{Content, Inline, Set, Chain, Tree, Unknown, Item, Listed, Page, Hash, Leaf, RecnoLeaf, DupLeaf}
-use Rattle.bdb_format.specs.References.{contents_in, is_shared_key, item_at, no_item}
+use Rattle.bdb_format.specs.References.{is_shared_key, item_at, no_item}
 use Rattle.bdb_format.proofs.MemberLemmas.{first_member, in_map, later_member, member_cases, no_member, of_range}
 use Rattle.bdb_graph.specs.Linked.{FitsDupRoot}
-use Rattle.bdb_stored.specs.Salvage.{item_pairs, live_value, live_whole, pair_in, paired_items, stored_on, stored_pair, whole_data, whole_set, whole_values}
+use Rattle.bdb_stored.specs.Salvage.{item_pairs, live_value, live_whole, pair_in, paired_items, stored_on, stored_pair, whole_data, whole_values}
 use Rattle.bdb_tree.proofs.ShapeLemmas.{AreAlone, IsAlone, IsFormedPage, SetsAreData, formed_at}
 use Rattle.bdb_tree.proofs.TreeLemmas.{flat_map_same, hash_dup_root, leaf_dup_root, leaf_low, root_is_tree}
 use Rattle.bdb_census.specs.Databases.{given_on, given_pair}
@@ -32,7 +32,8 @@ alone_of (x ∷ xs) item all at =
       | inr later ↦ alone_of xs item (λ i below. all (suc i) (omega arith)) later
     ]
 
-live_list : (file : File) (items : List Item) → ((item : Item) → Contains items item → whole_values file item.content ≡ value_of file item.content ∷ [])
+live_list : (file : File) (items : List Item)
+    → ((item : Item) → Contains items item → whole_values file item.content ≡ value_of file item.content ∷ [])
     → flat_map (live_value file) items ≡ map (λ (item : Item). value_of file item.content) (filter (λ (item : Item). not item.deleted) items)
 live_list file [] each = refl
 live_list file (item ∷ items) each =
@@ -46,7 +47,8 @@ live_list file (item ∷ items) each =
       | false ↦ refl
     ]))
 
-entries_whole : (image : List ℕ) (p : ℕ) (page : Page) (item : Item) → IsStructured image → p ≤ (file_of image).last → page_at (file_of image) p ≡ page
+entries_whole : (image : List ℕ) (p : ℕ) (page : Page) (item : Item) → IsStructured image → p ≤ (file_of image).last
+    → page_at (file_of image) p ≡ page
     → Contains (entries_in page) item → whole_values (file_of image) item.content ≡ value_of (file_of image) item.content ∷ []
 entries_whole image p (RecnoLeaf page) item sound low is at =
     let formed : IsFormedPage (RecnoLeaf page) = subst IsFormedPage is (formed_at image p sound.forest low) in
@@ -74,7 +76,8 @@ data_is : (image : List ℕ) (content : Content) → IsStructured image → AreB
 unfolding whole_data data_of
 data_is image (Inline bytes) sound are whole sets = refl
 data_is image (Set blocks) sound are whole sets = refl
-data_is image (Chain head total) sound are whole sets = same_values image (Chain head total) sound ∙ alone_whole (file_of image) (Chain head total) tt whole
+data_is image (Chain head total) sound are whole sets =
+    same_values image (Chain head total) sound ∙ alone_whole (file_of image) (Chain head total) tt whole
 data_is image (Tree root) sound are whole sets =
     let file : File = file_of image in
     let fits : FitsDupRoot file root = sets root refl in
@@ -103,7 +106,8 @@ key_whole image items i sound has below =
     same_values image content sound ∙ alone_whole (file_of image) content (key_alone items i has.sets below) (has.whole (2 * i) below)
 
 pair_is : (image : List ℕ) (p : ℕ) (page : Listed Item) (shares : ℕ → Bool) (i : ℕ) → IsStructured image → AreBytes image → HasPairs image page.items
-    → i < length page.items / 2 → stored_pair (guessed image) (pair_in page.items i) ≡ given_pair (file_of image) (pair_at (file_of image) p page shares i)
+    → i < length page.items / 2
+    → stored_pair (guessed image) (pair_in page.items i) ≡ given_pair (file_of image) (pair_at (file_of image) p page shares i)
 unfolding stored_pair
 pair_is image p page shares i sound are has below =
     let file : File = file_of image in
@@ -134,7 +138,8 @@ all_pairs : (image : List ℕ) (p : ℕ) (page : Listed Item) (shares : ℕ → 
 all_pairs image p page shares sound are has =
     let places : List ℕ = range_with_len 0 (length page.items / 2) in
     flat_map-map (stored_pair (guessed image)) (pair_in page.items) places
-    ∙ (flat_map_same (λ i. stored_pair (guessed image) (pair_in page.items i)) (λ i. given_pair (file_of image) (pair_at (file_of image) p page shares i)) places
+    ∙ (flat_map_same (λ i. stored_pair (guessed image) (pair_in page.items i))
+    (λ i. given_pair (file_of image) (pair_at (file_of image) p page shares i)) places
     (λ i at. pair_is image p page shares i sound are has (omega (arith, (of_range 0 (length page.items / 2) i at).1)))
     ∙ sym (flat_map-map (given_pair (file_of image)) (pair_at (file_of image) p page shares) places))
 
@@ -166,9 +171,14 @@ has_pairs image p sound low = of (page_at (file_of image) p) refl
     of : (page : Page) → page_at (file_of image) p ≡ page → HasPairs image (paired_items page)
     of (Leaf page) is = leaf_pairs image p page sound low is
     of (Hash page) is = hash_pairs image p page sound low is
-    of page is = record { sets = λ i below. absurd (omega arith); whole = λ i below. absurd (omega arith); fit = λ i root below set. absurd (omega arith) }
+    of page is = record {
+      sets = λ i below. absurd (omega arith);
+      whole = λ i below. absurd (omega arith);
+      fit = λ i root below set. absurd (omega arith);
+    }
 
-page_pairs : (image : List ℕ) (p : ℕ) (page : Page) → IsStructured image → AreBytes image → p ≤ (file_of image).last → page_at (file_of image) p ≡ page
+page_pairs : (image : List ℕ) (p : ℕ) (page : Page) → IsStructured image → AreBytes image → p ≤ (file_of image).last
+    → page_at (file_of image) p ≡ page
     → flat_map (stored_pair (guessed image)) (item_pairs page) ≡ flat_map (given_pair (file_of image)) (pairs_in (file_of image) p page)
 page_pairs image p (Leaf page) sound are low is =
     all_pairs image p page (λ i. is_shared_key page.offsets (2 * i)) sound are (leaf_pairs image p page sound low is)

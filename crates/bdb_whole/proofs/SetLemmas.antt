@@ -1,20 +1,20 @@
 -- Each set off the page of a sound file is whole: the way down fits, and its leaves are a whole row of pages of one type.
 use Rattle.std.proofs.Common.{append-nil}
-use Rattle.std.proofs.Common.{◌≡◌, ◌⊎◌, ℕ, zero, suc, ◌+◌, ◌-◌, ◌*◌, ◌<◌, ◌≤◌, Bool, true, false, cond, List, [], ◌∷◌, ◌++◌, length, get_or, take, drop, arith, refl, sym, ◌∙◌, ap, subst, inl, inr, true≢false}
-use Rattle.std.specs.Prelude.{◌==◌, ◌&&◌, ◌||◌, not, nat_lt, if◌then◌else◌, is_none, slice_get, Option, Some, None}
-use Rattle.std.specs.List.{All, Contains, flat_map}
-use Rattle.std.proofs.lemmas.Bool.{and_parts, cases_Bool, cases_lt, eq-eqb, eqb-true, le-ltb, ne_eqb, not-false}
+use Rattle.std.proofs.Common.{◌≡◌, ◌⊎◌, ℕ, zero, suc, ◌+◌, ◌-◌, ◌*◌, ◌<◌, ◌≤◌, Bool, true, false, cond, List, [], ◌∷◌, ◌++◌, length, get_or, drop, arith, refl, sym, ◌∙◌, ap, subst, inl, inr}
+use Rattle.std.specs.Prelude.{◌==◌, ◌&&◌, nat_lt, if◌then◌else◌, slice_get, Option, Some, None}
+use Rattle.std.specs.List.{Contains, flat_map}
+use Rattle.std.proofs.lemmas.Bool.{and_parts, cases_lt, eq-eqb, eqb-true, le-ltb, ne_eqb, not-false}
 use Rattle.std.proofs.lemmas.List.{get_or_past}
 use Rattle.std.proofs.lemmas.List.Elements.{All-drop, All-get_or, All-take}
 use Rattle.bdb_format.specs.declared.kinds.Order.{Order}
 use Rattle.bdb_format.specs.declared.references.Sort.{Sort}
-use Rattle.bdb_format.specs.declared.references.Sort.TheVariants.{Child, DuplicateRoot}
+use Rattle.bdb_format.specs.declared.references.Sort.TheVariants.{DuplicateRoot}
 use Rattle.bdb_format.specs.Chains.{chain, next_of}
 use Rattle.bdb_format.specs.File.{File, file_of, header_in, page_at, page_bytes, type_in}
 use Rattle.bdb_format.specs.HeadOf.{head_of}
-use Rattle.bdb_format.specs.Leaves.{LeafPlace, children_in, first_or_zero, is_wrong_leaf, is_wrong_link, leaf_places, leaves, places_from, wrong_leaf_types}
+use Rattle.bdb_format.specs.Leaves.{LeafPlace, children_in, is_wrong_leaf, is_wrong_link, leaf_places, leaves, places_from, wrong_leaf_types}
 use Rattle.bdb_format.specs.Numbers.{byte_at}
-use Rattle.bdb_format.specs.Page.{Item, Listed, Page, Zero, NoType, RecnoLeaf, DupLeaf, PageType, FreePage, HashPage, InternalPage, RecnoInternalPage, LeafPage, RecnoLeafPage, OverflowPage, HashMetaPage, BtreeMetaPage, QueueMetaPage, QueuePage, DupLeafPage, OtherPage}
+use Rattle.bdb_format.specs.Page.{Page, Zero, NoType, RecnoLeaf, DupLeaf, PageType, FreePage, HashPage, InternalPage, RecnoInternalPage, LeafPage, RecnoLeafPage, OverflowPage, HashMetaPage, BtreeMetaPage, QueueMetaPage, QueuePage, DupLeafPage, OtherPage}
 use Rattle.bdb_format.specs.Reading.{abstract_page, is_zero, listed, page_as, page_type}
 use Rattle.bdb_format.specs.References.{child_types, fit_code, has_type}
 use Rattle.bdb_format.specs.Verdict.{structure_faults, structure_rows}
@@ -26,14 +26,12 @@ use Rattle.bdb_format.proofs.VerdictLemmas.{AllFail, no_rows_at}
 use Rattle.bdb_graph.specs.Linked.{FitsDupRoot, FitsLeafPage, IsForest}
 use Rattle.bdb_graph.proofs.FirstLemmas.{formed_last}
 use Rattle.bdb_graph.proofs.HeldLemmas.{last_page, page_is}
-use Rattle.bdb_graph.proofs.LinkedLemmas.{target_inside}
-use Rattle.bdb_stored.specs.Salvage.{down, down_by, down_in, fits_below, follows, is_like, is_link, is_row, row_from, set_start, whole_set}
+use Rattle.bdb_stored.specs.Salvage.{down, down_by, down_in, fits_below, follows, is_like, is_row, row_from, set_start, whole_set}
 use Rattle.bdb_stored.proofs.PageLemmas.{last_is}
 use Rattle.bdb_tree.specs.Links.{pages_from}
-use Rattle.bdb_tree.specs.Trees.{IsRoot, IsTreePage}
+use Rattle.bdb_tree.specs.Trees.{IsTreePage}
 use Rattle.bdb_tree.proofs.BelongLemmas.{leaf_above, tree_above}
 use Rattle.bdb_tree.proofs.LinkLemmas.{all_pages}
-use Rattle.bdb_tree.proofs.ShapeLemmas.{IsInnerPage, IsLeafPage}
 use Rattle.bdb_tree.proofs.TreeLemmas.{HasTypeAt, IsChild, child_is, dup_leaf_page, inner_type, leaf_fits, leaf_low, leaves_of_inner, leaves_of_leaf, level, link_is_right, place_of_root, recno_leaf, recno_leaf_page, root_is_tree, tree_cases, tree_inside, tree_level}
 use Rattle.bdb_whole.specs.Guessed.{guessed}
 use Rattle.bdb_whole.specs.Whole.{AreBytes, IsStructured}
@@ -69,7 +67,8 @@ typed_level order page OtherPage = omega arith
 abstract_level : (order : Order) (page : List ℕ) → (header_in (abstract_page order page)).level ≤ byte_at page 24
 unfolding abstract_page
 abstract_level order page =
-    elim (is_zero page) as (λ b. (header_in (elim b [ true ↦ Zero | false ↦ page_as order page (page_type (byte_at page 25)) ])).level ≤ byte_at page 24) [
+    elim (is_zero page) as (λ b.
+    (header_in (elim b [ true ↦ Zero | false ↦ page_as order page (page_type (byte_at page 25)) ])).level ≤ byte_at page 24) [
       | true ↦ omega arith
       | false ↦ typed_level order page (page_type (byte_at page 25))
     ]
@@ -88,7 +87,14 @@ level_fits image p are low =
 
 below_last : (image : List ℕ) (p : ℕ) → IsForest image → p ≤ (file_of image).last → p ≤ (guessed image).last
 below_last image p forest low =
-    omega (arith, low, last_page image, formed_last image (head_of image) forest.formed, counted image, last_is (head_of image).order (head_of image).page_size image)
+    omega (
+      arith,
+      low,
+      last_page image,
+      formed_last image (head_of image) forest.formed,
+      counted image,
+      last_is (head_of image).order (head_of image).page_size image,
+    )
 
 -- each child fits as salvage asks
 child_fits : (image : List ℕ) (p child : ℕ) (children : List ℕ) → IsStructured image → children_in (page_at (file_of image) p) ≡ Some children
@@ -133,7 +139,8 @@ down_finds (suc n) image p sound tree few =
             is = down_turn n (guessed image) p None (here ∙ leaf.none);
             leaves_are = leaves_of_leaf file p leaf;
           }
-      | inl inner ↦ by_first inner.children inner.are inner.some here (λ c at. down_finds n image c sound (child_is image p c inner.children sound.forest inner.are at).tree
+      | inl inner ↦ by_first inner.children inner.are inner.some here
+          (λ c at. down_finds n image c sound (child_is image p c inner.children sound.forest inner.are at).tree
           (let child : IsChild file p c = child_is image p c inner.children sound.forest inner.are at in omega (arith, child.level, few)))
     ]
   where
@@ -181,13 +188,15 @@ row_of_places file test sort before p [] above like right =
     let links = and_parts ((header_in (page_at file p)).previous == before) ((header_in (page_at file p)).next == 0)
     (not-false _ (right (record { tree = sort; before = before; leaf = p; after = 0 }) (first_member _ []))) in
     follows_last file test before p
-    (linked file test before p (above p (first_member p [])) (like p (first_member p [])) (eqb-true (header_in (page_at file p)).previous before links.0))
+    (linked file test before p (above p (first_member p [])) (like p (first_member p []))
+    (eqb-true (header_in (page_at file p)).previous before links.0))
     (eqb-true (next_of file p) 0 links.1)
 row_of_places file test sort before p (q ∷ ps) above like right =
     let links = and_parts ((header_in (page_at file p)).previous == before) ((header_in (page_at file p)).next == q)
     (not-false _ (right (record { tree = sort; before = before; leaf = p; after = q }) (first_member _ (places_from sort p (q ∷ ps))))) in
     follows_more file test before p (q ∷ ps)
-    (linked file test before p (above p (first_member p (q ∷ ps))) (like p (first_member p (q ∷ ps))) (eqb-true (header_in (page_at file p)).previous before links.0))
+    (linked file test before p (above p (first_member p (q ∷ ps))) (like p (first_member p (q ∷ ps)))
+    (eqb-true (header_in (page_at file p)).previous before links.0))
     (row_of_places file test sort p q ps (λ r at. above r (later_member p (q ∷ ps) r at)) (λ r at. like r (later_member p (q ∷ ps) r at))
     (λ place at. right place (later_member _ (places_from sort p (q ∷ ps)) place at)))
 
@@ -202,7 +211,8 @@ keyed_leaf (suc n) image p q forest is keyed at =
     elim (tree_cases image p forest (tree_keyed (type_in (page_at file p)) keyed)) [
       | inr leaf ↦ subst (HasTypeAt file (3 ∷ 5 ∷ 12 ∷ [])) (only_member p q (subst (λ ls. Contains ls q) (leaves_of_leaf file p leaf) at)) keyed
       | inl inner ↦
-          let found = of_flat_map (leaves file) inner.children q (subst (λ ls. Contains ls q) (leaves_of_inner image p inner.children forest inner.are) at) in
+          let found = of_flat_map (leaves file) inner.children q
+          (subst (λ ls. Contains ls q) (leaves_of_inner image p inner.children forest inner.are) at) in
           let child : IsChild file p found.0 = child_is image p found.0 inner.children forest inner.are found.1 in
           keyed_leaf n image found.0 q forest (omega (arith, child.level, is))
           (of_type (λ type. has_type (3 ∷ 5 ∷ 12 ∷ []) type ≡ true) (child_types (page_at file p)) (type_in (page_at file found.0))
@@ -218,7 +228,8 @@ keyed_or_recno type has =
     (inl refl, (inr refl, (inl refl, (inr refl, (inl refl, tt))))) has
 
 -- no leaf of a set is one of pairs
-right_leaf : (image : List ℕ) (place : LeafPlace) → IsStructured image → place.leaf ≤ (file_of image).last → Contains (leaf_places (file_of image)) place
+right_leaf : (image : List ℕ) (place : LeafPlace) → IsStructured image → place.leaf ≤ (file_of image).last
+    → Contains (leaf_places (file_of image)) place
     → is_wrong_leaf (file_of image) place ≡ false
 unfolding structure_faults
 right_leaf image place sound low at =
@@ -296,7 +307,8 @@ unfolding pages_from
 next_leaves image root first others sound fits are =
     let file : File = file_of image in
     let leaf : FitsLeafPage file first =
-    leaf_fits image root first sound.forest (root_is_tree image root sound.forest (inr fits)) (subst (λ ls. Contains ls first) (sym are) (first_member first others)) in
+    leaf_fits image root first sound.forest (root_is_tree image root sound.forest (inr fits))
+    (subst (λ ls. Contains ls first) (sym are) (first_member first others)) in
     let some : (first == 0) ≡ false = ne_eqb first 0 (λ none. let above : 1 ≤ first = leaf_above image first sound.forest leaf in omega arith) in
     let all : elim (first == 0) [ true ↦ [] | false ↦ chain file first ] ≡ leaves file root =
     all_pages image root first sound.forest sound.structure (inr fits) (ap (λ ls. slice_get ls 0) are) in
@@ -323,11 +335,13 @@ set_whole image root sound are fits =
     (λ place held.
     let here : Contains (places_from DuplicateRoot 0 (leaves file root)) place =
     subst (λ ls. Contains (places_from DuplicateRoot 0 ls) place) (sym found.leaves_are) held in
-    link_is_right file place sound.structure (leaf_low image root place.leaf sound.forest tree (leaf_of_place DuplicateRoot 0 (leaves file root) place here))
+    link_is_right file place sound.structure
+    (leaf_low image root place.leaf sound.forest tree (leaf_of_place DuplicateRoot 0 (leaves file root) place here))
     (place_of_root file DuplicateRoot root place refl fits here)) in
     let next : chain file first ≡ leaves file root = next_leaves image root first found.others sound fits found.leaves_are in
     let row : is_row (guessed image) (is_like (page_at (guessed image) first)) first ≡ true =
-    ap (λ page. is_row (guessed image) (is_like page) first) (same_page image first sound.forest sound.kind (leaf_low image root first sound.forest tree at))
+    ap (λ page. is_row (guessed image) (is_like page) first)
+    (same_page image first sound.forest sound.kind (leaf_low image root first sound.forest tree at))
     ∙ (same_row image (is_like (page_at file first)) first sound (no_like (page_at file first))
     ∙ (ap (follows file (is_like (page_at file first)) 0) (next ∙ found.leaves_are) ∙ follow)) in
     record {
@@ -336,7 +350,8 @@ set_whole image root sound are fits =
       row = same_chain image first sound ∙ next;
     }
   where
-    leaf_of_place : (sort : Sort) (before : ℕ) (ps : List ℕ) (place : LeafPlace) → Contains (places_from sort before ps) place → Contains ps place.leaf
+    leaf_of_place : (sort : Sort) (before : ℕ) (ps : List ℕ) (place : LeafPlace) → Contains (places_from sort before ps) place
+        → Contains ps place.leaf
     leaf_of_place sort before [] place at = absurd (no_member [] place refl at)
     leaf_of_place sort before (p ∷ ps) place at =
         elim (member_cases _ (places_from sort p ps) place at) [

@@ -1,13 +1,13 @@
 -- The leaves that salvage takes as those of sets are the leaves of the sets of a sound file.
-use Rattle.std.proofs.Common.{◌≡◌, ℕ, ◌+◌, ◌*◌, ◌/◌, ◌<◌, ◌≤◌, true, List, [], ◌∷◌, ◌++◌, append-nil, length, map, get_or, arith, refl, sym, ◌∙◌, ap, subst, inl, inr}
+use Rattle.std.proofs.Common.{◌≡◌, ℕ, ◌+◌, ◌*◌, ◌/◌, ◌<◌, ◌≤◌, true, List, [], ◌∷◌, append-nil, length, get_or, arith, refl, sym, ◌∙◌, ap, subst, inl, inr}
 use Rattle.std.specs.Prelude.{◌==◌}
-use Rattle.std.specs.List.{Contains, flat_map, list_any, range_with_len}
+use Rattle.std.specs.List.{Contains, flat_map, range_with_len}
 use Rattle.std.proofs.lemmas.Bool.{cases_lt, eq-eqb, eqb-true}
 use Rattle.bdb_format.specs.Chains.{chain}
 use Rattle.bdb_format.specs.File.{file_of, page_at}
 use Rattle.bdb_format.specs.HeadOf.{head_of}
 use Rattle.bdb_format.specs.Leaves.{leaves}
-use Rattle.bdb_format.specs.Page.{Content, Inline, Set, Chain, Tree, Unknown, Item, Page, Zero, NoType, Leaf, Hash}
+use Rattle.bdb_format.specs.Page.{Content, Tree, Item, Page, Leaf, Hash}
 use Rattle.bdb_format.specs.References.{no_item}
 use Rattle.bdb_format.proofs.ListLemmas.{any_member, only_member, passes_here}
 use Rattle.bdb_format.proofs.MemberLemmas.{first_member, in_flat_map, in_map, in_range, no_member, of_flat_map, of_map, of_range}
@@ -31,10 +31,12 @@ same_items (Hash page) = refl
 same_items page = refl
 
 -- a whole set of a pair begins at its first leaf
-start_is : (image : List ℕ) (items : List Item) (i root : ℕ) (set : IsWholeSet image root) → IsStructured image → HasPairs image items → 2 * i + 1 < length items
+start_is : (image : List ℕ) (items : List Item) (i root : ℕ) (set : IsWholeSet image root) → IsStructured image → HasPairs image items
+    → 2 * i + 1 < length items
     → (get_or items (2 * i + 1) no_item).content ≡ Tree root → pair_start (guessed image) (pair_in items i) ≡ set.first ∷ []
 start_is image items i root set sound has below names =
-    ap (flat_map (λ (bytes : List ℕ). start_in (guessed image) (get_or items (2 * i + 1) no_item).content)) (key_whole image items i sound has (omega (arith, below)))
+    ap (flat_map (λ (bytes : List ℕ). start_in (guessed image) (get_or items (2 * i + 1) no_item).content))
+    (key_whole image items i sound has (omega (arith, below)))
     ∙ (append-nil (start_in (guessed image) (get_or items (2 * i + 1) no_item).content)
     ∙ (ap (start_in (guessed image)) names ∙ set.start))
 
@@ -53,13 +55,21 @@ taken_all image q sound are of =
     let start : pair_start (guessed image) (pair_in items pair.index) ≡ set.first ∷ [] =
     start_is image items pair.index of.root set sound (has_pairs image p sound pair.inside) below names in
     let there : p < (guessed image).count =
-    omega (arith, pair.inside, last_page image, formed_last image (head_of image) sound.forest.formed, counted image,
-    count_is (head_of image).order (head_of image).page_size image) in
+    omega (
+      arith,
+      pair.inside,
+      last_page image,
+      formed_last image (head_of image) sound.forest.formed,
+      counted image,
+      count_is (head_of image).order (head_of image).page_size image,
+    ) in
     let held : Contains (item_pairs (page_at (guessed image) p)) (pair_in items pair.index) =
     subst (λ pg. Contains (item_pairs pg) (pair_in items pair.index)) (sym (same_page image p sound.forest sound.kind pair.inside))
-    (in_map (pair_in items) (range_with_len 0 (length items / 2)) pair.index (in_range 0 (length items / 2) pair.index (omega arith) (omega (arith, below)))) in
+    (in_map (pair_in items) (range_with_len 0 (length items / 2)) pair.index
+    (in_range 0 (length items / 2) pair.index (omega arith) (omega (arith, below)))) in
     let begins : Contains (set_starts (guessed image)) set.first =
-    in_flat_map (λ r. flat_map (pair_start (guessed image)) (item_pairs (page_at (guessed image) r))) (range_with_len 0 (guessed image).count) p set.first
+    in_flat_map (λ r. flat_map (pair_start (guessed image)) (item_pairs (page_at (guessed image) r)))
+    (range_with_len 0 (guessed image).count) p set.first
     (in_range 0 (guessed image).count p (omega arith) (omega (arith, there)))
     (in_flat_map (pair_start (guessed image)) (item_pairs (page_at (guessed image) p)) (pair_in items pair.index) set.first held
     (subst (λ xs. Contains xs set.first) (sym start) (first_member set.first []))) in
@@ -84,7 +94,8 @@ start_of_pair : (image : List ℕ) (p i s : ℕ) → IsStructured image → AreB
 start_of_pair image p i s sound are low below at =
     let items : List Item = paired_items (page_at (file_of image) p) in
     let content : Content = (get_or items (2 * i + 1) no_item).content in
-    let found = of_flat_map (λ (bytes : List ℕ). start_in (guessed image) content) (whole_values (guessed image) (get_or items (2 * i) no_item).content) s at in
+    let found = of_flat_map (λ (bytes : List ℕ). start_in (guessed image) content)
+    (whole_values (guessed image) (get_or items (2 * i) no_item).content) s at in
     let start : IsStart image content s = named_start image content s found.2 in
     let has : HasPairs image items = has_pairs image p sound low in
     let fits : FitsDupRoot (file_of image) start.root = has.fit (2 * i + 1) start.root (omega (arith, below)) start.names in
@@ -99,7 +110,8 @@ taken_only image q sound are is =
     let leaf = any_member (λ leaf. leaf == q) (flat_map (chain (guessed image)) (set_starts (guessed image))) is in
     let row = of_flat_map (chain (guessed image)) (set_starts (guessed image)) leaf.0 leaf.1 in
     let s : ℕ = row.0 in
-    let page = of_flat_map (λ r. flat_map (pair_start (guessed image)) (item_pairs (page_at (guessed image) r))) (range_with_len 0 (guessed image).count) s row.1 in
+    let page = of_flat_map (λ r. flat_map (pair_start (guessed image)) (item_pairs (page_at (guessed image) r)))
+    (range_with_len 0 (guessed image).count) s row.1 in
     let p : ℕ = page.0 in
     let pair = of_flat_map (pair_start (guessed image)) (item_pairs (page_at (guessed image) p)) s page.2 in
     let here : Contains (item_pairs (page_at (file_of image) p)) pair.0 =
