@@ -1,5 +1,5 @@
 -- What salvage reads of a sound file by next pages, pieces and items is what the file has.
-use Rattle.std.proofs.Common.{◌≡◌, ℕ, zero, suc, Bool, true, false, List, [], ◌∷◌, ◌++◌, length, map, refl, ◌∙◌, ap}
+use Rattle.std.proofs.Common.{◌≡◌, ℕ, zero, suc, Bool, true, false, List, [], ◌∷◌, length, map, refl, ◌∙◌, ap}
 use Rattle.std.specs.Prelude.{◌==◌, ◌&&◌, not, if◌then◌else◌}
 use Rattle.std.specs.List.{flat_map}
 use Rattle.bdb_format.specs.Chains.{chain, chain_in, joined, next_of, piece_in, pieces_of}
@@ -7,6 +7,7 @@ use Rattle.bdb_format.specs.Contents.{entries_in}
 use Rattle.bdb_format.specs.File.{file_of, header_in, page_at}
 use Rattle.bdb_format.specs.Page.{Content, Inline, Set, Chain, Tree, Unknown, Item, Page, Zero, NoType}
 use Rattle.bdb_stored.specs.Salvage.{follows, is_link, is_overflow, is_row, is_whole, live_value, live_whole, whole_values}
+use Rattle.bdb_tree.proofs.TreeLemmas.{flat_map_same}
 use Rattle.bdb_whole.specs.Guessed.{guessed}
 use Rattle.bdb_whole.specs.Whole.{IsStructured}
 use Rattle.bdb_whole.proofs.PageLemmas.{same_count, seen_alike}
@@ -76,10 +77,6 @@ same_values image (Chain head total) sound =
 same_values image (Tree root) sound = refl
 same_values image Unknown sound = refl
 
-flat_same : {X Y : Type 0} (f g : X → List Y) (xs : List X) → ((x : X) → f x ≡ g x) → flat_map f xs ≡ flat_map g xs
-flat_same f g [] same = refl
-flat_same f g (x ∷ xs) same = ap (λ ys. ys ++ flat_map f xs) (same x) ∙ ap (λ ys. g x ++ ys) (flat_same f g xs same)
-
 same_live : (image : List ℕ) (item : Item) → IsStructured image → live_value (guessed image) item ≡ live_value (file_of image) item
 same_live image item sound = ap (λ values. if item.deleted then [] else values) (same_values image item.content sound)
 
@@ -88,5 +85,5 @@ pub same_values_on : (image : List ℕ) (p : ℕ) → IsStructured image → liv
 unfolding live_whole
 same_values_on image p sound =
     ap (flat_map (live_value (guessed image))) (seen_alike entries_in image p sound.forest sound.kind refl)
-    ∙ flat_same (live_value (guessed image)) (live_value (file_of image)) (entries_in (page_at (file_of image) p))
-    (λ item. same_live image item sound)
+    ∙ flat_map_same (live_value (guessed image)) (live_value (file_of image)) (entries_in (page_at (file_of image) p))
+    (λ item at. same_live image item sound)

@@ -9,8 +9,7 @@ use Rattle.bdb_format.specs.HeadOf.{head_of}
 use Rattle.bdb_format.specs.Lists.{ListKey, BytesKey, NumberKey}
 use Rattle.bdb_format.proofs.ListLemmas.{range_more}
 use Rattle.bdb_format.proofs.MemberLemmas.{of_range}
-use Rattle.bdb_graph.proofs.FirstLemmas.{formed_last}
-use Rattle.bdb_graph.proofs.HeldLemmas.{kind_is, last_page}
+use Rattle.bdb_graph.proofs.HeldLemmas.{kind_is}
 use Rattle.bdb_stored.specs.Salvage.{is_taken, item_pairs, live_value, live_whole, loose, loose_on, stored, stored_on, stored_pair}
 use Rattle.bdb_stored.proofs.PageLemmas.{count_is}
 use Rattle.bdb_census.specs.Databases.{IsSoundForest, all_lists, by_bytes, by_value, given_on, left_on}
@@ -21,7 +20,7 @@ use Rattle.bdb_census.proofs.RecordLemmas.{records_are_of_databases}
 use Rattle.bdb_whole.specs.Guessed.{guessed}
 use Rattle.bdb_whole.specs.Kept.{SoundFilesAreKept, on_pair, on_record}
 use Rattle.bdb_whole.specs.Whole.{AreBytes, IsStructured}
-use Rattle.bdb_whole.proofs.PageLemmas.{counted, none_in_file, seen_alike}
+use Rattle.bdb_whole.proofs.PageLemmas.{last_there, none_in_file, seen_alike}
 use Rattle.bdb_whole.proofs.PairLemmas.{live_is, stored_is}
 use Rattle.bdb_whole.proofs.TakenLemmas.{taken_is}
 
@@ -52,9 +51,7 @@ whole_sum image f sound none =
     let same : (guessed image).count ≡ (last + 1) + more =
     omega (
       arith,
-      last_page image,
-      formed_last image (head_of image) sound.forest.formed,
-      counted image,
+      last_there image sound.forest,
       count_is (head_of image).order (head_of image).page_size image,
     ) in
     ap (λ n. sum_by f (range_with_len 0 n)) same ∙ cut_at f (last + 1) more (λ p low high. none p (omega arith))

@@ -1,5 +1,5 @@
 -- The pages of a sound file are those that salvage reads; above the last page it reads none that hold something.
-use Rattle.std.proofs.Common.{◌≡◌, ◌⊎◌, ℕ, ◌+◌, ◌-◌, ◌/◌, ◌<◌, ◌≤◌, true, false, List, [], map, length, arith, refl, sym, ◌∙◌, ap, subst, inl, inr}
+use Rattle.std.proofs.Common.{◌≡◌, ◌⊎◌, ℕ, ◌+◌, ◌-◌, ◌/◌, ◌<◌, ◌≤◌, true, false, List, [], map, length, arith, sym, ◌∙◌, ap, subst, inl, inr}
 use Rattle.std.specs.Prelude.{◌==◌, Option, None}
 use Rattle.std.specs.List.{range_with_len}
 use Rattle.std.proofs.lemmas.Bool.{cases_Bool, cases_lt, eqb-true, not-false}
@@ -18,6 +18,7 @@ use Rattle.bdb_format.specs.Table.{first_row}
 use Rattle.bdb_format.specs.Verdict.{head_faults, holding, tail_faults, tail_rows}
 use Rattle.bdb_format.proofs.VerdictLemmas.{all_fail, no_codes_at, none_is_first_row, none_within, or_else_none}
 use Rattle.bdb_format.proofs.GraphLemmas.{zero_page}
+use Rattle.bdb_format.proofs.ReferenceLemmas.{count_is as pages_are}
 use Rattle.bdb_graph.specs.Linked.{IsForest}
 use Rattle.bdb_graph.proofs.CodeLemmas.{code_by}
 use Rattle.bdb_graph.proofs.FirstLemmas.{formed_last, formed_page}
@@ -61,9 +62,9 @@ salvaged_same : (order : Order) (page : List ℕ) → page_code order (four_at o
 unfolding salvaged_page
 salvaged_same order page none = ap (λ code. unless_code code (abstract_page order page)) none
 
-pub counted : (image : List ℕ) → (head_of image).pages ≡ length image / (head_of image).page_size
-unfolding head_of
-counted image = refl
+-- the last page is one of the whole pages of the image
+pub last_there : (image : List ℕ) → IsForest image → (file_of image).last < length image / (head_of image).page_size
+last_there image forest = omega (arith, last_page image, formed_last image (head_of image) forest.formed, pages_are image, count_is image)
 
 -- up to the last page salvage reads the pages of the file
 pub same_page : (image : List ℕ) (p : ℕ) → IsForest image → ((head_of image).kind ≡ Queue → ⊥) → p ≤ (file_of image).last
@@ -71,7 +72,7 @@ pub same_page : (image : List ℕ) (p : ℕ) → IsForest image → ((head_of im
 same_page image p forest kind low =
     let head : Head = head_of image in
     let inside : p ≤ head.last = omega (arith, low, last_page image) in
-    let there : p < length image / head.page_size = omega (arith, formed_last image head forest.formed, counted image) in
+    let there : p < length image / head.page_size = omega (arith, low, last_there image forest) in
     let code : page_code head.order p (page_bytes head image p) ≡ None =
     forest_code head p (page_bytes head image p) kind (formed_page image p forest.formed.form inside) in
     page_is head.order head.page_size image p there
@@ -112,7 +113,7 @@ above image p forest past =
       | inl there ↦
           inl (page_is head.order head.page_size image p there
           ∙ salvaged_zero head.order (page_bytes head image p)
-          (tail_zero image p forest (omega (arith, past, last_page image)) (omega (arith, there, counted image))))
+          (tail_zero image p forest (omega (arith, past, last_page image)) (omega (arith, there, pages_are image, count_is image))))
     ]
 
 -- What is read off a page is the same in both files, where a zero page and none at all give the same.

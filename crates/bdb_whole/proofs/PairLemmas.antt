@@ -3,6 +3,7 @@ use Rattle.std.proofs.Common.{◌≡◌, ℕ, suc, ◌+◌, ◌*◌, ◌/◌, �
 use Rattle.std.specs.Prelude.{not, if◌then◌else◌}
 use Rattle.std.specs.List.{Contains, filter, flat_map, range_with_len}
 use Rattle.std.proofs.lemmas.List.Elements.{Contains-get_or}
+use Rattle.std.proofs.lemmas.List.Folds.{flat_map-map}
 use Rattle.bdb_format.specs.Chains.{value_of}
 use Rattle.bdb_format.specs.Contents.{data_of, entries_in, live_values, pair_at, pairs_in, pairs_of}
 use Rattle.bdb_format.specs.File.{File, file_of, page_at}
@@ -127,10 +128,6 @@ pair_is image p page shares i sound are has below =
       | true ↦ refl
       | false ↦ refl
     ])))
-
-flat_map-map : {X Y Z : Type 0} (f : Y → List Z) (g : X → Y) (xs : List X) → flat_map f (map g xs) ≡ flat_map (λ x. f (g x)) xs
-flat_map-map f g [] = refl
-flat_map-map f g (x ∷ xs) = ap (λ zs. f (g x) ++ zs) (flat_map-map f g xs)
 
 all_pairs : (image : List ℕ) (p : ℕ) (page : Listed Item) (shares : ℕ → Bool) → IsStructured image → AreBytes image → HasPairs image page.items
     → flat_map (stored_pair (guessed image)) (map (pair_in page.items) (range_with_len 0 (length page.items / 2)))

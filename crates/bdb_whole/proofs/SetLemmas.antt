@@ -19,12 +19,10 @@ use Rattle.bdb_format.specs.Reading.{abstract_page, is_zero, listed, page_as, pa
 use Rattle.bdb_format.specs.References.{child_types, fit_code, has_type}
 use Rattle.bdb_format.specs.Verdict.{structure_faults, structure_rows}
 use Rattle.bdb_format.proofs.BoolLemmas.{second_false}
-use Rattle.bdb_format.proofs.MemberLemmas.{first_member, later_member, member_cases, no_member, none_passes, of_flat_map}
-use Rattle.bdb_format.proofs.ListLemmas.{only_member}
-use Rattle.bdb_format.proofs.TypeLemmas.{keyed_below, of_type, tree_keyed}
+use Rattle.bdb_format.proofs.MemberLemmas.{first_member, later_member, member_cases, no_member, none_passes}
+use Rattle.bdb_format.proofs.TypeLemmas.{of_type}
 use Rattle.bdb_format.proofs.VerdictLemmas.{AllFail, no_rows_at}
 use Rattle.bdb_graph.specs.Linked.{FitsDupRoot, FitsLeafPage, IsForest}
-use Rattle.bdb_graph.proofs.FirstLemmas.{formed_last}
 use Rattle.bdb_graph.proofs.HeldLemmas.{last_page, page_is}
 use Rattle.bdb_stored.specs.Salvage.{down, down_by, down_in, fits_below, follows, is_like, is_row, row_from, set_start, whole_set}
 use Rattle.bdb_stored.proofs.PageLemmas.{last_is}
@@ -32,12 +30,13 @@ use Rattle.bdb_tree.specs.Links.{pages_from}
 use Rattle.bdb_tree.specs.Trees.{IsTreePage}
 use Rattle.bdb_tree.proofs.BelongLemmas.{leaf_above, tree_above}
 use Rattle.bdb_tree.proofs.LinkLemmas.{all_pages}
-use Rattle.bdb_tree.proofs.TreeLemmas.{HasTypeAt, IsChild, child_is, dup_leaf_page, inner_type, leaf_fits, leaf_low, leaves_of_inner, leaves_of_leaf, level, link_is_right, place_of_root, recno_leaf, recno_leaf_page, root_is_tree, tree_cases, tree_inside, tree_level}
+use Rattle.bdb_tree.proofs.TreeLemmas.{IsChild, child_is, dup_leaf_page, inner_type, leaf_fits, leaf_low, leaves_of_inner, leaves_of_leaf, level, link_is_right, place_of_root, recno_leaf, recno_leaf_page, root_is_tree, tree_cases, tree_inside, tree_level}
+use Rattle.bdb_census.proofs.LeafLemmas.{keyed_leaf}
 use Rattle.bdb_whole.specs.Guessed.{guessed}
 use Rattle.bdb_whole.specs.Whole.{AreBytes, IsStructured}
 use Rattle.bdb_whole.proofs.AlikeLemmas.{same_chain, same_row}
 use Rattle.bdb_whole.proofs.ChainLemmas.{follows_last, follows_more, linked}
-use Rattle.bdb_whole.proofs.PageLemmas.{counted, same_page}
+use Rattle.bdb_whole.proofs.PageLemmas.{last_there, same_page}
 
 -- Levels are bytes.
 
@@ -90,9 +89,7 @@ below_last image p forest low =
     omega (
       arith,
       low,
-      last_page image,
-      formed_last image (head_of image) forest.formed,
-      counted image,
+      last_there image forest,
       last_is (head_of image).order (head_of image).page_size image,
     )
 
@@ -201,24 +198,6 @@ row_of_places file test sort before p (q ∷ ps) above like right =
     (λ place at. right place (later_member _ (places_from sort p (q ∷ ps)) place at)))
 
 -- The types of leaves of a set.
-
-keyed_leaf : (n : ℕ) (image : List ℕ) (p q : ℕ) → IsForest image → level (file_of image) p ≡ n → HasTypeAt (file_of image) (3 ∷ 5 ∷ 12 ∷ []) p
-    → Contains (leaves (file_of image) p) q → HasTypeAt (file_of image) (3 ∷ 5 ∷ 12 ∷ []) q
-keyed_leaf zero image p q forest is keyed at =
-    absurd (omega (arith, is, tree_level image p forest (tree_keyed (type_in (page_at (file_of image) p)) keyed)))
-keyed_leaf (suc n) image p q forest is keyed at =
-    let file : File = file_of image in
-    elim (tree_cases image p forest (tree_keyed (type_in (page_at file p)) keyed)) [
-      | inr leaf ↦ subst (HasTypeAt file (3 ∷ 5 ∷ 12 ∷ [])) (only_member p q (subst (λ ls. Contains ls q) (leaves_of_leaf file p leaf) at)) keyed
-      | inl inner ↦
-          let found = of_flat_map (leaves file) inner.children q
-          (subst (λ ls. Contains ls q) (leaves_of_inner image p inner.children forest inner.are) at) in
-          let child : IsChild file p found.0 = child_is image p found.0 inner.children forest inner.are found.1 in
-          keyed_leaf n image found.0 q forest (omega (arith, child.level, is))
-          (of_type (λ type. has_type (3 ∷ 5 ∷ 12 ∷ []) type ≡ true) (child_types (page_at file p)) (type_in (page_at file found.0))
-          (keyed_below (page_at file p) inner.children keyed inner.are) child.type)
-          found.2
-    ]
 
 -- a page of a tree is one of pairs and sorted data, or one of records
 keyed_or_recno : (type : Option ℕ) → has_type (3 ∷ 4 ∷ 5 ∷ 6 ∷ 12 ∷ []) type ≡ true

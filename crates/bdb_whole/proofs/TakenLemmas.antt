@@ -12,8 +12,6 @@ use Rattle.bdb_format.specs.References.{no_item}
 use Rattle.bdb_format.proofs.ListLemmas.{any_member, only_member, passes_here}
 use Rattle.bdb_format.proofs.MemberLemmas.{first_member, in_flat_map, in_map, in_range, no_member, of_flat_map, of_map, of_range}
 use Rattle.bdb_graph.specs.Linked.{FitsDupRoot}
-use Rattle.bdb_graph.proofs.FirstLemmas.{formed_last}
-use Rattle.bdb_graph.proofs.HeldLemmas.{last_page}
 use Rattle.bdb_stored.specs.Salvage.{ItemPair, is_taken, item_pairs, pair_in, pair_start, paired_items, set_start, set_starts, start_in, whole_values}
 use Rattle.bdb_stored.proofs.PageLemmas.{count_is}
 use Rattle.bdb_tree.specs.Noted.{paired}
@@ -21,7 +19,7 @@ use Rattle.bdb_census.specs.Databases.{IsOfSet, IsOfSets, IsSetOfPair}
 use Rattle.bdb_census.proofs.SetLemmas.{sets_are_of_pairs}
 use Rattle.bdb_whole.specs.Guessed.{guessed}
 use Rattle.bdb_whole.specs.Whole.{AreBytes, IsStructured}
-use Rattle.bdb_whole.proofs.PageLemmas.{counted, none_in_file, same_page, seen_alike}
+use Rattle.bdb_whole.proofs.PageLemmas.{last_there, none_in_file, same_page, seen_alike}
 use Rattle.bdb_whole.proofs.PairLemmas.{HasPairs, has_pairs, key_whole}
 use Rattle.bdb_whole.proofs.SetLemmas.{IsWholeSet, set_whole}
 
@@ -58,9 +56,7 @@ taken_all image q sound are of =
     omega (
       arith,
       pair.inside,
-      last_page image,
-      formed_last image (head_of image) sound.forest.formed,
-      counted image,
+      last_there image sound.forest,
       count_is (head_of image).order (head_of image).page_size image,
     ) in
     let held : Contains (item_pairs (page_at (guessed image) p)) (pair_in items pair.index) =
