@@ -101,7 +101,7 @@ no_pairs_in_set image root q sound is at =
 -- Databases.
 
 -- a leaf below a page of keys has keys
-keyed_leaf : (levels : ℕ) (image : List ℕ) (p q : ℕ) → IsForest image → level (file_of image) p ≡ levels
+pub keyed_leaf : (levels : ℕ) (image : List ℕ) (p q : ℕ) → IsForest image → level (file_of image) p ≡ levels
     → HasTypeAt (file_of image) (3 ∷ 5 ∷ 12 ∷ []) p
     → Contains (leaves (file_of image) p) q → HasTypeAt (file_of image) (3 ∷ 5 ∷ 12 ∷ []) q
 keyed_leaf zero image p q forest is keyed at =
