@@ -10,7 +10,7 @@ use Rattle.bdb_format.specs.Page.{Content, Inline, Set, Chain, Tree, Unknown, It
 use Rattle.bdb_salvage.specs.declared.kept.DataPlace.{DataPlace}
 use Rattle.bdb_salvage.specs.declared.kept.DataPlace.TheVariants.{Here}
 use Rattle.bdb_salvage.specs.Kept.{IsKeptPair, IsKeptValue, data_places, is_held, is_valued, kept_in, kept_on, kept_pair, kept_pairs, kept_value, kept_values, slot_at, slots_in, values_in, values_on}
-use Rattle.bdb_salvage.specs.Salvage.{is_taken, is_whole, paired_items}
+use Rattle.bdb_stored.specs.Salvage.{is_taken, is_whole, paired_items}
 use Rattle.bdb_salvage.proofs.ListLemmas.{all_none, all_one, all_pieces}
 use Rattle.bdb_salvage.proofs.StoredLemmas.{AreOn, place_of}
 

@@ -6,7 +6,7 @@ use Rattle.bdb_format.specs.File.{File}
 use Rattle.bdb_salvage.specs.declared.kept.KeptPair.{KeptPair}
 use Rattle.bdb_salvage.specs.declared.kept.KeptValue.{KeptValue}
 use Rattle.bdb_salvage.specs.Kept.{IsKeptPair, IsKeptValue, given_live, given_loose, left_of, pairs_left, value_at, values_left, values_on}
-use Rattle.bdb_salvage.specs.Salvage.{live_whole}
+use Rattle.bdb_stored.specs.Salvage.{live_whole}
 use Rattle.bdb_salvage.proofs.KeptLemmas.{all_on}
 use Rattle.bdb_salvage.proofs.ListLemmas.{all_first, all_rest}
 use Rattle.bdb_salvage.proofs.LooseLemmas.{leaf_values}

@@ -4,6 +4,7 @@ pub mod WalkLemmas
 pub mod ChainLemmas
 pub mod WholeLemmas
 pub mod SurveyLemmas
+pub mod ToldLemmas
 pub mod WayLemmas
 pub mod ListLemmas
 pub mod StoredLemmas

@@ -12,7 +12,7 @@ use Rattle.bdb_format.specs.File.{File, page_at}
 use Rattle.bdb_format.specs.Page.{Item, Page, Zero, Free, Meta, Hash, Internal, RecnoInternal, Leaf, RecnoLeaf, DupLeaf, Overflow, Queue, NoType}
 use Rattle.bdb_format.specs.References.{no_item}
 use Rattle.bdb_salvage.specs.Kept.{given_loose, is_valued, kept_value, kept_values, slot_at, slots_in, value_at, values_in, values_on}
-use Rattle.bdb_salvage.specs.Salvage.{is_taken, live_value, live_whole, loose, loose_on}
+use Rattle.bdb_stored.specs.Salvage.{is_taken, live_value, live_whole, loose, loose_on}
 use Rattle.bdb_salvage.proofs.ListLemmas.{flat_map_alike, flat_map_none, map_of_pieces}
 use Rattle.bdb_salvage.proofs.StoredLemmas.{AreOn, values_are}
 

@@ -18,7 +18,7 @@ use Rattle.bdb_salvage.specs.declared.kept.DataPlace.TheVariants.{Here, Set as O
 use Rattle.bdb_salvage.specs.declared.kept.KeptPair.{KeptPair}
 use Rattle.bdb_salvage.specs.Kept.{data_places, is_valued, kept_in, kept_on, kept_pair, kept_pairs, slot_at}
 use Rattle.bdb_salvage.specs.Marks.{Marks, is_among, leaf_in, leaves_from, row_of, start_of, starts_of, unless_zero}
-use Rattle.bdb_salvage.specs.Salvage.{ItemPair, down, follows, is_like, is_link, is_row, is_whole, item_pairs, pair_in, pair_start, paired_items, row_from, set_start, set_starts, start_in, whole_values}
+use Rattle.bdb_stored.specs.Salvage.{ItemPair, down, follows, is_like, is_link, is_row, is_whole, item_pairs, pair_in, pair_start, paired_items, row_from, set_start, set_starts, start_in, whole_values}
 use Rattle.bdb_salvage.proofs.ListLemmas.{flat_map_alike}
 use Rattle.bdb_salvage.proofs.StoredLemmas.{append_nil, values_are}
 use Rattle.bdb_salvage.proofs.SurveyLemmas.{no_leaf}

@@ -1,12 +1,9 @@
 -- The pages that a guess reads.
-use Rattle.std.proofs.Common.{◌≡◌, ℕ, ◌*◌, ◌/◌, ◌^◌, ◌<◌, ◌≤◌, true, false, List, map, length, drop, arith, refl, sym, ◌∙◌, ap, length-drop, length-take}
-use Rattle.std.proofs.Common.{inl, inr, ◌-◌}
+use Rattle.std.proofs.Common.{◌≡◌, ℕ, ◌*◌, ◌/◌, ◌^◌, ◌<◌, ◌≤◌, true, false, List, length, drop, arith, refl, sym, ◌∙◌, ap, length-drop, length-take}
+use Rattle.std.proofs.Common.{inl, inr}
 use Rattle.std.proofs.lemmas.Bool.{cases_lt}
 use Rattle.std.specs.Prelude.{Option, Some, None, Result, Ok, Err}
-use Rattle.std.specs.List.{range_with_len}
 use Rattle.std.proofs.Math.Nat.{div-le_of_le-mul}
-use Rattle.std.proofs.lemmas.List.{get_or_past}
-use Rattle.std.proofs.lemmas.List.FromFn.{get_or-map-range_with_len, length-map-range_with_len}
 use Rattle.bdb_form.specs.declared.view.PageView.{PageView}
 use Rattle.bdb_form.specs.declared.view.PageView.TheVariants.{Zero as ZeroView, Free, Meta, Leaf, Internal, RecnoLeaf, RecnoInternal, DupLeaf, Hash, Overflow, Queue}
 use Rattle.bdb_form.specs.Formed.{MetaPage, QueuePage as QueueSeen}
@@ -25,11 +22,8 @@ use Rattle.bdb_graph.proofs.FormedLemmas.{size_bounds}
 use Rattle.bdb_overflow.specs.Whole.{bytes_of}
 use Rattle.bdb_overflow.proofs.WholeLemmas.{page_length}
 use Rattle.bdb_salvage.specs.Kept.{slots_in}
-use Rattle.bdb_salvage.specs.Salvage.{salvaged_file, salvaged_page, unless_code}
-
-pub count_is : (order : Order) (size : ℕ) (image : List ℕ) → (salvaged_file order size image).count ≡ length image / size
-unfolding salvaged_file Rattle.bdb_format.specs.File.file_as
-count_is order size image = refl
+use Rattle.bdb_stored.specs.Salvage.{salvaged_file, salvaged_page, unless_code}
+use Rattle.bdb_stored.proofs.PageLemmas.{page_is, page_past}
 
 pub size_some : (size : ℕ) → is_page_size size ≡ true → 512 ≤ size
 size_some size legal = (size_bounds size legal).0
@@ -42,16 +36,6 @@ few_pages n size large small = div-le_of_le-mul size (omega (arith, small, bound
 
 pub few : (n size : ℕ) → is_page_size size ≡ true → n ≤ 2 ^ 30 → n / size ≤ 2 ^ 21
 few n size legal small = few_pages n size (size_some size legal) small
-
-pub page_is : (order : Order) (size : ℕ) (image : List ℕ) (p : ℕ) → p < length image / size → page_at (salvaged_file order size image) p ≡ salvaged_page order (bytes_of size image p)
-unfolding salvaged_file
-page_is order size image p there = get_or-map-range_with_len (λ q. salvaged_page order (bytes_of size image q)) 0 (length image / size) p p NoType there (omega arith)
-
-pub page_past : (order : Order) (size : ℕ) (image : List ℕ) (p : ℕ) → length image / size ≤ p → page_at (salvaged_file order size image) p ≡ NoType
-unfolding salvaged_file
-page_past order size image p past =
-    get_or_past (map (λ q. salvaged_page order (bytes_of size image q)) (range_with_len 0 (length image / size))) p NoType
-    (omega (arith, length-map-range_with_len (λ q. salvaged_page order (bytes_of size image q)) 0 (length image / size)))
 
 -- The data on a page are no longer than a page.
 
@@ -127,10 +111,6 @@ pub answer_short : (size : ℕ) (order : Order) (image : List ℕ) (p : ℕ) (fi
 answer_short size order image p file is legal there page same =
     let eq : length (piece_in page) ≡ length (piece_in (page_at (salvaged_file order size image) p)) = ap (λ x. length (piece_in x)) (same ∙ ap (λ f. page_at f p) is) in
     omega (arith, eq, short_page order size image p legal there)
-
-pub last_is : (order : Order) (size : ℕ) (image : List ℕ) → (salvaged_file order size image).last ≡ length image / size - 1
-unfolding salvaged_file Rattle.bdb_format.specs.File.file_as
-last_is order size image = refl
 
 -- The header of a page that has one.
 

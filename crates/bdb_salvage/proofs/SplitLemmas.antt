@@ -15,10 +15,10 @@ use Rattle.bdb_format.specs.File.{File, page_at}
 use Rattle.bdb_format.specs.Page.{Item, NoType}
 use Rattle.bdb_salvage.specs.declared.kept.KeptValue.{KeptValue}
 use Rattle.bdb_salvage.specs.Kept.{is_valued, kept_value, kept_values, slot_at, values_in, values_on}
-use Rattle.bdb_salvage.specs.Salvage.{is_taken, salvaged_file}
+use Rattle.bdb_stored.specs.Salvage.{is_taken, salvaged_file}
 use Rattle.bdb_salvage.specs.Split.{AreBelow, AreFrom}
 use Rattle.bdb_salvage.proofs.ListLemmas.{all_none, all_one, all_pieces}
-use Rattle.bdb_salvage.proofs.PageLemmas.{count_is, page_past}
+use Rattle.bdb_stored.proofs.PageLemmas.{count_is, page_past}
 use Rattle.bdb_salvage.proofs.StoredLemmas.{append_nil}
 
 -- Where a test turns.

@@ -11,7 +11,7 @@ use Rattle.bdb_salvage.specs.declared.kept.DataPlace.{DataPlace}
 use Rattle.bdb_salvage.specs.declared.kept.DataPlace.TheVariants.{Set as OnLeaves}
 use Rattle.bdb_salvage.specs.declared.kept.KeptPair.{KeptPair}
 use Rattle.bdb_salvage.specs.Kept.{data_at, data_places, given, given_live, is_valued, item_of, kept_in, kept_on, kept_pair, kept_pairs, slot_at, under}
-use Rattle.bdb_salvage.specs.Salvage.{is_whole, item_pairs, live_whole, pair_in, paired_items, set_start, stored, stored_on, stored_pair, whole_data, whole_values}
+use Rattle.bdb_stored.specs.Salvage.{is_whole, item_pairs, live_whole, pair_in, paired_items, set_start, stored, stored_on, stored_pair, whole_data, whole_values}
 use Rattle.bdb_salvage.proofs.ListLemmas.{flat_map_alike, flat_map_none, map_of_pieces}
 
 pub append_nil : {X : Type 0} (xs : List X) → xs ++ [] ≡ xs

@@ -10,7 +10,7 @@ use Rattle.bdb_salvage.specs.declared.survey.Row.{Row}
 use Rattle.bdb_salvage.specs.declared.survey.Row.TheVariants.{Nothing}
 use Rattle.bdb_salvage.specs.Kept.{chain_row, is_chain_of, is_leaf_row, leaf_row, row_at, row_by}
 use Rattle.bdb_salvage.specs.Links.{link_in, link_of, row_length}
-use Rattle.bdb_salvage.specs.Salvage.{is_like, is_overflow, is_record_leaf, is_row, is_sorted_leaf, is_whole}
+use Rattle.bdb_stored.specs.Salvage.{is_like, is_overflow, is_record_leaf, is_row, is_sorted_leaf, is_whole}
 use Rattle.bdb_salvage.proofs.WalkLemmas.{rest_none, whole_is_rest}
 use Rattle.bdb_salvage.proofs.WholeLemmas.{no_row, not_whole, some_row, whole_by}
 

@@ -7,7 +7,7 @@ use Rattle.bdb_format.specs.File.{File, page_at}
 use Rattle.bdb_format.specs.Page.{Page}
 use Rattle.bdb_salvage.specs.declared.links.Link.{Link}
 use Rattle.bdb_salvage.specs.Links.{link_in, link_of, rest_length, row_length}
-use Rattle.bdb_salvage.specs.Salvage.{follows, is_link}
+use Rattle.bdb_stored.specs.Salvage.{follows, is_link}
 
 -- the length of the data of some pages
 abbrev pub size_of : File → List ℕ → ℕ

@@ -5,7 +5,7 @@ use Rattle.bdb_format.specs.Chains.{joined, pieces_of}
 use Rattle.bdb_format.specs.File.{File}
 use Rattle.bdb_format.specs.Page.{Page}
 use Rattle.bdb_salvage.specs.Links.{row_length}
-use Rattle.bdb_salvage.specs.Salvage.{is_overflow, is_row, is_whole}
+use Rattle.bdb_stored.specs.Salvage.{is_overflow, is_row, is_whole}
 
 none_case : (b : Bool) (n : ℕ) → cond b (Some n) None ≡ None → b ≡ false
 none_case true n none = absurd cc

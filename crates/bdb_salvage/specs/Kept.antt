@@ -15,7 +15,7 @@ use Rattle.bdb_salvage.specs.declared.kept.KeptValue.{KeptValue}
 use Rattle.bdb_salvage.specs.declared.survey.Row.{Row}
 use Rattle.bdb_salvage.specs.declared.survey.Row.TheVariants.{Nothing, Chain as ChainRow, Leaves}
 use Rattle.bdb_salvage.specs.Links.{row_length}
-use Rattle.bdb_salvage.specs.Salvage.{is_overflow, is_record_leaf, is_sorted_leaf, is_taken, is_whole, live_whole, paired_items, salvaged_file, set_start}
+use Rattle.bdb_stored.specs.Salvage.{is_overflow, is_record_leaf, is_sorted_leaf, is_taken, is_whole, live_whole, paired_items, salvaged_file, set_start}
 
 -- An image and how it's read.
 pub record Reading : Type 0 where

@@ -1,10 +1,10 @@
 pub mod Entries
 pub mod Guesses
+pub mod KeepsAll
 pub mod Kept
 pub mod Links
 pub mod Marks
 pub mod Reads
-pub mod Salvage
 pub mod Slots
 pub mod Split
 pub mod Ways

@@ -8,7 +8,7 @@ use Rattle.bdb_format.specs.Page.{Page, NoType}
 use Rattle.bdb_salvage.specs.declared.links.Link.{Link}
 use Rattle.bdb_salvage.specs.declared.links.RowKind.{RowKind}
 use Rattle.bdb_salvage.specs.declared.links.RowKind.TheVariants.{Overflow, Records, SortedData}
-use Rattle.bdb_salvage.specs.Salvage.{follows, is_overflow, is_record_leaf, is_row, is_sorted_leaf}
+use Rattle.bdb_stored.specs.Salvage.{follows, is_overflow, is_record_leaf, is_row, is_sorted_leaf}
 
 -- the page of a view; one without a type where there's none
 abbrev pub view_page : Option PageView → Page

@@ -6,7 +6,7 @@ ghost use Rattle.std.specs.List.{list_any};
 ghost use Rattle.bdb_format.specs.File.{header_in, page_at};
 ghost use Rattle.bdb_format.specs.References.{has_type};
 ghost use Rattle.bdb_salvage.specs.Kept.{listed_option};
-ghost use Rattle.bdb_salvage.specs.Salvage.{down, fits_below, set_start};
+ghost use Rattle.bdb_stored.specs.Salvage.{down, fits_below, set_start};
 ghost use Rattle.bdb_salvage.specs.Ways.{fits_as, plain_type, way_from};
 ghost use Rattle.bdb_salvage.specs.declared.down.Way.TheVariants.{Broken, Child};
 
@@ -165,7 +165,7 @@ fn down(pages: &WholePages<'_>, root: u32) -> Option<u32>
 }
 
 /// The first leaf of the set with this root, where the set is whole.
-#[tactic(auto, unfolding(crate::specs::Salvage::set_start))]
+#[tactic(auto, unfolding(bdb_stored::specs::Salvage::set_start))]
 pub(crate) fn set_start(survey: &Survey<'_>, root: u32) -> Option<u32>
     ensures { listed_option result ≡ set_start survey.now root }
 {

@@ -5,7 +5,7 @@ ghost use Rattle.bdb_format.specs.Chains.{chain};
 ghost use Rattle.std.specs.List.{flat_map};
 ghost use Rattle.bdb_salvage.specs.Kept.{kept_value, kept_values, listed_option, values_in};
 ghost use Rattle.bdb_salvage.specs.Marks.{Marks};
-ghost use Rattle.bdb_salvage.specs.Salvage.{set_starts};
+ghost use Rattle.bdb_stored.specs.Salvage.{set_starts};
 ghost use Rattle.bdb_salvage.specs.Slots.{slots_seen};
 
 use crate::kept::KeptValue;

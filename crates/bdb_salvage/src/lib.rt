@@ -9,6 +9,7 @@ mod guess;
 mod kept;
 mod kept_pairs;
 mod kept_values;
+pub mod laws;
 mod links;
 mod loose;
 mod pairs;

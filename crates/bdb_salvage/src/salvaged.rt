@@ -5,7 +5,7 @@ ghost use Rattle.bdb_format.specs.HeadOf.{is_page_size};
 ghost use Rattle.bdb_salvage.specs.Guesses.{chosen};
 ghost use Rattle.bdb_salvage.specs.Kept.{IsKeptValue, file_in, kept_pairs, kept_values, value_at, values_on};
 ghost use Rattle.bdb_overflow.specs.Datum.{datum_seen};
-ghost use Rattle.bdb_salvage.specs.Salvage.{loose, stored};
+ghost use Rattle.bdb_stored.specs.Salvage.{loose, stored};
 ghost use Rattle.bdb_salvage.specs.declared.error.SalvageError.TheVariants.{NoMeta};
 
 use crate::guess::chosen;

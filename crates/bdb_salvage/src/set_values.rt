@@ -4,7 +4,7 @@ ghost use Rattle.std.specs.List.{flat_map};
 ghost use Rattle.bdb_format.specs.Chains.{chain};
 ghost use Rattle.bdb_overflow.specs.Datum.{datum_seen};
 ghost use Rattle.bdb_salvage.specs.Kept.{file_in};
-ghost use Rattle.bdb_salvage.specs.Salvage.{live_whole};
+ghost use Rattle.bdb_stored.specs.Salvage.{live_whole};
 
 use crate::Salvaged;
 use crate::places::ValuePlaces;

@@ -3,7 +3,7 @@ ghost use Rattle.std.specs.List.{range_with_len};
 ghost use Rattle.bdb_format.specs.File.{page_at};
 ghost use Rattle.bdb_layout.specs.Seen.{content_seen};
 ghost use Rattle.bdb_salvage.specs.Kept.{chain_row, is_chain_of, is_leaf_row, is_valued, leaf_row, row_at};
-ghost use Rattle.bdb_salvage.specs.Salvage.{is_like, is_row, is_whole};
+ghost use Rattle.bdb_stored.specs.Salvage.{is_like, is_row, is_whole};
 
 use crate::links::{RowKind, row_length};
 use crate::whole_pages::WholePages;

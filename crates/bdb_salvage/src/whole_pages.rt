@@ -9,7 +9,7 @@ ghost use Rattle.bdb_format.specs.File.{page_at};
 ghost use Rattle.bdb_format.specs.HeadOf.{is_page_size};
 ghost use Rattle.bdb_overflow.specs.Whole.{bytes_of};
 ghost use Rattle.bdb_salvage.specs.Links.{view_page};
-ghost use Rattle.bdb_salvage.specs.Salvage.{is_overflow, is_row, salvaged_file};
+ghost use Rattle.bdb_stored.specs.Salvage.{is_overflow, is_row, salvaged_file};
 
 use crate::Guess;
 use crate::slots::slots_of;
@@ -28,7 +28,7 @@ pub(crate) struct WholePages<'a> {
 impl<'a> Model for WholePages<'a> {
     ghost use Rattle.bdb_format.specs.File.{File};
     ghost use Rattle.bdb_salvage.specs.Reads.{IsRead};
-    ghost use Rattle.bdb_salvage.specs.Salvage.{salvaged_file};
+    ghost use Rattle.bdb_stored.specs.Salvage.{salvaged_file};
 
     ghost Value = { File };
 
@@ -50,7 +50,7 @@ fn page_of<'a>(image: &'a [u8], size: u32, number: u32) -> &'a [u8]
     &image[start..start + size]
 }
 
-#[tactic(auto, using(crate::proofs::PageLemmas::count_is, crate::proofs::PageLemmas::size_some, crate::proofs::PageLemmas::few))]
+#[tactic(auto, using(bdb_stored::proofs::PageLemmas::count_is, crate::proofs::PageLemmas::size_some, crate::proofs::PageLemmas::few))]
 impl<'a> WholePages<'a> {
     /// The pages of an image.
     pub(crate) fn over(image: &'a [u8], guess: Guess) -> WholePages<'a>
@@ -81,7 +81,7 @@ impl<'a> WholePages<'a> {
     }
 
     /// The last one.
-    #[tactic(auto, using(crate::proofs::PageLemmas::last_is, crate::proofs::PageLemmas::count_is))]
+    #[tactic(auto, using(bdb_stored::proofs::PageLemmas::last_is, bdb_stored::proofs::PageLemmas::count_is))]
     pub(crate) fn last(&self) -> u32
         ensures { result ≡ self.now.last }
     {
@@ -91,7 +91,7 @@ impl<'a> WholePages<'a> {
 
     /// A page by its number; none where there's no such page, or a row of form holds for it. Its own number
     /// isn't looked at.
-    #[tactic(auto, using(crate::proofs::PageLemmas::page_past, crate::proofs::PageLemmas::size_some))]
+    #[tactic(auto, using(bdb_stored::proofs::PageLemmas::page_past, crate::proofs::PageLemmas::size_some))]
     pub(crate) fn page(&self, number: u32) -> Option<PageView<'a>>
         ensures page { view_page result ≡ page_at self.now number }
         ensures short { length (piece_in (view_page result)) ≤ 32768 }

@@ -5,7 +5,7 @@ ghost use Rattle.bdb_content_samples.specs.Fields.{text};
 ghost use Rattle.bdb_graph_samples.specs.Worked.{child_named_twice, shared_chain};
 ghost use Rattle.bdb_format.specs.Numbers.{overwritten};
 ghost use Rattle.bdb_format.specs.declared.kinds.Order.TheVariants.{Big, Little};
-ghost use Rattle.bdb_salvage.specs.Salvage.{is_whole, loose, salvaged_file, stored, whole_set};
+ghost use Rattle.bdb_stored.specs.Salvage.{is_whole, loose, salvaged_file, stored, whole_set};
 ghost use Rattle.std.specs.Prelude.{◌≡◌, ◌+◌, ◌*◌, [], ◌∷◌, true, false, length, drop, take};
 
 /// Both leaves of a file of which one is named by nobody.

@@ -4,8 +4,8 @@ use Rattle.std.proofs.lemmas.Bool.{eq-eqb, ne_eqb}
 use Rattle.bdb_format.specs.Chains.{pieces_of}
 use Rattle.bdb_format.specs.File.{File}
 use Rattle.bdb_salvage.specs.Links.{row_length}
-use Rattle.bdb_salvage.specs.Salvage.{is_overflow, salvaged_file}
-use Rattle.bdb_salvage.proofs.PageLemmas.{count_is}
+use Rattle.bdb_stored.specs.Salvage.{is_overflow, salvaged_file}
+use Rattle.bdb_stored.proofs.PageLemmas.{count_is}
 use Rattle.bdb_salvage.proofs.WholeLemmas.{not_whole, some_row, whole_by}
 use Rattle.bdb_salvage.proofs.chain.chain_of.Goals as goal
 

@@ -3,7 +3,7 @@ use Rattle.std.specs.Prelude.{not}
 use Rattle.bdb_format.specs.Contents.{entries_in}
 use Rattle.bdb_format.specs.File.{page_at}
 use Rattle.bdb_salvage.specs.Kept.{kept_values, values_in, values_on}
-use Rattle.bdb_salvage.specs.Salvage.{is_taken}
+use Rattle.bdb_stored.specs.Salvage.{is_taken}
 use Rattle.bdb_salvage.proofs.ListLemmas.{more_pieces}
 use Rattle.bdb_salvage.proofs.kept_values.kept_values.Goals as goal
 

@@ -1,0 +1,4 @@
+pub mod Counting
+pub mod Databases
+pub mod HashSums
+pub mod TreeSums

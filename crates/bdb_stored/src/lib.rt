@@ -1,0 +1,4 @@
+//! What an image stores: the pairs and records that salvage gives.
+#![tactic(auto)]
+
+pub mod laws;

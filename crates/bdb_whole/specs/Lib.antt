@@ -1,0 +1,3 @@
+pub mod Guessed
+pub mod Kept
+pub mod Whole

@@ -1,0 +1,4 @@
+//! What salvage finds whole in a sound file.
+#![tactic(auto)]
+
+pub mod laws;
