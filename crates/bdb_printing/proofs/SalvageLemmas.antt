@@ -20,13 +20,15 @@ use Rattle.bdb_format.proofs.PageLemmas.{length_items}
 use Rattle.bdb_salvage.specs.Salvage.{is_taken, is_whole, live_value, live_whole, loose, loose_on, salvaged_file, salvaged_page, unless_code, whole_values}
 
 -- lists that are at most so long, joined
-joined_short : {A B : Type 0} (f : A → List B) (k : ℕ) (xs : List A) → ((x : A) → 2 * length (f x) ≤ k) → 2 * length (flat_map f xs) ≤ length xs * k
+joined_short : {A B : Type 0} (f : A → List B) (k : ℕ) (xs : List A) → ((x : A) → 2 * length (f x) ≤ k)
+    → 2 * length (flat_map f xs) ≤ length xs * k
 joined_short f k [] short = omega arith
 joined_short f k (x ∷ xs) short = omega (arith, length-append (f x) (flat_map f xs), short x, joined_short f k xs short)
 
 -- The entries of a page.
 
-room_by : (order : Order) (page : List ℕ) (t : PageType) → body_code order page t ≡ None → 2 * length (entries_in (page_as order page t)) ≤ length page
+room_by : (order : Order) (page : List ℕ) (t : PageType) → body_code order page t ≡ None
+    → 2 * length (entries_in (page_as order page t)) ≤ length page
 room_by order page RecnoLeafPage none =
     let room : index_end order page ≤ length page = ltb-false _ _ (index_passes order page RecnoLeafPage (no_index_row order page RecnoLeafPage none)).room in
     omega (arith, length_items order page (leaf_item_at order page))
@@ -41,7 +43,8 @@ room_coded order page t None is = room_by order page t is
 room_coded order page t (Some code) is = omega arith
 
 room_of : (order : Order) (page : List ℕ) (t : PageType) (zero : Bool) (identity : Option ℕ)
-    → 2 * length (entries_in (unless_code (elim zero as (λ _. Option ℕ) [ true ↦ None | false ↦ elim identity as (λ _. Option ℕ) [ Some code ↦ Some code | None ↦ body_code order page t ] ])
+    → 2 * length (entries_in (unless_code
+    (elim zero as (λ _. Option ℕ) [ true ↦ None | false ↦ elim identity as (λ _. Option ℕ) [ Some code ↦ Some code | None ↦ body_code order page t ] ])
     (elim zero [ true ↦ Zero | false ↦ page_as order page t ]))) ≤ length page
 room_of order page t true identity = omega arith
 room_of order page t false (Some code) = omega arith
@@ -58,14 +61,14 @@ unfolding salvaged_file
 entries_short order size image p =
     elim (cases_lt p (length image / size)) [
       | inl there ↦
-        subst (λ page. 2 * length (entries_in page) ≤ size)
-        (sym (get_or-map-range_with_len (λ q. salvaged_page order (take size (drop (q * size) image))) 0 (length image / size) p p NoType there (omega arith)))
-        (omega (arith, page_room order (take size (drop (p * size) image)), length-take size (drop (p * size) image)))
+          subst (λ page. 2 * length (entries_in page) ≤ size)
+          (sym (get_or-map-range_with_len (λ q. salvaged_page order (take size (drop (q * size) image))) 0 (length image / size) p p NoType there (omega arith)))
+          (omega (arith, page_room order (take size (drop (p * size) image)), length-take size (drop (p * size) image)))
       | inr past ↦
-        subst (λ page. 2 * length (entries_in page) ≤ size)
-        (sym (get_or_past (map (λ q. salvaged_page order (take size (drop (q * size) image))) (range_with_len 0 (length image / size))) p NoType
-        (omega (arith, length-map-range_with_len (λ q. salvaged_page order (take size (drop (q * size) image))) 0 (length image / size)))))
-        (omega arith)
+          subst (λ page. 2 * length (entries_in page) ≤ size)
+          (sym (get_or_past (map (λ q. salvaged_page order (take size (drop (q * size) image))) (range_with_len 0 (length image / size))) p NoType
+          (omega (arith, length-map-range_with_len (λ q. salvaged_page order (take size (drop (q * size) image))) 0 (length image / size)))))
+          (omega arith)
     ]
 
 -- The records of a page.
@@ -92,8 +95,11 @@ one_live file item = fewer_where item.deleted 2 (whole_values file item.content)
 live_short : (order : Order) (size : ℕ) (image : List ℕ) (p : ℕ) → 2 * length (live_whole (salvaged_file order size image) p) ≤ size
 unfolding live_whole
 live_short order size image p =
-    omega (arith, entries_short order size image p,
-    joined_short (live_value (salvaged_file order size image)) 2 (entries_in (page_at (salvaged_file order size image) p)) (one_live (salvaged_file order size image)))
+    omega (
+      arith,
+      entries_short order size image p,
+      joined_short (live_value (salvaged_file order size image)) 2 (entries_in (page_at (salvaged_file order size image) p)) (one_live (salvaged_file order size image)),
+    )
 
 loose_short : (order : Order) (size : ℕ) (image : List ℕ) (p : ℕ) → 2 * length (loose_on (salvaged_file order size image) p) ≤ size
 loose_short order size image p =
@@ -116,7 +122,7 @@ loose_few order size image =
     elim (cases_lt 0 size) [
       | inl some ↦ omega (arith, loose_room order size image, mul_comm size (length image / size))
       | inr none ↦
-        let zero : size ≡ 0 = omega arith in
-        let nothing : length image / size * size ≡ length image / size * 0 = ap (λ n. length image / size * n) zero in
-        omega (arith, loose_room order size image, nothing)
+          let zero : size ≡ 0 = omega arith in
+          let nothing : length image / size * size ≡ length image / size * 0 = ap (λ n. length image / size * n) zero in
+          omega (arith, loose_room order size image, nothing)
     ]

@@ -7,7 +7,8 @@ ghost use Rattle.bdb_model.specs.Written.{data_end, header_text, section_text};
 ghost use Rattle.bdb_overflow.specs.Datum.{datum_seen};
 ghost use Rattle.bdb_printing.specs.Printers.{Adds, pair_text};
 ghost use Rattle.bdb_printing.specs.Printing.{Writes};
-ghost use Rattle.bdb_printing.specs.SalvageText.{bytes_pair, loose_section, loose_settings, numbered_record, salvage_text, stored_section, stored_settings};
+ghost use Rattle.bdb_printing.specs.SalvageText.{bytes_pair, loose_section, loose_settings, numbered_record, salvage_text};
+ghost use Rattle.bdb_printing.specs.SalvageText.{stored_section, stored_settings};
 ghost use Rattle.bdb_salvage.specs.Kept.{file_in};
 ghost use Rattle.bdb_salvage.specs.Salvage.{loose};
 
@@ -15,7 +16,7 @@ use crate::printing::{Cut, Printer};
 use bdb_io::Sink;
 use bdb_model::{Bytes, Kind, Settings};
 use bdb_overflow::{Datum, KeyView};
-use bdb_salvage::{Guess, LooseItems, Salvaged, SalvagePairs};
+use bdb_salvage::{Guess, LooseItems, SalvagePairs, Salvaged};
 use bdb_text::header_text;
 use std::alloc::Global;
 
@@ -81,8 +82,13 @@ impl<'k, K: Sink> Printer<'k, K> {
     }
 
     /// Prints the section of stored pairs.
-    #[tactic(auto, using(crate::proofs::PrinterLemmas::then_adds, crate::proofs::PrinterLemmas::adds_cut, crate::proofs::DumpLemmas::section_by_parts))]
-    fn stored_section(&mut self, guess: Guess, pairs: SalvagePairs<'_, '_>, print: bool) -> Result<(), Cut>
+    #[tactic(auto, using(crate::proofs::DumpLemmas::section_by_parts, crate::proofs::PrinterLemmas::then_adds, crate::proofs::PrinterLemmas::adds_cut))]
+    fn stored_section(
+        &mut self,
+        guess: Guess,
+        pairs: SalvagePairs<'_, '_>,
+        print: bool,
+    ) -> Result<(), Cut>
         ensures { Adds K.written K.faults self.old self.new (stored_section print guess pairs.entry) result }
     {
         self.header(b"salvaged", &stored_settings(guess), print)?;
@@ -92,7 +98,8 @@ impl<'k, K: Sink> Printer<'k, K> {
     /// Prints the data lines of records, which are numbered from 1.
     fn records(&mut self, records: LooseItems<'_, '_>, print: bool) -> Result<(), Cut>
         requires { length records < 2 ^ 32 }
-        ensures { Adds K.written K.faults self.old self.new (flat_map (pair_text print) (map numbered_record (enumerate_from 1 records.entry))) result }
+        ensures { Adds K.written K.faults self.old self.new
+            (flat_map (pair_text print) (map numbered_record (enumerate_from 1 records.entry))) result }
     {
         let mut number = 0;
         for record in records {
@@ -106,17 +113,24 @@ impl<'k, K: Sink> Printer<'k, K> {
     #[tactic(auto, using(crate::proofs::PrinterLemmas::then_adds, crate::proofs::PrinterLemmas::adds_cut))]
     fn records_data(&mut self, records: LooseItems<'_, '_>, print: bool) -> Result<(), Cut>
         requires { length records < 2 ^ 32 }
-        ensures { Adds K.written K.faults self.old self.new (flat_map (pair_text print) (map numbered_record (enumerate_from 1 records.entry)) ++ line data_end) result }
+        ensures { Adds K.written K.faults self.old self.new
+            (flat_map (pair_text print) (map numbered_record (enumerate_from 1 records.entry)) ++ line data_end) result }
     {
         self.records(records, print)?;
         self.text(b"DATA=END\n")
     }
 
     /// Prints the section of records.
-    #[tactic(auto, using(crate::proofs::PrinterLemmas::then_adds, crate::proofs::PrinterLemmas::adds_cut, crate::proofs::DumpLemmas::section_by_parts))]
-    fn records_section(&mut self, guess: Guess, records: LooseItems<'_, '_>, print: bool) -> Result<(), Cut>
+    #[tactic(auto, using(crate::proofs::DumpLemmas::section_by_parts, crate::proofs::PrinterLemmas::then_adds, crate::proofs::PrinterLemmas::adds_cut))]
+    fn records_section(
+        &mut self,
+        guess: Guess,
+        records: LooseItems<'_, '_>,
+        print: bool,
+    ) -> Result<(), Cut>
         requires { length records < 2 ^ 32 }
-        ensures { Adds K.written K.faults self.old self.new (section_text print (Some (codes "loose")) (loose_settings guess) (map numbered_record (enumerate_from 1 records.entry))) result }
+        ensures { Adds K.written K.faults self.old self.new
+            (section_text print (Some (codes "loose")) (loose_settings guess) (map numbered_record (enumerate_from 1 records.entry))) result }
     {
         self.header(b"loose", &loose_settings(guess), print)?;
         self.records_data(records, print)

@@ -7,10 +7,7 @@ use bdb_format::Order;
 use bdb_salvage::Guess;
 
 /// The guess of an order and a page size, which are given together or not at all.
-pub(crate) fn guess_asked(
-    order: Option<&[u8]>,
-    page_size: Option<&[u8]>,
-) -> Option<Option<Guess>>
+pub(crate) fn guess_asked(order: Option<&[u8]>, page_size: Option<&[u8]>) -> Option<Option<Guess>>
     ensures seen { result ≡ guess_asked (option_copied order.entry) (option_copied page_size.entry) }
     ensures legal { IfSome result (λ guess. IfSome guess (λ it. IsTrue (is_page_size it.page_size))) }
 {

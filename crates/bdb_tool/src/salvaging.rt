@@ -26,7 +26,8 @@ pub(crate) fn answer_salvage<K: Sink, E: Sink, L: Ledger>(
 ) -> u8
     requires size { length image.now ≤ 2 ^ 30 }
     requires guess { IsFitSalvage asked }
-    ensures { Finishes (salvage_answer asked.guess asked.print image.now) (change K.written K.faults out.old out.new) (change E.written E.faults err.old err.new) result }
+    ensures { Finishes (salvage_answer asked.guess asked.print image.now)
+        (change K.written K.faults out.old out.new) (change E.written E.faults err.old err.new) result }
 {
     match salvage(alloc, image, asked.guess, steps) {
         Ok(salvaged) => report(write_salvaged(alloc, out, &salvaged, asked.print), err),

@@ -7,14 +7,17 @@ use Rattle.bdb_printing.proofs.PrinterLemmas.{item_added, item_cut}
 use Rattle.bdb_printing.proofs.printing.Printer.records.Goals as goal
 
 pub loop-record-preserved : goal.loop-record-preserved
-loop-record-preserved g c =
-    (omega (arith, ap length c.in-Some.ensures.steps),
-    item_added _ _ _ _ _ (pair_text c.args.print) _ _ _ _ _
-    (ap (λ records. map numbered_record (enumerate_from (c.loop-record.number + 1) records)) c.in-Some.ensures.steps) c.in_ok-pair.was c.loop-record.invariant.1 c.pair.ensures)
+loop-record-preserved g c = (
+  omega (arith, ap length c.in-Some.ensures.steps),
+  item_added _ _ _ _ _ (pair_text c.args.print) _ _ _ _ _
+      (ap (λ records. map numbered_record (enumerate_from (c.loop-record.number + 1) records)) c.in-Some.ensures.steps)
+      c.in_ok-pair.was c.loop-record.invariant.1 c.pair.ensures,
+)
 
 pub returns-in_err-pair : goal.returns-in_err-pair
 returns-in_err-pair g c =
     let is : c.from_residual.result ≡ Err c.in_err-pair.field-0.0 = search rules in
     item_cut _ _ _ _ _ (pair_text c.args.print) _ _ _ _ _ _ _
-    (ap (λ records. map numbered_record (enumerate_from (c.loop-record.number + 1) records)) c.in-Some.ensures.steps) c.in_err-pair.was is c.loop-record.invariant.1
+    (ap (λ records. map numbered_record (enumerate_from (c.loop-record.number + 1) records)) c.in-Some.ensures.steps)
+    c.in_err-pair.was is c.loop-record.invariant.1
     c.pair.ensures

@@ -8,5 +8,6 @@ use Rattle.bdb_printing.proofs.printing.Printer.records.Given as goal
 abbrev pub invariant-loop-record : goal.invariant-loop-record
 invariant-loop-record g l =
     (l.number + length l.record-iterator ≡ length l.fn.records)
-    × HasAdded g.K.Sink.written g.K.Sink.faults l.initial.self l.self (flat_map (pair_text l.print) (map numbered_record (enumerate_from (l.number + 1) l.record-iterator)))
+    × HasAdded g.K.Sink.written g.K.Sink.faults l.initial.self l.self
+    (flat_map (pair_text l.print) (map numbered_record (enumerate_from (l.number + 1) l.record-iterator)))
     (flat_map (pair_text l.print) (map numbered_record (enumerate_from 1 l.fn.records)))

@@ -13,12 +13,14 @@ loop-key-init g c =
 
 pub loop-key-preserved : goal.loop-key-preserved
 loop-key-preserved g c =
-    item_added _ _ _ _ _ (pair_text c.args.print) _ _ _ _ _ (ap (map bytes_pair) c.in-Some.ensures.steps) c.in_ok-pair.was c.loop-key.invariant c.pair.ensures
+    item_added _ _ _ _ _ (pair_text c.args.print) _ _ _ _ _
+    (ap (map bytes_pair) c.in-Some.ensures.steps) c.in_ok-pair.was c.loop-key.invariant c.pair.ensures
 
 pub returns-in_err-pair : goal.returns-in_err-pair
 returns-in_err-pair g c =
     let is : c.from_residual.result ≡ Err c.in_err-pair.field-0.0 = search rules in
-    item_cut _ _ _ _ _ (pair_text c.args.print) _ _ _ _ _ _ _ (ap (map bytes_pair) c.in-Some.ensures.steps) c.in_err-pair.was is c.loop-key.invariant c.pair.ensures
+    item_cut _ _ _ _ _ (pair_text c.args.print) _ _ _ _ _ _ _
+    (ap (map bytes_pair) c.in-Some.ensures.steps) c.in_err-pair.was is c.loop-key.invariant c.pair.ensures
 
 pub returns : goal.returns
 returns g c = items_added _ _ _ _ (pair_text c.args.print) _ _ (ap (map bytes_pair) c.in-None.ensures.steps.0) c.loop-key.invariant
