@@ -1,17 +1,20 @@
 #!/usr/bin/env python3
 """Times `bdbtool` beside the original library's tools, both in one run on the same files.
 
-usage: times.py verify|kinds|chains|dump|load [PROGRAM]
+usage: times.py verify|kinds|chains|dump|load|salvage [PROGRAM]
 
 PROGRAM is the built program; without it, crates/bdbtool/out/bdbtool. The files are made with `db5.3_load` in a temporary folder.
 Prints a Markdown table. `verify` stands beside `db5.3_verify`, on a btree and a hash of tenfold growing numbers of pairs: seconds by
 the clock, and how pages and seconds grew from the row above. A kind ends where a run takes a minute, or where ten times the pairs
 wouldn't fit into the longest input. `kinds` has `verify` on files of each kind of about 100 MB, and `chains` on chains of pages that
 grow longer, one by one: seconds of user time. `dump` stands beside `db5.3_dump -k`, on a file of each kind: seconds of user time, and peak
-memory. `load` stands beside `db5.3_load`, on the texts that `dump` gives of such files and of files with a quarter of the items. Where the program or the library's tools are missing, nothing is timed. docs/BENCH.md says how to read the tables.
+memory. `load` stands beside `db5.3_load`, on the texts that `dump` gives of such files and of files with a quarter of the items. `salvage` stands beside
+`db5.3_dump -r`, on the files of `kinds`, and on each of them with every hundredth page overwritten by other bytes: seconds of user time,
+peak memory, and how many pairs or records each gives. Where the program or the library's tools are missing, nothing is timed. docs/BENCH.md says how to read the tables.
 """
 import os
 import pathlib
+import random
 import shutil
 import struct
 import subprocess
@@ -46,6 +49,10 @@ DUMP_COLUMNS = ("File", "Items", "Bytes of the file", "`bdbtool`", "`db5.3_dump 
 
 # `load`
 LOAD_COLUMNS = ("Text", "Items", "Bytes of the text", "Bytes of the file", "`bdbtool`", "`db5.3_load`", "Ratio", "`bdbtool` grew", "Peak of `bdbtool`, bytes", "Bytes an item above the text and two files")
+
+# `salvage`
+DAMAGED, SEED = 100, 20261128
+SALVAGE_COLUMNS = ("File", "Bytes of the file", "`bdbtool`", "`db5.3_dump -r`", "Ratio", "Peak of `bdbtool`, bytes", "Peak by file", "Items of `bdbtool`", "Items of `db5.3_dump -r`")
 
 
 class Step(NamedTuple):
@@ -197,23 +204,23 @@ def time_verify(program, folder):
     print("\nWhy no larger file follows:\n", *reasons, sep="\n- ")
 
 
-def spent(words, image):
-    """What a run takes whose output is thrown away. It must end with status 0."""
+def spent(words, image, ends=(0,)):
+    """What a run takes whose output is thrown away. It must end with one of these statuses."""
     with image.open("rb") as standard_input:
-        run = subprocess.Popen(words, stdin=standard_input, stdout=subprocess.DEVNULL)
+        run = subprocess.Popen(words, stdin=standard_input, stdout=subprocess.DEVNULL, stderr=None if ends == (0,) else subprocess.DEVNULL)
         _, status, usage = os.wait4(run.pid, 0)
         run.returncode = os.waitstatus_to_exitcode(status)
-    if run.returncode != 0:
+    if run.returncode not in ends:
         sys.exit(f"{words} over {image.name}: status {run.returncode}")
     return Spent(usage.ru_utime, 1024 * usage.ru_maxrss)
 
 
-def least(words, image, before=lambda: None):
+def least(words, image, before=lambda: None, ends=(0,)):
     """The least that a few runs take, each after a step before it."""
     runs = []
     for _ in range(RUNS):
         before()
-        runs.append(spent(words, image))
+        runs.append(spent(words, image, ends))
     return Spent(min(run.user for run in runs), min(run.peak for run in runs))
 
 
@@ -298,13 +305,66 @@ def print_user(name, program, image):
     print_row([name, f"{size:,}", f"{own.user:.3g}", f"{original.user:.3g}", f"{own.user / max(original.user, 0.001):.3g}"])
 
 
+def kinds(folder):
+    """A file of each kind, one after another."""
+    for sample in samples():
+        yield sample.name, make(sample.name, sample.kind, sample.lines, folder)
+    for settings, name in (("duplicates=1\n", "btree, duplicates"), ("duplicates=1\ndupsort=1\n", "btree, sorted duplicates")):
+        yield name, make(name, "btree", repeated_keys(10_000, 100), folder, settings=settings)
+
+
 def time_kinds(program, folder):
     """The table of `verify` on each kind."""
     print_head(USER_COLUMNS)
-    for sample in samples():
-        print_user(sample.name, program, make(sample.name, sample.kind, sample.lines, folder))
-    for settings, name in (("duplicates=1\n", "btree, duplicates"), ("duplicates=1\ndupsort=1\n", "btree, sorted duplicates")):
-        print_user(name, program, make(name, "btree", repeated_keys(10_000, 100), folder, settings=settings))
+    for name, image in kinds(folder):
+        print_user(name, program, image)
+
+
+def damage(image):
+    """Overwrites every hundredth page by other bytes, which are the same in each run."""
+    generator = random.Random(SEED)
+    with image.open("r+b") as file:
+        for page in range(DAMAGED - 1, image.stat().st_size // PAGE_SIZE, DAMAGED):
+            file.seek(page * PAGE_SIZE)
+            file.write(generator.randbytes(PAGE_SIZE))
+
+
+def items(words, image):
+    """How many pairs and records a dump text has that a run gives."""
+    with image.open("rb") as standard_input:
+        run = subprocess.Popen(words, stdin=standard_input, stdout=subprocess.PIPE, stderr=subprocess.DEVNULL)
+        count, lines, alone = 0, 0, False
+        for line in run.stdout:
+            if line.startswith(b" "):
+                lines += 1
+            elif line.startswith(b"type="):
+                alone = line.strip() in (b"type=recno", b"type=queue")
+            elif line.startswith(b"keys=1"):
+                alone = False
+            elif line.startswith(b"DATA=END"):
+                count, lines, alone = count + (lines if alone else lines // 2), 0, False
+    run.wait()
+    return count
+
+
+def print_salvage(name, program, image):
+    """A row of the table of `salvage`."""
+    size = image.stat().st_size
+    own_words, original_words = [program, "salvage"], ["db5.3_dump", "-r", image]
+    own, original = least(own_words, image), least(original_words, image, ends=(0, 1))
+    counts = [f"{items(words, image):,}" for words in (own_words, original_words)]
+    times = [f"{own.user:.3g}", f"{original.user:.3g}", f"{own.user / max(original.user, 0.001):.3g}"]
+    print_row([name, f"{size:,}", *times, f"{own.peak:,}", f"{own.peak / size:.2f}", *counts])
+
+
+def time_salvage(program, folder):
+    """The table of `salvage`."""
+    print_head(SALVAGE_COLUMNS)
+    for name, image in kinds(folder):
+        print_salvage(name, program, image)
+        damage(image)
+        print_salvage(f"{name}, damaged", program, image)
+        image.unlink()
 
 
 def time_chains(program, folder):
@@ -322,6 +382,7 @@ TABLES = {
     "chains": ("db5.3_verify", time_chains),
     "dump": ("db5.3_dump", time_dump),
     "load": ("db5.3_load", time_load),
+    "salvage": ("db5.3_dump", time_salvage),
 }
 
 

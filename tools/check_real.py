@@ -5,10 +5,12 @@ usage: check_real.py [PROGRAM]
 
 PROGRAM is the built program; without it, crates/bdbtool/out/bdbtool. Each file of real/expected.tsv is given to `verify`, `list`
 and, for each database of its dump text, `get` of the first, a middle and the last key, and `dump` in both spellings, whole and
-by name. Where `verify` finds no sound file, the other commands must answer the same. Output, error line and status are compared
-whole, but of a `dump` the names, kinds and data lines, those of a hash in the order of their keys. Prints a line for each answer
+by name. Where `verify` finds no sound file, these commands must answer the same. Output, error line and status are compared
+whole, but of a `dump` the names, kinds and data lines, those of a hash in the order of their keys. Of a sound file `salvage` must give
+the pairs of all its btree and hash databases, and of the list of their names, and the records of its recno databases, in any order. Prints a line for each answer
 that differs, and then how many files have none; the exit status is 1 where a file has one.
 """
+import collections
 import itertools
 import pathlib
 import re
@@ -181,6 +183,33 @@ def dump_mismatch(given, expected, form, bases):
     return None if lines == wanted else f"{shown(lines)} and not {shown(wanted)}"
 
 
+def counted(bases, kinds):
+    """How often each pair stands in the databases of these kinds."""
+    return collections.Counter(pair for base in bases if base.kind in kinds for pair in base.pairs)
+
+
+def without_names(pairs, names):
+    """The pairs without those of the list of names: each name has the number of a page, in four bytes."""
+    for name in names:
+        for pair in [pair for pair in pairs if pair[0] == name and len(pair[1]) == 4][:1]:
+            pairs = pairs - collections.Counter([pair])
+    return pairs
+
+
+def salvage_mismatch(given, bases):
+    """What is wrong with what is salvaged of a sound file; none where nothing is."""
+    if (given.status, given.err) != (0, ""):
+        return shown(tuple(given))
+    texts = {header["database"]: database(header, lines) for header, lines in sections(given.out)}
+    names = [spelled_bytes(base.naming[1], "print") for base in bases if base.naming]
+    pairs = without_names(counted([texts["salvaged"]], ["btree"]), names)
+    records = sorted(value for name in texts if name == "loose" for _, value in texts[name].pairs)
+    wanted = sorted(value for base in bases if base.kind == "recno" for _, value in base.pairs)
+    if pairs != counted(bases, ["btree", "hash"]):
+        return f"{sum(pairs.values())} pairs that aren't those of the file"
+    return None if records == wanted else f"{shown(records)} and not {shown(wanted)}"
+
+
 def answer(program, words, path):
     """What the program answers to the words and the file on its standard input."""
     with path.open("rb") as image:
@@ -207,6 +236,10 @@ def mismatches(program, row):
         wrong = dump_mismatch(answer(program, words, REAL / "files" / row.file), row.verify, form, bases)
         if wrong:
             yield f"{row.file}: {shown(' '.join(words))}: {wrong}"
+    if row.verify.status == 0:
+        wrong = salvage_mismatch(answer(program, ["salvage"], REAL / "files" / row.file), databases(row.file))
+        if wrong:
+            yield f"{row.file}: salvage: {wrong}"
 
 
 def holds(program, row):

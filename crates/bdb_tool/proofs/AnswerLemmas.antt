@@ -1,6 +1,6 @@
 -- Answers over a sound file.
 use Rattle.std.proofs.Common.{◌≡◌, ℕ, ◌<◌, Bool, true, false, List, [], ◌∷◌, ◌++◌, length, inl, inr, refl, sym, subst, ◌∙◌, ap, arith, ◌≤◌}
-use Rattle.std.specs.Prelude.{Option, Some, None, Ok, Err, Result, if◌then◌else◌, nat_lt, string_bytes}
+use Rattle.std.specs.Prelude.{Option, Some, None, Ok, Err, Result, if◌then◌else◌, nat_lt, codes, string_bytes}
 use Rattle.std.specs.Io.KnownBytes.{Appends}
 use Rattle.std.proofs.lemmas.Option.{slice_get-get_or}
 use Rattle.bdb_format.specs.declared.kinds.Kind.TheVariants.{Btree, Recno}
@@ -22,6 +22,10 @@ use Rattle.bdb_model.specs.File.{File, file_of}
 use Rattle.bdb_model.specs.Verdict.{Faulty, Judgement, LeftOut, verdict_of}
 use Rattle.bdb_file.specs.Named.{database_at, no_database}
 use Rattle.bdb_file.specs.Whole.{IsVerdictOf}
+use Rattle.bdb_printing.specs.SalvageText.{salvage_text}
+use Rattle.bdb_salvage.specs.Guesses.{chosen}
+use Rattle.bdb_salvage.specs.declared.guess.Guess.{Guess}
+use Rattle.bdb_tool.specs.Outputs.{salvage_answer, salvaged_answer}
 use Rattle.bdb_tool.specs.Parts.{Answered, Ends, Finishes, HasOwnStatus, IsRefusalTold, IsRefused, Reports, Tells, Unanswered}
 use Rattle.bdb_format.specs.declared.kinds.Kind.{Kind}
 use Rattle.bdb_format.proofs.KnownLemmas.{keeps_itself}
@@ -39,10 +43,10 @@ use Rattle.bdb_writing.specs.Refusals.{IsRefusal}
 use Rattle.bdb_writing.specs.Trials.{IsTrialAnswer, IsTrialBy, trial_sections}
 use Rattle.bdb_tool.proofs.FinishLemmas.{memory_finishes, told_finishes, written_finishes}
 use Rattle.bdb_model.specs.Faults.{AppendsPrefix, Rose}
-use Rattle.bdb_tool.specs.declared.printing.Cut.{Cut}
-use Rattle.bdb_tool.specs.declared.printing.Cut.TheVariants.{WriteFault, Memory}
-use Rattle.bdb_tool.specs.Printing.{Writes}
-use Rattle.bdb_tool.proofs.PrintingLemmas.{moved, nothing_of}
+use Rattle.bdb_printing.specs.declared.printing.Cut.{Cut}
+use Rattle.bdb_printing.specs.declared.printing.Cut.TheVariants.{WriteFault, Memory}
+use Rattle.bdb_printing.specs.Printing.{Writes}
+use Rattle.bdb_printing.proofs.PrintingLemmas.{moved, nothing_of}
 
 -- One line.
 
@@ -122,24 +126,6 @@ pub request_finishes : (seen request : Request) (image : List ℕ) (out err : Ch
     → Finishes (sound_answer request image) out err status
 request_finishes seen request image out err status is finishes =
     let same : seen ≡ request = cc in subst (λ it. Finishes (sound_answer it image) out err status) same finishes
-
--- `list`.
-
-chosen_kind : (has : Bool) (size : ℕ) (order : Order) (meta : BtreeMeta) → (if has then recno_settings size order meta else btree_settings size order meta).kind ≡ (if has then Recno else Btree)
-chosen_kind true size order meta = refl
-chosen_kind false size order meta = refl
-
-settings_kind : (size : ℕ) (order : Order) (fields : Metadata) → (settings_of size order fields).kind ≡ kind_of fields
-settings_kind size order (BtreeFields meta) = chosen_kind (has_bit meta.flags 0x02) size order meta
-settings_kind size order (HashFields meta) = refl
-settings_kind size order (QueueFields meta) = refl
-
--- the line of a database, from its settings and its name
-pub line_of_database : (size : ℕ) (order : Order) (database : Database) (settings : Settings) (name : Option (List ℕ)) → settings ≡ settings_of size order database.fields → name ≡ database.name
-    → line (kind_text settings.kind ++ name_text name) ≡ database_line database
-line_of_database size order database settings name is named =
-    let kind : settings.kind ≡ kind_of database.fields = ap (λ (s : Settings). s.kind) is ∙ settings_kind size order database.fields in
-    ap (λ k. line (kind_text k ++ name_text name)) kind ∙ ap (λ n. line (kind_text (kind_of database.fields) ++ name_text n)) named
 
 -- `get`.
 
@@ -232,3 +218,26 @@ refusal_ends allowed (FaultyText line) written faults err status is tells =
 refusal_ends allowed (TooLargeImage line) written faults err status is tells =
     Answered (told 6 (string_bytes line)) is (told_finishes 6 (string_bytes line) written faults err status (λ five. omega arith) (λ seven. omega arith) tells)
 refusal_ends allowed MemoryRefusal written faults err status is tells = Unanswered (keeps_itself written) tells
+
+-- `salvage`.
+
+salvaged_own : (guess : Option Guess) (print : Bool) (image : List ℕ) → HasOwnStatus (salvaged_answer guess print image)
+salvaged_own None print image = record { no_read_fault = λ is. omega arith; no_write_fault = λ is. omega arith; no_memory = λ is. omega arith }
+salvaged_own (Some guess) print image = record { no_read_fault = λ is. omega arith; no_write_fault = λ is. omega arith; no_memory = λ is. omega arith }
+
+pub salvage_own : (guess : Option Guess) (print : Bool) (image : List ℕ) → HasOwnStatus (salvage_answer guess print image)
+salvage_own guess print image = salvaged_own (chosen guess image) print image
+
+-- what is salvaged by the guess that was chosen was written, or cut off, and that was told
+pub salvage_finishes : (given : Option Guess) (print : Bool) (image : List ℕ) (guess : Guess) (read : List ℕ) (out err : Change) (written : Result Unit Cut) (status : ℕ) → chosen given image ≡ Some guess → read ≡ image
+    → Writes (salvage_text print guess read) out written → Reports written err status → Finishes (salvage_answer given print image) out err status
+salvage_finishes given print image guess read out err written status is same writes reports =
+    subst (λ it. Finishes (salvaged_answer it print image) out err status) (sym is)
+    (written_finishes (salvage_text print guess image) out err written status (subst (λ bytes. Writes (salvage_text print guess bytes) out written) same writes) reports)
+
+-- it was told that no guess is known
+pub no_meta_finishes : (given : Option Guess) (print : Bool) (image : List ℕ) (written : Option (List ℕ)) (faults : ℕ) (err : Change) (status : ℕ) → chosen given image ≡ None → Tells (line (codes "no metadata page")) 10 err status
+    → Finishes (salvage_answer given print image) (moved written written faults faults) err status
+no_meta_finishes given print image written faults err status none tells =
+    subst (λ it. Finishes (salvaged_answer it print image) (moved written written faults faults) err status) (sym none)
+    (told_finishes 10 (line (codes "no metadata page")) written faults err status (λ five. omega arith) (λ seven. omega arith) tells)

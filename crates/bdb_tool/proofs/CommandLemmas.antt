@@ -5,7 +5,7 @@ use Rattle.std.specs.Str.{bytes_eq}
 use Rattle.std.proofs.lemmas.List.{drop_all}
 use Rattle.std.proofs.lemmas.Option.{slice_get_within}
 use Rattle.bdb_model.specs.Command.{Arguments, Given, arguments, limit_of, max_bytes, once, value_given}
-use Rattle.bdb_tool.specs.Commands.{Action, command_of, command_with, dump_row, get_row, list_row, load_row, plain_row, trial_action, trial_row, verify_row, within}
+use Rattle.bdb_tool.specs.Commands.{Action, command_of, command_with, dump_row, get_row, list_row, load_row, plain_row, salvage_row, trial_action, trial_row, verify_row, within}
 use Rattle.bdb_tool.proofs.StepLemmas.{from_place, past_place}
 
 -- Operands.
@@ -45,6 +45,10 @@ plain_without word action given words place past = rw (drop_all place words past
 
 pub dump_with : (given : List Given) (words : List (List ℕ)) (place : ℕ) → place < length words → command_with dump_row (Some (given_with given (drop place words))) ≡ None
 dump_with given words place within =
+    let some : (length (drop place words) == 0) ≡ false = ne_eqb _ _ (λ none. omega (arith, length-drop place words)) in rw some refl
+
+pub salvage_with : (given : List Given) (words : List (List ℕ)) (place : ℕ) → place < length words → command_with salvage_row (Some (given_with given (drop place words))) ≡ None
+salvage_with given words place within =
     let some : (length (drop place words) == 0) ≡ false = ne_eqb _ _ (λ none. omega (arith, length-drop place words)) in rw some refl
 
 -- `trial` has three
@@ -106,12 +110,17 @@ unfolding command_of
 load_word [] word there no_verify no_list no_get no_dump is = cc
 load_word (first ∷ words) word there no_verify no_list no_get no_dump is = let same : first ≡ word = cc in rw (same, no_verify, no_list, no_get, no_dump, is) refl
 
-pub trial_word : (words : List (List ℕ)) (word : List ℕ) → Some word ≡ slice_get words 0 → bytes_eq word (codes "verify") ≡ false → bytes_eq word (codes "list") ≡ false → bytes_eq word (codes "get") ≡ false → bytes_eq word (codes "dump") ≡ false → bytes_eq word (codes "load") ≡ false → bytes_eq word (codes "trial") ≡ true → command_of words ≡ command_with trial_row (once (arguments trial_row.options (drop 1 words)))
+pub salvage_word : (words : List (List ℕ)) (word : List ℕ) → Some word ≡ slice_get words 0 → bytes_eq word (codes "verify") ≡ false → bytes_eq word (codes "list") ≡ false → bytes_eq word (codes "get") ≡ false → bytes_eq word (codes "dump") ≡ false → bytes_eq word (codes "load") ≡ false → bytes_eq word (codes "salvage") ≡ true → command_of words ≡ command_with salvage_row (once (arguments salvage_row.options (drop 1 words)))
 unfolding command_of
-trial_word [] word there no_verify no_list no_get no_dump no_load is = cc
-trial_word (first ∷ words) word there no_verify no_list no_get no_dump no_load is = let same : first ≡ word = cc in rw (same, no_verify, no_list, no_get, no_dump, no_load, is) refl
+salvage_word [] word there no_verify no_list no_get no_dump no_load is = cc
+salvage_word (first ∷ words) word there no_verify no_list no_get no_dump no_load is = let same : first ≡ word = cc in rw (same, no_verify, no_list, no_get, no_dump, no_load, is) refl
 
-pub other_word : (words : List (List ℕ)) (word : List ℕ) → Some word ≡ slice_get words 0 → bytes_eq word (codes "verify") ≡ false → bytes_eq word (codes "list") ≡ false → bytes_eq word (codes "get") ≡ false → bytes_eq word (codes "dump") ≡ false → bytes_eq word (codes "load") ≡ false → bytes_eq word (codes "trial") ≡ false → command_of words ≡ None
+pub trial_word : (words : List (List ℕ)) (word : List ℕ) → Some word ≡ slice_get words 0 → bytes_eq word (codes "verify") ≡ false → bytes_eq word (codes "list") ≡ false → bytes_eq word (codes "get") ≡ false → bytes_eq word (codes "dump") ≡ false → bytes_eq word (codes "load") ≡ false → bytes_eq word (codes "salvage") ≡ false → bytes_eq word (codes "trial") ≡ true → command_of words ≡ command_with trial_row (once (arguments trial_row.options (drop 1 words)))
 unfolding command_of
-other_word [] word there no_verify no_list no_get no_dump no_load no_trial = cc
-other_word (first ∷ words) word there no_verify no_list no_get no_dump no_load no_trial = let same : first ≡ word = cc in rw (same, no_verify, no_list, no_get, no_dump, no_load, no_trial) refl
+trial_word [] word there no_verify no_list no_get no_dump no_load no_salvage is = cc
+trial_word (first ∷ words) word there no_verify no_list no_get no_dump no_load no_salvage is = let same : first ≡ word = cc in rw (same, no_verify, no_list, no_get, no_dump, no_load, no_salvage, is) refl
+
+pub other_word : (words : List (List ℕ)) (word : List ℕ) → Some word ≡ slice_get words 0 → bytes_eq word (codes "verify") ≡ false → bytes_eq word (codes "list") ≡ false → bytes_eq word (codes "get") ≡ false → bytes_eq word (codes "dump") ≡ false → bytes_eq word (codes "load") ≡ false → bytes_eq word (codes "salvage") ≡ false → bytes_eq word (codes "trial") ≡ false → command_of words ≡ None
+unfolding command_of
+other_word [] word there no_verify no_list no_get no_dump no_load no_salvage no_trial = cc
+other_word (first ∷ words) word there no_verify no_list no_get no_dump no_load no_salvage no_trial = let same : first ≡ word = cc in rw (same, no_verify, no_list, no_get, no_dump, no_load, no_salvage, no_trial) refl

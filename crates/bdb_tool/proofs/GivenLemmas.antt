@@ -7,7 +7,8 @@ use Rattle.std.proofs.lemmas.List.Folds.{list_any-append}
 use Rattle.bdb_model.specs.Command.{Given, hex_option, is_given, max_bytes, name_option, print_option, value_given}
 use Rattle.bdb_tool.specs.declared.options.Arguments.{Arguments}
 use Rattle.bdb_tool.specs.declared.options.GivenOption.{GivenOption}
-use Rattle.bdb_tool.specs.declared.options.GivenOption.TheVariants.{MaxBytes, Name, Hex, Print}
+use Rattle.bdb_tool.specs.declared.options.GivenOption.TheVariants.{MaxBytes, Name, Order, PageSize, Hex, Print}
+use Rattle.bdb_tool.specs.Commands.{order_option, page_size_option}
 use Rattle.bdb_tool.specs.WordsSeen.{HasGiven, IsNew, given_seen}
 
 -- One more option at the end.
@@ -78,6 +79,12 @@ has_max_bytes read option text before is some has =
 pub has_name : (read : Arguments) (option : GivenOption) (text : Bor (List ℕ)) (before : List Given) → option ≡ Name text → is_some read.name ≡ true → HasGiven read before → IsTrue (is_given (given_seen option).word before)
 has_name read option text before is some has = rw is (has_value name_option read.name before some has.name_is)
 
+pub has_order : (read : Arguments) (option : GivenOption) (text : Bor (List ℕ)) (before : List Given) → option ≡ Order text → is_some read.order ≡ true → HasGiven read before → IsTrue (is_given (given_seen option).word before)
+has_order read option text before is some has = rw is (has_value order_option read.order before some has.order_is)
+
+pub has_page_size : (read : Arguments) (option : GivenOption) (text : Bor (List ℕ)) (before : List Given) → option ≡ PageSize text → is_some read.page_size ≡ true → HasGiven read before → IsTrue (is_given (given_seen option).word before)
+has_page_size read option text before is some has = rw is (has_value page_size_option read.page_size before some has.page_size_is)
+
 -- One more option.
 
 pub with_max_bytes : (old read : Arguments) (option : GivenOption) (text : Bor (List ℕ)) (next : ℕ) (before : List Given) → option ≡ MaxBytes text → is_some old.max_bytes ≡ false → read ≡ record old { max_bytes = Some text } → HasGiven old before → IsNew before (given_seen option) (record read { operands = next })
@@ -88,6 +95,8 @@ with_max_bytes old read option text next before is none read_is has =
       record {
         max_bytes_is = value_now max_bytes before (given_seen (MaxBytes text)) refl lacks;
         name_is = value_other name_option before (given_seen (MaxBytes text)) refl ∙ has.name_is;
+        order_is = value_other order_option before (given_seen (MaxBytes text)) refl ∙ has.order_is;
+        page_size_is = value_other page_size_option before (given_seen (MaxBytes text)) refl ∙ has.page_size_is;
         hex_is = given_other hex_option before (given_seen (MaxBytes text)) old.hex refl has.hex_is;
         print_is = given_other print_option before (given_seen (MaxBytes text)) old.print refl has.print_is;
       },
@@ -101,8 +110,40 @@ with_name old read option text next before is none read_is has =
       record {
         max_bytes_is = value_other max_bytes before (given_seen (Name text)) refl ∙ has.max_bytes_is;
         name_is = value_now name_option before (given_seen (Name text)) refl lacks;
+        order_is = value_other order_option before (given_seen (Name text)) refl ∙ has.order_is;
+        page_size_is = value_other page_size_option before (given_seen (Name text)) refl ∙ has.page_size_is;
         hex_is = given_other hex_option before (given_seen (Name text)) old.hex refl has.hex_is;
         print_is = given_other print_option before (given_seen (Name text)) old.print refl has.print_is;
+      },
+    )
+
+pub with_order : (old read : Arguments) (option : GivenOption) (text : Bor (List ℕ)) (next : ℕ) (before : List Given) → option ≡ Order text → is_some old.order ≡ false → read ≡ record old { order = Some text } → HasGiven old before → IsNew before (given_seen option) (record read { operands = next })
+with_order old read option text next before is none read_is has =
+    let lacks = has.order_is ∙ copied_none old.order none in
+    rw (is, read_is) (
+      not_given order_option before lacks,
+      record {
+        max_bytes_is = value_other max_bytes before (given_seen (Order text)) refl ∙ has.max_bytes_is;
+        name_is = value_other name_option before (given_seen (Order text)) refl ∙ has.name_is;
+        order_is = value_now order_option before (given_seen (Order text)) refl lacks;
+        page_size_is = value_other page_size_option before (given_seen (Order text)) refl ∙ has.page_size_is;
+        hex_is = given_other hex_option before (given_seen (Order text)) old.hex refl has.hex_is;
+        print_is = given_other print_option before (given_seen (Order text)) old.print refl has.print_is;
+      },
+    )
+
+pub with_page_size : (old read : Arguments) (option : GivenOption) (text : Bor (List ℕ)) (next : ℕ) (before : List Given) → option ≡ PageSize text → is_some old.page_size ≡ false → read ≡ record old { page_size = Some text } → HasGiven old before → IsNew before (given_seen option) (record read { operands = next })
+with_page_size old read option text next before is none read_is has =
+    let lacks = has.page_size_is ∙ copied_none old.page_size none in
+    rw (is, read_is) (
+      not_given page_size_option before lacks,
+      record {
+        max_bytes_is = value_other max_bytes before (given_seen (PageSize text)) refl ∙ has.max_bytes_is;
+        name_is = value_other name_option before (given_seen (PageSize text)) refl ∙ has.name_is;
+        order_is = value_other order_option before (given_seen (PageSize text)) refl ∙ has.order_is;
+        page_size_is = value_now page_size_option before (given_seen (PageSize text)) refl lacks;
+        hex_is = given_other hex_option before (given_seen (PageSize text)) old.hex refl has.hex_is;
+        print_is = given_other print_option before (given_seen (PageSize text)) old.print refl has.print_is;
       },
     )
 
@@ -113,6 +154,8 @@ with_hex old read option next before is none read_is has =
       record {
         max_bytes_is = value_other max_bytes before (given_seen Hex) refl ∙ has.max_bytes_is;
         name_is = value_other name_option before (given_seen Hex) refl ∙ has.name_is;
+        order_is = value_other order_option before (given_seen Hex) refl ∙ has.order_is;
+        page_size_is = value_other page_size_option before (given_seen Hex) refl ∙ has.page_size_is;
         hex_is = given_now hex_option before (given_seen Hex) refl;
         print_is = given_other print_option before (given_seen Hex) old.print refl has.print_is;
       },
@@ -125,6 +168,8 @@ with_print old read option next before is none read_is has =
       record {
         max_bytes_is = value_other max_bytes before (given_seen Print) refl ∙ has.max_bytes_is;
         name_is = value_other name_option before (given_seen Print) refl ∙ has.name_is;
+        order_is = value_other order_option before (given_seen Print) refl ∙ has.order_is;
+        page_size_is = value_other page_size_option before (given_seen Print) refl ∙ has.page_size_is;
         hex_is = given_other hex_option before (given_seen Print) old.hex refl has.hex_is;
         print_is = given_now print_option before (given_seen Print) refl;
       },

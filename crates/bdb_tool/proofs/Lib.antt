@@ -1,6 +1,3 @@
-pub mod PrintingLemmas
-pub mod PrinterLemmas
-pub mod DumpLemmas
 pub mod FinishLemmas
 pub mod RunLemmas
 pub mod CommandLemmas

@@ -12,19 +12,19 @@ use Rattle.bdb_format.proofs.KnownLemmas.{keeps_itself}
 use Rattle.bdb_writing.specs.Loads.{IsTextAnswer}
 use Rattle.bdb_writing.specs.Trials.{IsTrialAnswer}
 use Rattle.bdb_tool.specs.Commands.{Ask, Command, Load, command_of, reads_input}
-use Rattle.bdb_tool.specs.Outputs.{AnswersInPart, IsActionAnswer, IsAnswerBy, IsAnswerTo, IsCommandAnswer, IsInput, Output, StatusIs}
+use Rattle.bdb_tool.specs.Outputs.{AnswersInPart, IsActionAnswer, IsAnswerBy, IsAnswerTo, IsCommandAnswer, IsInput, Output, StatusIs, salvage_answer}
 use Rattle.bdb_tool.specs.Parts.{Answered, Ends, Finishes, IsTaskAnswered, IsToldStop, Tells, Unanswered}
 use Rattle.bdb_tool.specs.Runs.{ErrorLine, IsAnswered, OfAnswer, OfMemory, OfReadFault, OfWriteFault, RunsAs}
 use Rattle.bdb_tool.specs.Tasks.{AreReading, IsRead, IsStopped, IsTaken, IsTooLong}
-use Rattle.bdb_tool.specs.WordsSeen.{trial_seen}
+use Rattle.bdb_tool.specs.WordsSeen.{salvage_seen, trial_seen}
 use Rattle.bdb_tool.specs.declared.command.Trial.{Trial as CodeTrial}
 use Rattle.bdb_tool.specs.declared.task.Stop.{Stop}
 use Rattle.bdb_tool.specs.declared.task.Stop.TheVariants.{Usage, TooLarge, ReadFault, Memory as MemoryStop}
 use Rattle.bdb_tool.specs.declared.task.Task.{Task}
-use Rattle.bdb_tool.specs.declared.task.Task.TheVariants.{Ask as AskTask, Load as LoadTask, Trial as TrialTask}
-use Rattle.bdb_tool.proofs.AnswerLemmas.{answer_own, text_own, trial_own}
+use Rattle.bdb_tool.specs.declared.task.Task.TheVariants.{Ask as AskTask, Load as LoadTask, Salvage as SalvageTask, Trial as TrialTask}
+use Rattle.bdb_tool.proofs.AnswerLemmas.{answer_own, salvage_own, text_own, trial_own}
 use Rattle.bdb_tool.proofs.FinishLemmas.{memory_finishes, told_finishes}
-use Rattle.bdb_tool.proofs.PrintingLemmas.{moved}
+use Rattle.bdb_printing.proofs.PrintingLemmas.{moved}
 
 -- The input.
 
@@ -221,6 +221,9 @@ taken_runs words source out err (AskTask request image) status taken answered =
     let command : Command = record { limit = taken.limit; action = Ask taken.asked } in
     asked_runs words source out err command image (judged_answer (verdict_of image) taken.asked image) status taken.read refl (answer_own taken.asked image).no_read_fault (answered taken.asked taken.seen)
 taken_runs words source out err (LoadTask text limit) status taken answered = loaded_runs words source out err limit text status taken.read answered
+taken_runs words source out err (SalvageTask asked image) status taken answered =
+    let command : Command = record { limit = taken.limit; action = salvage_seen asked } in
+    asked_runs words source out err command image (salvage_answer asked.guess asked.print image) status taken.read refl (salvage_own asked.guess asked.print image).no_read_fault answered
 taken_runs words source out err (TrialTask trial limit) status taken answered = tried_runs words source out err limit trial status taken.command_is taken.uncalled answered
 
 -- words that are no command

@@ -5,13 +5,14 @@ use Rattle.bdb_model.specs.Change.{Change, IsUncalled}
 use Rattle.bdb_model.specs.Command.{Request}
 use Rattle.bdb_model.specs.Faults.{Took}
 use Rattle.bdb_tool.specs.Commands.{Action, Ask, Load, Command, asking, command_of, reads_input, within}
-use Rattle.bdb_tool.specs.declared.command.Action.TheVariants.{Ask as AskWord, Load as LoadWord, Trial as TrialWord}
+use Rattle.bdb_tool.specs.declared.command.Action.TheVariants.{Ask as AskWord, Load as LoadWord, Salvage as SalvageWord, Trial as TrialWord}
 use Rattle.bdb_tool.specs.declared.command.Request.{Request as CodeRequest}
+use Rattle.bdb_tool.specs.declared.command.Salvage.{Salvage as CodeSalvage}
 use Rattle.bdb_tool.specs.declared.command.Trial.{Trial as CodeTrial}
 use Rattle.bdb_tool.specs.declared.task.Stop.{Stop}
 use Rattle.bdb_tool.specs.declared.task.Stop.TheVariants.{Usage, TooLarge, ReadFault, Memory}
-use Rattle.bdb_tool.specs.Tasks.{AreReading, IsAsked, IsInputWithin, IsStopped, IsTextRead, IsTried, IsUnreadable}
-use Rattle.bdb_tool.specs.WordsSeen.{IsSeen, request_seen}
+use Rattle.bdb_tool.specs.Tasks.{AreReading, IsAsked, IsInputWithin, IsSalvageRead, IsStopped, IsTextRead, IsTried, IsUnreadable}
+use Rattle.bdb_tool.specs.WordsSeen.{IsSeen, request_seen, salvage_seen}
 
 some_value : {A : Type 0} (value : Option A) → IsTrue (is_some value) → (x : A) × (value ≡ Some x)
 some_value None is = absurd cc
@@ -46,6 +47,10 @@ is_asked words source limit request image seen input =
 pub is_text_read : (words : List (List ℕ)) (source : Change) (limit : ℕ) (text : List ℕ) → IsSeen (command_of words) (record { limit = limit; action = LoadWord }) → IsInputWithin limit source text → IsTextRead words source text limit
 is_text_read words source limit text seen input = record { read = record { command_is = seen.0; reads = refl; input_is = input } }
 
+pub is_salvage_read : (words : List (List ℕ)) (source : Change) (limit : ℕ) (asked : CodeSalvage) (image : List ℕ) → IsSeen (command_of words) (record { limit = limit; action = SalvageWord asked }) → IsInputWithin limit source image
+    → IsSalvageRead words source asked image
+is_salvage_read words source limit asked image seen input = record { limit = limit; read = record { command_is = seen.0; reads = refl; input_is = input } }
+
 pub is_tried : (words : List (List ℕ)) (source : Change) (limit : ℕ) (trial : CodeTrial) → IsSeen (command_of words) (record { limit = limit; action = TrialWord trial }) → IsUncalled source → IsTried words source trial limit
 is_tried words source limit trial seen uncalled = record { command_is = seen.0; uncalled = uncalled }
 
@@ -64,3 +69,6 @@ asked_unread words source limit request stop seen unread =
 
 pub text_unread : (words : List (List ℕ)) (source : Change) (limit : ℕ) (stop : Stop) → IsSeen (command_of words) (record { limit = limit; action = LoadWord }) → IsUnreadable limit source stop → IsStopped words source stop
 text_unread words source limit stop seen unread = not_read words source limit Load stop seen.0 refl unread
+
+pub salvage_unread : (words : List (List ℕ)) (source : Change) (limit : ℕ) (asked : CodeSalvage) (stop : Stop) → IsSeen (command_of words) (record { limit = limit; action = SalvageWord asked }) → IsUnreadable limit source stop → IsStopped words source stop
+salvage_unread words source limit asked stop seen unread = not_read words source limit (salvage_seen asked) stop seen.0 refl unread

@@ -3,13 +3,18 @@ use Rattle.std.specs.Prelude.{ℕ, nat_le, ◌==◌, if◌then◌else◌, Bool, 
 use Rattle.std.specs.Str.{bytes_eq}
 use Rattle.bdb_format.specs.declared.kinds.Kind.{Kind}
 use Rattle.bdb_format.specs.declared.kinds.Kind.TheVariants.{Btree, Recno, Hash, Queue}
+use Rattle.bdb_format.specs.declared.kinds.Order.{Order}
+use Rattle.bdb_format.specs.declared.kinds.Order.TheVariants.{Big, Little}
 use Rattle.bdb_format.specs.Digits.{number_in}
-use Rattle.bdb_model.specs.Command.{Arguments, OptionRow, Request, Verify, ListAll, arguments, dump_request, get_request, hex_row, limit_of, max_bytes, max_bytes_row, name_row, once, print_row, value_given}
+use Rattle.bdb_model.specs.Command.{Arguments, OptionRow, Request, Verify, ListAll, arguments, dump_request, get_request, hex_row, is_given, limit_of, max_bytes, max_bytes_row, name_row, once, print_option, print_row, value_given}
+use Rattle.bdb_salvage.specs.declared.guess.Guess.{Guess}
 
--- what a command does: it asks something of a file, loads a text, or builds a file of pairs that are generated: their kind, their seed, and how many
+-- what a command does: it asks something of a file, loads a text, salvages an image by the guess that is given and prints the data or spells them by digits,
+-- or builds a file of pairs that are generated: their kind, their seed, and how many
 pub data Action : Type 0 where
   Ask : Request → Action
   Load : Action
+  Salvage : Option Guess → Bool → Action
   Trial : Kind → ℕ → ℕ → Action
 
 -- a command: the longest input that it takes, or the longest image that it builds, and what it does
@@ -21,11 +26,59 @@ pub record Command : Type 0 where
 abbrev pub reads_input : Action → Bool
 reads_input (Ask request) = true
 reads_input Load = true
+reads_input (Salvage guess print) = true
 reads_input (Trial kind seed count) = false
 
 abbrev pub asking : Option Request → Option Action
 asking None = None
 asking (Some request) = Some (Ask request)
+
+-- Options of `salvage`.
+
+abbrev pub order_option : List ℕ
+order_option = codes "--order"
+
+abbrev pub page_size_option : List ℕ
+page_size_option = codes "--page-size"
+
+abbrev pub order_row : OptionRow
+order_row = record { word = order_option; takes_value = true }
+
+abbrev pub page_size_row : OptionRow
+page_size_row = record { word = page_size_option; takes_value = true }
+
+abbrev pub order_named : List ℕ → Option Order
+order_named word = if bytes_eq word (codes "big") then Some Big else (if bytes_eq word (codes "little") then Some Little else None)
+
+-- the legal page size with these digits
+abbrev pub page_size_named : List ℕ → Option ℕ
+page_size_named word =
+    if bytes_eq word (codes "512") then Some 512
+    else (if bytes_eq word (codes "1024") then Some 1024
+    else (if bytes_eq word (codes "2048") then Some 2048
+    else (if bytes_eq word (codes "4096") then Some 4096
+    else (if bytes_eq word (codes "8192") then Some 8192
+    else (if bytes_eq word (codes "16384") then Some 16384
+    else (if bytes_eq word (codes "32768") then Some 32768 else None))))))
+
+abbrev pub guess_by : Option Order → Option ℕ → Option (Option Guess)
+guess_by None page_size = None
+guess_by (Some order) None = None
+guess_by (Some order) (Some page_size) = Some (Some (record { order = order; page_size = page_size }))
+
+-- the guess of an order and a page size, which are given together or not at all
+abbrev pub guess_asked : Option (List ℕ) → Option (List ℕ) → Option (Option Guess)
+guess_asked None None = Some None
+guess_asked None (Some page_size) = None
+guess_asked (Some order) None = None
+guess_asked (Some order) (Some page_size) = guess_by (order_named order) (page_size_named page_size)
+
+abbrev pub salvaging : Option (Option Guess) → Bool → Option Action
+salvaging None print = None
+salvaging (Some guess) print = Some (Salvage guess print)
+
+abbrev pub salvage_action : Arguments → Option Action
+salvage_action all = salvaging (guess_asked (value_given order_option all.given) (value_given page_size_option all.given)) (is_given print_option all.given)
 
 -- Operands of `trial`.
 
@@ -87,11 +140,14 @@ dump_row = record { word = codes "dump"; options = max_bytes_row ∷ name_row �
 abbrev pub load_row : CommandRow
 load_row = plain_row (codes "load") Load
 
+abbrev pub salvage_row : CommandRow
+salvage_row = record { word = codes "salvage"; options = max_bytes_row ∷ order_row ∷ page_size_row ∷ print_row ∷ []; operands = 0; does = salvage_action }
+
 abbrev pub trial_row : CommandRow
 trial_row = record { word = codes "trial"; options = max_bytes_row ∷ []; operands = 3; does = λ all. trial_action all.operands }
 
 abbrev pub commands : List CommandRow
-commands = verify_row ∷ list_row ∷ get_row ∷ dump_row ∷ load_row ∷ trial_row ∷ []
+commands = verify_row ∷ list_row ∷ get_row ∷ dump_row ∷ load_row ∷ salvage_row ∷ trial_row ∷ []
 
 abbrev pub within : Option ℕ → Option Action → Option Command
 within None action = None

@@ -1,16 +1,30 @@
 -- The answers to words and an input: a status, and what is written to the output and to the error sink. Source: README.md, "Use".
-use Rattle.std.specs.Prelude.{◌≡◌, ◌⊎◌, ℕ, nat_lt, ◌&&◌, Bool, true, false, List, length, Option, Some, None, ⊤}
+use Rattle.std.specs.Prelude.{◌≡◌, ◌⊎◌, ℕ, nat_lt, ◌&&◌, Bool, true, false, List, length, Option, Some, None, codes, ⊤}
 use Rattle.bdb_format.specs.Verdict.{verdict_of}
-use Rattle.bdb_model.specs.Answers.{Answer, judged_answer, told, too_large_line, usage}
+use Rattle.bdb_model.specs.Answers.{Answer, done, judged_answer, told, too_large_line, usage}
 use Rattle.bdb_model.specs.Change.{Change, Gains, GainsPart, Stays}
-use Rattle.bdb_tool.specs.Commands.{Action, Ask, Command, Load, Trial, command_of, reads_input}
+use Rattle.bdb_model.specs.Lines.{line}
+use Rattle.bdb_printing.specs.SalvageText.{salvage_text}
+use Rattle.bdb_salvage.specs.Guesses.{chosen}
+use Rattle.bdb_salvage.specs.declared.guess.Guess.{Guess}
+use Rattle.bdb_tool.specs.Commands.{Action, Ask, Command, Load, Salvage, Trial, command_of, reads_input}
 use Rattle.bdb_writing.specs.Loads.{IsTextAnswer}
 use Rattle.bdb_writing.specs.Trials.{IsTrialAnswer}
+
+-- `salvage`: what is salvaged from an image by a guess, if there is one
+abbrev pub salvaged_answer : Option Guess → Bool → List ℕ → Answer
+salvaged_answer None print image = told 10 (line (codes "no metadata page"))
+salvaged_answer (Some guess) print image = done (salvage_text print guess image)
+
+-- the guess is the given one, or else that of page 0
+abbrev pub salvage_answer : Option Guess → Bool → List ℕ → Answer
+salvage_answer guess print image = salvaged_answer (chosen guess image) print image
 
 -- an answer to an input that isn't too long; `load` and `trial` may have several
 abbrev pub IsActionAnswer : Action → ℕ → List ℕ → Answer → Type 0
 IsActionAnswer (Ask request) limit input answer = answer ≡ judged_answer (verdict_of input) request input
 IsActionAnswer Load limit input answer = IsTextAnswer limit input answer
+IsActionAnswer (Salvage guess print) limit input answer = answer ≡ salvage_answer guess print input
 IsActionAnswer (Trial kind seed count) limit input answer = IsTrialAnswer limit kind seed count answer
 
 -- an answer to an input, by whether it is too long

@@ -7,11 +7,12 @@ use Rattle.bdb_model.specs.Answers.{Answer, fault_line, judged_answer, too_large
 use Rattle.bdb_model.specs.Change.{Change, Gains, GainsPart, HasFailed, Stays}
 use Rattle.bdb_model.specs.Command.{Request}
 use Rattle.bdb_model.specs.Lines.{memory_line, read_fault_line, write_fault_line}
-use Rattle.bdb_tool.specs.declared.printing.Cut.{Cut}
-use Rattle.bdb_tool.specs.declared.printing.Cut.TheVariants.{WriteFault, Memory}
+use Rattle.bdb_printing.specs.declared.printing.Cut.{Cut}
+use Rattle.bdb_printing.specs.declared.printing.Cut.TheVariants.{WriteFault, Memory}
+use Rattle.bdb_tool.specs.Outputs.{salvage_answer}
 use Rattle.bdb_tool.specs.WordsSeen.{request_seen}
 use Rattle.bdb_tool.specs.declared.task.Task.{Task}
-use Rattle.bdb_tool.specs.declared.task.Task.TheVariants.{Ask as AskTask, Load as LoadTask, Trial as TrialTask}
+use Rattle.bdb_tool.specs.declared.task.Task.TheVariants.{Ask as AskTask, Load as LoadTask, Salvage as SalvageTask, Trial as TrialTask}
 use Rattle.bdb_tool.specs.declared.task.Stop.{Stop}
 use Rattle.bdb_tool.specs.declared.task.Stop.TheVariants.{Usage, TooLarge, ReadFault, Memory as MemoryStop}
 use Rattle.bdb_writing.specs.declared.refusal.Refusal.{Refusal}
@@ -78,4 +79,5 @@ abbrev pub IsTaskAnswered : Task → Change → Change → ℕ → Type 0
 IsTaskAnswered (AskTask request image) out err status =
     (asked : Request) → request_seen request ≡ Some asked → Finishes (judged_answer (verdict_of image) asked image) out err status
 IsTaskAnswered (LoadTask text limit) out err status = Ends (IsTextAnswer limit text) out err status
+IsTaskAnswered (SalvageTask asked image) out err status = Finishes (salvage_answer asked.guess asked.print image) out err status
 IsTaskAnswered (TrialTask trial limit) out err status = Ends (IsTrialAnswer limit trial.kind trial.seed trial.count) out err status

@@ -5,11 +5,12 @@ use Rattle.bdb_model.specs.Change.{Change, HasFailed, IsUncalled}
 use Rattle.bdb_model.specs.Command.{Request}
 use Rattle.bdb_model.specs.Faults.{Took}
 use Rattle.bdb_tool.specs.Commands.{Ask, Command, Load, command_of, reads_input}
-use Rattle.bdb_tool.specs.WordsSeen.{IsFitTrial, request_seen, trial_seen}
+use Rattle.bdb_tool.specs.WordsSeen.{IsFitSalvage, IsFitTrial, request_seen, salvage_seen, trial_seen}
 use Rattle.bdb_tool.specs.declared.command.Request.{Request as CodeRequest}
+use Rattle.bdb_tool.specs.declared.command.Salvage.{Salvage as CodeSalvage}
 use Rattle.bdb_tool.specs.declared.command.Trial.{Trial as CodeTrial}
 use Rattle.bdb_tool.specs.declared.task.Task.{Task}
-use Rattle.bdb_tool.specs.declared.task.Task.TheVariants.{Ask as AskTask, Load as LoadTask, Trial as TrialTask}
+use Rattle.bdb_tool.specs.declared.task.Task.TheVariants.{Ask as AskTask, Load as LoadTask, Salvage as SalvageTask, Trial as TrialTask}
 use Rattle.bdb_tool.specs.declared.task.Stop.{Stop}
 use Rattle.bdb_tool.specs.declared.task.Stop.TheVariants.{Usage, TooLarge, ReadFault, Memory}
 
@@ -68,6 +69,11 @@ pub record IsAsked (words : List (List ℕ)) (source : Change) (request : CodeRe
 pub record IsTextRead (words : List (List ℕ)) (source : Change) (text : List ℕ) (limit : ℕ) : Type 0 where
   pub read : IsRead words source (record { limit = limit; action = Load }) text
 
+-- the words ask to salvage the image, which is the input
+pub record IsSalvageRead (words : List (List ℕ)) (source : Change) (asked : CodeSalvage) (image : List ℕ) : Type 0 where
+  pub limit : ℕ
+  pub read : IsRead words source (record { limit = limit; action = salvage_seen asked }) image
+
 -- the words ask for a trial, and nothing was read
 pub record IsTried (words : List (List ℕ)) (source : Change) (trial : CodeTrial) (limit : ℕ) : Type 0 where
   pub command_is : command_of words ≡ Some (record { limit = limit; action = trial_seen trial })
@@ -77,6 +83,7 @@ pub record IsTried (words : List (List ℕ)) (source : Change) (trial : CodeTria
 abbrev pub IsTaken : List (List ℕ) → Change → Task → Type 0
 IsTaken words source (AskTask request image) = IsAsked words source request image
 IsTaken words source (LoadTask text limit) = IsTextRead words source text limit
+IsTaken words source (SalvageTask asked image) = IsSalvageRead words source asked image
 IsTaken words source (TrialTask trial limit) = IsTried words source trial limit
 
 -- a request that was read of words, of an image that isn't too long
@@ -92,4 +99,5 @@ pub record IsFitLoad (text : List ℕ) (limit : ℕ) : Type 0 where
 abbrev pub IsFitTask : Task → Type 0
 IsFitTask (AskTask request image) = IsFitAsk request image
 IsFitTask (LoadTask text limit) = IsFitLoad text limit
+IsFitTask (SalvageTask asked image) = IsFitSalvage asked × (length image ≤ 2 ^ 30)
 IsFitTask (TrialTask trial limit) = IsFitTrial trial × (limit ≤ 2 ^ 30)

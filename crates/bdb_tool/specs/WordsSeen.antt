@@ -1,18 +1,20 @@
 -- What the values of the code are in the definitions of a command line's words.
-use Rattle.std.specs.Prelude.{ℕ, ◌≡◌, ◌<◌, ◌≤◌, ◌^◌, ◌++◌, Bool, true, false, not, List, [], ◌∷◌, drop, length, Option, Some, IsTrue, is_some, option_copied, ⊤}
+use Rattle.std.specs.Prelude.{ℕ, ◌≡◌, ◌<◌, ◌≤◌, ◌^◌, ◌++◌, Bool, true, false, not, List, [], ◌∷◌, drop, length, Option, Some, IfSome, IsTrue, is_some, option_copied, ⊤}
+use Rattle.bdb_format.specs.HeadOf.{is_page_size}
 use Rattle.bdb_model.specs.Command.{Request, Verify, ListAll, OptionRow, Given, Arguments, arguments, asked_name, hex_option, hex_row, is_given, key_request, max_bytes, max_bytes_row, name_option, name_row, only_operands, print_option, print_row, row_of, text_request, value_given, with_option}
-use Rattle.bdb_tool.specs.Commands.{Action, Load, Trial, Command, asking, within}
+use Rattle.bdb_tool.specs.Commands.{Action, Load, Salvage, Trial, Command, asking, order_option, order_row, page_size_option, page_size_row, within}
 use Rattle.bdb_model.specs.TextSpelling.{bytes_spelled}
 use Rattle.bdb_tool.specs.declared.options.OptionWord.{OptionWord}
-use Rattle.bdb_tool.specs.declared.options.OptionWord.TheVariants.{MaxBytes as MaxBytesWord, Name as NameWord, Hex as HexWord, Print as PrintWord}
+use Rattle.bdb_tool.specs.declared.options.OptionWord.TheVariants.{MaxBytes as MaxBytesWord, Name as NameWord, Order as OrderWord, PageSize as PageSizeWord, Hex as HexWord, Print as PrintWord}
 use Rattle.bdb_tool.specs.declared.options.GivenOption.{GivenOption}
-use Rattle.bdb_tool.specs.declared.options.GivenOption.TheVariants.{MaxBytes, Name, Hex, Print}
+use Rattle.bdb_tool.specs.declared.options.GivenOption.TheVariants.{MaxBytes, Name, Order, PageSize, Hex, Print}
 use Rattle.bdb_tool.specs.declared.options.Arguments.{Arguments as ReadArguments}
 use Rattle.bdb_tool.specs.declared.command.Request.{Request as CodeRequest}
 use Rattle.bdb_tool.specs.declared.command.Request.TheVariants.{Verify as VerifyWord, List as ListWord, Get as GetWord, Dump as DumpWord}
 use Rattle.bdb_tool.specs.declared.command.Action.{Action as CodeAction}
-use Rattle.bdb_tool.specs.declared.command.Action.TheVariants.{Ask as AskWord, Load as LoadWord, Trial as TrialWord}
+use Rattle.bdb_tool.specs.declared.command.Action.TheVariants.{Ask as AskWord, Load as LoadWord, Salvage as SalvageWord, Trial as TrialWord}
 use Rattle.bdb_tool.specs.declared.command.Command.{Command as CodeCommand}
+use Rattle.bdb_tool.specs.declared.command.Salvage.{Salvage as CodeSalvage}
 use Rattle.bdb_tool.specs.declared.command.Trial.{Trial as CodeTrial}
 use Rattle.bdb_tool.specs.declared.options.Step.{Step}
 use Rattle.bdb_tool.specs.declared.options.Step.TheVariants.{Given as GivenStep, Operands}
@@ -22,12 +24,16 @@ use Rattle.bdb_tool.specs.declared.options.Step.TheVariants.{Given as GivenStep,
 abbrev pub row_seen : OptionWord → OptionRow
 row_seen MaxBytesWord = max_bytes_row
 row_seen NameWord = name_row
+row_seen OrderWord = order_row
+row_seen PageSizeWord = page_size_row
 row_seen HexWord = hex_row
 row_seen PrintWord = print_row
 
 abbrev pub given_seen : GivenOption → Given
 given_seen (MaxBytes text) = record { word = max_bytes; value = text.now }
 given_seen (Name text) = record { word = name_option; value = text.now }
+given_seen (Order text) = record { word = order_option; value = text.now }
+given_seen (PageSize text) = record { word = page_size_option; value = text.now }
 given_seen Hex = record { word = hex_option; value = [] }
 given_seen Print = record { word = print_option; value = [] }
 
@@ -35,6 +41,8 @@ given_seen Print = record { word = print_option; value = [] }
 abbrev pub word_count : GivenOption → ℕ
 word_count (MaxBytes text) = 2
 word_count (Name text) = 2
+word_count (Order text) = 2
+word_count (PageSize text) = 2
 word_count Hex = 1
 word_count Print = 1
 
@@ -56,6 +64,8 @@ IsGivenBy option next given =
 pub record HasGiven (read : ReadArguments) (given : List Given) : Type 0 where
   pub max_bytes_is : value_given max_bytes given ≡ option_copied read.max_bytes
   pub name_is : value_given name_option given ≡ option_copied read.name
+  pub order_is : value_given order_option given ≡ option_copied read.order
+  pub page_size_is : value_given page_size_option given ≡ option_copied read.page_size
   pub hex_is : is_given hex_option given ≡ read.hex
   pub print_is : is_given print_option given ≡ read.print
 
@@ -87,9 +97,13 @@ request_seen (DumpWord it) = text_request (asked_name (option_copied it.name)) i
 abbrev pub trial_seen : CodeTrial → Action
 trial_seen trial = Trial trial.kind trial.seed trial.count
 
+abbrev pub salvage_seen : CodeSalvage → Action
+salvage_seen asked = Salvage asked.guess asked.print
+
 abbrev pub action_seen : CodeAction → Option Action
 action_seen (AskWord request) = asking (request_seen request)
 action_seen LoadWord = Some Load
+action_seen (SalvageWord asked) = Some (salvage_seen asked)
 action_seen (TrialWord trial) = Some (trial_seen trial)
 
 abbrev pub command_seen : CodeCommand → Option Command
@@ -104,9 +118,14 @@ pub record IsFitTrial (trial : CodeTrial) : Type 0 where
   pub seed : trial.seed < 2 ^ 31
   pub count : trial.count ≤ 200000
 
+-- the guess that is given has a legal page size
+abbrev pub IsFitSalvage : CodeSalvage → Type 0
+IsFitSalvage asked = IfSome asked.guess (λ guess. IsTrue (is_page_size guess.page_size))
+
 abbrev pub IsFitAction : CodeAction → Type 0
 IsFitAction (AskWord request) = ⊤
 IsFitAction LoadWord = ⊤
+IsFitAction (SalvageWord asked) = IsFitSalvage asked
 IsFitAction (TrialWord trial) = IsFitTrial trial
 
 -- what is done can be done, within a limit

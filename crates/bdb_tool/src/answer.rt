@@ -8,22 +8,21 @@ ghost use Rattle.bdb_model.specs.Lines.{memory_line};
 ghost use Rattle.bdb_model.specs.TextSpelling.{bytes_spelled};
 ghost use Rattle.bdb_model.specs.Verdict.{verdict_of};
 ghost use Rattle.bdb_tool.specs.Parts.{Finishes, IsRefused, IsTaskAnswered, Tells};
-ghost use Rattle.bdb_tool.specs.Printing.{Writes};
+ghost use Rattle.bdb_printing.specs.Printing.{Writes};
 ghost use Rattle.bdb_tool.specs.Tasks.{IsFitTask};
 ghost use Rattle.bdb_tool.specs.WordsSeen.{request_seen};
 
 use crate::building::{answer_load, answer_trial};
 use crate::command::{Lookup, Request, Selection};
-use crate::dumping::{write_section, write_sections};
 use crate::finish::{put, report, tell, tell_memory};
-use crate::listing::{write_found, write_list};
-use crate::printing::Cut;
+use crate::salvaging::answer_salvage;
 use crate::status::{FAULT, NOT_FOUND, UNSUPPORTED};
 use crate::task::Task;
 use crate::text::{fault_line, sound_line, unsupported_line};
 use bdb_file::{Found, Sound, verify};
 use bdb_io::Sink;
 use bdb_model::{Bytes, Fault, Steps, Unsupported, Verdict};
+use bdb_printing::{Cut, write_found, write_list, write_section, write_sections};
 use bdb_text::{SpellError, read_spelling};
 use std::alloc::{AllocError, Global};
 use std::sync::ledger::Ledger;
@@ -249,6 +248,7 @@ pub(crate) fn answer<K: Sink, E: Sink, L: Ledger>(
     match task {
         Task::Ask(request, image) => answer_file(alloc, image.bytes(), &request, out, err, steps),
         Task::Load(text, limit) => answer_load(alloc, text, limit, out, err),
+        Task::Salvage(asked, image) => answer_salvage(alloc, image.bytes(), asked, out, err, steps),
         Task::Trial(trial, limit) => answer_trial(alloc, trial, limit, out, err, steps),
     }
 }

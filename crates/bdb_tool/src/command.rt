@@ -2,12 +2,14 @@
 ghost use Rattle.std.specs.Prelude.{◌≡◌, ◌≢◌, ◌≤◌, ◌^◌, [], ◌∷◌, IfSome, Some, List, MatchOption, drop, is_some, length, not, option_copied, ℕ};
 ghost use Rattle.bdb_format.specs.Digits.{number_in};
 ghost use Rattle.bdb_model.specs.Command.{arguments, asked_name, limit_of, once};
-ghost use Rattle.bdb_tool.specs.Commands.{Action as ModelAction, at_most, command_of, command_with, dump_row, get_row, kind_named, plain_row, trial_row};
+ghost use Rattle.bdb_tool.specs.Commands.{Action as ModelAction, at_most, command_of, command_with, dump_row, get_row, kind_named, plain_row, salvage_row, trial_row};
 ghost use Rattle.bdb_tool.specs.WordsSeen.{IsFitAction, IsFitCommand, IsSeen, action_seen};
 
+use crate::guesses::guess_asked;
 use crate::options::{OptionWord, read_arguments};
 use bdb_format::{Kind, number_in};
 use bdb_model::Words;
+use bdb_salvage::Guess;
 use bdb_text::is_spelling;
 
 /// What `get` asks, with the name and the key as they are spelled.
@@ -38,6 +40,13 @@ pub enum Request<'w> {
     Dump(Selection<'w>),
 }
 
+/// What `salvage` asks: the guess that is given, and whether data are printed.
+#[derive(Clone, Copy)]
+pub struct Salvage {
+    pub guess: Option<Guess>,
+    pub print: bool,
+}
+
 /// What `trial` generates: so many pairs of a kind, from a seed.
 #[derive(Clone, Copy)]
 pub struct Trial {
@@ -51,6 +60,7 @@ pub struct Trial {
 pub enum Action<'w> {
     Ask(Request<'w>),
     Load,
+    Salvage(Salvage),
     Trial(Trial),
 }
 
@@ -92,6 +102,14 @@ const LOOKUP: [OptionWord; 4] = [
 /// The options of `dump`.
 const SELECTION: [OptionWord; 3] = [OptionWord::MaxBytes, OptionWord::Name, OptionWord::Print];
 
+/// The options of `salvage`.
+const SALVAGE: [OptionWord; 4] = [
+    OptionWord::MaxBytes,
+    OptionWord::Order,
+    OptionWord::PageSize,
+    OptionWord::Print,
+];
+
 /// The command that the words are, unless they are none.
 pub fn command_of<'w>(words: &'w Words) -> Option<Command<'w>>
     ensures command { MatchOption result (command_of words.now ≡ None) (IsSeen (command_of words.now)) }
@@ -112,6 +130,9 @@ pub fn command_of<'w>(words: &'w Words) -> Option<Command<'w>>
     }
     if word == b"load".as_slice() {
         return plain_command(words, Action::Load);
+    }
+    if word == b"salvage".as_slice() {
+        return salvage_command(words);
     }
     if word == b"trial".as_slice() {
         return trial_command(words);
@@ -173,6 +194,25 @@ fn dump_command<'w>(words: &'w Words) -> Option<Command<'w>>
         print: read.print,
     };
     let action = Action::Ask(Request::Dump(selection));
+    Some(Command { limit, action })
+}
+
+// The command `salvage`.
+fn salvage_command<'w>(words: &'w Words) -> Option<Command<'w>>
+    ensures command { MatchOption result (command_with salvage_row (once (arguments salvage_row.options (drop 1 words.now))) ≡ None) (IsSeen (command_with salvage_row (once (arguments salvage_row.options (drop 1 words.now))))) }
+    ensures fit { IfSome result IsFitCommand }
+{
+    let read = read_arguments(words, &SALVAGE)?;
+    if read.operands < words.len() {
+        return None;
+    }
+    let limit = limit_of(read.max_bytes)?;
+    let guess = guess_asked(read.order, read.page_size)?;
+    let asked = Salvage {
+        guess,
+        print: read.print,
+    };
+    let action = Action::Salvage(asked);
     Some(Command { limit, action })
 }
 

@@ -2,11 +2,11 @@ ghost use Rattle.std.specs.Prelude.{◌≢◌};
 ghost use Rattle.bdb_model.specs.Change.{change};
 ghost use Rattle.bdb_model.specs.Lines.{memory_line};
 ghost use Rattle.bdb_tool.specs.Parts.{Reports, Tells};
-ghost use Rattle.bdb_tool.specs.Printing.{Writes};
+ghost use Rattle.bdb_printing.specs.Printing.{Writes};
 
-use crate::printing::Cut;
 use crate::status::{DONE, MEMORY, WRITE_FAULT};
 use bdb_io::{Sink, put_all};
+use bdb_printing::Cut;
 
 /// Writes an error line, and answers its status.
 pub(crate) fn tell<E: Sink>(err: &mut E, text: &[u8], status: u8) -> u8

@@ -4,14 +4,13 @@
 mod answer;
 mod building;
 mod command;
-mod dumping;
 mod finish;
+mod guesses;
 pub mod laws;
-mod listing;
 mod names;
 mod options;
-mod printing;
 mod program;
+mod salvaging;
 pub mod status;
 mod task;
 mod text;

@@ -10,6 +10,8 @@ use bdb_model::Words;
 pub enum OptionWord {
     MaxBytes,
     Name,
+    Order,
+    PageSize,
     Hex,
     Print,
 }
@@ -19,6 +21,8 @@ pub enum OptionWord {
 enum GivenOption<'w> {
     MaxBytes(&'w [u8]),
     Name(&'w [u8]),
+    Order(&'w [u8]),
+    PageSize(&'w [u8]),
     Hex,
     Print,
 }
@@ -28,6 +32,8 @@ enum GivenOption<'w> {
 pub struct Arguments<'w> {
     pub max_bytes: Option<&'w [u8]>,
     pub name: Option<&'w [u8]>,
+    pub order: Option<&'w [u8]>,
+    pub page_size: Option<&'w [u8]>,
     pub hex: bool,
     pub print: bool,
     pub operands: usize,
@@ -94,6 +100,8 @@ fn word_of(option: OptionWord) -> &'static [u8]
     match option {
         OptionWord::MaxBytes => b"--max-bytes",
         OptionWord::Name => b"--name",
+        OptionWord::Order => b"--order",
+        OptionWord::PageSize => b"--page-size",
         OptionWord::Hex => b"--hex",
         OptionWord::Print => b"--print",
     }
@@ -106,6 +114,8 @@ fn given_option<'w>(option: OptionWord, next: Option<&'w [u8]>) -> Option<GivenO
     Some(match option {
         OptionWord::MaxBytes => GivenOption::MaxBytes(next?),
         OptionWord::Name => GivenOption::Name(next?),
+        OptionWord::Order => GivenOption::Order(next?),
+        OptionWord::PageSize => GivenOption::PageSize(next?),
         OptionWord::Hex => GivenOption::Hex,
         OptionWord::Print => GivenOption::Print,
     })
@@ -116,7 +126,10 @@ fn word_count(option: GivenOption<'_>) -> usize
     ensures { result ≡ word_count option.entry }
 {
     match option {
-        GivenOption::MaxBytes(_) | GivenOption::Name(_) => 2,
+        GivenOption::MaxBytes(_)
+        | GivenOption::Name(_)
+        | GivenOption::Order(_)
+        | GivenOption::PageSize(_) => 2,
         GivenOption::Hex | GivenOption::Print => 1,
     }
 }
@@ -128,6 +141,8 @@ fn no_arguments<'w>() -> Arguments<'w>
     Arguments {
         max_bytes: None,
         name: None,
+        order: None,
+        page_size: None,
         hex: false,
         print: false,
         operands: 1,
@@ -142,6 +157,8 @@ fn take_option<'w>(read: &mut Arguments<'w>, option: GivenOption<'w>, next: usiz
     match option {
         GivenOption::MaxBytes(text) if read.max_bytes.is_none() => read.max_bytes = Some(text),
         GivenOption::Name(text) if read.name.is_none() => read.name = Some(text),
+        GivenOption::Order(text) if read.order.is_none() => read.order = Some(text),
+        GivenOption::PageSize(text) if read.page_size.is_none() => read.page_size = Some(text),
         GivenOption::Hex if !read.hex => read.hex = true,
         GivenOption::Print if !read.print => read.print = true,
         _ => return None,

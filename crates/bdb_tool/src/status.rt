@@ -29,3 +29,6 @@ pub const BAD_TEXT: u8 = 8;
 
 /// No database has the name, or the key has no data in it.
 pub const NOT_FOUND: u8 = 9;
+
+/// Nothing says how the image is read: no guess is given, and page 0 tells none.
+pub const NO_META: u8 = 10;

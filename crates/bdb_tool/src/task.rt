@@ -5,7 +5,7 @@ ghost use Rattle.bdb_tool.specs.Commands.{command_of};
 ghost use Rattle.bdb_tool.specs.Tasks.{IsFitTask, IsInputWithin, IsStopped, IsTaken, IsUnreadable};
 ghost use Rattle.bdb_tool.specs.WordsSeen.{IsFitCommand, IsSeen, command_seen};
 
-use crate::command::{Action, Command, Request, Trial, command_of};
+use crate::command::{Action, Command, Request, Salvage, Trial, command_of};
 use bdb_io::{Image, ReadError, Source, read_image};
 use bdb_model::Words;
 use std::alloc::Global;
@@ -17,6 +17,8 @@ pub(crate) enum Task<'w> {
     Ask(Request<'w>, Image),
     /// A text is loaded.
     Load(Image, u32),
+    /// An image is salvaged.
+    Salvage(Salvage, Image),
     /// Pairs are generated.
     Trial(Trial, u32),
 }
@@ -62,6 +64,10 @@ fn task_with<'w, S: Source>(
         },
         Action::Load => match input_of(alloc, source, command.limit) {
             Ok(text) => Ok(Task::Load(text, command.limit)),
+            Err(stop) => Err(stop),
+        },
+        Action::Salvage(asked) => match input_of(alloc, source, command.limit) {
+            Ok(image) => Ok(Task::Salvage(asked, image)),
             Err(stop) => Err(stop),
         },
         Action::Trial(trial) => Ok(Task::Trial(trial, command.limit)),

@@ -8,6 +8,7 @@ use crate::running::{
     NOT_FOUND, Question, READ_FAULT, Row, WRITE_FAULT, check, check_rows, is_start, ran_over,
     source_over, status_of,
 };
+use crate::salvaging::TWO_RECORDS;
 use crate::texts::*;
 use bdb_io::MemSink;
 use bdb_layout::hash5;
@@ -190,6 +191,7 @@ const LOADS: [Load; 4] = [
             (&["get", "3"], Done(b"63\n")),
             (&["get", "2"], NOT_FOUND),
             (&["get", "x"], NOT_FOUND),
+            (&["salvage"], Done(TWO_RECORDS)),
         ],
     ),
 ];

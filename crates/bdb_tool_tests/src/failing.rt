@@ -1,7 +1,7 @@
 //! What is written where a sink fails.
 
 use crate::building::{FAULTY, UNLOADED};
-use crate::files::{DUPLICATES_UNTOLD, ONE_PAIR, OUT_OF_ORDER, VERSION_10};
+use crate::files::{DUPLICATES_UNTOLD, NO_METADATA, ONE_PAIR, OUT_OF_ORDER, VERSION_10};
 use crate::images::File;
 use crate::outside::Narrow;
 use crate::reading::COMMANDS;
@@ -9,12 +9,13 @@ use crate::running::Told::Line;
 use crate::running::{
     NOT_FOUND, READ_FAULT, Row, USAGE, WRITE_FAULT, is_start, source_over, status_of,
 };
+use crate::salvaging::NO_META;
 use bdb_io::{MemSink, Sink, Source};
 use std::alloc::{AllocError, Global};
 use std::process::Abort;
 use std::test::Fail;
 
-const REFUSED: [Row; 8] = [
+const REFUSED: [Row; 9] = [
     (
         &["verify"],
         &OUT_OF_ORDER,
@@ -43,6 +44,7 @@ const REFUSED: [Row; 8] = [
         Line(1, b"fault: stage 8 page 1 code 3 KeyOrder\n"),
     ),
     (&["dump", "--name", "c"], &ONE_PAIR, NOT_FOUND),
+    (&["salvage"], &NO_METADATA, NO_META),
 ];
 
 #[derive(Drop)]

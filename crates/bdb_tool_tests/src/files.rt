@@ -276,6 +276,38 @@ pub const TWO_OWNERS: File = File {
     parts: &[&BTREE, &SAME_CHILD],
 };
 
+/// The same without its metadata.
+pub const NO_METADATA: File = File {
+    length: 2048,
+    parts: &[&SAME_CHILD, &[(32, &[0])]],
+};
+
+// Its leaf 2 alone.
+const A_LEAF_ALONE: [Field; 5] = [
+    (8, &[2]), // page number
+    (20, &[2, 0, 0xf8, 1, 1, 5]), // entries, high free offset, level, type
+    (26, &[0xfc, 1, 0xf8, 1]), // offsets
+    (504, &[1, 0, 1, 0x31]), // data 1
+    (508, &[1, 0, 1, 0x61]), // key a
+];
+
+pub const LEAF_ALONE: File = File {
+    length: 512,
+    parts: &[&A_LEAF_ALONE],
+};
+
+/// A byte less than what a guess is read from.
+pub const HEAD_CUT: File = File {
+    length: 23,
+    parts: &[&BTREE],
+};
+
+/// What a guess is read from, and no whole page.
+pub const HEAD_ALONE: File = File {
+    length: 24,
+    parts: &[&BTREE],
+};
+
 // Three buckets, on pages 1 to 3, with the pair c, d in bucket 1, and a zero page in reserve.
 const BUCKETS: [Field; 17] = [
     (12, &[0x61, 0x15, 0x06, 0]), // magic number of page 0

@@ -26,6 +26,8 @@ mod reading;
 #[cfg(test)]
 mod running;
 #[cfg(test)]
+mod salvaging;
+#[cfg(test)]
 mod sizes;
 #[cfg(test)]
 mod texts;

@@ -1,22 +1,25 @@
 //! How a source is read, and what is told where it fails.
 
 use crate::dumping::{BOTH, THE_HASH};
-use crate::files::{DUPLICATES, ONE_PAIR, PAIR_IN_A, TWO_DATABASES};
+use crate::files::{DUPLICATES, ONE_PAIR, PAIR_IN_A, RECNO, TWO_DATABASES, TWO_OWNERS};
 use crate::images::{File, bytes_of};
 use crate::outside::Dripping;
 use crate::running::Told::{Done, Line};
 use crate::running::{READ_FAULT, Ran, Row, SOUND, check, ran_over, source_over};
+use crate::salvaging::{A_RECORD, TWO_PAIRS};
 use std::alloc::{AllocError, Global};
 use std::process::Abort;
 use std::test::Fail;
 
 /// A row of each command.
-pub const COMMANDS: [Row; 5] = [
+pub const COMMANDS: [Row; 7] = [
     (&["verify"], &ONE_PAIR, Done(SOUND)),
     (&["list"], &TWO_DATABASES, Done(b"btree a\nhash b\n")),
     (&["get", "a"], &DUPLICATES, Done(b"31\n32\n33\n")),
     (&["dump"], &PAIR_IN_A, Done(BOTH)),
     (&["dump", "--name", "b"], &PAIR_IN_A, Done(THE_HASH)),
+    (&["salvage"], &TWO_OWNERS, Done(TWO_PAIRS)),
+    (&["salvage"], &RECNO, Done(A_RECORD)),
 ];
 
 #[test]

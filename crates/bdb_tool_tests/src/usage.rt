@@ -1,13 +1,14 @@
 //! Words that are no command, and words that are one. The rules: README.md, "Use".
 
-use crate::files::{KEY_OF_DASHES, ONE_PAIR};
+use crate::files::{KEY_OF_DASHES, ONE_PAIR, TWO_OWNERS};
 use crate::images::bytes_of;
 use crate::outside::Dripping;
 use crate::running::Told::Done;
 use crate::running::{NOT_FOUND, Row, SOUND, USAGE, check, check_rows, ran_over};
+use crate::salvaging::TWO_PAIRS_PRINTED;
 use std::test::Fail;
 
-const NO_COMMAND: [&[&str]; 73] = [
+const NO_COMMAND: [&[&str]; 93] = [
     &[],
     &[""],
     &["--"],
@@ -35,12 +36,40 @@ const NO_COMMAND: [&[&str]; 73] = [
     &["get", "--", "a", "--print"],
     &["load", "x"],
     &["load", "--", "x"],
-    &["salvage"],
+    &["salvage", "x"],
+    &["salvage", "--", "x"],
     &["trial"],
     &["trial", "btree", "1"],
     &["trial", "btree", "1", "2", "3"],
     &["trial", "--", "btree", "1"],
     // options
+    &["salvage", "--order"],
+    &["salvage", "--order", "big"],
+    &["salvage", "--page-size", "512"],
+    &["salvage", "--print", "--order", "little"],
+    &["salvage", "--name", "a"],
+    &["salvage", "--order", "big", "--page-size"],
+    &[
+        "salvage",
+        "--order",
+        "big",
+        "--order",
+        "big",
+        "--page-size",
+        "512",
+    ],
+    &[
+        "salvage",
+        "--page-size",
+        "512",
+        "--order",
+        "big",
+        "--page-size",
+        "512",
+    ],
+    &["salvage", "--order=big", "--page-size=512"],
+    &["dump", "--order", "big", "--page-size", "512"],
+    &["verify", "--page-size", "512", "--order", "little"],
     &["load", "--print"],
     &["load", "--name", "a"],
     &["load", "--max-bytes"],
@@ -80,6 +109,14 @@ const NO_COMMAND: [&[&str]; 73] = [
     &["trial", "hash", "1", "200001"],
     &["trial", "hash", "1", ""],
     &["trial", "hash", "1", "0x1"],
+    &["salvage", "--order", "Big", "--page-size", "512"],
+    &["salvage", "--order", "1234", "--page-size", "512"],
+    &["salvage", "--order", "big", "--page-size", "0512"],
+    &["salvage", "--order", "big", "--page-size", "256"],
+    &["salvage", "--order", "big", "--page-size", "1000"],
+    &["salvage", "--order", "big", "--page-size", "65536"],
+    &["salvage", "--order", "", "--page-size", "512"],
+    &["salvage", "--order", "little", "--page-size", ""],
     // spellings
     &["get", "\\q"],
     &["get", "a\\"],
@@ -87,7 +124,22 @@ const NO_COMMAND: [&[&str]; 73] = [
     &["get", "--name", "\\x", "k"],
 ];
 
-const COMMANDS: [Row; 19] = [
+const COMMANDS: [Row; 20] = [
+    (
+        &[
+            "salvage",
+            "--page-size",
+            "512",
+            "--max-bytes",
+            "2048",
+            "--print",
+            "--order",
+            "little",
+            "--",
+        ],
+        &TWO_OWNERS,
+        Done(TWO_PAIRS_PRINTED),
+    ),
     (&["verify", "--"], &ONE_PAIR, Done(SOUND)),
     (
         &["verify", "--max-bytes", "1073741824"],

@@ -2,7 +2,7 @@ use Rattle.std.proofs.Common.{refl, sym}
 use Rattle.std.specs.Prelude.{codes}
 use Rattle.bdb_model.specs.Command.{ListAll, Verify}
 use Rattle.bdb_tool.specs.Commands.{Ask, Load}
-use Rattle.bdb_tool.proofs.CommandLemmas.{dump_word, get_word, list_word, load_word, no_word, other_word, trial_word, verify_word}
+use Rattle.bdb_tool.proofs.CommandLemmas.{dump_word, get_word, list_word, load_word, no_word, other_word, salvage_word, trial_word, verify_word}
 use Rattle.bdb_tool.proofs.command.command_of.Goals as goal
 
 pub returns-in_err-word-clause-command : goal.returns-in_err-word-clause-command
@@ -35,9 +35,14 @@ returns-then-eq-5-clause-command c =
 
 pub returns-then-eq-6-clause-command : goal.returns-then-eq-6-clause-command
 returns-then-eq-6-clause-command c =
-    let words = trial_word c.args.words.now c.in_ok-word.word.now c.in_ok-word.ensures (rw c.as_slice.ensures at (sym c.if-eq.ensures)) (rw c.as_slice-2.ensures at (sym c.if-eq-2.ensures)) (rw c.as_slice-3.ensures at (sym c.if-eq-3.ensures)) (rw c.as_slice-4.ensures at (sym c.if-eq-4.ensures)) (rw c.as_slice-5.ensures at (sym c.if-eq-5.ensures)) (rw c.as_slice-6.ensures at (sym c.if-eq-6.ensures)) in
+    let words = salvage_word c.args.words.now c.in_ok-word.word.now c.in_ok-word.ensures (rw c.as_slice.ensures at (sym c.if-eq.ensures)) (rw c.as_slice-2.ensures at (sym c.if-eq-2.ensures)) (rw c.as_slice-3.ensures at (sym c.if-eq-3.ensures)) (rw c.as_slice-4.ensures at (sym c.if-eq-4.ensures)) (rw c.as_slice-5.ensures at (sym c.if-eq-5.ensures)) (rw c.as_slice-6.ensures at (sym c.if-eq-6.ensures)) in
+    rw words c.salvage_command.ensures.command
+
+pub returns-then-eq-7-clause-command : goal.returns-then-eq-7-clause-command
+returns-then-eq-7-clause-command c =
+    let words = trial_word c.args.words.now c.in_ok-word.word.now c.in_ok-word.ensures (rw c.as_slice.ensures at (sym c.if-eq.ensures)) (rw c.as_slice-2.ensures at (sym c.if-eq-2.ensures)) (rw c.as_slice-3.ensures at (sym c.if-eq-3.ensures)) (rw c.as_slice-4.ensures at (sym c.if-eq-4.ensures)) (rw c.as_slice-5.ensures at (sym c.if-eq-5.ensures)) (rw c.as_slice-6.ensures at (sym c.if-eq-6.ensures)) (rw c.as_slice-7.ensures at (sym c.if-eq-7.ensures)) in
     rw words c.trial_command.ensures.command
 
 pub returns-clause-command : goal.returns-clause-command
 returns-clause-command c =
-    other_word c.args.words.now c.in_ok-word.word.now c.in_ok-word.ensures (rw c.as_slice.ensures at (sym c.if-eq.ensures)) (rw c.as_slice-2.ensures at (sym c.if-eq-2.ensures)) (rw c.as_slice-3.ensures at (sym c.if-eq-3.ensures)) (rw c.as_slice-4.ensures at (sym c.if-eq-4.ensures)) (rw c.as_slice-5.ensures at (sym c.if-eq-5.ensures)) (rw c.as_slice-6.ensures at (sym c.if-eq-6.ensures))
+    other_word c.args.words.now c.in_ok-word.word.now c.in_ok-word.ensures (rw c.as_slice.ensures at (sym c.if-eq.ensures)) (rw c.as_slice-2.ensures at (sym c.if-eq-2.ensures)) (rw c.as_slice-3.ensures at (sym c.if-eq-3.ensures)) (rw c.as_slice-4.ensures at (sym c.if-eq-4.ensures)) (rw c.as_slice-5.ensures at (sym c.if-eq-5.ensures)) (rw c.as_slice-6.ensures at (sym c.if-eq-6.ensures)) (rw c.as_slice-7.ensures at (sym c.if-eq-7.ensures))

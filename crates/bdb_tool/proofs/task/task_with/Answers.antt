@@ -1,4 +1,4 @@
-use Rattle.bdb_tool.proofs.TaskLemmas.{asked_unread, text_unread}
+use Rattle.bdb_tool.proofs.TaskLemmas.{asked_unread, salvage_unread, text_unread}
 use Rattle.bdb_tool.proofs.task.task_with.Goals as goal
 
 pub returns-in-Err-clause-task : goal.returns-in-Err-clause-task
@@ -6,3 +6,6 @@ returns-in-Err-clause-task g c = λ words seen. asked_unread words _ c.args.comm
 
 pub returns-in-Err-input_of-clause-task : goal.returns-in-Err-input_of-clause-task
 returns-in-Err-input_of-clause-task g c = λ words seen. text_unread words _ c.args.command.limit c.in-Err-input_of.stop (rw c.in-Load.is at seen) c.in-Err-input_of.ensures
+
+pub returns-in-Err-input_of-2-clause-task : goal.returns-in-Err-input_of-2-clause-task
+returns-in-Err-input_of-2-clause-task g c = λ words seen. salvage_unread words _ c.args.command.limit c.in-Salvage.asked c.in-Err-input_of-2.stop (rw c.in-Salvage.is at seen) c.in-Err-input_of-2.ensures

@@ -1,0 +1,5 @@
+pub mod PrintingLemmas
+pub mod PrinterLemmas
+pub mod DumpLemmas
+pub mod ListingLemmas
+pub mod SalvageLemmas

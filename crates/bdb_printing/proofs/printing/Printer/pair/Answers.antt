@@ -1,0 +1,18 @@
+use Rattle.std.proofs.Common.{rules, ◌≡◌}
+use Rattle.std.specs.Prelude.{Err}
+use Rattle.bdb_model.specs.Lines.{line}
+use Rattle.bdb_model.specs.Written.{data_line, key_bytes}
+use Rattle.bdb_overflow.specs.Datum.{datum_seen, key_view_seen}
+use Rattle.bdb_printing.proofs.PrinterLemmas.{adds_cut, then_adds}
+use Rattle.bdb_printing.proofs.printing.Printer.pair.Goals as goal
+
+pub returns-in_err-key_line : goal.returns-in_err-key_line
+returns-in_err-key_line g c =
+    let is : c.from_residual.result ≡ Err c.in_err-key_line.field-0.0 = search rules in
+    adds_cut _ _ _ _ (line (data_line c.args.print (key_bytes (key_view_seen c.args.key)))) (line (data_line c.args.print (datum_seen c.args.value))) _ _ _
+    c.in_err-key_line.was is c.key_line.ensures
+
+pub returns : goal.returns
+returns g c =
+    then_adds _ _ _ _ _ (line (data_line c.args.print (key_bytes (key_view_seen c.args.key)))) (line (data_line c.args.print (datum_seen c.args.value))) _ _
+    c.in_ok-key_line.was c.key_line.ensures c.data_line.ensures

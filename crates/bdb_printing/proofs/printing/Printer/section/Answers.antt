@@ -1,0 +1,13 @@
+use Rattle.std.proofs.Common.{rules, ◌≡◌, ◌++◌}
+use Rattle.std.specs.Prelude.{Err}
+use Rattle.std.specs.List.{flat_map}
+use Rattle.bdb_model.specs.Lines.{line}
+use Rattle.bdb_model.specs.Written.{data_end}
+use Rattle.bdb_printing.specs.Printers.{pair_text}
+use Rattle.bdb_printing.proofs.PrinterLemmas.{adds_cut}
+use Rattle.bdb_printing.proofs.printing.Printer.section.Goals as goal
+
+pub returns-in_err-text : goal.returns-in_err-text
+returns-in_err-text g c =
+    let is : c.from_residual.result ≡ Err c.in_err-text.field-0.0 = search rules in
+    adds_cut _ _ _ _ c.args.header.now (flat_map (pair_text c.args.print) c.args.list ++ line data_end) _ _ _ c.in_err-text.was is c.text.ensures

@@ -1,0 +1,32 @@
+use Rattle.std.proofs.Common.{rules, ◌≡◌, ◌<◌, ◌≤◌, ap, refl, arith, length}
+use Rattle.std.specs.Prelude.{Err}
+use Rattle.bdb_file.specs.Named.{database_at, no_database}
+use Rattle.bdb_model.specs.Databases.{databases}
+use Rattle.bdb_model.specs.File.{file_of}
+use Rattle.bdb_model.specs.Written.{database_text, dump_text}
+use Rattle.bdb_printing.proofs.PrinterLemmas.{begins, place_added, place_cut, places_added}
+use Rattle.bdb_printing.proofs.printing.Printer.sections.Goals as goal
+
+pub loop-i-init : goal.loop-i-init
+unfolding dump_text
+loop-i-init g c = begins _ _ _ _ _ refl
+
+pub loop-i-preserved : goal.loop-i-preserved
+loop-i-preserved g c =
+    let inside : c.loop-i.i < length (databases (file_of c.args.sound.now)) = omega arith in
+    let text = ap (λ i. database_text c.args.print c.args.sound.now (database_at (file_of c.args.sound.now) i)) c.database.ensures in
+    place_added _ _ _ _ _ (database_text c.args.print c.args.sound.now) (databases (file_of c.args.sound.now)) c.loop-i.i no_database _ _ _ inside text
+    c.in_ok-database_section.was c.loop-i.invariant c.database_section.ensures
+
+pub returns-in_err-database_section : goal.returns-in_err-database_section
+returns-in_err-database_section g c =
+    let is : c.from_residual.result ≡ Err c.in_err-database_section.field-0.0 = search rules in
+    let inside : c.loop-i.i < length (databases (file_of c.args.sound.now)) = omega arith in
+    let text = ap (λ i. database_text c.args.print c.args.sound.now (database_at (file_of c.args.sound.now) i)) c.database.ensures in
+    place_cut _ _ _ _ _ (database_text c.args.print c.args.sound.now) (databases (file_of c.args.sound.now)) c.loop-i.i no_database _ _ _ _ _ inside text
+    c.in_err-database_section.was is c.loop-i.invariant c.database_section.ensures
+
+pub returns : goal.returns
+returns g c =
+    let end : length (databases (file_of c.args.sound.now)) ≤ c.loop-i.i = omega arith in
+    places_added _ _ _ _ (database_text c.args.print c.args.sound.now) (databases (file_of c.args.sound.now)) c.loop-i.i _ end c.loop-i.invariant

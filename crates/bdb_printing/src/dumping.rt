@@ -1,0 +1,161 @@
+// What `dump` prints.
+ghost use Rattle.std.specs.Prelude.{◌≡◌, ◌++◌, ◌<◌, length};
+ghost use Rattle.std.specs.List.{flat_map};
+ghost use Rattle.bdb_file.specs.Named.{database_at};
+ghost use Rattle.bdb_model.specs.Change.{change};
+ghost use Rattle.bdb_model.specs.Databases.{databases};
+ghost use Rattle.bdb_model.specs.File.{file_of};
+ghost use Rattle.bdb_model.specs.Lines.{line};
+ghost use Rattle.bdb_model.specs.Written.{data_end, data_line, database_text, dump_text, key_bytes};
+ghost use Rattle.bdb_overflow.specs.Datum.{datum_seen, key_view_seen};
+ghost use Rattle.bdb_printing.specs.Printers.{Adds, pair_text};
+ghost use Rattle.bdb_printing.specs.Printing.{Writes};
+ghost use Rattle.std.specs.Fmt.{decimal};
+
+use crate::printing::{Cut, Printer};
+use bdb_file::{Db, Scan, Sound};
+use bdb_io::Sink;
+use bdb_model::Bytes;
+use bdb_overflow::{Datum, KeyView};
+use bdb_text::{header_text, number_text};
+use std::alloc::Global;
+
+impl<'k, K: Sink> Printer<'k, K> {
+    /// Prints the data line of a value.
+    #[tactic(auto, using(crate::proofs::PrinterLemmas::then_adds_byte, crate::proofs::PrinterLemmas::byte_cut))]
+    fn data_line(&mut self, value: Datum<'_>, print: bool) -> Result<(), Cut>
+        ensures { Adds K.written K.faults self.old self.new (line (data_line print (datum_seen value.entry))) result }
+    {
+        self.text(b" ")?;
+        self.value_line(value, print)
+    }
+
+    /// Prints the data line of a number, which is spelled as the bytes of its digits.
+    fn number_line(&mut self, number: u32, print: bool) -> Result<(), Cut>
+        ensures { Adds K.written K.faults self.old self.new (line (data_line print (decimal number))) result }
+    {
+        match number_text(self.alloc, number) {
+            Ok(digits) => self.data_line(Datum::Inline(digits.as_slice()), print),
+            Err(_) => Err(Cut::Memory),
+        }
+    }
+
+    /// Prints the data line of a key.
+    fn key_line(&mut self, key: KeyView<'_>, print: bool) -> Result<(), Cut>
+        ensures { Adds K.written K.faults self.old self.new (line (data_line print (key_bytes (key_view_seen key.entry)))) result }
+    {
+        match key {
+            KeyView::Bytes(key) => self.data_line(key, print),
+            KeyView::Number(number) => self.number_line(number, print),
+        }
+    }
+
+    /// Prints the two data lines of a pair.
+    pub(crate) fn pair(
+        &mut self,
+        key: KeyView<'_>,
+        value: Datum<'_>,
+        print: bool,
+    ) -> Result<(), Cut>
+        ensures { Adds K.written K.faults self.old self.new (pair_text print (key_view_seen key.entry, datum_seen value.entry)) result }
+    {
+        self.key_line(key, print)?;
+        self.data_line(value, print)
+    }
+
+    /// Prints the data lines of a list.
+    fn pairs(&mut self, list: Scan<'_>, print: bool) -> Result<(), Cut>
+        ensures { Adds K.written K.faults self.old self.new (flat_map (pair_text print) list.entry) result }
+    {
+        for (key, value) in list {
+            self.pair(key, value, print)?;
+        }
+        Ok(())
+    }
+
+    /// Prints the data lines of a list, and the line that ends them.
+    #[tactic(auto, using(crate::proofs::PrinterLemmas::then_adds, crate::proofs::PrinterLemmas::adds_cut))]
+    fn data(&mut self, list: Scan<'_>, print: bool) -> Result<(), Cut>
+        ensures { Adds K.written K.faults self.old self.new (flat_map (pair_text print) list.entry ++ line data_end) result }
+    {
+        self.pairs(list, print)?;
+        self.text(b"DATA=END\n")
+    }
+
+    /// Prints a section: its header, the data lines of its list, and the line that ends them.
+    #[tactic(auto, using(crate::proofs::PrinterLemmas::then_adds, crate::proofs::PrinterLemmas::adds_cut))]
+    fn section(&mut self, header: &[u8], list: Scan<'_>, print: bool) -> Result<(), Cut>
+        ensures { Adds K.written K.faults self.old self.new (header.now ++ (flat_map (pair_text print) list.entry ++ line data_end)) result }
+    {
+        self.text(header)?;
+        self.data(list, print)
+    }
+
+    /// Prints the section of a database.
+    #[tactic(auto, using(crate::proofs::DumpLemmas::section_by_parts))]
+    fn database_section(&mut self, sound: &Sound<'_>, db: Db, print: bool) -> Result<(), Cut>
+        requires { db < length (databases (file_of sound.now)) }
+        ensures { Adds K.written K.faults self.old self.new (database_text print sound.now (database_at (file_of sound.now) db)) result }
+    {
+        let settings = sound.settings(db);
+        let Ok(header) = header_text(self.alloc, sound.name(db), &settings, print) else {
+            return Err(Cut::Memory);
+        };
+        match sound.scan(self.alloc, db) {
+            Ok(list) => self.section(header.as_slice(), list, print),
+            Err(_) => Err(Cut::Memory),
+        }
+    }
+
+    /// Prints the section of each database.
+    fn sections(&mut self, sound: &Sound<'_>, print: bool) -> Result<(), Cut>
+        ensures { Adds K.written K.faults self.old self.new (dump_text print sound.now (databases (file_of sound.now))) result }
+    {
+        for i in 0..sound.databases() {
+            self.database_section(sound, sound.database(i), print)?;
+        }
+        Ok(())
+    }
+}
+
+/// Writes the section of a database.
+#[tactic(auto, using(crate::proofs::PrinterLemmas::all_cut))]
+pub fn write_section<K: Sink>(
+    alloc: Global,
+    out: &mut K,
+    sound: &Sound<'_>,
+    db: Db,
+    print: bool,
+) -> Result<(), Cut>
+    requires { db < length (databases (file_of sound.now)) }
+    ensures { Writes (database_text print sound.now (database_at (file_of sound.now) db)) (change K.written K.faults out.old out.new) result }
+{
+    let mut pending = Bytes::new(alloc);
+    let mut printer = Printer {
+        alloc,
+        out,
+        pending: &mut pending,
+    };
+    printer.database_section(sound, db, print)?;
+    printer.flush()
+}
+
+/// Writes the section of each database.
+#[tactic(auto, using(crate::proofs::PrinterLemmas::all_cut))]
+pub fn write_sections<K: Sink>(
+    alloc: Global,
+    out: &mut K,
+    sound: &Sound<'_>,
+    print: bool,
+) -> Result<(), Cut>
+    ensures { Writes (dump_text print sound.now (databases (file_of sound.now))) (change K.written K.faults out.old out.new) result }
+{
+    let mut pending = Bytes::new(alloc);
+    let mut printer = Printer {
+        alloc,
+        out,
+        pending: &mut pending,
+    };
+    printer.sections(sound, print)?;
+    printer.flush()
+}

@@ -1,0 +1,12 @@
+//! Texts that are written to a sink as they come: lists, data, dumps, and what is salvaged.
+#![tactic(auto)]
+
+mod dumping;
+mod listing;
+mod printing;
+mod salvaging;
+
+pub use dumping::{write_section, write_sections};
+pub use listing::{write_found, write_list};
+pub use printing::Cut;
+pub use salvaging::write_salvaged;

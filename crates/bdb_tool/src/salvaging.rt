@@ -1,0 +1,37 @@
+//! The command that salvages an image.
+ghost use Rattle.std.specs.Prelude.{◌≤◌, ◌^◌, length};
+ghost use Rattle.bdb_model.specs.Change.{change};
+ghost use Rattle.bdb_tool.specs.Outputs.{salvage_answer};
+ghost use Rattle.bdb_tool.specs.Parts.{Finishes};
+ghost use Rattle.bdb_tool.specs.WordsSeen.{IsFitSalvage};
+
+use crate::command::Salvage;
+use crate::finish::{report, tell, tell_memory};
+use crate::status::NO_META;
+use bdb_io::Sink;
+use bdb_model::Steps;
+use bdb_printing::write_salvaged;
+use bdb_salvage::{SalvageError, salvage};
+use std::alloc::Global;
+use std::sync::ledger::Ledger;
+
+/// Answers `salvage` of an image.
+pub(crate) fn answer_salvage<K: Sink, E: Sink, L: Ledger>(
+    alloc: Global,
+    image: &[u8],
+    asked: Salvage,
+    out: &mut K,
+    err: &mut E,
+    steps: &mut Steps<L>,
+) -> u8
+    requires size { length image.now ≤ 2 ^ 30 }
+    requires guess { IsFitSalvage asked }
+    ensures { Finishes (salvage_answer asked.guess asked.print image.now)
+        (change K.written K.faults out.old out.new) (change E.written E.faults err.old err.new) result }
+{
+    match salvage(alloc, image, asked.guess, steps) {
+        Ok(salvaged) => report(write_salvaged(alloc, out, &salvaged, asked.print), err),
+        Err(SalvageError::NoMeta) => tell(err, b"no metadata page\n", NO_META),
+        Err(SalvageError::Memory) => tell_memory(err),
+    }
+}
