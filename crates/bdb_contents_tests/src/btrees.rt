@@ -2,9 +2,9 @@
 
 ghost use Rattle.std.specs.Prelude.{◌≡◌};
 
-use crate::fields::{Field, write};
 use crate::opened::{btree_of, has_sound_trees, is_keyed};
 use bdb_btree::{LeafPair, check, pairs};
+use bdb_fields::{Field, write};
 use bdb_format::{CheckError, Fault, Order, Steps};
 use bdb_graph::{Linked, link, open_image};
 use bdb_overflow::Datum;

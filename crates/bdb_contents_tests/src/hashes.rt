@@ -8,11 +8,11 @@ ghost use Rattle.bdb_format.specs.File.{file_of};
 ghost use Rattle.bdb_format.specs.Page.{HashFields};
 ghost use Rattle.bdb_format.specs.Verdict.{structure_faults};
 
-use crate::fields::{Field, write};
 use crate::hash_samples::{
-    DUPLICATES, DUPLICATES_TWICE, ELSEWHERE, ELSEWHERE_FIRST, KEY_TWICE, KEY_TWICE_LATER, Piece,
-    Sample, UNSORTED, UNSORTED_FIRST, WRONG_SET,
+    DUPLICATES, DUPLICATES_TWICE, ELSEWHERE, ELSEWHERE_FIRST, KEY_TWICE, KEY_TWICE_LATER, Sample,
+    UNSORTED, UNSORTED_FIRST, WRONG_SET,
 };
+use bdb_fields::{Field, write};
 use bdb_format::{CheckError, Fault, HashMeta, Order, Steps};
 use bdb_graph::{Linked, Meta, link, open_image};
 use bdb_hash::{Found, Scan, check, find, scan};
@@ -520,17 +520,9 @@ fn is_as_expected(
     }
 }
 
-fn place(image: &mut [u8], piece: &Piece) {
-    for (slot, byte) in image.iter_mut().skip(piece.at).zip(piece.bytes) {
-        *slot = *byte;
-    }
-}
-
 fn is_refused(alloc: Global, sample: &Sample, page: u32, code: u8) -> bool {
     let mut image = [0u8; SIZE];
-    for piece in sample.pieces {
-        place(&mut image, piece);
-    }
+    write(&mut image, sample.fields, Order::Little);
     match image.get(..sample.size) {
         Some(whole) => is_so_counted::<Brand>(
             alloc,

@@ -8,8 +8,6 @@ mod btree_separators;
 #[cfg(test)]
 mod btrees;
 #[cfg(test)]
-mod fields;
-#[cfg(test)]
 mod hash_samples;
 #[cfg(test)]
 mod hashes;

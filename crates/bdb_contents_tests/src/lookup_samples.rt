@@ -2,19 +2,15 @@
 
 use crate::lookup_cases::Entry;
 use crate::lookups::has_list;
+use bdb_fields::{Field, write};
+use bdb_format::Order;
 use std::alloc::Global;
 
 const SIZE: usize = 8192;
 
-/// Bytes of a file at their place; all others are 0.
-struct Piece {
-    at: usize,
-    bytes: &'static [u8],
-}
-
 struct Sample {
     size: usize,
-    pieces: &'static [Piece],
+    fields: &'static [Field],
     list: &'static [Entry],
     missing: &'static [&'static [u8]],
 }
@@ -22,36 +18,24 @@ struct Sample {
 // One pair.
 const ONE_PAIR: Sample = Sample {
     size: 1024,
-    pieces: &[
-        Piece {
-            at: 12,
-            bytes: &[
+    fields: &[
+        Field::Bytes(
+            12,
+            &[
                 98, 49, 5, 0, 9, 0, 0, 0, 0, 2, 0, 0, 0, 9, 0, 0, 0, 0, 0, 0, 1,
             ],
-        },
-        Piece {
-            at: 76,
-            bytes: &[2, 0, 0, 0, 0, 0, 0, 0, 32, 0, 0, 0, 1],
-        },
-        Piece {
-            at: 520,
-            bytes: &[1],
-        },
-        Piece {
-            at: 532,
-            bytes: &[2, 0, 248, 1, 1, 5, 252, 1, 248, 1, 0, 0, 1],
-        },
-        Piece {
-            at: 564,
-            bytes: &[
+        ),
+        Field::Bytes(76, &[2, 0, 0, 0, 0, 0, 0, 0, 32, 0, 0, 0, 1]),
+        Field::Bytes(520, &[1]),
+        Field::Bytes(532, &[2, 0, 248, 1, 1, 5, 252, 1, 248, 1, 0, 0, 1]),
+        Field::Bytes(
+            564,
+            &[
                 160, 206, 62, 183, 90, 218, 17, 39, 86, 78, 119, 52, 236, 33, 127, 130, 16, 238,
                 141, 19, 0, 0, 0, 0, 2, 0, 0, 0, 0, 0, 0, 0, 32, 0, 0, 0, 1,
             ],
-        },
-        Piece {
-            at: 1016,
-            bytes: &[1, 0, 1, 98, 1, 0, 1, 97],
-        },
+        ),
+        Field::Bytes(1016, &[1, 0, 1, 98, 1, 0, 1, 97]),
     ],
     list: &[Entry {
         key: &[97],
@@ -63,36 +47,24 @@ const ONE_PAIR: Sample = Sample {
 // One pair, whose key and data are empty.
 const EMPTY_PAIR: Sample = Sample {
     size: 1024,
-    pieces: &[
-        Piece {
-            at: 12,
-            bytes: &[
+    fields: &[
+        Field::Bytes(
+            12,
+            &[
                 98, 49, 5, 0, 9, 0, 0, 0, 0, 2, 0, 0, 0, 9, 0, 0, 0, 0, 0, 0, 1,
             ],
-        },
-        Piece {
-            at: 76,
-            bytes: &[2, 0, 0, 0, 0, 0, 0, 0, 32, 0, 0, 0, 1],
-        },
-        Piece {
-            at: 520,
-            bytes: &[1],
-        },
-        Piece {
-            at: 532,
-            bytes: &[2, 0, 248, 1, 1, 5, 252, 1, 248, 1, 0, 0, 1],
-        },
-        Piece {
-            at: 564,
-            bytes: &[
+        ),
+        Field::Bytes(76, &[2, 0, 0, 0, 0, 0, 0, 0, 32, 0, 0, 0, 1]),
+        Field::Bytes(520, &[1]),
+        Field::Bytes(532, &[2, 0, 248, 1, 1, 5, 252, 1, 248, 1, 0, 0, 1]),
+        Field::Bytes(
+            564,
+            &[
                 163, 249, 154, 192, 137, 205, 26, 3, 158, 37, 247, 124, 6, 224, 43, 13, 173, 90,
                 35, 122, 0, 0, 0, 0, 2, 0, 0, 0, 0, 0, 0, 0, 32, 0, 0, 0, 1,
             ],
-        },
-        Piece {
-            at: 1018,
-            bytes: &[1, 0, 0, 0, 1],
-        },
+        ),
+        Field::Bytes(1018, &[1, 0, 0, 0, 1]),
     ],
     list: &[Entry {
         key: &[],
@@ -104,38 +76,20 @@ const EMPTY_PAIR: Sample = Sample {
 // One pair, big-endian, with pages of 2048 bytes.
 const BIG_ENDIAN: Sample = Sample {
     size: 4096,
-    pieces: &[
-        Piece {
-            at: 13,
-            bytes: &[5, 49, 98, 0, 0, 0, 9, 0, 0, 8, 0, 0, 9],
-        },
-        Piece {
-            at: 35,
-            bytes: &[1],
-        },
-        Piece {
-            at: 79,
-            bytes: &[2, 0, 0, 0, 0, 0, 0, 0, 32, 0, 0, 0, 1],
-        },
-        Piece {
-            at: 2059,
-            bytes: &[1],
-        },
-        Piece {
-            at: 2069,
-            bytes: &[2, 7, 248, 1, 5, 7, 252, 7, 248, 0, 0, 0, 0, 0, 1],
-        },
-        Piece {
-            at: 2100,
-            bytes: &[
+    fields: &[
+        Field::Bytes(13, &[5, 49, 98, 0, 0, 0, 9, 0, 0, 8, 0, 0, 9]),
+        Field::Bytes(35, &[1]),
+        Field::Bytes(79, &[2, 0, 0, 0, 0, 0, 0, 0, 32, 0, 0, 0, 1]),
+        Field::Bytes(2059, &[1]),
+        Field::Bytes(2069, &[2, 7, 248, 1, 5, 7, 252, 7, 248, 0, 0, 0, 0, 0, 1]),
+        Field::Bytes(
+            2100,
+            &[
                 160, 15, 52, 203, 146, 164, 108, 93, 119, 236, 134, 90, 43, 182, 23, 109, 215, 142,
                 210, 226, 0, 0, 0, 0, 0, 0, 0, 2, 0, 0, 0, 0, 0, 0, 0, 32, 0, 0, 0, 1,
             ],
-        },
-        Piece {
-            at: 4089,
-            bytes: &[1, 1, 98, 0, 1, 1, 97],
-        },
+        ),
+        Field::Bytes(4089, &[1, 1, 98, 0, 1, 1, 97]),
     ],
     list: &[Entry {
         key: &[97],
@@ -147,60 +101,28 @@ const BIG_ENDIAN: Sample = Sample {
 // No pair.
 const NO_PAIR: Sample = Sample {
     size: 1024,
-    pieces: &[
-        Piece {
-            at: 13,
-            bytes: &[5, 49, 98, 0, 0, 0, 9, 0, 0, 2, 0, 0, 9],
-        },
-        Piece {
-            at: 35,
-            bytes: &[1],
-        },
-        Piece {
-            at: 79,
-            bytes: &[2, 0, 0, 0, 0, 0, 0, 0, 32, 0, 0, 0, 1],
-        },
-        Piece {
-            at: 523,
-            bytes: &[1],
-        },
-        Piece {
-            at: 534,
-            bytes: &[2, 0, 1, 5],
-        },
-        Piece {
-            at: 547,
-            bytes: &[1],
-        },
-        Piece {
-            at: 564,
-            bytes: &[
+    fields: &[
+        Field::Bytes(13, &[5, 49, 98, 0, 0, 0, 9, 0, 0, 2, 0, 0, 9]),
+        Field::Bytes(35, &[1]),
+        Field::Bytes(79, &[2, 0, 0, 0, 0, 0, 0, 0, 32, 0, 0, 0, 1]),
+        Field::Bytes(523, &[1]),
+        Field::Bytes(534, &[2, 0, 1, 5]),
+        Field::Bytes(547, &[1]),
+        Field::Bytes(
+            564,
+            &[
                 177, 177, 171, 255, 135, 176, 29, 213, 167, 170, 171, 168, 87, 11, 148, 196, 72,
                 148, 43, 121, 0, 0, 0, 0, 0, 0, 0, 2, 0, 0, 0, 0, 0, 0, 0, 32, 0, 0, 0, 1,
             ],
-        },
+        ),
     ],
     list: &[],
     missing: &[&[], &[97]],
 };
 
-fn write_byte(image: &mut [u8], at: usize, value: u8) {
-    if let Some(byte) = image.get_mut(at) {
-        *byte = value;
-    }
-}
-
-fn write_piece(image: &mut [u8], piece: &Piece) {
-    for (i, byte) in piece.bytes.iter().enumerate() {
-        write_byte(image, piece.at.saturating_add(i), *byte);
-    }
-}
-
 fn has_its_list(alloc: Global, sample: &Sample) -> bool {
     let mut image = [0u8; SIZE];
-    for piece in sample.pieces {
-        write_piece(&mut image, piece);
-    }
+    write(&mut image, sample.fields, Order::Little);
     match image.get(..sample.size) {
         Some(file) => has_list(alloc, file, sample.list, sample.missing),
         None => false,

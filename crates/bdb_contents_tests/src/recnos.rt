@@ -9,7 +9,7 @@ ghost use Rattle.bdb_format.specs.Page.{BtreeFields};
 ghost use Rattle.bdb_format.specs.Verdict.{structure_faults};
 ghost use Rattle.bdb_format.specs.Flags.{is_recno};
 
-use crate::fields::{Field, write};
+use bdb_fields::{Field, write};
 use bdb_format::{BtreeMeta, CheckError, Fault, Order, Steps};
 use bdb_graph::{Linked, Meta, link, open_image};
 use bdb_overflow::{Datum, KeyView, check_chains};

@@ -2,8 +2,6 @@
 #![tactic(auto)]
 
 #[cfg(test)]
-mod fields;
-#[cfg(test)]
 mod files;
 #[cfg(test)]
 mod judging;

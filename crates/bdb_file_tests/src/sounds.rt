@@ -4,10 +4,10 @@ ghost use Rattle.std.specs.Prelude.{◌≡◌, ◌<◌, ◌≤◌, ◌^◌, leng
 ghost use Rattle.bdb_format.specs.Databases.{databases};
 ghost use Rattle.bdb_format.specs.File.{file_of};
 
-use crate::fields::{Field, write};
 use crate::files::TWO_DATABASES;
 use crate::judging::SIZE;
 use crate::worked::{ONE_PAIR, QUEUE};
+use bdb_fields::{Field, write};
 use bdb_file::{Db, Sound, verify};
 use bdb_format::{Bytes, Kind, Order, Steps};
 use bdb_overflow::{Datum, KeyView};

@@ -1,7 +1,7 @@
 //! Small files, each for one rule. Values: docs/FORMAT.md, "Metadata pages" to "Stage 5, reach".
 
-use crate::fields::{Field, write};
 use crate::judging::{SIZE, Told, verdict_told};
+use bdb_fields::{Field, write};
 use bdb_format::{Order, Unsupported};
 use std::alloc::Global;
 
@@ -109,7 +109,7 @@ const SHARED_CHAIN: [Field; 55] = [
     Field::Two(2068, 2), // how many items name it
     Field::Two(2070, 400), // bytes on the page
     Field::Byte(2073, 7), // overflow
-    Field::Run(2074, 400, 0x62),
+    Field::Bytes(2074, &[0x62; 400]),
 ];
 
 // A btree whose root names leaf 2 by both items, beside leaf 3, which it doesn't name.

@@ -2,8 +2,8 @@
 
 ghost use Rattle.std.specs.Prelude.{◌≤◌};
 
-use crate::fields::{Field, write};
 use crate::linking::{PAIR, TABLE, THIRD_BUCKET, Told, told_by};
+use bdb_fields::{Field, write};
 use bdb_format::Order;
 use std::alloc::{AllocError, Global};
 

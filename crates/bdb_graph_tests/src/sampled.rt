@@ -3,9 +3,10 @@
 ghost use Rattle.std.specs.Prelude.{◌≡◌};
 
 use crate::structure_samples::{
-    Piece, Sample, WRONG_LEAF, WRONG_LEAVES, WRONG_LENGTH, WRONG_LENGTH_AND_LINK, WRONG_LINK,
+    Sample, WRONG_LEAF, WRONG_LEAVES, WRONG_LENGTH, WRONG_LENGTH_AND_LINK, WRONG_LINK,
 };
-use bdb_format::{CheckError, Fault, Steps};
+use bdb_fields::{Field, write};
+use bdb_format::{CheckError, Fault, Order, Steps};
 use bdb_graph::{Linked, link, open_image};
 use bdb_overflow::check_chains;
 use bdb_tree::check_trees;
@@ -22,30 +23,15 @@ struct Told {
 
 const WRONG_EARLIER_LINK: Sample = Sample {
     size: 2048,
-    pieces: &[
-        Piece {
-            at: 13,
-            bytes: &[6, 21, 97, 0, 0, 0, 9, 0, 0, 2, 0, 0, 8],
-        },
-        Piece {
-            at: 35,
-            bytes: &[3],
-        },
-        Piece {
-            at: 51,
-            bytes: &[4],
-        },
-        Piece {
-            at: 87,
-            bytes: &[7, 0, 0, 0, 0, 94, 104, 141, 209, 0, 0, 0, 3],
-        },
-        Piece {
-            at: 523,
-            bytes: &[1],
-        },
-        Piece {
-            at: 533,
-            bytes: &[
+    fields: &[
+        Field::Bytes(13, &[6, 21, 97, 0, 0, 0, 9, 0, 0, 2, 0, 0, 8]),
+        Field::Bytes(35, &[3]),
+        Field::Bytes(51, &[4]),
+        Field::Bytes(87, &[7, 0, 0, 0, 0, 94, 104, 141, 209, 0, 0, 0, 3]),
+        Field::Bytes(523, &[1]),
+        Field::Bytes(
+            533,
+            &[
                 1, 1, 8, 184, 7, 141, 89, 90, 100, 79, 170, 237, 181, 151, 234, 63, 67, 131, 200,
                 44, 240, 114, 235, 245, 145, 159, 5, 148, 181, 19, 24, 93, 81, 115, 95, 243, 165,
                 63, 6, 114, 115, 185, 76, 11, 50, 202, 235, 251, 176, 129, 191, 221, 157, 81, 33,
@@ -62,22 +48,13 @@ const WRONG_EARLIER_LINK: Sample = Sample {
                 237, 228, 138, 249, 212, 112, 43, 14, 83, 5, 4, 182, 128, 94, 147, 84, 156, 149,
                 67, 105, 158, 92, 165, 61, 213, 33, 207, 145, 227, 169, 60, 82,
             ],
-        },
-        Piece {
-            at: 1035,
-            bytes: &[2, 0, 0, 0, 2, 0, 0, 0, 0, 0, 0, 2, 0, 1, 12],
-        },
-        Piece {
-            at: 1547,
-            bytes: &[3],
-        },
-        Piece {
-            at: 1557,
-            bytes: &[4, 1, 94, 0, 13, 1, 244, 1, 121, 1, 102, 1, 94],
-        },
-        Piece {
-            at: 1886,
-            bytes: &[
+        ),
+        Field::Bytes(1035, &[2, 0, 0, 0, 2, 0, 0, 0, 0, 0, 0, 2, 0, 1, 12]),
+        Field::Bytes(1547, &[3]),
+        Field::Bytes(1557, &[4, 1, 94, 0, 13, 1, 244, 1, 121, 1, 102, 1, 94]),
+        Field::Bytes(
+            1886,
+            &[
                 4, 0, 0, 0, 0, 0, 0, 2, 1, 203, 203, 203, 203, 203, 203, 203, 203, 203, 203, 203,
                 203, 203, 203, 203, 203, 203, 203, 2, 0, 30, 80, 68, 41, 128, 165, 63, 85, 13, 226,
                 110, 105, 208, 87, 161, 142, 77, 146, 216, 24, 94, 144, 174, 134, 119, 129, 243,
@@ -88,15 +65,9 @@ const WRONG_EARLIER_LINK: Sample = Sample {
                 164, 164, 164, 164, 164, 164, 0, 28, 0, 8, 180, 180, 180, 180, 180, 180, 180, 180,
                 0, 8, 3, 0, 0, 0, 0, 0, 0, 1, 0, 0, 1, 8,
             ],
-        },
+        ),
     ],
 };
-
-fn place(image: &mut [u8], piece: &Piece) {
-    for (slot, byte) in image.iter_mut().skip(piece.at).zip(piece.bytes) {
-        *slot = *byte;
-    }
-}
 
 /// The page of a fault of chains.
 fn of_chains(linked: &Linked<'_>) -> Option<u32> {
@@ -140,9 +111,7 @@ fn is_told_counted<L: Ledger>(alloc: Global, image: &[u8], told: &Told, blank: B
 
 fn is_told_of(alloc: Global, sample: &Sample, told: &Told) -> bool {
     let mut image = [0u8; 4096];
-    for piece in sample.pieces {
-        place(&mut image, piece);
-    }
+    write(&mut image, sample.fields, Order::Little);
     match image.get(..sample.size) {
         Some(whole) => is_told_counted::<Brand>(alloc, whole, told, Blank::new(1)),
         None => false,

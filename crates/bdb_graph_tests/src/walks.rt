@@ -5,7 +5,8 @@ ghost use Rattle.bdb_graph.specs.Linked.{FitsTreeRoot};
 ghost use Rattle.bdb_format.specs.File.{file_of};
 ghost use Rattle.bdb_format.specs.Verdict.{structure_faults};
 
-use crate::fields::{BTREE, Field, write};
+use crate::fields::BTREE;
+use bdb_fields::{Field, write};
 use bdb_format::{Order, Steps};
 use bdb_graph::{Linked, Meta, Ref, TreeRoot, link, open_image};
 use bdb_overflow::check_chains;

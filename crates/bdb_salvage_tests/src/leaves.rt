@@ -1,8 +1,8 @@
 //! Leaves by themselves, and what page 0 tells.
 
-use crate::fields::Field;
 use crate::images::{LEAF, LOST_LEAF, RECORDS};
 use crate::told::{Case, is_given, is_told, tells_none};
+use bdb_fields::Field;
 
 const TOLD: [Case; 3] = [
     // a leaf that nothing names

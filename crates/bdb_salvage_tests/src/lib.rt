@@ -4,8 +4,6 @@
 #[cfg(test)]
 mod chains;
 #[cfg(test)]
-mod fields;
-#[cfg(test)]
 mod images;
 #[cfg(test)]
 mod leaves;

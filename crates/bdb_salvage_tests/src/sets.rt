@@ -1,8 +1,8 @@
 //! Sets off the page, whole and damaged.
 
-use crate::fields::Field;
 use crate::images::{ROOTED_SET, SET};
 use crate::told::{Case, is_given};
+use bdb_fields::Field;
 
 const WHOLE: [Case; 4] = [
     Case {

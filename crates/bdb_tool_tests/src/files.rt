@@ -3,7 +3,7 @@
 use crate::images::{Field, File};
 
 // A btree with its root on page 1, the last page.
-const BTREE: [Field; 7] = [
+pub const BTREE: [Field; 7] = [
     (12, &[0x62, 0x31, 0x05, 0]), // magic number of page 0
     (16, &[9]), // version
     (20, &[0x00, 0x02]), // page size
@@ -14,7 +14,7 @@ const BTREE: [Field; 7] = [
 ];
 
 // A leaf on page 1 with the one pair `a`, `b`.
-const A_LEAF: [Field; 6] = [
+pub const A_LEAF: [Field; 6] = [
     (520, &[1]), // page number
     (532, &[2, 0, 0xf8, 1]), // entries, high free offset
     (536, &[1, 5]), // level, type
@@ -309,7 +309,7 @@ pub const HEAD_ALONE: File = File {
 };
 
 // Three buckets, on pages 1 to 3, with the pair c, d in bucket 1, and a zero page in reserve.
-const BUCKETS: [Field; 17] = [
+pub const BUCKETS: [Field; 17] = [
     (12, &[0x61, 0x15, 0x06, 0]), // magic number of page 0
     (16, &[9]), // version
     (20, &[0, 2]), // page size

@@ -1,0 +1,239 @@
+#!/usr/bin/env python3
+"""Runs every command of the built program on damaged copies of the files of real/files, and on damaged dump texts of real/dumps.
+
+usage: check_hostile.py [--copies N] [--seed S] [PROGRAM]
+
+PROGRAM is the built program bdbtool; without it, crates/bdbtool/out/bdbtool. Of each file and each text N copies (100, where none is given) are made by
+a generator that a seed fixes, each with one to four changes: bytes, numbers of two or four bytes in either order, page numbers of the file itself, pages
+that are written over, exchanged, moved, cut off or added. Then
+
+- each run ends within a second for each megabyte of its input and output, and one at least, with a status that its command may have, and just the
+  output and the error line that go with it;
+- `list`, `get` and `dump` refuse what `verify` refuses, with its status and line, and nothing else;
+- what `verify` calls sound is dumped in either spelling, and, unless it has no database or a queue of empty records, loads to a file that is sound, and
+  whose dump is the same text; a damaged text that loads does so too;
+- `salvage` without a guess answers with status 0 or 10, with a guess with status 0; its text loads to a sound file, unless that would be too large.
+
+Prints a line for each run that is otherwise, and then how many copies and runs there were, how often each status came, and the slowest run by its
+megabytes. The exit status is 1 where a run is otherwise.
+"""
+import argparse
+import collections
+import pathlib
+import random
+import re
+import subprocess
+import sys
+import time
+
+TOP = pathlib.Path(__file__).resolve().parent.parent
+MEGABYTE = 1_000_000
+MOST = 1 << 26
+FAULT = rb"fault: stage [1-8] page \d+ code \d+ [A-Za-z]+\n"
+UNSUPPORTED = rb"unsupported: [A-Za-z]+, page \d+\n"
+LINES = {
+    1: rb"(%s)+" % FAULT,
+    3: rb"(%s)+" % UNSUPPORTED,
+    6: rb"image longer than \d+ bytes\n",
+    8: rb"line \d+: (reason \d+|load error \d+) [A-Za-z]+\n",
+    9: rb"not found\n",
+    10: rb"no metadata page\n",
+}
+ALLOWED = {
+    "verify": {0, 1, 3},
+    "list": {0, 1, 3},
+    "get": {0, 1, 3, 9},
+    "dump": {0, 1, 3, 9},
+    "load": {0, 6, 8},
+    "salvage": {0, 10},
+}
+
+
+class Runs:
+    """What was run, and what was otherwise."""
+
+    def __init__(self, program):
+        self.program = program
+        self.statuses = collections.Counter()
+        self.wrong = 0
+        self.slowest = (0.0, "")
+
+    def tell(self, name, why):
+        self.wrong += 1
+        print(f"{name}: {why}", flush=True)
+
+    def run(self, name, words, given):
+        """Runs the program, and holds its time, status and error line against what they may be."""
+        before = time.monotonic()
+        most = max(1.0, len(given) / MEGABYTE)
+        try:
+            ran = subprocess.run([self.program, *words], input=given, capture_output=True, timeout=60 + 10 * most, check=False)
+        except subprocess.TimeoutExpired:
+            self.tell(name, f"{words} doesn't end")
+            return None
+        seconds = time.monotonic() - before
+        megabytes = max(1.0, (len(given) + len(ran.stdout)) / MEGABYTE)
+        self.slowest = max(self.slowest, (seconds / megabytes, f"{name} {' '.join(words)}"))
+        if seconds > megabytes:
+            self.tell(name, f"{words} took {seconds:.1f} s for {megabytes:.1f} MB")
+        status, command = ran.returncode, words[0]
+        self.statuses[command, status] += 1
+        if status not in ALLOWED[command]:
+            self.tell(name, f"{words} ended with {status}: {ran.stderr!r}")
+        elif status == 0 and ran.stderr:
+            self.tell(name, f"{words} ended with 0 and told {ran.stderr!r}")
+        elif status and (ran.stdout or not re.fullmatch(LINES[status], mixed(ran.stderr))):
+            self.tell(name, f"{words} ended with {status}, wrote {len(ran.stdout)} bytes and told {ran.stderr!r}")
+        return ran
+
+
+def mixed(line):
+    """An error line; where several are told, those of one sort, that of the first."""
+    lines = line.splitlines(keepends=True)
+    return b"".join(it for it in lines if it.split(b":")[0] == lines[0].split(b":")[0])
+
+
+def changed_number(draw, image, places):
+    """Another number at a place of a page: small, a page of the file, one beside the old one, or the greatest."""
+    order = draw.choice(("little", "big"))
+    width = draw.choice((2, 4))
+    at = draw.choice(places)
+    if at + width > len(image):
+        return
+    old = int.from_bytes(image[at : at + width], order)
+    pages = max(1, len(image) // 512)
+    new = draw.choice((0, 1, draw.randrange(pages), old + 1, old - 1, old ^ (1 << draw.randrange(8 * width)), 2 ** (8 * width) - 1))
+    image[at : at + width] = (new % 2 ** (8 * width)).to_bytes(width, order)
+
+
+def change(draw, image, size):
+    """Changes an image once."""
+    count = max(1, len(image) // size)
+    page = draw.randrange(count) * size
+    other = draw.randrange(count) * size
+    kind = draw.randrange(10)
+    if kind == 0:
+        image[draw.randrange(len(image))] = draw.randrange(256)
+    elif kind <= 2:
+        changed_number(draw, image, range(page, page + 26))
+    elif kind == 3:
+        changed_number(draw, image, range(page, page + size - 4))
+    elif kind == 4:
+        changed_number(draw, image, range(0, min(512, len(image) - 4)))
+    elif kind == 5:
+        image[page : page + size] = image[other : other + size]
+    elif kind == 6:
+        image[page : page + size], image[other : other + size] = image[other : other + size], image[page : page + size]
+    elif kind == 7:
+        image[page : page + size] = draw.choice((bytes(size), draw.randbytes(size)))
+    elif kind == 8:
+        del image[draw.choice((page, draw.randrange(len(image)))) :]
+    else:
+        image += draw.choice((bytes(size), draw.randbytes(size), image[page : page + size], draw.randbytes(draw.randrange(1, 600))))
+
+
+def damaged(draw, image, size):
+    """A copy with one to four changes."""
+    copy = bytearray(image)
+    for _ in range(draw.randrange(1, 5)):
+        if copy:
+            change(draw, copy, size)
+    return bytes(copy)
+
+
+def page_size(image):
+    """The page size that page 0 tells in either order, or 512."""
+    for order in ("little", "big"):
+        size = int.from_bytes(image[20:24], order)
+        if size in (512, 1024, 2048, 4096, 8192, 16384, 32768):
+            return size
+    return 512
+
+
+def loads_again(runs, name, text):
+    """Holds that a text loads to a sound file, and gives the dump of that; None where it isn't loaded."""
+    built = runs.run(name, ["load"], text)
+    if built is None or built.returncode:
+        return None
+    verdict = runs.run(name, ["verify"], built.stdout)
+    if verdict is None or verdict.returncode:
+        runs.tell(name, "what load built isn't sound")
+        return None
+    dump = runs.run(name, ["dump"], built.stdout)
+    return dump.stdout if dump else None
+
+
+def check_dumps(runs, name, image):
+    """Holds that a sound file is dumped, and loads to the same dump."""
+    for spelling in ([], ["--print"]):
+        dump = runs.run(name, ["dump", *spelling], image)
+        if dump is None or dump.returncode:
+            runs.tell(name, "a sound file isn't dumped")
+            continue
+        plain = runs.run(name, ["dump"], image).stdout
+        unloaded = not dump.stdout or re.search(rb"^type=queue\n", dump.stdout, re.M) and not re.search(rb"^re_len=[1-9]", dump.stdout, re.M)
+        if not unloaded and loads_again(runs, name, dump.stdout) != plain:
+            runs.tell(name, "its dump, loaded and dumped, is another text")
+
+
+def check_salvage(runs, name, image):
+    """Holds salvage with and without a guess, and that its text loads."""
+    for guess in ([], ["--order", "little", "--page-size", "512"], ["--order", "big", "--page-size", "4096"]):
+        ran = runs.run(name, ["salvage", *guess], image)
+        if ran is None:
+            continue
+        if guess and ran.returncode:
+            runs.tell(name, f"salvage {guess} ended with {ran.returncode}")
+        if ran.returncode == 0 and not guess and len(ran.stdout) < MOST:
+            loads_again(runs, name, ran.stdout)
+
+
+def check_image(runs, name, image):
+    """Runs all commands that read a file."""
+    verdict = runs.run(name, ["verify"], image)
+    if verdict is None:
+        return
+    first = verdict.stderr.splitlines(keepends=True)[:1]
+    for words in (["list"], ["get", "a"], ["get", "1"], ["dump"]):
+        ran = runs.run(name, words, image)
+        if ran is None:
+            continue
+        refused = ran.returncode in (1, 3)
+        if refused != (verdict.returncode != 0) or (refused and (ran.returncode, [ran.stderr]) != (verdict.returncode, first)):
+            runs.tell(name, f"verify told {verdict.stderr!r}, and {words} {ran.returncode}: {ran.stderr!r}")
+    if verdict.returncode == 0:
+        check_dumps(runs, name, image)
+    check_salvage(runs, name, image)
+
+
+def main():
+    parser = argparse.ArgumentParser(description="Runs every command on damaged copies of real files and texts.")
+    parser.add_argument("--copies", type=int, default=100)
+    parser.add_argument("--seed", type=int, default=1)
+    parser.add_argument("program", nargs="?", default=str(TOP / "crates/bdbtool/out/bdbtool"))
+    given = parser.parse_args()
+    runs, copies = Runs(given.program), 0
+    for file in sorted((TOP / "real/files").iterdir()):
+        image = file.read_bytes()
+        draw = random.Random(f"{given.seed} {file.name}")
+        for number in range(given.copies):
+            check_image(runs, f"{file.name}, copy {number}", damaged(draw, image, page_size(image)))
+            copies += 1
+    for file in sorted((TOP / "real/dumps").iterdir()):
+        text = file.read_bytes()
+        draw = random.Random(f"{given.seed} {file.name}")
+        for number in range(given.copies):
+            name = f"{file.name}, copy {number}"
+            dump = loads_again(runs, name, damaged(draw, text, 64))
+            if dump and loads_again(runs, name, dump) != dump:
+                runs.tell(name, "the dump of what it loads to, loaded and dumped, is another text")
+            copies += 1
+    for (command, status), count in sorted(runs.statuses.items()):
+        print(f"{command} {status}: {count}")
+    print(f"slowest: {runs.slowest[0]:.3f} seconds a megabyte, {runs.slowest[1]}")
+    print(f"{copies} copies, {sum(runs.statuses.values())} runs, {runs.wrong} otherwise")
+    return 1 if runs.wrong else 0
+
+
+if __name__ == "__main__":
+    sys.exit(main())
