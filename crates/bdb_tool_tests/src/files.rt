@@ -1,26 +1,27 @@
 //! Small files, little-endian, with pages of 512 bytes. Values: docs/FORMAT.md.
 
-use crate::images::{Field, File};
+use crate::images::File;
+use bdb_fields::Field;
 
 // A btree with its root on page 1, the last page.
 pub const BTREE: [Field; 7] = [
-    (12, &[0x62, 0x31, 0x05, 0]), // magic number of page 0
-    (16, &[9]), // version
-    (20, &[0x00, 0x02]), // page size
-    (25, &[9]), // type
-    (32, &[1]), // last page
-    (76, &[2]), // least number of keys on a page
-    (88, &[1]), // root
+    Field::Bytes(12, &[0x62, 0x31, 0x05, 0]), // magic number of page 0
+    Field::Bytes(16, &[9]), // version
+    Field::Bytes(20, &[0x00, 0x02]), // page size
+    Field::Bytes(25, &[9]), // type
+    Field::Bytes(32, &[1]), // last page
+    Field::Bytes(76, &[2]), // least number of keys on a page
+    Field::Bytes(88, &[1]), // root
 ];
 
 // A leaf on page 1 with the one pair `a`, `b`.
 pub const A_LEAF: [Field; 6] = [
-    (520, &[1]), // page number
-    (532, &[2, 0, 0xf8, 1]), // entries, high free offset
-    (536, &[1, 5]), // level, type
-    (538, &[0xfc, 1, 0xf8, 1]), // offsets: a key, then its data
-    (1016, &[1, 0, 1, 0x62]), // data b
-    (1020, &[1, 0, 1, 0x61]), // key a
+    Field::Bytes(520, &[1]), // page number
+    Field::Bytes(532, &[2, 0, 0xf8, 1]), // entries, high free offset
+    Field::Bytes(536, &[1, 5]), // level, type
+    Field::Bytes(538, &[0xfc, 1, 0xf8, 1]), // offsets: a key, then its data
+    Field::Bytes(1016, &[1, 0, 1, 0x62]), // data b
+    Field::Bytes(1020, &[1, 0, 1, 0x61]), // key a
 ];
 
 pub const NO_BYTES: File = File {
@@ -35,17 +36,17 @@ pub const ONE_PAIR: File = File {
 
 // The same numbers, each with its high byte first.
 const IN_HIGH_ORDER: [Field; 11] = [
-    (12, &[0, 0x05, 0x31, 0x62]),
-    (16, &[0, 0, 0, 9]),
-    (20, &[0, 0, 2, 0]),
-    (32, &[0, 0, 0, 1]),
-    (76, &[0, 0, 0, 2]),
-    (88, &[0, 0, 0, 1]),
-    (520, &[0, 0, 0, 1]),
-    (532, &[0, 2, 1, 0xf8]),
-    (538, &[1, 0xfc, 1, 0xf8]),
-    (1016, &[0, 1]),
-    (1020, &[0, 1]),
+    Field::Bytes(12, &[0, 0x05, 0x31, 0x62]),
+    Field::Bytes(16, &[0, 0, 0, 9]),
+    Field::Bytes(20, &[0, 0, 2, 0]),
+    Field::Bytes(32, &[0, 0, 0, 1]),
+    Field::Bytes(76, &[0, 0, 0, 2]),
+    Field::Bytes(88, &[0, 0, 0, 1]),
+    Field::Bytes(520, &[0, 0, 0, 1]),
+    Field::Bytes(532, &[0, 2, 1, 0xf8]),
+    Field::Bytes(538, &[1, 0xfc, 1, 0xf8]),
+    Field::Bytes(1016, &[0, 1]),
+    Field::Bytes(1020, &[0, 1]),
 ];
 
 pub const ONE_PAIR_BIG: File = File {
@@ -65,32 +66,32 @@ pub const A_BYTE_SHORT: File = File {
 
 pub const VERSION_10: File = File {
     length: 1024,
-    parts: &[&BTREE, &A_LEAF, &[(16, &[10])]],
+    parts: &[&BTREE, &A_LEAF, &[Field::Bytes(16, &[10])]],
 };
 
 pub const LARGE_PAGES: File = File {
     length: 1024,
-    parts: &[&BTREE, &A_LEAF, &[(20, &[0, 0, 1])]],
+    parts: &[&BTREE, &A_LEAF, &[Field::Bytes(20, &[0, 0, 1])]],
 };
 
 pub const DELETED_PAIR: File = File {
     length: 1024,
-    parts: &[&BTREE, &A_LEAF, &[(1018, &[0x81])]],
+    parts: &[&BTREE, &A_LEAF, &[Field::Bytes(1018, &[0x81])]],
 };
 
 pub const NO_PAIR: File = File {
     length: 1024,
-    parts: &[&BTREE, &A_LEAF, &[(532, &[0, 0])]],
+    parts: &[&BTREE, &A_LEAF, &[Field::Bytes(532, &[0, 0])]],
 };
 
 // The key 61 with x, and the key 6100 with y.
 const TWO_KEYS: [Field; 6] = [
-    (532, &[4, 0, 0xec, 1]),
-    (538, &[0xfc, 1, 0xf8, 1, 0xf0, 1, 0xec, 1]), // offsets
-    (1004, &[1, 0, 1, 0x79]), // data of the second
-    (1008, &[2, 0, 1, 0x61, 0]), // second key
-    (1016, &[1, 0, 1, 0x78]), // data of the first
-    (1020, &[1, 0, 1, 0x61]), // first key
+    Field::Bytes(532, &[4, 0, 0xec, 1]),
+    Field::Bytes(538, &[0xfc, 1, 0xf8, 1, 0xf0, 1, 0xec, 1]), // offsets
+    Field::Bytes(1004, &[1, 0, 1, 0x79]), // data of the second
+    Field::Bytes(1008, &[2, 0, 1, 0x61, 0]), // second key
+    Field::Bytes(1016, &[1, 0, 1, 0x78]), // data of the first
+    Field::Bytes(1020, &[1, 0, 1, 0x61]), // first key
 ];
 
 pub const IN_ORDER: File = File {
@@ -104,22 +105,22 @@ pub const OUT_OF_ORDER: File = File {
         &BTREE,
         &A_LEAF,
         &TWO_KEYS,
-        &[(538, &[0xf0, 1, 0xf8, 1, 0xfc, 1, 0xec, 1])],
+        &[Field::Bytes(538, &[0xf0, 1, 0xf8, 1, 0xfc, 1, 0xec, 1])],
     ],
 };
 
 // Three pairs that share the key a, with 31, 32 and 33.
 const THREE_DATA: [Field; 5] = [
-    (532, &[6, 0, 0xf0, 1]),
-    (538, &[0xfc, 1, 0xf8, 1, 0xfc, 1, 0xf4, 1, 0xfc, 1, 0xf0, 1]), // offsets
-    (1008, &[1, 0, 1, 0x33]),
-    (1012, &[1, 0, 1, 0x32]),
-    (1016, &[1, 0, 1, 0x31]),
+    Field::Bytes(532, &[6, 0, 0xf0, 1]),
+    Field::Bytes(538, &[0xfc, 1, 0xf8, 1, 0xfc, 1, 0xf4, 1, 0xfc, 1, 0xf0, 1]), // offsets
+    Field::Bytes(1008, &[1, 0, 1, 0x33]),
+    Field::Bytes(1012, &[1, 0, 1, 0x32]),
+    Field::Bytes(1016, &[1, 0, 1, 0x31]),
 ];
 
 pub const DUPLICATES: File = File {
     length: 1024,
-    parts: &[&BTREE, &A_LEAF, &THREE_DATA, &[(48, &[1])]],
+    parts: &[&BTREE, &A_LEAF, &THREE_DATA, &[Field::Bytes(48, &[1])]],
 };
 
 pub const DUPLICATES_UNTOLD: File = File {
@@ -134,20 +135,20 @@ pub const LONG_VALUE: File = File {
         &BTREE,
         &A_LEAF,
         &[
-            (32, &[84]), // last page
-            (534, &[0xf0, 1]),
-            (540, &[0xf0, 1]), // offset of the data
-            (1008, &[0, 0, 3, 0, 2, 0, 0, 0, 0x40, 0x9c, 0, 0]), // data in a chain
+            Field::Bytes(32, &[84]), // last page
+            Field::Bytes(534, &[0xf0, 1]),
+            Field::Bytes(540, &[0xf0, 1]), // offset of the data
+            Field::Bytes(1008, &[0, 0, 3, 0, 2, 0, 0, 0, 0x40, 0x9c, 0, 0]), // data in a chain
         ],
     ],
 };
 
 // The key `--x` with the data 5c0a41.
 const SPELLED: [Field; 4] = [
-    (532, &[2, 0, 0xf4, 1]),
-    (538, &[0xfa, 1, 0xf4, 1]), // offsets
-    (1012, &[3, 0, 1, 0x5c, 0x0a, 0x41]),
-    (1018, &[3, 0, 1, 0x2d, 0x2d, 0x78]),
+    Field::Bytes(532, &[2, 0, 0xf4, 1]),
+    Field::Bytes(538, &[0xfa, 1, 0xf4, 1]), // offsets
+    Field::Bytes(1012, &[3, 0, 1, 0x5c, 0x0a, 0x41]),
+    Field::Bytes(1018, &[3, 0, 1, 0x2d, 0x2d, 0x78]),
 ];
 
 pub const KEY_OF_DASHES: File = File {
@@ -157,9 +158,9 @@ pub const KEY_OF_DASHES: File = File {
 
 // The key `a` with the data 5c0a41.
 const UNPRINTED: [Field; 3] = [
-    (534, &[0xf6, 1]),
-    (538, &[0xfc, 1, 0xf6, 1]), // offsets
-    (1014, &[3, 0, 1, 0x5c, 0x0a, 0x41]),
+    Field::Bytes(534, &[0xf6, 1]),
+    Field::Bytes(538, &[0xfc, 1, 0xf6, 1]), // offsets
+    Field::Bytes(1014, &[3, 0, 1, 0x5c, 0x0a, 0x41]),
 ];
 
 pub const UNPRINTED_DATA: File = File {
@@ -169,21 +170,25 @@ pub const UNPRINTED_DATA: File = File {
 
 pub const NO_NAMES: File = File {
     length: 1024,
-    parts: &[&BTREE, &A_LEAF, &[(48, &[0x20]), (532, &[0, 0])]],
+    parts: &[
+        &BTREE,
+        &A_LEAF,
+        &[Field::Bytes(48, &[0x20]), Field::Bytes(532, &[0, 0])],
+    ],
 };
 
 pub const SORTED_DATA: File = File {
     length: 1024,
-    parts: &[&BTREE, &A_LEAF, &[(48, &[0x41])]],
+    parts: &[&BTREE, &A_LEAF, &[Field::Bytes(48, &[0x41])]],
 };
 
 // A recno with the one record `a`.
 const RECORD: [Field; 5] = [
-    (48, &[2]), // flags
-    (532, &[1, 0, 0xfc, 1]),
-    (536, &[1, 6]), // level, type
-    (538, &[0xfc, 1, 0, 0]), // offset
-    (1020, &[1, 0, 1, 0x61]), // record 1
+    Field::Bytes(48, &[2]), // flags
+    Field::Bytes(532, &[1, 0, 0xfc, 1]),
+    Field::Bytes(536, &[1, 6]), // level, type
+    Field::Bytes(538, &[0xfc, 1, 0, 0]), // offset
+    Field::Bytes(1020, &[1, 0, 1, 0x61]), // record 1
 ];
 
 pub const RECNO: File = File {
@@ -193,33 +198,33 @@ pub const RECNO: File = File {
 
 // Leaves 2 and 3 below page 1. The key between them and the key of leaf 3 are one chain of 400 bytes, on page 4.
 const SHARED: [Field; 27] = [
-    (32, &[4]), // last page
-    (520, &[1]), // page 1
-    (532, &[2, 0, 0xdc, 1]), // entries, high free offset
-    (536, &[2, 3]), // level, type
-    (538, &[0xf4, 1, 0xdc, 1]), // offsets
-    (988, &[12, 0, 3, 0, 3]), // child 3, with a key in a chain
-    (1002, &[3, 0, 4, 0, 0, 0, 0x90, 1]), // its head and length
-    (1012, &[0, 0, 1, 0, 2]), // child 2, without a key
-    (1032, &[2]), // page 2
-    (1040, &[3]), // next
-    (1044, &[2, 0, 0xf8, 1]),
-    (1048, &[1, 5]),
-    (1050, &[0xfc, 1, 0xf8, 1]),
-    (1528, &[1, 0, 1, 0x31]), // data 1
-    (1532, &[1, 0, 1, 0x61]), // key a
-    (1544, &[3]), // page 3
-    (1548, &[2]), // previous
-    (1556, &[2, 0, 0xf0, 1]),
-    (1560, &[1, 5]),
-    (1562, &[0xf4, 1, 0xf0, 1]),
-    (2032, &[1, 0, 1, 0x32]), // data 2
-    (2036, &[0, 0, 3, 0, 4, 0, 0, 0, 0x90, 1]), // a key in a chain
-    (2056, &[4]), // page 4
-    (2068, &[2]), // how many items name it
-    (2070, &[0x90, 1]), // bytes on the page
-    (2073, &[7]), // type
-    (2074, &[0x62; 400]),
+    Field::Bytes(32, &[4]), // last page
+    Field::Bytes(520, &[1]), // page 1
+    Field::Bytes(532, &[2, 0, 0xdc, 1]), // entries, high free offset
+    Field::Bytes(536, &[2, 3]), // level, type
+    Field::Bytes(538, &[0xf4, 1, 0xdc, 1]), // offsets
+    Field::Bytes(988, &[12, 0, 3, 0, 3]), // child 3, with a key in a chain
+    Field::Bytes(1002, &[3, 0, 4, 0, 0, 0, 0x90, 1]), // its head and length
+    Field::Bytes(1012, &[0, 0, 1, 0, 2]), // child 2, without a key
+    Field::Bytes(1032, &[2]), // page 2
+    Field::Bytes(1040, &[3]), // next
+    Field::Bytes(1044, &[2, 0, 0xf8, 1]),
+    Field::Bytes(1048, &[1, 5]),
+    Field::Bytes(1050, &[0xfc, 1, 0xf8, 1]),
+    Field::Bytes(1528, &[1, 0, 1, 0x31]), // data 1
+    Field::Bytes(1532, &[1, 0, 1, 0x61]), // key a
+    Field::Bytes(1544, &[3]), // page 3
+    Field::Bytes(1548, &[2]), // previous
+    Field::Bytes(1556, &[2, 0, 0xf0, 1]),
+    Field::Bytes(1560, &[1, 5]),
+    Field::Bytes(1562, &[0xf4, 1, 0xf0, 1]),
+    Field::Bytes(2032, &[1, 0, 1, 0x32]), // data 2
+    Field::Bytes(2036, &[0, 0, 3, 0, 4, 0, 0, 0, 0x90, 1]), // a key in a chain
+    Field::Bytes(2056, &[4]), // page 4
+    Field::Bytes(2068, &[2]), // how many items name it
+    Field::Bytes(2070, &[0x90, 1]), // bytes on the page
+    Field::Bytes(2073, &[7]), // type
+    Field::Bytes(2074, &[0x62; 400]),
 ];
 
 pub const SHARED_CHAIN: File = File {
@@ -229,20 +234,20 @@ pub const SHARED_CHAIN: File = File {
 
 pub const UNCOUNTED_CHAIN: File = File {
     length: 2560,
-    parts: &[&BTREE, &SHARED, &[(2068, &[1])]],
+    parts: &[&BTREE, &SHARED, &[Field::Bytes(2068, &[1])]],
 };
 
 // Two overflow pages, each the next and the previous one of the other.
 const TWO_IN_A_RING: [Field; 9] = [
-    (32, &[3]), // last page
-    (1032, &[2]), // page 2
-    (1036, &[3]), // previous
-    (1040, &[3]), // next
-    (1049, &[7]), // type
-    (1544, &[3]), // page 3
-    (1548, &[2]),
-    (1552, &[2]),
-    (1561, &[7]),
+    Field::Bytes(32, &[3]), // last page
+    Field::Bytes(1032, &[2]), // page 2
+    Field::Bytes(1036, &[3]), // previous
+    Field::Bytes(1040, &[3]), // next
+    Field::Bytes(1049, &[7]), // type
+    Field::Bytes(1544, &[3]), // page 3
+    Field::Bytes(1548, &[2]),
+    Field::Bytes(1552, &[2]),
+    Field::Bytes(1561, &[7]),
 ];
 
 pub const RING: File = File {
@@ -252,23 +257,23 @@ pub const RING: File = File {
 
 // Page 1 names leaf 2 by both items, beside leaf 3, which it doesn't name.
 const SAME_CHILD: [Field; 17] = [
-    (32, &[3]), // last page
-    (520, &[1]), // page 1
-    (532, &[2, 0, 0xe7, 1]), // entries, high free offset
-    (536, &[2, 3]), // level, type
-    (538, &[0xf4, 1, 0xe7, 1]), // offsets
-    (999, &[1, 0, 1, 0, 2, 0, 0, 0, 0, 0, 0, 0, 0x62]), // child 2, with the key b
-    (1012, &[0, 0, 1, 0, 2]), // child 2, without a key
-    (1032, &[2]), // page 2
-    (1044, &[2, 0, 0xf8, 1, 1, 5]),
-    (1050, &[0xfc, 1, 0xf8, 1]),
-    (1528, &[1, 0, 1, 0x31]), // data 1
-    (1532, &[1, 0, 1, 0x61]), // key a
-    (1544, &[3]), // page 3
-    (1556, &[2, 0, 0xf8, 1, 1, 5]),
-    (1562, &[0xfc, 1, 0xf8, 1]),
-    (2040, &[1, 0, 1, 0x32]), // data 2
-    (2044, &[1, 0, 1, 0x62]), // key b
+    Field::Bytes(32, &[3]), // last page
+    Field::Bytes(520, &[1]), // page 1
+    Field::Bytes(532, &[2, 0, 0xe7, 1]), // entries, high free offset
+    Field::Bytes(536, &[2, 3]), // level, type
+    Field::Bytes(538, &[0xf4, 1, 0xe7, 1]), // offsets
+    Field::Bytes(999, &[1, 0, 1, 0, 2, 0, 0, 0, 0, 0, 0, 0, 0x62]), // child 2, with the key b
+    Field::Bytes(1012, &[0, 0, 1, 0, 2]), // child 2, without a key
+    Field::Bytes(1032, &[2]), // page 2
+    Field::Bytes(1044, &[2, 0, 0xf8, 1, 1, 5]),
+    Field::Bytes(1050, &[0xfc, 1, 0xf8, 1]),
+    Field::Bytes(1528, &[1, 0, 1, 0x31]), // data 1
+    Field::Bytes(1532, &[1, 0, 1, 0x61]), // key a
+    Field::Bytes(1544, &[3]), // page 3
+    Field::Bytes(1556, &[2, 0, 0xf8, 1, 1, 5]),
+    Field::Bytes(1562, &[0xfc, 1, 0xf8, 1]),
+    Field::Bytes(2040, &[1, 0, 1, 0x32]), // data 2
+    Field::Bytes(2044, &[1, 0, 1, 0x62]), // key b
 ];
 
 pub const TWO_OWNERS: File = File {
@@ -279,16 +284,16 @@ pub const TWO_OWNERS: File = File {
 /// The same without its metadata.
 pub const NO_METADATA: File = File {
     length: 2048,
-    parts: &[&SAME_CHILD, &[(32, &[0])]],
+    parts: &[&SAME_CHILD, &[Field::Bytes(32, &[0])]],
 };
 
 // Its leaf 2 alone.
 const A_LEAF_ALONE: [Field; 5] = [
-    (8, &[2]), // page number
-    (20, &[2, 0, 0xf8, 1, 1, 5]), // entries, high free offset, level, type
-    (26, &[0xfc, 1, 0xf8, 1]), // offsets
-    (504, &[1, 0, 1, 0x31]), // data 1
-    (508, &[1, 0, 1, 0x61]), // key a
+    Field::Bytes(8, &[2]), // page number
+    Field::Bytes(20, &[2, 0, 0xf8, 1, 1, 5]), // entries, high free offset, level, type
+    Field::Bytes(26, &[0xfc, 1, 0xf8, 1]), // offsets
+    Field::Bytes(504, &[1, 0, 1, 0x31]), // data 1
+    Field::Bytes(508, &[1, 0, 1, 0x61]), // key a
 ];
 
 pub const LEAF_ALONE: File = File {
@@ -310,23 +315,23 @@ pub const HEAD_ALONE: File = File {
 
 // Three buckets, on pages 1 to 3, with the pair c, d in bucket 1, and a zero page in reserve.
 pub const BUCKETS: [Field; 17] = [
-    (12, &[0x61, 0x15, 0x06, 0]), // magic number of page 0
-    (16, &[9]), // version
-    (20, &[0, 2]), // page size
-    (25, &[8]), // type
-    (32, &[4]), // last page
-    (72, &[2, 0, 0, 0, 3, 0, 0, 0, 1]), // greatest bucket, masks
-    (92, &[0xd1, 0x8d, 0x68, 0x5e]), // hash of a known key
-    (96, &[1, 0, 0, 0, 1, 0, 0, 0, 1]), // spares
-    (520, &[1]), // page 1
-    (534, &[0, 2, 0, 13]), // high free offset, level, type
-    (1032, &[2]), // page 2
-    (1044, &[2, 0, 0xfc, 1, 0, 13]),
-    (1050, &[0xfe, 1, 0xfc, 1]), // offsets
-    (1532, &[1, 0x64]), // data d
-    (1534, &[1, 0x63]), // key c
-    (1544, &[3]), // page 3
-    (1558, &[0, 2, 0, 13]),
+    Field::Bytes(12, &[0x61, 0x15, 0x06, 0]), // magic number of page 0
+    Field::Bytes(16, &[9]), // version
+    Field::Bytes(20, &[0, 2]), // page size
+    Field::Bytes(25, &[8]), // type
+    Field::Bytes(32, &[4]), // last page
+    Field::Bytes(72, &[2, 0, 0, 0, 3, 0, 0, 0, 1]), // greatest bucket, masks
+    Field::Bytes(92, &[0xd1, 0x8d, 0x68, 0x5e]), // hash of a known key
+    Field::Bytes(96, &[1, 0, 0, 0, 1, 0, 0, 0, 1]), // spares
+    Field::Bytes(520, &[1]), // page 1
+    Field::Bytes(534, &[0, 2, 0, 13]), // high free offset, level, type
+    Field::Bytes(1032, &[2]), // page 2
+    Field::Bytes(1044, &[2, 0, 0xfc, 1, 0, 13]),
+    Field::Bytes(1050, &[0xfe, 1, 0xfc, 1]), // offsets
+    Field::Bytes(1532, &[1, 0x64]), // data d
+    Field::Bytes(1534, &[1, 0x63]), // key c
+    Field::Bytes(1544, &[3]), // page 3
+    Field::Bytes(1558, &[0, 2, 0, 13]),
 ];
 
 pub const TABLE: File = File {
@@ -337,32 +342,32 @@ pub const TABLE: File = File {
 // A master names a, whose metadata are page 2 and whose leaf is page 3, and b, a hash on pages 4 to 6. The number of a
 // page is in high order first. Both are empty.
 const MASTER: [Field; 23] = [
-    (32, &[6]), // last page
-    (48, &[0x20]), // flags
-    (520, &[1]), // page 1
-    (532, &[4, 0, 0xe8, 1]),
-    (536, &[1, 5]),
-    (538, &[0xfc, 1, 0xf4, 1, 0xf0, 1, 0xe8, 1]), // offsets: a key, then its data
-    (1000, &[4, 0, 1, 0, 0, 0, 4]), // page of b
-    (1008, &[1, 0, 1, 0x62]), // key b
-    (1012, &[4, 0, 1, 0, 0, 0, 2]), // page of a
-    (1020, &[1, 0, 1, 0x61]), // key a
-    (1032, &[2, 0, 0, 0, 0x62, 0x31, 0x05, 0, 9, 0, 0, 0, 0, 2]), // page 2: magic number, version, page size
-    (1049, &[9]), // type
-    (1100, &[2]), // least number of keys on a page
-    (1112, &[3]), // root
-    (1544, &[3]), // page 3
-    (1560, &[1, 5]),
-    (2056, &[4, 0, 0, 0, 0x61, 0x15, 0x06, 0, 9, 0, 0, 0, 0, 2]), // page 4
-    (2073, &[8]), // type
-    (2120, &[1, 0, 0, 0, 1]), // greatest bucket, masks
-    (2140, &[0xd1, 0x8d, 0x68, 0x5e]), // hash of a known key
-    (2144, &[5, 0, 0, 0, 5]), // spares
-    (
+    Field::Bytes(32, &[6]), // last page
+    Field::Bytes(48, &[0x20]), // flags
+    Field::Bytes(520, &[1]), // page 1
+    Field::Bytes(532, &[4, 0, 0xe8, 1]),
+    Field::Bytes(536, &[1, 5]),
+    Field::Bytes(538, &[0xfc, 1, 0xf4, 1, 0xf0, 1, 0xe8, 1]), // offsets: a key, then its data
+    Field::Bytes(1000, &[4, 0, 1, 0, 0, 0, 4]), // page of b
+    Field::Bytes(1008, &[1, 0, 1, 0x62]), // key b
+    Field::Bytes(1012, &[4, 0, 1, 0, 0, 0, 2]), // page of a
+    Field::Bytes(1020, &[1, 0, 1, 0x61]), // key a
+    Field::Bytes(1032, &[2, 0, 0, 0, 0x62, 0x31, 0x05, 0, 9, 0, 0, 0, 0, 2]), // page 2: magic number, version, page size
+    Field::Bytes(1049, &[9]), // type
+    Field::Bytes(1100, &[2]), // least number of keys on a page
+    Field::Bytes(1112, &[3]), // root
+    Field::Bytes(1544, &[3]), // page 3
+    Field::Bytes(1560, &[1, 5]),
+    Field::Bytes(2056, &[4, 0, 0, 0, 0x61, 0x15, 0x06, 0, 9, 0, 0, 0, 0, 2]), // page 4
+    Field::Bytes(2073, &[8]), // type
+    Field::Bytes(2120, &[1, 0, 0, 0, 1]), // greatest bucket, masks
+    Field::Bytes(2140, &[0xd1, 0x8d, 0x68, 0x5e]), // hash of a known key
+    Field::Bytes(2144, &[5, 0, 0, 0, 5]), // spares
+    Field::Bytes(
         2568,
         &[5, 0, 0, 0, 0, 0, 0, 0, 0, 0, 0, 0, 0, 0, 0, 0, 0, 13],
     ), // page 5
-    (
+    Field::Bytes(
         3080,
         &[6, 0, 0, 0, 0, 0, 0, 0, 0, 0, 0, 0, 0, 0, 0, 0, 0, 13],
     ), // page 6
@@ -370,10 +375,10 @@ const MASTER: [Field; 23] = [
 
 // The pair x, y on page 3.
 const IN_DATABASE_A: [Field; 4] = [
-    (1556, &[2, 0, 0xf8, 1]),
-    (1562, &[0xfc, 1, 0xf8, 1]),
-    (2040, &[1, 0, 1, 0x79]), // data y
-    (2044, &[1, 0, 1, 0x78]), // key x
+    Field::Bytes(1556, &[2, 0, 0xf8, 1]),
+    Field::Bytes(1562, &[0xfc, 1, 0xf8, 1]),
+    Field::Bytes(2040, &[1, 0, 1, 0x79]), // data y
+    Field::Bytes(2044, &[1, 0, 1, 0x78]), // key x
 ];
 
 pub const TWO_DATABASES: File = File {
@@ -388,32 +393,32 @@ pub const PAIR_IN_A: File = File {
 
 pub const EMPTY_NAME: File = File {
     length: 3584,
-    parts: &[&BTREE, &MASTER, &IN_DATABASE_A, &[(1020, &[0])]],
+    parts: &[&BTREE, &MASTER, &IN_DATABASE_A, &[Field::Bytes(1020, &[0])]],
 };
 
 pub const SAME_PAGE: File = File {
     length: 3584,
-    parts: &[&BTREE, &MASTER, &[(1006, &[2])]],
+    parts: &[&BTREE, &MASTER, &[Field::Bytes(1006, &[2])]],
 };
 
 pub const LOW_ORDER_FIRST: File = File {
     length: 3584,
-    parts: &[&BTREE, &MASTER, &[(1003, &[4, 0, 0, 0])]],
+    parts: &[&BTREE, &MASTER, &[Field::Bytes(1003, &[4, 0, 0, 0])]],
 };
 
 // Records of four bytes: the first is 2, and the next one would be 4. Record 2 is valid, and record 3 isn't.
 const RECORDS: [Field; 8] = [
-    (12, &[0x53, 0x22, 0x04, 0]), // magic number of page 0
-    (16, &[4]), // version
-    (20, &[0, 2]), // page size
-    (25, &[10]), // type
-    (72, &[2, 0, 0, 0, 4, 0, 0, 0, 4]), // first and next record, length of a record
-    (88, &[60]), // records on a page
-    (
+    Field::Bytes(12, &[0x53, 0x22, 0x04, 0]), // magic number of page 0
+    Field::Bytes(16, &[4]), // version
+    Field::Bytes(20, &[0, 2]), // page size
+    Field::Bytes(25, &[10]), // type
+    Field::Bytes(72, &[2, 0, 0, 0, 4, 0, 0, 0, 4]), // first and next record, length of a record
+    Field::Bytes(88, &[60]), // records on a page
+    Field::Bytes(
         520,
         &[1, 0, 0, 0, 0, 0, 0, 0, 0, 0, 0, 0, 0, 0, 0, 0, 0, 11],
     ), // page 1
-    (548, &[1, 0x61, 0x62, 0x63, 0x64]), // record 2
+    Field::Bytes(548, &[1, 0x61, 0x62, 0x63, 0x64]), // record 2
 ];
 
 pub const QUEUE: File = File {
@@ -423,5 +428,5 @@ pub const QUEUE: File = File {
 
 pub const EXTENTS: File = File {
     length: 1024,
-    parts: &[&RECORDS, &[(92, &[1])]],
+    parts: &[&RECORDS, &[Field::Bytes(92, &[1])]],
 };

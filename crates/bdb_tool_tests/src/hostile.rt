@@ -1,9 +1,10 @@
 //! Files whose pages point where they shouldn't: at themselves, in rings, at pages of another kind, past their end. The rules: docs/FORMAT.md, "Faults".
 
 use crate::files::{A_LEAF, BTREE, BUCKETS};
-use crate::images::{Field, File};
+use crate::images::File;
 use crate::running::Told::{Done, Line};
 use crate::running::{Row, check_rows, ran_over, source_over};
+use bdb_fields::Field;
 use std::test::Fail;
 
 // Of two pages, and of three.
@@ -13,13 +14,13 @@ const THREE_PAGES: usize = 1536;
 
 const NO_ROOT: File = File {
     length: TWO_PAGES,
-    parts: &[&BTREE, &A_LEAF, &[(88, &[0])]],
+    parts: &[&BTREE, &A_LEAF, &[Field::Bytes(88, &[0])]],
 };
 
 // The root has the type of a record leaf.
 const RECORD_ROOT: File = File {
     length: TWO_PAGES,
-    parts: &[&BTREE, &A_LEAF, &[(537, &[6])]],
+    parts: &[&BTREE, &A_LEAF, &[Field::Bytes(537, &[6])]],
 };
 
 // An internal page of level 3, whose one child it is itself.
@@ -29,10 +30,10 @@ const OWN_CHILD: File = File {
         &BTREE,
         &A_LEAF,
         &[
-            (532, &[1, 0]), // entries
-            (536, &[3, 3]), // level, type
-            (538, &[0xf4, 1]), // offset
-            (1012, &[0, 0, 1, 0, 1, 0, 0, 0, 0, 0, 0, 0]), // child 1, without a key
+            Field::Bytes(532, &[1, 0]), // entries
+            Field::Bytes(536, &[3, 3]), // level, type
+            Field::Bytes(538, &[0xf4, 1]), // offset
+            Field::Bytes(1012, &[0, 0, 1, 0, 1, 0, 0, 0, 0, 0, 0, 0]), // child 1, without a key
         ],
     ],
 };
@@ -44,9 +45,9 @@ const OWN_NEXT: File = File {
         &BTREE,
         &A_LEAF,
         &[
-            (32, &[2]), // last page
-            (1032, &[2, 0, 0, 0, 2, 0, 0, 0, 2]), // page 2: previous, next
-            (1049, &[7]), // type
+            Field::Bytes(32, &[2]), // last page
+            Field::Bytes(1032, &[2, 0, 0, 0, 2, 0, 0, 0, 2]), // page 2: previous, next
+            Field::Bytes(1049, &[7]), // type
         ],
     ],
 };
@@ -58,24 +59,24 @@ const OWN_FREE_PAGE: File = File {
         &BTREE,
         &A_LEAF,
         &[
-            (28, &[2]), // first free page
-            (32, &[2]), // last page
-            (1032, &[2]), // page 2
-            (1040, &[2]), // next
+            Field::Bytes(28, &[2]), // first free page
+            Field::Bytes(32, &[2]), // last page
+            Field::Bytes(1032, &[2]), // page 2
+            Field::Bytes(1040, &[2]), // next
         ],
     ],
 };
 
 // The data of the keys a and b are one chain of ten bytes, on page 2.
 const SHARED: [Field; 8] = [
-    (32, &[2]), // last page
-    (532, &[4, 0, 0xe0, 1]), // entries, high free offset
-    (538, &[0xfc, 1, 0xf0, 1, 0xec, 1, 0xe0, 1]), // offsets: a key, then its data
-    (992, &[0, 0, 3, 0, 2, 0, 0, 0, 10, 0, 0, 0]), // data of b: chain 2, ten bytes
-    (1004, &[1, 0, 1, 0x62]), // key b
-    (1008, &[0, 0, 3, 0, 2, 0, 0, 0, 10, 0, 0, 0]), // data of a
-    (1032, &[2]), // page 2
-    (1044, &[2, 0, 10, 0, 0, 7]), // how many items name it, bytes on it, type
+    Field::Bytes(32, &[2]), // last page
+    Field::Bytes(532, &[4, 0, 0xe0, 1]), // entries, high free offset
+    Field::Bytes(538, &[0xfc, 1, 0xf0, 1, 0xec, 1, 0xe0, 1]), // offsets: a key, then its data
+    Field::Bytes(992, &[0, 0, 3, 0, 2, 0, 0, 0, 10, 0, 0, 0]), // data of b: chain 2, ten bytes
+    Field::Bytes(1004, &[1, 0, 1, 0x62]), // key b
+    Field::Bytes(1008, &[0, 0, 3, 0, 2, 0, 0, 0, 10, 0, 0, 0]), // data of a
+    Field::Bytes(1032, &[2]), // page 2
+    Field::Bytes(1044, &[2, 0, 10, 0, 0, 7]), // how many items name it, bytes on it, type
 ];
 
 const SHARED_CHAIN: File = File {
@@ -85,7 +86,7 @@ const SHARED_CHAIN: File = File {
 
 const SHARED_TOO_OFTEN: File = File {
     length: THREE_PAGES,
-    parts: &[&BTREE, &A_LEAF, &SHARED, &[(1044, &[1])]],
+    parts: &[&BTREE, &A_LEAF, &SHARED, &[Field::Bytes(1044, &[1])]],
 };
 
 const TABLE_LENGTH: usize = 2560;
@@ -93,13 +94,13 @@ const TABLE_LENGTH: usize = 2560;
 // The page of bucket 0 is its own next one.
 const BUCKET_IN_A_RING: File = File {
     length: TABLE_LENGTH,
-    parts: &[&BUCKETS, &[(528, &[1])]],
+    parts: &[&BUCKETS, &[Field::Bytes(528, &[1])]],
 };
 
 // Five buckets and more, of which the spares place one past the last page.
 const TOO_MANY_BUCKETS: File = File {
     length: TABLE_LENGTH,
-    parts: &[&BUCKETS, &[(72, &[5, 0, 0, 0, 7, 0, 0, 0, 3])]],
+    parts: &[&BUCKETS, &[Field::Bytes(72, &[5, 0, 0, 0, 7, 0, 0, 0, 3])]],
 };
 
 // The data of a are a set whose root is the leaf that it stands on.
@@ -109,10 +110,10 @@ const OWN_SET: File = File {
         &BTREE,
         &A_LEAF,
         &[
-            (48, &[1]), // duplicates
-            (534, &[0xf0, 1]),
-            (540, &[0xf0, 1]), // offset of the data
-            (1008, &[0, 0, 2, 0, 1, 0, 0, 0, 0, 0, 0, 0]), // root 1
+            Field::Bytes(48, &[1]), // duplicates
+            Field::Bytes(534, &[0xf0, 1]),
+            Field::Bytes(540, &[0xf0, 1]), // offset of the data
+            Field::Bytes(1008, &[0, 0, 2, 0, 1, 0, 0, 0, 0, 0, 0, 0]), // root 1
         ],
     ],
 };
@@ -120,13 +121,13 @@ const OWN_SET: File = File {
 // The data of a end on the last byte of the page, over the key.
 const DATA_OVER_KEY: File = File {
     length: TWO_PAGES,
-    parts: &[&BTREE, &A_LEAF, &[(1016, &[5])]],
+    parts: &[&BTREE, &A_LEAF, &[Field::Bytes(1016, &[5])]],
 };
 
 // They'd end four bytes past it.
 const DATA_PAST_END: File = File {
     length: TWO_PAGES,
-    parts: &[&BTREE, &A_LEAF, &[(1016, &[9])]],
+    parts: &[&BTREE, &A_LEAF, &[Field::Bytes(1016, &[9])]],
 };
 
 const CUT_IN_PAGE_0: File = File {

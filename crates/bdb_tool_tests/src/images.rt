@@ -1,10 +1,8 @@
 //! Images that are written a field a line.
 
-use bdb_model::Bytes;
+use bdb_fields::{Field, write};
+use bdb_model::{Bytes, Order};
 use std::alloc::{AllocError, Global};
-
-/// The bytes from a place on.
-pub type Field = (usize, &'static [u8]);
 
 /// The bytes of the longest file.
 const LONGEST: usize = 9 * 512;
@@ -20,21 +18,11 @@ pub struct File {
 pub fn bytes_of(alloc: Global, file: &File) -> Result<Bytes, AllocError> {
     let mut image = [0u8; LONGEST];
     for part in file.parts {
-        put(&mut image, part);
+        write(&mut image, part, Order::Little);
     }
     let mut bytes = Bytes::new(alloc);
     if let Some(whole) = image.get(..file.length) {
         bytes.push_all(whole)?;
     }
     Ok(bytes)
-}
-
-fn put(image: &mut [u8], fields: &[Field]) {
-    for (at, bytes) in fields {
-        for (i, byte) in bytes.iter().enumerate() {
-            if let Some(cell) = image.get_mut(at.wrapping_add(i)) {
-                *cell = *byte;
-            }
-        }
-    }
 }

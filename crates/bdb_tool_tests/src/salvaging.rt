@@ -6,6 +6,7 @@ use crate::files::{
 };
 use crate::running::Told::{Done, Line};
 use crate::running::{Row, Told, check_rows};
+use bdb_fields::Field;
 use std::test::Fail;
 
 pub const TWO_PAIRS: &[u8] =

@@ -1,6 +1,7 @@
 //! Dump texts, after docs/FORMAT.md.
 
 use crate::images::File;
+use bdb_fields::Field;
 
 // A text without lines.
 pub const NO_TEXT: File = File {
@@ -11,49 +12,49 @@ pub const NO_TEXT: File = File {
 // A first line that isn't one of a section.
 pub const NO_VERSION: File = File {
     length: 9,
-    parts: &[&[(0, b"VERSIO=3\n")]],
+    parts: &[&[Field::Bytes(0, b"VERSIO=3\n")]],
 };
 
 // Another version.
 pub const OTHER_VERSION: File = File {
     length: 10,
-    parts: &[&[(0, b"VERSION=2\n")]],
+    parts: &[&[Field::Bytes(0, b"VERSION=2\n")]],
 };
 
 // A keyword that isn't one of the table.
 pub const UNKNOWN_KEYWORD: File = File {
     length: 41,
-    parts: &[&[(0, b"VERSION=3\nformat=bytevalue\nsubdatabase=a\n")]],
+    parts: &[&[Field::Bytes(0, b"VERSION=3\nformat=bytevalue\nsubdatabase=a\n")]],
 };
 
 // A page size that is none.
 pub const BAD_VALUE: File = File {
     length: 43,
-    parts: &[&[(0, b"VERSION=3\nformat=bytevalue\ndb_pagesize=500\n")]],
+    parts: &[&[Field::Bytes(0, b"VERSION=3\nformat=bytevalue\ndb_pagesize=500\n")]],
 };
 
 // A keyword twice.
 pub const REPEATED_KEYWORD: File = File {
     length: 49,
-    parts: &[&[(0, b"VERSION=3\nformat=bytevalue\ntype=btree\ntype=btree\n")]],
+    parts: &[&[Field::Bytes(0, b"VERSION=3\nformat=bytevalue\ntype=btree\ntype=btree\n")]],
 };
 
 // A header without a type.
 pub const NO_TYPE: File = File {
     length: 38,
-    parts: &[&[(0, b"VERSION=3\nformat=bytevalue\nHEADER=END\n")]],
+    parts: &[&[Field::Bytes(0, b"VERSION=3\nformat=bytevalue\nHEADER=END\n")]],
 };
 
 // What is left out by name.
 pub const CHECKSUM: File = File {
     length: 36,
-    parts: &[&[(0, b"VERSION=3\nformat=bytevalue\nchksum=1\n")]],
+    parts: &[&[Field::Bytes(0, b"VERSION=3\nformat=bytevalue\nchksum=1\n")]],
 };
 
 // A data line that begins with a digit.
 pub const NO_SPACE: File = File {
     length: 52,
-    parts: &[&[(
+    parts: &[&[Field::Bytes(
         0,
         b"VERSION=3\nformat=bytevalue\ntype=btree\nHEADER=END\n61\n",
     )]],
@@ -62,7 +63,7 @@ pub const NO_SPACE: File = File {
 // A data line of one digit.
 pub const BAD_DIGIT: File = File {
     length: 52,
-    parts: &[&[(
+    parts: &[&[Field::Bytes(
         0,
         b"VERSION=3\nformat=bytevalue\ntype=btree\nHEADER=END\n 6\n",
     )]],
@@ -71,7 +72,7 @@ pub const BAD_DIGIT: File = File {
 // A printed line with a backslash before another letter.
 pub const BAD_ESCAPE: File = File {
     length: 49,
-    parts: &[&[(
+    parts: &[&[Field::Bytes(
         0,
         b"VERSION=3\nformat=print\ntype=btree\nHEADER=END\n \\x\n",
     )]],
@@ -80,7 +81,7 @@ pub const BAD_ESCAPE: File = File {
 // A key at the end.
 pub const KEY_WITHOUT_DATA: File = File {
     length: 62,
-    parts: &[&[(
+    parts: &[&[Field::Bytes(
         0,
         b"VERSION=3\nformat=bytevalue\ntype=btree\nHEADER=END\n 61\nDATA=END\n",
     )]],
@@ -89,7 +90,7 @@ pub const KEY_WITHOUT_DATA: File = File {
 // A record whose key is a letter.
 pub const BAD_NUMBER: File = File {
     length: 60,
-    parts: &[&[(
+    parts: &[&[Field::Bytes(
         0,
         b"VERSION=3\nformat=bytevalue\ntype=recno\nkeys=1\nHEADER=END\n 61\n",
     )]],
@@ -98,7 +99,7 @@ pub const BAD_NUMBER: File = File {
 // A section that doesn't end.
 pub const NO_END: File = File {
     length: 57,
-    parts: &[&[(
+    parts: &[&[Field::Bytes(
         0,
         b"VERSION=3\nformat=bytevalue\ntype=btree\nHEADER=END\n 61\n 62\n",
     )]],
@@ -107,7 +108,7 @@ pub const NO_END: File = File {
 // A second section without a name.
 pub const NAME_MISSING: File = File {
     length: 84,
-    parts: &[&[(
+    parts: &[&[Field::Bytes(
         0,
         b"VERSION=3\ndatabase=a\ntype=btree\nHEADER=END\nDATA=END\nVERSION=3\ntype=btree\nHEADER=END\n",
     )]],
@@ -116,7 +117,7 @@ pub const NAME_MISSING: File = File {
 // Two sections of one name.
 pub const NAME_TWICE: File = File {
     length: 95,
-    parts: &[&[(
+    parts: &[&[Field::Bytes(
         0,
         b"VERSION=3\ndatabase=a\ntype=btree\nHEADER=END\nDATA=END\nVERSION=3\ndatabase=a\ntype=btree\nHEADER=END\n",
     )]],
@@ -125,13 +126,13 @@ pub const NAME_TWICE: File = File {
 // A recno with duplicates.
 pub const CONFLICT: File = File {
     length: 45,
-    parts: &[&[(0, b"VERSION=3\ntype=recno\nduplicates=1\nHEADER=END\n")]],
+    parts: &[&[Field::Bytes(0, b"VERSION=3\ntype=recno\nduplicates=1\nHEADER=END\n")]],
 };
 
 // The record 0.
 pub const RECORD_ZERO: File = File {
     length: 73,
-    parts: &[&[(
+    parts: &[&[Field::Bytes(
         0,
         b"VERSION=3\nformat=bytevalue\ntype=recno\nkeys=1\nHEADER=END\n 30\n 61\nDATA=END\n",
     )]],
@@ -140,7 +141,7 @@ pub const RECORD_ZERO: File = File {
 // A datum that is longer than its record.
 pub const LONG_RECORD: File = File {
     length: 79,
-    parts: &[&[(
+    parts: &[&[Field::Bytes(
         0,
         b"VERSION=3\nformat=bytevalue\ntype=recno\nre_len=2\nHEADER=END\n 61\n 616263\nDATA=END\n",
     )]],
@@ -149,7 +150,7 @@ pub const LONG_RECORD: File = File {
 // A queue whose record doesn't fit its page.
 pub const WIDE_QUEUE: File = File {
     length: 85,
-    parts: &[&[(
+    parts: &[&[Field::Bytes(
         0,
         b"VERSION=3\nformat=bytevalue\ntype=queue\ndb_pagesize=512\nre_len=484\nHEADER=END\nDATA=END\n",
     )]],
@@ -158,7 +159,7 @@ pub const WIDE_QUEUE: File = File {
 // A queue with a name.
 pub const NAMED_QUEUE: File = File {
     length: 61,
-    parts: &[&[(
+    parts: &[&[Field::Bytes(
         0,
         b"VERSION=3\ndatabase=q\ntype=queue\nre_len=4\nHEADER=END\nDATA=END\n",
     )]],
@@ -167,7 +168,7 @@ pub const NAMED_QUEUE: File = File {
 // The last record that a number can name.
 pub const FAR_RECORD: File = File {
     length: 91,
-    parts: &[&[(
+    parts: &[&[Field::Bytes(
         0,
         b"VERSION=3\nformat=bytevalue\ntype=recno\nkeys=1\nHEADER=END\n 34323934393637323935\n 61\nDATA=END\n",
     )]],
@@ -176,7 +177,7 @@ pub const FAR_RECORD: File = File {
 // Two pairs of a hash, out of order.
 pub const TABLE_TEXT: File = File {
     length: 108,
-    parts: &[&[(
+    parts: &[&[Field::Bytes(
         0,
         b"VERSION=3\nformat=bytevalue\ntype=hash\nh_nelem=2\ndb_pagesize=4096\nHEADER=END\n 6b32\n 7632\n 6b31\n 7631\nDATA=END\n",
     )]],
@@ -185,7 +186,7 @@ pub const TABLE_TEXT: File = File {
 // Sorted duplicates, one twice.
 pub const SETS_TEXT: File = File {
     length: 121,
-    parts: &[&[(
+    parts: &[&[Field::Bytes(
         0,
         b"VERSION=3\nformat=bytevalue\ntype=btree\ndb_pagesize=512\nduplicates=1\ndupsort=1\nHEADER=END\n 61\n 33\n 61\n 31\n 61\n 33\nDATA=END\n",
     )]],
@@ -194,7 +195,7 @@ pub const SETS_TEXT: File = File {
 // Two databases without pairs, out of order.
 pub const NAMES_TEXT: File = File {
     length: 170,
-    parts: &[&[(
+    parts: &[&[Field::Bytes(
         0,
         b"VERSION=3\nformat=bytevalue\ndatabase=b\ntype=recno\ndb_pagesize=512\nHEADER=END\nDATA=END\nVERSION=3\nformat=bytevalue\ndatabase=a\ntype=btree\ndb_pagesize=512\nHEADER=END\nDATA=END\n",
     )]],
@@ -203,7 +204,7 @@ pub const NAMES_TEXT: File = File {
 // Records with a gap.
 pub const RECORDS_TEXT: File = File {
     length: 97,
-    parts: &[&[(
+    parts: &[&[Field::Bytes(
         0,
         b"VERSION=3\nformat=bytevalue\ntype=recno\ndb_pagesize=512\nkeys=1\nHEADER=END\n 31\n 61\n 33\n 63\nDATA=END\n",
     )]],
@@ -212,7 +213,7 @@ pub const RECORDS_TEXT: File = File {
 // The pairs that two are generated as from the seed 1, for a btree.
 pub const GENERATED_TEXT: File = File {
     length: 193,
-    parts: &[&[(
+    parts: &[&[Field::Bytes(
         0,
         b"VERSION=3\nformat=bytevalue\ntype=btree\ndb_pagesize=4096\nHEADER=END\n 0000000100000000\n 00\n 41c67ea600000001\n 0101010101010101010101010101010101010101010101010101010101010101010101010101\nDATA=END\n",
     )]],
