@@ -1,30 +1,26 @@
 -- What leaves and hash pages weigh, those below metadata do.
-use Rattle.std.proofs.Common.{◌≡◌, ◌≢◌, ◌⊎◌, ℕ, ◌+◌, ◌≤◌, Bool, true, false, cond, List, [], ◌∷◌, length, arith, refl, sym, ◌∙◌, ap, inl, inr}
+use Rattle.std.proofs.Common.{◌≡◌, ℕ, ◌+◌, ◌≤◌, Bool, true, false, cond, List, [], ◌∷◌, length, arith, refl, sym, ◌∙◌, ap, inl, inr}
 use Rattle.std.proofs.Common.{true≢false}
-use Rattle.std.specs.Prelude.{Option, Some, None}
-use Rattle.std.specs.List.{Contains, filter, flat_map, range_with_len, sum_by}
+use Rattle.std.specs.List.{Contains, range_with_len, sum_by}
 use Rattle.std.proofs.lemmas.Bool.{cases_Bool, cases_lt}
 use Rattle.std.proofs.lemmas.List.{get_or_past}
-use Rattle.bdb_format.specs.declared.metadata.FileKind.TheVariants.{Queue as QueueFile}
 use Rattle.bdb_format.specs.declared.references.Sort.{Sort}
 use Rattle.bdb_format.specs.declared.references.Sort.TheVariants.{Root, Bucket, DuplicateRoot}
 use Rattle.bdb_format.specs.Chains.{chain}
 use Rattle.bdb_format.specs.ContentRows.{fields_in, fields_of}
 use Rattle.bdb_format.specs.Contents.{bucket_pages}
-use Rattle.bdb_format.specs.File.{File, file_of, page_at, type_in}
+use Rattle.bdb_format.specs.File.{File, file_of, page_at}
 use Rattle.bdb_format.specs.Graph.{Owner, all_references, is_spare}
-use Rattle.bdb_format.specs.Hashing.{first_page}
 use Rattle.bdb_format.specs.Leaves.{is_root_reference, leaves, root_references}
 use Rattle.bdb_format.specs.Page.{Metadata, BtreeFields, HashFields, QueueFields, Page, Zero, Meta, NoType}
-use Rattle.bdb_format.specs.References.{has_type, is_zero_page}
+use Rattle.bdb_format.specs.References.{is_zero_page}
 use Rattle.bdb_format.proofs.ListLemmas.{only_member}
 use Rattle.bdb_format.proofs.MemberLemmas.{no_member, of_range}
 use Rattle.bdb_format.proofs.ReferenceLemmas.{pages_counted}
-use Rattle.bdb_graph.specs.Linked.{FitsDupRoot, HasMetadata, IsForest}
+use Rattle.bdb_graph.specs.Linked.{HasMetadata}
 use Rattle.bdb_tree.proofs.TreeLemmas.{typed_inside}
 use Rattle.bdb_census.specs.Databases.{HashPagesAreOfTables, LeavesAreOfDatabases, buckets_below, leaves_below}
 use Rattle.bdb_census.specs.HashSums.{WeighsHash, is_bucket, is_hash_page}
-use Rattle.bdb_census.specs.TreeSums.{leaf_weight}
 use Rattle.bdb_census.proofs.CountLemmas.{sum_none, sum_parts, sum_same}
 use Rattle.bdb_census.proofs.FieldLemmas.{OfMetadata, fields_weight, metadata_weight}
 use Rattle.bdb_census.proofs.HashLemmas.{bucket_page_is, hash_pages_are_of_buckets}

@@ -1,11 +1,11 @@
 -- What the hash pages of a file weigh is what those of its buckets do: each is named once, or weighs nothing.
-use Rattle.std.proofs.Common.{◌≡◌, ◌⊎◌, ℕ, zero, suc, ◌+◌, ◌<◌, ◌≤◌, Bool, true, false, cond, List, [], ◌∷◌, ◌++◌, map, length, arith, refl, sym}
+use Rattle.std.proofs.Common.{◌≡◌, ◌⊎◌, ℕ, zero, suc, ◌+◌, ◌<◌, ◌≤◌, Bool, true, false, cond, List, [], ◌∷◌, length, arith, refl, sym}
 use Rattle.std.proofs.Common.{◌∙◌, ap, subst, inl, inr, true≢false}
-use Rattle.std.specs.Prelude.{◌==◌, ◌||◌, ◌&&◌, not, Option, Some, None, get_or}
+use Rattle.std.specs.Prelude.{◌==◌, ◌||◌, ◌&&◌, not, Option, Some, None}
 use Rattle.std.specs.List.{Contains, IsDistinct, AllByRecursion, enumerate_from, flat_map, list_any, range_with_len, sum_by}
 use Rattle.std.proofs.lemmas.Bool.{and_parts, cases_Bool, eqb-true, ne_eqb}
 use Rattle.std.proofs.lemmas.List.Elements.{Contains-append_right}
-use Rattle.std.proofs.lemmas.List.Sums.{sum_by-cons, sum_by-append}
+use Rattle.std.proofs.lemmas.List.Sums.{sum_by-cons}
 use Rattle.std.proofs.lemmas.Map.Steps.{length-le_from_distinct_below}
 use Rattle.bdb_format.specs.declared.metadata.FileKind.{FileKind}
 use Rattle.bdb_format.specs.declared.metadata.FileKind.TheVariants.{Btree, Hash as HashFile, Queue as QueueFile}
@@ -16,12 +16,11 @@ use Rattle.bdb_format.specs.declared.references.Sort.TheVariants.{DuplicateRoot}
 use Rattle.bdb_format.specs.Chains.{chain, chain_in, next_of}
 use Rattle.bdb_format.specs.File.{File, file_of, header_in, page_at, type_in}
 use Rattle.bdb_format.specs.Graph.{OneRole, Owner, all_references, held_by, is_anchor, is_head_reference, is_meta, is_spare, owners}
-use Rattle.bdb_format.specs.Hashing.{first_page}
 use Rattle.bdb_format.specs.declared.pages.RecnoItem.{RecnoItem}
 use Rattle.bdb_format.specs.HeadOf.{head_of}
 use Rattle.bdb_format.specs.Numbers.{has_bit}
-use Rattle.bdb_format.specs.Page.{Content, Inline, Set, Chain, Tree, Unknown, Item, InternalItem, Listed, BtreeFields, HashFields, QueueFields}
-use Rattle.bdb_format.specs.Page.{Page, Zero, Free, Meta, Hash, Internal, RecnoInternal, Leaf, RecnoLeaf, DupLeaf, Overflow, Queue, NoType}
+use Rattle.bdb_format.specs.Page.{Item, InternalItem, Listed, BtreeFields, HashFields, QueueFields}
+use Rattle.bdb_format.specs.Page.{Page, Zero, Meta, Hash, Internal, RecnoInternal}
 use Rattle.bdb_format.specs.Page.{PageType, HashPage}
 use Rattle.bdb_format.specs.declared.kinds.Order.{Order}
 use Rattle.bdb_format.specs.Numbers.{byte_at}
@@ -31,7 +30,7 @@ use Rattle.bdb_format.specs.File.{page_bytes}
 use Rattle.bdb_format.specs.References.{Asked, asked_by, child_types, contents_in, content_targets, fit_code, fit_rows, has_type, is_zero_page}
 use Rattle.bdb_format.specs.References.{targets_in, targets_of, refs, root_types, unless_zero}
 use Rattle.bdb_format.proofs.GraphLemmas.{each_fits, each_page_has_one_role, is_owner, owner_fits, reserve_is}
-use Rattle.bdb_format.proofs.MemberLemmas.{first_member, in_map, later_member, member_cases, no_member, of_map}
+use Rattle.bdb_format.proofs.MemberLemmas.{first_member, in_map, member_cases, no_member, of_map}
 use Rattle.bdb_format.proofs.VerdictLemmas.{AllFail, none_is_first_row}
 use Rattle.bdb_graph.specs.Forest.{AllDistinct, IsWayDown, Names, NotIn}
 use Rattle.bdb_graph.specs.Linked.{IsForest}

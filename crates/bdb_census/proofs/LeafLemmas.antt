@@ -1,8 +1,8 @@
 -- The types of leaves of databases and of sets off the page.
-use Rattle.std.proofs.Common.{◌≡◌, ◌⊎◌, ℕ, zero, suc, ◌+◌, ◌<◌, ◌≤◌, Bool, true, false, cond, List, [], ◌∷◌, arith, refl, sym, ◌∙◌, ap, subst, inl}
-use Rattle.std.proofs.Common.{inr, true≢false}
-use Rattle.std.specs.Prelude.{◌==◌, ◌&&◌, Option, Some, None}
-use Rattle.std.specs.List.{Contains, flat_map}
+use Rattle.std.proofs.Common.{◌≡◌, ℕ, zero, suc, ◌+◌, ◌≤◌, Bool, true, false, cond, List, [], ◌∷◌, arith, refl, ap, subst, inl}
+use Rattle.std.proofs.Common.{inr}
+use Rattle.std.specs.Prelude.{◌==◌, ◌&&◌, Some}
+use Rattle.std.specs.List.{Contains}
 use Rattle.std.proofs.lemmas.Bool.{eq-eqb}
 use Rattle.bdb_format.specs.declared.metadata.BtreeMeta.{BtreeMeta}
 use Rattle.bdb_format.specs.declared.references.Sort.{Sort}
@@ -12,8 +12,8 @@ use Rattle.bdb_format.specs.File.{File, file_of, page_at, type_in}
 use Rattle.bdb_format.specs.Flags.{is_recno}
 use Rattle.bdb_format.specs.HeadOf.{head_of}
 use Rattle.bdb_format.specs.Leaves.{LeafPlace, is_root_reference, is_wrong_leaf, leaf_places, leaves, places_from, wrong_leaf_types}
-use Rattle.bdb_format.specs.Page.{BtreeFields, Page, Meta, Hash, Internal, RecnoInternal, Leaf, RecnoLeaf, DupLeaf}
-use Rattle.bdb_format.specs.References.{child_types, has_type, root_types}
+use Rattle.bdb_format.specs.Page.{BtreeFields, Page, Hash, Leaf, RecnoLeaf, DupLeaf}
+use Rattle.bdb_format.specs.References.{child_types, has_type}
 use Rattle.bdb_format.specs.Verdict.{structure_faults, structure_rows}
 use Rattle.bdb_format.proofs.BoolLemmas.{second_false}
 use Rattle.bdb_format.proofs.ListLemmas.{only_member}
@@ -22,8 +22,8 @@ use Rattle.bdb_format.proofs.TypeLemmas.{keyed_below, of_type, tree_keyed}
 use Rattle.bdb_format.proofs.VerdictLemmas.{AllFail, no_rows_at}
 use Rattle.bdb_graph.specs.Linked.{FitsDupRoot, FitsLeafPage, HasMetadata, IsForest, IsTarget}
 use Rattle.bdb_graph.proofs.LinkedLemmas.{root_fits}
-use Rattle.bdb_tree.specs.Trees.{IsRoot, IsTreePage}
-use Rattle.bdb_tree.proofs.ShapeLemmas.{IsInnerPage, IsLeafPage, is_tree_in}
+use Rattle.bdb_tree.specs.Trees.{IsTreePage}
+use Rattle.bdb_tree.proofs.ShapeLemmas.{is_tree_in}
 use Rattle.bdb_tree.proofs.TreeLemmas.{HasTypeAt, IsChild, child_is, leaf_fits, leaf_is_tree, leaf_low, leaves_of_inner, leaves_of_leaf, level}
 use Rattle.bdb_tree.proofs.TreeLemmas.{meta_root_type, place_of_root}
 use Rattle.bdb_tree.proofs.TreeLemmas.{recno_leaf, root_is_tree, tree_cases, tree_is, tree_level}

@@ -1,11 +1,8 @@
 -- Lists in the order of their keys hold what they held; a file of salvage follows pages as the file itself.
-use Rattle.std.proofs.Common.{◌≡◌, ℕ, zero, suc, ◌+◌, true, false, cond, List, [], ◌∷◌, arith, refl, ◌∙◌, ap}
-use Rattle.std.specs.Prelude.{◌==◌}
+use Rattle.std.proofs.Common.{◌≡◌, ℕ, ◌+◌, true, false, cond, List, [], ◌∷◌, arith, refl}
 use Rattle.std.specs.List.{sum_by}
 use Rattle.std.proofs.lemmas.List.Sums.{sum_by-cons}
-use Rattle.bdb_format.specs.Chains.{chain_in, next_of, piece_in}
 use Rattle.bdb_format.specs.Contents.{StoredPair}
-use Rattle.bdb_format.specs.File.{File, page_at}
 use Rattle.bdb_format.specs.Less.{less}
 use Rattle.bdb_format.specs.Lists.{by_key, insert_pair}
 

@@ -1,11 +1,11 @@
 -- The metadata pages of a file are page 0 and those that its master names, each once.
-use Rattle.std.proofs.Common.{◌≡◌, ◌≢◌, ◌⊎◌, ℕ, zero, suc, ◌+◌, ◌*◌, ◌<◌, ◌≤◌, ◌^◌, Bool, true, false, cond, List, [], ◌∷◌, ◌++◌, map, length}
+use Rattle.std.proofs.Common.{◌≡◌, ◌≢◌, ℕ, ◌+◌, ◌*◌, ◌≤◌, ◌^◌, Bool, true, false, cond, List, [], ◌∷◌, ◌++◌, map, length}
 use Rattle.std.proofs.Common.{add-one, arith, refl, sym, ◌∙◌, ap, inl, inr}
 use Rattle.std.specs.Prelude.{◌==◌, ◌&&◌, nat_lt, not, Option, Some, None}
 use Rattle.std.specs.List.{Contains, filter, flat_map, range_with_len, sum_by}
 use Rattle.std.specs.Option.{option_to_list}
 use Rattle.std.proofs.lemmas.Bool.{and_parts, cases_Bool, eq-eqb, eqb-false, lt-ltb, ltb-false, ltb-true, ne_eqb, not-false}
-use Rattle.std.proofs.lemmas.List.Sums.{length-filter, sum_by-append, sum_by-cons}
+use Rattle.std.proofs.lemmas.List.Sums.{length-filter, sum_by-cons}
 use Rattle.bdb_format.specs.declared.metadata.BtreeMeta.{BtreeMeta}
 use Rattle.bdb_format.specs.declared.metadata.Head.{Head}
 use Rattle.bdb_format.specs.declared.metadata.FileKind.TheVariants.{Queue as QueueFile}
@@ -21,17 +21,17 @@ use Rattle.bdb_format.specs.Master.{is_named_kind, is_page, master_in, master_pa
 use Rattle.bdb_format.specs.Page.{Metadata, BtreeFields, HashFields, QueueFields, Page, Meta, Hash, Leaf}
 use Rattle.bdb_format.specs.Reading.{abstract_page}
 use Rattle.bdb_format.specs.References.{has_type}
-use Rattle.bdb_format.specs.Verdict.{faults_of, master_faults, structure_faults}
+use Rattle.bdb_format.specs.Verdict.{faults_of, master_faults}
 use Rattle.bdb_format.proofs.BoolLemmas.{second_false}
 use Rattle.bdb_format.proofs.ListLemmas.{only_member}
 use Rattle.bdb_format.proofs.MemberLemmas.{none_passes, no_member, of_filter, of_flat_map, of_map, of_range}
 use Rattle.bdb_format.proofs.VerdictLemmas.{AllFail, no_rows_at, no_stage, none_in}
 use Rattle.bdb_graph.specs.Linked.{HasMetadata, IsForest}
-use Rattle.bdb_graph.proofs.HeldLemmas.{last_page, page_is}
+use Rattle.bdb_graph.proofs.HeldLemmas.{page_is}
 use Rattle.bdb_graph.proofs.LinkedLemmas.{root_fits}
 use Rattle.bdb_tree.proofs.TreeLemmas.{leaf_low, root_is_tree, typed_inside}
 use Rattle.bdb_census.specs.Counting.{times}
-use Rattle.bdb_census.specs.Databases.{IsSoundForest, MetadataAreDatabases, master_fields, named_fields}
+use Rattle.bdb_census.specs.Databases.{IsSoundForest, MetadataAreDatabases, master_fields}
 use Rattle.bdb_census.proofs.CountLemmas.{by_page, sum_none, sum_parts, sum_same}
 use Rattle.bdb_census.proofs.NameLemmas.{sum_map}
 

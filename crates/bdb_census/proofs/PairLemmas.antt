@@ -1,14 +1,12 @@
 -- What the pairs of all pages give, the lists of the databases have.
-use Rattle.std.proofs.Common.{◌≡◌, ◌≢◌, ◌⊎◌, ℕ, ◌+◌, ◌*◌, ◌/◌, ◌≤◌, Bool, true, false, cond, List, [], ◌∷◌, ◌++◌, map, length, arith, refl, sym}
-use Rattle.std.proofs.Common.{◌∙◌, ap, subst, inl, inr, true≢false}
+use Rattle.std.proofs.Common.{◌≡◌, ℕ, ◌+◌, ◌/◌, ◌≤◌, Bool, true, false, cond, List, [], ◌∷◌, ◌++◌, map, length, arith, refl, sym}
+use Rattle.std.proofs.Common.{◌∙◌, ap, subst, true≢false}
 use Rattle.std.specs.Prelude.{◌==◌, ◌&&◌, Option, Some, None}
 use Rattle.std.specs.List.{enumerate_from, flat_map, range_with_len, sum_by}
-use Rattle.std.proofs.lemmas.Bool.{and_parts, cases_Bool, eqb-true}
+use Rattle.std.proofs.lemmas.Bool.{and_parts, eqb-true}
 use Rattle.std.proofs.lemmas.List.Sums.{sum_by-append, sum_by-cons}
 use Rattle.bdb_format.specs.declared.kinds.Order.{Order}
-use Rattle.bdb_format.specs.declared.metadata.BtreeMeta.{BtreeMeta}
 use Rattle.bdb_format.specs.declared.metadata.HashMeta.{HashMeta}
-use Rattle.bdb_format.specs.declared.metadata.QueueMeta.{QueueMeta}
 use Rattle.bdb_format.specs.Chains.{value_of}
 use Rattle.bdb_format.specs.ContentRows.{fields_of}
 use Rattle.bdb_format.specs.Contents.{StoredPair, bucket_pages, bucket_pairs, data_of, pair_at, pairs_in, pairs_of, table_pairs, tree_entries}
@@ -21,13 +19,13 @@ use Rattle.bdb_format.specs.HeadOf.{head_of}
 use Rattle.bdb_format.specs.Leaves.{leaves}
 use Rattle.bdb_format.specs.Lists.{ListKey, BytesKey, NumberKey, btree_list, by_key, hash_list, list_of, listed_entry, listed_pair, recno_list}
 use Rattle.bdb_format.specs.Master.{master_in}
-use Rattle.bdb_format.specs.Page.{Content, Item, Listed, Metadata, BtreeFields, HashFields, QueueFields, Page, PageType, HashPage, Zero, Free, Meta}
-use Rattle.bdb_format.specs.Page.{Hash, Internal, RecnoInternal, Leaf, RecnoLeaf, DupLeaf, Overflow, Queue, NoType}
+use Rattle.bdb_format.specs.Page.{Item, Listed, Metadata, BtreeFields, HashFields, QueueFields, Page, PageType, HashPage, Zero}
+use Rattle.bdb_format.specs.Page.{Hash, Leaf}
 use Rattle.bdb_format.specs.Reading.{abstract_page, hash_item_at, is_zero, listed, page_as, page_type}
 use Rattle.bdb_format.specs.Numbers.{byte_at}
 use Rattle.bdb_format.specs.References.{has_type}
 use Rattle.bdb_format.proofs.MemberLemmas.{of_range}
-use Rattle.bdb_format.proofs.PageLemmas.{header_listed, length_items}
+use Rattle.bdb_format.proofs.PageLemmas.{length_items}
 use Rattle.bdb_format.proofs.TypeLemmas.{of_type}
 use Rattle.bdb_graph.specs.Linked.{HasMetadata, IsForest}
 use Rattle.bdb_graph.proofs.HeldLemmas.{last_page, page_is}
@@ -41,7 +39,7 @@ use Rattle.bdb_census.proofs.HashLemmas.{hash_type}
 use Rattle.bdb_census.proofs.LeafLemmas.{no_pairs_in_recno, no_pairs_in_set}
 use Rattle.bdb_census.proofs.ListLemmas.{by_key_sum}
 use Rattle.bdb_census.proofs.MetaLemmas.{metadata_are_databases}
-use Rattle.bdb_census.proofs.NameLemmas.{sum_map, sum_placed}
+use Rattle.bdb_census.proofs.NameLemmas.{sum_map}
 use Rattle.bdb_census.proofs.ReadLemmas.{master_keys, no_queue_meta}
 
 -- Pages with pairs.

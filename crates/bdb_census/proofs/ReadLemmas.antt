@@ -1,21 +1,20 @@
 -- Metadata as it's read from its page: that of a queue stands in no file of trees and tables, and that of a master is of a btree.
-use Rattle.std.proofs.Common.{◌≡◌, ◌≢◌, ◌⊎◌, ℕ, zero, suc, ◌+◌, ◌<◌, ◌≤◌, Bool, true, false, cond, List, length, Option, Some, None, arith, refl}
+use Rattle.std.proofs.Common.{◌≡◌, ◌≢◌, ℕ, zero, suc, ◌<◌, ◌≤◌, true, false, List, length, Some, None, arith, refl}
 use Rattle.std.proofs.Common.{sym, ◌∙◌, ap, subst, inl, inr, true≢false}
-use Rattle.std.specs.Prelude.{◌==◌, not}
 use Rattle.std.proofs.lemmas.Bool.{cases_eq}
 use Rattle.bdb_format.specs.declared.kinds.Order.{Order}
 use Rattle.bdb_format.specs.declared.metadata.BtreeMeta.{BtreeMeta}
 use Rattle.bdb_format.specs.declared.metadata.FileKind.{FileKind}
 use Rattle.bdb_format.specs.declared.metadata.FileKind.TheVariants.{Btree as BtreeFile, Hash as HashFile, Queue as QueueFile}
 use Rattle.bdb_format.specs.declared.metadata.QueueMeta.{QueueMeta}
-use Rattle.bdb_format.specs.File.{File, file_of, page_at, page_bytes}
+use Rattle.bdb_format.specs.File.{file_of, page_at, page_bytes}
 use Rattle.bdb_format.specs.Flags.{is_recno, names_databases}
 use Rattle.bdb_format.specs.HeadOf.{head_of, is_page_size}
 use Rattle.bdb_format.specs.Master.{master_in}
 use Rattle.bdb_format.specs.Numbers.{byte_at, four_at, has_bit}
 use Rattle.bdb_format.specs.Page.{Metadata, BtreeFields, HashFields, QueueFields, Page, Meta}
 use Rattle.bdb_format.specs.Reading.{abstract_page, btree_fields, hash_fields, queue_fields}
-use Rattle.bdb_format.specs.Rows.{are_wrong_flags, form_code, is_tree_type, may_have_type, metadata_rows}
+use Rattle.bdb_format.specs.Rows.{are_wrong_flags, form_code, may_have_type, metadata_rows}
 use Rattle.bdb_format.proofs.GraphLemmas.{type_fits}
 use Rattle.bdb_format.proofs.PageLemmas.{later_type}
 use Rattle.bdb_format.proofs.VerdictLemmas.{AllFail, none_is_first_row}

@@ -1,16 +1,13 @@
 -- What the records that stand in no set off the page weigh, those of the lists of databases do.
-use Rattle.std.proofs.Common.{◌≡◌, ◌≢◌, ◌⊎◌, ℕ, ◌+◌, ◌≤◌, Bool, true, false, cond, List, [], ◌∷◌, map, arith, refl, sym, ◌∙◌, ap, subst, inl, inr}
-use Rattle.std.proofs.Common.{true≢false}
-use Rattle.std.specs.Prelude.{◌==◌, not, Option, Some, None}
+use Rattle.std.proofs.Common.{◌≡◌, ℕ, ◌+◌, ◌≤◌, Bool, true, false, cond, List, [], ◌∷◌, map, arith, refl, sym, ◌∙◌, ap, subst, inl, inr}
+use Rattle.std.specs.Prelude.{◌==◌, not}
 use Rattle.std.specs.List.{Contains, enumerate_from, filter, flat_map, range_with_len, sum_by}
 use Rattle.std.proofs.lemmas.Bool.{cases_Bool, eq-eqb}
 use Rattle.std.proofs.lemmas.List.Sums.{sum_by-cons}
-use Rattle.bdb_format.specs.declared.metadata.BtreeMeta.{BtreeMeta}
 use Rattle.bdb_format.specs.declared.metadata.HashMeta.{HashMeta}
 use Rattle.bdb_format.specs.declared.references.Sort.{Sort}
 use Rattle.bdb_format.specs.declared.references.Sort.TheVariants.{Root, DuplicateRoot}
 use Rattle.bdb_format.specs.Chains.{value_of}
-use Rattle.bdb_format.specs.ContentRows.{fields_of}
 use Rattle.bdb_format.specs.Contents.{StoredPair, data_of, entries_in, live_values, table_pairs, tree_entries, tree_pairs}
 use Rattle.bdb_format.specs.File.{File, file_of, page_at, type_in}
 use Rattle.bdb_format.specs.Flags.{is_recno}
@@ -21,11 +18,11 @@ use Rattle.bdb_format.specs.Lists.{ListKey, BytesKey, NumberKey, btree_list, by_
 use Rattle.bdb_format.specs.Page.{Item, Metadata, BtreeFields, HashFields, QueueFields, Page, RecnoLeaf, DupLeaf}
 use Rattle.bdb_format.specs.References.{has_type}
 use Rattle.bdb_format.proofs.MemberLemmas.{in_filter, member_cases, no_member}
-use Rattle.bdb_graph.specs.Linked.{FitsDupRoot, FitsTreeRoot, HasMetadata, IsForest, IsTarget}
+use Rattle.bdb_graph.specs.Linked.{FitsTreeRoot, HasMetadata, IsTarget}
 use Rattle.bdb_graph.proofs.LinkedLemmas.{root_fits}
 use Rattle.bdb_tree.proofs.TreeLemmas.{leaf_inside}
 use Rattle.bdb_census.specs.Counting.{times}
-use Rattle.bdb_census.specs.Databases.{IsOfSet, IsOfSets, IsSoundForest, NoLeafOfBoth, RecordsAreOfDatabases, all_lists, by_value, leaves_below}
+use Rattle.bdb_census.specs.Databases.{IsOfSet, IsOfSets, IsSoundForest, NoLeafOfBoth, RecordsAreOfDatabases, by_value, leaves_below}
 use Rattle.bdb_census.specs.Databases.{left_on}
 use Rattle.bdb_census.specs.TreeSums.{leaf_weight}
 use Rattle.bdb_census.proofs.CountLemmas.{sum_none, sum_parts, sum_same}
