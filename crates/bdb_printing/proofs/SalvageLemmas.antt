@@ -17,7 +17,7 @@ use Rattle.bdb_format.specs.Rows.{body_code, identity_rows, is_tree_type, page_c
 use Rattle.bdb_format.specs.Table.{first_row}
 use Rattle.bdb_format.proofs.ItemLemmas.{index_passes, no_index_row}
 use Rattle.bdb_format.proofs.PageLemmas.{length_items}
-use Rattle.bdb_salvage.specs.Salvage.{is_taken, is_whole, live_value, live_whole, loose, loose_on, salvaged_file, salvaged_page, unless_code, whole_values}
+use Rattle.bdb_stored.specs.Salvage.{is_taken, is_whole, live_value, live_whole, loose, loose_on, salvaged_file, salvaged_page, unless_code, whole_values}
 
 -- lists that are at most so long, joined
 joined_short : {A B : Type 0} (f : A → List B) (k : ℕ) (xs : List A) → ((x : A) → 2 * length (f x) ≤ k)

@@ -7,7 +7,7 @@ use Rattle.bdb_format.specs.File.{File}
 use Rattle.bdb_format.specs.Lists.{ListKey, BytesKey, NumberKey}
 use Rattle.bdb_model.specs.Written.{section_text}
 use Rattle.bdb_salvage.specs.declared.guess.Guess.{Guess}
-use Rattle.bdb_salvage.specs.Salvage.{loose, salvaged_file, stored}
+use Rattle.bdb_stored.specs.Salvage.{loose, salvaged_file, stored}
 
 -- a recno section as the image is read, without a setting of its own
 abbrev pub loose_settings : Guess → Settings

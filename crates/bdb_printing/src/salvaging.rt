@@ -10,7 +10,7 @@ ghost use Rattle.bdb_printing.specs.Printing.{Writes};
 ghost use Rattle.bdb_printing.specs.SalvageText.{bytes_pair, loose_section, loose_settings, numbered_record, salvage_text};
 ghost use Rattle.bdb_printing.specs.SalvageText.{stored_section, stored_settings};
 ghost use Rattle.bdb_salvage.specs.Kept.{file_in};
-ghost use Rattle.bdb_salvage.specs.Salvage.{loose};
+ghost use Rattle.bdb_stored.specs.Salvage.{loose};
 
 use crate::printing::{Cut, Printer};
 use bdb_io::Sink;
