@@ -1,5 +1,5 @@
 #!/usr/bin/env python3
-"""Runs every command of the built program on damaged copies of the files of real/files, and on damaged dump texts of real/dumps.
+"""Runs every command of the built program on damaged copies of the real files, and on damaged dump texts of real/dumps.
 
 usage: check_hostile.py [--copies N] [--seed S] [PROGRAM]
 
@@ -213,7 +213,7 @@ def main():
     parser.add_argument("program", nargs="?", default=str(TOP / "crates/bdbtool/out/bdbtool"))
     given = parser.parse_args()
     runs, copies = Runs(given.program), 0
-    for file in sorted((TOP / "real/files").iterdir()):
+    for file in sorted(TOP / "crates/nothing_lost/data" / text.name.removesuffix(".dump") for text in (TOP / "real/dumps").iterdir()):
         image = file.read_bytes()
         draw = random.Random(f"{given.seed} {file.name}")
         for number in range(given.copies):

@@ -18,7 +18,7 @@ import tempfile
 TOP = pathlib.Path(__file__).resolve().parent.parent
 SECONDS_A_RUN = 60
 MEMORY = 7
-NAMED, LONG = (TOP / "real/files" / name for name in ("sub_one_512_le.db", "bt_dup_ovdata_1024_le.db"))
+NAMED, LONG = (TOP / "crates/nothing_lost/data" / name for name in ("sub_one_512_le.db", "bt_dup_ovdata_1024_le.db"))
 TEXTS = [TOP / "real/dumps" / f"{it.name}.dump" for it in (NAMED, LONG)]
 COMMANDS = [
     *[([command], file) for command in ("verify", "list", "dump", "salvage") for file in (NAMED, LONG)],

@@ -9,7 +9,7 @@ PROGRAM is the built program bdbtool; without it, crates/bdbtool/out/bdbtool. Ea
 - what `db5.3_load` builds of that dump, in either spelling, is sound for PROGRAM, and has the same names and pairs.
 
 A text that is refused counts as such, and so does a dump that the original can't load as it is meant: one whose re_pad isn't a digit, or a
-printed one of a recno or queue. Then the dump of each file of real/files that is sound, and of a file of each kind of PAIRS pairs (a million, where
+printed one of a recno or queue. Then the dump of each real file that is sound, and of a file of each kind of PAIRS pairs (a million, where
 none are given; 0 leaves these out) that the original makes, is loaded and dumped by PROGRAM: it is the same text, in either spelling. Prints a line for each that is answered otherwise, and then how many hold; the exit status is 1 where one
 doesn't hold. Without the original's tools nothing is asked.
 """
@@ -130,7 +130,7 @@ def large_file(folder, kind, pairs):
 
 def check_again(program, folder, pairs):
     """How many dumps were asked for, and how many are the same text once more."""
-    files = sorted((TOP / "real/files").iterdir())
+    files = sorted(TOP / "crates/nothing_lost/data" / text.name.removesuffix(".dump") for text in (TOP / "real/dumps").iterdir())
     files += [large_file(folder, kind, pairs) for kind in ("btree", "hash", "recno", "queue") if pairs]
     asked = held = 0
     for file in files:

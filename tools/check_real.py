@@ -1,5 +1,5 @@
 #!/usr/bin/env python3
-"""Asks the built program about each file of real/ and compares its answers with what the original library has there.
+"""Asks the built program about each file of real/expected.tsv and compares its answers with what the original library has there.
 
 usage: check_real.py [PROGRAM]
 
@@ -20,6 +20,8 @@ from typing import NamedTuple
 
 TOP = pathlib.Path(__file__).resolve().parent.parent
 REAL = TOP / "real"
+# Where the gate wants the files of a program that it runs.
+FILES = TOP / "crates/nothing_lost/data"
 SECONDS_A_RUN = 60
 LONGEST_SHOWN = 120
 
@@ -229,15 +231,15 @@ def shown(value):
 def mismatches(program, row):
     """A line for each answer about a file that isn't what it must be."""
     for words, expected in questions(row):
-        given = answer(program, words, REAL / "files" / row.file)
+        given = answer(program, words, FILES / row.file)
         if given != expected:
             yield f"{row.file}: {shown(' '.join(words))}: {shown(tuple(given))} and not {shown(tuple(expected))}"
     for words, form, bases in dumps(row):
-        wrong = dump_mismatch(answer(program, words, REAL / "files" / row.file), row.verify, form, bases)
+        wrong = dump_mismatch(answer(program, words, FILES / row.file), row.verify, form, bases)
         if wrong:
             yield f"{row.file}: {shown(' '.join(words))}: {wrong}"
     if row.verify.status == 0:
-        wrong = salvage_mismatch(answer(program, ["salvage"], REAL / "files" / row.file), databases(row.file))
+        wrong = salvage_mismatch(answer(program, ["salvage"], FILES / row.file), databases(row.file))
         if wrong:
             yield f"{row.file}: salvage: {wrong}"
 
