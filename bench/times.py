@@ -204,23 +204,23 @@ def time_verify(program, folder):
     print("\nWhy no larger file follows:\n", *reasons, sep="\n- ")
 
 
-def spent(words, image, ends=(0,)):
-    """What a run takes whose output is thrown away. It must end with one of these statuses."""
+def spent(words, image):
+    """What a run takes whose output is thrown away. It must end with status 0."""
     with image.open("rb") as standard_input:
-        run = subprocess.Popen(words, stdin=standard_input, stdout=subprocess.DEVNULL, stderr=None if ends == (0,) else subprocess.DEVNULL)
+        run = subprocess.Popen(words, stdin=standard_input, stdout=subprocess.DEVNULL)
         _, status, usage = os.wait4(run.pid, 0)
         run.returncode = os.waitstatus_to_exitcode(status)
-    if run.returncode not in ends:
+    if run.returncode != 0:
         sys.exit(f"{words} over {image.name}: status {run.returncode}")
     return Spent(usage.ru_utime, 1024 * usage.ru_maxrss)
 
 
-def least(words, image, before=lambda: None, ends=(0,)):
+def least(words, image, before=lambda: None):
     """The least that a few runs take, each after a step before it."""
     runs = []
     for _ in range(RUNS):
         before()
-        runs.append(spent(words, image, ends))
+        runs.append(spent(words, image))
     return Spent(min(run.user for run in runs), min(run.peak for run in runs))
 
 
@@ -329,32 +329,40 @@ def damage(image):
             file.write(generator.randbytes(PAGE_SIZE))
 
 
-def items(words, image):
-    """How many pairs and records a dump text has that a run gives."""
-    with image.open("rb") as standard_input:
-        run = subprocess.Popen(words, stdin=standard_input, stdout=subprocess.PIPE, stderr=subprocess.DEVNULL)
-        count, lines, alone = 0, 0, False
-        for line in run.stdout:
-            if line.startswith(b" "):
-                lines += 1
-            elif line.startswith(b"type="):
-                alone = line.strip() in (b"type=recno", b"type=queue")
-            elif line.startswith(b"keys=1"):
-                alone = False
-            elif line.startswith(b"DATA=END"):
-                count, lines, alone = count + (lines if alone else lines // 2), 0, False
-    run.wait()
+def items(text):
+    """How many pairs and records the lines of a dump text have."""
+    count, lines, alone = 0, 0, False
+    for line in text:
+        if line.startswith(b" "):
+            lines += 1
+        elif line.startswith(b"type="):
+            alone = line.strip() in (b"type=recno", b"type=queue")
+        elif line.startswith(b"keys=1"):
+            alone = False
+        elif line.startswith(b"DATA=END"):
+            count, lines, alone = count + (lines if alone else lines // 2), 0, False
     return count
 
 
+def counted(words, image, ends=(0,)):
+    """What a run takes whose output is read, and how many pairs and records that has."""
+    with image.open("rb") as standard_input:
+        run = subprocess.Popen(words, stdin=standard_input, stdout=subprocess.PIPE, stderr=subprocess.DEVNULL)
+        count = items(run.stdout)
+        _, status, usage = os.wait4(run.pid, 0)
+        run.returncode = os.waitstatus_to_exitcode(status)
+    if run.returncode not in ends:
+        sys.exit(f"{words} over {image.name}: status {run.returncode}")
+    return Spent(usage.ru_utime, 1024 * usage.ru_maxrss), count
+
+
 def print_salvage(name, program, image):
-    """A row of the table of `salvage`."""
+    """A row of the table of `salvage`. The original is run once, since it takes long; it ends with status 1 where it finds faults."""
     size = image.stat().st_size
-    own_words, original_words = [program, "salvage"], ["db5.3_dump", "-r", image]
-    own, original = least(own_words, image), least(original_words, image, ends=(0, 1))
-    counts = [f"{items(words, image):,}" for words in (own_words, original_words)]
+    own, (_, given) = least([program, "salvage"], image), counted([program, "salvage"], image)
+    original, original_given = counted(["db5.3_dump", "-r", image], image, (0, 1))
     times = [f"{own.user:.3g}", f"{original.user:.3g}", f"{own.user / max(original.user, 0.001):.3g}"]
-    print_row([name, f"{size:,}", *times, f"{own.peak:,}", f"{own.peak / size:.2f}", *counts])
+    print_row([name, f"{size:,}", *times, f"{own.peak:,}", f"{own.peak / size:.2f}", f"{given:,}", f"{original_given:,}"])
 
 
 def time_salvage(program, folder):
