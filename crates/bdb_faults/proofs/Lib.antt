@@ -1,0 +1,5 @@
+pub mod AscendLemmas
+pub mod FirstLemmas
+pub mod ListLemmas
+pub mod MemberLemmas
+pub mod SinkLemmas

@@ -1,0 +1,7 @@
+use Rattle.std.proofs.Common.{rules}
+use Rattle.std.proofs.lemmas.Fn.{dedup_same}
+use Rattle.bdb_faults.specs.Members.{is_same}
+use Rattle.bdb_faults.proofs.list.drop_repeats.Goals as goal
+
+pub returns : goal.returns
+returns c = dedup_same _ is_same _ (λ x y b f' x' y' k. search rules) _ _ c.dedup_by.ensures.filtered

@@ -1,0 +1,4 @@
+pub mod All
+pub mod Members
+pub mod Named
+pub mod Notes
