@@ -172,6 +172,11 @@ unfolding database_faults
 faults_are file meta recno =
     by_page_same 8 (file.last + 1) 0 (λ p. holding (rows_at file meta p)) (codes_at file meta) (λ p. ap holding (recno_rows file meta p recno))
 
+-- where records have a fixed length, the lengths are noted
+pub lengths_noted : (before after : List Fault → Type 0) (fixed : Bool) (faults : List Fault) → fixed ≡ true → NotesAll before after faults
+    → NotesAll before after (cond fixed faults [])
+lengths_noted before after fixed faults is noted = subst (λ b. NotesAll before after (cond b faults [])) (sym is) noted
+
 -- what is noted, counts and then lengths, is what the contents have
 pub all_noted : (before middle after : List Fault → Type 0) (image : List ℕ) (meta : BtreeMeta) → IsForest image
     → HasMetadata (file_of image) (BtreeFields meta) → is_recno meta ≡ true

@@ -1,6 +1,6 @@
 -- Counting the entries below a page, and noting the internal pages whose counts are wrong.
 use Rattle.std.proofs.lemmas.Bool.Decides.{nat_tests}
-use Rattle.std.proofs.Common.{◌≡◌, ℕ, suc, ◌+◌, ◌-◌, ◌<◌, ◌≤◌, Bool, true, false, cond, List, [], ◌∷◌, ◌++◌, length, take}
+use Rattle.std.proofs.Common.{◌≡◌, ℕ, suc, ◌+◌, ◌-◌, ◌<◌, ◌≤◌, true, false, cond, List, [], ◌∷◌, ◌++◌, length, take}
 use Rattle.std.proofs.Common.{append-nil, append_assoc, arith, refl, sym, ◌∙◌, ap, subst, inl, inr}
 use Rattle.std.specs.Prelude.{◌==◌, nat_eq, slice_index_or}
 use Rattle.std.specs.List.{All, Contains, filter, flat_map}
@@ -86,9 +86,9 @@ inner_alone : (file : File) (ps : List ℕ) → count_faults file (filter (λ p.
 inner_alone file [] = refl
 inner_alone file (p ∷ ps) =
     elim (is_some (children_in (page_at file p)))
-      as (λ b. is_some (children_in (page_at file p)) ≡ b
-      → count_faults file (cond b (p ∷ filter (λ q. is_some (children_in (page_at file q))) ps) (filter (λ q. is_some (children_in (page_at file q))) ps))
-      ≡ fault_on file Count (has_wrong_count file) p ++ count_faults file ps) [
+    as (λ b. is_some (children_in (page_at file p)) ≡ b
+    → count_faults file (cond b (p ∷ filter (λ q. is_some (children_in (page_at file q))) ps) (filter (λ q. is_some (children_in (page_at file q))) ps))
+    ≡ fault_on file Count (has_wrong_count file) p ++ count_faults file ps) [
       | true ↦ λ inner. ap (λ fs. fault_on file Count (has_wrong_count file) p ++ fs) (inner_alone file ps)
       | false ↦ λ outer. inner_alone file ps ∙ ap (λ b. fault_if Count p b ++ count_faults file ps) (sym (right_is_outer file p outer))
     ] refl

@@ -1,9 +1,11 @@
 -- The faults at the pages of a list.
-use Rattle.std.proofs.Common.{◌≡◌, ℕ, Bool, true, false, List, [], ◌∷◌, refl, sym, ◌∙◌, ap, subst}
+use Rattle.std.proofs.Common.{◌≡◌, ℕ, ◌+◌, ◌<◌, Bool, true, false, List, [], ◌∷◌, ◌++◌, length, get_or, take, refl, sym, ◌∙◌, ap, subst}
 use Rattle.std.specs.Prelude.{◌==◌, ◌&&◌}
 use Rattle.std.specs.List.{Contains}
 use Rattle.std.proofs.lemmas.Bool.{and_parts, eqb-true, eq-eqb}
 use Rattle.std.proofs.lemmas.List.Folds.{list_any_at}
+use Rattle.bdb_faults.specs.Notes.{NotesAll}
+use Rattle.bdb_faults.proofs.SinkLemmas.{notes_next, notes_push}
 use Rattle.bdb_format.specs.declared.kinds.Fault.{Fault}
 use Rattle.bdb_format.specs.ContentRows.{is_wrong_at}
 use Rattle.bdb_format.specs.File.{File, page_at}
@@ -54,3 +56,21 @@ pub in_faults_on : (file : File) (row : RecnoRow) (test : Page → Bool) (pages 
     → Contains (faults_on file row test pages) (record { stage = 8; page = p; code = code_of row })
 in_faults_on file row test pages p at wrong =
     in_flat_map (fault_on file row test) pages p (record { stage = 8; page = p; code = code_of row }) at (in_fault_if row p (test (page_at file p)) wrong)
+
+-- Pages noted one after another.
+
+-- one more page of a list
+pub page_noted : (before middle after : List Fault → Type 0) (file : File) (row : RecnoRow) (test : Page → Bool) (pages : List ℕ) (p page : ℕ) (holds : Bool)
+    → page ≡ p → holds ≡ test (page_at file page) → NotesAll before middle (faults_on file row test pages)
+    → NotesAll middle after (fault_if row page holds) → NotesAll before after (faults_on file row test (pages ++ (p ∷ [])))
+page_noted before middle after file row test pages p page holds same is first second =
+    notes_push before middle after (fault_on file row test) pages p first
+    (subst (λ q. NotesAll middle after (fault_on file row test q)) same (subst (λ b. NotesAll middle after (fault_if row page b)) is second))
+
+-- the next page of a list
+pub next_noted : (before middle after : List Fault → Type 0) (file : File) (row : RecnoRow) (test : Page → Bool) (pages : List ℕ) (i : ℕ) (holds : Bool)
+    → i < length pages → holds ≡ test (page_at file (get_or pages i 0)) → NotesAll before middle (faults_on file row test (take i pages))
+    → NotesAll middle after (fault_if row (get_or pages i 0) holds) → NotesAll before after (faults_on file row test (take (i + 1) pages))
+next_noted before middle after file row test pages i holds low is first second =
+    notes_next before middle after (fault_on file row test) pages i 0 low first
+    (subst (λ b. NotesAll middle after (fault_if row (get_or pages i 0) b)) is second)
