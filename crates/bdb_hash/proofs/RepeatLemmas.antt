@@ -140,6 +140,7 @@ more_seen seen more (one ∷ pairs) pair kept at =
         → Contains (cond b (other ∷ rest) rest) one
     passed_over other true rest one at = later_member other rest one at
     passed_over other false rest one at = at
+
     either : (a b c : Bool) → (b ≡ true → c ≡ true) → (a || b) ≡ true → (a || c) ≡ true
     either true b c kept is = refl
     either false b c kept is = kept is

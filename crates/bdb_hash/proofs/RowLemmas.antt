@@ -153,9 +153,13 @@ page_holds pairs buckets tests repeated p code at =
           let found : IsFound pairs buckets test.0.holds p =
           found_at pairs buckets test.0.holds p (ap (λ (row : Row ℕ). row.holds) test.2 ∙ is.2) in
           let own : List (Row ℕ) = pair_table tests found.bucket found.pair in
-          inl (test.0, found, subst (Contains (holding own)) (ap (λ (row : Row ℕ). row.code) test.2 ∙ is.3)
-          (in_holding own (test.0.code :? test.0.holds found.bucket found.pair)
-          (in_map (λ (t : Test). t.code :? t.holds found.bucket found.pair) tests test.0 test.1) found.passes))
+          inl (
+            test.0,
+            found,
+            subst (Contains (holding own)) (ap (λ (row : Row ℕ). row.code) test.2 ∙ is.3)
+                (in_holding own (test.0.code :? test.0.holds found.bucket found.pair)
+                (in_map (λ (t : Test). t.code :? t.holds found.bucket found.pair) tests test.0 test.1) found.passes),
+          )
       | inr there ↦
           let same : last ≡ is.0 = only_member last is.0 there in
           let pair = any_member (λ (one : StoredPair). one.page == p) repeated (ap (λ (row : Row ℕ). row.holds) same ∙ is.2) in

@@ -19,7 +19,6 @@ use bdb_overflow::Keys;
 use std::alloc::{AllocError, Global};
 
 /// Notes a pair whose key is among these, and adds its key. An error is want of memory.
-#[tactic(auto, using(crate::proofs::RepeatLemmas::one_noted))]
 fn note_next<'a, F: FaultSink>(
     keys: &mut Keys<'a>,
     pair: &Pair<'a>,
@@ -77,7 +76,7 @@ fn has_twice(numbers: &mut Vec<u32>) -> bool
 
 /// Notes the pairs of a bucket that have the key of an earlier one, by the hashes of their keys. Only where two of these
 /// are the same it takes memory for the keys; an error is want of it, or the sink's.
-#[tactic(auto, using(crate::proofs::HashedLemmas::no_repeat, crate::proofs::RepeatLemmas::noted_anew))]
+#[tactic(auto, using(crate::proofs::RepeatLemmas::noted_anew))]
 pub(crate) fn note_again<F: FaultSink>(
     alloc: Global,
     hashes: &mut Vec<u32>,

@@ -81,7 +81,12 @@ pub(crate) fn note_pair<F: FaultSink>(
     let is_wrong_set = pair.is_wrong_set(is_sorted(meta));
     note_if(found, HashRow::Duplicates, page, is_refused(meta, &pair))?;
     note_if(found, HashRow::DuplicateKind, page, is_wrong_set)?;
-    note_if(found, HashRow::DuplicateOrder, page, is_unsorted(meta, pair))?;
+    note_if(
+        found,
+        HashRow::DuplicateOrder,
+        page,
+        is_unsorted(meta, pair),
+    )?;
     note_if(found, HashRow::Bucket, page, is_stray)?;
     Ok(())
 }
