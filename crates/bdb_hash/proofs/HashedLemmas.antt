@@ -1,7 +1,7 @@
 -- Pairs of a bucket whose keys have different hashes have different keys.
 use Rattle.std.proofs.Common.{◌≡◌, ◌≢◌, ℕ, ◌+◌, ◌<◌, false, List, [], ◌∷◌, map, length, arith, refl, sym, ◌∙◌, ap, subst}
-use Rattle.std.specs.Prelude.{Option, nat_eq, slice_index}
-use Rattle.std.specs.List.{AllPairs, Contains, IsDistinct, fold}
+use Rattle.std.specs.Prelude.{nat_eq, slice_index}
+use Rattle.std.specs.List.{AllPairs, Contains, IsDistinct}
 use Rattle.std.specs.List.Sorted.{IsPermutation, IsSorted, IsStrictlyIncreasing}
 use Rattle.std.specs.Ordering.{nat_cmp}
 use Rattle.std.specs.Str.{bytes_eq}
@@ -12,7 +12,6 @@ use Rattle.std.proofs.lemmas.List.Sorted.{IsPermutation-sym}
 use Rattle.std.proofs.lemmas.Map.Keys.{IsDistinct-IsPermutation}
 use Rattle.std.proofs.lemmas.Map.Made.{IsDistinct-from_AllPairs}
 use Rattle.bdb_format.specs.declared.kinds.Fault.{Fault}
-use Rattle.bdb_format.specs.ContentRows.{repeated}
 use Rattle.bdb_format.specs.Contents.{StoredPair}
 use Rattle.bdb_format.specs.Hashing.{hash5}
 use Rattle.bdb_format.proofs.MemberLemmas.{first_member, in_map, later_member, of_map}

@@ -1,5 +1,5 @@
 -- What is kept of the pairs of a table while their faults are noted.
-use Rattle.std.specs.Prelude.{◌≡◌, ℕ, ◌||◌, Bool, List, ◌∷◌, map, ◌++◌}
+use Rattle.std.specs.Prelude.{◌≡◌, ℕ, ◌||◌, List, ◌∷◌, map, ◌++◌}
 use Rattle.std.specs.BTreeSet.{BTreeSet}
 use Rattle.std.specs.List.{flat_map, fold, list_any}
 use Rattle.bdb_faults.specs.Notes.{Notes}
