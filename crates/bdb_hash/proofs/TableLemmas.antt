@@ -1,10 +1,8 @@
 -- The buckets of a table one after another, and the keys that came before a pair.
-use Rattle.std.proofs.Common.{◌≡◌, ℕ, ◌+◌, List, [], ◌∷◌, ◌++◌, map, arith, sym, ◌∙◌, ap}
-use Rattle.std.specs.Prelude.{Option, None}
-use Rattle.std.specs.List.{flat_map, fold, range_with_len}
+use Rattle.std.proofs.Common.{◌≡◌, ℕ, ◌+◌, List, [], ◌∷◌, ◌++◌, arith, ◌∙◌, ap}
+use Rattle.std.specs.List.{flat_map, range_with_len}
 use Rattle.std.proofs.lemmas.Grind.{flat_map-append}
 use Rattle.std.proofs.lemmas.List.{append-nil}
-use Rattle.std.proofs.lemmas.List.Sums.{fold-append}
 use Rattle.bdb_graph.specs.Linked.{HasMetadata, IsForest}
 use Rattle.bdb_graph.proofs.LinkedLemmas.{bucket_fits}
 use Rattle.bdb_hash.specs.Views.{IsTable}
@@ -13,11 +11,8 @@ use Rattle.bdb_format.specs.Hashing.{first_page}
 use Rattle.bdb_format.specs.HeadOf.{head_of}
 use Rattle.bdb_format.specs.Page.{HashFields}
 use Rattle.bdb_format.specs.Verdict.{structure_faults}
-use Rattle.bdb_hash.specs.Notes.{note_bucket, note_told}
-use Rattle.bdb_hash.specs.Told.{Told, bucket_told, joined_pages, page_told}
-use Rattle.bdb_format.specs.declared.kinds.Fault.{Fault}
+use Rattle.bdb_hash.specs.Told.{bucket_told}
 use Rattle.bdb_format.specs.declared.metadata.HashMeta.{HashMeta}
-use Rattle.bdb_format.specs.Contents.{bucket_pages}
 use Rattle.bdb_format.specs.File.{file_of}
 use Rattle.bdb_format.proofs.ListLemmas.{range_more}
 use Rattle.bdb_graph.proofs.TargetLemmas.{is_no_queue}
@@ -34,16 +29,6 @@ table_is image meta forest stage has = record {
   stage = stage;
   table = is_no_queue (file_of image) Bucket (first_page 0 meta.spares) (bucket_fits image (head_of image) meta 0 forest.formed has (omega arith));
 }
-
--- one more bucket noted
-pub noted_more : (image : List ℕ) (meta : HashMeta) (b : ℕ) (least result : Option Fault) (pages : List (List Told))
-    → least ≡ fold (note_bucket image meta) None (range_with_len 0 b) → pages ≡ map (page_told image) (bucket_pages (file_of image) meta b)
-    → result ≡ fold (note_told meta b) least (joined_pages pages) → result ≡ fold (note_bucket image meta) None (range_with_len 0 (b + 1))
-noted_more image meta b least result pages before' are is =
-    is
-    ∙ (ap (λ ps. fold (note_told meta b) least (joined_pages ps)) are
-    ∙ (ap (λ l. note_bucket image meta l b) before'
-    ∙ (sym (fold-append (note_bucket image meta) None (range_with_len 0 b) (b ∷ [])) ∙ ap (fold (note_bucket image meta) None) (sym (zero_more b)))))
 
 -- the pairs of one more bucket
 pub told_more : (image : List ℕ) (meta : HashMeta) (b : ℕ)
