@@ -6,7 +6,7 @@ use Rattle.std.specs.List.{Contains, list_any}
 use Rattle.std.proofs.lemmas.Bool.{and_parts, eq-eqb, eqb-true}
 use Rattle.std.proofs.lemmas.List.Folds.{list_any-append}
 use Rattle.bdb_faults.specs.Notes.{AreSame, IsFirst, Notes, NotesAll}
-use Rattle.bdb_faults.proofs.SinkLemmas.{first_noted}
+use Rattle.bdb_faults.proofs.SinkLemmas.{first_noted, notes_then}
 use Rattle.bdb_format.specs.declared.kinds.Fault.{Fault}
 use Rattle.bdb_format.specs.declared.metadata.BtreeMeta.{BtreeMeta}
 use Rattle.bdb_format.specs.ContentRows.{btree_contents, database_faults, groups, has_duplicate, has_unsorted, has_wrong_count, has_wrong_separator}
@@ -27,7 +27,7 @@ use Rattle.bdb_btree.specs.Rows.{has_wrong_order, no_pairs_passed, pairs_faults}
 use Rattle.bdb_btree.specs.declared.noted.BtreeRow.TheVariants.{Duplicates, DuplicateKind, KeyOrder, Separator, DuplicateOrder, Count}
 use Rattle.bdb_btree.specs.declared.pair_rows.Rules.{Rules}
 use Rattle.bdb_btree.proofs.InnerLemmas.{inner_pages_keyed}
-use Rattle.bdb_btree.proofs.NotedLemmas.{has, has_in, in_has, is_fault, is_of, notes_both, row_has}
+use Rattle.bdb_btree.proofs.NotedLemmas.{has, has_in, in_has, is_fault, is_of, row_has}
 use Rattle.bdb_btree.proofs.PairLemmas.{tree_pair}
 use Rattle.bdb_btree.proofs.RowLemmas.{pairs_have}
 use Rattle.bdb_tree.proofs.TreeLemmas.{typed_inside}
@@ -284,8 +284,8 @@ all_noted image rules meta counts pages others before first second after forest 
       btree_noted file rules (counts_records meta) meta.root,
       noted_same image rules meta forest fits keyed flags duplicates sorted,
       λ faults is. subst (λ (more : List Fault). after (faults ++ more)) same
-          (notes_both before second after (pairs ++ separators pages) (cond counts (wrong others) [])
-          (notes_both before first second pairs (separators pages) one two) three faults is),
+          (notes_then before second after (pairs ++ separators pages) (cond counts (wrong others) [])
+          (notes_then before first second pairs (separators pages) one two) three faults is),
     )
 
 -- The first of what was noted.
@@ -305,8 +305,3 @@ pub first_found : (file : File) (meta : BtreeMeta) (start first : Option Fault) 
 first_found file meta start first flags none all =
     first_noted 8 (database_faults file (BtreeFields meta)) first (in_order file meta flags)
     (subst (λ (o : Option Fault). NotesAll (IsFirst o) (IsFirst first) (database_faults file (BtreeFields meta))) none all)
-
--- a list of which there is no first is empty
-pub none_first : (faults : List Fault) → None ≡ first_fault faults → faults ≡ []
-none_first [] none = refl
-none_first (fault ∷ faults) none = absurd cc

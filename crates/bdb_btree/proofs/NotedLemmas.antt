@@ -1,6 +1,6 @@
 -- What is noted, one fault after another, and which faults these are.
 use Rattle.std.proofs.Common.{◌≡◌, ℕ, ◌+◌, ◌<◌, Bool, true, false, List, [], ◌∷◌, ◌++◌, length, get_or, take, refl, sym, ◌∙◌, ap, subst, arith}
-use Rattle.std.proofs.Common.{append-nil, append_assoc}
+use Rattle.std.proofs.Common.{append-nil}
 use Rattle.std.specs.Prelude.{◌==◌, ◌&&◌, ◌||◌}
 use Rattle.std.specs.List.{Contains, flat_map, list_any}
 use Rattle.std.proofs.lemmas.Bool.{and_parts, eqb-true, eq-eqb}
@@ -13,16 +13,9 @@ use Rattle.bdb_format.specs.declared.kinds.Fault.{Fault}
 use Rattle.bdb_format.proofs.ListLemmas.{any_member, passes_here}
 use Rattle.bdb_btree.specs.Noted.{code_of, fault_if, faults_at}
 use Rattle.bdb_btree.specs.declared.noted.BtreeRow.{BtreeRow}
+use Rattle.bdb_faults.proofs.SinkLemmas.{notes_then}
 
 -- Notes one after another.
-
-pub notes_nothing : (before : List Fault → Type 0) → Notes before before []
-notes_nothing before faults is = subst before (sym (append-nil faults)) is
-
-pub notes_both : (before mid after : List Fault → Type 0) (xs ys : List Fault) → Notes before mid xs → Notes mid after ys
-    → Notes before after (xs ++ ys)
-notes_both before mid after xs ys first second =
-    λ faults is. subst after (append_assoc faults xs ys) (second (faults ++ xs) (first faults is))
 
 -- one more page
 pub notes_page : (before mid after : List Fault → Type 0) (row : BtreeRow) (test : ℕ → Bool) (pages : List ℕ) (i : ℕ) (holds : Bool)
@@ -35,7 +28,7 @@ notes_page before mid after row test pages i holds low is first second =
     ∙ (ap (λ fs. faults_at row test (take i pages) ++ fs) (sym (append-nil (fault_if row p (test p))))
     ∙ (sym (flat_map-append (λ q. fault_if row q (test q)) (take i pages) (p ∷ []))
     ∙ ap (faults_at row test) (sym (take_more pages i 0 low)))) in
-    λ faults has. subst (λ more. after (faults ++ more)) same (notes_both before mid after _ _ first second faults has)
+    λ faults has. subst (λ more. after (faults ++ more)) same (notes_then before mid after _ _ first second faults has)
 
 -- Which faults there are, as a test.
 

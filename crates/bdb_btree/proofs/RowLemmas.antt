@@ -14,10 +14,11 @@ use Rattle.bdb_btree.specs.Rows.{has_wrong_order, next_pair, no_pairs_passed, pa
 use Rattle.bdb_btree.specs.declared.noted.BtreeRow.TheVariants.{Duplicates, DuplicateKind, KeyOrder, DuplicateOrder}
 use Rattle.bdb_btree.specs.declared.pair_rows.Passed.{Passed}
 use Rattle.bdb_btree.specs.declared.pair_rows.Rules.{Rules}
-use Rattle.bdb_btree.proofs.NotedLemmas.{both_have, has, is_of, notes_both, notes_nothing, row_has}
+use Rattle.bdb_btree.proofs.NotedLemmas.{both_have, has, is_of, row_has}
 use Rattle.bdb_btree.proofs.OrderLemmas.{data_in_order, keys_in_order}
 use Rattle.bdb_btree.proofs.PairLemmas.{tree_pair, tree_shares}
 use Rattle.bdb_btree.proofs.WalkLemmas.{each_of}
+use Rattle.bdb_faults.proofs.SinkLemmas.{notes_nothing, notes_then}
 
 -- Going through the pairs.
 
@@ -49,7 +50,7 @@ pass_more file rules all old left pair passed next before mid after to steps is 
     let faults : List Fault = pair_faults file rules next pair in
     record {
       noted = to.noted ++ faults;
-      notes = notes_both before mid after to.noted faults to.notes more;
+      notes = notes_then before mid after to.noted faults to.notes more;
       rest =
           append_assoc to.noted faults (pairs_faults file rules next left)
           ∙ (ap (λ one. to.noted ++ (pair_faults file rules one pair ++ pairs_faults file rules one left)) is

@@ -14,9 +14,18 @@ use Rattle.bdb_faults.specs.Notes.{AreSame, IsFirst, Notes, NotesAll}
 
 -- What a check notes, part by part.
 
+-- nothing, told one by one
+pub notes_nothing : (has : List Fault → Type 0) → Notes has has []
+notes_nothing has = λ faults is. subst has (sym (append-nil faults)) is
+
+-- some and then others, told one by one
+pub notes_then : (before middle after : List Fault → Type 0) (xs ys : List Fault) → Notes before middle xs → Notes middle after ys
+    → Notes before after (xs ++ ys)
+notes_then before middle after xs ys first second = λ faults is. subst after (append_assoc faults xs ys) (second (faults ++ xs) (first faults is))
+
 -- nothing
 pub notes_none : (has : List Fault → Type 0) → NotesAll has has []
-notes_none has = ([], λ fault. (λ at. at, λ at. at), λ faults is. subst has (sym (append-nil faults)) is)
+notes_none has = ([], λ fault. (λ at. at, λ at. at), notes_nothing has)
 
 -- one fault, or others that are told one by one
 pub notes_one : (before after : List Fault → Type 0) (more : List Fault) → Notes before after more → NotesAll before after more
@@ -108,3 +117,8 @@ pub first_noted : (stage : ℕ) (faults : List Fault) (first : Option Fault) →
     → first ≡ first_fault faults
 first_noted stage faults first order all =
     let it = noted_all (IsFirst None) (IsFirst first) faults refl all in first_is stage faults it.0 first order it.2 it.1
+
+-- a list of which there is no first is empty
+pub none_first : (faults : List Fault) → None ≡ first_fault faults → faults ≡ []
+none_first [] none = refl
+none_first (fault ∷ faults) none = absurd cc

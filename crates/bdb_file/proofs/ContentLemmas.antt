@@ -12,9 +12,8 @@ use Rattle.bdb_format.specs.Table.{Row, ◌:?◌}
 use Rattle.bdb_format.specs.Verdict.{holding, contents_faults}
 use Rattle.bdb_format.specs.ContentRows.{fields_of, contents_rows, holds_code, holds_somewhere, btree_contents, database_faults, database_rows}
 use Rattle.bdb_format.specs.ContentRows.{recno_contents}
-use Rattle.bdb_format.proofs.MemberLemmas.{filter_step, first_member, no_member, of_flat_map, in_flat_map}
+use Rattle.bdb_format.proofs.MemberLemmas.{filter_step, first_member, later_member, no_member, of_flat_map, in_flat_map}
 use Rattle.bdb_format.proofs.VerdictLemmas.{FirstComesFirst, IsOfStage, Rises, by_page_first, holding_least, of_by_page}
-use Rattle.bdb_btree.proofs.LeastLemmas.{code_later}
 use Rattle.bdb_file.proofs.MergeLemmas.{at_page}
 use Rattle.bdb_format.specs.Flags.{is_recno}
 
@@ -27,6 +26,10 @@ holding_code (row ∷ rows) code at =
       | inl here ↦ rw (eq-eqb row.code code here.1, here.0) refl
       | inr later ↦ or_right (row.code == code && row.holds) (holds_code code rows) (holding_code rows code later)
     ]
+
+code_later : (holds : Bool) (first code : ℕ) (codes : List ℕ) → Contains codes code → Contains (cond holds (first ∷ codes) codes) code
+code_later true first code codes at = later_member first codes code at
+code_later false first code codes at = at
 
 pub code_holding : (rows : List (Row ℕ)) (code : ℕ) → holds_code code rows ≡ true → Contains (holding rows) code
 code_holding [] code holds = absurd cc
@@ -135,35 +138,3 @@ in_contents file fault at =
     let codes : ℕ → List ℕ = λ p. holding (database_rows file found.0 p) in
     let is : IsOfStage 8 0 (0 + (file.last + 1)) codes fault = of_by_page 8 0 (file.last + 1) codes fault found.2 in
     at_page 8 0 (file.last + 1) codes (λ p. holding (contents_rows file p)) fault is (in_codes file found.0 fault.page fault.code found.1 is.is_code)
-
--- Both lists rise.
-
-within_rises : (file : File) (fields : Metadata) (p : ℕ) → Rises 1 (database_rows file fields p)
-within_rises file (BtreeFields meta) p =
-    elim (is_recno meta) as (λ b. Rises 1 (cond b (recno_contents file meta p) (btree_contents file meta p))) [
-      | true ↦ (omega arith, (omega arith, tt))
-      | false ↦ (omega arith, (omega arith, (omega arith, (omega arith, (omega arith, (omega arith, tt))))))
-    ]
-within_rises file (HashFields meta) p = (omega arith, (omega arith, (omega arith, (omega arith, (omega arith, tt)))))
-within_rises file (QueueFields meta) p = tt
-
-pub contents_rises : (file : File) (fields : Metadata) → FirstComesFirst (database_faults file fields)
-unfolding database_faults
-contents_rises file fields =
-    by_page_first 8 0 (file.last + 1) (λ p. holding (database_rows file fields p))
-    (λ p. holding_least 1 (database_rows file fields p) (within_rises file fields p))
-
-pub contents_one : (file : File) (fields : Metadata) (fault : Fault) → Contains (database_faults file fields) fault → fault.stage ≡ 8
-unfolding database_faults
-contents_one file fields fault at = (of_by_page 8 0 (file.last + 1) (λ p. holding (database_rows file fields p)) fault at).same_stage
-
-pub content_rises : (file : File) → FirstComesFirst (contents_faults file)
-unfolding contents_faults
-content_rises file =
-    by_page_first 8 0 (file.last + 1) (λ p. holding (contents_rows file p))
-    (λ p. holding_least 1 (contents_rows file p)
-    (omega arith, (omega arith, (omega arith, (omega arith, (omega arith, (omega arith, (omega arith, (omega arith, (omega arith, tt))))))))))
-
-pub content_one : (file : File) (fault : Fault) → Contains (contents_faults file) fault → fault.stage ≡ 8
-unfolding contents_faults
-content_one file fault at = (of_by_page 8 0 (file.last + 1) (λ p. holding (contents_rows file p)) fault at).same_stage

@@ -17,20 +17,19 @@ use Rattle.bdb_format.proofs.MemberLemmas.{in_flat_map, in_map, is_empty, no_mem
 use Rattle.bdb_format.proofs.VerdictLemmas.{IsOfStage, of_by_page}
 use Rattle.bdb_graph.specs.Linked.{HasMetadata, meta_pages}
 use Rattle.bdb_graph.proofs.HeldLemmas.{page_is}
-use Rattle.bdb_overflow.specs.Earlier.{earlier}
-use Rattle.bdb_file.specs.Noted.{contents_at, contents_in, earliest}
-use Rattle.bdb_file.proofs.ContentLemmas.{content_one, content_rises, contents_one, contents_rises, in_contents, of_contents}
-use Rattle.bdb_btree.proofs.LeastLemmas.{IsFirstOrNone, first_is}
-use Rattle.bdb_file.proofs.MergeLemmas.{first_of_list}
-use Rattle.bdb_file.proofs.NotedLemmas.{IsFirstOfStage, earliest_first, first_same, noted_more}
+use Rattle.bdb_faults.specs.Notes.{NotesAll}
+use Rattle.bdb_faults.proofs.SinkLemmas.{notes_none, notes_same}
+use Rattle.bdb_file.specs.Contents.{by_database, faults_on}
+use Rattle.bdb_file.proofs.ContentLemmas.{in_contents, of_contents}
+use Rattle.bdb_file.proofs.NotingLemmas.{no_more, one_more}
 
 pub has_metadata : (file : File) (p : ℕ) (fields : Metadata) → p ≤ file.last → page_at file p ≡ Meta fields → HasMetadata file fields
 has_metadata file p fields inside is = record { page = p; inside = inside; is = is }
 
 -- no row speaks of queues
-pub no_queue_fault : (file : File) (meta : QueueMeta) → first_fault (database_faults file (QueueFields meta)) ≡ None
+pub no_queue_fault : (file : File) (meta : QueueMeta) → database_faults file (QueueFields meta) ≡ []
 unfolding database_faults
-no_queue_fault file meta = ap first_fault (is_empty (database_faults file (QueueFields meta)) none)
+no_queue_fault file meta = is_empty (database_faults file (QueueFields meta)) none
   where
     none : (fault : Fault) → Contains (database_faults file (QueueFields meta)) fault → ⊥
     none fault at =
@@ -38,24 +37,8 @@ no_queue_fault file meta = ap first_fault (is_empty (database_faults file (Queue
         of_by_page 8 0 (file.last + 1) (λ p. holding (database_rows file (QueueFields meta) p)) fault at in
         no_member [] fault.code refl is.is_code
 
--- The faults of the metadata on a page.
-
-first_of_page : (file : File) (page : Page) → IsFirstOfStage 8 (flat_map (database_faults file) (fields_in page)) (contents_in file page)
-first_of_page file page = record {
-  of = λ fault at. let found = of_flat_map (database_faults file) (fields_in page) fault at in contents_one file found.0 fault found.2;
-  first = first page;
-}
-  where
-    first : (other : Page) → IsFirstOrNone (flat_map (database_faults file) (fields_in other)) (contents_in file other)
-    first (Meta fields) =
-        subst (λ fs. IsFirstOrNone fs (first_fault (database_faults file fields))) (sym (append-nil (database_faults file fields)))
-        (first_of_list (database_faults file fields) 8 (contents_rises file fields) (contents_one file fields))
-    first other = λ fault at. no_member [] fault refl at
-
-pub contents_more : (file : File) (i p : ℕ) (least : Option Fault) → slice_get (meta_pages file) i ≡ Some p
-    → least ≡ earliest (contents_at file) (take i (meta_pages file))
-    → earlier least (contents_at file p) ≡ earliest (contents_at file) (take (i + 1) (meta_pages file))
-contents_more file i p least is noted = noted_more (contents_at file) (meta_pages file) i p least is noted
+pub no_queue_noted : (has : List Fault → Type 0) (file : File) (meta : QueueMeta) → NotesAll has has (database_faults file (QueueFields meta))
+no_queue_noted has file meta = subst (NotesAll has has) (sym (no_queue_fault file meta)) (notes_none has)
 
 -- The metadata of a file is on its metadata pages.
 
@@ -109,16 +92,20 @@ in_pages image fault at =
     in_flat_map (λ p. flat_map (database_faults file) (fields_in (page_at file p))) (meta_pages file) page.0 fault page.1
     (in_flat_map (database_faults file) (fields_in (page_at file page.0)) found.0 fault page.2 found.2)
 
-pub contents_first : (image : List ℕ) (i : ℕ) (least : Option Fault) → i ≡ length (meta_pages (file_of image))
-    → least ≡ earliest (contents_at (file_of image)) (take i (meta_pages (file_of image)))
-    → least ≡ first_fault (contents_faults (file_of image))
-contents_first image i least all noted =
-    let file : File = file_of image in
-    let whole : least ≡ earliest (contents_at file) (meta_pages file) =
-    noted ∙ ap (earliest (contents_at file)) (take_all i (meta_pages file) (omega arith)) in
-    whole
-    ∙ sym (first_is (contents_faults file) 8 (earliest (contents_at file) (meta_pages file)) (content_rises file) (content_one file)
-    (first_same (flat_map (λ p. flat_map (database_faults file) (fields_in (page_at file p))) (meta_pages file)) (contents_faults file)
-    (earliest (contents_at file) (meta_pages file)) (of_pages image) (in_pages image)
-    (earliest_first (contents_at file) (λ p. flat_map (database_faults file) (fields_in (page_at file p))) 8
-    (λ p. first_of_page file (page_at file p)) (meta_pages file)).first))
+-- those of all databases are those of stage 8
+pub contents_noted : (image : List ℕ) (before after : List Fault → Type 0) (i : ℕ) → i ≡ length (meta_pages (file_of image))
+    → NotesAll before after (flat_map (faults_on (file_of image)) (take i (meta_pages (file_of image))))
+    → NotesAll before after (contents_faults (file_of image))
+contents_noted image before after i all noted =
+    notes_same before after (by_database (file_of image)) (contents_faults (file_of image))
+    (no_more before after (faults_on (file_of image)) (meta_pages (file_of image)) i all noted)
+    (λ fault. (of_pages image fault, in_pages image fault))
+
+-- those of one more
+pub database_more : (before middle after : List Fault → Type 0) (file : File) (i p : ℕ) (fields : Metadata) → slice_get (meta_pages file) i ≡ Some p
+    → page_at file p ≡ Meta fields → NotesAll before middle (flat_map (faults_on file) (take i (meta_pages file)))
+    → NotesAll middle after (database_faults file fields) → NotesAll before after (flat_map (faults_on file) (take (i + 1) (meta_pages file)))
+database_more before middle after file i p fields is page first second =
+    let here : faults_on file p ≡ database_faults file fields =
+    ap (λ q. flat_map (database_faults file) (fields_in q)) page ∙ append-nil (database_faults file fields) in
+    one_more before middle after (faults_on file) (meta_pages file) i p is first (subst (NotesAll middle after) (sym here) second)

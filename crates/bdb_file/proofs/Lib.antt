@@ -7,7 +7,8 @@ pub mod MasterLemmas
 pub mod MergeLemmas
 pub mod NameOrderLemmas
 pub mod NamedLemmas
-pub mod NotedLemmas
+pub mod NotingLemmas
+pub mod RepeatLemmas
 pub mod PlaceLemmas
 pub mod SoundLemmas
 pub mod TargetLemmas

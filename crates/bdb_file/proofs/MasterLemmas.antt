@@ -1,4 +1,4 @@
--- The first fault of a master is the earliest of those of its pairs and of the pages that they name.
+-- The faults of a master are those of its pairs and of the pages that they name.
 use Rattle.bdb_format.proofs.ListLemmas.{any_member, only_member, passes_here}
 use Rattle.std.proofs.lemmas.Bool.Decides.{nat_tests}
 use Rattle.std.proofs.Common.{◌≡◌, ◌⊎◌, ℕ, ◌+◌, ◌≤◌, Bool, true, List, [], ◌∷◌, ◌++◌, length, map, Option, Some, None, arith, refl, sym, ◌∙◌, ap}
@@ -26,17 +26,15 @@ use Rattle.bdb_graph.specs.Linked.{IsForest, meta_pages}
 use Rattle.bdb_graph.proofs.LinkedLemmas.{root_fits}
 use Rattle.bdb_btree.proofs.PairLemmas.{tree_pair}
 use Rattle.bdb_file.specs.Entries.{NamedPair, count_fault, entries_naming, entry_fault, fault_at, master_entries, named, naming_fault, repeat_fault}
-use Rattle.bdb_file.specs.Entries.{key_of, target_fault}
+use Rattle.bdb_file.specs.Entries.{all_noted, by_naming, by_repeat, by_target, given, key_of, target_fault}
 use Rattle.bdb_overflow.specs.Keys.{repeated_by}
 use Rattle.bdb_format.specs.Master.{is_named_kind, is_none, is_page, master_in, master_pairs, master_rows, misses_target, named_by, naming}
 use Rattle.bdb_format.specs.Master.{pairs_under}
 use Rattle.bdb_format.proofs.RepeatLemmas.{of_repeated, repeated_after, repeated_is}
-use Rattle.bdb_overflow.specs.Earlier.{earlier}
-use Rattle.bdb_file.specs.Noted.{earliest}
 use Rattle.bdb_file.proofs.ContentLemmas.{code_holding, holding_code}
 use Rattle.bdb_file.proofs.DatabaseLemmas.{has_metadata}
-use Rattle.bdb_btree.proofs.LeastLemmas.{IsFirstOrNone, first_is}
-use Rattle.bdb_file.proofs.NotedLemmas.{IsFirstOfStage, earliest_first, first_of_parts, first_same}
+use Rattle.bdb_faults.specs.Notes.{AreSame, NotesAll}
+use Rattle.bdb_faults.proofs.SinkLemmas.{notes_both, notes_same}
 
 -- A table of five rows.
 
@@ -57,41 +55,12 @@ in_row rows row at holds =
 
 -- Lists of at most one fault.
 
-abbrev pub given : Option Fault → List Fault
-given None = []
-given (Some fault) = fault ∷ []
-
 of_given : (found : Option Fault) (fault : Fault) → Contains (given found) fault → found ≡ Some fault
 of_given None fault at = absurd (no_member [] fault refl at)
 of_given (Some one) fault at = ap (λ (f : Fault). Some f) (only_member one fault at)
 
 in_given : (found : Option Fault) (fault : Fault) → found ≡ Some fault → Contains (given found) fault
 in_given found fault is = subst (λ f. Contains (given f) fault) (sym is) (first_member fault [])
-
-given_first : (found : Option Fault) → IsFirstOrNone (given found) found
-given_first None = λ fault at. no_member [] fault refl at
-given_first (Some one) = record {
-  at = first_member one [];
-  before = λ fault at. subst (ComesFirst one) (only_member one fault at) (inr (refl, omega arith));
-  stage = λ fault at. ap (λ (f : Fault). f.stage) (only_member one fault at);
-}
-
--- a fault of stage 7, where there is one
-abbrev IsSeven : Option Fault → Type 0
-IsSeven found = (fault : Fault) → found ≡ Some fault → fault.stage ≡ 7
-
-given_of : (found : Option Fault) → IsSeven found → IsFirstOfStage 7 (given found) found
-given_of found is = record { of = λ fault at. is fault (of_given found fault at); first = given_first found }
-
-some_seven : (page code : ℕ) → IsSeven (Some (fault_at page code))
-some_seven page code fault is = let same : fault_at page code ≡ fault = cc in sym (ap (λ (f : Fault). f.stage) same)
-
-count_seven : (p n : ℕ) → IsSeven (count_fault p n)
-count_seven p n fault is = grind (arith, some_seven p 1 fault, some_seven p 5 fault)
-
-target_seven : (file : File) (page : ℕ) (names : Option ℕ) → IsSeven (target_fault file page names)
-target_seven file page None fault is = some_seven page 2 fault is
-target_seven file page (Some p) fault is = grind (arith, some_seven page 3 fault)
 
 -- Entries and the pairs that they stand for.
 
@@ -159,15 +128,6 @@ of_master file fault at =
     let is : IsOfStage 7 0 (0 + (file.last + 1)) (λ p. holding (master_rows file p)) fault =
     of_by_page 7 0 (file.last + 1) (λ p. holding (master_rows file p)) fault at in
     record { seven = is.same_stage; inside = omega (arith, is.below_high); holds = holding_code (master_rows file fault.page) fault.code is.is_code }
-
-master_rises : (file : File) → FirstComesFirst (master_faults file)
-unfolding master_faults
-master_rises file =
-    by_page_first 7 0 (file.last + 1) (λ p. holding (master_rows file p))
-    (λ p. holding_least 1 (master_rows file p) (omega arith, (omega arith, (omega arith, (omega arith, (omega arith, tt))))))
-
-master_one : (file : File) (fault : Fault) → Contains (master_faults file) fault → fault.stage ≡ 7
-master_one file fault at = (of_master file fault at).seven
 
 -- Metadata pages.
 
@@ -285,18 +245,6 @@ in_repeats file entry fault inside at is =
 
 -- All faults of a master, pair by pair and page by page.
 
-abbrev by_naming : File → List NamedPair → List Fault
-by_naming file entries = flat_map (λ p. given (naming_fault entries p)) (meta_pages file)
-
-abbrev by_target : File → List NamedPair → List Fault
-by_target file entries = flat_map (λ entry. given (entry_fault file entry)) entries
-
-abbrev by_repeat : List NamedPair → List Fault
-by_repeat entries = flat_map (λ entry. given (repeat_fault entry)) (repeated_by key_of [] entries)
-
-abbrev all_noted : File → List NamedPair → List Fault
-all_noted file entries = (by_naming file entries ++ by_target file entries) ++ by_repeat entries
-
 of_all : (file : File) (fault : Fault) → AreInside file → Contains (all_noted file (master_entries file)) fault → Contains (master_faults file) fault
 of_all file fault inside at =
     let entries : List NamedPair = master_entries file in
@@ -384,33 +332,15 @@ in_all file fault at =
           from_naming file fault 5 is.inside parts.0 (same 5 code) (λ above. count_five fault.page (length (naming file fault.page)) above parts.1)
     ]
 
--- The first fault of stage 7.
-
-noted_first : (file : File) (entries : List NamedPair)
-    → IsFirstOrNone (all_noted file entries)
-    (earlier (earlier (earliest (naming_fault entries) (meta_pages file)) (earliest (entry_fault file) entries))
-    (earliest repeat_fault (repeated_by key_of [] entries)))
-noted_first file entries =
-    (first_of_parts 7 (by_naming file entries ++ by_target file entries) (by_repeat entries) _ _
-    (first_of_parts 7 (by_naming file entries) (by_target file entries) _ _
-    (earliest_first (naming_fault entries) (λ p. given (naming_fault entries p)) 7
-    (λ p. given_of (naming_fault entries p) (count_seven p (length (entries_naming p entries)))) (meta_pages file))
-    (earliest_first (entry_fault file) (λ (entry : NamedPair). given (entry_fault file entry)) 7
-    (λ (entry : NamedPair). given_of (entry_fault file entry) (target_seven file entry.page entry.names)) entries))
-    (earliest_first repeat_fault (λ (entry : NamedPair). given (repeat_fault entry)) 7
-    (λ (entry : NamedPair). given_of (repeat_fault entry) (some_seven entry.page 4)) (repeated_by key_of [] entries))).first
-
-pub master_first : (image : List ℕ) → IsForest image
-    → earlier (earlier (earliest (naming_fault (master_entries (file_of image))) (meta_pages (file_of image)))
-    (earliest (entry_fault (file_of image)) (master_entries (file_of image))))
-    (earliest repeat_fault (repeated_by key_of [] (master_entries (file_of image))))
-    ≡ first_fault (master_faults (file_of image))
-master_first image forest =
+-- those that are noted are the faults of stage 7
+pub master_noted : (image : List ℕ) (entries : List NamedPair) (before first second after : List Fault → Type 0) → IsForest image
+    → entries ≡ master_entries (file_of image) → NotesAll before first (by_naming (file_of image) entries)
+    → NotesAll first second (by_target (file_of image) entries) → NotesAll second after (by_repeat entries)
+    → NotesAll before after (master_faults (file_of image))
+master_noted image entries before first second after forest are naming targets repeats =
     let file : File = file_of image in
-    let entries : List NamedPair = master_entries file in
-    let found : Option Fault =
-    earlier (earlier (earliest (naming_fault entries) (meta_pages file)) (earliest (entry_fault file) entries))
-    (earliest repeat_fault (repeated_by key_of [] entries)) in
-    sym (first_is (master_faults file) 7 found (master_rises file) (master_one file)
-    (first_same (all_noted file entries) (master_faults file) found (λ fault at. of_all file fault (master_inside image forest) at)
-    (λ fault at. in_all file fault at) (noted_first file entries)))
+    notes_same before after (all_noted file entries) (master_faults file)
+    (notes_both before second after (by_naming file entries ++ by_target file entries) (by_repeat entries)
+    (notes_both before first second (by_naming file entries) (by_target file entries) naming targets) repeats)
+    (subst (λ es. AreSame (all_noted file es) (master_faults file)) (sym are)
+    (λ fault. (λ at. of_all file fault (master_inside image forest) at, λ at. in_all file fault at)))

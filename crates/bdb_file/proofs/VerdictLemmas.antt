@@ -1,12 +1,16 @@
 -- The verdict of a file from the answers of opening, linking and the checks after them.
-use Rattle.std.proofs.Common.{◌≡◌, ℕ, List, [], ◌∷◌, Option, Some, None, arith, refl, ◌∙◌, ap, subst}
+use Rattle.std.proofs.Common.{◌≡◌, ℕ, ◌<◌, ◌++◌, length, map, List, [], ◌∷◌, Option, Some, None, arith, refl, sym, ◌∙◌, ap, subst}
 use Rattle.std.specs.List.{range_with_len}
 use Rattle.std.specs.Option.{option_map}
 use Rattle.bdb_format.specs.declared.kinds.CheckError.{CheckError}
 use Rattle.bdb_format.specs.declared.kinds.CheckError.TheVariants.{Fault as FaultError, Memory as MemoryError}
 use Rattle.bdb_format.specs.declared.kinds.Verdict.{Verdict}
-use Rattle.bdb_format.specs.Verdict.{Faulty, IsFirstOf, Judgement, LeftOut, as_verdict, faults_in, faults_of, first_judgement, verdict_in, verdict_of}
-use Rattle.bdb_format.proofs.VerdictLemmas.{skip_stages, verdict_after, verdict_in_more}
+use Rattle.bdb_format.specs.Verdict.{Faulty, IsFirstOf, Judgement, LeftOut, as_verdict, faults_in, faults_of, first_judgement, judgement_of, or_else, stage_faults, verdict_in, verdict_of}
+use Rattle.bdb_format.proofs.VerdictLemmas.{skip_stage, skip_stages, verdict_after, verdict_in_more}
+use Rattle.bdb_format.specs.declared.kinds.Fault.{Fault}
+use Rattle.bdb_faults.specs.All.{IsAllOf}
+use Rattle.bdb_faults.specs.declared.named.AllError.{AllError}
+use Rattle.bdb_faults.specs.declared.named.AllError.TheVariants.{Faults, Memory}
 use Rattle.bdb_file.specs.Whole.{IsVerdictOf, told_as}
 
 is_verdict : (image : List ℕ) (judgement : Judgement) → verdict_of image ≡ Some judgement → IsVerdictOf image (as_verdict judgement)
@@ -53,3 +57,47 @@ file_accepted image form linked none = skip_stages image (1 ∷ 2 ∷ 3 ∷ 4 �
 
 pub no_verdict : (image : List ℕ) → faults_of image ≡ [] → verdict_of image ≡ None
 no_verdict image none = ap first_judgement none
+
+-- All faults.
+
+-- of some stages the first that has any has all
+some_here : (image : List ℕ) (stage : ℕ) (stages more : List ℕ) (faults : List Fault) → stage_faults image stage ≡ faults
+    → (faults ≡ [] → faults_in (stage ∷ (stages ++ more)) image ≡ faults_in (stage ∷ stages) image)
+    → faults_in (stage ∷ (stages ++ more)) image ≡ faults_in (stage ∷ stages) image
+unfolding faults_in
+some_here image stage stages more [] same later = later refl
+some_here image stage stages more (fault ∷ faults) same later =
+    ap (λ fs. or_else fs (λ _. faults_in (stages ++ more) image)) same ∙ sym (ap (λ fs. or_else fs (λ _. faults_in stages image)) same)
+
+some_in : (image : List ℕ) (stages more : List ℕ) → 0 < length (faults_in stages image) → faults_in (stages ++ more) image ≡ faults_in stages image
+unfolding faults_in
+some_in image [] more some = absurd (omega arith)
+some_in image (stage ∷ stages) more some =
+    some_here image stage stages more (stage_faults image stage) refl (λ none.
+    skip_stage image stage (stages ++ more) none
+    ∙ (some_in image stages more (subst (λ fs. 0 < length fs) (skip_stage image stage stages none) some) ∙ sym (skip_stage image stage stages none)))
+
+all_alike : (xs ys : List Fault) (error : AllError) → (0 < length xs → ys ≡ xs) → IsAllOf xs error → IsAllOf ys error
+all_alike xs ys (Faults list) same is =
+    let they : ys ≡ xs = same is.0 in (subst (λ fs. 0 < length fs) (sym they) is.0, is.1 ∙ ap (map judgement_of) (sym they))
+all_alike xs ys Memory same is = tt
+
+pub form_all : (image : List ℕ) (error : AllError) → IsAllOf (faults_in (1 ∷ 2 ∷ []) image) error → IsAllOf (faults_of image) error
+unfolding faults_of
+form_all image error is =
+    all_alike (faults_in (1 ∷ 2 ∷ []) image) (faults_of image) error (λ some. some_in image (1 ∷ 2 ∷ []) (range_with_len 3 6) some) is
+
+pub graph_all : (image : List ℕ) (error : AllError) → faults_in (1 ∷ 2 ∷ []) image ≡ [] → IsAllOf (faults_in (3 ∷ 4 ∷ 5 ∷ []) image) error
+    → IsAllOf (faults_of image) error
+unfolding faults_of
+graph_all image error form is =
+    all_alike (faults_in (3 ∷ 4 ∷ 5 ∷ []) image) (faults_of image) error
+    (λ some. skip_stages image (1 ∷ 2 ∷ []) (range_with_len 3 6) form ∙ some_in image (3 ∷ 4 ∷ 5 ∷ []) (6 ∷ 7 ∷ 8 ∷ []) some) is
+
+pub file_all : (image : List ℕ) (error : AllError) → faults_in (1 ∷ 2 ∷ []) image ≡ [] → faults_in (3 ∷ 4 ∷ 5 ∷ []) image ≡ []
+    → IsAllOf (faults_in (6 ∷ 7 ∷ 8 ∷ []) image) error
+    → IsAllOf (faults_of image) error
+unfolding faults_of
+file_all image error form linked is =
+    all_alike (faults_in (6 ∷ 7 ∷ 8 ∷ []) image) (faults_of image) error
+    (λ some. skip_stages image (1 ∷ 2 ∷ 3 ∷ 4 ∷ 5 ∷ []) (6 ∷ 7 ∷ 8 ∷ []) (forest_passes image form linked)) is

@@ -1,28 +1,16 @@
--- The first fault of stages 6 to 8, by the refusal of each.
-use Rattle.std.proofs.Common.{◌≡◌, ℕ, List, [], ◌∷◌, arith}
+-- The faults of stages 6 to 8, by those of each.
+use Rattle.std.proofs.Common.{◌≡◌, ℕ, Bool, true, false, List, [], ◌∷◌, ◌++◌, length, Option, None, arith, refl, sym, ◌∙◌, subst}
+use Rattle.std.specs.Prelude.{◌==◌}
 use Rattle.bdb_format.specs.declared.kinds.CheckError.{CheckError}
+use Rattle.bdb_format.specs.declared.kinds.CheckError.TheVariants.{Fault as FaultError, Memory as MemoryError}
+use Rattle.bdb_format.specs.declared.kinds.Fault.{Fault}
 use Rattle.bdb_format.specs.File.{file_of}
-use Rattle.bdb_format.specs.Verdict.{IsFirstOf, contents_faults, faults_in, master_faults, structure_faults}
-use Rattle.bdb_format.proofs.VerdictLemmas.{none_in, none_within, refused_after}
-
-pub structure_refused : (image : List ℕ) (error : CheckError) → IsFirstOf (structure_faults (file_of image)) error
-    → IsFirstOf (faults_in (6 ∷ 7 ∷ 8 ∷ []) image) error
-structure_refused image error first = refused_after image [] 6 (7 ∷ 8 ∷ []) error (none_in image [] tt) first
-
-pub master_refused : (image : List ℕ) (error : CheckError) → structure_faults (file_of image) ≡ [] → IsFirstOf (master_faults (file_of image)) error
-    → IsFirstOf (faults_in (6 ∷ 7 ∷ 8 ∷ []) image) error
-master_refused image error structure first = refused_after image (6 ∷ []) 7 (8 ∷ []) error (none_in image (6 ∷ []) (structure, tt)) first
-
-pub contents_refused : (image : List ℕ) (error : CheckError) → structure_faults (file_of image) ≡ [] → master_faults (file_of image) ≡ []
-    → IsFirstOf (contents_faults (file_of image)) error
-    → IsFirstOf (faults_in (6 ∷ 7 ∷ 8 ∷ []) image) error
-contents_refused image error structure master first =
-    refused_after image (6 ∷ 7 ∷ []) 8 [] error (none_in image (6 ∷ 7 ∷ []) (structure, (master, tt))) first
-
-pub no_whole_fault : (image : List ℕ) → structure_faults (file_of image) ≡ [] → master_faults (file_of image) ≡ []
-    → contents_faults (file_of image) ≡ []
-    → faults_in (6 ∷ 7 ∷ 8 ∷ []) image ≡ []
-no_whole_fault image structure master contents = none_in image (6 ∷ 7 ∷ 8 ∷ []) (structure, (master, (contents, tt)))
+use Rattle.bdb_format.specs.Verdict.{IsFirstOf, contents_faults, faults_in, first_fault, master_faults, or_else, stage_faults, structure_faults}
+use Rattle.bdb_format.proofs.VerdictLemmas.{InOrder, none_within, skip_stage, stage_in_order}
+use Rattle.bdb_format.proofs.MemberLemmas.{no_member}
+use Rattle.bdb_faults.specs.Notes.{IsFirst, NotesAll}
+use Rattle.bdb_faults.proofs.SinkLemmas.{first_noted, notes_both}
+use Rattle.bdb_file.proofs.NotingLemmas.{none_noted, some_noted}
 
 -- each of the stages, where none of them has faults
 
@@ -31,3 +19,97 @@ no_structure_fault image none = none_within 6 3 image 6 none (omega arith) (omeg
 
 pub no_master_fault : (image : List ℕ) → faults_in (6 ∷ 7 ∷ 8 ∷ []) image ≡ [] → master_faults (file_of image) ≡ []
 no_master_fault image none = none_within 6 3 image 7 none (omega arith) (omega arith)
+
+-- Which stage is the first that has any.
+
+or_else_some : (faults others : List Fault) → (faults ≡ [] → ⊥) → or_else faults (λ _. others) ≡ faults
+or_else_some [] others some = absurd (some refl)
+or_else_some (fault ∷ faults) others some = refl
+
+or_else_nothing : (faults : List Fault) → or_else faults (λ _. []) ≡ faults
+or_else_nothing [] = refl
+or_else_nothing (fault ∷ faults) = refl
+
+-- the faults of stage 6, where it has any
+structure_stops : (image : List ℕ) → (structure_faults (file_of image) ≡ [] → ⊥) → faults_in (6 ∷ 7 ∷ 8 ∷ []) image ≡ structure_faults (file_of image)
+unfolding faults_in
+structure_stops image some = or_else_some (structure_faults (file_of image)) (faults_in (7 ∷ 8 ∷ []) image) some
+
+-- those of stage 7, where it has any
+master_stops : (image : List ℕ) → structure_faults (file_of image) ≡ [] → (master_faults (file_of image) ≡ [] → ⊥)
+    → faults_in (6 ∷ 7 ∷ 8 ∷ []) image ≡ master_faults (file_of image)
+unfolding faults_in
+master_stops image structure some =
+    skip_stage image 6 (7 ∷ 8 ∷ []) structure ∙ or_else_some (master_faults (file_of image)) (faults_in (8 ∷ []) image) some
+
+-- those of stage 8, where none of the others has any
+contents_last : (image : List ℕ) → structure_faults (file_of image) ≡ [] → master_faults (file_of image) ≡ []
+    → faults_in (6 ∷ 7 ∷ 8 ∷ []) image ≡ contents_faults (file_of image)
+unfolding faults_in
+contents_last image structure master =
+    skip_stage image 6 (7 ∷ 8 ∷ []) structure ∙ (skip_stage image 7 (8 ∷ []) master ∙ or_else_nothing (contents_faults (file_of image)))
+
+-- What is noted of the first of them that has any.
+
+-- a sink says whether anything was noted
+abbrev Says : (List Fault → Type 0) → Bool → Type 0
+Says has empty = (noted : List Fault) → has noted → empty ≡ (length noted == 0)
+
+module _ (image : List ℕ) (before first : List Fault → Type 0) (start : before []) (structure : NotesAll before first (structure_faults (file_of image))) where
+  pub no_structure_noted : (empty : Bool) → empty ≡ true → Says first empty → structure_faults (file_of image) ≡ []
+  no_structure_noted empty is says =
+      none_noted before first (structure_faults (file_of image)) start structure (λ noted at. sym is ∙ says noted at)
+
+  pub structure_whole : (empty : Bool) → empty ≡ false → Says first empty → NotesAll before first (faults_in (6 ∷ 7 ∷ 8 ∷ []) image)
+  structure_whole empty is says =
+      subst (NotesAll before first)
+      (sym (structure_stops image (some_noted before first (structure_faults (file_of image)) start structure (λ noted at. sym is ∙ says noted at)))) structure
+
+  pub not_all_none : (empty : Bool) → empty ≡ false → Says first empty → faults_in (6 ∷ 7 ∷ 8 ∷ []) image ≡ [] → ⊥
+  not_all_none empty is says none =
+      some_noted before first (structure_faults (file_of image)) start structure (λ noted at. sym is ∙ says noted at) (no_structure_fault image none)
+
+  -- where stage 6 has none, the next one is noted as if it were the first
+  module _ (second : List Fault → Type 0) (none : structure_faults (file_of image) ≡ []) (master : NotesAll first second (master_faults (file_of image))) where
+    master_alone : NotesAll before second (master_faults (file_of image))
+    master_alone =
+        subst (λ fs. NotesAll before second (fs ++ master_faults (file_of image))) none
+        (notes_both before first second (structure_faults (file_of image)) (master_faults (file_of image)) structure master)
+
+    pub master_whole : (empty : Bool) → empty ≡ false → Says second empty → NotesAll before second (faults_in (6 ∷ 7 ∷ 8 ∷ []) image)
+    master_whole empty is says =
+        subst (NotesAll before second)
+        (sym (master_stops image none (some_noted before second (master_faults (file_of image)) start master_alone (λ noted at. sym is ∙ says noted at))))
+        master_alone
+
+    pub contents_whole : (after : List Fault → Type 0) (empty : Bool) → empty ≡ true → Says second empty
+        → NotesAll second after (contents_faults (file_of image)) → NotesAll before after (faults_in (6 ∷ 7 ∷ 8 ∷ []) image)
+    contents_whole after empty is says contents =
+        let no_master : master_faults (file_of image) ≡ [] =
+        none_noted before second (master_faults (file_of image)) start master_alone (λ noted at. sym is ∙ says noted at) in
+        subst (NotesAll before after) (sym (contents_last image none no_master))
+        (subst (λ fs. NotesAll before after (fs ++ contents_faults (file_of image))) no_master
+        (notes_both before second after (master_faults (file_of image)) (contents_faults (file_of image)) master_alone contents))
+
+-- What a check over a new sink found.
+
+-- the faults of the first of some stages that has any are of one stage
+one_of : (stage : ℕ) (faults others : List Fault) → InOrder stage faults → (s : ℕ) × InOrder s others → (s : ℕ) × InOrder s (or_else faults (λ _. others))
+one_of stage [] others here later = later
+one_of stage (fault ∷ faults) others here later = (stage, here)
+
+some_stage : (image stages : List ℕ) → (stage : ℕ) × InOrder stage (faults_in stages image)
+unfolding faults_in
+some_stage image [] =
+    (0, record { one_stage = λ fault at. absurd (no_member [] fault refl at); rises = λ first rest fault same at. absurd (no_member [] fault refl at) })
+some_stage image (stage ∷ stages) =
+    one_of stage (stage_faults image stage) (faults_in stages image) (stage_in_order image stage) (some_stage image stages)
+
+pub whole_first : (image : List ℕ) (first : Option Fault) → NotesAll (IsFirst None) (IsFirst first) (faults_in (6 ∷ 7 ∷ 8 ∷ []) image)
+    → first ≡ first_fault (faults_in (6 ∷ 7 ∷ 8 ∷ []) image)
+whole_first image first all =
+    let it = some_stage image (6 ∷ 7 ∷ 8 ∷ []) in first_noted it.0 (faults_in (6 ∷ 7 ∷ 8 ∷ []) image) first it.1 all
+
+pub no_first : (faults : List Fault) (first : Option Fault) → first ≡ first_fault faults → first ≡ None → faults ≡ []
+no_first [] first is none = refl
+no_first (fault ∷ faults) first is none = absurd cc

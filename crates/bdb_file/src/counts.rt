@@ -1,14 +1,15 @@
-ghost use Rattle.std.specs.Prelude.{◌≡◌, ◌<◌, ℕ, IfOk, if◌then◌else◌, get_or, length};
-ghost use Rattle.bdb_file.specs.Entries.{AreCounts, count_fault, naming_fault, one_more};
+ghost use Rattle.std.specs.Prelude.{◌≡◌, ◌<◌, ℕ, IfOk, OnOk, if◌then◌else◌, get_or, length};
+ghost use Rattle.bdb_faults.specs.Notes.{NotesAll};
+ghost use Rattle.bdb_file.specs.Entries.{AreCounts, by_naming, count_fault, one_more};
 ghost use Rattle.bdb_format.specs.Master.{is_page};
-ghost use Rattle.bdb_file.specs.Noted.{earliest};
-ghost use Rattle.bdb_graph.specs.Linked.{IsForest, meta_pages};
+ghost use Rattle.bdb_graph.specs.Linked.{IsForest};
 ghost use Rattle.bdb_format.specs.File.{file_of};
 
 use crate::entry::Entry;
+use crate::noting::note_given;
+use bdb_faults::FaultSink;
 use bdb_format::Fault;
 use bdb_graph::Linked;
-use bdb_overflow::earlier;
 use std::alloc::{AllocError, Global};
 
 /// One more pair that names a page; a third counts as a second.
@@ -63,22 +64,21 @@ fn count_fault(page: u32, count: u8) -> Option<Fault>
     })
 }
 
-/// The first fault of a metadata page that a master names not at all or twice, if there is one. An error is want
-/// of memory.
-#[tactic(auto, using(crate::proofs::CountLemmas::naming_more, crate::proofs::CountLemmas::naming_all, bdb_graph::proofs::HeldLemmas::last_page))]
-pub(crate) fn naming_fault(
+/// Notes the metadata pages that a master names not at all or twice. An error is want of memory.
+#[tactic(auto, using(bdb_graph::proofs::HeldLemmas::last_page))]
+pub(crate) fn note_naming<F: FaultSink>(
     alloc: Global,
     linked: &Linked<'_>,
     entries: &[Entry<'_>],
-) -> Result<Option<Fault>, AllocError>
-    ensures first { IfOk result (λ found. found ≡ earliest (naming_fault entries.now) (meta_pages (file_of linked.now))) }
+    found: &mut F,
+) -> Result<(), AllocError>
+    ensures noted { OnOk result (NotesAll (F.has_noted found.old) (F.has_noted found.new) (by_naming (file_of linked.now) entries.now)) }
     ensures forest { IsForest linked.now }
 {
     let counts = counts_of(alloc, linked.head().last + 1, entries)?;
-    let mut least = None;
     for i in 0..linked.metas() {
         let (number, _) = linked.meta(i);
-        least = earlier(least, count_fault(number, counts[number as usize]));
+        note_given(count_fault(number, counts[number as usize]), found)?;
     }
-    Ok(least)
+    Ok(())
 }

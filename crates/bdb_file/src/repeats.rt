@@ -1,36 +1,40 @@
-ghost use Rattle.std.specs.Prelude.{◌≡◌, [], IfOk};
-ghost use Rattle.bdb_file.specs.Entries.{fault_at, key_of, repeat_fault};
-ghost use Rattle.bdb_file.specs.Noted.{earliest};
-ghost use Rattle.bdb_overflow.specs.Keys.{repeated_by};
+ghost use Rattle.std.specs.Prelude.{◌≡◌, None, OnOk, Some, if◌then◌else◌};
+ghost use Rattle.bdb_faults.specs.Notes.{NotesAll};
+ghost use Rattle.bdb_file.specs.Entries.{by_repeat, fault_at};
 
 use crate::entry::Entry;
+use crate::noting::note_given;
+use bdb_faults::FaultSink;
 use bdb_format::Fault;
 use bdb_overflow::Keys;
 use std::alloc::{AllocError, Global};
 
-/// The first fault of a master's pairs that have the key of an earlier one, if there is one. An error is want of
-/// memory.
-pub(crate) fn repeat_fault(
+/// Notes the master's pairs that have the key of an earlier one. An error is want of memory.
+pub(crate) fn note_repeats<F: FaultSink>(
     alloc: Global,
     entries: &[Entry<'_>],
-) -> Result<Option<Fault>, AllocError>
-    ensures { IfOk result (λ found. found ≡ earliest repeat_fault (repeated_by key_of [] entries.now)) }
+    found: &mut F,
+) -> Result<(), AllocError>
+    ensures { OnOk result (NotesAll (F.has_noted found.old) (F.has_noted found.new) (by_repeat entries.now)) }
 {
-    let mut least = None;
     let mut keys = Keys::new(alloc);
     for entry in entries {
-        least = keys.note(least, entry.key(), repeat_on(entry.page()))?;
+        let is_new = keys.add(entry.key())?;
+        note_given(repeat_on(entry.page(), is_new), found)?;
     }
-    Ok(least)
+    Ok(())
 }
 
-/// The fault of a pair on this leaf that has the key of an earlier one.
-fn repeat_on(page: u32) -> Fault
-    ensures { result ≡ fault_at page 4 }
+/// The fault of a pair on this leaf, unless its key is new.
+fn repeat_on(page: u32, is_new: bool) -> Option<Fault>
+    ensures { result ≡ (if is_new then None else Some (fault_at page 4)) }
 {
-    Fault {
+    if is_new {
+        return None;
+    }
+    Some(Fault {
         stage: 7,
         page,
         code: 4,
-    }
+    })
 }

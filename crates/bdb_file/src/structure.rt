@@ -1,31 +1,24 @@
-ghost use Rattle.std.specs.Prelude.{◌≡◌, IfErr, IfOk, OnOk, []};
-ghost use Rattle.bdb_file.specs.Noted.{IsMemory};
+ghost use Rattle.std.specs.Prelude.{OnOk};
+ghost use Rattle.bdb_faults.specs.Notes.{NotesAll};
 ghost use Rattle.bdb_format.specs.File.{file_of};
-ghost use Rattle.bdb_format.specs.Verdict.{structure_faults, first_fault, IsFirstOf};
+ghost use Rattle.bdb_format.specs.Verdict.{structure_faults};
 
-use crate::merged::{found, refused};
-use bdb_format::{CheckError, Fault};
+use bdb_faults::FaultSink;
 use bdb_graph::Linked;
-use bdb_overflow::{check_chains, earlier};
-use bdb_tree::check_trees;
-use std::alloc::Global;
+use bdb_overflow::note_chains;
+use bdb_tree::note_trees;
+use std::alloc::{AllocError, Global};
 
-/// The first fault of stage 6, if there is one. An error is want of memory.
-#[tactic(auto, using(crate::proofs::MergeLemmas::structure_first))]
-fn structure_fault(alloc: Global, linked: &Linked<'_>) -> Result<Option<Fault>, CheckError>
-    ensures first { IfOk result (λ found. found ≡ first_fault (structure_faults (file_of linked.now))) }
-    ensures only { IfErr result IsMemory }
+/// Notes the faults of stage 6: chains without their lengths, and leaves without their kinds or neighbours. An error is want
+/// of memory.
+pub(crate) fn note_structure<F: FaultSink>(
+    alloc: Global,
+    linked: &Linked<'_>,
+    found: &mut F,
+) -> Result<(), AllocError>
+    ensures { OnOk result (NotesAll (F.has_noted found.old) (F.has_noted found.new) (structure_faults (file_of linked.now))) }
 {
-    let leaves = found(check_trees(alloc, linked))?;
-    Ok(earlier(check_chains(linked).err(), leaves))
-}
-
-/// No row of stage 6 holds: chains have their lengths, and leaves their kinds and neighbours. A refusal is the
-/// first fault, or want of memory.
-#[tactic(auto, using(bdb_graph::proofs::LinkingLemmas::no_first_fault))]
-pub(crate) fn check_structure(alloc: Global, linked: &Linked<'_>) -> Result<(), CheckError>
-    ensures accepted { OnOk result (structure_faults (file_of linked.now) ≡ []) }
-    ensures refusal { IfErr result (IsFirstOf (structure_faults (file_of linked.now))) }
-{
-    refused(structure_fault(alloc, linked)?)
+    note_chains(linked, found)?;
+    note_trees(alloc, linked, found)?;
+    Ok(())
 }

@@ -1,16 +1,18 @@
-ghost use Rattle.std.specs.Prelude.{◌≡◌};
-ghost use Rattle.bdb_file.specs.Entries.{entry_fault, target_fault};
+ghost use Rattle.std.specs.Prelude.{◌≡◌, OnOk};
+ghost use Rattle.bdb_faults.specs.Notes.{NotesAll};
+ghost use Rattle.bdb_file.specs.Entries.{by_target, target_fault};
 ghost use Rattle.bdb_format.specs.Master.{is_named_kind};
-ghost use Rattle.bdb_file.specs.Noted.{earliest};
 ghost use Rattle.bdb_form.specs.Seen.{page_seen};
 ghost use Rattle.bdb_format.specs.File.{file_of};
 ghost use Rattle.bdb_format.specs.Graph.{is_meta};
 
 use crate::entry::Entry;
+use crate::noting::note_given;
+use bdb_faults::FaultSink;
 use bdb_form::PageView;
 use bdb_format::Fault;
 use bdb_graph::Linked;
-use bdb_overflow::earlier;
+use std::alloc::AllocError;
 
 fn is_meta(view: &PageView<'_>) -> bool
     ensures { result ≡ is_meta (page_seen view.now) }
@@ -45,13 +47,16 @@ fn target_fault(linked: &Linked<'_>, page: u32, names: Option<u32>) -> Option<Fa
     })
 }
 
-/// The first fault of a master's pairs that name no metadata page above page 0, if there is one.
-pub(crate) fn entries_fault(linked: &Linked<'_>, entries: &[Entry<'_>]) -> Option<Fault>
-    ensures { result ≡ earliest (entry_fault (file_of linked.now)) entries.now }
+/// Notes the master's pairs that name no metadata page above page 0.
+pub(crate) fn note_targets<F: FaultSink>(
+    linked: &Linked<'_>,
+    entries: &[Entry<'_>],
+    found: &mut F,
+) -> Result<(), AllocError>
+    ensures { OnOk result (NotesAll (F.has_noted found.old) (F.has_noted found.new) (by_target (file_of linked.now) entries.now)) }
 {
-    let mut least = None;
     for entry in entries {
-        least = earlier(least, target_fault(linked, entry.page(), entry.names()));
+        note_given(target_fault(linked, entry.page(), entry.names()), found)?;
     }
-    least
+    Ok(())
 }

@@ -6,7 +6,7 @@ use Rattle.std.proofs.lemmas.List.{map-append}
 use Rattle.std.proofs.lemmas.List.Elements.{Contains-append_cases, Contains-append_left, Contains-append_right}
 use Rattle.bdb_graph.specs.Linked.{HasMetadata}
 use Rattle.bdb_faults.specs.Notes.{IsFirst, Notes, NotesAll}
-use Rattle.bdb_faults.proofs.SinkLemmas.{first_noted}
+use Rattle.bdb_faults.proofs.SinkLemmas.{first_noted, notes_then}
 use Rattle.bdb_format.specs.declared.kinds.Fault.{Fault}
 use Rattle.bdb_format.specs.declared.metadata.HashMeta.{HashMeta}
 use Rattle.bdb_format.specs.ContentRows.{database_faults, database_rows, hash_contents, repeated}
@@ -20,7 +20,6 @@ use Rattle.bdb_format.proofs.RepeatLemmas.{of_repeated}
 use Rattle.bdb_hash.specs.Noted.{bucket_faults, fault_at, has_stray, pair_faults, repeat_fault, repeat_faults, stored, stray_faults}
 use Rattle.bdb_hash.specs.Told.{Told, bucket_told, joined_pages, page_told, table_told, told}
 use Rattle.bdb_hash.specs.Views.{IsTable}
-use Rattle.bdb_hash.proofs.NotedLemmas.{notes_both}
 use Rattle.bdb_hash.proofs.PlainLemmas.{IsPlain, bucket_plain}
 use Rattle.bdb_hash.proofs.RepeatLemmas.{in_bucket, in_table}
 use Rattle.bdb_hash.proofs.RowLemmas.{ArePlain, buckets_of, page_holds, page_table, pair_faults_are, pair_holds, pair_table, repeat_holds}
@@ -213,7 +212,7 @@ pub all_noted : (image : List ℕ) (meta : HashMeta) (strayed : Bool) (before mi
 all_noted image meta strayed before mid after table has is one two = (
   table_noted image meta strayed,
   λ fault. (noted_in image meta strayed fault table has, covered image meta strayed fault table has is),
-  notes_both before mid after (flat_map (bucket_faults image meta) (buckets_of meta)) (stray_faults image meta strayed) one two,
+  notes_then before mid after (flat_map (bucket_faults image meta) (buckets_of meta)) (stray_faults image meta strayed) one two,
 )
 
 -- The first of what was noted.

@@ -19,10 +19,10 @@ use Rattle.bdb_format.proofs.RepeatLemmas.{repeated_after, repeated_is}
 use Rattle.bdb_faults.specs.Notes.{Notes}
 use Rattle.bdb_hash.specs.Noted.{repeat_fault, repeat_faults, stored}
 use Rattle.bdb_hash.specs.Passed.{key_hash}
-use Rattle.bdb_hash.proofs.NotedLemmas.{notes_nothing}
 use Rattle.bdb_hash.specs.Told.{Told}
 use Rattle.bdb_hash.proofs.RepeatLemmas.{has_same}
 use Rattle.bdb_overflow.proofs.KeyLemmas.{eq_same, not_true}
+use Rattle.bdb_faults.proofs.SinkLemmas.{notes_nothing}
 
 -- Numbers that are apart.
 

@@ -7,14 +7,6 @@ use Rattle.bdb_format.specs.Verdict.{holding}
 use Rattle.bdb_hash.specs.Noted.{fault_at, fault_if}
 use Rattle.bdb_hash.specs.declared.noted.HashRow.TheVariants.{Duplicates, DuplicateKind, DuplicateOrder, Bucket}
 
-pub notes_nothing : (before : List Fault → Type 0) → Notes before before []
-notes_nothing before faults is = subst before (sym (append-nil faults)) is
-
-pub notes_both : (before mid after : List Fault → Type 0) (xs ys : List Fault) → Notes before mid xs → Notes mid after ys
-    → Notes before after (xs ++ ys)
-notes_both before mid after xs ys first second =
-    λ faults is. subst after (append_assoc faults xs ys) (second (faults ++ xs) (first faults is))
-
 -- the faults of a pair are those of the rows that hold
 pub rows_noted : (page : ℕ) (a b c d : Bool)
     → fault_if Duplicates page a ++ fault_if DuplicateKind page b ++ fault_if DuplicateOrder page c ++ fault_if Bucket page d

@@ -14,8 +14,8 @@ use Rattle.bdb_hash.specs.Noted.{bucket_faults, has_stray_in, is_stray, pair_fau
 use Rattle.bdb_hash.specs.Passed.{IsPassing, Passes, key_hash}
 use Rattle.bdb_hash.specs.Told.{Told, bucket_told, joined_pages, page_told}
 use Rattle.bdb_hash.specs.declared.passed.Passed.{Passed}
-use Rattle.bdb_hash.proofs.NotedLemmas.{notes_both, notes_nothing}
 use Rattle.bdb_hash.proofs.TableLemmas.{zero_more}
+use Rattle.bdb_faults.proofs.SinkLemmas.{notes_nothing, notes_then}
 
 or_assoc : (a b c : Bool) → ((a || b) || c) ≡ (a || (b || c))
 or_assoc true b c = refl
@@ -25,7 +25,7 @@ both_pass : (meta : HashMeta) (b : ℕ) (before mid after : List Fault → Type 
     → Passes meta b before mid old now xs → Passes meta b mid after now next ys → Passes meta b before after old next (xs ++ ys)
 both_pass meta b before mid after old now next xs ys first second = record {
   noted = subst (Notes before after) (sym (flat_map-append (pair_faults meta b) xs ys))
-      (notes_both before mid after (flat_map (pair_faults meta b) xs) (flat_map (pair_faults meta b) ys) first.noted second.noted);
+      (notes_then before mid after (flat_map (pair_faults meta b) xs) (flat_map (pair_faults meta b) ys) first.noted second.noted);
   hashes =
       second.hashes
       ∙ (ap (λ hs. hs ++ map key_hash ys) first.hashes
@@ -87,8 +87,8 @@ bucket_passed image meta b before mid next after old new pages again done are pa
     ap (λ fs. earlier ++ fs) (sym (append-nil (bucket_faults image meta b)))
     ∙ (sym (flat_map-append (bucket_faults image meta) (range_with_len 0 b) (b ∷ [])) ∙ ap (flat_map (bucket_faults image meta)) (sym (zero_more b))) in
     subst (Notes before after) same
-    (notes_both before mid after earlier (bucket_faults image meta b) done
-    (notes_both mid next after own (repeat_faults (bucket_told image meta b)) first second))
+    (notes_then before mid after earlier (bucket_faults image meta b) done
+    (notes_then mid next after own (repeat_faults (bucket_told image meta b)) first second))
 
 -- and looked for strays
 pub bucket_strays : (image : List ℕ) (meta : HashMeta) (b : ℕ) (mid next : List Fault → Type 0) (old new : Passed) (pages : List (List Told))

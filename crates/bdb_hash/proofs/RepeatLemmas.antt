@@ -29,9 +29,9 @@ use Rattle.bdb_hash.specs.Passed.{AreKeysOf, IsNoting, NotesRepeats, behind, key
 use Rattle.bdb_hash.specs.Told.{Told, bucket_told, joined_pages, page_told, table_told}
 use Rattle.bdb_hash.specs.declared.noted.HashRow.TheVariants.{KeyTwice}
 use Rattle.bdb_overflow.proofs.KeyLemmas.{eq_same, not_true}
-use Rattle.bdb_hash.proofs.NotedLemmas.{notes_both, notes_nothing}
 use Rattle.bdb_hash.proofs.RowLemmas.{buckets_of}
 use Rattle.bdb_hash.proofs.TableLemmas.{told_more}
+use Rattle.bdb_faults.proofs.SinkLemmas.{notes_nothing, notes_then}
 
 -- Repeats after other pairs.
 
@@ -227,7 +227,7 @@ both_noted a b c before mid after xs ys first second = record {
         subst (Notes before after)
             (sym (ap (λ ps. map repeat_fault (repeated_by key_of seen ps)) parts
             ∙ (ap (map repeat_fault) (repeats_append seen (stored xs) (stored ys)) ∙ map-append repeat_fault one two)))
-            (notes_both before mid after (map repeat_fault one) (map repeat_fault two) here.1 there.1),
+            (notes_then before mid after (map repeat_fault one) (map repeat_fault two) here.1 there.1),
       );
 }
 

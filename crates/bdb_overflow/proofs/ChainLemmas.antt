@@ -1,5 +1,5 @@
 -- The faults of stage 6 by chains, page by page, and the first of them.
-use Rattle.std.proofs.Common.{◌≡◌, ℕ, ◌+◌, List, [], ◌∷◌, Option, None, arith, refl, subst, zero-add}
+use Rattle.std.proofs.Common.{◌≡◌, ℕ, ◌+◌, List, Option, None, arith, subst, zero-add}
 use Rattle.std.specs.List.{flat_map, range_with_len}
 use Rattle.bdb_faults.specs.Notes.{IsFirst, Notes, NotesAll}
 use Rattle.bdb_faults.proofs.SinkLemmas.{first_noted, notes_more, notes_none, notes_one}
@@ -41,8 +41,3 @@ pub first_found : (file : File) (start first : Option Fault) → start ≡ None 
 first_found file start first none all =
     first_noted 6 (chain_faults file) first (in_order file)
     (subst (λ (o : Option Fault). NotesAll (IsFirst o) (IsFirst first) (chain_faults file)) none all)
-
--- a list of which there is no first is empty
-pub none_first : (faults : List Fault) → None ≡ first_fault faults → faults ≡ []
-none_first [] none = refl
-none_first (fault ∷ faults) none = absurd cc

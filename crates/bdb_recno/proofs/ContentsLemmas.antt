@@ -208,11 +208,6 @@ first_found file meta start first recno none all =
     first_noted 8 (database_faults file (BtreeFields meta)) first (in_order file meta recno)
     (subst (λ (o : Option Fault). NotesAll (IsFirst o) (IsFirst first) (database_faults file (BtreeFields meta))) none all)
 
--- a list of which there is no first is empty
-pub none_first : (faults : List Fault) → None ≡ first_fault faults → faults ≡ []
-none_first [] none = refl
-none_first (fault ∷ faults) none = absurd cc
-
 -- contents without a fault have right counts
 pub right_counts : (image : List ℕ) (meta : BtreeMeta) → IsForest image → HasMetadata (file_of image) (BtreeFields meta) → is_recno meta ≡ true
     → database_faults (file_of image) (BtreeFields meta) ≡ []

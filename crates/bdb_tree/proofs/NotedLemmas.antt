@@ -1,6 +1,6 @@
 -- The faults of leaves as they are noted are those of the stage.
-use Rattle.std.proofs.Common.{◌≡◌, ◌⊎◌, ℕ, zero, suc, ◌+◌, ◌-◌, ◌/◌, ◌<◌, ◌≤◌, Bool, true, false, List, [], ◌∷◌, ◌++◌, length, take}
-use Rattle.std.proofs.Common.{get_or, arith, refl, sym, ◌∙◌, ap, subst, inl, inr, append_assoc}
+use Rattle.std.proofs.Common.{◌≡◌, ◌⊎◌, ℕ, zero, suc, ◌+◌, ◌-◌, ◌/◌, ◌<◌, ◌≤◌, Bool, true, false, List, [], ◌∷◌, length, take}
+use Rattle.std.proofs.Common.{get_or, arith, refl, sym, ◌∙◌, ap, subst, inl, inr}
 use Rattle.std.specs.Prelude.{Option, Some, None, ◌==◌, ◌&&◌, slice_index}
 use Rattle.std.specs.List.{All, Contains, flat_map, list_any, range_with_len}
 use Rattle.std.proofs.lemmas.Bool.{and_from, and_parts, eq-eqb, eqb-true, ne_eqb}
@@ -35,12 +35,6 @@ use Rattle.bdb_tree.proofs.RootLemmas.{data_root_fits, meta_root_fits, reference
 use Rattle.bdb_tree.proofs.TreeLemmas.{leaf_fits, leaf_low, place_of_root}
 
 -- Places.
-
--- some faults and then others
-pub notes_then : (before middle after : List Fault → Type 0) (xs ys : List Fault) → Notes before middle xs → Notes middle after ys
-    → Notes before after (xs ++ ys)
-notes_then before middle after xs ys first second =
-    λ faults is. subst after (append_assoc faults xs ys) (second (faults ++ xs) (first faults is))
 
 length_places : (sort : Sort) (before : ℕ) (ps : List ℕ) → length (places_from sort before ps) ≡ length ps
 length_places sort before [] = refl
@@ -314,8 +308,3 @@ pub first_found : (file : File) (start first : Option Fault) → start ≡ None 
 first_found file start first none all =
     first_noted 6 (tree_faults file) first (record { one_stage = tree_one file; rises = tree_rises file })
     (subst (λ (o : Option Fault). NotesAll (IsFirst o) (IsFirst first) (tree_faults file)) none all)
-
--- a list of which there is no first is empty
-pub none_first : (faults : List Fault) → None ≡ first_fault faults → faults ≡ []
-none_first [] none = refl
-none_first (fault ∷ faults) none = absurd cc

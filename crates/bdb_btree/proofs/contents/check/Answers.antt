@@ -2,8 +2,9 @@ use Rattle.std.proofs.Common.{◌∙◌, sym}
 use Rattle.bdb_format.specs.ContentRows.{database_faults}
 use Rattle.bdb_format.specs.File.{file_of}
 use Rattle.bdb_format.specs.Page.{BtreeFields}
-use Rattle.bdb_btree.proofs.CheckLemmas.{first_found, none_first}
+use Rattle.bdb_btree.proofs.CheckLemmas.{first_found}
 use Rattle.bdb_btree.proofs.contents.check.Goals as goal
+use Rattle.bdb_faults.proofs.SinkLemmas.{none_first}
 
 pub returns-in-None-clause-accepted : goal.returns-in-None-clause-accepted
 returns-in-None-clause-accepted c =

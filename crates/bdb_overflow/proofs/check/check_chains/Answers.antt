@@ -1,8 +1,9 @@
 use Rattle.std.proofs.Common.{◌∙◌, sym}
 use Rattle.bdb_format.specs.File.{file_of}
 use Rattle.bdb_format.specs.Verdict.{chain_faults}
-use Rattle.bdb_overflow.proofs.ChainLemmas.{first_found, none_first}
+use Rattle.bdb_overflow.proofs.ChainLemmas.{first_found}
 use Rattle.bdb_overflow.proofs.check.check_chains.Goals as goal
+use Rattle.bdb_faults.proofs.SinkLemmas.{none_first}
 
 pub returns-in-None-clause-accepted : goal.returns-in-None-clause-accepted
 returns-in-None-clause-accepted c =

@@ -1,8 +1,9 @@
 use Rattle.std.proofs.Common.{◌∙◌, sym}
 use Rattle.bdb_format.specs.File.{file_of}
 use Rattle.bdb_format.specs.Verdict.{tree_faults}
-use Rattle.bdb_tree.proofs.NotedLemmas.{first_found, none_first}
+use Rattle.bdb_tree.proofs.NotedLemmas.{first_found}
 use Rattle.bdb_tree.proofs.check.check_trees.Goals as goal
+use Rattle.bdb_faults.proofs.SinkLemmas.{none_first}
 
 pub returns-in-None-clause-accepted : goal.returns-in-None-clause-accepted
 returns-in-None-clause-accepted c =

@@ -1,0 +1,21 @@
+ghost use Rattle.std.specs.Prelude.{OnOk};
+ghost use Rattle.bdb_faults.specs.Notes.{Notes};
+ghost use Rattle.bdb_file.specs.Entries.{given};
+
+use bdb_faults::FaultSink;
+use bdb_format::Fault;
+use std::alloc::AllocError;
+
+/// Notes a fault, if there is one.
+#[tactic(auto, using(bdb_faults::proofs::SinkLemmas::notes_nothing))]
+pub(crate) fn note_given<F: FaultSink>(
+    fault: Option<Fault>,
+    found: &mut F,
+) -> Result<(), AllocError>
+    ensures { OnOk result (Notes (F.has_noted found.old) (F.has_noted found.new) (given fault)) }
+{
+    match fault {
+        Some(fault) => found.note(fault),
+        None => Ok(()),
+    }
+}

@@ -1,0 +1,70 @@
+ghost use Rattle.std.specs.Prelude.{◌≡◌, ◌≤◌, ◌+◌, ◌^◌, [], ◌∷◌, IfErr, IfOk, OnOk, length};
+ghost use Rattle.bdb_faults.specs.All.{IsAllOf};
+ghost use Rattle.bdb_file.specs.Entries.{master_entries};
+ghost use Rattle.bdb_format.specs.File.{file_of};
+ghost use Rattle.bdb_format.specs.Verdict.{faults_in, faults_of};
+
+use crate::Sound;
+use crate::check::note_file;
+use crate::entry::Entry;
+use crate::named::databases_of;
+use bdb_faults::{AllError, NamedList, refused_by};
+use bdb_format::Steps;
+use bdb_graph::{Formed, Linked, link_all, open_all};
+use std::alloc::Global;
+use std::sync::ledger::Ledger;
+
+/// The entries of the master of a file in which no row of stages 6 to 8 holds. A refusal has all faults of the
+/// first stage that has one; or it's want of memory.
+fn entries_or_all<'a>(alloc: Global, linked: &Linked<'a>) -> Result<Vec<Entry<'a>>, AllError>
+    ensures entries { IfOk result (λ entries. entries.items ≡ master_entries (file_of linked.now)) }
+    ensures accepted { OnOk result (faults_in (6 ∷ 7 ∷ 8 ∷ []) linked.now ≡ []) }
+    ensures refusal { IfErr result (IsAllOf (faults_in (6 ∷ 7 ∷ 8 ∷ []) linked.now)) }
+{
+    let mut found = NamedList::new(alloc);
+    let Ok(entries) = note_file(alloc, linked, &mut found) else {
+        return Err(AllError::Memory);
+    };
+    match refused_by(found) {
+        Ok(()) => Ok(entries),
+        Err(error) => Err(error),
+    }
+}
+
+/// A formed image as a sound file, or all its faults.
+#[tactic(auto, using(crate::proofs::VerdictLemmas::graph_all, crate::proofs::VerdictLemmas::file_all, crate::proofs::VerdictLemmas::file_accepted, crate::proofs::WholeLemmas::no_structure_fault, crate::proofs::WholeLemmas::no_master_fault))]
+fn sound_or_all<'a, L: Ledger>(
+    alloc: Global,
+    formed: Formed<'a>,
+    steps: &mut Steps<L>,
+) -> Result<Sound<'a>, AllError>
+    requires { faults_in (1 ∷ 2 ∷ []) formed ≡ [] }
+    ensures sound { IfOk result (λ sound. sound ≡ formed.entry) }
+    ensures accepted { OnOk result (faults_of formed.entry ≡ []) }
+    ensures refusal { IfErr result (IsAllOf (faults_of formed.entry)) }
+    ensures cost { steps.new ≤ steps.old + ((file_of formed.entry).last + 1) }
+{
+    let linked = link_all(alloc, formed, steps)?;
+    let entries = entries_or_all(alloc, &linked)?;
+    let databases = databases_of(alloc, &linked, &entries).map_err(|_| AllError::Memory)?;
+    Ok(Sound::over(linked, databases))
+}
+
+/// An image as a sound file, or all faults of the first of the eight stages in which a row holds, page by page and code by
+/// code, each once; a case that is left out by name stands among them. `Memory` is want of memory. It takes no more steps
+/// than the file has pages up to its last, and at most 24 bytes for each fault beside what `verify` takes.
+#[tactic(auto, using(crate::proofs::VerdictLemmas::form_all))]
+pub fn verify_all<'a, L: Ledger>(
+    alloc: Global,
+    image: &'a [u8],
+    steps: &mut Steps<L>,
+) -> Result<Sound<'a>, AllError>
+    requires { length image.now ≤ 2 ^ 30 }
+    ensures sound { IfOk result (λ sound. sound ≡ image.now) }
+    ensures accepted { OnOk result (faults_of image.now ≡ []) }
+    ensures refusal { IfErr result (IsAllOf (faults_of image.now)) }
+    ensures cost { steps.new ≤ steps.old + ((file_of image.now).last + 1) }
+{
+    let formed = open_all(alloc, image)?;
+    sound_or_all(alloc, formed, steps)
+}
