@@ -49,8 +49,8 @@ pub const PAIR: [Field; 17] = [
     Field::Byte(1022, 1),
 ];
 
-// A btree file with two empty leaves, 2 and 3, below the root 1, and nothing on page 4.
-const TREE: [Field; 25] = [
+/// A btree file with two empty leaves, 2 and 3, below the root 1, and nothing on page 4.
+pub const TREE: [Field; 25] = [
     Field::Four(12, 0x053162),
     Field::Four(16, 9),
     Field::Four(20, 512),
