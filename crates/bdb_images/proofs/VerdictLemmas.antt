@@ -2,15 +2,15 @@
 use Rattle.std.proofs.Common.{◌≡◌, ◌≢◌, ℕ, ◌^◌, ne_eqb, Bool, true, false, List, [], length, ap, arith, inl, inr, refl, subst, sym, ◌∙◌}
 use Rattle.std.specs.Prelude.{IfOk, Result, Some, nat_lt, if◌then◌else◌}
 use Rattle.std.specs.Io.KnownBytes.{Appends}
-use Rattle.bdb_format.specs.Verdict.{verdict_of}
-use Rattle.bdb_model.specs.Answers.{Answer, judged_answer, told, too_large_line}
+use Rattle.bdb_format.specs.Verdict.{faults_of}
+use Rattle.bdb_model.specs.Answers.{Answer, told, too_large_line}
 use Rattle.bdb_model.specs.Change.{Change, Gains, HasFailed}
 use Rattle.bdb_model.specs.Faults.{Rose}
 use Rattle.bdb_model.specs.Command.{Verify}
 use Rattle.bdb_tool.specs.Commands.{Ask, Command, command_of}
-use Rattle.bdb_tool.specs.Outputs.{IsAnswerBy, IsAnswerTo, IsCommandAnswer, IsInput}
+use Rattle.bdb_tool.specs.Outputs.{IsAnswerBy, IsAnswerTo, IsCommandAnswer, IsInput, verified}
 use Rattle.bdb_tool.specs.Runs.{IsAnswered, RunsAs}
-use Rattle.bdb_images.specs.Lines.{first_line, text_told, verify_answer, verify_words}
+use Rattle.bdb_images.specs.Lines.{text_told, verify_answer, verify_words}
 
 abbrev verify_command : Command
 verify_command = record { limit = 2 ^ 30; action = Ask Verify }
@@ -20,7 +20,7 @@ unfolding command_of
 command_is = refl
 
 by_size : (beyond : Bool) (image : List ℕ) (answer : Answer) → IsAnswerBy beyond verify_command image answer
-    → answer ≡ (if beyond then told 6 (too_large_line (2 ^ 30)) else judged_answer (verdict_of image) Verify image)
+    → answer ≡ (if beyond then told 6 (too_large_line (2 ^ 30)) else verified (faults_of image) image)
 by_size true image answer is = is
 by_size false image answer is = is
 
@@ -69,7 +69,6 @@ verdict_line words image printed source out err status words_are runs before nev
     let tells = tells_verdict image source out err status (subst (λ ws. RunsAs ws source out err status) words_are runs) before (λ four. never (runs.read_fault four).0, no_fault, no_memory) in
     printed_whole err printed (verify_answer image).err err_before err_now tells.err_is ∙ told_line (verify_answer image) (λ zero_is. other (tells.status_is ∙ zero_is))
 
--- bytes that are the first line of a text
-pub first_line_of : {E : Type 0} (result : Result (List ℕ) E) (piece line text whole : List ℕ) → piece ≡ whole → line ≡ first_line piece → whole ≡ text → IfOk result (λ bytes. bytes ≡ line) → IfOk result (λ verdict. verdict ≡ first_line text)
-first_line_of result piece line text whole piece_is line_is text_is ok =
-    subst (λ it. IfOk result (λ bytes. bytes ≡ it)) (line_is ∙ ap first_line (piece_is ∙ text_is)) ok
+-- bytes that are a text
+pub bytes_told : {E : Type 0} (result : Result (List ℕ) E) (piece text whole : List ℕ) → piece ≡ whole → whole ≡ text → IfOk result (λ bytes. bytes ≡ piece) → IfOk result (λ verdict. verdict ≡ text)
+bytes_told result piece text whole piece_is text_is ok = subst (λ it. IfOk result (λ bytes. bytes ≡ it)) (piece_is ∙ text_is) ok

@@ -1,7 +1,6 @@
 ghost use Rattle.std.specs.Prelude.{◌≡◌, IfOk};
 ghost use Rattle.bdb_images.specs.Lines.{verdict_on, verify_words};
 
-use crate::lines::first_line;
 use bdb_io::{MemSink, PureSource};
 use bdb_model::{Bytes, Words};
 use bdb_tool::run_counted;
@@ -10,7 +9,7 @@ use std::alloc::{AllocError, Global};
 use std::marker::Brand;
 use std::sync::ledger::Blank;
 
-/// The first line of the answer to `verify` over an image.
+/// What the answer to `verify` over an image tells: the line of a sound file, or a line for each fault.
 pub fn verdict_on(alloc: Global, image: &[u8]) -> Result<Bytes, AllocError>
     ensures { IfOk result (λ verdict. verdict ≡ verdict_on image.now) }
 {
@@ -28,8 +27,8 @@ pub fn verdict_on(alloc: Global, image: &[u8]) -> Result<Bytes, AllocError>
     );
     match status {
         WRITE_FAULT | MEMORY => Err(AllocError),
-        DONE => bytes_of(alloc, first_line(out.bytes())),
-        _ => bytes_of(alloc, first_line(err.bytes())),
+        DONE => bytes_of(alloc, out.bytes()),
+        _ => bytes_of(alloc, err.bytes()),
     }
 }
 

@@ -1,4 +1,4 @@
-pub mod PrintingLemmas
+pub mod SpellingLemmas
 pub mod PrinterLemmas
 pub mod DumpLemmas
 pub mod ListingLemmas

@@ -7,11 +7,12 @@ use Rattle.std.specs.Prelude.{Option, Ok, Err, OnOk, Result}
 use Rattle.bdb_model.specs.Chains.{joined}
 use Rattle.bdb_model.specs.Change.{change}
 use Rattle.bdb_model.specs.TextSpelling.{spelling}
-use Rattle.bdb_printing.specs.Printing.{Prints, Writes}
+use Rattle.bdb_lines.specs.Printing.{Prints, Writes}
 use Rattle.bdb_printing.specs.Printers.{Adds, HasAdded}
-use Rattle.bdb_printing.specs.declared.printing.Cut.{Cut}
+use Rattle.bdb_lines.specs.declared.cut.Cut.{Cut}
 use Rattle.bdb_printing.specs.declared.printing.Printer.{Printer}
-use Rattle.bdb_printing.proofs.PrintingLemmas.{begins_cut, cut_short, nothing_printed, spelling_none, spelling_of_both, then_more, then_written}
+use Rattle.bdb_lines.proofs.PrintingLemmas.{begins_cut, cut_short, nothing_printed, then_more, then_written}
+use Rattle.bdb_printing.proofs.SpellingLemmas.{spelling_none, spelling_of_both}
 
 -- a text and then another
 pub then_adds : {K : Type 0} (written : K → Option (List ℕ)) (faults : K → ℕ) (old mid new : Printer K) (one two : List ℕ) (given result : Result Unit Cut) → given ≡ Ok tt

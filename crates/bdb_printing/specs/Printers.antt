@@ -4,8 +4,8 @@ use Rattle.bdb_model.specs.Change.{change}
 use Rattle.bdb_model.specs.Lines.{line}
 use Rattle.bdb_model.specs.Lists.{ListKey}
 use Rattle.bdb_model.specs.Written.{data_line, key_bytes}
-use Rattle.bdb_printing.specs.Printing.{Prints}
-use Rattle.bdb_printing.specs.declared.printing.Cut.{Cut}
+use Rattle.bdb_lines.specs.Printing.{Prints}
+use Rattle.bdb_lines.specs.declared.cut.Cut.{Cut}
 use Rattle.bdb_printing.specs.declared.printing.Printer.{Printer}
 
 -- a text was added to what a printer prints to its sink, as far as it's said

@@ -9,12 +9,13 @@ ghost use Rattle.bdb_model.specs.Lines.{line};
 ghost use Rattle.bdb_model.specs.Written.{data_end, data_line, database_text, dump_text, key_bytes};
 ghost use Rattle.bdb_overflow.specs.Datum.{datum_seen, key_view_seen};
 ghost use Rattle.bdb_printing.specs.Printers.{Adds, pair_text};
-ghost use Rattle.bdb_printing.specs.Printing.{Writes};
+ghost use Rattle.bdb_lines.specs.Printing.{Writes};
 ghost use Rattle.std.specs.Fmt.{decimal};
 
-use crate::printing::{Cut, Printer};
+use crate::printing::Printer;
 use bdb_file::{Db, Scan, Sound};
 use bdb_io::Sink;
+use bdb_lines::Cut;
 use bdb_model::Bytes;
 use bdb_overflow::{Datum, KeyView};
 use bdb_text::{header_text, number_text};

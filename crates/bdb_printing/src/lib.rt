@@ -8,5 +8,5 @@ mod salvaging;
 
 pub use dumping::{write_section, write_sections};
 pub use listing::{write_found, write_list};
-pub use printing::Cut;
+pub use bdb_lines::Cut;
 pub use salvaging::write_salvaged;

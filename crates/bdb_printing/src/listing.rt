@@ -9,11 +9,12 @@ ghost use Rattle.bdb_model.specs.TextSpelling.{spelling};
 ghost use Rattle.bdb_model.specs.Written.{kind_text};
 ghost use Rattle.bdb_overflow.specs.Datum.{datum_seen};
 ghost use Rattle.bdb_printing.specs.Printers.{Adds};
-ghost use Rattle.bdb_printing.specs.Printing.{Writes};
+ghost use Rattle.bdb_lines.specs.Printing.{Writes};
 
-use crate::printing::{Cut, Printer};
+use crate::printing::Printer;
 use bdb_file::{Found, Sound};
 use bdb_io::Sink;
+use bdb_lines::Cut;
 use bdb_model::{Bytes, Kind};
 use bdb_overflow::Datum;
 use bdb_text::kind_word;

@@ -6,17 +6,11 @@ ghost use Rattle.bdb_overflow.specs.Datum.{datum_seen};
 ghost use Rattle.bdb_printing.specs.Printers.{Adds};
 
 use bdb_io::{Sink, put_all};
+use bdb_lines::Cut;
 use bdb_model::Bytes;
 use bdb_overflow::{Datum, Pieces};
 use bdb_text::push_line_text;
 use std::alloc::Global;
-
-/// Why a text wasn't written whole.
-#[derive(Clone, Copy, Debug, PartialEq, Eq)]
-pub enum Cut {
-    WriteFault,
-    Memory,
-}
 
 /// How many bytes are gathered before they are written.
 const PIECE: usize = 65536;

@@ -6,14 +6,15 @@ ghost use Rattle.bdb_model.specs.Lines.{line};
 ghost use Rattle.bdb_model.specs.Written.{data_end, header_text, section_text};
 ghost use Rattle.bdb_overflow.specs.Datum.{datum_seen};
 ghost use Rattle.bdb_printing.specs.Printers.{Adds, pair_text};
-ghost use Rattle.bdb_printing.specs.Printing.{Writes};
+ghost use Rattle.bdb_lines.specs.Printing.{Writes};
 ghost use Rattle.bdb_printing.specs.SalvageText.{bytes_pair, loose_section, loose_settings, numbered_record, salvage_text};
 ghost use Rattle.bdb_printing.specs.SalvageText.{stored_section, stored_settings};
 ghost use Rattle.bdb_salvage.specs.Kept.{file_in};
 ghost use Rattle.bdb_stored.specs.Salvage.{loose};
 
-use crate::printing::{Cut, Printer};
+use crate::printing::Printer;
 use bdb_io::Sink;
+use bdb_lines::Cut;
 use bdb_model::{Bytes, Kind, Settings};
 use bdb_overflow::{Datum, KeyView};
 use bdb_salvage::{Guess, LooseItems, SalvagePairs, Salvaged};

@@ -43,10 +43,10 @@ use Rattle.bdb_writing.specs.Refusals.{IsRefusal}
 use Rattle.bdb_writing.specs.Trials.{IsTrialAnswer, IsTrialBy, trial_sections}
 use Rattle.bdb_tool.proofs.FinishLemmas.{memory_finishes, told_finishes, written_finishes}
 use Rattle.bdb_model.specs.Faults.{AppendsPrefix, Rose}
-use Rattle.bdb_printing.specs.declared.printing.Cut.{Cut}
-use Rattle.bdb_printing.specs.declared.printing.Cut.TheVariants.{WriteFault, Memory}
-use Rattle.bdb_printing.specs.Printing.{Writes}
-use Rattle.bdb_printing.proofs.PrintingLemmas.{moved, nothing_of}
+use Rattle.bdb_lines.specs.declared.cut.Cut.{Cut}
+use Rattle.bdb_lines.specs.declared.cut.Cut.TheVariants.{WriteFault, Memory}
+use Rattle.bdb_lines.specs.Printing.{Writes}
+use Rattle.bdb_lines.proofs.PrintingLemmas.{moved, nothing_of}
 
 -- One line.
 
@@ -65,7 +65,7 @@ same_text given text out result is writes = subst (λ bytes. Writes bytes out re
 
 -- Statuses.
 
-low_own : (answer : Answer) → answer.status < 4 → HasOwnStatus answer
+pub low_own : (answer : Answer) → answer.status < 4 → HasOwnStatus answer
 low_own answer low = record { no_read_fault = λ is. omega arith; no_write_fault = λ is. omega arith; no_memory = λ is. omega arith }
 
 pub found_own : (prints : Bool) (values : List (List ℕ)) → HasOwnStatus (found prints values)

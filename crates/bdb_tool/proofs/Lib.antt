@@ -5,4 +5,5 @@ pub mod GivenLemmas
 pub mod ReadLemmas
 pub mod StepLemmas
 pub mod TaskLemmas
+pub mod TellingLemmas
 pub mod AnswerLemmas

@@ -3,16 +3,15 @@ use Rattle.std.proofs.Common.{◌≡◌, ◌≢◌, ◌⊎◌, ℕ, ◌+◌, ◌
 use Rattle.std.specs.Prelude.{Option, Some, None, nat_lt}
 use Rattle.std.specs.Io.KnownBytes.{Consumes, IsAtEnd}
 use Rattle.std.proofs.lemmas.Bool.{le-ltb, lt-ltb}
-use Rattle.bdb_model.specs.Answers.{Answer, judged_answer, told, too_large_line, usage}
+use Rattle.bdb_model.specs.Answers.{Answer, told, too_large_line, usage}
 use Rattle.bdb_model.specs.Change.{Change, GainsPart, HasFailed, IsUncalled, Stays}
 use Rattle.bdb_model.specs.Faults.{Rose, Took}
 use Rattle.bdb_model.specs.Lines.{memory_line, read_fault_line, write_fault_line}
-use Rattle.bdb_model.specs.Verdict.{verdict_of}
 use Rattle.bdb_format.proofs.KnownLemmas.{keeps_itself}
 use Rattle.bdb_writing.specs.Loads.{IsTextAnswer}
 use Rattle.bdb_writing.specs.Trials.{IsTrialAnswer}
 use Rattle.bdb_tool.specs.Commands.{Ask, Command, Load, command_of, reads_input}
-use Rattle.bdb_tool.specs.Outputs.{AnswersInPart, IsActionAnswer, IsAnswerBy, IsAnswerTo, IsCommandAnswer, IsInput, Output, StatusIs, salvage_answer}
+use Rattle.bdb_tool.specs.Outputs.{AnswersInPart, IsActionAnswer, IsAnswerBy, IsAnswerTo, IsCommandAnswer, IsInput, Output, StatusIs, asked_answer, salvage_answer}
 use Rattle.bdb_tool.specs.Parts.{Answered, Ends, Finishes, IsTaskAnswered, IsToldStop, Tells, Unanswered}
 use Rattle.bdb_tool.specs.Runs.{ErrorLine, IsAnswered, OfAnswer, OfMemory, OfReadFault, OfWriteFault, RunsAs}
 use Rattle.bdb_tool.specs.Tasks.{AreReading, IsRead, IsStopped, IsTaken, IsTooLong}
@@ -22,9 +21,10 @@ use Rattle.bdb_tool.specs.declared.task.Stop.{Stop}
 use Rattle.bdb_tool.specs.declared.task.Stop.TheVariants.{Usage, TooLarge, ReadFault, Memory as MemoryStop}
 use Rattle.bdb_tool.specs.declared.task.Task.{Task}
 use Rattle.bdb_tool.specs.declared.task.Task.TheVariants.{Ask as AskTask, Load as LoadTask, Salvage as SalvageTask, Trial as TrialTask}
-use Rattle.bdb_tool.proofs.AnswerLemmas.{answer_own, salvage_own, text_own, trial_own}
+use Rattle.bdb_tool.proofs.TellingLemmas.{asked_own}
+use Rattle.bdb_tool.proofs.AnswerLemmas.{salvage_own, text_own, trial_own}
 use Rattle.bdb_tool.proofs.FinishLemmas.{memory_finishes, told_finishes}
-use Rattle.bdb_printing.proofs.PrintingLemmas.{moved}
+use Rattle.bdb_lines.proofs.PrintingLemmas.{moved}
 
 -- The input.
 
@@ -219,7 +219,7 @@ tried_runs words source out err limit trial status is uncalled ends =
 pub taken_runs : (words : List (List ℕ)) (source out err : Change) (task : Task) (status : ℕ) → IsTaken words source task → IsTaskAnswered task out err status → RunsAs words source out err status
 taken_runs words source out err (AskTask request image) status taken answered =
     let command : Command = record { limit = taken.limit; action = Ask taken.asked } in
-    asked_runs words source out err command image (judged_answer (verdict_of image) taken.asked image) status taken.read refl (answer_own taken.asked image).no_read_fault (answered taken.asked taken.seen)
+    asked_runs words source out err command image (asked_answer taken.asked image) status taken.read refl (asked_own taken.asked image).no_read_fault (answered taken.asked taken.seen)
 taken_runs words source out err (LoadTask text limit) status taken answered = loaded_runs words source out err limit text status taken.read answered
 taken_runs words source out err (SalvageTask asked image) status taken answered =
     let command : Command = record { limit = taken.limit; action = salvage_seen asked } in

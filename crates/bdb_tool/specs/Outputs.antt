@@ -1,7 +1,10 @@
 -- The answers to words and an input: a status, and what is written to the output and to the error sink. Source: README.md, "Use".
-use Rattle.std.specs.Prelude.{◌≡◌, ◌⊎◌, ℕ, nat_lt, ◌&&◌, Bool, true, false, List, length, Option, Some, None, codes, ⊤}
-use Rattle.bdb_format.specs.Verdict.{verdict_of}
-use Rattle.bdb_model.specs.Answers.{Answer, done, judged_answer, told, too_large_line, usage}
+use Rattle.std.specs.Prelude.{◌≡◌, ◌⊎◌, ℕ, nat_lt, ◌&&◌, Bool, true, false, List, [], ◌∷◌, length, map, Option, Some, None, codes, ⊤}
+use Rattle.bdb_format.specs.declared.kinds.Fault.{Fault}
+use Rattle.bdb_format.specs.Verdict.{Judgement, faults_of, judgement_of, verdict_of}
+use Rattle.bdb_lines.specs.Telling.{judgement_status, judgements_text}
+use Rattle.bdb_model.specs.Command.{Dump, Get, ListAll, Request, Verify}
+use Rattle.bdb_model.specs.Answers.{Answer, done, judged_answer, sound_answer, told, too_large_line, usage}
 use Rattle.bdb_model.specs.Change.{Change, Gains, GainsPart, Stays}
 use Rattle.bdb_model.specs.Lines.{line}
 use Rattle.bdb_printing.specs.SalvageText.{salvage_text}
@@ -10,6 +13,24 @@ use Rattle.bdb_salvage.specs.declared.guess.Guess.{Guess}
 use Rattle.bdb_tool.specs.Commands.{Action, Ask, Command, Load, Salvage, Trial, command_of, reads_input}
 use Rattle.bdb_writing.specs.Loads.{IsTextAnswer}
 use Rattle.bdb_writing.specs.Trials.{IsTrialAnswer}
+
+-- the status of the first of what holds
+abbrev pub first_status : List Judgement → ℕ
+first_status [] = 0
+first_status (judgement ∷ judgements) = judgement_status judgement
+
+-- `verify`: the line of a sound file, else a line for each fault of the first stage that has any, with the status of the first
+abbrev pub verified : List Fault → List ℕ → Answer
+verified [] image = sound_answer Verify image
+verified (fault ∷ faults) image =
+    told (first_status (map judgement_of (fault ∷ faults))) (judgements_text (map judgement_of (fault ∷ faults)))
+
+-- what is asked of a file; but for `verify` the first fault alone is told
+abbrev pub asked_answer : Request → List ℕ → Answer
+asked_answer Verify image = verified (faults_of image) image
+asked_answer ListAll image = judged_answer (verdict_of image) ListAll image
+asked_answer (Get name key prints) image = judged_answer (verdict_of image) (Get name key prints) image
+asked_answer (Dump name prints) image = judged_answer (verdict_of image) (Dump name prints) image
 
 -- `salvage`: what is salvaged from an image by a guess, if there is one
 abbrev pub salvaged_answer : Option Guess → Bool → List ℕ → Answer
@@ -22,7 +43,7 @@ salvage_answer guess print image = salvaged_answer (chosen guess image) print im
 
 -- an answer to an input that isn't too long; `load` and `trial` may have several
 abbrev pub IsActionAnswer : Action → ℕ → List ℕ → Answer → Type 0
-IsActionAnswer (Ask request) limit input answer = answer ≡ judged_answer (verdict_of input) request input
+IsActionAnswer (Ask request) limit input answer = answer ≡ asked_answer request input
 IsActionAnswer Load limit input answer = IsTextAnswer limit input answer
 IsActionAnswer (Salvage guess print) limit input answer = answer ≡ salvage_answer guess print input
 IsActionAnswer (Trial kind seed count) limit input answer = IsTrialAnswer limit kind seed count answer

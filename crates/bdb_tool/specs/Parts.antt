@@ -2,14 +2,13 @@
 use Rattle.std.specs.Prelude.{◌≡◌, ◌≢◌, ◌⊎◌, ℕ, List, [], Result, Ok, Err, Some, string_bytes}
 use Rattle.bdb_format.specs.declared.kinds.Verdict.{Verdict}
 use Rattle.bdb_format.specs.declared.kinds.Verdict.TheVariants.{Fault, Unsupported, Memory as MemoryVerdict}
-use Rattle.bdb_format.specs.Verdict.{verdict_of}
-use Rattle.bdb_model.specs.Answers.{Answer, fault_line, judged_answer, too_large_line, unsupported_line, usage}
+use Rattle.bdb_model.specs.Answers.{Answer, fault_line, too_large_line, unsupported_line, usage}
 use Rattle.bdb_model.specs.Change.{Change, Gains, GainsPart, HasFailed, Stays}
 use Rattle.bdb_model.specs.Command.{Request}
 use Rattle.bdb_model.specs.Lines.{memory_line, read_fault_line, write_fault_line}
-use Rattle.bdb_printing.specs.declared.printing.Cut.{Cut}
-use Rattle.bdb_printing.specs.declared.printing.Cut.TheVariants.{WriteFault, Memory}
-use Rattle.bdb_tool.specs.Outputs.{salvage_answer}
+use Rattle.bdb_lines.specs.declared.cut.Cut.{Cut}
+use Rattle.bdb_lines.specs.declared.cut.Cut.TheVariants.{WriteFault, Memory}
+use Rattle.bdb_tool.specs.Outputs.{asked_answer, salvage_answer}
 use Rattle.bdb_tool.specs.WordsSeen.{request_seen}
 use Rattle.bdb_tool.specs.declared.task.Task.{Task}
 use Rattle.bdb_tool.specs.declared.task.Task.TheVariants.{Ask as AskTask, Load as LoadTask, Salvage as SalvageTask, Trial as TrialTask}
@@ -77,7 +76,7 @@ pub data Ends (allowed : Answer → Type 0) (out err : Change) (status : ℕ) : 
 -- a task was answered
 abbrev pub IsTaskAnswered : Task → Change → Change → ℕ → Type 0
 IsTaskAnswered (AskTask request image) out err status =
-    (asked : Request) → request_seen request ≡ Some asked → Finishes (judged_answer (verdict_of image) asked image) out err status
+    (asked : Request) → request_seen request ≡ Some asked → Finishes (asked_answer asked image) out err status
 IsTaskAnswered (LoadTask text limit) out err status = Ends (IsTextAnswer limit text) out err status
 IsTaskAnswered (SalvageTask asked image) out err status = Finishes (salvage_answer asked.guess asked.print image) out err status
 IsTaskAnswered (TrialTask trial limit) out err status = Ends (IsTrialAnswer limit trial.kind trial.seed trial.count) out err status

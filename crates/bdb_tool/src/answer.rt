@@ -1,14 +1,17 @@
-ghost use Rattle.std.specs.Prelude.{◌≡◌, ◌⊎◌, ◌≤◌, ◌^◌, [], IfOk, IsTrue, MatchOption, List, Option, Some, is_some, length, not, option_copied, ℕ};
-ghost use Rattle.bdb_model.specs.Answers.{data_named, dumped, found, judged_answer, fault_line, sound_answer, sound_line, unsupported_line};
+ghost use Rattle.std.specs.Prelude.{◌≡◌, ◌⊎◌, ◌<◌, ◌≤◌, ◌^◌, [], IfOk, IsTrue, MatchOption, List, Option, Some, is_some, length, not, option_copied, ℕ};
+ghost use Rattle.bdb_model.specs.Answers.{data_named, dumped, found, judged_answer, sound_answer, sound_line};
 ghost use Rattle.bdb_model.specs.Change.{change};
 ghost use Rattle.bdb_model.specs.Command.{Request as ModelRequest, asked_name, key_request, text_request};
 ghost use Rattle.bdb_model.specs.File.{file_of};
 ghost use Rattle.bdb_model.specs.HeadOf.{head_of};
 ghost use Rattle.bdb_model.specs.Lines.{memory_line};
 ghost use Rattle.bdb_model.specs.TextSpelling.{bytes_spelled};
-ghost use Rattle.bdb_model.specs.Verdict.{verdict_of};
+ghost use Rattle.bdb_model.specs.Verdict.{faults_of, verdict_of};
+ghost use Rattle.bdb_faults.specs.Named.{judgement_seen};
+ghost use Rattle.bdb_lines.specs.Telling.{judgement_line, judgement_status, judgements_text};
+ghost use Rattle.bdb_tool.specs.Outputs.{asked_answer, first_status, verified};
 ghost use Rattle.bdb_tool.specs.Parts.{Finishes, IsRefused, IsTaskAnswered, Tells};
-ghost use Rattle.bdb_printing.specs.Printing.{Writes};
+ghost use Rattle.bdb_lines.specs.Printing.{Writes};
 ghost use Rattle.bdb_tool.specs.Tasks.{IsFitTask};
 ghost use Rattle.bdb_tool.specs.WordsSeen.{request_seen};
 
@@ -16,12 +19,14 @@ use crate::building::{answer_load, answer_trial};
 use crate::command::{Lookup, Request, Selection};
 use crate::finish::{put, report, tell, tell_memory};
 use crate::salvaging::answer_salvage;
-use crate::status::{FAULT, NOT_FOUND, UNSUPPORTED};
+use crate::status::{FAULT, NOT_FOUND, UNSUPPORTED, WRITE_FAULT};
 use crate::task::Task;
-use crate::text::{fault_line, sound_line, unsupported_line};
-use bdb_file::{Found, Sound, verify};
+use crate::text::sound_line;
+use bdb_faults::{AllError, Named, NamedList};
+use bdb_file::{Found, Sound, verify, verify_all};
 use bdb_io::Sink;
-use bdb_model::{Bytes, Fault, Steps, Unsupported, Verdict};
+use bdb_lines::{Room, tell_all, tell_one};
+use bdb_model::{Bytes, Steps, Verdict};
 use bdb_printing::{Cut, write_found, write_list, write_section, write_sections};
 use bdb_text::{SpellError, read_spelling};
 use std::alloc::{AllocError, Global};
@@ -184,39 +189,89 @@ fn answer_sound<K: Sink, E: Sink, L: Ledger>(
     }
 }
 
-/// Tells a fault.
-fn tell_fault<E: Sink>(alloc: Global, fault: Fault, err: &mut E) -> u8
-    ensures { Tells (fault_line fault) 1 (change E.written E.faults err.old err.new) result ⊎ Tells memory_line 7 (change E.written E.faults err.old err.new) result }
+/// The status that the first of what is told gives.
+fn status_of(first: Named) -> u8
+    ensures { result ≡ judgement_status (judgement_seen first) }
 {
-    match fault_line(alloc, fault) {
-        Ok(line) => tell(err, line.as_bytes(), FAULT),
-        Err(_) => tell_memory(err),
+    match first {
+        Named::Fault(_) => FAULT,
+        Named::Unsupported(..) => UNSUPPORTED,
     }
 }
 
-/// Tells a case that is left out, at this page.
-fn tell_unsupported<E: Sink>(alloc: Global, name: Unsupported, page: u32, err: &mut E) -> u8
-    ensures { Tells (unsupported_line name page) 3 (change E.written E.faults err.old err.new) result ⊎ Tells memory_line 7 (change E.written E.faults err.old err.new) result }
+/// Tells what holds at a page.
+#[tactic(auto, using(crate::proofs::TellingLemmas::told_whole, crate::proofs::TellingLemmas::told_in_part))]
+fn tell_named<E: Sink>(alloc: Global, named: Named, err: &mut E) -> u8
+    ensures { Tells (judgement_line (judgement_seen named)) (judgement_status (judgement_seen named)) (change E.written E.faults err.old err.new) result
+        ⊎ Tells memory_line 7 (change E.written E.faults err.old err.new) result }
 {
-    match unsupported_line(alloc, name, page) {
-        Ok(line) => tell(err, line.as_bytes(), UNSUPPORTED),
-        Err(_) => tell_memory(err),
+    let Ok(mut room) = Room::new(alloc) else {
+        return tell_memory(err);
+    };
+    match tell_one(err, &mut room, named) {
+        Ok(()) => status_of(named),
+        Err(_) => WRITE_FAULT,
     }
 }
 
-/// Tells why a file isn't sound.
+/// Tells all that holds at the pages of a file, of which there is one thing at least.
+#[tactic(auto, using(crate::proofs::TellingLemmas::told_whole, crate::proofs::TellingLemmas::told_in_part))]
+fn tell_list<E: Sink>(alloc: Global, all: &NamedList, err: &mut E) -> u8
+    requires { 0 < length all.now }
+    ensures { Tells (judgements_text all.now) (first_status all.now) (change E.written E.faults err.old err.new) result
+        ⊎ Tells memory_line 7 (change E.written E.faults err.old err.new) result }
+{
+    let Ok(mut room) = Room::new(alloc) else {
+        return tell_memory(err);
+    };
+    match tell_all(err, &mut room, all) {
+        Ok(()) => status_of_first(all),
+        Err(_) => WRITE_FAULT,
+    }
+}
+
+/// The status that the first of a list gives.
+fn status_of_first(all: &NamedList) -> u8
+    requires { 0 < length all.now }
+    ensures { result ≡ first_status all.now }
+{
+    match all.get(0) {
+        Some(first) => status_of(first),
+        None => unreachable!(),
+    }
+}
+
+/// Tells why a file isn't sound: the first that holds.
 fn refuse<E: Sink>(alloc: Global, verdict: Verdict, err: &mut E) -> u8
     ensures { IsRefused verdict (change E.written E.faults err.old err.new) result }
 {
     match verdict {
-        Verdict::Fault(fault) => tell_fault(alloc, fault, err),
-        Verdict::Unsupported(name, page) => tell_unsupported(alloc, name, page, err),
+        Verdict::Fault(fault) => tell_named(alloc, Named::Fault(fault), err),
+        Verdict::Unsupported(name, page) => tell_named(alloc, Named::Unsupported(name, page), err),
         Verdict::Memory => tell_memory(err),
     }
 }
 
-/// Answers what is asked of a file.
-fn answer_file<K: Sink, E: Sink, L: Ledger>(
+/// Answers `verify`: all that holds is told.
+fn answer_verify<K: Sink, E: Sink, L: Ledger>(
+    alloc: Global,
+    image: &[u8],
+    out: &mut K,
+    err: &mut E,
+    steps: &mut Steps<L>,
+) -> u8
+    requires { length image.now ≤ 2 ^ 30 }
+    ensures { Finishes (verified (faults_of image.now) image.now) (change K.written K.faults out.old out.new) (change E.written E.faults err.old err.new) result }
+{
+    match verify_all(alloc, image, steps) {
+        Ok(sound) => report(print_sound(alloc, &sound, out), err),
+        Err(AllError::Faults(all)) => tell_list(alloc, &all, err),
+        Err(AllError::Memory) => tell_memory(err),
+    }
+}
+
+/// Answers what else is asked of a file: of one that isn't sound the first that holds is told.
+fn answer_by_verdict<K: Sink, E: Sink, L: Ledger>(
     alloc: Global,
     image: &[u8],
     request: &Request<'_>,
@@ -231,6 +286,27 @@ fn answer_file<K: Sink, E: Sink, L: Ledger>(
     match verify(alloc, image, steps) {
         Ok(sound) => answer_sound(alloc, &sound, request, out, err, steps),
         Err(verdict) => refuse(alloc, verdict, err),
+    }
+}
+
+/// Answers what is asked of a file.
+fn answer_file<K: Sink, E: Sink, L: Ledger>(
+    alloc: Global,
+    image: &[u8],
+    request: &Request<'_>,
+    out: &mut K,
+    err: &mut E,
+    steps: &mut Steps<L>,
+) -> u8
+    requires size { length image.now ≤ 2 ^ 30 }
+    requires seen { IsTrue (is_some (request_seen request.now)) }
+    ensures { (asked : ModelRequest) → request_seen request.now ≡ Some asked → Finishes (asked_answer asked image.now) (change K.written K.faults out.old out.new) (change E.written E.faults err.old err.new) result }
+{
+    match request {
+        Request::Verify => answer_verify(alloc, image, out, err, steps),
+        Request::List | Request::Get(_) | Request::Dump(_) => {
+            answer_by_verdict(alloc, image, request, out, err, steps)
+        }
     }
 }
 

@@ -2,7 +2,7 @@ ghost use Rattle.std.specs.Prelude.{◌≢◌};
 ghost use Rattle.bdb_model.specs.Change.{change};
 ghost use Rattle.bdb_model.specs.Lines.{memory_line};
 ghost use Rattle.bdb_tool.specs.Parts.{Reports, Tells};
-ghost use Rattle.bdb_printing.specs.Printing.{Writes};
+ghost use Rattle.bdb_lines.specs.Printing.{Writes};
 
 use crate::status::{DONE, MEMORY, WRITE_FAULT};
 use bdb_io::{Sink, put_all};

@@ -7,7 +7,6 @@ mod command;
 mod finish;
 mod guesses;
 pub mod laws;
-mod names;
 mod options;
 mod program;
 mod salvaging;

@@ -1,17 +1,15 @@
 -- Texts that are printed one after another, and what is written of them.
-use Rattle.std.proofs.Common.{◌≡◌, ◌∙◌, ℕ, ◌+◌, ◌≤◌, Bool, true, false, List, [], ◌++◌, length, take, ap, sym, refl, subst, arith, inl, inr, append-nil}
+use Rattle.std.proofs.Common.{◌≡◌, ◌∙◌, ℕ, ◌+◌, ◌≤◌, List, [], ◌++◌, length, take, ap, sym, subst, arith, inl, inr, append-nil}
 use Rattle.std.specs.Prelude.{Option, Ok, Err, OnOk, Result}
 use Rattle.std.specs.Io.KnownBytes.{Appends}
 use Rattle.std.proofs.KnownBytes.{Appends-nil, Appends-trans}
 use Rattle.std.proofs.Math.Seq.{take-append_seam, take-append-add}
 use Rattle.std.proofs.lemmas.Bool.{cases_lt}
 use Rattle.std.proofs.lemmas.List.{append_assoc, take-append-le, take_all}
-use Rattle.std.proofs.lemmas.Grind.{flat_map-append}
 use Rattle.bdb_model.specs.Change.{Change, GainsPart}
 use Rattle.bdb_model.specs.Faults.{AppendsPrefix, Rose}
-use Rattle.bdb_model.specs.TextSpelling.{spelling, printed, two_digits}
-use Rattle.bdb_printing.specs.declared.printing.Cut.{Cut}
-use Rattle.bdb_printing.specs.Printing.{IsCutOff, IsOnItsWay, Prints, Writes}
+use Rattle.bdb_lines.specs.declared.cut.Cut.{Cut}
+use Rattle.bdb_lines.specs.Printing.{IsCutOff, IsOnItsWay, Prints, Writes}
 
 abbrev pub moved : Option (List ℕ) → Option (List ℕ) → ℕ → ℕ → Change
 moved before now faults_before faults_now = record { before = before; now = now; faults_before = faults_before; faults_now = faults_now }
@@ -96,18 +94,6 @@ cut_before out before now mid one two cut first = record {
 pub begins_cut : (out : Change) (before now mid one two : List ℕ) (given result : Result Unit Cut) (cut : Cut) → given ≡ Err cut → result ≡ Err cut → Prints before mid one out given → Prints before now (one ++ two) out result
 begins_cut out before now mid one two given result cut was is printed =
     subst (λ r. Prints before now (one ++ two) out r) (sym is) (cut_before out before now mid one two cut (subst (λ r. Prints before mid one out r) was printed))
-
--- Spellings.
-
-pub spelling_of_both : (prints : Bool) (xs ys : List ℕ) → spelling prints (xs ++ ys) ≡ spelling prints xs ++ spelling prints ys
-unfolding spelling
-spelling_of_both true xs ys = flat_map-append printed xs ys
-spelling_of_both false xs ys = flat_map-append two_digits xs ys
-
-pub spelling_none : (prints : Bool) → spelling prints [] ≡ []
-unfolding spelling
-spelling_none true = refl
-spelling_none false = refl
 
 -- The whole of a text.
 

@@ -1,8 +1,8 @@
 use Rattle.std.proofs.Common.{◌≡◌, [], arith, inl, inr, refl, subst, sym}
 use Rattle.std.proofs.lemmas.Bool.{cases_lt}
 use Rattle.bdb_model.specs.FaultNames.{form_names, numbered_name}
-use Rattle.bdb_writing.proofs.NameLemmas.{beyond_names}
-use Rattle.bdb_tool.proofs.names.form_name.Goals as goal
+use Rattle.bdb_lines.proofs.NameLemmas.{beyond_names}
+use Rattle.bdb_lines.proofs.names.form_name.Goals as goal
 
 pub returns-in_default : goal.returns-in_default
 returns-in_default c =

@@ -1,8 +1,8 @@
 -- A text on its way to the output: some of it is written, and the rest is pending.
 use Rattle.std.specs.Prelude.{◌≡◌, ◌≤◌, ℕ, List, [], ◌++◌, Result, MatchResult}
 use Rattle.bdb_model.specs.Change.{Change, Gains, GainsPart, HasFailed}
-use Rattle.bdb_printing.specs.declared.printing.Cut.{Cut}
-use Rattle.bdb_printing.specs.declared.printing.Cut.TheVariants.{WriteFault}
+use Rattle.bdb_lines.specs.declared.cut.Cut.{Cut}
+use Rattle.bdb_lines.specs.declared.cut.Cut.TheVariants.{WriteFault}
 
 -- what was written, and what is pending now, are what was pending before, and the text
 pub record IsOnItsWay (before now text : List ℕ) (out : Change) : Type 0 where

@@ -1,5 +1,5 @@
 use Rattle.bdb_tool.proofs.AnswerLemmas.{refused_finishes, sound_finishes}
-use Rattle.bdb_tool.proofs.answer.answer_file.Goals as goal
+use Rattle.bdb_tool.proofs.answer.answer_by_verdict.Goals as goal
 
 pub returns-in-Err : goal.returns-in-Err
 returns-in-Err g c = λ asked is. refused_finishes c.in-Err.verdict asked _ _ _ _ _ c.in-Err.ensures.refusal c.refuse.ensures

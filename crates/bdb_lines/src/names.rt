@@ -4,7 +4,7 @@ ghost use Rattle.bdb_model.specs.FaultNames.{contents_names, fault_name, file_na
 use bdb_model::{Fault, Unsupported};
 
 /// The name of a row of stage 1.
-#[tactic(auto, using(bdb_writing::proofs::NameLemmas::beyond_names))]
+#[tactic(auto, using(crate::proofs::NameLemmas::beyond_names))]
 fn file_name(code: u8) -> &'static str
     ensures { result.now ≡ numbered_name file_names code }
 {
@@ -26,7 +26,7 @@ fn file_name(code: u8) -> &'static str
 }
 
 /// The name of a row of stage 2.
-#[tactic(auto, using(bdb_writing::proofs::NameLemmas::beyond_names))]
+#[tactic(auto, using(crate::proofs::NameLemmas::beyond_names))]
 fn form_name(code: u8) -> &'static str
     ensures { result.now ≡ numbered_name form_names code }
 {
@@ -61,7 +61,7 @@ fn form_name(code: u8) -> &'static str
 }
 
 /// The name of a row of stage 3.
-#[tactic(auto, using(bdb_writing::proofs::NameLemmas::beyond_names))]
+#[tactic(auto, using(crate::proofs::NameLemmas::beyond_names))]
 fn reference_name(code: u8) -> &'static str
     ensures { result.now ≡ numbered_name reference_names code }
 {
@@ -75,7 +75,7 @@ fn reference_name(code: u8) -> &'static str
 }
 
 /// The name of a row of stage 4.
-#[tactic(auto, using(bdb_writing::proofs::NameLemmas::beyond_names))]
+#[tactic(auto, using(crate::proofs::NameLemmas::beyond_names))]
 fn ownership_name(code: u8) -> &'static str
     ensures { result.now ≡ numbered_name ownership_names code }
 {
@@ -87,7 +87,7 @@ fn ownership_name(code: u8) -> &'static str
 }
 
 /// The name of a row of stage 5.
-#[tactic(auto, using(bdb_writing::proofs::NameLemmas::beyond_names))]
+#[tactic(auto, using(crate::proofs::NameLemmas::beyond_names))]
 fn reach_name(code: u8) -> &'static str
     ensures { result.now ≡ numbered_name reach_names code }
 {
@@ -98,7 +98,7 @@ fn reach_name(code: u8) -> &'static str
 }
 
 /// The name of a row of stage 6.
-#[tactic(auto, using(bdb_writing::proofs::NameLemmas::beyond_names))]
+#[tactic(auto, using(crate::proofs::NameLemmas::beyond_names))]
 fn structure_name(code: u8) -> &'static str
     ensures { result.now ≡ numbered_name structure_names code }
 {
@@ -111,7 +111,7 @@ fn structure_name(code: u8) -> &'static str
 }
 
 /// The name of a row of stage 7.
-#[tactic(auto, using(bdb_writing::proofs::NameLemmas::beyond_names))]
+#[tactic(auto, using(crate::proofs::NameLemmas::beyond_names))]
 fn master_name(code: u8) -> &'static str
     ensures { result.now ≡ numbered_name master_names code }
 {
@@ -126,7 +126,7 @@ fn master_name(code: u8) -> &'static str
 }
 
 /// The name of a row of stage 8.
-#[tactic(auto, using(bdb_writing::proofs::NameLemmas::beyond_names))]
+#[tactic(auto, using(crate::proofs::NameLemmas::beyond_names))]
 fn contents_name(code: u8) -> &'static str
     ensures { result.now ≡ numbered_name contents_names code }
 {

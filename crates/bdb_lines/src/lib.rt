@@ -1,0 +1,14 @@
+//! Texts on their way to a sink, and the lines by which faults are told.
+#![tactic(auto)]
+
+mod cut;
+mod digits;
+mod line;
+mod names;
+mod printer;
+mod room;
+mod telling;
+
+pub use cut::Cut;
+pub use room::Room;
+pub use telling::{tell_all, tell_one};

@@ -1,0 +1,105 @@
+-- What holds at the pages of a file is told.
+use Rattle.std.proofs.Common.{◌≡◌, ◌∙◌, ℕ, ◌<◌, List, [], ◌∷◌, length, map, inl, inr, refl, sym, subst, arith, ◌⊎◌}
+use Rattle.std.specs.Prelude.{Option, Ok, Err, Result}
+use Rattle.bdb_faults.specs.All.{IsAllOf}
+use Rattle.bdb_faults.specs.declared.named.AllError.TheVariants.{Faults}
+use Rattle.bdb_format.specs.declared.kinds.Fault.{Fault}
+use Rattle.bdb_lines.specs.Printing.{Writes}
+use Rattle.bdb_lines.specs.Telling.{judgement_status, judgements_text}
+use Rattle.bdb_lines.specs.declared.cut.Cut.{Cut}
+use Rattle.bdb_lines.specs.declared.cut.Cut.TheVariants.{WriteFault}
+use Rattle.bdb_lines.proofs.PrintingLemmas.{moved}
+use Rattle.bdb_model.specs.Answers.{judged_answer}
+use Rattle.bdb_model.specs.Change.{Change}
+use Rattle.bdb_model.specs.Command.{Dump, Get, ListAll, Request, Verify}
+use Rattle.bdb_model.specs.Lines.{memory_line}
+use Rattle.bdb_model.specs.Verdict.{Faulty, Judgement, LeftOut, faults_of, judgement_of, verdict_of}
+use Rattle.bdb_tool.specs.Outputs.{asked_answer, first_status, verified}
+use Rattle.bdb_tool.specs.Parts.{Finishes, HasOwnStatus, Tells}
+use Rattle.bdb_tool.proofs.AnswerLemmas.{answer_own, low_own}
+use Rattle.bdb_tool.proofs.FinishLemmas.{memory_finishes, told_finishes}
+
+-- Statuses.
+
+low_status : (judgement : Judgement) → (judgement_status judgement ≡ 1) ⊎ (judgement_status judgement ≡ 3)
+low_status (Faulty fault) = inl refl
+low_status (LeftOut name page) = inr refl
+
+pub not_write_fault : (judgement : Judgement) → judgement_status judgement ≡ 5 → ⊥
+not_write_fault judgement is = elim (low_status judgement) [ inl one ↦ omega arith | inr three ↦ omega arith ]
+
+pub list_not_write_fault : (judgements : List Judgement) → first_status judgements ≡ 5 → ⊥
+list_not_write_fault [] is = omega arith
+list_not_write_fault (judgement ∷ judgements) is = not_write_fault judgement is
+
+list_not_memory : (judgements : List Judgement) → first_status judgements ≡ 7 → ⊥
+list_not_memory [] is = omega arith
+list_not_memory (judgement ∷ judgements) is = elim (low_status judgement) [ inl one ↦ omega arith | inr three ↦ omega arith ]
+
+list_own : (judgements : List Judgement) → first_status judgements < 4
+list_own [] = omega arith
+list_own (judgement ∷ judgements) = elim (low_status judgement) [ inl one ↦ omega arith | inr three ↦ omega arith ]
+
+-- Lines.
+
+-- they were written whole
+pub told_whole : (text : List ℕ) (wanted status : ℕ) (err : Change) (result : Result Unit Cut) → result ≡ Ok tt → status ≡ wanted → (wanted ≡ 5 → ⊥) → Writes text err result
+    → Tells text wanted err status
+told_whole text wanted status err result was is own writes = record {
+  status_is = inl is;
+  told = λ _. (subst (Writes text err) was writes).written;
+  failed = λ five. absurd (own (sym is ∙ five));
+  part = λ five. absurd (own (sym is ∙ five));
+}
+
+-- they were cut off
+pub told_in_part : (text : List ℕ) (wanted : ℕ) (err : Change) (result : Result Unit Cut) (cut : Cut) → result ≡ Err cut → cut ≡ WriteFault → (wanted ≡ 5 → ⊥) → Writes text err result
+    → Tells text wanted err 5
+told_in_part text wanted err result cut was cause own writes =
+    let writes_cut : Writes text err (Err cut) = subst (Writes text err) was writes in record {
+      status_is = inr refl;
+      told = λ is. absurd (own (sym is));
+      failed = λ _. writes_cut.written.cause cause;
+      part = λ _. writes_cut.written.part;
+    }
+
+-- `verify`.
+
+pub verified_own : (faults : List Fault) (image : List ℕ) → HasOwnStatus (verified faults image)
+verified_own [] image = low_own (verified [] image) (omega arith)
+verified_own (fault ∷ faults) image = low_own (verified (fault ∷ faults) image) (list_own (map judgement_of (fault ∷ faults)))
+
+pub asked_own : (request : Request) (image : List ℕ) → HasOwnStatus (asked_answer request image)
+asked_own Verify image = verified_own (faults_of image) image
+asked_own ListAll image = answer_own ListAll image
+asked_own (Get name key prints) image = answer_own (Get name key prints) image
+asked_own (Dump name prints) image = answer_own (Dump name prints) image
+
+-- a file without faults
+pub sound_verified : (faults : List Fault) (file image : List ℕ) (out err : Change) (status : ℕ) → faults ≡ [] → file ≡ image → Finishes (verified [] file) out err status
+    → Finishes (verified faults image) out err status
+sound_verified faults file image out err status none same finishes =
+    subst (λ (found : List Fault). Finishes (verified found image) out err status) (sym none)
+    (subst (λ (bytes : List ℕ). Finishes (verified [] bytes) out err status) same finishes)
+
+-- all faults were told
+pub faults_finish : (faults : List Fault) (image : List ℕ) (all : List Judgement) (written : Option (List ℕ)) (count : ℕ) (err : Change) (status : ℕ)
+    → (0 < length faults) × (all ≡ map judgement_of faults)
+    → (Tells (judgements_text all) (first_status all) err status ⊎ Tells memory_line 7 err status)
+    → Finishes (verified faults image) (moved written written count count) err status
+faults_finish [] image all written count err status are told = absurd (omega (arith, are.0))
+faults_finish (fault ∷ faults) image all written count err status are (inl tells) =
+    let list : List Judgement = map judgement_of (fault ∷ faults) in
+    told_finishes (first_status list) (judgements_text list) written count err status (list_not_write_fault list) (list_not_memory list)
+    (subst (λ (js : List Judgement). Tells (judgements_text js) (first_status js) err status) are.1 tells)
+faults_finish (fault ∷ faults) image all written count err status are (inr tells) =
+    memory_finishes (verified (fault ∷ faults) image) written count err status (verified_own (fault ∷ faults) image) tells
+
+-- What else is asked.
+
+pub asked_by_verdict : (request : Request) (image : List ℕ) (out err : Change) (status : ℕ) → (request ≡ Verify → ⊥)
+    → Finishes (judged_answer (verdict_of image) request image) out err status → Finishes (asked_answer request image) out err status
+asked_by_verdict Verify image out err status other finishes = absurd (other refl)
+asked_by_verdict ListAll image out err status other finishes = finishes
+asked_by_verdict (Get name key prints) image out err status other finishes = finishes
+asked_by_verdict (Dump name prints) image out err status other finishes = finishes
