@@ -12,7 +12,8 @@ ghost use Rattle.bdb_format.specs.Verdict.{structure_faults, IsFirstOf};
 
 use crate::bucket_pages;
 use crate::passed::{Passed, note_bucket};
-use crate::repeats::{note_again, note_strayed};
+use crate::repeats::note_again;
+use crate::strays::note_strayed;
 use crate::table::buckets;
 use bdb_faults::{FaultSink, First, NamedList};
 use bdb_format::{CheckError, HashMeta};
