@@ -1,26 +1,31 @@
 -- Pairs of a bucket whose keys have different hashes have different keys.
-use Rattle.std.proofs.Common.{◌≡◌, ◌≢◌, ℕ, ◌+◌, ◌<◌, false, List, [], ◌∷◌, map, length, arith, refl, sym, ◌∙◌, ap, subst}
+use Rattle.std.proofs.Common.{◌≡◌, ◌≢◌, ℕ, zero, suc, ◌+◌, ◌-◌, ◌<◌, ◌≤◌, Bool, true, false, not, ◌&&◌, List, [], ◌∷◌, ◌++◌, map, length, get_or, arith, refl, sym, ◌∙◌, ap, subst}
 use Rattle.std.specs.Prelude.{nat_eq, slice_index}
-use Rattle.std.specs.List.{AllPairs, Contains, IsDistinct}
+use Rattle.std.specs.BTreeSet.{BTreeSet}
+use Rattle.std.specs.List.{AllPairs, Contains, IsDistinct, flat_map, range_with_len}
 use Rattle.std.specs.List.Sorted.{IsPermutation, IsSorted, IsStrictlyIncreasing}
 use Rattle.std.specs.Ordering.{nat_cmp}
 use Rattle.std.specs.Str.{bytes_eq}
 use Rattle.std.proofs.lemmas.Bool.{eqb-false, eqb-true, eq-eqb, or_from}
-use Rattle.std.proofs.lemmas.List.Elements.{All-contains, All-from_recursion}
+use Rattle.std.proofs.lemmas.List.{map-append}
+use Rattle.std.proofs.lemmas.List.Elements.{All-contains, All-from_recursion, recursion_from_All}
 use Rattle.std.proofs.lemmas.List.Kept.{AllPairs-from_increasing}
 use Rattle.std.proofs.lemmas.List.Sorted.{IsPermutation-sym}
 use Rattle.std.proofs.lemmas.Map.Keys.{IsDistinct-IsPermutation}
 use Rattle.std.proofs.lemmas.Map.Made.{IsDistinct-from_AllPairs}
+use Rattle.bdb_faults.specs.Notes.{Notes}
 use Rattle.bdb_format.specs.declared.kinds.Fault.{Fault}
-use Rattle.bdb_format.specs.Contents.{StoredPair}
+use Rattle.bdb_format.specs.declared.metadata.HashMeta.{HashMeta}
+use Rattle.bdb_format.specs.Contents.{StoredPair, bucket_pages}
+use Rattle.bdb_format.specs.File.{file_of}
 use Rattle.bdb_format.specs.Hashing.{hash5}
 use Rattle.bdb_format.proofs.MemberLemmas.{first_member, in_map, later_member, of_map}
 use Rattle.bdb_format.proofs.RepeatLemmas.{repeated_after, repeated_is}
-use Rattle.bdb_faults.specs.Notes.{Notes}
 use Rattle.bdb_hash.specs.Noted.{repeat_fault, repeat_faults, stored}
-use Rattle.bdb_hash.specs.Passed.{key_hash}
-use Rattle.bdb_hash.specs.Told.{Told}
+use Rattle.bdb_hash.specs.Passed.{is_among, is_missed, key_hash}
+use Rattle.bdb_hash.specs.Told.{Told, bucket_told, joined_pages, page_told}
 use Rattle.bdb_hash.proofs.RepeatLemmas.{has_same}
+use Rattle.bdb_hash.proofs.TableLemmas.{told_more}
 use Rattle.bdb_overflow.proofs.KeyLemmas.{eq_same, not_true}
 use Rattle.bdb_faults.proofs.SinkLemmas.{notes_nothing}
 
@@ -34,6 +39,70 @@ sorted_apart old new moved sorted apart =
     let all : AllPairs (λ x y. x ≢ y) new = λ i j d low high same. omega (arith, AllPairs-from_increasing new rises i j d low high, same) in
     IsDistinct-IsPermutation nat_eq (λ x y. grind arith) new old (IsPermutation-sym old new moved)
     (IsDistinct-from_AllPairs {eq = nat_eq} (λ a b. (eqb-true a b, eq-eqb a b)) new all)
+
+-- Numbers that are apart but for those that are among others.
+
+same_default : (xs : List ℕ) (k d e : ℕ) → k < length xs → get_or xs k d ≡ get_or xs k e
+same_default [] k d e low = absurd (omega (arith, low))
+same_default (x ∷ xs) zero d e low = refl
+same_default (x ∷ xs) (suc k) d e low = same_default xs k d e (omega arith)
+
+rising : (xs : List ℕ) (k : ℕ) → IsSorted nat_cmp xs → k + 1 < length xs → get_or xs k 0 ≤ get_or xs (k + 1) 0
+rising xs k sorted low = let order = sorted k 0 (omega arith) low in grind arith
+
+rising_to : (xs : List ℕ) (i n : ℕ) → IsSorted nat_cmp xs → i + n < length xs → get_or xs i 0 ≤ get_or xs (i + n) 0
+rising_to xs i zero sorted low = let same : i + 0 ≡ i = omega arith in subst (λ k. get_or xs i 0 ≤ get_or xs k 0) (sym same) (omega arith)
+rising_to xs i (suc n) sorted low =
+    let here = rising_to xs i n sorted (omega arith) in
+    let next = rising xs (i + n) sorted (omega arith) in
+    let same : i + n + 1 ≡ i + suc n = omega arith in
+    subst (λ k. get_or xs i 0 ≤ get_or xs k 0) same (omega (arith, here, next))
+
+distinct_from : (e : ℕ → ℕ → Bool) (xs : List ℕ) → AllPairs (λ x y. e x y ≡ false) xs → IsDistinct e xs
+unfolding IsDistinct
+distinct_from e [] all = tt
+distinct_from e (x ∷ xs) all = (
+  recursion_from_All (λ y. e x y ≡ false) xs (λ k d low. all 0 (suc k) d (omega arith) (omega arith)),
+  distinct_from e xs (λ i j d low high. all (suc i) (suc j) d (omega arith) (omega arith)),
+)
+
+not_missed : (twice : BTreeSet ℕ) (a b : ℕ) → (a ≡ b → is_among twice a ≡ true) → is_missed twice a b ≡ false
+not_missed twice a b has = neither (nat_eq a b) (is_among twice a) (λ same. has (eqb-true a b same))
+  where
+    neither : (x y : Bool) → (x ≡ true → y ≡ true) → (x && not y) ≡ false
+    neither true true has = refl
+    neither true false has = absurd (let no : false ≡ true = has refl in cc)
+    neither false y has = refl
+
+missed_flips : (twice : BTreeSet ℕ) (a b : ℕ) → is_missed twice a b ≡ is_missed twice b a
+missed_flips twice a b = grind (arith, eqb-true a b, eqb-true b a, eq-eqb a b, eq-eqb b a)
+
+-- sorted numbers of which those are among others that are the same as the next one
+pub sorted_missed : (old new : List ℕ) (twice : BTreeSet ℕ) → IsPermutation old new → IsSorted nat_cmp new
+    → ((k : ℕ) → k + 1 < length new → slice_index new k ≡ slice_index new (k + 1) → is_among twice (slice_index new k) ≡ true)
+    → IsDistinct (is_missed twice) old
+sorted_missed old new twice moved sorted each =
+    IsDistinct-IsPermutation (is_missed twice) (missed_flips twice) new old (IsPermutation-sym old new moved)
+    (distinct_from (is_missed twice) new (λ i j d low high.
+    rw (same_default new i d 0 (omega arith), same_default new j d 0 high)
+    (not_missed twice (get_or new i 0) (get_or new j 0) (λ same.
+    let n : ℕ = j - (i + 1) in
+    let place : i + 1 + n ≡ j = omega arith in
+    let first = rising new i sorted (omega arith) in
+    let later : get_or new (i + 1) 0 ≤ get_or new j 0 = subst (λ k. get_or new (i + 1) 0 ≤ get_or new k 0) place (rising_to new (i + 1) n sorted (omega arith)) in
+    each i (omega arith) (omega (arith, first, later, same))))))
+
+-- the hashes of one more bucket
+pub hashes_more : (image : List ℕ) (meta : HashMeta) (b : ℕ) (old new : List ℕ) (pages : List (List Told))
+    → old ≡ map key_hash (flat_map (bucket_told image meta) (range_with_len 0 b))
+    → pages ≡ map (page_told image) (bucket_pages (file_of image) meta b) → new ≡ old ++ map key_hash (joined_pages pages)
+    → new ≡ map key_hash (flat_map (bucket_told image meta) (range_with_len 0 (b + 1)))
+hashes_more image meta b old new pages done are is =
+    is
+    ∙ (ap (λ ps. old ++ map key_hash (joined_pages ps)) are
+    ∙ (ap (λ hs. hs ++ map key_hash (bucket_told image meta b)) done
+    ∙ (sym (map-append key_hash (flat_map (bucket_told image meta) (range_with_len 0 b)) (bucket_told image meta b))
+    ∙ ap (map key_hash) (sym (told_more image meta b)))))
 
 -- Pairs with other hashes.
 

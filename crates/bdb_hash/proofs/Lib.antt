@@ -2,6 +2,7 @@ pub mod BucketLemmas
 pub mod DataLemmas
 pub mod FaultLemmas
 pub mod HashedLemmas
+pub mod KeptLemmas
 pub mod LookupLemmas
 pub mod MaskLemmas
 pub mod NotedLemmas

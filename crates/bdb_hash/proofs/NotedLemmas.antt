@@ -1,7 +1,5 @@
 -- What is noted, one fault after another.
-use Rattle.std.proofs.Common.{◌≡◌, ℕ, Bool, true, false, List, [], ◌∷◌, ◌++◌, map, refl, sym, subst, append-nil, append_assoc}
-use Rattle.bdb_faults.specs.Notes.{Notes}
-use Rattle.bdb_format.specs.declared.kinds.Fault.{Fault}
+use Rattle.std.proofs.Common.{◌≡◌, ℕ, Bool, true, false, [], ◌∷◌, ◌++◌, map, refl}
 use Rattle.bdb_format.specs.Table.{◌:?◌}
 use Rattle.bdb_format.specs.Verdict.{holding}
 use Rattle.bdb_hash.specs.Noted.{fault_at, fault_if}

@@ -20,17 +20,15 @@ use Rattle.bdb_overflow.specs.Keys.{has_item, has_key, repeated_by}
 use Rattle.bdb_format.specs.declared.kinds.Fault.{Fault}
 use Rattle.bdb_format.specs.declared.metadata.HashMeta.{HashMeta}
 use Rattle.bdb_format.specs.ContentRows.{bucket_of_key, repeated}
-use Rattle.bdb_format.specs.Contents.{StoredPair, bucket_pages}
-use Rattle.bdb_format.specs.File.{file_of}
+use Rattle.bdb_format.specs.Contents.{StoredPair}
 use Rattle.bdb_format.proofs.MemberLemmas.{filter_step, first_member, later_member, member_cases, no_member, none_passes, of_flat_map, of_map, of_range}
 use Rattle.bdb_format.proofs.RepeatLemmas.{has_key as has_this, repeated_after, repeated_is}
 use Rattle.bdb_hash.specs.Noted.{fault_if, has_stray, has_stray_in, is_stray, repeat_fault, repeat_faults, stored}
 use Rattle.bdb_hash.specs.Passed.{AreKeysOf, IsNoting, NotesRepeats, behind, key_of}
-use Rattle.bdb_hash.specs.Told.{Told, bucket_told, joined_pages, page_told, table_told}
+use Rattle.bdb_hash.specs.Told.{Told, bucket_told, table_told}
 use Rattle.bdb_hash.specs.declared.noted.HashRow.TheVariants.{KeyTwice}
 use Rattle.bdb_overflow.proofs.KeyLemmas.{eq_same, not_true}
 use Rattle.bdb_hash.proofs.RowLemmas.{buckets_of}
-use Rattle.bdb_hash.proofs.TableLemmas.{told_more}
 use Rattle.bdb_faults.proofs.SinkLemmas.{notes_nothing, notes_then}
 
 -- Repeats after other pairs.
@@ -213,7 +211,7 @@ repeats_append seen (x ∷ xs) ys =
     rw (repeats_append (x ∷ seen) xs ys)
     (cond_append (has_item key_of seen x.key) x (repeated_by key_of (x ∷ seen) xs) (repeated_by key_of (behind (x ∷ seen) xs) ys))
 
-both_noted : (a b c : BTreeSet (List ℕ)) (before mid after : List Fault → Type 0) (xs ys : List Told) → NotesRepeats a b before mid xs
+pub both_noted : (a b c : BTreeSet (List ℕ)) (before mid after : List Fault → Type 0) (xs ys : List Told) → NotesRepeats a b before mid xs
     → NotesRepeats b c mid after ys → NotesRepeats a c before after (xs ++ ys)
 both_noted a b c before mid after xs ys first second = record {
   next = λ seen are.
@@ -255,7 +253,7 @@ all_noting old new before after all left noting none =
 
 -- What was noted after no pair.
 
-same_repeated : (seen pairs : List StoredPair) → repeated_by key_of seen pairs ≡ repeated_after seen pairs
+pub same_repeated : (seen pairs : List StoredPair) → repeated_by key_of seen pairs ≡ repeated_after seen pairs
 same_repeated seen [] = refl
 same_repeated seen (pair ∷ pairs) =
     ap (λ (ps : List StoredPair). cond (has_item key_of seen pair.key) (pair ∷ ps) ps) (same_repeated (pair ∷ seen) pairs)
@@ -265,14 +263,3 @@ pub noted_anew : (empty keys : BTreeSet (List ℕ)) (before after : List Fault �
 noted_anew empty keys before after pairs none notes =
     subst (λ (again : List StoredPair). Notes before after (map repeat_fault again)) (same_repeated [] (stored pairs) ∙ sym (repeated_is (stored pairs)))
     (notes.next [] (λ sought. rw none refl)).1
-
--- the pairs of one more bucket noted with those before
-pub table_more : (image : List ℕ) (meta : HashMeta) (b : ℕ) (old now new : BTreeSet (List ℕ)) (before mid after : List Fault → Type 0)
-    (pages : List (List Told))
-    → NotesRepeats old now before mid (flat_map (bucket_told image meta) (range_with_len 0 b))
-    → pages ≡ map (page_told image) (bucket_pages (file_of image) meta b) → NotesRepeats now new mid after (joined_pages pages)
-    → NotesRepeats old new before after (flat_map (bucket_told image meta) (range_with_len 0 (b + 1)))
-table_more image meta b old now new before mid after pages done are notes =
-    subst (NotesRepeats old new before after) (sym (told_more image meta b))
-    (both_noted old now new before mid after (flat_map (bucket_told image meta) (range_with_len 0 b)) (bucket_told image meta b) done
-    (subst (λ ps. NotesRepeats now new mid after (joined_pages ps)) are notes))

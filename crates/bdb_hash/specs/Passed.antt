@@ -1,6 +1,7 @@
 -- What is kept of the pairs of a table while their faults are noted.
-use Rattle.std.specs.Prelude.{◌≡◌, ℕ, ◌||◌, List, ◌∷◌, map, ◌++◌}
-use Rattle.std.specs.BTreeSet.{BTreeSet}
+use Rattle.std.specs.Prelude.{Bool, ◌≡◌, ℕ, ◌||◌, List, ◌∷◌, map, ◌++◌, nat_eq, not, ◌&&◌}
+use Rattle.std.specs.BTreeSet.{BTreeSet, contains}
+use Rattle.std.specs.Ordering.{nat_cmp}
 use Rattle.std.specs.List.{flat_map, fold, list_any}
 use Rattle.bdb_faults.specs.Notes.{Notes}
 use Rattle.bdb_overflow.specs.Keys.{has_item, has_key, repeated_by}
@@ -49,3 +50,15 @@ pub record IsNoting (old new : BTreeSet (List ℕ)) (before after : List Fault �
   pub done : List Told
   pub whole : all ≡ done ++ left
   pub notes : NotesRepeats old new before after done
+
+-- this number is among these
+abbrev pub is_among : BTreeSet ℕ → ℕ → Bool
+is_among numbers n = contains nat_cmp numbers n
+
+-- two numbers are the same, and not among these
+abbrev pub is_missed : BTreeSet ℕ → ℕ → ℕ → Bool
+is_missed numbers a b = nat_eq a b && not (is_among numbers a)
+
+-- the hash of a pair's key is among these
+abbrev pub is_kept : BTreeSet ℕ → Told → Bool
+is_kept numbers told = is_among numbers (key_hash told)

@@ -12,7 +12,8 @@ ghost use Rattle.bdb_format.specs.Verdict.{structure_faults, IsFirstOf};
 
 use crate::bucket_pages;
 use crate::passed::{Passed, note_bucket};
-use crate::repeats::{note_again, note_strayed};
+use crate::repeats::note_again;
+use crate::strays::note_strayed;
 use crate::table::buckets;
 use bdb_faults::{FaultSink, First, NamedList};
 use bdb_format::{CheckError, HashMeta};
@@ -66,8 +67,9 @@ pub fn note_contents<F: FaultSink>(
 }
 
 /// No row of contents holds for the table of this metadata. A refusal is the first fault: the least page,
-/// and there the least code; or want of memory. It takes four bytes for each pair of the largest bucket,
-/// memory for the keys of a bucket where two of them have one hash, and for all keys where a pair isn't in the bucket of its key.
+/// and there the least code; or want of memory. It takes four bytes for each pair of the largest bucket, and memory for
+/// the keys of a bucket where two of them have one hash. Where a pair isn't in the bucket of its key it takes these for
+/// the whole table: four bytes for each pair, and memory for the keys whose hash another key has.
 pub fn check(alloc: Global, linked: &Linked<'_>, meta: &HashMeta) -> Result<(), CheckError>
     requires meta { HasMetadata (file_of linked.now) (HashFields meta.now) }
     requires stage { structure_faults (file_of linked.now) ≡ [] }

@@ -4,6 +4,7 @@
 mod bucket;
 mod contents;
 mod data;
+mod hashes;
 mod key;
 mod listing;
 mod lookup;
@@ -16,6 +17,7 @@ mod ranked;
 mod ranking;
 mod repeats;
 mod rows;
+mod strays;
 mod table;
 
 pub(crate) use bucket::{BucketPages, bucket_pages};

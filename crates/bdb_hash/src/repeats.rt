@@ -1,25 +1,18 @@
 ghost use Rattle.std.specs.Prelude.{◌≡◌, ◌∷◌, [], OnOk, false, map, nat_eq};
 ghost use Rattle.std.specs.List.{IsDistinct};
 ghost use Rattle.bdb_faults.specs.Notes.{Notes};
-ghost use Rattle.bdb_graph.specs.Linked.{HasMetadata};
-ghost use Rattle.bdb_hash.specs.Noted.{repeat_faults, stray_faults};
+ghost use Rattle.bdb_hash.specs.Noted.{repeat_faults};
 ghost use Rattle.bdb_hash.specs.Passed.{NotesRepeats, key_hash};
-ghost use Rattle.bdb_hash.specs.Told.{joined_pages, table_told};
-ghost use Rattle.bdb_format.specs.File.{file_of};
-ghost use Rattle.bdb_format.specs.Page.{HashFields};
-ghost use Rattle.bdb_format.specs.Verdict.{structure_faults};
+ghost use Rattle.bdb_hash.specs.Told.{joined_pages};
 
 use crate::noted::{HashRow, note_if};
-use crate::table::buckets;
-use crate::{BucketPages, PagePairs, Pair, bucket_pages};
+use crate::{BucketPages, PagePairs, Pair};
 use bdb_faults::FaultSink;
-use bdb_format::HashMeta;
-use bdb_graph::Linked;
 use bdb_overflow::Keys;
 use std::alloc::{AllocError, Global};
 
 /// Notes a pair whose key is among these, and adds its key. An error is want of memory.
-fn note_next<'a, F: FaultSink>(
+pub(crate) fn note_next<'a, F: FaultSink>(
     keys: &mut Keys<'a>,
     pair: &Pair<'a>,
     found: &mut F,
@@ -89,44 +82,6 @@ pub(crate) fn note_again<F: FaultSink>(
     if has_twice(hashes) {
         let mut keys = Keys::new(alloc);
         note_bucket(&mut keys, pages, found)?;
-    }
-    Ok(())
-}
-
-/// Notes the pairs of a table that have the key of an earlier one. It takes memory for the keys of the whole table; an
-/// error is want of it, or the sink's.
-#[tactic(auto, using(crate::proofs::RepeatLemmas::noted_anew, crate::proofs::RepeatLemmas::none_noted, crate::proofs::RepeatLemmas::table_more))]
-fn note_whole<F: FaultSink>(
-    alloc: Global,
-    linked: &Linked<'_>,
-    meta: &HashMeta,
-    found: &mut F,
-) -> Result<(), AllocError>
-    requires meta { HasMetadata (file_of linked.now) (HashFields meta.now) }
-    requires stage { structure_faults (file_of linked.now) ≡ [] }
-    ensures { OnOk result (Notes (F.has_noted found.old) (F.has_noted found.new) (repeat_faults (table_told linked.now meta.now))) }
-{
-    let mut keys = Keys::new(alloc);
-    for b in 0..buckets(linked, meta) {
-        note_bucket(&mut keys, bucket_pages(linked, meta, b), found)?;
-    }
-    Ok(())
-}
-
-/// The same, where the table has a stray: else equal keys stand in one bucket, and none is looked for.
-pub(crate) fn note_strayed<F: FaultSink>(
-    alloc: Global,
-    linked: &Linked<'_>,
-    meta: &HashMeta,
-    has_stray: bool,
-    found: &mut F,
-) -> Result<(), AllocError>
-    requires meta { HasMetadata (file_of linked.now) (HashFields meta.now) }
-    requires stage { structure_faults (file_of linked.now) ≡ [] }
-    ensures { OnOk result (Notes (F.has_noted found.old) (F.has_noted found.new) (stray_faults linked.now meta.now has_stray)) }
-{
-    if has_stray {
-        note_whole(alloc, linked, meta, found)?;
     }
     Ok(())
 }

@@ -1,0 +1,133 @@
+-- Pairs whose hash no other pair has repeat no key, and need not be kept.
+use Rattle.std.proofs.Common.{◌≡◌, ℕ, ◌+◌, Bool, true, false, not, ◌&&◌, ◌||◌, cond, List, [], ◌∷◌, ◌++◌, map, refl, sym, ◌∙◌, ap, subst}
+use Rattle.std.specs.Prelude.{nat_eq}
+use Rattle.std.specs.BTreeSet.{BTreeSet, IsEmpty}
+use Rattle.std.specs.List.{Contains, IsDistinct, filter, flat_map, range_with_len}
+use Rattle.std.specs.Str.{bytes_eq}
+use Rattle.std.proofs.lemmas.Bool.{eq-eqb, or_from}
+use Rattle.std.proofs.lemmas.List.Elements.{All-contains, All-from_recursion, filter-append}
+use Rattle.bdb_faults.specs.Notes.{Notes}
+use Rattle.bdb_format.specs.declared.kinds.Fault.{Fault}
+use Rattle.bdb_format.specs.declared.metadata.HashMeta.{HashMeta}
+use Rattle.bdb_format.specs.Contents.{StoredPair, bucket_pages}
+use Rattle.bdb_format.specs.File.{file_of}
+use Rattle.bdb_format.specs.Hashing.{hash5}
+use Rattle.bdb_format.proofs.MemberLemmas.{first_member, in_map, later_member}
+use Rattle.bdb_format.proofs.RepeatLemmas.{has_key as has_this, repeated_after, repeated_is}
+use Rattle.bdb_hash.specs.Noted.{repeat_fault, repeat_faults, stored}
+use Rattle.bdb_hash.specs.Passed.{IsNoting, NotesRepeats, is_among, is_kept, is_missed, key_hash}
+use Rattle.bdb_hash.specs.Told.{Told, bucket_told, joined_pages, page_told}
+use Rattle.bdb_hash.proofs.RepeatLemmas.{all_noting, both_noted, more_noting, none_noting, noted_anew}
+use Rattle.bdb_hash.proofs.TableLemmas.{told_more}
+use Rattle.bdb_overflow.proofs.KeyLemmas.{eq_same, not_true}
+
+-- Going through the pairs.
+
+pub none_kept : (twice : BTreeSet ℕ) (keys : BTreeSet (List ℕ)) (before : List Fault → Type 0) (all : List Told)
+    → IsNoting keys keys before before (filter (is_kept twice) all) (filter (is_kept twice) all)
+none_kept twice keys before all = none_noting keys before (filter (is_kept twice) all)
+
+pub more_kept : (twice : BTreeSet ℕ) (old now next : BTreeSet (List ℕ)) (before mid after : List Fault → Type 0) (all left here rest : List Told)
+    → IsNoting old now before mid (filter (is_kept twice) all) (filter (is_kept twice) left) → left ≡ here ++ rest
+    → NotesRepeats now next mid after (filter (is_kept twice) here)
+    → IsNoting old next before after (filter (is_kept twice) all) (filter (is_kept twice) rest)
+more_kept twice old now next before mid after all left here rest noting is notes =
+    more_noting old now next before mid after (filter (is_kept twice) all) (filter (is_kept twice) left) (filter (is_kept twice) here)
+    (filter (is_kept twice) rest) noting (ap (filter (is_kept twice)) is ∙ filter-append (is_kept twice) here rest) notes
+
+pub one_kept : (twice : BTreeSet ℕ) (old now next : BTreeSet (List ℕ)) (before mid after : List Fault → Type 0) (all left rest : List Told) (t : Told)
+    → IsNoting old now before mid (filter (is_kept twice) all) (filter (is_kept twice) left) → left ≡ t ∷ rest
+    → NotesRepeats now next mid after (filter (is_kept twice) (t ∷ []))
+    → IsNoting old next before after (filter (is_kept twice) all) (filter (is_kept twice) rest)
+one_kept twice old now next before mid after all left rest t noting is notes =
+    more_kept twice old now next before mid after all left (t ∷ []) rest noting is notes
+
+pub all_kept : (twice : BTreeSet ℕ) (old new : BTreeSet (List ℕ)) (before after : List Fault → Type 0) (all left : List Told)
+    → IsNoting old new before after (filter (is_kept twice) all) (filter (is_kept twice) left) → left ≡ []
+    → NotesRepeats old new before after (filter (is_kept twice) all)
+all_kept twice old new before after all left noting none =
+    all_noting old new before after (filter (is_kept twice) all) (filter (is_kept twice) left) noting (ap (filter (is_kept twice)) none)
+
+-- one more bucket
+pub kept_more : (image : List ℕ) (meta : HashMeta) (twice : BTreeSet ℕ) (b : ℕ) (old now new : BTreeSet (List ℕ))
+    (before mid after : List Fault → Type 0) (pages : List (List Told))
+    → NotesRepeats old now before mid (filter (is_kept twice) (flat_map (bucket_told image meta) (range_with_len 0 b)))
+    → pages ≡ map (page_told image) (bucket_pages (file_of image) meta b)
+    → NotesRepeats now new mid after (filter (is_kept twice) (joined_pages pages))
+    → NotesRepeats old new before after (filter (is_kept twice) (flat_map (bucket_told image meta) (range_with_len 0 (b + 1))))
+kept_more image meta twice b old now new before mid after pages done are notes =
+    let earlier : List Told = flat_map (bucket_told image meta) (range_with_len 0 b) in
+    let here : List Told = bucket_told image meta b in
+    subst (NotesRepeats old new before after)
+    (sym (ap (filter (is_kept twice)) (told_more image meta b) ∙ filter-append (is_kept twice) earlier here))
+    (both_noted old now new before mid after (filter (is_kept twice) earlier) (filter (is_kept twice) here) done
+    (subst (λ ps. NotesRepeats now new mid after (filter (is_kept twice) (joined_pages ps))) are notes))
+
+-- What they repeat.
+
+-- pairs with one key are kept both or neither
+kept_alike : (twice : BTreeSet ℕ) (a b : List ℕ) → bytes_eq a b ≡ true → is_among twice (hash5 a) ≡ is_among twice (hash5 b)
+kept_alike twice a b same = ap (λ key. is_among twice (hash5 key)) (eq_same a b same)
+
+-- a pair that isn't kept has another hash than all later ones
+other_hash : (twice : BTreeSet ℕ) (t : Told) (ts : List Told) (u : Told) → IsDistinct (is_missed twice) (map key_hash (t ∷ ts))
+    → is_kept twice t ≡ false → Contains ts u → bytes_eq t.pair.key u.pair.key ≡ false
+unfolding IsDistinct
+other_hash twice t ts u apart lost at =
+    not_true (bytes_eq t.pair.key u.pair.key) (λ same.
+    let missed : is_missed twice (key_hash t) (key_hash u) ≡ false =
+    All-contains (λ n. is_missed twice (key_hash t) n ≡ false) (map key_hash ts) (key_hash u) (All-from_recursion _ (map key_hash ts) apart.0)
+    (in_map key_hash ts u at) in
+    let hashes : nat_eq (key_hash t) (key_hash u) ≡ true = eq-eqb (key_hash t) (key_hash u) (ap hash5 (eq_same t.pair.key u.pair.key same)) in
+    cannot (nat_eq (key_hash t) (key_hash u)) (is_kept twice t) hashes lost missed)
+  where
+    cannot : (x y : Bool) → x ≡ true → y ≡ false → (x && not y) ≡ false → ⊥
+    cannot true false p q r = absurd cc
+    cannot true true p q r = absurd cc
+    cannot false y p q r = absurd cc
+
+later_apart : (twice : BTreeSet ℕ) (t : Told) (ts : List Told) → IsDistinct (is_missed twice) (map key_hash (t ∷ ts))
+    → IsDistinct (is_missed twice) (map key_hash ts)
+unfolding IsDistinct
+later_apart twice t ts apart = apart.1
+
+same_or : (a b c : Bool) → b ≡ c → (a || b) ≡ (a || c)
+same_or a b c is = ap (λ x. a || x) is
+
+kept_repeats : (twice : BTreeSet ℕ) (seen kept : List StoredPair) (pairs : List Told) → IsDistinct (is_missed twice) (map key_hash pairs)
+    → ((u : Told) → Contains pairs u → is_kept twice u ≡ false → has_this u.pair.key seen ≡ false)
+    → ((key : List ℕ) → is_among twice (hash5 key) ≡ true → has_this key kept ≡ has_this key seen)
+    → repeated_after kept (stored (filter (is_kept twice) pairs)) ≡ repeated_after seen (stored pairs)
+kept_repeats twice seen kept [] apart new same = refl
+kept_repeats twice seen kept (t ∷ ts) apart new same =
+    elim (is_kept twice t) as (λ b. is_kept twice t ≡ b
+    → repeated_after kept (stored (cond b (t ∷ filter (is_kept twice) ts) (filter (is_kept twice) ts))) ≡ repeated_after seen (stored (t ∷ ts))) [
+      | true ↦ λ is. rw (
+        same t.pair.key is,
+        kept_repeats twice (t.pair ∷ seen) (t.pair ∷ kept) ts (later_apart twice t ts apart)
+            (λ u at lost. or_from (bytes_eq t.pair.key u.pair.key) (has_this u.pair.key seen)
+            (not_true (bytes_eq t.pair.key u.pair.key) (λ one.
+            let alike : is_among twice (hash5 t.pair.key) ≡ is_among twice (hash5 u.pair.key) = kept_alike twice t.pair.key u.pair.key one in cc))
+            (new u (later_member t ts u at) lost))
+            (λ key among. same_or (bytes_eq t.pair.key key) (has_this key kept) (has_this key seen) (same key among)),
+      ) refl
+      | false ↦ λ is. rw (
+        new t (first_member t ts) is,
+        kept_repeats twice (t.pair ∷ seen) kept ts (later_apart twice t ts apart)
+            (λ u at lost. or_from (bytes_eq t.pair.key u.pair.key) (has_this u.pair.key seen) (other_hash twice t ts u apart is at)
+            (new u (later_member t ts u at) lost))
+            (λ key among. same key among
+            ∙ ap (λ b. b || has_this key seen) (sym (not_true (bytes_eq t.pair.key key) (λ one.
+            let alike : is_among twice (hash5 t.pair.key) ≡ is_among twice (hash5 key) = kept_alike twice t.pair.key key one in cc)))),
+      ) refl
+    ] refl
+
+-- those that are kept repeat what all do
+pub kept_anew : (twice : BTreeSet ℕ) (empty keys : BTreeSet (List ℕ)) (before after : List Fault → Type 0) (pairs : List Told) → IsEmpty empty
+    → IsDistinct (is_missed twice) (map key_hash pairs) → NotesRepeats empty keys before after (filter (is_kept twice) pairs)
+    → Notes before after (repeat_faults pairs)
+kept_anew twice empty keys before after pairs none apart notes =
+    subst (λ (again : List StoredPair). Notes before after (map repeat_fault again))
+    (repeated_is (stored (filter (is_kept twice) pairs))
+    ∙ (kept_repeats twice [] [] pairs apart (λ u at lost. refl) (λ key among. refl) ∙ sym (repeated_is (stored pairs))))
+    (noted_anew empty keys before after (filter (is_kept twice) pairs) none notes)

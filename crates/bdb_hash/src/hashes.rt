@@ -1,0 +1,89 @@
+ghost use Rattle.std.specs.Prelude.{◌≡◌, ◌++◌, ℕ, [], IfOk, OnOk, map, true};
+ghost use Rattle.std.specs.BTreeSet.{BTreeSet};
+ghost use Rattle.std.specs.List.{IsDistinct};
+ghost use Rattle.bdb_graph.specs.Linked.{HasMetadata};
+ghost use Rattle.bdb_hash.specs.Passed.{is_among, is_missed, key_hash};
+ghost use Rattle.bdb_hash.specs.Told.{joined_pages, table_told};
+ghost use Rattle.bdb_format.specs.File.{file_of};
+ghost use Rattle.bdb_format.specs.Page.{HashFields};
+ghost use Rattle.bdb_format.specs.Verdict.{structure_faults};
+
+use crate::key::hash_of;
+use crate::table::buckets;
+use crate::{BucketPages, PagePairs, bucket_pages};
+use bdb_format::HashMeta;
+use bdb_graph::Linked;
+use std::alloc::{AllocError, Global};
+use std::collections::BTreeSet;
+
+/// Adds the hashes of the keys of a page.
+fn push_page(hashes: &mut Vec<u32>, page: PagePairs<'_>) -> Result<(), AllocError>
+    ensures { OnOk result (hashes.new.items ≡ hashes.old.items ++ map key_hash page.entry) }
+{
+    for pair in page {
+        hashes.push(hash_of(pair.key()))?;
+    }
+    Ok(())
+}
+
+/// Adds the hashes of the keys of the pages of a bucket.
+fn push_bucket(hashes: &mut Vec<u32>, pages: BucketPages<'_>) -> Result<(), AllocError>
+    ensures { OnOk result (hashes.new.items ≡ hashes.old.items ++ map key_hash (joined_pages pages.entry)) }
+{
+    for page in pages {
+        push_page(hashes, page)?;
+    }
+    Ok(())
+}
+
+/// The hashes of the keys of a table, four bytes each. An error is want of memory.
+#[tactic(auto, using(crate::proofs::HashedLemmas::hashes_more))]
+fn table_hashes(alloc: Global, linked: &Linked<'_>, meta: &HashMeta) -> Result<Vec<u32>, AllocError>
+    requires meta { HasMetadata (file_of linked.now) (HashFields meta.now) }
+    requires stage { structure_faults (file_of linked.now) ≡ [] }
+    ensures { IfOk result (λ hashes. hashes.items ≡ map key_hash (table_told linked.now meta.now)) }
+{
+    let mut hashes = Vec::new(alloc);
+    for b in 0..buckets(linked, meta) {
+        push_bucket(&mut hashes, bucket_pages(linked, meta, b))?;
+    }
+    Ok(hashes)
+}
+
+/// Adds a number where it is the one before it.
+fn push_same(twice: &mut BTreeSet<u32>, before: u32, number: u32) -> Result<(), AllocError>
+    ensures same { OnOk result (before ≡ number → is_among twice.new before ≡ true) }
+    ensures kept { OnOk result ((other : ℕ) → is_among twice.old other ≡ true → is_among twice.new other ≡ true) }
+{
+    if before == number {
+        twice.insert(number)?;
+    }
+    Ok(())
+}
+
+/// The numbers that are among these twice or more often. These are sorted for that; an error is want of memory for those.
+fn repeated_of(alloc: Global, numbers: &mut Vec<u32>) -> Result<BTreeSet<u32>, AllocError>
+    ensures { IfOk result (λ twice. IsDistinct (is_missed twice) numbers.old.items) }
+{
+    numbers.sort_unstable();
+    let mut twice = BTreeSet::new(alloc);
+    for i in 1..numbers.len() {
+        push_same(&mut twice, numbers[i - 1], numbers[i])?;
+    }
+    Ok(twice)
+}
+
+/// The hashes that more than one key of a table has. While it runs it takes four bytes for each pair; an error is want
+/// of memory.
+pub(crate) fn repeated_hashes(
+    alloc: Global,
+    linked: &Linked<'_>,
+    meta: &HashMeta,
+) -> Result<BTreeSet<u32>, AllocError>
+    requires meta { HasMetadata (file_of linked.now) (HashFields meta.now) }
+    requires stage { structure_faults (file_of linked.now) ≡ [] }
+    ensures { IfOk result (λ twice. IsDistinct (is_missed twice) (map key_hash (table_told linked.now meta.now))) }
+{
+    let mut hashes = table_hashes(alloc, linked, meta)?;
+    repeated_of(alloc, &mut hashes)
+}

@@ -1,0 +1,110 @@
+ghost use Rattle.std.specs.Prelude.{◌≡◌, ◌∷◌, [], OnOk, map};
+ghost use Rattle.std.specs.BTreeSet.{BTreeSet};
+ghost use Rattle.std.specs.List.{IsDistinct, filter};
+ghost use Rattle.bdb_faults.specs.Notes.{Notes};
+ghost use Rattle.bdb_graph.specs.Linked.{HasMetadata};
+ghost use Rattle.bdb_hash.specs.Noted.{repeat_faults, stray_faults};
+ghost use Rattle.bdb_hash.specs.Passed.{NotesRepeats, is_kept};
+ghost use Rattle.bdb_hash.specs.Told.{joined_pages, table_told};
+ghost use Rattle.bdb_format.specs.File.{file_of};
+ghost use Rattle.bdb_format.specs.Page.{HashFields};
+ghost use Rattle.bdb_format.specs.Verdict.{structure_faults};
+
+use crate::hashes::repeated_hashes;
+use crate::key::hash_of;
+use crate::repeats::note_next;
+use crate::table::buckets;
+use crate::{BucketPages, PagePairs, Pair, bucket_pages};
+use bdb_faults::FaultSink;
+use bdb_format::HashMeta;
+use bdb_graph::Linked;
+use bdb_overflow::Keys;
+use std::alloc::{AllocError, Global};
+use std::collections::BTreeSet;
+
+/// Notes a pair whose key there was, and adds its key, where its hash is among these.
+#[tactic(auto, using(crate::proofs::RepeatLemmas::none_noted))]
+fn note_kept<'a, F: FaultSink>(
+    keys: &mut Keys<'a>,
+    twice: &BTreeSet<u32>,
+    pair: &Pair<'a>,
+    found: &mut F,
+) -> Result<(), AllocError>
+    ensures { OnOk result (NotesRepeats keys.old keys.new (F.has_noted found.old) (F.has_noted found.new) (filter (is_kept twice.now) (pair.now ∷ []))) }
+{
+    if twice.contains(&hash_of(pair.key())) {
+        note_next(keys, pair, found)?;
+    }
+    Ok(())
+}
+
+/// The same, of the pairs of a page.
+#[tactic(auto, using(crate::proofs::KeptLemmas::all_kept, crate::proofs::KeptLemmas::none_kept, crate::proofs::KeptLemmas::one_kept))]
+fn note_page<'a, F: FaultSink>(
+    keys: &mut Keys<'a>,
+    twice: &BTreeSet<u32>,
+    page: PagePairs<'a>,
+    found: &mut F,
+) -> Result<(), AllocError>
+    ensures { OnOk result (NotesRepeats keys.old keys.new (F.has_noted found.old) (F.has_noted found.new) (filter (is_kept twice.now) page.entry)) }
+{
+    for pair in page {
+        note_kept(keys, twice, &pair, found)?;
+    }
+    Ok(())
+}
+
+/// The same, of the pairs of the pages of a bucket.
+#[tactic(auto, using(crate::proofs::KeptLemmas::all_kept, crate::proofs::KeptLemmas::more_kept, crate::proofs::KeptLemmas::none_kept))]
+fn note_bucket<'a, F: FaultSink>(
+    keys: &mut Keys<'a>,
+    twice: &BTreeSet<u32>,
+    pages: BucketPages<'a>,
+    found: &mut F,
+) -> Result<(), AllocError>
+    ensures { OnOk result (NotesRepeats keys.old keys.new (F.has_noted found.old) (F.has_noted found.new) (filter (is_kept twice.now) (joined_pages pages.entry))) }
+{
+    for page in pages {
+        note_page(keys, twice, page, found)?;
+    }
+    Ok(())
+}
+
+/// Notes the pairs of a table that have the key of an earlier one. It takes memory for the hashes of all keys, and for the
+/// keys whose hash another one has too; an error is want of it, or the sink's.
+#[tactic(auto, using(crate::proofs::KeptLemmas::kept_anew, crate::proofs::RepeatLemmas::none_noted, crate::proofs::KeptLemmas::kept_more))]
+fn note_whole<F: FaultSink>(
+    alloc: Global,
+    linked: &Linked<'_>,
+    meta: &HashMeta,
+    found: &mut F,
+) -> Result<(), AllocError>
+    requires meta { HasMetadata (file_of linked.now) (HashFields meta.now) }
+    requires stage { structure_faults (file_of linked.now) ≡ [] }
+    ensures { OnOk result (Notes (F.has_noted found.old) (F.has_noted found.new) (repeat_faults (table_told linked.now meta.now))) }
+{
+    let twice = repeated_hashes(alloc, linked, meta)?;
+    let mut keys = Keys::new(alloc);
+    for b in 0..buckets(linked, meta) {
+        note_bucket(&mut keys, &twice, bucket_pages(linked, meta, b), found)?;
+    }
+    Ok(())
+}
+
+/// The same, where the table has a stray: else equal keys stand in one bucket, and none is looked for.
+pub(crate) fn note_strayed<F: FaultSink>(
+    alloc: Global,
+    linked: &Linked<'_>,
+    meta: &HashMeta,
+    has_stray: bool,
+    found: &mut F,
+) -> Result<(), AllocError>
+    requires meta { HasMetadata (file_of linked.now) (HashFields meta.now) }
+    requires stage { structure_faults (file_of linked.now) ≡ [] }
+    ensures { OnOk result (Notes (F.has_noted found.old) (F.has_noted found.new) (stray_faults linked.now meta.now has_stray)) }
+{
+    if has_stray {
+        note_whole(alloc, linked, meta, found)?;
+    }
+    Ok(())
+}
