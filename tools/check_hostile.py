@@ -8,8 +8,10 @@ a generator that a seed fixes, each with one to four changes: bytes, numbers of 
 that are written over, exchanged, moved, cut off or added. Then
 
 - each run ends within a second for each megabyte of its input and output, and one at least, with a status that its command may have, and just the
-  output and the error line that go with it;
-- `list`, `get` and `dump` refuse what `verify` refuses, with its status and line, and nothing else;
+  output and the error lines that go with it;
+- each line of `verify` tells a fault, or a case that is left out, by its name in docs/FAULTS.md; the faults are of one stage and ascend by page and then by
+  code, each once; and the status is that of the first line;
+- `list`, `get` and `dump` refuse what `verify` refuses, with its status and the first of its lines, and nothing else;
 - what `verify` calls sound is dumped in either spelling, and, unless it has no database or a queue of empty records, loads to a file that is sound, and
   whose dump is the same text; a damaged text that loads does so too;
 - `salvage` without a guess answers with status 0 or 10, with a guess with status 0; its text loads to a sound file, unless that would be too large.
@@ -25,15 +27,15 @@ import re
 import subprocess
 import sys
 import time
+from typing import NamedTuple
 
 TOP = pathlib.Path(__file__).resolve().parent.parent
 MEGABYTE = 1_000_000
 MOST = 1 << 26
-FAULT = rb"fault: stage [1-8] page \d+ code \d+ [A-Za-z]+\n"
-UNSUPPORTED = rb"unsupported: [A-Za-z]+, page \d+\n"
+LONGEST_SHOWN = 400
+FAULT = re.compile(r"fault: stage (?P<stage>[1-8]) page (?P<page>0|[1-9]\d*) code (?P<code>[1-9]\d*) (?P<name>[A-Za-z]+)\n")
+UNSUPPORTED = re.compile(r"unsupported: (?P<name>[A-Za-z]+), page (?P<page>0|[1-9]\d*)\n")
 LINES = {
-    1: rb"(%s)+" % FAULT,
-    3: rb"(%s)+" % UNSUPPORTED,
     6: rb"image longer than \d+ bytes\n",
     8: rb"line \d+: (reason \d+|load error \d+) [A-Za-z]+\n",
     9: rb"not found\n",
@@ -49,13 +51,78 @@ ALLOWED = {
 }
 
 
+class Row(NamedTuple):
+    """A row of docs/FAULTS.md."""
+
+    stage: int
+    code: int
+    name: str
+    left_out: bool
+
+
+class Told(NamedTuple):
+    """What a line tells: a page, and the rows that it may mean."""
+
+    status: int
+    page: int
+    rows: frozenset
+
+
+def fault_rows():
+    """The rows of the tables of docs/FAULTS.md."""
+    stage = 0
+    for line in (TOP / "docs/FAULTS.md").read_text(encoding="utf-8").splitlines():
+        if line.startswith("## "):
+            heading = re.match(r"## Stage (\d)", line)
+            stage = int(heading[1]) if heading else 0
+        elif stage and (row := re.match(r"\| (\d+) \| (\w+) \|(.*)", line)):
+            yield Row(stage, int(row[1]), row[2], "left out: " in row[3])
+
+
+ROWS = frozenset(fault_rows())
+
+
+def told(line):
+    """What a line tells; none where it has another form, or no row has its name."""
+    if it := FAULT.fullmatch(line):
+        row = Row(int(it["stage"]), int(it["code"]), it["name"], False)
+        return Told(1, int(it["page"]), frozenset([row])) if row in ROWS else None
+    if it := UNSUPPORTED.fullmatch(line):
+        rows = frozenset(row for row in ROWS if row.left_out and row.name == it["name"])
+        return Told(3, int(it["page"]), rows) if rows else None
+    return None
+
+
+def refusal_wrong(status, lines):
+    """What is wrong with the lines on a file that isn't sound; none where nothing is."""
+    all_told = [told(line) for line in lines]
+    if not lines or None in all_told:
+        return "a line has another form"
+    if all_told[0].status != status:
+        return "the status isn't that of the first line"
+    stages = {row.stage for row in all_told[0].rows}
+    for it in all_told:
+        stages &= {row.stage for row in it.rows}
+    if len(stages) == 0:
+        return "the lines are of several stages"
+    if not any(ascends(all_told, stage) for stage in stages):
+        return "the lines don't ascend"
+    return None
+
+
+def ascends(all_told, stage):
+    """Whether lines of a stage ascend by page and then by code, each once."""
+    places = [(it.page, row.code) for it in all_told for row in it.rows if row.stage == stage]
+    return all(before < after for before, after in zip(places, places[1:]))
+
+
 class Runs:
     """What was run, and what was otherwise."""
 
     def __init__(self, program):
         self.program = program
         self.statuses = collections.Counter()
-        self.wrong = 0
+        self.wrong = self.faults = 0
         self.slowest = (0.0, "")
 
     def tell(self, name, why):
@@ -78,19 +145,27 @@ class Runs:
             self.tell(name, f"{words} took {seconds:.1f} s for {megabytes:.1f} MB")
         status, command = ran.returncode, words[0]
         self.statuses[command, status] += 1
-        if status not in ALLOWED[command]:
-            self.tell(name, f"{words} ended with {status}: {ran.stderr!r}")
-        elif status == 0 and ran.stderr:
-            self.tell(name, f"{words} ended with 0 and told {ran.stderr!r}")
-        elif status and (ran.stdout or not re.fullmatch(LINES[status], mixed(ran.stderr))):
-            self.tell(name, f"{words} ended with {status}, wrote {len(ran.stdout)} bytes and told {ran.stderr!r}")
+        if wrong := ending_wrong(command, status, ran):
+            self.tell(name, f"{words} ended with {status}, {wrong}: it wrote {len(ran.stdout)} bytes and told {ran.stderr[:LONGEST_SHOWN]!r}")
+        elif status in (1, 3):
+            self.faults += ran.stderr.count(b"\n")
         return ran
 
 
-def mixed(line):
-    """An error line; where several are told, those of one sort, that of the first."""
-    lines = line.splitlines(keepends=True)
-    return b"".join(it for it in lines if it.split(b":")[0] == lines[0].split(b":")[0])
+def ending_wrong(command, status, ran):
+    """What is wrong with how a run ended; none where nothing is."""
+    if status not in ALLOWED[command]:
+        return "a status that isn't its command's"
+    if status == 0:
+        return "with error lines" if ran.stderr else None
+    if ran.stdout:
+        return "with output"
+    if status in LINES:
+        return None if re.fullmatch(LINES[status], ran.stderr) else "the line has another form"
+    lines = ran.stderr.decode("latin-1").splitlines(keepends=True)
+    if command != "verify" and len(lines) != 1:
+        return "with other than one line"
+    return refusal_wrong(status, lines)
 
 
 def changed_number(draw, image, places):
@@ -200,7 +275,7 @@ def check_image(runs, name, image):
             continue
         refused = ran.returncode in (1, 3)
         if refused != (verdict.returncode != 0) or (refused and (ran.returncode, [ran.stderr]) != (verdict.returncode, first)):
-            runs.tell(name, f"verify told {verdict.stderr!r}, and {words} {ran.returncode}: {ran.stderr!r}")
+            runs.tell(name, f"verify told {first!r} first, and {words} {ran.returncode}: {ran.stderr[:LONGEST_SHOWN]!r}")
     if verdict.returncode == 0:
         check_dumps(runs, name, image)
     check_salvage(runs, name, image)
@@ -230,6 +305,7 @@ def main():
             copies += 1
     for (command, status), count in sorted(runs.statuses.items()):
         print(f"{command} {status}: {count}")
+    print(f"{runs.faults} lines on files that aren't sound")
     print(f"slowest: {runs.slowest[0]:.3f} seconds a megabyte, {runs.slowest[1]}")
     print(f"{copies} copies, {sum(runs.statuses.values())} runs, {runs.wrong} otherwise")
     return 1 if runs.wrong else 0

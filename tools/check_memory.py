@@ -4,10 +4,10 @@
 usage: check_memory.py [PROGRAM]
 
 PROGRAM is the built program bdbtool; without it, crates/bdbtool/out/bdbtool. An allocator that refuses its call number K, alone or with every call after
-it, is compiled with gcc and preloaded. Each command runs on inputs for which it ends with status 0, for K from 1 up to the first run in which no call is
-refused. In each run before that the status is 7, the error output is `out of memory`, and the output is a beginning of that of the whole run. Prints a
-line for each run that is otherwise, and then for each command how many calls were refused; the exit status is 1 where a run is otherwise. Without gcc
-nothing is asked.
+it, is compiled with gcc and preloaded. Each command runs on inputs for which it ends with status 0, and `verify` and `list` also on files with several faults
+or a case that is left out, for K from 1 up to the first run in which no call is refused. In each run before that the status is 7, the error output is
+`out of memory` alone, and the output is a beginning of that of the whole run. Prints a line for each run that is otherwise, and then for each command how
+many calls were refused; the exit status is 1 where a run is otherwise. Without gcc nothing is asked.
 """
 import pathlib
 import shutil
@@ -20,12 +20,18 @@ SECONDS_A_RUN = 60
 MEMORY = 7
 NAMED, LONG = (TOP / "crates/nothing_lost/data" / name for name in ("sub_one_512_le.db", "bt_dup_ovdata_1024_le.db"))
 TEXTS = [TOP / "real/dumps" / f"{it.name}.dump" for it in (NAMED, LONG)]
+# Files of which several things are told: a fault of ten leaves and pages, a case that is left out beside a fault, and faults of a master.
+OUT_OF_ORDER = TOP / "crates/nothing_lost/data/bt_owncmp_1024_be.db"
+LEFT_OUT, NAMED_TWICE = (TOP / "crates/bdb_images/data" / f"{it}.db" for it in ("stage2-code15-many-1", "stage7-code04-many-0"))
+# The words, the input, and the status of the whole run.
 COMMANDS = [
-    *[([command], file) for command in ("verify", "list", "dump", "salvage") for file in (NAMED, LONG)],
-    *[([command, "--print"], LONG) for command in ("dump", "salvage")],
-    (["get", "--name", "only", "a"], NAMED),
-    *[(["load"], text) for text in TEXTS],
-    *[(["trial", kind, "1", "300"], None) for kind in ("btree", "hash", "recno", "queue")],
+    *[([command], file, 0) for command in ("verify", "list", "dump", "salvage") for file in (NAMED, LONG)],
+    *[([command, "--print"], LONG, 0) for command in ("dump", "salvage")],
+    (["get", "--name", "only", "a"], NAMED, 0),
+    *[(["load"], text, 0) for text in TEXTS],
+    *[(["trial", kind, "1", "300"], None, 0) for kind in ("btree", "hash", "recno", "queue")],
+    *[([command], file, 1) for command in ("verify", "list") for file in (OUT_OF_ORDER, NAMED_TWICE)],
+    (["verify"], LEFT_OUT, 3),
 ]
 
 # The C library's own calls stand behind these under other names, so nothing has to be looked up.
@@ -87,10 +93,10 @@ def run(program, words, file, settings):
             given.close()
 
 
-def refused_calls(program, words, file, settings, told):
+def refused_calls(program, words, file, status, settings, told):
     """How many calls of a run can be refused, and what each run that is otherwise gave."""
     whole = run(program, words, file, {})
-    wrong = [] if whole.returncode == 0 else [f"without a refusal: {whole.returncode} {whole.stderr!r}"]
+    wrong = [] if whole.returncode == status else [f"without a refusal: {whole.returncode} {whole.stderr!r}"]
     number = 1
     while True:
         told.unlink(missing_ok=True)
@@ -111,10 +117,10 @@ def main(words):
     with tempfile.TemporaryDirectory() as folder:
         folder = pathlib.Path(folder)
         settings = {"LD_PRELOAD": str(built(folder))}
-        for given, file in COMMANDS:
+        for given, file, status in COMMANDS:
             counts = []
             for more in ({}, {"ALL": "1"}):
-                count, wrong = refused_calls(program, given, file, {**settings, **more}, folder / "told")
+                count, wrong = refused_calls(program, given, file, status, {**settings, **more}, folder / "told")
                 counts.append(count)
                 otherwise += len(wrong)
                 for line in wrong:

@@ -98,7 +98,7 @@ def dumped_wrong(program, folder, image, spelling):
     built = file.read_bytes()
     verdict = run(program, "verify", given=built)
     if verdict.returncode:
-        return f"what db5.3_load builds isn't sound: {verdict.stderr.decode()}"
+        return f"what db5.3_load builds isn't sound: {verdict.stderr.decode()[:200]}"
     if databases(run(program, "dump", given=built).stdout) != databases(dump):
         return "what db5.3_load builds has other pairs"
     return None

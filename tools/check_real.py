@@ -5,8 +5,8 @@ usage: check_real.py [PROGRAM]
 
 PROGRAM is the built program; without it, crates/bdbtool/out/bdbtool. Each file of real/expected.tsv is given to `verify`, `list`
 and, for each database of its dump text, `get` of the first, a middle and the last key, and `dump` in both spellings, whole and
-by name. Where `verify` finds no sound file, these commands must answer the same. Output, error line and status are compared
-whole, but of a `dump` the names, kinds and data lines, those of a hash in the order of their keys. Of a sound file `salvage` must give
+by name. Where `verify` finds no sound file, it must tell each fault of the table, and these commands the first of them. Output, error lines and status are
+compared whole, but of a `dump` the names, kinds and data lines, those of a hash in the order of their keys. Of a sound file `salvage` must give
 the pairs of all its btree and hash databases, and of the list of their names, and the records of its recno databases, in any order. Prints a line for each answer
 that differs, and then how many files have none; the exit status is 1 where a file has one.
 """
@@ -35,7 +35,7 @@ class Answer(NamedTuple):
 
 
 class Row(NamedTuple):
-    """A row of the table: a file, and the answers to `verify` and `list`."""
+    """A row of the table: a file, and the answers to `verify` and `list`. Where it isn't sound, `get` and `dump` answer as `list` does."""
 
     file: str
     verify: Answer
@@ -64,13 +64,13 @@ def lines_text(lines):
 
 
 def row(line):
-    """The row that a line of the table is. Lines of one answer stand between bars; the program tells the first fault alone."""
+    """The row that a line of the table is. Lines of one answer stand between bars. `verify` tells all of them, `list` the first."""
     file, judged, listed, _ = line.split("\t")
-    status, first = judged.split(" | ")[0].split(" ", 1)
+    status, told = judged.split(" ", 1)
+    lines = told.split(" | ")
     if status != "0":
-        refused = Answer(int(status), "", lines_text([first]))
-        return Row(file, refused, refused)
-    return Row(file, Answer(0, lines_text([first]), ""), Answer(0, lines_text(listed.split(" | ")), ""))
+        return Row(file, Answer(int(status), "", lines_text(lines)), Answer(int(status), "", lines_text(lines[:1])))
+    return Row(file, Answer(0, lines_text(lines), ""), Answer(0, lines_text(listed.split(" | ")), ""))
 
 
 def table():
@@ -141,7 +141,7 @@ def gets(row, base):
     """The words of `get` for some keys of a database, each with the answer that it must have."""
     for key in some_keys(list(base.data)):
         found = Answer(0, lines_text(value.hex() for value in base.data[key]), "")
-        yield ["get", *base.naming, *key_words(base, key)], found if row.verify.status == 0 else row.verify
+        yield ["get", *base.naming, *key_words(base, key)], found if row.verify.status == 0 else row.list
 
 
 def questions(row):
@@ -235,7 +235,7 @@ def mismatches(program, row):
         if given != expected:
             yield f"{row.file}: {shown(' '.join(words))}: {shown(tuple(given))} and not {shown(tuple(expected))}"
     for words, form, bases in dumps(row):
-        wrong = dump_mismatch(answer(program, words, FILES / row.file), row.verify, form, bases)
+        wrong = dump_mismatch(answer(program, words, FILES / row.file), row.list, form, bases)
         if wrong:
             yield f"{row.file}: {shown(' '.join(words))}: {wrong}"
     if row.verify.status == 0:

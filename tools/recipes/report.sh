@@ -7,12 +7,14 @@ find "$@" -type f >"$report"
 while IFS= read -r file; do
     [ -r "$file" ] || { echo "unread   $file"; damaged=1; continue; }
     said=$(bdbtool verify <"$file" 2>&1)
-    case $?:$said in
-    0:*) echo "sound    $file: ${said#sound, }" ;;
+    status=$?
+    first=$(echo "$said" | head -n 1)
+    case $status:$first in
+    0:*) echo "sound    $file: ${first#sound, }" ;;
     1:*' Short' | 1:*' Magic') ;; # no database
-    1:*) echo "DAMAGED  $file: $said"; damaged=1 ;;
-    3:*) echo "left out $file: $said" ;;
-    *) echo "unread   $file: $said"; damaged=1 ;;
+    1:*) echo "DAMAGED  $file: $first, and $(echo "$said" | tail -n +2 | wc -l) more"; damaged=1 ;;
+    3:*) echo "left out $file: $first" ;;
+    *) echo "unread   $file: $first"; damaged=1 ;;
     esac
 done <"$report"
 exit $damaged

@@ -4,8 +4,8 @@
 bdbtool verify <"$1" >/dev/null 2>said
 case $? in
 0) echo "sound, go on" ;;
-1) echo "damaged, restore it: $(cat said)" ;;
-3) echo "use the original's tools: $(cat said)" ;;
+1) echo "damaged, restore it: $(head -n 1 said)" ;;
+3) echo "use the original's tools: $(head -n 1 said)" ;;
 6) echo "too large" ;;
 4 | 5 | 7) echo "try again: $(cat said)" ;;
 *) echo "the script is wrong: $(cat said)" ;;
