@@ -1,8 +1,8 @@
 //! What `verify` tells. The answers follow from docs/FORMAT.md, "Faults".
 
-use crate::files::*;
-use crate::running::Told::{Done, Line};
-use crate::running::{Row, SOUND, check_rows};
+use bdb_running::files::*;
+use bdb_running::running::Told::{Done, Line};
+use bdb_running::running::{Row, SOUND, check_rows};
 use std::test::Fail;
 
 const ROWS: [Row; 24] = [
