@@ -3,7 +3,9 @@
 use crate::reading::COMMANDS;
 use bdb_io::{MemSink, Sink, Source};
 use bdb_running::answers::NO_META;
-use bdb_running::files::{DUPLICATES_UNTOLD, NO_METADATA, ONE_PAIR, OUT_OF_ORDER, VERSION_10};
+use bdb_running::files::{
+    DUPLICATES_UNTOLD, NO_METADATA, ONE_PAIR, OUT_OF_ORDER, RING, VERSION_10,
+};
 use bdb_running::images::File;
 use bdb_running::outside::Narrow;
 use bdb_running::refused::{FAULTY, UNLOADED};
@@ -16,11 +18,19 @@ use std::alloc::{AllocError, Global};
 use std::process::Abort;
 use std::test::Fail;
 
-const REFUSED: [Row; 9] = [
+const REFUSED: [Row; 10] = [
     (
         &["verify"],
         &OUT_OF_ORDER,
         Line(1, b"fault: stage 8 page 1 code 3 KeyOrder\n"),
+    ),
+    (
+        &["verify"],
+        &RING,
+        Line(
+            1,
+            b"fault: stage 5 page 2 code 1 Unreached\nfault: stage 5 page 3 code 1 Unreached\n",
+        ),
     ),
     (&["verify", "x"], &ONE_PAIR, USAGE),
     (
