@@ -1,9 +1,9 @@
 -- Pairs whose keys don't fall: those of a tree where none is out of order, and so those below each of its pages.
 use Rattle.std.proofs.Common.{◌≡◌, ℕ, ◌*◌, ◌-◌, ◌<◌, true, false, List, [], ◌∷◌, ◌++◌, length, map, get_or, arith, refl}
-use Rattle.std.proofs.Common.{sym, ◌∙◌, ap, subst, inl, inr, true≢false, Bool, not, Option, Some, None}
-use Rattle.std.specs.Prelude.{◌==◌, ◌&&◌, slice_index}
-use Rattle.std.specs.List.{flat_map, All, Contains}
-use Rattle.std.proofs.lemmas.Bool.{cases_lt, eq-eqb, eqb-true, false_from_ne_true}
+use Rattle.std.proofs.Common.{sym, ◌∙◌, ap, subst, inl, inr, true≢false, Bool, not, Some}
+use Rattle.std.specs.Prelude.{◌&&◌, slice_index}
+use Rattle.std.specs.List.{flat_map, fold, All, Contains}
+use Rattle.std.proofs.lemmas.Bool.{cases_lt, eqb-true, false_from_ne_true}
 use Rattle.std.proofs.lemmas.List.{get_or_past}
 use Rattle.bdb_format.specs.declared.kinds.Order.{Order}
 use Rattle.bdb_format.specs.Contents.{StoredPair, pairs_of, tree_pairs}
@@ -19,21 +19,20 @@ use Rattle.bdb_format.proofs.PageLemmas.{index_offset, length_items}
 use Rattle.bdb_graph.proofs.HeldLemmas.{last_page, page_is}
 use Rattle.bdb_format.proofs.ReferenceLemmas.{pages_counted}
 use Rattle.bdb_format.proofs.LeafLemmas.{leaf_item_is, one_offset}
-use Rattle.std.specs.Option.{is_some}
 use Rattle.std.proofs.lemmas.List.Elements.{Contains-append_left, Contains-get_or}
 use Rattle.bdb_format.specs.ContentRows.{is_out_of_order, neighbours, neighbours_from}
 use Rattle.bdb_format.specs.Less.{less}
-use Rattle.bdb_format.proofs.BoolLemmas.{second_false}
 use Rattle.bdb_format.proofs.LessLemmas.{less_self}
 use Rattle.bdb_format.proofs.ListLemmas.{all_of, flat_map_twice}
-use Rattle.bdb_format.proofs.MemberLemmas.{first_member, in_map, later_member, member_cases, no_member, none_passes}
+use Rattle.bdb_format.proofs.MemberLemmas.{first_member, in_map, later_member, member_cases, no_member}
 use Rattle.bdb_graph.specs.Linked.{IsForest}
 use Rattle.bdb_tree.proofs.TreeLemmas.{leaves_of_inner}
 use Rattle.bdb_btree.specs.Bounds.{DontFall, NoneBelow, OrderedIf}
-use Rattle.bdb_btree.specs.Least.{IsLeastPage}
-use Rattle.bdb_btree.specs.Rows.{has_wrong_order}
+use Rattle.bdb_btree.specs.Rows.{next_pair, no_pairs_passed}
+use Rattle.bdb_btree.specs.Runs.{KeyOrder, next_key}
+use Rattle.bdb_btree.specs.declared.pair_rows.Passed.{Passed}
 use Rattle.bdb_btree.proofs.LessLemmas.{less_above, less_not_back}
-use Rattle.bdb_btree.proofs.OrderLemmas.{Shares}
+use Rattle.bdb_btree.proofs.OrderLemmas.{Shares, all_in_order, keys_alone}
 use Rattle.bdb_btree.proofs.PairLemmas.{PageShares, pages_share}
 use Rattle.bdb_form.proofs.FormedLemmas.{shared_after}
 
@@ -132,17 +131,16 @@ pub dont_fall : (pairs : List StoredPair) → ShareKeys [] pairs
 dont_fall [] shares kept = tt
 dont_fall (pair ∷ pairs) shares kept = dont_fall_from pair pairs shares.1 kept
 
--- where no page has a pair out of order
-pub root_ordered : (image : List ℕ) (root : ℕ) (least : Option ℕ) (ordered : Bool)
-    → IsLeastPage least (has_wrong_order (tree_pairs (file_of image) root))
-    → is_some least ≡ not ordered → OrderedIf ordered (file_of image) root
-root_ordered image root None ordered none told is =
+-- where no key was out of order
+pub root_ordered : (image : List ℕ) (root : ℕ) (sorted : Bool) (passed : Passed)
+    → passed ≡ fold (next_pair (file_of image) sorted) no_pairs_passed (tree_pairs (file_of image) root)
+    → OrderedIf passed.keys.ordered (file_of image) root
+root_ordered image root sorted passed all ordered =
     let pairs : List StoredPair = tree_pairs (file_of image) root in
-    dont_fall pairs (tree_keys image root []) (λ two at.
-    second_false (two.1.page == two.1.page) (is_out_of_order two) (eq-eqb two.1.page two.1.page refl)
-    (none_passes (λ (other : StoredPair × StoredPair). (other.1.page == two.1.page) && is_out_of_order other) (neighbours pairs) two
-    (none two.1.page) at))
-root_ordered image root (Some p) ordered some told is = absurd (true≢false (told ∙ ap not is))
+    let same : passed.keys ≡ fold next_key no_pairs_passed.keys pairs =
+    ap (λ (p : Passed). p.keys) all ∙ keys_alone (file_of image) sorted pairs no_pairs_passed in
+    dont_fall pairs (tree_keys image root [])
+    (λ two at. all_in_order pairs two (ap (λ (keys : KeyOrder). keys.ordered) (sym same) ∙ ordered) at)
 
 -- Parts of a list.
 

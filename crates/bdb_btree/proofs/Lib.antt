@@ -3,8 +3,8 @@ pub mod CountLemmas
 pub mod FallLemmas
 pub mod FindLemmas
 pub mod InnerLemmas
-pub mod LeastLemmas
 pub mod LessLemmas
+pub mod NotedLemmas
 pub mod OrderLemmas
 pub mod PairLemmas
 pub mod RootLemmas

@@ -1,46 +1,80 @@
 -- Keys of pairs, and data of pairs that share a key, gone through one after another.
 use Rattle.std.proofs.Common.{◌≡◌, ℕ, Bool, true, false, not, cond, List, [], ◌∷◌, ◌++◌, Option, Some, None, arith, refl, sym, ◌∙◌, ap}
-use Rattle.std.proofs.Common.{subst}
+use Rattle.std.proofs.Common.{subst, inl, inr}
 use Rattle.std.specs.Prelude.{◌==◌, ◌&&◌, ◌||◌}
-use Rattle.std.specs.List.{flat_map, fold, list_any, take_while}
+use Rattle.std.specs.List.{Contains, flat_map, fold, list_any, take_while}
 use Rattle.std.proofs.lemmas.Bool.{true≢false}
 use Rattle.std.proofs.lemmas.Bool.Decides.{nat_tests}
 use Rattle.std.proofs.lemmas.List.Sums.{fold-append, take_while-cons}
 use Rattle.std.proofs.Math.Bool.{or-true}
 use Rattle.bdb_format.specs.Less.{less}
-use Rattle.bdb_format.specs.Table.{lesser}
 use Rattle.bdb_format.specs.File.{File}
 use Rattle.bdb_format.specs.Contents.{StoredPair}
 use Rattle.bdb_format.specs.ContentRows.{ascends, ascends_from, has_unsorted, is_out_of_order, is_unsorted, live_data, neighbours, neighbours_from}
-use Rattle.bdb_btree.specs.Least.{IsLeastPage, noting}
-use Rattle.bdb_btree.specs.Runs.{Run, follow, is_not_above, next_data, next_key}
-use Rattle.bdb_btree.proofs.LeastLemmas.{least_same, note_all}
+use Rattle.bdb_format.proofs.MemberLemmas.{member_cases, no_member}
+use Rattle.bdb_btree.specs.Rows.{has_wrong_order, next_pair, no_pairs_passed, passes}
+use Rattle.bdb_btree.specs.Runs.{KeyOrder, Run, follow, is_not_above, is_wrong_key, next_key}
+use Rattle.bdb_btree.specs.declared.pair_rows.Passed.{Passed}
 
 -- Keys.
 
-abbrev later_page : (StoredPair × StoredPair) → ℕ
-later_page two = two.1.page
+abbrev wrong_keys : File → Bool → Passed → List StoredPair → ℕ → Bool
+wrong_keys file sorted passed pairs p =
+    list_any (λ (at : StoredPair × Passed). (at.0.page == p) && at.1.keys.wrong) (passes file sorted passed pairs)
 
-keys_from : (pair : StoredPair) (pairs : List StoredPair) (least : Option ℕ)
-    → (fold next_key (record { before = Some pair.key; least = least }) pairs).least
-    ≡ fold (noting later_page is_out_of_order) least (neighbours_from pair pairs)
-keys_from pair [] least = refl
-keys_from pair (next ∷ pairs) least = keys_from next pairs (noting later_page is_out_of_order least (pair, next))
+keys_from : (file : File) (sorted : Bool) (pair : StoredPair) (pairs : List StoredPair) (passed : Passed) (p : ℕ) → passed.keys.before ≡ Some pair.key
+    → wrong_keys file sorted passed pairs p
+    ≡ list_any (λ (two : StoredPair × StoredPair). (two.1.page == p) && is_out_of_order two) (neighbours_from pair pairs)
+keys_from file sorted pair [] passed p before = refl
+keys_from file sorted pair (next ∷ pairs) passed p before =
+    ap (λ key. ((next.page == p) && (not next.shares && is_not_above key next.key))
+    || wrong_keys file sorted (next_pair file sorted passed next) pairs p) before
+    ∙ ap (λ b. ((next.page == p) && is_out_of_order (pair, next)) || b)
+    (keys_from file sorted next pairs (next_pair file sorted passed next) p refl)
 
-first_key : (shares : Bool) (least other : Option ℕ) → cond (not shares && false) other least ≡ least
-first_key shares least other = grind (arith, nat_tests)
+nothing_first : (a b c : Bool) → ((a && (b && false)) || c) ≡ c
+nothing_first a b c = grind (arith, nat_tests)
 
--- the pairs that were noted are those out of order
-pub keys_in_order : (pairs : List StoredPair)
-    → IsLeastPage (fold next_key (record { before = None; least = None }) pairs).least
-    (λ p. list_any (λ (two : StoredPair × StoredPair). (two.1.page == p) && is_out_of_order two) (neighbours pairs))
-keys_in_order [] = λ p. refl
-keys_in_order (pair ∷ pairs) =
-    subst (λ least. IsLeastPage least (λ p. list_any (λ (two : StoredPair × StoredPair). (two.1.page == p) && is_out_of_order two)
-    (neighbours_from pair pairs)))
-    (sym (ap (λ least. (fold next_key (record { before = Some pair.key; least = least }) pairs).least)
-    (first_key pair.shares None (lesser None (Some pair.page))) ∙ keys_from pair pairs None))
-    (note_all later_page is_out_of_order (neighbours_from pair pairs))
+-- the pairs that are noted are those out of order
+pub keys_in_order : (file : File) (sorted : Bool) (pairs : List StoredPair) (p : ℕ)
+    → list_any (λ (at : StoredPair × Passed). (at.0.page == p) && at.1.keys.wrong) (passes file sorted no_pairs_passed pairs)
+    ≡ has_wrong_order pairs p
+keys_in_order file sorted [] p = refl
+keys_in_order file sorted (pair ∷ pairs) p =
+    nothing_first (pair.page == p) (not pair.shares) _ ∙ keys_from file sorted pair pairs (next_pair file sorted no_pairs_passed pair) p refl
+
+-- Whether all keys are in order.
+
+pub keys_alone : (file : File) (sorted : Bool) (pairs : List StoredPair) (passed : Passed)
+    → (fold (next_pair file sorted) passed pairs).keys ≡ fold next_key passed.keys pairs
+keys_alone file sorted [] passed = refl
+keys_alone file sorted (pair ∷ pairs) passed = keys_alone file sorted pairs (next_pair file sorted passed pair)
+
+still : (out ordered : Bool) → cond out false ordered ≡ true → (out ≡ false) × (ordered ≡ true)
+still true ordered is = absurd (true≢false (sym is))
+still false ordered is = (refl, is)
+
+ordered_before : (pairs : List StoredPair) (keys : KeyOrder) → (fold next_key keys pairs).ordered ≡ true → keys.ordered ≡ true
+ordered_before [] keys is = is
+ordered_before (pair ∷ pairs) keys is = (still (is_wrong_key keys pair) keys.ordered (ordered_before pairs (next_key keys pair) is)).1
+
+ordered_from : (pair : StoredPair) (pairs : List StoredPair) (keys : KeyOrder) (two : StoredPair × StoredPair) → keys.before ≡ Some pair.key
+    → (fold next_key keys pairs).ordered ≡ true → Contains (neighbours_from pair pairs) two → is_out_of_order two ≡ false
+ordered_from pair [] keys two before is at = absurd (no_member [] two refl at)
+ordered_from pair (next ∷ pairs) keys two before is at =
+    elim (member_cases (pair, next) (neighbours_from next pairs) two at) [
+      | inl here ↦
+          subst (λ (other : StoredPair × StoredPair). is_out_of_order other ≡ false) here
+          (ap (λ key. not next.shares && is_not_above key next.key) (sym before)
+          ∙ (still (is_wrong_key keys next) keys.ordered (ordered_before pairs (next_key keys next) is)).0)
+      | inr later ↦ ordered_from next pairs (next_key keys next) two refl is later
+    ]
+
+-- where no key was out of order, none of two that follow each other is
+pub all_in_order : (pairs : List StoredPair) (two : StoredPair × StoredPair) → (fold next_key no_pairs_passed.keys pairs).ordered ≡ true
+    → Contains (neighbours pairs) two → is_out_of_order two ≡ false
+all_in_order [] two is at = absurd (no_member [] two refl at)
+all_in_order (pair ∷ pairs) two is at = ordered_from pair pairs (next_key no_pairs_passed.keys pair) two refl is at
 
 -- Data.
 
@@ -116,16 +150,15 @@ marks file last (pair ∷ pairs) =
     (pair.page, (run_over (begins last pair) (live_data file pair)).broken) ∷ marks file
     (run_over (begins last pair) (live_data file pair)).last pairs
 
-data_marks : (file : File) (pairs : List StoredPair) (last : Option (List ℕ)) (least : Option ℕ)
-    → (fold (next_data file) (record { last = last; least = least }) pairs).least
-    ≡ fold (noting (λ (mark : ℕ × Bool). mark.0) (λ (mark : ℕ × Bool). mark.1)) least (marks file last pairs)
-data_marks file [] last least = refl
-data_marks file (pair ∷ pairs) last least =
-    let run : Run = run_over (begins last pair) (live_data file pair) in
-    data_marks file pairs run.last (cond run.broken (lesser least (Some pair.page)) least)
-
 abbrev is_marked : List (ℕ × Bool) → ℕ → Bool
 is_marked marked p = list_any (λ (mark : ℕ × Bool). (mark.0 == p) && mark.1) marked
+
+data_marks : (file : File) (pairs : List StoredPair) (passed : Passed) (p : ℕ)
+    → list_any (λ (at : StoredPair × Passed). (at.0.page == p) && at.1.values.broken) (passes file true passed pairs)
+    ≡ is_marked (marks file passed.values.last pairs) p
+data_marks file [] passed p = refl
+data_marks file (pair ∷ pairs) passed p =
+    ap (λ b. ((pair.page == p) && (next_pair file true passed pair).values.broken) || b) (data_marks file pairs (next_pair file true passed pair) p)
 
 regroup : (a b c d : Bool) → ((a && b) || ((a && c) || d)) ≡ ((a && (b || c)) || d)
 regroup a b c d = grind (arith, nat_tests)
@@ -187,17 +220,14 @@ abbrev pub ShareOnPage : List StoredPair → Type 0
 ShareOnPage [] = Unit {0}
 ShareOnPage (pair ∷ pairs) = SharesOnPage pair.page pairs
 
--- the pairs that were noted are those of the row
-pub data_in_order : (file : File) (pairs : List StoredPair) → ShareOnPage pairs
-    → IsLeastPage (fold (next_data file) (record { last = None; least = None }) pairs).least (has_unsorted file pairs)
-data_in_order file [] share = λ p. refl
-data_in_order file (pair ∷ pairs) share =
-    let marked : List (ℕ × Bool) = marks file None (pair ∷ pairs) in
-    subst (λ least. IsLeastPage least (has_unsorted file (pair ∷ pairs))) (sym (data_marks file (pair ∷ pairs) None None))
-    (least_same (fold (noting (λ (mark : ℕ × Bool). mark.0) (λ (mark : ℕ × Bool). mark.1)) None marked) (is_marked marked)
-    (has_unsorted file (pair ∷ pairs))
-    (λ p. marked_groups file pair.page None (pair ∷ pairs) p (λ shares. refl, share) ∙ first_group p)
-    (note_all (λ (mark : ℕ × Bool). mark.0) (λ (mark : ℕ × Bool). mark.1) marked))
+-- the pairs that are noted are those of the row
+pub data_in_order : (file : File) (pairs : List StoredPair) (p : ℕ) → ShareOnPage pairs
+    → list_any (λ (at : StoredPair × Passed). (at.0.page == p) && at.1.values.broken) (passes file true no_pairs_passed pairs)
+    ≡ has_unsorted file pairs p
+data_in_order file [] p share = refl
+data_in_order file (pair ∷ pairs) p share =
+    data_marks file (pair ∷ pairs) no_pairs_passed p
+    ∙ (marked_groups file pair.page None (pair ∷ pairs) p (λ shares. refl, share) ∙ first_group p)
   where
     at_first : (a b c : Bool) (d : Bool) → (d ≡ true → b ≡ true) → ((a && d) || ((a && b) || c)) ≡ ((a && b) || c)
     at_first a b c d more = grind (arith, nat_tests, more)

@@ -1,64 +1,133 @@
 -- The rows on the pairs of a tree, once all pairs have been passed.
-use Rattle.std.proofs.Common.{◌≡◌, ℕ, Bool, true, false, cond, List, [], ◌∷◌, ◌&&◌, refl, sym, ◌∙◌, subst, inl}
-use Rattle.std.specs.List.{fold}
+use Rattle.std.proofs.Common.{◌≡◌, ℕ, Bool, true, false, not, List, [], ◌∷◌, ◌++◌, ◌&&◌, refl, sym, ◌∙◌, ap, subst, inl, append_assoc}
+use Rattle.std.specs.Prelude.{◌==◌, ◌||◌}
+use Rattle.std.specs.List.{flat_map, fold, list_any}
+use Rattle.bdb_format.specs.declared.kinds.Fault.{Fault}
 use Rattle.bdb_format.specs.ContentRows.{has_duplicate, has_unsorted, has_wrong_set, is_duplicate, is_wrong_set}
 use Rattle.bdb_format.specs.Contents.{StoredPair, tree_pairs}
 use Rattle.bdb_format.specs.File.{File, file_of}
+use Rattle.bdb_faults.specs.Notes.{Notes}
 use Rattle.bdb_graph.specs.Linked.{FitsTreeRoot, IsForest}
-use Rattle.bdb_btree.specs.Least.{IsLeastPage, noting}
+use Rattle.bdb_btree.specs.Noted.{fault_if}
 use Rattle.bdb_btree.specs.Pairs.{AreFit, FitsPair}
-use Rattle.bdb_btree.specs.Rows.{has_wrong_order, next_pair, no_pairs_passed, page_of}
-use Rattle.bdb_btree.specs.Runs.{DataOrder, next_data, next_key}
+use Rattle.bdb_btree.specs.Rows.{has_wrong_order, next_pair, no_pairs_passed, pair_faults, pairs_faults, passes}
+use Rattle.bdb_btree.specs.declared.noted.BtreeRow.TheVariants.{Duplicates, DuplicateKind, KeyOrder, DuplicateOrder}
 use Rattle.bdb_btree.specs.declared.pair_rows.Passed.{Passed}
-use Rattle.bdb_btree.proofs.LeastLemmas.{note_all}
+use Rattle.bdb_btree.specs.declared.pair_rows.Rules.{Rules}
+use Rattle.bdb_btree.proofs.NotedLemmas.{both_have, has, is_of, notes_both, notes_nothing, row_has}
 use Rattle.bdb_btree.proofs.OrderLemmas.{data_in_order, keys_in_order}
 use Rattle.bdb_btree.proofs.PairLemmas.{tree_pair, tree_shares}
 use Rattle.bdb_btree.proofs.WalkLemmas.{each_of}
 
--- each row passes the pairs by itself
-abbrev of_rows : File → Bool → Passed → List StoredPair → Passed
-of_rows file sorted passed pairs = record {
-  duplicate = fold (noting page_of is_duplicate) passed.duplicate pairs;
-  wrong_set = fold (noting page_of (λ (pair : StoredPair). is_wrong_set file sorted pair.data_item)) passed.wrong_set pairs;
-  keys = fold next_key passed.keys pairs;
-  values = fold (λ (values : DataOrder) (pair : StoredPair). cond sorted (next_data file values pair) values) passed.values pairs;
+-- Going through the pairs.
+
+-- some pairs are passed, and these are left
+pub record PassedTo (file : File) (rules : Rules) (all left : List StoredPair) (passed : Passed) (before now : List Fault → Type 0) : Type 0 where
+  pub noted : List Fault
+  pub notes : Notes before now noted
+  pub rest : noted ++ pairs_faults file rules passed left ≡ pairs_faults file rules no_pairs_passed all
+  pub state : fold (next_pair file rules.sorted) passed left ≡ fold (next_pair file rules.sorted) no_pairs_passed all
+  pub fit : AreFit file left
+
+-- none is passed yet
+pub pass_none : (file : File) (rules : Rules) (all left : List StoredPair) (passed : Passed) (before : List Fault → Type 0) → left ≡ all
+    → passed ≡ no_pairs_passed → AreFit file all → PassedTo file rules all left passed before before
+pass_none file rules all left passed before starts none fit = record {
+  noted = [];
+  notes = notes_nothing before;
+  rest = ap (λ one. pairs_faults file rules one left) none ∙ ap (pairs_faults file rules no_pairs_passed) starts;
+  state = ap (λ one. fold (next_pair file rules.sorted) one left) none ∙ ap (fold (next_pair file rules.sorted) no_pairs_passed) starts;
+  fit = subst (AreFit file) (sym starts) fit;
 }
 
-row_by_row : (file : File) (sorted : Bool) (pairs : List StoredPair) (passed : Passed)
-    → fold (next_pair file sorted) passed pairs ≡ of_rows file sorted passed pairs
-row_by_row file sorted [] passed = refl
-row_by_row file sorted (pair ∷ pairs) passed = row_by_row file sorted pairs (next_pair file sorted passed pair)
+-- one more
+pub pass_more : (file : File) (rules : Rules) (all old left : List StoredPair) (pair : StoredPair) (passed next : Passed)
+    (before mid after : List Fault → Type 0)
+    → PassedTo file rules all old passed before mid → old ≡ pair ∷ left → next ≡ next_pair file rules.sorted passed pair
+    → Notes mid after (pair_faults file rules next pair) → PassedTo file rules all left next before after
+pass_more file rules all old left pair passed next before mid after to steps is more =
+    let faults : List Fault = pair_faults file rules next pair in
+    record {
+      noted = to.noted ++ faults;
+      notes = notes_both before mid after to.noted faults to.notes more;
+      rest =
+          append_assoc to.noted faults (pairs_faults file rules next left)
+          ∙ (ap (λ one. to.noted ++ (pair_faults file rules one pair ++ pairs_faults file rules one left)) is
+          ∙ (ap (λ pairs. to.noted ++ pairs_faults file rules passed pairs) (sym steps) ∙ to.rest));
+      state =
+          ap (λ one. fold (next_pair file rules.sorted) one left) is ∙ (ap (fold (next_pair file rules.sorted) passed) (sym steps) ∙ to.state);
+      fit = (subst (AreFit file) steps to.fit).1;
+    }
 
-unseen : (pairs : List StoredPair) (values : DataOrder) → fold (λ (values : DataOrder) (pair : StoredPair). values) values pairs ≡ values
-unseen [] values = refl
-unseen (pair ∷ pairs) values = unseen pairs values
+-- no pair is left
+pub pass_all : (file : File) (rules : Rules) (all left : List StoredPair) (passed : Passed) (before now : List Fault → Type 0)
+    → PassedTo file rules all left passed before now → left ≡ [] → passed ≡ fold (next_pair file rules.sorted) no_pairs_passed all
+pass_all file rules all left passed before now to none = sym (ap (fold (next_pair file rules.sorted) passed) none) ∙ to.state
 
-module _ (file : File) (sorted : Bool) (pairs : List StoredPair) (passed : Passed)
-    (all : passed ≡ fold (next_pair file sorted) no_pairs_passed pairs) where
-  rows_are : of_rows file sorted no_pairs_passed pairs ≡ passed
-  rows_are = sym (all ∙ row_by_row file sorted pairs no_pairs_passed)
+-- What was noted.
 
-  pub duplicate_row : IsLeastPage passed.duplicate (has_duplicate pairs)
-  duplicate_row = subst (λ (rows : Passed). IsLeastPage rows.duplicate (has_duplicate pairs)) rows_are (note_all page_of is_duplicate pairs)
+at_pairs : (file : File) (sorted : Bool) (test : StoredPair → Bool) (pairs : List StoredPair) (passed : Passed)
+    → list_any (λ (at : StoredPair × Passed). test at.0) (passes file sorted passed pairs) ≡ list_any test pairs
+at_pairs file sorted test [] passed = refl
+at_pairs file sorted test (pair ∷ pairs) passed = ap (λ b. test pair || b) (at_pairs file sorted test pairs (next_pair file sorted passed pair))
 
-  pub set_row : IsLeastPage passed.wrong_set (has_wrong_set file sorted pairs)
-  set_row =
-      subst (λ (rows : Passed). IsLeastPage rows.wrong_set (has_wrong_set file sorted pairs)) rows_are
-      (note_all page_of (λ (pair : StoredPair). is_wrong_set file sorted pair.data_item) pairs)
+none_pass : {X : Type 0} (page : X → Bool) (xs : List X) → list_any (λ x. page x && false) xs ≡ false
+none_pass page [] = refl
+none_pass page (x ∷ xs) = nothing (page x) (list_any (λ y. page y && false) xs) ∙ none_pass page xs
+  where
+    nothing : (a b : Bool) → ((a && false) || b) ≡ b
+    nothing true b = refl
+    nothing false b = refl
 
-  pub order_row : IsLeastPage passed.keys.least (has_wrong_order pairs)
-  order_row = subst (λ (rows : Passed). IsLeastPage rows.keys.least (has_wrong_order pairs)) rows_are (keys_in_order pairs)
+-- a test that is looked at under a condition alone
+guard_out : {X : Type 0} (guard : Bool) (page test : X → Bool) (xs : List X)
+    → list_any (λ x. page x && (guard && test x)) xs ≡ (guard && list_any (λ x. page x && test x) xs)
+guard_out true page test xs = refl
+guard_out false page test xs = none_pass page xs
 
-pub data_row : (file : File) (sorted : Bool) (root : ℕ) (passed : Passed)
-    → passed ≡ fold (next_pair file sorted) no_pairs_passed (tree_pairs file root)
-    → IsLeastPage passed.values.least (λ p. sorted && has_unsorted file (tree_pairs file root) p)
-data_row file true root passed all =
-    subst (λ (rows : Passed). IsLeastPage rows.values.least (has_unsorted file (tree_pairs file root)))
-    (rows_are file true (tree_pairs file root) passed all)
-    (data_in_order file (tree_pairs file root) (tree_shares file root))
-data_row file false root passed all =
-    subst (λ (rows : Passed). IsLeastPage rows.values.least (λ p. false)) (rows_are file false (tree_pairs file root) passed all)
-    (subst (λ (values : DataOrder). IsLeastPage values.least (λ p. false)) (sym (unseen (tree_pairs file root) no_pairs_passed.values)) (λ p. refl))
+data_row : (file : File) (sorted : Bool) (root p : ℕ)
+    → (sorted && list_any (λ (at : StoredPair × Passed). (at.0.page == p) && at.1.values.broken)
+    (passes file sorted no_pairs_passed (tree_pairs file root)))
+    ≡ (sorted && has_unsorted file (tree_pairs file root) p)
+data_row file true root p = data_in_order file (tree_pairs file root) p (tree_shares file root)
+data_row file false root p = refl
+
+-- the rows on pairs are noted
+pub pairs_have : (file : File) (rules : Rules) (root : ℕ) (fault : Fault)
+    → has (pairs_faults file rules no_pairs_passed (tree_pairs file root)) fault
+    ≡ ((((is_of Duplicates fault && (not rules.duplicates && has_duplicate (tree_pairs file root) fault.page))
+    || (is_of DuplicateKind fault && has_wrong_set file rules.sorted (tree_pairs file root) fault.page))
+    || (is_of KeyOrder fault && has_wrong_order (tree_pairs file root) fault.page))
+    || (is_of DuplicateOrder fault && (rules.sorted && has_unsorted file (tree_pairs file root) fault.page)))
+pairs_have file rules root fault =
+    let pairs : List StoredPair = tree_pairs file root in
+    let all : List (StoredPair × Passed) = passes file rules.sorted no_pairs_passed pairs in
+    let p : ℕ = fault.page in
+    let first : (StoredPair × Passed) → Bool = λ at. not rules.duplicates && is_duplicate at.0 in
+    let second : (StoredPair × Passed) → Bool = λ at. is_wrong_set file rules.sorted at.0.data_item in
+    let third : (StoredPair × Passed) → Bool = λ at. at.1.keys.wrong in
+    let fourth : (StoredPair × Passed) → Bool = λ at. rules.sorted && at.1.values.broken in
+    let a : (StoredPair × Passed) → List Fault = λ at. fault_if Duplicates at.0.page (first at) in
+    let b : (StoredPair × Passed) → List Fault = λ at. fault_if DuplicateKind at.0.page (second at) in
+    let c : (StoredPair × Passed) → List Fault = λ at. fault_if KeyOrder at.0.page (third at) in
+    let d : (StoredPair × Passed) → List Fault = λ at. fault_if DuplicateOrder at.0.page (fourth at) in
+    let page : (StoredPair × Passed) → ℕ = λ at. at.0.page in
+    let one = row_has page Duplicates first all fault
+    ∙ ap (λ x. is_of Duplicates fault && x) (guard_out (not rules.duplicates) (λ at. page at == p) (λ at. is_duplicate at.0) all
+    ∙ ap (λ x. not rules.duplicates && x) (at_pairs file rules.sorted (λ pair. (pair.page == p) && is_duplicate pair) pairs no_pairs_passed)) in
+    let two = row_has page DuplicateKind second all fault
+    ∙ ap (λ x. is_of DuplicateKind fault && x)
+    (at_pairs file rules.sorted (λ pair. (pair.page == p) && is_wrong_set file rules.sorted pair.data_item) pairs no_pairs_passed) in
+    let three = row_has page KeyOrder third all fault ∙ ap (λ x. is_of KeyOrder fault && x) (keys_in_order file rules.sorted pairs p) in
+    let four = row_has page DuplicateOrder fourth all fault
+    ∙ ap (λ x. is_of DuplicateOrder fault && x)
+    (guard_out rules.sorted (λ at. page at == p) (λ at. at.1.values.broken) all ∙ data_row file rules.sorted root p) in
+    both_have (λ at. (a at ++ b at) ++ c at) d all fault
+    ∙ (ap (λ x. x || has (flat_map d all) fault) (both_have (λ at. a at ++ b at) c all fault
+    ∙ ap (λ x. x || has (flat_map c all) fault) (both_have a b all fault)) ∙ same_four _ _ _ _ _ _ _ _ one two three four)
+  where
+    same_four : (a b c d e f g h : Bool) → a ≡ e → b ≡ f → c ≡ g → d ≡ h → (((a || b) || c) || d) ≡ (((e || f) || g) || h)
+    same_four a b c d e f g h p q r s = cc
 
 -- What pairs name.
 

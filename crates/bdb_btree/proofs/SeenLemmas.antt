@@ -1,14 +1,14 @@
 -- Pages and items seen one after another.
-use Rattle.std.proofs.Common.{◌≡◌, ℕ, zero, suc, ◌+◌, ◌<◌, ◌≤◌, Bool, true, false, List, [], ◌∷◌, length, map, get_or, take, Some, None, arith, refl}
+use Rattle.std.proofs.Common.{◌≡◌, ℕ, zero, suc, ◌+◌, ◌<◌, ◌≤◌, true, false, List, [], ◌∷◌, length, map, get_or, take, Some, arith, refl}
 use Rattle.std.proofs.Common.{sym, ◌∙◌, ap, subst, add-one}
-use Rattle.std.specs.Prelude.{◌==◌, Option}
+use Rattle.std.specs.Prelude.{◌==◌}
 use Rattle.std.specs.List.{Contains, fold, slice_get}
 use Rattle.std.proofs.lemmas.Bool.{ne_eqb}
 use Rattle.std.proofs.lemmas.List.{take_all, take_more}
 use Rattle.std.proofs.lemmas.List.Elements.{Contains-get_or}
 use Rattle.std.proofs.lemmas.List.Sums.{fold-append}
 use Rattle.bdb_format.specs.Chains.{value_of}
-use Rattle.bdb_format.specs.ContentRows.{has_wrong_separator, is_wrong_at, separated}
+use Rattle.bdb_format.specs.ContentRows.{has_wrong_separator, separated}
 use Rattle.bdb_format.specs.Contents.{StoredPair, tree_pairs}
 use Rattle.bdb_format.specs.File.{File, file_of, page_at}
 use Rattle.bdb_format.specs.Leaves.{children_in, leaves}
@@ -17,10 +17,8 @@ use Rattle.bdb_format.proofs.MemberLemmas.{in_map}
 use Rattle.bdb_graph.specs.Linked.{FitsLeafPage, IsForest}
 use Rattle.bdb_overflow.proofs.ContentLemmas.{got, key_fits}
 use Rattle.bdb_btree.specs.Bounds.{Bounds, ItemsFit, beyond, bounds_of, no_bounds, past, see_item, see_items, under, under_page, under_pair}
-use Rattle.bdb_btree.specs.Least.{IsLeastPage, noting}
 use Rattle.bdb_tree.specs.Trees.{IsTreePage}
 use Rattle.bdb_btree.proofs.CountLemmas.{pages_folded}
-use Rattle.bdb_btree.proofs.LeastLemmas.{note_all}
 use Rattle.bdb_btree.proofs.SeparatorLemmas.{wrong_separators}
 use Rattle.bdb_tree.proofs.TreeLemmas.{child_is, leaf_fits}
 
@@ -32,12 +30,6 @@ pub fold_more : {S A : Type 0} (f : S → A → S) (start : S) (items : List A) 
 fold_more f start items i item at =
     let found = got items i item item at in
     ap (fold f start) (take_more items i item found.0) ∙ (fold-append f start (take i items) _ ∙ ap (f (fold f start (take i items))) found.1)
-
--- the pages that were noted are those at which a test holds
-pub all_noted : (file : File) (test : Page → Bool) (pages : List ℕ) (i : ℕ) (least : Option ℕ)
-    → least ≡ fold (noting (λ (p : ℕ). p) (λ p. test (page_at file p))) None (take i pages) → length pages ≤ i
-    → IsLeastPage least (is_wrong_at file test pages)
-all_noted file test pages i least is end = rw (is, take_all i pages end) (note_all (λ (p : ℕ). p) (λ p. test (page_at file p)) pages)
 
 -- Keys below an item.
 

@@ -1,6 +1,6 @@
 pub mod Bounds
 pub mod Counts
-pub mod Least
+pub mod Noted
 pub mod Pairs
 pub mod Rows
 pub mod Runs

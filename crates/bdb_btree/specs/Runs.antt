@@ -2,7 +2,6 @@
 use Rattle.std.specs.Prelude.{ℕ, ◌&&◌, ◌||◌, not, if◌then◌else◌, Bool, false, List, Option, Some, None}
 use Rattle.std.specs.List.{fold}
 use Rattle.bdb_format.specs.Less.{less}
-use Rattle.bdb_format.specs.Table.{lesser}
 use Rattle.bdb_format.specs.File.{File}
 use Rattle.bdb_format.specs.Contents.{StoredPair}
 use Rattle.bdb_format.specs.ContentRows.{live_data}
@@ -22,31 +21,28 @@ follow run value = record { last = Some value; broken = run.broken || is_not_abo
 
 -- The keys of pairs.
 
--- the key of the last pair, and the least page of a pair whose key is out of order
+-- the key of the last pair, whether it was out of order, and whether all are in order so far
 pub record KeyOrder : Type 0 where
   pub before : Option (List ℕ)
-  pub least : Option ℕ
+  pub wrong : Bool
+  pub ordered : Bool
 
 -- a pair that shares its key isn't compared
+abbrev pub is_wrong_key : KeyOrder → StoredPair → Bool
+is_wrong_key order pair = not pair.shares && is_not_above order.before pair.key
+
 abbrev pub next_key : KeyOrder → StoredPair → KeyOrder
 next_key order pair = record {
   before = Some pair.key;
-  least = if not pair.shares && is_not_above order.before pair.key then lesser order.least (Some pair.page) else order.least;
+  wrong = is_wrong_key order pair;
+  ordered = if is_wrong_key order pair then false else order.ordered;
 }
 
 -- The data of pairs.
 
--- the last of the live data of the last pairs that share a key, and the least page of a pair whose data don't follow
-pub record DataOrder : Type 0 where
-  pub last : Option (List ℕ)
-  pub least : Option ℕ
-
 -- a run goes on where a pair shares its key, else it begins anew
-abbrev pub run_at : DataOrder → StoredPair → Run
-run_at order pair = record { last = if pair.shares then order.last else None; broken = false }
+abbrev pub run_at : Run → StoredPair → Run
+run_at run pair = record { last = if pair.shares then run.last else None; broken = false }
 
-abbrev pub after_run : DataOrder → ℕ → Run → DataOrder
-after_run order page run = record { last = run.last; least = if run.broken then lesser order.least (Some page) else order.least }
-
-abbrev pub next_data : File → DataOrder → StoredPair → DataOrder
-next_data file order pair = after_run order pair.page (fold follow (run_at order pair) (live_data file pair))
+abbrev pub next_data : File → Run → StoredPair → Run
+next_data file run pair = fold follow (run_at run pair) (live_data file pair)

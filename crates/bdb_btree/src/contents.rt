@@ -1,21 +1,24 @@
-ghost use Rattle.std.specs.Prelude.{◌≡◌, ◌&&◌, [], IfErr, IfOk, None, OnOk, false, if◌then◌else◌};
+ghost use Rattle.std.specs.Prelude.{◌≡◌, [], false, IfErr, OnOk, if◌then◌else◌};
 ghost use Rattle.std.specs.List.{All};
 ghost use Rattle.bdb_graph.specs.Linked.{FitsTreeRoot, HasMetadata, IsForest};
-ghost use Rattle.bdb_format.specs.ContentRows.{database_faults, has_wrong_count, is_wrong_at};
-ghost use Rattle.bdb_format.specs.File.{file_of};
+ghost use Rattle.bdb_faults.specs.Named.{HasNoted};
+ghost use Rattle.bdb_faults.specs.Notes.{Notes, NotesAll};
+ghost use Rattle.bdb_format.specs.ContentRows.{database_faults, has_wrong_count};
+ghost use Rattle.bdb_format.specs.File.{file_of, page_at};
 ghost use Rattle.bdb_format.specs.Numbers.{has_bit};
 ghost use Rattle.bdb_format.specs.Page.{BtreeFields};
-ghost use Rattle.bdb_format.specs.Verdict.{structure_faults, first_fault, IsFirstOf};
+ghost use Rattle.bdb_format.specs.Verdict.{structure_faults, IsFirstOf};
 ghost use Rattle.bdb_format.specs.Flags.{is_recno};
 ghost use Rattle.bdb_btree.specs.Counts.{IsKeyed};
-ghost use Rattle.bdb_btree.specs.Least.{IsLeastPage, sooner};
+ghost use Rattle.bdb_btree.specs.Noted.{faults_at};
+ghost use Rattle.bdb_btree.specs.declared.noted.BtreeRow.TheVariants.{Count};
 
-use crate::counts::wrong_count;
+use crate::counts::note_counts;
 use crate::inner::inner_pages;
-use crate::least::sooner;
-use crate::pair_rows::{PairRows, pair_rows};
-use crate::separators::wrong_separator;
-use bdb_format::{BtreeMeta, CheckError, Fault};
+use crate::pair_rows::{Rules, note_pairs};
+use crate::separators::note_separators;
+use bdb_faults::{FaultSink, First, NamedList};
+use bdb_format::{BtreeMeta, CheckError};
 use bdb_graph::{Forest, Linked};
 use std::alloc::{AllocError, Global};
 
@@ -28,33 +31,75 @@ pub fn check(alloc: Global, linked: &Linked<'_>, meta: &BtreeMeta) -> Result<(),
     ensures accepted { OnOk result (database_faults (file_of linked.now) (BtreeFields meta.now) ≡ []) }
     ensures refusal { IfErr result (IsFirstOf (database_faults (file_of linked.now) (BtreeFields meta.now))) }
 {
-    linked.root(meta);
-    match first_fault(alloc, &linked.forest(), meta) {
-        Ok(None) => Ok(()),
-        Ok(Some(fault)) => Err(CheckError::Fault(fault)),
-        Err(_) => Err(CheckError::Memory),
+    let mut first = First::new();
+    let Ok(()) = note_contents(alloc, linked, meta, &mut first) else {
+        return Err(CheckError::Memory);
+    };
+    match first.fault() {
+        None => Ok(()),
+        Some(fault) => Err(CheckError::Fault(fault)),
     }
 }
 
-/// The first fault of what a btree holds, if there is one. An error is want of memory.
-#[tactic(auto, using(crate::proofs::RootLemmas::root_keyed, crate::proofs::CountLemmas::keyed_is_tree, crate::proofs::InnerLemmas::all_ordered, crate::proofs::FallLemmas::root_ordered))]
-fn first_fault(
+/// Notes each row on what a btree holds at each page where it holds, in a list of all.
+pub fn all_faults(
+    alloc: Global,
+    linked: &Linked<'_>,
+    meta: &BtreeMeta,
+    found: &mut NamedList,
+) -> Result<(), AllocError>
+    requires meta { HasMetadata (file_of linked.now) (BtreeFields meta.now) }
+    requires keyed { is_recno meta.now ≡ false }
+    requires stage { structure_faults (file_of linked.now) ≡ [] }
+    ensures { OnOk result (NotesAll (HasNoted found.old) (HasNoted found.new) (database_faults (file_of linked.now) (BtreeFields meta.now))) }
+{
+    note_contents(alloc, linked, meta, found)
+}
+
+/// Notes each row on what a btree holds at each page where it holds, in any order and repeats allowed. An error is
+/// want of memory: the sink's, or that of 4 bytes for each internal page and 8 for each page below one.
+pub fn note_contents<F: FaultSink>(
+    alloc: Global,
+    linked: &Linked<'_>,
+    meta: &BtreeMeta,
+    found: &mut F,
+) -> Result<(), AllocError>
+    requires meta { HasMetadata (file_of linked.now) (BtreeFields meta.now) }
+    requires keyed { is_recno meta.now ≡ false }
+    requires stage { structure_faults (file_of linked.now) ≡ [] }
+    ensures { OnOk result (NotesAll (F.has_noted found.old) (F.has_noted found.new)
+        (database_faults (file_of linked.now) (BtreeFields meta.now))) }
+{
+    linked.root(meta);
+    note_forest(alloc, &linked.forest(), meta, found)?;
+    Ok(())
+}
+
+/// The same, of the forest of a file.
+#[tactic(auto, using(crate::proofs::RootLemmas::root_keyed, crate::proofs::CountLemmas::keyed_is_tree, crate::proofs::InnerLemmas::all_ordered))]
+fn note_forest<F: FaultSink>(
     alloc: Global,
     forest: &Forest<'_>,
     meta: &BtreeMeta,
-) -> Result<Option<Fault>, AllocError>
+    found: &mut F,
+) -> Result<(), AllocError>
     requires forest { IsForest forest.now }
     requires meta { HasMetadata (file_of forest.now) (BtreeFields meta.now) }
     requires keyed { is_recno meta.now ≡ false }
     requires root { FitsTreeRoot (file_of forest.now) meta.now.root }
     requires stage { structure_faults (file_of forest.now) ≡ [] }
-    ensures { IfOk result (λ first. first ≡ first_fault (database_faults (file_of forest.now) (BtreeFields meta.now))) }
+    ensures { OnOk result (NotesAll (F.has_noted found.old) (F.has_noted found.new)
+        (database_faults (file_of forest.now) (BtreeFields meta.now))) }
 {
-    let rows = pair_rows(forest, meta.root, has_bit(meta.flags, 0x40));
+    let rules = Rules {
+        duplicates: has_bit(meta.flags, 0x41),
+        sorted: has_bit(meta.flags, 0x40),
+    };
+    let ordered = note_pairs(forest, meta.root, rules, found)?;
     let pages = inner_pages(alloc, forest, meta.root)?;
-    let separator = wrong_separator(alloc, forest, &pages, rows.wrong_order.is_none())?;
-    let count = counted(alloc, forest, has_bit(meta.flags, 0x04), &pages)?;
-    Ok(first_of(has_bit(meta.flags, 0x41), &rows, separator, count))
+    note_separators(alloc, forest, &pages, ordered, found)?;
+    note_counted(alloc, forest, has_bit(meta.flags, 0x04), &pages, found)?;
+    Ok(())
 }
 
 /// Whether one of these bits is set.
@@ -64,39 +109,20 @@ fn has_bit(flags: u32, bits: u32) -> bool
     flags & bits != 0
 }
 
-/// The least of these pages with a wrong count, if counts are kept.
-fn counted(
+/// Notes those of these pages with a wrong count, if counts are kept.
+fn note_counted<F: FaultSink>(
     alloc: Global,
     forest: &Forest<'_>,
     keeps_counts: bool,
     pages: &[u32],
-) -> Result<Option<u32>, AllocError>
+    found: &mut F,
+) -> Result<(), AllocError>
     requires { All (IsKeyed (file_of forest.now)) pages.now }
-    ensures { IfOk result (λ least.
-        IsLeastPage least (λ p. keeps_counts && is_wrong_at (file_of forest.now) (has_wrong_count (file_of forest.now)) pages.now p)) }
+    ensures { OnOk result (Notes (F.has_noted found.old) (F.has_noted found.new)
+        (if keeps_counts then faults_at Count (λ p. has_wrong_count (file_of forest.now) (page_at (file_of forest.now) p)) pages.now else [])) }
 {
     if keeps_counts {
-        wrong_count(alloc, forest, pages)
-    } else {
-        Ok(None)
+        note_counts(alloc, forest, pages, found)?;
     }
-}
-
-/// The first fault by the least page of each row: of pairs, of separators and of counts.
-fn first_of(
-    duplicates: bool,
-    rows: &PairRows,
-    separator: Option<u32>,
-    count: Option<u32>,
-) -> Option<Fault>
-    ensures { result ≡ sooner 1 (if duplicates then None else rows.now.duplicate) (sooner 2 rows.now.wrong_set
-        (sooner 3 rows.now.wrong_order (sooner 4 separator (sooner 5 rows.now.unsorted (sooner 6 count None))))) }
-{
-    let first = sooner(6, count, None);
-    let first = sooner(5, rows.unsorted, first);
-    let first = sooner(4, separator, first);
-    let first = sooner(3, rows.wrong_order, first);
-    let first = sooner(2, rows.wrong_set, first);
-    let duplicate = if duplicates { None } else { rows.duplicate };
-    sooner(1, duplicate, first)
+    Ok(())
 }

@@ -1,20 +1,23 @@
-ghost use Rattle.std.specs.Prelude.{◌≡◌, IfOk};
+ghost use Rattle.std.specs.Prelude.{◌≡◌, IfOk, OnOk};
 ghost use Rattle.std.specs.List.{All, fold};
 ghost use Rattle.bdb_graph.specs.Linked.{FitsLeafPage};
 ghost use Rattle.bdb_layout.specs.Seen.{internal_item_seen};
-ghost use Rattle.bdb_format.specs.ContentRows.{has_wrong_count, is_wrong_at, is_wrong_count};
+ghost use Rattle.bdb_format.specs.ContentRows.{has_wrong_count, is_wrong_count};
 ghost use Rattle.bdb_format.specs.Contents.{pairs_of, tree_pairs};
 ghost use Rattle.bdb_format.specs.File.{file_of, page_at};
 ghost use Rattle.bdb_format.specs.Page.{Internal};
 ghost use Rattle.bdb_btree.specs.Bounds.{ItemsFit};
 ghost use Rattle.bdb_btree.specs.Counts.{IsKeyed, count_pair, no_pairs_counted};
-ghost use Rattle.bdb_btree.specs.Least.{IsLeastPage};
+ghost use Rattle.bdb_btree.specs.Noted.{faults_at};
+ghost use Rattle.bdb_btree.specs.declared.noted.BtreeRow.TheVariants.{Count};
+ghost use Rattle.bdb_faults.specs.Notes.{Notes};
 ghost use Rattle.bdb_btree.specs.Pairs.{pair_seen};
 ghost use Rattle.bdb_tree.specs.Trees.{IsTreePage};
 
-use crate::least::note;
+use crate::noted::{BtreeRow, note_if};
 use crate::pair::Pair;
 use crate::walk::page_pairs;
+use bdb_faults::FaultSink;
 use bdb_form::{InternalView, PageView};
 use bdb_graph::Forest;
 use bdb_layout::InternalItem;
@@ -109,18 +112,20 @@ fn is_wrong_page(alloc: Global, forest: &Forest<'_>, number: u32) -> Result<bool
     }
 }
 
-/// The least of these pages of a tree of pairs with a wrong count, if there is one. An error is want of memory.
-pub(crate) fn wrong_count(
+/// Notes those of these pages of a tree of pairs that have a wrong count.
+pub(crate) fn note_counts<F: FaultSink>(
     alloc: Global,
     forest: &Forest<'_>,
     pages: &[u32],
-) -> Result<Option<u32>, AllocError>
+    found: &mut F,
+) -> Result<(), AllocError>
     requires { All (IsKeyed (file_of forest.now)) pages.now }
-    ensures { IfOk result (λ least. IsLeastPage least (is_wrong_at (file_of forest.now) (has_wrong_count (file_of forest.now)) pages.now)) }
+    ensures { OnOk result (Notes (F.has_noted found.old) (F.has_noted found.new)
+        (faults_at Count (λ p. has_wrong_count (file_of forest.now) (page_at (file_of forest.now) p)) pages.now)) }
 {
-    let mut least = None;
     for page in pages {
-        least = note(least, *page, is_wrong_page(alloc, forest, *page)?);
+        let wrong = is_wrong_page(alloc, forest, *page)?;
+        note_if(found, BtreeRow::Count, *page, wrong)?;
     }
-    Ok(least)
+    Ok(())
 }

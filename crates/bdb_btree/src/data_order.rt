@@ -9,7 +9,6 @@ ghost use Rattle.bdb_format.specs.File.{file_of};
 ghost use Rattle.bdb_format.specs.Verdict.{structure_faults};
 
 use crate::data::item_data;
-use crate::least::lesser;
 use crate::order::is_not_above;
 use crate::pair::Pair;
 use bdb_graph::Forest;
@@ -19,7 +18,7 @@ use std::marker::Model;
 
 /// Values that ought to ascend: the last one, and whether some value wasn't above the one before it.
 #[derive(Drop)]
-struct Run<'a> {
+pub(crate) struct Run<'a> {
     last: Option<Datum<'a>>,
     broken: bool,
 }
@@ -48,6 +47,16 @@ impl<'a> Run<'a> {
 }
 
 impl<'a> Run<'a> {
+    /// No value yet.
+    pub(crate) fn new() -> Run<'a>
+        ensures { result ≡ record { last = None; broken = false } }
+    {
+        Run {
+            last: None,
+            broken: false,
+        }
+    }
+
     /// No value yet, or the last one of the run before.
     fn begin(&mut self, goes_on: bool)
         ensures { self.new ≡ record { last = if goes_on then self.old.last else None; broken = false } }
@@ -71,55 +80,23 @@ impl<'a> Run<'a> {
     }
 }
 
-/// The order of data, pair after pair: the last live datum of the pairs that share a key, and the least page
-/// of a pair whose data don't follow.
-#[derive(Drop)]
-pub(crate) struct DataOrder<'a> {
-    run: Run<'a>,
-    least: Option<u32>,
-}
-
-impl<'a> Model for DataOrder<'a> {
-    ghost use Rattle.bdb_btree.specs.Runs.{DataOrder as DataSeen};
-
-    ghost Value = { DataSeen };
-
-    ghost view = { λ v. record { last = v.run.last; least = v.least } };
-}
-
-impl<'a> DataOrder<'a> {
-    /// No pair yet.
-    pub(crate) fn new() -> DataOrder<'a>
-        ensures { result ≡ record { last = None; least = None } }
-    {
-        DataOrder {
-            run: Run {
-                last: None,
-                broken: false,
-            },
-            least: None,
-        }
-    }
-
-    /// The next pair: its live data have to ascend, and where it shares its key to follow those before.
+impl<'a> Run<'a> {
+    /// The live data of the next pair: they have to ascend, and where it shares its key to follow those before.
     pub(crate) fn see(&mut self, forest: &Forest<'a>, pair: &Pair<'a>)
         requires fits { FitsPair (file_of forest.now) (pair_seen pair.now) }
         requires stage { structure_faults (file_of forest.now) ≡ [] }
         ensures { self.new ≡ next_data (file_of forest.now) self.old (pair_seen pair.now) }
     {
-        self.run.begin(pair.shares);
+        self.begin(pair.shares);
         if pair.live {
-            self.run.see_content(forest, &pair.item);
-        }
-        if self.run.broken {
-            self.least = lesser(self.least, pair.page);
+            self.see_content(forest, &pair.item);
         }
     }
 
-    /// The least page of a pair whose data don't follow, if there is one.
-    pub(crate) fn least(&self) -> Option<u32>
-        ensures { result ≡ self.now.least }
+    /// Whether some value of the last pair wasn't above the one before it.
+    pub(crate) fn is_broken(&self) -> bool
+        ensures { result ≡ self.now.broken }
     {
-        self.least
+        self.broken
     }
 }

@@ -10,15 +10,15 @@ mod entries;
 mod found;
 mod inner;
 mod leaf_pairs;
-mod least;
 mod lookups;
+mod noted;
 mod order;
 mod pair;
 mod pair_rows;
 mod separators;
 mod walk;
 
-pub use contents::check;
+pub use contents::{all_faults, check, note_contents};
 pub use entries::Scan;
 pub use found::Found;
 pub use leaf_pairs::{LeafPair, LeafPairs, pairs};

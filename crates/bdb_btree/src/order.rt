@@ -1,10 +1,9 @@
-ghost use Rattle.std.specs.Prelude.{◌≡◌, None};
+ghost use Rattle.std.specs.Prelude.{◌≡◌, None, false, true};
 ghost use Rattle.std.specs.Option.{option_map};
 ghost use Rattle.bdb_btree.specs.Pairs.{pair_seen};
 ghost use Rattle.bdb_btree.specs.Runs.{is_not_above, next_key};
 ghost use Rattle.bdb_overflow.specs.Datum.{datum_seen};
 
-use crate::least::lesser;
 use crate::pair::Pair;
 use bdb_overflow::{Datum, is_less};
 use std::marker::Model;
@@ -19,11 +18,12 @@ pub(crate) fn is_not_above(before: &Option<Datum<'_>>, value: &Datum<'_>) -> boo
     }
 }
 
-/// The order of keys, pair after pair: the last key, and the least page of a pair that is out of order.
+/// The order of keys, pair after pair: the last key, whether it was out of order, and whether none was so far.
 #[derive(Drop)]
 pub(crate) struct KeyOrder<'a> {
     before: Option<Datum<'a>>,
-    least: Option<u32>,
+    wrong: bool,
+    ordered: bool,
 }
 
 impl<'a> Model for KeyOrder<'a> {
@@ -34,17 +34,18 @@ impl<'a> Model for KeyOrder<'a> {
 
     ghost use Rattle.bdb_overflow.specs.Datum.{datum_seen};
 
-    ghost view = { λ v. record { before = option_map datum_seen v.before; least = v.least } };
+    ghost view = { λ v. record { before = option_map datum_seen v.before; wrong = v.wrong; ordered = v.ordered } };
 }
 
 impl<'a> KeyOrder<'a> {
     /// No pair yet.
     pub(crate) fn new() -> KeyOrder<'a>
-        ensures { result ≡ record { before = None; least = None } }
+        ensures { result ≡ record { before = None; wrong = false; ordered = true } }
     {
         KeyOrder {
             before: None,
-            least: None,
+            wrong: false,
+            ordered: true,
         }
     }
 
@@ -52,16 +53,24 @@ impl<'a> KeyOrder<'a> {
     pub(crate) fn see(&mut self, pair: &Pair<'a>)
         ensures { self.new ≡ next_key self.old (pair_seen pair.now) }
     {
-        if !pair.shares && is_not_above(&self.before, &pair.key) {
-            self.least = lesser(self.least, pair.page);
+        self.wrong = !pair.shares && is_not_above(&self.before, &pair.key);
+        if self.wrong {
+            self.ordered = false;
         }
         self.before = Some(pair.key.again());
     }
 
-    /// The least page of a pair that is out of order, if one is.
-    pub(crate) fn least(&self) -> Option<u32>
-        ensures { result ≡ self.now.least }
+    /// Whether the last pair was out of order.
+    pub(crate) fn is_wrong(&self) -> bool
+        ensures { result ≡ self.now.wrong }
     {
-        self.least
+        self.wrong
+    }
+
+    /// Whether no pair was out of order.
+    pub(crate) fn is_ordered(&self) -> bool
+        ensures { result ≡ self.now.ordered }
+    {
+        self.ordered
     }
 }

@@ -1,29 +1,45 @@
-ghost use Rattle.std.specs.Prelude.{◌≡◌, ◌&&◌, []};
-ghost use Rattle.std.specs.List.{fold};
+ghost use Rattle.std.specs.Prelude.{◌≡◌, ◌&&◌, [], IfOk, OnOk, not};
 ghost use Rattle.bdb_graph.specs.Linked.{FitsTreeRoot};
-ghost use Rattle.bdb_format.specs.ContentRows.{has_duplicate, has_unsorted, has_wrong_set};
+ghost use Rattle.bdb_faults.specs.Notes.{Notes};
+ghost use Rattle.bdb_format.specs.ContentRows.{is_duplicate};
 ghost use Rattle.bdb_format.specs.Contents.{tree_pairs};
 ghost use Rattle.bdb_format.specs.File.{file_of};
 ghost use Rattle.bdb_format.specs.Verdict.{structure_faults};
-ghost use Rattle.bdb_btree.specs.Least.{IsLeastPage};
+ghost use Rattle.bdb_btree.specs.Bounds.{OrderedIf};
 ghost use Rattle.bdb_btree.specs.Pairs.{FitsPair, pair_seen};
-ghost use Rattle.bdb_btree.specs.Rows.{has_wrong_order, next_pair, no_pairs_passed};
+ghost use Rattle.bdb_btree.specs.Rows.{next_pair, no_pairs_passed, pair_faults, pairs_faults};
 
-use crate::data_order::DataOrder;
+use crate::data_order::Run;
 use crate::duplicates::{is_duplicate, is_wrong_set};
-use crate::least::lesser;
+use crate::noted::{BtreeRow, note_if};
 use crate::order::KeyOrder;
 use crate::pair::Pair;
 use crate::walk::tree_pairs;
+use bdb_faults::FaultSink;
 use bdb_graph::Forest;
+use std::alloc::AllocError;
 
-/// The rows on pairs, as far as the pairs have been gone through.
+/// What a database lets its pairs be.
+#[derive(Clone, Copy)]
+pub(crate) struct Rules {
+    /// Whether a key may have several values.
+    pub(crate) duplicates: bool,
+    /// Whether the values of a key ascend.
+    pub(crate) sorted: bool,
+}
+
+/// What is kept of the pairs that have been gone through.
 #[derive(Drop)]
 struct Passed<'a> {
-    duplicate: Option<u32>,
-    wrong_set: Option<u32>,
     keys: KeyOrder<'a>,
-    values: DataOrder<'a>,
+    values: Run<'a>,
+}
+
+/// Whether only another database may have a pair.
+fn is_refused(rules: Rules, pair: &Pair<'_>) -> bool
+    ensures { result ≡ (not rules.duplicates && is_duplicate (pair_seen pair.now)) }
+{
+    !rules.duplicates && is_duplicate(pair)
 }
 
 impl<'a> Passed<'a> {
@@ -32,10 +48,8 @@ impl<'a> Passed<'a> {
         ensures { result ≡ no_pairs_passed }
     {
         Passed {
-            duplicate: None,
-            wrong_set: None,
             keys: KeyOrder::new(),
-            values: DataOrder::new(),
+            values: Run::new(),
         }
     }
 
@@ -45,61 +59,73 @@ impl<'a> Passed<'a> {
         requires stage { structure_faults (file_of forest.now) ≡ [] }
         ensures { self.new ≡ next_pair (file_of forest.now) sorted self.old (pair_seen pair.now) }
     {
-        if is_duplicate(pair) {
-            self.duplicate = lesser(self.duplicate, pair.page);
-        }
-        if is_wrong_set(forest, sorted, pair) {
-            self.wrong_set = lesser(self.wrong_set, pair.page);
-        }
         self.keys.see(pair);
         if sorted {
             self.values.see(forest, pair);
         }
     }
-}
 
-/// The least pages at which rows on the pairs of a btree hold, each if there is one.
-#[derive(Drop)]
-pub(crate) struct PairRows {
-    /// Of a pair that only a database with duplicates may have.
-    pub(crate) duplicate: Option<u32>,
-    /// Of a set of the wrong kind.
-    pub(crate) wrong_set: Option<u32>,
-    /// Of a key out of order.
-    pub(crate) wrong_order: Option<u32>,
-    /// Of data out of order, where they are sorted.
-    pub(crate) unsorted: Option<u32>,
-}
+    /// Whether the data of the last pair are out of order, where they ought to be in order.
+    fn is_unsorted(&self, sorted: bool) -> bool
+        ensures { result ≡ (sorted && self.now.values.broken) }
+    {
+        sorted && self.values.is_broken()
+    }
 
-/// The rows on the pairs of a btree: one walk over its leaves, which takes no memory.
-#[tactic(auto, using(crate::proofs::RowLemmas::duplicate_row, crate::proofs::RowLemmas::set_row, crate::proofs::RowLemmas::order_row, crate::proofs::RowLemmas::data_row))]
-pub(crate) fn pair_rows(forest: &Forest<'_>, root: u32, sorted: bool) -> PairRows
-    requires root { FitsTreeRoot (file_of forest.now) root }
-    requires stage { structure_faults (file_of forest.now) ≡ [] }
-    ensures duplicate { IsLeastPage result.duplicate (has_duplicate (tree_pairs (file_of forest.now) root)) }
-    ensures wrong_set { IsLeastPage result.wrong_set (has_wrong_set (file_of forest.now) sorted (tree_pairs (file_of forest.now) root)) }
-    ensures wrong_order { IsLeastPage result.wrong_order (has_wrong_order (tree_pairs (file_of forest.now) root)) }
-    ensures unsorted { IsLeastPage result.unsorted (λ p. sorted && has_unsorted (file_of forest.now) (tree_pairs (file_of forest.now) root) p) }
-{
-    let passed = pass_pairs(forest, root, sorted);
-    PairRows {
-        duplicate: passed.duplicate,
-        wrong_set: passed.wrong_set,
-        wrong_order: passed.keys.least(),
-        unsorted: passed.values.least(),
+    /// Notes the rows on the last pair.
+    fn note<F: FaultSink>(
+        &self,
+        forest: &Forest<'a>,
+        rules: Rules,
+        pair: &Pair<'a>,
+        found: &mut F,
+    ) -> Result<(), AllocError>
+        requires { FitsPair (file_of forest.now) (pair_seen pair.now) }
+        ensures { OnOk result (Notes (F.has_noted found.old) (F.has_noted found.new)
+            (pair_faults (file_of forest.now) rules self.now (pair_seen pair.now))) }
+    {
+        note_if(
+            found,
+            BtreeRow::Duplicates,
+            pair.page,
+            is_refused(rules, pair),
+        )?;
+        note_if(
+            found,
+            BtreeRow::DuplicateKind,
+            pair.page,
+            is_wrong_set(forest, rules.sorted, pair),
+        )?;
+        note_if(found, BtreeRow::KeyOrder, pair.page, self.keys.is_wrong())?;
+        note_if(
+            found,
+            BtreeRow::DuplicateOrder,
+            pair.page,
+            self.is_unsorted(rules.sorted),
+        )?;
+        Ok(())
     }
 }
 
-/// All pairs of a tree gone through.
-fn pass_pairs<'a>(forest: &Forest<'a>, root: u32, sorted: bool) -> Passed<'a>
+/// Notes the rows on the pairs of a btree: one walk over its leaves, which takes no memory of its own. It tells
+/// whether no key is out of order.
+pub(crate) fn note_pairs<F: FaultSink>(
+    forest: &Forest<'_>,
+    root: u32,
+    rules: Rules,
+    found: &mut F,
+) -> Result<bool, AllocError>
     requires root { FitsTreeRoot (file_of forest.now) root }
     requires stage { structure_faults (file_of forest.now) ≡ [] }
-    ensures { result ≡ fold (next_pair (file_of forest.now) sorted) no_pairs_passed (tree_pairs (file_of forest.now) root) }
+    ensures noted { OnOk result (Notes (F.has_noted found.old) (F.has_noted found.new)
+        (pairs_faults (file_of forest.now) rules no_pairs_passed (tree_pairs (file_of forest.now) root))) }
+    ensures order { IfOk result (λ ordered. OrderedIf ordered (file_of forest.now) root) }
 {
     forest.head();
     let mut passed = Passed::new();
     for pair in tree_pairs(forest, root) {
-        passed.see(forest, sorted, &pair);
+        passed.see(forest, rules.sorted, &pair);
+        passed.note(forest, rules, &pair, found)?;
     }
-    passed
+    Ok(passed.keys.is_ordered())
 }

@@ -2,7 +2,7 @@ ghost use Rattle.std.specs.Prelude.{◌≡◌, IfOk, OnOk};
 ghost use Rattle.std.specs.List.{All, fold};
 ghost use Rattle.std.specs.Option.{option_map};
 ghost use Rattle.bdb_graph.specs.Linked.{FitsLeafPage};
-ghost use Rattle.bdb_format.specs.ContentRows.{has_wrong_separator, is_wrong_at};
+ghost use Rattle.bdb_format.specs.ContentRows.{has_wrong_separator};
 ghost use Rattle.bdb_format.specs.Contents.{pairs_of, tree_pairs};
 ghost use Rattle.bdb_format.specs.File.{file_of, page_at};
 ghost use Rattle.bdb_format.specs.Page.{Internal};
@@ -10,13 +10,16 @@ ghost use Rattle.bdb_overflow.specs.Datum.{FitsContent, datum_seen};
 ghost use Rattle.bdb_layout.specs.Seen.{internal_item_seen, key_seen};
 ghost use Rattle.bdb_btree.specs.Bounds.{DontFall, ItemsFit, OrderedIf, beyond, exceeds, is_below, no_bounds};
 ghost use Rattle.bdb_btree.specs.Bounds.{see_item, see_items, under, under_pair};
-ghost use Rattle.bdb_btree.specs.Least.{IsLeastPage};
+ghost use Rattle.bdb_btree.specs.Noted.{faults_at};
+ghost use Rattle.bdb_btree.specs.declared.noted.BtreeRow.TheVariants.{Separator};
+ghost use Rattle.bdb_faults.specs.Notes.{Notes};
 ghost use Rattle.bdb_tree.specs.Trees.{IsTreePage};
 
-use crate::least::note;
+use crate::noted::{BtreeRow, note_if};
 use crate::order::is_not_above;
 use crate::pair::key_at;
 use crate::walk::page_pairs;
+use bdb_faults::FaultSink;
 use bdb_form::{InternalView, PageView};
 use bdb_graph::Forest;
 use bdb_layout::InternalItem;
@@ -229,21 +232,23 @@ fn is_wrong_page(
     }
 }
 
-/// The least of these pages of a tree with a wrong separator, if there is one. Where the keys below them are told
-/// to be in order, few of them are read. An error is want of memory.
-pub(crate) fn wrong_separator(
+/// Notes those of these pages of a tree that have a wrong separator. Where the keys below them are told to be in
+/// order, few of them are read.
+pub(crate) fn note_separators<F: FaultSink>(
     alloc: Global,
     forest: &Forest<'_>,
     pages: &[u32],
     ordered: bool,
-) -> Result<Option<u32>, AllocError>
+    found: &mut F,
+) -> Result<(), AllocError>
     requires trees { All (IsTreePage (file_of forest.now)) pages.now }
     requires order { All (OrderedIf ordered (file_of forest.now)) pages.now }
-    ensures { IfOk result (λ least. IsLeastPage least (is_wrong_at (file_of forest.now) (has_wrong_separator (file_of forest.now)) pages.now)) }
+    ensures { OnOk result (Notes (F.has_noted found.old) (F.has_noted found.new)
+        (faults_at Separator (λ p. has_wrong_separator (file_of forest.now) (page_at (file_of forest.now) p)) pages.now)) }
 {
-    let mut least = None;
     for page in pages {
-        least = note(least, *page, is_wrong_page(alloc, forest, *page, ordered)?);
+        let wrong = is_wrong_page(alloc, forest, *page, ordered)?;
+        note_if(found, BtreeRow::Separator, *page, wrong)?;
     }
-    Ok(least)
+    Ok(())
 }

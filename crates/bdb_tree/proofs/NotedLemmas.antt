@@ -1,13 +1,13 @@
--- The faults of leaves as they are noted: the least of them is the first of the stage.
-use Rattle.std.proofs.Common.{◌≡◌, ◌⊎◌, ℕ, zero, suc, ◌+◌, ◌-◌, ◌/◌, ◌<◌, ◌≤◌, Bool, true, false, List, [], ◌∷◌, ◌++◌, length, map, take}
-use Rattle.std.proofs.Common.{get_or, arith, refl, sym, ◌∙◌, ap, subst, append-nil, zero-add, inl, inr}
+-- The faults of leaves as they are noted are those of the stage.
+use Rattle.std.proofs.Common.{◌≡◌, ◌⊎◌, ℕ, zero, suc, ◌+◌, ◌-◌, ◌/◌, ◌<◌, ◌≤◌, Bool, true, false, List, [], ◌∷◌, ◌++◌, length, take}
+use Rattle.std.proofs.Common.{get_or, arith, refl, sym, ◌∙◌, ap, subst, inl, inr, append_assoc}
 use Rattle.std.specs.Prelude.{Option, Some, None, ◌==◌, ◌&&◌, slice_index}
 use Rattle.std.specs.List.{All, Contains, flat_map, list_any, range_with_len}
-use Rattle.std.specs.Option.{option_to_list}
 use Rattle.std.proofs.lemmas.Bool.{and_from, and_parts, eq-eqb, eqb-true, ne_eqb}
-use Rattle.std.proofs.lemmas.List.{flat_map_more, take_all, take_more}
+use Rattle.std.proofs.lemmas.List.{take_all}
 use Rattle.std.proofs.lemmas.List.Elements.{Contains-append_cases, Contains-append_left, Contains-append_right, Contains-get_or}
-use Rattle.bdb_format.specs.ByPage.{ComesFirst}
+use Rattle.bdb_faults.specs.Notes.{AreSame, IsFirst, Notes, NotesAll}
+use Rattle.bdb_faults.proofs.SinkLemmas.{first_noted, notes_next, notes_one}
 use Rattle.bdb_format.specs.declared.kinds.Fault.{Fault}
 use Rattle.bdb_format.specs.declared.references.Reference.{Reference}
 use Rattle.bdb_format.specs.declared.references.Sort.{Sort}
@@ -18,73 +18,29 @@ use Rattle.bdb_format.specs.Leaves.{LeafPlace, first_or_zero, is_root_reference,
 use Rattle.bdb_format.specs.Leaves.{root_references, tree_rows}
 use Rattle.bdb_format.specs.Page.{Page}
 use Rattle.bdb_format.specs.References.{refs}
-use Rattle.bdb_format.specs.Table.{◌:?◌, first_row}
+use Rattle.bdb_format.specs.Table.{◌:?◌}
 use Rattle.bdb_format.specs.Verdict.{holding, tree_faults, first_fault}
-use Rattle.bdb_format.proofs.MemberLemmas.{first_member, in_flat_map, in_range, is_empty, later_member, member_cases, no_member, of_filter}
+use Rattle.bdb_format.proofs.FaultLemmas.{tree_one, tree_rises}
+use Rattle.bdb_format.proofs.ListLemmas.{any_member, only_member, passes_here}
+use Rattle.bdb_format.proofs.MemberLemmas.{first_member, in_flat_map, in_range, later_member, member_cases, no_member, of_filter}
 use Rattle.bdb_format.proofs.MemberLemmas.{of_flat_map, of_range}
+use Rattle.bdb_format.proofs.ReferenceLemmas.{of_all}
 use Rattle.bdb_format.proofs.VerdictLemmas.{in_by_page, of_by_page}
 use Rattle.bdb_graph.specs.Linked.{FitsLeafPage, IsForest, IsTarget}
+use Rattle.bdb_tree.specs.Noted.{code_of, data_faults, data_root, fault_if, held_faults, meta_root, paired, place_faults, place_in, root_faults}
 use Rattle.bdb_tree.specs.Trees.{IsTreePage}
-use Rattle.bdb_tree.proofs.TreeLemmas.{leaf_fits, leaf_low, place_of_root}
+use Rattle.bdb_tree.specs.declared.noted.TreeRow.{TreeRow}
+use Rattle.bdb_tree.specs.declared.noted.TreeRow.TheVariants.{LeafKind, LeafLink}
 use Rattle.bdb_tree.proofs.RootLemmas.{data_root_fits, meta_root_fits, reference_is_tree, reference_root}
-use Rattle.bdb_tree.specs.Noted.{IsLeast, IsLeastOf, data_faults, data_root, held_faults, leaf_fault, meta_root, paired, place_faults, place_in}
-use Rattle.bdb_tree.specs.Noted.{place_rows, root_faults}
-use Rattle.bdb_format.proofs.ListLemmas.{any_member, only_member, passes_here, range_more}
-use Rattle.bdb_format.proofs.FaultLemmas.{same_fault, comes_itself, comes_through, tree_rises, tree_one}
-use Rattle.bdb_format.proofs.ReferenceLemmas.{of_all}
-
--- The least of some faults.
-
-of_one_more : {X : Type 0} (xs : List X) (x y : X) → Contains (xs ++ (x ∷ [])) y → Contains xs y ⊎ (x ≡ y)
-of_one_more xs x y at =
-    elim (Contains-append_cases xs (x ∷ []) y at) [ inl here ↦ inl here | inr last ↦ inr (only_member x y last) ]
-
--- one fault alone
-pub least_alone : (faults : List Fault) (fault : Fault) → faults ≡ [] → IsLeastOf (faults ++ (fault ∷ [])) fault
-least_alone faults fault none =
-    record {
-      holds = Contains-append_right faults (fault ∷ []) fault (first_member fault []);
-      least =
-          λ other at. elim (of_one_more faults fault other at)
-          [ inl here ↦ absurd (no_member faults other none here) | inr same ↦ subst (ComesFirst fault) same (comes_itself fault) ];
-    }
-
--- one more fault that doesn't come before the least
-pub least_kept : (faults : List Fault) (first fault : Fault) → IsLeastOf faults first → ComesFirst first fault
-    → IsLeastOf (faults ++ (fault ∷ [])) first
-least_kept faults first fault is comes =
-    record {
-      holds = Contains-append_left faults (fault ∷ []) first is.holds;
-      least =
-          λ other at. elim (of_one_more faults fault other at) [ inl here ↦ is.least other here | inr same ↦ subst (ComesFirst first) same comes ];
-    }
-
--- one more that does
-pub least_taken : (faults : List Fault) (first fault : Fault) → IsLeastOf faults first → ComesFirst fault first
-    → IsLeastOf (faults ++ (fault ∷ [])) fault
-least_taken faults first fault is comes =
-    record {
-      holds = Contains-append_right faults (fault ∷ []) fault (first_member fault []);
-      least = λ other at.
-          elim (of_one_more faults fault other at) [
-            | inl here ↦ comes_through fault first other comes (is.least other here)
-            | inr same ↦ subst (ComesFirst fault) same (comes_itself fault)
-          ];
-    }
+use Rattle.bdb_tree.proofs.TreeLemmas.{leaf_fits, leaf_low, place_of_root}
 
 -- Places.
 
--- the fault of a leaf, where a row holds for it
-pub one_place : (file : File) (place : LeafPlace) (code : ℕ) (faults : List Fault) (least : Fault) → Some code ≡ first_row (place_rows file place)
-    → IsLeastOf (faults ++ (leaf_fault place.leaf code ∷ [])) least
-    → IsLeastOf (faults ++ place_faults file place) least
-one_place file place code faults least is = subst (λ c. IsLeastOf (faults ++ map (leaf_fault place.leaf) (option_to_list c)) least) is
-
-pub no_place : (file : File) (place : LeafPlace) (faults : List Fault) (least : Option Fault) → None ≡ first_row (place_rows file place)
-    → IsLeast faults least → IsLeast (faults ++ place_faults file place) least
-no_place file place faults least is here =
-    subst (λ c. IsLeast (faults ++ map (leaf_fault place.leaf) (option_to_list c)) least) is
-    (subst (λ fs. IsLeast fs least) (sym (append-nil faults)) here)
+-- some faults and then others
+pub notes_then : (before middle after : List Fault → Type 0) (xs ys : List Fault) → Notes before middle xs → Notes middle after ys
+    → Notes before after (xs ++ ys)
+notes_then before middle after xs ys first second =
+    λ faults is. subst after (append_assoc faults xs ys) (second (faults ++ xs) (first faults is))
 
 length_places : (sort : Sort) (before : ℕ) (ps : List ℕ) → length (places_from sort before ps) ≡ length ps
 length_places sort before [] = refl
@@ -118,15 +74,15 @@ place_same sort ps (suc i) =
     rw (ne_eqb (suc i) 0 (λ is. omega arith), one, two) refl
 
 -- one leaf more
-pub place_more : (f : LeafPlace → List Fault) (sort : Sort) (ps : List ℕ) (i : ℕ) (faults : List Fault) → i < length ps
-    → (faults ++ flat_map f (take i (places_from sort 0 ps))) ++ f (place_in sort ps i) ≡ faults ++ flat_map f (take (i + 1) (places_from sort 0 ps))
-place_more f sort ps i faults below =
+pub place_more : (before middle after : List Fault → Type 0) (f : LeafPlace → List Fault) (sort : Sort) (ps : List ℕ) (i : ℕ) → i < length ps
+    → NotesAll before middle (flat_map f (take i (places_from sort 0 ps))) → Notes middle after (f (place_in sort ps i))
+    → NotesAll before after (flat_map f (take (i + 1) (places_from sort 0 ps)))
+place_more before middle after f sort ps i below first second =
     let places : List LeafPlace = places_from sort 0 ps in
     let place : LeafPlace = place_in sort ps i in
-    let next =
-    take_more places i place (omega (arith, length_places sort 0 ps))
-    ∙ ap (λ q. take i places ++ (q ∷ [])) (place_is sort 0 ps i place below ∙ place_same sort ps i) in
-    flat_map_more f faults (take i places) place ∙ ap (λ qs. faults ++ flat_map f qs) (sym next)
+    let is : get_or places i place ≡ place = place_is sort 0 ps i place below ∙ place_same sort ps i in
+    notes_next before middle after f places i place (omega (arith, length_places sort 0 ps)) first
+    (notes_one middle after (f (get_or places i place)) (subst (λ q. Notes middle after (f q)) (sym is) second))
 
 -- after the last one all are passed
 pub all_places : (f : LeafPlace → List Fault) (sort : Sort) (ps : List ℕ) (i : ℕ) → length ps ≤ i
@@ -159,41 +115,23 @@ all_leaves image ps p forest tree is =
 -- Trees.
 
 -- the faults of the leaves of a tree are those of its root
-pub tree_noted : (file : File) (sort : Sort) (root : Option ℕ) (r : ℕ) (ps : List ℕ) (faults : List Fault) (least : Option Fault) → root ≡ Some r
-    → ps ≡ leaves file r
-    → IsLeast (faults ++ flat_map (place_faults file) (places_from sort 0 ps)) least → IsLeast (faults ++ root_faults file sort root) least
-tree_noted file sort root r ps faults least is all here =
-    subst (λ q. IsLeast (faults ++ root_faults file sort q) least) (sym is)
-    (subst (λ qs. IsLeast (faults ++ flat_map (place_faults file) (places_from sort 0 qs)) least) all here)
-
--- one page or pair more
-pub one_more : (f : ℕ → List Fault) (before : List Fault) (n : ℕ) (least : Option Fault)
-    → IsLeast ((before ++ flat_map f (range_with_len 0 n)) ++ f n) least
-    → IsLeast (before ++ flat_map f (range_with_len 0 (n + 1))) least
-one_more f before n least =
-    subst (λ fs. IsLeast fs least)
-    (flat_map_more f before (range_with_len 0 n) n ∙ ap (λ ks. before ++ flat_map f ks)
-    (sym (range_more 0 n ∙ ap (λ k. range_with_len 0 n ++ (k ∷ [])) (zero-add n))))
+pub tree_noted : (before after : List Fault → Type 0) (file : File) (sort : Sort) (root : ℕ) (ps : List ℕ) → ps ≡ leaves file root
+    → NotesAll before after (flat_map (place_faults file) (places_from sort 0 ps)) → NotesAll before after (root_faults file sort (Some root))
+tree_noted before after file sort root ps all noted =
+    subst (λ qs. NotesAll before after (flat_map (place_faults file) (places_from sort 0 qs))) all noted
 
 -- all faults that are noted
 abbrev pub noted : File → List Fault
 noted file = flat_map (held_faults file) (range_with_len 0 (file.last + 1))
 
--- a place of a leaf with the first row that holds there
+abbrev leaf_fault : ℕ → ℕ → Fault
+leaf_fault page code = record { stage = 6; page = page; code = code }
+
+-- a fault of a place of a leaf
 record IsNoted (file : File) (fault : Fault) : Type 0 where
   place : LeafPlace
   at : Contains (leaf_places file) place
-  code : ℕ
-  first : first_row (place_rows file place) ≡ Some code
-  is : leaf_fault place.leaf code ≡ fault
-
--- the fault of a place of a tree
-in_root_faults : (file : File) (sort : Sort) (root : ℕ) (place : LeafPlace) (code : ℕ) → Contains (places_from sort 0 (leaves file root)) place
-    → first_row (place_rows file place) ≡ Some code → Contains (root_faults file sort (Some root)) (leaf_fault place.leaf code)
-in_root_faults file sort root place code at first =
-    in_flat_map (place_faults file) (places_from sort 0 (leaves file root)) place (leaf_fault place.leaf code) at
-    (subst (λ c. Contains (map (leaf_fault place.leaf) (option_to_list c)) (leaf_fault place.leaf code)) (sym first)
-    (first_member (leaf_fault place.leaf code) []))
+  here : Contains (place_faults file place) fault
 
 -- the faults of the tree of a reference are among those that its page holds
 in_held : (image : List ℕ) (p : ℕ) (reference : Reference) (fault : Fault) → IsForest image → p ≤ (file_of image).last
@@ -219,24 +157,17 @@ in_held image p reference fault forest low held root at =
           (subst (λ r. Contains (root_faults file reference.sort r) fault) (sym set.1.2) at)))
     ]
 
--- the fault of each place is noted
-in_noted : (image : List ℕ) (place : LeafPlace) (code : ℕ) → IsForest image → Contains (leaf_places (file_of image)) place
-    → first_row (place_rows (file_of image) place) ≡ Some code
-    → Contains (noted (file_of image)) (leaf_fault place.leaf code)
-in_noted image place code forest at first =
+-- each fault of a place is noted
+in_noted : (image : List ℕ) (place : LeafPlace) (fault : Fault) → IsForest image → Contains (leaf_places (file_of image)) place
+    → Contains (place_faults (file_of image) place) fault → Contains (noted (file_of image)) fault
+in_noted image place fault forest at here =
     let file : File = file_of image in
     let found = place_of file place at in
     let reference : Reference = found.0.reference in
-    in_flat_map (held_faults file) (range_with_len 0 (file.last + 1)) found.0.holder (leaf_fault place.leaf code)
+    in_flat_map (held_faults file) (range_with_len 0 (file.last + 1)) found.0.holder fault
     (in_range 0 (file.last + 1) found.0.holder (omega arith) (omega (arith, found.1.low)))
-    (in_held image found.0.holder reference (leaf_fault place.leaf code) forest found.1.low found.1.held found.1.root
-    (in_root_faults file reference.sort reference.target place code found.1.at first))
-
-of_place : (file : File) (place : LeafPlace) (fault : Fault) (code : Option ℕ) → Contains (leaf_places file) place
-    → first_row (place_rows file place) ≡ code → Contains (map (leaf_fault place.leaf) (option_to_list code)) fault → IsNoted file fault
-of_place file place fault None at first here = absurd (no_member [] fault refl here)
-of_place file place fault (Some code) at first here =
-    record { place = place; at = at; code = code; first = first; is = only_member (leaf_fault place.leaf code) fault here }
+    (in_held image found.0.holder reference fault forest found.1.low found.1.held found.1.root
+    (in_flat_map (place_faults file) (places_from reference.sort 0 (leaves file reference.target)) place fault found.1.at here))
 
 of_root_faults : (file : File) (sort : Sort) (root : Option ℕ) (fault : Fault) → is_root_reference sort ≡ true
     → ((r : ℕ) → root ≡ Some r → IsTarget file sort r)
@@ -244,7 +175,7 @@ of_root_faults : (file : File) (sort : Sort) (root : Option ℕ) (fault : Fault)
 of_root_faults file sort None fault is fits at = absurd (no_member [] fault refl at)
 of_root_faults file sort (Some r) fault is fits at =
     let found = of_flat_map (place_faults file) (places_from sort 0 (leaves file r)) fault at in
-    of_place file found.0 fault (first_row (place_rows file found.0)) (place_of_root file sort r found.0 is (fits r refl) found.1) refl found.2
+    record { place = found.0; at = place_of_root file sort r found.0 is (fits r refl) found.1; here = found.2 }
 
 -- a fault that is noted is that of a place
 of_noted : (image : List ℕ) (fault : Fault) → IsForest image → Contains (noted (file_of image)) fault → IsNoted (file_of image) fault
@@ -264,36 +195,48 @@ of_noted image fault forest at =
 
 -- The faults of the stage.
 
--- the first of two rows that holds is one of two that hold where they do
-first_holds : (a b first second : Bool) (code : ℕ) → first_row (2 :? a ∷ 3 :? b ∷ []) ≡ Some code → (a ≡ true → first ≡ true)
-    → (b ≡ true → second ≡ true) → Contains (holding (2 :? first ∷ 3 :? second ∷ [])) code
-first_holds true b first second code is more _ = let two : 2 ≡ code = cc in rw (more refl) (0, omega arith, two)
-first_holds false true first second code is _ more =
-    let three : 3 ≡ code = cc in
-    subst (λ s. Contains (holding (2 :? first ∷ 3 :? s ∷ [])) code) (sym (more refl))
-    (elim first as (λ f. Contains (holding (2 :? f ∷ 3 :? true ∷ [])) code) [ true ↦ (1, omega arith, three) | false ↦ (0, omega arith, three) ])
-first_holds false false first second code is _ _ = absurd cc
+in_fault_if : (row : TreeRow) (page : ℕ) (holds : Bool) → holds ≡ true → Contains (fault_if row page holds) (leaf_fault page (code_of row))
+in_fault_if row page true is = first_member (leaf_fault page (code_of row)) []
+in_fault_if row page false is = absurd cc
 
--- the first row of a place is one that holds at its page
-in_tree_faults : (file : File) (place : LeafPlace) (code : ℕ) → place.leaf ≤ file.last → Contains (leaf_places file) place
-    → first_row (place_rows file place) ≡ Some code → Contains (tree_faults file) (leaf_fault place.leaf code)
+of_fault_if : (row : TreeRow) (page : ℕ) (holds : Bool) (fault : Fault) → Contains (fault_if row page holds) fault
+    → (holds ≡ true) × (leaf_fault page (code_of row) ≡ fault)
+of_fault_if row page true fault at = (refl, only_member (leaf_fault page (code_of row)) fault at)
+of_fault_if row page false fault at = absurd (no_member [] fault refl at)
+
+-- the codes of two rows that hold
+holds_kind : (a b : Bool) → a ≡ true → Contains (holding (2 :? a ∷ 3 :? b ∷ [])) 2
+holds_kind true b is = first_member 2 (holding (3 :? b ∷ []))
+holds_kind false b is = absurd cc
+
+holds_link : (a b : Bool) → b ≡ true → Contains (holding (2 :? a ∷ 3 :? b ∷ [])) 3
+holds_link true true is = later_member 2 (3 ∷ []) 3 (first_member 3 [])
+holds_link false true is = first_member 3 []
+holds_link a false is = absurd cc
+
+-- a fault of a place is one of the stage
+in_tree_faults : (file : File) (place : LeafPlace) (fault : Fault) → place.leaf ≤ file.last → Contains (leaf_places file) place
+    → Contains (place_faults file place) fault → Contains (tree_faults file) fault
 unfolding tree_faults
-in_tree_faults file place code low at first =
+in_tree_faults file place fault low at here =
     let p : ℕ = place.leaf in
-    in_by_page 6 0 (file.last + 1) p code (λ page. holding (tree_rows file page)) (omega arith) (omega arith)
-    (first_holds (is_wrong_leaf file place) (is_wrong_link file place) _ _ code first (passes (is_wrong_leaf file)) (passes (is_wrong_link file)))
+    elim (Contains-append_cases (fault_if LeafKind p (is_wrong_leaf file place)) (fault_if LeafLink p (is_wrong_link file place)) fault here) [
+      | inl kind ↦
+          let is = of_fault_if LeafKind p (is_wrong_leaf file place) fault kind in
+          subst (Contains (tree_faults file)) is.1 (in_stage 2 (holds_kind _ _ (passes (is_wrong_leaf file) is.0)))
+      | inr link ↦
+          let is = of_fault_if LeafLink p (is_wrong_link file place) fault link in
+          subst (Contains (tree_faults file)) is.1 (in_stage 3 (holds_link _ _ (passes (is_wrong_link file) is.0)))
+    ]
   where
+    in_stage : (code : ℕ) → Contains (holding (tree_rows file place.leaf)) code → Contains (tree_faults file) (leaf_fault place.leaf code)
+    in_stage code is = in_by_page 6 0 (file.last + 1) place.leaf code (λ page. holding (tree_rows file page)) (omega arith) (omega arith) is
+
     passes : (wrong : LeafPlace → Bool) → wrong place ≡ true
         → list_any (λ (other : LeafPlace). other.leaf == place.leaf && wrong other) (leaf_places file) ≡ true
     passes wrong is =
         passes_here (λ (other : LeafPlace). other.leaf == place.leaf && wrong other) (leaf_places file) place at
         (and_from (place.leaf == place.leaf) (wrong place) (eq-eqb place.leaf place.leaf refl) is)
-
--- a fault that is noted comes no later than this one
-record IsPreceded (file : File) (fault : Fault) : Type 0 where
-  earlier : Fault
-  at : Contains (noted file) earlier
-  comes : ComesFirst earlier fault
 
 -- the code of one of two rows that holds
 code_of_two : (a b : Bool) (code : ℕ) → Contains (holding (2 :? a ∷ 3 :? b ∷ [])) code → ((code ≡ 2) × (a ≡ true)) ⊎ ((code ≡ 3) × (b ≡ true))
@@ -303,41 +246,40 @@ code_of_two true false code at = inl (sym (only_member 2 code at), refl)
 code_of_two false true code at = inr (sym (only_member 3 code at), refl)
 code_of_two false false code at = absurd (no_member [] code refl at)
 
--- where one of two rows holds, no later one is the first
-first_type : (a b : Bool) → a ≡ true → (code : ℕ) × (first_row (2 :? a ∷ 3 :? b ∷ []) ≡ Some code) × (code ≤ 2)
-first_type true b is = (2, refl, omega arith)
-first_type false b is = absurd cc
+same_parts : (s t p q c d : ℕ) → s ≡ t → p ≡ q → c ≡ d
+    → ◌≡◌ {A = Fault} (record { stage = s; page = p; code = c }) (record { stage = t; page = q; code = d })
+same_parts s t p q c d stages pages codes = cc
 
-first_link : (a b : Bool) → b ≡ true → (code : ℕ) × (first_row (2 :? a ∷ 3 :? b ∷ []) ≡ Some code) × (code ≤ 3)
-first_link true b is = (2, refl, omega arith)
-first_link false true is = (3, refl, omega arith)
-first_link false false is = absurd cc
+-- a fault of a row that holds somewhere at its page is noted
+noted_row : (image : List ℕ) (fault : Fault) (row : TreeRow) (wrong : LeafPlace → Bool) → IsForest image → fault.stage ≡ 6 → fault.code ≡ code_of row
+    → ((place : LeafPlace) → wrong place ≡ true → Contains (place_faults (file_of image) place) (leaf_fault place.leaf (code_of row)))
+    → list_any (λ (other : LeafPlace). other.leaf == fault.page && wrong other) (leaf_places (file_of image)) ≡ true
+    → Contains (noted (file_of image)) fault
+noted_row image fault row wrong forest stage is each any =
+    let found = any_member (λ (other : LeafPlace). other.leaf == fault.page && wrong other) (leaf_places (file_of image)) any in
+    let both = and_parts (found.0.leaf == fault.page) (wrong found.0) found.2 in
+    subst (Contains (noted (file_of image)))
+    (same_parts 6 fault.stage found.0.leaf fault.page (code_of row) fault.code (sym stage) (eqb-true found.0.leaf fault.page both.0) (sym is))
+    (in_noted image found.0 (leaf_fault found.0.leaf (code_of row)) forest found.1 (each found.0 both.1))
 
--- a fault of the stage is no earlier than one that is noted
-of_tree_faults : (image : List ℕ) (fault : Fault) → IsForest image → Contains (tree_faults (file_of image)) fault → IsPreceded (file_of image) fault
+-- a fault of the stage is noted
+of_tree_faults : (image : List ℕ) (fault : Fault) → IsForest image → Contains (tree_faults (file_of image)) fault → Contains (noted (file_of image)) fault
 unfolding tree_faults
 of_tree_faults image fault forest at =
     let file : File = file_of image in
-    elim (code_of_two _ _ fault.code (of_by_page 6 0 (file.last + 1) (λ page. holding (tree_rows file page)) fault at).is_code) [
-      | inl (is, any) ↦ of (is_wrong_leaf file) 2 is (λ place. first_type _ (is_wrong_link file place)) any
-      | inr (is, any) ↦ of (is_wrong_link file) 3 is (λ place. first_link (is_wrong_leaf file place) _) any
+    let of = of_by_page 6 0 (file.last + 1) (λ page. holding (tree_rows file page)) fault at in
+    elim (code_of_two _ _ fault.code of.is_code) [
+      | inl (is, any) ↦
+          noted_row image fault LeafKind (is_wrong_leaf file) forest of.same_stage is
+          (λ place wrong. Contains-append_left (fault_if LeafKind place.leaf (is_wrong_leaf file place))
+          (fault_if LeafLink place.leaf (is_wrong_link file place)) (leaf_fault place.leaf 2)
+          (in_fault_if LeafKind place.leaf (is_wrong_leaf file place) wrong)) any
+      | inr (is, any) ↦
+          noted_row image fault LeafLink (is_wrong_link file) forest of.same_stage is
+          (λ place wrong. Contains-append_right (fault_if LeafKind place.leaf (is_wrong_leaf file place))
+          (fault_if LeafLink place.leaf (is_wrong_link file place)) (leaf_fault place.leaf 3)
+          (in_fault_if LeafLink place.leaf (is_wrong_link file place) wrong)) any
     ]
-  where
-    of : (wrong : LeafPlace → Bool) (n : ℕ) → fault.code ≡ n
-        → ((place : LeafPlace) → wrong place ≡ true → (code : ℕ) × (first_row (place_rows (file_of image) place) ≡ Some code) × (code ≤ n))
-        → list_any (λ (other : LeafPlace). other.leaf == fault.page && wrong other) (leaf_places (file_of image)) ≡ true
-        → IsPreceded (file_of image) fault
-    of wrong n is each any =
-        let found = any_member (λ (other : LeafPlace). other.leaf == fault.page && wrong other) (leaf_places (file_of image)) any in
-        let both = and_parts (found.0.leaf == fault.page) (wrong found.0) found.2 in
-        let first = each found.0 both.1 in
-        record {
-          earlier = leaf_fault found.0.leaf first.0;
-          at = in_noted image found.0 first.0 forest found.1 first.1;
-          comes = inr (eqb-true found.0.leaf fault.page both.0, omega (arith, is, first.2));
-        }
-
--- The least is the first.
 
 place_leaf : (sort : Sort) (before : ℕ) (ps : List ℕ) (place : LeafPlace) → Contains (places_from sort before ps) place → Contains ps place.leaf
 place_leaf sort before [] place at = absurd (no_member [] place refl at)
@@ -356,32 +298,24 @@ place_low image place forest at =
     leaf_low image reference.target place.leaf forest (reference_is_tree image found.0.holder reference forest found.1.low found.1.held found.1.root)
     (place_leaf reference.sort 0 (leaves file reference.target) place found.1.at)
 
-noted_in_stage : (image : List ℕ) (fault : Fault) → IsForest image → Contains (noted (file_of image)) fault
-    → Contains (tree_faults (file_of image)) fault
-noted_in_stage image fault forest at =
-    let file : File = file_of image in
-    let is : IsNoted file fault = of_noted image fault forest at in
-    subst (Contains (tree_faults file)) is.is (in_tree_faults file is.place is.code (place_low image is.place forest is.at) is.at is.first)
+-- the faults that are noted are those of the stage
+pub all_noted : (image : List ℕ) → IsForest image → AreSame (noted (file_of image)) (tree_faults (file_of image))
+all_noted image forest fault = (in_stage, of_tree_faults image fault forest)
+  where
+    in_stage : Contains (noted (file_of image)) fault → Contains (tree_faults (file_of image)) fault
+    in_stage at =
+        let is : IsNoted (file_of image) fault = of_noted image fault forest at in
+        in_tree_faults (file_of image) is.place fault (place_low image is.place forest is.at) is.at is.here
 
-first_is_least : (image : List ℕ) (fault : Fault) (faults : List Fault) → IsForest image → IsLeastOf (noted (file_of image)) fault
-    → tree_faults (file_of image) ≡ faults → Some fault ≡ first_fault faults
-first_is_least image fault [] forest is same =
-    absurd (no_member (tree_faults (file_of image)) fault same (noted_in_stage image fault forest is.holds))
-first_is_least image fault (first ∷ rest) forest is same =
-    let file : File = file_of image in
-    let here : Contains (tree_faults file) fault = noted_in_stage image fault forest is.holds in
-    let at : Contains (tree_faults file) first = subst (λ fs. Contains fs first) (sym same) (first_member first rest) in
-    let before : IsPreceded file first = of_tree_faults image first forest at in
-    ap (λ f. Some f)
-    (same_fault fault first (tree_one file fault here ∙ sym (tree_one file first at))
-    (comes_through fault before.earlier first (is.least before.earlier before.at) before.comes)
-    (tree_rises file first rest fault same here))
+-- The first fault.
 
--- the least of all faults that are noted is the first of the stage
-pub least_is_first : (image : List ℕ) (least : Option Fault) → IsForest image → IsLeast (noted (file_of image)) least
-    → least ≡ first_fault (tree_faults (file_of image))
-least_is_first image None forest is =
-    sym (ap first_fault (is_empty (tree_faults (file_of image)) (λ fault at.
-    let before : IsPreceded (file_of image) fault = of_tree_faults image fault forest at in
-    no_member (noted (file_of image)) before.earlier is before.at)))
-least_is_first image (Some fault) forest is = first_is_least image fault (tree_faults (file_of image)) forest is refl
+pub first_found : (file : File) (start first : Option Fault) → start ≡ None → NotesAll (IsFirst start) (IsFirst first) (tree_faults file)
+    → first ≡ first_fault (tree_faults file)
+first_found file start first none all =
+    first_noted 6 (tree_faults file) first (record { one_stage = tree_one file; rises = tree_rises file })
+    (subst (λ (o : Option Fault). NotesAll (IsFirst o) (IsFirst first) (tree_faults file)) none all)
+
+-- a list of which there is no first is empty
+pub none_first : (faults : List Fault) → None ≡ first_fault faults → faults ≡ []
+none_first [] none = refl
+none_first (fault ∷ faults) none = absurd cc

@@ -1,9 +1,7 @@
--- The faults of leaves as they are noted, tree by tree, and the least of them. Source: docs/FORMAT.md, "Faults".
-use Rattle.std.specs.Prelude.{◌≡◌, ℕ, ◌+◌, ◌-◌, ◌*◌, ◌/◌, ◌==◌, if◌then◌else◌, Bool, true, false, List, [], ◌∷◌, ◌++◌, get_or, length, map}
+-- The faults of leaves in the order in which they are noted, tree by tree. Source: docs/FORMAT.md, "Faults".
+use Rattle.std.specs.Prelude.{ℕ, ◌+◌, ◌-◌, ◌*◌, ◌/◌, ◌==◌, if◌then◌else◌, Bool, true, false, List, [], ◌∷◌, ◌++◌, get_or, length}
 use Rattle.std.specs.Prelude.{slice_index, Option, Some, None}
-use Rattle.std.specs.List.{Contains, flat_map, range_with_len}
-use Rattle.std.specs.Option.{option_to_list}
-use Rattle.bdb_format.specs.ByPage.{ComesFirst}
+use Rattle.std.specs.List.{flat_map, range_with_len}
 use Rattle.bdb_format.specs.declared.kinds.Fault.{Fault}
 use Rattle.bdb_format.specs.declared.references.Sort.{Sort}
 use Rattle.bdb_format.specs.declared.references.Sort.TheVariants.{DuplicateRoot, Root}
@@ -11,7 +9,8 @@ use Rattle.bdb_format.specs.File.{File, page_at}
 use Rattle.bdb_format.specs.Leaves.{LeafPlace, is_wrong_leaf, is_wrong_link, leaves, places_from}
 use Rattle.bdb_format.specs.Page.{Content, Tree, Item, BtreeFields, Page, Meta, Hash, Leaf, RecnoLeaf, DupLeaf}
 use Rattle.bdb_format.specs.References.{no_item}
-use Rattle.bdb_format.specs.Table.{Row, ◌:?◌, first_row}
+use Rattle.bdb_tree.specs.declared.noted.TreeRow.{TreeRow}
+use Rattle.bdb_tree.specs.declared.noted.TreeRow.TheVariants.{LeafKind, LeafLink}
 
 -- a leaf of a tree
 abbrev pub is_leaf_page : Page → Bool
@@ -29,16 +28,17 @@ place_in sort pages i = record {
   after = slice_index pages (i + 1);
 }
 
--- the rows of a leaf at its place
-abbrev pub place_rows : File → LeafPlace → List (Row ℕ)
-place_rows file place = 2 :? is_wrong_leaf file place ∷ 3 :? is_wrong_link file place ∷ []
+abbrev pub code_of : TreeRow → ℕ
+code_of LeafKind = 2
+code_of LeafLink = 3
 
-abbrev pub leaf_fault : ℕ → ℕ → Fault
-leaf_fault page code = record { stage = 6; page = page; code = code }
+-- the fault of a row at a page, where it holds there
+abbrev pub fault_if : TreeRow → ℕ → Bool → List Fault
+fault_if row page holds = if holds then record { stage = 6; page = page; code = code_of row } ∷ [] else []
 
--- the fault of the first row that holds there
+-- the faults of a leaf at its place
 abbrev pub place_faults : File → LeafPlace → List Fault
-place_faults file place = map (leaf_fault place.leaf) (option_to_list (first_row (place_rows file place)))
+place_faults file place = fault_if LeafKind place.leaf (is_wrong_leaf file place) ++ fault_if LeafLink place.leaf (is_wrong_link file place)
 
 -- those of the leaves of the tree with this root, if there is one
 abbrev pub root_faults : File → Sort → Option ℕ → List Fault
@@ -81,16 +81,3 @@ page_faults file page = root_faults file Root (meta_root page) ++ set_faults fil
 
 abbrev pub held_faults : File → ℕ → List Fault
 held_faults file p = page_faults file (page_at file p)
-
-pub record IsLeastOf (faults : List Fault) (fault : Fault) : Type 0 where
-  pub holds : Contains faults fault
-  pub least : (other : Fault) → Contains faults other → ComesFirst fault other
-
--- the least of some faults, if there are any
-abbrev pub IsLeast : List Fault → Option Fault → Type 0
-IsLeast faults None = faults ≡ []
-IsLeast faults (Some fault) = IsLeastOf faults fault
-
--- the least fault so far, and once these are noted too
-abbrev pub IsNoted : Option Fault → List Fault → Option Fault → Type 0
-IsNoted before more after = (faults : List Fault) → IsLeast faults before → IsLeast (faults ++ more) after

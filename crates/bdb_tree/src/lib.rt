@@ -7,11 +7,15 @@ mod entries;
 mod first;
 mod level;
 mod links;
+mod named_roots;
+mod noted;
+mod places;
 mod root;
 mod set;
+mod trees;
 mod walk;
 
-pub use check::check_trees;
+pub use check::{check_trees, note_trees, tree_faults};
 pub use descend::{Separate, descend_by, descend_in};
 pub use entries::{TreeEntries, tree_entries};
 pub use first::{dup_first, first_leaf, leftmost};

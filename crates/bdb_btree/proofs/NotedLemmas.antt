@@ -1,0 +1,122 @@
+-- What is noted, one fault after another, and which faults these are.
+use Rattle.std.proofs.Common.{◌≡◌, ℕ, ◌+◌, ◌<◌, Bool, true, false, List, [], ◌∷◌, ◌++◌, length, get_or, take, refl, sym, ◌∙◌, ap, subst, arith}
+use Rattle.std.proofs.Common.{append-nil, append_assoc}
+use Rattle.std.specs.Prelude.{◌==◌, ◌&&◌, ◌||◌}
+use Rattle.std.specs.List.{Contains, flat_map, list_any}
+use Rattle.std.proofs.lemmas.Bool.{and_parts, eqb-true, eq-eqb}
+use Rattle.std.proofs.lemmas.Bool.Decides.{nat_tests}
+use Rattle.std.proofs.lemmas.Grind.{flat_map-append}
+use Rattle.std.proofs.lemmas.List.{take_more}
+use Rattle.std.proofs.lemmas.List.Folds.{list_any-append}
+use Rattle.bdb_faults.specs.Notes.{Notes}
+use Rattle.bdb_format.specs.declared.kinds.Fault.{Fault}
+use Rattle.bdb_format.proofs.ListLemmas.{any_member, passes_here}
+use Rattle.bdb_btree.specs.Noted.{code_of, fault_if, faults_at}
+use Rattle.bdb_btree.specs.declared.noted.BtreeRow.{BtreeRow}
+
+-- Notes one after another.
+
+pub notes_nothing : (before : List Fault → Type 0) → Notes before before []
+notes_nothing before faults is = subst before (sym (append-nil faults)) is
+
+pub notes_both : (before mid after : List Fault → Type 0) (xs ys : List Fault) → Notes before mid xs → Notes mid after ys
+    → Notes before after (xs ++ ys)
+notes_both before mid after xs ys first second =
+    λ faults is. subst after (append_assoc faults xs ys) (second (faults ++ xs) (first faults is))
+
+-- one more page
+pub notes_page : (before mid after : List Fault → Type 0) (row : BtreeRow) (test : ℕ → Bool) (pages : List ℕ) (i : ℕ) (holds : Bool)
+    → i < length pages → holds ≡ test (get_or pages i 0) → Notes before mid (faults_at row test (take i pages)) → Notes mid after (fault_if row (get_or pages i 0) holds)
+    → Notes before after (faults_at row test (take (i + 1) pages))
+notes_page before mid after row test pages i holds low is first second =
+    let p : ℕ = get_or pages i 0 in
+    let same : faults_at row test (take i pages) ++ fault_if row p holds ≡ faults_at row test (take (i + 1) pages) =
+    ap (λ b. faults_at row test (take i pages) ++ fault_if row p b) is
+    ∙ (ap (λ fs. faults_at row test (take i pages) ++ fs) (sym (append-nil (fault_if row p (test p))))
+    ∙ (sym (flat_map-append (λ q. fault_if row q (test q)) (take i pages) (p ∷ []))
+    ∙ ap (faults_at row test) (sym (take_more pages i 0 low)))) in
+    λ faults has. subst (λ more. after (faults ++ more)) same (notes_both before mid after _ _ first second faults has)
+
+-- Which faults there are, as a test.
+
+abbrev pub is_fault : Fault → Fault → Bool
+is_fault fault other = (other.stage == fault.stage) && ((other.page == fault.page) && (other.code == fault.code))
+
+abbrev pub has : List Fault → Fault → Bool
+has faults fault = list_any (is_fault fault) faults
+
+is_itself : (fault : Fault) → is_fault fault fault ≡ true
+is_itself fault = rw (eq-eqb fault.stage fault.stage refl, eq-eqb fault.page fault.page refl, eq-eqb fault.code fault.code refl) refl
+
+same_parts : (s t p q c d : ℕ) → s ≡ t → p ≡ q → c ≡ d
+    → ◌≡◌ {A = Fault} (record { stage = s; page = p; code = c }) (record { stage = t; page = q; code = d })
+same_parts s t p q c d stages pages codes = cc
+
+same_fault : (fault other : Fault) → is_fault fault other ≡ true → other ≡ fault
+same_fault fault other is =
+    let parts = and_parts (other.stage == fault.stage) ((other.page == fault.page) && (other.code == fault.code)) is in
+    let rest = and_parts (other.page == fault.page) (other.code == fault.code) parts.1 in
+    same_parts other.stage fault.stage other.page fault.page other.code fault.code (eqb-true _ _ parts.0) (eqb-true _ _ rest.0) (eqb-true _ _ rest.1)
+
+pub in_has : (faults : List Fault) (fault : Fault) → Contains faults fault → has faults fault ≡ true
+in_has faults fault at = passes_here (is_fault fault) faults fault at (is_itself fault)
+
+pub has_in : (faults : List Fault) (fault : Fault) → has faults fault ≡ true → Contains faults fault
+has_in faults fault is =
+    let found = any_member (is_fault fault) faults is in subst (Contains faults) (same_fault fault found.0 found.2) found.1
+
+-- a fault is one of a row
+abbrev pub is_of : BtreeRow → Fault → Bool
+is_of row fault = (8 == fault.stage) && (code_of row == fault.code)
+
+one_has : (row : BtreeRow) (page : ℕ) (holds : Bool) (fault : Fault)
+    → has (fault_if row page holds) fault ≡ (is_of row fault && ((page == fault.page) && holds))
+one_has row page true fault = turn (8 == fault.stage) (page == fault.page) (code_of row == fault.code)
+  where
+    turn : (a b c : Bool) → ((a && (b && c)) || false) ≡ ((a && c) && (b && true))
+    turn a b c = grind (arith, nat_tests)
+one_has row page false fault = turn (is_of row fault) (page == fault.page)
+  where
+    turn : (a b : Bool) → false ≡ (a && (b && false))
+    turn a b = grind (arith, nat_tests)
+
+join : (s a b : Bool) → ((s && a) || (s && b)) ≡ (s && (a || b))
+join true a b = refl
+join false a b = refl
+
+none_joined : (s : Bool) → false ≡ (s && false)
+none_joined true = refl
+none_joined false = refl
+
+module _ {X : Type 0} (page : X → ℕ) where
+  -- a test holds of something at the page of a fault
+  abbrev pub some_at : (X → Bool) → List X → Fault → Bool
+  some_at test xs fault = list_any (λ x. (page x == fault.page) && test x) xs
+
+  pub row_has : (row : BtreeRow) (test : X → Bool) (xs : List X) (fault : Fault)
+      → has (flat_map (λ x. fault_if row (page x) (test x)) xs) fault ≡ (is_of row fault && some_at test xs fault)
+  row_has row test [] fault = none_joined (is_of row fault)
+  row_has row test (x ∷ xs) fault =
+      list_any-append (is_fault fault) (fault_if row (page x) (test x)) (flat_map (λ y. fault_if row (page y) (test y)) xs)
+      ∙ (ap (λ b. b || has (flat_map (λ y. fault_if row (page y) (test y)) xs) fault) (one_has row (page x) (test x) fault)
+      ∙ (ap (λ b. (is_of row fault && ((page x == fault.page) && test x)) || b) (row_has row test xs fault)
+      ∙ join (is_of row fault) ((page x == fault.page) && test x) (some_at test xs fault)))
+
+-- several lists, one after another at each of some
+
+swap : (a b c d : Bool) → ((a || b) || (c || d)) ≡ ((a || c) || (b || d))
+swap true b c d = refl
+swap false true true d = refl
+swap false true false d = refl
+swap false false c d = refl
+
+pub both_have : {X : Type 0} (f g : X → List Fault) (xs : List X) (fault : Fault)
+    → has (flat_map (λ x. f x ++ g x) xs) fault ≡ (has (flat_map f xs) fault || has (flat_map g xs) fault)
+both_have f g [] fault = refl
+both_have f g (x ∷ xs) fault =
+    list_any-append (is_fault fault) (f x ++ g x) (flat_map (λ y. f y ++ g y) xs)
+    ∙ (ap (λ b. b || has (flat_map (λ y. f y ++ g y) xs) fault) (list_any-append (is_fault fault) (f x) (g x))
+    ∙ (ap (λ b. (has (f x) fault || has (g x) fault) || b) (both_have f g xs fault)
+    ∙ (swap (has (f x) fault) (has (g x) fault) (has (flat_map f xs) fault) (has (flat_map g xs) fault)
+    ∙ (ap (λ b. b || (has (g x) fault || has (flat_map g xs) fault)) (sym (list_any-append (is_fault fault) (f x) (flat_map f xs)))
+    ∙ ap (λ b. has (f x ++ flat_map f xs) fault || b) (sym (list_any-append (is_fault fault) (g x) (flat_map g xs)))))))

@@ -1,0 +1,11 @@
+use Rattle.std.proofs.Common.{List, ℕ, subst}
+use Rattle.bdb_faults.specs.Notes.{NotesAll}
+use Rattle.bdb_format.specs.ContentRows.{database_faults}
+use Rattle.bdb_format.specs.File.{file_of}
+use Rattle.bdb_format.specs.Page.{BtreeFields}
+use Rattle.bdb_btree.proofs.contents.note_contents.Goals as goal
+
+pub returns : goal.returns
+returns g c =
+    subst (λ (image : List ℕ). NotesAll (g.F.FaultSink.has_noted c.args.found.now) (g.F.FaultSink.has_noted c.note_forest.new.found)
+    (database_faults (file_of image) (BtreeFields c.args.meta.now))) c.forest.ensures c.in_ok-note_forest.ensures

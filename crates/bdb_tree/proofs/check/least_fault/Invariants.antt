@@ -1,8 +1,0 @@
-use Rattle.std.specs.List.{flat_map, range_with_len}
-use Rattle.bdb_format.specs.File.{file_of}
-use Rattle.bdb_tree.specs.Noted.{IsLeast, held_faults}
-use Rattle.bdb_tree.proofs.check.least_fault.Given as goal
-
--- The faults of the trees that the pages passed name are noted.
-abbrev pub invariant-loop-page : goal.invariant-loop-page
-invariant-loop-page l = IsLeast (flat_map (held_faults (file_of l.forest)) (range_with_len 0 l.page)) l.least

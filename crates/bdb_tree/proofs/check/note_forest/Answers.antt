@@ -1,0 +1,29 @@
+use Rattle.std.proofs.Common.{◌≡◌, ◌∙◌, ◌+◌, ap, arith, subst, sym}
+use Rattle.std.specs.List.{flat_map, range_with_len}
+use Rattle.bdb_faults.specs.Notes.{NotesAll}
+use Rattle.bdb_faults.proofs.SinkLemmas.{notes_more, notes_same}
+use Rattle.bdb_format.specs.declared.metadata.Head.{Head}
+use Rattle.bdb_format.specs.File.{File, file_of}
+use Rattle.bdb_format.specs.Verdict.{tree_faults}
+use Rattle.bdb_graph.proofs.HeldLemmas.{last_page}
+use Rattle.bdb_tree.specs.Noted.{held_faults}
+use Rattle.bdb_tree.proofs.NotedLemmas.{all_noted, noted}
+use Rattle.bdb_tree.proofs.check.note_forest.Goals as goal
+
+pub loop-page-preserved : goal.loop-page-preserved
+loop-page-preserved g c =
+    notes_more (g.F.FaultSink.has_noted c.args.found.now) (g.F.FaultSink.has_noted c.loop-page.found)
+    (g.F.FaultSink.has_noted c.note_page.new.found) (held_faults (file_of c.args.forest.now)) 0 c.loop-page.page c.loop-page.page (omega arith)
+    c.loop-page.invariant c.in_ok-note_page.ensures
+
+-- The last page is passed.
+pub returns : goal.returns
+returns g c =
+    let file : File = file_of c.args.forest.now in
+    let last : c.head-page-end.result.last ≡ file.last =
+    ap (λ (head : Head). head.last) c.head-page-end.ensures.head ∙ sym (last_page c.args.forest.now) in
+    let all : c.loop-page.page ≡ file.last + 1 = omega arith in
+    notes_same (g.F.FaultSink.has_noted c.args.found.now) (g.F.FaultSink.has_noted c.loop-page.found) (noted file) (tree_faults file)
+    (subst (λ n. NotesAll (g.F.FaultSink.has_noted c.args.found.now) (g.F.FaultSink.has_noted c.loop-page.found)
+    (flat_map (held_faults file) (range_with_len 0 n))) all c.loop-page.invariant)
+    (all_noted c.args.forest.now c.head-page-end.ensures.forest)

@@ -1,0 +1,48 @@
+ghost use Rattle.std.specs.Prelude.{◌≡◌, ◌<◌, ◌≤◌, ◌*◌, ◌+◌, length};
+ghost use Rattle.bdb_form.specs.Seen.{page_seen};
+ghost use Rattle.bdb_format.specs.File.{file_of, page_at};
+ghost use Rattle.bdb_tree.specs.Noted.{data_root, meta_root, pair_count, paired};
+
+use bdb_form::PageView;
+use bdb_graph::{Forest, Meta};
+use bdb_layout::{HashItem, LeafItem};
+
+/// The root of the tree of a page that is metadata of a btree.
+pub(crate) fn meta_root(forest: &Forest<'_>, page: u32) -> Option<u32>
+    requires { page ≤ (file_of forest.now).last }
+    ensures { result ≡ meta_root (page_at (file_of forest.now) page) }
+{
+    match forest.meta(page) {
+        Some(Meta::Btree(meta)) => Some(meta.root),
+        _ => None,
+    }
+}
+
+/// The root of the set that the data of a pair are.
+pub(crate) fn data_root(page: &PageView<'_>, i: u16) -> Option<u32>
+    requires { 2 * i + 1 < length (paired (page_seen page.now)) }
+    ensures { result ≡ data_root (page_seen page.now) i }
+{
+    match page {
+        PageView::Leaf(page) => match page.value(i) {
+            LeafItem::Duplicates { root, .. } => Some(root),
+            _ => None,
+        },
+        PageView::Hash(page) => match page.value(i) {
+            HashItem::OffPage { root } => Some(root),
+            _ => None,
+        },
+        _ => None,
+    }
+}
+
+/// How many pairs a page has.
+pub(crate) fn pairs(page: &PageView<'_>) -> u16
+    ensures { result ≡ pair_count (page_seen page.now) }
+{
+    match page {
+        PageView::Leaf(page) => page.pairs(),
+        PageView::Hash(page) => page.pairs(),
+        _ => 0,
+    }
+}
