@@ -1,20 +1,18 @@
 -- Chains of a wrong length, item by item, and the faults that they are.
-use Rattle.std.proofs.Common.{◌≡◌, ℕ, ◌+◌, ◌*◌, ◌%◌, ◌<◌, ◌≤◌, Bool, true, false, cond, List, [], ◌∷◌, length, map, get_or, Some, None, arith, refl, sym, ◌∙◌, ap, inl, inr, zero-add}
+use Rattle.std.proofs.Common.{◌≡◌, ℕ, ◌+◌, ◌*◌, ◌%◌, ◌<◌, ◌≤◌, Bool, true, false, cond, List, [], ◌∷◌, length, map, get_or, Some, arith, refl, ◌∙◌, ap, inl, inr, zero-add}
 use Rattle.std.specs.Prelude.{◌&&◌, ◌||◌, not, slice_get}
 use Rattle.std.specs.List.{filter, flat_map, list_any, range_with_len}
 use Rattle.std.proofs.lemmas.Bool.{cases_order}
 use Rattle.std.proofs.lemmas.List.Folds.{flat_map-map, list_any-append, list_any_at}
 use Rattle.std.proofs.lemmas.List.FromFn.{get_or-range_with_len, length-range_with_len}
 use Rattle.bdb_graph.specs.Slots.{no_internal_item}
-use Rattle.bdb_graph.proofs.FitLemmas.{NoneHold, first_of_stage}
 use Rattle.bdb_format.specs.Chains.{chain_rows, content_chains, is_wrong_length}
 use Rattle.bdb_format.specs.File.{File, page_at}
 use Rattle.bdb_format.specs.Page.{Content, DupLeaf, Hash, Internal, Item, InternalItem, Leaf, Listed, RecnoLeaf}
 use Rattle.bdb_format.specs.References.{is_shared_key, item_at, no_item, own_entries}
-use Rattle.bdb_format.specs.Table.{first_row}
-use Rattle.bdb_format.specs.Verdict.{chain_faults, holding, first_fault}
+use Rattle.bdb_format.specs.Verdict.{chain_faults, holding}
 use Rattle.bdb_format.proofs.MemberLemmas.{none_pass, of_range}
-use Rattle.bdb_format.proofs.VerdictLemmas.{no_faults, none_holds, none_is_first_row}
+use Rattle.bdb_format.proofs.VerdictLemmas.{no_faults, none_holds}
 use Rattle.bdb_overflow.specs.Lengths.{has_wrong, is_wrong, is_wrong_entry, is_wrong_item, is_wrong_key}
 use Rattle.bdb_overflow.proofs.ContentLemmas.{got}
 use Rattle.bdb_format.proofs.ListLemmas.{none_of_list}
@@ -126,17 +124,9 @@ leaf_none file page n none all =
 
 -- The stage.
 
-pub no_row : (file : File) (p : ℕ) → has_wrong file (page_at file p) ≡ false → None ≡ first_row (chain_rows file p)
-no_row file p right = sym (ap (λ b. cond b (Some 1) None) right)
-
--- a page with a wrong length, where none before it has one
-pub chains_first : (file : File) (page : ℕ) → page ≤ file.last → NoneHold (chain_rows file) 0 page → has_wrong file (page_at file page) ≡ true
-    → first_fault (chain_faults file) ≡ Some (record { stage = 6; page = page; code = 1 })
+-- no fault at any page
+pub chains_none : (file : File) → ((p : ℕ) → p ≤ file.last → has_wrong file (page_at file p) ≡ false) → chain_faults file ≡ []
 unfolding chain_faults
-chains_first file page low none wrong =
-    sym (first_of_stage 6 0 (file.last + 1) page 1 (chain_rows file) (omega arith) (omega arith) none (sym (ap (λ b. cond b (Some 1) None) wrong)))
-
-pub chains_none : (file : File) (n : ℕ) → file.last < n → NoneHold (chain_rows file) 0 n → chain_faults file ≡ []
-unfolding chain_faults
-chains_none file n all none =
-    no_faults 6 0 (file.last + 1) (λ p. holding (chain_rows file p)) (λ p low high. none_holds (chain_rows file p) (none_is_first_row (chain_rows file p) (sym (none p low (omega arith)))))
+chains_none file right =
+    no_faults 6 0 (file.last + 1) (λ p. holding (chain_rows file p))
+    (λ p low high. none_holds (chain_rows file p) (right p (omega (arith, high)), tt))

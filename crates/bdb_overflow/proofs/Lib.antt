@@ -1,10 +1,9 @@
+pub mod ChainLemmas
 pub mod ContentLemmas
-pub mod EarlierLemmas
 pub mod KeyLemmas
 pub mod LengthLemmas
 pub mod LinkedLemmas
 pub mod PrefixLemmas
-pub mod RepeatLemmas
 pub mod RunLemmas
 pub mod UnchainedLemmas
 pub mod WholeLemmas

@@ -1,7 +1,10 @@
 -- A file whose references name no chain has no chain of a wrong length.
-use Rattle.std.proofs.Common.{◌≡◌, ℕ, ◌+◌, ◌≤◌, true, false, true≢false, List, [], arith, refl, sym, ◌∙◌, ap, inl, inr}
+use Rattle.std.proofs.Common.{◌≡◌, ℕ, ◌≤◌, true, false, true≢false, List, [], refl, sym, ◌∙◌, ap, subst, inl, inr}
 use Rattle.std.specs.List.{list_any}
 use Rattle.std.proofs.lemmas.Bool.{cases_Bool}
+use Rattle.bdb_faults.specs.Notes.{NotesAll}
+use Rattle.bdb_faults.proofs.SinkLemmas.{notes_none}
+use Rattle.bdb_format.specs.declared.kinds.Fault.{Fault}
 use Rattle.bdb_format.specs.Chains.{content_chains, is_wrong_length}
 use Rattle.bdb_format.specs.File.{File, file_of, page_at}
 use Rattle.bdb_format.specs.Graph.{all_references, is_head_reference}
@@ -15,7 +18,7 @@ use Rattle.bdb_graph.specs.Walked.{names_head}
 use Rattle.bdb_overflow.specs.Datum.{FitsContent}
 use Rattle.bdb_overflow.specs.Lengths.{has_wrong, is_wrong}
 use Rattle.bdb_overflow.proofs.ContentLemmas.{held_fits}
-use Rattle.bdb_overflow.proofs.LengthLemmas.{any_of_all, chains_none, no_row}
+use Rattle.bdb_overflow.proofs.LengthLemmas.{any_of_all, chains_none}
 
 -- what fits names no chain where no reference does
 no_wrong : (file : File) (content : Content) → list_any names_head (all_references file) ≡ false → FitsContent file content → is_wrong file content ≡ false
@@ -43,7 +46,10 @@ unchained image p forest none low =
           ∙ none_pass (is_wrong file) (contents_in page) (λ content held. no_wrong file content none (held_fits image p page content forest low refl other held))
     ]
 
-pub no_chains : (image : List ℕ) → IsForest image → list_any names_head (all_references (file_of image)) ≡ false → chain_faults (file_of image) ≡ []
-no_chains image forest none =
-    let file : File = file_of image in
-    chains_none file (file.last + 1) (omega arith) (λ p low high. no_row file p (unchained image p forest none (omega (arith, high))))
+no_chains : (image : List ℕ) → IsForest image → list_any names_head (all_references (file_of image)) ≡ false → chain_faults (file_of image) ≡ []
+no_chains image forest none = chains_none (file_of image) (λ p low. unchained image p forest none low)
+
+-- nothing is to be noted of such a file
+pub nothing_to_note : (has : List Fault → Type 0) (image : List ℕ) → IsForest image → list_any names_head (all_references (file_of image)) ≡ false
+    → NotesAll has has (chain_faults (file_of image))
+nothing_to_note has image forest none = subst (NotesAll has has) (sym (no_chains image forest none)) (notes_none has)

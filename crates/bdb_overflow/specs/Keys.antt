@@ -1,12 +1,11 @@
 -- Items that have keys, and the keys that came before.
-use Rattle.std.specs.Prelude.{ℕ, if◌then◌else◌, Bool, List, [], ◌∷◌, Option, Some}
+use Rattle.std.specs.Prelude.{ℕ, if◌then◌else◌, Bool, List, [], ◌∷◌}
 use Rattle.std.specs.BTreeSet.{BTreeSet, contains}
 use Rattle.std.specs.Cmp.Lexicographic.{slice_cmp}
 use Rattle.std.specs.List.{list_any}
 use Rattle.std.specs.Ordering.{nat_cmp}
 use Rattle.std.specs.Str.{bytes_eq}
 use Rattle.bdb_format.specs.declared.kinds.Fault.{Fault}
-use Rattle.bdb_overflow.specs.Earlier.{earlier}
 
 -- this key is among these
 abbrev pub has_key : BTreeSet (List ℕ) → List ℕ → Bool
@@ -22,6 +21,6 @@ repeated_by key before [] = []
 repeated_by key before (x ∷ xs) =
     if has_item key before (key x) then x ∷ repeated_by key (x ∷ before) xs else repeated_by key (x ∷ before) xs
 
--- the earlier of a fault and of that of an item
-abbrev pub noting_by : {X : Type 0} → (X → Fault) → Option Fault → X → Option Fault
-noting_by fault least x = earlier least (Some (fault x))
+-- the fault of an item, unless its key is new
+abbrev pub unless_new : Bool → Fault → List Fault
+unless_new is_new fault = if is_new then [] else fault ∷ []

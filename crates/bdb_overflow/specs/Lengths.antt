@@ -1,9 +1,11 @@
 -- Which items name a chain whose length isn't the one that they tell. Source: docs/FORMAT.md, "Stage 6, chains and trees".
-use Rattle.std.specs.Prelude.{ℕ, ◌&&◌, Bool, get_or, not}
+use Rattle.std.specs.Prelude.{ℕ, ◌&&◌, Bool, List, get_or, map, not}
 use Rattle.std.specs.List.{list_any}
 use Rattle.bdb_graph.specs.Slots.{no_internal_item}
-use Rattle.bdb_format.specs.Chains.{chains_in, content_chains, is_wrong_length}
+use Rattle.bdb_format.specs.Chains.{chain_rows, chains_in, content_chains, is_wrong_length}
 use Rattle.bdb_format.specs.File.{File}
+use Rattle.bdb_format.specs.ByPage.{holding}
+use Rattle.bdb_format.specs.declared.kinds.Fault.{Fault}
 use Rattle.bdb_format.specs.Page.{Content, Item, InternalItem, Listed, Page}
 use Rattle.bdb_format.specs.References.{is_shared_key, no_item}
 
@@ -25,3 +27,7 @@ is_wrong_entry file page index = not (is_shared_key page.offsets index) && is_wr
 -- some chain that the items of a page name has a wrong length
 abbrev pub has_wrong : File → Page → Bool
 has_wrong file page = list_any (is_wrong_length file) (chains_in page)
+
+-- the faults of stage 6 at a page by the chains that its items name
+abbrev pub faults_at : File → ℕ → List Fault
+faults_at file page = map (λ code. record { stage = 6; page = page; code = code }) (holding (chain_rows file page))

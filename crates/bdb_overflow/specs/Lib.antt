@@ -1,5 +1,4 @@
 pub mod Datum
-pub mod Earlier
 pub mod Keys
 pub mod Lengths
 pub mod Prefix

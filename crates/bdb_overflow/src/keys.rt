@@ -2,12 +2,12 @@ ghost use Rattle.std.specs.Prelude.{◌≡◌, true, not, IfOk, OnOk};
 ghost use Rattle.std.specs.BTreeSet.{IsEmpty, Updates};
 ghost use Rattle.std.specs.Cmp.Lexicographic.{slice_cmp};
 ghost use Rattle.std.specs.Ordering.{nat_cmp};
+ghost use Rattle.bdb_faults.specs.Notes.{Notes};
 ghost use Rattle.bdb_overflow.specs.Datum.{datum_seen};
-ghost use Rattle.bdb_overflow.specs.Earlier.{unless_new};
-ghost use Rattle.bdb_overflow.specs.Keys.{has_key};
+ghost use Rattle.bdb_overflow.specs.Keys.{has_key, unless_new};
 
-use crate::faults::unless_new;
 use crate::{Datum, Key};
+use bdb_faults::FaultSink;
 use bdb_format::Fault;
 use std::alloc::{AllocError, Global};
 use std::collections::BTreeSet;
@@ -47,17 +47,21 @@ impl<'a> Keys<'a> {
         Ok(is_new)
     }
 
-    /// Adds a key: the earlier of a fault and of this one, unless the key is new. An error is want of memory.
-    pub fn note(
+    /// Adds a key, and notes a fault unless the key is new. An error is want of memory.
+    pub fn note<F: FaultSink>(
         &mut self,
-        least: Option<Fault>,
         key: Datum<'a>,
         fault: Fault,
-    ) -> Result<Option<Fault>, AllocError>
-        ensures noted { IfOk result (λ noted. noted ≡ unless_new (not (has_key self.old (datum_seen key.entry))) least fault) }
+        found: &mut F,
+    ) -> Result<(), AllocError>
+        ensures noted { OnOk result (Notes (F.has_noted found.old) (F.has_noted found.new)
+            (unless_new (not (has_key self.old (datum_seen key.entry))) fault)) }
         ensures updates { OnOk result (Updates (slice_cmp nat_cmp) self.old self.new (datum_seen key.entry) true) }
     {
         let is_new = self.add(key)?;
-        Ok(unless_new(is_new, least, fault))
+        if !is_new {
+            found.note(fault)?;
+        }
+        Ok(())
     }
 }

@@ -1,17 +1,15 @@
-ghost use Rattle.std.specs.Prelude.{◌≡◌, ◌+◌, ◌*◌, ◌<◌, ◌≤◌, [], Some, IfErr, OnOk, length};
+ghost use Rattle.std.specs.Prelude.{◌≡◌, ◌+◌, ◌*◌, ◌<◌, ◌≤◌, length};
 ghost use Rattle.bdb_graph.specs.Linked.{FitsChain, IsForest};
 ghost use Rattle.bdb_layout.specs.Seen.{content_seen};
 ghost use Rattle.bdb_format.specs.Chains.{is_wrong_length};
 ghost use Rattle.bdb_format.specs.File.{file_of, page_at};
 ghost use Rattle.bdb_format.specs.Page.{DupLeaf, Hash, Internal, Leaf, RecnoLeaf};
-ghost use Rattle.bdb_format.specs.Verdict.{chain_faults, first_fault};
 ghost use Rattle.bdb_overflow.specs.Datum.{FitsContent};
 ghost use Rattle.bdb_overflow.specs.Lengths.{has_wrong, is_wrong, is_wrong_entry, is_wrong_item, is_wrong_key};
 
 use crate::chain_pieces;
 use bdb_form::{DupLeafView, HashView, InternalView, LeafView, PageView, RecnoLeafView};
-use bdb_format::Fault;
-use bdb_graph::{Forest, Linked};
+use bdb_graph::Forest;
 use bdb_layout::Content;
 
 /// Whether the pages of a chain don't add up to a length.
@@ -183,7 +181,7 @@ fn leaf_has_wrong(forest: &Forest<'_>, number: u32, page: &LeafView<'_>) -> bool
 }
 
 /// Whether some chain that the items of a page name has another length than they tell.
-fn has_wrong(forest: &Forest<'_>, number: u32) -> bool
+pub(crate) fn has_wrong(forest: &Forest<'_>, number: u32) -> bool
     requires forest { IsForest forest.now }
     requires there { number ≤ (file_of forest.now).last }
     ensures { result ≡ has_wrong (file_of forest.now) (page_at (file_of forest.now) number) }
@@ -201,37 +199,4 @@ fn has_wrong(forest: &Forest<'_>, number: u32) -> bool
         | PageView::Overflow(_)
         | PageView::Queue(_) => false,
     }
-}
-
-/// No page names a chain of another length; or the first that does, as a fault.
-fn check_pages(forest: &Forest<'_>) -> Result<(), Fault>
-    ensures accepted { OnOk result (chain_faults (file_of forest.now) ≡ []) }
-    ensures refusal { IfErr result (λ fault. first_fault (chain_faults (file_of forest.now)) ≡ Some fault) }
-{
-    let last = forest.head().last;
-    for page in 0..=last {
-        if has_wrong(forest, page) {
-            return Err(Fault {
-                stage: 6,
-                page,
-                code: 1,
-            });
-        }
-    }
-    Ok(())
-}
-
-/// Each chain has the length that the items which name it tell. A refusal is the first fault: the least
-/// page of which an item tells another. No memory is taken.
-#[tactic(auto, using(crate::proofs::UnchainedLemmas::no_chains))]
-pub fn check_chains(linked: &Linked<'_>) -> Result<(), Fault>
-    ensures accepted { OnOk result (chain_faults (file_of linked.now) ≡ []) }
-    ensures refusal { IfErr result (λ fault. first_fault (chain_faults (file_of linked.now)) ≡ Some fault) }
-{
-    let forest = linked.forest();
-    // Most files have no chain, and then no item needs another look.
-    if !forest.has_chains() {
-        return Ok(());
-    }
-    check_pages(&forest)
 }

@@ -1,4 +1,4 @@
--- The first fault of the contents of a recno, by the faults that are noted.
+-- The faults that are noted of a recno are those of its contents.
 use Rattle.std.proofs.lemmas.Bool.{and_parts, and_from, false_from_ne_true}
 use Rattle.bdb_format.proofs.ListLemmas.{only_member}
 use Rattle.std.proofs.Common.{◌≡◌, ◌⊎◌, ℕ, zero, suc, ◌+◌, ◌≤◌, Bool, true, false, cond, List, [], ◌∷◌, ◌++◌, Option, None, arith, refl, sym, ◌∙◌, ap}
@@ -7,7 +7,8 @@ use Rattle.std.specs.Prelude.{◌&&◌}
 use Rattle.std.specs.List.{All, Contains, filter}
 use Rattle.std.specs.Option.{is_some}
 use Rattle.std.proofs.lemmas.List.Elements.{All-contains, Contains-append_cases, Contains-append_left, Contains-append_right}
-use Rattle.std.proofs.lemmas.List.Sums.{fold-append}
+use Rattle.bdb_faults.specs.Notes.{IsFirst, NotesAll}
+use Rattle.bdb_faults.proofs.SinkLemmas.{first_noted, notes_both, notes_same}
 use Rattle.bdb_graph.specs.Linked.{HasMetadata, IsForest}
 use Rattle.bdb_format.specs.declared.kinds.Fault.{Fault}
 use Rattle.bdb_format.specs.declared.metadata.BtreeMeta.{BtreeMeta}
@@ -19,13 +20,15 @@ use Rattle.bdb_format.specs.Page.{BtreeFields, Page}
 use Rattle.bdb_format.specs.Table.{Row, ◌:?◌}
 use Rattle.bdb_format.specs.Verdict.{by_page, holding, first_fault}
 use Rattle.bdb_format.proofs.MemberLemmas.{first_member, later_member, member_cases, no_member, of_filter}
-use Rattle.bdb_format.proofs.VerdictLemmas.{LeastFirst, by_page_first, holding_least, in_by_page, of_by_page}
+use Rattle.bdb_format.proofs.VerdictLemmas.{InOrder, LeastFirst, by_page_first, holding_least, in_by_page, of_by_page}
 use Rattle.bdb_format.specs.Flags.{is_fixed, is_recno}
 use Rattle.bdb_recno.specs.Counts.{HasRightCounts}
-use Rattle.bdb_recno.specs.Noted.{faults_on, noted, noted_all, count_faults}
+use Rattle.bdb_recno.specs.Noted.{code_of, count_faults, length_faults}
+use Rattle.bdb_recno.specs.declared.noted.RecnoRow.{RecnoRow}
+use Rattle.bdb_recno.specs.declared.noted.RecnoRow.TheVariants.{Count, RecordLength}
 use Rattle.bdb_recno.specs.Pages.{IsRecnoPage}
 use Rattle.bdb_recno.proofs.CountLemmas.{all_one, level_below, next_recno}
-use Rattle.bdb_recno.proofs.NotedLemmas.{IsFaultOn, in_faults_on, in_wrong_at, least_noted, of_faults_on, of_wrong_at, same_first}
+use Rattle.bdb_recno.proofs.NotedLemmas.{in_faults_on, in_wrong_at, of_faults_on, of_wrong_at}
 use Rattle.bdb_recno.proofs.PageLemmas.{leaf_inside, leaves_recno, recno_inside, root_recno}
 
 -- The pages that are looked at are there.
@@ -72,7 +75,7 @@ in_seven a false is = absurd cc
 abbrev pub noted_faults : File → BtreeMeta → List Fault
 noted_faults file meta =
     count_faults file (inner_pages file meta.root)
-    ++ cond (is_fixed meta) (faults_on file 7 (has_wrong_record file meta) (leaves file meta.root)) []
+    ++ cond (is_fixed meta) (length_faults file meta (leaves file meta.root)) []
 
 -- the rows of a recno at a page
 abbrev rows_at : File → BtreeMeta → ℕ → List (Row ℕ)
@@ -91,23 +94,13 @@ least_codes file meta p = holding_least 6 (recno_contents file meta p) (omega ar
 abbrev recno_faults : File → BtreeMeta → List Fault
 recno_faults file meta = by_page 8 0 (file.last + 1) (codes_at file meta)
 
-same_fault : (fault : Fault) (code : ℕ) → fault.stage ≡ 8 → fault.code ≡ code
-    → ◌≡◌ {A = Fault} (record { stage = 8; page = fault.page; code = code }) fault
-same_fault fault code stage_is code_is = same fault.stage fault.page fault.code stage_is code_is
-  where
-    same : (stage page c : ℕ) → stage ≡ 8 → c ≡ code
-        → ◌≡◌ {A = Fault} (record { stage = 8; page = page; code = code }) (record { stage = stage; page = page; code = c })
-    same stage page c is also = cc
-
 -- a fault of a page of a list, by its row, is one of the recno
-row_holds : (file : File) (meta : BtreeMeta) (code : ℕ) (test : Page → Bool) (pages : List ℕ) (fault : Fault) → IsFaultOn file code test pages fault
-    → ((p : ℕ) → Contains pages p → p ≤ file.last)
-    → (is_wrong_at file test pages fault.page ≡ true → Contains (codes_at file meta fault.page) code) → Contains (recno_faults file meta) fault
-row_holds file meta code test pages fault is inside row =
-    let low : fault.page ≤ file.last = inside fault.page is.listed in
-    subst (Contains (recno_faults file meta)) (same_fault fault code is.stage_is is.code_is)
-    (in_by_page 8 0 (file.last + 1) fault.page code (codes_at file meta) (omega arith) (omega arith)
-    (row (in_wrong_at file test pages fault.page is.listed is.wrong)))
+row_holds : (file : File) (meta : BtreeMeta) (row : RecnoRow) (test : Page → Bool) (pages : List ℕ) (p : ℕ) → Contains pages p → p ≤ file.last
+    → test (page_at file p) ≡ true → (is_wrong_at file test pages p ≡ true → Contains (codes_at file meta p) (code_of row))
+    → Contains (recno_faults file meta) (record { stage = 8; page = p; code = code_of row })
+row_holds file meta row test pages p listed low wrong holds =
+    in_by_page 8 0 (file.last + 1) p (code_of row) (codes_at file meta) (omega arith) (omega arith)
+    (holds (in_wrong_at file test pages p listed wrong))
 
 of_lengths : (b : Bool) (faults : List Fault) (fault : Fault) → Contains (cond b faults []) fault → (b ≡ true) × Contains faults fault
 of_lengths true faults fault at = (refl, at)
@@ -120,19 +113,29 @@ noted_holds image meta fault forest root at =
     let counts : List ℕ = inner_pages file meta.root in
     let lengths : List ℕ = leaves file meta.root in
     let fixed : Bool = is_fixed meta in
-    elim (Contains-append_cases (count_faults file counts) (cond fixed (faults_on file 7 (has_wrong_record file meta) lengths) []) fault at) [
+    elim (Contains-append_cases (count_faults file counts) (cond fixed (length_faults file meta lengths) []) fault at) [
       | inl counted ↦
-          row_holds file meta 6 (has_wrong_count file) counts fault (of_faults_on file 6 (has_wrong_count file) counts fault counted)
-          (λ p there. inner_inside image meta.root p forest root there)
-          (in_six (is_wrong_at file (has_wrong_count file) counts fault.page)
-          (fixed && is_wrong_at file (has_wrong_record file meta) lengths fault.page))
+          let on = of_faults_on file Count (has_wrong_count file) counts fault counted in
+          subst (Contains (recno_faults file meta)) (sym on.is)
+          (row_holds file meta Count (has_wrong_count file) counts on.page on.listed (inner_inside image meta.root on.page forest root on.listed) on.wrong
+          (in_six (is_wrong_at file (has_wrong_count file) counts on.page) (fixed && is_wrong_at file (has_wrong_record file meta) lengths on.page)))
       | inr long ↦
-          let of : (fixed ≡ true) × Contains (faults_on file 7 (has_wrong_record file meta) lengths) fault = of_lengths fixed _ fault long in
-          row_holds file meta 7 (has_wrong_record file meta) lengths fault (of_faults_on file 7 (has_wrong_record file meta) lengths fault of.1)
-          (λ p there. leaf_inside image p (leaves_recno image meta.root p forest root there))
-          (λ wrong. in_seven (is_wrong_at file (has_wrong_count file) counts fault.page)
-          (fixed && is_wrong_at file (has_wrong_record file meta) lengths fault.page) (and_from fixed _ of.0 wrong))
+          let of : (fixed ≡ true) × Contains (length_faults file meta lengths) fault = of_lengths fixed _ fault long in
+          let on = of_faults_on file RecordLength (has_wrong_record file meta) lengths fault of.1 in
+          subst (Contains (recno_faults file meta)) (sym on.is)
+          (row_holds file meta RecordLength (has_wrong_record file meta) lengths on.page on.listed
+          (leaf_inside image on.page (leaves_recno image meta.root on.page forest root on.listed)) on.wrong
+          (λ wrong. in_seven (is_wrong_at file (has_wrong_count file) counts on.page)
+          (fixed && is_wrong_at file (has_wrong_record file meta) lengths on.page) (and_from fixed _ of.0 wrong)))
     ]
+
+same_fault : (fault : Fault) (code : ℕ) → fault.stage ≡ 8 → fault.code ≡ code
+    → ◌≡◌ {A = Fault} (record { stage = 8; page = fault.page; code = code }) fault
+same_fault fault code stage_is code_is = same fault.stage fault.page fault.code stage_is code_is
+  where
+    same : (stage page c : ℕ) → stage ≡ 8 → c ≡ code
+        → ◌≡◌ {A = Fault} (record { stage = 8; page = page; code = code }) (record { stage = stage; page = page; code = c })
+    same stage page c is also = cc
 
 holds_noted : (file : File) (meta : BtreeMeta) (fault : Fault) → Contains (recno_faults file meta) fault → Contains (noted_faults file meta) fault
 holds_noted file meta fault at =
@@ -141,20 +144,20 @@ holds_noted file meta fault at =
     let fixed : Bool = is_fixed meta in
     let count_row : Bool = is_wrong_at file (has_wrong_count file) counts fault.page in
     let length_row : Bool = is_wrong_at file (has_wrong_record file meta) lengths fault.page in
-    let long : List Fault = faults_on file 7 (has_wrong_record file meta) lengths in
+    let long : List Fault = length_faults file meta lengths in
     let of = of_by_page 8 0 (file.last + 1) (codes_at file meta) fault at in
     elim (of_two count_row (fixed && length_row) fault.code of.is_code) [
       | inl (six, wrong) ↦
           let parts = of_wrong_at file (has_wrong_count file) counts fault.page wrong in
           Contains-append_left (count_faults file counts) (cond fixed long []) fault
           (subst (Contains (count_faults file counts)) (same_fault fault 6 of.same_stage six)
-          (in_faults_on file 6 (has_wrong_count file) counts fault.page parts.0 parts.1))
+          (in_faults_on file Count (has_wrong_count file) counts fault.page parts.0 parts.1))
       | inr (seven, wrong) ↦
           let flags : (fixed ≡ true) × (length_row ≡ true) = and_parts fixed length_row wrong in
           let parts = of_wrong_at file (has_wrong_record file meta) lengths fault.page flags.1 in
           let there : Contains long fault =
           subst (Contains long) (same_fault fault 7 of.same_stage seven)
-          (in_faults_on file 7 (has_wrong_record file meta) lengths fault.page parts.0 parts.1) in
+          (in_faults_on file RecordLength (has_wrong_record file meta) lengths fault.page parts.0 parts.1) in
           Contains-append_right (count_faults file counts) (cond fixed long []) fault
           (subst (λ b. Contains (cond b long []) fault) (sym flags.0) there)
     ]
@@ -169,45 +172,46 @@ unfolding database_faults
 faults_are file meta recno =
     by_page_same 8 (file.last + 1) 0 (λ p. holding (rows_at file meta p)) (codes_at file meta) (λ p. ap holding (recno_rows file meta p recno))
 
--- the first fault of the contents is the least of those that are noted
-pub all_noted : (image : List ℕ) (meta : BtreeMeta) → IsForest image → HasMetadata (file_of image) (BtreeFields meta) → is_recno meta ≡ true
-    → first_fault (database_faults (file_of image) (BtreeFields meta)) ≡ noted_all None (noted_faults (file_of image) meta)
-all_noted image meta forest has recno =
+-- where records have a fixed length, the lengths are noted
+pub lengths_noted : (before after : List Fault → Type 0) (fixed : Bool) (faults : List Fault) → fixed ≡ true → NotesAll before after faults
+    → NotesAll before after (cond fixed faults [])
+lengths_noted before after fixed faults is noted = subst (λ b. NotesAll before after (cond b faults [])) (sym is) noted
+
+-- what is noted, counts and then lengths, is what the contents have
+pub all_noted : (before middle after : List Fault → Type 0) (image : List ℕ) (meta : BtreeMeta) → IsForest image
+    → HasMetadata (file_of image) (BtreeFields meta) → is_recno meta ≡ true
+    → NotesAll before middle (count_faults (file_of image) (inner_pages (file_of image) meta.root))
+    → NotesAll middle after (cond (is_fixed meta) (length_faults (file_of image) meta (leaves (file_of image) meta.root)) [])
+    → NotesAll before after (database_faults (file_of image) (BtreeFields meta))
+all_noted before middle after image meta forest has recno counts lengths =
     let file : File = file_of image in
     let root : IsRecnoPage file meta.root = root_recno image meta forest has recno in
-    ap first_fault (faults_are file meta recno)
-    ∙ same_first 8 (noted_faults file meta) (recno_faults file meta) (noted_all None (noted_faults file meta)) (least_noted (noted_faults file meta))
-    (by_page_first 8 0 (file.last + 1) (codes_at file meta) (least_codes file meta))
-    (λ fault at. (of_by_page 8 0 (file.last + 1) (codes_at file meta) fault at).same_stage)
-    (λ fault at. noted_holds image meta fault forest root at) (holds_noted file meta)
+    subst (NotesAll before after) (sym (faults_are file meta recno))
+    (notes_same before after (noted_faults file meta) (recno_faults file meta)
+    (notes_both before middle after (count_faults file (inner_pages file meta.root))
+    (cond (is_fixed meta) (length_faults file meta (leaves file meta.root)) []) counts lengths)
+    (λ fault. (λ at. noted_holds image meta fault forest root at, λ at. holds_noted file meta fault at)))
 
-noted_both : (file : File) (meta : BtreeMeta) (fixed : Bool) (counted : Option Fault) → is_fixed meta ≡ fixed
-    → counted ≡ noted_all None (count_faults file (inner_pages file meta.root))
-    → noted_all counted (cond fixed (faults_on file 7 (has_wrong_record file meta) (leaves file meta.root)) [])
-    ≡ noted_all None (noted_faults file meta)
-noted_both file meta fixed counted is counts =
-    let long : Bool → List Fault = λ b. cond b (faults_on file 7 (has_wrong_record file meta) (leaves file meta.root)) [] in
-    ap (λ least. noted_all least (long fixed)) counts
-    ∙ (sym (fold-append noted None (count_faults file (inner_pages file meta.root)) (long fixed))
-    ∙ ap (λ b. noted_all None (count_faults file (inner_pages file meta.root) ++ long b)) (sym is))
+-- The first of what was noted.
 
--- where lengths aren't fixed, counts alone are noted
-pub counts_first : (image : List ℕ) (meta : BtreeMeta) (counted : Option Fault) → IsForest image → HasMetadata (file_of image) (BtreeFields meta)
-    → is_recno meta ≡ true
-    → counted ≡ noted_all None (count_faults (file_of image) (inner_pages (file_of image) meta.root)) → is_fixed meta ≡ false
-    → counted ≡ first_fault (database_faults (file_of image) (BtreeFields meta))
-counts_first image meta counted forest has recno counts free =
-    noted_both (file_of image) meta false counted free counts ∙ sym (all_noted image meta forest has recno)
+in_order : (file : File) (meta : BtreeMeta) → is_recno meta ≡ true → InOrder 8 (database_faults file (BtreeFields meta))
+in_order file meta recno =
+    subst (InOrder 8) (sym (faults_are file meta recno)) (record {
+      one_stage = λ fault at. (of_by_page 8 0 (file.last + 1) (codes_at file meta) fault at).same_stage;
+      rises = by_page_first 8 0 (file.last + 1) (codes_at file meta) (least_codes file meta);
+    })
 
--- where they are, lengths are noted after the counts
-pub lengths_first : (image : List ℕ) (meta : BtreeMeta) (counted least : Option Fault) → IsForest image
-    → HasMetadata (file_of image) (BtreeFields meta)
-    → is_recno meta ≡ true
-    → counted ≡ noted_all None (count_faults (file_of image) (inner_pages (file_of image) meta.root)) → is_fixed meta ≡ true
-    → least ≡ noted_all counted (faults_on (file_of image) 7 (has_wrong_record (file_of image) meta) (leaves (file_of image) meta.root))
-    → least ≡ first_fault (database_faults (file_of image) (BtreeFields meta))
-lengths_first image meta counted least forest has recno counts fixed lengths =
-    lengths ∙ (noted_both (file_of image) meta true counted fixed counts ∙ sym (all_noted image meta forest has recno))
+-- what a check finds over a sink that keeps the first
+pub first_found : (file : File) (meta : BtreeMeta) (start first : Option Fault) → is_recno meta ≡ true → start ≡ None
+    → NotesAll (IsFirst start) (IsFirst first) (database_faults file (BtreeFields meta)) → first ≡ first_fault (database_faults file (BtreeFields meta))
+first_found file meta start first recno none all =
+    first_noted 8 (database_faults file (BtreeFields meta)) first (in_order file meta recno)
+    (subst (λ (o : Option Fault). NotesAll (IsFirst o) (IsFirst first) (database_faults file (BtreeFields meta))) none all)
+
+-- a list of which there is no first is empty
+pub none_first : (faults : List Fault) → None ≡ first_fault faults → faults ≡ []
+none_first [] none = refl
+none_first (fault ∷ faults) none = absurd cc
 
 -- contents without a fault have right counts
 pub right_counts : (image : List ℕ) (meta : BtreeMeta) → IsForest image → HasMetadata (file_of image) (BtreeFields meta) → is_recno meta ≡ true
@@ -221,10 +225,8 @@ right_counts image meta forest has recno none =
     record {
       right = λ q there.
           false_from_ne_true (has_wrong_count file (page_at file q)) (λ wrong.
-          let fault : Fault = record { stage = 8; page = q; code = 6 } in
-          let is : IsFaultOn file 6 (has_wrong_count file) counts fault = record { stage_is = refl; code_is = refl; listed = there; wrong = wrong } in
-          no_member (recno_faults file meta) fault no_faults
-          (row_holds file meta 6 (has_wrong_count file) counts fault is (λ p at. inner_inside image meta.root p forest root at)
+          no_member (recno_faults file meta) (record { stage = 8; page = q; code = 6 }) no_faults
+          (row_holds file meta Count (has_wrong_count file) counts q there (inner_inside image meta.root q forest root there) wrong
           (in_six (is_wrong_at file (has_wrong_count file) counts q)
           (is_fixed meta && is_wrong_at file (has_wrong_record file meta) (leaves file meta.root) q))));
     }

@@ -1,15 +1,17 @@
 -- Counting the entries below a page, and noting the internal pages whose counts are wrong.
 use Rattle.std.proofs.lemmas.Bool.Decides.{nat_tests}
-use Rattle.std.proofs.Common.{◌≡◌, ℕ, suc, ◌+◌, ◌-◌, ◌<◌, ◌≤◌, Bool, true, false, List, [], ◌∷◌, ◌++◌, length, map, take, Option, None}
-use Rattle.std.proofs.Common.{arith, refl, sym, ◌∙◌, ap, subst, inl, inr}
+use Rattle.std.proofs.Common.{◌≡◌, ℕ, suc, ◌+◌, ◌-◌, ◌<◌, ◌≤◌, true, false, cond, List, [], ◌∷◌, ◌++◌, length, take}
+use Rattle.std.proofs.Common.{append-nil, append_assoc, arith, refl, sym, ◌∙◌, ap, subst, inl, inr}
 use Rattle.std.specs.Prelude.{◌==◌, nat_eq, slice_index_or}
 use Rattle.std.specs.List.{All, Contains, filter, flat_map}
 use Rattle.std.specs.Option.{is_some, unwrap_or}
 use Rattle.std.proofs.lemmas.Bool.{ne_eqb}
-use Rattle.std.proofs.lemmas.List.{map-append, take_all}
-use Rattle.std.proofs.lemmas.List.Elements.{All-contains, Contains-get_or, filter-append}
+use Rattle.std.proofs.lemmas.Grind.{flat_map-append}
+use Rattle.std.proofs.lemmas.List.{take_all}
+use Rattle.std.proofs.lemmas.List.Elements.{All-contains, Contains-get_or}
 use Rattle.std.proofs.lemmas.List.Folds.{length-flat_map-take}
-use Rattle.std.proofs.lemmas.List.Sums.{fold-append}
+use Rattle.bdb_faults.specs.Notes.{NotesAll}
+use Rattle.bdb_faults.proofs.SinkLemmas.{notes_both, notes_none}
 use Rattle.bdb_format.specs.declared.kinds.Fault.{Fault}
 use Rattle.bdb_format.specs.declared.pages.RecnoItem.{RecnoItem}
 use Rattle.bdb_format.specs.ContentRows.{has_wrong_count, inner_in, inner_pages}
@@ -19,7 +21,8 @@ use Rattle.bdb_graph.specs.Linked.{IsForest}
 use Rattle.bdb_format.specs.Contents.{entries_in, tree_entries}
 use Rattle.bdb_format.specs.File.{File, file_of, header_in, page_at}
 use Rattle.bdb_format.specs.Leaves.{children_in, leaves}
-use Rattle.bdb_recno.specs.Noted.{faults_on, noted, noted_all, count_faults}
+use Rattle.bdb_recno.specs.Noted.{count_faults, fault_if, fault_on}
+use Rattle.bdb_recno.specs.declared.noted.RecnoRow.TheVariants.{Count}
 use Rattle.bdb_recno.specs.Pages.{IsRecnoPage, IsRecnoLeaf}
 use Rattle.bdb_tree.specs.Entries.{entries_on}
 use Rattle.bdb_tree.proofs.EntryLemmas.{entries_are}
@@ -70,51 +73,58 @@ items_recno image p page forest is =
 
 -- The internal pages of a tree.
 
-wrong_is_inner : (file : File) (page : Page) → has_wrong_count file page ≡ true → is_some (children_in page) ≡ true
-wrong_is_inner file (Internal page) wrong = refl
-wrong_is_inner file (RecnoInternal page) wrong = refl
-wrong_is_inner file page wrong = absurd cc
+right_is_outer : (file : File) (p : ℕ) → is_some (children_in (page_at file p)) ≡ false → has_wrong_count file (page_at file p) ≡ false
+right_is_outer file p outer = right (page_at file p) outer
+  where
+    right : (page : Page) → is_some (children_in page) ≡ false → has_wrong_count file page ≡ false
+    right (Internal page) outer = absurd cc
+    right (RecnoInternal page) outer = absurd cc
+    right page outer = refl
 
--- a test that holds for internal pages alone
-filter_inner : (test inner : ℕ → Bool) (ps : List ℕ) → ((p : ℕ) → test p ≡ true → inner p ≡ true) → filter test (filter inner ps) ≡ filter test ps
-filter_inner test inner [] is = refl
-filter_inner test inner (p ∷ ps) is = grind (arith, filter_inner test inner ps is, is p)
-
-pub noted_parts : (least : Option Fault) (file : File) (code : ℕ) (test : Page → Bool) (ps qs : List ℕ)
-    → noted_all least (faults_on file code test (ps ++ qs)) ≡ noted_all (noted_all least (faults_on file code test ps)) (faults_on file code test qs)
-noted_parts least file code test ps qs =
-    ap (λ faults. noted_all least faults)
-    (ap (map (λ p. record { stage = 8; page = p; code = code })) (filter-append (λ p. test (page_at file p)) ps qs)
-    ∙ map-append (λ p. record { stage = 8; page = p; code = code }) (filter (λ p. test (page_at file p)) ps) (filter (λ p. test (page_at file p)) qs))
-    ∙ fold-append noted least (faults_on file code test ps) (faults_on file code test qs)
+-- of these pages the internal ones alone have faults
+inner_alone : (file : File) (ps : List ℕ) → count_faults file (filter (λ p. is_some (children_in (page_at file p))) ps) ≡ count_faults file ps
+inner_alone file [] = refl
+inner_alone file (p ∷ ps) =
+    elim (is_some (children_in (page_at file p)))
+    as (λ b. is_some (children_in (page_at file p)) ≡ b
+    → count_faults file (cond b (p ∷ filter (λ q. is_some (children_in (page_at file q))) ps) (filter (λ q. is_some (children_in (page_at file q))) ps))
+    ≡ fault_on file Count (has_wrong_count file) p ++ count_faults file ps) [
+      | true ↦ λ inner. ap (λ fs. fault_on file Count (has_wrong_count file) p ++ fs) (inner_alone file ps)
+      | false ↦ λ outer. inner_alone file ps ∙ ap (λ b. fault_if Count p b ++ count_faults file ps) (sym (right_is_outer file p outer))
+    ] refl
 
 -- the pages right below these
 abbrev pub level_below : File → List ℕ → List ℕ
 level_below file pages = flat_map (λ p. unwrap_or (children_in (page_at file p)) []) pages
 
-level_noted : (n : ℕ) (file : File) (pages : List ℕ) (least : Option Fault)
-    → noted_all least (count_faults file (inner_in (suc n) file pages))
-    ≡ noted_all (noted_all least (count_faults file pages)) (count_faults file (inner_in n file (level_below file pages)))
-level_noted n file pages least =
-    noted_parts least file 6 (has_wrong_count file) (filter (λ p. is_some (children_in (page_at file p))) pages)
-    (inner_in n file (level_below file pages))
-    ∙ ap (λ qs. noted_all (noted_all least (map (λ p. record { stage = 8; page = p; code = 6 }) qs))
-    (count_faults file (inner_in n file (level_below file pages))))
-    (filter_inner (λ p. has_wrong_count file (page_at file p)) (λ p. is_some (children_in (page_at file p))) pages
-    (λ p. wrong_is_inner file (page_at file p)))
+level_noted : (n : ℕ) (file : File) (pages : List ℕ)
+    → count_faults file pages ++ count_faults file (inner_in n file (level_below file pages)) ≡ count_faults file (inner_in (suc n) file pages)
+level_noted n file pages =
+    let inner : List ℕ = filter (λ p. is_some (children_in (page_at file p))) pages in
+    let below : List ℕ = inner_in n file (level_below file pages) in
+    ap (λ fs. fs ++ count_faults file below) (sym (inner_alone file pages))
+    ∙ sym (flat_map-append (fault_on file Count (has_wrong_count file)) inner below)
 
--- the pages of a level, after this many levels, with the least fault of those above
-pub record IsNotedSoFar (file : File) (root levels : ℕ) (pages : List ℕ) (least : Option Fault) : Type 0 where
+-- the pages of a level, after this many levels, whose faults are noted
+pub record IsNotedSoFar (before now : List Fault → Type 0) (file : File) (root levels : ℕ) (pages : List ℕ) : Type 0 where
   pub recno : All (IsRecnoPage file) pages
-  pub rest : noted_all least (count_faults file (inner_in ((header_in (page_at file root)).level - levels) file pages))
-      ≡ noted_all None (count_faults file (inner_pages file root))
+  pub passed : List Fault
+  pub noted : NotesAll before now passed
+  pub rest : passed ++ count_faults file (inner_in ((header_in (page_at file root)).level - levels) file pages)
+      ≡ count_faults file (inner_pages file root)
 
-pub noted_none : (file : File) (root : ℕ) (pages : List ℕ) → IsRecnoPage file root → pages ≡ root ∷ [] → IsNotedSoFar file root 0 pages None
+pub noted_none : (has : List Fault → Type 0) (file : File) (root : ℕ) (pages : List ℕ) → IsRecnoPage file root → pages ≡ root ∷ []
+    → IsNotedSoFar has has file root 0 pages
 unfolding inner_pages
-noted_none file root pages recno is =
+noted_none has file root pages recno is =
     let all : (header_in (page_at file root)).level - 0 ≡ (header_in (page_at file root)).level = omega arith in
-    subst (λ ps. IsNotedSoFar file root 0 ps None) (sym is)
-    (record { recno = all_one (IsRecnoPage file) root recno; rest = ap (λ n. noted_all None (count_faults file (inner_in n file (root ∷ [])))) all })
+    subst (λ ps. IsNotedSoFar has has file root 0 ps) (sym is)
+    (record {
+      recno = all_one (IsRecnoPage file) root recno;
+      passed = [];
+      noted = notes_none has;
+      rest = ap (λ n. count_faults file (inner_in n file (root ∷ []))) all;
+    })
 
 pub next_recno : (image : List ℕ) (pages : List ℕ) → IsForest image → All (IsRecnoPage (file_of image)) pages
     → All (IsRecnoPage (file_of image)) (level_below (file_of image) pages)
@@ -128,18 +138,30 @@ next_recno image pages forest all =
       | inr leaf ↦ absurd (no_member [] c refl (subst (λ q. Contains (unwrap_or (children_in q) []) c) leaf.1 found.2))
     ])
 
-pub noted_more : (image : List ℕ) (root levels : ℕ) (pages next : List ℕ) (least after : Option Fault) → IsForest image
-    → IsNotedSoFar (file_of image) root levels pages least
-    → levels < (header_in (page_at (file_of image) root)).level → after ≡ noted_all least (count_faults (file_of image) pages)
+pub noted_more : (before middle after : List Fault → Type 0) (image : List ℕ) (root levels : ℕ) (pages next : List ℕ) → IsForest image
+    → IsNotedSoFar before middle (file_of image) root levels pages
+    → levels < (header_in (page_at (file_of image) root)).level → NotesAll middle after (count_faults (file_of image) pages)
     → next ≡ level_below (file_of image) pages
-    → IsNotedSoFar (file_of image) root (levels + 1) next after
-noted_more image root levels pages next least after forest so_far below is_after is_next =
+    → IsNotedSoFar before after (file_of image) root (levels + 1) next
+noted_more before middle after image root levels pages next forest so_far below here is_next =
     let file : File = file_of image in
     let left : ℕ = (header_in (page_at file root)).level - (levels + 1) in
     let one : suc left ≡ (header_in (page_at file root)).level - levels = omega arith in
-    subst (λ ps. IsNotedSoFar file root (levels + 1) ps after) (sym is_next)
-    (subst (λ l. IsNotedSoFar file root (levels + 1) (level_below file pages) l) (sym is_after)
+    subst (IsNotedSoFar before after file root (levels + 1)) (sym is_next)
     (record {
       recno = next_recno image pages forest so_far.recno;
-      rest = sym (level_noted left file pages least) ∙ (ap (λ n. noted_all least (count_faults file (inner_in n file pages))) one ∙ so_far.rest);
-    }))
+      passed = so_far.passed ++ count_faults file pages;
+      noted = notes_both before middle after so_far.passed (count_faults file pages) so_far.noted here;
+      rest =
+          append_assoc so_far.passed (count_faults file pages) (count_faults file (inner_in left file (level_below file pages)))
+          ∙ (ap (λ fs. so_far.passed ++ fs) (level_noted left file pages)
+          ∙ (ap (λ n. so_far.passed ++ count_faults file (inner_in n file pages)) one ∙ so_far.rest));
+    })
+
+-- once all levels are passed
+pub noted_whole : (before after : List Fault → Type 0) (file : File) (root levels : ℕ) (pages : List ℕ) → IsNotedSoFar before after file root levels pages
+    → (header_in (page_at file root)).level ≤ levels → NotesAll before after (count_faults file (inner_pages file root))
+noted_whole before after file root levels pages so_far all =
+    let none : (header_in (page_at file root)).level - levels ≡ 0 = omega arith in
+    subst (NotesAll before after)
+    (sym (append-nil so_far.passed) ∙ (ap (λ n. so_far.passed ++ count_faults file (inner_in n file pages)) (sym none) ∙ so_far.rest)) so_far.noted

@@ -1,16 +1,23 @@
-ghost use Rattle.std.specs.Prelude.{◌≡◌, [], IfErr, IfOk, IsTrue, OnOk};
-ghost use Rattle.bdb_graph.specs.Linked.{HasMetadata};
+ghost use Rattle.std.specs.Prelude.{◌≡◌, [], IfErr, IsTrue, OnOk, if◌then◌else◌};
+ghost use Rattle.bdb_faults.specs.Named.{HasNoted};
+ghost use Rattle.bdb_faults.specs.Notes.{NotesAll};
+ghost use Rattle.bdb_graph.specs.Linked.{HasMetadata, IsForest};
 ghost use Rattle.bdb_format.specs.ContentRows.{database_faults};
 ghost use Rattle.bdb_format.specs.File.{file_of};
+ghost use Rattle.bdb_format.specs.Flags.{is_fixed, is_recno};
+ghost use Rattle.bdb_format.specs.Leaves.{leaves};
 ghost use Rattle.bdb_format.specs.Page.{BtreeFields};
-ghost use Rattle.bdb_format.specs.Verdict.{structure_faults, first_fault, IsFirstOf};
-ghost use Rattle.bdb_format.specs.Flags.{is_recno};
+ghost use Rattle.bdb_format.specs.Verdict.{structure_faults, IsFirstOf};
+ghost use Rattle.bdb_recno.specs.Noted.{length_faults};
+ghost use Rattle.bdb_recno.specs.Pages.{IsRecnoPage};
+ghost use Rattle.bdb_tree.specs.Trees.{IsRoot};
 
 use crate::counts::note_counts;
 use crate::lengths::note_lengths;
 use crate::page::pages_of;
-use bdb_format::{BtreeMeta, CheckError, Fault};
-use bdb_graph::Linked;
+use bdb_faults::{FaultSink, First, NamedList};
+use bdb_format::{BtreeMeta, CheckError};
+use bdb_graph::{Forest, Linked};
 use std::alloc::{AllocError, Global};
 
 /// The contents of a recno: the counts of its internal pages and, where records have a fixed length, the
@@ -23,28 +30,73 @@ pub fn check(alloc: Global, linked: &Linked<'_>, meta: &BtreeMeta) -> Result<(),
     ensures accepted { OnOk result (database_faults (file_of linked.now) (BtreeFields meta.now) ≡ []) }
     ensures refusal { IfErr result (IsFirstOf (database_faults (file_of linked.now) (BtreeFields meta.now))) }
 {
-    match least_fault(alloc, linked, meta) {
-        Ok(None) => Ok(()),
-        Ok(Some(fault)) => Err(CheckError::Fault(fault)),
-        Err(_) => Err(CheckError::Memory),
+    let mut first = First::new();
+    let Ok(()) = note_contents(alloc, linked, meta, &mut first) else {
+        return Err(CheckError::Memory);
+    };
+    match first.fault() {
+        None => Ok(()),
+        Some(fault) => Err(CheckError::Fault(fault)),
     }
 }
 
-/// The first fault of the contents, if there is one. An error is want of memory.
-fn least_fault(
+/// Notes each row on what a recno holds at each page where it holds, in a list of all. An error is want of memory.
+pub fn all_faults(
     alloc: Global,
     linked: &Linked<'_>,
     meta: &BtreeMeta,
-) -> Result<Option<Fault>, AllocError>
+    found: &mut NamedList,
+) -> Result<(), AllocError>
     requires meta { HasMetadata (file_of linked.now) (BtreeFields meta.now) }
     requires recno { IsTrue (is_recno meta.now) }
     requires stage { structure_faults (file_of linked.now) ≡ [] }
-    ensures { IfOk result (λ least. least ≡ first_fault (database_faults (file_of linked.now) (BtreeFields meta.now))) }
+    ensures { OnOk result (NotesAll (HasNoted found.old) (HasNoted found.new) (database_faults (file_of linked.now) (BtreeFields meta.now))) }
+{
+    note_contents(alloc, linked, meta, found)
+}
+
+/// Notes each row on what a recno holds at each page where it holds: the counts of its internal pages and, where records
+/// have a fixed length, the lengths of the live ones. An error is want of memory: the sink's, or that of 4 bytes for
+/// each page of the tree and while it runs as many again.
+pub fn note_contents<F: FaultSink>(
+    alloc: Global,
+    linked: &Linked<'_>,
+    meta: &BtreeMeta,
+    found: &mut F,
+) -> Result<(), AllocError>
+    requires meta { HasMetadata (file_of linked.now) (BtreeFields meta.now) }
+    requires recno { IsTrue (is_recno meta.now) }
+    requires stage { structure_faults (file_of linked.now) ≡ [] }
+    ensures { OnOk result (NotesAll (F.has_noted found.old) (F.has_noted found.new) (database_faults (file_of linked.now) (BtreeFields meta.now))) }
 {
     let forest = pages_of(linked, meta);
-    let counted = note_counts(alloc, &forest, meta.root)?;
-    if meta.flags & 0x08 == 0 {
-        return Ok(counted);
+    note_counts(alloc, &forest, meta.root, found)?;
+    note_fixed(&forest, meta, found)?;
+    Ok(())
+}
+
+/// Notes the leaves with a record of a wrong length, if records have a fixed one.
+fn note_fixed<F: FaultSink>(
+    forest: &Forest<'_>,
+    meta: &BtreeMeta,
+    found: &mut F,
+) -> Result<(), AllocError>
+    requires forest { IsForest forest.now }
+    requires root { IsRoot (file_of forest.now) meta.now.root }
+    requires recno { IsRecnoPage (file_of forest.now) meta.now.root }
+    requires stage { structure_faults (file_of forest.now) ≡ [] }
+    ensures { OnOk result (NotesAll (F.has_noted found.old) (F.has_noted found.new)
+        (if is_fixed meta.now then length_faults (file_of forest.now) meta.now (leaves (file_of forest.now) meta.now.root) else [])) }
+{
+    if is_fixed(meta) {
+        note_lengths(forest, meta, found)?;
     }
-    Ok(note_lengths(&forest, meta, counted))
+    Ok(())
+}
+
+/// Whether records have a fixed length.
+fn is_fixed(meta: &BtreeMeta) -> bool
+    ensures { result ≡ is_fixed meta.now }
+{
+    meta.flags & 0x08 != 0
 }

@@ -1,18 +1,19 @@
-ghost use Rattle.std.specs.Prelude.{◌≡◌, ◌==◌, IfOk, length, None};
+ghost use Rattle.std.specs.Prelude.{◌≡◌, ◌==◌, IfOk, OnOk, length};
 ghost use Rattle.std.specs.List.{All, list_any};
+ghost use Rattle.bdb_faults.specs.Notes.{NotesAll};
 ghost use Rattle.bdb_graph.specs.Linked.{IsForest};
 ghost use Rattle.bdb_format.specs.ContentRows.{has_wrong_count, inner_pages};
 ghost use Rattle.bdb_format.specs.Contents.{tree_entries};
 ghost use Rattle.bdb_format.specs.File.{file_of, page_at};
 ghost use Rattle.bdb_format.specs.declared.pages.RecnoItem.{RecnoItem};
 ghost use Rattle.bdb_recno.specs.Counts.{miscounts};
-ghost use Rattle.bdb_recno.specs.Noted.{count_faults, noted_all};
+ghost use Rattle.bdb_recno.specs.Noted.{count_faults};
 ghost use Rattle.bdb_recno.specs.Pages.{IsRecnoPage};
 
-use crate::noted::noted;
+use crate::noted::{RecnoRow, note_if};
 use crate::page::{RecnoPage, entries_at, level_of, recno_page};
+use bdb_faults::FaultSink;
 use bdb_form::RecnoInternalView;
-use bdb_format::Fault;
 use bdb_graph::Forest;
 use bdb_tree::{leaves_below, next_level};
 use std::alloc::{AllocError, Global};
@@ -71,49 +72,40 @@ fn has_wrong_count(alloc: Global, forest: &Forest<'_>, page: u32) -> Result<bool
 }
 
 /// Notes the pages of a level that have a wrong count.
-fn note_level(
+fn note_level<F: FaultSink>(
     alloc: Global,
     forest: &Forest<'_>,
     pages: &[u32],
-    before: Option<Fault>,
-) -> Result<Option<Fault>, AllocError>
+    found: &mut F,
+) -> Result<(), AllocError>
     requires forest { IsForest forest.now }
     requires pages { All (IsRecnoPage (file_of forest.now)) pages.now }
-    ensures { IfOk result (λ least. least ≡ noted_all before (count_faults (file_of forest.now) pages.now)) }
+    ensures { OnOk result (NotesAll (F.has_noted found.old) (F.has_noted found.new) (count_faults (file_of forest.now) pages.now)) }
 {
-    let mut least = before;
     for page in pages {
-        if has_wrong_count(alloc, forest, *page)? {
-            let page = *page;
-            least = noted(
-                least,
-                Fault {
-                    stage: 8,
-                    page,
-                    code: 6,
-                },
-            );
-        }
+        let wrong = has_wrong_count(alloc, forest, *page)?;
+        note_if(found, RecnoRow::Count, *page, wrong)?;
     }
-    Ok(least)
+    Ok(())
 }
 
-/// The first page of a tree that has a wrong count, level by level. An error is want of memory.
-pub(crate) fn note_counts(
+/// Notes the pages of a tree that have a wrong count, level by level. An error is want of memory.
+pub(crate) fn note_counts<F: FaultSink>(
     alloc: Global,
     forest: &Forest<'_>,
     root: u32,
-) -> Result<Option<Fault>, AllocError>
+    found: &mut F,
+) -> Result<(), AllocError>
     requires forest { IsForest forest.now }
     requires root { IsRecnoPage (file_of forest.now) root }
-    ensures { IfOk result (λ least. least ≡ noted_all None (count_faults (file_of forest.now) (inner_pages (file_of forest.now) root))) }
+    ensures { OnOk result (NotesAll (F.has_noted found.old) (F.has_noted found.new)
+        (count_faults (file_of forest.now) (inner_pages (file_of forest.now) root))) }
 {
     let mut pages = Vec::new(alloc);
     pages.push(root)?;
-    let mut least = None;
     for _level in 0..level_of(forest, root) {
-        least = note_level(alloc, forest, &pages, least)?;
+        note_level(alloc, forest, &pages, found)?;
         pages = next_level(alloc, forest, &pages)?;
     }
-    Ok(least)
+    Ok(())
 }

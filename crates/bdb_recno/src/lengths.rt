@@ -1,4 +1,5 @@
-ghost use Rattle.std.specs.Prelude.{◌≡◌, []};
+ghost use Rattle.std.specs.Prelude.{◌≡◌, [], OnOk};
+ghost use Rattle.bdb_faults.specs.Notes.{NotesAll};
 ghost use Rattle.bdb_graph.specs.Linked.{IsForest};
 ghost use Rattle.bdb_layout.specs.Seen.{leaf_item_seen};
 ghost use Rattle.bdb_format.specs.ContentRows.{has_wrong_record, is_wrong_record};
@@ -6,17 +7,19 @@ ghost use Rattle.bdb_format.specs.File.{file_of, page_at};
 ghost use Rattle.bdb_format.specs.Leaves.{leaves};
 ghost use Rattle.bdb_format.specs.Verdict.{structure_faults};
 ghost use Rattle.bdb_overflow.specs.Datum.{FitsContent};
-ghost use Rattle.bdb_recno.specs.Noted.{length_faults, noted_all};
+ghost use Rattle.bdb_recno.specs.Noted.{length_faults};
 ghost use Rattle.bdb_recno.specs.Pages.{IsRecnoLeaf, IsRecnoPage};
 ghost use Rattle.bdb_tree.specs.Trees.{IsRoot};
 
-use crate::noted::noted;
+use crate::noted::{RecnoRow, note_if};
 use crate::page::leaf_at;
-use bdb_format::{BtreeMeta, Fault};
+use bdb_faults::FaultSink;
+use bdb_format::BtreeMeta;
 use bdb_graph::Forest;
 use bdb_layout::LeafItem;
 use bdb_overflow::{is_deleted, value_of};
 use bdb_tree::tree_leaves;
+use std::alloc::AllocError;
 
 /// Whether a record is live and hasn't the fixed length; a deleted one isn't looked at.
 fn is_wrong_record(forest: &Forest<'_>, meta: &BtreeMeta, item: &LeafItem<'_>) -> bool
@@ -40,31 +43,23 @@ fn has_wrong_record(forest: &Forest<'_>, meta: &BtreeMeta, page: u32) -> bool
     false
 }
 
-/// The least fault, once the leaves of a tree with a record of a wrong length are noted.
-pub(crate) fn note_lengths(
+/// Notes the leaves of a tree that have a record of a wrong length. It takes no memory of its own.
+pub(crate) fn note_lengths<F: FaultSink>(
     forest: &Forest<'_>,
     meta: &BtreeMeta,
-    before: Option<Fault>,
-) -> Option<Fault>
+    found: &mut F,
+) -> Result<(), AllocError>
     requires forest { IsForest forest.now }
     requires root { IsRoot (file_of forest.now) meta.now.root }
     requires recno { IsRecnoPage (file_of forest.now) meta.now.root }
     requires stage { structure_faults (file_of forest.now) ≡ [] }
-    ensures { result ≡ noted_all before (length_faults (file_of forest.now) meta.now (leaves (file_of forest.now) meta.now.root)) }
+    ensures { OnOk result (NotesAll (F.has_noted found.old) (F.has_noted found.new)
+        (length_faults (file_of forest.now) meta.now (leaves (file_of forest.now) meta.now.root))) }
 {
-    let mut least = before;
     for leaf in tree_leaves(forest, meta.root) {
         let page = leaf.number();
-        if has_wrong_record(forest, meta, page) {
-            least = noted(
-                least,
-                Fault {
-                    stage: 8,
-                    page,
-                    code: 7,
-                },
-            );
-        }
+        let wrong = has_wrong_record(forest, meta, page);
+        note_if(found, RecnoRow::RecordLength, page, wrong)?;
     }
-    least
+    Ok(())
 }

@@ -11,7 +11,7 @@ mod noted;
 mod page;
 mod search;
 
-pub use contents::check;
+pub use contents::{all_faults, check, note_contents};
 pub use found::{Found, find};
 pub use list::scan;
 pub use listing::Scan;

@@ -4,4 +4,5 @@ use Rattle.bdb_recno.proofs.counts.note_counts.Given as goal
 
 -- The faults of the levels passed are noted, and those of this level and the ones below it are the others.
 abbrev pub invariant-loop-level : goal.invariant-loop-level
-invariant-loop-level l = IsNotedSoFar (file_of l.forest) l.root l._level l.pages.items l.least
+invariant-loop-level g l =
+    IsNotedSoFar (g.F.FaultSink.has_noted l.fn.found) (g.F.FaultSink.has_noted l.found) (file_of l.forest) l.root l._level l.pages.items

@@ -1,0 +1,89 @@
+ghost use Rattle.std.specs.Prelude.{◌≡◌, ◌≤◌, [], IfErr, IsTrue, OnErr, OnOk, Some};
+ghost use Rattle.bdb_faults.specs.Named.{HasNoted};
+ghost use Rattle.bdb_faults.specs.Notes.{Notes, NotesAll};
+ghost use Rattle.bdb_format.specs.File.{file_of};
+ghost use Rattle.bdb_format.specs.Verdict.{chain_faults, first_fault};
+ghost use Rattle.bdb_graph.specs.Linked.{IsForest};
+ghost use Rattle.bdb_overflow.specs.Lengths.{faults_at};
+
+use crate::lengths::has_wrong;
+use bdb_faults::{FaultSink, First, NamedList};
+use bdb_format::Fault;
+use bdb_graph::{Forest, Linked};
+use std::alloc::AllocError;
+
+/// Each chain has the length that the items which name it tell. A refusal is the first fault: the least
+/// page of which an item tells another. No memory is taken.
+pub fn check_chains(linked: &Linked<'_>) -> Result<(), Fault>
+    ensures accepted { OnOk result (chain_faults (file_of linked.now) ≡ []) }
+    ensures refusal { IfErr result (λ fault. first_fault (chain_faults (file_of linked.now)) ≡ Some fault) }
+{
+    let mut first = First::new();
+    let Ok(()) = note_chains(linked, &mut first) else {
+        // Such a sink takes no memory.
+        unreachable!()
+    };
+    match first.fault() {
+        None => Ok(()),
+        Some(fault) => Err(fault),
+    }
+}
+
+/// Notes each page of which an item tells another length than its chain has, in a list of all. An error is want of
+/// memory.
+pub fn chain_faults(linked: &Linked<'_>, found: &mut NamedList) -> Result<(), AllocError>
+    ensures { OnOk result (NotesAll (HasNoted found.old) (HasNoted found.new) (chain_faults (file_of linked.now))) }
+{
+    note_chains(linked, found)
+}
+
+/// Notes each page of which an item tells another length than its chain has. An error is want of the sink's memory;
+/// none else is taken.
+#[tactic(auto, using(crate::proofs::UnchainedLemmas::nothing_to_note))]
+pub fn note_chains<F: FaultSink>(linked: &Linked<'_>, found: &mut F) -> Result<(), AllocError>
+    ensures noted { OnOk result (NotesAll (F.has_noted found.old) (F.has_noted found.new) (chain_faults (file_of linked.now))) }
+    ensures refused { OnErr result (IsTrue F.takes_memory) }
+{
+    let forest = linked.forest();
+    // Most files have no chain, and then no item needs another look.
+    if !forest.has_chains() {
+        return Ok(());
+    }
+    note_pages(&forest, found)
+}
+
+/// The same, page by page of the forest of a file.
+fn note_pages<F: FaultSink>(forest: &Forest<'_>, found: &mut F) -> Result<(), AllocError>
+    ensures noted { OnOk result (NotesAll (F.has_noted found.old) (F.has_noted found.new) (chain_faults (file_of forest.now))) }
+    ensures refused { OnErr result (IsTrue F.takes_memory) }
+{
+    let last = forest.head().last;
+    for page in 0..=last {
+        note_page(forest, page, found)?;
+    }
+    Ok(())
+}
+
+/// Notes a page, where an item of it tells another length than its chain has.
+fn note_page<F: FaultSink>(forest: &Forest<'_>, page: u32, found: &mut F) -> Result<(), AllocError>
+    requires forest { IsForest forest.now }
+    requires there { page ≤ (file_of forest.now).last }
+    ensures noted { OnOk result (Notes (F.has_noted found.old) (F.has_noted found.new) (faults_at (file_of forest.now) page)) }
+    ensures refused { OnErr result (IsTrue F.takes_memory) }
+{
+    if has_wrong(forest, page) {
+        found.note(length_fault(page))?;
+    }
+    Ok(())
+}
+
+/// The fault of a page of which an item tells another length than its chain has.
+fn length_fault(page: u32) -> Fault
+    ensures { result ≡ record { stage = 6; page = page; code = 1 } }
+{
+    Fault {
+        stage: 6,
+        page,
+        code: 1,
+    }
+}
