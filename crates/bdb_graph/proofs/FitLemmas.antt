@@ -1,11 +1,9 @@
 -- What a page is to a reference, by its bytes, and the codes with which references fail.
-use Rattle.std.proofs.Common.{◌≡◌, ◌⊎◌, ℕ, zero, suc, ◌+◌, ◌≤◌, ◌<◌, Bool, true, false, cond, List, [], ◌∷◌, ◌++◌, arith, refl, sym, ◌∙◌, ap, subst, inl, inr}
+use Rattle.std.proofs.Common.{◌≡◌, ℕ, zero, suc, ◌+◌, ◌≤◌, ◌<◌, Bool, true, false, cond, List, [], ◌∷◌, ◌++◌, arith, refl, sym, ◌∙◌, ap, subst, inl, inr}
 use Rattle.std.specs.Prelude.{Option, Some, None, ◌==◌, ◌||◌, nat_lt, map}
 use Rattle.std.specs.Option.{option_map}
 use Rattle.std.specs.List.{list_any}
 use Rattle.std.proofs.lemmas.Bool.{cases_order, eqb-true, eqb-false, le-ltb, lt-ltb, ne_eqb, or_from}
-use Rattle.std.proofs.lemmas.List.Folds.{list_any-append}
-use Rattle.std.proofs.Math.Bool.{or-false}
 use Rattle.bdb_format.specs.declared.kinds.Fault.{Fault}
 use Rattle.bdb_format.specs.declared.kinds.Order.{Order}
 use Rattle.bdb_format.specs.declared.references.Reference.{Reference}
@@ -15,11 +13,11 @@ use Rattle.bdb_format.specs.Numbers.{byte_at, four_at, has_bit}
 use Rattle.bdb_format.specs.Page.{Page, PageType, FreePage, HashPage, InternalPage, RecnoInternalPage, LeafPage, RecnoLeafPage, OverflowPage, HashMetaPage, BtreeMetaPage, QueueMetaPage, QueuePage, DupLeafPage, OtherPage, Zero}
 use Rattle.bdb_format.specs.Reading.{abstract_page, header_of, is_zero, listed, page_as, page_type}
 use Rattle.bdb_format.specs.References.{Asked, asked_by, child_types, fit_code, is_zero_page, root_types}
-use Rattle.bdb_format.specs.Table.{Row, ◌:?◌, first_row, lesser}
-use Rattle.bdb_format.specs.Verdict.{by_page, fails_as, holding, reference_faults, reference_rows, first_fault}
-use Rattle.bdb_format.proofs.VerdictLemmas.{no_faults, none_holds, none_is_first_row}
+use Rattle.bdb_format.specs.Table.{Row, first_row, lesser}
+use Rattle.bdb_format.specs.Verdict.{by_page, holding, first_fault}
+use Rattle.bdb_format.proofs.VerdictLemmas.{none_holds, none_is_first_row}
 use Rattle.bdb_graph.proofs.FormedLemmas.{size_bounds}
-use Rattle.bdb_graph.specs.Fits.{failing_rows, page_rows}
+use Rattle.bdb_graph.specs.Fits.{page_rows}
 use Rattle.bdb_format.proofs.GraphLemmas.{zero_page, typed_page}
 use Rattle.bdb_format.proofs.TypeLemmas.{if_type}
 
@@ -231,96 +229,6 @@ names_page file p reference asked holder target code some low code_is asked_is h
     ∙ (ap (λ (page : Page). first_row (page_rows (asked_by p (page_at file p) reference.sort) page)) target_is
     ∙ fits_there file p reference (or_from (reference.target == 0) (nat_lt file.last reference.target) (ne_eqb reference.target 0 some) (le-ltb file.last reference.target low)))))
 
--- a code of a reference, or none
-abbrev IsCode : Option ℕ → Type 0
-IsCode code = (code ≡ None) ⊎ ((code ≡ Some 1) ⊎ ((code ≡ Some 2) ⊎ ((code ≡ Some 3) ⊎ (code ≡ Some 4))))
-
-abbrev first_of_four : Bool → Bool → Bool → Bool → Option ℕ
-first_of_four a b c d = first_row (1 :? a ∷ 2 :? b ∷ 3 :? c ∷ 4 :? d ∷ [])
-
-is_code : (a b c d : Bool) → IsCode (first_of_four a b c d)
-is_code true b c d = inr (inl refl)
-is_code false true c d = inr (inr (inl refl))
-is_code false false true d = inr (inr (inr (inl refl)))
-is_code false false false true = inr (inr (inr (inr refl)))
-is_code false false false false = inl refl
-
-fit_is_code : (file : File) (p : ℕ) (reference : Reference) → IsCode (fit_code file p reference)
-unfolding fit_code
-fit_is_code file p reference = is_code _ _ _ _
-
--- the first of four codes, where one more reference has this code
-abbrev OneMore : Bool → Bool → Bool → Bool → Option ℕ → Type 0
-OneMore a b c d code =
-    lesser (first_of_four a b c d) code ≡ first_of_four (a || fails_as 1 code) (b || fails_as 2 code) (c || fails_as 3 code) (d || fails_as 4 code)
-
-one_fits : (a b c d : Bool) → OneMore a b c d None
-one_fits true b c d = refl
-one_fits false true c d = refl
-one_fits false false true d = refl
-one_fits false false false true = refl
-one_fits false false false false = refl
-
-one_out : (a b c d : Bool) → OneMore a b c d (Some 1)
-one_out true b c d = refl
-one_out false true c d = refl
-one_out false false true d = refl
-one_out false false false true = refl
-one_out false false false false = refl
-
-one_kind : (a b c d : Bool) → OneMore a b c d (Some 2)
-one_kind true b c d = refl
-one_kind false true c d = refl
-one_kind false false true d = refl
-one_kind false false false true = refl
-one_kind false false false false = refl
-
-one_level : (a b c d : Bool) → OneMore a b c d (Some 3)
-one_level true b c d = refl
-one_level false true c d = refl
-one_level false false true d = refl
-one_level false false false true = refl
-one_level false false false false = refl
-
-one_back : (a b c d : Bool) → OneMore a b c d (Some 4)
-one_back true b c d = refl
-one_back false true c d = refl
-one_back false false true d = refl
-one_back false false false true = refl
-one_back false false false false = refl
-
-one_more : (a b c d : Bool) (code : Option ℕ) → IsCode code → OneMore a b c d code
-one_more a b c d code is =
-    elim is [
-      | inl fits ↦ subst (OneMore a b c d) (sym fits) (one_fits a b c d)
-      | inr (inl out) ↦ subst (OneMore a b c d) (sym out) (one_out a b c d)
-      | inr (inr (inl kind)) ↦ subst (OneMore a b c d) (sym kind) (one_kind a b c d)
-      | inr (inr (inr (inl level))) ↦ subst (OneMore a b c d) (sym level) (one_level a b c d)
-      | inr (inr (inr (inr back))) ↦ subst (OneMore a b c d) (sym back) (one_back a b c d)
-    ]
-
-any_more : (test : Reference → Bool) (before : List Reference) (reference : Reference) → (list_any test before || test reference) ≡ list_any test (before ++ (reference ∷ []))
-any_more test before reference = sym (list_any-append test before (reference ∷ []) ∙ ap (λ b. list_any test before || b) (or-false (test reference)))
-
-same_four : (a b c d e f g h : Bool) → a ≡ e → b ≡ f → c ≡ g → d ≡ h → first_of_four a b c d ≡ first_of_four e f g h
-same_four a b c d e f g h ae bf cg dh =
-    ap (λ x. first_of_four x b c d) ae ∙ (ap (λ x. first_of_four e x c d) bf ∙ (ap (λ x. first_of_four e f x d) cg ∙ ap (λ x. first_of_four e f g x) dh))
-
--- the least code with which the references of a list fail
-abbrev pub least_failing : File → ℕ → List Reference → Option ℕ
-least_failing file p references = first_row (failing_rows (fit_code file p) references)
-
--- one more reference counts by its own code
-pub more_failing : (file : File) (p : ℕ) (before : List Reference) (reference : Reference)
-    → lesser (least_failing file p before) (fit_code file p reference) ≡ least_failing file p (before ++ (reference ∷ []))
-more_failing file p before reference =
-    let fit : Reference → Option ℕ = fit_code file p in
-    one_more (list_any (λ r. fails_as 1 (fit r)) before) (list_any (λ r. fails_as 2 (fit r)) before) (list_any (λ r. fails_as 3 (fit r)) before) (list_any (λ r. fails_as 4 (fit r)) before)
-    (fit reference) (fit_is_code file p reference)
-    ∙ same_four _ _ _ _ _ _ _ _
-    (any_more (λ r. fails_as 1 (fit r)) before reference) (any_more (λ r. fails_as 2 (fit r)) before reference)
-    (any_more (λ r. fails_as 3 (fit r)) before reference) (any_more (λ r. fails_as 4 (fit r)) before reference)
-
 -- The first fault of a stage.
 
 abbrev named : ℕ → ℕ → ℕ → Fault
@@ -381,17 +289,3 @@ first_of_stage stage from n page code rows low high none at =
     sym
     (first_by_page stage from n page code (λ p. holding (rows p)) low high (λ p above below. no_code_holds (rows p) (none p above below))
     (page_first stage page (rows page) ∙ ap (option_map (named stage page)) (sym at)))
-
--- where no row holds at any page, the stage has no fault
-pub none_of_stage : (stage from n : ℕ) (rows : ℕ → List (Row ℕ)) → NoneHold rows from (from + n) → None ≡ first_fault (by_page stage from n (λ p. holding (rows p)))
-none_of_stage stage from n rows none =
-    sym (ap first_fault (no_faults stage from n (λ p. holding (rows p)) (λ p low high. no_code_holds (rows p) (none p low high))))
-
-pub first_reference_fault : (file : File) (page code : ℕ) → page ≤ file.last → NoneHold (reference_rows file) 0 page → Some code ≡ first_row (reference_rows file page)
-    → Some (named 3 page code) ≡ first_fault (reference_faults file)
-unfolding reference_faults
-first_reference_fault file page code low none at = first_of_stage 3 0 (file.last + 1) page code (reference_rows file) (omega arith) (omega arith) none at
-
-pub no_reference_fault : (file : File) → NoneHold (reference_rows file) 0 (file.last + 1) → None ≡ first_fault (reference_faults file)
-unfolding reference_faults
-no_reference_fault file none = none_of_stage 3 0 (file.last + 1) (reference_rows file) (λ p low high. none p low (omega arith))

@@ -6,15 +6,14 @@ pub mod ForestLemmas
 pub mod FormedLemmas
 pub mod HeldLemmas
 pub mod LeavesLemmas
-pub mod LinkLemmas
 pub mod LinkingLemmas
 pub mod LinkedLemmas
 pub mod MarkLemmas
 pub mod MetaLemmas
+pub mod NotedLemmas
 pub mod ReachLemmas
 pub mod RoleLemmas
 pub mod SlotLemmas
 pub mod SourceLemmas
-pub mod StageLemmas
 pub mod TallyLemmas
 pub mod TargetLemmas

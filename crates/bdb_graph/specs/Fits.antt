@@ -1,12 +1,9 @@
 -- With which code a reference fails, as the code asks for it. Source: docs/FORMAT.md, "Stage 3, references".
-use Rattle.std.specs.Prelude.{ℕ, ◌&&◌, ◌||◌, not, Bool, false, List, [], ◌∷◌, Option, Some, None}
-use Rattle.std.specs.List.{list_any}
-use Rattle.bdb_format.specs.declared.references.Reference.{Reference}
+use Rattle.std.specs.Prelude.{ℕ, ◌&&◌, ◌||◌, not, Bool, false, List, [], ◌∷◌, Some, None}
 use Rattle.bdb_format.specs.File.{header_in, type_in}
 use Rattle.bdb_format.specs.Page.{Page}
 use Rattle.bdb_format.specs.References.{Asked, has_type, is_asked, is_zero_page}
 use Rattle.bdb_format.specs.Table.{Row, ◌:?◌}
-use Rattle.bdb_format.specs.Verdict.{fails_as}
 
 -- one of these types, with this previous page
 abbrev pub asks_previous : List ℕ → ℕ → Asked
@@ -22,13 +19,4 @@ page_rows asked page =
     2 :? not (is_of_type asked page)
     ∷ 3 :? not (is_asked asked.level (header_in page).level)
     ∷ 4 :? not (is_asked asked.previous (header_in page).previous)
-    ∷ []
-
--- the codes with which some reference of a list fails
-abbrev pub failing_rows : (Reference → Option ℕ) → List Reference → List (Row ℕ)
-failing_rows fit references =
-    1 :? list_any (λ reference. fails_as 1 (fit reference)) references
-    ∷ 2 :? list_any (λ reference. fails_as 2 (fit reference)) references
-    ∷ 3 :? list_any (λ reference. fails_as 3 (fit reference)) references
-    ∷ 4 :? list_any (λ reference. fails_as 4 (fit reference)) references
     ∷ []

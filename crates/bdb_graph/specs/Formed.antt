@@ -1,5 +1,5 @@
 -- What is known of an image once its page 0, and then all its pages, have no fault of form.
-use Rattle.std.specs.Prelude.{◌≡◌, ◌≤◌, ◌^◌, ℕ, List, [], ◌∷◌, length, None}
+use Rattle.std.specs.Prelude.{◌≡◌, ◌≤◌, ◌^◌, ℕ, List, [], ◌∷◌, length, Option, Some, None}
 use Rattle.bdb_format.specs.declared.metadata.Head.{Head}
 use Rattle.bdb_format.specs.HeadOf.{head_of, head_rows}
 use Rattle.bdb_format.specs.Table.{first_row}
@@ -16,3 +16,8 @@ pub record IsFormed (image : List ℕ) (head : Head) : Type 0 where
   pub size : length image ≤ 2 ^ 30
   pub head_is : head ≡ head_of image
   pub form : faults_in (1 ∷ 2 ∷ []) image ≡ []
+
+-- what was read of page 0 is accepted, or there is a fault
+abbrev pub IsRead : List ℕ → Option Head → Type 0
+IsRead image None = faults_in (1 ∷ 2 ∷ []) image ≡ [] → ⊥
+IsRead image (Some head) = IsAccepted image head

@@ -4,6 +4,7 @@ pub mod Formed
 pub mod Linked
 pub mod Marks
 pub mod Metas
+pub mod Noted
 pub mod Slots
 pub mod Tallies
 pub mod Walked

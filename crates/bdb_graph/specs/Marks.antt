@@ -1,7 +1,7 @@
 -- What is known of the pages on the way up, while each is looked at. Source: docs/FORMAT.md, "Stage 5, reach".
-use Rattle.std.specs.Prelude.{◌≡◌, ◌⊎◌, ℕ, zero, suc, ◌<◌, true, List, [], get_or, Some}
+use Rattle.std.specs.Prelude.{◌≡◌, ◌⊎◌, ℕ, zero, suc, ◌<◌, Bool, List, [], get_or, Some}
 use Rattle.bdb_graph.specs.declared.reach.Mark.{Mark}
-use Rattle.bdb_graph.specs.declared.reach.Mark.TheVariants.{Open, Way, Reaches}
+use Rattle.bdb_graph.specs.declared.reach.Mark.TheVariants.{Open, Way, Known}
 use Rattle.bdb_format.specs.File.{File}
 use Rattle.bdb_format.specs.Graph.{first_holder, owners, reaches}
 use Rattle.bdb_format.specs.Verdict.{reference_faults}
@@ -26,12 +26,17 @@ IsUp file (suc k) p q = (h : ℕ) × IsHeldBy file p h × IsUp file k h q
 abbrev pub IsAbove : File → ℕ → ℕ → Type 0
 IsAbove file p q = (k : ℕ) × IsUp file k p q
 
--- The marks are right: the pages on the way that is open are these, those marked as reaching do, and so are all
--- pages above them, but for these.
+-- it's known of a page whether it reaches
+abbrev pub IsKnown : Mark → Type 0
+IsKnown (Known reached) = Unit {0}
+IsKnown mark = ⊥
+
+-- The marks are right: the pages on the way that is open are these, what is known of a page is so, and it's known of all
+-- pages above one of which it is, but for these.
 pub record AreMarks (on next : ℕ → Type 0) (file : File) (marks : List Mark) : Type 0 where
   pub way : (q : ℕ) → mark_at marks q ≡ Way → on q
-  pub found : (q : ℕ) → mark_at marks q ≡ Reaches → reaches file q ≡ true
-  pub closed : (q h : ℕ) → mark_at marks q ≡ Reaches → IsHeldBy file q h → (mark_at marks h ≡ Reaches) ⊎ next h
+  pub found : (q : ℕ) (reached : Bool) → mark_at marks q ≡ Known reached → reaches file q ≡ reached
+  pub closed : (q h : ℕ) → IsKnown (mark_at marks q) → IsHeldBy file q h → IsKnown (mark_at marks h) ⊎ next h
 
 -- no way is open
 abbrev pub AreSettled : File → List Mark → Type 0

@@ -1,12 +1,18 @@
-ghost use Rattle.std.specs.Prelude.{◌≡◌, ◌≤◌};
+ghost use Rattle.std.specs.Prelude.{◌≡◌, ◌≤◌, IsTrue, OnErr, OnOk};
+ghost use Rattle.std.specs.Option.{option_map};
+ghost use Rattle.bdb_faults.specs.Notes.{Notes};
 ghost use Rattle.bdb_graph.specs.Fits.{asks_previous, is_of_type, page_rows};
+ghost use Rattle.bdb_graph.specs.Noted.{misfit_code, misfit_faults, more_misfits, no_misfits};
 ghost use Rattle.bdb_format.specs.File.{file_of};
 ghost use Rattle.bdb_format.specs.References.{asked_by, asks_type, fit_code, has_type, is_asked};
-ghost use Rattle.bdb_format.specs.Table.{first_row, lesser};
+ghost use Rattle.bdb_format.specs.Table.{first_row};
 
 use crate::Formed;
 use crate::formed_page::{FormedPage, is_one_of, page_at};
+use crate::noted::{GraphRow, Misfit, note_if};
+use bdb_faults::FaultSink;
 use bdb_format::{Reference, Sort};
+use std::alloc::AllocError;
 use std::marker::Model;
 
 /// What a reference asks of its target: one of these types, or a zero page; a level; a previous page.
@@ -49,17 +55,17 @@ impl Demand {
         }
     }
 
-    /// The first code with which a page that is there falls short of what is asked.
-    fn code_of(&self, page: &FormedPage) -> Option<u8>
-        ensures { result ≡ first_row (page_rows self.now page.now) }
+    /// The first row with which a page that is there falls short of what is asked.
+    fn misfit(&self, page: &FormedPage) -> Option<Misfit>
+        ensures { option_map misfit_code result ≡ first_row (page_rows self.now page.now) }
     {
         let header = page.header();
         if !self.is_of_type(page) {
-            Some(2)
+            Some(Misfit::PageType)
         } else if !is_asked(self.level, u32::from(header.level)) {
-            Some(3)
+            Some(Misfit::Level)
         } else if !is_asked(self.previous, header.previous) {
-            Some(4)
+            Some(Misfit::Previous)
         } else {
             None
         }
@@ -116,26 +122,77 @@ fn asked_by(holder: u32, page: &FormedPage, sort: Sort) -> Demand
     }
 }
 
-/// The code of the first row that holds for a reference of this page; none where it fits.
+/// The first row that holds for a reference of this page; none where it fits.
 #[tactic(auto, using(crate::proofs::FitLemmas::names_zero, crate::proofs::FitLemmas::names_above, crate::proofs::HeldLemmas::last_page, crate::proofs::HeldLemmas::last_page))]
-pub(crate) fn fit_code(formed: &Formed, holder: u32, reference: Reference) -> Option<u8>
+pub(crate) fn misfit(formed: &Formed, holder: u32, reference: Reference) -> Option<Misfit>
     requires { holder ≤ (file_of formed.now).last }
-    ensures { result ≡ fit_code (file_of formed.now) holder reference }
+    ensures { option_map misfit_code result ≡ fit_code (file_of formed.now) holder reference }
 {
     if reference.target == 0 || reference.target > u64::from(formed.head().last) {
-        return Some(1);
+        return Some(Misfit::Target);
     }
     let asked = asked_by(holder, &page_at(formed, holder), reference.sort);
-    asked.code_of(&page_at(formed, reference.target as u32))
+    asked.misfit(&page_at(formed, reference.target as u32))
 }
 
-/// The lesser of two codes, where there are any.
-pub(crate) fn lesser(a: Option<u8>, b: Option<u8>) -> Option<u8>
-    ensures { result ≡ lesser a b }
-{
-    match (a, b) {
-        (None, b) => b,
-        (a, None) => a,
-        (Some(a), Some(b)) => Some(a.min(b)),
+/// With which rows some of the references of a page fail.
+#[derive(Clone, Copy)]
+pub(crate) struct Misfits {
+    target: bool,
+    page_type: bool,
+    level: bool,
+    previous: bool,
+}
+
+impl Misfits {
+    /// No reference yet.
+    pub(crate) fn none() -> Misfits
+        ensures { result ≡ no_misfits }
+    {
+        Misfits {
+            target: false,
+            page_type: false,
+            level: false,
+            previous: false,
+        }
+    }
+
+    /// The rows after one more reference.
+    pub(crate) fn with(self, misfit: Option<Misfit>) -> Misfits
+        ensures { result ≡ more_misfits self (option_map misfit_code misfit) }
+    {
+        Misfits {
+            target: self.target || matches!(misfit, Some(Misfit::Target)),
+            page_type: self.page_type || matches!(misfit, Some(Misfit::PageType)),
+            level: self.level || matches!(misfit, Some(Misfit::Level)),
+            previous: self.previous || matches!(misfit, Some(Misfit::Previous)),
+        }
+    }
+
+    /// Notes each of them at the page.
+    pub(crate) fn note<F: FaultSink>(self, page: u32, found: &mut F) -> Result<(), AllocError>
+        ensures noted { OnOk result (Notes (F.has_noted found.old) (F.has_noted found.new) (misfit_faults self page)) }
+        ensures refused { OnErr result (IsTrue F.takes_memory) }
+    {
+        note_if(
+            found,
+            GraphRow::Reference(Misfit::Target),
+            page,
+            self.target,
+        )?;
+        note_if(
+            found,
+            GraphRow::Reference(Misfit::PageType),
+            page,
+            self.page_type,
+        )?;
+        note_if(found, GraphRow::Reference(Misfit::Level), page, self.level)?;
+        note_if(
+            found,
+            GraphRow::Reference(Misfit::Previous),
+            page,
+            self.previous,
+        )?;
+        Ok(())
     }
 }

@@ -1,6 +1,7 @@
 //! The graph of the pages of a file, by its references.
 #![tactic(auto)]
 
+mod cases;
 mod fits;
 mod forest;
 mod formed;
@@ -13,6 +14,7 @@ mod listing;
 mod meta;
 mod named;
 mod names;
+mod noted;
 mod open;
 mod owned;
 mod page;
@@ -26,8 +28,8 @@ pub use forest::Forest;
 pub use formed::Formed;
 pub use held::references;
 pub use linked::Linked;
-pub use linking::link;
+pub use linking::{link, link_all};
 pub use listing::References;
 pub use meta::Meta;
 pub use named::{Bucket, Chain, DupRoot, LeafPage, Ref, TreeRoot};
-pub use open::open_image;
+pub use open::{open_all, open_image};

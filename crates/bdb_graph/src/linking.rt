@@ -1,14 +1,17 @@
 ghost use Rattle.std.specs.Prelude.{◌≡◌, ◌≤◌, ◌+◌, [], ◌∷◌, IfErr, IfOk, OnOk};
+ghost use Rattle.bdb_faults.specs.All.{IsAllOf};
+ghost use Rattle.bdb_faults.specs.Notes.{NotesAll};
 ghost use Rattle.bdb_format.specs.File.{file_of};
+ghost use Rattle.bdb_format.specs.Verdict.{faults_in, reference_faults, IsFirstOf};
 ghost use Rattle.bdb_graph.specs.Walked.{IsWalked};
-ghost use Rattle.bdb_format.specs.Verdict.{faults_in, IsFirstOf};
 
 use crate::meta::metas_of;
-use crate::owned::check_owners;
-use crate::reach::check_reach;
+use crate::owned::note_owners;
+use crate::reach::note_reach;
 use crate::roles::Roles;
-use crate::tally::{Kinds, tally_all};
+use crate::tally::{Kinds, note_references};
 use crate::{Forest, Formed, Linked};
+use bdb_faults::{AllError, FaultSink, First, NamedList, refused_by};
 use bdb_format::{CheckError, Steps};
 use std::alloc::{AllocError, Global};
 use std::sync::ledger::Ledger;
@@ -27,26 +30,78 @@ pub fn link<'a, L: Ledger>(
     ensures refusal { IfErr result (IsFirstOf (faults_in (3 ∷ 4 ∷ 5 ∷ []) formed.entry)) }
     ensures cost { steps.new ≤ steps.old + ((file_of formed.entry).last + 1) }
 {
-    let kinds = check_graph(alloc, &formed, steps)?;
-    let metas = metas_of(alloc, &formed).map_err(|_| CheckError::Memory)?;
+    let mut first = First::new();
+    let Ok(kinds) = note_graph(alloc, &formed, steps, &mut first) else {
+        return Err(CheckError::Memory);
+    };
+    if let Some(fault) = first.fault() {
+        return Err(CheckError::Fault(fault));
+    }
+    walked(alloc, formed, kinds).map_err(|_| CheckError::Memory)
+}
+
+/// The same, with all faults of the first of stages 3 to 5 that has any: page by page and code by code, each once. A
+/// list of them takes memory besides.
+pub fn link_all<'a, L: Ledger>(
+    alloc: Global,
+    formed: Formed<'a>,
+    steps: &mut Steps<L>,
+) -> Result<Linked<'a>, AllError>
+    ensures linked { IfOk result (λ linked. linked ≡ formed.entry) }
+    ensures accepted { OnOk result (faults_in (3 ∷ 4 ∷ 5 ∷ []) formed.entry ≡ []) }
+    ensures refusal { IfErr result (IsAllOf (faults_in (3 ∷ 4 ∷ 5 ∷ []) formed.entry)) }
+    ensures cost { steps.new ≤ steps.old + ((file_of formed.entry).last + 1) }
+{
+    let mut found = NamedList::new(alloc);
+    let Ok(kinds) = note_graph(alloc, &formed, steps, &mut found) else {
+        return Err(AllError::Memory);
+    };
+    refused_by(found)?;
+    walked(alloc, formed, kinds).map_err(|_| AllError::Memory)
+}
+
+/// The image as one whose pages are a forest, with what its references name.
+fn walked<'a>(alloc: Global, formed: Formed<'a>, kinds: Kinds) -> Result<Linked<'a>, AllocError>
+    requires { IsWalked formed kinds }
+    ensures { IfOk result (λ linked. linked ≡ formed.entry) }
+{
+    let metas = metas_of(alloc, &formed)?;
     Ok(Linked::over(Forest::over(formed, kinds), metas))
 }
 
-/// No row of stages 3 to 5 holds, in one step for each page, and what the references name. A refusal is the first fault, or want of memory.
-/// It takes 13 bytes for each page.
-#[tactic(auto, using(crate::proofs::LinkLemmas::no_first, crate::proofs::LinkLemmas::no_fault, crate::proofs::LinkLemmas::references_first, crate::proofs::LinkLemmas::owners_first, crate::proofs::LinkLemmas::reach_first))]
-fn check_graph<L: Ledger>(
+/// Notes the faults of the first of stages 3 to 5 that has any, in one step for each page, and tells what the
+/// references name. An error is want of memory. It takes 13 bytes for each page.
+fn note_graph<L: Ledger, F: FaultSink>(
     alloc: Global,
     formed: &Formed<'_>,
     steps: &mut Steps<L>,
-) -> Result<Kinds, CheckError>
-    ensures accepted { IfOk result (IsWalked formed.now) }
-    ensures refusal { IfErr result (IsFirstOf (faults_in (3 ∷ 4 ∷ 5 ∷ []) formed.now)) }
+    found: &mut F,
+) -> Result<Kinds, AllocError>
+    requires new { F.has_noted found.old [] }
+    ensures noted { OnOk result (NotesAll (F.has_noted found.old) (F.has_noted found.new) (faults_in (3 ∷ 4 ∷ 5 ∷ []) formed.now)) }
+    ensures walked { IfOk result (λ kinds. faults_in (3 ∷ 4 ∷ 5 ∷ []) formed.now ≡ [] → IsWalked formed.now kinds) }
     ensures cost { steps.new ≤ steps.old + ((file_of formed.now).last + 1) }
 {
-    let (tallies, kinds) = tally_all(alloc, formed, steps)?;
-    let roles = Roles::of(formed.again(), tallies);
-    check_owners(&roles).map_err(CheckError::Fault)?;
-    check_reach(alloc, &roles)?;
+    let (tallies, kinds) = note_references(alloc, formed, steps, found)?;
+    if found.is_empty() {
+        note_roles(alloc, &Roles::of(formed.again(), tallies), found)?;
+    }
     Ok(kinds)
+}
+
+/// Notes the faults of stage 4, or else of stage 5. An error is want of memory.
+fn note_roles<F: FaultSink>(
+    alloc: Global,
+    roles: &Roles<'_>,
+    found: &mut F,
+) -> Result<(), AllocError>
+    requires new { F.has_noted found.old [] }
+    requires fit { reference_faults (file_of roles.now) ≡ [] }
+    ensures { OnOk result (NotesAll (F.has_noted found.old) (F.has_noted found.new) (faults_in (4 ∷ 5 ∷ []) roles.now)) }
+{
+    note_owners(roles, found)?;
+    if found.is_empty() {
+        note_reach(alloc, roles, found)?;
+    }
+    Ok(())
 }

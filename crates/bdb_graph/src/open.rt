@@ -1,64 +1,144 @@
-ghost use Rattle.std.specs.Prelude.{◌≡◌, ◌≤◌, ◌^◌, [], ◌∷◌, IfOk, OnOk, length, option_map};
+ghost use Rattle.std.specs.Prelude.{◌≡◌, ◌≤◌, ◌^◌, [], ◌∷◌, ◌<◌, IfErr, IfOk, IsTrue, OnErr, OnOk, length, option_map, option_to_list};
 ghost use Rattle.std.specs.Result.{result_err};
-ghost use Rattle.bdb_graph.specs.Formed.{IsAccepted};
+ghost use Rattle.bdb_faults.specs.All.{IsAllOf};
+ghost use Rattle.bdb_faults.specs.Notes.{NotesAll};
+ghost use Rattle.bdb_graph.specs.Formed.{IsAccepted, IsRead};
+ghost use Rattle.bdb_graph.specs.Noted.{page_faults};
+ghost use Rattle.bdb_format.specs.HeadOf.{is_page_size};
 ghost use Rattle.bdb_format.specs.Reading.{is_zero};
-ghost use Rattle.bdb_format.specs.Verdict.{as_verdict, faults_in, first_judgement, form_faults, head_faults, judged, tail_faults, verdict_in};
+ghost use Rattle.bdb_format.specs.Rows.{form_code};
+ghost use Rattle.bdb_format.specs.Verdict.{as_verdict, faults_in, form_faults, tail_faults, verdict_in};
 
 use crate::Formed;
+use crate::cases::verdict_on;
 use crate::formed::page_bytes;
+use crate::noted::{GraphRow, note, note_if};
 use crate::page::page_fault;
-use bdb_format::{Fault, Head, MetaFault, Verdict};
-use std::alloc::Global;
+use bdb_faults::{AllError, FaultSink, First, NamedList, refused_by};
+use bdb_format::{Head, Verdict};
+use std::alloc::{AllocError, Global};
 
 /// The image as one on which no row of the first two stages holds, or else its verdict. The pages are
 /// read where they lie; no memory is taken.
-#[tactic(auto, using(crate::proofs::FirstLemmas::head_first, crate::proofs::FirstLemmas::tail_next, crate::proofs::FirstLemmas::form_last, crate::proofs::FirstLemmas::no_form_fault))]
 pub fn open_image<'a>(_alloc: Global, image: &'a [u8]) -> Result<Formed<'a>, Verdict>
     requires { length image.now ≤ 2 ^ 30 }
     ensures formed { IfOk result (λ formed. formed ≡ image.now) }
     ensures accepted { OnOk result (faults_in (1 ∷ 2 ∷ []) image.now ≡ []) }
     ensures verdict { result_err result ≡ option_map as_verdict (verdict_in (1 ∷ 2 ∷ []) image.now) }
 {
-    let head = file_head(image)?;
-    check_tail(image, &head)?;
-    check_pages(image, &head)?;
-    Ok(Formed::over(image, head))
-}
-
-/// What page 0 says of the file, or the verdict on page 0.
-fn file_head(image: &[u8]) -> Result<Head, Verdict>
-    requires { length image.now ≤ 2 ^ 30 }
-    ensures accepted { IfOk result (λ head. IsAccepted image.now head) }
-    ensures verdict { result_err result ≡ option_map as_verdict (first_judgement (head_faults image.now)) }
-{
-    match bdb_meta::head(image) {
-        Ok(head) => Ok(head),
-        Err(fault) => Err(told(1, 0, fault)),
+    let mut first = First::new();
+    let Ok(head) = note_form(image, &mut first) else {
+        unreachable!()
+    };
+    match first.fault() {
+        Some(fault) => Err(verdict_on(fault)),
+        None => Ok(formed_by(image, head)),
     }
 }
 
-/// The pages above the last one are zero pages. A refusal is the verdict on the first that isn't.
-fn check_tail(image: &[u8], head: &Head) -> Result<(), Verdict>
-    requires { IsAccepted image.now head.now }
-    ensures { result_err result ≡ option_map as_verdict (first_judgement (tail_faults image.now)) }
+/// The same, with all faults of the first of the two stages that has any: page by page and code by code, each once.
+/// Page 0 has one in stage 1 at most, and each page one in stage 2. `Memory` is want of memory for the list of them.
+pub fn open_all<'a>(alloc: Global, image: &'a [u8]) -> Result<Formed<'a>, AllError>
+    requires { length image.now ≤ 2 ^ 30 }
+    ensures formed { IfOk result (λ formed. formed ≡ image.now) }
+    ensures accepted { OnOk result (faults_in (1 ∷ 2 ∷ []) image.now ≡ []) }
+    ensures refusal { IfErr result (IsAllOf (faults_in (1 ∷ 2 ∷ []) image.now)) }
 {
-    for number in head.last + 1..head.pages {
-        if !is_zero(page_bytes(image, head, number)) {
-            return Err(told(1, number, MetaFault::Fault(12)));
+    let mut found = NamedList::new(alloc);
+    let Ok(head) = note_form(image, &mut found) else {
+        return Err(AllError::Memory);
+    };
+    refused_by(found)?;
+    Ok(formed_by(image, head))
+}
+
+/// The image as one without a fault of the two stages, by what was read of page 0.
+fn formed_by<'a>(image: &'a [u8], head: Option<Head>) -> Formed<'a>
+    requires read { IsRead image.now head }
+    requires form { faults_in (1 ∷ 2 ∷ []) image.now ≡ [] }
+    ensures { result ≡ image.now }
+{
+    match head {
+        Some(head) => Formed::over(image, head),
+        None => unreachable!(),
+    }
+}
+
+/// Notes the faults of the first of stages 1 and 2 that has any, and tells what page 0 says of the file, where it has
+/// no fault of stage 1.
+fn note_form<F: FaultSink>(image: &[u8], found: &mut F) -> Result<Option<Head>, AllocError>
+    requires size { length image.now ≤ 2 ^ 30 }
+    requires new { F.has_noted found.old [] }
+    ensures noted { OnOk result (NotesAll (F.has_noted found.old) (F.has_noted found.new) (faults_in (1 ∷ 2 ∷ []) image.now)) }
+    ensures read { IfOk result (IsRead image.now) }
+    ensures refused { OnErr result (IsTrue F.takes_memory) }
+{
+    match bdb_meta::head(image) {
+        Ok(head) => {
+            note_pages(image, &head, found)?;
+            Ok(Some(head))
         }
+        Err(fault) => {
+            note(found, GraphRow::Head(fault), 0)?;
+            Ok(None)
+        }
+    }
+}
+
+/// Notes the pages above the last one that aren't zero pages, or else the faults of form.
+fn note_pages<F: FaultSink>(image: &[u8], head: &Head, found: &mut F) -> Result<(), AllocError>
+    requires accepted { IsAccepted image.now head.now }
+    requires new { F.has_noted found.old [] }
+    ensures noted { OnOk result (NotesAll (F.has_noted found.old) (F.has_noted found.new) (faults_in (1 ∷ 2 ∷ []) image.now)) }
+    ensures refused { OnErr result (IsTrue F.takes_memory) }
+{
+    note_tail(image, head, found)?;
+    if found.is_empty() {
+        note_forms(image, head, found)?;
     }
     Ok(())
 }
 
-/// The pages up to the last one have no fault of form. A refusal is the verdict on the first that has.
-fn check_pages(image: &[u8], head: &Head) -> Result<(), Verdict>
+/// Notes the pages above the last one that aren't zero pages.
+fn note_tail<F: FaultSink>(image: &[u8], head: &Head, found: &mut F) -> Result<(), AllocError>
     requires { IsAccepted image.now head.now }
-    ensures { result_err result ≡ option_map as_verdict (first_judgement (form_faults image.now)) }
+    ensures noted { OnOk result (NotesAll (F.has_noted found.old) (F.has_noted found.new) (tail_faults image.now)) }
+    ensures refused { OnErr result (IsTrue F.takes_memory) }
 {
-    for number in 0..=head.last {
-        if let Some(fault) = page_fault(page_bytes(image, head, number), head, number) {
-            return Err(told(2, number, fault));
-        }
+    for number in head.last + 1..head.pages {
+        let is_used = !is_zero(page_bytes(image, head, number));
+        note_if(found, GraphRow::Tail, number, is_used)?;
+    }
+    Ok(())
+}
+
+/// Notes the faults of form of the pages up to the last one.
+fn note_forms<F: FaultSink>(image: &[u8], head: &Head, found: &mut F) -> Result<(), AllocError>
+    requires { IsAccepted image.now head.now }
+    ensures noted { OnOk result (NotesAll (F.has_noted found.old) (F.has_noted found.new) (form_faults image.now)) }
+    ensures refused { OnErr result (IsTrue F.takes_memory) }
+{
+    for number in 0..head.last + 1 {
+        note_page(page_bytes(image, head, number), head, number, found)?;
+    }
+    Ok(())
+}
+
+/// Notes the fault of form of a page up to the last one, if it has one.
+fn note_page<F: FaultSink>(
+    page: &[u8],
+    head: &Head,
+    number: u32,
+    found: &mut F,
+) -> Result<(), AllocError>
+    requires size { IsTrue (is_page_size (length page.now)) }
+    requires last { head.now.last < 2 ^ 21 }
+    ensures noted { OnOk result (NotesAll (F.has_noted found.old) (F.has_noted found.new)
+        (page_faults 2 number (option_to_list (form_code head.now number page.now)))) }
+    ensures refused { OnErr result (IsTrue F.takes_memory) }
+{
+    if let Some(fault) = page_fault(page, head, number) {
+        note(found, GraphRow::Form(fault), number)?;
     }
     Ok(())
 }
@@ -67,14 +147,4 @@ pub(crate) fn is_zero(page: &[u8]) -> bool
     ensures { result ≡ is_zero page.now }
 {
     page.iter().all(|byte| *byte == 0)
-}
-
-/// The verdict on a page with this fault.
-fn told(stage: u8, page: u32, fault: MetaFault) -> Verdict
-    ensures { result ≡ as_verdict (judged stage page fault) }
-{
-    match fault {
-        MetaFault::Fault(code) => Verdict::Fault(Fault { stage, page, code }),
-        MetaFault::Unsupported(name) => Verdict::Unsupported(name, page),
-    }
 }

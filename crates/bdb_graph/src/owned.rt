@@ -1,42 +1,38 @@
-ghost use Rattle.std.specs.Prelude.{◌≡◌, ◌≤◌, ◌&&◌, ◌||◌, not};
-ghost use Rattle.std.specs.Result.{result_err};
+ghost use Rattle.std.specs.Prelude.{◌≡◌, ◌≤◌, ◌&&◌, ◌||◌, not, IsTrue, OnErr, OnOk};
+ghost use Rattle.bdb_faults.specs.Notes.{NotesAll};
 ghost use Rattle.bdb_format.specs.File.{file_of};
 ghost use Rattle.bdb_format.specs.Graph.{is_anchor, is_owned_twice, is_reserve, is_shared_too_often, is_unowned};
-ghost use Rattle.bdb_format.specs.Table.{first_row};
-ghost use Rattle.bdb_format.specs.Verdict.{ownership_faults, ownership_rows, first_fault};
+ghost use Rattle.bdb_format.specs.Verdict.{ownership_faults, ownership_rows};
+ghost use Rattle.bdb_format.specs.ByPage.{holding};
+ghost use Rattle.bdb_graph.specs.Noted.{page_faults};
 
+use crate::noted::{GraphRow, note_if};
 use crate::roles::Roles;
-use bdb_format::Fault;
+use bdb_faults::FaultSink;
+use std::alloc::AllocError;
 
-/// Each page from 1 on has an owner, or needs none, and no more than it may have. A refusal is the first fault.
-#[tactic(auto, using(crate::proofs::HeldLemmas::last_page, crate::proofs::StageLemmas::ownership_first, crate::proofs::StageLemmas::ownership_none, crate::proofs::FitLemmas::none_more))]
-pub(crate) fn check_owners(roles: &Roles<'_>) -> Result<(), Fault>
-    ensures { result_err result ≡ first_fault (ownership_faults (file_of roles.now)) }
+/// Notes the pages from 1 on that have no owner and need one, or more than they may have.
+#[tactic(auto, using(crate::proofs::HeldLemmas::last_page))]
+pub(crate) fn note_owners<F: FaultSink>(roles: &Roles<'_>, found: &mut F) -> Result<(), AllocError>
+    ensures noted { OnOk result (NotesAll (F.has_noted found.old) (F.has_noted found.new) (ownership_faults (file_of roles.now))) }
+    ensures refused { OnErr result (IsTrue F.takes_memory) }
 {
     for page in 1..roles.head().last + 1 {
-        if let Some(code) = ownership_code(roles, page) {
-            return Err(Fault {
-                stage: 4,
-                page,
-                code,
-            });
-        }
+        note_owned(roles, page, found)?;
     }
     Ok(())
 }
 
-/// The first row of ownership that holds at a page, if one does.
-fn ownership_code(roles: &Roles<'_>, page: u32) -> Option<u8>
+/// Notes the rows of ownership that hold at a page.
+fn note_owned<F: FaultSink>(roles: &Roles<'_>, page: u32, found: &mut F) -> Result<(), AllocError>
     requires { page ≤ (file_of roles.now).last }
-    ensures { result ≡ first_row (ownership_rows (file_of roles.now) page) }
+    ensures noted { OnOk result (NotesAll (F.has_noted found.old) (F.has_noted found.new)
+        (page_faults 4 page (holding (ownership_rows (file_of roles.now) page)))) }
+    ensures refused { OnErr result (IsTrue F.takes_memory) }
 {
-    if lacks_owner(roles, page) {
-        return Some(1);
-    }
-    if has_too_many(roles, page) {
-        return Some(2);
-    }
-    None
+    note_if(found, GraphRow::Unowned, page, lacks_owner(roles, page))?;
+    note_if(found, GraphRow::Overowned, page, has_too_many(roles, page))?;
+    Ok(())
 }
 
 /// Whether a page without an owner is neither an anchor nor a reserve.

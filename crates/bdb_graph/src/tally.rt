@@ -1,15 +1,17 @@
-ghost use Rattle.std.specs.Prelude.{◌≡◌, ◌≤◌, ◌+◌, List, [], ◌∷◌, ◌++◌, map, IfErr, IfOk, None, OnOk};
+ghost use Rattle.std.specs.Prelude.{◌≡◌, ◌≤◌, ◌+◌, List, [], ◌∷◌, ◌++◌, map, IfOk, OnOk};
+ghost use Rattle.bdb_faults.specs.Notes.{NotesAll};
+ghost use Rattle.bdb_graph.specs.Noted.{misfits_of};
 ghost use Rattle.bdb_graph.specs.Tallies.{AreTallies, AreTalliesOf, IsTally, first_of, owner};
 ghost use Rattle.bdb_format.specs.File.{file_of};
 ghost use Rattle.bdb_format.specs.Graph.{Owner, all_references, is_head_reference};
 ghost use Rattle.bdb_graph.specs.Walked.{AreKinds, is_set_reference};
-ghost use Rattle.bdb_format.specs.References.{refs};
-ghost use Rattle.bdb_format.specs.Table.{first_row};
-ghost use Rattle.bdb_format.specs.Verdict.{IsFirstOf, reference_faults, reference_rows, first_fault};
+ghost use Rattle.bdb_format.specs.References.{fit_code, refs};
+ghost use Rattle.bdb_format.specs.Verdict.{reference_faults};
 
-use crate::fits::{fit_code, lesser};
+use crate::fits::{Misfits, misfit};
 use crate::{Formed, references};
-use bdb_format::{CheckError, Fault, Reference, Sort, Steps};
+use bdb_faults::FaultSink;
+use bdb_format::{Reference, Sort, Steps};
 use std::alloc::{AllocError, Global};
 use std::sync::ledger::Ledger;
 
@@ -80,59 +82,52 @@ impl Tally {
     }
 }
 
-/// The tallies of pages 0 to the last, once each reference fits: the one walk over the references of the
-/// file, with one step for each page. A refusal is the first reference that doesn't fit, at the least page that
-/// holds one and there by the least code, or want of memory. It takes 12 bytes for each page.
+/// Notes the references that don't fit, and tells the tallies of pages 0 to the last: the one walk over the
+/// references of the file, with one step for each page. An error is want of memory. It takes 12 bytes for each page.
 #[tactic(auto, using(crate::proofs::HeldLemmas::last_page))]
-pub(crate) fn tally_all<L: Ledger>(
+pub(crate) fn note_references<L: Ledger, F: FaultSink>(
     alloc: Global,
     formed: &Formed<'_>,
     steps: &mut Steps<L>,
-) -> Result<(Vec<Tally>, Kinds), CheckError>
+    found: &mut F,
+) -> Result<(Vec<Tally>, Kinds), AllocError>
+    ensures noted { OnOk result (NotesAll (F.has_noted found.old) (F.has_noted found.new) (reference_faults (file_of formed.now))) }
     ensures tallies { IfOk result (λ walk. AreTalliesOf (file_of formed.now) walk.0.items) }
     ensures kinds { IfOk result (λ walk. AreKinds walk.1 (all_references (file_of formed.now))) }
-    ensures fit { OnOk result (None ≡ first_fault (reference_faults (file_of formed.now))) }
-    ensures refusal { IfErr result (IsFirstOf (reference_faults (file_of formed.now))) }
     ensures cost { steps.new ≤ steps.old + ((file_of formed.now).last + 1) }
 {
     let pages = formed.head().last + 1;
-    let tallies = vec![in alloc; no_owner(); pages as usize];
-    let mut tallies = tallies.map_err(|_| CheckError::Memory)?;
+    let mut tallies = vec![in alloc; no_owner(); pages as usize]?;
     let mut kinds = Kinds::none();
     for page in 0..pages {
-        if let Some(code) = note_page(formed, &mut tallies, &mut kinds, page, steps) {
-            return Err(CheckError::Fault(Fault {
-                stage: 3,
-                page,
-                code,
-            }));
-        }
+        let misfits = tally_page(formed, &mut tallies, &mut kinds, page, steps);
+        misfits.note(page, found)?;
     }
     Ok((tallies, kinds))
 }
 
-/// Adds the references of one page to the tallies of the pages that they name, in one step. The answer is the
-/// least code with which one of them fails, if one does.
-fn note_page<L: Ledger>(
+/// Adds the references of one page to the tallies of the pages that they name, in one step. The answer is with which
+/// rows they fail.
+fn tally_page<L: Ledger>(
     formed: &Formed<'_>,
     tallies: &mut [Tally],
     kinds: &mut Kinds,
     holder: u32,
     steps: &mut Steps<L>,
-) -> Option<u8>
+) -> Misfits
     requires { holder ≤ (file_of formed.now).last }
     ensures kinds { (os : List Owner) → AreKinds kinds.old os → AreKinds kinds.new (os ++ map (owner holder) (refs (file_of formed.now) holder)) }
     ensures tallies { (os : List Owner) → AreTallies tallies.old os → AreTallies tallies.new (os ++ map (owner holder) (refs (file_of formed.now) holder)) }
-    ensures code { result ≡ first_row (reference_rows (file_of formed.now) holder) }
+    ensures misfits { result ≡ misfits_of (fit_code (file_of formed.now) holder) (refs (file_of formed.now) holder) }
     ensures cost { steps.new ≡ steps.old + 1 }
 {
-    let mut least = None;
+    let mut misfits = Misfits::none();
     for reference in references(formed, holder, steps) {
         note(tallies, holder, reference);
         *kinds = kinds.with(reference.sort);
-        least = lesser(least, fit_code(formed, holder, reference));
+        misfits = misfits.with(misfit(formed, holder, reference));
     }
-    least
+    misfits
 }
 
 /// Adds a reference to the tally of the page that it names, if that page is there.

@@ -20,5 +20,6 @@ returns-in-None-clause-reach c =
 pub returns-in-Way-clause-reach : goal.returns-in-Way-clause-reach
 returns-in-Way-clause-reach c = comes_back (file_of c.args.roles.now) c.up.marks c.args.from c.up.at c.requires.fit c.up.invariant c.in-Way.is
 
-pub returns-in-Reaches-clause-reach : goal.returns-in-Reaches-clause-reach
-returns-in-Reaches-clause-reach c = comes_to (file_of c.args.roles.now) c.up.marks c.args.from c.up.at c.requires.fit c.up.invariant c.in-Reaches.is
+pub returns-in-Known-clause-reach : goal.returns-in-Known-clause-reach
+returns-in-Known-clause-reach c =
+    comes_to (file_of c.args.roles.now) c.up.marks c.args.from c.up.at c.in-Known.reached c.requires.fit c.up.invariant c.in-Known.is
