@@ -1,32 +1,30 @@
--- The least of the faults that were noted is the first fault of a table's contents.
-use Rattle.std.proofs.Common.{◌≡◌, ◌⊎◌, ℕ, ◌+◌, ◌≤◌, false, List, [], ◌∷◌, ◌++◌, map, arith, refl, sym, ◌∙◌, ap, subst, inl, inr}
-use Rattle.std.specs.Prelude.{Option, Some, None}
-use Rattle.std.specs.List.{Contains, flat_map, fold, list_any, range_with_len}
-use Rattle.std.specs.Option.{option_map}
+-- What is noted of a table's contents is each row at each page where it holds.
+use Rattle.std.proofs.Common.{◌≡◌, ℕ, ◌+◌, ◌≤◌, Bool, true, false, List, [], ◌∷◌, ◌++◌, map, arith, refl, sym, ◌∙◌, ap, subst, inl, inr}
+use Rattle.std.specs.Prelude.{Option, None}
+use Rattle.std.specs.List.{Contains, flat_map, range_with_len}
 use Rattle.std.proofs.lemmas.List.{map-append}
+use Rattle.std.proofs.lemmas.List.Elements.{Contains-append_cases, Contains-append_left, Contains-append_right}
 use Rattle.bdb_graph.specs.Linked.{HasMetadata}
-use Rattle.bdb_format.specs.ByPage.{ComesFirst}
+use Rattle.bdb_faults.specs.Notes.{IsFirst, Notes, NotesAll}
+use Rattle.bdb_faults.proofs.SinkLemmas.{first_noted}
 use Rattle.bdb_format.specs.declared.kinds.Fault.{Fault}
 use Rattle.bdb_format.specs.declared.metadata.HashMeta.{HashMeta}
 use Rattle.bdb_format.specs.ContentRows.{database_faults, database_rows, hash_contents, repeated}
 use Rattle.bdb_format.specs.Contents.{StoredPair, bucket_pages, bucket_pairs, pairs_of, table_pairs}
 use Rattle.bdb_format.specs.File.{File, file_of}
 use Rattle.bdb_format.specs.Page.{HashFields}
-use Rattle.bdb_format.specs.Table.{first_row}
 use Rattle.bdb_format.specs.Verdict.{holding, first_fault}
-use Rattle.bdb_format.proofs.MemberLemmas.{first_member, in_map, no_member, none_pass, of_flat_map, of_map, of_range}
-use Rattle.bdb_format.proofs.VerdictLemmas.{FirstComesFirst, by_page_first, holding_least, in_by_page, none_is_first_row, of_by_page}
+use Rattle.bdb_format.proofs.MemberLemmas.{in_flat_map, in_map, no_member, of_flat_map, of_map, of_range}
+use Rattle.bdb_format.proofs.VerdictLemmas.{InOrder, by_page_first, holding_least, in_by_page, of_by_page}
 use Rattle.bdb_format.proofs.RepeatLemmas.{of_repeated}
-use Rattle.bdb_hash.specs.Notes.{fault_at, has_stray_in, is_stray, least_noted, note_bucket, note_repeat, note_told, pair_fault}
-use Rattle.bdb_hash.specs.Notes.{pair_rows, repeat_fault, stored}
+use Rattle.bdb_hash.specs.Noted.{bucket_faults, fault_at, has_stray, pair_faults, repeat_fault, repeat_faults, stored, stray_faults}
 use Rattle.bdb_hash.specs.Told.{Told, bucket_told, joined_pages, page_told, table_told, told}
 use Rattle.bdb_hash.specs.Views.{IsTable}
-use Rattle.bdb_hash.proofs.LeastLemmas.{Given, IsLeast, least_both, least_given, least_more}
+use Rattle.bdb_hash.proofs.NotedLemmas.{notes_both}
 use Rattle.bdb_hash.proofs.PlainLemmas.{IsPlain, bucket_plain}
-use Rattle.bdb_hash.proofs.RowLemmas.{ArePlain, buckets_of, page_holds, page_table, pair_holds, repeat_holds, repeat_row}
-use Rattle.bdb_hash.proofs.RowLemmas.{rows_are, tests_of, tests_rise}
-use Rattle.bdb_format.proofs.FaultLemmas.{comes_through, same_fault}
-use Rattle.bdb_graph.proofs.LinkingLemmas.{no_first_fault}
+use Rattle.bdb_hash.proofs.RepeatLemmas.{in_bucket, in_table}
+use Rattle.bdb_hash.proofs.RowLemmas.{ArePlain, buckets_of, page_holds, page_table, pair_faults_are, pair_holds, pair_table, repeat_holds}
+use Rattle.bdb_hash.proofs.RowLemmas.{repeat_row, rows_are, tests_of}
 
 -- Told pairs.
 
@@ -71,64 +69,7 @@ table_plain image meta table has pair at =
     let found = of_flat_map (bucket_pairs (file_of image) meta) (buckets_of meta) pair at in
     bucket_plain image meta found.0 pair table has (few_buckets meta found.0 found.1) found.2
 
--- The least fault of a table, noted pair by pair.
-
-abbrev told_fault : HashMeta → ℕ → Told → Option Fault
-told_fault meta b t = pair_fault (file_of t.image) meta b t.pair
-
--- one of these pairs of a bucket has this fault by itself
-abbrev HasFault : List ℕ → HashMeta → ℕ → Fault → Type 0
-HasFault image meta b fault = Given (λ t f. told_fault meta b t ≡ Some f) (bucket_told image meta b) fault
-
-abbrev Nothing : Fault → Type 0
-Nothing fault = ⊥
-
--- a fault of a pair by itself, and of one that has the key of an earlier one
-abbrev IsOwnFault : List ℕ → HashMeta → Fault → Type 0
-IsOwnFault image meta fault = Nothing fault ⊎ Given (HasFault image meta) (buckets_of meta) fault
-
-abbrev IsRepeat : List ℕ → HashMeta → Fault → Type 0
-IsRepeat image meta fault =
-    Nothing fault ⊎ Given (λ (pair : StoredPair) f. Some (repeat_fault pair) ≡ Some f) (repeated (stored (table_told image meta))) fault
-
--- a fault that was noted
-abbrev IsNotedFault : List ℕ → HashMeta → Fault → Type 0
-IsNotedFault image meta fault = IsOwnFault image meta fault ⊎ IsRepeat image meta fault
-
-own_least : (image : List ℕ) (meta : HashMeta) → IsLeast (IsOwnFault image meta) (fold (note_bucket image meta) None (buckets_of meta))
-own_least image meta =
-    least_given (HasFault image meta) (note_bucket image meta)
-    (λ b. least_given (λ t fault. told_fault meta b t ≡ Some fault) (note_told meta b) (least_more (told_fault meta b)) (bucket_told image meta b))
-    (buckets_of meta) Nothing None (λ fault none. none)
-
-noted_least : (image : List ℕ) (meta : HashMeta) → IsLeast (IsNotedFault image meta) (least_noted image meta)
-noted_least image meta =
-    let again : List StoredPair = repeated (stored (table_told image meta)) in
-    least_both (IsOwnFault image meta) (IsRepeat image meta) (fold (note_bucket image meta) None (buckets_of meta)) (fold note_repeat None again)
-    (own_least image meta)
-    (least_given (λ (pair : StoredPair) fault. Some (repeat_fault pair) ≡ Some fault) note_repeat
-    (least_more (λ pair. Some (repeat_fault pair))) again Nothing None (λ fault none. none))
-
--- where no fault is given, no row holds
-unnoted : (page : ℕ) (code : Option ℕ) → ((fault : Fault) → option_map (fault_at page) code ≡ Some fault → ⊥) → code ≡ None
-unnoted page None none = refl
-unnoted page (Some code) none = absurd (none (fault_at page code) refl)
-
--- where no fault of a pair by itself was noted, there is no stray
-pub no_strays : (image : List ℕ) (meta : HashMeta) → None ≡ fold (note_bucket image meta) None (range_with_len 0 (meta.max_bucket + 1))
-    → false ≡ list_any (has_stray_in image meta) (range_with_len 0 (meta.max_bucket + 1))
-no_strays image meta none =
-    let nothing : IsLeast (IsOwnFault image meta) None = subst (IsLeast (IsOwnFault image meta)) (sym none) (own_least image meta) in
-    sym
-    (none_pass (has_stray_in image meta) (buckets_of meta)
-    (λ b listed. none_pass (is_stray meta b) (bucket_told image meta b) (λ t held.
-    (none_is_first_row (pair_rows (file_of t.image) meta b t.pair)
-    (unnoted t.pair.page _ (λ fault given. nothing fault (inr (b, listed, (t, held, given)))))).1.1.1.0)))
-
-some_code : (page : ℕ) (code : Option ℕ) (fault : Fault) → option_map (fault_at page) code ≡ Some fault
-    → (c : ℕ) × (code ≡ Some c) × (fault_at page c ≡ fault)
-some_code page None fault same = absurd cc
-some_code page (Some c) fault same = (c, refl, cc)
+-- The faults that are noted.
 
 -- what holds at a page
 codes_are : (image : List ℕ) (meta : HashMeta) (p : ℕ) → IsTable image → HasMetadata (file_of image) (HashFields meta)
@@ -144,90 +85,153 @@ unfolding database_faults
 in_faults image meta page code low at = in_by_page 8 0 ((file_of image).last + 1) page code
     (λ p. holding (database_rows (file_of image) (HashFields meta) p)) (omega arith) (omega arith) at
 
--- a fault that was noted is one of the table's
-noted_is : (image : List ℕ) (meta : HashMeta) (fault : Fault) → IsTable image → HasMetadata (file_of image) (HashFields meta)
-    → IsNotedFault image meta fault
+-- a row that holds for a pair by itself is noted at its page
+own_in : (image : List ℕ) (meta : HashMeta) (b : ℕ) (fault : Fault) → IsTable image → HasMetadata (file_of image) (HashFields meta)
+    → Contains (buckets_of meta) b → Contains (flat_map (pair_faults meta b) (bucket_told image meta b)) fault
     → Contains (database_faults (file_of image) (HashFields meta)) fault
-noted_is image meta fault table has (inl (inl none)) = absurd none
-noted_is image meta fault table has (inl (inr (b, listed, (t, held, given)))) =
+own_in image meta b fault table has listed at =
     let file : File = file_of image in
-    let pair = of_map (told image) (bucket_pairs file meta b) t (subst (λ ts. Contains ts t) (bucket_is image meta b) held) in
+    let told_one = of_flat_map (pair_faults meta b) (bucket_told image meta b) fault at in
+    let pair = of_map (told image) (bucket_pairs file meta b) told_one.0 (subst (λ ts. Contains ts told_one.0) (bucket_is image meta b) told_one.1) in
     let plain : IsPlain file pair.0 = bucket_plain image meta b pair.0 table has (few_buckets meta b listed) pair.1 in
-    let code = some_code pair.0.page (first_row (pair_rows file meta b pair.0)) fault (ap (told_fault meta b) pair.2 ∙ given) in
+    let own : Contains (pair_faults meta b (told image pair.0)) fault =
+    subst (λ (t : Told). Contains (pair_faults meta b t) fault) (sym pair.2) told_one.2 in
+    let code = of_map (fault_at pair.0.page) (holding (pair_table (tests_of file meta) b pair.0)) fault
+    (subst (λ fs. Contains fs fault) (pair_faults_are meta b (told image pair.0)) own) in
     subst (Contains (database_faults file (HashFields meta))) code.2
     (in_faults image meta pair.0.page code.0 plain.inside
     (subst (λ codes. Contains codes code.0) (sym (codes_are image meta pair.0.page table has))
     (pair_holds (bucket_pairs file meta) (buckets_of meta) (tests_of file meta)
     (repeated (table_pairs file meta)) b pair.0 code.0 listed pair.1 code.1)))
-noted_is image meta fault table has (inr (inl none)) = absurd none
-noted_is image meta fault table has (inr (inr (pair, held, given))) =
+
+-- so is a repeat of a key
+repeat_in : (image : List ℕ) (meta : HashMeta) (pair : StoredPair) → IsTable image → HasMetadata (file_of image) (HashFields meta)
+    → Contains (repeated (stored (table_told image meta))) pair
+    → Contains (database_faults (file_of image) (HashFields meta)) (repeat_fault pair)
+repeat_in image meta pair table has held =
     let file : File = file_of image in
     let again : Contains (repeated (table_pairs file meta)) pair = subst (λ ps. Contains (repeated ps) pair) (table_stored image meta) held in
     let plain : IsPlain file pair = table_plain image meta table has pair (of_repeated (table_pairs file meta) pair again) in
-    let same : fault_at pair.page 9 ≡ fault = cc in
-    subst (Contains (database_faults file (HashFields meta))) same
-    (in_faults image meta pair.page 9 plain.inside
+    in_faults image meta pair.page 9 plain.inside
     (subst (λ codes. Contains codes 9) (sym (codes_are image meta pair.page table has))
-    (repeat_holds (bucket_pairs file meta) (buckets_of meta) (tests_of file meta) (repeated (table_pairs file meta)) pair again)))
+    (repeat_holds (bucket_pairs file meta) (buckets_of meta) (tests_of file meta) (repeated (table_pairs file meta)) pair again))
 
--- a fault of the table comes after one that was noted
-covered : (image : List ℕ) (meta : HashMeta) (fault : Fault) → IsTable image → HasMetadata (file_of image) (HashFields meta)
+-- a fault that was noted is one of the table's
+bucket_in : (image : List ℕ) (meta : HashMeta) (b : ℕ) (fault : Fault) → IsTable image → HasMetadata (file_of image) (HashFields meta)
+    → Contains (buckets_of meta) b → Contains (bucket_faults image meta b) fault
     → Contains (database_faults (file_of image) (HashFields meta)) fault
-    → (noted : Fault) × IsNotedFault image meta noted × ComesFirst noted fault
+bucket_in image meta b fault table has listed at =
+    elim (Contains-append_cases (flat_map (pair_faults meta b) (bucket_told image meta b)) (repeat_faults (bucket_told image meta b)) fault at) [
+      | inl own ↦ own_in image meta b fault table has listed own
+      | inr again ↦
+          let pair = of_map repeat_fault (repeated (stored (bucket_told image meta b))) fault again in
+          subst (Contains (database_faults (file_of image) (HashFields meta))) pair.2
+          (repeat_in image meta pair.0 table has (in_table image meta b pair.0 listed pair.1))
+    ]
+
+stray_in : (image : List ℕ) (meta : HashMeta) (strayed : Bool) (fault : Fault) → IsTable image → HasMetadata (file_of image) (HashFields meta)
+    → Contains (stray_faults image meta strayed) fault → Contains (database_faults (file_of image) (HashFields meta)) fault
+stray_in image meta false fault table has at = absurd (no_member [] fault refl at)
+stray_in image meta true fault table has at =
+    let pair = of_map repeat_fault (repeated (stored (table_told image meta))) fault at in
+    subst (Contains (database_faults (file_of image) (HashFields meta))) pair.2 (repeat_in image meta pair.0 table has pair.1)
+
+-- all that is noted of a table
+abbrev table_noted : List ℕ → HashMeta → Bool → List Fault
+table_noted image meta strayed = flat_map (bucket_faults image meta) (buckets_of meta) ++ stray_faults image meta strayed
+
+noted_in : (image : List ℕ) (meta : HashMeta) (strayed : Bool) (fault : Fault) → IsTable image → HasMetadata (file_of image) (HashFields meta)
+    → Contains (table_noted image meta strayed) fault → Contains (database_faults (file_of image) (HashFields meta)) fault
+noted_in image meta strayed fault table has at =
+    elim (Contains-append_cases (flat_map (bucket_faults image meta) (buckets_of meta)) (stray_faults image meta strayed) fault at) [
+      | inl here ↦
+          let bucket = of_flat_map (bucket_faults image meta) (buckets_of meta) fault here in
+          bucket_in image meta bucket.0 fault table has bucket.1 bucket.2
+      | inr there ↦ stray_in image meta strayed fault table has there
+    ]
+
+-- what is noted of a bucket is noted of the table
+of_bucket : (image : List ℕ) (meta : HashMeta) (strayed : Bool) (b : ℕ) (fault : Fault) → Contains (buckets_of meta) b
+    → Contains (bucket_faults image meta b) fault → Contains (table_noted image meta strayed) fault
+of_bucket image meta strayed b fault listed at =
+    Contains-append_left (flat_map (bucket_faults image meta) (buckets_of meta)) (stray_faults image meta strayed) fault
+    (in_flat_map (bucket_faults image meta) (buckets_of meta) b fault listed at)
+
+-- a repeat of a key is noted: where the table has a stray with all others, else with those of its bucket
+repeat_noted : (image : List ℕ) (meta : HashMeta) (strayed : Bool) (pair : StoredPair) → strayed ≡ has_stray image meta
+    → Contains (repeated (stored (table_told image meta))) pair → Contains (table_noted image meta strayed) (repeat_fault pair)
+repeat_noted image meta true pair is at =
+    Contains-append_right (flat_map (bucket_faults image meta) (buckets_of meta)) (stray_faults image meta true) (repeat_fault pair)
+    (in_map repeat_fault (repeated (stored (table_told image meta))) pair at)
+repeat_noted image meta false pair is at =
+    let bucket = in_bucket image meta pair (sym is) at in
+    of_bucket image meta false bucket.0 (repeat_fault pair) bucket.1
+    (Contains-append_right (flat_map (pair_faults meta bucket.0) (bucket_told image meta bucket.0)) (repeat_faults (bucket_told image meta bucket.0))
+    (repeat_fault pair) (in_map repeat_fault (repeated (stored (bucket_told image meta bucket.0))) pair bucket.2))
+
+-- a row that holds for a pair of a bucket is noted
+own_noted : (image : List ℕ) (meta : HashMeta) (strayed : Bool) (b : ℕ) (pair : StoredPair) (code : ℕ) → Contains (buckets_of meta) b
+    → Contains (bucket_pairs (file_of image) meta b) pair → Contains (holding (pair_table (tests_of (file_of image) meta) b pair)) code
+    → Contains (table_noted image meta strayed) (fault_at pair.page code)
+own_noted image meta strayed b pair code listed held holds =
+    let t : Told = told image pair in
+    let fault : Fault = fault_at pair.page code in
+    of_bucket image meta strayed b fault listed
+    (Contains-append_left (flat_map (pair_faults meta b) (bucket_told image meta b)) (repeat_faults (bucket_told image meta b)) fault
+    (in_flat_map (pair_faults meta b) (bucket_told image meta b) t fault
+    (subst (λ ts. Contains ts t) (sym (bucket_is image meta b)) (in_map (told image) (bucket_pairs (file_of image) meta b) pair held))
+    (subst (λ fs. Contains fs fault) (sym (pair_faults_are meta b t))
+    (in_map (fault_at pair.page) (holding (pair_table (tests_of (file_of image) meta) b pair)) code holds))))
+
+same_parts : (s t p q c d : ℕ) → s ≡ t → p ≡ q → c ≡ d
+    → ◌≡◌ {A = Fault} (record { stage = s; page = p; code = c }) (record { stage = t; page = q; code = d })
+same_parts s t p q c d stages pages codes = cc
+
+-- each fault of the table is noted
+covered : (image : List ℕ) (meta : HashMeta) (strayed : Bool) (fault : Fault) → IsTable image → HasMetadata (file_of image) (HashFields meta)
+    → strayed ≡ has_stray image meta
+    → Contains (database_faults (file_of image) (HashFields meta)) fault → Contains (table_noted image meta strayed) fault
 unfolding database_faults
-covered image meta fault table has at =
+covered image meta strayed fault table has is at =
     let file : File = file_of image in
     let of = of_by_page 8 0 (file.last + 1) (λ p. holding (database_rows file (HashFields meta) p)) fault at in
     elim (page_holds (bucket_pairs file meta) (buckets_of meta) (tests_of file meta) (repeated (table_pairs file meta)) fault.page fault.code
-    (tests_rise file meta)
     (subst (λ codes. Contains codes fault.code) (codes_are image meta fault.page table has) of.is_code)) [
-      | inl (_, by, first, first_is, low) ↦
-          let listed = subst (λ ts. Contains ts (told image by.pair)) (sym (bucket_is image meta by.bucket))
-          (in_map (told image) (bucket_pairs file meta by.bucket) by.pair by.held) in (
-            fault_at by.pair.page first,
-            inl (inr (by.bucket, by.listed, (told image by.pair, listed, ap (option_map (fault_at by.pair.page)) first_is))),
-            inr (by.at, low),
-          )
-      | inr (pair, held, at_page, nine) ↦ (
-        repeat_fault pair,
-        inr (inr (pair, subst (λ ps. Contains (repeated ps) pair) (sym (table_stored image meta)) held, refl)),
-        inr (at_page, omega (arith, nine)),
-      )
+      | inl (_, by, holds) ↦
+          subst (Contains (table_noted image meta strayed)) (same_parts 8 fault.stage by.pair.page fault.page fault.code fault.code (sym of.same_stage) by.at refl)
+          (own_noted image meta strayed by.bucket by.pair fault.code by.listed by.held holds)
+      | inr (pair, held, at_page, nine) ↦
+          subst (Contains (table_noted image meta strayed)) (same_parts 8 fault.stage pair.page fault.page 9 fault.code (sym of.same_stage) at_page (sym nine))
+          (repeat_noted image meta strayed pair is (subst (λ ps. Contains (repeated ps) pair) (sym (table_stored image meta)) held))
     ]
 
--- the first of some faults that a list has, and that comes before all of it, is the list's first one
-first_is_least : (P : Fault → Type 0) (faults : List Fault) (least : Option Fault) → FirstComesFirst faults
-    → ((a b : Fault) → Contains faults a → Contains faults b → a.stage ≡ b.stage) → IsLeast P least
-    → ((fault : Fault) → P fault → Contains faults fault)
-    → ((fault : Fault) → Contains faults fault → (noted : Fault) × P noted × ComesFirst noted fault) → first_fault faults ≡ least
-first_is_least P [] None comes stage is has cover = refl
-first_is_least P [] (Some least) comes stage is has cover = absurd (no_member [] least refl (has least is.0))
-first_is_least P (fault ∷ faults) None comes stage is has cover = let noted = cover fault (first_member fault faults) in absurd (is noted.0 noted.1)
-first_is_least P (fault ∷ faults) (Some least) comes stage is has cover =
-    let noted = cover fault (first_member fault faults) in
-    let at : Contains (fault ∷ faults) least = has least is.0 in
-    ap (λ f. Some f)
-    (same_fault fault least (stage fault least (first_member fault faults) at) (comes fault faults least refl at)
-    (comes_through least noted.0 fault (is.1 noted.0 noted.1) noted.2))
+-- what is noted of a table is each row at each page where it holds
+pub all_noted : (image : List ℕ) (meta : HashMeta) (strayed : Bool) (before mid after : List Fault → Type 0) → IsTable image
+    → HasMetadata (file_of image) (HashFields meta) → strayed ≡ has_stray image meta
+    → Notes before mid (flat_map (bucket_faults image meta) (range_with_len 0 (meta.max_bucket + 1)))
+    → Notes mid after (stray_faults image meta strayed) → NotesAll before after (database_faults (file_of image) (HashFields meta))
+all_noted image meta strayed before mid after table has is one two = (
+  table_noted image meta strayed,
+  λ fault. (noted_in image meta strayed fault table has, covered image meta strayed fault table has is),
+  notes_both before mid after (flat_map (bucket_faults image meta) (buckets_of meta)) (stray_faults image meta strayed) one two,
+)
 
-least_is_first : (image : List ℕ) (meta : HashMeta) (least : Option Fault) → IsTable image → HasMetadata (file_of image) (HashFields meta)
-    → least ≡ least_noted image meta → first_fault (database_faults (file_of image) (HashFields meta)) ≡ least
+-- The first of what was noted.
+
+in_order : (file : File) (meta : HashMeta) → InOrder 8 (database_faults file (HashFields meta))
 unfolding database_faults
-least_is_first image meta least table has is =
-    let file : File = file_of image in
+in_order file meta =
     let codes : ℕ → List ℕ = λ p. holding (database_rows file (HashFields meta) p) in
-    let eighth : (fault : Fault) → Contains (database_faults file (HashFields meta)) fault → fault.stage ≡ 8 =
-    λ fault at. (of_by_page 8 0 (file.last + 1) codes fault at).same_stage in
-    first_is_least (IsNotedFault image meta) (database_faults file (HashFields meta)) least
-    (by_page_first 8 0 (file.last + 1) codes (λ p. holding_least 1 (database_rows file (HashFields meta) p)
-    (omega arith, (omega arith, (omega arith, (omega arith, (omega arith, tt)))))))
-    (λ a b at_a at_b. eighth a at_a ∙ sym (eighth b at_b)) (subst (IsLeast (IsNotedFault image meta)) (sym is) (noted_least image meta))
-    (λ fault noted. noted_is image meta fault table has noted) (λ fault at. covered image meta fault table has at)
+    record {
+      one_stage = λ fault at. (of_by_page 8 0 (file.last + 1) codes fault at).same_stage;
+      rises = by_page_first 8 0 (file.last + 1) codes (λ p. holding_least 1 (database_rows file (HashFields meta) p)
+          (omega arith, (omega arith, (omega arith, (omega arith, (omega arith, tt))))));
+    }
 
-pub no_fault : (image : List ℕ) (meta : HashMeta) → IsTable image → HasMetadata (file_of image) (HashFields meta) → None ≡ least_noted image meta
-    → database_faults (file_of image) (HashFields meta) ≡ []
-no_fault image meta table has none = no_first_fault _ (least_is_first image meta None table has none)
-
-pub the_fault : (image : List ℕ) (meta : HashMeta) (fault : Fault) → IsTable image → HasMetadata (file_of image) (HashFields meta)
-    → Some fault ≡ least_noted image meta → first_fault (database_faults (file_of image) (HashFields meta)) ≡ Some fault
-the_fault image meta fault table has some = least_is_first image meta (Some fault) table has some
+-- what a check finds over a sink that keeps the first
+pub first_found : (file : File) (meta : HashMeta) (start first : Option Fault) → start ≡ None
+    → NotesAll (IsFirst start) (IsFirst first) (database_faults file (HashFields meta))
+    → first ≡ first_fault (database_faults file (HashFields meta))
+first_found file meta start first none all =
+    first_noted 8 (database_faults file (HashFields meta)) first (in_order file meta)
+    (subst (λ (o : Option Fault). NotesAll (IsFirst o) (IsFirst first) (database_faults file (HashFields meta))) none all)

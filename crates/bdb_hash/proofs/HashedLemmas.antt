@@ -17,7 +17,10 @@ use Rattle.bdb_format.specs.Contents.{StoredPair}
 use Rattle.bdb_format.specs.Hashing.{hash5}
 use Rattle.bdb_format.proofs.MemberLemmas.{first_member, in_map, later_member, of_map}
 use Rattle.bdb_format.proofs.RepeatLemmas.{repeated_after, repeated_is}
-use Rattle.bdb_hash.specs.Notes.{key_hash, note_repeat, stored}
+use Rattle.bdb_faults.specs.Notes.{Notes}
+use Rattle.bdb_hash.specs.Noted.{repeat_fault, repeat_faults, stored}
+use Rattle.bdb_hash.specs.Passed.{key_hash}
+use Rattle.bdb_hash.proofs.NotedLemmas.{notes_nothing}
 use Rattle.bdb_hash.specs.Told.{Told}
 use Rattle.bdb_hash.proofs.RepeatLemmas.{has_same}
 use Rattle.bdb_overflow.proofs.KeyLemmas.{eq_same, not_true}
@@ -52,7 +55,8 @@ none_after before (t ∷ ts) apart other =
     (λ pair at. or_from (bytes_eq t.pair.key pair.key) (has_same before pair) (later pair at) (other pair (later_member t.pair (stored ts) pair at))))
 
 -- no pair has the key of an earlier one
-pub no_repeat : (hashes : List ℕ) (pairs : List Told) (least : Option Fault) → hashes ≡ map key_hash pairs → IsDistinct nat_eq hashes
-    → least ≡ fold note_repeat least (repeated (stored pairs))
-no_repeat hashes pairs least are apart =
-    sym (ap (fold note_repeat least) (repeated_is (stored pairs) ∙ none_after [] pairs (subst (IsDistinct nat_eq) are apart) (λ pair at. refl)))
+pub no_repeat : (before : List Fault → Type 0) (hashes : List ℕ) (pairs : List Told) → hashes ≡ map key_hash pairs → IsDistinct nat_eq hashes
+    → Notes before before (repeat_faults pairs)
+no_repeat before hashes pairs are apart =
+    subst (λ (again : List StoredPair). Notes before before (map repeat_fault again))
+    (sym (repeated_is (stored pairs) ∙ none_after [] pairs (subst (IsDistinct nat_eq) are apart) (λ pair at. refl))) (notes_nothing before)

@@ -2,10 +2,11 @@ pub mod BucketLemmas
 pub mod DataLemmas
 pub mod FaultLemmas
 pub mod HashedLemmas
-pub mod LeastLemmas
 pub mod LookupLemmas
 pub mod MaskLemmas
+pub mod NotedLemmas
 pub mod PairLemmas
+pub mod PassedLemmas
 pub mod PlaceLemmas
 pub mod PlainLemmas
 pub mod RepeatLemmas

@@ -1,34 +1,37 @@
 -- Where each key is in its own bucket, the pairs that repeat a key are those of each bucket, one bucket after another.
 use Rattle.std.proofs.Common.{◌≡◌, ℕ, zero, suc, ◌+◌, ◌≤◌, ◌<◌, Bool, true, false, ◌||◌, cond, List, [], ◌∷◌, ◌++◌, map, arith}
-use Rattle.std.proofs.Common.{refl, sym, ◌∙◌, ap, subst, not}
-use Rattle.std.specs.Prelude.{Option, ◌==◌}
+use Rattle.std.proofs.Common.{refl, sym, ◌∙◌, ap, subst, not, inl, inr, append-nil, append_assoc}
+use Rattle.std.specs.Prelude.{◌==◌}
 use Rattle.std.specs.BTreeSet.{BTreeSet, IsEmpty, Updates}
 use Rattle.std.specs.Cmp.Lexicographic.{slice_cmp}
 use Rattle.std.specs.Ordering.{nat_cmp}
-use Rattle.std.specs.List.{Contains, flat_map, fold, list_any, range_with_len}
+use Rattle.std.specs.List.{Contains, flat_map, list_any, range_with_len}
 use Rattle.std.specs.Str.{bytes_eq}
 use Rattle.std.proofs.Math.Bool.{or-false}
 use Rattle.std.proofs.lemmas.Bool.{eqb-true, not-false, or_from}
 use Rattle.std.proofs.lemmas.List.{map-append}
+use Rattle.std.proofs.lemmas.List.Elements.{Contains-append_left, Contains-append_right}
 use Rattle.std.proofs.lemmas.List.Folds.{list_any-append}
 use Rattle.std.proofs.lemmas.List.Sums.{fold-append}
 use Rattle.std.proofs.lemmas.Map.Text.{is_eq-slice_cmp}
+use Rattle.bdb_faults.specs.Notes.{Notes}
 use Rattle.bdb_format.proofs.BoolLemmas.{cond_or}
-use Rattle.bdb_overflow.specs.Earlier.{unless_new}
 use Rattle.bdb_overflow.specs.Keys.{has_item, has_key, repeated_by}
 use Rattle.bdb_format.specs.declared.kinds.Fault.{Fault}
 use Rattle.bdb_format.specs.declared.metadata.HashMeta.{HashMeta}
 use Rattle.bdb_format.specs.ContentRows.{bucket_of_key, repeated}
 use Rattle.bdb_format.specs.Contents.{StoredPair, bucket_pages}
 use Rattle.bdb_format.specs.File.{file_of}
-use Rattle.bdb_format.proofs.MemberLemmas.{first_member, in_range, later_member, none_passes, of_flat_map, of_map, of_range}
-use Rattle.bdb_format.proofs.RepeatLemmas.{repeated_after, repeated_is}
-use Rattle.bdb_hash.specs.Notes.{AreKeysOf, IsNoting, Notes, behind, fault_at, has_stray_in, is_stray, key_of, note_again, note_repeat, stored}
+use Rattle.bdb_format.proofs.MemberLemmas.{filter_step, first_member, later_member, member_cases, no_member, none_passes, of_flat_map, of_map, of_range}
+use Rattle.bdb_format.proofs.RepeatLemmas.{has_key as has_this, repeated_after, repeated_is}
+use Rattle.bdb_hash.specs.Noted.{fault_if, has_stray, has_stray_in, is_stray, repeat_fault, repeat_faults, stored}
+use Rattle.bdb_hash.specs.Passed.{AreKeysOf, IsNoting, NotesRepeats, behind, key_of}
 use Rattle.bdb_hash.specs.Told.{Told, bucket_told, joined_pages, page_told, table_told}
+use Rattle.bdb_hash.specs.declared.noted.HashRow.TheVariants.{KeyTwice}
 use Rattle.bdb_overflow.proofs.KeyLemmas.{eq_same, not_true}
+use Rattle.bdb_hash.proofs.NotedLemmas.{notes_both, notes_nothing}
 use Rattle.bdb_hash.proofs.RowLemmas.{buckets_of}
-use Rattle.bdb_hash.proofs.TableLemmas.{told_more, zero_more}
-use Rattle.bdb_format.proofs.ListLemmas.{passes_here}
+use Rattle.bdb_hash.proofs.TableLemmas.{told_more}
 
 -- Repeats after other pairs.
 
@@ -77,11 +80,10 @@ repeated_parts xs ys apart =
 abbrev AreHome : (ℕ → List StoredPair) → (List ℕ → ℕ) → List ℕ → Type 0
 AreHome parts home buckets = (b : ℕ) → Contains buckets b → (pair : StoredPair) → Contains (parts b) pair → home pair.key ≡ b
 
-by_part : (parts : ℕ → List StoredPair) (home : List ℕ → ℕ) (a n : ℕ) (least : Option Fault) → AreHome parts home (range_with_len a n)
-    → fold (λ l b. fold note_repeat l (repeated (parts b))) least (range_with_len a n) ≡ fold note_repeat least
-    (repeated (flat_map parts (range_with_len a n)))
-by_part parts home a zero least own = refl
-by_part parts home a (suc n) least own =
+by_part : (parts : ℕ → List StoredPair) (home : List ℕ → ℕ) (a n : ℕ) → AreHome parts home (range_with_len a n)
+    → repeated (flat_map parts (range_with_len a n)) ≡ flat_map (λ b. repeated (parts b)) (range_with_len a n)
+by_part parts home a zero own = refl
+by_part parts home a (suc n) own =
     let later : List ℕ = range_with_len (a + 1) n in
     let apart : (x y : StoredPair) → Contains (parts a) x → Contains (flat_map parts later) y → bytes_eq x.key y.key ≡ false = λ x y at_x at_y.
     not_true (bytes_eq x.key y.key) (λ same.
@@ -90,9 +92,8 @@ by_part parts home a (suc n) least own =
     let one : a ≡ found.0 = sym (own a (first_member a later) x at_x)
     ∙ (ap home (eq_same x.key y.key same) ∙ own found.0 (later_member a later found.0 found.1) y found.2) in
     omega (arith, above.0, one)) in
-    by_part parts home (a + 1) n (fold note_repeat least (repeated (parts a))) (λ b at. own b (later_member a later b at))
-    ∙ (sym (fold-append note_repeat least (repeated (parts a)) (repeated (flat_map parts later)))
-    ∙ ap (fold note_repeat least) (sym (repeated_parts (parts a) (flat_map parts later) apart)))
+    repeated_parts (parts a) (flat_map parts later) apart
+    ∙ ap (λ ps. repeated (parts a) ++ ps) (by_part parts home (a + 1) n (λ b at. own b (later_member a later b at)))
 
 stored_parts : (parts : ℕ → List Told) (buckets : List ℕ) → stored (flat_map parts buckets) ≡ flat_map (λ b. stored (parts b)) buckets
 stored_parts parts [] = refl
@@ -100,7 +101,7 @@ stored_parts parts (b ∷ bs) = map-append (λ (t : Told). t.pair) (parts b) (fl
     (stored_parts parts bs)
 
 -- where there is no stray, each pair has a key of its bucket
-home_where_none : (image : List ℕ) (meta : HashMeta) → list_any (has_stray_in image meta) (buckets_of meta) ≡ false
+home_where_none : (image : List ℕ) (meta : HashMeta) → has_stray image meta ≡ false
     → AreHome (λ b. stored (bucket_told image meta b)) (bucket_of_key meta) (buckets_of meta)
 home_where_none image meta none b listed pair held =
     let found = of_map (λ (t : Told). t.pair) (bucket_told image meta b) pair held in
@@ -109,149 +110,169 @@ home_where_none image meta none b listed pair held =
     ap (λ (p : StoredPair). bucket_of_key meta p.key) (sym found.2) ∙ eqb-true (bucket_of_key meta found.0.pair.key) b
     (not-false (bucket_of_key meta found.0.pair.key == b) own)
 
--- the repeats of a table without a stray
-pub by_bucket_is : (image : List ℕ) (meta : HashMeta) (least result : Option Fault)
-    → false ≡ list_any (has_stray_in image meta) (range_with_len 0 (meta.max_bucket + 1))
-    → result ≡ fold (note_again image meta) least (range_with_len 0 (meta.max_bucket + 1))
-    → result ≡ fold note_repeat least (repeated (stored (table_told image meta)))
-by_bucket_is image meta least result none is =
-    is
-    ∙ (by_part (λ b. stored (bucket_told image meta b)) (bucket_of_key meta) 0 (meta.max_bucket + 1) least (home_where_none image meta (sym none))
-    ∙ ap (λ (ps : List StoredPair). fold note_repeat least (repeated ps)) (sym (stored_parts (bucket_told image meta) (buckets_of meta))))
+-- where there is no stray, a pair that repeats a key of the table repeats one of its bucket
+pub in_bucket : (image : List ℕ) (meta : HashMeta) (pair : StoredPair) → has_stray image meta ≡ false
+    → Contains (repeated (stored (table_told image meta))) pair
+    → (b : ℕ) × Contains (buckets_of meta) b × Contains (repeated (stored (bucket_told image meta b))) pair
+in_bucket image meta pair none at =
+    let parts : ℕ → List StoredPair = λ b. stored (bucket_told image meta b) in
+    of_flat_map (λ b. repeated (parts b)) (buckets_of meta) pair
+    (subst (λ (ps : List StoredPair). Contains ps pair)
+    (ap repeated (stored_parts (bucket_told image meta) (buckets_of meta))
+    ∙ by_part parts (bucket_of_key meta) 0 (meta.max_bucket + 1) (home_where_none image meta none)) at)
 
--- Pairs noted one after another.
+-- What repeats within a part repeats in the whole.
 
-pub none_noted : (keys : BTreeSet (List ℕ)) (least : Option Fault) → Notes keys keys least least []
-none_noted keys least = record { after = λ before are. (are, refl) }
+-- what repeats a key after some pairs does so after pairs with the same keys and more
+more_seen : (seen more pairs : List StoredPair) (pair : StoredPair) → ((key : List ℕ) → has_this key seen ≡ true → has_this key more ≡ true)
+    → Contains (repeated_after seen pairs) pair → Contains (repeated_after more pairs) pair
+more_seen seen more [] pair kept at = at
+more_seen seen more (one ∷ pairs) pair kept at =
+    elim (filter_step one pair (repeated_after (one ∷ seen) pairs) (has_this one.key seen) at) [
+      | inl (has, same) ↦ subst (Contains (repeated_after more (one ∷ pairs))) same
+          (rw (kept one.key has) (first_member one (repeated_after (one ∷ more) pairs)))
+      | inr later ↦
+          passed_over one (has_this one.key more) (repeated_after (one ∷ more) pairs) pair
+          (more_seen (one ∷ seen) (one ∷ more) pairs pair (λ key. either (bytes_eq one.key key) (has_this key seen) (has_this key more) (kept key)) later)
+    ]
+  where
+    passed_over : (other : StoredPair) (b : Bool) (rest : List StoredPair) (one : StoredPair) → Contains rest one
+        → Contains (cond b (other ∷ rest) rest) one
+    passed_over other true rest one at = later_member other rest one at
+    passed_over other false rest one at = at
 
-keys_more : (keys more : BTreeSet (List ℕ)) (before : List StoredPair) (pair : StoredPair) → AreKeysOf keys before
-    → Updates (slice_cmp nat_cmp) keys more pair.key true → AreKeysOf more (pair ∷ before)
-keys_more keys more before pair are updates sought =
+    either : (a b c : Bool) → (b ≡ true → c ≡ true) → (a || b) ≡ true → (a || c) ≡ true
+    either true b c kept is = refl
+    either false b c kept is = kept is
+
+after_append : (seen xs ys : List StoredPair) → repeated_after seen (xs ++ ys) ≡ repeated_after seen xs ++ repeated_after (behind seen xs) ys
+after_append seen [] ys = refl
+after_append seen (x ∷ xs) ys =
+    rw (after_append (x ∷ seen) xs ys)
+    (cond_append (has_this x.key seen) x (repeated_after (x ∷ seen) xs) (repeated_after (behind (x ∷ seen) xs) ys))
+
+part_in : (parts : ℕ → List StoredPair) (buckets : List ℕ) (b : ℕ) (pair : StoredPair) (seen : List StoredPair) → Contains buckets b
+    → Contains (repeated_after [] (parts b)) pair → Contains (repeated_after seen (flat_map parts buckets)) pair
+part_in parts [] b pair seen listed at = absurd (no_member [] b refl listed)
+part_in parts (c ∷ cs) b pair seen listed at =
+    let here : List StoredPair = repeated_after seen (parts c) in
+    let later : List StoredPair = repeated_after (behind seen (parts c)) (flat_map parts cs) in
+    subst (λ ps. Contains ps pair) (sym (after_append seen (parts c) (flat_map parts cs)))
+    (elim (member_cases c cs b listed) [
+      | inl same ↦ Contains-append_left here later pair
+          (more_seen [] seen (parts c) pair (λ key has. absurd cc) (subst (λ d. Contains (repeated_after [] (parts d)) pair) (sym same) at))
+      | inr there ↦ Contains-append_right here later pair (part_in parts cs b pair (behind seen (parts c)) there at)
+    ])
+
+-- a pair that repeats a key of its bucket repeats one of the table
+pub in_table : (image : List ℕ) (meta : HashMeta) (b : ℕ) (pair : StoredPair) → Contains (buckets_of meta) b
+    → Contains (repeated (stored (bucket_told image meta b))) pair → Contains (repeated (stored (table_told image meta))) pair
+in_table image meta b pair listed at =
+    let parts : ℕ → List StoredPair = λ c. stored (bucket_told image meta c) in
+    subst (λ (ps : List StoredPair). Contains ps pair)
+    (sym (ap repeated (stored_parts (bucket_told image meta) (buckets_of meta)) ∙ repeated_is (flat_map parts (buckets_of meta))))
+    (part_in parts (buckets_of meta) b pair [] listed (subst (λ (ps : List StoredPair). Contains ps pair) (repeated_is (parts b)) at))
+
+-- Repeats noted one after another.
+
+pub none_noted : (keys : BTreeSet (List ℕ)) (before : List Fault → Type 0) → NotesRepeats keys keys before before []
+none_noted keys before = record { next = λ seen are. (are, notes_nothing before) }
+
+keys_more : (keys more : BTreeSet (List ℕ)) (seen : List StoredPair) (pair : StoredPair) → AreKeysOf keys seen
+    → Updates (slice_cmp nat_cmp) keys more pair.key true → AreKeysOf more (pair ∷ seen)
+keys_more keys more seen pair are updates sought =
     updates.0 sought
     ∙ (ap (λ b. cond b true (has_key keys sought)) (is_eq-slice_cmp pair.key sought)
-    ∙ (ap (λ b. cond (bytes_eq pair.key sought) true b) (are sought) ∙ cond_or (bytes_eq pair.key sought) (has_item key_of before sought)))
+    ∙ (ap (λ b. cond (bytes_eq pair.key sought) true b) (are sought) ∙ cond_or (bytes_eq pair.key sought) (has_item key_of seen sought)))
 
-noted_here : (has : Bool) (least : Option Fault) (pair : StoredPair)
-    → unless_new (not has) least (fault_at pair.page 9) ≡ fold note_repeat least (cond has (pair ∷ []) [])
-noted_here has least pair = grind arith
+repeat_here : (has : Bool) (pair : StoredPair) → fault_if KeyTwice pair.page has ≡ map repeat_fault (cond has (pair ∷ []) [])
+repeat_here true pair = refl
+repeat_here false pair = refl
 
-one_noted : (keys more : BTreeSet (List ℕ)) (least noted : Option Fault) (pair : StoredPair)
-    → noted ≡ unless_new (not (has_key keys pair.key)) least (fault_at pair.page 9)
-    → Updates (slice_cmp nat_cmp) keys more pair.key true → Notes keys more least noted (pair ∷ [])
-one_noted keys more least noted pair is updates = record {
-  after = λ before are. (
-    keys_more keys more before pair are updates,
-    is ∙ (ap (λ b. unless_new (not b) least (fault_at pair.page 9)) (are pair.key) ∙ noted_here (has_item key_of before pair.key) least pair),
+not_not : (b : Bool) → not (not b) ≡ b
+not_not true = refl
+not_not false = refl
+
+pub one_noted : (keys more : BTreeSet (List ℕ)) (before after : List Fault → Type 0) (t : Told) (key : List ℕ) (page : ℕ) (is_new : Bool)
+    → Updates (slice_cmp nat_cmp) keys more key true → is_new ≡ not (has_key keys key) → key ≡ t.pair.key → page ≡ t.pair.page
+    → Notes before after (fault_if KeyTwice page (not is_new)) → NotesRepeats keys more before after (t ∷ [])
+one_noted keys more before after t key page is_new updates new_is same at notes = record {
+  next = λ seen are. (
+    keys_more keys more seen t.pair are (subst (λ k. Updates (slice_cmp nat_cmp) keys more k true) same updates),
+    subst (Notes before after)
+        (ap (λ b. fault_if KeyTwice page b)
+        (ap not new_is ∙ (not_not (has_key keys key) ∙ (ap (has_key keys) same ∙ are t.pair.key)))
+        ∙ (ap (λ p. fault_if KeyTwice p (has_item key_of seen t.pair.key)) at ∙ repeat_here (has_item key_of seen t.pair.key) t.pair)) notes,
   );
 }
 
-repeats_append : (before xs ys : List StoredPair)
-    → repeated_by key_of before (xs ++ ys) ≡ repeated_by key_of before xs ++ repeated_by key_of (behind before xs) ys
-repeats_append before [] ys = refl
-repeats_append before (x ∷ xs) ys =
-    rw (repeats_append (x ∷ before) xs ys)
-    (cond_append (has_item key_of before x.key) x (repeated_by key_of (x ∷ before) xs) (repeated_by key_of (behind (x ∷ before) xs) ys))
+repeats_append : (seen xs ys : List StoredPair)
+    → repeated_by key_of seen (xs ++ ys) ≡ repeated_by key_of seen xs ++ repeated_by key_of (behind seen xs) ys
+repeats_append seen [] ys = refl
+repeats_append seen (x ∷ xs) ys =
+    rw (repeats_append (x ∷ seen) xs ys)
+    (cond_append (has_item key_of seen x.key) x (repeated_by key_of (x ∷ seen) xs) (repeated_by key_of (behind (x ∷ seen) xs) ys))
 
-both_noted : (a b c : BTreeSet (List ℕ)) (k l m : Option Fault) (xs ys : List StoredPair) → Notes a b k l xs → Notes b c l m ys
-    → Notes a c k m (xs ++ ys)
-both_noted a b c k l m xs ys first second = record {
-  after = λ before are.
-      let here : AreKeysOf b (behind before xs) × (l ≡ fold note_repeat k (repeated_by key_of before xs)) = first.after before are in
-      let there = second.after (behind before xs) here.0 in (
+both_noted : (a b c : BTreeSet (List ℕ)) (before mid after : List Fault → Type 0) (xs ys : List Told) → NotesRepeats a b before mid xs
+    → NotesRepeats b c mid after ys → NotesRepeats a c before after (xs ++ ys)
+both_noted a b c before mid after xs ys first second = record {
+  next = λ seen are.
+      let here = first.next seen are in
+      let there = second.next (behind seen (stored xs)) here.0 in
+      let parts : stored (xs ++ ys) ≡ stored xs ++ stored ys = map-append (λ (t : Told). t.pair) xs ys in
+      let one : List StoredPair = repeated_by key_of seen (stored xs) in
+      let two : List StoredPair = repeated_by key_of (behind seen (stored xs)) (stored ys) in (
         λ sought. there.0 sought ∙ ap (λ ps. has_item key_of ps sought)
-            (sym (fold-append (λ (ps : List StoredPair) (pair : StoredPair). pair ∷ ps) before xs ys)),
-        there.1
-            ∙ (ap (λ (n : Option Fault). fold note_repeat n (repeated_by key_of (behind before xs) ys)) here.1
-            ∙ (sym (fold-append note_repeat k (repeated_by key_of before xs) (repeated_by key_of (behind before xs) ys))
-            ∙ ap (fold note_repeat k) (sym (repeats_append before xs ys)))),
+            (sym (ap (behind seen) parts ∙ fold-append (λ (ps : List StoredPair) (pair : StoredPair). pair ∷ ps) seen (stored xs) (stored ys))),
+        subst (Notes before after)
+            (sym (ap (λ ps. map repeat_fault (repeated_by key_of seen ps)) parts
+            ∙ (ap (map repeat_fault) (repeats_append seen (stored xs) (stored ys)) ∙ map-append repeat_fault one two)))
+            (notes_both before mid after (map repeat_fault one) (map repeat_fault two) here.1 there.1),
       );
 }
 
-told_noted : (a b c : BTreeSet (List ℕ)) (k l m : Option Fault) (xs ys : List Told) → Notes a b k l (stored xs) → Notes b c l m (stored ys)
-    → Notes a c k m (stored (xs ++ ys))
-told_noted a b c k l m xs ys first second =
-    subst (Notes a c k m) (sym (map-append (λ (t : Told). t.pair) xs ys)) (both_noted a b c k l m (stored xs) (stored ys) first second)
+pub none_noting : (keys : BTreeSet (List ℕ)) (before : List Fault → Type 0) (all : List Told) → IsNoting keys keys before before all all
+none_noting keys before all = record { done = []; whole = refl; notes = none_noted keys before }
 
-pub none_noting : (keys : BTreeSet (List ℕ)) (least : Option Fault) (all : List Told) → IsNoting keys keys least least all all
-none_noting keys least all = record { rest = λ new last notes. notes }
-
-pub more_noting : (old now more : BTreeSet (List ℕ)) (least noted next : Option Fault) (all left here rest : List Told)
-    → IsNoting old now least noted all left → left ≡ here ++ rest
-    → Notes now more noted next (stored here) → IsNoting old more least next all rest
-more_noting old now more least noted next all left here rest noting is notes = record {
-  rest = λ new last others.
-      noting.rest new last (subst (λ ps. Notes now new noted last (stored ps)) (sym is)
-      (told_noted now more new noted next last here rest notes others));
+pub more_noting : (old now next : BTreeSet (List ℕ)) (before mid after : List Fault → Type 0) (all left here rest : List Told)
+    → IsNoting old now before mid all left → left ≡ here ++ rest → NotesRepeats now next mid after here → IsNoting old next before after all rest
+more_noting old now next before mid after all left here rest noting is notes = record {
+  done = noting.done ++ here;
+  whole = noting.whole ∙ (ap (λ ts. noting.done ++ ts) is ∙ sym (append_assoc noting.done here rest));
+  notes = both_noted old now next before mid after noting.done here noting.notes notes;
 }
 
-pub one_noting : (old now more : BTreeSet (List ℕ)) (least noted next : Option Fault) (all left rest : List Told) (t : Told) (key : List ℕ)
-    → IsNoting old now least noted all left → left ≡ t ∷ rest
-    → key ≡ t.pair.key → next ≡ unless_new (not (has_key now key)) noted (fault_at t.pair.page 9) → Updates (slice_cmp nat_cmp) now more key true
-    → IsNoting old more least next all rest
-one_noting old now more least noted next all left rest t key noting is same next_is updates =
-    more_noting old now more least noted next all left (t ∷ []) rest noting is
-    (one_noted now more noted next t.pair (next_is ∙ ap (λ k. unless_new (not (has_key now k)) noted (fault_at t.pair.page 9)) same)
-    (subst (λ k. Updates (slice_cmp nat_cmp) now more k true) same updates))
+pub one_noting : (old now next : BTreeSet (List ℕ)) (before mid after : List Fault → Type 0) (all left rest : List Told) (t : Told)
+    → IsNoting old now before mid all left → left ≡ t ∷ rest → NotesRepeats now next mid after (t ∷ []) → IsNoting old next before after all rest
+one_noting old now next before mid after all left rest t noting is notes =
+    more_noting old now next before mid after all left (t ∷ []) rest noting is notes
 
-pub all_noting : (old now : BTreeSet (List ℕ)) (least noted : Option Fault) (all left : List Told) → IsNoting old now least noted all left → left ≡ []
-    → Notes old now least noted (stored all)
-all_noting old now least noted all left noting none =
-    noting.rest now noted (subst (λ ps. Notes now now noted noted (stored ps)) (sym none) (none_noted now noted))
+pub all_noting : (old new : BTreeSet (List ℕ)) (before after : List Fault → Type 0) (all left : List Told)
+    → IsNoting old new before after all left → left ≡ [] → NotesRepeats old new before after all
+all_noting old new before after all left noting none =
+    subst (NotesRepeats old new before after)
+    (sym (noting.whole ∙ (ap (λ ts. noting.done ++ ts) none ∙ append-nil noting.done))) noting.notes
 
 -- What was noted after no pair.
 
-same_repeated : (before pairs : List StoredPair) → repeated_by key_of before pairs ≡ repeated_after before pairs
-same_repeated before [] = refl
-same_repeated before (pair ∷ pairs) =
-    ap (λ (ps : List StoredPair). cond (has_item key_of before pair.key) (pair ∷ ps) ps) (same_repeated (pair ∷ before) pairs)
+same_repeated : (seen pairs : List StoredPair) → repeated_by key_of seen pairs ≡ repeated_after seen pairs
+same_repeated seen [] = refl
+same_repeated seen (pair ∷ pairs) =
+    ap (λ (ps : List StoredPair). cond (has_item key_of seen pair.key) (pair ∷ ps) ps) (same_repeated (pair ∷ seen) pairs)
 
-pub noted_anew : (empty keys : BTreeSet (List ℕ)) (least noted : Option Fault) (pairs : List StoredPair) → IsEmpty empty
-    → Notes empty keys least noted pairs
-    → noted ≡ fold note_repeat least (repeated pairs)
-noted_anew empty keys least noted pairs none notes =
-    (notes.after [] (λ sought. rw none refl)).1 ∙ ap (fold note_repeat least) (same_repeated [] pairs ∙ sym (repeated_is pairs))
-
--- one more bucket noted
-pub again_more : (image : List ℕ) (meta : HashMeta) (b : ℕ) (start least next : Option Fault) (pages : List (List Told))
-    → least ≡ fold (note_again image meta) start (range_with_len 0 b) → pages ≡ map (page_told image) (bucket_pages (file_of image) meta b)
-    → next ≡ fold note_repeat least (repeated (stored (joined_pages pages))) → next ≡ fold (note_again image meta) start (range_with_len 0 (b + 1))
-again_more image meta b start least next pages before' are is =
-    is
-    ∙ (ap (λ (ps : List (List Told)). fold note_repeat least (repeated (stored (joined_pages ps)))) are
-    ∙ (ap (λ l. note_again image meta l b) before'
-    ∙ (sym (fold-append (note_again image meta) start (range_with_len 0 b) (b ∷ [])) ∙ ap (fold (note_again image meta) start) (sym (zero_more b)))))
+pub noted_anew : (empty keys : BTreeSet (List ℕ)) (before after : List Fault → Type 0) (pairs : List Told) → IsEmpty empty
+    → NotesRepeats empty keys before after pairs → Notes before after (repeat_faults pairs)
+noted_anew empty keys before after pairs none notes =
+    subst (λ (again : List StoredPair). Notes before after (map repeat_fault again)) (same_repeated [] (stored pairs) ∙ sym (repeated_is (stored pairs)))
+    (notes.next [] (λ sought. rw none refl)).1
 
 -- the pairs of one more bucket noted with those before
-pub table_more : (image : List ℕ) (meta : HashMeta) (b : ℕ) (old now new : BTreeSet (List ℕ)) (start least next : Option Fault)
+pub table_more : (image : List ℕ) (meta : HashMeta) (b : ℕ) (old now new : BTreeSet (List ℕ)) (before mid after : List Fault → Type 0)
     (pages : List (List Told))
-    → Notes old now start least (stored (flat_map (bucket_told image meta) (range_with_len 0 b)))
-    → pages ≡ map (page_told image) (bucket_pages (file_of image) meta b)
-    → Notes now new least next (stored (joined_pages pages))
-    → Notes old new start next (stored (flat_map (bucket_told image meta) (range_with_len 0 (b + 1))))
-table_more image meta b old now new start least next pages done are notes =
-    subst (λ ps. Notes old new start next (stored ps)) (sym (told_more image meta b))
-    (told_noted old now new start least next (flat_map (bucket_told image meta) (range_with_len 0 b)) (bucket_told image meta b) done
-    (subst (λ ps. Notes now new least next (stored (joined_pages ps))) are notes))
-
--- Strays.
-
--- one more bucket passed
-pub no_stray_more : (image : List ℕ) (meta : HashMeta) (b : ℕ) (pages : List (List Told))
-    → list_any (has_stray_in image meta) (range_with_len 0 b) ≡ false
-    → pages ≡ map (page_told image) (bucket_pages (file_of image) meta b) → false ≡ list_any (is_stray meta b) (joined_pages pages)
-    → list_any (has_stray_in image meta) (range_with_len 0 (b + 1)) ≡ false
-no_stray_more image meta b pages none are here =
-    let last : has_stray_in image meta b ≡ false = sym (here ∙ ap (λ ps. list_any (is_stray meta b) (joined_pages ps)) are) in
-    ap (list_any (has_stray_in image meta)) (zero_more b)
-    ∙ (list_any-append (has_stray_in image meta) (range_with_len 0 b) (b ∷ [])
-    ∙ or_from (list_any (has_stray_in image meta) (range_with_len 0 b)) (has_stray_in image meta b || false) none
-    (or_from (has_stray_in image meta b) false last refl))
-
--- a bucket has a stray
-pub stray_found : (image : List ℕ) (meta : HashMeta) (b : ℕ) (pages : List (List Told)) → b ≤ meta.max_bucket
-    → pages ≡ map (page_told image) (bucket_pages (file_of image) meta b)
-    → true ≡ list_any (is_stray meta b) (joined_pages pages) → true ≡ list_any (has_stray_in image meta) (range_with_len 0 (meta.max_bucket + 1))
-stray_found image meta b pages few are here =
-    sym
-    (passes_here (has_stray_in image meta) (buckets_of meta) b (in_range 0 (meta.max_bucket + 1) b (omega arith) (omega arith))
-    (sym (here ∙ ap (λ ps. list_any (is_stray meta b) (joined_pages ps)) are)))
+    → NotesRepeats old now before mid (flat_map (bucket_told image meta) (range_with_len 0 b))
+    → pages ≡ map (page_told image) (bucket_pages (file_of image) meta b) → NotesRepeats now new mid after (joined_pages pages)
+    → NotesRepeats old new before after (flat_map (bucket_told image meta) (range_with_len 0 (b + 1)))
+table_more image meta b old now new before mid after pages done are notes =
+    subst (NotesRepeats old new before after) (sym (told_more image meta b))
+    (both_noted old now new before mid after (flat_map (bucket_told image meta) (range_with_len 0 b)) (bucket_told image meta b) done
+    (subst (λ ps. NotesRepeats now new mid after (joined_pages ps)) are notes))

@@ -1,7 +1,7 @@
 -- The rows of a table's contents at a page are those of its pairs by themselves, and of repeated keys.
 use Rattle.std.proofs.Common.{◌≡◌, ◌⊎◌, ℕ, ◌+◌, ◌≤◌, Bool, true, false, not, ◌&&◌, ◌||◌, cond, List, [], ◌∷◌, ◌++◌, map, arith}
 use Rattle.std.proofs.Common.{refl, sym, ◌∙◌, ap, subst, inl, inr}
-use Rattle.std.specs.Prelude.{Some, ◌==◌}
+use Rattle.std.specs.Prelude.{◌==◌}
 use Rattle.std.specs.List.{Contains, flat_map, list_any, range_with_len, take_while}
 use Rattle.std.proofs.Math.Bool.{and-false}
 use Rattle.std.proofs.lemmas.Bool.{and_parts, eq-eqb, eqb-true}
@@ -12,16 +12,44 @@ use Rattle.std.proofs.lemmas.List.Sums.{take_while-cons}
 use Rattle.bdb_format.specs.declared.metadata.HashMeta.{HashMeta}
 use Rattle.bdb_format.specs.ContentRows.{ascends, bucket_of_key, groups, hash_contents, is_duplicate, is_unsorted, is_wrong_set, live_data, repeated}
 use Rattle.bdb_format.specs.Contents.{StoredPair, bucket_pairs, data_of, table_pairs}
-use Rattle.bdb_format.specs.File.{File}
-use Rattle.bdb_format.specs.Table.{Row, ◌:?◌, first_row}
+use Rattle.bdb_format.specs.File.{File, file_of}
+use Rattle.bdb_format.specs.Table.{Row, ◌:?◌}
 use Rattle.bdb_format.specs.Verdict.{holding}
-use Rattle.bdb_format.proofs.MemberLemmas.{first_member, in_map, later_member, of_map}
-use Rattle.bdb_format.proofs.VerdictLemmas.{Rises}
+use Rattle.bdb_format.proofs.MemberLemmas.{filter_step, first_member, in_map, later_member, member_cases, no_member, of_map}
 use Rattle.bdb_format.specs.Flags.{has_duplicates, is_sorted}
 use Rattle.bdb_format.specs.Page.{HashFields}
-use Rattle.bdb_hash.proofs.LeastLemmas.{HoldsIn, first_least, in_holding, of_first, of_holding}
+use Rattle.bdb_hash.specs.Noted.{fault_at, pair_faults}
+use Rattle.bdb_hash.specs.Told.{Told}
+use Rattle.bdb_hash.proofs.NotedLemmas.{rows_noted}
 use Rattle.bdb_hash.proofs.PlainLemmas.{IsPlain}
 use Rattle.bdb_format.proofs.ListLemmas.{any_member, only_member, passes_here}
+
+-- Rows that hold.
+
+-- a row of a table that holds has this code
+abbrev pub HoldsIn : List (Row ℕ) → ℕ → Type 0
+HoldsIn rows code = (row : Row ℕ) × Contains rows row × (row.holds ≡ true) × (row.code ≡ code)
+
+of_holding : (rows : List (Row ℕ)) (code : ℕ) → Contains (holding rows) code → HoldsIn rows code
+of_holding [] code at = absurd (no_member [] code refl at)
+of_holding (row ∷ rows) code at =
+    elim (filter_step row.code code (holding rows) row.holds at) [
+      | inl (holds, same) ↦ (row, first_member row rows, holds, same)
+      | inr later ↦ let is = of_holding rows code later in (is.0, later_member row rows is.0 is.1, is.2, is.3)
+    ]
+
+in_holding : (rows : List (Row ℕ)) (row : Row ℕ) → Contains rows row → row.holds ≡ true → Contains (holding rows) row.code
+in_holding [] row at holds = absurd (no_member [] row refl at)
+in_holding (r ∷ rows) row at holds =
+    elim (member_cases r rows row at) [
+      | inl same ↦
+          subst (λ (q : Row ℕ). Contains (cond q.holds (q.code ∷ holding rows) (holding rows)) row.code) (sym same)
+          (rw holds (first_member row.code (holding rows)))
+      | inr later ↦ elim r.holds as (λ b. Contains (cond b (r.code ∷ holding rows) (holding rows)) row.code) [
+        | true ↦ later_member r.code (holding rows) row.code (in_holding rows row later holds)
+        | false ↦ in_holding rows row later holds
+      ]
+    ]
 
 -- Tests of pairs.
 
@@ -79,13 +107,13 @@ page_table pairs buckets tests p = map (λ (test : Test). test.code :? some_at p
 abbrev pub repeat_row : List StoredPair → ℕ → Row ℕ
 repeat_row repeated p = 9 :? list_any (λ (pair : StoredPair). pair.page == p) repeated
 
--- the first code of a pair holds at its page
+-- each code that holds for a pair holds at its page
 pub pair_holds : (pairs : ℕ → List StoredPair) (buckets : List ℕ) (tests : List Test) (repeated : List StoredPair) (b : ℕ)
     (pair : StoredPair) (code : ℕ) → Contains buckets b → Contains (pairs b) pair
-    → first_row (pair_table tests b pair) ≡ Some code
+    → Contains (holding (pair_table tests b pair)) code
     → Contains (holding (page_table pairs buckets tests pair.page ++ (repeat_row repeated pair.page ∷ []))) code
-pair_holds pairs buckets tests repeated b pair code listed held first =
-    let is : HoldsIn (pair_table tests b pair) code = of_first (pair_table tests b pair) code first in
+pair_holds pairs buckets tests repeated b pair code listed held at =
+    let is : HoldsIn (pair_table tests b pair) code = of_holding (pair_table tests b pair) code at in
     let test = of_map (λ (t : Test). t.code :? t.holds b pair) tests is.0 is.1 in
     let row : Row ℕ = test.0.code :? some_at pairs buckets test.0.holds pair.page in
     let rows : List (Row ℕ) = page_table pairs buckets tests pair.page in
@@ -104,19 +132,18 @@ repeat_holds pairs buckets tests repeated pair at =
     (Contains-append_right (page_table pairs buckets tests pair.page) (row ∷ []) row (first_member row []))
     (passes_here (λ (one : StoredPair). one.page == pair.page) repeated pair at (eq-eqb pair.page pair.page refl))
 
--- a code that holds at a page comes from a pair there, whose first code isn't greater, or from a repeated key
+-- a code that holds at a page holds for a pair there, or is that of a repeated key
 abbrev pub IsByPair : (ℕ → List StoredPair) → List ℕ → List Test → ℕ → ℕ → Type 0
 IsByPair pairs buckets tests p code = (test : Test) × (found : IsFound pairs buckets test.holds p)
-    × (first : ℕ) × (first_row (pair_table tests found.bucket found.pair) ≡ Some first) × (first ≤ code)
+    × Contains (holding (pair_table tests found.bucket found.pair)) code
 
 abbrev pub IsByRepeat : List StoredPair → ℕ → ℕ → Type 0
 IsByRepeat repeated p code = (pair : StoredPair) × Contains repeated pair × (pair.page ≡ p) × (code ≡ 9)
 
 pub page_holds : (pairs : ℕ → List StoredPair) (buckets : List ℕ) (tests : List Test) (repeated : List StoredPair) (p code : ℕ)
-    → ((b : ℕ) (pair : StoredPair) → Rises 1 (pair_table tests b pair))
     → Contains (holding (page_table pairs buckets tests p ++ (repeat_row repeated p ∷ []))) code
     → IsByPair pairs buckets tests p code ⊎ IsByRepeat repeated p code
-page_holds pairs buckets tests repeated p code rises at =
+page_holds pairs buckets tests repeated p code at =
     let rows : List (Row ℕ) = page_table pairs buckets tests p in
     let last : Row ℕ = repeat_row repeated p in
     let is : HoldsIn (rows ++ (last ∷ [])) code = of_holding (rows ++ (last ∷ [])) code at in
@@ -126,11 +153,13 @@ page_holds pairs buckets tests repeated p code rises at =
           let found : IsFound pairs buckets test.0.holds p =
           found_at pairs buckets test.0.holds p (ap (λ (row : Row ℕ). row.holds) test.2 ∙ is.2) in
           let own : List (Row ℕ) = pair_table tests found.bucket found.pair in
-          let first = first_least 1 own code (rises found.bucket found.pair)
-          (subst (Contains (holding own)) (ap (λ (row : Row ℕ). row.code) test.2 ∙ is.3)
-          (in_holding own (test.0.code :? test.0.holds found.bucket found.pair)
-          (in_map (λ (t : Test). t.code :? t.holds found.bucket found.pair) tests test.0 test.1) found.passes)) in
-          inl (test.0, found, first.0, first.1, first.2)
+          inl (
+            test.0,
+            found,
+            subst (Contains (holding own)) (ap (λ (row : Row ℕ). row.code) test.2 ∙ is.3)
+                (in_holding own (test.0.code :? test.0.holds found.bucket found.pair)
+                (in_map (λ (t : Test). t.code :? t.holds found.bucket found.pair) tests test.0 test.1) found.passes),
+          )
       | inr there ↦
           let same : last ≡ is.0 = only_member last is.0 there in
           let pair = any_member (λ (one : StoredPair). one.page == p) repeated (ap (λ (row : Row ℕ). row.holds) same ∙ is.2) in
@@ -148,8 +177,10 @@ tests_of file meta =
     ∷ record { code = 8; holds = λ b pair. not (bucket_of_key meta pair.key == b) }
     ∷ []
 
-pub tests_rise : (file : File) (meta : HashMeta) (b : ℕ) (pair : StoredPair) → Rises 1 (pair_table (tests_of file meta) b pair)
-tests_rise file meta b pair = (omega arith, (omega arith, (omega arith, (omega arith, tt))))
+-- the faults of a pair by itself are those of the tests that hold
+pub pair_faults_are : (meta : HashMeta) (b : ℕ) (t : Told)
+    → pair_faults meta b t ≡ map (fault_at t.pair.page) (holding (pair_table (tests_of (file_of t.image) meta) b t.pair))
+pair_faults_are meta b t = rows_noted t.pair.page _ _ _ _
 
 abbrev pub buckets_of : HashMeta → List ℕ
 buckets_of meta = range_with_len 0 (meta.max_bucket + 1)

@@ -28,7 +28,8 @@ use Rattle.bdb_format.proofs.LessLemmas.{not_less_both, not_less_same}
 use Rattle.bdb_format.proofs.MemberLemmas.{first_member, in_map, later_member, member_cases, no_member, of_map}
 use Rattle.bdb_graph.specs.Linked.{HasMetadata}
 use Rattle.bdb_hash.specs.Scanned.{ranked}
-use Rattle.bdb_hash.specs.Notes.{key_of, stored}
+use Rattle.bdb_hash.specs.Noted.{stored}
+use Rattle.bdb_hash.specs.Passed.{key_of}
 use Rattle.bdb_hash.specs.Told.{Told, listed_told, table_told, told, told_cmp}
 use Rattle.bdb_hash.specs.Views.{IsTable}
 use Rattle.bdb_hash.proofs.FaultLemmas.{table_is_told, table_stored}

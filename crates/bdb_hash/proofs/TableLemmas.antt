@@ -13,7 +13,6 @@ use Rattle.bdb_format.specs.Hashing.{first_page}
 use Rattle.bdb_format.specs.HeadOf.{head_of}
 use Rattle.bdb_format.specs.Page.{HashFields}
 use Rattle.bdb_format.specs.Verdict.{structure_faults}
-use Rattle.bdb_hash.specs.Notes.{note_bucket, note_told}
 use Rattle.bdb_hash.specs.Told.{Told, bucket_told, joined_pages, page_told}
 use Rattle.bdb_format.specs.declared.kinds.Fault.{Fault}
 use Rattle.bdb_format.specs.declared.metadata.HashMeta.{HashMeta}
@@ -34,16 +33,6 @@ table_is image meta forest stage has = record {
   stage = stage;
   table = is_no_queue (file_of image) Bucket (first_page 0 meta.spares) (bucket_fits image (head_of image) meta 0 forest.formed has (omega arith));
 }
-
--- one more bucket noted
-pub noted_more : (image : List ℕ) (meta : HashMeta) (b : ℕ) (least result : Option Fault) (pages : List (List Told))
-    → least ≡ fold (note_bucket image meta) None (range_with_len 0 b) → pages ≡ map (page_told image) (bucket_pages (file_of image) meta b)
-    → result ≡ fold (note_told meta b) least (joined_pages pages) → result ≡ fold (note_bucket image meta) None (range_with_len 0 (b + 1))
-noted_more image meta b least result pages before' are is =
-    is
-    ∙ (ap (λ ps. fold (note_told meta b) least (joined_pages ps)) are
-    ∙ (ap (λ l. note_bucket image meta l b) before'
-    ∙ (sym (fold-append (note_bucket image meta) None (range_with_len 0 b) (b ∷ [])) ∙ ap (fold (note_bucket image meta) None) (sym (zero_more b)))))
 
 -- the pairs of one more bucket
 pub told_more : (image : List ℕ) (meta : HashMeta) (b : ℕ)

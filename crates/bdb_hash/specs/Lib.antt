@@ -1,4 +1,5 @@
-pub mod Notes
+pub mod Noted
+pub mod Passed
 pub mod Places
 pub mod Rest
 pub mod Scanned

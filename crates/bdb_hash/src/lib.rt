@@ -2,26 +2,26 @@
 #![tactic(auto)]
 
 mod bucket;
+mod contents;
 mod data;
-mod faults;
 mod key;
 mod listing;
 mod lookup;
 mod noted;
 mod pair;
 mod pairs;
+mod passed;
 mod place;
 mod ranked;
 mod ranking;
 mod repeats;
 mod rows;
-mod strays;
 mod table;
 
 pub(crate) use bucket::{BucketPages, bucket_pages};
+pub use contents::{all_faults, check, note_contents};
 pub use data::Data as Found;
 pub(crate) use data::Data;
-pub use faults::check;
 pub use listing::Scan;
 pub use lookup::find;
 pub(crate) use pair::Pair;

@@ -1,20 +1,19 @@
-ghost use Rattle.std.specs.Prelude.{◌≡◌, Some};
-ghost use Rattle.bdb_form.specs.Seen.{page_seen};
-ghost use Rattle.bdb_hash.specs.Notes.{key_hash, pair_fault, pair_rows};
-ghost use Rattle.bdb_overflow.specs.Datum.{datum_seen};
-ghost use Rattle.bdb_format.specs.ContentRows.{ascends, bucket_of_key};
-ghost use Rattle.bdb_format.specs.File.{file_of};
-ghost use Rattle.bdb_format.specs.Numbers.{has_bit};
-ghost use Rattle.bdb_format.specs.Table.{first_row};
+ghost use Rattle.std.specs.Prelude.{◌≡◌, ◌&&◌, OnOk, not};
+ghost use Rattle.bdb_faults.specs.Notes.{Notes};
+ghost use Rattle.bdb_hash.specs.Noted.{is_unsorted, told_faults};
+ghost use Rattle.bdb_format.specs.ContentRows.{ascends, is_duplicate};
 ghost use Rattle.bdb_format.specs.Flags.{has_duplicates, is_sorted};
+ghost use Rattle.bdb_format.specs.Hashing.{bucket};
 ghost use Rattle.bdb_format.specs.Page.{HashFields};
 
-use crate::key::hash_of;
+use crate::noted::{HashRow, note_if};
 use crate::{Data, Pair};
-use bdb_format::{Fault, HashMeta};
+use bdb_faults::FaultSink;
+use bdb_format::HashMeta;
 use bdb_layout::bucket_of;
-use bdb_overflow::{Datum, is_less};
+use bdb_overflow::is_less;
 pub(crate) use bdb_tree::is_wrong_root;
+use std::alloc::AllocError;
 
 /// Whether a table may hold several data of a key.
 pub(crate) fn has_duplicates(meta: &HashMeta) -> bool
@@ -48,46 +47,46 @@ pub(crate) fn ascends(values: Data<'_>) -> bool
     true
 }
 
-/// The bucket of a key.
-pub(crate) fn bucket_of_key(meta: &HashMeta, key: &Datum<'_>) -> u32
-    ensures { result ≡ bucket_of_key meta.now (datum_seen key.now) }
+/// The bucket of a key with this hash.
+pub(crate) fn home_of(meta: &HashMeta, hash: u32) -> u32
+    ensures { result ≡ bucket hash meta.now.max_bucket meta.now.high_mask meta.now.low_mask }
 {
-    bucket_of(hash_of(key), meta.max_bucket, meta.high_mask, meta.low_mask)
+    bucket_of(hash, meta.max_bucket, meta.high_mask, meta.low_mask)
 }
 
-/// The code of the first row that holds for a pair by itself, in this bucket.
-fn pair_code(pair: Pair<'_>, meta: &HashMeta, b: u32, hash: u32) -> Option<u8>
-    requires { hash ≡ key_hash pair }
-    ensures { result ≡ first_row (pair_rows (file_of pair.entry.image) meta.now b pair.entry.pair) }
+/// Whether only another table may have a pair.
+fn is_refused(meta: &HashMeta, pair: &Pair<'_>) -> bool
+    ensures { result ≡ (not (has_duplicates (HashFields meta.now)) && is_duplicate pair.now.pair) }
 {
-    if !has_duplicates(meta) && pair.is_duplicate() {
-        return Some(1);
-    }
-    if pair.is_wrong_set(is_sorted(meta)) {
-        return Some(2);
-    }
-    let is_elsewhere = bucket_of(hash, meta.max_bucket, meta.high_mask, meta.low_mask) != b;
-    if is_sorted(meta) && !ascends(pair.into_data()) {
-        return Some(5);
-    }
-    if is_elsewhere {
-        return Some(8);
-    }
-    None
+    !has_duplicates(meta) && pair.is_duplicate()
 }
 
-/// The first fault of a pair by itself, in this bucket, with the hash of its key.
-pub(crate) fn pair_fault(pair: Pair<'_>, meta: &HashMeta, b: u32, hash: u32) -> Option<Fault>
-    requires { hash ≡ key_hash pair }
-    ensures { result ≡ pair_fault (file_of pair.entry.image) meta.now b pair.entry.pair }
+/// Whether the data of a pair are out of order, where they ought to be in order.
+fn is_unsorted(meta: &HashMeta, pair: Pair<'_>) -> bool
+    ensures { result ≡ is_unsorted meta.now pair.entry }
+{
+    is_sorted(meta) && !ascends(pair.into_data())
+}
+
+/// Notes each row that holds for a pair by itself, which is a stray or isn't. An error is that of the sink.
+pub(crate) fn note_pair<F: FaultSink>(
+    pair: Pair<'_>,
+    meta: &HashMeta,
+    is_stray: bool,
+    found: &mut F,
+) -> Result<(), AllocError>
+    ensures { OnOk result (Notes (F.has_noted found.old) (F.has_noted found.new) (told_faults meta.now is_stray pair.entry)) }
 {
     let page = pair.page();
-    match pair_code(pair, meta, b, hash) {
-        Some(code) => Some(Fault {
-            stage: 8,
-            page,
-            code,
-        }),
-        None => None,
-    }
+    let is_wrong_set = pair.is_wrong_set(is_sorted(meta));
+    note_if(found, HashRow::Duplicates, page, is_refused(meta, &pair))?;
+    note_if(found, HashRow::DuplicateKind, page, is_wrong_set)?;
+    note_if(
+        found,
+        HashRow::DuplicateOrder,
+        page,
+        is_unsorted(meta, pair),
+    )?;
+    note_if(found, HashRow::Bucket, page, is_stray)?;
+    Ok(())
 }

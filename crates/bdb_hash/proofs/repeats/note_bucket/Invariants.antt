@@ -1,7 +1,9 @@
-use Rattle.bdb_hash.specs.Notes.{IsNoting}
+use Rattle.bdb_hash.specs.Passed.{IsNoting}
 use Rattle.bdb_hash.specs.Told.{joined_pages}
 use Rattle.bdb_hash.proofs.repeats.note_bucket.Given as goal
 
--- Those of the pages that are left are to be noted yet.
+-- All but those of the pages that are left are noted.
 abbrev pub invariant-loop-page : goal.invariant-loop-page
-invariant-loop-page l = IsNoting l.fn.keys l.keys l.initial.least l.least (joined_pages l.fn.pages) (joined_pages l.page-iterator)
+invariant-loop-page g l =
+    IsNoting l.fn.keys l.keys (g.F.FaultSink.has_noted l.fn.found) (g.F.FaultSink.has_noted l.found) (joined_pages l.fn.pages)
+    (joined_pages l.page-iterator)

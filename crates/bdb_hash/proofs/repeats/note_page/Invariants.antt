@@ -1,6 +1,7 @@
-use Rattle.bdb_hash.specs.Notes.{IsNoting}
+use Rattle.bdb_hash.specs.Passed.{IsNoting}
 use Rattle.bdb_hash.proofs.repeats.note_page.Given as goal
 
--- Those that are left are to be noted yet.
+-- All but those that are left are noted.
 abbrev pub invariant-loop-pair : goal.invariant-loop-pair
-invariant-loop-pair l = IsNoting l.fn.keys l.keys l.initial.least l.least l.fn.page l.pair-iterator
+invariant-loop-pair g l =
+    IsNoting l.fn.keys l.keys (g.F.FaultSink.has_noted l.fn.found) (g.F.FaultSink.has_noted l.found) l.fn.page l.pair-iterator

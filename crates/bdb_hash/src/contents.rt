@@ -1,0 +1,99 @@
+ghost use Rattle.std.specs.Prelude.{◌≡◌, ◌+◌, [], IfErr, IfOk, OnOk};
+ghost use Rattle.std.specs.List.{flat_map, range_with_len};
+ghost use Rattle.bdb_faults.specs.Named.{HasNoted};
+ghost use Rattle.bdb_faults.specs.Notes.{Notes, NotesAll};
+ghost use Rattle.bdb_graph.specs.Linked.{HasMetadata};
+ghost use Rattle.bdb_hash.specs.Noted.{bucket_faults, has_stray};
+ghost use Rattle.bdb_hash.specs.Views.{IsTable};
+ghost use Rattle.bdb_format.specs.ContentRows.{database_faults};
+ghost use Rattle.bdb_format.specs.File.{file_of};
+ghost use Rattle.bdb_format.specs.Page.{HashFields};
+ghost use Rattle.bdb_format.specs.Verdict.{structure_faults, IsFirstOf};
+
+use crate::bucket_pages;
+use crate::passed::{Passed, note_bucket};
+use crate::repeats::{note_again, note_strayed};
+use crate::table::buckets;
+use bdb_faults::{FaultSink, First, NamedList};
+use bdb_format::{CheckError, HashMeta};
+use bdb_graph::Linked;
+use std::alloc::{AllocError, Global};
+
+/// Notes the pairs of a table by themselves, and those that have the key of an earlier one of their bucket, while its
+/// pages are at hand. It tells whether the table has a stray. It takes memory for the pairs of one bucket at a time; an
+/// error is want of it, or the sink's.
+fn note_by_bucket<F: FaultSink>(
+    alloc: Global,
+    linked: &Linked<'_>,
+    meta: &HashMeta,
+    found: &mut F,
+) -> Result<bool, AllocError>
+    requires meta { HasMetadata (file_of linked.now) (HashFields meta.now) }
+    requires stage { structure_faults (file_of linked.now) ≡ [] }
+    ensures noted { OnOk result (Notes (F.has_noted found.old) (F.has_noted found.new) (flat_map (bucket_faults linked.now meta.now) (range_with_len 0 (meta.now.max_bucket + 1)))) }
+    ensures stray { IfOk result (λ strayed. strayed ≡ has_stray linked.now meta.now) }
+    ensures table { IsTable linked.now }
+{
+    let mut passed = Passed::new(alloc);
+    for b in 0..buckets(linked, meta) {
+        passed.hashes.clear();
+        note_bucket(&mut passed, bucket_pages(linked, meta, b), meta, b, found)?;
+        note_again(
+            alloc,
+            &mut passed.hashes,
+            bucket_pages(linked, meta, b),
+            found,
+        )?;
+    }
+    Ok(passed.has_stray)
+}
+
+/// Notes each row of contents at each page where it holds for the table of this metadata, in any order and repeats
+/// allowed. An error is want of memory: the sink's, or that for hashes and keys.
+pub fn note_contents<F: FaultSink>(
+    alloc: Global,
+    linked: &Linked<'_>,
+    meta: &HashMeta,
+    found: &mut F,
+) -> Result<(), AllocError>
+    requires meta { HasMetadata (file_of linked.now) (HashFields meta.now) }
+    requires stage { structure_faults (file_of linked.now) ≡ [] }
+    ensures { OnOk result (NotesAll (F.has_noted found.old) (F.has_noted found.new) (database_faults (file_of linked.now) (HashFields meta.now))) }
+{
+    let has_stray = note_by_bucket(alloc, linked, meta, found)?;
+    note_strayed(alloc, linked, meta, has_stray, found)?;
+    Ok(())
+}
+
+/// No row of contents holds for the table of this metadata. A refusal is the first fault: the least page,
+/// and there the least code; or want of memory. It takes four bytes for each pair of the largest bucket,
+/// memory for the keys of a bucket where two of them have one hash, and for all keys where a pair isn't in the bucket of its key.
+pub fn check(alloc: Global, linked: &Linked<'_>, meta: &HashMeta) -> Result<(), CheckError>
+    requires meta { HasMetadata (file_of linked.now) (HashFields meta.now) }
+    requires stage { structure_faults (file_of linked.now) ≡ [] }
+    ensures accepted { OnOk result (database_faults (file_of linked.now) (HashFields meta.now) ≡ []) }
+    ensures refusal { IfErr result (IsFirstOf (database_faults (file_of linked.now) (HashFields meta.now))) }
+{
+    let mut first = First::new();
+    let Ok(()) = note_contents(alloc, linked, meta, &mut first) else {
+        return Err(CheckError::Memory);
+    };
+    match first.fault() {
+        None => Ok(()),
+        Some(fault) => Err(CheckError::Fault(fault)),
+    }
+}
+
+/// Notes each row of contents at each page where it holds for the table of this metadata, in a list of all.
+pub fn all_faults(
+    alloc: Global,
+    linked: &Linked<'_>,
+    meta: &HashMeta,
+    found: &mut NamedList,
+) -> Result<(), AllocError>
+    requires meta { HasMetadata (file_of linked.now) (HashFields meta.now) }
+    requires stage { structure_faults (file_of linked.now) ≡ [] }
+    ensures { OnOk result (NotesAll (HasNoted found.old) (HasNoted found.new) (database_faults (file_of linked.now) (HashFields meta.now))) }
+{
+    note_contents(alloc, linked, meta, found)
+}
