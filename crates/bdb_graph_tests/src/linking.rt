@@ -49,8 +49,8 @@ pub const PAIR: [Field; 17] = [
     Field::Byte(1022, 1),
 ];
 
-// A btree file with two empty leaves, 2 and 3, below the root 1, and nothing on page 4.
-const TREE: [Field; 25] = [
+/// A btree file with two empty leaves, 2 and 3, below the root 1, and nothing on page 4.
+pub const TREE: [Field; 25] = [
     Field::Four(12, 0x053162),
     Field::Four(16, 9),
     Field::Four(20, 512),
@@ -114,8 +114,8 @@ const QUEUE: [Field; 8] = [
     Field::Four(88, 60), // records on a page
 ];
 
-// The key of the second item of the root and a key of leaf 3 stand in the chain of page 4.
-const CHAIN: [Field; 18] = [
+/// The key of the second item of the root and a key of leaf 3 stand in the chain of page 4.
+pub const CHAIN: [Field; 18] = [
     Field::Four(32, 4),
     Field::Two(976, 12),
     Field::Byte(978, 3),
