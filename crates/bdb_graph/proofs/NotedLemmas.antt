@@ -281,10 +281,6 @@ module _ (before middle : List Fault → Type 0) (faults : List Fault) (empty : 
   pub none_there : empty ≡ true → faults ≡ []
   none_there is = nothing_in faults (sym empty_is ∙ is)
 
-  -- and nothing was noted
-  pub still_new : empty ≡ true → middle []
-  still_new is = let it = noted_all before middle faults new first in subst middle (nothing_in it.0 (sym (tells it.0 it.1) ∙ is)) it.1
-
   -- so the next stage counts
   pub next_noted : (after : List Fault → Type 0) (others : List Fault) → empty ≡ true → NotesAll middle after others
       → NotesAll before after (or_else faults (λ _. others))
