@@ -88,8 +88,8 @@ const SHARED: [Field; 28] = [
     Field::Byte(1011, 0x63),
 ];
 
-// A btree with counts: below the root 1 the leaves 2 and 3, each with one pair, with keys 61 and 63.
-const COUNTED: [Field; 43] = [
+/// A btree with counts: below the root 1 the leaves 2 and 3, each with one pair, with keys 61 and 63.
+pub const COUNTED: [Field; 43] = [
     Field::Four(12, 0x053162),
     Field::Four(16, 9),
     Field::Four(20, 512),

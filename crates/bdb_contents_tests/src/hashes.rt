@@ -36,9 +36,9 @@ struct Case {
     found: &'static [Entry],
 }
 
-// Three buckets on pages 1 to 3, of which the first and the last are empty, and page 4 in reserve. The key `c` is in
-// bucket 1: under the high mask it would be in 3, above the greatest.
-const THREE_BUCKETS: [Field; 26] = [
+/// Three buckets on pages 1 to 3, of which the first and the last are empty, and page 4 in reserve. The key `c` is in
+/// bucket 1: under the high mask it would be in 3, above the greatest.
+pub const THREE_BUCKETS: [Field; 26] = [
     Field::Four(12, 0x061561), // magic number
     Field::Four(16, 9), // version
     Field::Four(20, 512), // page size

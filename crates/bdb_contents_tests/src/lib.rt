@@ -18,6 +18,8 @@ mod lookup_samples;
 #[cfg(test)]
 mod lookups;
 #[cfg(test)]
+mod noted;
+#[cfg(test)]
 mod opened;
 #[cfg(test)]
 mod queues;

@@ -64,8 +64,8 @@ const ONE_LEAF: [Field; 22] = [
     Field::Byte(1015, 0x63),
 ];
 
-// Below the root, page 1, the internal pages 2 and 3; below these the leaves 4 and 5, and 6 and 7. Leaf 6 is empty.
-const THREE_LEVELS: [Field; 80] = [
+/// Below the root, page 1, the internal pages 2 and 3; below these the leaves 4 and 5, and 6 and 7. Leaf 6 is empty.
+pub const THREE_LEVELS: [Field; 80] = [
     Field::Four(12, 0x053162),
     Field::Four(16, 9),
     Field::Four(20, 512),
@@ -200,7 +200,7 @@ fn meta_of(linked: &Linked<'_>) -> Option<BtreeMeta>
 }
 
 /// Whether it's that of a recno.
-fn is_recno(meta: &BtreeMeta) -> bool
+pub fn is_recno(meta: &BtreeMeta) -> bool
     ensures { IsTrue result → IsTrue (is_recno meta.now) }
 {
     meta.flags & 0x02 != 0

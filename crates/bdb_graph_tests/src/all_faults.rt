@@ -3,10 +3,11 @@
 ghost use Rattle.std.specs.Prelude.{◌≡◌, ◌≤◌, ◌^◌, length};
 
 use crate::linking::{PAIR, TREE};
-use bdb_faults::{AllError, Named, NamedList};
+use bdb_faults::{AllError, Named};
 use bdb_fields::{Field, write};
 use bdb_format::{Fault, Order, Steps, Unsupported};
 use bdb_graph::{link_all, open_all};
+use bdb_naming::is_list_of;
 use std::alloc::Global;
 use std::marker::Brand;
 use std::sync::ledger::{Blank, Ledger};
@@ -168,19 +169,6 @@ fn judge_of(alloc: Global, case: &Case, order: Order) -> Result<(), AllError> {
     write(&mut image, case.base, order);
     write(&mut image, case.fields, order);
     judge_counted::<Brand>(alloc, &image, Blank::new(1))
-}
-
-/// Whether a list has these, in this order, and no others.
-fn is_list_of(list: &NamedList, named: &[Named]) -> bool {
-    if list.len() != named.len() {
-        return false;
-    }
-    for i in 0..named.len() {
-        if list.get(i) != Some(named[i]) {
-            return false;
-        }
-    }
-    true
 }
 
 /// Whether these, and no others, are named of a file.

@@ -14,6 +14,8 @@ mod held;
 #[cfg(test)]
 mod linking;
 #[cfg(test)]
+mod noted;
+#[cfg(test)]
 mod opening;
 #[cfg(test)]
 mod rings;

@@ -114,8 +114,8 @@ const QUEUE: [Field; 8] = [
     Field::Four(88, 60), // records on a page
 ];
 
-// The key of the second item of the root and a key of leaf 3 stand in the chain of page 4.
-const CHAIN: [Field; 18] = [
+/// The key of the second item of the root and a key of leaf 3 stand in the chain of page 4.
+pub const CHAIN: [Field; 18] = [
     Field::Four(32, 4),
     Field::Two(976, 12),
     Field::Byte(978, 3),

@@ -1,9 +1,10 @@
 //! What `dump` writes, and what it tells of a file that isn't sound. The rules: docs/FORMAT.md, "Dump text".
 
-use crate::files::*;
 use crate::made;
-use crate::running::Told::{Done, Line};
-use crate::running::{NOT_FOUND, Row, check_file, check_rows};
+use bdb_running::answers::{BOTH, THE_HASH};
+use bdb_running::files::*;
+use bdb_running::running::Told::{Done, Line};
+use bdb_running::running::{NOT_FOUND, Row, check_file, check_rows};
 use std::test::Fail;
 
 const A_BTREE: &[u8] =
@@ -17,13 +18,6 @@ const NO_DATA: &[u8] =
 
 const THE_BTREE: &[u8] =
     b"VERSION=3\nformat=bytevalue\ndatabase=a\ntype=btree\ndb_pagesize=512\ndb_lorder=1234\nHEADER=END\n 78\n 79\nDATA=END\n";
-
-pub const THE_HASH: &[u8] =
-    b"VERSION=3\nformat=bytevalue\ndatabase=b\ntype=hash\ndb_pagesize=512\ndb_lorder=1234\nHEADER=END\nDATA=END\n";
-
-/// Two databases, of which the first has a pair.
-pub const BOTH: &[u8] =
-    b"VERSION=3\nformat=bytevalue\ndatabase=a\ntype=btree\ndb_pagesize=512\ndb_lorder=1234\nHEADER=END\n 78\n 79\nDATA=END\nVERSION=3\nformat=bytevalue\ndatabase=b\ntype=hash\ndb_pagesize=512\ndb_lorder=1234\nHEADER=END\nDATA=END\n";
 
 const DUMPS: [Row; 28] = [
     (&["dump"], &ONE_PAIR, Done(A_BTREE)),

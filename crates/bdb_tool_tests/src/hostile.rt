@@ -1,10 +1,10 @@
 //! Files whose pages point where they shouldn't: at themselves, in rings, at pages of another kind, past their end. The rules: docs/FORMAT.md, "Faults".
 
-use crate::files::{A_LEAF, BTREE, BUCKETS};
-use crate::images::File;
-use crate::running::Told::{Done, Line};
-use crate::running::{Row, check_rows, ran_over, source_over};
 use bdb_fields::Field;
+use bdb_running::files::{A_LEAF, BTREE, BUCKETS};
+use bdb_running::images::File;
+use bdb_running::running::Told::{Done, Line};
+use bdb_running::running::{Row, check_rows, ran_over, source_over};
 use std::test::Fail;
 
 // Of two pages, and of three.

@@ -1,10 +1,10 @@
 //! Files that were made apart from this repository, each a few pieces of bytes with zeros between them, and what `dump` writes of
 //! them. README.md says how they were made.
 
-use crate::images::File;
-use crate::running::Question;
-use crate::running::Told::Done;
 use bdb_fields::Field;
+use bdb_running::images::File;
+use bdb_running::running::Question;
+use bdb_running::running::Told::Done;
 
 // A big-endian btree with sorted duplicates, and the greatest least number of keys.
 pub const SORTED_BTREE: File = File {

@@ -1,12 +1,12 @@
 //! `run` with a base, and the law's function.
 ghost use Rattle.std.specs.Prelude.{◌≡◌};
 
-use crate::files::ONE_PAIR;
-use crate::images::bytes_of;
-use crate::outside::Dripping;
-use crate::running::{source_over, words_of};
 use bdb_io::{MemSink, MemSource, Source};
 use bdb_model::Steps;
+use bdb_running::files::ONE_PAIR;
+use bdb_running::images::bytes_of;
+use bdb_running::outside::Dripping;
+use bdb_running::running::{source_over, words_of};
 use bdb_tool::laws::run_pure;
 use bdb_tool::run;
 use std::alloc::{AllocError, Global};

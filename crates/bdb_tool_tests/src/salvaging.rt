@@ -1,26 +1,20 @@
 //! `salvage`: the stored pairs and the loose records of sound and damaged files. The rules: README.md, "Use", and docs/FORMAT.md, "Salvage".
 
-use crate::files::{
+use bdb_fields::Field;
+use bdb_running::answers::{A_RECORD, NO_META, TWO_PAIRS};
+use bdb_running::files::{
     DELETED_PAIR, DUPLICATES, HEAD_ALONE, HEAD_CUT, LEAF_ALONE, NO_BYTES, NO_METADATA, ONE_PAIR,
     ONE_PAIR_BIG, OUT_OF_ORDER, RECNO, TABLE, TWO_OWNERS, VERSION_10,
 };
-use crate::running::Told::{Done, Line};
-use crate::running::{Row, Told, check_rows};
-use bdb_fields::Field;
+use bdb_running::running::Told::{Done, Line};
+use bdb_running::running::{Row, Told, check_rows};
 use std::test::Fail;
-
-pub const TWO_PAIRS: &[u8] =
-    b"VERSION=3\nformat=bytevalue\ndatabase=salvaged\ntype=btree\ndb_pagesize=512\ndb_lorder=1234\nduplicates=1\nHEADER=END\n 61\n 31\n 62\n 32\nDATA=END\n";
 
 pub const TWO_PAIRS_PRINTED: &[u8] =
     b"VERSION=3\nformat=print\ndatabase=salvaged\ntype=btree\ndb_pagesize=512\ndb_lorder=1234\nduplicates=1\nHEADER=END\n a\n 1\n b\n 2\nDATA=END\n";
 
 const NO_PAIR: &[u8] =
     b"VERSION=3\nformat=bytevalue\ndatabase=salvaged\ntype=btree\ndb_pagesize=512\ndb_lorder=1234\nduplicates=1\nHEADER=END\nDATA=END\n";
-
-/// One loose record.
-pub const A_RECORD: &[u8] =
-    b"VERSION=3\nformat=bytevalue\ndatabase=salvaged\ntype=btree\ndb_pagesize=512\ndb_lorder=1234\nduplicates=1\nHEADER=END\nDATA=END\nVERSION=3\nformat=bytevalue\ndatabase=loose\ntype=recno\ndb_pagesize=512\ndb_lorder=1234\nkeys=1\nHEADER=END\n 31\n 61\nDATA=END\n";
 
 /// Two loose records; one between them was deleted.
 pub const TWO_RECORDS: &[u8] =
@@ -29,8 +23,6 @@ pub const TWO_RECORDS: &[u8] =
 const A_PAIR: Told = Done(
     b"VERSION=3\nformat=bytevalue\ndatabase=salvaged\ntype=btree\ndb_pagesize=512\ndb_lorder=1234\nduplicates=1\nHEADER=END\n 61\n 31\nDATA=END\n",
 );
-
-pub const NO_META: Told = Line(10, b"no metadata page\n");
 
 const ROWS: [Row; 20] = [
     (&["salvage"], &TWO_OWNERS, Done(TWO_PAIRS)),

@@ -1,11 +1,11 @@
 //! A value of 40,000 bytes, whose 80,000 digits are written in two pieces.
 
-use crate::files::LONG_VALUE;
-use crate::images::bytes_of;
-use crate::outside::Narrow;
-use crate::running::{WRITE_FAULT, is_start, status_of};
 use bdb_io::{MemSink, MemSource, Sink};
 use bdb_model::Bytes;
+use bdb_running::files::LONG_VALUE;
+use bdb_running::images::bytes_of;
+use bdb_running::outside::Narrow;
+use bdb_running::running::{WRITE_FAULT, is_start, status_of};
 use std::alloc::{AllocError, Global};
 use std::test::Fail;
 

@@ -74,6 +74,30 @@ pub const LARGE_PAGES: File = File {
     parts: &[&BTREE, &A_LEAF, &[Field::Bytes(20, &[0, 0, 1])]],
 };
 
+// Metadata of a compressed btree on page 2.
+const COMPRESSED: [Field; 4] = [
+    Field::Bytes(32, &[2]), // last page
+    Field::Bytes(1032, &[2, 0, 0, 0, 0x62, 0x31, 0x05, 0, 9, 0, 0, 0, 0, 2]), // page 2: magic number, version, page size
+    Field::Bytes(1049, &[9]), // type
+    Field::Bytes(1072, &[0x80]), // flags
+];
+
+/// Page 1 has another number, and page 2 is left out by name.
+pub const NUMBER_BEFORE_COMPRESSION: File = File {
+    length: 1536,
+    parts: &[&BTREE, &A_LEAF, &COMPRESSED, &[Field::Bytes(520, &[7])]],
+};
+
+/// Page 0 is left out by name, and page 1 has another number.
+pub const COMPRESSION_BEFORE_NUMBER: File = File {
+    length: 1024,
+    parts: &[
+        &BTREE,
+        &A_LEAF,
+        &[Field::Bytes(48, &[0x80]), Field::Bytes(520, &[7])],
+    ],
+};
+
 pub const DELETED_PAIR: File = File {
     length: 1024,
     parts: &[&BTREE, &A_LEAF, &[Field::Bytes(1018, &[0x81])]],
@@ -281,7 +305,13 @@ pub const TWO_OWNERS: File = File {
     parts: &[&BTREE, &SAME_CHILD],
 };
 
-/// The same without its metadata.
+/// Page 1 names both leaves, and neither names the other.
+pub const UNLINKED_LEAVES: File = File {
+    length: 2048,
+    parts: &[&BTREE, &SAME_CHILD, &[Field::Bytes(1003, &[3])]],
+};
+
+/// `TWO_OWNERS` without its metadata.
 pub const NO_METADATA: File = File {
     length: 2048,
     parts: &[&SAME_CHILD, &[Field::Bytes(32, &[0])]],

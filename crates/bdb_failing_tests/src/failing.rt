@@ -1,25 +1,36 @@
 //! What is written where a sink fails.
 
-use crate::building::{FAULTY, UNLOADED};
-use crate::files::{DUPLICATES_UNTOLD, NO_METADATA, ONE_PAIR, OUT_OF_ORDER, VERSION_10};
-use crate::images::File;
-use crate::outside::Narrow;
 use crate::reading::COMMANDS;
-use crate::running::Told::Line;
-use crate::running::{
-    NOT_FOUND, READ_FAULT, Row, USAGE, WRITE_FAULT, is_start, source_over, status_of,
-};
-use crate::salvaging::NO_META;
 use bdb_io::{MemSink, Sink, Source};
+use bdb_running::answers::NO_META;
+use bdb_running::files::{
+    DUPLICATES_UNTOLD, NO_METADATA, ONE_PAIR, OUT_OF_ORDER, RING, VERSION_10,
+};
+use bdb_running::images::File;
+use bdb_running::outside::Narrow;
+use bdb_running::refused::{FAULTY, UNLOADED};
+use bdb_running::running::Told::Line;
+use bdb_running::running::{
+    NOT_FOUND, READ_FAULT, Row, USAGE, WRITE_FAULT, is_start, source_over, status_of, written,
+};
+use bdb_running::texts::SETS_TEXT;
 use std::alloc::{AllocError, Global};
 use std::process::Abort;
 use std::test::Fail;
 
-const REFUSED: [Row; 9] = [
+const REFUSED: [Row; 10] = [
     (
         &["verify"],
         &OUT_OF_ORDER,
         Line(1, b"fault: stage 8 page 1 code 3 KeyOrder\n"),
+    ),
+    (
+        &["verify"],
+        &RING,
+        Line(
+            1,
+            b"fault: stage 5 page 2 code 1 Unreached\nfault: stage 5 page 3 code 1 Unreached\n",
+        ),
     ),
     (&["verify", "x"], &ONE_PAIR, USAGE),
     (
@@ -47,20 +58,23 @@ const REFUSED: [Row; 9] = [
     (&["salvage"], &NO_METADATA, NO_META),
 ];
 
-#[derive(Drop)]
-struct Cut {
-    status: u8,
-    out: Narrow,
-    err: MemSink,
-}
-
-// The output takes so many bytes.
-fn output_cut(alloc: Global, given: &[&str], file: &File, taken: usize) -> Result<Cut, AllocError> {
+// The output takes so many bytes of what is written whole.
+fn check_output_cut(
+    rt: &impl Abort,
+    alloc: Global,
+    given: &[&str],
+    file: &File,
+    whole: &[u8],
+    taken: usize,
+) -> Result<(), AllocError> {
     let mut source = source_over(alloc, file)?;
     let mut out = Narrow::cut_after(alloc, taken)?;
     let mut err = MemSink::new(alloc);
     let status = status_of(alloc, given, &mut source, &mut out, &mut err)?;
-    Ok(Cut { status, out, err })
+    assert_eq!(rt; status, 5);
+    assert!(rt; is_start(whole, taken, out.sink.bytes()));
+    assert_eq!(rt; err.bytes(), WRITE_FAULT);
+    Ok(())
 }
 
 // The error sink takes so many bytes of a line.
@@ -85,10 +99,25 @@ fn tells_a_write_fault_at_each_call(rt: HostRuntime) -> Result<(), Fail> {
     for (given, file, told) in COMMANDS.iter() {
         let whole = told.out();
         for taken in 0..whole.len() {
-            let cut = output_cut(rt.alloc(), given, file, taken)?;
-            assert_eq!(rt; cut.status, 5);
-            assert!(rt; is_start(whole, taken, cut.out.sink.bytes()));
-            assert_eq!(rt; cut.err.bytes(), WRITE_FAULT);
+            check_output_cut(&rt, rt.alloc(), given, file, whole, taken)?;
+        }
+    }
+    Ok(())
+}
+
+// The commands that build an image, with a file that may be read.
+const BUILDING: [(&[&str], &File); 2] = [
+    (&["load"], &SETS_TEXT),
+    (&["trial", "hash", "7", "0"], &ONE_PAIR),
+];
+
+#[test]
+fn tells_a_write_fault_of_what_is_built(rt: HostRuntime) -> Result<(), Fail> {
+    let alloc = rt.alloc();
+    for (given, file) in BUILDING {
+        let whole = written(&rt, alloc, given, file)?;
+        for taken in 0..whole.as_slice().len() {
+            check_output_cut(&rt, alloc, given, file, whole.as_slice(), taken)?;
         }
     }
     Ok(())

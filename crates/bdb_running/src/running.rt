@@ -2,7 +2,7 @@
 
 use crate::images::{File, bytes_of};
 use bdb_io::{MemSink, MemSource, Sink, Source};
-use bdb_model::Words;
+use bdb_model::{Bytes, Words};
 use bdb_tool::run_counted;
 use std::alloc::{AllocError, Global};
 use std::marker::Brand;
@@ -131,6 +131,22 @@ pub fn check_file(
         check(rt, &ran, *told, place);
     }
     Ok(())
+}
+
+/// What a run that ends with status 0 writes of a file.
+pub fn written(
+    rt: &impl Abort,
+    alloc: Global,
+    given: &[&str],
+    file: &File,
+) -> Result<Bytes, AllocError> {
+    let mut source = source_over(alloc, file)?;
+    let ran = ran_over(alloc, given, &mut source)?;
+    assert_eq!(rt; ran.status, 0);
+    assert!(rt; ran.err.bytes().is_empty());
+    let mut image = Bytes::new(alloc);
+    image.push_all(ran.out.bytes())?;
+    Ok(image)
 }
 
 /// Whether a text is so many first bytes of another.
