@@ -11,7 +11,7 @@ use bdb_running::outside::Narrow;
 use bdb_running::refused::{FAULTY, UNLOADED};
 use bdb_running::running::Told::Line;
 use bdb_running::running::{
-    NOT_FOUND, READ_FAULT, Row, USAGE, WRITE_FAULT, is_start, source_over, status_of, written,
+    NOT_FOUND, READ_FAULT, Row, USAGE, WRITE_FAULT, is_start, ran_of, source_over, status_of,
 };
 use bdb_running::texts::SETS_TEXT;
 use std::alloc::{AllocError, Global};
@@ -115,9 +115,10 @@ const BUILDING: [(&[&str], &File); 2] = [
 fn tells_a_write_fault_of_what_is_built(rt: HostRuntime) -> Result<(), Fail> {
     let alloc = rt.alloc();
     for (given, file) in BUILDING {
-        let whole = written(&rt, alloc, given, file)?;
-        for taken in 0..whole.as_slice().len() {
-            check_output_cut(&rt, alloc, given, file, whole.as_slice(), taken)?;
+        let whole = ran_of(alloc, given, file)?;
+        assert_eq!(rt; whole.status, 0);
+        for taken in 0..whole.out.bytes().len() {
+            check_output_cut(&rt, alloc, given, file, whole.out.bytes(), taken)?;
         }
     }
     Ok(())

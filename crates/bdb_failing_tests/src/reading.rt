@@ -5,7 +5,7 @@ use bdb_running::files::{DUPLICATES, ONE_PAIR, PAIR_IN_A, RECNO, TWO_DATABASES, 
 use bdb_running::images::{File, bytes_of};
 use bdb_running::outside::Dripping;
 use bdb_running::running::Told::{Done, Line};
-use bdb_running::running::{READ_FAULT, Ran, Row, SOUND, check, ran_over, source_over};
+use bdb_running::running::{READ_FAULT, Ran, Row, SOUND, gave, ran_of, ran_over, source_over};
 use bdb_running::texts::{BAD_DIGIT, SETS_TEXT};
 use std::alloc::{AllocError, Global};
 use std::process::Abort;
@@ -39,7 +39,7 @@ fn check_bytes(
     given: &[&str],
     file: &File,
 ) -> Result<(), AllocError> {
-    let whole = ran_over(alloc, given, &mut source_over(alloc, file)?)?;
+    let whole = ran_of(alloc, given, file)?;
     let image = bytes_of(alloc, file)?;
     let mut source = Dripping::new(image.as_slice(), 1);
     let ran = ran_over(alloc, given, &mut source)?;
@@ -64,7 +64,7 @@ fn reads_a_byte_beyond_its_limit(rt: HostRuntime) -> Result<(), Fail> {
     let image = bytes_of(rt.alloc(), &ONE_PAIR)?;
     let mut source = Dripping::new(image.as_slice(), 1);
     let ran = ran_over(rt.alloc(), &["verify", "--max-bytes", "100"], &mut source)?;
-    check(&rt, &ran, Line(6, b"input longer than 100 bytes\n"), 0);
+    assert!(rt; gave(&ran, Line(6, b"input longer than 100 bytes\n")));
     assert_eq!(rt; source.reads, 101);
     Ok(())
 }
@@ -79,7 +79,7 @@ fn check_read_fault(
     let mut source = source_over(alloc, file)?;
     source.fail_at(call)?;
     let ran = ran_over(alloc, given, &mut source)?;
-    check(rt, &ran, Line(4, READ_FAULT), 0);
+    assert!(rt; gave(&ran, Line(4, READ_FAULT)));
     Ok(())
 }
 
@@ -107,10 +107,10 @@ fn tells_a_read_fault_in_the_middle(rt: HostRuntime) -> Result<(), Fail> {
         let calls = file.length as u64 / 256 + 1;
         for call in 1..calls + 1 {
             let ran = ran_until(rt.alloc(), given, file, call)?;
-            check(&rt, &ran, Line(4, READ_FAULT), 0);
+            assert!(rt; gave(&ran, Line(4, READ_FAULT)));
         }
         let ran = ran_until(rt.alloc(), given, file, calls + 1)?;
-        check(&rt, &ran, *told, 0);
+        assert!(rt; gave(&ran, *told));
     }
     Ok(())
 }
@@ -120,7 +120,7 @@ fn reads_a_text_to_its_end(rt: HostRuntime) -> Result<(), Fail> {
     let text = bytes_of(rt.alloc(), &BAD_DIGIT)?;
     let mut source = Dripping::new(text.as_slice(), 1);
     let ran = ran_over(rt.alloc(), &["load"], &mut source)?;
-    check(&rt, &ran, Line(8, b"line 5: reason 9 BadDigit\n"), 0);
+    assert!(rt; gave(&ran, Line(8, b"line 5: reason 9 BadDigit\n")));
     assert_eq!(rt; source.reads, BAD_DIGIT.length as u64 + 1);
     Ok(())
 }
@@ -134,7 +134,7 @@ fn tells_a_read_fault_of_a_text(rt: HostRuntime) -> Result<(), Fail> {
         let mut source = Dripping::new(text.as_slice(), 1);
         source.fails_at = call;
         let ran = ran_over(rt.alloc(), &["load"], &mut source)?;
-        check(&rt, &ran, Line(4, READ_FAULT), 0);
+        assert!(rt; gave(&ran, Line(4, READ_FAULT)));
     }
     let mut source = Dripping::new(text.as_slice(), 1);
     source.fails_at = calls + 1;

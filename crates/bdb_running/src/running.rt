@@ -2,11 +2,10 @@
 
 use crate::images::{File, bytes_of};
 use bdb_io::{MemSink, MemSource, Sink, Source};
-use bdb_model::{Bytes, Words};
+use bdb_model::Words;
 use bdb_tool::run_counted;
 use std::alloc::{AllocError, Global};
 use std::marker::Brand;
-use std::process::Abort;
 use std::sync::ledger::Blank;
 
 /// What is told by a run: output and status 0, or a status and an error line.
@@ -102,51 +101,15 @@ pub fn ran_over<S: Source>(
     Ok(Ran { status, out, err })
 }
 
-pub fn check(rt: &impl Abort, ran: &Ran, told: Told, place: usize) {
-    assert_eq!(rt; ran.status, told.status(), "at {place}");
-    assert_eq!(rt; ran.out.bytes(), told.out(), "at {place}");
-    assert_eq!(rt; ran.err.bytes(), told.err(), "at {place}");
-}
-
-/// Runs each row, and compares.
-pub fn check_rows(rt: &impl Abort, alloc: Global, rows: &[Row]) -> Result<(), AllocError> {
-    for (place, (given, file, told)) in rows.iter().enumerate() {
-        let mut source = source_over(alloc, file)?;
-        let ran = ran_over(alloc, given, &mut source)?;
-        check(rt, &ran, *told, place);
-    }
-    Ok(())
-}
-
-/// Runs each of these words over a file, and compares.
-pub fn check_file(
-    rt: &impl Abort,
-    alloc: Global,
-    file: &File,
-    questions: &[Question],
-) -> Result<(), AllocError> {
-    for (place, (given, told)) in questions.iter().enumerate() {
-        let mut source = source_over(alloc, file)?;
-        let ran = ran_over(alloc, given, &mut source)?;
-        check(rt, &ran, *told, place);
-    }
-    Ok(())
-}
-
-/// What a run that ends with status 0 writes of a file.
-pub fn written(
-    rt: &impl Abort,
-    alloc: Global,
-    given: &[&str],
-    file: &File,
-) -> Result<Bytes, AllocError> {
+/// What a run over a file gave.
+pub fn ran_of(alloc: Global, given: &[&str], file: &File) -> Result<Ran, AllocError> {
     let mut source = source_over(alloc, file)?;
-    let ran = ran_over(alloc, given, &mut source)?;
-    assert_eq!(rt; ran.status, 0);
-    assert!(rt; ran.err.bytes().is_empty());
-    let mut image = Bytes::new(alloc);
-    image.push_all(ran.out.bytes())?;
-    Ok(image)
+    ran_over(alloc, given, &mut source)
+}
+
+/// Whether a run gave just what is told.
+pub fn gave(ran: &Ran, told: Told) -> bool {
+    ran.status == told.status() && ran.out.bytes() == told.out() && ran.err.bytes() == told.err()
 }
 
 /// Whether a text is so many first bytes of another.

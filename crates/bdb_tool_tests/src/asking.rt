@@ -1,8 +1,9 @@
 //! What `list` and `get` give, and what they tell of a file that isn't sound.
 
+use crate::checking::check_rows;
 use bdb_running::files::*;
 use bdb_running::running::Told::{Done, Line};
-use bdb_running::running::{NOT_FOUND, Row, check_rows};
+use bdb_running::running::{NOT_FOUND, Row};
 use std::test::Fail;
 
 const LISTS: [Row; 11] = [

@@ -1,5 +1,6 @@
 //! `load` and `trial`: what is told of texts that aren't loaded, and what stops them. The rules: README.md, "Use".
 
+use crate::checking::{check, check_rows};
 use crate::salvaging::TWO_RECORDS;
 use bdb_layout::hash5;
 use bdb_running::files::ONE_PAIR;
@@ -7,7 +8,7 @@ use bdb_running::images::{File, bytes_of};
 use bdb_running::outside::Dripping;
 use bdb_running::refused::{FAULTY, UNLOADED};
 use bdb_running::running::Told::Done;
-use bdb_running::running::{NOT_FOUND, Question, check, check_rows, ran_over, written};
+use bdb_running::running::{NOT_FOUND, Question, Ran, ran_of, ran_over};
 use bdb_running::texts::{GENERATED_TEXT, NAMES_TEXT, RECORDS_TEXT, SETS_TEXT, TABLE_TEXT};
 use std::alloc::{AllocError, Global};
 use std::process::Abort;
@@ -106,6 +107,14 @@ fn tells_why_sections_are_not_loaded(rt: HostRuntime) -> Result<(), Fail> {
     Ok(())
 }
 
+// What is written of a file.
+fn written(rt: &impl Abort, alloc: Global, given: &[&str], file: &File) -> Result<Ran, AllocError> {
+    let ran = ran_of(alloc, given, file)?;
+    assert_eq!(rt; ran.status, 0);
+    assert!(rt; ran.err.bytes().is_empty());
+    Ok(ran)
+}
+
 // Asks an image.
 fn check_image(
     rt: &impl Abort,
@@ -125,8 +134,8 @@ fn check_image(
 fn loads_texts(rt: HostRuntime) -> Result<(), Fail> {
     for (given, text, length, questions) in LOADS {
         let image = written(&rt, rt.alloc(), given, text)?;
-        assert_eq!(rt; image.as_slice().len(), length);
-        check_image(&rt, rt.alloc(), image.as_slice(), questions)?;
+        assert_eq!(rt; image.out.bytes().len(), length);
+        check_image(&rt, rt.alloc(), image.out.bytes(), questions)?;
     }
     Ok(())
 }
@@ -152,9 +161,9 @@ fn tries_pairs_without_a_read(rt: HostRuntime) -> Result<(), Fail> {
 fn tells_the_hash_of_the_image(rt: HostRuntime) -> Result<(), Fail> {
     let alloc = rt.alloc();
     let image = written(&rt, alloc, &["load"], &GENERATED_TEXT)?;
-    let hash = hash5(image.as_slice());
+    let hash = hash5(image.out.bytes());
     let lines = format!(in alloc; "btree: 2 pairs, 2 pages, sound\nhash5 {hash}\n")?;
     let told = written(&rt, alloc, &["trial", "btree", "1", "2"], &ONE_PAIR)?;
-    assert_eq!(rt; told.as_slice(), lines.as_bytes());
+    assert_eq!(rt; told.out.bytes(), lines.as_bytes());
     Ok(())
 }

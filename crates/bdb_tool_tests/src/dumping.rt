@@ -1,10 +1,11 @@
 //! What `dump` writes, and what it tells of a file that isn't sound. The rules: docs/FORMAT.md, "Dump text".
 
+use crate::checking::{check_file, check_rows};
 use crate::made;
 use bdb_running::answers::{BOTH, THE_HASH};
 use bdb_running::files::*;
 use bdb_running::running::Told::{Done, Line};
-use bdb_running::running::{NOT_FOUND, Row, check_file, check_rows};
+use bdb_running::running::{NOT_FOUND, Row};
 use std::test::Fail;
 
 const A_BTREE: &[u8] =

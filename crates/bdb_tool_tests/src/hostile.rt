@@ -1,10 +1,11 @@
 //! Files whose pages point where they shouldn't: at themselves, in rings, at pages of another kind, past their end. The rules: docs/FORMAT.md, "Faults".
 
+use crate::checking::check_rows;
 use bdb_fields::Field;
 use bdb_running::files::{A_LEAF, BTREE, BUCKETS};
 use bdb_running::images::File;
 use bdb_running::running::Told::{Done, Line};
-use bdb_running::running::{Row, check_rows, ran_over, source_over};
+use bdb_running::running::{Row, ran_over, source_over};
 use std::test::Fail;
 
 // Of two pages, and of three.

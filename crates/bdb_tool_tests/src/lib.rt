@@ -6,6 +6,8 @@ mod asking;
 #[cfg(test)]
 mod building;
 #[cfg(test)]
+mod checking;
+#[cfg(test)]
 mod dumping;
 #[cfg(test)]
 mod hostile;

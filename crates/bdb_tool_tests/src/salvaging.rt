@@ -1,5 +1,6 @@
 //! `salvage`: the stored pairs and the loose records of sound and damaged files. The rules: README.md, "Use", and docs/FORMAT.md, "Salvage".
 
+use crate::checking::check_rows;
 use bdb_fields::Field;
 use bdb_running::answers::{A_RECORD, NO_META, TWO_PAIRS};
 use bdb_running::files::{
@@ -7,7 +8,7 @@ use bdb_running::files::{
     ONE_PAIR_BIG, OUT_OF_ORDER, RECNO, TABLE, TWO_OWNERS, VERSION_10,
 };
 use bdb_running::running::Told::{Done, Line};
-use bdb_running::running::{Row, Told, check_rows};
+use bdb_running::running::{Row, Told};
 use std::test::Fail;
 
 pub const TWO_PAIRS_PRINTED: &[u8] =

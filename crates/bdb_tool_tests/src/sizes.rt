@@ -1,9 +1,10 @@
 //! Files that `load` builds of longer texts: how many pages they have, and what they answer.
 
+use crate::checking::check;
 use bdb_model::Bytes;
 use bdb_running::outside::Dripping;
 use bdb_running::running::Told::Done;
-use bdb_running::running::{Question, check, ran_over};
+use bdb_running::running::{Question, ran_over};
 use std::alloc::{AllocError, Global};
 use std::process::Abort;
 use std::test::Fail;

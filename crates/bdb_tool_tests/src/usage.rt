@@ -1,11 +1,12 @@
 //! Words that are no command, and words that are one. The rules: README.md, "Use".
 
+use crate::checking::{check, check_rows};
 use crate::salvaging::TWO_PAIRS_PRINTED;
 use bdb_running::files::{KEY_OF_DASHES, ONE_PAIR, TWO_OWNERS};
 use bdb_running::images::bytes_of;
 use bdb_running::outside::Dripping;
 use bdb_running::running::Told::Done;
-use bdb_running::running::{NOT_FOUND, Row, SOUND, USAGE, check, check_rows, ran_over};
+use bdb_running::running::{NOT_FOUND, Row, SOUND, USAGE, ran_over};
 use std::test::Fail;
 
 const NO_COMMAND: [&[&str]; 93] = [

@@ -1,9 +1,10 @@
 //! What `verify` tells. The answers follow from docs/FORMAT.md, "Faults".
 
+use crate::checking::{check_file, check_rows};
 use bdb_running::files::*;
 use bdb_running::images::File;
 use bdb_running::running::Told::{Done, Line};
-use bdb_running::running::{Question, Row, SOUND, check_file, check_rows};
+use bdb_running::running::{Question, Row, SOUND};
 use std::test::Fail;
 
 const ROWS: [Row; 20] = [
