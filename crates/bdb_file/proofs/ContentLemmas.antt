@@ -13,7 +13,7 @@ use Rattle.bdb_format.specs.Verdict.{holding, contents_faults}
 use Rattle.bdb_format.specs.ContentRows.{fields_of, contents_rows, holds_code, holds_somewhere, btree_contents, database_faults, database_rows}
 use Rattle.bdb_format.specs.ContentRows.{recno_contents}
 use Rattle.bdb_format.proofs.MemberLemmas.{filter_step, first_member, later_member, no_member, of_flat_map, in_flat_map}
-use Rattle.bdb_format.proofs.VerdictLemmas.{FirstComesFirst, IsOfStage, Rises, by_page_first, holding_least, of_by_page}
+use Rattle.bdb_format.proofs.VerdictLemmas.{IsOfStage, of_by_page}
 use Rattle.bdb_file.proofs.MergeLemmas.{at_page}
 use Rattle.bdb_format.specs.Flags.{is_recno}
 

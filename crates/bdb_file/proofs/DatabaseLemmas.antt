@@ -1,8 +1,7 @@
 -- The faults of what the databases of a file hold, by its metadata pages.
-use Rattle.std.proofs.Common.{◌≡◌, ℕ, ◌+◌, ◌≤◌, List, [], length, append-nil, Option, Some, None, arith, refl, sym, ◌∙◌, ap, subst}
+use Rattle.std.proofs.Common.{◌≡◌, ℕ, ◌+◌, ◌≤◌, List, [], length, append-nil, Some, arith, refl, sym, ◌∙◌, ap, subst}
 use Rattle.std.specs.Prelude.{take}
 use Rattle.std.specs.List.{Contains, flat_map, range_with_len, slice_get}
-use Rattle.std.proofs.lemmas.List.{take_all}
 use Rattle.bdb_format.specs.declared.kinds.Fault.{Fault}
 use Rattle.bdb_format.specs.declared.metadata.QueueMeta.{QueueMeta}
 use Rattle.bdb_format.specs.ContentRows.{database_faults, database_rows, fields_in, fields_of}
@@ -11,7 +10,7 @@ use Rattle.bdb_format.specs.Graph.{is_meta}
 use Rattle.bdb_format.specs.HeadOf.{head_of}
 use Rattle.bdb_format.specs.Page.{Metadata, QueueFields, Page, Meta}
 use Rattle.bdb_format.specs.Reading.{abstract_page}
-use Rattle.bdb_format.specs.Verdict.{holding, contents_faults, first_fault}
+use Rattle.bdb_format.specs.Verdict.{holding, contents_faults}
 use Rattle.bdb_format.proofs.ListLemmas.{only_member}
 use Rattle.bdb_format.proofs.MemberLemmas.{in_flat_map, in_map, is_empty, no_member, of_filter, of_flat_map, of_map, of_range, in_filter}
 use Rattle.bdb_format.proofs.VerdictLemmas.{IsOfStage, of_by_page}

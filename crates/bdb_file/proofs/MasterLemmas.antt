@@ -4,11 +4,10 @@ use Rattle.std.proofs.lemmas.Bool.Decides.{nat_tests}
 use Rattle.std.proofs.Common.{◌≡◌, ◌⊎◌, ℕ, ◌+◌, ◌≤◌, Bool, true, List, [], ◌∷◌, ◌++◌, length, map, Option, Some, None, arith, refl, sym, ◌∙◌, ap}
 use Rattle.std.proofs.Common.{subst, inl, inr}
 use Rattle.std.specs.Prelude.{◌==◌, ◌&&◌, ◌||◌, nat_lt}
-use Rattle.std.specs.List.{Contains, filter, flat_map, list_any, range_with_len}
+use Rattle.std.specs.List.{Contains, filter, list_any, range_with_len}
 use Rattle.std.specs.Str.{bytes_eq}
 use Rattle.std.proofs.lemmas.Bool.{and_from, and_parts, eq-eqb, eqb-true}
 use Rattle.std.proofs.lemmas.List.Elements.{Contains-append_cases, Contains-append_left, Contains-append_right}
-use Rattle.bdb_format.specs.ByPage.{ComesFirst}
 use Rattle.bdb_format.specs.declared.kinds.Fault.{Fault}
 use Rattle.bdb_format.specs.declared.metadata.BtreeMeta.{BtreeMeta}
 use Rattle.bdb_format.specs.ContentRows.{holds_code, repeated}
@@ -18,10 +17,10 @@ use Rattle.bdb_format.specs.Graph.{is_meta}
 use Rattle.bdb_format.specs.HeadOf.{head_of}
 use Rattle.bdb_format.specs.Page.{BtreeFields, Page, Meta}
 use Rattle.bdb_format.specs.Table.{Row, ◌:?◌}
-use Rattle.bdb_format.specs.Verdict.{holding, master_faults, first_fault}
+use Rattle.bdb_format.specs.Verdict.{holding, master_faults}
 use Rattle.bdb_format.proofs.MemberLemmas.{first_member, in_flat_map, in_map, in_range, no_member, of_filter, of_flat_map, of_map, of_range}
 use Rattle.bdb_format.proofs.MemberLemmas.{in_filter}
-use Rattle.bdb_format.proofs.VerdictLemmas.{FirstComesFirst, IsOfStage, by_page_first, holding_least, in_by_page, of_by_page}
+use Rattle.bdb_format.proofs.VerdictLemmas.{IsOfStage, in_by_page, of_by_page}
 use Rattle.bdb_graph.specs.Linked.{IsForest, meta_pages}
 use Rattle.bdb_graph.proofs.LinkedLemmas.{root_fits}
 use Rattle.bdb_btree.proofs.PairLemmas.{tree_pair}

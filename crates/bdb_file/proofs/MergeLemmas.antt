@@ -1,17 +1,14 @@
 -- The faults of a stage from those of its parts.
-use Rattle.std.proofs.Common.{◌≡◌, ◌⊎◌, ℕ, ◌+◌, List, [], ◌∷◌, ◌++◌, Option, Some, None, arith, refl, sym, ◌∙◌, subst, inl, inr}
+use Rattle.std.proofs.Common.{◌≡◌, ◌⊎◌, ℕ, ◌+◌, List, [], ◌∷◌, ◌++◌, arith, refl, sym, subst, inl, inr}
 use Rattle.std.specs.List.{Contains}
-use Rattle.std.proofs.lemmas.Bool.{cases_Bool}
 use Rattle.std.proofs.lemmas.List.Elements.{Contains-append_cases, Contains-append_left, Contains-append_right}
-use Rattle.bdb_format.specs.ByPage.{ComesFirst}
 use Rattle.bdb_format.specs.declared.kinds.Fault.{Fault}
-use Rattle.bdb_format.specs.Verdict.{by_page, holding, structure_faults, chain_faults, tree_faults, structure_rows, first_fault}
+use Rattle.bdb_format.specs.Verdict.{by_page, holding, structure_faults, chain_faults, tree_faults, structure_rows}
 use Rattle.bdb_format.specs.Chains.{chain_rows}
 use Rattle.bdb_format.specs.Leaves.{tree_rows}
 use Rattle.bdb_format.specs.File.{File}
 use Rattle.bdb_format.specs.Table.{Row}
-use Rattle.bdb_format.proofs.MemberLemmas.{first_member, no_member}
-use Rattle.bdb_format.proofs.VerdictLemmas.{FirstComesFirst, IsOfStage, by_page_first, holding_least, in_by_page, of_by_page}
+use Rattle.bdb_format.proofs.VerdictLemmas.{IsOfStage, in_by_page, of_by_page}
 use Rattle.bdb_faults.specs.Notes.{AreSame, NotesAll}
 use Rattle.bdb_faults.proofs.SinkLemmas.{notes_both, notes_same}
 

@@ -1,6 +1,6 @@
 -- The keys that came before a pair of a master, and the faults of the pairs that repeat one.
 use Rattle.std.proofs.Common.{◌≡◌, ℕ, suc, ◌+◌, ◌<◌, ◌≤◌, Bool, true, false, not, cond, List, [], ◌∷◌, ◌++◌, length, take, drop, get_or, reverse, arith, refl, sym, ◌∙◌, ap, subst, drop-cons, append_assoc, append-nil}
-use Rattle.std.specs.Prelude.{Option, Some, None}
+use Rattle.std.specs.Prelude.{Some, None}
 use Rattle.std.specs.BTreeSet.{BTreeSet, IsEmpty, Updates}
 use Rattle.std.specs.Cmp.Lexicographic.{slice_cmp}
 use Rattle.std.specs.List.{flat_map}
@@ -13,7 +13,7 @@ use Rattle.bdb_format.proofs.BoolLemmas.{cond_or}
 use Rattle.bdb_overflow.specs.Keys.{has_item, has_key, repeated_by}
 use Rattle.bdb_faults.specs.Notes.{Notes, NotesAll}
 use Rattle.bdb_faults.proofs.SinkLemmas.{notes_nothing, notes_one, notes_then}
-use Rattle.bdb_file.specs.Entries.{NamedPair, by_repeat, fault_at, given, key_of, repeat_fault, repeat_of}
+use Rattle.bdb_file.specs.Entries.{NamedPair, by_repeat, given, key_of, repeat_fault, repeat_of}
 
 abbrev faults_of : List NamedPair → List Fault
 faults_of entries = flat_map (λ entry. given (repeat_fault entry)) entries

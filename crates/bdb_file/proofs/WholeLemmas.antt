@@ -1,11 +1,9 @@
 -- The faults of stages 6 to 8, by those of each.
 use Rattle.std.proofs.Common.{◌≡◌, ℕ, Bool, true, false, List, [], ◌∷◌, ◌++◌, length, Option, None, arith, refl, sym, ◌∙◌, subst}
 use Rattle.std.specs.Prelude.{◌==◌}
-use Rattle.bdb_format.specs.declared.kinds.CheckError.{CheckError}
-use Rattle.bdb_format.specs.declared.kinds.CheckError.TheVariants.{Fault as FaultError, Memory as MemoryError}
 use Rattle.bdb_format.specs.declared.kinds.Fault.{Fault}
 use Rattle.bdb_format.specs.File.{file_of}
-use Rattle.bdb_format.specs.Verdict.{IsFirstOf, contents_faults, faults_in, first_fault, master_faults, or_else, stage_faults, structure_faults}
+use Rattle.bdb_format.specs.Verdict.{contents_faults, faults_in, first_fault, master_faults, or_else, stage_faults, structure_faults}
 use Rattle.bdb_format.proofs.VerdictLemmas.{InOrder, none_within, skip_stage, stage_in_order}
 use Rattle.bdb_format.proofs.MemberLemmas.{no_member}
 use Rattle.bdb_faults.specs.Notes.{IsFirst, NotesAll}

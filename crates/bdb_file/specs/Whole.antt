@@ -1,8 +1,7 @@
 -- A refusal of a whole file. Source: docs/FORMAT.md, "Faults".
-use Rattle.std.specs.Prelude.{◌≡◌, ℕ, List, Option, Some}
+use Rattle.std.specs.Prelude.{◌≡◌, ℕ, List, Some}
 use Rattle.bdb_format.specs.declared.kinds.CheckError.{CheckError}
 use Rattle.bdb_format.specs.declared.kinds.CheckError.TheVariants.{Fault as FaultError, Memory as MemoryError}
-use Rattle.bdb_format.specs.declared.kinds.Fault.{Fault}
 use Rattle.bdb_format.specs.declared.kinds.Verdict.{Verdict}
 use Rattle.bdb_format.specs.declared.kinds.Verdict.TheVariants.{Fault as FaultVerdict, Unsupported, Memory}
 use Rattle.bdb_format.specs.Verdict.{Faulty, LeftOut, verdict_of}

@@ -1,4 +1,4 @@
-use Rattle.std.proofs.Common.{◌≡◌, [], ◌∷◌, sym, ◌∙◌, subst}
+use Rattle.std.proofs.Common.{[], ◌∷◌, sym, ◌∙◌, subst}
 use Rattle.bdb_faults.specs.Notes.{IsFirst, NotesAll}
 use Rattle.bdb_format.specs.Verdict.{faults_in}
 use Rattle.bdb_file.proofs.WholeLemmas.{no_first, whole_first}

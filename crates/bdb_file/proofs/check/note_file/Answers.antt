@@ -1,4 +1,3 @@
-use Rattle.std.proofs.Common.{arith}
 use Rattle.bdb_file.proofs.WholeLemmas.{contents_whole, master_whole, no_structure_noted, not_all_none, structure_whole}
 use Rattle.bdb_file.proofs.check.note_file.Goals as goal
 use Rattle.bdb_file.proofs.check.note_file.Goals.{then-is_empty+in_ok-note_contents, else-is_empty}
