@@ -6,7 +6,7 @@ mod listing;
 mod printing;
 mod salvaging;
 
+pub use bdb_lines::Cut;
 pub use dumping::{write_section, write_sections};
 pub use listing::{write_found, write_list};
-pub use bdb_lines::Cut;
 pub use salvaging::write_salvaged;
