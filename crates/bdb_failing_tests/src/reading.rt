@@ -47,7 +47,7 @@ fn check_bytes(
     assert_eq!(rt; ran.status, 0);
     assert_eq!(rt; ran.out.bytes(), whole.out.bytes());
     assert_eq!(rt; ran.err.bytes(), whole.err.bytes());
-    assert_eq!(rt; source.reads, file.length as u64 + 1);
+    assert_eq!(rt; source.reads, (file.length as u64).saturating_add(1));
     Ok(())
 }
 
