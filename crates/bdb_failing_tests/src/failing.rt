@@ -58,23 +58,27 @@ const REFUSED: [Row; 10] = [
     (&["salvage"], &NO_METADATA, NO_META),
 ];
 
-// The output takes so many bytes of what is written whole.
-fn check_output_cut(
-    rt: &impl Abort,
-    alloc: Global,
-    given: &[&str],
-    file: &File,
-    whole: &[u8],
-    taken: usize,
-) -> Result<(), AllocError> {
+#[derive(Drop)]
+struct Cut {
+    status: u8,
+    out: Narrow,
+    err: MemSink,
+}
+
+// The output takes so many bytes.
+fn output_cut(alloc: Global, given: &[&str], file: &File, taken: usize) -> Result<Cut, AllocError> {
     let mut source = source_over(alloc, file)?;
     let mut out = Narrow::cut_after(alloc, taken)?;
     let mut err = MemSink::new(alloc);
     let status = status_of(alloc, given, &mut source, &mut out, &mut err)?;
-    assert_eq!(rt; status, 5);
-    assert!(rt; is_start(whole, taken, out.sink.bytes()));
-    assert_eq!(rt; err.bytes(), WRITE_FAULT);
-    Ok(())
+    Ok(Cut { status, out, err })
+}
+
+// The output has so many bytes of what is written whole, and the fault is told.
+fn is_told(cut: &Cut, whole: &[u8], taken: usize) -> bool {
+    cut.status == 5
+        && is_start(whole, taken, cut.out.sink.bytes())
+        && cut.err.bytes() == WRITE_FAULT
 }
 
 // The error sink takes so many bytes of a line.
@@ -99,7 +103,8 @@ fn tells_a_write_fault_at_each_call(rt: HostRuntime) -> Result<(), Fail> {
     for (given, file, told) in COMMANDS.iter() {
         let whole = told.out();
         for taken in 0..whole.len() {
-            check_output_cut(&rt, rt.alloc(), given, file, whole, taken)?;
+            let cut = output_cut(rt.alloc(), given, file, taken)?;
+            assert!(rt; is_told(&cut, whole, taken));
         }
     }
     Ok(())
@@ -118,7 +123,8 @@ fn tells_a_write_fault_of_what_is_built(rt: HostRuntime) -> Result<(), Fail> {
         let whole = ran_of(alloc, given, file)?;
         assert_eq!(rt; whole.status, 0);
         for taken in 0..whole.out.bytes().len() {
-            check_output_cut(&rt, alloc, given, file, whole.out.bytes(), taken)?;
+            let cut = output_cut(alloc, given, file, taken)?;
+            assert!(rt; is_told(&cut, whole.out.bytes(), taken));
         }
     }
     Ok(())
