@@ -1,23 +1,16 @@
 -- Answers over a sound file.
-use Rattle.std.proofs.Common.{◌≡◌, ℕ, ◌<◌, Bool, true, false, List, [], ◌∷◌, ◌++◌, length, inl, inr, refl, sym, subst, ◌∙◌, ap, arith, ◌≤◌}
-use Rattle.std.specs.Prelude.{Option, Some, None, Ok, Err, Result, if◌then◌else◌, nat_lt, codes, string_bytes}
+use Rattle.std.proofs.Common.{◌≡◌, ℕ, ◌<◌, Bool, true, false, List, [], ◌∷◌, ◌++◌, length, inl, inr, sym, subst, ◌∙◌, ap, arith, ◌≤◌}
+use Rattle.std.specs.Prelude.{Option, Some, None, Ok, Err, Result, nat_lt, codes, string_bytes}
 use Rattle.std.specs.Io.KnownBytes.{Appends}
 use Rattle.std.proofs.lemmas.Option.{slice_get-get_or}
-use Rattle.bdb_format.specs.declared.kinds.Kind.TheVariants.{Btree, Recno}
-use Rattle.bdb_format.specs.declared.kinds.Order.{Order}
 use Rattle.bdb_format.specs.declared.kinds.Verdict.{Verdict}
 use Rattle.bdb_format.specs.declared.kinds.Verdict.TheVariants.{Fault, Unsupported, Memory as MemoryVerdict}
-use Rattle.bdb_format.specs.declared.metadata.BtreeMeta.{BtreeMeta}
-use Rattle.bdb_format.specs.declared.settings.Settings.{Settings}
 use Rattle.bdb_model.specs.Lines.{line}
-use Rattle.bdb_model.specs.Written.{database_text, dump_text, kind_text}
-use Rattle.bdb_model.specs.Numbers.{has_bit}
-use Rattle.bdb_model.specs.Page.{Metadata, BtreeFields, HashFields, QueueFields}
-use Rattle.bdb_model.specs.Answers.{Answer, done, data_at, data_named, data_of_database, fault_line, found, judged_answer, database_line, name_text, not_found, sound_answer, told, unsupported_line, value_line, values_text, database_in, dumped, section_answer}
-use Rattle.bdb_model.specs.Flags.{kind_of}
+use Rattle.bdb_model.specs.Written.{database_text, dump_text}
+use Rattle.bdb_model.specs.Answers.{Answer, done, data_at, data_named, data_of_database, fault_line, found, judged_answer, not_found, sound_answer, told, unsupported_line, value_line, values_text, database_in, dumped, section_answer}
 use Rattle.bdb_model.specs.Change.{Change}
 use Rattle.bdb_model.specs.Command.{Request, Verify, ListAll, Get, Dump}
-use Rattle.bdb_model.specs.Databases.{Database, btree_settings, data_under, databases, place_of, recno_settings, settings_of}
+use Rattle.bdb_model.specs.Databases.{Database, data_under, databases, place_of}
 use Rattle.bdb_model.specs.File.{File, file_of}
 use Rattle.bdb_model.specs.Verdict.{Faulty, Judgement, LeftOut, verdict_of}
 use Rattle.bdb_file.specs.Named.{database_at, no_database}

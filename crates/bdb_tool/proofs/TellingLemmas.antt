@@ -2,6 +2,7 @@
 use Rattle.std.proofs.Common.{◌≡◌, ◌∙◌, ℕ, ◌<◌, List, [], ◌∷◌, length, map, inl, inr, refl, sym, subst, arith, ◌⊎◌}
 use Rattle.std.specs.Prelude.{Option, Ok, Err, Result}
 use Rattle.bdb_faults.specs.All.{IsAllOf}
+use Rattle.bdb_faults.specs.declared.named.AllError.{AllError}
 use Rattle.bdb_faults.specs.declared.named.AllError.TheVariants.{Faults}
 use Rattle.bdb_format.specs.declared.kinds.Fault.{Fault}
 use Rattle.bdb_lines.specs.Printing.{Writes}
@@ -82,8 +83,11 @@ sound_verified faults file image out err status none same finishes =
     subst (λ (found : List Fault). Finishes (verified found image) out err status) (sym none)
     (subst (λ (bytes : List ℕ). Finishes (verified [] bytes) out err status) same finishes)
 
+all_of : (faults : List Fault) (error : AllError) (all : List Judgement) → error ≡ Faults all → IsAllOf faults error → (0 < length faults) × (all ≡ map judgement_of faults)
+all_of faults error all is are = subst (IsAllOf faults) is are
+
 -- all faults were told
-pub faults_finish : (faults : List Fault) (image : List ℕ) (all : List Judgement) (written : Option (List ℕ)) (count : ℕ) (err : Change) (status : ℕ)
+faults_finish : (faults : List Fault) (image : List ℕ) (all : List Judgement) (written : Option (List ℕ)) (count : ℕ) (err : Change) (status : ℕ)
     → (0 < length faults) × (all ≡ map judgement_of faults)
     → (Tells (judgements_text all) (first_status all) err status ⊎ Tells memory_line 7 err status)
     → Finishes (verified faults image) (moved written written count count) err status
@@ -94,6 +98,13 @@ faults_finish (fault ∷ faults) image all written count err status are (inl tel
     (subst (λ (js : List Judgement). Tells (judgements_text js) (first_status js) err status) are.1 tells)
 faults_finish (fault ∷ faults) image all written count err status are (inr tells) =
     memory_finishes (verified (fault ∷ faults) image) written count err status (verified_own (fault ∷ faults) image) tells
+
+-- the same, of a refusal
+pub all_finish : (faults : List Fault) (image : List ℕ) (error : AllError) (all : List Judgement) (written : Option (List ℕ)) (count : ℕ) (err : Change) (status : ℕ)
+    → error ≡ Faults all → IsAllOf faults error
+    → (Tells (judgements_text all) (first_status all) err status ⊎ Tells memory_line 7 err status)
+    → Finishes (verified faults image) (moved written written count count) err status
+all_finish faults image error all written count err status is are told = faults_finish faults image all written count err status (all_of faults error all is are) told
 
 -- What else is asked.
 
