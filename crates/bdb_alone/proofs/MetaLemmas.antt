@@ -7,7 +7,7 @@ use Rattle.std.specs.Int.{is_power_of_two}
 use Rattle.std.specs.Prelude.{count_ones, ◌*◌, ◌/◌, ◌==◌, not, nat_le, nat_lt}
 use Rattle.std.specs.List.{find, flat_map, range_with_len, sum_by}
 use Rattle.std.specs.Option.{unwrap_or}
-use Rattle.std.proofs.lemmas.Bool.{and_right, eq-eqb, le-leb, le-ltb, lt-ltb, ne_eqb}
+use Rattle.std.proofs.lemmas.Bool.{and_right, eq-eqb, le-leb, le-ltb, lt-ltb, ne_eqb, or_right}
 use Rattle.std.proofs.lemmas.Nat.{ones_le_self, pow_pos}
 use Rattle.std.proofs.lemmas.List.{get_or_append_left, get_or-replicate, length-replicate}
 use Rattle.std.proofs.lemmas.List.FromFn.{length-map-range_with_len}
@@ -98,10 +98,6 @@ one_bit (suc k) =
     let low : 2 ^ suc k % 2 ≡ 0 = omega (arith, double) in
     let rest : count_ones (2 ^ suc k / 2) ≡ 1 = ap count_ones half ∙ one_bit k in
     let step = ones_step (2 ^ suc k) in omega (arith, step, low, rest)
-
-or_right : (a b : Bool) → b ≡ true → (a || b) ≡ true
-or_right true b is = refl
-or_right false b is = is
 
 pub masks_right : (settings : Settings) (first bits : ℕ) → 1 ≤ bits → are_masks (table_meta settings first bits) ≡ true
 masks_right settings first zero some = absurd (omega arith)

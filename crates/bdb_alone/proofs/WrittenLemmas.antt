@@ -24,7 +24,7 @@ use Rattle.bdb_grove.specs.Part.{IsPart, Part, between}
 use Rattle.bdb_grove.proofs.ChainLemmas.{between_is, is_between}
 use Rattle.bdb_pack.specs.Built.{Built, bytes_of, file_so_far, with_page}
 use Rattle.bdb_pack.specs.Stored.{IsLaterImage, TellsPages}
-use Rattle.bdb_pack.proofs.ImageLemmas.{images_are_later}
+use Rattle.bdb_pack.proofs.ImageLemmas.{images_are_later, page_so_far}
 use Rattle.bdb_join.specs.Alone.{StandsAlone}
 use Rattle.bdb_join.specs.Joining.{HasForm}
 use Rattle.bdb_join.proofs.AloneLemmas.{joins_alone, no_other_meta}
@@ -108,12 +108,9 @@ written_tables_are_sound settings old built units list meta elements page image 
     stays : (p : ℕ) → 1 ≤ p → bytes_of after p ≡ bytes_of built p
     stays p above = get_or-set_other built.pages 0 p page [] (λ same. omega (arith, above, same))
 
-    so_far : (b : Built) (p : ℕ) → p < length b.pages → page_at (file_so_far b) p ≡ abstract_page b.order (bytes_of b p)
-    so_far b p there = get_or-map (abstract_page b.order) b.pages p [] NoType there
-
     same_page : (p : ℕ) → 1 ≤ p → p < length built.pages → page_at (file_so_far after) p ≡ page_at (file_so_far built) p
     same_page p above there =
-        so_far after p (omega (arith, there, count)) ∙ (ap (abstract_page built.order) (stays p above) ∙ sym (so_far built p there))
+        page_so_far after p (omega (arith, there, count)) ∙ (ap (abstract_page built.order) (stays p above) ∙ sym (page_so_far built p there))
 
     later : IsLater (between (length old.pages) (length built.pages)) (file_so_far built) (file_of image)
     later =

@@ -3,10 +3,10 @@ use Rattle.std.proofs.Common.{◌≡◌, ◌⊎◌, ℕ, ◌+◌, ◌<◌, ◌�
 use Rattle.std.proofs.Common.{None, sym, ◌∙◌, ap, subst, inl, inr}
 use Rattle.std.specs.Prelude.{◌&&◌, ◌||◌, ◌==◌}
 use Rattle.std.specs.List.{Contains, list_any}
-use Rattle.std.proofs.lemmas.Bool.{and_parts, eq-eqb, eqb-true}
+use Rattle.std.proofs.lemmas.Bool.{and_parts, eq-eqb, eqb-true, or_cases, or_right}
 use Rattle.std.proofs.lemmas.List.Folds.{list_any-append}
 use Rattle.bdb_faults.specs.Notes.{AreSame, IsFirst, Notes, NotesAll}
-use Rattle.bdb_faults.proofs.SinkLemmas.{first_noted, notes_then}
+use Rattle.bdb_faults.proofs.SinkLemmas.{notes_then}
 use Rattle.bdb_format.specs.declared.kinds.Fault.{Fault}
 use Rattle.bdb_format.specs.declared.metadata.BtreeMeta.{BtreeMeta}
 use Rattle.bdb_format.specs.ContentRows.{btree_contents, database_faults, groups, has_duplicate, has_unsorted, has_wrong_count, has_wrong_separator}
@@ -18,13 +18,13 @@ use Rattle.bdb_format.specs.Page.{BtreeFields}
 use Rattle.bdb_format.specs.Table.{Row}
 use Rattle.bdb_format.specs.Verdict.{by_page, holding, first_fault}
 use Rattle.bdb_format.proofs.MemberLemmas.{filter_step, first_member, later_member, member_cases, no_member}
-use Rattle.bdb_format.proofs.VerdictLemmas.{InOrder, IsOfStage, by_page_first, holding_least, in_by_page, of_by_page}
+use Rattle.bdb_format.proofs.VerdictLemmas.{InOrder, IsOfStage, by_page_first, holding_least, in_by_page, of_by_page, table_in_order}
 use Rattle.bdb_format.specs.Flags.{counts_records, has_duplicates, is_sorted}
 use Rattle.bdb_graph.specs.Linked.{FitsTreeRoot, IsForest}
 use Rattle.bdb_btree.specs.Counts.{IsKeyed}
 use Rattle.bdb_btree.specs.Noted.{faults_at}
 use Rattle.bdb_btree.specs.Rows.{has_wrong_order, no_pairs_passed, pairs_faults}
-use Rattle.bdb_btree.specs.declared.noted.BtreeRow.TheVariants.{Duplicates, DuplicateKind, KeyOrder, Separator, DuplicateOrder, Count}
+use Rattle.bdb_faults.specs.declared.rows.ContentsRow.TheVariants.{Duplicates, DuplicateKind, KeyOrder, Separator, DuplicateOrder, Count}
 use Rattle.bdb_btree.specs.declared.pair_rows.Rules.{Rules}
 use Rattle.bdb_btree.proofs.InnerLemmas.{inner_pages_keyed}
 use Rattle.bdb_btree.proofs.NotedLemmas.{has, has_in, in_has, is_fault, is_of, row_has}
@@ -47,7 +47,7 @@ at_page page test xs p high inside some =
 guarded : (b : Bool) (high : ℕ) (test : ℕ → Bool) → ((p : ℕ) → test p ≡ true → p < high) → (p : ℕ) → (b && test p) ≡ true → p < high
 guarded b high test inside p holds = inside p (and_parts b (test p) holds).1
 
-group_in : (pairs : List StoredPair) (group : StoredPair × List StoredPair) → Contains (groups pairs) group → Contains pairs group.0
+pub group_in : (pairs : List StoredPair) (group : StoredPair × List StoredPair) → Contains (groups pairs) group → Contains pairs group.0
 group_in [] group at = absurd (no_member [] group refl at)
 group_in (pair ∷ pairs) group at =
     elim (member_cases _ (groups pairs) group at) [
@@ -68,26 +68,18 @@ code_first n code codes false is same = absurd cc
 holds_first : (code n : ℕ) (holds rest : Bool) → holds ≡ true → n ≡ code → (((n == code) && holds) || rest) ≡ true
 holds_first code n holds rest is same = rw (is, eq-eqb n code same) refl
 
-holds_later : (a b : Bool) → b ≡ true → (a || b) ≡ true
-holds_later true b is = refl
-holds_later false b is = is
-
-either : (a b : Bool) → (a || b) ≡ true → (a ≡ true) ⊎ (b ≡ true)
-either true b is = inl refl
-either false b is = inr is
-
 pub of_code : (rows : List (Row ℕ)) (code : ℕ) → Contains (holding rows) code → holds_code code rows ≡ true
 of_code [] code at = absurd (no_member [] code refl at)
 of_code (row ∷ rows) code at =
     elim (filter_step row.code code (holding rows) row.holds at) [
       | inl here ↦ holds_first code row.code row.holds (holds_code code rows) here.0 here.1
-      | inr later ↦ holds_later ((row.code == code) && row.holds) (holds_code code rows) (of_code rows code later)
+      | inr later ↦ or_right ((row.code == code) && row.holds) (holds_code code rows) (of_code rows code later)
     ]
 
 pub is_code : (rows : List (Row ℕ)) (code : ℕ) → holds_code code rows ≡ true → Contains (holding rows) code
 is_code [] code holds = absurd cc
 is_code (row ∷ rows) code holds =
-    elim (either ((row.code == code) && row.holds) (holds_code code rows) holds) [
+    elim (or_cases ((row.code == code) && row.holds) (holds_code code rows) holds) [
       | inl here ↦
           let parts = and_parts (row.code == code) row.holds here in
           code_first row.code code (holding rows) row.holds parts.1 (eqb-true row.code code parts.0)
@@ -102,7 +94,7 @@ AreBelow p high (row ∷ rows) = (row.holds ≡ true → p < high) × AreBelow p
 is_below : (rows : List (Row ℕ)) (p high code : ℕ) → AreBelow p high rows → holds_code code rows ≡ true → p < high
 is_below [] p high code below holds = absurd cc
 is_below (row ∷ rows) p high code below holds =
-    elim (either ((row.code == code) && row.holds) (holds_code code rows) holds) [
+    elim (or_cases ((row.code == code) && row.holds) (holds_code code rows) holds) [
       | inl here ↦ below.0 (and_parts (row.code == code) row.holds here).1
       | inr later ↦ is_below rows p high code below.1 later
     ]
@@ -288,20 +280,9 @@ all_noted image rules meta counts pages others before first second after forest 
           (notes_then before first second pairs (separators pages) one two) three faults is),
     )
 
--- The first of what was noted.
-
-in_order : (file : File) (meta : BtreeMeta) → has_bit meta.flags 2 ≡ false → InOrder 8 (database_faults file (BtreeFields meta))
+-- the faults of a btree are all of stage 8, and the first comes before all of them
+pub in_order : (file : File) (meta : BtreeMeta) → has_bit meta.flags 2 ≡ false → InOrder 8 (database_faults file (BtreeFields meta))
 in_order file meta flags =
-    subst (InOrder 8) (sym (faults_are file meta flags)) (record {
-      one_stage = λ fault at. (of_by_page 8 0 (file.last + 1) (λ p. holding (btree_contents file meta p)) fault at).same_stage;
-      rises = by_page_first 8 0 (file.last + 1) (λ p. holding (btree_contents file meta p)) (λ p. holding_least 1 (btree_contents file meta p)
-          (omega arith, (omega arith, (omega arith, (omega arith, (omega arith, (omega arith, tt)))))));
-    })
-
--- what a check finds over a sink that keeps the first
-pub first_found : (file : File) (meta : BtreeMeta) (start first : Option Fault) → has_bit meta.flags 2 ≡ false → start ≡ None
-    → NotesAll (IsFirst start) (IsFirst first) (database_faults file (BtreeFields meta))
-    → first ≡ first_fault (database_faults file (BtreeFields meta))
-first_found file meta start first flags none all =
-    first_noted 8 (database_faults file (BtreeFields meta)) first (in_order file meta flags)
-    (subst (λ (o : Option Fault). NotesAll (IsFirst o) (IsFirst first) (database_faults file (BtreeFields meta))) none all)
+    subst (InOrder 8) (sym (faults_are file meta flags))
+    (table_in_order 8 0 (file.last + 1) (btree_contents file meta)
+    (λ p. (omega arith, (omega arith, (omega arith, (omega arith, (omega arith, (omega arith, tt))))))))

@@ -9,24 +9,27 @@ use Rattle.std.proofs.lemmas.Grind.{flat_map-append}
 use Rattle.std.proofs.lemmas.List.{take_more}
 use Rattle.std.proofs.lemmas.List.Folds.{list_any-append}
 use Rattle.bdb_faults.specs.Notes.{Notes}
+use Rattle.bdb_faults.specs.Rows.{contents_code, fault_if}
+use Rattle.bdb_faults.specs.declared.rows.ContentsRow.{ContentsRow}
+use Rattle.bdb_faults.specs.declared.rows.Row.TheVariants.{Contents}
+use Rattle.bdb_format.proofs.FaultLemmas.{same_parts}
 use Rattle.bdb_format.specs.declared.kinds.Fault.{Fault}
 use Rattle.bdb_format.proofs.ListLemmas.{any_member, passes_here}
-use Rattle.bdb_btree.specs.Noted.{code_of, fault_if, faults_at}
-use Rattle.bdb_btree.specs.declared.noted.BtreeRow.{BtreeRow}
+use Rattle.bdb_btree.specs.Noted.{faults_at}
 use Rattle.bdb_faults.proofs.SinkLemmas.{notes_then}
 
 -- Notes one after another.
 
 -- one more page
-pub notes_page : (before mid after : List Fault → Type 0) (row : BtreeRow) (test : ℕ → Bool) (pages : List ℕ) (i : ℕ) (holds : Bool)
-    → i < length pages → holds ≡ test (get_or pages i 0) → Notes before mid (faults_at row test (take i pages)) → Notes mid after (fault_if row (get_or pages i 0) holds)
+pub notes_page : (before mid after : List Fault → Type 0) (row : ContentsRow) (test : ℕ → Bool) (pages : List ℕ) (i : ℕ) (holds : Bool)
+    → i < length pages → holds ≡ test (get_or pages i 0) → Notes before mid (faults_at row test (take i pages)) → Notes mid after (fault_if (Contents row) (get_or pages i 0) holds)
     → Notes before after (faults_at row test (take (i + 1) pages))
 notes_page before mid after row test pages i holds low is first second =
     let p : ℕ = get_or pages i 0 in
-    let same : faults_at row test (take i pages) ++ fault_if row p holds ≡ faults_at row test (take (i + 1) pages) =
-    ap (λ b. faults_at row test (take i pages) ++ fault_if row p b) is
-    ∙ (ap (λ fs. faults_at row test (take i pages) ++ fs) (sym (append-nil (fault_if row p (test p))))
-    ∙ (sym (flat_map-append (λ q. fault_if row q (test q)) (take i pages) (p ∷ []))
+    let same : faults_at row test (take i pages) ++ fault_if (Contents row) p holds ≡ faults_at row test (take (i + 1) pages) =
+    ap (λ b. faults_at row test (take i pages) ++ fault_if (Contents row) p b) is
+    ∙ (ap (λ fs. faults_at row test (take i pages) ++ fs) (sym (append-nil (fault_if (Contents row) p (test p))))
+    ∙ (sym (flat_map-append (λ q. fault_if (Contents row) q (test q)) (take i pages) (p ∷ []))
     ∙ ap (faults_at row test) (sym (take_more pages i 0 low)))) in
     λ faults has. subst (λ more. after (faults ++ more)) same (notes_then before mid after _ _ first second faults has)
 
@@ -40,10 +43,6 @@ has faults fault = list_any (is_fault fault) faults
 
 is_itself : (fault : Fault) → is_fault fault fault ≡ true
 is_itself fault = rw (eq-eqb fault.stage fault.stage refl, eq-eqb fault.page fault.page refl, eq-eqb fault.code fault.code refl) refl
-
-same_parts : (s t p q c d : ℕ) → s ≡ t → p ≡ q → c ≡ d
-    → ◌≡◌ {A = Fault} (record { stage = s; page = p; code = c }) (record { stage = t; page = q; code = d })
-same_parts s t p q c d stages pages codes = cc
 
 same_fault : (fault other : Fault) → is_fault fault other ≡ true → other ≡ fault
 same_fault fault other is =
@@ -59,12 +58,12 @@ has_in faults fault is =
     let found = any_member (is_fault fault) faults is in subst (Contains faults) (same_fault fault found.0 found.2) found.1
 
 -- a fault is one of a row
-abbrev pub is_of : BtreeRow → Fault → Bool
-is_of row fault = (8 == fault.stage) && (code_of row == fault.code)
+abbrev pub is_of : ContentsRow → Fault → Bool
+is_of row fault = (8 == fault.stage) && (contents_code row == fault.code)
 
-one_has : (row : BtreeRow) (page : ℕ) (holds : Bool) (fault : Fault)
-    → has (fault_if row page holds) fault ≡ (is_of row fault && ((page == fault.page) && holds))
-one_has row page true fault = turn (8 == fault.stage) (page == fault.page) (code_of row == fault.code)
+one_has : (row : ContentsRow) (page : ℕ) (holds : Bool) (fault : Fault)
+    → has (fault_if (Contents row) page holds) fault ≡ (is_of row fault && ((page == fault.page) && holds))
+one_has row page true fault = turn (8 == fault.stage) (page == fault.page) (contents_code row == fault.code)
   where
     turn : (a b c : Bool) → ((a && (b && c)) || false) ≡ ((a && c) && (b && true))
     turn a b c = grind (arith, nat_tests)
@@ -86,12 +85,12 @@ module _ {X : Type 0} (page : X → ℕ) where
   abbrev pub some_at : (X → Bool) → List X → Fault → Bool
   some_at test xs fault = list_any (λ x. (page x == fault.page) && test x) xs
 
-  pub row_has : (row : BtreeRow) (test : X → Bool) (xs : List X) (fault : Fault)
-      → has (flat_map (λ x. fault_if row (page x) (test x)) xs) fault ≡ (is_of row fault && some_at test xs fault)
+  pub row_has : (row : ContentsRow) (test : X → Bool) (xs : List X) (fault : Fault)
+      → has (flat_map (λ x. fault_if (Contents row) (page x) (test x)) xs) fault ≡ (is_of row fault && some_at test xs fault)
   row_has row test [] fault = none_joined (is_of row fault)
   row_has row test (x ∷ xs) fault =
-      list_any-append (is_fault fault) (fault_if row (page x) (test x)) (flat_map (λ y. fault_if row (page y) (test y)) xs)
-      ∙ (ap (λ b. b || has (flat_map (λ y. fault_if row (page y) (test y)) xs) fault) (one_has row (page x) (test x) fault)
+      list_any-append (is_fault fault) (fault_if (Contents row) (page x) (test x)) (flat_map (λ y. fault_if (Contents row) (page y) (test y)) xs)
+      ∙ (ap (λ b. b || has (flat_map (λ y. fault_if (Contents row) (page y) (test y)) xs) fault) (one_has row (page x) (test x) fault)
       ∙ (ap (λ b. (is_of row fault && ((page x == fault.page) && test x)) || b) (row_has row test xs fault)
       ∙ join (is_of row fault) ((page x == fault.page) && test x) (some_at test xs fault)))
 

@@ -2,16 +2,17 @@
 use Rattle.std.proofs.Common.{◌≡◌, ℕ, Bool, true, false, not, List, [], ◌∷◌, ◌++◌, ◌&&◌, refl, sym, ◌∙◌, ap, subst, inl, append_assoc}
 use Rattle.std.specs.Prelude.{◌==◌, ◌||◌}
 use Rattle.std.specs.List.{flat_map, fold, list_any}
+use Rattle.bdb_faults.specs.Rows.{fault_if}
+use Rattle.bdb_faults.specs.declared.rows.Row.TheVariants.{Contents}
 use Rattle.bdb_format.specs.declared.kinds.Fault.{Fault}
 use Rattle.bdb_format.specs.ContentRows.{has_duplicate, has_unsorted, has_wrong_set, is_duplicate, is_wrong_set}
 use Rattle.bdb_format.specs.Contents.{StoredPair, tree_pairs}
 use Rattle.bdb_format.specs.File.{File, file_of}
 use Rattle.bdb_faults.specs.Notes.{Notes}
 use Rattle.bdb_graph.specs.Linked.{FitsTreeRoot, IsForest}
-use Rattle.bdb_btree.specs.Noted.{fault_if}
 use Rattle.bdb_btree.specs.Pairs.{AreFit, FitsPair}
 use Rattle.bdb_btree.specs.Rows.{has_wrong_order, next_pair, no_pairs_passed, pair_faults, pairs_faults, passes}
-use Rattle.bdb_btree.specs.declared.noted.BtreeRow.TheVariants.{Duplicates, DuplicateKind, KeyOrder, DuplicateOrder}
+use Rattle.bdb_faults.specs.declared.rows.ContentsRow.TheVariants.{Duplicates, DuplicateKind, KeyOrder, DuplicateOrder}
 use Rattle.bdb_btree.specs.declared.pair_rows.Passed.{Passed}
 use Rattle.bdb_btree.specs.declared.pair_rows.Rules.{Rules}
 use Rattle.bdb_btree.proofs.NotedLemmas.{both_have, has, is_of, row_has}
@@ -108,10 +109,10 @@ pairs_have file rules root fault =
     let second : (StoredPair × Passed) → Bool = λ at. is_wrong_set file rules.sorted at.0.data_item in
     let third : (StoredPair × Passed) → Bool = λ at. at.1.keys.wrong in
     let fourth : (StoredPair × Passed) → Bool = λ at. rules.sorted && at.1.values.broken in
-    let a : (StoredPair × Passed) → List Fault = λ at. fault_if Duplicates at.0.page (first at) in
-    let b : (StoredPair × Passed) → List Fault = λ at. fault_if DuplicateKind at.0.page (second at) in
-    let c : (StoredPair × Passed) → List Fault = λ at. fault_if KeyOrder at.0.page (third at) in
-    let d : (StoredPair × Passed) → List Fault = λ at. fault_if DuplicateOrder at.0.page (fourth at) in
+    let a : (StoredPair × Passed) → List Fault = λ at. fault_if (Contents Duplicates) at.0.page (first at) in
+    let b : (StoredPair × Passed) → List Fault = λ at. fault_if (Contents DuplicateKind) at.0.page (second at) in
+    let c : (StoredPair × Passed) → List Fault = λ at. fault_if (Contents KeyOrder) at.0.page (third at) in
+    let d : (StoredPair × Passed) → List Fault = λ at. fault_if (Contents DuplicateOrder) at.0.page (fourth at) in
     let page : (StoredPair × Passed) → ℕ = λ at. at.0.page in
     let one = row_has page Duplicates first all fault
     ∙ ap (λ x. is_of Duplicates fault && x) (guard_out (not rules.duplicates) (λ at. page at == p) (λ at. is_duplicate at.0) all

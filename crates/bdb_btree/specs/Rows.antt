@@ -1,13 +1,14 @@
 -- The rows on the pairs of a btree, pair after pair.
 use Rattle.std.specs.Prelude.{ℕ, ◌==◌, ◌&&◌, ◌++◌, not, if◌then◌else◌, Bool, false, true, List, [], ◌∷◌, None}
 use Rattle.std.specs.List.{flat_map, list_any}
+use Rattle.bdb_faults.specs.Rows.{fault_if}
+use Rattle.bdb_faults.specs.declared.rows.ContentsRow.TheVariants.{Duplicates, DuplicateKind, KeyOrder, DuplicateOrder}
+use Rattle.bdb_faults.specs.declared.rows.Row.TheVariants.{Contents}
 use Rattle.bdb_format.specs.declared.kinds.Fault.{Fault}
 use Rattle.bdb_format.specs.ContentRows.{is_duplicate, is_out_of_order, is_wrong_set, neighbours}
 use Rattle.bdb_format.specs.Contents.{StoredPair}
 use Rattle.bdb_format.specs.File.{File}
-use Rattle.bdb_btree.specs.Noted.{fault_if}
 use Rattle.bdb_btree.specs.Runs.{next_data, next_key}
-use Rattle.bdb_btree.specs.declared.noted.BtreeRow.TheVariants.{Duplicates, DuplicateKind, KeyOrder, DuplicateOrder}
 use Rattle.bdb_btree.specs.declared.pair_rows.Passed.{Passed}
 use Rattle.bdb_btree.specs.declared.pair_rows.Rules.{Rules}
 
@@ -25,10 +26,10 @@ next_pair file sorted passed pair = record {
 -- the faults of a pair, once it is passed
 abbrev pub pair_faults : File → Rules → Passed → StoredPair → List Fault
 pair_faults file rules passed pair =
-    fault_if Duplicates pair.page (not rules.duplicates && is_duplicate pair)
-    ++ fault_if DuplicateKind pair.page (is_wrong_set file rules.sorted pair.data_item)
-    ++ fault_if KeyOrder pair.page passed.keys.wrong
-    ++ fault_if DuplicateOrder pair.page (rules.sorted && passed.values.broken)
+    fault_if (Contents Duplicates) pair.page (not rules.duplicates && is_duplicate pair)
+    ++ fault_if (Contents DuplicateKind) pair.page (is_wrong_set file rules.sorted pair.data_item)
+    ++ fault_if (Contents KeyOrder) pair.page passed.keys.wrong
+    ++ fault_if (Contents DuplicateOrder) pair.page (rules.sorted && passed.values.broken)
 
 -- each of these pairs, with what is passed once it is
 abbrev pub passes : File → Bool → Passed → List StoredPair → List (StoredPair × Passed)

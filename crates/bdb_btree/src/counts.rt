@@ -14,10 +14,9 @@ ghost use Rattle.bdb_faults.specs.Notes.{Notes};
 ghost use Rattle.bdb_btree.specs.Pairs.{pair_seen};
 ghost use Rattle.bdb_tree.specs.Trees.{IsTreePage};
 
-use crate::noted::{BtreeRow, note_if};
 use crate::pair::Pair;
 use crate::walk::page_pairs;
-use bdb_faults::FaultSink;
+use bdb_faults::{ContentsRow, FaultSink, Row, note_if};
 use bdb_form::{InternalView, PageView};
 use bdb_graph::Forest;
 use bdb_layout::InternalItem;
@@ -125,7 +124,7 @@ pub(crate) fn note_counts<F: FaultSink>(
 {
     for page in pages {
         let wrong = is_wrong_page(alloc, forest, *page)?;
-        note_if(found, BtreeRow::Count, *page, wrong)?;
+        note_if(found, Row::Contents(ContentsRow::Count), *page, wrong)?;
     }
     Ok(())
 }

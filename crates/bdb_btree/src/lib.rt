@@ -11,7 +11,6 @@ mod found;
 mod inner;
 mod leaf_pairs;
 mod lookups;
-mod noted;
 mod order;
 mod pair;
 mod pair_rows;

@@ -11,11 +11,10 @@ ghost use Rattle.bdb_btree.specs.Rows.{next_pair, no_pairs_passed, pair_faults, 
 
 use crate::data_order::Run;
 use crate::duplicates::{is_duplicate, is_wrong_set};
-use crate::noted::{BtreeRow, note_if};
 use crate::order::KeyOrder;
 use crate::pair::Pair;
 use crate::walk::tree_pairs;
-use bdb_faults::FaultSink;
+use bdb_faults::{ContentsRow, FaultSink, Row, note_if};
 use bdb_graph::Forest;
 use std::alloc::AllocError;
 
@@ -86,20 +85,25 @@ impl<'a> Passed<'a> {
     {
         note_if(
             found,
-            BtreeRow::Duplicates,
+            Row::Contents(ContentsRow::Duplicates),
             pair.page,
             is_refused(rules, pair),
         )?;
         note_if(
             found,
-            BtreeRow::DuplicateKind,
+            Row::Contents(ContentsRow::DuplicateKind),
             pair.page,
             is_wrong_set(forest, rules.sorted, pair),
         )?;
-        note_if(found, BtreeRow::KeyOrder, pair.page, self.keys.is_wrong())?;
         note_if(
             found,
-            BtreeRow::DuplicateOrder,
+            Row::Contents(ContentsRow::KeyOrder),
+            pair.page,
+            self.keys.is_wrong(),
+        )?;
+        note_if(
+            found,
+            Row::Contents(ContentsRow::DuplicateOrder),
             pair.page,
             self.is_unsorted(rules.sorted),
         )?;

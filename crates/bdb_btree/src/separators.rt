@@ -15,11 +15,10 @@ ghost use Rattle.bdb_btree.specs.declared.noted.BtreeRow.TheVariants.{Separator}
 ghost use Rattle.bdb_faults.specs.Notes.{Notes};
 ghost use Rattle.bdb_tree.specs.Trees.{IsTreePage};
 
-use crate::noted::{BtreeRow, note_if};
 use crate::order::is_not_above;
 use crate::pair::key_at;
 use crate::walk::page_pairs;
-use bdb_faults::FaultSink;
+use bdb_faults::{ContentsRow, FaultSink, Row, note_if};
 use bdb_form::{InternalView, PageView};
 use bdb_graph::Forest;
 use bdb_layout::InternalItem;
@@ -248,7 +247,7 @@ pub(crate) fn note_separators<F: FaultSink>(
 {
     for page in pages {
         let wrong = is_wrong_page(alloc, forest, *page, ordered)?;
-        note_if(found, BtreeRow::Separator, *page, wrong)?;
+        note_if(found, Row::Contents(ContentsRow::Separator), *page, wrong)?;
     }
     Ok(())
 }

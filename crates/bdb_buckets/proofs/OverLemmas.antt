@@ -2,7 +2,7 @@
 use Rattle.std.proofs.Common.{◌≡◌, ℕ, ◌+◌, ◌<◌, ◌≤◌, Bool, true, false, cond, List, [], ◌∷◌, ◌++◌, length, arith, refl, sym, ◌∙◌, ap, subst, inl, inr}
 use Rattle.std.specs.Prelude.{◌==◌, ◌||◌}
 use Rattle.std.specs.List.{Contains, flat_map, list_any, range_with_len}
-use Rattle.std.proofs.lemmas.Bool.{cases_eq, cases_lt, eq-eqb, ne_eqb}
+use Rattle.std.proofs.lemmas.Bool.{cases_eq, cases_lt, eq-eqb, ne_eqb, or_cases}
 use Rattle.std.proofs.lemmas.Grind.{flat_map-append}
 use Rattle.std.proofs.lemmas.List.{append-nil}
 use Rattle.std.proofs.lemmas.List.Elements.{All-append, All-nil}
@@ -16,7 +16,6 @@ use Rattle.bdb_grove.specs.Growing.{IsCounted}
 use Rattle.bdb_grove.specs.Leaves.{Ascend, ContentFits, content_pages}
 use Rattle.bdb_grove.specs.Part.{IsBranch, between}
 use Rattle.bdb_grove.specs.Standing.{names}
-use Rattle.bdb_grove.proofs.BesideLemmas.{in_either}
 use Rattle.bdb_grove.proofs.BranchLemmas.{branch_is_known, branches_follow, no_branch, of_list, pages_stand_over_branch}
 use Rattle.bdb_grove.proofs.ChainLemmas.{between_is, is_between, same_test}
 use Rattle.bdb_grove.proofs.LeafLemmas.{ascend_once}
@@ -133,7 +132,7 @@ over_next g previous p beyond low high over =
           | inl at ↦ or_right (between (p + 1) beyond q) (passes_here (λ r. q == r) (p ∷ []) p (first_member p []) (eq-eqb q p at))
           | inr other ↦ or_left (list_any (λ r. q == r) (p ∷ [])) (is_between (p + 1) beyond q (omega (arith, within.0, other)) within.1)
         ])
-        (λ is. elim (in_either (between (p + 1) beyond q) (list_any (λ r. q == r) (p ∷ [])) is) [
+        (λ is. elim (or_cases (between (p + 1) beyond q) (list_any (λ r. q == r) (p ∷ [])) is) [
           | inl more ↦ let within = between_is (p + 1) beyond q more in is_between p beyond q (omega (arith, within.0)) within.1
           | inr at ↦ let e = only_member p q (of_list (p ∷ []) q at) in is_between p beyond q (omega (arith, e)) (omega (arith, e, last))
         ])
@@ -249,7 +248,7 @@ table_branch g p n beyond low high over up =
           | inl under ↦ or_right (between (p + n) beyond q) (passes_here (λ r. q == r) ps q (in_range p n q within.0 under) (eq-eqb q q refl))
           | inr over ↦ or_left (list_any (λ r. q == r) ps) (is_between (p + n) beyond q over within.1)
         ])
-        (λ is. elim (in_either (between (p + n) beyond q) (list_any (λ r. q == r) ps) is) [
+        (λ is. elim (or_cases (between (p + n) beyond q) (list_any (λ r. q == r) ps) is) [
           | inl more ↦ let within = between_is (p + n) beyond q more in is_between p beyond q (omega (arith, within.0)) within.1
           | inr at ↦ let in_row = of_range p n q (of_list ps q at) in is_between p beyond q in_row.0 (omega (arith, in_row.1, up))
         ])

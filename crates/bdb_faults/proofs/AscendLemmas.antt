@@ -22,7 +22,8 @@ use Rattle.bdb_format.specs.Verdict.{Judgement, Faulty, judged, judgement_of, ho
 use Rattle.bdb_format.proofs.ListLemmas.{only_member}
 use Rattle.bdb_format.proofs.MemberLemmas.{first_member, later_member, member_cases, no_member, of_map}
 use Rattle.bdb_format.proofs.VerdictLemmas.{IsOfStage, of_by_page}
-use Rattle.bdb_faults.specs.Named.{Ascends, ComesBefore, case_code, code_of, page_of}
+use Rattle.bdb_faults.specs.Cases.{case_code}
+use Rattle.bdb_faults.specs.Named.{Ascends, ComesBefore, code_of, page_of}
 
 abbrev named : ℕ → ℕ → ℕ → Fault
 named stage page code = record { stage = stage; page = page; code = code }

@@ -1,4 +1,5 @@
 pub mod AscendLemmas
+pub mod CaseLemmas
 pub mod FirstLemmas
 pub mod ListLemmas
 pub mod MemberLemmas

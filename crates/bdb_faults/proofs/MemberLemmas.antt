@@ -10,9 +10,9 @@ use Rattle.std.proofs.lemmas.List.Sorted.{Contains-permutation, IsPermutation-sy
 use Rattle.bdb_format.proofs.MemberLemmas.{member_cases, no_member, of_map, in_map}
 use Rattle.bdb_format.specs.Verdict.{Judgement}
 use Rattle.bdb_faults.specs.declared.member.Member.{Member}
-use Rattle.bdb_faults.specs.declared.member.Row.{Row}
-use Rattle.bdb_faults.specs.declared.member.Row.TheVariants.{Holds, Case}
-use Rattle.bdb_faults.specs.Members.{is_before, is_same, member_seen, row_seen}
+use Rattle.bdb_faults.specs.declared.member.Held.{Held}
+use Rattle.bdb_faults.specs.declared.member.Held.TheVariants.{Fault as FaultHeld, Case}
+use Rattle.bdb_faults.specs.Members.{is_before, is_same, member_seen, held_seen}
 use Rattle.bdb_faults.specs.Named.{page_of, code_of, AreOne, Ascends, ComesBefore}
 
 abbrev code_in : Member → ℕ
@@ -60,13 +60,13 @@ same_equivalence = record {
 }
 
 -- a member has its page
-page_seen : (page : ℕ) (row : Row) → page_of (row_seen page row) ≡ page
-page_seen page (Holds stage code) = refl
+page_seen : (page : ℕ) (held : Held) → page_of (held_seen page held) ≡ page
+page_seen page (FaultHeld stage code) = refl
 page_seen page (Case name) = refl
 
 comes_after : (a b : Member) → is_before b a ≡ false → is_same b a ≡ false → ComesBefore (member_seen a) (member_seen b)
 comes_after a b not_before apart =
-    rw (page_seen a.page a.row, page_seen b.page b.row) (after b.page a.page (code_in b) (code_in a) not_before apart)
+    rw (page_seen a.page a.held, page_seen b.page b.held) (after b.page a.page (code_in b) (code_in a) not_before apart)
 
 through : (a b c : Judgement) → ComesBefore a b → ComesBefore b c → ComesBefore a c
 through a b c first second = grind arith
@@ -142,7 +142,7 @@ same_seen : (old : List Member) (x y : Member) → AreOne (map member_seen old) 
 same_seen old x y one at_x at_y is =
     let parts = same_parts x.page y.page (code_in x) (code_in y) is in
     one (member_seen x) (member_seen y) (in_map member_seen old x at_x) (in_map member_seen old y at_y)
-    (page_seen x.page x.row ∙ parts.0 ∙ sym (page_seen y.page y.row)) parts.1
+    (page_seen x.page x.held ∙ parts.0 ∙ sym (page_seen y.page y.held)) parts.1
 
 -- and each member is left, where no two of one place differ
 pub is_left : (old sorted : List Member) (judgement : Judgement) → IsPermutation old sorted → AreOne (map member_seen old)

@@ -1,15 +1,16 @@
 -- Laws of what was noted.
-use Rattle.std.proofs.Common.{◌≡◌, ℕ, zero, suc, ◌+◌, ◌<◌, List, [], ◌∷◌, ◌++◌, length, get_or, take, arith, refl, sym, ◌∙◌, ap, subst, inl, inr, append_assoc, append-nil}
+use Rattle.std.proofs.Common.{◌≡◌, ℕ, ◌+◌, ◌<◌, List, [], ◌∷◌, ◌++◌, length, get_or, take, refl, sym, ◌∙◌, ap, subst, inl, inr, append_assoc, append-nil}
 use Rattle.std.specs.Prelude.{Option, Some, None}
 use Rattle.std.specs.List.{Contains, flat_map, range_with_len}
 use Rattle.std.proofs.lemmas.Grind.{flat_map-append}
 use Rattle.std.proofs.lemmas.List.Elements.{Contains-append_cases, Contains-append_left, Contains-append_right}
 use Rattle.std.proofs.lemmas.List.{take_more}
-use Rattle.bdb_format.specs.Verdict.{first_fault}
+use Rattle.bdb_format.specs.Verdict.{faults_in, first_fault}
 use Rattle.bdb_format.specs.declared.kinds.Fault.{Fault}
 use Rattle.bdb_format.proofs.FaultLemmas.{same_fault}
+use Rattle.bdb_format.proofs.ListLemmas.{range_more}
 use Rattle.bdb_format.proofs.MemberLemmas.{first_member, is_empty, no_member}
-use Rattle.bdb_format.proofs.VerdictLemmas.{InOrder}
+use Rattle.bdb_format.proofs.VerdictLemmas.{InOrder, stages_in_order}
 use Rattle.bdb_faults.specs.Notes.{AreSame, IsFirst, Notes, NotesAll}
 
 -- What a check notes, part by part.
@@ -65,14 +66,6 @@ notes_push before middle after give xs x first second =
     subst (NotesAll before after) (sym (flat_map-append give xs (x ∷ []) ∙ ap (λ fs. flat_map give xs ++ fs) (append-nil (give x))))
     (notes_both before middle after (flat_map give xs) (give x) first second)
 
-range_more : (from n : ℕ) → range_with_len from (n + 1) ≡ range_with_len from n ++ ((from + n) ∷ [])
-range_more from zero = ap (λ k. k ∷ []) (omega arith)
-range_more from (suc n) =
-    let next : range_with_len (from + 1) (n + 1) ≡ range_with_len (from + 1) n ++ ((from + 1 + n) ∷ []) = range_more (from + 1) n in
-    let same : from + 1 + n ≡ from + suc n = omega arith in
-    let more : suc n + 1 ≡ suc (n + 1) = omega arith in
-    ap (range_with_len from) more ∙ ap (λ ks. from ∷ ks) next ∙ ap (λ k. from ∷ (range_with_len (from + 1) n ++ (k ∷ []))) same
-
 -- those of one more page
 pub notes_more : (before middle after : List Fault → Type 0) (give : ℕ → List Fault) (from n page : ℕ) → from + n ≡ page
     → NotesAll before middle (flat_map give (range_with_len from n)) → NotesAll middle after (give page)
@@ -113,10 +106,17 @@ pub noted_all : (before after : List Fault → Type 0) (faults : List Fault) →
 noted_all before after faults begun all = (all.0, all.2 [] begun, all.1)
 
 -- what a check over a new `First` found
-pub first_noted : (stage : ℕ) (faults : List Fault) (first : Option Fault) → InOrder stage faults → NotesAll (IsFirst None) (IsFirst first) faults
-    → first ≡ first_fault faults
-first_noted stage faults first order all =
-    let it = noted_all (IsFirst None) (IsFirst first) faults refl all in first_is stage faults it.0 first order it.2 it.1
+pub first_found : (stage : ℕ) (faults : List Fault) (start first : Option Fault) → InOrder stage faults → start ≡ None
+    → NotesAll (IsFirst start) (IsFirst first) faults → first ≡ first_fault faults
+first_found stage faults start first order new all =
+    let it = noted_all (IsFirst None) (IsFirst first) faults refl (subst (λ (o : Option Fault). NotesAll (IsFirst o) (IsFirst first) faults) new all) in
+    first_is stage faults it.0 first order it.2 it.1
+
+-- and what one of some stages found
+pub first_of_stages : (image stages : List ℕ) (start first : Option Fault) → start ≡ None → NotesAll (IsFirst start) (IsFirst first) (faults_in stages image)
+    → first ≡ first_fault (faults_in stages image)
+first_of_stages image stages start first new all =
+    let order = stages_in_order image stages in first_found order.0 (faults_in stages image) start first order.1 new all
 
 -- a list of which there is no first is empty
 pub none_first : (faults : List Fault) → None ≡ first_fault faults → faults ≡ []

@@ -1,4 +1,6 @@
 pub mod All
+pub mod Cases
 pub mod Members
 pub mod Named
 pub mod Notes
+pub mod Rows

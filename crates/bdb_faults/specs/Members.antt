@@ -2,16 +2,16 @@
 use Rattle.std.specs.Prelude.{ℕ, ◌==◌, ◌&&◌, ◌||◌, nat_lt, Bool}
 use Rattle.bdb_format.specs.Verdict.{Judgement, Faulty, LeftOut}
 use Rattle.bdb_faults.specs.declared.member.Member.{Member}
-use Rattle.bdb_faults.specs.declared.member.Row.{Row}
-use Rattle.bdb_faults.specs.declared.member.Row.TheVariants.{Holds, Case}
+use Rattle.bdb_faults.specs.declared.member.Held.{Held}
+use Rattle.bdb_faults.specs.declared.member.Held.TheVariants.{Fault as FaultHeld, Case}
 use Rattle.bdb_faults.specs.Named.{code_of}
 
-abbrev pub row_seen : ℕ → Row → Judgement
-row_seen page (Holds stage code) = Faulty (record { stage = stage; page = page; code = code })
-row_seen page (Case name) = LeftOut name page
+abbrev pub held_seen : ℕ → Held → Judgement
+held_seen page (FaultHeld stage code) = Faulty (record { stage = stage; page = page; code = code })
+held_seen page (Case name) = LeftOut name page
 
 abbrev pub member_seen : Member → Judgement
-member_seen member = row_seen member.page member.row
+member_seen member = held_seen member.page member.held
 
 -- by page and then by code
 abbrev pub is_before : Member → Member → Bool

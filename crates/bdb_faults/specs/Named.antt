@@ -3,10 +3,10 @@ use Rattle.std.specs.Prelude.{◌≡◌, ◌⊎◌, ℕ, ◌<◌, List, [], ◌�
 use Rattle.std.specs.List.{Contains}
 use Rattle.bdb_format.specs.declared.kinds.Fault.{Fault}
 use Rattle.bdb_format.specs.declared.kinds.Unsupported.{Unsupported}
-use Rattle.bdb_format.specs.declared.kinds.Unsupported.TheVariants.{Version, Heap, LargePage, Encryption, Checksum, Partition, Extent, Compression, OwnHash, WrappedQueue}
 use Rattle.bdb_format.specs.declared.metadata.MetaFault.{MetaFault}
 use Rattle.bdb_format.specs.declared.metadata.MetaFault.TheVariants.{Fault as CodeFault, Unsupported as NamedCase}
 use Rattle.bdb_format.specs.Verdict.{Judgement, Faulty, LeftOut, judgement_of}
+use Rattle.bdb_faults.specs.Cases.{case_code}
 use Rattle.bdb_faults.specs.declared.named.Named.{Named}
 use Rattle.bdb_faults.specs.declared.named.Named.TheVariants.{Fault as FaultNamed, Unsupported as UnsupportedNamed}
 
@@ -18,19 +18,6 @@ judgement_seen (UnsupportedNamed name page) = LeftOut name page
 abbrev pub page_of : Judgement → ℕ
 page_of (Faulty fault) = fault.page
 page_of (LeftOut name page) = page
-
--- the code by which a case stands among the rows of its page: that of its row of stage 2, or of stage 1 where it has none there
-abbrev pub case_code : Unsupported → ℕ
-case_code Version = 4
-case_code Heap = 3
-case_code LargePage = 6
-case_code Encryption = 6
-case_code Checksum = 7
-case_code Partition = 8
-case_code Extent = 15
-case_code Compression = 9
-case_code OwnHash = 11
-case_code WrappedQueue = 18
 
 abbrev pub code_of : Judgement → ℕ
 code_of (Faulty fault) = fault.code

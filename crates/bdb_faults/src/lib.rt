@@ -2,15 +2,25 @@
 #![tactic(auto)]
 
 mod cases;
+mod codes;
 mod first;
 mod list;
 mod member;
 mod named;
+mod note;
 mod refusal;
+mod rows;
 mod sink;
+mod table;
 
+pub use cases::{fault_of_form, fault_of_head};
 pub use first::First;
 pub use list::NamedList;
-pub use named::{AllError, Named};
+pub use named::{AllError, Named, fault_name, unsupported_name};
+pub use note::note_if;
 pub use refusal::refused_by;
+pub use rows::{
+    ContentsRow, FileRow, FormRow, MasterRow, OwnershipRow, ReachRow, ReferenceRow, Row,
+    StructureRow,
+};
 pub use sink::FaultSink;

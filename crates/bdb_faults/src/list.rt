@@ -7,7 +7,6 @@ ghost use Rattle.bdb_faults.specs.Named.{AreOne, Ascends, HasNoted, judgement_se
 ghost use Rattle.bdb_faults.specs.Notes.{Notes};
 ghost use Rattle.bdb_format.specs.Verdict.{Judgement, judgement_of};
 
-use crate::cases::named_of;
 use crate::member::Member;
 use crate::{FaultSink, Named};
 use bdb_format::Fault;
@@ -94,7 +93,7 @@ impl FaultSink for NamedList {
     ghost takes_memory = { true };
 
     fn note(&mut self, fault: Fault) -> Result<(), AllocError> {
-        self.push(named_of(fault))
+        self.push(Named::of(fault))
     }
 
     fn is_empty(&self) -> bool {

@@ -1,16 +1,17 @@
 ghost use Rattle.std.specs.Prelude.{◌≡◌};
 ghost use Rattle.std.specs.Ordering.{is_lt};
 ghost use Rattle.bdb_faults.specs.Members.{is_before, is_same, member_seen};
-ghost use Rattle.bdb_faults.specs.Named.{case_code, code_of, judgement_seen};
+ghost use Rattle.bdb_faults.specs.Named.{code_of, judgement_seen};
 
 use crate::Named;
+use crate::rows::Row;
 use bdb_format::{Fault, Unsupported};
 use std::cmp::Ordering;
 
 /// What holds at a page: a row with its stage and code, or a case that is left out by name.
 #[derive(Clone, Copy)]
-pub(crate) enum Row {
-    Holds(u8, u8),
+pub(crate) enum Held {
+    Fault(u8, u8),
     Case(Unsupported),
 }
 
@@ -18,24 +19,7 @@ pub(crate) enum Row {
 #[derive(Clone, Copy)]
 pub(crate) struct Member {
     page: u32,
-    row: Row,
-}
-
-/// The code by which a case stands among the rows of its page.
-fn case_code(name: Unsupported) -> u8
-    ensures { result ≡ case_code name }
-{
-    match name {
-        Unsupported::Heap => 3,
-        Unsupported::Version => 4,
-        Unsupported::LargePage | Unsupported::Encryption => 6,
-        Unsupported::Checksum => 7,
-        Unsupported::Partition => 8,
-        Unsupported::Compression => 9,
-        Unsupported::OwnHash => 11,
-        Unsupported::Extent => 15,
-        Unsupported::WrappedQueue => 18,
-    }
+    held: Held,
 }
 
 impl Member {
@@ -45,11 +29,11 @@ impl Member {
         match named {
             Named::Fault(fault) => Member {
                 page: fault.page,
-                row: Row::Holds(fault.stage, fault.code),
+                held: Held::Fault(fault.stage, fault.code),
             },
             Named::Unsupported(name, page) => Member {
                 page,
-                row: Row::Case(name),
+                held: Held::Case(name),
             },
         }
     }
@@ -57,22 +41,22 @@ impl Member {
     pub(crate) fn named(self) -> Named
         ensures { judgement_seen result ≡ member_seen self }
     {
-        match self.row {
-            Row::Holds(stage, code) => Named::Fault(Fault {
+        match self.held {
+            Held::Fault(stage, code) => Named::Fault(Fault {
                 stage,
                 page: self.page,
                 code,
             }),
-            Row::Case(name) => Named::Unsupported(name, self.page),
+            Held::Case(name) => Named::Unsupported(name, self.page),
         }
     }
 
     fn code(&self) -> u8
         ensures { result ≡ code_of (member_seen self.now) }
     {
-        match self.row {
-            Row::Holds(_, code) => code,
-            Row::Case(name) => case_code(name),
+        match self.held {
+            Held::Fault(_, code) => code,
+            Held::Case(name) => Row::of_case(name).entry().code,
         }
     }
 

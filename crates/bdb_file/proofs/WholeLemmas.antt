@@ -88,26 +88,3 @@ module _ (image : List ℕ) (before first : List Fault → Type 0) (start : befo
         subst (NotesAll before after) (sym (contents_last image none no_master))
         (subst (λ fs. NotesAll before after (fs ++ contents_faults (file_of image))) no_master
         (notes_both before second after (master_faults (file_of image)) (contents_faults (file_of image)) master_alone contents))
-
--- What a check over a new sink found.
-
--- the faults of the first of some stages that has any are of one stage
-one_of : (stage : ℕ) (faults others : List Fault) → InOrder stage faults → (s : ℕ) × InOrder s others → (s : ℕ) × InOrder s (or_else faults (λ _. others))
-one_of stage [] others here later = later
-one_of stage (fault ∷ faults) others here later = (stage, here)
-
-some_stage : (image stages : List ℕ) → (stage : ℕ) × InOrder stage (faults_in stages image)
-unfolding faults_in
-some_stage image [] =
-    (0, record { one_stage = λ fault at. absurd (no_member [] fault refl at); rises = λ first rest fault same at. absurd (no_member [] fault refl at) })
-some_stage image (stage ∷ stages) =
-    one_of stage (stage_faults image stage) (faults_in stages image) (stage_in_order image stage) (some_stage image stages)
-
-pub whole_first : (image : List ℕ) (first : Option Fault) → NotesAll (IsFirst None) (IsFirst first) (faults_in (6 ∷ 7 ∷ 8 ∷ []) image)
-    → first ≡ first_fault (faults_in (6 ∷ 7 ∷ 8 ∷ []) image)
-whole_first image first all =
-    let it = some_stage image (6 ∷ 7 ∷ 8 ∷ []) in first_noted it.0 (faults_in (6 ∷ 7 ∷ 8 ∷ []) image) first it.1 all
-
-pub no_first : (faults : List Fault) (first : Option Fault) → first ≡ first_fault faults → first ≡ None → faults ≡ []
-no_first [] first is none = refl
-no_first (fault ∷ faults) first is none = absurd cc

@@ -7,7 +7,7 @@ ghost use Rattle.bdb_format.specs.File.{file_of};
 
 use crate::entry::Entry;
 use crate::noting::note_given;
-use bdb_faults::FaultSink;
+use bdb_faults::{FaultSink, MasterRow, Row};
 use bdb_format::Fault;
 use bdb_graph::Linked;
 use std::alloc::{AllocError, Global};
@@ -49,19 +49,12 @@ fn counts_of(alloc: Global, pages: u32, entries: &[Entry<'_>]) -> Result<Vec<u8>
 fn count_fault(page: u32, count: u8) -> Option<Fault>
     ensures { result ≡ count_fault page count }
 {
-    let code = match count {
-        0 => 1,
-        1 => return None,
-        _ => 5,
-    };
-    if page == 0 {
-        return None;
+    match count {
+        _ if page == 0 => None,
+        0 => Some(Row::Master(MasterRow::Unnamed).at(page)),
+        1 => None,
+        _ => Some(Row::Master(MasterRow::MetaTwice).at(page)),
     }
-    Some(Fault {
-        stage: 7,
-        page,
-        code,
-    })
 }
 
 /// Notes the metadata pages that a master names not at all or twice. An error is want of memory.

@@ -4,7 +4,7 @@ ghost use Rattle.bdb_file.specs.Entries.{by_repeat, fault_at};
 
 use crate::entry::Entry;
 use crate::noting::note_given;
-use bdb_faults::FaultSink;
+use bdb_faults::{FaultSink, MasterRow, Row};
 use bdb_format::Fault;
 use bdb_overflow::Keys;
 use std::alloc::{AllocError, Global};
@@ -32,9 +32,5 @@ fn repeat_on(page: u32, is_new: bool) -> Option<Fault>
     if is_new {
         return None;
     }
-    Some(Fault {
-        stage: 7,
-        page,
-        code: 4,
-    })
+    Some(Row::Master(MasterRow::NameTwice).at(page))
 }

@@ -8,7 +8,7 @@ ghost use Rattle.bdb_format.specs.Graph.{is_meta};
 
 use crate::entry::Entry;
 use crate::noting::note_given;
-use bdb_faults::FaultSink;
+use bdb_faults::{FaultSink, MasterRow, Row};
 use bdb_form::PageView;
 use bdb_format::Fault;
 use bdb_graph::Linked;
@@ -35,16 +35,11 @@ fn is_named_kind(linked: &Linked<'_>, page: u32) -> bool
 fn target_fault(linked: &Linked<'_>, page: u32, names: Option<u32>) -> Option<Fault>
     ensures { result ≡ target_fault (file_of linked.now) page names }
 {
-    let code = match names {
-        Some(named) if is_named_kind(linked, named) => return None,
-        Some(_) => 3,
-        None => 2,
-    };
-    Some(Fault {
-        stage: 7,
-        page,
-        code,
-    })
+    match names {
+        Some(named) if is_named_kind(linked, named) => None,
+        Some(_) => Some(Row::Master(MasterRow::EntryTarget).at(page)),
+        None => Some(Row::Master(MasterRow::EntrySize).at(page)),
+    }
 }
 
 /// Notes the master's pairs that name no metadata page above page 0.

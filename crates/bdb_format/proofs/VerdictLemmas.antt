@@ -157,7 +157,7 @@ by_page_first stage from (suc n) codes least =
 -- The stages.
 
 -- what holds of both lists holds of one of them
-or_else_both : (P : List Fault → Type 0) (faults others : List Fault) → P faults → P others → P (or_else faults (λ _. others))
+pub or_else_both : (P : List Fault → Type 0) (faults others : List Fault) → P faults → P others → P (or_else faults (λ _. others))
 or_else_both P [] others p q = q
 or_else_both P (fault ∷ faults) others p q = p
 
@@ -174,21 +174,21 @@ pub record InOrder (stage : ℕ) (faults : List Fault) : Type 0 where
   pub one_stage : (fault : Fault) → Contains faults fault → fault.stage ≡ stage
   pub rises : FirstComesFirst faults
 
-by_page_in_order : (stage from n : ℕ) (codes : ℕ → List ℕ) → ((page : ℕ) → LeastFirst (codes page)) → InOrder stage (by_page stage from n codes)
+pub by_page_in_order : (stage from n : ℕ) (codes : ℕ → List ℕ) → ((page : ℕ) → LeastFirst (codes page)) → InOrder stage (by_page stage from n codes)
 by_page_in_order stage from n codes least = record {
   one_stage = λ fault at. (of_by_page stage from n codes fault at).same_stage;
   rises = by_page_first stage from n codes least;
 }
 
 -- those of a table whose codes rise
-table_in_order : (stage from n : ℕ) (rows : ℕ → List (Row ℕ)) → ((p : ℕ) → Rises 1 (rows p)) → InOrder stage (by_page stage from n (λ p. holding (rows p)))
+pub table_in_order : (stage from n : ℕ) (rows : ℕ → List (Row ℕ)) → ((p : ℕ) → Rises 1 (rows p)) → InOrder stage (by_page stage from n (λ p. holding (rows p)))
 table_in_order stage from n rows rise = by_page_in_order stage from n (λ p. holding (rows p)) (λ p. holding_least 1 (rows p) (rise p))
 
 nothing_in_order : (stage : ℕ) → InOrder stage []
 nothing_in_order stage = by_page_in_order stage 0 0 (λ p. []) (λ p. one_code_least None)
 
 -- a table whose codes are numbers that follow each other
-numbered_rise : (from n low : ℕ) (test : ℕ → Bool) → low ≤ from → Rises low (map (λ code. code :? test code) (range_with_len from n))
+pub numbered_rise : (from n low : ℕ) (test : ℕ → Bool) → low ≤ from → Rises low (map (λ code. code :? test code) (range_with_len from n))
 numbered_rise from zero low test below = tt
 numbered_rise from (suc n) low test below = (below, numbered_rise (from + 1) n from test (omega arith))
 
@@ -234,6 +234,14 @@ stage_in_order image =
     (table_in_order 7 0 (file.last + 1) (master_rows file) (λ p. (omega arith, (omega arith, (omega arith, (omega arith, (omega arith, tt)))))))
     (table_in_order 8 0 (file.last + 1) (contents_rows file) (λ p. numbered_rise 1 9 1 (holds_somewhere file p) (omega arith)))
     nothing_in_order
+
+-- and so are the faults of the first of some stages that has any
+pub stages_in_order : (image stages : List ℕ) → (stage : ℕ) × InOrder stage (faults_in stages image)
+unfolding faults_in
+stages_in_order image [] = (0, nothing_in_order 0)
+stages_in_order image (stage ∷ stages) =
+    or_else_both (λ faults. (s : ℕ) × InOrder s faults) (stage_faults image stage) (faults_in stages image) (stage, stage_in_order image stage)
+    (stages_in_order image stages)
 
 first_in : (faults : List Fault) (fault : Fault) → first_fault faults ≡ Some fault → Contains faults fault
 first_in [] fault is = absurd cc

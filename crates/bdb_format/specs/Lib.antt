@@ -23,3 +23,4 @@ pub mod Databases
 pub mod Verdict
 pub mod PageOf
 pub mod Faults
+pub mod FaultNames

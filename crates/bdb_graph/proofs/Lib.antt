@@ -6,7 +6,6 @@ pub mod ForestLemmas
 pub mod FormedLemmas
 pub mod HeldLemmas
 pub mod LeavesLemmas
-pub mod LinkingLemmas
 pub mod LinkedLemmas
 pub mod MarkLemmas
 pub mod MetaLemmas

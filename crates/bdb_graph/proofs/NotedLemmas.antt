@@ -1,5 +1,5 @@
 -- The faults that are noted, page by page and stage by stage.
-use Rattle.std.proofs.Common.{◌≡◌, ℕ, ◌+◌, ◌-◌, ◌≤◌, Bool, true, false, not, cond, List, [], ◌∷◌, ◌++◌, length, Option, Some, None, arith, refl, sym, ◌∙◌, ap, subst, append-nil}
+use Rattle.std.proofs.Common.{◌≡◌, ℕ, ◌+◌, ◌-◌, ◌≤◌, Bool, true, false, not, List, [], ◌∷◌, ◌++◌, length, Option, Some, None, arith, refl, sym, ◌∙◌, ap, subst, append-nil}
 use Rattle.std.specs.Prelude.{◌==◌, ◌&&◌, ◌||◌, Err}
 use Rattle.std.specs.List.{list_any}
 use Rattle.std.specs.Option.{option_map, option_to_list}
@@ -9,74 +9,37 @@ use Rattle.std.proofs.lemmas.List.Folds.{list_any-append}
 use Rattle.std.proofs.Math.Bool.{or-false}
 use Rattle.bdb_faults.specs.All.{IsAllOf, IsSettled}
 use Rattle.bdb_faults.specs.Named.{AreOne, HasNoted}
-use Rattle.bdb_faults.specs.Notes.{AreSame, IsFirst, Notes, NotesAll}
+use Rattle.bdb_faults.specs.Notes.{AreSame, Notes, NotesAll}
+use Rattle.bdb_faults.specs.Cases.{fault_of_form, fault_of_head, form_code, head_code}
+use Rattle.bdb_faults.specs.Rows.{fault_at, fault_if}
 use Rattle.bdb_faults.specs.declared.named.AllError.{AllError}
+use Rattle.bdb_faults.specs.declared.rows.FileRow.TheVariants.{Tail}
+use Rattle.bdb_faults.specs.declared.rows.OwnershipRow.TheVariants.{NoOwner, TooMany}
+use Rattle.bdb_faults.specs.declared.rows.ReachRow.TheVariants.{Unreached}
+use Rattle.bdb_faults.specs.declared.rows.ReferenceRow.TheVariants.{OutOfRange, WrongKind, WrongLevel, WrongBack}
+use Rattle.bdb_faults.specs.declared.rows.Row.{Row as FaultRow}
+use Rattle.bdb_faults.specs.declared.rows.Row.TheVariants.{File as FileRow, Ownership, Reach, Reference as ReferenceRow}
 use Rattle.bdb_faults.proofs.AscendLemmas.{faults_ascend}
+use Rattle.bdb_faults.proofs.CaseLemmas.{form_code_is, head_code_is}
 use Rattle.bdb_faults.proofs.ListLemmas.{all_accepted, all_one, all_refused}
-use Rattle.bdb_faults.proofs.SinkLemmas.{first_noted, noted_all, notes_both, notes_more, notes_none, notes_one}
+use Rattle.bdb_faults.proofs.SinkLemmas.{noted_all, notes_both, notes_more, notes_none, notes_one}
 use Rattle.bdb_format.specs.declared.kinds.Fault.{Fault}
-use Rattle.bdb_format.specs.declared.kinds.Unsupported.{Unsupported}
-use Rattle.bdb_format.specs.declared.kinds.Unsupported.TheVariants.{Version, Heap, LargePage, Encryption, Checksum, Partition, Extent, Compression, OwnHash, WrappedQueue}
 use Rattle.bdb_format.specs.declared.metadata.Head.{Head}
 use Rattle.bdb_format.specs.declared.metadata.MetaFault.{MetaFault}
-use Rattle.bdb_format.specs.declared.metadata.MetaFault.TheVariants.{Fault as CodeFault, Unsupported as NamedCase}
 use Rattle.bdb_format.specs.declared.references.Reference.{Reference}
 use Rattle.bdb_format.specs.File.{File, page_bytes}
-use Rattle.bdb_format.specs.HeadOf.{faulted, form_fault, head_fault, head_of, head_rows, left_out_as}
+use Rattle.bdb_format.specs.HeadOf.{faulted, form_fault, head_fault, head_of, head_rows}
 use Rattle.bdb_format.specs.Reading.{is_zero}
 use Rattle.bdb_format.specs.References.{fit_code, refs}
 use Rattle.bdb_format.specs.Rows.{form_code as row_of_form}
 use Rattle.bdb_format.specs.Table.{Row, ◌:?◌, answer, first_row}
-use Rattle.bdb_format.specs.Verdict.{Judgement, by_page, fails_as, faults_in, first_fault, form_faults, head_faults, holding, or_else, ownership_faults, ownership_rows, reach_faults, reach_rows, reference_faults, reference_rows, some_fails, stage_faults, tail_faults, tail_rows}
+use Rattle.bdb_format.specs.Verdict.{Judgement, by_page, fails_as, faults_in, form_faults, head_faults, holding, or_else, ownership_faults, ownership_rows, reach_faults, reach_rows, reference_faults, reference_rows, some_fails, stage_faults, tail_faults, tail_rows}
 use Rattle.bdb_format.specs.Graph.{is_anchor, is_owned_twice, is_reserve, is_shared_too_often, is_unowned, reaches}
 use Rattle.bdb_format.proofs.MemberLemmas.{first_member, no_member}
-use Rattle.bdb_format.proofs.VerdictLemmas.{InOrder, or_else_none, stage_in_order}
+use Rattle.bdb_format.proofs.VerdictLemmas.{or_else_none}
 use Rattle.bdb_graph.proofs.CodeLemmas.{fault_of_rows}
 use Rattle.bdb_graph.specs.declared.fits.Misfits.{Misfits}
-use Rattle.bdb_graph.specs.declared.noted.GraphRow.{GraphRow}
-use Rattle.bdb_graph.specs.declared.noted.GraphRow.TheVariants.{Head as HeadRow, Tail, Form, Reference as ReferenceRow, Unowned, Overowned, Unreached}
-use Rattle.bdb_graph.specs.declared.noted.Misfit.TheVariants.{Target, PageType, Level, Previous}
-use Rattle.bdb_graph.specs.Noted.{fault_at, fault_if, form_case, form_code, head_case, head_code, misfit_faults, misfits_of, more_misfits, page_faults}
-
--- The codes of cases.
-
-abbrev AreTheirs : (Unsupported → ℕ) → List (ℕ × Unsupported) → Type 0
-AreTheirs case [] = Unit {0}
-AreTheirs case (name ∷ names) = (case name.1 ≡ name.0) × AreTheirs case names
-
-abbrev code_by : (Unsupported → ℕ) → MetaFault → ℕ
-code_by case (CodeFault code) = code
-code_by case (NamedCase name) = case name
-
-case_is : (case : Unsupported → ℕ) (names : List (ℕ × Unsupported)) (code : ℕ) → AreTheirs case names → code_by case (left_out_as names code) ≡ code
-case_is case [] code theirs = refl
-case_is case (name ∷ names) code theirs =
-    elim (name.0 == code) as (λ b. (b ≡ true → name.0 ≡ code) → code_by case (cond b (NamedCase name.1) (left_out_as names code)) ≡ code) [
-      | true ↦ λ same. theirs.0 ∙ same refl
-      | false ↦ λ same. case_is case names code theirs.1
-    ] (eqb-true name.0 code)
-
-head_by : (fault : MetaFault) → head_code fault ≡ code_by head_case fault
-head_by (CodeFault code) = refl
-head_by (NamedCase name) = refl
-
-form_by : (fault : MetaFault) → form_code fault ≡ code_by form_case fault
-form_by (CodeFault code) = refl
-form_by (NamedCase name) = refl
-
--- the code of a fault that a code names is that code
-head_code_is : (code : ℕ) → head_code (head_fault code) ≡ code
-head_code_is code =
-    head_by (head_fault code)
-    ∙ case_is head_case ((3, Heap) ∷ (4, Version) ∷ (6, LargePage) ∷ (7, Encryption) ∷ (8, Checksum) ∷ (9, Partition) ∷ []) code
-    (refl, (refl, (refl, (refl, (refl, (refl, tt))))))
-
-form_code_is : (code : ℕ) → form_code (form_fault code) ≡ code
-form_code_is code =
-    form_by (form_fault code)
-    ∙ case_is form_case
-    ((4, Version) ∷ (6, Encryption) ∷ (7, Checksum) ∷ (8, Partition) ∷ (9, Compression) ∷ (11, OwnHash) ∷ (15, Extent) ∷ (18, WrappedQueue) ∷ []) code
-    (refl, (refl, (refl, (refl, (refl, (refl, (refl, (refl, tt))))))))
+use Rattle.bdb_graph.specs.Noted.{misfit_faults, misfits_of, more_misfits, page_faults}
 
 -- Page by page.
 
@@ -94,14 +57,14 @@ none_noted before stage from n codes is =
     let none : n - from ≡ 0 = omega arith in subst (λ k. NotesAll before before (by_page stage from k codes)) (sym none) (notes_none before)
 
 -- the faults of a row and of those below it
-row_held : (row : GraphRow) (stage page code : ℕ) (holds : Bool) (rows : List (Row ℕ)) (rest : List Fault)
+row_held : (row : FaultRow) (stage page code : ℕ) (holds : Bool) (rows : List (Row ℕ)) (rest : List Fault)
     → fault_at row page ≡ record { stage = stage; page = page; code = code } → rest ≡ page_faults stage page (holding rows)
     → fault_if row page holds ++ rest ≡ page_faults stage page (holding (code :? holds ∷ rows))
 row_held row stage page code true rows rest is same = cc (is, same)
 row_held row stage page code false rows rest is same = same
 
 -- the faults of one row alone
-row_alone : (row : GraphRow) (stage page code : ℕ) (holds : Bool) → fault_at row page ≡ record { stage = stage; page = page; code = code }
+row_alone : (row : FaultRow) (stage page code : ℕ) (holds : Bool) → fault_at row page ≡ record { stage = stage; page = page; code = code }
     → fault_if row page holds ≡ page_faults stage page (holding (code :? holds ∷ []))
 row_alone row stage page code holds is = sym (append-nil (fault_if row page holds)) ∙ row_held row stage page code holds [] [] is refl
 
@@ -131,10 +94,10 @@ misfits_noted before after file page misfits is noted =
     let c : Bool = some_fails file page 3 in
     let d : Bool = some_fails file page 4 in
     let same : misfit_faults (misfits_of (fit_code file page) (refs file page)) page ≡ page_faults 3 page (holding (reference_rows file page)) =
-    row_held (ReferenceRow Target) 3 page 1 a (2 :? b ∷ 3 :? c ∷ 4 :? d ∷ [])
-    (fault_if (ReferenceRow PageType) page b ++ (fault_if (ReferenceRow Level) page c ++ fault_if (ReferenceRow Previous) page d)) refl
-    (row_held (ReferenceRow PageType) 3 page 2 b (3 :? c ∷ 4 :? d ∷ []) (fault_if (ReferenceRow Level) page c ++ fault_if (ReferenceRow Previous) page d) refl
-    (row_held (ReferenceRow Level) 3 page 3 c (4 :? d ∷ []) (fault_if (ReferenceRow Previous) page d) refl (row_alone (ReferenceRow Previous) 3 page 4 d refl))) in
+    row_held (ReferenceRow OutOfRange) 3 page 1 a (2 :? b ∷ 3 :? c ∷ 4 :? d ∷ [])
+    (fault_if (ReferenceRow WrongKind) page b ++ (fault_if (ReferenceRow WrongLevel) page c ++ fault_if (ReferenceRow WrongBack) page d)) refl
+    (row_held (ReferenceRow WrongKind) 3 page 2 b (3 :? c ∷ 4 :? d ∷ []) (fault_if (ReferenceRow WrongLevel) page c ++ fault_if (ReferenceRow WrongBack) page d) refl
+    (row_held (ReferenceRow WrongLevel) 3 page 3 c (4 :? d ∷ []) (fault_if (ReferenceRow WrongBack) page d) refl (row_alone (ReferenceRow WrongBack) 3 page 4 d refl))) in
     subst (NotesAll before after) (ap (λ (m : Misfits). misfit_faults m page) is ∙ same) (notes_one before after (misfit_faults misfits page) noted)
 
 -- all pages are passed
@@ -148,25 +111,25 @@ references_noted before after file n all noted =
 -- Stages 4 and 5, and pages above the last one.
 
 -- one row at a page
-pub row_noted : (before after : List Fault → Type 0) (row : GraphRow) (stage page code : ℕ) (holds : Bool)
+pub row_noted : (before after : List Fault → Type 0) (row : FaultRow) (stage page code : ℕ) (holds : Bool)
     → fault_at row page ≡ record { stage = stage; page = page; code = code } → Notes before after (fault_if row page holds)
     → NotesAll before after (page_faults stage page (holding (code :? holds ∷ [])))
 row_noted before after row stage page code holds is noted =
     subst (NotesAll before after) (row_alone row stage page code holds is) (notes_one before after (fault_if row page holds) noted)
 
 -- two rows at a page
-both_noted : (before middle after : List Fault → Type 0) (page : ℕ) (lacks many : Bool) → Notes before middle (fault_if Unowned page lacks)
-    → Notes middle after (fault_if Overowned page many) → NotesAll before after (page_faults 4 page (holding (1 :? lacks ∷ 2 :? many ∷ [])))
+both_noted : (before middle after : List Fault → Type 0) (page : ℕ) (lacks many : Bool) → Notes before middle (fault_if (Ownership NoOwner) page lacks)
+    → Notes middle after (fault_if (Ownership TooMany) page many) → NotesAll before after (page_faults 4 page (holding (1 :? lacks ∷ 2 :? many ∷ [])))
 both_noted before middle after page lacks many first second =
     subst (NotesAll before after)
-    (row_held Unowned 4 page 1 lacks (2 :? many ∷ []) (fault_if Overowned page many) refl (row_alone Overowned 4 page 2 many refl))
-    (notes_both before middle after (fault_if Unowned page lacks) (fault_if Overowned page many) (notes_one before middle _ first)
+    (row_held (Ownership NoOwner) 4 page 1 lacks (2 :? many ∷ []) (fault_if (Ownership TooMany) page many) refl (row_alone (Ownership TooMany) 4 page 2 many refl))
+    (notes_both before middle after (fault_if (Ownership NoOwner) page lacks) (fault_if (Ownership TooMany) page many) (notes_one before middle _ first)
     (notes_one middle after _ second))
 
 pub owned_noted : (before middle after : List Fault → Type 0) (file : File) (page : ℕ) (lacks many : Bool)
     → lacks ≡ (not (is_anchor file page) && not (is_reserve file page) && is_unowned file page)
-    → many ≡ (is_shared_too_often file page || is_owned_twice file page) → Notes before middle (fault_if Unowned page lacks)
-    → Notes middle after (fault_if Overowned page many) → NotesAll before after (page_faults 4 page (holding (ownership_rows file page)))
+    → many ≡ (is_shared_too_often file page || is_owned_twice file page) → Notes before middle (fault_if (Ownership NoOwner) page lacks)
+    → Notes middle after (fault_if (Ownership TooMany) page many) → NotesAll before after (page_faults 4 page (holding (ownership_rows file page)))
 owned_noted before middle after file page lacks many lack is_many first second =
     subst (λ b. NotesAll before after (page_faults 4 page (holding (1 :? b ∷ 2 :? (is_shared_too_often file page || is_owned_twice file page) ∷ [])))) lack
     (subst (λ b. NotesAll before after (page_faults 4 page (holding (1 :? lacks ∷ 2 :? b ∷ [])))) is_many
@@ -180,9 +143,9 @@ owners_noted before after file n all noted =
     subst (λ k. NotesAll before after (by_page 4 1 k (λ p. holding (ownership_rows file p)))) same noted
 
 pub reached_noted : (before after : List Fault → Type 0) (file : File) (page : ℕ) (reached : Bool) → reached ≡ reaches file page
-    → Notes before after (fault_if Unreached page (not reached)) → NotesAll before after (page_faults 5 page (holding (reach_rows file page)))
+    → Notes before after (fault_if (Reach Unreached) page (not reached)) → NotesAll before after (page_faults 5 page (holding (reach_rows file page)))
 reached_noted before after file page reached is noted =
-    subst (λ b. NotesAll before after (page_faults 5 page (holding (1 :? not b ∷ [])))) is (row_noted before after Unreached 5 page 1 (not reached) refl noted)
+    subst (λ b. NotesAll before after (page_faults 5 page (holding (1 :? not b ∷ [])))) is (row_noted before after (Reach Unreached) 5 page 1 (not reached) refl noted)
 
 pub reach_noted : (before after : List Fault → Type 0) (file : File) (n : ℕ) → n ≡ file.last + 1
     → NotesAll before after (by_page 5 1 (n - 1) (λ p. holding (reach_rows file p))) → NotesAll before after (reach_faults file)
@@ -192,11 +155,11 @@ reach_noted before after file n all noted =
     subst (λ k. NotesAll before after (by_page 5 1 k (λ p. holding (reach_rows file p)))) same noted
 
 pub zero_noted : (before after : List Fault → Type 0) (image : List ℕ) (head : Head) (page : ℕ) (zeros : Bool) (bytes : List ℕ)
-    → zeros ≡ is_zero bytes → bytes ≡ page_bytes head image page → Notes before after (fault_if Tail page (not zeros))
+    → zeros ≡ is_zero bytes → bytes ≡ page_bytes head image page → Notes before after (fault_if (FileRow Tail) page (not zeros))
     → NotesAll before after (page_faults 1 page (holding (tail_rows head image page)))
 zero_noted before after image head page zeros bytes is bytes_are noted =
     subst (λ b. NotesAll before after (page_faults 1 page (holding (12 :? not b ∷ [])))) (is ∙ ap is_zero bytes_are)
-    (row_noted before after Tail 1 page 12 (not zeros) refl noted)
+    (row_noted before after (FileRow Tail) 1 page 12 (not zeros) refl noted)
 
 pub tail_noted : (before after : List Fault → Type 0) (image : List ℕ) (head : Head) (n : ℕ) → head ≡ head_of image → n ≡ head.pages
     → NotesAll before after (by_page 1 (head.last + 1) (n - (head.last + 1)) (λ p. holding (tail_rows head image p))) → NotesAll before after (tail_faults image)
@@ -208,12 +171,12 @@ tail_noted before after image head n is all noted =
 -- Stage 2.
 
 pub form_noted : (before after : List Fault → Type 0) (page : ℕ) (code : Option ℕ) (fault : MetaFault) → Some fault ≡ option_map form_fault code
-    → Notes before after (fault_at (Form fault) page ∷ []) → NotesAll before after (page_faults 2 page (option_to_list code))
+    → Notes before after (fault_of_form fault page ∷ []) → NotesAll before after (page_faults 2 page (option_to_list code))
 form_noted before after page None fault is noted = absurd cc
 form_noted before after page (Some code) fault is noted =
     let same : fault ≡ form_fault code = cc in
     let told : form_code fault ≡ code = ap form_code same ∙ form_code_is code in
-    subst (λ c. NotesAll before after (page_faults 2 page (c ∷ []))) told (notes_one before after (fault_at (Form fault) page ∷ []) noted)
+    subst (λ c. NotesAll before after (page_faults 2 page (c ∷ []))) told (notes_one before after (fault_of_form fault page ∷ []) noted)
 
 pub form_passed : (before : List Fault → Type 0) (page : ℕ) (code : Option ℕ) → None ≡ option_map form_fault code
     → NotesAll before before (page_faults 2 page (option_to_list code))
@@ -231,7 +194,7 @@ forms_noted before after image head n is all noted =
 -- Page 0.
 
 head_alone : (code : Option ℕ) (fault : MetaFault) → Some fault ≡ option_map head_fault code
-    → by_page 1 0 1 (λ p. option_to_list code) ≡ fault_at (HeadRow fault) 0 ∷ []
+    → by_page 1 0 1 (λ p. option_to_list code) ≡ fault_of_head fault ∷ []
 head_alone None fault is = absurd cc
 head_alone (Some code) fault is =
     let same : fault ≡ head_fault code = cc in
@@ -240,7 +203,7 @@ head_alone (Some code) fault is =
 
 -- page 0 is refused: its fault is the only one
 pub head_refused : (image : List ℕ) (fault : MetaFault) → Err fault ≡ faulted head_fault (answer (head_rows image) (head_of image))
-    → faults_in (1 ∷ 2 ∷ []) image ≡ fault_at (HeadRow fault) 0 ∷ []
+    → faults_in (1 ∷ 2 ∷ []) image ≡ fault_of_head fault ∷ []
 unfolding faults_in head_faults
 head_refused image fault same =
     let first : Some fault ≡ option_map head_fault (first_row (head_rows image)) = ap result_err same ∙ fault_of_rows head_fault (head_rows image) (head_of image) in
@@ -325,29 +288,6 @@ last_stage image stage = or_nothing (stage_faults image stage)
     or_nothing : (faults : List Fault) → or_else faults (λ _. []) ≡ faults
     or_nothing [] = refl
     or_nothing (fault ∷ faults) = refl
-
--- The first fault.
-
-abbrev IsOrdered : List Fault → Type 0
-IsOrdered faults = (stage : ℕ) × InOrder stage faults
-
-or_else_ordered : (faults others : List Fault) → IsOrdered faults → IsOrdered others → IsOrdered (or_else faults (λ _. others))
-or_else_ordered [] others first second = second
-or_else_ordered (fault ∷ faults) others first second = first
-
-in_ordered : (image stages : List ℕ) → IsOrdered (faults_in stages image)
-unfolding faults_in
-in_ordered image [] = (0, stage_in_order image 0)
-in_ordered image (stage ∷ stages) =
-    or_else_ordered (stage_faults image stage) (faults_in stages image) (stage, stage_in_order image stage) (in_ordered image stages)
-
--- what a check of some stages found over a new `First`
-pub first_found : (image stages : List ℕ) (begun first : Option Fault) → begun ≡ None → NotesAll (IsFirst begun) (IsFirst first) (faults_in stages image)
-    → first ≡ first_fault (faults_in stages image)
-first_found image stages begun first new all =
-    let ordered = in_ordered image stages in
-    first_noted ordered.0 (faults_in stages image) first ordered.1
-    (subst (λ (f : Option Fault). NotesAll (IsFirst f) (IsFirst first) (faults_in stages image)) new all)
 
 -- All faults.
 

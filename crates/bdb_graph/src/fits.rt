@@ -1,16 +1,16 @@
 ghost use Rattle.std.specs.Prelude.{◌≡◌, ◌≤◌, IsTrue, OnErr, OnOk};
 ghost use Rattle.std.specs.Option.{option_map};
 ghost use Rattle.bdb_faults.specs.Notes.{Notes};
+ghost use Rattle.bdb_faults.specs.Rows.{reference_code};
 ghost use Rattle.bdb_graph.specs.Fits.{asks_previous, is_of_type, page_rows};
-ghost use Rattle.bdb_graph.specs.Noted.{misfit_code, misfit_faults, more_misfits, no_misfits};
+ghost use Rattle.bdb_graph.specs.Noted.{misfit_faults, more_misfits, no_misfits};
 ghost use Rattle.bdb_format.specs.File.{file_of};
 ghost use Rattle.bdb_format.specs.References.{asked_by, asks_type, fit_code, has_type, is_asked};
 ghost use Rattle.bdb_format.specs.Table.{first_row};
 
 use crate::Formed;
 use crate::formed_page::{FormedPage, is_one_of, page_at};
-use crate::noted::{GraphRow, Misfit, note_if};
-use bdb_faults::FaultSink;
+use bdb_faults::{FaultSink, ReferenceRow, Row, note_if};
 use bdb_format::{Reference, Sort};
 use std::alloc::AllocError;
 use std::marker::Model;
@@ -56,16 +56,16 @@ impl Demand {
     }
 
     /// The first row with which a page that is there falls short of what is asked.
-    fn misfit(&self, page: &FormedPage) -> Option<Misfit>
-        ensures { option_map misfit_code result ≡ first_row (page_rows self.now page.now) }
+    fn misfit(&self, page: &FormedPage) -> Option<ReferenceRow>
+        ensures { option_map reference_code result ≡ first_row (page_rows self.now page.now) }
     {
         let header = page.header();
         if !self.is_of_type(page) {
-            Some(Misfit::PageType)
+            Some(ReferenceRow::WrongKind)
         } else if !is_asked(self.level, u32::from(header.level)) {
-            Some(Misfit::Level)
+            Some(ReferenceRow::WrongLevel)
         } else if !is_asked(self.previous, header.previous) {
-            Some(Misfit::Previous)
+            Some(ReferenceRow::WrongBack)
         } else {
             None
         }
@@ -124,12 +124,12 @@ fn asked_by(holder: u32, page: &FormedPage, sort: Sort) -> Demand
 
 /// The first row that holds for a reference of this page; none where it fits.
 #[tactic(auto, using(crate::proofs::FitLemmas::names_zero, crate::proofs::FitLemmas::names_above, crate::proofs::HeldLemmas::last_page, crate::proofs::HeldLemmas::last_page))]
-pub(crate) fn misfit(formed: &Formed, holder: u32, reference: Reference) -> Option<Misfit>
+pub(crate) fn misfit(formed: &Formed, holder: u32, reference: Reference) -> Option<ReferenceRow>
     requires { holder ≤ (file_of formed.now).last }
-    ensures { option_map misfit_code result ≡ fit_code (file_of formed.now) holder reference }
+    ensures { option_map reference_code result ≡ fit_code (file_of formed.now) holder reference }
 {
     if reference.target == 0 || reference.target > u64::from(formed.head().last) {
-        return Some(Misfit::Target);
+        return Some(ReferenceRow::OutOfRange);
     }
     let asked = asked_by(holder, &page_at(formed, holder), reference.sort);
     asked.misfit(&page_at(formed, reference.target as u32))
@@ -158,14 +158,14 @@ impl Misfits {
     }
 
     /// The rows after one more reference.
-    pub(crate) fn with(self, misfit: Option<Misfit>) -> Misfits
-        ensures { result ≡ more_misfits self (option_map misfit_code misfit) }
+    pub(crate) fn with(self, misfit: Option<ReferenceRow>) -> Misfits
+        ensures { result ≡ more_misfits self (option_map reference_code misfit) }
     {
         Misfits {
-            target: self.target || matches!(misfit, Some(Misfit::Target)),
-            page_type: self.page_type || matches!(misfit, Some(Misfit::PageType)),
-            level: self.level || matches!(misfit, Some(Misfit::Level)),
-            previous: self.previous || matches!(misfit, Some(Misfit::Previous)),
+            target: self.target || matches!(misfit, Some(ReferenceRow::OutOfRange)),
+            page_type: self.page_type || matches!(misfit, Some(ReferenceRow::WrongKind)),
+            level: self.level || matches!(misfit, Some(ReferenceRow::WrongLevel)),
+            previous: self.previous || matches!(misfit, Some(ReferenceRow::WrongBack)),
         }
     }
 
@@ -176,20 +176,25 @@ impl Misfits {
     {
         note_if(
             found,
-            GraphRow::Reference(Misfit::Target),
+            Row::Reference(ReferenceRow::OutOfRange),
             page,
             self.target,
         )?;
         note_if(
             found,
-            GraphRow::Reference(Misfit::PageType),
+            Row::Reference(ReferenceRow::WrongKind),
             page,
             self.page_type,
         )?;
-        note_if(found, GraphRow::Reference(Misfit::Level), page, self.level)?;
         note_if(
             found,
-            GraphRow::Reference(Misfit::Previous),
+            Row::Reference(ReferenceRow::WrongLevel),
+            page,
+            self.level,
+        )?;
+        note_if(
+            found,
+            Row::Reference(ReferenceRow::WrongBack),
             page,
             self.previous,
         )?;

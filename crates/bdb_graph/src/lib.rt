@@ -14,7 +14,6 @@ mod listing;
 mod meta;
 mod named;
 mod names;
-mod noted;
 mod open;
 mod owned;
 mod page;

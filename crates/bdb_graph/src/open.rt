@@ -12,9 +12,11 @@ ghost use Rattle.bdb_format.specs.Verdict.{as_verdict, faults_in, form_faults, t
 use crate::Formed;
 use crate::cases::verdict_on;
 use crate::formed::page_bytes;
-use crate::noted::{GraphRow, note, note_if};
 use crate::page::page_fault;
-use bdb_faults::{AllError, FaultSink, First, NamedList, refused_by};
+use bdb_faults::{
+    AllError, FaultSink, FileRow, First, NamedList, Row, fault_of_form, fault_of_head, note_if,
+    refused_by,
+};
 use bdb_format::{Head, Verdict};
 use std::alloc::{AllocError, Global};
 
@@ -79,7 +81,7 @@ fn note_form<F: FaultSink>(image: &[u8], found: &mut F) -> Result<Option<Head>, 
             Ok(Some(head))
         }
         Err(fault) => {
-            note(found, GraphRow::Head(fault), 0)?;
+            found.note(fault_of_head(fault))?;
             Ok(None)
         }
     }
@@ -107,7 +109,7 @@ fn note_tail<F: FaultSink>(image: &[u8], head: &Head, found: &mut F) -> Result<(
 {
     for number in head.last + 1..head.pages {
         let is_used = !is_zero(page_bytes(image, head, number));
-        note_if(found, GraphRow::Tail, number, is_used)?;
+        note_if(found, Row::File(FileRow::Tail), number, is_used)?;
     }
     Ok(())
 }
@@ -138,7 +140,7 @@ fn note_page<F: FaultSink>(
     ensures refused { OnErr result (IsTrue F.takes_memory) }
 {
     if let Some(fault) = page_fault(page, head, number) {
-        note(found, GraphRow::Form(fault), number)?;
+        found.note(fault_of_form(fault, number))?;
     }
     Ok(())
 }

@@ -6,9 +6,8 @@ ghost use Rattle.bdb_format.specs.Verdict.{ownership_faults, ownership_rows};
 ghost use Rattle.bdb_format.specs.ByPage.{holding};
 ghost use Rattle.bdb_graph.specs.Noted.{page_faults};
 
-use crate::noted::{GraphRow, note_if};
 use crate::roles::Roles;
-use bdb_faults::FaultSink;
+use bdb_faults::{FaultSink, OwnershipRow, Row, note_if};
 use std::alloc::AllocError;
 
 /// Notes the pages from 1 on that have no owner and need one, or more than they may have.
@@ -30,8 +29,18 @@ fn note_owned<F: FaultSink>(roles: &Roles<'_>, page: u32, found: &mut F) -> Resu
         (page_faults 4 page (holding (ownership_rows (file_of roles.now) page)))) }
     ensures refused { OnErr result (IsTrue F.takes_memory) }
 {
-    note_if(found, GraphRow::Unowned, page, lacks_owner(roles, page))?;
-    note_if(found, GraphRow::Overowned, page, has_too_many(roles, page))?;
+    note_if(
+        found,
+        Row::Ownership(OwnershipRow::NoOwner),
+        page,
+        lacks_owner(roles, page),
+    )?;
+    note_if(
+        found,
+        Row::Ownership(OwnershipRow::TooMany),
+        page,
+        has_too_many(roles, page),
+    )?;
     Ok(())
 }
 

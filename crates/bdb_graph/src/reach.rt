@@ -5,9 +5,8 @@ ghost use Rattle.bdb_format.specs.File.{file_of};
 ghost use Rattle.bdb_format.specs.Graph.{reaches};
 ghost use Rattle.bdb_format.specs.Verdict.{reach_faults, reference_faults};
 
-use crate::noted::{GraphRow, note_if};
 use crate::roles::Roles;
-use bdb_faults::FaultSink;
+use bdb_faults::{FaultSink, ReachRow, Row, note_if};
 use std::alloc::{AllocError, Global};
 
 /// What is known of a page: nothing, that it stands on the way up that is open, or whether it reaches.
@@ -33,7 +32,7 @@ pub(crate) fn note_reach<F: FaultSink>(
     let mut marks = vec![in alloc; Mark::Open; roles.head().last as usize + 1]?;
     for page in 1..roles.head().last + 1 {
         let reached = reaches(roles, &mut marks, page);
-        note_if(found, GraphRow::Unreached, page, !reached)?;
+        note_if(found, Row::Reach(ReachRow::Unreached), page, !reached)?;
     }
     Ok(())
 }

@@ -3,7 +3,7 @@ use Rattle.std.proofs.Common.{◌≡◌, ◌⊎◌, ℕ, ◌+◌, ◌≤◌, Boo
 use Rattle.std.specs.Prelude.{◌==◌, ◌||◌}
 use Rattle.std.specs.List.{Contains, filter, flat_map, range_with_len}
 use Rattle.std.proofs.Math.Path.{fun_ext}
-use Rattle.std.proofs.lemmas.Bool.{cases_Bool, eqb-true, eq-eqb, or_left, or_right}
+use Rattle.std.proofs.lemmas.Bool.{cases_Bool, eqb-true, eq-eqb, or_left, or_right, or_cases}
 use Rattle.std.proofs.lemmas.List.Elements.{Contains-append_cases, Contains-append_left, Contains-append_right}
 use Rattle.bdb_format.specs.declared.references.Reference.{Reference}
 use Rattle.bdb_format.specs.File.{File, page_at, header_in}
@@ -96,10 +96,6 @@ first_inside pages f q h first = of (owners_among pages f q) (owner_inside pages
     of [] inside some = absurd cc
     of (owner ∷ os) inside some = let same : owner.holder ≡ h = cc in subst (λ (k : ℕ). pages k ≡ true) same (inside owner (first_member owner os))
 
-pub in_either : (a b : Bool) → (a || b) ≡ true → (a ≡ true) ⊎ (b ≡ true)
-in_either true b is = inl refl
-in_either false b is = inr is
-
 pub stand_together : GrovesStandTogether
 stand_together f one two both es gs union apart first second =
     record {
@@ -126,7 +122,7 @@ stand_together f one two both es gs union apart first second =
     }
   where
     sides : (p : ℕ) → both p ≡ true → (one p ≡ true) ⊎ (two p ≡ true)
-    sides p is = in_either (one p) (two p) (sym (union p) ∙ is)
+    sides p is = or_cases (one p) (two p) (sym (union p) ∙ is)
 
     of_one : (p : ℕ) → one p ≡ true → both p ≡ true
     of_one p is = union p ∙ or_left (one p) (two p) is

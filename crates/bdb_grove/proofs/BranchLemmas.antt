@@ -2,7 +2,7 @@
 use Rattle.std.proofs.Common.{◌≡◌, ◌⊎◌, ℕ, ◌+◌, ◌<◌, ◌≤◌, Bool, true, false, cond, refl, List, [], ◌∷◌, length, arith, sym, ◌∙◌, ap, subst, inl, inr, true≢false}
 use Rattle.std.specs.Prelude.{◌==◌}
 use Rattle.std.specs.List.{Contains, list_any}
-use Rattle.std.proofs.lemmas.Bool.{cases_eq, eqb-true}
+use Rattle.std.proofs.lemmas.Bool.{cases_eq, eqb-true, or_cases}
 use Rattle.bdb_format.specs.declared.pages.Header.{Header}
 use Rattle.bdb_format.specs.declared.references.Sort.{Sort}
 use Rattle.bdb_format.specs.declared.references.Sort.TheVariants.{OverflowNext}
@@ -16,7 +16,7 @@ use Rattle.bdb_format.proofs.MemberLemmas.{no_member}
 use Rattle.bdb_grove.specs.Part.{HaveLengths, HaveSets, IsBranch, IsGrove, between}
 use Rattle.bdb_grove.specs.Growing.{IsRun, chain_header}
 use Rattle.bdb_grove.specs.Branch.{BranchIsKnown, BranchesFollow, BranchesStandTogether, ChainIsBranch, NoBranch, PagesStandOverBranch}
-use Rattle.bdb_grove.proofs.BesideLemmas.{grove_is_known, in_either, stand_together}
+use Rattle.bdb_grove.proofs.BesideLemmas.{grove_is_known, stand_together}
 use Rattle.bdb_grove.proofs.ChainLemmas.{between_is, chains_stand}
 use Rattle.bdb_grove.proofs.GroveLemmas.{of_references, refs_of}
 use Rattle.bdb_grove.proofs.SeveralLemmas.{pages_stand_over}
@@ -33,13 +33,13 @@ branch_with g one both es fs These branch chains sets sides grove = record {
 
 pub branches_stand_together : BranchesStandTogether
 branches_stand_together g one two both es fs union apart first second =
-    branch_with g one both es _ (λ p. two p ≡ true) first second.chains second.sets (λ p is. in_either (one p) (two p) (sym (union p) ∙ is))
+    branch_with g one both es _ (λ p. two p ≡ true) first second.chains second.sets (λ p is. or_cases (one p) (two p) (sym (union p) ∙ is))
     (stand_together g one two both es fs union apart first.grove second.grove)
 
 pub branches_follow : BranchesFollow
 branches_follow g a b c es fs low high first second =
     branch_with g (between a b) (between a c) es _ (λ p. between b c p ≡ true) first second.chains second.sets
-    (λ p is. in_either (between a b p) (between b c p) (sym (between_parts a b c p low high) ∙ is))
+    (λ p is. or_cases (between a b p) (between b c p) (sym (between_parts a b c p low high) ∙ is))
     (groves_follow g a b c es fs low high first.grove second.grove)
 
 pub no_branch : NoBranch
@@ -65,7 +65,7 @@ of_list ps q is = let found = any_member (λ p. q == p) ps is in subst (Contains
 pub pages_stand_over_branch : PagesStandOverBranch
 pages_stand_over_branch g pages ps over chains sets branch =
     branch_with g pages _ _ ps (Contains ps) branch chains sets
-    (λ q is. elim (in_either (pages q) (list_any (λ p. q == p) ps) is) [ inl old ↦ inl old | inr new ↦ inr (of_list ps q new) ])
+    (λ q is. elim (or_cases (pages q) (list_any (λ p. q == p) ps) is) [ inl old ↦ inl old | inr new ↦ inr (of_list ps q new) ])
     (pages_stand_over g pages ps over branch.grove)
 
 -- Chains.

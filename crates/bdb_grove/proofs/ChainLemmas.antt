@@ -3,7 +3,7 @@ use Rattle.std.proofs.Common.{◌≡◌, ℕ, zero, suc, ◌+◌, ◌<◌, ◌�
 use Rattle.std.specs.Prelude.{◌==◌, ◌||◌, ◌&&◌, nat_le, nat_lt}
 use Rattle.std.specs.List.{Contains, enumerate_from}
 use Rattle.std.proofs.Math.Path.{fun_ext}
-use Rattle.std.proofs.lemmas.Bool.{cases_Bool, cases_eq, and_parts, eqb-true, eq-eqb, ne_eqb, leb-true, ltb-true, le-leb, lt-ltb, or_left, or_right}
+use Rattle.std.proofs.lemmas.Bool.{cases_Bool, cases_eq, and_parts, eqb-true, eq-eqb, ne_eqb, leb-true, ltb-true, le-leb, lt-ltb, or_left, or_right, or_cases}
 use Rattle.bdb_format.specs.declared.references.Reference.{Reference}
 use Rattle.bdb_format.specs.declared.references.Sort.TheVariants.{OverflowNext}
 use Rattle.bdb_format.specs.declared.pages.Header.{Header}
@@ -16,7 +16,7 @@ use Rattle.bdb_grove.specs.Part.{IsGrove, between}
 use Rattle.bdb_grove.specs.Growing.{ChainsStand, IsCounted, IsLink, IsRun, chain_header}
 use Rattle.bdb_grove.proofs.SeveralLemmas.{page_over_one}
 use Rattle.bdb_format.proofs.ListLemmas.{only_member}
-use Rattle.bdb_grove.proofs.BesideLemmas.{in_either, page_alone}
+use Rattle.bdb_grove.proofs.BesideLemmas.{page_alone}
 use Rattle.bdb_grove.proofs.GroveLemmas.{fits_asked, reference_of, refs_of}
 
 -- References of a page of a chain.
@@ -72,7 +72,7 @@ between_more p n q =
       | inl same ↦ or_right (between (p + 1) (p + 1 + n) q) (q == p) (eq-eqb q p same)
       | inr other ↦ or_left (between (p + 1) (p + 1 + n) q) (q == p) (is_between (p + 1) (p + 1 + n) q (omega (arith, within.0)) (omega (arith, within.1)))
     ])
-    (λ is. elim (in_either (between (p + 1) (p + 1 + n) q) (q == p) is) [
+    (λ is. elim (or_cases (between (p + 1) (p + 1 + n) q) (q == p) is) [
       | inl later ↦ let within = between_is (p + 1) (p + 1 + n) q later in is_between p (p + suc n) q (omega (arith, within.0)) (omega (arith, within.1))
       | inr here ↦ let e : q ≡ p = eqb-true q p here in is_between p (p + suc n) q (omega arith) (omega arith)
     ])

@@ -1,11 +1,11 @@
 -- Groves of pages that follow each other.
 use Rattle.std.proofs.Common.{◌≡◌, ℕ, ◌≤◌, true, [], arith, refl, inl, inr}
 use Rattle.std.specs.Prelude.{◌||◌}
-use Rattle.std.proofs.lemmas.Bool.{cases_lt, or_left, or_right}
+use Rattle.std.proofs.lemmas.Bool.{cases_lt, or_left, or_right, or_cases}
 use Rattle.bdb_format.proofs.MemberLemmas.{no_member}
 use Rattle.bdb_grove.specs.Part.{between}
 use Rattle.bdb_grove.specs.Standing.{GrovesFollow, NoPagesStand}
-use Rattle.bdb_grove.proofs.BesideLemmas.{in_either, stand_together}
+use Rattle.bdb_grove.proofs.BesideLemmas.{stand_together}
 use Rattle.bdb_grove.proofs.ChainLemmas.{between_is, is_between, same_test}
 
 -- neighbouring spans
@@ -17,7 +17,7 @@ between_parts a b c q low high =
       | inl below ↦ or_left (between a b q) (between b c q) (is_between a b q within.0 below)
       | inr from ↦ or_right (between a b q) (between b c q) (is_between b c q from within.1)
     ])
-    (λ is. elim (in_either (between a b q) (between b c q) is) [
+    (λ is. elim (or_cases (between a b q) (between b c q) is) [
       | inl one ↦ let within = between_is a b q one in is_between a c q within.0 (omega (arith, within.1, high))
       | inr two ↦ let within = between_is b c q two in is_between a c q (omega (arith, low, within.0)) within.1
     ])

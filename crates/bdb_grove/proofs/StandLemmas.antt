@@ -3,7 +3,7 @@ use Rattle.std.proofs.Common.{◌≡◌, ◌⊎◌, ℕ, suc, ◌+◌, ◌-◌, 
 use Rattle.std.specs.Prelude.{◌==◌, ◌||◌, ◌&&◌, IsTrue}
 use Rattle.std.specs.List.{Contains, filter, flat_map, range_with_len}
 use Rattle.std.proofs.Math.Bool.{and_comm, or-false}
-use Rattle.std.proofs.lemmas.Bool.{eqb-true, eq-eqb, ne_eqb, or_left, or_right}
+use Rattle.std.proofs.lemmas.Bool.{eqb-true, eq-eqb, ne_eqb, or_left, or_right, or_cases}
 use Rattle.std.proofs.lemmas.List.{append_assoc}
 use Rattle.std.proofs.lemmas.List.Elements.{filter-append}
 use Rattle.std.proofs.lemmas.List.Folds.{list_all-append}
@@ -17,7 +17,7 @@ use Rattle.bdb_grove.specs.Part.{IsOwnedBy, IsWayIn, are_heads_alone, owners_amo
 use Rattle.bdb_grove.specs.Standing.{PageStandsOver, named_by}
 use Rattle.bdb_grove.proofs.OwnerLemmas.{names_page, owner_of, unowned}
 use Rattle.bdb_grove.proofs.GroveLemmas.{range_parts}
-use Rattle.bdb_grove.proofs.BesideLemmas.{first_inside, in_either}
+use Rattle.bdb_grove.proofs.BesideLemmas.{first_inside}
 
 -- Owners.
 
@@ -189,7 +189,7 @@ page_stands_over g pages es p fewer over grove =
     both = with_page pages p
 
     sides : (q : ℕ) → both q ≡ true → (pages q ≡ true) ⊎ (q ≡ p)
-    sides q is = elim (in_either (pages q) (q == p) is) [ inl old ↦ inl old | inr same ↦ inr (eqb-true q p same) ]
+    sides q is = elim (or_cases (pages q) (q == p) is) [ inl old ↦ inl old | inr same ↦ inr (eqb-true q p same) ]
 
     kept : (q : ℕ) → pages q ≡ true → both q ≡ true
     kept q is = or_left (pages q) (q == p) is

@@ -6,7 +6,8 @@ use Rattle.std.proofs.lemmas.List.{map-append}
 use Rattle.std.proofs.lemmas.List.Elements.{Contains-append_cases, Contains-append_left, Contains-append_right}
 use Rattle.bdb_graph.specs.Linked.{HasMetadata}
 use Rattle.bdb_faults.specs.Notes.{IsFirst, Notes, NotesAll}
-use Rattle.bdb_faults.proofs.SinkLemmas.{first_noted, notes_then}
+use Rattle.bdb_faults.proofs.SinkLemmas.{notes_then}
+use Rattle.bdb_format.proofs.FaultLemmas.{same_parts}
 use Rattle.bdb_format.specs.declared.kinds.Fault.{Fault}
 use Rattle.bdb_format.specs.declared.metadata.HashMeta.{HashMeta}
 use Rattle.bdb_format.specs.ContentRows.{database_faults, database_rows, hash_contents, repeated}
@@ -15,11 +16,12 @@ use Rattle.bdb_format.specs.File.{File, file_of}
 use Rattle.bdb_format.specs.Page.{HashFields}
 use Rattle.bdb_format.specs.Verdict.{holding, first_fault}
 use Rattle.bdb_format.proofs.MemberLemmas.{in_flat_map, in_map, no_member, of_flat_map, of_map, of_range}
-use Rattle.bdb_format.proofs.VerdictLemmas.{InOrder, by_page_first, holding_least, in_by_page, of_by_page}
+use Rattle.bdb_format.proofs.VerdictLemmas.{InOrder, in_by_page, of_by_page, table_in_order}
 use Rattle.bdb_format.proofs.RepeatLemmas.{of_repeated}
-use Rattle.bdb_hash.specs.Noted.{bucket_faults, fault_at, has_stray, pair_faults, repeat_fault, repeat_faults, stored, stray_faults}
+use Rattle.bdb_hash.specs.Noted.{bucket_faults, has_stray, pair_faults, repeat_fault, repeat_faults, stored, stray_faults}
 use Rattle.bdb_hash.specs.Told.{Told, bucket_told, joined_pages, page_told, table_told, told}
 use Rattle.bdb_hash.specs.Views.{IsTable}
+use Rattle.bdb_hash.proofs.NotedLemmas.{contents_fault}
 use Rattle.bdb_hash.proofs.PlainLemmas.{IsPlain, bucket_plain}
 use Rattle.bdb_hash.proofs.RepeatLemmas.{in_bucket, in_table}
 use Rattle.bdb_hash.proofs.RowLemmas.{ArePlain, buckets_of, page_holds, page_table, pair_faults_are, pair_holds, pair_table, repeat_holds}
@@ -79,7 +81,7 @@ codes_are image meta p table has = ap holding (rows_are (file_of image) meta p (
 
 in_faults : (image : List ℕ) (meta : HashMeta) (page code : ℕ) → page ≤ (file_of image).last
     → Contains (holding (hash_contents (file_of image) meta page)) code
-    → Contains (database_faults (file_of image) (HashFields meta)) (fault_at page code)
+    → Contains (database_faults (file_of image) (HashFields meta)) (contents_fault page code)
 unfolding database_faults
 in_faults image meta page code low at = in_by_page 8 0 ((file_of image).last + 1) page code
     (λ p. holding (database_rows (file_of image) (HashFields meta) p)) (omega arith) (omega arith) at
@@ -95,7 +97,7 @@ own_in image meta b fault table has listed at =
     let plain : IsPlain file pair.0 = bucket_plain image meta b pair.0 table has (few_buckets meta b listed) pair.1 in
     let own : Contains (pair_faults meta b (told image pair.0)) fault =
     subst (λ (t : Told). Contains (pair_faults meta b t) fault) (sym pair.2) told_one.2 in
-    let code = of_map (fault_at pair.0.page) (holding (pair_table (tests_of file meta) b pair.0)) fault
+    let code = of_map (contents_fault pair.0.page) (holding (pair_table (tests_of file meta) b pair.0)) fault
     (subst (λ fs. Contains fs fault) (pair_faults_are meta b (told image pair.0)) own) in
     subst (Contains (database_faults file (HashFields meta))) code.2
     (in_faults image meta pair.0.page code.0 plain.inside
@@ -171,20 +173,16 @@ repeat_noted image meta false pair is at =
 -- a row that holds for a pair of a bucket is noted
 own_noted : (image : List ℕ) (meta : HashMeta) (strayed : Bool) (b : ℕ) (pair : StoredPair) (code : ℕ) → Contains (buckets_of meta) b
     → Contains (bucket_pairs (file_of image) meta b) pair → Contains (holding (pair_table (tests_of (file_of image) meta) b pair)) code
-    → Contains (table_noted image meta strayed) (fault_at pair.page code)
+    → Contains (table_noted image meta strayed) (contents_fault pair.page code)
 own_noted image meta strayed b pair code listed held holds =
     let t : Told = told image pair in
-    let fault : Fault = fault_at pair.page code in
+    let fault : Fault = contents_fault pair.page code in
     of_bucket image meta strayed b fault listed
     (Contains-append_left (flat_map (pair_faults meta b) (bucket_told image meta b)) (repeat_faults (bucket_told image meta b)) fault
     (in_flat_map (pair_faults meta b) (bucket_told image meta b) t fault
     (subst (λ ts. Contains ts t) (sym (bucket_is image meta b)) (in_map (told image) (bucket_pairs (file_of image) meta b) pair held))
     (subst (λ fs. Contains fs fault) (sym (pair_faults_are meta b t))
-    (in_map (fault_at pair.page) (holding (pair_table (tests_of (file_of image) meta) b pair)) code holds))))
-
-same_parts : (s t p q c d : ℕ) → s ≡ t → p ≡ q → c ≡ d
-    → ◌≡◌ {A = Fault} (record { stage = s; page = p; code = c }) (record { stage = t; page = q; code = d })
-same_parts s t p q c d stages pages codes = cc
+    (in_map (contents_fault pair.page) (holding (pair_table (tests_of (file_of image) meta) b pair)) code holds))))
 
 -- each fault of the table is noted
 covered : (image : List ℕ) (meta : HashMeta) (strayed : Bool) (fault : Fault) → IsTable image → HasMetadata (file_of image) (HashFields meta)
@@ -215,22 +213,9 @@ all_noted image meta strayed before mid after table has is one two = (
   notes_then before mid after (flat_map (bucket_faults image meta) (buckets_of meta)) (stray_faults image meta strayed) one two,
 )
 
--- The first of what was noted.
-
-in_order : (file : File) (meta : HashMeta) → InOrder 8 (database_faults file (HashFields meta))
+-- the faults of a table are all of stage 8, and the first comes before all of them
+pub in_order : (file : File) (meta : HashMeta) → InOrder 8 (database_faults file (HashFields meta))
 unfolding database_faults
 in_order file meta =
-    let codes : ℕ → List ℕ = λ p. holding (database_rows file (HashFields meta) p) in
-    record {
-      one_stage = λ fault at. (of_by_page 8 0 (file.last + 1) codes fault at).same_stage;
-      rises = by_page_first 8 0 (file.last + 1) codes (λ p. holding_least 1 (database_rows file (HashFields meta) p)
-          (omega arith, (omega arith, (omega arith, (omega arith, (omega arith, tt))))));
-    }
-
--- what a check finds over a sink that keeps the first
-pub first_found : (file : File) (meta : HashMeta) (start first : Option Fault) → start ≡ None
-    → NotesAll (IsFirst start) (IsFirst first) (database_faults file (HashFields meta))
-    → first ≡ first_fault (database_faults file (HashFields meta))
-first_found file meta start first none all =
-    first_noted 8 (database_faults file (HashFields meta)) first (in_order file meta)
-    (subst (λ (o : Option Fault). NotesAll (IsFirst o) (IsFirst first) (database_faults file (HashFields meta))) none all)
+    table_in_order 8 0 (file.last + 1) (database_rows file (HashFields meta))
+    (λ p. (omega arith, (omega arith, (omega arith, (omega arith, (omega arith, tt))))))

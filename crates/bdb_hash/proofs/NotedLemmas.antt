@@ -1,14 +1,19 @@
 -- What is noted, one fault after another.
 use Rattle.std.proofs.Common.{◌≡◌, ℕ, Bool, true, false, [], ◌∷◌, ◌++◌, map, refl}
+use Rattle.bdb_faults.specs.Rows.{fault_if}
+use Rattle.bdb_faults.specs.declared.rows.Row.TheVariants.{Contents}
+use Rattle.bdb_format.specs.declared.kinds.Fault.{Fault}
 use Rattle.bdb_format.specs.Table.{◌:?◌}
 use Rattle.bdb_format.specs.Verdict.{holding}
-use Rattle.bdb_hash.specs.Noted.{fault_at, fault_if}
-use Rattle.bdb_hash.specs.declared.noted.HashRow.TheVariants.{Duplicates, DuplicateKind, DuplicateOrder, Bucket}
+use Rattle.bdb_faults.specs.declared.rows.ContentsRow.TheVariants.{Duplicates, DuplicateKind, DuplicateOrder, Bucket}
+
+abbrev pub contents_fault : ℕ → ℕ → Fault
+contents_fault page code = record { stage = 8; page = page; code = code }
 
 -- the faults of a pair are those of the rows that hold
 pub rows_noted : (page : ℕ) (a b c d : Bool)
-    → fault_if Duplicates page a ++ fault_if DuplicateKind page b ++ fault_if DuplicateOrder page c ++ fault_if Bucket page d
-    ≡ map (fault_at page) (holding (1 :? a ∷ 2 :? b ∷ 5 :? c ∷ 8 :? d ∷ []))
+    → fault_if (Contents Duplicates) page a ++ fault_if (Contents DuplicateKind) page b ++ fault_if (Contents DuplicateOrder) page c ++ fault_if (Contents Bucket) page d
+    ≡ map (contents_fault page) (holding (1 :? a ∷ 2 :? b ∷ 5 :? c ∷ 8 :? d ∷ []))
 rows_noted page true true true true = refl
 rows_noted page true true true false = refl
 rows_noted page true true false true = refl

@@ -15,6 +15,8 @@ use Rattle.std.proofs.lemmas.List.Folds.{list_any-append}
 use Rattle.std.proofs.lemmas.List.Sums.{fold-append}
 use Rattle.std.proofs.lemmas.Map.Text.{is_eq-slice_cmp}
 use Rattle.bdb_faults.specs.Notes.{Notes}
+use Rattle.bdb_faults.specs.Rows.{fault_if}
+use Rattle.bdb_faults.specs.declared.rows.Row.TheVariants.{Contents}
 use Rattle.bdb_format.proofs.BoolLemmas.{cond_or}
 use Rattle.bdb_overflow.specs.Keys.{has_item, has_key, repeated_by}
 use Rattle.bdb_format.specs.declared.kinds.Fault.{Fault}
@@ -23,10 +25,10 @@ use Rattle.bdb_format.specs.ContentRows.{bucket_of_key, repeated}
 use Rattle.bdb_format.specs.Contents.{StoredPair}
 use Rattle.bdb_format.proofs.MemberLemmas.{filter_step, first_member, later_member, member_cases, no_member, none_passes, of_flat_map, of_map, of_range}
 use Rattle.bdb_format.proofs.RepeatLemmas.{has_key as has_this, repeated_after, repeated_is}
-use Rattle.bdb_hash.specs.Noted.{fault_if, has_stray, has_stray_in, is_stray, repeat_fault, repeat_faults, stored}
+use Rattle.bdb_hash.specs.Noted.{has_stray, has_stray_in, is_stray, repeat_fault, repeat_faults, stored}
 use Rattle.bdb_hash.specs.Passed.{AreKeysOf, IsNoting, NotesRepeats, behind, key_of}
 use Rattle.bdb_hash.specs.Told.{Told, bucket_told, table_told}
-use Rattle.bdb_hash.specs.declared.noted.HashRow.TheVariants.{KeyTwice}
+use Rattle.bdb_faults.specs.declared.rows.ContentsRow.TheVariants.{KeyTwice}
 use Rattle.bdb_overflow.proofs.KeyLemmas.{eq_same, not_true}
 use Rattle.bdb_hash.proofs.RowLemmas.{buckets_of}
 use Rattle.bdb_faults.proofs.SinkLemmas.{notes_nothing, notes_then}
@@ -183,7 +185,7 @@ keys_more keys more seen pair are updates sought =
     ∙ (ap (λ b. cond b true (has_key keys sought)) (is_eq-slice_cmp pair.key sought)
     ∙ (ap (λ b. cond (bytes_eq pair.key sought) true b) (are sought) ∙ cond_or (bytes_eq pair.key sought) (has_item key_of seen sought)))
 
-repeat_here : (has : Bool) (pair : StoredPair) → fault_if KeyTwice pair.page has ≡ map repeat_fault (cond has (pair ∷ []) [])
+repeat_here : (has : Bool) (pair : StoredPair) → fault_if (Contents KeyTwice) pair.page has ≡ map repeat_fault (cond has (pair ∷ []) [])
 repeat_here true pair = refl
 repeat_here false pair = refl
 
@@ -193,14 +195,14 @@ not_not false = refl
 
 pub one_noted : (keys more : BTreeSet (List ℕ)) (before after : List Fault → Type 0) (t : Told) (key : List ℕ) (page : ℕ) (is_new : Bool)
     → Updates (slice_cmp nat_cmp) keys more key true → is_new ≡ not (has_key keys key) → key ≡ t.pair.key → page ≡ t.pair.page
-    → Notes before after (fault_if KeyTwice page (not is_new)) → NotesRepeats keys more before after (t ∷ [])
+    → Notes before after (fault_if (Contents KeyTwice) page (not is_new)) → NotesRepeats keys more before after (t ∷ [])
 one_noted keys more before after t key page is_new updates new_is same at notes = record {
   next = λ seen are. (
     keys_more keys more seen t.pair are (subst (λ k. Updates (slice_cmp nat_cmp) keys more k true) same updates),
     subst (Notes before after)
-        (ap (λ b. fault_if KeyTwice page b)
+        (ap (λ b. fault_if (Contents KeyTwice) page b)
         (ap not new_is ∙ (not_not (has_key keys key) ∙ (ap (has_key keys) same ∙ are t.pair.key)))
-        ∙ (ap (λ p. fault_if KeyTwice p (has_item key_of seen t.pair.key)) at ∙ repeat_here (has_item key_of seen t.pair.key) t.pair)) notes,
+        ∙ (ap (λ p. fault_if (Contents KeyTwice) p (has_item key_of seen t.pair.key)) at ∙ repeat_here (has_item key_of seen t.pair.key) t.pair)) notes,
   );
 }
 

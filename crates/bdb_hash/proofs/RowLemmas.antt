@@ -18,9 +18,9 @@ use Rattle.bdb_format.specs.Verdict.{holding}
 use Rattle.bdb_format.proofs.MemberLemmas.{filter_step, first_member, in_map, later_member, member_cases, no_member, of_map}
 use Rattle.bdb_format.specs.Flags.{has_duplicates, is_sorted}
 use Rattle.bdb_format.specs.Page.{HashFields}
-use Rattle.bdb_hash.specs.Noted.{fault_at, pair_faults}
+use Rattle.bdb_hash.specs.Noted.{pair_faults}
 use Rattle.bdb_hash.specs.Told.{Told}
-use Rattle.bdb_hash.proofs.NotedLemmas.{rows_noted}
+use Rattle.bdb_hash.proofs.NotedLemmas.{contents_fault, rows_noted}
 use Rattle.bdb_hash.proofs.PlainLemmas.{IsPlain}
 use Rattle.bdb_format.proofs.ListLemmas.{any_member, only_member, passes_here}
 
@@ -179,7 +179,7 @@ tests_of file meta =
 
 -- the faults of a pair by itself are those of the tests that hold
 pub pair_faults_are : (meta : HashMeta) (b : ℕ) (t : Told)
-    → pair_faults meta b t ≡ map (fault_at t.pair.page) (holding (pair_table (tests_of (file_of t.image) meta) b t.pair))
+    → pair_faults meta b t ≡ map (contents_fault t.pair.page) (holding (pair_table (tests_of (file_of t.image) meta) b t.pair))
 pair_faults_are meta b t = rows_noted t.pair.page _ _ _ _
 
 abbrev pub buckets_of : HashMeta → List ℕ

@@ -1,6 +1,9 @@
 -- The faults of a table's contents in the order in which they are noted, bucket by bucket. Source: docs/FORMAT.md, "Stage 8, contents".
 use Rattle.std.specs.Prelude.{ℕ, ◌==◌, ◌&&◌, not, if◌then◌else◌, Bool, List, [], ◌∷◌, map, ◌+◌, ◌++◌}
 use Rattle.std.specs.List.{flat_map, list_any, range_with_len}
+use Rattle.bdb_faults.specs.Rows.{fault_at, fault_if}
+use Rattle.bdb_faults.specs.declared.rows.ContentsRow.TheVariants.{Duplicates, DuplicateKind, DuplicateOrder, Bucket, KeyTwice}
+use Rattle.bdb_faults.specs.declared.rows.Row.TheVariants.{Contents}
 use Rattle.bdb_format.specs.declared.kinds.Fault.{Fault}
 use Rattle.bdb_format.specs.declared.metadata.HashMeta.{HashMeta}
 use Rattle.bdb_format.specs.ContentRows.{ascends, bucket_of_key, is_duplicate, is_wrong_set, repeated}
@@ -9,22 +12,6 @@ use Rattle.bdb_format.specs.File.{file_of}
 use Rattle.bdb_format.specs.Flags.{has_duplicates, is_sorted}
 use Rattle.bdb_format.specs.Page.{HashFields}
 use Rattle.bdb_hash.specs.Told.{Told, bucket_told, table_told}
-use Rattle.bdb_hash.specs.declared.noted.HashRow.{HashRow}
-use Rattle.bdb_hash.specs.declared.noted.HashRow.TheVariants.{Duplicates, DuplicateKind, DuplicateOrder, Bucket, KeyTwice}
-
-abbrev pub code_of : HashRow → ℕ
-code_of Duplicates = 1
-code_of DuplicateKind = 2
-code_of DuplicateOrder = 5
-code_of Bucket = 8
-code_of KeyTwice = 9
-
-abbrev pub fault_at : ℕ → ℕ → Fault
-fault_at page code = record { stage = 8; page = page; code = code }
-
--- the fault of a row at a page, where it holds there
-abbrev pub fault_if : HashRow → ℕ → Bool → List Fault
-fault_if row page holds = if holds then fault_at page (code_of row) ∷ [] else []
 
 -- a stray: a pair of this bucket that isn't in the bucket of its key
 abbrev pub is_stray : HashMeta → ℕ → Told → Bool
@@ -45,10 +32,10 @@ is_unsorted meta told = is_sorted (HashFields meta) && not (ascends (data_of (fi
 -- the faults of a pair by itself, which is a stray or isn't
 abbrev pub told_faults : HashMeta → Bool → Told → List Fault
 told_faults meta stray told =
-    fault_if Duplicates told.pair.page (not (has_duplicates (HashFields meta)) && is_duplicate told.pair)
-    ++ fault_if DuplicateKind told.pair.page (is_wrong_set (file_of told.image) (is_sorted (HashFields meta)) told.pair.data_item)
-    ++ fault_if DuplicateOrder told.pair.page (is_unsorted meta told)
-    ++ fault_if Bucket told.pair.page stray
+    fault_if (Contents Duplicates) told.pair.page (not (has_duplicates (HashFields meta)) && is_duplicate told.pair)
+    ++ fault_if (Contents DuplicateKind) told.pair.page (is_wrong_set (file_of told.image) (is_sorted (HashFields meta)) told.pair.data_item)
+    ++ fault_if (Contents DuplicateOrder) told.pair.page (is_unsorted meta told)
+    ++ fault_if (Contents Bucket) told.pair.page stray
 
 -- the faults of a pair of a bucket by itself
 abbrev pub pair_faults : HashMeta → ℕ → Told → List Fault
@@ -56,7 +43,7 @@ pair_faults meta b told = told_faults meta (is_stray meta b told) told
 
 -- a pair that has the key of an earlier one
 abbrev pub repeat_fault : StoredPair → Fault
-repeat_fault pair = fault_at pair.page (code_of KeyTwice)
+repeat_fault pair = fault_at (Contents KeyTwice) pair.page
 
 abbrev pub stored : List Told → List StoredPair
 stored pairs = map (λ (told : Told). told.pair) pairs

@@ -8,7 +8,6 @@ mod hashes;
 mod key;
 mod listing;
 mod lookup;
-mod noted;
 mod pair;
 mod pairs;
 mod passed;

@@ -5,9 +5,8 @@ ghost use Rattle.bdb_hash.specs.Noted.{repeat_faults};
 ghost use Rattle.bdb_hash.specs.Passed.{NotesRepeats, key_hash};
 ghost use Rattle.bdb_hash.specs.Told.{joined_pages};
 
-use crate::noted::{HashRow, note_if};
 use crate::{BucketPages, PagePairs, Pair};
-use bdb_faults::FaultSink;
+use bdb_faults::{ContentsRow, FaultSink, Row, note_if};
 use bdb_overflow::Keys;
 use std::alloc::{AllocError, Global};
 
@@ -20,7 +19,12 @@ pub(crate) fn note_next<'a, F: FaultSink>(
     ensures { OnOk result (NotesRepeats keys.old keys.new (F.has_noted found.old) (F.has_noted found.new) (pair.now ∷ [])) }
 {
     let is_new = keys.add(pair.key().again())?;
-    note_if(found, HashRow::KeyTwice, pair.page(), !is_new)?;
+    note_if(
+        found,
+        Row::Contents(ContentsRow::KeyTwice),
+        pair.page(),
+        !is_new,
+    )?;
     Ok(())
 }
 

@@ -6,9 +6,8 @@ ghost use Rattle.bdb_format.specs.Flags.{has_duplicates, is_sorted};
 ghost use Rattle.bdb_format.specs.Hashing.{bucket};
 ghost use Rattle.bdb_format.specs.Page.{HashFields};
 
-use crate::noted::{HashRow, note_if};
 use crate::{Data, Pair};
-use bdb_faults::FaultSink;
+use bdb_faults::{ContentsRow, FaultSink, Row, note_if};
 use bdb_format::HashMeta;
 use bdb_layout::bucket_of;
 use bdb_overflow::is_less;
@@ -79,14 +78,24 @@ pub(crate) fn note_pair<F: FaultSink>(
 {
     let page = pair.page();
     let is_wrong_set = pair.is_wrong_set(is_sorted(meta));
-    note_if(found, HashRow::Duplicates, page, is_refused(meta, &pair))?;
-    note_if(found, HashRow::DuplicateKind, page, is_wrong_set)?;
     note_if(
         found,
-        HashRow::DuplicateOrder,
+        Row::Contents(ContentsRow::Duplicates),
+        page,
+        is_refused(meta, &pair),
+    )?;
+    note_if(
+        found,
+        Row::Contents(ContentsRow::DuplicateKind),
+        page,
+        is_wrong_set,
+    )?;
+    note_if(
+        found,
+        Row::Contents(ContentsRow::DuplicateOrder),
         page,
         is_unsorted(meta, pair),
     )?;
-    note_if(found, HashRow::Bucket, page, is_stray)?;
+    note_if(found, Row::Contents(ContentsRow::Bucket), page, is_stray)?;
     Ok(())
 }

@@ -4,6 +4,7 @@ use Rattle.std.proofs.Common.{arith, append_assoc, refl, sym, ◌∙◌, ap, sub
 use Rattle.std.specs.List.{Contains}
 use Rattle.std.proofs.lemmas.Bool.{cases_lt}
 use Rattle.std.proofs.lemmas.List.{append-nil, get_or-map, get_or_past, length-map, length-replicate}
+use Rattle.bdb_pack.proofs.ImageLemmas.{page_so_far}
 use Rattle.bdb_format.specs.declared.kinds.Order.{Order}
 use Rattle.bdb_format.specs.declared.metadata.BtreeMeta.{BtreeMeta}
 use Rattle.bdb_format.specs.declared.metadata.FileKind.TheVariants.{Btree}
@@ -132,9 +133,6 @@ read_back built meta image is =
     let head = has_head built meta image is in images_are_read built image is.pages.whole is.image_is head.tells head.kind
 
 -- The file.
-
-page_so_far : (built : Built) (p : ℕ) → p < length built.pages → page_at (file_so_far built) p ≡ abstract_page built.order (bytes_of built p)
-page_so_far built p low = get_or-map (abstract_page built.order) built.pages p [] NoType low
 
 no_page : (built : Built) (p : ℕ) → length built.pages ≤ p → page_at (file_so_far built) p ≡ NoType
 no_page built p past =

@@ -7,6 +7,7 @@ use Rattle.std.specs.Str.{bytes_eq}
 use Rattle.std.proofs.lemmas.Bool.{and_parts, eq-eqb, not-false, or_parts, true_from_ne_false}
 use Rattle.std.proofs.lemmas.List.Elements.{Contains-append_left, Contains-append_right}
 use Rattle.std.proofs.lemmas.List.Sums.{take_while-cons}
+use Rattle.bdb_btree.proofs.CheckLemmas.{group_in}
 use Rattle.bdb_format.specs.declared.settings.Settings.{Settings}
 use Rattle.bdb_format.specs.ContentRows.{ascends, ascends_from, groups, has_duplicate, has_unsorted, is_duplicate, is_out_of_order, is_set}
 use Rattle.bdb_format.specs.ContentRows.{is_unsorted, live_data, neighbours, neighbours_from}
@@ -322,14 +323,6 @@ group_of (first ∷ pairs) pair at =
       | inr later ↦
           let found = group_of pairs pair later in
           (found.0, later_member (first, sharing pairs) (groups pairs) (pair, found.0) found.1)
-    ]
-
-group_in : (pairs : List StoredPair) (group : StoredPair × List StoredPair) → Contains (groups pairs) group → Contains pairs group.0
-group_in [] group at = absurd (no_member [] group refl at)
-group_in (pair ∷ pairs) group at =
-    elim (member_cases (pair, sharing pairs) (groups pairs) group at) [
-      | inl here ↦ subst (Contains (pair ∷ pairs)) (ap (λ (g : StoredPair × List StoredPair). g.0) here) (first_member pair pairs)
-      | inr later ↦ later_member pair pairs group.0 (group_in pairs group later)
     ]
 
 -- no row of duplicates or of their order holds at the pages of these pairs

@@ -6,6 +6,7 @@ use Rattle.std.proofs.lemmas.Bool.{and_parts, eqb-false, ne_eqb, not-true}
 use Rattle.std.proofs.lemmas.List.{get_or-take}
 use Rattle.std.proofs.lemmas.List.Sums.{sum_by-cons}
 use Rattle.std.proofs.Math.Dec.{eqb}
+use Rattle.bdb_pack.proofs.ImageLemmas.{page_so_far}
 use Rattle.bdb_format.specs.File.{page_at}
 use Rattle.bdb_format.specs.Numbers.{byte_at}
 use Rattle.bdb_format.specs.Reading.{abstract_page, entries_of}
@@ -24,7 +25,7 @@ use Rattle.bdb_leaves.proofs.InnerLemmas.{children_are_formed}
 use Rattle.bdb_leaves.proofs.LevelLawLemmas.{keys_of}
 use Rattle.bdb_leaves.proofs.LevelLemmas.{as_many}
 use Rattle.bdb_leaves.proofs.LevelTakeLemmas.{heads_few}
-use Rattle.bdb_leaves.proofs.RunLemmas.{later_before, page_so_far}
+use Rattle.bdb_leaves.proofs.RunLemmas.{later_before}
 use Rattle.bdb_leaves.proofs.TowerLemmas.{is_under, pages_under, under_are}
 
 -- Sets of pages.

@@ -3,9 +3,10 @@ use Rattle.std.proofs.Common.{◌≡◌, ℕ, suc, ◌+◌, ◌-◌, ◌<◌, �
 use Rattle.std.proofs.Common.{arith, refl, sym, ◌∙◌, ap, subst, inl, inr, true≢false}
 use Rattle.std.specs.Prelude.{◌||◌}
 use Rattle.std.specs.List.{All, Contains, flat_map, range_with_len}
-use Rattle.std.proofs.lemmas.Bool.{cases_Bool, cases_eq, cases_lt, false_from_ne_true, or_left, or_right}
+use Rattle.std.proofs.lemmas.Bool.{cases_Bool, cases_eq, cases_lt, false_from_ne_true, or_left, or_right, or_cases}
 use Rattle.std.proofs.lemmas.Grind.{flat_map-append}
 use Rattle.std.proofs.lemmas.List.Elements.{Contains-append_cases, Contains-append_left, Contains-append_right}
+use Rattle.bdb_pack.proofs.ImageLemmas.{page_so_far}
 use Rattle.bdb_format.specs.File.{page_at}
 use Rattle.bdb_format.specs.Rows.{page_code}
 use Rattle.bdb_format.proofs.MemberLemmas.{first_member, in_range, later_member, member_cases, of_range}
@@ -13,7 +14,6 @@ use Rattle.bdb_format.proofs.ListLemmas.{only_member}
 use Rattle.bdb_grove.specs.Growing.{IsLater, IsSamePage}
 use Rattle.bdb_grove.specs.Leaves.{Ascend, ContentFits, content_pages}
 use Rattle.bdb_grove.specs.Part.{IsBranch, between}
-use Rattle.bdb_grove.proofs.BesideLemmas.{in_either}
 use Rattle.bdb_grove.proofs.BranchLemmas.{of_list}
 use Rattle.bdb_grove.proofs.ChainLemmas.{between_is, is_between, same_test}
 use Rattle.bdb_grove.proofs.LeafLemmas.{above_low, ascend_once}
@@ -37,7 +37,7 @@ use Rattle.bdb_leaves.proofs.GrownLemmas.{zip_pages}
 use Rattle.bdb_leaves.proofs.LaterLemmas.{later_chain, later_fewer}
 use Rattle.bdb_leaves.proofs.NumberedLemmas.{AreNumbered, are_numbered}
 use Rattle.bdb_leaves.proofs.RestLemmas.{is_one, is_rest, rest_is}
-use Rattle.bdb_leaves.proofs.RunLemmas.{later_before, page_so_far}
+use Rattle.bdb_leaves.proofs.RunLemmas.{later_before}
 
 -- one is moved from the end to the front
 counts_moved : (e p n : ℕ) (others range : List ℕ) → count e ((p ∷ others) ++ (n ∷ range)) ≤ 1 → count e ((n ∷ others) ++ (range ++ (p ∷ []))) ≤ 1
@@ -94,8 +94,8 @@ finished_trees_are_laid leaves old new counted before closed units root filled o
         later;
   },
   λ p. same_test (is_laid rest placed above p) (between before b p)
-      (λ is. elim (in_either (rest p || is_of (pages_of placed) p) (is_of (level_pages above) p) is) [
-        | inl below ↦ elim (in_either (rest p) (is_of (pages_of placed) p) below) [
+      (λ is. elim (or_cases (rest p || is_of (pages_of placed) p) (is_of (level_pages above) p) is) [
+        | inl below ↦ elim (or_cases (rest p) (is_of (pages_of placed) p) below) [
           | inl one ↦ let here = rest_is before m (numbers_of leaves) p one in is_between before b p here.0 (omega (arith, here.1, more, grows))
           | inr leaf ↦
               let here = leaf_page p (subst (λ ps. Contains ps p) pages_are (of_list (pages_of placed) p leaf)) in

@@ -3,7 +3,7 @@ use Rattle.std.proofs.Common.{◌≡◌, ◌⊎◌, ℕ, ◌+◌, ◌≤◌, Boo
 use Rattle.std.proofs.Common.{sym, ◌∙◌, ap, subst, inl, inr, true≢false}
 use Rattle.std.specs.Prelude.{◌==◌, ◌||◌}
 use Rattle.std.specs.List.{All, AllZip, Contains, filter, flat_map, list_any, range_with_len}
-use Rattle.std.proofs.lemmas.Bool.{cases_Bool, eqb-false, false_from_ne_true, ne_eqb, or_from, or_left}
+use Rattle.std.proofs.lemmas.Bool.{cases_Bool, eqb-false, false_from_ne_true, ne_eqb, or_from, or_left, or_cases}
 use Rattle.std.proofs.lemmas.Simd.{map-map}
 use Rattle.std.proofs.lemmas.List.Elements.{All-head, All-map, Contains-append_left, Contains-append_right, Contains-get_or}
 use Rattle.bdb_format.specs.declared.references.Reference.{Reference}
@@ -16,7 +16,6 @@ use Rattle.bdb_format.proofs.MemberLemmas.{first_member, in_flat_map, in_map, me
 use Rattle.bdb_grove.specs.Part.{IsBranch, are_heads_alone, owners_among}
 use Rattle.bdb_grove.specs.Leaves.{ChainFits, ContentFits, FilledLeaf, IsFilled, content_pages, pages_held}
 use Rattle.bdb_grove.specs.Standing.{named_by, names}
-use Rattle.bdb_grove.proofs.BesideLemmas.{in_either}
 use Rattle.bdb_grove.proofs.BranchLemmas.{of_list}
 use Rattle.bdb_grove.proofs.LeafLemmas.{all_names, ascend_once, chain_fits, leaf_names, leaves_stand_over, names_fit}
 use Rattle.bdb_grove.proofs.OwnerLemmas.{filter_first, names_page, one_of_range}
@@ -265,7 +264,7 @@ head_once type g rest placed nodes above root laid leaf is h total first =
     owned : owners_among pages g h ≡ named_by g leaf.page h
     owned = owned_alone g pages leaf.page h
         ((leaves_branch type g rest placed nodes above root laid).grove.entered leaf.page number) is.filled_is.high
-        (λ q of differs. named_not g q h (λ at. elim (in_either (rest q) (is_of (pages_of placed) q) of) [
+        (λ q of differs. named_not g q h (λ at. elim (or_cases (rest q) (is_of (pages_of placed) q) of) [
           | inl old ↦ by_rest q old at
           | inr new ↦ omega (
             arith,

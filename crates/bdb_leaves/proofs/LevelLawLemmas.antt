@@ -3,6 +3,7 @@ use Rattle.std.proofs.Common.{◌≡◌, ◌⊎◌, ℕ, zero, suc, ◌+◌, ◌
 use Rattle.std.proofs.Common.{inl, inr, length-append}
 use Rattle.std.specs.List.{All, Contains, flat_map, range_with_len}
 use Rattle.std.proofs.lemmas.Bool.{cases_eq, cases_lt}
+use Rattle.bdb_pack.proofs.ImageLemmas.{page_so_far}
 use Rattle.bdb_format.specs.declared.pages.Header.{Header}
 use Rattle.bdb_format.specs.Page.{Content, Inline, Set, Chain, Tree, Unknown, Internal, Overflow, Page, RecnoInternal}
 use Rattle.bdb_format.specs.File.{File, header_in, page_at}
@@ -24,7 +25,6 @@ use Rattle.bdb_leaves.proofs.InnerLemmas.{IsRaised, chain_as, children_are_forme
 use Rattle.bdb_leaves.proofs.LevelHeadLemmas.{raising_head, raising_other}
 use Rattle.bdb_leaves.proofs.LevelLemmas.{laid_keeps}
 use Rattle.bdb_leaves.proofs.LevelTakeLemmas.{key_kept}
-use Rattle.bdb_leaves.proofs.RunLemmas.{page_so_far}
 
 -- Pages in a later file.
 

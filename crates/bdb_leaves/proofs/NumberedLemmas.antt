@@ -3,14 +3,14 @@ use Rattle.std.proofs.Common.{◌≡◌, ℕ, ◌<◌, ◌≤◌, Bool, true, fa
 use Rattle.std.proofs.Common.{arith, refl, sym, ◌∙◌, ap, subst, inl, inr, true≢false, append-nil}
 use Rattle.std.specs.Prelude.{◌||◌}
 use Rattle.std.specs.List.{All, AllZip, Contains, flat_map}
-use Rattle.std.proofs.lemmas.Bool.{cases_Bool, false_from_ne_true, or_left, or_right}
+use Rattle.std.proofs.lemmas.Bool.{cases_Bool, false_from_ne_true, or_left, or_right, or_cases}
 use Rattle.std.proofs.lemmas.List.{map-append}
+use Rattle.bdb_pack.proofs.ImageLemmas.{page_so_far}
 use Rattle.bdb_format.specs.File.{File, page_at}
 use Rattle.bdb_format.proofs.MemberLemmas.{no_member}
 use Rattle.bdb_grove.specs.Growing.{IsCounted, IsLater, IsSamePage}
 use Rattle.bdb_grove.specs.Leaves.{Ascend, ContentFits, content_pages}
 use Rattle.bdb_grove.specs.Part.{IsBranch, between}
-use Rattle.bdb_grove.proofs.BesideLemmas.{in_either}
 use Rattle.bdb_grove.proofs.BranchLemmas.{of_list}
 use Rattle.bdb_grove.proofs.ChainLemmas.{between_is, is_between, same_test}
 use Rattle.bdb_grove.proofs.LeafLemmas.{ascend_once}
@@ -32,7 +32,6 @@ use Rattle.bdb_leaves.proofs.LaterLemmas.{later_fewer}
 use Rattle.bdb_leaves.proofs.LeavesLemmas.{leaf_closed}
 use Rattle.bdb_leaves.proofs.MovedLemmas.{any_order, leaves_rise}
 use Rattle.bdb_leaves.proofs.RestLemmas.{is_one, is_rest, leaves_low, rest_is}
-use Rattle.bdb_leaves.proofs.RunLemmas.{page_so_far}
 
 -- Filled leaves by themselves.
 
@@ -107,8 +106,8 @@ leaf_is_laid leaves built before closed units node filled zip g counted later = 
     tower = refl;
   },
   λ p. same_test (is_laid rest placed [] p) (between before a p)
-      (λ is. elim (in_either (rest p || is_of (pages_of placed) p) (is_of [] p) is) [
-        | inl below ↦ elim (in_either (rest p) (is_of (pages_of placed) p) below) [
+      (λ is. elim (or_cases (rest p || is_of (pages_of placed) p) (is_of [] p) is) [
+        | inl below ↦ elim (or_cases (rest p) (is_of (pages_of placed) p) below) [
           | inl one ↦ let here = rest_is before a numbers p one in is_between before a p here.0 here.1
           | inr leaf ↦
               let within = known.within p (subst (λ ps. Contains ps p) known.pages_are (of_list (pages_of placed) p leaf)) in

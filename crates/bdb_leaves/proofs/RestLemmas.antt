@@ -3,7 +3,7 @@ use Rattle.std.proofs.Common.{◌≡◌, ℕ, ◌+◌, ◌<◌, ◌≤◌, Bool,
 use Rattle.std.proofs.Common.{◌⊎◌, subst, inl, inr, true≢false}
 use Rattle.std.specs.Prelude.{◌==◌, ◌&&◌, ◌||◌}
 use Rattle.std.specs.List.{All, Contains, flat_map}
-use Rattle.std.proofs.lemmas.Bool.{and_parts, cases_Bool, cases_lt, eq-eqb, ne_eqb, not-true, or_left, or_right}
+use Rattle.std.proofs.lemmas.Bool.{and_parts, cases_Bool, cases_lt, eq-eqb, ne_eqb, not-true, or_left, or_right, or_cases}
 use Rattle.std.proofs.lemmas.List.{append-nil, append_assoc, map-append}
 use Rattle.std.proofs.lemmas.List.Elements.{All-append, All-cons, All-nil, All-push, Contains-append_cases, Contains-append_left}
 use Rattle.std.proofs.lemmas.List.Elements.{Contains-append_right}
@@ -19,7 +19,6 @@ use Rattle.bdb_grove.specs.Leaves.{ContentFits, content_pages}
 use Rattle.bdb_grove.specs.Part.{IsBranch, between}
 use Rattle.bdb_grove.proofs.BranchLemmas.{branch_is_known, branches_stand_together, no_branch}
 use Rattle.bdb_grove.proofs.ChainLemmas.{between_is, is_between, same_test}
-use Rattle.bdb_grove.proofs.BesideLemmas.{in_either}
 use Rattle.bdb_levels.specs.Roots.{key_heads}
 use Rattle.bdb_levels.specs.Roots.{is_of}
 use Rattle.bdb_pack.specs.Built.{Built, bytes_of, file_so_far}
@@ -90,7 +89,7 @@ rest_more before a b numbers low more under p =
       | inr above ↦ or_right (between before a p && not (is_of numbers p)) _ (is_between a b p above parts.1)
     ])
     (λ is.
-    elim (in_either (between before a p && not (is_of numbers p)) (between a b p) is) [
+    elim (or_cases (between before a p && not (is_of numbers p)) (between a b p) is) [
       | inl old ↦
           let parts = rest_is before a numbers p old in is_rest before b numbers p parts.0 (omega (arith, parts.1, more)) parts.2
       | inr new ↦
@@ -218,7 +217,7 @@ unit_added leaves old new before closed units unit filled put =
           (all_map (λ content. one_kept a before new new content first refl (omega arith) (λ h above under. refl))
           (unit_contents type unit) put.heads));
       formed = λ p is.
-          elim (in_either (rest_of before leaves old p) (between a b p) (sym (union p) ∙ is)) [
+          elim (or_cases (rest_of before leaves old p) (between a b p) (sym (union p) ∙ is)) [
             | inl one ↦
                 ap (λ o. page_code o p (bytes_of new p)) put.kept.order ∙ (ap (page_code old.order p) (kept p one).1 ∙ filled.formed p one)
             | inr two ↦ let there = between_is a b p two in put.formed p there.0 there.1

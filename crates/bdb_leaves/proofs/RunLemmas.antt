@@ -17,6 +17,7 @@ use Rattle.bdb_leaves.specs.Leaves.{AreLeaves, AreSomeLeaves}
 use Rattle.bdb_leaves.specs.Puts.{CountsOneFrom, IsPut, ValueStands}
 use Rattle.bdb_leaves.specs.Inner.{CountsOne}
 use Rattle.std.proofs.lemmas.List.Elements.{All-append, All-cons, All-nil}
+use Rattle.bdb_pack.proofs.ImageLemmas.{page_so_far}
 use Rattle.bdb_leaves.specs.Runs.{IsRunPut, ValuesStand}
 use Rattle.bdb_leaves.specs.Units.{chain_pages}
 use Rattle.bdb_leaves.specs.declared.leaves.Leaves.{Leaves}
@@ -26,10 +27,6 @@ use Rattle.bdb_leaves.proofs.PutLemmas.{leaves_stay}
 pub leaf_room : (leaves : Leaves) (built : Built) (closed : List (List Entry)) (entries : List Entry) → AreLeaves leaves built closed entries
     → room_of built.order (bytes_of built leaves.last) + sum_by (entry_cost built.order) entries ≡ length (bytes_of built leaves.last) - 26
 leaf_room leaves built closed entries hold = hold.last_holds.room
-
--- a page as the file so far has it
-pub page_so_far : (built : Built) (p : ℕ) → p < length built.pages → page_at (file_so_far built) p ≡ abstract_page built.order (bytes_of built p)
-page_so_far built p low = get_or-map (abstract_page built.order) built.pages p [] NoType low
 
 -- a file that is later than some pages is later than fewer that were there before, and stay
 pub later_before : (old new : Built) (small large : ℕ → Bool) (g : File) → new.order ≡ old.order → length old.pages ≤ length new.pages

@@ -3,6 +3,7 @@ use Rattle.std.proofs.Common.{◌≡◌, ◌⊎◌, ℕ, ◌+◌, ◌-◌, ◌<�
 use Rattle.std.proofs.Common.{arith, refl, sym, ◌∙◌, ap, subst, inl, inr, length-take}
 use Rattle.std.specs.List.{AllZip, Contains, flat_map, range_with_len}
 use Rattle.std.proofs.lemmas.List.{append-nil, get_or-take}
+use Rattle.bdb_pack.proofs.ImageLemmas.{page_so_far}
 use Rattle.bdb_format.specs.File.{header_in, page_at}
 use Rattle.bdb_format.specs.Reading.{abstract_page}
 use Rattle.bdb_format.proofs.MemberLemmas.{in_flat_map}
@@ -18,7 +19,6 @@ use Rattle.bdb_leaves.specs.declared.levels.Child.{Child}
 use Rattle.bdb_leaves.proofs.LaterLemmas.{later_chain, later_fewer}
 use Rattle.bdb_leaves.proofs.LevelLawLemmas.{group_node, head_counts, levels_are_later, member_at, page_over}
 use Rattle.bdb_leaves.proofs.LevelLemmas.{as_many}
-use Rattle.bdb_leaves.proofs.RunLemmas.{page_so_far}
 use Rattle.bdb_leaves.proofs.TowerLemmas.{IsBuilding, counts_more, heads_among, heads_in_are, heads_low, is_under, level_spread, pages_under}
 use Rattle.bdb_leaves.proofs.TowerLemmas.{under_are}
 

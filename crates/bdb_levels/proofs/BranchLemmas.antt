@@ -2,7 +2,7 @@
 use Rattle.std.proofs.Common.{◌≡◌, ℕ, ◌+◌, ◌≤◌, true, false, List, [], ◌∷◌, map, arith, sym, ◌∙◌, ap, subst, inl, inr, true≢false, refl}
 use Rattle.std.specs.Prelude.{◌||◌}
 use Rattle.std.specs.List.{All, Contains, flat_map, list_any}
-use Rattle.std.proofs.lemmas.Bool.{or_from}
+use Rattle.std.proofs.lemmas.Bool.{or_from, or_cases}
 use Rattle.std.proofs.lemmas.List.Elements.{All-contains, All-head, All-tail, Contains-append_cases}
 use Rattle.std.proofs.lemmas.List.Folds.{list_any-append}
 use Rattle.bdb_format.specs.declared.metadata.FileKind.TheVariants.{Queue}
@@ -13,7 +13,6 @@ use Rattle.bdb_format.specs.References.{refs}
 use Rattle.bdb_format.specs.Chains.{chains_in, content_chains, is_wrong_length}
 use Rattle.bdb_format.specs.Leaves.{is_root_reference}
 use Rattle.bdb_format.proofs.MemberLemmas.{no_member, of_map}
-use Rattle.bdb_grove.proofs.BesideLemmas.{in_either}
 use Rattle.bdb_grove.proofs.BranchLemmas.{branch_with, of_list}
 use Rattle.bdb_levels.specs.Branches.{KeyHasLength, TowersAreBranches}
 use Rattle.bdb_levels.specs.Nodes.{HasItems, IsOver, IsTower, Node, keyed_item, no_node}
@@ -85,5 +84,5 @@ towers_are_branches type g pages level below above root over keys branch =
     let right = tower_right type g level below above root over.no_queue over.low over.tower keys in
     branch_with g pages (λ p. pages p || is_of (pages_of above) p) _ _ (Contains (pages_of above)) branch (λ p at. (right p at).chains)
     (λ p r at held root. absurd ((right p at).rootless r held root))
-    (λ p is. elim (in_either (pages p) (is_of (pages_of above) p) is) [ inl old ↦ inl old | inr new ↦ inr (of_list (pages_of above) p new) ])
+    (λ p is. elim (or_cases (pages p) (is_of (pages_of above) p) is) [ inl old ↦ inl old | inr new ↦ inr (of_list (pages_of above) p new) ])
     (towers_stand type g pages level below above root over)

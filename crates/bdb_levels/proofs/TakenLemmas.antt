@@ -2,7 +2,7 @@
 use Rattle.std.proofs.Common.{◌≡◌, ◌⊎◌, ℕ, ◌+◌, ◌<◌, ◌≤◌, Bool, true, false, cond, List, [], ◌∷◌, ◌++◌, length, None, arith, refl, sym, ◌∙◌, ap, subst, inl, inr, true≢false, length-append}
 use Rattle.std.specs.Prelude.{◌==◌, ◌&&◌}
 use Rattle.std.specs.List.{Contains, filter}
-use Rattle.std.proofs.lemmas.Bool.{cases_eq, eqb-true, ne_eqb, or_left}
+use Rattle.std.proofs.lemmas.Bool.{cases_eq, eqb-true, ne_eqb, or_left, or_cases}
 use Rattle.std.proofs.lemmas.List.{nil_from_length}
 use Rattle.std.proofs.lemmas.List.Folds.{list_all-append}
 use Rattle.std.proofs.lemmas.List.Sums.{list_all-from_AllPass}
@@ -17,7 +17,7 @@ use Rattle.bdb_format.specs.Graph.{Owner, is_head_reference}
 use Rattle.bdb_format.proofs.MemberLemmas.{first_member, in_map, later_member}
 use Rattle.bdb_grove.specs.Part.{IsGrove, IsOwnedBy, are_heads_alone, owners_among}
 use Rattle.bdb_grove.specs.Standing.{StandsOver, named_by, names}
-use Rattle.bdb_grove.proofs.BesideLemmas.{in_either, owners_within}
+use Rattle.bdb_grove.proofs.BesideLemmas.{owners_within}
 use Rattle.bdb_grove.proofs.OwnerLemmas.{NamesNot, owner_among, unowned}
 use Rattle.bdb_grove.proofs.SeveralLemmas.{count, first_head, named_count, named_owned, named_reference, one_at_most, some_count}
 use Rattle.bdb_grove.proofs.StandLemmas.{page_stands_over, with_page}
@@ -148,7 +148,7 @@ module _ {g : File} {pages : ℕ → Bool} {p : ℕ} {es fewer heads left : List
       let head : IsHeadOnce g pages h = left_head h at in
       let same : owners_among (with_page pages p) g h ≡ owners_among pages g h =
       owners_within pages (with_page pages p) g h (λ q is. or_left (pages q) (q == p) is)
-      (λ q in_both out. elim (in_either (pages q) (q == p) in_both) [
+      (λ q in_both out. elim (or_cases (pages q) (q == p) in_both) [
         | inl is ↦ absurd (true≢false (sym is ∙ out))
         | inr is ↦ subst (NamesNot g h) (sym (eqb-true q p is)) (left_alone h at)
       ]) in

@@ -4,7 +4,6 @@
 mod cut;
 mod digits;
 mod line;
-mod names;
 mod printer;
 mod room;
 mod telling;

@@ -7,14 +7,13 @@ ghost use Rattle.bdb_lines.specs.Passing.{Passes};
 ghost use Rattle.bdb_lines.specs.Telling.{case_page_part, case_part, code_part, judgement_line, name_part, page_part, stage_part};
 ghost use Rattle.bdb_lines.specs.declared.cut.Cut.TheVariants.{WriteFault};
 ghost use Rattle.bdb_model.specs.Answers.{fault_line, unsupported_line};
-ghost use Rattle.bdb_model.specs.FaultNames.{fault_name, unsupported_name};
+ghost use Rattle.bdb_format.specs.FaultNames.{fault_name, unsupported_name};
 ghost use Rattle.bdb_model.specs.Lines.{line};
 
 use crate::Cut;
 use crate::digits::Digits;
-use crate::names::{fault_name, unsupported_name};
 use crate::printer::Printer;
-use bdb_faults::{Named, NamedList};
+use bdb_faults::{Named, NamedList, fault_name, unsupported_name};
 use bdb_format::{Fault, Unsupported};
 use bdb_io::Sink;
 

@@ -3,7 +3,7 @@ use Rattle.std.proofs.Common.{◌≡◌, ◌⊎◌, ℕ, ◌+◌, ◌-◌, ◌<�
 use Rattle.std.proofs.Common.{◌∙◌, ap, subst, inl, inr, length-append, length-drop, true≢false}
 use Rattle.std.specs.Prelude.{◌==◌, ◌&&◌, ◌||◌, not}
 use Rattle.std.specs.List.{sum_by}
-use Rattle.std.proofs.lemmas.Bool.{and_parts, cases_eq, cases_lt, eq-eqb, eqb-true, ne_eqb}
+use Rattle.std.proofs.lemmas.Bool.{and_parts, cases_eq, cases_lt, eq-eqb, eqb-true, ne_eqb, or_cases}
 use Rattle.std.proofs.lemmas.List.{drop_all, drop-drop, drop_more, get_or-drop, get_or-map, map-append, take_all}
 use Rattle.std.proofs.lemmas.List.Sums.{sum_by-append}
 use Rattle.bdb_format.specs.HeadOf.{is_page_size}
@@ -13,7 +13,6 @@ use Rattle.bdb_format.specs.Reading.{abstract_page}
 use Rattle.bdb_format.specs.Rows.{page_code}
 use Rattle.bdb_grove.specs.Growing.{IsCounted, IsLater, IsSamePage}
 use Rattle.bdb_grove.specs.Part.{between}
-use Rattle.bdb_grove.proofs.BesideLemmas.{in_either}
 use Rattle.bdb_grove.proofs.ChainLemmas.{between_is, is_between}
 use Rattle.bdb_pack.specs.Built.{Built, bytes_of, file_so_far}
 use Rattle.bdb_leaves.specs.Spread.{spread_on}
@@ -38,7 +37,7 @@ or_right true is = refl
 or_right false is = is
 
 pub bucket_is : (p a b q : ℕ) → of_bucket p a b q ≡ true → (q ≡ p) ⊎ ((a ≤ q) × (q < b))
-bucket_is p a b q is = elim (in_either (q == p) (between a b q) is) [ inl here ↦ inl (eqb-true q p here) | inr there ↦ inr (between_is a b q there) ]
+bucket_is p a b q is = elim (or_cases (q == p) (between a b q) is) [ inl here ↦ inl (eqb-true q p here) | inr there ↦ inr (between_is a b q there) ]
 
 pub is_first : (p a b : ℕ) → of_bucket p a b p ≡ true
 is_first p a b = or_left (between a b p) (eq-eqb p p refl)

@@ -3,14 +3,13 @@ use Rattle.std.proofs.Common.{◌≡◌, ◌⊎◌, ℕ, suc, ◌+◌, ◌<◌, 
 use Rattle.std.proofs.Common.{◌∙◌, ap, subst, inl, inr, length-append, length-take, true≢false}
 use Rattle.std.specs.Prelude.{◌||◌}
 use Rattle.std.specs.List.{sum_by}
-use Rattle.std.proofs.lemmas.Bool.{cases_eq, cases_lt}
+use Rattle.std.proofs.lemmas.Bool.{cases_eq, cases_lt, or_cases}
 use Rattle.std.proofs.lemmas.List.{length-map, map-append, take_more}
 use Rattle.std.proofs.lemmas.List.Sums.{sum_by_push}
 use Rattle.bdb_format.specs.File.{File}
 use Rattle.bdb_format.specs.Rows.{page_code}
 use Rattle.bdb_grove.specs.Growing.{IsLater}
 use Rattle.bdb_grove.specs.Part.{between}
-use Rattle.bdb_grove.proofs.BesideLemmas.{in_either}
 use Rattle.bdb_grove.proofs.ChainLemmas.{between_is, is_between}
 use Rattle.bdb_pack.specs.Built.{Built, bytes_of, file_so_far}
 use Rattle.bdb_leaves.proofs.RunLemmas.{later_before}
@@ -41,7 +40,7 @@ tables_follow g sorted p first middle beyond (x ∷ xs) bucket (next, here, rest
 -- Sets of pages.
 
 pub buckets_is : (p n a b q : ℕ) → of_buckets p n a b q ≡ true → ((p ≤ q) × (q < p + n)) ⊎ ((a ≤ q) × (q < b))
-buckets_is p n a b q is = elim (in_either (between p (p + n) q) (between a b q) is) [
+buckets_is p n a b q is = elim (or_cases (between p (p + n) q) (between a b q) is) [
   | inl first ↦ inl (between_is p (p + n) q first)
   | inr further ↦ inr (between_is a b q further)
 ]

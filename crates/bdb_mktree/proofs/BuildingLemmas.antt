@@ -4,6 +4,7 @@ use Rattle.std.specs.Prelude.{◌⊎◌}
 use Rattle.std.specs.List.{All, flat_map}
 use Rattle.std.proofs.lemmas.List.{append_assoc, map-append}
 use Rattle.std.proofs.lemmas.List.Elements.{All-head, All-nil, All-push, All-tail, Contains-append_right}
+use Rattle.bdb_pack.proofs.ImageLemmas.{page_so_far}
 use Rattle.bdb_format.specs.declared.kinds.Kind.{Kind}
 use Rattle.bdb_format.specs.declared.settings.Settings.{Settings}
 use Rattle.bdb_format.specs.File.{File}
@@ -31,7 +32,6 @@ use Rattle.bdb_leaves.proofs.MovedLemmas.{any_order}
 use Rattle.bdb_leaves.proofs.NodesLemmas.{all_units}
 use Rattle.bdb_leaves.proofs.PlacedLaws.{units_are_read}
 use Rattle.bdb_leaves.proofs.RestLemmas.{is_one}
-use Rattle.bdb_leaves.proofs.RunLemmas.{page_so_far}
 use Rattle.bdb_mktree.specs.Building.{Building, all_placed, units_of}
 use Rattle.bdb_mktree.specs.Units.{IsNext, IsTreeKind, KeysAscend, Suits, leaf_type_of}
 use Rattle.bdb_mktree.specs.declared.builder.TreeBuilder.{TreeBuilder}

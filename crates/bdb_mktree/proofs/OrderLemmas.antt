@@ -4,14 +4,13 @@ use Rattle.std.specs.Prelude.{◌&&◌, ◌||◌}
 use Rattle.std.specs.Cmp.Derive.{both_true}
 use Rattle.std.specs.List.{All}
 use Rattle.std.specs.Str.{bytes_eq}
-use Rattle.std.proofs.lemmas.Bool.{and_parts, ltb-true}
+use Rattle.std.proofs.lemmas.Bool.{and_parts, ltb-true, or_cases}
 use Rattle.std.proofs.lemmas.List.Elements.{All-append, All-cons, All-head, All-nil, All-tail}
 use Rattle.bdb_format.specs.declared.kinds.Kind.TheVariants.{Btree, Recno}
 use Rattle.bdb_format.specs.declared.settings.Settings.{Settings}
 use Rattle.bdb_format.specs.ContentRows.{ascends}
 use Rattle.bdb_format.specs.Less.{less}
 use Rattle.bdb_format.proofs.LessLemmas.{less_self}
-use Rattle.bdb_grove.proofs.BesideLemmas.{in_either}
 use Rattle.bdb_overflow.proofs.KeyLemmas.{eq_same}
 use Rattle.bdb_model.specs.declared.list.Pair.{Pair}
 use Rattle.bdb_leaves.specs.Runs.{IsShort}
@@ -66,7 +65,7 @@ before settings key value next_key next_value values units btree short_key short
     by_test true same =
         let key_is : key ≡ next_key = eq_same key next_key same in
         let further : is_further settings value next_value ≡ true =
-        elim (in_either (less key next_key) (bytes_eq key next_key && is_further settings value next_value) follow) [
+        elim (or_cases (less key next_key) (bytes_eq key next_key && is_further settings value next_value) follow) [
           | inl above ↦ absurd (true≢false (sym above ∙ (ap (λ k. less k next_key) key_is ∙ less_self next_key)))
           | inr more ↦ (and_parts (bytes_eq key next_key) (is_further settings value next_value) more).1
         ] in
@@ -91,7 +90,7 @@ before settings key value next_key next_value values units btree short_key short
         }
     by_test false other =
         let above : less key next_key ≡ true =
-        elim (in_either (less key next_key) (bytes_eq key next_key && is_further settings value next_value) follow) [
+        elim (or_cases (less key next_key) (bytes_eq key next_key && is_further settings value next_value) follow) [
           | inl above ↦ above
           | inr more ↦ absurd (true≢false (sym (and_parts (bytes_eq key next_key) (is_further settings value next_value) more).0 ∙ other))
         ] in

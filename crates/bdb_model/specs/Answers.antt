@@ -11,7 +11,7 @@ use Rattle.bdb_format.specs.Verdict.{Faulty, Judgement, LeftOut, verdict_of}
 use Rattle.bdb_model.specs.TextSpelling.{spelling}
 use Rattle.bdb_model.specs.Lines.{line}
 use Rattle.bdb_model.specs.Written.{kind_text, database_text, dump_text}
-use Rattle.bdb_model.specs.FaultNames.{fault_name, unsupported_name}
+use Rattle.bdb_format.specs.FaultNames.{fault_name, unsupported_name}
 use Rattle.bdb_model.specs.Command.{Request, Verify, ListAll, Get, Dump}
 
 -- a status, and what is written to the output and to the error sink

@@ -34,6 +34,5 @@ pub mod Header
 pub mod Reasons
 pub mod Pairs
 pub mod Sections
-pub mod FaultNames
 pub mod Command
 pub mod Answers

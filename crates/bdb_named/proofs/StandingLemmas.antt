@@ -3,6 +3,7 @@ use Rattle.std.proofs.Common.{◌≡◌, ℕ, ◌+◌, ◌<◌, ◌≤◌, true,
 use Rattle.std.proofs.Common.{arith, refl, sym, ◌∙◌, ap, subst, inl, inr, length-append}
 use Rattle.std.proofs.lemmas.Bool.{cases_lt}
 use Rattle.std.proofs.lemmas.List.{get_or-map, get_or_append_left, reverse-append}
+use Rattle.bdb_pack.proofs.ImageLemmas.{page_so_far}
 use Rattle.bdb_format.specs.Databases.{settings_of}
 use Rattle.bdb_format.specs.File.{File, page_at}
 use Rattle.bdb_format.specs.Lists.{ListKey}
@@ -43,9 +44,6 @@ kept_again old now new first second =
 pub kept_none : (old : Built) → KeepsAll old old
 kept_none old = record { size = refl; order = refl; grows = omega arith; same = λ p low. refl }
 
-so_far : (built : Built) (p : ℕ) → p < length built.pages → page_at (file_so_far built) p ≡ abstract_page built.order (bytes_of built p)
-so_far built p there = get_or-map (abstract_page built.order) built.pages p [] NoType there
-
 -- a file that is later than the pages of which some were kept is later than those before
 later_before : (old new : Built) (from beyond : ℕ) (g : File) → beyond ≤ length old.pages → KeepsBefore beyond old new
     → IsLater (between from beyond) (file_so_far new) g → IsLater (between from beyond) (file_so_far old) g
@@ -59,9 +57,9 @@ later_before old new from beyond g there kept later =
   where
     same : (p : ℕ) → p < beyond → page_at (file_so_far new) p ≡ page_at (file_so_far old) p
     same p low =
-        so_far new p (omega (arith, low, there, kept.grows))
+        page_so_far new p (omega (arith, low, there, kept.grows))
         ∙ (ap (λ o. abstract_page o (bytes_of new p)) kept.order
-        ∙ (ap (abstract_page old.order) (kept.same p low) ∙ sym (so_far old p (omega (arith, low, there)))))
+        ∙ (ap (abstract_page old.order) (kept.same p low) ∙ sym (page_so_far old p (omega (arith, low, there)))))
 
 -- a part stands as long as its pages are kept
 pub holds_still : (old new : Built) (from beyond : ℕ) (fields : Metadata) (list : List (ListKey × List ℕ)) → KeepsBefore beyond old new

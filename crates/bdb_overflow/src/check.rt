@@ -7,7 +7,7 @@ ghost use Rattle.bdb_graph.specs.Linked.{IsForest};
 ghost use Rattle.bdb_overflow.specs.Lengths.{faults_at};
 
 use crate::lengths::has_wrong;
-use bdb_faults::{FaultSink, First, NamedList};
+use bdb_faults::{FaultSink, First, NamedList, Row, StructureRow};
 use bdb_format::Fault;
 use bdb_graph::{Forest, Linked};
 use std::alloc::AllocError;
@@ -72,18 +72,7 @@ fn note_page<F: FaultSink>(forest: &Forest<'_>, page: u32, found: &mut F) -> Res
     ensures refused { OnErr result (IsTrue F.takes_memory) }
 {
     if has_wrong(forest, page) {
-        found.note(length_fault(page))?;
+        found.note(Row::Structure(StructureRow::ChainLength).at(page))?;
     }
     Ok(())
-}
-
-/// The fault of a page of which an item tells another length than its chain has.
-fn length_fault(page: u32) -> Fault
-    ensures { result ≡ record { stage = 6; page = page; code = 1 } }
-{
-    Fault {
-        stage: 6,
-        page,
-        code: 1,
-    }
 }

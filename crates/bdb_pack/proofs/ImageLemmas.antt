@@ -25,6 +25,10 @@ counted_of image kind low =
       pages = length-map (range_with_len 0 (head.last + 1)) (λ p. abstract_page head.order (page_bytes head image p)) ∙ length-range_with_len 0 (head.last + 1);
     }
 
+-- a page as the file so far has it
+pub page_so_far : (built : Built) (p : ℕ) → p < length built.pages → page_at (file_so_far built) p ≡ abstract_page built.order (bytes_of built p)
+page_so_far built p low = get_or-map (abstract_page built.order) built.pages p [] NoType low
+
 -- a page of the image is the page of the list
 image_page : (built : Built) (p : ℕ) → AreWhole built → p < length built.pages
     → take built.size (drop (p * built.size) (joined_pages built.pages)) ≡ bytes_of built p

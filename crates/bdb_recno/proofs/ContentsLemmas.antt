@@ -1,5 +1,6 @@
 -- The faults that are noted of a recno are those of its contents.
 use Rattle.std.proofs.lemmas.Bool.{and_parts, and_from, false_from_ne_true}
+use Rattle.bdb_faults.specs.Rows.{contents_code}
 use Rattle.bdb_format.proofs.ListLemmas.{only_member}
 use Rattle.std.proofs.Common.{◌≡◌, ◌⊎◌, ℕ, zero, suc, ◌+◌, ◌≤◌, Bool, true, false, cond, List, [], ◌∷◌, ◌++◌, Option, None, arith, refl, sym, ◌∙◌, ap}
 use Rattle.std.proofs.Common.{subst, inl, inr}
@@ -8,7 +9,7 @@ use Rattle.std.specs.List.{All, Contains, filter}
 use Rattle.std.specs.Option.{is_some}
 use Rattle.std.proofs.lemmas.List.Elements.{All-contains, Contains-append_cases, Contains-append_left, Contains-append_right}
 use Rattle.bdb_faults.specs.Notes.{IsFirst, NotesAll}
-use Rattle.bdb_faults.proofs.SinkLemmas.{first_noted, notes_both, notes_same}
+use Rattle.bdb_faults.proofs.SinkLemmas.{notes_both, notes_same}
 use Rattle.bdb_graph.specs.Linked.{HasMetadata, IsForest}
 use Rattle.bdb_format.specs.declared.kinds.Fault.{Fault}
 use Rattle.bdb_format.specs.declared.metadata.BtreeMeta.{BtreeMeta}
@@ -20,12 +21,12 @@ use Rattle.bdb_format.specs.Page.{BtreeFields, Page}
 use Rattle.bdb_format.specs.Table.{Row, ◌:?◌}
 use Rattle.bdb_format.specs.Verdict.{by_page, holding, first_fault}
 use Rattle.bdb_format.proofs.MemberLemmas.{first_member, later_member, member_cases, no_member, of_filter}
-use Rattle.bdb_format.proofs.VerdictLemmas.{InOrder, LeastFirst, by_page_first, holding_least, in_by_page, of_by_page}
+use Rattle.bdb_format.proofs.VerdictLemmas.{InOrder, in_by_page, of_by_page, table_in_order}
 use Rattle.bdb_format.specs.Flags.{is_fixed, is_recno}
 use Rattle.bdb_recno.specs.Counts.{HasRightCounts}
-use Rattle.bdb_recno.specs.Noted.{code_of, count_faults, length_faults}
-use Rattle.bdb_recno.specs.declared.noted.RecnoRow.{RecnoRow}
-use Rattle.bdb_recno.specs.declared.noted.RecnoRow.TheVariants.{Count, RecordLength}
+use Rattle.bdb_recno.specs.Noted.{count_faults, length_faults}
+use Rattle.bdb_faults.specs.declared.rows.ContentsRow.{ContentsRow}
+use Rattle.bdb_faults.specs.declared.rows.ContentsRow.TheVariants.{Count, RecordLength}
 use Rattle.bdb_recno.specs.Pages.{IsRecnoPage}
 use Rattle.bdb_recno.proofs.CountLemmas.{all_one, level_below, next_recno}
 use Rattle.bdb_recno.proofs.NotedLemmas.{in_faults_on, in_wrong_at, of_faults_on, of_wrong_at}
@@ -88,18 +89,15 @@ recno_rows file meta p recno = ap (λ b. cond b (recno_contents file meta p) (bt
 abbrev codes_at : File → BtreeMeta → ℕ → List ℕ
 codes_at file meta p = holding (recno_contents file meta p)
 
-least_codes : (file : File) (meta : BtreeMeta) (p : ℕ) → LeastFirst (codes_at file meta p)
-least_codes file meta p = holding_least 6 (recno_contents file meta p) (omega arith, (omega arith, tt))
-
 abbrev recno_faults : File → BtreeMeta → List Fault
 recno_faults file meta = by_page 8 0 (file.last + 1) (codes_at file meta)
 
 -- a fault of a page of a list, by its row, is one of the recno
-row_holds : (file : File) (meta : BtreeMeta) (row : RecnoRow) (test : Page → Bool) (pages : List ℕ) (p : ℕ) → Contains pages p → p ≤ file.last
-    → test (page_at file p) ≡ true → (is_wrong_at file test pages p ≡ true → Contains (codes_at file meta p) (code_of row))
-    → Contains (recno_faults file meta) (record { stage = 8; page = p; code = code_of row })
+row_holds : (file : File) (meta : BtreeMeta) (row : ContentsRow) (test : Page → Bool) (pages : List ℕ) (p : ℕ) → Contains pages p → p ≤ file.last
+    → test (page_at file p) ≡ true → (is_wrong_at file test pages p ≡ true → Contains (codes_at file meta p) (contents_code row))
+    → Contains (recno_faults file meta) (record { stage = 8; page = p; code = contents_code row })
 row_holds file meta row test pages p listed low wrong holds =
-    in_by_page 8 0 (file.last + 1) p (code_of row) (codes_at file meta) (omega arith) (omega arith)
+    in_by_page 8 0 (file.last + 1) p (contents_code row) (codes_at file meta) (omega arith) (omega arith)
     (holds (in_wrong_at file test pages p listed wrong))
 
 of_lengths : (b : Bool) (faults : List Fault) (fault : Fault) → Contains (cond b faults []) fault → (b ≡ true) × Contains faults fault
@@ -192,21 +190,10 @@ all_noted before middle after image meta forest has recno counts lengths =
     (cond (is_fixed meta) (length_faults file meta (leaves file meta.root)) []) counts lengths)
     (λ fault. (λ at. noted_holds image meta fault forest root at, λ at. holds_noted file meta fault at)))
 
--- The first of what was noted.
-
-in_order : (file : File) (meta : BtreeMeta) → is_recno meta ≡ true → InOrder 8 (database_faults file (BtreeFields meta))
+-- the faults of a recno are all of stage 8, and the first comes before all of them
+pub in_order : (file : File) (meta : BtreeMeta) → is_recno meta ≡ true → InOrder 8 (database_faults file (BtreeFields meta))
 in_order file meta recno =
-    subst (InOrder 8) (sym (faults_are file meta recno)) (record {
-      one_stage = λ fault at. (of_by_page 8 0 (file.last + 1) (codes_at file meta) fault at).same_stage;
-      rises = by_page_first 8 0 (file.last + 1) (codes_at file meta) (least_codes file meta);
-    })
-
--- what a check finds over a sink that keeps the first
-pub first_found : (file : File) (meta : BtreeMeta) (start first : Option Fault) → is_recno meta ≡ true → start ≡ None
-    → NotesAll (IsFirst start) (IsFirst first) (database_faults file (BtreeFields meta)) → first ≡ first_fault (database_faults file (BtreeFields meta))
-first_found file meta start first recno none all =
-    first_noted 8 (database_faults file (BtreeFields meta)) first (in_order file meta recno)
-    (subst (λ (o : Option Fault). NotesAll (IsFirst o) (IsFirst first) (database_faults file (BtreeFields meta))) none all)
+    subst (InOrder 8) (sym (faults_are file meta recno)) (table_in_order 8 0 (file.last + 1) (recno_contents file meta) (λ p. (omega arith, (omega arith, tt))))
 
 -- contents without a fault have right counts
 pub right_counts : (image : List ℕ) (meta : BtreeMeta) → IsForest image → HasMetadata (file_of image) (BtreeFields meta) → is_recno meta ≡ true

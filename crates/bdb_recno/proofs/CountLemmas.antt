@@ -12,6 +12,8 @@ use Rattle.std.proofs.lemmas.List.Elements.{All-contains, Contains-get_or}
 use Rattle.std.proofs.lemmas.List.Folds.{length-flat_map-take}
 use Rattle.bdb_faults.specs.Notes.{NotesAll}
 use Rattle.bdb_faults.proofs.SinkLemmas.{notes_both, notes_none}
+use Rattle.bdb_faults.specs.Rows.{fault_if}
+use Rattle.bdb_faults.specs.declared.rows.Row.TheVariants.{Contents}
 use Rattle.bdb_format.specs.declared.kinds.Fault.{Fault}
 use Rattle.bdb_format.specs.declared.pages.RecnoItem.{RecnoItem}
 use Rattle.bdb_format.specs.ContentRows.{has_wrong_count, inner_in, inner_pages}
@@ -21,8 +23,8 @@ use Rattle.bdb_graph.specs.Linked.{IsForest}
 use Rattle.bdb_format.specs.Contents.{entries_in, tree_entries}
 use Rattle.bdb_format.specs.File.{File, file_of, header_in, page_at}
 use Rattle.bdb_format.specs.Leaves.{children_in, leaves}
-use Rattle.bdb_recno.specs.Noted.{count_faults, fault_if, fault_on}
-use Rattle.bdb_recno.specs.declared.noted.RecnoRow.TheVariants.{Count}
+use Rattle.bdb_recno.specs.Noted.{count_faults, fault_on}
+use Rattle.bdb_faults.specs.declared.rows.ContentsRow.TheVariants.{Count}
 use Rattle.bdb_recno.specs.Pages.{IsRecnoPage, IsRecnoLeaf}
 use Rattle.bdb_tree.specs.Entries.{entries_on}
 use Rattle.bdb_tree.proofs.EntryLemmas.{entries_are}
@@ -90,7 +92,7 @@ inner_alone file (p ∷ ps) =
     → count_faults file (cond b (p ∷ filter (λ q. is_some (children_in (page_at file q))) ps) (filter (λ q. is_some (children_in (page_at file q))) ps))
     ≡ fault_on file Count (has_wrong_count file) p ++ count_faults file ps) [
       | true ↦ λ inner. ap (λ fs. fault_on file Count (has_wrong_count file) p ++ fs) (inner_alone file ps)
-      | false ↦ λ outer. inner_alone file ps ∙ ap (λ b. fault_if Count p b ++ count_faults file ps) (sym (right_is_outer file p outer))
+      | false ↦ λ outer. inner_alone file ps ∙ ap (λ b. fault_if (Contents Count) p b ++ count_faults file ps) (sym (right_is_outer file p outer))
     ] refl
 
 -- the pages right below these

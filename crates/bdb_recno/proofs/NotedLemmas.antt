@@ -4,16 +4,18 @@ use Rattle.std.specs.Prelude.{◌==◌, ◌&&◌}
 use Rattle.std.specs.List.{Contains}
 use Rattle.std.proofs.lemmas.Bool.{and_parts, eqb-true, eq-eqb}
 use Rattle.std.proofs.lemmas.List.Folds.{list_any_at}
-use Rattle.bdb_faults.specs.Notes.{NotesAll}
-use Rattle.bdb_faults.proofs.SinkLemmas.{notes_next, notes_push}
+use Rattle.bdb_faults.specs.Notes.{Notes, NotesAll}
+use Rattle.bdb_faults.proofs.SinkLemmas.{notes_next, notes_one, notes_push}
+use Rattle.bdb_faults.specs.Rows.{contents_code, fault_if}
+use Rattle.bdb_faults.specs.declared.rows.Row.TheVariants.{Contents}
 use Rattle.bdb_format.specs.declared.kinds.Fault.{Fault}
 use Rattle.bdb_format.specs.ContentRows.{is_wrong_at}
 use Rattle.bdb_format.specs.File.{File, page_at}
 use Rattle.bdb_format.specs.Page.{Page}
 use Rattle.bdb_format.proofs.ListLemmas.{any_member, only_member}
 use Rattle.bdb_format.proofs.MemberLemmas.{first_member, in_flat_map, no_member, of_flat_map}
-use Rattle.bdb_recno.specs.Noted.{code_of, fault_if, fault_on, faults_on}
-use Rattle.bdb_recno.specs.declared.noted.RecnoRow.{RecnoRow}
+use Rattle.bdb_recno.specs.Noted.{fault_on, faults_on}
+use Rattle.bdb_faults.specs.declared.rows.ContentsRow.{ContentsRow}
 
 pub of_wrong_at : (file : File) (test : Page → Bool) (pages : List ℕ) (p : ℕ) → is_wrong_at file test pages p ≡ true
     → Contains pages p × (test (page_at file p) ≡ true)
@@ -29,48 +31,50 @@ in_wrong_at file test pages p at wrong =
     (subst (λ q. (q == p && test (page_at file q)) ≡ true) (sym at.2) (ap (λ b. b && test (page_at file p)) (eq-eqb p p refl) ∙ wrong))
 
 -- a fault at a page of a list for which a test holds
-pub record IsFaultOn (file : File) (row : RecnoRow) (test : Page → Bool) (pages : List ℕ) (fault : Fault) : Type 0 where
+pub record IsFaultOn (file : File) (row : ContentsRow) (test : Page → Bool) (pages : List ℕ) (fault : Fault) : Type 0 where
   pub page : ℕ
-  pub is : fault ≡ record { stage = 8; page = page; code = code_of row }
+  pub is : fault ≡ record { stage = 8; page = page; code = contents_code row }
   pub listed : Contains pages page
   pub wrong : test (page_at file page) ≡ true
 
-of_fault_if : (row : RecnoRow) (page : ℕ) (holds : Bool) (fault : Fault) → Contains (fault_if row page holds) fault
-    → (holds ≡ true) × (fault ≡ record { stage = 8; page = page; code = code_of row })
-of_fault_if row page true fault at = (refl, sym (only_member (record { stage = 8; page = page; code = code_of row }) fault at))
+of_fault_if : (row : ContentsRow) (page : ℕ) (holds : Bool) (fault : Fault) → Contains (fault_if (Contents row) page holds) fault
+    → (holds ≡ true) × (fault ≡ record { stage = 8; page = page; code = contents_code row })
+of_fault_if row page true fault at = (refl, sym (only_member (record { stage = 8; page = page; code = contents_code row }) fault at))
 of_fault_if row page false fault at = absurd (no_member [] fault refl at)
 
-in_fault_if : (row : RecnoRow) (page : ℕ) (holds : Bool) → holds ≡ true
-    → Contains (fault_if row page holds) (record { stage = 8; page = page; code = code_of row })
-in_fault_if row page true is = first_member (record { stage = 8; page = page; code = code_of row }) []
+in_fault_if : (row : ContentsRow) (page : ℕ) (holds : Bool) → holds ≡ true
+    → Contains (fault_if (Contents row) page holds) (record { stage = 8; page = page; code = contents_code row })
+in_fault_if row page true is = first_member (record { stage = 8; page = page; code = contents_code row }) []
 in_fault_if row page false is = absurd cc
 
-pub of_faults_on : (file : File) (row : RecnoRow) (test : Page → Bool) (pages : List ℕ) (fault : Fault) → Contains (faults_on file row test pages) fault
+pub of_faults_on : (file : File) (row : ContentsRow) (test : Page → Bool) (pages : List ℕ) (fault : Fault) → Contains (faults_on file row test pages) fault
     → IsFaultOn file row test pages fault
 of_faults_on file row test pages fault at =
     let found = of_flat_map (fault_on file row test) pages fault at in
     let here = of_fault_if row found.0 (test (page_at file found.0)) fault found.2 in
     record { page = found.0; is = here.1; listed = found.1; wrong = here.0 }
 
-pub in_faults_on : (file : File) (row : RecnoRow) (test : Page → Bool) (pages : List ℕ) (p : ℕ) → Contains pages p → test (page_at file p) ≡ true
-    → Contains (faults_on file row test pages) (record { stage = 8; page = p; code = code_of row })
+pub in_faults_on : (file : File) (row : ContentsRow) (test : Page → Bool) (pages : List ℕ) (p : ℕ) → Contains pages p → test (page_at file p) ≡ true
+    → Contains (faults_on file row test pages) (record { stage = 8; page = p; code = contents_code row })
 in_faults_on file row test pages p at wrong =
-    in_flat_map (fault_on file row test) pages p (record { stage = 8; page = p; code = code_of row }) at (in_fault_if row p (test (page_at file p)) wrong)
+    in_flat_map (fault_on file row test) pages p (record { stage = 8; page = p; code = contents_code row }) at (in_fault_if row p (test (page_at file p)) wrong)
 
 -- Pages noted one after another.
 
 -- one more page of a list
-pub page_noted : (before middle after : List Fault → Type 0) (file : File) (row : RecnoRow) (test : Page → Bool) (pages : List ℕ) (p page : ℕ) (holds : Bool)
+pub page_noted : (before middle after : List Fault → Type 0) (file : File) (row : ContentsRow) (test : Page → Bool) (pages : List ℕ) (p page : ℕ) (holds : Bool)
     → page ≡ p → holds ≡ test (page_at file page) → NotesAll before middle (faults_on file row test pages)
-    → NotesAll middle after (fault_if row page holds) → NotesAll before after (faults_on file row test (pages ++ (p ∷ [])))
+    → Notes middle after (fault_if (Contents row) page holds) → NotesAll before after (faults_on file row test (pages ++ (p ∷ [])))
 page_noted before middle after file row test pages p page holds same is first second =
     notes_push before middle after (fault_on file row test) pages p first
-    (subst (λ q. NotesAll middle after (fault_on file row test q)) same (subst (λ b. NotesAll middle after (fault_if row page b)) is second))
+    (subst (λ q. NotesAll middle after (fault_on file row test q)) same (subst (λ b. NotesAll middle after (fault_if (Contents row) page b)) is
+    (notes_one middle after (fault_if (Contents row) page holds) second)))
 
 -- the next page of a list
-pub next_noted : (before middle after : List Fault → Type 0) (file : File) (row : RecnoRow) (test : Page → Bool) (pages : List ℕ) (i : ℕ) (holds : Bool)
+pub next_noted : (before middle after : List Fault → Type 0) (file : File) (row : ContentsRow) (test : Page → Bool) (pages : List ℕ) (i : ℕ) (holds : Bool)
     → i < length pages → holds ≡ test (page_at file (get_or pages i 0)) → NotesAll before middle (faults_on file row test (take i pages))
-    → NotesAll middle after (fault_if row (get_or pages i 0) holds) → NotesAll before after (faults_on file row test (take (i + 1) pages))
+    → Notes middle after (fault_if (Contents row) (get_or pages i 0) holds) → NotesAll before after (faults_on file row test (take (i + 1) pages))
 next_noted before middle after file row test pages i holds low is first second =
     notes_next before middle after (fault_on file row test) pages i 0 low first
-    (subst (λ b. NotesAll middle after (fault_if row (get_or pages i 0) b)) is second)
+    (subst (λ b. NotesAll middle after (fault_if (Contents row) (get_or pages i 0) b)) is
+    (notes_one middle after (fault_if (Contents row) (get_or pages i 0) holds) second))

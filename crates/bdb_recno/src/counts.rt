@@ -10,9 +10,8 @@ ghost use Rattle.bdb_recno.specs.Counts.{miscounts};
 ghost use Rattle.bdb_recno.specs.Noted.{count_faults};
 ghost use Rattle.bdb_recno.specs.Pages.{IsRecnoPage};
 
-use crate::noted::{RecnoRow, note_if};
 use crate::page::{RecnoPage, entries_at, level_of, recno_page};
-use bdb_faults::FaultSink;
+use bdb_faults::{ContentsRow, FaultSink, Row, note_if};
 use bdb_form::RecnoInternalView;
 use bdb_graph::Forest;
 use bdb_tree::{leaves_below, next_level};
@@ -84,7 +83,7 @@ fn note_level<F: FaultSink>(
 {
     for page in pages {
         let wrong = has_wrong_count(alloc, forest, *page)?;
-        note_if(found, RecnoRow::Count, *page, wrong)?;
+        note_if(found, Row::Contents(ContentsRow::Count), *page, wrong)?;
     }
     Ok(())
 }

@@ -11,9 +11,8 @@ ghost use Rattle.bdb_recno.specs.Noted.{length_faults};
 ghost use Rattle.bdb_recno.specs.Pages.{IsRecnoLeaf, IsRecnoPage};
 ghost use Rattle.bdb_tree.specs.Trees.{IsRoot};
 
-use crate::noted::{RecnoRow, note_if};
 use crate::page::leaf_at;
-use bdb_faults::FaultSink;
+use bdb_faults::{ContentsRow, FaultSink, Row, note_if};
 use bdb_format::BtreeMeta;
 use bdb_graph::Forest;
 use bdb_layout::LeafItem;
@@ -59,7 +58,7 @@ pub(crate) fn note_lengths<F: FaultSink>(
     for leaf in tree_leaves(forest, meta.root) {
         let page = leaf.number();
         let wrong = has_wrong_record(forest, meta, page);
-        note_if(found, RecnoRow::RecordLength, page, wrong)?;
+        note_if(found, Row::Contents(ContentsRow::RecordLength), page, wrong)?;
     }
     Ok(())
 }

@@ -7,7 +7,6 @@ mod found;
 mod lengths;
 mod list;
 mod listing;
-mod noted;
 mod page;
 mod search;
 

@@ -13,6 +13,7 @@ use Rattle.bdb_format.specs.Digits.{digits_value, is_number}
 use Rattle.bdb_model.specs.TextSpelling.{digit_value}
 use Rattle.std.proofs.Math.Pow.{pow_mono}
 use Rattle.std.proofs.lemmas.Nat.{pow-add}
+use Rattle.std.proofs.lemmas.Bool.{or_cases, or_right}
 use Rattle.bdb_format.specs.Databases.{is_name}
 use Rattle.bdb_model.specs.Reasons.{keyword_named, name_missing}
 use Rattle.bdb_model.specs.Sections.{entry_fits, fits, header_fits, keyword_fits, lines_fit}
@@ -108,26 +109,22 @@ IsTyped header =
 judged_word : (out word : Bool) → fits (if out then LeftOut else (if word then Fits else Bad)) ≡ true → word ≡ true
 judged_word out word is = judged_legal 0 out word is
 
-first_or_rest : (a b : Bool) → (a || b) ≡ true → (a ≡ true) ⊎ (b ≡ true)
-first_or_rest true b is = inl refl
-first_or_rest false b is = inr is
-
 is_word : (value word : List ℕ) → bytes_eq value word ≡ true → (some : Option (List ℕ)) → some ≡ Some value → some ≡ Some word
 is_word value word same some is = is ∙ ap (λ v. Some v) ((bytes_eq-Decides value word).0 same)
 
 typed_by : (header : Values) (value : List ℕ) → header (codes "type") ≡ Some value
     → list_any (bytes_eq value) (codes "btree" ∷ codes "hash" ∷ codes "recno" ∷ codes "queue" ∷ []) ≡ true → IsTyped header
 typed_by header value is any =
-    elim (first_or_rest (bytes_eq value (codes "btree")) (list_any (bytes_eq value) (codes "hash" ∷ codes "recno" ∷ codes "queue" ∷ [])) any) [
+    elim (or_cases (bytes_eq value (codes "btree")) (list_any (bytes_eq value) (codes "hash" ∷ codes "recno" ∷ codes "queue" ∷ [])) any) [
       | inl a ↦ inl (is_word value (codes "btree") a (header (codes "type")) is)
       | inr others ↦
-          elim (first_or_rest (bytes_eq value (codes "hash")) (list_any (bytes_eq value) (codes "recno" ∷ codes "queue" ∷ [])) others) [
+          elim (or_cases (bytes_eq value (codes "hash")) (list_any (bytes_eq value) (codes "recno" ∷ codes "queue" ∷ [])) others) [
             | inl b ↦ inr (inl (is_word value (codes "hash") b (header (codes "type")) is))
             | inr more ↦
-                elim (first_or_rest (bytes_eq value (codes "recno")) (list_any (bytes_eq value) (codes "queue" ∷ [])) more) [
+                elim (or_cases (bytes_eq value (codes "recno")) (list_any (bytes_eq value) (codes "queue" ∷ [])) more) [
                   | inl c ↦ inr (inr (inl (is_word value (codes "recno") c (header (codes "type")) is)))
                   | inr last ↦
-                      elim (first_or_rest (bytes_eq value (codes "queue")) false last) [
+                      elim (or_cases (bytes_eq value (codes "queue")) false last) [
                         | inl d ↦ inr (inr (inr (is_word value (codes "queue") d (header (codes "type")) is)))
                         | inr none ↦ absurd (cc none)
                       ]
@@ -210,10 +207,6 @@ pub record HeaderSays (header : Values) : Type 0 where
   pub size : is_page_size (number_or 4096 (header (codes "db_pagesize"))) ≡ true
   pub no_conflict : conflicts header ≡ false
 
-either : (a b : Bool) → b ≡ true → (a || b) ≡ true
-either true b is = refl
-either false b is = is
-
 both : (a b c : Bool) → (a && (b || c)) ≡ false → a ≡ true → c ≡ false
 both true b c is on = neither_right b c is
 both false b c is on = absurd (cc on)
@@ -246,7 +239,7 @@ settings_fit header says =
     elim says.typed [
       | inl btree ↦ rw btree (record {
         page_size = says.size;
-        sorted = λ on. either (is_on (codes "duplicates") header) (is_on (codes "dupsort") header) on;
+        sorted = λ on. or_right (is_on (codes "duplicates") header) (is_on (codes "dupsort") header) on;
         counted = λ on. counted_alone header says.no_conflict on;
         records = λ on. absurd (cc on);
         re_len = lit< tt;
@@ -256,7 +249,7 @@ settings_fit header says =
       | inr other ↦ elim other [
         | inl hash ↦ rw hash (record {
           page_size = says.size;
-          sorted = λ on. either (is_on (codes "duplicates") header) (is_on (codes "dupsort") header) on;
+          sorted = λ on. or_right (is_on (codes "duplicates") header) (is_on (codes "dupsort") header) on;
           counted = λ on. absurd (cc on);
           records = λ on. absurd (cc on);
           re_len = lit< tt;

@@ -7,7 +7,11 @@ use Rattle.std.proofs.lemmas.Bool.{and_from, and_parts, eq-eqb, eqb-true, ne_eqb
 use Rattle.std.proofs.lemmas.List.{take_all}
 use Rattle.std.proofs.lemmas.List.Elements.{Contains-append_cases, Contains-append_left, Contains-append_right, Contains-get_or}
 use Rattle.bdb_faults.specs.Notes.{AreSame, IsFirst, Notes, NotesAll}
-use Rattle.bdb_faults.proofs.SinkLemmas.{first_noted, notes_next, notes_one}
+use Rattle.bdb_faults.specs.Rows.{fault_if, structure_code}
+use Rattle.bdb_faults.specs.declared.rows.Row.TheVariants.{Structure}
+use Rattle.bdb_faults.specs.declared.rows.StructureRow.{StructureRow}
+use Rattle.bdb_faults.specs.declared.rows.StructureRow.TheVariants.{LeafKind, LeafLink}
+use Rattle.bdb_faults.proofs.SinkLemmas.{notes_next, notes_one}
 use Rattle.bdb_format.specs.declared.kinds.Fault.{Fault}
 use Rattle.bdb_format.specs.declared.references.Reference.{Reference}
 use Rattle.bdb_format.specs.declared.references.Sort.{Sort}
@@ -20,17 +24,15 @@ use Rattle.bdb_format.specs.Page.{Page}
 use Rattle.bdb_format.specs.References.{refs}
 use Rattle.bdb_format.specs.Table.{◌:?◌}
 use Rattle.bdb_format.specs.Verdict.{holding, tree_faults, first_fault}
-use Rattle.bdb_format.proofs.FaultLemmas.{tree_one, tree_rises}
+use Rattle.bdb_format.proofs.FaultLemmas.{same_parts}
 use Rattle.bdb_format.proofs.ListLemmas.{any_member, only_member, passes_here}
 use Rattle.bdb_format.proofs.MemberLemmas.{first_member, in_flat_map, in_range, later_member, member_cases, no_member, of_filter}
 use Rattle.bdb_format.proofs.MemberLemmas.{of_flat_map, of_range}
 use Rattle.bdb_format.proofs.ReferenceLemmas.{of_all}
 use Rattle.bdb_format.proofs.VerdictLemmas.{in_by_page, of_by_page}
 use Rattle.bdb_graph.specs.Linked.{FitsLeafPage, IsForest, IsTarget}
-use Rattle.bdb_tree.specs.Noted.{code_of, data_faults, data_root, fault_if, held_faults, meta_root, paired, place_faults, place_in, root_faults}
+use Rattle.bdb_tree.specs.Noted.{data_faults, data_root, held_faults, meta_root, paired, place_faults, place_in, root_faults}
 use Rattle.bdb_tree.specs.Trees.{IsTreePage}
-use Rattle.bdb_tree.specs.declared.noted.TreeRow.{TreeRow}
-use Rattle.bdb_tree.specs.declared.noted.TreeRow.TheVariants.{LeafKind, LeafLink}
 use Rattle.bdb_tree.proofs.RootLemmas.{data_root_fits, meta_root_fits, reference_is_tree, reference_root}
 use Rattle.bdb_tree.proofs.TreeLemmas.{leaf_fits, leaf_low, place_of_root}
 
@@ -189,13 +191,13 @@ of_noted image fault forest at =
 
 -- The faults of the stage.
 
-in_fault_if : (row : TreeRow) (page : ℕ) (holds : Bool) → holds ≡ true → Contains (fault_if row page holds) (leaf_fault page (code_of row))
-in_fault_if row page true is = first_member (leaf_fault page (code_of row)) []
+in_fault_if : (row : StructureRow) (page : ℕ) (holds : Bool) → holds ≡ true → Contains (fault_if (Structure row) page holds) (leaf_fault page (structure_code row))
+in_fault_if row page true is = first_member (leaf_fault page (structure_code row)) []
 in_fault_if row page false is = absurd cc
 
-of_fault_if : (row : TreeRow) (page : ℕ) (holds : Bool) (fault : Fault) → Contains (fault_if row page holds) fault
-    → (holds ≡ true) × (leaf_fault page (code_of row) ≡ fault)
-of_fault_if row page true fault at = (refl, only_member (leaf_fault page (code_of row)) fault at)
+of_fault_if : (row : StructureRow) (page : ℕ) (holds : Bool) (fault : Fault) → Contains (fault_if (Structure row) page holds) fault
+    → (holds ≡ true) × (leaf_fault page (structure_code row) ≡ fault)
+of_fault_if row page true fault at = (refl, only_member (leaf_fault page (structure_code row)) fault at)
 of_fault_if row page false fault at = absurd (no_member [] fault refl at)
 
 -- the codes of two rows that hold
@@ -214,7 +216,7 @@ in_tree_faults : (file : File) (place : LeafPlace) (fault : Fault) → place.lea
 unfolding tree_faults
 in_tree_faults file place fault low at here =
     let p : ℕ = place.leaf in
-    elim (Contains-append_cases (fault_if LeafKind p (is_wrong_leaf file place)) (fault_if LeafLink p (is_wrong_link file place)) fault here) [
+    elim (Contains-append_cases (fault_if (Structure LeafKind) p (is_wrong_leaf file place)) (fault_if (Structure LeafLink) p (is_wrong_link file place)) fault here) [
       | inl kind ↦
           let is = of_fault_if LeafKind p (is_wrong_leaf file place) fault kind in
           subst (Contains (tree_faults file)) is.1 (in_stage 2 (holds_kind _ _ (passes (is_wrong_leaf file) is.0)))
@@ -240,21 +242,17 @@ code_of_two true false code at = inl (sym (only_member 2 code at), refl)
 code_of_two false true code at = inr (sym (only_member 3 code at), refl)
 code_of_two false false code at = absurd (no_member [] code refl at)
 
-same_parts : (s t p q c d : ℕ) → s ≡ t → p ≡ q → c ≡ d
-    → ◌≡◌ {A = Fault} (record { stage = s; page = p; code = c }) (record { stage = t; page = q; code = d })
-same_parts s t p q c d stages pages codes = cc
-
 -- a fault of a row that holds somewhere at its page is noted
-noted_row : (image : List ℕ) (fault : Fault) (row : TreeRow) (wrong : LeafPlace → Bool) → IsForest image → fault.stage ≡ 6 → fault.code ≡ code_of row
-    → ((place : LeafPlace) → wrong place ≡ true → Contains (place_faults (file_of image) place) (leaf_fault place.leaf (code_of row)))
+noted_row : (image : List ℕ) (fault : Fault) (row : StructureRow) (wrong : LeafPlace → Bool) → IsForest image → fault.stage ≡ 6 → fault.code ≡ structure_code row
+    → ((place : LeafPlace) → wrong place ≡ true → Contains (place_faults (file_of image) place) (leaf_fault place.leaf (structure_code row)))
     → list_any (λ (other : LeafPlace). other.leaf == fault.page && wrong other) (leaf_places (file_of image)) ≡ true
     → Contains (noted (file_of image)) fault
 noted_row image fault row wrong forest stage is each any =
     let found = any_member (λ (other : LeafPlace). other.leaf == fault.page && wrong other) (leaf_places (file_of image)) any in
     let both = and_parts (found.0.leaf == fault.page) (wrong found.0) found.2 in
     subst (Contains (noted (file_of image)))
-    (same_parts 6 fault.stage found.0.leaf fault.page (code_of row) fault.code (sym stage) (eqb-true found.0.leaf fault.page both.0) (sym is))
-    (in_noted image found.0 (leaf_fault found.0.leaf (code_of row)) forest found.1 (each found.0 both.1))
+    (same_parts 6 fault.stage found.0.leaf fault.page (structure_code row) fault.code (sym stage) (eqb-true found.0.leaf fault.page both.0) (sym is))
+    (in_noted image found.0 (leaf_fault found.0.leaf (structure_code row)) forest found.1 (each found.0 both.1))
 
 -- a fault of the stage is noted
 of_tree_faults : (image : List ℕ) (fault : Fault) → IsForest image → Contains (tree_faults (file_of image)) fault → Contains (noted (file_of image)) fault
@@ -265,13 +263,13 @@ of_tree_faults image fault forest at =
     elim (code_of_two _ _ fault.code of.is_code) [
       | inl (is, any) ↦
           noted_row image fault LeafKind (is_wrong_leaf file) forest of.same_stage is
-          (λ place wrong. Contains-append_left (fault_if LeafKind place.leaf (is_wrong_leaf file place))
-          (fault_if LeafLink place.leaf (is_wrong_link file place)) (leaf_fault place.leaf 2)
+          (λ place wrong. Contains-append_left (fault_if (Structure LeafKind) place.leaf (is_wrong_leaf file place))
+          (fault_if (Structure LeafLink) place.leaf (is_wrong_link file place)) (leaf_fault place.leaf 2)
           (in_fault_if LeafKind place.leaf (is_wrong_leaf file place) wrong)) any
       | inr (is, any) ↦
           noted_row image fault LeafLink (is_wrong_link file) forest of.same_stage is
-          (λ place wrong. Contains-append_right (fault_if LeafKind place.leaf (is_wrong_leaf file place))
-          (fault_if LeafLink place.leaf (is_wrong_link file place)) (leaf_fault place.leaf 3)
+          (λ place wrong. Contains-append_right (fault_if (Structure LeafKind) place.leaf (is_wrong_leaf file place))
+          (fault_if (Structure LeafLink) place.leaf (is_wrong_link file place)) (leaf_fault place.leaf 3)
           (in_fault_if LeafLink place.leaf (is_wrong_link file place) wrong)) any
     ]
 
@@ -300,11 +298,3 @@ all_noted image forest fault = (in_stage, of_tree_faults image fault forest)
     in_stage at =
         let is : IsNoted (file_of image) fault = of_noted image fault forest at in
         in_tree_faults (file_of image) is.place fault (place_low image is.place forest is.at) is.at is.here
-
--- The first fault.
-
-pub first_found : (file : File) (start first : Option Fault) → start ≡ None → NotesAll (IsFirst start) (IsFirst first) (tree_faults file)
-    → first ≡ first_fault (tree_faults file)
-first_found file start first none all =
-    first_noted 6 (tree_faults file) first (record { one_stage = tree_one file; rises = tree_rises file })
-    (subst (λ (o : Option Fault). NotesAll (IsFirst o) (IsFirst first) (tree_faults file)) none all)

@@ -9,8 +9,9 @@ use Rattle.bdb_format.specs.File.{File, page_at}
 use Rattle.bdb_format.specs.Leaves.{LeafPlace, is_wrong_leaf, is_wrong_link, leaves, places_from}
 use Rattle.bdb_format.specs.Page.{Content, Tree, Item, BtreeFields, Page, Meta, Hash, Leaf, RecnoLeaf, DupLeaf}
 use Rattle.bdb_format.specs.References.{no_item}
-use Rattle.bdb_tree.specs.declared.noted.TreeRow.{TreeRow}
-use Rattle.bdb_tree.specs.declared.noted.TreeRow.TheVariants.{LeafKind, LeafLink}
+use Rattle.bdb_faults.specs.Rows.{fault_if}
+use Rattle.bdb_faults.specs.declared.rows.Row.TheVariants.{Structure}
+use Rattle.bdb_faults.specs.declared.rows.StructureRow.TheVariants.{LeafKind, LeafLink}
 
 -- a leaf of a tree
 abbrev pub is_leaf_page : Page → Bool
@@ -28,17 +29,9 @@ place_in sort pages i = record {
   after = slice_index pages (i + 1);
 }
 
-abbrev pub code_of : TreeRow → ℕ
-code_of LeafKind = 2
-code_of LeafLink = 3
-
--- the fault of a row at a page, where it holds there
-abbrev pub fault_if : TreeRow → ℕ → Bool → List Fault
-fault_if row page holds = if holds then record { stage = 6; page = page; code = code_of row } ∷ [] else []
-
 -- the faults of a leaf at its place
 abbrev pub place_faults : File → LeafPlace → List Fault
-place_faults file place = fault_if LeafKind place.leaf (is_wrong_leaf file place) ++ fault_if LeafLink place.leaf (is_wrong_link file place)
+place_faults file place = fault_if (Structure LeafKind) place.leaf (is_wrong_leaf file place) ++ fault_if (Structure LeafLink) place.leaf (is_wrong_link file place)
 
 -- those of the leaves of the tree with this root, if there is one
 abbrev pub root_faults : File → Sort → Option ℕ → List Fault

@@ -8,7 +8,6 @@ mod first;
 mod level;
 mod links;
 mod named_roots;
-mod noted;
 mod places;
 mod root;
 mod set;

@@ -8,8 +8,7 @@ ghost use Rattle.bdb_format.specs.Leaves.{places_from, wrong_leaf_types};
 ghost use Rattle.bdb_format.specs.References.{has_type};
 ghost use Rattle.bdb_tree.specs.Noted.{is_leaf_page, place_faults, place_in};
 
-use crate::noted::{TreeRow, note_if};
-use bdb_faults::FaultSink;
+use bdb_faults::{FaultSink, Row, StructureRow, note_if};
 use bdb_form::PageView;
 use bdb_graph::{Forest, Sort};
 use std::alloc::AllocError;
@@ -52,13 +51,16 @@ fn note_place<F: FaultSink>(
     ensures { OnOk result (Notes (F.has_noted found.old) (F.has_noted found.new)
         (place_faults (file_of forest.now) (place_in sort leaves.now i))) }
 {
-    let page = forest.page(leaves[i]);
+    let leaf = leaves[i];
+    let page = forest.page(leaf);
     let before = if i > 0 { leaves[i - 1] } else { 0 };
     let after = leaves.get(i + 1).copied().unwrap_or(0);
     let wrong_type = has_wrong_type(&page, sort);
     let wrong_link = !is_between(&page, before, after);
-    note_if(found, TreeRow::LeafKind, leaves[i], wrong_type)?;
-    note_if(found, TreeRow::LeafLink, leaves[i], wrong_link)?;
+    let kind = Row::Structure(StructureRow::LeafKind);
+    let link = Row::Structure(StructureRow::LeafLink);
+    note_if(found, kind, leaf, wrong_type)?;
+    note_if(found, link, leaf, wrong_link)?;
     Ok(())
 }
 

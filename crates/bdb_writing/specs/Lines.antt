@@ -2,7 +2,7 @@
 use Rattle.std.specs.Prelude.{ℕ, List, [], ◌∷◌, ◌++◌, codes, decimal}
 use Rattle.bdb_format.specs.declared.kinds.Kind.{Kind}
 use Rattle.bdb_model.specs.declared.faults.TextFault.{TextFault}
-use Rattle.bdb_model.specs.FaultNames.{numbered_name}
+use Rattle.bdb_format.specs.FaultNames.{numbered_name}
 use Rattle.bdb_model.specs.Lines.{line}
 use Rattle.bdb_model.specs.Written.{kind_text}
 

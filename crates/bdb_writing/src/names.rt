@@ -1,5 +1,5 @@
 ghost use Rattle.std.specs.Prelude.{◌≡◌};
-ghost use Rattle.bdb_model.specs.FaultNames.{numbered_name};
+ghost use Rattle.bdb_format.specs.FaultNames.{numbered_name};
 ghost use Rattle.bdb_writing.specs.Lines.{reason_names};
 
 /// The name of a reason of a text's line.

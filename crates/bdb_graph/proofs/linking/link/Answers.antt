@@ -1,17 +1,16 @@
 use Rattle.std.proofs.Common.{◌∙◌, [], ◌∷◌, sym}
+use Rattle.bdb_faults.proofs.SinkLemmas.{first_of_stages, none_first}
 use Rattle.bdb_format.specs.Verdict.{faults_in}
-use Rattle.bdb_graph.proofs.LinkingLemmas.{no_first_fault}
-use Rattle.bdb_graph.proofs.NotedLemmas.{first_found}
 use Rattle.bdb_graph.proofs.linking.link.Goals as goal
 
 pub returns-in-Some-clause-refusal : goal.returns-in-Some-clause-refusal
 returns-in-Some-clause-refusal g c =
     sym (c.in-Some.ensures
-    ∙ first_found c.args.formed (3 ∷ 4 ∷ 5 ∷ []) c.new-first.result c.note_graph.new.found c.new-first.ensures c.in-Ok.ensures.noted)
+    ∙ first_of_stages c.args.formed (3 ∷ 4 ∷ 5 ∷ []) c.new-first.result c.note_graph.new.found c.new-first.ensures c.in-Ok.ensures.noted)
 
 pub walked-requires : goal.walked-requires
 walked-requires g c =
     c.in-Ok.ensures.walked
-    (no_first_fault (faults_in (3 ∷ 4 ∷ 5 ∷ []) c.args.formed)
-    (sym (c.in_default-fault.ensures
-    ∙ first_found c.args.formed (3 ∷ 4 ∷ 5 ∷ []) c.new-first.result c.note_graph.new.found c.new-first.ensures c.in-Ok.ensures.noted)))
+    (none_first (faults_in (3 ∷ 4 ∷ 5 ∷ []) c.args.formed)
+    (c.in_default-fault.ensures
+    ∙ first_of_stages c.args.formed (3 ∷ 4 ∷ 5 ∷ []) c.new-first.result c.note_graph.new.found c.new-first.ensures c.in-Ok.ensures.noted))

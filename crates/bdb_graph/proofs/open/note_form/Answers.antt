@@ -1,6 +1,7 @@
-use Rattle.std.proofs.Common.{◌≡◌, List, ap, length, subst, sym, ◌∙◌, arith}
+use Rattle.std.proofs.Common.{◌≡◌, List, [], ◌∷◌, ap, length, subst, sym, ◌∙◌, arith}
 use Rattle.std.specs.Prelude.{None}
-use Rattle.bdb_faults.specs.Notes.{NotesAll}
+use Rattle.bdb_faults.specs.Cases.{fault_of_head}
+use Rattle.bdb_faults.specs.Notes.{Notes, NotesAll}
 use Rattle.bdb_faults.proofs.SinkLemmas.{notes_one}
 use Rattle.bdb_format.specs.HeadOf.{head_fault, head_of, head_rows}
 use Rattle.bdb_format.specs.Table.{first_row}
@@ -21,9 +22,11 @@ returns-in_ok-note_pages-in-Ok-clause-read g c =
 
 pub returns-in_ok-note-in-Err-clause-noted : goal.returns-in_ok-note-in-Err-clause-noted
 returns-in_ok-note-in-Err-clause-noted g c =
-    subst (λ (faults : List Fault). NotesAll (g.F.FaultSink.has_noted c.args.found.now) (g.F.FaultSink.has_noted c.note.new.found) faults)
+    subst (λ (faults : List Fault). NotesAll (g.F.FaultSink.has_noted c.args.found.now) (g.F.FaultSink.has_noted c.note.new.self) faults)
     (sym (head_refused c.args.image.now c.in-Err.fault c.in-Err.ensures))
-    (notes_one (g.F.FaultSink.has_noted c.args.found.now) (g.F.FaultSink.has_noted c.note.new.found) _ c.in_ok-note-in-Err.ensures.noted)
+    (notes_one (g.F.FaultSink.has_noted c.args.found.now) (g.F.FaultSink.has_noted c.note.new.self) (fault_of_head c.in-Err.fault ∷ [])
+    (subst (λ (fault : Fault). Notes (g.F.FaultSink.has_noted c.args.found.now) (g.F.FaultSink.has_noted c.note.new.self) (fault ∷ [])) c.fault_of_head.ensures
+    c.in_ok-note-in-Err.ensures.noted))
 
 pub returns-in_ok-note-in-Err-clause-read : goal.returns-in_ok-note-in-Err-clause-read
 returns-in_ok-note-in-Err-clause-read g c none =

@@ -1,11 +1,16 @@
+use Rattle.std.proofs.Common.{[], ◌∷◌, subst}
+use Rattle.bdb_faults.specs.Notes.{Notes}
+use Rattle.bdb_format.specs.declared.kinds.Fault.{Fault}
 use Rattle.bdb_format.specs.Rows.{form_code}
 use Rattle.bdb_graph.proofs.NotedLemmas.{form_noted, form_passed}
 use Rattle.bdb_graph.proofs.open.note_page.Goals as goal
 
 pub returns-in_ok-note-clause-noted : goal.returns-in_ok-note-clause-noted
 returns-in_ok-note-clause-noted g c =
-    form_noted (g.F.FaultSink.has_noted c.args.found.now) (g.F.FaultSink.has_noted c.note.new.found) c.args.number
-    (form_code c.args.head.now c.args.number c.args.page.now) c.in-Some.fault c.in-Some.ensures c.in_ok-note.ensures.noted
+    form_noted (g.F.FaultSink.has_noted c.args.found.now) (g.F.FaultSink.has_noted c.note.new.self) c.args.number
+    (form_code c.args.head.now c.args.number c.args.page.now) c.in-Some.fault c.in-Some.ensures
+    (subst (λ (fault : Fault). Notes (g.F.FaultSink.has_noted c.args.found.now) (g.F.FaultSink.has_noted c.note.new.self) (fault ∷ [])) c.fault_of_form.ensures
+    c.in_ok-note.ensures.noted)
 
 pub returns-in_default-clause-noted : goal.returns-in_default-clause-noted
 returns-in_default-clause-noted g c =

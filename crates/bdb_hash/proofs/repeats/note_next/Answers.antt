@@ -7,4 +7,4 @@ pub returns : goal.returns
 returns g c =
     one_noted c.args.keys.now c.add.new.self (g.F.FaultSink.has_noted c.args.found.now) (g.F.FaultSink.has_noted c.note_if.new.found) c.args.pair.now
     (datum_seen c.again.result) c.page.result c.in_ok-is_new.is_new c.in_ok-is_new.ensures.updates c.in_ok-is_new.ensures.added
-    (c.again.ensures ∙ c.key.ensures) c.page.ensures c.in_ok-note_if.ensures
+    (c.again.ensures ∙ c.key.ensures) c.page.ensures c.in_ok-note_if.ensures.noted

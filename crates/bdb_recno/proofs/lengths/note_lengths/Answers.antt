@@ -6,7 +6,7 @@ use Rattle.bdb_format.specs.ContentRows.{has_wrong_record}
 use Rattle.bdb_format.specs.File.{file_of}
 use Rattle.bdb_format.specs.Leaves.{leaves}
 use Rattle.bdb_recno.specs.Noted.{length_faults}
-use Rattle.bdb_recno.specs.declared.noted.RecnoRow.TheVariants.{RecordLength}
+use Rattle.bdb_faults.specs.declared.rows.ContentsRow.TheVariants.{RecordLength}
 use Rattle.bdb_recno.proofs.NotedLemmas.{page_noted}
 use Rattle.bdb_recno.proofs.PageLemmas.{turned_leaf}
 use Rattle.bdb_recno.proofs.lengths.note_lengths.Goals as goal
@@ -26,7 +26,7 @@ loop-leaf-preserved g c =
     page_noted (g.F.FaultSink.has_noted c.args.found.now) (g.F.FaultSink.has_noted c.loop-leaf.found) (g.F.FaultSink.has_noted c.note_if.new.found)
     (file_of c.args.forest.now) RecordLength (has_wrong_record (file_of c.args.forest.now) c.args.meta.now) c.loop-leaf.yielded c.in-Some.leaf
     c.number-page.result c.has_wrong_record-wrong.result c.number-page.ensures c.has_wrong_record-wrong.ensures c.loop-leaf.invariant
-    c.in_ok-note_if.ensures
+    c.in_ok-note_if.ensures.noted
 
 pub returns : goal.returns
 returns g c =

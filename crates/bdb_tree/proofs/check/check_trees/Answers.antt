@@ -1,16 +1,18 @@
 use Rattle.std.proofs.Common.{◌∙◌, sym}
+use Rattle.bdb_faults.proofs.SinkLemmas.{first_found, none_first}
+use Rattle.bdb_format.proofs.FaultLemmas.{leaves_in_order}
 use Rattle.bdb_format.specs.File.{file_of}
 use Rattle.bdb_format.specs.Verdict.{tree_faults}
-use Rattle.bdb_tree.proofs.NotedLemmas.{first_found}
 use Rattle.bdb_tree.proofs.check.check_trees.Goals as goal
-use Rattle.bdb_faults.proofs.SinkLemmas.{none_first}
 
 pub returns-in-None-clause-accepted : goal.returns-in-None-clause-accepted
 returns-in-None-clause-accepted c =
     none_first (tree_faults (file_of c.args.linked.now))
-    (c.in-None.ensures ∙ first_found (file_of c.args.linked.now) c.new-first.result c.note_trees.new.found c.new-first.ensures c.in-Ok.ensures)
+    (c.in-None.ensures ∙ first_found 6 (tree_faults (file_of c.args.linked.now)) c.new-first.result c.note_trees.new.found (leaves_in_order (file_of c.args.linked.now))
+    c.new-first.ensures c.in-Ok.ensures)
 
 pub returns-in-Some-clause-refusal : goal.returns-in-Some-clause-refusal
 returns-in-Some-clause-refusal c =
     sym (c.in-Some.ensures
-    ∙ first_found (file_of c.args.linked.now) c.new-first.result c.note_trees.new.found c.new-first.ensures c.in-Ok.ensures)
+    ∙ first_found 6 (tree_faults (file_of c.args.linked.now)) c.new-first.result c.note_trees.new.found (leaves_in_order (file_of c.args.linked.now))
+    c.new-first.ensures c.in-Ok.ensures)

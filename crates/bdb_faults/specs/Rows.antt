@@ -1,0 +1,132 @@
+-- The rows of the fault table by their stages and codes. Source: docs/FORMAT.md, "Faults".
+use Rattle.std.specs.Prelude.{◌≡◌, ◌⊎◌, ◌<◌, Option, Some, None, ℕ, if◌then◌else◌, Bool, List, [], ◌∷◌, length}
+use Rattle.bdb_format.specs.declared.kinds.Fault.{Fault}
+use Rattle.bdb_format.specs.FaultNames.{row_names}
+use Rattle.bdb_faults.specs.declared.rows.FileRow.{FileRow}
+use Rattle.bdb_faults.specs.declared.rows.FileRow.TheVariants.{Short, Magic, Heap, Version as VersionOfFile, PageSize, LargePage, Encryption as EncryptionOfFile, Checksum as ChecksumOfFile, Partition as PartitionOfFile, Ragged, LastPage, Tail}
+use Rattle.bdb_faults.specs.declared.rows.FormRow.{FormRow}
+use Rattle.bdb_faults.specs.declared.rows.FormRow.TheVariants.{PageNumber, PageType, MetaMagic, Version as VersionOfForm, MetaPageSize, Encryption as EncryptionOfForm, Checksum as ChecksumOfForm, Partition as PartitionOfForm, Compression, BtreeFlags, OwnHash, HashFlags, HashMasks, HashBuckets, Extent, QueueRecord, QueueFirst, WrappedQueue, IndexRoom, Level, EntryCount, ItemOffset, ItemType, ItemExtent, OverflowRoom}
+use Rattle.bdb_faults.specs.declared.rows.ReferenceRow.{ReferenceRow}
+use Rattle.bdb_faults.specs.declared.rows.ReferenceRow.TheVariants.{OutOfRange, WrongKind, WrongLevel, WrongBack}
+use Rattle.bdb_faults.specs.declared.rows.OwnershipRow.{OwnershipRow}
+use Rattle.bdb_faults.specs.declared.rows.OwnershipRow.TheVariants.{NoOwner, TooMany}
+use Rattle.bdb_faults.specs.declared.rows.ReachRow.{ReachRow}
+use Rattle.bdb_faults.specs.declared.rows.ReachRow.TheVariants.{Unreached}
+use Rattle.bdb_faults.specs.declared.rows.StructureRow.{StructureRow}
+use Rattle.bdb_faults.specs.declared.rows.StructureRow.TheVariants.{ChainLength, LeafKind, LeafLink}
+use Rattle.bdb_faults.specs.declared.rows.MasterRow.{MasterRow}
+use Rattle.bdb_faults.specs.declared.rows.MasterRow.TheVariants.{Unnamed, EntrySize, EntryTarget, NameTwice, MetaTwice}
+use Rattle.bdb_faults.specs.declared.rows.ContentsRow.{ContentsRow}
+use Rattle.bdb_faults.specs.declared.rows.ContentsRow.TheVariants.{Duplicates, DuplicateKind, KeyOrder, Separator, DuplicateOrder, Count, RecordLength, Bucket, KeyTwice}
+use Rattle.bdb_faults.specs.declared.rows.Row.{Row}
+use Rattle.bdb_faults.specs.declared.rows.Row.TheVariants.{File, Form, Reference, Ownership, Reach, Structure, Master, Contents}
+
+abbrev pub file_code : FileRow → ℕ
+file_code Short = 1
+file_code Magic = 2
+file_code Heap = 3
+file_code VersionOfFile = 4
+file_code PageSize = 5
+file_code LargePage = 6
+file_code EncryptionOfFile = 7
+file_code ChecksumOfFile = 8
+file_code PartitionOfFile = 9
+file_code Ragged = 10
+file_code LastPage = 11
+file_code Tail = 12
+
+abbrev pub form_code : FormRow → ℕ
+form_code PageNumber = 1
+form_code PageType = 2
+form_code MetaMagic = 3
+form_code VersionOfForm = 4
+form_code MetaPageSize = 5
+form_code EncryptionOfForm = 6
+form_code ChecksumOfForm = 7
+form_code PartitionOfForm = 8
+form_code Compression = 9
+form_code BtreeFlags = 10
+form_code OwnHash = 11
+form_code HashFlags = 12
+form_code HashMasks = 13
+form_code HashBuckets = 14
+form_code Extent = 15
+form_code QueueRecord = 16
+form_code QueueFirst = 17
+form_code WrappedQueue = 18
+form_code IndexRoom = 19
+form_code Level = 20
+form_code EntryCount = 21
+form_code ItemOffset = 22
+form_code ItemType = 23
+form_code ItemExtent = 24
+form_code OverflowRoom = 25
+
+abbrev pub reference_code : ReferenceRow → ℕ
+reference_code OutOfRange = 1
+reference_code WrongKind = 2
+reference_code WrongLevel = 3
+reference_code WrongBack = 4
+
+abbrev pub ownership_code : OwnershipRow → ℕ
+ownership_code NoOwner = 1
+ownership_code TooMany = 2
+
+abbrev pub reach_code : ReachRow → ℕ
+reach_code Unreached = 1
+
+abbrev pub structure_code : StructureRow → ℕ
+structure_code ChainLength = 1
+structure_code LeafKind = 2
+structure_code LeafLink = 3
+
+abbrev pub master_code : MasterRow → ℕ
+master_code Unnamed = 1
+master_code EntrySize = 2
+master_code EntryTarget = 3
+master_code NameTwice = 4
+master_code MetaTwice = 5
+
+abbrev pub contents_code : ContentsRow → ℕ
+contents_code Duplicates = 1
+contents_code DuplicateKind = 2
+contents_code KeyOrder = 3
+contents_code Separator = 4
+contents_code DuplicateOrder = 5
+contents_code Count = 6
+contents_code RecordLength = 7
+contents_code Bucket = 8
+contents_code KeyTwice = 9
+
+abbrev pub row_stage : Row → ℕ
+row_stage (File row) = 1
+row_stage (Form row) = 2
+row_stage (Reference row) = 3
+row_stage (Ownership row) = 4
+row_stage (Reach row) = 5
+row_stage (Structure row) = 6
+row_stage (Master row) = 7
+row_stage (Contents row) = 8
+
+abbrev pub row_code : Row → ℕ
+row_code (File row) = file_code row
+row_code (Form row) = form_code row
+row_code (Reference row) = reference_code row
+row_code (Ownership row) = ownership_code row
+row_code (Reach row) = reach_code row
+row_code (Structure row) = structure_code row
+row_code (Master row) = master_code row
+row_code (Contents row) = contents_code row
+
+-- the fault of a row at a page
+abbrev pub fault_at : Row → ℕ → Fault
+fault_at row page = record { stage = row_stage row; page = page; code = row_code row }
+
+-- the same, where the row holds there
+abbrev pub fault_if : Row → ℕ → Bool → List Fault
+fault_if row page holds = if holds then fault_at row page ∷ [] else []
+
+-- the row with this stage and code; none exactly where the stage has no such code
+abbrev pub IsRowAt : ℕ → ℕ → Option Row → Type 0
+IsRowAt stage code (Some row) = (row_stage row ≡ stage) × (row_code row ≡ code)
+IsRowAt stage code None = (code ≡ 0) ⊎ (length (row_names stage) < code)
