@@ -11,7 +11,7 @@ ghost use Rattle.bdb_format.specs.Verdict.{structure_faults, IsFirstOf};
 ghost use Rattle.bdb_format.specs.Flags.{is_recno};
 ghost use Rattle.bdb_btree.specs.Counts.{IsKeyed};
 ghost use Rattle.bdb_btree.specs.Noted.{faults_at};
-ghost use Rattle.bdb_btree.specs.declared.noted.BtreeRow.TheVariants.{Count};
+ghost use Rattle.bdb_faults.specs.declared.rows.ContentsRow.TheVariants.{Count};
 
 use crate::counts::note_counts;
 use crate::inner::inner_pages;

@@ -9,7 +9,7 @@ ghost use Rattle.bdb_format.specs.Page.{Internal};
 ghost use Rattle.bdb_btree.specs.Bounds.{ItemsFit};
 ghost use Rattle.bdb_btree.specs.Counts.{IsKeyed, count_pair, no_pairs_counted};
 ghost use Rattle.bdb_btree.specs.Noted.{faults_at};
-ghost use Rattle.bdb_btree.specs.declared.noted.BtreeRow.TheVariants.{Count};
+ghost use Rattle.bdb_faults.specs.declared.rows.ContentsRow.TheVariants.{Count};
 ghost use Rattle.bdb_faults.specs.Notes.{Notes};
 ghost use Rattle.bdb_btree.specs.Pairs.{pair_seen};
 ghost use Rattle.bdb_tree.specs.Trees.{IsTreePage};

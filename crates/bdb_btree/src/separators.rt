@@ -11,7 +11,7 @@ ghost use Rattle.bdb_layout.specs.Seen.{internal_item_seen, key_seen};
 ghost use Rattle.bdb_btree.specs.Bounds.{DontFall, ItemsFit, OrderedIf, beyond, exceeds, is_below, no_bounds};
 ghost use Rattle.bdb_btree.specs.Bounds.{see_item, see_items, under, under_pair};
 ghost use Rattle.bdb_btree.specs.Noted.{faults_at};
-ghost use Rattle.bdb_btree.specs.declared.noted.BtreeRow.TheVariants.{Separator};
+ghost use Rattle.bdb_faults.specs.declared.rows.ContentsRow.TheVariants.{Separator};
 ghost use Rattle.bdb_faults.specs.Notes.{Notes};
 ghost use Rattle.bdb_tree.specs.Trees.{IsTreePage};
 

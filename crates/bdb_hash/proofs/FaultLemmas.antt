@@ -1,11 +1,10 @@
 -- What is noted of a table's contents is each row at each page where it holds.
 use Rattle.std.proofs.Common.{◌≡◌, ℕ, ◌+◌, ◌≤◌, Bool, true, false, List, [], ◌∷◌, ◌++◌, map, arith, refl, sym, ◌∙◌, ap, subst, inl, inr}
-use Rattle.std.specs.Prelude.{Option, None}
 use Rattle.std.specs.List.{Contains, flat_map, range_with_len}
 use Rattle.std.proofs.lemmas.List.{map-append}
 use Rattle.std.proofs.lemmas.List.Elements.{Contains-append_cases, Contains-append_left, Contains-append_right}
 use Rattle.bdb_graph.specs.Linked.{HasMetadata}
-use Rattle.bdb_faults.specs.Notes.{IsFirst, Notes, NotesAll}
+use Rattle.bdb_faults.specs.Notes.{Notes, NotesAll}
 use Rattle.bdb_faults.proofs.SinkLemmas.{notes_then}
 use Rattle.bdb_format.proofs.FaultLemmas.{same_parts}
 use Rattle.bdb_format.specs.declared.kinds.Fault.{Fault}
@@ -14,7 +13,7 @@ use Rattle.bdb_format.specs.ContentRows.{database_faults, database_rows, hash_co
 use Rattle.bdb_format.specs.Contents.{StoredPair, bucket_pages, bucket_pairs, pairs_of, table_pairs}
 use Rattle.bdb_format.specs.File.{File, file_of}
 use Rattle.bdb_format.specs.Page.{HashFields}
-use Rattle.bdb_format.specs.Verdict.{holding, first_fault}
+use Rattle.bdb_format.specs.Verdict.{holding}
 use Rattle.bdb_format.proofs.MemberLemmas.{in_flat_map, in_map, no_member, of_flat_map, of_map, of_range}
 use Rattle.bdb_format.proofs.VerdictLemmas.{InOrder, in_by_page, of_by_page, table_in_order}
 use Rattle.bdb_format.proofs.RepeatLemmas.{of_repeated}

@@ -1,5 +1,5 @@
 -- What the program answers to a command and an input. Source: README.md, "Use".
-use Rattle.std.specs.Prelude.{ℕ, nat_lt, if◌then◌else◌, Bool, true, List, [], ◌∷◌, ◌++◌, length, Option, Some, None, codes, decimal, slice_get}
+use Rattle.std.specs.Prelude.{ℕ, Bool, true, List, [], ◌∷◌, ◌++◌, Option, Some, None, codes, decimal, slice_get}
 use Rattle.std.specs.List.{flat_map}
 use Rattle.bdb_format.specs.declared.kinds.Fault.{Fault}
 use Rattle.bdb_format.specs.declared.kinds.Unsupported.{Unsupported}
@@ -7,7 +7,7 @@ use Rattle.bdb_format.specs.Flags.{kind_of}
 use Rattle.bdb_format.specs.HeadOf.{head_of}
 use Rattle.bdb_format.specs.File.{File, file_of}
 use Rattle.bdb_format.specs.Databases.{Database, data_under, databases, place_of}
-use Rattle.bdb_format.specs.Verdict.{Faulty, Judgement, LeftOut, verdict_of}
+use Rattle.bdb_format.specs.Verdict.{Faulty, Judgement, LeftOut}
 use Rattle.bdb_model.specs.TextSpelling.{spelling}
 use Rattle.bdb_model.specs.Lines.{line}
 use Rattle.bdb_model.specs.Written.{kind_text, database_text, dump_text}

@@ -1,5 +1,5 @@
 -- What the words of a command line ask for. Source: README.md, "Use".
-use Rattle.std.specs.Prelude.{ℕ, ◌^◌, nat_le, ◌==◌, ◌&&◌, not, if◌then◌else◌, Bool, true, false, List, [], ◌∷◌, length, take, Option, Some, None, codes}
+use Rattle.std.specs.Prelude.{ℕ, ◌^◌, nat_le, ◌&&◌, not, if◌then◌else◌, Bool, true, false, List, [], ◌∷◌, take, Option, Some, None, codes}
 use Rattle.std.specs.List.{list_any}
 use Rattle.std.specs.Str.{bytes_eq}
 use Rattle.bdb_format.specs.Digits.{number_in}

@@ -6,7 +6,7 @@ use Rattle.std.specs.List.{All, Contains, flat_map, list_any, range_with_len}
 use Rattle.std.proofs.lemmas.Bool.{and_from, and_parts, eq-eqb, eqb-true, ne_eqb}
 use Rattle.std.proofs.lemmas.List.{take_all}
 use Rattle.std.proofs.lemmas.List.Elements.{Contains-append_cases, Contains-append_left, Contains-append_right, Contains-get_or}
-use Rattle.bdb_faults.specs.Notes.{AreSame, IsFirst, Notes, NotesAll}
+use Rattle.bdb_faults.specs.Notes.{AreSame, Notes, NotesAll}
 use Rattle.bdb_faults.specs.Rows.{fault_if, structure_code}
 use Rattle.bdb_faults.specs.declared.rows.Row.TheVariants.{Structure}
 use Rattle.bdb_faults.specs.declared.rows.StructureRow.{StructureRow}
@@ -23,7 +23,7 @@ use Rattle.bdb_format.specs.Leaves.{root_references, tree_rows}
 use Rattle.bdb_format.specs.Page.{Page}
 use Rattle.bdb_format.specs.References.{refs}
 use Rattle.bdb_format.specs.Table.{◌:?◌}
-use Rattle.bdb_format.specs.Verdict.{holding, tree_faults, first_fault}
+use Rattle.bdb_format.specs.Verdict.{holding, tree_faults}
 use Rattle.bdb_format.proofs.FaultLemmas.{same_parts}
 use Rattle.bdb_format.proofs.ListLemmas.{any_member, only_member, passes_here}
 use Rattle.bdb_format.proofs.MemberLemmas.{first_member, in_flat_map, in_range, later_member, member_cases, no_member, of_filter}

@@ -1,5 +1,5 @@
 -- The faults of leaves in the order in which they are noted, tree by tree. Source: docs/FORMAT.md, "Faults".
-use Rattle.std.specs.Prelude.{ℕ, ◌+◌, ◌-◌, ◌*◌, ◌/◌, ◌==◌, if◌then◌else◌, Bool, true, false, List, [], ◌∷◌, ◌++◌, get_or, length}
+use Rattle.std.specs.Prelude.{ℕ, ◌+◌, ◌-◌, ◌*◌, ◌/◌, ◌==◌, if◌then◌else◌, Bool, true, false, List, [], ◌++◌, get_or, length}
 use Rattle.std.specs.Prelude.{slice_index, Option, Some, None}
 use Rattle.std.specs.List.{flat_map, range_with_len}
 use Rattle.bdb_format.specs.declared.kinds.Fault.{Fault}

@@ -3,7 +3,7 @@ use Rattle.bdb_faults.specs.Notes.{Notes}
 use Rattle.bdb_format.specs.ContentRows.{has_wrong_count}
 use Rattle.bdb_format.specs.File.{file_of, page_at}
 use Rattle.bdb_btree.specs.Noted.{faults_at}
-use Rattle.bdb_btree.specs.declared.noted.BtreeRow.TheVariants.{Count}
+use Rattle.bdb_faults.specs.declared.rows.ContentsRow.TheVariants.{Count}
 use Rattle.bdb_btree.proofs.counts.note_counts.Given as goal
 
 -- The pages passed are noted.
