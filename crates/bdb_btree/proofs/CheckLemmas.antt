@@ -1,11 +1,11 @@
 -- The faults that are noted of a btree are those of its contents.
-use Rattle.std.proofs.Common.{◌≡◌, ◌⊎◌, ℕ, ◌+◌, ◌<◌, ◌≤◌, Bool, true, false, not, cond, List, [], ◌∷◌, ◌++◌, Option, arith, refl}
-use Rattle.std.proofs.Common.{None, sym, ◌∙◌, ap, subst, inl, inr}
+use Rattle.std.proofs.Common.{◌≡◌, ℕ, ◌+◌, ◌<◌, ◌≤◌, Bool, true, false, not, cond, List, [], ◌∷◌, ◌++◌, arith, refl}
+use Rattle.std.proofs.Common.{sym, ◌∙◌, ap, subst, inl, inr}
 use Rattle.std.specs.Prelude.{◌&&◌, ◌||◌, ◌==◌}
 use Rattle.std.specs.List.{Contains, list_any}
 use Rattle.std.proofs.lemmas.Bool.{and_parts, eq-eqb, eqb-true, or_cases, or_right}
 use Rattle.std.proofs.lemmas.List.Folds.{list_any-append}
-use Rattle.bdb_faults.specs.Notes.{AreSame, IsFirst, Notes, NotesAll}
+use Rattle.bdb_faults.specs.Notes.{AreSame, Notes, NotesAll}
 use Rattle.bdb_faults.proofs.SinkLemmas.{notes_then}
 use Rattle.bdb_format.specs.declared.kinds.Fault.{Fault}
 use Rattle.bdb_format.specs.declared.metadata.BtreeMeta.{BtreeMeta}
@@ -16,9 +16,9 @@ use Rattle.bdb_format.specs.File.{File, file_of, page_at}
 use Rattle.bdb_format.specs.Numbers.{has_bit}
 use Rattle.bdb_format.specs.Page.{BtreeFields}
 use Rattle.bdb_format.specs.Table.{Row}
-use Rattle.bdb_format.specs.Verdict.{by_page, holding, first_fault}
+use Rattle.bdb_format.specs.Verdict.{by_page, holding}
 use Rattle.bdb_format.proofs.MemberLemmas.{filter_step, first_member, later_member, member_cases, no_member}
-use Rattle.bdb_format.proofs.VerdictLemmas.{InOrder, IsOfStage, by_page_first, holding_least, in_by_page, of_by_page, table_in_order}
+use Rattle.bdb_format.proofs.VerdictLemmas.{InOrder, IsOfStage, in_by_page, of_by_page, table_in_order}
 use Rattle.bdb_format.specs.Flags.{counts_records, has_duplicates, is_sorted}
 use Rattle.bdb_graph.specs.Linked.{FitsTreeRoot, IsForest}
 use Rattle.bdb_btree.specs.Counts.{IsKeyed}
