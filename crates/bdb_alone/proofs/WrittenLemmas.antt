@@ -1,7 +1,7 @@
 -- A table under metadata that is written over page 0.
 use Rattle.std.proofs.Common.{◌≡◌, ℕ, zero, suc, ◌+◌, ◌-◌, ◌<◌, ◌≤◌, true, List, [], ◌++◌, length, None}
 use Rattle.std.proofs.Common.{arith, refl, sym, ◌∙◌, ap, subst}
-use Rattle.std.proofs.lemmas.List.{get_or-map, get_or-set_other, get_or-set_same, length-set}
+use Rattle.std.proofs.lemmas.List.{get_or-set_other, get_or-set_same, length-set}
 use Rattle.std.proofs.lemmas.List.FromFn.{length-map-range_with_len}
 use Rattle.bdb_format.specs.declared.metadata.FileKind.TheVariants.{Hash}
 use Rattle.bdb_format.specs.declared.metadata.Head.{Head}
@@ -10,7 +10,7 @@ use Rattle.bdb_format.specs.File.{file_of, page_at, page_bytes}
 use Rattle.bdb_format.specs.Graph.{is_meta}
 use Rattle.bdb_format.specs.HeadOf.{head_of, is_page_size}
 use Rattle.bdb_format.specs.Numbers.{four_at, spelled}
-use Rattle.bdb_format.specs.Page.{HashFields, Meta, NoType}
+use Rattle.bdb_format.specs.Page.{HashFields, Meta}
 use Rattle.bdb_format.specs.Reading.{abstract_page}
 use Rattle.bdb_format.specs.Rows.{form_code}
 use Rattle.bdb_format.specs.Spelling.{table_bytes, zeros}

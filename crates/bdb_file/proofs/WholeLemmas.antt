@@ -1,13 +1,12 @@
 -- The faults of stages 6 to 8, by those of each.
-use Rattle.std.proofs.Common.{◌≡◌, ℕ, Bool, true, false, List, [], ◌∷◌, ◌++◌, length, Option, None, arith, refl, sym, ◌∙◌, subst}
+use Rattle.std.proofs.Common.{◌≡◌, ℕ, Bool, true, false, List, [], ◌∷◌, ◌++◌, length, arith, refl, sym, ◌∙◌, subst}
 use Rattle.std.specs.Prelude.{◌==◌}
 use Rattle.bdb_format.specs.declared.kinds.Fault.{Fault}
 use Rattle.bdb_format.specs.File.{file_of}
-use Rattle.bdb_format.specs.Verdict.{contents_faults, faults_in, first_fault, master_faults, or_else, stage_faults, structure_faults}
-use Rattle.bdb_format.proofs.VerdictLemmas.{InOrder, none_within, skip_stage, stage_in_order}
-use Rattle.bdb_format.proofs.MemberLemmas.{no_member}
-use Rattle.bdb_faults.specs.Notes.{IsFirst, NotesAll}
-use Rattle.bdb_faults.proofs.SinkLemmas.{first_noted, notes_both}
+use Rattle.bdb_format.specs.Verdict.{contents_faults, faults_in, master_faults, or_else, structure_faults}
+use Rattle.bdb_format.proofs.VerdictLemmas.{none_within, skip_stage}
+use Rattle.bdb_faults.specs.Notes.{NotesAll}
+use Rattle.bdb_faults.proofs.SinkLemmas.{notes_both}
 use Rattle.bdb_file.proofs.NotingLemmas.{none_noted, some_noted}
 
 -- each of the stages, where none of them has faults

@@ -3,7 +3,7 @@ use Rattle.std.proofs.Common.{◌≡◌, ℕ, ◌-◌, ◌<◌, ◌≤◌, true,
 use Rattle.std.proofs.Common.{arith, append_assoc, refl, sym, ◌∙◌, ap, subst, inl, inr, length-append}
 use Rattle.std.specs.List.{Contains}
 use Rattle.std.proofs.lemmas.Bool.{cases_lt}
-use Rattle.std.proofs.lemmas.List.{append-nil, get_or-map, get_or_past, length-map, length-replicate}
+use Rattle.std.proofs.lemmas.List.{append-nil, get_or_past, length-map, length-replicate}
 use Rattle.bdb_pack.proofs.ImageLemmas.{page_so_far}
 use Rattle.bdb_format.specs.declared.kinds.Order.{Order}
 use Rattle.bdb_format.specs.declared.metadata.BtreeMeta.{BtreeMeta}

@@ -2,12 +2,12 @@
 use Rattle.std.proofs.Common.{◌≡◌, ℕ, ◌+◌, ◌<◌, ◌≤◌, true, List, [], ◌∷◌, ◌++◌, length, replicate}
 use Rattle.std.proofs.Common.{arith, refl, sym, ◌∙◌, ap, subst, inl, inr, length-append}
 use Rattle.std.proofs.lemmas.Bool.{cases_lt}
-use Rattle.std.proofs.lemmas.List.{get_or-map, get_or_append_left, reverse-append}
+use Rattle.std.proofs.lemmas.List.{get_or_append_left, reverse-append}
 use Rattle.bdb_pack.proofs.ImageLemmas.{page_so_far}
 use Rattle.bdb_format.specs.Databases.{settings_of}
 use Rattle.bdb_format.specs.File.{File, page_at}
 use Rattle.bdb_format.specs.Lists.{ListKey}
-use Rattle.bdb_format.specs.Page.{Metadata, NoType}
+use Rattle.bdb_format.specs.Page.{Metadata}
 use Rattle.bdb_format.specs.Reading.{abstract_page, is_zero}
 use Rattle.bdb_format.specs.Rows.{page_code}
 use Rattle.bdb_grove.specs.Growing.{IsLater, IsSamePage}
