@@ -1,6 +1,6 @@
 -- An image whose page 0 is metadata that is written over it.
-use Rattle.std.proofs.Common.{◌≡◌, ℕ, ◌-◌, ◌*◌, ◌≤◌, List, [], ◌∷◌, ◌++◌, length, set, take}
-use Rattle.std.proofs.Common.{append_assoc, arith, refl, sym, ◌∙◌, ap, subst}
+use Rattle.std.proofs.Common.{◌≡◌, ℕ, ◌-◌, ◌*◌, List, [], ◌++◌, length, set, take}
+use Rattle.std.proofs.Common.{append_assoc, arith, sym, ◌∙◌, ap, subst}
 use Rattle.std.proofs.lemmas.List.{append-nil, length-set, take_at}
 use Rattle.bdb_format.specs.declared.metadata.FileKind.{FileKind}
 use Rattle.bdb_format.specs.declared.metadata.Head.{Head}
@@ -12,6 +12,7 @@ use Rattle.bdb_pack.proofs.CutLemmas.{all_size, page_whole}
 use Rattle.bdb_join.specs.Written.{AreLegal}
 use Rattle.bdb_join.proofs.CommonLemmas.{ReadsAs, reads_common}
 use Rattle.bdb_join.proofs.HeadLemmas.{IsImage, image_head}
+use Rattle.bdb_mkqueue.proofs.WrittenLemmas.{begins}
 
 -- the image of pages after metadata of a kind is written over page 0
 pub record IsUnderMeta (built : Built) (kind : FileKind) (page image : List ℕ) : Type 0 where
@@ -45,10 +46,6 @@ reads_on built kind page image rest is =
 pub reads_page : (built : Built) (kind : FileKind) (page image : List ℕ) → IsUnderMeta built kind page image
     → ReadsAs (head_for built kind) 0 page
 reads_page built kind page image is = subst (ReadsAs (head_for built kind) 0) (append-nil page) (reads_on built kind page image [] is)
-
-begins : (pages : List (List ℕ)) (page : List ℕ) → 1 ≤ length pages → (rest : List ℕ) × (joined_pages (set pages 0 page) ≡ page ++ rest)
-begins [] page some = absurd (omega arith)
-begins (first ∷ pages) page some = (joined_pages pages, refl)
 
 pub still_whole : (built : Built) (kind : FileKind) (page image : List ℕ) → IsUnderMeta built kind page image → AreWhole (with_page built 0 page)
 still_whole built kind page image is = page_whole built 0 page is.pages.whole (omega (arith, is.pages.some)) is.long

@@ -1,14 +1,13 @@
 -- Lists that are loaded without errors are such that tables and queues can be built of them.
-use Rattle.std.proofs.Common.{◌≡◌, ℕ, ◌+◌, ◌-◌, ◌*◌, ◌%◌, ◌<◌, ◌≤◌, ◌^◌, Bool, true, false, cond, not, List, [], ◌∷◌, ◌++◌, length, map}
-use Rattle.std.proofs.Common.{get_or, replicate, Option, Some, None}
-use Rattle.std.proofs.Common.{refl, sym, ◌∙◌, ap, subst, arith, inl, length-append}
+use Rattle.std.proofs.Common.{◌≡◌, ℕ, ◌+◌, ◌-◌, ◌*◌, ◌<◌, ◌≤◌, ◌^◌, Bool, true, false, not, List, [], ◌∷◌, ◌++◌, length, map}
+use Rattle.std.proofs.Common.{get_or, Option, Some, None}
+use Rattle.std.proofs.Common.{refl, sym, ◌∙◌, ap, subst, arith, inl}
 use Rattle.std.specs.Prelude.{◌&&◌, ◌||◌, ◌==◌, ◌/◌, nat_lt, is_some}
 use Rattle.std.specs.Cmp.Derive.{both_true}
-use Rattle.std.specs.List.{All, flat_map, fold}
+use Rattle.std.specs.List.{All, flat_map}
 use Rattle.std.proofs.Math.Nat.{div-mul-le_self, lt-div-mul-add, mul-le-mul_left}
 use Rattle.std.proofs.lemmas.Bool.Decides.{nat_tests}
 use Rattle.std.proofs.lemmas.Nat.{le-div}
-use Rattle.std.proofs.lemmas.List.{length-replicate}
 use Rattle.std.proofs.lemmas.List.Elements.{All-cons, All-head, All-nil, All-tail}
 use Rattle.bdb_format.specs.declared.kinds.Kind.TheVariants.{Btree, Hash, Queue}
 use Rattle.bdb_format.specs.declared.settings.Settings.{Settings}
@@ -21,50 +20,19 @@ use Rattle.bdb_model.specs.declared.pairs.TextPair.{TextPair}
 use Rattle.bdb_model.specs.declared.sections.Section.{Section}
 use Rattle.bdb_mktree.specs.Lists.{HasNumber, IsListFor as IsTreeListFor}
 use Rattle.bdb_settle.specs.ListLaw.{FitsFields, IsFit, IsKeyOf}
-use Rattle.bdb_settle.specs.LoadErrors.{header_errors, is_among_names, is_queue, is_sooner, is_too_wide, is_zero, load_error, pair_errors}
-use Rattle.bdb_settle.specs.LoadErrors.{section_errors, sooner, where_so}
-use Rattle.bdb_settle.specs.declared.load_error.LoadError.{LoadError}
+use Rattle.bdb_settle.specs.LoadErrors.{header_errors, is_among_names, is_queue, is_too_wide, is_zero, load_error, pair_errors}
+use Rattle.bdb_settle.specs.LoadErrors.{section_errors, where_so}
 use Rattle.bdb_settle.specs.declared.load_error.LoadError.TheVariants.{QueueAmongNames, RecordTooLong, RecordZero}
-use Rattle.bdb_settle.specs.Loaded.{filled, filled_value, has_length, has_records, keeps_data, loaded, sorts_data, stands_before}
-use Rattle.bdb_settle.proofs.ErrorLemmas.{IsSound, all_map, sound_pairs}
-use Rattle.bdb_settle.proofs.ListLawLemmas.{load_into_lists}
+use Rattle.bdb_settle.specs.Loaded.{filled, has_records, keeps_data, loaded, sorts_data, stands_before}
+use Rattle.bdb_settle.proofs.ErrorLemmas.{IsSound, all_map, sound_pairs, both_empty, each_empty, no_errors as none_hold, not_so}
+use Rattle.bdb_settle.proofs.ListLawLemmas.{load_into_lists, and_false, by_numbers, filled_length, positive as positive_of}
 use Rattle.bdb_settle.proofs.OrderedLemmas.{Ordered, OrderedFrom, fold_all, fold_ordered, follows}
 use Rattle.bdb_mkhash.specs.Table.{IsTableList}
 use Rattle.bdb_mkqueue.specs.Lists.{AscendFrom, HasLength, HasNext, IsListFor, next_number, number_in}
 use Rattle.bdb_mkqueue.proofs.RecordLemmas.{next_low}
 use Rattle.bdb_alone.specs.Lists.{LoadIntoQueues, LoadIntoTables, QueuesAreAlone, RecordsAreFew, TextHasNext}
 
-and_false : (b : Bool) → (b && false) ≡ false
-and_false true = refl
-and_false false = refl
-
 -- Errors.
-
-still_some : (first : LoadError) (errors : List LoadError) → fold sooner (Some first) errors ≡ None → ⊥
-still_some first [] none = absurd cc
-still_some first (error ∷ errors) none = by_test (is_sooner error first) none (still_some error errors) (still_some first errors)
-  where
-    by_test : (b : Bool) → fold sooner (cond b (Some error) (Some first)) errors ≡ None → (fold sooner (Some error) errors ≡ None → ⊥)
-        → (fold sooner (Some first) errors ≡ None → ⊥) → ⊥
-    by_test true none one other = one none
-    by_test false none one other = other none
-
-none_hold : (errors : List LoadError) → fold sooner None errors ≡ None → errors ≡ []
-none_hold [] none = refl
-none_hold (error ∷ errors) none = absurd (still_some error errors none)
-
-both_empty : {X : Type 0} (xs ys : List X) → xs ++ ys ≡ [] → (xs ≡ []) × (ys ≡ [])
-both_empty [] ys none = (refl, none)
-both_empty (x ∷ xs) ys none = absurd cc
-
-each_empty : {X Y : Type 0} (f : X → List Y) (xs : List X) → flat_map f xs ≡ [] → All (λ x. f x ≡ []) xs
-each_empty f [] none = All-nil (λ x. f x ≡ [])
-each_empty f (x ∷ xs) none =
-    let parts = both_empty (f x) (flat_map f xs) none in All-cons (λ x. f x ≡ []) x xs parts.0 (each_empty f xs parts.1)
-
-not_so : (b : Bool) (error : LoadError) → where_so b error ≡ [] → b ≡ false
-not_so true error none = absurd cc
-not_so false error none = refl
 
 -- Tables: the section is loaded as that of a btree is.
 
@@ -134,19 +102,6 @@ pub record IsRecord (re_len : ℕ) (pair : Pair) : Type 0 where
   pub positive : 1 ≤ number_in pair.key
   pub long : HasLength re_len pair
 
-filled_length : (settings : Settings) (value : List ℕ) → has_length settings ≡ true
-    → (has_length settings && nat_lt settings.re_len (length value)) ≡ false → length (filled_value settings value) ≡ settings.re_len
-filled_length settings value fixed fits =
-    let test : nat_lt settings.re_len (length value) ≡ false = sym (ap (λ b. b && nat_lt settings.re_len (length value)) fixed) ∙ fits in
-    let within : length value ≤ settings.re_len = grind (arith, nat_tests) in
-    let filling : List ℕ = replicate (settings.re_len - length value) (settings.re_pad % 256) in
-    ap (λ b. length (cond b (value ++ filling) value)) fixed ∙ length-append value filling
-    ∙ ap (λ n. length value + n) (length-replicate (settings.re_len - length value) (settings.re_pad % 256)) ∙ omega arith
-
-positive_of : (key : Key) → HasNumber key → is_zero key ≡ false → 1 ≤ number_in key
-positive_of (Bytes bytes) never is = absurd never
-positive_of (Number number) numbered is = grind (arith, nat_tests)
-
 is_record : (settings : Settings) (pair : TextPair) → settings.kind ≡ Queue → settings.fixed ≡ true → FitsFields settings.kind pair
     → IsSound settings pair → IsRecord settings.re_len (filled settings pair)
 is_record settings pair queue fixed fits sound =
@@ -170,12 +125,6 @@ have_next settings [] next = All-nil HasNext
 have_next settings (pair ∷ pairs) next =
     All-cons HasNext (filled settings pair) (map (filled settings) pairs) (All-head TextHasNext pair pairs next)
     (have_next settings pairs (All-tail TextHasNext pair pairs next))
-
-by_numbers : (below above sorts keeps is_less is_above : Bool) → sorts ≡ false → keeps ≡ false
-    → ((below || (not above && (sorts && is_less))) || (not (above || (not below && (sorts && is_above))) && keeps)) ≡ true → below ≡ true
-by_numbers true above sorts keeps is_less is_above sorts_is keeps_is after = refl
-by_numbers false true sorts keeps is_less is_above sorts_is keeps_is after = absurd cc
-by_numbers false false sorts keeps is_less is_above sorts_is keeps_is after = let never = rw (sorts_is, keeps_is) at after in absurd cc
 
 above_last : (settings : Settings) (a b : Key) (first then : List ℕ) → settings.kind ≡ Queue → HasNumber a → HasNumber b
     → follows (stands_before settings) (keeps_data settings) (record { key = a; value = first }) (record { key = b; value = then }) ≡ true

@@ -1,7 +1,7 @@
 -- A tree under the metadata that is written over page 0.
 use Rattle.std.proofs.Common.{◌≡◌, ℕ, ◌+◌, ◌-◌, ◌*◌, ◌<◌, ◌≤◌, ◌^◌, true, List, [], ◌∷◌, length, replicate}
 use Rattle.std.proofs.Common.{arith, refl, sym, ◌∙◌, ap, subst, length-append, IsTrue}
-use Rattle.std.proofs.lemmas.List.{length-replicate, length-set}
+use Rattle.std.proofs.lemmas.List.{length-set}
 use Rattle.bdb_format.specs.declared.kinds.Order.{Order}
 use Rattle.bdb_format.specs.declared.metadata.BtreeMeta.{BtreeMeta}
 use Rattle.bdb_format.specs.declared.settings.Settings.{Settings}
@@ -10,9 +10,7 @@ use Rattle.bdb_format.specs.HeadOf.{head_of, is_page_size}
 use Rattle.bdb_format.specs.Page.{BtreeFields}
 use Rattle.bdb_format.specs.Reading.{btree_fields, is_zero}
 use Rattle.bdb_format.specs.Spelling.{btree_bytes}
-use Rattle.bdb_format.proofs.SpellingLemmas.{length-spelled}
 use Rattle.bdb_graph.proofs.FormedLemmas.{size_bounds}
-use Rattle.bdb_meta.proofs.CommonLemmas.{length-common}
 use Rattle.bdb_model.specs.declared.list.Pair.{Pair}
 use Rattle.bdb_model.specs.Pairs.{listed}
 use Rattle.bdb_pack.specs.Built.{AreWhole, Built, bytes_of, joined_pages, with_page, with_zeros, written_over}
@@ -28,11 +26,7 @@ use Rattle.bdb_mktree.specs.Units.{leaf_type_of}
 use Rattle.bdb_alone.specs.Trees.{IsTreeImage, IsTreeSettings}
 use Rattle.bdb_alone.specs.Settled.{file_settings, tree_meta}
 use Rattle.bdb_alone.proofs.SettingsLemmas.{SaysSettings, says_settings}
-
--- metadata fills its page
-length-btree : (order : Order) (size number last : ℕ) (meta : BtreeMeta) → 92 ≤ size → length (btree_bytes order size number last meta) ≡ size
-unfolding btree_bytes
-length-btree order size number last meta least = simp (length-append, length-spelled, length-replicate {A = ℕ}, length-common) (omega arith)
+use Rattle.bdb_join.proofs.FiledLemmas.{length-btree}
 
 -- the metadata of page 0 as it is written through the lent page
 pub first_written : (old : Built) (page written : List ℕ) (order : Order) (last : ℕ) (meta : BtreeMeta) → 1 ≤ length old.pages → AreWhole old

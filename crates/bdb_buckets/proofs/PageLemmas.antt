@@ -10,7 +10,7 @@ use Rattle.bdb_format.specs.declared.references.Reference.{Reference}
 use Rattle.bdb_format.specs.declared.references.Sort.{Sort}
 use Rattle.bdb_format.specs.declared.references.Sort.TheVariants.{OverflowHead, DuplicateRoot, HashNext}
 use Rattle.bdb_format.specs.Table.{first_row}
-use Rattle.bdb_format.specs.Page.{Content, Inline, Set, Chain, Tree, Unknown, Item}
+use Rattle.bdb_format.specs.Page.{Content, Item}
 use Rattle.bdb_format.specs.File.{File, header_in, page_at, type_in}
 use Rattle.bdb_format.specs.References.{asked_by, content_targets, contents_in, fit_code, fit_rows, has_type, refs, targets_in, unless_zero}
 use Rattle.bdb_format.specs.Graph.{is_head_reference}
@@ -22,7 +22,7 @@ use Rattle.bdb_grove.specs.Part.{has_wrong_place}
 use Rattle.bdb_grove.specs.Standing.{names}
 use Rattle.bdb_grove.specs.Leaves.{ChainFits, ContentFits, SetFits, content_pages}
 use Rattle.bdb_grove.proofs.GroveLemmas.{enumerated_names, fits_asked, of_references, refs_of}
-use Rattle.bdb_grove.proofs.LeafLemmas.{chain_fits}
+use Rattle.bdb_grove.proofs.LeafLemmas.{chain_fits, head_code, named_fits, set_code, targets_joined}
 use Rattle.bdb_buckets.specs.Pages.{IsHashIn, hash_item}
 
 -- The items.
@@ -55,13 +55,6 @@ next_named next = by_test (next == 0)
     by_test true = refl
     by_test false = refl
 
-targets_joined : (contents : List Content)
-    → map (λ (named : Sort × ℕ). named.1) (flat_map content_targets contents) ≡ flat_map content_pages contents
-targets_joined [] = refl
-targets_joined (content ∷ contents) =
-    map-append (λ (named : Sort × ℕ). named.1) (content_targets content) (flat_map content_targets contents)
-    ∙ ap (λ ps. content_pages content ++ ps) (targets_joined contents)
-
 -- the page names what its items do, in their order, and then the next page
 pub names_are : (g : File) (p previous next : ℕ) (contents : List Content) → (g.kind ≡ Queue → ⊥) → IsHashIn g p previous next contents
     → names g p ≡ flat_map content_pages contents ++ next_page next
@@ -74,18 +67,6 @@ names_are g p previous next contents forest is =
     ∙ ap (λ ps. flat_map content_pages contents ++ ps) (next_named next)))))
 
 -- Its references.
-
-named_fits : (g : File) (content : Content) (sort : Sort) (t : ℕ) → ContentFits g content → Contains (content_targets content) (sort, t)
-    → ((sort ≡ OverflowHead) × (total : ℕ) × ChainFits g t total) ⊎ ((sort ≡ DuplicateRoot) × SetFits g t)
-named_fits g (Inline bytes) sort t fits at = absurd (no_member [] (sort, t) refl at)
-named_fits g (Set blocks) sort t fits at = absurd (no_member [] (sort, t) refl at)
-named_fits g (Chain head total) sort t fits at =
-    let same = only_member (OverflowHead, head) (sort, t) at in
-    inl (sym (ap (λ (n : Sort × ℕ). n.0) same), total, subst (λ (n : Sort × ℕ). ChainFits g n.1 total) same fits)
-named_fits g (Tree root) sort t fits at =
-    let same = only_member (DuplicateRoot, root) (sort, t) at in
-    inr (sym (ap (λ (n : Sort × ℕ). n.0) same), subst (λ (n : Sort × ℕ). SetFits g n.1) same fits)
-named_fits g Unknown sort t fits at = absurd (no_member [] (sort, t) refl at)
 
 -- what a reference of the page is
 abbrev Named : File → ℕ → Reference → Type 0
@@ -126,20 +107,6 @@ is_next_of g p q next contents is =
       type = ap type_in is.is ∙ ap Some is.type_is;
       previous = ap (λ page. (header_in page).previous) is.is ∙ is.previous_is;
     }
-
-head_code : (g : File) (p total : ℕ) (r : Reference) → 1 ≤ r.target → r.target ≤ g.last → r.sort ≡ OverflowHead → ChainFits g r.target total
-    → fit_code g p r ≡ None
-unfolding fit_code
-head_code g p total r low high sort fits =
-    ap (λ s. first_row (fit_rows g (asked_by p (page_at g p) s) r.target)) sort
-    ∙ fits_asked g (asked_by p (page_at g p) OverflowHead) r.target low high (ap (has_type (7 ∷ [])) fits.type) refl
-    (eq-eqb 0 (header_in (page_at g r.target)).previous (sym fits.previous))
-
-set_code : (g : File) (p : ℕ) (r : Reference) → 1 ≤ r.target → r.target ≤ g.last → r.sort ≡ DuplicateRoot → SetFits g r.target → fit_code g p r ≡ None
-unfolding fit_code
-set_code g p r low high sort fits =
-    ap (λ s. first_row (fit_rows g (asked_by p (page_at g p) s) r.target)) sort
-    ∙ fits_asked g (asked_by p (page_at g p) DuplicateRoot) r.target low high fits.type refl refl
 
 next_code : (g : File) (p : ℕ) (r : Reference) → 1 ≤ r.target → r.target ≤ g.last → r.sort ≡ HashNext → IsNextOf g p r.target → fit_code g p r ≡ None
 unfolding fit_code

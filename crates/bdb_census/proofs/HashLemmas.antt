@@ -40,7 +40,7 @@ use Rattle.bdb_graph.proofs.HeldLemmas.{last_page}
 use Rattle.bdb_tree.proofs.ShapeLemmas.{no_queue}
 use Rattle.bdb_format.proofs.TypeLemmas.{AllTypes, of_type}
 use Rattle.bdb_format.proofs.ListLemmas.{in_enumerated, only_member}
-use Rattle.bdb_format.proofs.ReferenceLemmas.{forest_names, of_all}
+use Rattle.bdb_format.proofs.ReferenceLemmas.{forest_names, of_all, count_is as counted}
 use Rattle.bdb_graph.proofs.ChildLemmas.{is_queue_page}
 use Rattle.bdb_census.specs.Counting.{AreParts}
 use Rattle.bdb_census.specs.HashSums.{HashPagesAreOfBuckets, WeighsHash, is_bucket, is_hash_page}
@@ -177,7 +177,7 @@ abbrev pub AllHash : File → List ℕ → Type 0
 AllHash file [] = Unit {0}
 AllHash file (x ∷ xs) = (is_hash_page file x ≡ true) × AllHash file xs
 
-turn_is : (turns : ℕ) (file : File) (p : ℕ) → chain_in (suc turns) file p ≡ p ∷ cond (next_of file p == 0) [] (chain_in turns file (next_of file p))
+pub turn_is : (turns : ℕ) (file : File) (p : ℕ) → chain_in (suc turns) file p ≡ p ∷ cond (next_of file p == 0) [] (chain_in turns file (next_of file p))
 unfolding chain_in
 turn_is turns file p = ap (λ ps. p ∷ ps) (same (next_of file p == 0) (chain_in turns file (next_of file p)))
   where
@@ -185,7 +185,7 @@ turn_is turns file p = ap (λ ps. p ∷ ps) (same (next_of file p == 0) (chain_i
     same true xs = refl
     same false xs = refl
 
-no_turn : (file : File) (p : ℕ) → chain_in zero file p ≡ []
+pub no_turn : (file : File) (p : ℕ) → chain_in zero file p ≡ []
 unfolding chain_in
 no_turn file p = refl
 
@@ -286,10 +286,6 @@ enough (suc t) file p few =
           enough t file (next_of file p) (omega (arith, few, one)) in
           here ∙ (ap (λ ps. p ∷ ps) rest ∙ (sym (ap (λ b. p ∷ cond b [] (chain_in t file (next_of file p))) more) ∙ sym (turn_is t file p)))
     ]
-
-counted : (image : List ℕ) → (file_of image).count ≡ (head_of image).pages
-unfolding file_of
-counted image = refl
 
 some_room : (image : List ℕ) → IsForest image → 0 < (file_of image).count
 some_room image forest = omega (arith, last_page image, formed_last image (head_of image) forest.formed, counted image)

@@ -19,7 +19,7 @@ use Rattle.bdb_settle.specs.Loaded.{loaded, loaded_section, unnumbered}
 use Rattle.bdb_settle.proofs.ListLawLemmas.{load_into_lists}
 use Rattle.bdb_count.specs.Need.{AreSettled, IsSettled, master_pages, master_settings, name_in, name_pair, need_of, section_pages}
 
-listed_again : (pairs : List Pair) → pairs_in (map unnumbered pairs) ≡ pairs
+pub listed_again : (pairs : List Pair) → pairs_in (map unnumbered pairs) ≡ pairs
 listed_again [] = refl
 listed_again (pair ∷ pairs) = ap (λ ps. pair ∷ ps) (listed_again pairs)
 

@@ -1,8 +1,7 @@
 -- The buckets of a table: how many they are, and their pages, counted as keys are put on them one after the other.
-use Rattle.std.proofs.Common.{◌≡◌, ℕ, zero, suc, ◌+◌, ◌-◌, ◌*◌, ◌<◌, ◌≤◌, ◌^◌, Bool, true, false, cond, List, [], ◌∷◌, length, map, replicate, get_or, set, drop, arith, refl, sym, ◌∙◌, ap, subst, inl, inr}
+use Rattle.std.proofs.Common.{◌≡◌, ℕ, zero, suc, ◌+◌, ◌-◌, ◌*◌, ◌<◌, ◌≤◌, ◌^◌, Bool, cond, List, [], ◌∷◌, length, map, replicate, get_or, set, drop, arith, refl, sym, ◌∙◌, ap, subst, inl, inr}
 use Rattle.std.specs.Prelude.{◌/◌, nat_le}
-use Rattle.std.specs.List.{All, find, range_with_len, sum_by}
-use Rattle.std.specs.Option.{unwrap_or}
+use Rattle.std.specs.List.{All, range_with_len, sum_by}
 use Rattle.std.proofs.Math.ListN.{drop_of_length-le}
 use Rattle.std.proofs.lemmas.Bool.{cases_eq, eq-eqb, le-leb, lt-leb, ne_eqb}
 use Rattle.std.proofs.lemmas.List.{get_or-set_other, get_or-set_same, length-replicate, length-set}
@@ -16,7 +15,7 @@ use Rattle.bdb_mktree.specs.Units.{IsShortUnit}
 use Rattle.bdb_buckets.specs.Tables.{Keyed, bucket_among, dealt}
 use Rattle.bdb_mkhash.specs.Buckets.{bits_for, buckets_of, spread_bucket, table_cost, table_units}
 use Rattle.bdb_mkhash.specs.Costs.{own_pages, unit_cost}
-use Rattle.bdb_mkhash.proofs.BucketLemmas.{run_unit}
+use Rattle.bdb_mkhash.proofs.BucketLemmas.{run_unit, found_at}
 use Rattle.bdb_need.specs.Counting.{values_in}
 use Rattle.bdb_need.specs.Need.{pairs_in}
 use Rattle.bdb_need.proofs.BehindLemmas.{behind, behind_new, behind_open, length-spread}
@@ -24,21 +23,6 @@ use Rattle.bdb_need.proofs.KeyLemmas.{length-pairs}
 use Rattle.bdb_count.specs.Counts.{keyed}
 
 -- How many buckets.
-
--- the first number that passes
-found_at : (test : ℕ → Bool) (a n d k : ℕ) → a ≤ k → k < a + n → test k ≡ true → ((j : ℕ) → a ≤ j → j < k → test j ≡ false)
-    → unwrap_or (find test (range_with_len a n)) d ≡ k
-found_at test a zero d k low high passes none = absurd (omega (arith, low, high))
-found_at test a (suc n) d k low high passes none =
-    elim (cases_eq a k) [
-      | inl same ↦
-          let here : test a ≡ true = ap test same ∙ passes in grind (arith, here, same)
-      | inr other ↦
-          let here : test a ≡ false = none a (omega arith) (omega (arith, low, other)) in
-          let rest = found_at test (a + 1) n d k (omega (arith, low, other)) (omega (arith, high)) passes
-          (λ j from under. none j (omega (arith, from)) under) in
-          grind (arith, here, rest)
-    ]
 
 pub bits_found : (size cost bits : ℕ) → 1 ≤ bits → bits ≤ 31 → cost ≤ 2 ^ bits * (page_room size / 2)
     → ((k : ℕ) → 1 ≤ k → k < bits → 2 ^ k * (page_room size / 2) < cost) → bits ≡ bits_for size cost

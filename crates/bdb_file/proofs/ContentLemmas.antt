@@ -2,9 +2,8 @@
 use Rattle.bdb_format.proofs.ListLemmas.{any_member, passes_here}
 use Rattle.std.proofs.Common.{◌≡◌, ℕ, zero, suc, ◌+◌, ◌<◌, ◌≤◌, Bool, true, false, cond, List, [], ◌∷◌, map, arith, refl, ◌∙◌, ap, subst, inl}
 use Rattle.std.proofs.Common.{inr}
-use Rattle.std.specs.Prelude.{◌==◌, ◌&&◌}
 use Rattle.std.specs.List.{Contains, flat_map, range_with_len}
-use Rattle.std.proofs.lemmas.Bool.{cases_eq, eq-eqb, eqb-true, or_cases, or_right, and_parts}
+use Rattle.std.proofs.lemmas.Bool.{cases_eq}
 use Rattle.bdb_format.specs.declared.kinds.Fault.{Fault}
 use Rattle.bdb_format.specs.File.{File}
 use Rattle.bdb_format.specs.Page.{Metadata, BtreeFields, HashFields, QueueFields}
@@ -16,31 +15,13 @@ use Rattle.bdb_format.proofs.MemberLemmas.{filter_step, first_member, later_memb
 use Rattle.bdb_format.proofs.VerdictLemmas.{IsOfStage, of_by_page}
 use Rattle.bdb_file.proofs.MergeLemmas.{at_page}
 use Rattle.bdb_format.specs.Flags.{is_recno}
+use Rattle.bdb_btree.proofs.CheckLemmas.{is_code as code_holding, of_code as holding_code}
 
 -- The codes of a table.
-
-pub holding_code : (rows : List (Row ℕ)) (code : ℕ) → Contains (holding rows) code → holds_code code rows ≡ true
-holding_code [] code at = absurd (no_member [] code refl at)
-holding_code (row ∷ rows) code at =
-    elim (filter_step row.code code (holding rows) row.holds at) [
-      | inl here ↦ rw (eq-eqb row.code code here.1, here.0) refl
-      | inr later ↦ or_right (row.code == code && row.holds) (holds_code code rows) (holding_code rows code later)
-    ]
 
 code_later : (holds : Bool) (first code : ℕ) (codes : List ℕ) → Contains codes code → Contains (cond holds (first ∷ codes) codes) code
 code_later true first code codes at = later_member first codes code at
 code_later false first code codes at = at
-
-pub code_holding : (rows : List (Row ℕ)) (code : ℕ) → holds_code code rows ≡ true → Contains (holding rows) code
-code_holding [] code holds = absurd cc
-code_holding (row ∷ rows) code holds =
-    elim (or_cases (row.code == code && row.holds) (holds_code code rows) holds) [
-      | inl here ↦
-          let parts = and_parts (row.code == code) row.holds here in
-          let same : row.code ≡ code = eqb-true row.code code parts.0 in
-          rw parts.1 (subst (λ c. Contains (row.code ∷ holding rows) c) same (first_member row.code (holding rows)))
-      | inr later ↦ code_later row.holds row.code code (holding rows) (code_holding rows code later)
-    ]
 
 -- a table with a row for each number from one on
 numbered : ℕ → ℕ → (ℕ → Bool) → List (Row ℕ)

@@ -30,10 +30,10 @@ use Rattle.bdb_overflow.specs.Keys.{repeated_by}
 use Rattle.bdb_format.specs.Master.{is_named_kind, is_none, is_page, master_in, master_pairs, master_rows, misses_target, named_by, naming}
 use Rattle.bdb_format.specs.Master.{pairs_under}
 use Rattle.bdb_format.proofs.RepeatLemmas.{of_repeated, repeated_after, repeated_is}
-use Rattle.bdb_file.proofs.ContentLemmas.{code_holding, holding_code}
 use Rattle.bdb_file.proofs.DatabaseLemmas.{has_metadata}
 use Rattle.bdb_faults.specs.Notes.{AreSame, NotesAll}
 use Rattle.bdb_faults.proofs.SinkLemmas.{notes_both, notes_same}
+use Rattle.bdb_btree.proofs.CheckLemmas.{is_code as code_holding, of_code as holding_code}
 
 -- A table of five rows.
 

@@ -61,7 +61,7 @@ kept_fall test (pair ∷ pairs) fall = step (test pair) (kept_fall test pairs fa
 
 -- Keys that don't fall and don't repeat ascend.
 
-not_repeated : (b : Bool) (pair : StoredPair) (rest : List StoredPair) → cond b (pair ∷ rest) rest ≡ [] → (b ≡ false) × (rest ≡ [])
+pub not_repeated : (b : Bool) (pair : StoredPair) (rest : List StoredPair) → cond b (pair ∷ rest) rest ≡ [] → (b ≡ false) × (rest ≡ [])
 not_repeated true pair rest none = absurd cc
 not_repeated false pair rest none = (refl, none)
 
@@ -138,7 +138,7 @@ master_keys image meta forest is master =
 
 -- The pairs of a master.
 
-keys_kept : (image : List ℕ) (meta : BtreeMeta) → IsForest image → HasMetadata (file_of image) (BtreeFields meta) → is_recno meta ≡ false
+pub keys_kept : (image : List ℕ) (meta : BtreeMeta) → IsForest image → HasMetadata (file_of image) (BtreeFields meta) → is_recno meta ≡ false
     → database_faults (file_of image) (BtreeFields meta) ≡ []
     → (two : StoredPair × StoredPair) → Contains (neighbours (tree_pairs (file_of image) meta.root)) two → is_out_of_order two ≡ false
 unfolding database_faults

@@ -53,7 +53,7 @@ ascend_once low e (x ∷ xs) ascend =
 -- What a content names.
 
 -- a name of a content is the head of a chain that fits, or the root of a set that does
-named_fits : (g : File) (content : Content) (sort : Sort) (t : ℕ) → ContentFits g content → Contains (content_targets content) (sort, t)
+pub named_fits : (g : File) (content : Content) (sort : Sort) (t : ℕ) → ContentFits g content → Contains (content_targets content) (sort, t)
     → ((sort ≡ OverflowHead) × (total : ℕ) × ChainFits g t total) ⊎ ((sort ≡ DuplicateRoot) × SetFits g t)
 named_fits g (Inline bytes) sort t fits at = absurd (no_member [] (sort, t) refl at)
 named_fits g (Set blocks) sort t fits at = absurd (no_member [] (sort, t) refl at)
@@ -73,7 +73,7 @@ chain_fits g (Chain head total) named fits at = subst (λ n. is_wrong_length g n
 chain_fits g (Tree root) named fits at = absurd (no_member [] named refl at)
 chain_fits g Unknown named fits at = absurd (no_member [] named refl at)
 
-head_code : (g : File) (p total : ℕ) (r : Reference) → 1 ≤ r.target → r.target ≤ g.last → r.sort ≡ OverflowHead → ChainFits g r.target total
+pub head_code : (g : File) (p total : ℕ) (r : Reference) → 1 ≤ r.target → r.target ≤ g.last → r.sort ≡ OverflowHead → ChainFits g r.target total
     → fit_code g p r ≡ None
 unfolding fit_code
 head_code g p total r low high sort fits =
@@ -81,7 +81,7 @@ head_code g p total r low high sort fits =
     ∙ fits_asked g (asked_by p (page_at g p) OverflowHead) r.target low high (ap (has_type (7 ∷ [])) fits.type) refl
     (eq-eqb 0 (header_in (page_at g r.target)).previous (sym fits.previous))
 
-set_code : (g : File) (p : ℕ) (r : Reference) → 1 ≤ r.target → r.target ≤ g.last → r.sort ≡ DuplicateRoot → SetFits g r.target → fit_code g p r ≡ None
+pub set_code : (g : File) (p : ℕ) (r : Reference) → 1 ≤ r.target → r.target ≤ g.last → r.sort ≡ DuplicateRoot → SetFits g r.target → fit_code g p r ≡ None
 unfolding fit_code
 set_code g p r low high sort fits =
     ap (λ s. first_row (fit_rows g (asked_by p (page_at g p) s) r.target)) sort
@@ -125,7 +125,7 @@ leaf_right g pages leaf forest filled =
       ];
     }
 
-targets_joined : (contents : List Content)
+pub targets_joined : (contents : List Content)
     → map (λ (named : Sort × ℕ). named.1) (flat_map content_targets contents) ≡ flat_map content_pages contents
 targets_joined [] = refl
 targets_joined (content ∷ contents) =

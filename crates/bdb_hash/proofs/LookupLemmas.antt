@@ -150,7 +150,7 @@ one_of_range f a (suc n) b at none =
 
 -- No row of the table holds.
 
-all_fail_at : (image : List ℕ) (meta : HashMeta) (p : ℕ) → database_faults (file_of image) (HashFields meta) ≡ []
+pub all_fail_at : (image : List ℕ) (meta : HashMeta) (p : ℕ) → database_faults (file_of image) (HashFields meta) ≡ []
     → p ≤ (file_of image).last → AllFail (hash_contents (file_of image) meta p)
 unfolding database_faults
 all_fail_at image meta p none low =

@@ -36,7 +36,7 @@ use Rattle.bdb_join.proofs.RoleLemmas.{no_meta_inside}
 -- A page of metadata.
 
 -- metadata fills its page
-length-btree : (order : Order) (size number last : ℕ) (meta : BtreeMeta) → 92 ≤ size → length (btree_bytes order size number last meta) ≡ size
+pub length-btree : (order : Order) (size number last : ℕ) (meta : BtreeMeta) → 92 ≤ size → length (btree_bytes order size number last meta) ≡ size
 unfolding btree_bytes
 length-btree order size number last meta least = simp (length-append, length-spelled, length-replicate {A = ℕ}, length-common) (omega arith)
 

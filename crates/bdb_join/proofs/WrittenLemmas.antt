@@ -51,7 +51,7 @@ written_pages_are_read built page meta image is =
     (has_head (with_page built 0 page) meta image top, read_back (with_page built 0 page) meta image top)
 
 -- the pages above page 0 stay
-above_stay : (built : Built) (page : List ℕ) (p : ℕ) → 1 ≤ p → bytes_of (with_page built 0 page) p ≡ bytes_of built p
+pub above_stay : (built : Built) (page : List ℕ) (p : ℕ) → 1 ≤ p → bytes_of (with_page built 0 page) p ≡ bytes_of built p
 above_stay built page p above = get_or-set_other built.pages 0 p page [] (λ same. omega (arith, above, same))
 
 -- the tree under page 0

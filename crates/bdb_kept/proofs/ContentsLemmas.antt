@@ -7,7 +7,7 @@ use Rattle.bdb_format.specs.declared.kinds.Order.{Order}
 use Rattle.bdb_format.specs.declared.metadata.BtreeMeta.{BtreeMeta}
 use Rattle.bdb_format.specs.declared.metadata.HashMeta.{HashMeta}
 use Rattle.bdb_format.specs.declared.settings.Settings.{Settings}
-use Rattle.bdb_format.specs.ContentRows.{btree_contents, database_faults, database_rows, hash_contents, is_out_of_order, neighbours, repeated}
+use Rattle.bdb_format.specs.ContentRows.{btree_contents, database_faults, database_rows, repeated}
 use Rattle.bdb_format.specs.Contents.{StoredPair, bucket_pairs, table_pairs, tree_pairs}
 use Rattle.bdb_format.specs.Databases.{btree_settings, hash_settings, recno_settings, settings_of}
 use Rattle.bdb_format.specs.File.{File, file_of}
@@ -15,9 +15,8 @@ use Rattle.bdb_format.specs.Flags.{is_recno}
 use Rattle.bdb_format.specs.Lists.{ListKey, btree_list, by_key, hash_list, list_of, listed_pair, recno_list}
 use Rattle.bdb_format.specs.Page.{BtreeFields, HashFields, Metadata, QueueFields}
 use Rattle.bdb_format.specs.Verdict.{holding, structure_faults}
-use Rattle.bdb_format.proofs.BoolLemmas.{second_false}
 use Rattle.bdb_format.proofs.MemberLemmas.{is_empty, none_passes, of_flat_map, of_range}
-use Rattle.bdb_format.proofs.PairLemmas.{keyed_rows, neighbour_in}
+use Rattle.bdb_format.proofs.PairLemmas.{keyed_rows}
 use Rattle.bdb_format.proofs.RepeatLemmas.{of_repeated, repeated_is}
 use Rattle.bdb_format.proofs.VerdictLemmas.{AllFail, all_fail, no_codes_at}
 use Rattle.bdb_graph.specs.Linked.{HasMetadata, IsForest}
@@ -32,6 +31,8 @@ use Rattle.bdb_kept.proofs.KeyedLemmas.{GoesBefore, HasFitData, NoRowHolds, fit_
 use Rattle.bdb_kept.proofs.KeyedLemmas.{table_goes}
 use Rattle.bdb_kept.proofs.LaterLemmas.{AllLater}
 use Rattle.bdb_kept.proofs.NumberedLemmas.{IsKeptList, IsNotZero, queue_kept, recno_kept}
+use Rattle.bdb_file.proofs.NameOrderLemmas.{keys_kept}
+use Rattle.bdb_hash.proofs.LookupLemmas.{all_fail_at as table_fails}
 
 -- pairs that go in order, with fit data, give a kept list
 pairs_kept : (settings : Settings) (file : File) (pairs : List StoredPair) → has_records settings.kind ≡ false → settings.fixed ≡ false
@@ -62,17 +63,6 @@ tree_fails image meta p keyed none low =
     no_codes_at 8 0 (file.last + 1) p (λ q. holding (database_rows file (BtreeFields meta) q)) none (omega arith) (omega arith) in
     all_fail (btree_contents file meta p) (keyed_rows file meta p (is_recno meta) keyed codes)
 
--- no pair of a tree is out of order
-keys_kept : (image : List ℕ) (meta : BtreeMeta) → IsForest image → HasMetadata (file_of image) (BtreeFields meta) → is_recno meta ≡ false
-    → database_faults (file_of image) (BtreeFields meta) ≡ []
-    → (two : StoredPair × StoredPair) → Contains (neighbours (tree_pairs (file_of image) meta.root)) two → is_out_of_order two ≡ false
-keys_kept image meta forest has keyed none two at =
-    let pairs : List StoredPair = tree_pairs (file_of image) meta.root in
-    let p : ℕ = two.1.page in
-    let fail = tree_fails image meta p keyed none (inside_tree image meta two.1 forest has (neighbour_in pairs two at)) in
-    second_false (p == p) (is_out_of_order two) (eq-eqb p p refl)
-    (none_passes (λ (other : StoredPair × StoredPair). other.1.page == p && is_out_of_order other) (neighbours pairs) two fail.1.1.0 at)
-
 pub btree_kept : (image : List ℕ) (meta : BtreeMeta) (size : ℕ) (order : Order) → IsForest image → HasMetadata (file_of image) (BtreeFields meta)
     → is_recno meta ≡ false → database_faults (file_of image) (BtreeFields meta) ≡ []
     → IsKeptList (btree_settings size order meta) (btree_list (file_of image) meta.root)
@@ -98,14 +88,6 @@ table_plain image meta pair forest stage has at =
     let found = of_flat_map (bucket_pairs file meta) (range_with_len 0 (meta.max_bucket + 1)) pair at in
     let within = of_range 0 (meta.max_bucket + 1) found.0 found.1 in
     bucket_plain image meta found.0 pair (table_is image meta forest stage has) has (omega (arith, within.1)) found.2
-
-table_fails : (image : List ℕ) (meta : HashMeta) (p : ℕ) → database_faults (file_of image) (HashFields meta) ≡ [] → p ≤ (file_of image).last
-    → AllFail (hash_contents (file_of image) meta p)
-unfolding database_faults
-table_fails image meta p none low =
-    let file : File = file_of image in
-    all_fail (hash_contents file meta p)
-    (no_codes_at 8 0 (file.last + 1) p (λ q. holding (database_rows file (HashFields meta) q)) none (omega arith) (omega arith))
 
 no_repeats : (image : List ℕ) (meta : HashMeta) → IsForest image → structure_faults (file_of image) ≡ []
     → HasMetadata (file_of image) (HashFields meta) → database_faults (file_of image) (HashFields meta) ≡ []

@@ -26,6 +26,7 @@ use Rattle.bdb_overflow.proofs.KeyLemmas.{eq_self}
 use Rattle.bdb_settle.specs.Loaded.{has_records, keeps_data, sorts_data}
 use Rattle.bdb_kept.proofs.LaterLemmas.{AllLater, later_flat, later_map, later_one, later_other}
 use Rattle.bdb_kept.proofs.SettledLemmas.{ComesBefore, InOrder}
+use Rattle.bdb_file.proofs.NameOrderLemmas.{not_repeated}
 
 -- Data that ascend.
 
@@ -367,10 +368,6 @@ in_order settings file pairs none = record {
 }
 
 -- Pairs of a table.
-
-not_repeated : (b : Bool) (pair : StoredPair) (rest : List StoredPair) → cond b (pair ∷ rest) rest ≡ [] → (b ≡ false) × (rest ≡ [])
-not_repeated true pair rest none = absurd cc
-not_repeated false pair rest none = (refl, none)
 
 -- no key of these is a key of those
 apart_after : (earlier pairs : List StoredPair) → repeated_after earlier pairs ≡ [] → (one other : StoredPair) → Contains earlier one

@@ -2,7 +2,7 @@
 use Rattle.std.proofs.Common.{◌≡◌, ℕ, ◌+◌, ◌-◌, ◌^◌, ◌<◌, Bool, true, false, not, cond, List, [], ◌∷◌, length, Option, Some, None, arith, refl, sym}
 use Rattle.std.proofs.Common.{◌∙◌, ap, subst, inl}
 use Rattle.std.specs.Prelude.{◌&&◌, ◌||◌, ◌==◌, nat_lt, drop, unwrap_or}
-use Rattle.std.specs.List.{All, Contains, flat_map, list_any, range_with_len}
+use Rattle.std.specs.List.{All, Contains, flat_map, range_with_len}
 use Rattle.std.proofs.lemmas.Bool.Decides.{nat_tests}
 use Rattle.std.proofs.lemmas.List.Elements.{All-drop, All-nil, All-take}
 use Rattle.bdb_format.specs.declared.kinds.Kind.TheVariants.{Queue as QueueKind}
@@ -43,6 +43,7 @@ use Rattle.bdb_kept.proofs.LaterLemmas.{of_enumerate}
 use Rattle.bdb_kept.proofs.NameLemmas.{IsMetaPage, IsReadAs, page_of_meta}
 use Rattle.bdb_kept.proofs.NumberedLemmas.{of_queue, of_recno}
 use Rattle.bdb_kept.proofs.SoundLemmas.{forest_of, has_fields}
+use Rattle.bdb_sections.proofs.HeaderLemmas.{any_turned}
 
 -- Pairs.
 
@@ -142,14 +143,6 @@ unfolding databases
 name_bytes file database all at = under_bytes file (master_in (page_at file 0)) database all at
 
 -- Settings.
-
-turned : (n m : ℕ) → (n == m) ≡ (m == n)
-turned n m = grind (arith, nat_tests)
-
-any_turned : (n : ℕ) (sizes : List ℕ) → list_any (λ (size : ℕ). n == size) sizes ≡ list_any (λ (size : ℕ). size == n) sizes
-any_turned n [] = refl
-any_turned n (size ∷ sizes) =
-    ap (λ b. b || list_any (λ (size : ℕ). n == size) sizes) (turned n size) ∙ ap (λ b. (size == n) || b) (any_turned n sizes)
 
 legal : (n : ℕ) → is_page_size n ≡ true → legal_size n ≡ true
 legal n is = any_turned n (512 ∷ 1024 ∷ 2048 ∷ 4096 ∷ 8192 ∷ 16384 ∷ 32768 ∷ []) ∙ is

@@ -1,7 +1,7 @@
 -- Sections whose names are apart.
 use Rattle.std.proofs.Common.{◌≡◌, ℕ, ◌+◌, Bool, true, false, cond, not, List, [], ◌∷◌, ◌++◌, map, Option, Some, None, refl, sym, ◌∙◌, ap}
 use Rattle.std.proofs.Common.{subst, arith, true≢false, append_assoc}
-use Rattle.std.specs.Prelude.{◌&&◌, ◌||◌, is_none, is_some, unwrap_or}
+use Rattle.std.specs.Prelude.{◌&&◌, is_none, is_some, unwrap_or}
 use Rattle.std.specs.Str.{bytes_eq}
 use Rattle.std.specs.Cmp.Derive.{both_true}
 use Rattle.std.specs.List.{All, fold, list_any, sum_by}
@@ -20,6 +20,7 @@ use Rattle.bdb_settle.proofs.PutLemmas.{or_false}
 use Rattle.bdb_load.specs.Builds.{in_name_order, name_of, put_named}
 use Rattle.bdb_load.specs.Order.{AreApart, IsApart, named_before, with_named}
 use Rattle.bdb_load.proofs.NameLemmas.{swapped}
+use Rattle.bdb_sections.proofs.HeaderLemmas.{neither_right as or_right}
 
 -- What holds of each section.
 
@@ -151,10 +152,6 @@ order_ascends (section ∷ sections) apart =
 
 abbrev pub HasName : Section → Type 0
 HasName section = is_some section.name ≡ true
-
-or_right : (a b : Bool) → (a || b) ≡ false → b ≡ false
-or_right true b is = absurd cc
-or_right false b is = is
 
 some_name : (name : Option (List ℕ)) → is_none name ≡ false → is_some name ≡ true
 some_name None is = absurd cc

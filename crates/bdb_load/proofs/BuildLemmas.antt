@@ -29,8 +29,8 @@ use Rattle.bdb_load.specs.Order.{with_named}
 use Rattle.bdb_load.specs.Settled.{AreBuildable, AreNamedApart, IsAloneImage, IsBuildable, IsImageOfSections, size_in}
 use Rattle.bdb_load.proofs.AlikeLemmas.{pages_own}
 use Rattle.bdb_load.proofs.ApartLemmas.{fold_is_order, order_all, order_map, order_sum}
-use Rattle.bdb_load.proofs.FitLemmas.{listed_again}
 use Rattle.bdb_load.proofs.MasterLemmas.{master_same, names_ascend}
+use Rattle.bdb_count.proofs.NeedLemmas.{listed_again}
 
 -- One section alone.
 

@@ -38,6 +38,7 @@ use Rattle.bdb_load.specs.Lengths.{IsShortSection}
 use Rattle.bdb_load.specs.Settled.{AreBuildable, AreNamedApart, IsBuildable, IsUnnamedAlone, size_in}
 use Rattle.bdb_load.proofs.AlikeLemmas.{list_alike}
 use Rattle.bdb_load.proofs.ApartLemmas.{HasName, all_named, alone_unnamed, named_apart}
+use Rattle.bdb_count.proofs.NeedLemmas.{listed_again}
 
 -- Each section.
 
@@ -82,11 +83,6 @@ are_ready most sections fit short none k d low =
       table = λ hash. load_into_tables sections none k d low hash is_fit;
       queue = λ queue. queues_are_alone sections none k d low queue ((fit.each k d low).settings.fixed queue) is_fit;
     }
-
--- pairs that got no lines, without them
-pub listed_again : (pairs : List Pair) → pairs_in (map unnumbered pairs) ≡ pairs
-listed_again [] = refl
-listed_again (pair ∷ pairs) = ap (λ ps. pair ∷ ps) (listed_again pairs)
 
 -- a queue is the first section
 first_is_queue : (sections rest : List Section) (first section : Section) → sections ≡ first ∷ rest → IsQueueAlone sections section → first ≡ section

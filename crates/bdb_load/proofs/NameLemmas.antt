@@ -1,19 +1,12 @@
 -- Sections in the order of their names.
-use Rattle.std.proofs.Common.{◌≡◌, ℕ, suc, ◌+◌, Bool, true, false, cond, not, List, [], ◌∷◌, ◌++◌, get_or, refl, sym, ◌∙◌, ap, subst, arith}
+use Rattle.std.proofs.Common.{◌≡◌, suc, ◌+◌, Bool, true, false, cond, not, List, [], ◌∷◌, ◌++◌, get_or, refl, sym, ◌∙◌, ap, subst, arith}
 use Rattle.std.proofs.Common.{true≢false, append_assoc}
 use Rattle.std.specs.Prelude.{◌&&◌}
 use Rattle.std.specs.Cmp.{IsStrictWeakOrder}
-use Rattle.std.specs.Ordering.{is_lt}
-use Rattle.std.specs.declared.cmp.Ordering.{Ordering}
-use Rattle.std.specs.declared.cmp.Ordering.TheVariants.{Less as Below, Equal, Greater}
 use Rattle.std.specs.List.{All, filter, fold}
 use Rattle.std.specs.List.Sorted.{IsSortedBy, IsStableBy, ties}
 use Rattle.std.proofs.lemmas.Bool.{false_from_ne_true, true_from_ne_false}
 use Rattle.std.proofs.lemmas.List.Elements.{All-cons, All-head, All-nil, All-push, All-tail, filter-append}
-use Rattle.bdb_format.specs.Less.{less}
-use Rattle.bdb_format.proofs.LessLemmas.{less_self}
-use Rattle.bdb_btree.proofs.LessLemmas.{less_not_back}
-use Rattle.bdb_layout.specs.Seen.{OrderingIs}
 use Rattle.bdb_model.specs.declared.pairs.Key.TheVariants.{Bytes}
 use Rattle.bdb_model.specs.declared.sections.Section.{Section}
 use Rattle.bdb_settle.proofs.KeyOrderLemmas.{key_chain, key_one_way}
@@ -208,7 +201,3 @@ pub sorted_is : (sections sorted : List Section) → IsSortedBy named_before sor
 sorted_is sections sorted up stable = sym (in_turn sorted up) ∙ sorted_alike sections sorted [] stable
 
 -- Comparisons answer by bytes.
-pub by_bytes : (r : Ordering) (a b : List ℕ) → OrderingIs r a b → is_lt r ≡ less a b
-by_bytes Below a b is = sym is
-by_bytes Equal a b is = rw is (sym (less_self b))
-by_bytes Greater a b is = sym (less_not_back b a is)

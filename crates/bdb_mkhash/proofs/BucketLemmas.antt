@@ -19,7 +19,7 @@ use Rattle.bdb_mkhash.specs.Costs.{unit_cost}
 -- How many buckets.
 
 -- the first number that passes
-found_at : (test : ℕ → Bool) (a n d k : ℕ) → a ≤ k → k < a + n → test k ≡ true → ((j : ℕ) → a ≤ j → j < k → test j ≡ false)
+pub found_at : (test : ℕ → Bool) (a n d k : ℕ) → a ≤ k → k < a + n → test k ≡ true → ((j : ℕ) → a ≤ j → j < k → test j ≡ false)
     → unwrap_or (find test (range_with_len a n)) d ≡ k
 found_at test a zero d k low high passes none = absurd (omega (arith, low, high))
 found_at test a (suc n) d k low high passes none =

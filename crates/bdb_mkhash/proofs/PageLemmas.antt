@@ -9,10 +9,10 @@ use Rattle.bdb_format.specs.declared.kinds.Order.{Order}
 use Rattle.bdb_format.specs.declared.pages.Header.{Header}
 use Rattle.bdb_format.specs.HeadOf.{is_page_size}
 use Rattle.bdb_format.specs.Numbers.{byte_at, four_at, spelled}
-use Rattle.bdb_format.specs.Page.{Content, Inline, Set, Chain, Tree, Unknown, Hash, Item, Listed}
+use Rattle.bdb_format.specs.Page.{Content, Hash, Item, Listed}
 use Rattle.bdb_format.specs.Reading.{entries_of, hash_item_at, header_of, index_end, listed, offset_of, page_type}
 use Rattle.bdb_format.specs.Rows.{is_wrong_entry_count, is_wrong_level}
-use Rattle.bdb_format.specs.Spelling.{IsHashContent, hash_bytes, header_bytes}
+use Rattle.bdb_format.specs.Spelling.{hash_bytes, header_bytes}
 use Rattle.bdb_format.proofs.PageLemmas.{header_listed, length_items}
 use Rattle.bdb_format.proofs.SpellingLemmas.{length-overwritten, length-spelled}
 use Rattle.bdb_graph.proofs.FormedLemmas.{size_bounds}
@@ -33,6 +33,7 @@ use Rattle.bdb_leaves.proofs.LeafLemmas.{HasLinks, linked_begun, linked_page, of
 use Rattle.bdb_buckets.specs.Pages.{hash_item}
 use Rattle.bdb_mkhash.specs.Filling.{IsGrown}
 use Rattle.bdb_mkhash.specs.Pages.{CanTakeContent, HashPagesAreFormed, HashPagesStand, HoldsContents, HoldsContentsOn, content_cost, page_header, room_of, with_hash_page, with_next}
+use Rattle.bdb_pack.proofs.NewRowLemmas.{hash_least as some_bytes}
 
 -- The page by its bytes.
 
@@ -75,14 +76,6 @@ hash_pages_stand built p previous next contents g holds same =
     }
 
 -- An item more.
-
-some_bytes : (order : Order) (content : Content) → IsHashContent content → 0 < length (hash_bytes order content)
-unfolding hash_bytes
-some_bytes order (Inline bytes) fits = omega arith
-some_bytes order (Set blocks) fits = omega arith
-some_bytes order (Chain head total) fits = omega arith
-some_bytes order (Tree root) fits = omega arith
-some_bytes order Unknown fits = absurd fits
 
 item_added : (order : Order) (page : List ℕ) (p previous next : ℕ) (contents : List Content) (content : Content)
     → HoldsContents order page p previous next contents → IsWritable (OnHash content) → HasPlace 13 (length contents) (OnHash content)

@@ -3,7 +3,7 @@ use Rattle.std.proofs.Common.{◌≡◌, ℕ, zero, suc, ◌+◌, ◌-◌, ◌*�
 use Rattle.std.proofs.Common.{append_assoc, arith, refl, sym, ◌∙◌, ap, subst, length-append}
 use Rattle.std.specs.Prelude.{◌==◌, ◌||◌, not}
 use Rattle.std.proofs.lemmas.Bool.{eq-eqb}
-use Rattle.std.proofs.lemmas.List.{append-nil, get_or-set_other, get_or-set_same, length-replicate, length-set, replicate-append-replicate}
+use Rattle.std.proofs.lemmas.List.{append-nil, get_or-set_same, length-replicate, length-set, replicate-append-replicate}
 use Rattle.bdb_format.specs.declared.kinds.Order.{Order}
 use Rattle.bdb_format.specs.declared.metadata.FileKind.TheVariants.{Queue}
 use Rattle.bdb_format.specs.declared.metadata.Head.{Head}
@@ -36,6 +36,7 @@ use Rattle.bdb_join.proofs.ReadLemmas.{page_read}
 use Rattle.bdb_join.proofs.StageLemmas.{form_none, head_none, tail_none}
 use Rattle.bdb_mkqueue.specs.Building.{HasPages, SaysQueue}
 use Rattle.bdb_mkqueue.specs.Written.{IsWrittenQueue, WrittenQueuesAreSound}
+use Rattle.bdb_join.proofs.WrittenLemmas.{above_stay as later_page}
 
 -- The page of metadata.
 
@@ -116,7 +117,7 @@ meta_accepted head page kind reads long none =
 
 -- The image.
 
-begins : (pages : List (List ℕ)) (page : List ℕ) → 1 ≤ length pages → (rest : List ℕ) × (joined_pages (set pages 0 page) ≡ page ++ rest)
+pub begins : (pages : List (List ℕ)) (page : List ℕ) → 1 ≤ length pages → (rest : List ℕ) × (joined_pages (set pages 0 page) ≡ page ++ rest)
 begins [] page some = absurd (omega arith)
 begins (first ∷ pages) page some = (joined_pages pages, refl)
 
@@ -147,9 +148,6 @@ page_of_image built page meta image p is head low =
 
 first_page : (built : Built) (page : List ℕ) → 1 ≤ length built.pages → bytes_of (with_page built 0 page) 0 ≡ page
 first_page built page some = get_or-set_same built.pages 0 page [] (omega (arith, some))
-
-later_page : (built : Built) (page : List ℕ) (p : ℕ) → 1 ≤ p → bytes_of (with_page built 0 page) p ≡ bytes_of built p
-later_page built page p above = get_or-set_other built.pages 0 p page [] (λ same. omega (arith, above, same))
 
 same_database : (database : Database) (meta other : QueueMeta) → meta ≡ other → database ≡ record { name = None; fields = QueueFields meta }
     → database ≡ record { name = None; fields = QueueFields other }

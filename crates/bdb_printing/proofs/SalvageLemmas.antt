@@ -9,7 +9,7 @@ use Rattle.std.proofs.lemmas.List.FromFn.{get_or-map-range_with_len, length-map-
 use Rattle.bdb_format.specs.declared.kinds.Order.{Order}
 use Rattle.bdb_format.specs.Chains.{joined, pieces_of}
 use Rattle.bdb_format.specs.Contents.{entries_in}
-use Rattle.bdb_format.specs.File.{File, file_as, page_at}
+use Rattle.bdb_format.specs.File.{File, page_at}
 use Rattle.bdb_format.specs.Numbers.{byte_at, four_at}
 use Rattle.bdb_format.specs.Page.{Content, Inline, Set, Chain, Tree, Unknown, Item, Zero, NoType, PageType, RecnoLeafPage, DupLeafPage}
 use Rattle.bdb_format.specs.Reading.{abstract_page, index_end, is_zero, leaf_item_at, page_as, page_type}
@@ -18,6 +18,7 @@ use Rattle.bdb_format.specs.Table.{first_row}
 use Rattle.bdb_format.proofs.ItemLemmas.{index_passes, no_index_row}
 use Rattle.bdb_format.proofs.PageLemmas.{length_items}
 use Rattle.bdb_stored.specs.Salvage.{is_taken, is_whole, live_value, live_whole, loose, loose_on, salvaged_file, salvaged_page, unless_code, whole_values}
+use Rattle.bdb_stored.proofs.PageLemmas.{count_is as whole_pages}
 
 -- lists that are at most so long, joined
 joined_short : {A B : Type 0} (f : A → List B) (k : ℕ) (xs : List A) → ((x : A) → 2 * length (f x) ≤ k)
@@ -104,10 +105,6 @@ live_short order size image p =
 loose_short : (order : Order) (size : ℕ) (image : List ℕ) (p : ℕ) → 2 * length (loose_on (salvaged_file order size image) p) ≤ size
 loose_short order size image p =
     fewer_where (is_taken (salvaged_file order size image) p) size (live_whole (salvaged_file order size image) p) (live_short order size image p)
-
-whole_pages : (order : Order) (size : ℕ) (image : List ℕ) → (salvaged_file order size image).count ≡ length image / size
-unfolding salvaged_file file_as
-whole_pages order size image = refl
 
 loose_room : (order : Order) (size : ℕ) (image : List ℕ) → 2 * length (loose (salvaged_file order size image)) ≤ length image / size * size
 unfolding loose

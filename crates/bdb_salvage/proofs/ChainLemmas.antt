@@ -17,7 +17,7 @@ use Rattle.bdb_overflow.specs.Whole.{EndsIn, IsLink, IsWholeChain, bytes_of, nex
 use Rattle.bdb_overflow.proofs.WholeLemmas.{page_as_is, page_length}
 use Rattle.bdb_stored.specs.Salvage.{follows, is_link, is_overflow, is_row, salvaged_file, salvaged_page, unless_code}
 use Rattle.bdb_stored.proofs.PageLemmas.{count_is, page_is, page_past}
-use Rattle.bdb_salvage.proofs.WalkLemmas.{no_turn, turn_is}
+use Rattle.bdb_census.proofs.HashLemmas.{no_turn, turn_is}
 
 -- An overflow page by its bytes.
 

@@ -22,7 +22,7 @@ use Rattle.bdb_stored.specs.Salvage.{ItemPair, down, follows, is_like, is_link, 
 use Rattle.bdb_salvage.proofs.ListLemmas.{flat_map_alike}
 use Rattle.bdb_salvage.proofs.StoredLemmas.{append_nil, values_are}
 use Rattle.bdb_salvage.proofs.SurveyLemmas.{no_leaf}
-use Rattle.bdb_salvage.proofs.WalkLemmas.{no_turn, turn_is}
+use Rattle.bdb_census.proofs.HashLemmas.{no_turn, turn_is}
 
 pub no_turn_left : (file : File) (turns : ℕ) (p : ℕ) → turns ≡ 0 → leaves_from turns file (Some p) ≡ []
 no_turn_left file turns p none = ap (λ t. leaves_from t file (Some p)) none ∙ no_turn file p

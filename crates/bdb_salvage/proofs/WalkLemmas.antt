@@ -8,6 +8,7 @@ use Rattle.bdb_format.specs.Page.{Page}
 use Rattle.bdb_salvage.specs.declared.links.Link.{Link}
 use Rattle.bdb_salvage.specs.Links.{link_in, link_of, rest_length, row_length}
 use Rattle.bdb_stored.specs.Salvage.{follows, is_link}
+use Rattle.bdb_census.proofs.HashLemmas.{no_turn, turn_is}
 
 -- the length of the data of some pages
 abbrev pub size_of : File → List ℕ → ℕ
@@ -19,18 +20,6 @@ whole_is_rest file test head =
     let n : ℕ = size_of file (chain_in file.count file head) in
     let same : n ≡ 0 + n = omega arith in
     ap (λ m. cond (follows file test 0 (chain_in file.count file head)) (Some m) None) same
-
-pub turn_is : (turns : ℕ) (file : File) (p : ℕ) → chain_in (suc turns) file p ≡ p ∷ cond (next_of file p == 0) [] (chain_in turns file (next_of file p))
-unfolding chain_in
-turn_is turns file p = ap (λ ps. p ∷ ps) (same (next_of file p == 0) (chain_in turns file (next_of file p)))
-  where
-    same : (b : Bool) (xs : List ℕ) → ◌≡◌ {A = List ℕ} (elim b [ true ↦ [] | false ↦ xs ]) (cond b [] xs)
-    same true xs = refl
-    same false xs = refl
-
-pub no_turn : (file : File) (p : ℕ) → chain_in zero file p ≡ []
-unfolding chain_in
-no_turn file p = refl
 
 -- a page by its number is a link where it's one
 abbrev pub link_given : File → ℕ → Bool → Option Link

@@ -70,10 +70,10 @@ given_fits before (line ∷ lines) name value fit is =
 
 -- Page sizes.
 
-turned : (n m : ℕ) → (n == m) ≡ (m == n)
+pub turned : (n m : ℕ) → (n == m) ≡ (m == n)
 turned n m = grind (arith, nat_tests)
 
-any_turned : (n : ℕ) (sizes : List ℕ) → list_any (λ (size : ℕ). n == size) sizes ≡ list_any (λ (size : ℕ). size == n) sizes
+pub any_turned : (n : ℕ) (sizes : List ℕ) → list_any (λ (size : ℕ). n == size) sizes ≡ list_any (λ (size : ℕ). size == n) sizes
 any_turned n [] = refl
 any_turned n (size ∷ sizes) =
     ap (λ b. b || list_any (λ (size : ℕ). n == size) sizes) (turned n size) ∙ ap (λ b. (size == n) || b) (any_turned n sizes)

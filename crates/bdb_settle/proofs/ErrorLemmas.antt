@@ -19,20 +19,20 @@ still_some first (error ∷ errors) none = by_test (is_sooner error first) none 
     by_test true none one other = one none
     by_test false none one other = other none
 
-no_errors : (errors : List LoadError) → fold sooner None errors ≡ None → errors ≡ []
+pub no_errors : (errors : List LoadError) → fold sooner None errors ≡ None → errors ≡ []
 no_errors [] none = refl
 no_errors (error ∷ errors) none = absurd (still_some error errors none)
 
-both_empty : {X : Type 0} (xs ys : List X) → xs ++ ys ≡ [] → (xs ≡ []) × (ys ≡ [])
+pub both_empty : {X : Type 0} (xs ys : List X) → xs ++ ys ≡ [] → (xs ≡ []) × (ys ≡ [])
 both_empty [] ys none = (refl, none)
 both_empty (x ∷ xs) ys none = absurd cc
 
-each_empty : {X Y : Type 0} (f : X → List Y) (xs : List X) → flat_map f xs ≡ [] → All (λ x. f x ≡ []) xs
+pub each_empty : {X Y : Type 0} (f : X → List Y) (xs : List X) → flat_map f xs ≡ [] → All (λ x. f x ≡ []) xs
 each_empty f [] none = All-nil (λ x. f x ≡ [])
 each_empty f (x ∷ xs) none =
     let parts = both_empty (f x) (flat_map f xs) none in All-cons (λ x. f x ≡ []) x xs parts.0 (each_empty f xs parts.1)
 
-not_so : (b : Bool) (error : LoadError) → where_so b error ≡ [] → b ≡ false
+pub not_so : (b : Bool) (error : LoadError) → where_so b error ≡ [] → b ≡ false
 not_so true error none = absurd cc
 not_so false error none = refl
 

@@ -82,7 +82,7 @@ pairs_weakly settings = record { one_way = one_way; chain = chain }
 
 -- Comparisons answer by it.
 
-by_bytes : (r : Ordering) (a b : List ℕ) → OrderingIs r a b → is_lt r ≡ less a b
+pub by_bytes : (r : Ordering) (a b : List ℕ) → OrderingIs r a b → is_lt r ≡ less a b
 by_bytes Below a b is = sym is
 by_bytes Equal a b is = rw is (sym (less_self b))
 by_bytes Greater a b is = sym (less_not_back b a is)

@@ -30,7 +30,7 @@ use Rattle.bdb_settle.proofs.OrderedLemmas.{Ordered, OrderedFrom, fold_all, fold
 
 -- Each pair.
 
-filled_length : (settings : Settings) (value : List ℕ) → has_length settings ≡ true
+pub filled_length : (settings : Settings) (value : List ℕ) → has_length settings ≡ true
     → (has_length settings && nat_lt settings.re_len (length value)) ≡ false
     → length (filled_value settings value) ≡ settings.re_len
 filled_length settings value fixed fits =
@@ -45,7 +45,7 @@ filled_short : (settings : Settings) (value : List ℕ) (b : Bool) → has_lengt
 filled_short settings value true fixed below short fits = rw (filled_length settings value fixed fits) below
 filled_short settings value false free below short fits = rw free short
 
-positive : (key : Key) → HasNumber key → is_zero key ≡ false → 1 ≤ number_in key
+pub positive : (key : Key) → HasNumber key → is_zero key ≡ false → 1 ≤ number_in key
 positive (Bytes bytes) never is = absurd never
 positive (Number number) numbered is = grind (arith, nat_tests)
 
@@ -77,7 +77,7 @@ and_true : (b : Bool) → (b && true) ≡ b
 and_true true = refl
 and_true false = refl
 
-and_false : (b : Bool) → (b && false) ≡ false
+pub and_false : (b : Bool) → (b && false) ≡ false
 and_false true = refl
 and_false false = refl
 
@@ -99,7 +99,7 @@ by_bytes false true same duplicates sorted sorts keeps is_less is_above sorts_is
 by_bytes false false same duplicates sorted sorts keeps is_less is_above sorts_is keeps_is both alike after =
     both_true (alike refl refl) (further duplicates sorted is_less is_above both (rw (sorts_is, keeps_is) at after))
 
-by_numbers : (below above sorts keeps is_less is_above : Bool) → sorts ≡ false → keeps ≡ false
+pub by_numbers : (below above sorts keeps is_less is_above : Bool) → sorts ≡ false → keeps ≡ false
     → ((below || (not above && (sorts && is_less))) || (not (above || (not below && (sorts && is_above))) && keeps)) ≡ true → below ≡ true
 by_numbers true above sorts keeps is_less is_above sorts_is keeps_is after = refl
 by_numbers false true sorts keeps is_less is_above sorts_is keeps_is after = absurd cc

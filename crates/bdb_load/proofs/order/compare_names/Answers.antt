@@ -1,8 +1,8 @@
 use Rattle.std.proofs.Common.{◌∙◌, ap}
 use Rattle.bdb_format.specs.Less.{less}
 use Rattle.bdb_load.specs.Builds.{name_of}
-use Rattle.bdb_load.proofs.NameLemmas.{by_bytes}
 use Rattle.bdb_load.proofs.order.compare_names.Goals as goal
+use Rattle.bdb_settle.proofs.KeyOrderLemmas.{by_bytes}
 
 pub returns : goal.returns
 returns c =
