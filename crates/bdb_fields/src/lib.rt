@@ -2,5 +2,7 @@
 #![tactic(auto)]
 
 mod field;
+mod sample;
 
 pub use field::{Field, write};
+pub use sample::Sample;
