@@ -3,10 +3,10 @@
 ghost use Rattle.std.specs.Prelude.{◌≡◌};
 
 use crate::structure_samples::{
-    Sample, WRONG_LEAF, WRONG_LEAVES, WRONG_LENGTH, WRONG_LENGTH_AND_LINK, WRONG_LINK,
+    WRONG_LEAF, WRONG_LEAVES, WRONG_LENGTH, WRONG_LENGTH_AND_LINK, WRONG_LINK,
 };
-use bdb_fields::{Field, write};
-use bdb_format::{CheckError, Fault, Order, Steps};
+use bdb_fields::{Field, Sample};
+use bdb_format::{CheckError, Fault, Steps};
 use bdb_graph::{Linked, link, open_image};
 use bdb_overflow::check_chains;
 use bdb_tree::check_trees;
@@ -110,11 +110,9 @@ fn is_told_counted<L: Ledger>(alloc: Global, image: &[u8], told: &Told, blank: B
 }
 
 fn is_told_of(alloc: Global, sample: &Sample, told: &Told) -> bool {
-    let mut image = [0u8; 4096];
-    write(&mut image, sample.fields, Order::Little);
-    match image.get(..sample.size) {
-        Some(whole) => is_told_counted::<Brand>(alloc, whole, told, Blank::new(1)),
-        None => false,
+    match sample.image(alloc) {
+        Ok(image) => is_told_counted::<Brand>(alloc, &image, told, Blank::new(1)),
+        Err(_) => false,
     }
 }
 
