@@ -1,16 +1,15 @@
 //! Walks of a tree by its links. Values: docs/FORMAT.md, "Other pages" and "Items".
 
-ghost use Rattle.std.specs.Prelude.{◌≡◌, [], IfSome, IsTrue};
+ghost use Rattle.std.specs.Prelude.{◌≡◌, IfSome};
 ghost use Rattle.bdb_graph.specs.Linked.{FitsTreeRoot};
 ghost use Rattle.bdb_format.specs.File.{file_of};
-ghost use Rattle.bdb_format.specs.Verdict.{structure_faults};
 
 use crate::fields::BTREE;
 use bdb_fields::{Field, write};
 use bdb_format::{Order, Steps};
 use bdb_graph::{Linked, Meta, Ref, TreeRoot, link, open_image};
-use bdb_overflow::check_chains;
-use bdb_tree::{check_trees, first_leaf, leaves};
+use bdb_opening::has_sound_trees;
+use bdb_tree::{first_leaf, leaves};
 use std::alloc::Global;
 use std::marker::Brand;
 use std::sync::ledger::{Blank, Ledger};
@@ -93,14 +92,6 @@ fn root_of(linked: &Linked<'_>) -> Option<Ref<TreeRoot>>
         (_, Meta::Btree(meta)) => Some(linked.root(&meta)),
         _ => None,
     }
-}
-
-/// Whether no row of stage 6 holds; not, where memory is wanting.
-#[tactic(auto, using(bdb_tree::proofs::StageLemmas::no_structure_fault))]
-fn has_sound_trees(alloc: Global, linked: &Linked<'_>) -> bool
-    ensures { IsTrue result → structure_faults (file_of linked.now) ≡ [] }
-{
-    check_chains(linked).is_ok() && check_trees(alloc, linked).is_ok()
 }
 
 /// The leaves of the first database, if no row of stage 6 holds.

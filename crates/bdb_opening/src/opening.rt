@@ -1,0 +1,49 @@
+//! A file that is sound up to stage 6, and the btree on its page 0.
+
+ghost use Rattle.std.specs.Prelude.{◌≡◌, [], IfSome, IsTrue, false};
+ghost use Rattle.bdb_graph.specs.Linked.{HasMetadata};
+ghost use Rattle.bdb_format.specs.File.{file_of};
+ghost use Rattle.bdb_format.specs.Page.{BtreeFields};
+ghost use Rattle.bdb_format.specs.Verdict.{structure_faults};
+ghost use Rattle.bdb_format.specs.Flags.{is_recno};
+
+use bdb_format::BtreeMeta;
+use bdb_graph::{Linked, Meta};
+use bdb_overflow::check_chains;
+use bdb_tree::check_trees;
+use std::alloc::Global;
+
+/// Whether no row of stage 6 holds; not, where memory is wanting.
+#[tactic(auto, using(bdb_tree::proofs::StageLemmas::no_structure_fault))]
+pub fn has_sound_trees(alloc: Global, linked: &Linked<'_>) -> bool
+    ensures { IsTrue result → structure_faults (file_of linked.now) ≡ [] }
+{
+    check_chains(linked).is_ok() && check_trees(alloc, linked).is_ok()
+}
+
+/// The metadata of page 0, if it's that of a btree or a recno.
+pub fn btree_of(linked: &Linked<'_>) -> Option<BtreeMeta>
+    ensures { IfSome result (λ meta. HasMetadata (file_of linked.now) (BtreeFields meta)) }
+{
+    if linked.metas() == 0 {
+        return None;
+    }
+    match linked.meta(0) {
+        (_, Meta::Btree(meta)) => Some(meta),
+        _ => None,
+    }
+}
+
+/// Whether a btree isn't a recno.
+pub fn is_keyed(meta: &BtreeMeta) -> bool
+    ensures { IsTrue result → is_recno meta.now ≡ false }
+{
+    meta.flags & 0x02 == 0
+}
+
+/// Whether it's a recno.
+pub fn is_recno(meta: &BtreeMeta) -> bool
+    ensures { IsTrue result → IsTrue (is_recno meta.now) }
+{
+    meta.flags & 0x02 != 0
+}
