@@ -2,25 +2,18 @@
 
 ghost use Rattle.std.specs.Prelude.{◌≡◌};
 
-use crate::opened::{btree_of, has_sound_trees, is_keyed};
+use crate::told::{Told, told_by};
 use bdb_btree::{LeafPair, check, pairs};
 use bdb_fields::{Field, write};
-use bdb_format::{CheckError, Fault, Order, Steps};
+use bdb_format::{Order, Steps};
 use bdb_graph::{Linked, link, open_image};
+use bdb_opening::{btree_of, has_sound_trees, is_keyed};
 use bdb_overflow::Datum;
 use std::alloc::Global;
 use std::marker::Brand;
 use std::sync::ledger::{Blank, Ledger};
 
 const SIZE: usize = 4 * 512;
-
-#[derive(Clone, Copy, Debug, PartialEq, Eq)]
-pub enum Told {
-    Sound,
-    Fault { page: u32, code: u8 },
-    Memory,
-    Refused,
-}
 
 /// What is written over zeros, and what comes of it.
 #[derive(Clone, Copy)]
@@ -263,23 +256,6 @@ const CASES: [Case; 17] = [
         told: Told::Fault { page: 1, code: 4 },
     },
 ];
-
-fn told_by(answer: Result<(), CheckError>) -> Told {
-    match answer {
-        Ok(()) => Told::Sound,
-        Err(
-            CheckError::Fault(
-                Fault {
-                    stage: 8,
-                    page,
-                    code,
-                },
-            ),
-        ) => Told::Fault { page, code },
-        Err(CheckError::Fault(_)) => Told::Refused,
-        Err(CheckError::Memory) => Told::Memory,
-    }
-}
 
 /// What the check says of the btree on page 0.
 fn told_linked(alloc: Global, linked: &Linked<'_>) -> Told {

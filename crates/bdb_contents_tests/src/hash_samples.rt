@@ -1,11 +1,6 @@
 //! Hash files with a fault of contents, which was told apart from this code.
 
-use bdb_fields::Field;
-
-pub struct Sample {
-    pub size: usize,
-    pub fields: &'static [Field],
-}
+use bdb_fields::{Field, Sample};
 
 pub const DUPLICATES: Sample = Sample {
     size: 2048,

@@ -1,7 +1,6 @@
 //! Hash tables, checked, listed and found in. Values: docs/FORMAT.md, "Hash metadata, type 8", "Items" and "Stage 8, contents".
 
 ghost use Rattle.std.specs.Prelude.{◌≡◌, []};
-ghost use Rattle.std.specs.Bool.{OnTrue};
 ghost use Rattle.bdb_graph.specs.Linked.{HasMetadata};
 ghost use Rattle.bdb_format.specs.ContentRows.{database_faults};
 ghost use Rattle.bdb_format.specs.File.{file_of};
@@ -9,15 +8,15 @@ ghost use Rattle.bdb_format.specs.Page.{HashFields};
 ghost use Rattle.bdb_format.specs.Verdict.{structure_faults};
 
 use crate::hash_samples::{
-    DUPLICATES, DUPLICATES_TWICE, ELSEWHERE, ELSEWHERE_FIRST, KEY_TWICE, KEY_TWICE_LATER, Sample,
-    UNSORTED, UNSORTED_FIRST, WRONG_SET,
+    DUPLICATES, DUPLICATES_TWICE, ELSEWHERE, ELSEWHERE_FIRST, KEY_TWICE, KEY_TWICE_LATER, UNSORTED,
+    UNSORTED_FIRST, WRONG_SET,
 };
-use bdb_fields::{Field, write};
+use bdb_fields::{Field, Sample, write};
 use bdb_format::{CheckError, Fault, HashMeta, Order, Steps};
 use bdb_graph::{Linked, Meta, link, open_image};
 use bdb_hash::{Found, Scan, check, find, scan};
-use bdb_overflow::{Datum, KeyView, check_chains, compare_datum};
-use bdb_tree::check_trees;
+use bdb_opening::has_sound_trees;
+use bdb_overflow::{Datum, KeyView, compare_datum};
 use std::alloc::Global;
 use std::cmp::Ordering;
 use std::marker::Brand;
@@ -463,20 +462,6 @@ fn is_so_in<L: Ledger>(
     }
 }
 
-/// Whether chains and trees are sound.
-#[tactic(auto, using(bdb_tree::proofs::StageLemmas::no_structure_fault))]
-fn is_sound(alloc: Global, linked: &Linked<'_>) -> bool
-    ensures { OnTrue result (structure_faults (file_of linked.now) ≡ []) }
-{
-    if let Err(_) = check_chains(linked) {
-        return false;
-    }
-    match check_trees(alloc, linked) {
-        Ok(()) => true,
-        Err(_) => false,
-    }
-}
-
 fn is_so<L: Ledger>(alloc: Global, image: &[u8], asked: Asked<'_>, steps: &mut Steps<L>) -> bool {
     if image.len() > SIZE {
         return false;
@@ -487,7 +472,7 @@ fn is_so<L: Ledger>(alloc: Global, image: &[u8], asked: Asked<'_>, steps: &mut S
     let Ok(linked) = link(alloc, formed, steps) else {
         return false;
     };
-    if linked.metas() == 0 || !is_sound(alloc, &linked) {
+    if linked.metas() == 0 || !has_sound_trees(alloc, &linked) {
         return false;
     }
     match linked.meta(0).1 {
@@ -521,16 +506,14 @@ fn is_as_expected(
 }
 
 fn is_refused(alloc: Global, sample: &Sample, page: u32, code: u8) -> bool {
-    let mut image = [0u8; SIZE];
-    write(&mut image, sample.fields, Order::Little);
-    match image.get(..sample.size) {
-        Some(whole) => is_so_counted::<Brand>(
+    match sample.image(alloc) {
+        Ok(image) => is_so_counted::<Brand>(
             alloc,
-            whole,
+            &image,
             Asked::Refuses(page, code),
             Blank::new(1),
         ),
-        None => false,
+        Err(_) => false,
     }
 }
 

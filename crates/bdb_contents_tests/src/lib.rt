@@ -20,10 +20,10 @@ mod lookups;
 #[cfg(test)]
 mod noted;
 #[cfg(test)]
-mod opened;
-#[cfg(test)]
 mod queues;
 #[cfg(test)]
 mod recno_samples;
 #[cfg(test)]
 mod recnos;
+#[cfg(test)]
+mod told;

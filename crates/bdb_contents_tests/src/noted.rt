@@ -9,13 +9,13 @@ ghost use Rattle.bdb_format.specs.Verdict.{structure_faults};
 
 use crate::btrees::COUNTED;
 use crate::hashes::THREE_BUCKETS;
-use crate::opened::{has_sound_trees, is_keyed};
-use crate::recnos::{THREE_LEVELS, is_recno};
+use crate::recnos::THREE_LEVELS;
 use bdb_faults::NamedList;
 use bdb_fields::{Field, write};
 use bdb_format::{BtreeMeta, HashMeta, Order, Steps};
 use bdb_graph::{Linked, Meta, link, open_image};
 use bdb_naming::has_rows;
+use bdb_opening::{has_sound_trees, is_keyed, is_recno};
 use std::alloc::Global;
 use std::marker::Brand;
 use std::sync::ledger::{Blank, Ledger};

@@ -1,7 +1,7 @@
 //! What a recno holds: its counts and lengths, its list, and records by their numbers. Values: docs/FORMAT.md, "Items",
 //! "Databases of a file" and "Stage 8".
 
-ghost use Rattle.std.specs.Prelude.{◌≡◌, [], IfSome, IsTrue};
+ghost use Rattle.std.specs.Prelude.{◌≡◌, [], IsTrue};
 ghost use Rattle.bdb_graph.specs.Linked.{HasMetadata};
 ghost use Rattle.bdb_format.specs.ContentRows.{database_faults};
 ghost use Rattle.bdb_format.specs.File.{file_of};
@@ -9,25 +9,18 @@ ghost use Rattle.bdb_format.specs.Page.{BtreeFields};
 ghost use Rattle.bdb_format.specs.Verdict.{structure_faults};
 ghost use Rattle.bdb_format.specs.Flags.{is_recno};
 
+use crate::told::{Told, told_by};
 use bdb_fields::{Field, write};
-use bdb_format::{BtreeMeta, CheckError, Fault, Order, Steps};
-use bdb_graph::{Linked, Meta, link, open_image};
-use bdb_overflow::{Datum, KeyView, check_chains};
+use bdb_format::{BtreeMeta, Order, Steps};
+use bdb_graph::{Linked, link, open_image};
+use bdb_opening::{btree_of, has_sound_trees, is_recno};
+use bdb_overflow::{Datum, KeyView};
 use bdb_recno::{check, find, scan};
-use bdb_tree::check_trees;
 use std::alloc::Global;
 use std::marker::Brand;
 use std::sync::ledger::{Blank, Ledger};
 
 const SIZE: usize = 8 * 512;
-
-#[derive(Clone, Copy, Debug, PartialEq, Eq)]
-pub enum Told {
-    Sound,
-    Fault { page: u32, code: u8 },
-    Memory,
-    Refused,
-}
 
 /// A recno whose records have one byte each: its records, and what is found under some numbers.
 #[derive(Clone, Copy)]
@@ -178,53 +171,17 @@ const CASES: [Case; 2] = [
     },
 ];
 
-/// Whether no row of stage 6 holds; not, where memory is wanting.
-#[tactic(auto, using(bdb_tree::proofs::StageLemmas::no_structure_fault))]
-fn has_sound_trees(alloc: Global, linked: &Linked<'_>) -> bool
-    ensures { IsTrue result → structure_faults (file_of linked.now) ≡ [] }
-{
-    check_chains(linked).is_ok() && check_trees(alloc, linked).is_ok()
-}
-
-/// The metadata of page 0, if it's that of a btree or a recno.
-fn meta_of(linked: &Linked<'_>) -> Option<BtreeMeta>
-    ensures { IfSome result (λ meta. HasMetadata (file_of linked.now) (BtreeFields meta)) }
-{
-    if linked.metas() == 0 {
-        return None;
-    }
-    match linked.meta(0) {
-        (_, Meta::Btree(meta)) => Some(meta),
-        _ => None,
-    }
-}
-
-/// Whether it's that of a recno.
-pub fn is_recno(meta: &BtreeMeta) -> bool
-    ensures { IsTrue result → IsTrue (is_recno meta.now) }
-{
-    meta.flags & 0x02 != 0
-}
-
-fn told_as(verdict: Result<(), CheckError>) -> Told {
-    match verdict {
-        Ok(()) => Told::Sound,
-        Err(CheckError::Memory) => Told::Memory,
-        Err(CheckError::Fault(Fault { page, code, .. })) => Told::Fault { page, code },
-    }
-}
-
 fn told_in<L: Ledger>(alloc: Global, image: &[u8], steps: &mut Steps<L>) -> Option<Told> {
     if image.len() > SIZE {
         return None;
     }
     let formed = open_image(alloc, image).ok()?;
     let linked = link(alloc, formed, steps).ok()?;
-    let meta = meta_of(&linked)?;
+    let meta = btree_of(&linked)?;
     if !has_sound_trees(alloc, &linked) || !is_recno(&meta) {
         return None;
     }
-    Some(told_as(check(alloc, &linked, &meta)))
+    Some(told_by(check(alloc, &linked, &meta)))
 }
 
 fn told_blank<L: Ledger>(alloc: Global, image: &[u8], blank: Blank) -> Option<Told>
@@ -329,7 +286,7 @@ fn holds_in<L: Ledger>(
     }
     let formed = open_image(alloc, image).ok()?;
     let linked = link(alloc, formed, steps).ok()?;
-    let meta = meta_of(&linked)?;
+    let meta = btree_of(&linked)?;
     if !has_sound_trees(alloc, &linked) || !is_recno(&meta) {
         return None;
     }
