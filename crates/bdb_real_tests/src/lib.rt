@@ -2,8 +2,6 @@
 #![tactic(auto)]
 
 #[cfg(test)]
-mod opened;
-#[cfg(test)]
 mod real_btree_lists;
 #[cfg(test)]
 mod real_btrees;
