@@ -3,7 +3,7 @@
 use crate::btree_separators::{SEPARATOR_IN_ANOTHER, SEPARATOR_IN_ONE};
 use crate::btrees::told_of;
 use crate::told::{Judged, Told};
-use bdb_fields::{Field, Sample};
+use bdb_fixtures::{Field, Sample};
 use std::alloc::Global;
 
 const DUPLICATES_IN_ONE: Judged = Judged {

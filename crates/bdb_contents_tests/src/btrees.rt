@@ -4,10 +4,9 @@ ghost use Rattle.std.specs.Prelude.{◌≡◌};
 
 use crate::told::{Told, told_by};
 use bdb_btree::{LeafPair, check, pairs};
-use bdb_fields::{Field, write};
+use bdb_fixtures::{Field, btree_of, has_sound_trees, is_keyed, write};
 use bdb_format::{Order, Steps};
 use bdb_graph::{Linked, link, open_image};
-use bdb_opening::{btree_of, has_sound_trees, is_keyed};
 use bdb_overflow::Datum;
 use std::alloc::Global;
 use std::marker::Brand;

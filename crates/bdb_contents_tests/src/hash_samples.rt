@@ -1,6 +1,6 @@
 //! Hash files with a fault of contents, which was told apart from this code.
 
-use bdb_fields::{Field, Sample};
+use bdb_fixtures::{Field, Sample};
 
 pub const DUPLICATES: Sample = Sample {
     size: 2048,

@@ -11,11 +11,10 @@ use crate::hash_samples::{
     DUPLICATES, DUPLICATES_TWICE, ELSEWHERE, ELSEWHERE_FIRST, KEY_TWICE, KEY_TWICE_LATER, UNSORTED,
     UNSORTED_FIRST, WRONG_SET,
 };
-use bdb_fields::{Field, Sample, write};
+use bdb_fixtures::{Field, Sample, has_sound_trees, write};
 use bdb_format::{CheckError, Fault, HashMeta, Order, Steps};
 use bdb_graph::{Linked, Meta, link, open_image};
 use bdb_hash::{Found, Scan, check, find, scan};
-use bdb_opening::has_sound_trees;
 use bdb_overflow::{Datum, KeyView, compare_datum};
 use std::alloc::Global;
 use std::cmp::Ordering;

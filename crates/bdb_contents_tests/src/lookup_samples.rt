@@ -2,7 +2,7 @@
 
 use crate::lookup_cases::Entry;
 use crate::lookups::has_list;
-use bdb_fields::{Field, Sample};
+use bdb_fixtures::{Field, Sample};
 use std::alloc::Global;
 
 /// A file with the list of its btree, and keys that aren't in it.

@@ -10,10 +10,9 @@ ghost use Rattle.bdb_format.specs.Flags.{is_recno};
 
 use crate::lookup_cases::{CASES, Case, Entry, Part};
 use bdb_btree::{Found, check, find, scan};
-use bdb_fields::write;
+use bdb_fixtures::{btree_of, has_sound_trees, is_keyed, write};
 use bdb_format::{BtreeMeta, Order, Steps};
 use bdb_graph::{Linked, link, open_image};
-use bdb_opening::{btree_of, has_sound_trees, is_keyed};
 use bdb_overflow::{Datum, KeyView, compare_datum};
 use std::alloc::Global;
 use std::cmp::Ordering;

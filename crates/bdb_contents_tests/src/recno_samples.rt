@@ -2,7 +2,7 @@
 
 use crate::recnos::told_of;
 use crate::told::{Judged, Told};
-use bdb_fields::{Field, Sample};
+use bdb_fixtures::{Field, Sample};
 use std::alloc::Global;
 
 const COUNT_IN_ONE: Judged = Judged {

@@ -10,10 +10,9 @@ ghost use Rattle.bdb_format.specs.Verdict.{structure_faults};
 ghost use Rattle.bdb_format.specs.Flags.{is_recno};
 
 use crate::told::{Told, told_by};
-use bdb_fields::{Field, write};
+use bdb_fixtures::{Field, btree_of, has_sound_trees, is_recno, write};
 use bdb_format::{BtreeMeta, Order, Steps};
 use bdb_graph::{Linked, link, open_image};
-use bdb_opening::{btree_of, has_sound_trees, is_recno};
 use bdb_overflow::{Datum, KeyView};
 use bdb_recno::{check, find, scan};
 use std::alloc::Global;

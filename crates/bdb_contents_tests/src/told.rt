@@ -1,6 +1,6 @@
 //! What the check of a database says, and samples beside it.
 
-use bdb_fields::Sample;
+use bdb_fixtures::Sample;
 use bdb_format::{CheckError, Fault};
 
 /// What the check of a database says; refused is a file on which it is not run.

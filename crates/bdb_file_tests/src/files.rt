@@ -3,8 +3,8 @@
 ghost use Rattle.std.specs.Prelude.{◌≡◌};
 
 use crate::judging::{SIZE, Told, verdict_told};
-use bdb_fields::{Field, write};
 use bdb_file::check_file;
+use bdb_fixtures::{Field, write};
 use bdb_format::{CheckError, Fault, Order, Steps, Unsupported};
 use bdb_graph::{link, open_image};
 use std::alloc::Global;

@@ -4,7 +4,7 @@ ghost use Rattle.std.specs.Prelude.{◌≡◌, ◌≤◌, ◌^◌, length};
 
 use crate::linking::{PAIR, TREE};
 use bdb_faults::{AllError, Named};
-use bdb_fields::{Field, write};
+use bdb_fixtures::{Field, write};
 use bdb_format::{Fault, Order, Steps, Unsupported};
 use bdb_graph::{link_all, open_all};
 use bdb_naming::is_list_of;

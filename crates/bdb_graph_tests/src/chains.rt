@@ -5,7 +5,7 @@ ghost use Rattle.bdb_graph.specs.Linked.{FitsChain};
 ghost use Rattle.bdb_format.specs.File.{file_of};
 
 use crate::fields::BTREE;
-use bdb_fields::{Field, write};
+use bdb_fixtures::{Field, write};
 use bdb_form::PageView;
 use bdb_format::{Fault, Order, Steps};
 use bdb_graph::{Linked, link, open_image};

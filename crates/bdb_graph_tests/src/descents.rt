@@ -10,7 +10,7 @@ ghost use Rattle.bdb_format.specs.Less.{less};
 ghost use Rattle.bdb_format.specs.References.{has_type};
 ghost use Rattle.bdb_tree.specs.Descent.{IsMonotone};
 
-use bdb_fields::{Field, write};
+use bdb_fixtures::{Field, write};
 use bdb_form::{InternalView, PageView};
 use bdb_format::{Order, Steps};
 use bdb_graph::{Linked, Meta, Ref, TreeRoot, link, open_image};

@@ -3,7 +3,7 @@
 ghost use Rattle.std.specs.Prelude.{◌≡◌};
 
 use crate::fields::BTREE;
-use bdb_fields::{Field, write};
+use bdb_fixtures::{Field, write};
 use bdb_format::{Order, Steps};
 use bdb_graph::{References, Sort, open_image, references};
 use std::alloc::Global;

@@ -2,7 +2,7 @@
 
 ghost use Rattle.std.specs.Prelude.{◌≡◌, ◌≤◌, ◌^◌, length};
 
-use bdb_fields::{Field, write};
+use bdb_fixtures::{Field, write};
 use bdb_format::{CheckError, Fault, Order, Steps};
 use bdb_graph::{link, open_image};
 use std::alloc::Global;

@@ -4,7 +4,7 @@ ghost use Rattle.std.specs.Prelude.{◌≡◌};
 
 use crate::linking::{CHAIN, TREE};
 use bdb_faults::NamedList;
-use bdb_fields::{Field, write};
+use bdb_fixtures::{Field, write};
 use bdb_format::{Order, Steps};
 use bdb_graph::{Linked, link, open_image};
 use bdb_naming::has_rows;

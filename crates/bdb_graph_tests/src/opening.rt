@@ -1,7 +1,7 @@
 //! The verdict of the first two stages. Values: docs/FORMAT.md, "Faults".
 
 use crate::fields::{BTREE, LEAF};
-use bdb_fields::{Field, write};
+use bdb_fixtures::{Field, write};
 use bdb_format::{Fault, Order, Unsupported, Verdict};
 use bdb_graph::open_image;
 use std::alloc::Global;

@@ -3,7 +3,7 @@
 ghost use Rattle.std.specs.Prelude.{◌≤◌};
 
 use crate::linking::{PAIR, TABLE, THIRD_BUCKET, Told, told_by};
-use bdb_fields::{Field, write};
+use bdb_fixtures::{Field, write};
 use bdb_format::Order;
 use std::alloc::{AllocError, Global};
 

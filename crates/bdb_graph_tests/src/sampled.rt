@@ -5,7 +5,7 @@ ghost use Rattle.std.specs.Prelude.{◌≡◌};
 use crate::structure_samples::{
     WRONG_LEAF, WRONG_LEAVES, WRONG_LENGTH, WRONG_LENGTH_AND_LINK, WRONG_LINK,
 };
-use bdb_fields::{Field, Sample};
+use bdb_fixtures::{Field, Sample};
 use bdb_format::{CheckError, Fault, Steps};
 use bdb_graph::{Linked, link, open_image};
 use bdb_overflow::check_chains;

@@ -2,7 +2,7 @@
 
 ghost use Rattle.std.specs.Prelude.{◌≡◌};
 
-use bdb_fields::{Field, write};
+use bdb_fixtures::{Field, write};
 use bdb_form::PageView;
 use bdb_format::{CheckError, Fault, Order, Steps};
 use bdb_graph::{Linked, link, open_image};

@@ -1,7 +1,7 @@
 //! Small files, little-endian, with pages of 512 bytes. Values: docs/FORMAT.md.
 
 use crate::images::File;
-use bdb_fields::Field;
+use bdb_fixtures::Field;
 
 // A btree with its root on page 1, the last page.
 pub const BTREE: [Field; 7] = [

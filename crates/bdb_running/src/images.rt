@@ -1,6 +1,6 @@
 //! Images that are written a field a line.
 
-use bdb_fields::{Field, write};
+use bdb_fixtures::{Field, write};
 use bdb_model::{Bytes, Order};
 use std::alloc::{AllocError, Global};
 

@@ -1,7 +1,7 @@
 //! Dump texts, after docs/FORMAT.md.
 
 use crate::images::File;
-use bdb_fields::Field;
+use bdb_fixtures::Field;
 
 // A text without lines.
 pub const NO_TEXT: File = File {

@@ -4,7 +4,7 @@ ghost use Rattle.std.specs.Prelude.{◌≡◌};
 
 use crate::images::CHAIN;
 use crate::told::{Case, is_given};
-use bdb_fields::{Field, write};
+use bdb_fixtures::{Field, write};
 use bdb_format::{Bytes, Order, Steps};
 use bdb_overflow::Datum;
 use bdb_salvage::{Guess, chain_of};

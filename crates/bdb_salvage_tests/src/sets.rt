@@ -2,7 +2,7 @@
 
 use crate::images::{ROOTED_SET, SET};
 use crate::told::{Case, is_given};
-use bdb_fields::Field;
+use bdb_fixtures::Field;
 
 const WHOLE: [Case; 4] = [
     Case {

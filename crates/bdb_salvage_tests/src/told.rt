@@ -2,7 +2,7 @@
 
 ghost use Rattle.std.specs.Prelude.{◌≡◌};
 
-use bdb_fields::{Field, write};
+use bdb_fixtures::{Field, write};
 use bdb_format::{Order, Steps};
 use bdb_overflow::Datum;
 use bdb_salvage::{Guess, SalvageError, Salvaged, salvage};

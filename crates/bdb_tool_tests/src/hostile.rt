@@ -1,7 +1,7 @@
 //! Files whose pages point where they shouldn't: at themselves, in rings, at pages of another kind, past their end. The rules: docs/FORMAT.md, "Faults".
 
 use crate::checking::check_rows;
-use bdb_fields::Field;
+use bdb_fixtures::Field;
 use bdb_running::files::{A_LEAF, BTREE, BUCKETS};
 use bdb_running::images::File;
 use bdb_running::running::Told::{Done, Line};

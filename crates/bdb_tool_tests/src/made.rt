@@ -1,7 +1,7 @@
 //! Files that were made apart from this repository, each a few pieces of bytes with zeros between them, and what `dump` writes of
 //! them. README.md says how they were made.
 
-use bdb_fields::Field;
+use bdb_fixtures::Field;
 use bdb_running::images::File;
 use bdb_running::running::Question;
 use bdb_running::running::Told::Done;

@@ -1,7 +1,7 @@
 //! `salvage`: the stored pairs and the loose records of sound and damaged files. The rules: README.md, "Use", and docs/FORMAT.md, "Salvage".
 
 use crate::checking::check_rows;
-use bdb_fields::Field;
+use bdb_fixtures::Field;
 use bdb_running::answers::{A_RECORD, NO_META, TWO_PAIRS};
 use bdb_running::files::{
     DELETED_PAIR, DUPLICATES, HEAD_ALONE, HEAD_CUT, LEAF_ALONE, NO_BYTES, NO_METADATA, ONE_PAIR,

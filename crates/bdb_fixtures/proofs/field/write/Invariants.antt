@@ -1,7 +1,7 @@
 use Rattle.std.proofs.Common.{◌≡◌, take}
 use Rattle.std.specs.List.{fold}
-use Rattle.bdb_fields.specs.Fields.{field_put}
-use Rattle.bdb_fields.proofs.field.write.Given as goal
+use Rattle.bdb_fixtures.specs.Fields.{field_put}
+use Rattle.bdb_fixtures.proofs.field.write.Given as goal
 
 -- The fields that were passed are written.
 abbrev pub invariant-loop-field : goal.invariant-loop-field

@@ -2,8 +2,8 @@
 use Rattle.std.specs.Prelude.{ℕ, nat_le, ◌+◌, if◌then◌else◌, List, [], ◌∷◌, length}
 use Rattle.bdb_format.specs.declared.kinds.Order.{Order}
 use Rattle.bdb_format.specs.Numbers.{overwritten, spelled}
-use Rattle.bdb_fields.specs.declared.field.Field.{Field}
-use Rattle.bdb_fields.specs.declared.field.Field.TheVariants.{Byte, Two, Four, Bytes}
+use Rattle.bdb_fixtures.specs.declared.field.Field.{Field}
+use Rattle.bdb_fixtures.specs.declared.field.Field.TheVariants.{Byte, Two, Four, Bytes}
 
 -- bytes after others were put over them from a place on; as they were, where those don't lie within them
 abbrev pub put_at : List ℕ → ℕ → List ℕ → List ℕ

@@ -1,6 +1,6 @@
 ghost use Rattle.std.specs.List.{fold};
 ghost use Rattle.std.specs.Prelude.{◌≡◌};
-ghost use Rattle.bdb_fields.specs.Fields.{field_put, put_at};
+ghost use Rattle.bdb_fixtures.specs.Fields.{field_put, put_at};
 ghost use Rattle.bdb_format.specs.Numbers.{spelled};
 
 use bdb_format::Order;

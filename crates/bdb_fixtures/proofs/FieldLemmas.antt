@@ -3,8 +3,8 @@ use Rattle.std.proofs.Common.{◌≡◌, ◌∙◌, ap, sym, arith, ◌+◌, ◌
 use Rattle.std.specs.List.{fold}
 use Rattle.std.proofs.lemmas.List.{append-nil, drop_all, take_all}
 use Rattle.std.proofs.lemmas.List.Sums.{fold_more}
-use Rattle.bdb_fields.specs.declared.field.Field.{Field}
-use Rattle.bdb_fields.specs.Fields.{field_put}
+use Rattle.bdb_fixtures.specs.declared.field.Field.{Field}
+use Rattle.bdb_fixtures.specs.Fields.{field_put}
 use Rattle.bdb_format.specs.declared.kinds.Order.{Order}
 use Rattle.bdb_format.specs.Numbers.{overwritten, spelled}
 use Rattle.bdb_format.proofs.SpellingLemmas.{length-spelled}

@@ -1,6 +1,6 @@
 ghost use Rattle.std.specs.Prelude.{◌≡◌, IfOk, replicate};
 ghost use Rattle.std.specs.List.{fold};
-ghost use Rattle.bdb_fields.specs.Fields.{field_put};
+ghost use Rattle.bdb_fixtures.specs.Fields.{field_put};
 ghost use Rattle.bdb_format.specs.declared.kinds.Order.TheVariants.{Little};
 
 use crate::field::{Field, write};
