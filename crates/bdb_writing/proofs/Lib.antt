@@ -1,4 +1,5 @@
 pub mod LoadLemmas
+pub mod NameLemmas
 pub mod PairLemmas
 pub mod RefusalLemmas
 pub mod TrialLemmas

@@ -3,7 +3,7 @@ ghost use Rattle.bdb_format.specs.FaultNames.{numbered_name};
 ghost use Rattle.bdb_writing.specs.Lines.{reason_names};
 
 /// The name of a reason of a text's line.
-#[tactic(auto, using(bdb_lines::proofs::NameLemmas::beyond_names))]
+#[tactic(auto, using(crate::proofs::NameLemmas::beyond_names))]
 pub(crate) fn reason_name(reason: u8) -> &'static str
     ensures { result.now ≡ numbered_name reason_names reason }
 {
