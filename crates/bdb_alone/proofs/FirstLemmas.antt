@@ -6,7 +6,7 @@ use Rattle.bdb_format.specs.declared.metadata.FileKind.{FileKind}
 use Rattle.bdb_format.specs.declared.metadata.Head.{Head}
 use Rattle.bdb_format.specs.HeadOf.{head_of}
 use Rattle.bdb_format.specs.Spelling.{common_bytes}
-use Rattle.bdb_graph.proofs.FormedLemmas.{size_bounds}
+use Rattle.bdb_format.proofs.SizeLemmas.{size_bounds}
 use Rattle.bdb_pack.specs.Built.{AreWhole, Built, joined_pages, with_page}
 use Rattle.bdb_pack.proofs.CutLemmas.{all_size, page_whole}
 use Rattle.bdb_join.specs.Written.{AreLegal}

@@ -8,7 +8,8 @@ use Rattle.std.specs.List.{All, flat_map}
 use Rattle.std.proofs.Math.Nat.{div-mul-le_self, lt-div-mul-add, mul-le-mul_left}
 use Rattle.std.proofs.lemmas.Bool.Decides.{nat_tests}
 use Rattle.std.proofs.lemmas.Nat.{le-div}
-use Rattle.std.proofs.lemmas.List.Elements.{All-cons, All-head, All-nil, All-tail}
+use Rattle.std.proofs.lemmas.List.Elements.{All-cons, All-head, All-nil, All-tail, All-weaker}
+use Rattle.std.proofs.Math.Bool.{and-false}
 use Rattle.bdb_format.specs.declared.kinds.Kind.TheVariants.{Btree, Hash, Queue}
 use Rattle.bdb_format.specs.declared.settings.Settings.{Settings}
 use Rattle.bdb_format.specs.Less.{less}
@@ -24,8 +25,8 @@ use Rattle.bdb_settle.specs.LoadErrors.{header_errors, is_among_names, is_queue,
 use Rattle.bdb_settle.specs.LoadErrors.{section_errors, where_so}
 use Rattle.bdb_settle.specs.declared.load_error.LoadError.TheVariants.{QueueAmongNames, RecordTooLong, RecordZero}
 use Rattle.bdb_settle.specs.Loaded.{filled, has_records, keeps_data, loaded, sorts_data, stands_before}
-use Rattle.bdb_settle.proofs.ErrorLemmas.{IsSound, all_map, sound_pairs, both_empty, each_empty, no_errors as none_hold, not_so}
-use Rattle.bdb_settle.proofs.ListLawLemmas.{load_into_lists, and_false, by_numbers, filled_length, positive as positive_of}
+use Rattle.bdb_settle.proofs.ErrorLemmas.{IsSound, sound_pairs, both_empty, each_empty, no_errors as none_hold, not_so}
+use Rattle.bdb_settle.proofs.ListLawLemmas.{load_into_lists, by_numbers, filled_length, positive as positive_of}
 use Rattle.bdb_settle.proofs.OrderedLemmas.{Ordered, OrderedFrom, fold_all, fold_ordered, follows}
 use Rattle.bdb_mkhash.specs.Table.{IsTableList}
 use Rattle.bdb_mkqueue.specs.Lists.{AscendFrom, HasLength, HasNext, IsListFor, next_number, number_in}
@@ -42,7 +43,7 @@ as_btree settings = record settings { kind = Btree }
 -- a key that is no record of number 0 has no error there
 btree_sound : (settings : Settings) (pair : TextPair) → IsSound settings pair → IsSound (as_btree settings) pair
 btree_sound settings pair sound = record {
-  short = ap (λ b. b && nat_lt settings.re_len (length pair.value)) (and_false settings.fixed);
+  short = ap (λ b. b && nat_lt settings.re_len (length pair.value)) (and-false settings.fixed);
   number = sound.number;
 }
 
@@ -64,12 +65,12 @@ no_errors section sound =
     let settings : Settings = as_btree section.settings in
     let none : flat_map (pair_errors settings) section.pairs ≡ [] =
     no_pair_errors settings section.pairs
-    (all_map (IsSound section.settings) (IsSound settings) (btree_sound section.settings) section.pairs sound) in
+    (All-weaker (IsSound section.settings) (IsSound settings) (btree_sound section.settings) section.pairs sound) in
     rw none refl
 
 btree_fits : (section : Section) → section.settings.kind ≡ Hash → IsFit section → IsFit (btree_section section)
 btree_fits section hash fit = record {
-  pairs = all_map (FitsFields section.settings.kind) (FitsFields Btree)
+  pairs = All-weaker (FitsFields section.settings.kind) (FitsFields Btree)
       (λ pair fits. record { key = subst (λ k. IsKeyOf k pair.key) hash fits.key; key_short = fits.key_short; short = fits.short })
       section.pairs fit.pairs;
   length = fit.length;
@@ -90,7 +91,7 @@ table_loads section sound hash fit =
 
 pub load_into_tables : LoadIntoTables
 load_into_tables sections none =
-    all_map (λ section. All (IsSound section.settings) section.pairs)
+    All-weaker (λ section. All (IsSound section.settings) section.pairs)
     (λ section. section.settings.kind ≡ Hash → IsFit section → IsTableList section.settings (loaded section.settings section.pairs))
     table_loads sections (sound_pairs sections none)
 
@@ -132,9 +133,9 @@ above_last : (settings : Settings) (a b : Key) (first then : List ℕ) → setti
 above_last settings (Bytes bytes) b first then queue has_a has_b after = absurd has_a
 above_last settings (Number m) (Bytes bytes) first then queue has_a has_b after = absurd has_b
 above_last settings (Number m) (Number n) first then queue has_a has_b after =
-    let sorts : sorts_data settings ≡ false = ap (λ k. settings.sorted && not (has_records k)) queue ∙ and_false settings.sorted in
+    let sorts : sorts_data settings ≡ false = ap (λ k. settings.sorted && not (has_records k)) queue ∙ and-false settings.sorted in
     let keeps : keeps_data settings ≡ false =
-    ap (λ k. settings.duplicates && not settings.sorted && not (has_records k)) queue ∙ and_false (settings.duplicates && not settings.sorted) in
+    ap (λ k. settings.duplicates && not settings.sorted && not (has_records k)) queue ∙ and-false (settings.duplicates && not settings.sorted) in
     let test : nat_lt m n ≡ true =
     by_numbers (nat_lt m n) (nat_lt n m) (sorts_data settings) (keeps_data settings) (less first then) (less then first) sorts keeps after in
     grind (arith, nat_tests)
@@ -173,7 +174,7 @@ records_load section sound queue fixed fit =
     }
   where
     all_pairs : (P Q : Pair → Type 0) → ((pair : Pair) → P pair → Q pair) → (pairs : List Pair) → All P pairs → All Q pairs
-    all_pairs P Q step pairs all = all_map P Q step pairs all
+    all_pairs P Q step pairs all = All-weaker P Q step pairs all
 
 queue_loads : (section : Section) → All (IsSound section.settings) section.pairs → section.settings.kind ≡ Queue → section.settings.fixed ≡ true
     → IsFit section → All TextHasNext section.pairs → IsListFor section.settings (loaded section.settings section.pairs)
@@ -189,7 +190,7 @@ queue_loads section sound queue fixed fit next =
 
 pub load_into_queues : LoadIntoQueues
 load_into_queues sections none =
-    all_map (λ section. All (IsSound section.settings) section.pairs)
+    All-weaker (λ section. All (IsSound section.settings) section.pairs)
     (λ section. section.settings.kind ≡ Queue → section.settings.fixed ≡ true → IsFit section → All TextHasNext section.pairs
     → IsListFor section.settings (loaded section.settings section.pairs))
     queue_loads sections (sound_pairs sections none)
@@ -215,7 +216,7 @@ sound_header alone section none =
 sound_headers : (sections : List Section) → load_error sections ≡ None → All (HasSoundHeader (length sections == 1)) sections
 sound_headers sections none =
     let alone = length sections == 1 in
-    all_map (λ section. section_errors alone section ≡ []) (HasSoundHeader alone)
+    All-weaker (λ section. section_errors alone section ≡ []) (HasSoundHeader alone)
     (λ section empty. sound_header alone section
     (both_empty (header_errors alone section) (flat_map (pair_errors section.settings) section.pairs) empty).0)
     sections (each_empty (section_errors alone) sections (none_hold (flat_map (section_errors alone) sections) none))

@@ -1,13 +1,13 @@
 -- The metadata of a table that was built, and the page that says it.
-use Rattle.std.proofs.Common.{◌≡◌, ℕ, zero, suc, ◌+◌, ◌-◌, ◌<◌, ◌≤◌, ◌^◌, ◌||◌, ◌&&◌, ◌%◌, Bool, true, false, cond, List, [], ◌∷◌, ◌++◌, length}
-use Rattle.std.proofs.Common.{None, Some, Option, get_or, replicate, append_assoc, pow-suc, arith, refl, sym, ◌∙◌, ap, length-append}
+use Rattle.std.proofs.Common.{◌≡◌, ℕ, zero, suc, ◌+◌, ◌-◌, ◌≤◌, ◌^◌, ◌||◌, ◌&&◌, ◌%◌, Bool, true, false, cond, List, [], ◌∷◌, ◌++◌, length}
+use Rattle.std.proofs.Common.{None, Some, get_or, replicate, append_assoc, pow-suc, arith, refl, sym, ◌∙◌, ap, length-append}
 use lib.Count.{ones_step}
 use Rattle.std.specs.Cmp.Derive.{both_true}
 use Rattle.std.specs.Int.{is_power_of_two}
 use Rattle.std.specs.Prelude.{count_ones, ◌*◌, ◌/◌, ◌==◌, not, nat_le, nat_lt}
 use Rattle.std.specs.List.{find, flat_map, range_with_len, sum_by}
 use Rattle.std.specs.Option.{unwrap_or}
-use Rattle.std.proofs.lemmas.Bool.{and_right, eq-eqb, le-leb, le-ltb, lt-ltb, ne_eqb, or_right}
+use Rattle.std.proofs.lemmas.Bool.{and_right, eq-eqb, le-leb, le-ltb, ne_eqb, or_right}
 use Rattle.std.proofs.lemmas.Nat.{ones_le_self, pow_pos}
 use Rattle.std.proofs.lemmas.List.{get_or_append_left, get_or-replicate, length-replicate}
 use Rattle.std.proofs.lemmas.List.FromFn.{length-map-range_with_len}
@@ -25,10 +25,9 @@ use Rattle.bdb_format.specs.Rows.{are_masks, body_code, form_code, identity_rows
 use Rattle.bdb_format.specs.Rows.{magic_of, metadata_rows, page_code, version_of}
 use Rattle.bdb_format.specs.Spelling.{common_bytes, last_field, table_bytes, zeros}
 use Rattle.bdb_format.specs.Table.{first_row}
-use Rattle.bdb_format.proofs.GroupLemmas.{least_passing}
 use Rattle.bdb_format.proofs.MemberLemmas.{none_pass, of_range}
 use Rattle.bdb_format.proofs.SpellingLemmas.{length-spelled, number_at-in}
-use Rattle.bdb_graph.proofs.CodeLemmas.{code_by, first_page_code, tree_metadata}
+use Rattle.bdb_graph.proofs.CodeLemmas.{first_page_code, tree_metadata}
 use Rattle.bdb_meta.proofs.CommonLemmas.{length-common}
 use Rattle.bdb_meta.proofs.SparesLemmas.{length-spares}
 use Rattle.bdb_join.proofs.CommonLemmas.{ReadsAs}

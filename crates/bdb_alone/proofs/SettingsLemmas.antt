@@ -121,17 +121,6 @@ pub settings_shown : (print : Bool) (name : Option (List ℕ)) (settings : Setti
     → header_lines print name (file_settings settings) ≡ header_lines print name settings
 settings_shown print name settings = shown settings.kind print name settings
 
-pub own_again : (k : Kind) (size : ℕ) (order : Order) (settings : Settings)
-    → (let own : Settings = own_settings k size order settings in own_settings own.kind own.page_size own.order own) ≡ own_settings k size order settings
-own_again Btree size order settings = refl
-own_again Recno size order settings = refl
-own_again Hash size order settings = refl
-own_again Queue size order settings = refl
-
--- the settings of a database's own file have nothing of other kinds
-pub own_twice : (settings : Settings) → file_settings settings ≡ file_settings (file_settings settings)
-own_twice settings = sym (own_again settings.kind settings.page_size settings.order settings)
-
 fit_own : (k : Kind) (size : ℕ) (order : Order) (settings : Settings) → (k ≡ Btree) ⊎ (k ≡ Recno) → is_page_size size ≡ true
     → (settings.sorted ≡ true → settings.duplicates ≡ true) → (settings.recnum ≡ true → settings.duplicates ≡ false)
     → IsTreeSettings (own_settings k size order settings)

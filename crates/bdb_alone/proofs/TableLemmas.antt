@@ -15,8 +15,8 @@ use Rattle.bdb_format.specs.Numbers.{four_at, has_bit}
 use Rattle.bdb_format.specs.Page.{HashFields}
 use Rattle.bdb_format.specs.Reading.{hash_fields}
 use Rattle.bdb_format.specs.Spelling.{table_bytes}
+use Rattle.bdb_format.proofs.SizeLemmas.{size_bounds}
 use Rattle.std.proofs.lemmas.List.FromFn.{length-map-range_with_len}
-use Rattle.bdb_graph.proofs.FormedLemmas.{size_bounds}
 use Rattle.bdb_model.specs.declared.list.Pair.{Pair}
 use Rattle.bdb_model.specs.Pairs.{listed}
 use Rattle.bdb_pack.specs.Built.{AreWhole, Built, bytes_of, joined_pages, with_zeros, written_over}

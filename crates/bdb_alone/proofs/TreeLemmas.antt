@@ -10,7 +10,7 @@ use Rattle.bdb_format.specs.HeadOf.{head_of, is_page_size}
 use Rattle.bdb_format.specs.Page.{BtreeFields}
 use Rattle.bdb_format.specs.Reading.{btree_fields, is_zero}
 use Rattle.bdb_format.specs.Spelling.{btree_bytes}
-use Rattle.bdb_graph.proofs.FormedLemmas.{size_bounds}
+use Rattle.bdb_format.proofs.SizeLemmas.{size_bounds}
 use Rattle.bdb_model.specs.declared.list.Pair.{Pair}
 use Rattle.bdb_model.specs.Pairs.{listed}
 use Rattle.bdb_pack.specs.Built.{AreWhole, Built, bytes_of, joined_pages, with_page, with_zeros, written_over}

@@ -14,11 +14,12 @@ use Rattle.bdb_format.specs.Page.{HashFields, Meta}
 use Rattle.bdb_format.specs.Reading.{abstract_page}
 use Rattle.bdb_format.specs.Rows.{form_code}
 use Rattle.bdb_format.specs.Spelling.{table_bytes, zeros}
+use Rattle.bdb_format.proofs.FileLemmas.{last_page, page_is}
+use Rattle.bdb_format.proofs.SizeLemmas.{size_bounds}
 use Rattle.std.specs.List.{flat_map}
 use Rattle.std.specs.Prelude.{◌*◌}
 use Rattle.bdb_graph.proofs.CodeLemmas.{tree_passed}
-use Rattle.bdb_graph.proofs.FormedLemmas.{size_bounds}
-use Rattle.bdb_graph.proofs.HeldLemmas.{last_page, page_is, table_page, tree_page}
+use Rattle.bdb_graph.proofs.HeldLemmas.{table_page, tree_page}
 use Rattle.bdb_grove.specs.Growing.{IsLater, IsSamePage}
 use Rattle.bdb_grove.specs.Part.{IsPart, Part, between}
 use Rattle.bdb_grove.proofs.ChainLemmas.{between_is, is_between}

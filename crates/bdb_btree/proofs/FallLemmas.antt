@@ -16,22 +16,20 @@ use Rattle.bdb_format.specs.Page.{Item, Listed, Page, Zero, Leaf, NoType, PageTy
 use Rattle.bdb_format.specs.Reading.{abstract_page, entries_of, is_zero, leaf_item_at, listed, page_as, page_type}
 use Rattle.bdb_format.specs.References.{no_item}
 use Rattle.bdb_format.proofs.PageLemmas.{index_offset, length_items}
-use Rattle.bdb_graph.proofs.HeldLemmas.{last_page, page_is}
-use Rattle.bdb_format.proofs.ReferenceLemmas.{pages_counted}
 use Rattle.bdb_format.proofs.LeafLemmas.{leaf_item_is, one_offset}
 use Rattle.std.proofs.lemmas.List.Elements.{Contains-append_left, Contains-get_or}
 use Rattle.bdb_format.specs.ContentRows.{is_out_of_order, neighbours, neighbours_from}
 use Rattle.bdb_format.specs.Less.{less}
-use Rattle.bdb_format.proofs.LessLemmas.{less_self}
+use Rattle.bdb_format.proofs.LessLemmas.{less_above, less_not_back, less_self}
 use Rattle.bdb_format.proofs.ListLemmas.{all_of, flat_map_twice}
 use Rattle.bdb_format.proofs.MemberLemmas.{first_member, in_map, later_member, member_cases, no_member}
+use Rattle.bdb_format.proofs.FileLemmas.{last_page, page_is, pages_counted}
 use Rattle.bdb_graph.specs.Linked.{IsForest}
 use Rattle.bdb_tree.proofs.TreeLemmas.{leaves_of_inner}
 use Rattle.bdb_btree.specs.Bounds.{DontFall, NoneBelow, OrderedIf}
 use Rattle.bdb_btree.specs.Rows.{next_pair, no_pairs_passed}
 use Rattle.bdb_btree.specs.Runs.{KeyOrder, next_key}
 use Rattle.bdb_btree.specs.declared.pair_rows.Passed.{Passed}
-use Rattle.bdb_btree.proofs.LessLemmas.{less_above, less_not_back}
 use Rattle.bdb_btree.proofs.OrderLemmas.{Shares, all_in_order, keys_alone}
 use Rattle.bdb_btree.proofs.PairLemmas.{PageShares, pages_share}
 use Rattle.bdb_form.proofs.FormedLemmas.{shared_after}

@@ -7,7 +7,6 @@ use Rattle.std.specs.Str.{bytes_eq}
 use Rattle.std.proofs.lemmas.Bool.{cases_Bool, cases_lt, eq-eqb, le-leb, not-false, or_parts}
 use Rattle.std.proofs.lemmas.Bool.Decides.{nat_tests}
 use Rattle.std.proofs.lemmas.List.Folds.{flat_map-map}
-use Rattle.bdb_overflow.proofs.KeyLemmas.{eq_same}
 use Rattle.std.proofs.lemmas.List.{get_or-drop, get_or-map, get_or-take, length-drop, length-map, length-take}
 use Rattle.std.proofs.lemmas.List.Elements.{Contains-get_or}
 use Rattle.std.proofs.lemmas.Option.{slice_get-get_or}
@@ -39,7 +38,6 @@ use Rattle.bdb_tree.proofs.WayLemmas.{chosen_among}
 use Rattle.bdb_btree.specs.Pairs.{AreFit, FitsPair, left_of}
 use Rattle.bdb_btree.specs.Search.{AreOpen, data_under, found_left, from_key, is_below, under}
 use Rattle.bdb_btree.proofs.InnerLemmas.{child_keyed}
-use Rattle.bdb_btree.proofs.LessLemmas.{less_trans}
 use Rattle.bdb_btree.proofs.PairLemmas.{pair_of_page}
 use Rattle.bdb_btree.proofs.WalkLemmas.{each_of}
 use Rattle.bdb_btree.proofs.RootLemmas.{root_keyed}
@@ -49,6 +47,7 @@ use Rattle.bdb_format.proofs.ListLemmas.{flat_map_twice}
 use Rattle.bdb_format.proofs.BoolLemmas.{second_false}
 use Rattle.bdb_format.proofs.TypeLemmas.{of_type, tree_keyed}
 use Rattle.bdb_format.proofs.PairLemmas.{get_append, keyed_rows}
+use Rattle.bdb_format.proofs.LessLemmas.{eq_same, less_trans}
 
 -- What a list has under a key.
 

@@ -3,7 +3,6 @@ pub mod CountLemmas
 pub mod FallLemmas
 pub mod FindLemmas
 pub mod InnerLemmas
-pub mod LessLemmas
 pub mod NotedLemmas
 pub mod OrderLemmas
 pub mod PairLemmas

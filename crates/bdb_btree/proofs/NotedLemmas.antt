@@ -1,37 +1,18 @@
 -- What is noted, one fault after another, and which faults these are.
-use Rattle.std.proofs.Common.{◌≡◌, ℕ, ◌+◌, ◌<◌, Bool, true, false, List, [], ◌∷◌, ◌++◌, length, get_or, take, refl, sym, ◌∙◌, ap, subst, arith}
-use Rattle.std.proofs.Common.{append-nil}
+use Rattle.std.proofs.Common.{◌≡◌, ℕ, Bool, true, false, List, [], ◌∷◌, ◌++◌, refl, sym, ◌∙◌, ap, subst, arith}
 use Rattle.std.specs.Prelude.{◌==◌, ◌&&◌, ◌||◌}
 use Rattle.std.specs.List.{Contains, flat_map, list_any}
 use Rattle.std.proofs.lemmas.Bool.{and_parts, eqb-true, eq-eqb}
 use Rattle.std.proofs.lemmas.Bool.Decides.{nat_tests}
-use Rattle.std.proofs.lemmas.Grind.{flat_map-append}
-use Rattle.std.proofs.lemmas.List.{take_more}
 use Rattle.std.proofs.lemmas.List.Folds.{list_any-append}
-use Rattle.bdb_faults.specs.Notes.{Notes}
 use Rattle.bdb_faults.specs.Rows.{contents_code, fault_if}
 use Rattle.bdb_faults.specs.declared.rows.ContentsRow.{ContentsRow}
 use Rattle.bdb_faults.specs.declared.rows.Row.TheVariants.{Contents}
 use Rattle.bdb_format.proofs.FaultLemmas.{same_parts}
 use Rattle.bdb_format.specs.declared.kinds.Fault.{Fault}
 use Rattle.bdb_format.proofs.ListLemmas.{any_member, passes_here}
-use Rattle.bdb_btree.specs.Noted.{faults_at}
-use Rattle.bdb_faults.proofs.SinkLemmas.{notes_then}
 
 -- Notes one after another.
-
--- one more page
-pub notes_page : (before mid after : List Fault → Type 0) (row : ContentsRow) (test : ℕ → Bool) (pages : List ℕ) (i : ℕ) (holds : Bool)
-    → i < length pages → holds ≡ test (get_or pages i 0) → Notes before mid (faults_at row test (take i pages)) → Notes mid after (fault_if (Contents row) (get_or pages i 0) holds)
-    → Notes before after (faults_at row test (take (i + 1) pages))
-notes_page before mid after row test pages i holds low is first second =
-    let p : ℕ = get_or pages i 0 in
-    let same : faults_at row test (take i pages) ++ fault_if (Contents row) p holds ≡ faults_at row test (take (i + 1) pages) =
-    ap (λ b. faults_at row test (take i pages) ++ fault_if (Contents row) p b) is
-    ∙ (ap (λ fs. faults_at row test (take i pages) ++ fs) (sym (append-nil (fault_if (Contents row) p (test p))))
-    ∙ (sym (flat_map-append (λ q. fault_if (Contents row) q (test q)) (take i pages) (p ∷ []))
-    ∙ ap (faults_at row test) (sym (take_more pages i 0 low)))) in
-    λ faults has. subst (λ more. after (faults ++ more)) same (notes_then before mid after _ _ first second faults has)
 
 -- Which faults there are, as a test.
 

@@ -20,10 +20,9 @@ use Rattle.bdb_format.specs.ContentRows.{Separated, breaks, no_separator}
 use Rattle.bdb_format.proofs.MemberLemmas.{first_member, in_map, in_range, member_cases, none_pass, none_passes, of_range}
 use Rattle.bdb_btree.specs.Bounds.{Bounds, DontFall, beyond, bounds_of, greater_of, is_below, no_bounds, past, under, under_pair}
 use Rattle.bdb_btree.specs.Runs.{is_not_above}
-use Rattle.bdb_btree.proofs.LessLemmas.{below_less, less_above, less_trans, same_unless_less}
 use Rattle.bdb_btree.proofs.WalkLemmas.{all_pairs}
 use Rattle.bdb_format.proofs.BoolLemmas.{second_false}
-use Rattle.bdb_format.proofs.LessLemmas.{less_self}
+use Rattle.bdb_format.proofs.LessLemmas.{below_less, less_above, less_self, less_trans, same_unless_less}
 
 -- Keys below an item.
 

@@ -5,8 +5,7 @@ use Rattle.std.specs.List.{filter, flat_map, range_with_len}
 use Rattle.std.proofs.lemmas.Bool.{and_parts, cases_eq, eq-eqb, ne_eqb}
 use Rattle.bdb_format.specs.ContentRows.{ascends, ascends_from}
 use Rattle.bdb_format.specs.Less.{Less, less}
-use Rattle.bdb_format.proofs.LessLemmas.{not_less_same}
-use Rattle.bdb_btree.proofs.LessLemmas.{less_not_back, less_trans}
+use Rattle.bdb_format.proofs.LessLemmas.{less_not_back, less_trans, not_less_same}
 use Rattle.bdb_buckets.specs.Tables.{Keyed, key_of}
 
 -- Keys above another, and keys that are apart.

@@ -1,4 +1,3 @@
-pub mod AscendLemmas
 pub mod OverLemmas
 pub mod PageLemmas
 pub mod DealLemmas

@@ -2,7 +2,7 @@
 use Rattle.std.proofs.Common.{◌≡◌, ℕ, ◌+◌, ◌<◌, ◌≤◌, Bool, true, false, cond, List, [], ◌∷◌, ◌++◌, length, arith, refl, sym, ◌∙◌, ap, subst, inl, inr}
 use Rattle.std.specs.Prelude.{◌==◌, ◌||◌}
 use Rattle.std.specs.List.{Contains, flat_map, list_any, range_with_len}
-use Rattle.std.proofs.lemmas.Bool.{cases_eq, cases_lt, eq-eqb, ne_eqb, or_cases}
+use Rattle.std.proofs.lemmas.Bool.{cases_eq, cases_lt, eq-eqb, ne_eqb, or_cases, or_left, or_right}
 use Rattle.std.proofs.lemmas.Grind.{flat_map-append}
 use Rattle.std.proofs.lemmas.List.{append-nil}
 use Rattle.std.proofs.lemmas.List.Elements.{All-append, All-nil}
@@ -13,14 +13,14 @@ use Rattle.bdb_format.specs.References.{refs}
 use Rattle.bdb_format.proofs.ListLemmas.{only_member, passes_here}
 use Rattle.bdb_format.proofs.MemberLemmas.{first_member, in_flat_map, in_map, in_range, member_cases, no_member, of_range}
 use Rattle.bdb_grove.specs.Growing.{IsCounted}
-use Rattle.bdb_grove.specs.Leaves.{Ascend, ContentFits, content_pages}
+use Rattle.bdb_grove.specs.Leaves.{Ascend, AscendIn, ContentFits, content_pages}
 use Rattle.bdb_grove.specs.Part.{IsBranch, between}
 use Rattle.bdb_grove.specs.Standing.{names}
 use Rattle.bdb_grove.proofs.BranchLemmas.{branch_is_known, branches_follow, no_branch, of_list, pages_stand_over_branch}
 use Rattle.bdb_grove.proofs.ChainLemmas.{between_is, is_between, same_test}
 use Rattle.bdb_grove.proofs.LeafLemmas.{ascend_once}
-use Rattle.bdb_buckets.specs.Tables.{AscendIn, BucketStands, ContentsStand, PlacedUnit, TableStands, UnitsStand, contents_of, contents_on}
-use Rattle.bdb_buckets.proofs.AscendLemmas.{ascend_bounds, ascend_follow, ascend_strictly, range_ascends}
+use Rattle.bdb_buckets.specs.Tables.{BucketStands, ContentsStand, PlacedUnit, TableStands, UnitsStand, contents_of, contents_on}
+use Rattle.bdb_grove.proofs.AscendLemmas.{ascend_bounds, ascend_follow, ascend_strictly, range_ascends}
 use Rattle.bdb_buckets.proofs.PageLemmas.{IsNextOf, IsRight, is_next_of, names_are, page_right}
 
 -- What keys name.
@@ -129,20 +129,13 @@ over_next g previous p beyond low high over =
     same q =
         same_test (between p beyond q) (between (p + 1) beyond q || list_any (λ r. q == r) (p ∷ []))
         (λ is. let within = between_is p beyond q is in elim (cases_eq q p) [
-          | inl at ↦ or_right (between (p + 1) beyond q) (passes_here (λ r. q == r) (p ∷ []) p (first_member p []) (eq-eqb q p at))
-          | inr other ↦ or_left (list_any (λ r. q == r) (p ∷ [])) (is_between (p + 1) beyond q (omega (arith, within.0, other)) within.1)
+          | inl at ↦ or_right (between (p + 1) beyond q) _ (passes_here (λ r. q == r) (p ∷ []) p (first_member p []) (eq-eqb q p at))
+          | inr other ↦ or_left _ (list_any (λ r. q == r) (p ∷ [])) (is_between (p + 1) beyond q (omega (arith, within.0, other)) within.1)
         ])
         (λ is. elim (or_cases (between (p + 1) beyond q) (list_any (λ r. q == r) (p ∷ [])) is) [
           | inl more ↦ let within = between_is (p + 1) beyond q more in is_between p beyond q (omega (arith, within.0)) within.1
           | inr at ↦ let e = only_member p q (of_list (p ∷ []) q at) in is_between p beyond q (omega (arith, e)) (omega (arith, e, last))
         ])
-      where
-        or_left : {a : Bool} (b : Bool) → a ≡ true → (a || b) ≡ true
-        or_left b is = ap (λ t. t || b) is
-
-        or_right : (a : Bool) {b : Bool} → b ≡ true → (a || b) ≡ true
-        or_right true is = refl
-        or_right false is = is
 
 pub bucket_over : (g : File) (sorted : Bool) (previous p first beyond : ℕ) (pages : List (List PlacedUnit)) → IsCounted g → 1 ≤ first
     → beyond ≤ g.last + 1
@@ -234,19 +227,12 @@ table_branch g p n beyond low high over up =
         no_between true is = let within = between_is (p + n) beyond q is in absurd (omega (arith, within.0, under))
         no_between false is = refl
 
-    or_left : {a : Bool} (b : Bool) → a ≡ true → (a || b) ≡ true
-    or_left b is = ap (λ t. t || b) is
-
-    or_right : (a : Bool) {b : Bool} → b ≡ true → (a || b) ≡ true
-    or_right true is = refl
-    or_right false is = is
-
     same : (q : ℕ) → between p beyond q ≡ (between (p + n) beyond q || list_any (λ r. q == r) ps)
     same q =
         same_test (between p beyond q) (between (p + n) beyond q || list_any (λ r. q == r) ps)
         (λ is. let within = between_is p beyond q is in elim (cases_lt q (p + n)) [
-          | inl under ↦ or_right (between (p + n) beyond q) (passes_here (λ r. q == r) ps q (in_range p n q within.0 under) (eq-eqb q q refl))
-          | inr over ↦ or_left (list_any (λ r. q == r) ps) (is_between (p + n) beyond q over within.1)
+          | inl under ↦ or_right (between (p + n) beyond q) _ (passes_here (λ r. q == r) ps q (in_range p n q within.0 under) (eq-eqb q q refl))
+          | inr over ↦ or_left _ (list_any (λ r. q == r) ps) (is_between (p + n) beyond q over within.1)
         ])
         (λ is. elim (or_cases (between (p + n) beyond q) (list_any (λ r. q == r) ps) is) [
           | inl more ↦ let within = between_is (p + n) beyond q more in is_between p beyond q (omega (arith, within.0)) within.1

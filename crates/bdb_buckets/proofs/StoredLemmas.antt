@@ -13,7 +13,7 @@ use Rattle.bdb_format.specs.Page.{Item}
 use Rattle.bdb_format.specs.References.{no_item}
 use Rattle.bdb_buckets.specs.Pages.{IsHashIn, hash_item}
 use Rattle.bdb_buckets.specs.Tables.{BucketStands, Keyed, PlacedUnit, TableStands, UnitsStand, contents_on, unit_of, units_on}
-use Rattle.bdb_buckets.proofs.AscendLemmas.{ascend_bounds}
+use Rattle.bdb_grove.proofs.AscendLemmas.{ascend_bounds}
 use Rattle.bdb_buckets.proofs.OverLemmas.{bucket_up, table_up, units_contents}
 
 -- a pair of a page is a key with its data
@@ -115,9 +115,6 @@ chain_end g turns p is = ap (λ n. p ∷ elim (n == 0) [ true ↦ [] | false ↦
 
 next_is : (g : File) (p previous next : ℕ) (units : List PlacedUnit) → IsHashIn g p previous next (contents_on units) → next_of g p ≡ next
 next_is g p previous next units is = ap (λ page. (header_in page).next) is.is ∙ is.next_is
-
-flat_one : {X : Type 0} (xs : List (List X)) (x : List X) → flat_map (λ y. y) (x ∷ xs) ≡ x ++ flat_map (λ y. y) xs
-flat_one xs x = refl
 
 -- the pages of a bucket, in so many turns, have its keys
 pub bucket_stored : (g : File) (sorted : Bool) (turns previous p first beyond : ℕ) (pages : List (List PlacedUnit)) → 1 ≤ first

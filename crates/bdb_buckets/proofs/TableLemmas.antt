@@ -30,7 +30,7 @@ use Rattle.bdb_grove.specs.Part.{IsBranch, between, entrance_asks, entrances}
 use Rattle.bdb_grove.proofs.GroveLemmas.{fits_asked}
 use Rattle.bdb_grove.proofs.LeafLemmas.{ascend_once}
 use Rattle.bdb_buckets.specs.Tables.{Keyed, PlacedUnit, SuitsTable, TableStands, TablesAreParts, bucket_among, dealt, listed_unit, table_meta, units_on}
-use Rattle.bdb_buckets.proofs.AscendLemmas.{range_ascends}
+use Rattle.bdb_grove.proofs.AscendLemmas.{range_ascends}
 use Rattle.bdb_buckets.proofs.DealLemmas.{deal, dealt_apart, dealt_back}
 use Rattle.bdb_buckets.proofs.ListLemmas.{all_stored, list_is, none_repeated, none_unsorted, stored_each}
 use Rattle.bdb_buckets.proofs.OverLemmas.{AreOver, table_branch, table_over}

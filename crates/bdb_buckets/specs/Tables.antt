@@ -12,7 +12,7 @@ use Rattle.bdb_format.specs.Hashing.{bucket, hash5}
 use Rattle.bdb_format.specs.Lists.{BytesKey, ListKey}
 use Rattle.bdb_format.specs.Page.{Content, HashFields}
 use Rattle.bdb_grove.specs.Growing.{IsCounted}
-use Rattle.bdb_grove.specs.Leaves.{ContentFits, content_pages}
+use Rattle.bdb_grove.specs.Leaves.{AscendIn, ContentFits, content_pages}
 use Rattle.bdb_grove.specs.Part.{IsBranch, IsPart, between}
 use Rattle.bdb_buckets.specs.Pages.{IsHashIn}
 
@@ -70,11 +70,6 @@ contents_of placed = placed.key_item ∷ placed.data_item ∷ []
 -- all items of some keys
 abbrev pub contents_on : List PlacedUnit → List Content
 contents_on units = flat_map contents_of units
-
--- numbers that ascend, from one number up to another
-abbrev pub AscendIn : ℕ → ℕ → List ℕ → Type 0
-AscendIn low beyond [] = low ≤ beyond
-AscendIn low beyond (x ∷ xs) = (low ≤ x) × AscendIn (x + 1) beyond xs
 
 -- in a file the pages from one number up to another are what contents name, in their order
 pub record ContentsStand (g : File) (first beyond : ℕ) (contents : List Content) : Type 0 where

@@ -1,7 +1,7 @@
 -- What leaves and hash pages weigh, those below metadata do.
 use Rattle.std.proofs.Common.{◌≡◌, ℕ, ◌+◌, ◌≤◌, Bool, true, false, cond, List, [], ◌∷◌, length, arith, refl, sym, ◌∙◌, ap, inl, inr}
 use Rattle.std.proofs.Common.{true≢false}
-use Rattle.std.specs.List.{Contains, range_with_len, sum_by}
+use Rattle.std.specs.List.{range_with_len, sum_by}
 use Rattle.std.proofs.lemmas.Bool.{cases_Bool, cases_lt}
 use Rattle.std.proofs.lemmas.List.{get_or_past}
 use Rattle.bdb_format.specs.declared.references.Sort.{Sort}
@@ -12,12 +12,12 @@ use Rattle.bdb_format.specs.Contents.{bucket_pages}
 use Rattle.bdb_format.specs.File.{File, file_of, page_at}
 use Rattle.bdb_format.specs.Graph.{Owner, all_references, is_spare}
 use Rattle.bdb_format.specs.Leaves.{is_root_reference, leaves, root_references}
-use Rattle.bdb_format.specs.Page.{Metadata, BtreeFields, HashFields, QueueFields, Page, Zero, Meta, NoType}
+use Rattle.bdb_format.specs.Page.{Metadata, BtreeFields, HashFields, QueueFields, Page, Zero, NoType}
 use Rattle.bdb_format.specs.References.{is_zero_page}
-use Rattle.bdb_format.proofs.ListLemmas.{only_member}
-use Rattle.bdb_format.proofs.MemberLemmas.{no_member, of_range}
-use Rattle.bdb_format.proofs.ReferenceLemmas.{pages_counted}
+use Rattle.bdb_format.proofs.MemberLemmas.{of_range}
+use Rattle.bdb_format.proofs.FileLemmas.{pages_counted}
 use Rattle.bdb_graph.specs.Linked.{HasMetadata}
+use Rattle.bdb_graph.proofs.ReadLemmas.{is_of_page}
 use Rattle.bdb_tree.proofs.TreeLemmas.{typed_inside}
 use Rattle.bdb_census.specs.Databases.{HashPagesAreOfTables, LeavesAreOfDatabases, buckets_below, leaves_below}
 use Rattle.bdb_census.specs.HashSums.{WeighsHash, is_bucket, is_hash_page}
@@ -29,10 +29,6 @@ use Rattle.bdb_census.proofs.TreeLemmas.{leaves_are_of_trees, sum_filter}
 
 -- Metadata.
 
-only_fields : (page : Page) (fields : Metadata) → Contains (fields_in page) fields → page ≡ Meta fields
-only_fields (Meta found) fields at = ap Meta (only_member found fields at)
-only_fields page fields at = absurd (no_member [] fields refl at)
-
 -- weights that are the same for the metadata of a file
 pub fields_same : (image : List ℕ) (f g : Metadata → ℕ) → ((fields : Metadata) → HasMetadata (file_of image) fields → f fields ≡ g fields)
     → sum_by f (fields_of (file_of image)) ≡ sum_by g (fields_of (file_of image))
@@ -41,7 +37,7 @@ fields_same image f g same =
     fields_by_page image f
     ∙ (sum_same (λ p. sum_by f (fields_in (page_at file p))) (λ p. sum_by g (fields_in (page_at file p))) (range_with_len 0 (file.last + 1)) (λ p at.
     sum_same f g (fields_in (page_at file p)) (λ fields here.
-    same fields (record { page = p; inside = omega (arith, of_range 0 (file.last + 1) p at); is = only_fields (page_at file p) fields here })))
+    same fields (record { page = p; inside = omega (arith, of_range 0 (file.last + 1) p at); is = is_of_page (page_at file p) fields here })))
     ∙ sym (fields_by_page image g))
 
 -- Leaves.

@@ -2,11 +2,10 @@
 use Rattle.std.proofs.Common.{◌≡◌, ◌⊎◌, ℕ, zero, suc, ◌+◌, ◌<◌, ◌≤◌, Bool, true, false, cond, List, [], ◌∷◌, length, arith, refl, sym}
 use Rattle.std.proofs.Common.{◌∙◌, ap, subst, inl, inr, true≢false}
 use Rattle.std.specs.Prelude.{◌==◌, ◌||◌, ◌&&◌, not, Option, Some, None}
-use Rattle.std.specs.List.{Contains, IsDistinct, AllByRecursion, enumerate_from, flat_map, list_any, range_with_len, sum_by}
-use Rattle.std.proofs.lemmas.Bool.{and_parts, cases_Bool, eqb-true, ne_eqb}
+use Rattle.std.specs.List.{Contains, enumerate_from, flat_map, range_with_len, sum_by}
+use Rattle.std.proofs.lemmas.Bool.{and_parts, cases_Bool, eqb-true}
 use Rattle.std.proofs.lemmas.List.Elements.{Contains-append_right}
 use Rattle.std.proofs.lemmas.List.Sums.{sum_by-cons}
-use Rattle.std.proofs.lemmas.Map.Steps.{length-le_from_distinct_below}
 use Rattle.bdb_format.specs.declared.metadata.FileKind.{FileKind}
 use Rattle.bdb_format.specs.declared.metadata.FileKind.TheVariants.{Btree, Hash as HashFile, Queue as QueueFile}
 use Rattle.bdb_format.specs.declared.references.Reference.{Reference}
@@ -25,22 +24,22 @@ use Rattle.bdb_format.specs.Page.{PageType, HashPage}
 use Rattle.bdb_format.specs.declared.kinds.Order.{Order}
 use Rattle.bdb_format.specs.Numbers.{byte_at}
 use Rattle.bdb_format.specs.Reading.{abstract_page, hash_item_at, is_zero, listed, page_as, page_type}
-use Rattle.bdb_graph.proofs.HeldLemmas.{page_is}
 use Rattle.bdb_format.specs.File.{page_bytes}
 use Rattle.bdb_format.specs.References.{Asked, asked_by, child_types, contents_in, content_targets, fit_code, fit_rows, has_type, is_zero_page}
 use Rattle.bdb_format.specs.References.{targets_in, targets_of, refs, root_types, unless_zero}
 use Rattle.bdb_format.proofs.GraphLemmas.{each_fits, each_page_has_one_role, is_owner, owner_fits, reserve_is}
 use Rattle.bdb_format.proofs.MemberLemmas.{first_member, in_map, member_cases, no_member, of_map}
 use Rattle.bdb_format.proofs.VerdictLemmas.{AllFail, none_is_first_row}
-use Rattle.bdb_graph.specs.Forest.{AllDistinct, IsWayDown, Names, NotIn}
+use Rattle.bdb_graph.specs.Forest.{AllDistinct, IsWayDown, Names}
 use Rattle.bdb_graph.specs.Linked.{IsForest}
 use Rattle.bdb_graph.proofs.ForestLemmas.{no_page_twice_below, sound_graph}
 use Rattle.bdb_graph.proofs.FirstLemmas.{formed_last}
-use Rattle.bdb_graph.proofs.HeldLemmas.{last_page}
+use Rattle.bdb_graph.proofs.ReachLemmas.{AllUpTo, few_distinct}
 use Rattle.bdb_tree.proofs.ShapeLemmas.{no_queue}
 use Rattle.bdb_format.proofs.TypeLemmas.{AllTypes, of_type}
 use Rattle.bdb_format.proofs.ListLemmas.{in_enumerated, only_member}
-use Rattle.bdb_format.proofs.ReferenceLemmas.{forest_names, of_all, count_is as counted}
+use Rattle.bdb_format.proofs.ReferenceLemmas.{forest_names, of_all}
+use Rattle.bdb_format.proofs.FileLemmas.{count_is as counted, last_page, page_is}
 use Rattle.bdb_graph.proofs.ChildLemmas.{is_queue_page}
 use Rattle.bdb_census.specs.Counting.{AreParts}
 use Rattle.bdb_census.specs.HashSums.{HashPagesAreOfBuckets, WeighsHash, is_bucket, is_hash_page}
@@ -169,10 +168,6 @@ next_is image p forest low is more =
 
 -- A row of hash pages ends.
 
-abbrev AllUpTo : ℕ → List ℕ → Type 0
-AllUpTo n [] = Unit {0}
-AllUpTo n (x ∷ xs) = (x ≤ n) × AllUpTo n xs
-
 abbrev pub AllHash : File → List ℕ → Type 0
 AllHash file [] = Unit {0}
 AllHash file (x ∷ xs) = (is_hash_page file x ≡ true) × AllHash file xs
@@ -239,26 +234,6 @@ row_of (suc t) image p forest low is =
             kinds = (next.kind, rest.kinds);
           }
     ]
-
-apart : (x : ℕ) (xs : List ℕ) → NotIn x xs → AllByRecursion (λ y. (x == y) ≡ false) xs
-apart x [] out = tt
-apart x (y ∷ ys) out = (ne_eqb x y out.0, apart x ys out.1)
-
-distinct : (xs : List ℕ) → AllDistinct xs → IsDistinct (λ x y. x == y) xs
-unfolding IsDistinct
-distinct [] all = tt
-distinct (x ∷ xs) all = (apart x xs all.0, distinct xs all.1)
-
-below : (n : ℕ) (xs : List ℕ) (q : ℕ) → AllUpTo n xs → list_any (λ x. q == x) xs ≡ true → q < n + 1
-below n [] q all one = absurd cc
-below n (x ∷ xs) q all one =
-    elim (cases_Bool (q == x)) [
-      | inl same ↦ omega (arith, all.0, eqb-true q x same)
-      | inr other ↦ below n xs q all.1 (rw other at one)
-    ]
-
-few_distinct : (n : ℕ) (xs : List ℕ) → AllDistinct xs → AllUpTo n xs → length xs ≤ n + 1
-few_distinct n xs all inside = length-le_from_distinct_below xs (n + 1) (distinct xs all) (λ q one. below n xs q inside one)
 
 -- a row has no more pages than there are
 row_few : (turns : ℕ) (image : List ℕ) (p : ℕ) → IsForest image → p ≤ (file_of image).last → is_hash_page (file_of image) p ≡ true

@@ -4,32 +4,30 @@ use Rattle.std.proofs.Common.{add-one, arith, refl, sym, ◌∙◌, ap, inl, inr
 use Rattle.std.specs.Prelude.{◌==◌, ◌&&◌, nat_lt, not, Option, Some, None}
 use Rattle.std.specs.List.{Contains, filter, flat_map, range_with_len, sum_by}
 use Rattle.std.specs.Option.{option_to_list}
-use Rattle.std.proofs.lemmas.Bool.{and_parts, cases_Bool, eq-eqb, eqb-false, lt-ltb, ltb-false, ltb-true, ne_eqb, not-false}
+use Rattle.std.proofs.lemmas.Bool.{and_from, and_parts, cases_Bool, eq-eqb, eqb-false, lt-ltb, ltb-false, ltb-true, ne_eqb, not-false}
 use Rattle.std.proofs.lemmas.List.Sums.{length-filter, sum_by-cons}
-use Rattle.bdb_format.specs.declared.metadata.BtreeMeta.{BtreeMeta}
 use Rattle.bdb_format.specs.declared.metadata.Head.{Head}
 use Rattle.bdb_format.specs.declared.metadata.FileKind.TheVariants.{Queue as QueueFile}
 use Rattle.bdb_format.specs.ContentRows.{fields_in, fields_of}
-use Rattle.bdb_format.specs.Contents.{StoredPair, pairs_in, pairs_of, tree_pairs}
+use Rattle.bdb_format.specs.Contents.{StoredPair}
 use Rattle.bdb_format.specs.Databases.{Database, database_on, databases, databases_under, named_database}
 use Rattle.bdb_format.specs.File.{File, file_of, page_at, page_bytes, type_in}
-use Rattle.bdb_format.specs.Flags.{names_databases}
 use Rattle.bdb_format.specs.Graph.{is_meta}
 use Rattle.bdb_format.specs.HeadOf.{head_of}
-use Rattle.bdb_format.specs.Leaves.{leaves}
 use Rattle.bdb_format.specs.Master.{is_named_kind, is_page, master_in, master_pairs, master_rows, misses_target, named_by, naming, pairs_under}
-use Rattle.bdb_format.specs.Page.{Metadata, BtreeFields, HashFields, QueueFields, Page, Meta, Hash, Leaf}
+use Rattle.bdb_format.specs.Page.{Metadata, BtreeFields, HashFields, QueueFields, Page, Meta}
 use Rattle.bdb_format.specs.Reading.{abstract_page}
 use Rattle.bdb_format.specs.References.{has_type}
 use Rattle.bdb_format.specs.Verdict.{faults_of, master_faults}
 use Rattle.bdb_format.proofs.BoolLemmas.{second_false}
 use Rattle.bdb_format.proofs.ListLemmas.{only_member}
-use Rattle.bdb_format.proofs.MemberLemmas.{none_passes, no_member, of_filter, of_flat_map, of_map, of_range}
+use Rattle.bdb_format.proofs.MemberLemmas.{none_passes, no_member, of_flat_map, of_range}
 use Rattle.bdb_format.proofs.VerdictLemmas.{AllFail, no_rows_at, no_stage, none_in}
-use Rattle.bdb_graph.specs.Linked.{HasMetadata, IsForest}
-use Rattle.bdb_graph.proofs.HeldLemmas.{page_is}
-use Rattle.bdb_graph.proofs.LinkedLemmas.{root_fits}
-use Rattle.bdb_tree.proofs.TreeLemmas.{leaf_low, root_is_tree, typed_inside}
+use Rattle.bdb_format.proofs.FileLemmas.{page_is}
+use Rattle.bdb_graph.specs.Linked.{IsForest}
+use Rattle.bdb_graph.proofs.ReadLemmas.{master_is}
+use Rattle.bdb_tree.proofs.PairLemmas.{master_pair_inside}
+use Rattle.bdb_tree.proofs.TreeLemmas.{typed_inside}
 use Rattle.bdb_census.specs.Counting.{times}
 use Rattle.bdb_census.specs.Databases.{IsSoundForest, MetadataAreDatabases, master_fields}
 use Rattle.bdb_census.proofs.CountLemmas.{by_page, sum_none, sum_parts, sum_same}
@@ -70,48 +68,6 @@ first_of_range : (f : ℕ → ℕ) (n : ℕ) → sum_by f (range_with_len 0 (n +
 first_of_range f n = ap (λ k. sum_by f (range_with_len 0 k)) (add-one n) ∙ sum_by-cons f 0 (range_with_len 1 n)
 
 -- The pairs of a master.
-
-pub master_is : (page : Page) (meta : BtreeMeta) → master_in page ≡ Some meta → page ≡ Meta (BtreeFields meta)
-master_is (Meta (BtreeFields found)) meta is =
-    elim (names_databases found) as (λ b. ◌≡◌ {A = Option BtreeMeta} (cond b (Some found) None) (Some meta)
-    → ◌≡◌ {A = Page} (Meta (BtreeFields found)) (Meta (BtreeFields meta))) [
-      | true ↦ λ same. cc
-      | false ↦ λ none. absurd cc
-    ] is
-master_is (Meta (HashFields found)) meta is = absurd cc
-master_is (Meta (QueueFields found)) meta is = absurd cc
-master_is page meta is = absurd cc
-
--- a pair of a page says so
-pair_page : (file : File) (p : ℕ) (page : Page) (pair : StoredPair) → Contains (pairs_in file p page) pair → pair.page ≡ p
-pair_page file p (Leaf page) pair at = let found = of_map _ _ pair at in ap (λ (pair : StoredPair). pair.page) (sym found.2)
-pair_page file p (Hash page) pair at = let found = of_map _ _ pair at in ap (λ (pair : StoredPair). pair.page) (sym found.2)
-pair_page file p page pair at = absurd (no_member [] pair refl at)
-
--- a pair of a tree stands on a page of the file
-pub tree_pair_inside : (image : List ℕ) (meta : BtreeMeta) (pair : StoredPair) → IsForest image → HasMetadata (file_of image) (BtreeFields meta)
-    → Contains (tree_pairs (file_of image) meta.root) pair → pair.page ≤ (file_of image).last
-unfolding tree_pairs pairs_of
-tree_pair_inside image meta pair forest has at =
-    let file : File = file_of image in
-    let found = of_flat_map (pairs_of file) (leaves file meta.root) pair at in
-    let low : found.0 ≤ file.last =
-    leaf_low image meta.root found.0 forest (root_is_tree image meta.root forest (inl (root_fits image (head_of image) meta forest.formed has)))
-    found.1 in
-    omega (arith, low, pair_page file found.0 (page_at file found.0) pair found.2)
-
-pub master_pair_inside : (image : List ℕ) (pair : StoredPair) → IsForest image → Contains (master_pairs (file_of image)) pair
-    → pair.page ≤ (file_of image).last
-unfolding master_pairs
-master_pair_inside image pair forest at =
-    let file : File = file_of image in
-    elim (master_in (page_at file 0)) as (λ master. master_in (page_at file 0) ≡ master → Contains (pairs_under file master) pair
-    → pair.page ≤ file.last) [
-      | None ↦ λ is none. absurd (no_member [] pair refl none)
-      | Some meta ↦ λ is some.
-          let held = of_filter (λ (pair : StoredPair). pair.live) (tree_pairs file meta.root) pair some in
-          tree_pair_inside image meta pair forest (record { page = 0; inside = omega arith; is = master_is (page_at file 0) meta is }) held.0
-    ] refl at
 
 -- no row of a master holds at a page
 rows_fail : (file : File) (p : ℕ) → master_faults file ≡ [] → p ≤ file.last → AllFail (master_rows file p)
@@ -195,16 +151,13 @@ named_inside image p forest none at =
 named_once : (file : File) (p : ℕ) → master_faults file ≡ [] → p ≤ file.last → 1 ≤ p → is_meta (page_at file p) ≡ true → length (naming file p) ≡ 1
 named_once file p none low above is =
     let fail = rows_fail file p none low in
-    let kind : is_named_kind file p ≡ true = both (nat_lt 0 p) (is_meta (page_at file p)) (lt-ltb 0 p above) is in
+    let kind : is_named_kind file p ≡ true = and_from (nat_lt 0 p) (is_meta (page_at file p)) (lt-ltb 0 p above) is in
     let some : (length (naming file p) == 0) ≡ false = second_false (is_named_kind file p) (length (naming file p) == 0) kind fail.0 in
     let few : nat_lt 1 (length (naming file p)) ≡ false =
     second_false (is_named_kind file p) (nat_lt 1 (length (naming file p))) kind fail.1.1.1.1.0 in
     let one_at_most : length (naming file p) ≤ 1 = ltb-false 1 (length (naming file p)) few in
     let not_none : length (naming file p) ≢ 0 = eqb-false (length (naming file p)) 0 some in
     omega arith
-  where
-    both : (a b : Bool) → a ≡ true → b ≡ true → (a && b) ≡ true
-    both a b p q = ap (λ x. x && b) p ∙ q
 
 -- where page 0 is no master, there's no other metadata
 no_others : (file : File) (weight : Metadata → ℕ) → master_in (page_at file 0) ≡ None → master_faults file ≡ []

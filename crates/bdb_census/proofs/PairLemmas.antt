@@ -27,8 +27,9 @@ use Rattle.bdb_format.specs.References.{has_type}
 use Rattle.bdb_format.proofs.MemberLemmas.{of_range}
 use Rattle.bdb_format.proofs.PageLemmas.{length_items}
 use Rattle.bdb_format.proofs.TypeLemmas.{of_type}
+use Rattle.bdb_format.proofs.FileLemmas.{last_page, page_is}
 use Rattle.bdb_graph.specs.Linked.{HasMetadata, IsForest}
-use Rattle.bdb_graph.proofs.HeldLemmas.{last_page, page_is}
+use Rattle.bdb_graph.proofs.ReadLemmas.{master_keys}
 use Rattle.bdb_census.specs.Databases.{IsSoundForest, PairsAreOfDatabases, all_lists, buckets_below, by_bytes, given_on, given_pair, leaves_below}
 use Rattle.bdb_census.specs.Databases.{master_fields, master_list, named_fields}
 use Rattle.bdb_census.specs.HashSums.{is_hash_page}
@@ -40,7 +41,7 @@ use Rattle.bdb_census.proofs.LeafLemmas.{no_pairs_in_recno, no_pairs_in_set}
 use Rattle.bdb_census.proofs.ListLemmas.{by_key_sum}
 use Rattle.bdb_census.proofs.MetaLemmas.{metadata_are_databases}
 use Rattle.bdb_census.proofs.NameLemmas.{sum_map}
-use Rattle.bdb_census.proofs.ReadLemmas.{master_keys, no_queue_meta}
+use Rattle.bdb_census.proofs.ReadLemmas.{no_queue_meta}
 
 -- Pages with pairs.
 

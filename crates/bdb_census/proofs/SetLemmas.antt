@@ -1,19 +1,15 @@
 -- A set off the page is named by the data item of a pair.
-use Rattle.std.proofs.Common.{◌≡◌, ℕ, ◌+◌, ◌*◌, sym, ◌∙◌, ap, inl, inr}
+use Rattle.std.proofs.Common.{◌≡◌, ◌+◌, ◌*◌, sym, ◌∙◌, ap, inl, inr}
 use Rattle.std.specs.Prelude.{get_or, Some}
 use Rattle.bdb_format.specs.declared.references.Sort.TheVariants.{DuplicateRoot, Root}
 use Rattle.bdb_format.specs.File.{File, file_of, page_at}
 use Rattle.bdb_format.specs.Leaves.{is_root_reference}
-use Rattle.bdb_format.specs.Page.{Content, Tree, Page}
+use Rattle.bdb_format.specs.Page.{Page}
 use Rattle.bdb_format.specs.References.{no_item}
 use Rattle.bdb_format.proofs.ReferenceLemmas.{of_all}
-use Rattle.bdb_tree.specs.Noted.{paired, set_root}
-use Rattle.bdb_tree.proofs.RootLemmas.{reference_root}
+use Rattle.bdb_tree.specs.Noted.{paired}
+use Rattle.bdb_tree.proofs.RootLemmas.{reference_root, tree_of}
 use Rattle.bdb_census.specs.Databases.{SetsAreOfPairs}
-
-tree_of : (content : Content) (root : ℕ) → set_root content ≡ Some root → content ≡ Tree root
-tree_of (Tree set) root same = cc
-tree_of content root same = absurd cc
 
 pub sets_are_of_pairs : SetsAreOfPairs
 sets_are_of_pairs image root forest is =

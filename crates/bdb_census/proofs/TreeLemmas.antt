@@ -25,7 +25,6 @@ use Rattle.bdb_format.specs.declared.kinds.Order.{Order}
 use Rattle.bdb_graph.proofs.ChildLemmas.{is_queue_page}
 use Rattle.bdb_graph.proofs.CodeLemmas.{first_page_code}
 use Rattle.bdb_graph.proofs.FirstLemmas.{formed_page}
-use Rattle.bdb_graph.proofs.HeldLemmas.{page_is}
 use Rattle.bdb_format.specs.Page.{BtreeFields, HashFields, QueueFields, Page, Zero, Free, Meta, Hash, Internal, RecnoInternal, Leaf, RecnoLeaf}
 use Rattle.bdb_format.specs.Page.{DupLeaf, Overflow, Queue, NoType}
 use Rattle.bdb_format.specs.References.{Asked, asked_by, fit_code, fit_rows, has_type, is_zero_page, targets_of, refs}
@@ -36,6 +35,7 @@ use Rattle.bdb_graph.specs.Linked.{IsForest}
 use Rattle.bdb_graph.proofs.ForestLemmas.{sound_graph}
 use Rattle.bdb_tree.specs.Trees.{IsRoot}
 use Rattle.bdb_format.proofs.TypeLemmas.{AllTypes, of_type}
+use Rattle.bdb_format.proofs.FileLemmas.{page_is}
 use Rattle.bdb_tree.proofs.ShapeLemmas.{IsFormedPage, formed_at, no_queue}
 use Rattle.bdb_tree.proofs.TreeLemmas.{child_is, leaves_of_inner, leaves_of_leaf, root_is_tree, tree_cases}
 use Rattle.bdb_census.specs.Counting.{AreParts, times}

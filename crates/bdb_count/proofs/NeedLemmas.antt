@@ -1,10 +1,8 @@
 -- The sections of a file, and its master.
-use Rattle.std.proofs.Common.{◌≡◌, ℕ, ◌+◌, ◌<◌, ◌≤◌, ◌^◌, Bool, true, cond, List, ◌++◌, [], ◌∷◌, length, map, get_or, take, Some, None, arith, refl, sym, ◌∙◌, ap, subst, inl}
+use Rattle.std.proofs.Common.{◌≡◌, ℕ, ◌+◌, ◌<◌, ◌^◌, Bool, true, cond, List, ◌++◌, [], ◌∷◌, length, map, Some, None, arith, refl, sym, ◌∙◌, ap, subst, inl}
 use Rattle.std.specs.Prelude.{is_some, slice_get}
 use Rattle.std.specs.List.{All, sum_by}
-use Rattle.std.proofs.lemmas.List.{take_all}
-use Rattle.std.proofs.lemmas.List.Elements.{All-cons, All-get_or, All-head, All-nil, All-tail}
-use Rattle.std.proofs.lemmas.List.Sums.{sum_by_more}
+use Rattle.std.proofs.lemmas.List.Elements.{All-cons, All-head, All-nil, All-tail}
 use Rattle.bdb_format.specs.declared.kinds.Kind.TheVariants.{Btree}
 use Rattle.bdb_format.specs.declared.settings.Settings.{Settings}
 use Rattle.bdb_model.specs.declared.list.Pair.{Pair}
@@ -17,7 +15,7 @@ use Rattle.bdb_settle.specs.ListLaw.{FitsFields}
 use Rattle.bdb_settle.specs.LoadErrors.{load_error}
 use Rattle.bdb_settle.specs.Loaded.{loaded, loaded_section, unnumbered}
 use Rattle.bdb_settle.proofs.ListLawLemmas.{load_into_lists}
-use Rattle.bdb_count.specs.Need.{AreSettled, IsSettled, master_pages, master_settings, name_in, name_pair, need_of, section_pages}
+use Rattle.bdb_count.specs.Need.{AreSettled, master_pages, master_settings, name_in, name_pair, need_of, section_pages}
 
 pub listed_again : (pairs : List Pair) → pairs_in (map unnumbered pairs) ≡ pairs
 listed_again [] = refl
@@ -74,23 +72,6 @@ master_counted size pages sections found pairs are is pages_are =
     ∙ ap (λ ps. tree_pages (master_settings size) (loaded (master_settings size) ps)) are))
 
 -- Sections one after the other.
-
-pub section_here : (size i : ℕ) (sections : List Section) (section : Section) → All (IsSettled size) sections → i < length sections
-    → section ≡ get_or sections i section → IsSettled size section
-section_here size i sections section all within is =
-    subst (IsSettled size) (sym is) (All-get_or (IsSettled size) sections i section within all)
-
-pub section_more : (size i pages more : ℕ) (sections : List Section) (section : Section) → i < length sections
-    → section ≡ get_or sections i section → pages ≡ sum_by (section_pages size) (take i sections) → 1 + more ≡ section_pages size section
-    → pages + (1 + more) ≡ sum_by (section_pages size) (take (i + 1) sections)
-section_more size i pages more sections section within is so_far more_is =
-    let step = sum_by_more (section_pages size) sections i section within in
-    let same = ap (section_pages size) is in
-    omega (arith, step, same, so_far, more_is)
-
-pub sections_end : (size i pages : ℕ) (sections : List Section) → length sections ≤ i → pages ≡ sum_by (section_pages size) (take i sections)
-    → pages ≡ sum_by (section_pages size) sections
-sections_end size i pages sections past is = is ∙ ap (sum_by (section_pages size)) (take_all i sections past)
 
 -- the first is the one that is found
 pub first_is : (sections : List Section) (settled : AreSettled sections) (found : Section) → Some found ≡ slice_get sections 0

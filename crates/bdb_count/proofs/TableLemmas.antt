@@ -4,7 +4,7 @@ use Rattle.std.specs.Prelude.{◌/◌, nat_le}
 use Rattle.std.specs.List.{All, range_with_len, sum_by}
 use Rattle.std.proofs.Math.ListN.{drop_of_length-le}
 use Rattle.std.proofs.lemmas.Bool.{cases_eq, eq-eqb, le-leb, lt-leb, ne_eqb}
-use Rattle.std.proofs.lemmas.List.{get_or-set_other, get_or-set_same, length-replicate, length-set}
+use Rattle.std.proofs.lemmas.List.{get_or-set_other, get_or-set_same, get_or_default, length-replicate, length-set}
 use Rattle.std.proofs.lemmas.List.Elements.{All-head, All-tail}
 use Rattle.std.proofs.lemmas.List.Sums.{sum_by-cons}
 use Rattle.bdb_model.specs.declared.list.Pair.{Pair}
@@ -221,15 +221,10 @@ keys_next size bits start pages pages_now n pairs run key left left_now was at p
       few = omega (arith, before, few, ahead);
     }
 
-same_default : (xs : List ℕ) (i d e : ℕ) → i < length xs → get_or xs i d ≡ get_or xs i e
-same_default [] i d e low = absurd (omega (arith, low))
-same_default (x ∷ xs) zero d e low = refl
-same_default (x ∷ xs) (suc i) d e low = same_default xs i d e (omega (arith, low))
-
 room_here : (size bits start pages b seen : ℕ) (pairs : List TextPair) (left : List ℕ) → KeysPlaced size bits pairs start pages left → b < 2 ^ bits
     → seen ≡ get_or left b seen → seen ≡ get_or left b 0
 room_here size bits start pages b seen pairs left was low is =
-    let many = was.placed.many in is ∙ same_default left b seen 0 (omega (arith, low, many))
+    let many = was.placed.many in is ∙ get_or_default left b seen 0 (omega (arith, low, many))
 
 -- on the open page of its bucket
 pub key_open : (size bits start pages pages_now n cost seen here b : ℕ) (pairs run : List TextPair) (key : List ℕ) (left left_now : List ℕ)

@@ -1,19 +1,16 @@
 -- What a key with its data takes of a page of a table, and the pages of its own.
-use Rattle.std.proofs.Common.{◌≡◌, ℕ, ◌+◌, ◌-◌, ◌<◌, ◌≤◌, Bool, true, false, cond, List, [], ◌∷◌, length, get_or, take, Option, Some, None, arith, refl, sym, ◌∙◌, ap}
-use Rattle.std.specs.Prelude.{◌/◌, ◌&&◌, is_some, nat_le}
-use Rattle.std.specs.List.{All, list_all, sum_by}
-use Rattle.std.proofs.lemmas.Bool.{le-leb}
-use Rattle.std.proofs.lemmas.List.{take_all}
+use Rattle.std.proofs.Common.{◌≡◌, ℕ, ◌+◌, ◌-◌, ◌<◌, ◌≤◌, Bool, true, false, cond, List, [], length, get_or, take, Option, Some, None, arith, refl, sym, ◌∙◌, ap}
+use Rattle.std.specs.Prelude.{◌/◌, is_some}
+use Rattle.std.specs.List.{list_all, sum_by}
 use Rattle.bdb_format.specs.HeadOf.{is_page_size}
-use Rattle.bdb_graph.proofs.FormedLemmas.{size_bounds}
+use Rattle.bdb_format.proofs.SizeLemmas.{size_bounds}
 use Rattle.bdb_model.specs.declared.pairs.TextPair.{TextPair}
-use Rattle.bdb_leaves.specs.Runs.{IsShort}
 use Rattle.bdb_leaves.specs.Spread.{leaves_and_levels, set_type}
 use Rattle.bdb_leaves.specs.Units.{chain_pages, page_room}
 use Rattle.bdb_mkhash.specs.Costs.{cost_in, data_cost, data_form, is_inline, item_cost, pages_in, set_cost, stand_together}
 use Rattle.bdb_mkhash.proofs.CostLemmas.{cost_more, data_few, form_more, inline_more, item_few, long_apart, much_apart}
 use Rattle.bdb_need.specs.Counting.{data_units, values_in}
-use Rattle.bdb_need.proofs.DataLemmas.{length-values, short_here, value_here}
+use Rattle.bdb_need.proofs.DataLemmas.{length-values, value_here}
 use Rattle.bdb_count.specs.Counts.{set_or_none}
 
 -- The data before a place stand in their items, and take so much, which is not too much.
@@ -63,59 +60,7 @@ set_much size pairs i cost pair value len was within is value_is long much =
     sym (ap (λ b. cond b (Some (set_cost (values_in pairs))) None)
     (much_apart size (cost + (4 + len)) (values_in pairs) (i + 1) (omega (arith, one, step, before)) much))
 
-pub set_end : (size : ℕ) (pairs : List TextPair) (i cost : ℕ) → SetSoFar size pairs i cost → length pairs ≤ i
-    → Some cost ≡ set_or_none size (values_in pairs)
-set_end size pairs i cost done past =
-    let long = length-values pairs in
-    let all : take i (values_in pairs) ≡ values_in pairs = take_all i (values_in pairs) (omega (arith, past, long)) in
-    let total : cost ≡ set_cost (values_in pairs) =
-    done.sum ∙ ap (λ (vs : List (List ℕ)). 3 + sum_by (λ value. 4 + length value) vs) all in
-    let inline : list_all (is_inline size) (values_in pairs) ≡ true =
-    ap (list_all (is_inline size)) (sym all) ∙ done.inline in
-    let few = done.few in
-    let together : stand_together size (values_in pairs) ≡ true =
-    ap (λ b. b && nat_le (set_cost (values_in pairs)) ((size - 26) / 4)) inline
-    ∙ le-leb (set_cost (values_in pairs)) ((size - 26) / 4) (omega (arith, few, total)) in
-    ap Some total ∙ sym (ap (λ b. cond b (Some (set_cost (values_in pairs))) None) together)
-
 -- What the data take, and the pages of their own.
-
-one_data : (size : ℕ) (values : List (List ℕ)) → length values ≡ 1 → data_cost size values ≡ item_cost size (get_or values 0 [])
-one_data size [] one = absurd (omega (arith, one))
-one_data size (value ∷ []) one = refl
-one_data size (value ∷ next ∷ values) one = absurd (omega (arith, one))
-
-one_chain : (size : ℕ) (sorted : Bool) (values : List (List ℕ)) → length values ≡ 1
-    → pages_in (data_form size values) size sorted values ≡ chain_pages size (get_or values 0 [])
-one_chain size sorted [] one = absurd (omega (arith, one))
-one_chain size sorted (value ∷ []) one = refl
-one_chain size sorted (value ∷ next ∷ values) one = absurd (omega (arith, one))
-
-pub one_cost : (size cost : ℕ) (pairs : List TextPair) (pair : TextPair) (value : List ℕ) → length pairs ≡ 1 → pair ≡ get_or pairs 0 pair
-    → value ≡ pair.value → cost ≡ item_cost size value → cost ≡ data_cost size (values_in pairs)
-one_cost size cost pairs pair value one is value_is cost_is =
-    let long = length-values pairs in
-    cost_is
-    ∙ (ap (item_cost size) (value_here pairs 0 pair value (omega (arith, one)) is value_is)
-    ∙ sym (one_data size (values_in pairs) (omega (arith, long, one))))
-
-pub one_short : (pairs : List TextPair) (pair : TextPair) (value : List ℕ) → length pairs ≡ 1 → pair ≡ get_or pairs 0 pair
-    → value ≡ pair.value → All IsShort (values_in pairs) → IsShort value
-one_short pairs pair value one is value_is short =
-    let first : 0 < length pairs = omega (arith, one) in
-    short_here pairs 0 value short first (value_here pairs 0 pair value first is value_is)
-
-pub one_pages : (size pages : ℕ) (sorted : Bool) (pairs : List TextPair) (pair : TextPair) (value : List ℕ) → length pairs ≡ 1
-    → pair ≡ get_or pairs 0 pair → value ≡ pair.value → pages ≡ chain_pages size value
-    → pages ≡ pages_in (data_form size (values_in pairs)) size sorted (values_in pairs)
-one_pages size pages sorted pairs pair value one is value_is pages_are =
-    let long = length-values pairs in
-    pages_are
-    ∙ (ap (chain_pages size) (value_here pairs 0 pair value (omega (arith, one)) is value_is)
-    ∙ sym (one_chain size sorted (values_in pairs) (omega (arith, long, one))))
-
-when_true : {A : Type 0} (x y : A) (b : Bool) → b ≡ true → cond b x y ≡ x
-when_true x y b is = ap (λ (t : Bool). cond t x y) is
 
 when_false : {A : Type 0} (x y : A) (b : Bool) → b ≡ false → cond b x y ≡ y
 when_false x y b is = ap (λ (t : Bool). cond t x y) is
@@ -143,28 +88,12 @@ not_one pairs many one = let long = length-values pairs in many (omega (arith, o
 not_none : (pairs : List TextPair) → 0 < length pairs → length (values_in pairs) ≡ 0 → ⊥
 not_none pairs some none = let long = length-values pairs in absurd (omega (arith, some, long, none))
 
-pub together_cost : (size cost : ℕ) (pairs : List TextPair) → 0 < length pairs → (length pairs ≡ 1 → ⊥)
-    → Some cost ≡ set_or_none size (values_in pairs) → cost ≡ data_cost size (values_in pairs)
-together_cost size cost pairs some many is =
-    let values : List (List ℕ) = values_in pairs in
-    let parts = together size cost values is in
-    parts.1
-    ∙ sym (ap (λ f. cost_in f size values)
-    (form_more size values (not_one pairs many) (not_none pairs some) ∙ when_true _ _ (stand_together size values) parts.0))
-
 pub apart_cost : (size : ℕ) (pairs : List TextPair) → 0 < length pairs → (length pairs ≡ 1 → ⊥)
     → None ≡ set_or_none size (values_in pairs) → 10 ≡ data_cost size (values_in pairs)
 apart_cost size pairs some many is =
     let values : List (List ℕ) = values_in pairs in
     sym (ap (λ f. cost_in f size values)
     (form_more size values (not_one pairs many) (not_none pairs some) ∙ when_false _ _ (stand_together size values) (apart size values is)))
-
-pub together_pages : (size cost : ℕ) (sorted : Bool) (pairs : List TextPair) → 0 < length pairs → (length pairs ≡ 1 → ⊥)
-    → Some cost ≡ set_or_none size (values_in pairs) → 0 ≡ pages_in (data_form size (values_in pairs)) size sorted (values_in pairs)
-together_pages size cost sorted pairs some many is =
-    let values : List (List ℕ) = values_in pairs in
-    sym (ap (λ f. pages_in f size sorted values)
-    (form_more size values (not_one pairs many) (not_none pairs some) ∙ when_true _ _ (stand_together size values) (together size cost values is).0))
 
 pub apart_pages : (size chains tree : ℕ) (sorted : Bool) (pairs : List TextPair) → 0 < length pairs → (length pairs ≡ 1 → ⊥)
     → None ≡ set_or_none size (values_in pairs) → chains ≡ sum_by (chain_pages size) (values_in pairs)

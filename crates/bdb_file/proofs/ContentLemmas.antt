@@ -11,17 +11,13 @@ use Rattle.bdb_format.specs.Table.{Row, ◌:?◌}
 use Rattle.bdb_format.specs.Verdict.{holding, contents_faults}
 use Rattle.bdb_format.specs.ContentRows.{fields_of, contents_rows, holds_code, holds_somewhere, btree_contents, database_faults, database_rows}
 use Rattle.bdb_format.specs.ContentRows.{recno_contents}
-use Rattle.bdb_format.proofs.MemberLemmas.{filter_step, first_member, later_member, no_member, of_flat_map, in_flat_map}
+use Rattle.bdb_format.proofs.MemberLemmas.{filter_step, first_member, no_member, of_flat_map, in_flat_map}
 use Rattle.bdb_format.proofs.VerdictLemmas.{IsOfStage, of_by_page}
 use Rattle.bdb_file.proofs.MergeLemmas.{at_page}
 use Rattle.bdb_format.specs.Flags.{is_recno}
-use Rattle.bdb_btree.proofs.CheckLemmas.{is_code as code_holding, of_code as holding_code}
+use Rattle.bdb_btree.proofs.CheckLemmas.{code_later, is_code as code_holding, of_code as holding_code}
 
 -- The codes of a table.
-
-code_later : (holds : Bool) (first code : ℕ) (codes : List ℕ) → Contains codes code → Contains (cond holds (first ∷ codes) codes) code
-code_later true first code codes at = later_member first codes code at
-code_later false first code codes at = at
 
 -- a table with a row for each number from one on
 numbered : ℕ → ℕ → (ℕ → Bool) → List (Row ℕ)

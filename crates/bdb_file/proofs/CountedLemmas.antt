@@ -18,10 +18,10 @@ use Rattle.bdb_format.specs.Verdict.{faults_of, master_faults}
 use Rattle.bdb_format.proofs.MemberLemmas.{first_member, in_filter, later_member, no_member, of_map}
 use Rattle.bdb_format.proofs.VerdictLemmas.{no_stage}
 use Rattle.bdb_graph.specs.Linked.{IsForest}
-use Rattle.bdb_graph.proofs.HeldLemmas.{last_page}
 use Rattle.bdb_file.specs.Entries.{NamedPair, entries_naming, fault_at, master_entries}
 use Rattle.bdb_file.specs.Named.{entry_database}
 use Rattle.bdb_format.proofs.ListLemmas.{any_member}
+use Rattle.bdb_format.proofs.FileLemmas.{last_page}
 use Rattle.bdb_file.proofs.MasterLemmas.{at_meta, count_five, in_naming, master_inside}
 use Rattle.bdb_file.proofs.NamedLemmas.{NamesMeta, all_named, entry_names, kind_inside, one_unnamed, with_name}
 

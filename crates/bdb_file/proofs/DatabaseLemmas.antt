@@ -8,14 +8,14 @@ use Rattle.bdb_format.specs.ContentRows.{database_faults, database_rows, fields_
 use Rattle.bdb_format.specs.File.{File, file_of, page_at, page_bytes}
 use Rattle.bdb_format.specs.Graph.{is_meta}
 use Rattle.bdb_format.specs.HeadOf.{head_of}
-use Rattle.bdb_format.specs.Page.{Metadata, QueueFields, Page, Meta}
+use Rattle.bdb_format.specs.Page.{Metadata, QueueFields, Meta}
 use Rattle.bdb_format.specs.Reading.{abstract_page}
 use Rattle.bdb_format.specs.Verdict.{holding, contents_faults}
-use Rattle.bdb_format.proofs.ListLemmas.{only_member}
 use Rattle.bdb_format.proofs.MemberLemmas.{in_flat_map, in_map, is_empty, no_member, of_filter, of_flat_map, of_map, of_range, in_filter}
 use Rattle.bdb_format.proofs.VerdictLemmas.{IsOfStage, of_by_page}
+use Rattle.bdb_format.proofs.FileLemmas.{page_is}
 use Rattle.bdb_graph.specs.Linked.{HasMetadata, meta_pages}
-use Rattle.bdb_graph.proofs.HeldLemmas.{page_is}
+use Rattle.bdb_graph.proofs.ReadLemmas.{is_of_page}
 use Rattle.bdb_faults.specs.Notes.{NotesAll}
 use Rattle.bdb_faults.proofs.SinkLemmas.{notes_none, notes_same}
 use Rattle.bdb_file.specs.Contents.{by_database, faults_on}
@@ -40,10 +40,6 @@ pub no_queue_noted : (has : List Fault → Type 0) (file : File) (meta : QueueMe
 no_queue_noted has file meta = subst (NotesAll has has) (sym (no_queue_fault file meta)) (notes_none has)
 
 -- The metadata of a file is on its metadata pages.
-
-pub is_of_page : (page : Page) (fields : Metadata) → Contains (fields_in page) fields → page ≡ Meta fields
-is_of_page (Meta other) fields at = ap (λ (f : Metadata). Meta f) (only_member other fields at)
-is_of_page page fields at = absurd (no_member [] fields refl at)
 
 of_fields : (image : List ℕ) (fields : Metadata) → Contains (fields_of (file_of image)) fields
     → (p : ℕ) × Contains (meta_pages (file_of image)) p × Contains (fields_in (page_at (file_of image) p)) fields

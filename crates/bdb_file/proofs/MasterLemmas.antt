@@ -9,28 +9,22 @@ use Rattle.std.specs.Str.{bytes_eq}
 use Rattle.std.proofs.lemmas.Bool.{and_from, and_parts, eq-eqb, eqb-true}
 use Rattle.std.proofs.lemmas.List.Elements.{Contains-append_cases, Contains-append_left, Contains-append_right}
 use Rattle.bdb_format.specs.declared.kinds.Fault.{Fault}
-use Rattle.bdb_format.specs.declared.metadata.BtreeMeta.{BtreeMeta}
 use Rattle.bdb_format.specs.ContentRows.{holds_code, repeated}
-use Rattle.bdb_format.specs.Contents.{StoredPair, tree_pairs}
+use Rattle.bdb_format.specs.Contents.{StoredPair}
 use Rattle.bdb_format.specs.File.{File, file_of, page_at}
 use Rattle.bdb_format.specs.Graph.{is_meta}
-use Rattle.bdb_format.specs.HeadOf.{head_of}
-use Rattle.bdb_format.specs.Page.{BtreeFields, Page, Meta}
 use Rattle.bdb_format.specs.Table.{Row, ◌:?◌}
 use Rattle.bdb_format.specs.Verdict.{holding, master_faults}
 use Rattle.bdb_format.proofs.MemberLemmas.{first_member, in_flat_map, in_map, in_range, no_member, of_filter, of_flat_map, of_map, of_range}
 use Rattle.bdb_format.proofs.MemberLemmas.{in_filter}
 use Rattle.bdb_format.proofs.VerdictLemmas.{IsOfStage, in_by_page, of_by_page}
 use Rattle.bdb_graph.specs.Linked.{IsForest, meta_pages}
-use Rattle.bdb_graph.proofs.LinkedLemmas.{root_fits}
-use Rattle.bdb_btree.proofs.PairLemmas.{tree_pair}
+use Rattle.bdb_tree.proofs.PairLemmas.{master_pair_inside}
 use Rattle.bdb_file.specs.Entries.{NamedPair, count_fault, entries_naming, entry_fault, fault_at, master_entries, named, naming_fault, repeat_fault}
 use Rattle.bdb_file.specs.Entries.{all_noted, by_naming, by_repeat, by_target, given, key_of, target_fault}
 use Rattle.bdb_overflow.specs.Keys.{repeated_by}
-use Rattle.bdb_format.specs.Master.{is_named_kind, is_none, is_page, master_in, master_pairs, master_rows, misses_target, named_by, naming}
-use Rattle.bdb_format.specs.Master.{pairs_under}
+use Rattle.bdb_format.specs.Master.{is_named_kind, is_none, is_page, master_pairs, master_rows, misses_target, named_by, naming}
 use Rattle.bdb_format.proofs.RepeatLemmas.{of_repeated, repeated_after, repeated_is}
-use Rattle.bdb_file.proofs.DatabaseLemmas.{has_metadata}
 use Rattle.bdb_faults.specs.Notes.{AreSame, NotesAll}
 use Rattle.bdb_faults.proofs.SinkLemmas.{notes_both, notes_same}
 use Rattle.bdb_btree.proofs.CheckLemmas.{is_code as code_holding, of_code as holding_code}
@@ -85,27 +79,11 @@ all_repeats_are file = repeats_are file [] (master_pairs file) ∙ ap (map (name
 
 -- The pairs of a master stand on pages of the file.
 
-pub master_is : (page : Page) (meta : BtreeMeta) → master_in page ≡ Some meta → page ≡ Meta (BtreeFields meta)
-master_is (Meta (BtreeFields other)) meta is = grind arith
-master_is page meta is = absurd cc
-
 abbrev pub AreInside : File → Type 0
 AreInside file = (pair : StoredPair) → Contains (master_pairs file) pair → pair.page ≤ file.last
 
-under_inside : (image : List ℕ) (found : Option BtreeMeta) → master_in (page_at (file_of image) 0) ≡ found → IsForest image → (pair : StoredPair)
-    → Contains (pairs_under (file_of image) found) pair → pair.page ≤ (file_of image).last
-under_inside image None is forest pair at = absurd (no_member [] pair refl at)
-under_inside image (Some meta) is forest pair at =
-    let one : Contains (tree_pairs (file_of image) meta.root) pair =
-    (of_filter (λ (other : StoredPair). other.live) (tree_pairs (file_of image) meta.root) pair at).0 in
-    let fits =
-    root_fits image (head_of image) meta forest.formed
-    (has_metadata (file_of image) 0 (BtreeFields meta) (omega arith) (master_is (page_at (file_of image) 0) meta is)) in
-    (tree_pair image meta.root pair forest (inl fits) one).inside
-
 pub master_inside : (image : List ℕ) → IsForest image → AreInside (file_of image)
-unfolding master_pairs
-master_inside image forest pair at = under_inside image (master_in (page_at (file_of image) 0)) refl forest pair at
+master_inside image forest pair at = master_pair_inside image pair forest at
 
 -- Rows that hold.
 

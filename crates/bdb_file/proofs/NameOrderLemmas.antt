@@ -1,53 +1,42 @@
 -- The names that a master gives ascend.
-use Rattle.std.proofs.Common.{◌≡◌, ℕ, ◌+◌, ◌<◌, ◌≤◌, Bool, true, false, cond, List, [], ◌∷◌, ◌++◌, length, map, Option, Some, None, arith, refl, sym}
-use Rattle.std.proofs.Common.{◌∙◌, ap, subst, inl, inr}
+use Rattle.std.proofs.Common.{◌≡◌, ℕ, ◌+◌, ◌≤◌, Bool, true, false, cond, List, [], ◌∷◌, ◌++◌, length, map, Option, Some, arith, refl, sym}
+use Rattle.std.proofs.Common.{◌∙◌, ap, subst, inl}
 use Rattle.std.specs.Prelude.{◌==◌, ◌&&◌, ◌^◌, nat_lt}
 use Rattle.std.specs.List.{Contains, filter, flat_map, list_any}
 use Rattle.std.specs.Str.{bytes_eq}
-use Rattle.std.proofs.lemmas.Bool.{and_from, and_parts, cases_eq, eq-eqb, or_parts}
+use Rattle.std.proofs.lemmas.Bool.{and_from, and_parts, eq-eqb, or_parts}
 use Rattle.std.proofs.lemmas.List.{map-append}
-use Rattle.bdb_format.specs.declared.kinds.Order.{Order}
 use Rattle.bdb_format.specs.declared.metadata.BtreeMeta.{BtreeMeta}
-use Rattle.bdb_format.specs.declared.metadata.FileKind.TheVariants.{Btree}
 use Rattle.bdb_format.specs.ContentRows.{ascends, ascends_from, btree_contents, database_faults, database_rows, fields_in, is_out_of_order}
 use Rattle.bdb_format.specs.ContentRows.{neighbours, repeated}
 use Rattle.bdb_format.specs.Contents.{StoredPair, tree_pairs}
 use Rattle.bdb_format.specs.Databases.{database_on, databases, databases_under, named_database}
-use Rattle.bdb_format.specs.File.{File, file_of, page_at, page_bytes}
+use Rattle.bdb_format.specs.File.{File, file_of, page_at}
 use Rattle.bdb_format.specs.Graph.{is_meta}
-use Rattle.bdb_format.specs.HeadOf.{head_of, is_page_size}
+use Rattle.bdb_format.specs.HeadOf.{head_of}
 use Rattle.bdb_format.specs.Less.{less}
-use Rattle.bdb_format.specs.Master.{master_in, master_pairs, named_by, pairs_under}
-use Rattle.bdb_format.specs.Numbers.{byte_at, four_at, has_bit}
+use Rattle.bdb_format.specs.Master.{master_pairs, named_by, pairs_under}
 use Rattle.bdb_format.specs.Page.{BtreeFields, Page, Meta}
-use Rattle.bdb_format.specs.Reading.{abstract_page, btree_fields}
-use Rattle.bdb_format.specs.Rows.{are_wrong_flags, metadata_rows}
 use Rattle.bdb_format.specs.Verdict.{faults_of, holding, master_faults}
 use Rattle.bdb_format.proofs.MemberLemmas.{first_member, in_map, is_empty, later_member, no_member, none_passes, of_filter}
-use Rattle.bdb_format.proofs.VerdictLemmas.{AllFail, all_fail, no_codes_at, no_stage, none_in, none_is_first_row}
+use Rattle.bdb_format.proofs.VerdictLemmas.{AllFail, all_fail, no_codes_at, no_stage, none_in}
 use Rattle.bdb_format.proofs.RepeatLemmas.{repeated_after, repeated_is}
-use Rattle.bdb_format.specs.Flags.{is_recno, names_databases}
-use Rattle.bdb_graph.specs.Formed.{IsAccepted}
+use Rattle.bdb_format.specs.Flags.{is_recno}
 use Rattle.bdb_graph.specs.Linked.{HasMetadata, IsForest}
-use Rattle.bdb_graph.specs.Metas.{meta_in}
-use Rattle.bdb_graph.proofs.FirstLemmas.{formed_accepted, formed_page}
-use Rattle.bdb_graph.proofs.FormedLemmas.{IsPaged, accepted_paged, page_length}
-use Rattle.bdb_graph.proofs.HeldLemmas.{page_is, table_page, tree_formed, tree_page}
 use Rattle.bdb_graph.proofs.LinkedLemmas.{root_fits}
-use Rattle.bdb_graph.proofs.MetaLemmas.{no_meta, queue_page}
+use Rattle.bdb_graph.proofs.ReadLemmas.{master_is, master_keys}
 use Rattle.bdb_btree.specs.Bounds.{DontFall, NoneBelow}
 use Rattle.bdb_btree.proofs.FallLemmas.{dont_fall, tree_keys}
-use Rattle.bdb_btree.proofs.LessLemmas.{same_unless_less}
 use Rattle.bdb_btree.proofs.PairLemmas.{tree_pair}
-use Rattle.bdb_overflow.proofs.KeyLemmas.{eq_self}
 use Rattle.bdb_file.specs.Entries.{fault_at, named}
 use Rattle.bdb_file.specs.Laws.{NamesAscend, name_bytes}
 use Rattle.bdb_file.proofs.DatabaseLemmas.{has_metadata}
-use Rattle.bdb_file.proofs.MasterLemmas.{AreInside, master_inside, master_is, repeat_here}
+use Rattle.bdb_file.proofs.MasterLemmas.{AreInside, master_inside, repeat_here}
 use Rattle.bdb_file.proofs.NamedLemmas.{NamesMeta, entry_names}
 use Rattle.bdb_file.proofs.SoundLemmas.{no_contents}
 use Rattle.bdb_format.proofs.BoolLemmas.{second_false}
 use Rattle.bdb_format.proofs.PairLemmas.{neighbour_in, keyed_rows}
+use Rattle.bdb_format.proofs.LessLemmas.{eq_self, same_unless_less}
 
 -- Lists of pairs whose keys don't fall.
 
@@ -89,52 +78,6 @@ forest_of image size sound = record {
   formed = record { size = size; head_is = refl; form = none_in image (1 ∷ 2 ∷ []) (no_stage image 1 sound, (no_stage image 2 sound, tt)) };
   linked = none_in image (3 ∷ 4 ∷ 5 ∷ []) (no_stage image 3 sound, (no_stage image 4 sound, (no_stage image 5 sound, tt)));
 }
-
--- A master isn't a recno.
-
--- metadata of a btree is read from a page of its type
-record IsTreeMeta (order : Order) (page : List ℕ) (meta : BtreeMeta) : Type 0 where
-  byte : byte_at page 25 ≡ 9
-  fields : btree_fields order page ≡ meta
-
-tree_meta : (order : Order) (page : List ℕ) (meta : BtreeMeta) → is_page_size (length page) ≡ true
-    → abstract_page order page ≡ Meta (BtreeFields meta) → IsTreeMeta order page meta
-tree_meta order page meta size is =
-    elim (cases_eq (byte_at page 25) 9) [
-      | inl tree ↦ record { byte = tree; fields = cc (tree_page order page size tree) }
-      | inr no_tree ↦ elim (cases_eq (byte_at page 25) 8) [
-        | inl table ↦ absurd (cc (table_page order page size table))
-        | inr no_table ↦ elim (cases_eq (byte_at page 25) 10) [
-          | inl queue ↦ absurd (cc (queue_page order page size queue))
-          | inr no_queue ↦ let none : Some (BtreeFields meta) ≡ None = sym (ap meta_in is) ∙ no_meta order page no_table no_tree no_queue in absurd cc
-        ]
-      ]
-    ]
-
-page_sized : (image : List ℕ) (p : ℕ) → IsForest image → p ≤ (head_of image).last → is_page_size (length (page_bytes (head_of image) image p)) ≡ true
-page_sized image p forest low =
-    let accepted : IsAccepted image (head_of image) = formed_accepted image (head_of image) forest.formed in
-    let paged : IsPaged image (head_of image) = accepted_paged image (head_of image) accepted in
-    let there : p < (head_of image).pages = omega (arith, paged.last) in
-    ap is_page_size (page_length image (head_of image) p accepted there) ∙ paged.legal
-
--- flags of a master go with no records
-no_recno : (flags : ℕ) → are_wrong_flags 0 flags ≡ false → has_bit flags 0x20 ≡ true → has_bit flags 0x02 ≡ false
-no_recno flags fit master = grind arith
-
-master_keys : (image : List ℕ) (meta : BtreeMeta) → IsForest image → page_at (file_of image) 0 ≡ Meta (BtreeFields meta) → names_databases meta ≡ true
-    → is_recno meta ≡ false
-unfolding metadata_rows
-master_keys image meta forest is master =
-    let order : Order = (head_of image).order in
-    let page : List ℕ = page_bytes (head_of image) image 0 in
-    let size : is_page_size (length page) ≡ true = page_sized image 0 forest (omega arith) in
-    let read : IsTreeMeta order page meta = tree_meta order page meta size (sym (page_is image 0 (omega arith)) ∙ is) in
-    let fail : AllFail (metadata_rows order page 0 0 Btree) =
-    none_is_first_row (metadata_rows order page 0 0 Btree)
-    (tree_formed (head_of image) 0 page size read.byte (formed_page image 0 forest.formed.form (omega arith))) in
-    let flags : four_at order page 48 ≡ meta.flags = ap (λ (m : BtreeMeta). m.flags) read.fields in
-    no_recno meta.flags (subst (λ n. are_wrong_flags 0 n ≡ false) flags fail.1.1.1.1.1.1.1.1.1.0) master
 
 -- The pairs of a master.
 
@@ -186,10 +129,6 @@ all_names file (pair ∷ pairs) each =
     ∙ (ap (λ names. names ++ map name_bytes (flat_map (named_database file) pairs)) (each pair (first_member pair pairs))
     ∙ ap (λ names. pair.key ∷ names) (all_names file pairs (λ other at. each other (later_member pair pairs other at))))
 
-flags_of_master : (page : Page) (meta : BtreeMeta) → master_in page ≡ Some meta → names_databases meta ≡ true
-flags_of_master (Meta (BtreeFields other)) meta is = grind arith
-flags_of_master page meta is = absurd cc
-
 pub names_ascend : NamesAscend
 unfolding databases master_pairs
 names_ascend image meta size sound is =
@@ -199,7 +138,7 @@ names_ascend image meta size sound is =
     let inside : AreInside file = master_inside image forest in
     let page : page_at file 0 ≡ Meta (BtreeFields meta) = master_is (page_at file 0) meta is in
     let has : HasMetadata file (BtreeFields meta) = has_metadata file 0 (BtreeFields meta) (omega arith) page in
-    let keys : is_recno meta ≡ false = master_keys image meta forest page (flags_of_master (page_at file 0) meta is) in
+    let keys : is_recno meta ≡ false = master_keys image meta forest is in
     let pairs : List StoredPair = tree_pairs file meta.root in
     let fall : DontFall pairs =
     dont_fall pairs (tree_keys image meta.root []) (keys_kept image meta forest has keys (no_contents image (BtreeFields meta) sound has)) in

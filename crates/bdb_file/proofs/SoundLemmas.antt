@@ -1,5 +1,5 @@
 -- A database of a sound file has metadata that keeps every rule.
-use Rattle.std.proofs.Common.{◌≡◌, ℕ, ◌<◌, ◌≤◌, List, [], length, Option, Some, None, arith, refl, sym, ◌∙◌, ap, subst, inl, inr}
+use Rattle.std.proofs.Common.{◌≡◌, ℕ, ◌<◌, ◌≤◌, List, [], length, Option, Some, None, refl, sym, ◌∙◌, ap, subst, inl, inr}
 use Rattle.std.specs.List.{Contains}
 use Rattle.std.proofs.lemmas.Bool.{cases_lt}
 use Rattle.std.proofs.lemmas.List.{get_or_default}
@@ -9,20 +9,19 @@ use Rattle.bdb_format.specs.ContentRows.{database_faults, fields_in, fields_of}
 use Rattle.bdb_format.specs.Databases.{Database, database_on, databases, databases_under, named_database}
 use Rattle.bdb_format.specs.File.{File, file_of, page_at}
 use Rattle.bdb_format.specs.Graph.{is_meta}
-use Rattle.bdb_format.specs.HeadOf.{head_of}
 use Rattle.bdb_format.specs.Master.{master_in, master_pairs, named_by}
 use Rattle.bdb_format.specs.Page.{Metadata, NoType, Meta}
 use Rattle.bdb_format.specs.Verdict.{contents_faults, faults_of, structure_faults}
 use Rattle.bdb_format.proofs.MemberLemmas.{first_member, in_flat_map, is_empty, no_member, of_flat_map, of_map}
 use Rattle.bdb_format.proofs.VerdictLemmas.{no_stage}
+use Rattle.bdb_format.proofs.FileLemmas.{past_last}
 use Rattle.bdb_graph.specs.Linked.{HasMetadata}
-use Rattle.bdb_graph.proofs.HeldLemmas.{last_page}
+use Rattle.bdb_graph.proofs.ReadLemmas.{is_of_page}
 use Rattle.bdb_file.specs.Named.{database_at, no_database}
 use Rattle.bdb_file.proofs.ContentLemmas.{in_contents}
-use Rattle.bdb_file.proofs.DatabaseLemmas.{in_fields, is_of_page}
+use Rattle.bdb_file.proofs.DatabaseLemmas.{in_fields}
 use Rattle.bdb_file.proofs.MasterLemmas.{at_meta}
 use Rattle.bdb_file.proofs.NamedLemmas.{with_name}
-use Rattle.bdb_file.proofs.TargetLemmas.{past_last}
 
 -- Where a database has its metadata.
 
@@ -48,9 +47,9 @@ on_some_page file database at = under_master file (master_in (page_at file 0)) d
 
 page_there : (image : List ℕ) (p : ℕ) (fields : Metadata) → page_at (file_of image) p ≡ Meta fields → p ≤ (file_of image).last
 page_there image p fields is =
-    elim (cases_lt (head_of image).last p) [
+    elim (cases_lt (file_of image).last p) [
       | inl past ↦ let none : page_at (file_of image) p ≡ NoType = past_last image p past in absurd cc
-      | inr low ↦ omega (arith, last_page image)
+      | inr low ↦ low
     ]
 
 at_place : (image : List ℕ) (i : ℕ) → i < length (databases (file_of image)) → HasMetadata (file_of image) (database_at (file_of image) i).fields

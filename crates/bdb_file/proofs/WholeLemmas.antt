@@ -4,7 +4,7 @@ use Rattle.std.specs.Prelude.{◌==◌}
 use Rattle.bdb_format.specs.declared.kinds.Fault.{Fault}
 use Rattle.bdb_format.specs.File.{file_of}
 use Rattle.bdb_format.specs.Verdict.{contents_faults, faults_in, master_faults, or_else, structure_faults}
-use Rattle.bdb_format.proofs.VerdictLemmas.{none_within, skip_stage}
+use Rattle.bdb_format.proofs.VerdictLemmas.{none_within, or_else_nothing, skip_stage}
 use Rattle.bdb_faults.specs.Notes.{NotesAll}
 use Rattle.bdb_faults.proofs.SinkLemmas.{notes_both}
 use Rattle.bdb_file.proofs.NotingLemmas.{none_noted, some_noted}
@@ -22,10 +22,6 @@ no_master_fault image none = none_within 6 3 image 7 none (omega arith) (omega a
 or_else_some : (faults others : List Fault) → (faults ≡ [] → ⊥) → or_else faults (λ _. others) ≡ faults
 or_else_some [] others some = absurd (some refl)
 or_else_some (fault ∷ faults) others some = refl
-
-or_else_nothing : (faults : List Fault) → or_else faults (λ _. []) ≡ faults
-or_else_nothing [] = refl
-or_else_nothing (fault ∷ faults) = refl
 
 -- the faults of stage 6, where it has any
 structure_stops : (image : List ℕ) → (structure_faults (file_of image) ≡ [] → ⊥) → faults_in (6 ∷ 7 ∷ 8 ∷ []) image ≡ structure_faults (file_of image)

@@ -58,7 +58,7 @@ fn count_fault(page: u32, count: u8) -> Option<Fault>
 }
 
 /// Notes the metadata pages that a master names not at all or twice. An error is want of memory.
-#[tactic(auto, using(bdb_graph::proofs::HeldLemmas::last_page))]
+#[tactic(auto, using(bdb_format::proofs::FileLemmas::last_page))]
 pub(crate) fn note_naming<F: FaultSink>(
     alloc: Global,
     linked: &Linked<'_>,

@@ -21,7 +21,7 @@ fn is_meta(view: &PageView<'_>) -> bool
 }
 
 /// Whether this page is a metadata page above page 0.
-#[tactic(auto, using(crate::proofs::TargetLemmas::not_there, bdb_graph::proofs::HeldLemmas::last_page))]
+#[tactic(auto, using(crate::proofs::TargetLemmas::not_there, bdb_format::proofs::FileLemmas::last_page))]
 fn is_named_kind(linked: &Linked<'_>, page: u32) -> bool
     ensures { result ≡ is_named_kind (file_of linked.now) page }
 {

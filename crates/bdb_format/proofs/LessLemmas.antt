@@ -1,7 +1,10 @@
--- The order of keys is strict.
+-- The order of keys is strict and total, and a test tells equal keys.
+use Rattle.std.proofs.lemmas.Bool.{false_from_ne_true}
 use Rattle.std.proofs.lemmas.Bool.Decides.{nat_tests}
+use Rattle.std.proofs.lemmas.Slice.Eq.{bytes_eq-Decides}
 use Rattle.std.proofs.Common.{◌≡◌, ℕ, List, [], ◌∷◌, refl, arith, le-ltb, eq-eqb}
-use Rattle.std.specs.Prelude.{false}
+use Rattle.std.specs.Prelude.{false, true}
+use Rattle.std.specs.Str.{bytes_eq}
 use Rattle.bdb_format.specs.Less.{less, Less}
 
 pub less_self : (xs : List ℕ) → less xs xs ≡ false
@@ -15,3 +18,34 @@ pub not_less_both : (xs ys : List ℕ) → Less xs ys → Less ys xs → ⊥
 not_less_both xs [] p q = absurd cc
 not_less_both [] (y ∷ ys) p q = absurd cc
 not_less_both (x ∷ xs) (y ∷ ys) p q = grind (arith, nat_tests, not_less_both xs ys)
+
+pub less_trans : (xs ys zs : List ℕ) → Less xs ys → Less ys zs → Less xs zs
+less_trans xs ys [] p q = absurd cc
+less_trans xs [] (z ∷ zs) p q = absurd cc
+less_trans [] (y ∷ ys) (z ∷ zs) p q = refl
+less_trans (x ∷ xs) (y ∷ ys) (z ∷ zs) p q = grind (arith, nat_tests, less_trans xs ys zs)
+
+-- of two lists of which neither is less, both are the same
+pub same_unless_less : (xs ys : List ℕ) → less xs ys ≡ false → less ys xs ≡ false → xs ≡ ys
+same_unless_less [] [] p q = refl
+same_unless_less [] (y ∷ ys) p q = absurd cc
+same_unless_less (x ∷ xs) [] p q = absurd cc
+same_unless_less (x ∷ xs) (y ∷ ys) p q = grind (arith, nat_tests, same_unless_less xs ys)
+
+-- the lesser of what isn't less is less
+pub below_less : (xs ys zs : List ℕ) → less ys xs ≡ false → Less ys zs → Less xs zs
+below_less xs ys zs above lt = grind (arith, less_trans xs ys zs, same_unless_less xs ys)
+
+pub less_not_back : (xs ys : List ℕ) → Less xs ys → less ys xs ≡ false
+less_not_back xs ys lt = false_from_ne_true (less ys xs) (λ back. not_less_both xs ys lt back)
+
+-- what is less than a list is less than one that isn't less than that
+pub less_above : (xs ys zs : List ℕ) → Less xs ys → less zs ys ≡ false → Less xs zs
+less_above xs ys zs lt above = grind (arith, less_trans xs ys zs, same_unless_less ys zs)
+
+-- equal bytes
+pub eq_self : (a : List ℕ) → bytes_eq a a ≡ true
+eq_self a = (bytes_eq-Decides a a).1 refl
+
+pub eq_same : (a b : List ℕ) → bytes_eq a b ≡ true → a ≡ b
+eq_same a b is = (bytes_eq-Decides a b).0 is

@@ -2,6 +2,7 @@ pub mod BoolLemmas
 pub mod ChainLemmas
 pub mod DigitLemmas
 pub mod FaultLemmas
+pub mod FileLemmas
 pub mod GraphLemmas
 pub mod GroupLemmas
 pub mod ItemLemmas
@@ -14,6 +15,7 @@ pub mod PageLemmas
 pub mod PairLemmas
 pub mod ReferenceLemmas
 pub mod RepeatLemmas
+pub mod SizeLemmas
 pub mod SpellingLemmas
 pub mod TargetLemmas
 pub mod TurnLemmas

@@ -1,10 +1,11 @@
 -- Laws that several crates use.
-use Rattle.std.proofs.Common.{◌≡◌, Bool, true, List, [], ◌∷◌, inl, inr, ◌∙◌, ap, ℕ, suc, ◌<◌, false, length, get_or, arith, refl, ◌+◌, subst, ◌++◌, zero}
+use Rattle.std.proofs.Common.{◌≡◌, Bool, true, List, [], ◌∷◌, inl, inr, ◌∙◌, ap, ℕ, suc, ◌<◌, false, length, map, get_or, arith, refl, ◌+◌, subst, ◌++◌, zero}
 use Rattle.std.specs.List.{Contains, list_any, enumerate_from, flat_map, All, slice_get, range_with_len}
 use Rattle.std.proofs.lemmas.Bool.{or_cases, or_from}
 use Rattle.bdb_format.proofs.MemberLemmas.{first_member, later_member, member_cases, no_member}
 use Rattle.std.proofs.lemmas.List.Folds.{list_any_at}
 use Rattle.std.proofs.lemmas.Grind.{flat_map-append}
+use Rattle.std.proofs.lemmas.List.{map-append}
 use Rattle.std.specs.Prelude.{get_or, Some}
 use Rattle.std.proofs.lemmas.List.Elements.{Contains-get_or}
 use Rattle.std.proofs.lemmas.Option.{get_or_from_slice_get, slice_get_within}
@@ -36,10 +37,21 @@ in_enumerated n (y ∷ ys) x at =
       | inr later ↦ let rest = in_enumerated (n + 1) ys x later in (rest.0, later_member (n, y) (enumerate_from (n + 1) ys) (rest.0, x) rest.1)
     ]
 
+pub flat_map_same : {X Y : Type 0} (f g : X → List Y) (xs : List X) → ((x : X) → Contains xs x → f x ≡ g x) → flat_map f xs ≡ flat_map g xs
+flat_map_same f g [] same = refl
+flat_map_same f g (x ∷ xs) same =
+    ap (λ ys. ys ++ flat_map f xs) (same x (first_member x xs))
+    ∙ ap (λ ys. g x ++ ys) (flat_map_same f g xs (λ y at. same y (later_member x xs y at)))
+
 -- a `flat_map` of a `flat_map` is one
 pub flat_map_twice : {X Y Z : Type 0} (f : Y → List Z) (g : X → List Y) (xs : List X) → flat_map f (flat_map g xs) ≡ flat_map (λ x. flat_map f (g x)) xs
 flat_map_twice f g [] = refl
 flat_map_twice f g (x ∷ xs) = flat_map-append f (g x) (flat_map g xs) ∙ ap (λ zs. flat_map f (g x) ++ zs) (flat_map_twice f g xs)
+
+-- a `map` of a `flat_map` is one `flat_map`
+pub map_joined : {X Y Z : Type 0} (f : Y → Z) (g : X → List Y) (xs : List X) → map f (flat_map g xs) ≡ flat_map (λ x. map f (g x)) xs
+map_joined f g [] = refl
+map_joined f g (x ∷ xs) = map-append f (g x) (flat_map g xs) ∙ ap (λ zs. map f (g x) ++ zs) (map_joined f g xs)
 
 -- a list of one has no other member
 pub only_member : {X : Type 0} (x y : X) → Contains (x ∷ []) y → x ≡ y
@@ -57,3 +69,11 @@ member_of xs i x at = (i, slice_get_within xs i x at, get_or_from_slice_get xs i
 pub range_more : (a n : ℕ) → range_with_len a (n + 1) ≡ range_with_len a n ++ (a + n) ∷ []
 range_more a zero = let e : a + 0 ≡ a = omega arith in rw e refl
 range_more a (suc n) = let more : suc n + 1 ≡ suc (n + 1) = omega arith in let e : a + 1 + n ≡ a + suc n = omega arith in rw more (ap (λ xs. a ∷ xs) (range_more (a + 1) n ∙ ap (λ m. range_with_len (a + 1) n ++ m ∷ []) e))
+
+-- a range, cut in two
+pub range_parts : (a m n : ℕ) → range_with_len a (m + n) ≡ range_with_len a m ++ range_with_len (a + m) n
+range_parts a zero n = let e : a ≡ a + 0 = omega arith in let f : 0 + n ≡ n = omega arith in ap (range_with_len a) f ∙ ap (λ b. range_with_len b n) e
+range_parts a (suc m) n =
+    let e : (a + 1) + m ≡ a + suc m = omega arith in
+    let f : suc m + n ≡ suc (m + n) = omega arith in
+    ap (range_with_len a) f ∙ ap (λ xs. a ∷ xs) (range_parts (a + 1) m n ∙ ap (λ b. range_with_len (a + 1) m ++ range_with_len b n) e)

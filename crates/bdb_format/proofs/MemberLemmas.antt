@@ -28,6 +28,19 @@ pub first_of_parts : {X : Type 0} (xs ys : List X) (z : X) (zs : List X) → xs 
 first_of_parts [] ys z zs same = inr (refl, same)
 first_of_parts (x ∷ xs) ys z zs same = let first : x ≡ z = cc in inl (xs, ap (λ w. w ∷ xs) first)
 
+-- a number is a member of a list or it isn't
+pub member_or_not : (xs : List ℕ) (x : ℕ) → Contains xs x ⊎ (Contains xs x → ⊥)
+member_or_not [] x = inr (no_member [] x refl)
+member_or_not (y ∷ ys) x =
+    elim (cases_eq y x) [
+      | inl same ↦ inl (subst (Contains (y ∷ ys)) same (first_member y ys))
+      | inr other ↦
+          elim (member_or_not ys x) [
+            | inl later ↦ inl (later_member y ys x later)
+            | inr out ↦ inr (λ at. elim (member_cases y ys x at) [ inl here ↦ other here | inr later ↦ out later ])
+          ]
+    ]
+
 -- Maps, joins, filters and ranges.
 
 pub of_map : {X Y : Type 0} (f : X → Y) (xs : List X) (y : Y) → Contains (map f xs) y → (x : X) × Contains xs x × (f x ≡ y)

@@ -1,17 +1,14 @@
 -- Laws that several crates use.
-use Rattle.std.proofs.Common.{◌≡◌, ℕ, refl, [], ap, ◌+◌, ◌≤◌, arith, subst, List, length}
+use Rattle.std.proofs.Common.{◌≡◌, ℕ, refl, [], ap, ◌+◌, ◌≤◌, arith, subst}
 use Rattle.bdb_format.specs.declared.metadata.FileKind.{FileKind}
 use Rattle.bdb_format.specs.declared.metadata.FileKind.TheVariants.{Btree, Hash as HashFile, Queue as QueueFile, Queue}
 use Rattle.bdb_format.specs.Page.{Page}
 use Rattle.bdb_format.specs.References.{targets_in, targets_of, refs}
-use Rattle.bdb_format.specs.File.{File, page_at, file_of, page_bytes}
+use Rattle.bdb_format.specs.File.{File, page_at}
 use Rattle.std.specs.List.{Contains, range_with_len}
 use Rattle.bdb_format.specs.declared.references.Reference.{Reference}
 use Rattle.bdb_format.specs.Graph.{all_references, held_by, Owner}
 use Rattle.bdb_format.proofs.MemberLemmas.{in_flat_map, in_map, in_range, of_flat_map, of_map, of_range}
-use Rattle.bdb_format.specs.HeadOf.{head_of}
-use Rattle.std.proofs.lemmas.List.FromFn.{length-map-range_with_len}
-use Rattle.bdb_format.specs.Reading.{abstract_page}
 
 -- in a file that is no queue the names of a page are those that it holds
 pub forest_names : (kind : FileKind) (p : ℕ) (page : Page) → (kind ≡ QueueFile → ⊥) → targets_of kind p page ≡ targets_in p page
@@ -44,13 +41,3 @@ of_all file owner at =
     let held = of_map (λ r. record { holder = page.0; reference = r }) (refs file page.0) owner page.2 in
     let low : page.0 ≤ file.last = omega (arith, within.1) in
     subst (λ (o : Owner). (o.holder ≤ file.last) × Contains (refs file o.holder) o.reference) held.2 (low, held.1)
-
--- a file has as many pages as its head says
-pub count_is : (image : List ℕ) → (file_of image).count ≡ (head_of image).pages
-unfolding file_of
-count_is image = refl
-
--- the pages of a file are those from 0 to the last
-pub pages_counted : (image : List ℕ) → length (file_of image).pages ≡ (file_of image).last + 1
-unfolding file_of
-pages_counted image = length-map-range_with_len (λ p. abstract_page (head_of image).order (page_bytes (head_of image) image p)) 0 ((head_of image).last + 1)

@@ -7,11 +7,9 @@ use Rattle.std.proofs.lemmas.Bool.{cases_order, eqb-true, ne_eqb}
 use Rattle.std.proofs.lemmas.List.Elements.{Contains-append_cases}
 use borrow.Author.Count.{below_none, below_more}
 use Rattle.bdb_format.specs.ByPage.{ComesFirst}
-use Rattle.bdb_format.specs.declared.kinds.CheckError.{CheckError}
-use Rattle.bdb_format.specs.declared.kinds.CheckError.TheVariants.{Fault as FaultError, Memory as MemoryError}
 use Rattle.bdb_format.specs.declared.kinds.Fault.{Fault}
 use Rattle.bdb_format.specs.Table.{Row, ◌:?◌, first_row}
-use Rattle.bdb_format.specs.Verdict.{holding, by_page, head_faults, tail_faults, form_faults, reference_faults, ownership_faults, reach_faults, structure_faults, master_faults, contents_faults, or_else, file_faults, within_file, faults_by, stage_faults, Holds, faults_in, faults_of, first_fault, IsFirstOf, judgement_of, verdict_in, Judgement, Faulty, tail_rows, reference_rows, ownership_rows, reach_rows, structure_rows, SoundWhereNoRowHolds, FirstIsLeast}
+use Rattle.bdb_format.specs.Verdict.{holding, by_page, head_faults, tail_faults, form_faults, reference_faults, ownership_faults, reach_faults, structure_faults, master_faults, contents_faults, or_else, file_faults, within_file, faults_by, stage_faults, Holds, faults_in, faults_of, first_fault, judgement_of, verdict_in, Judgement, Faulty, tail_rows, reference_rows, ownership_rows, reach_rows, structure_rows, SoundWhereNoRowHolds, FirstIsLeast}
 use Rattle.bdb_format.specs.declared.metadata.Head.{Head}
 use Rattle.bdb_format.specs.HeadOf.{head_of, head_rows}
 use Rattle.bdb_format.specs.Rows.{form_code}
@@ -164,6 +162,10 @@ or_else_both P (fault ∷ faults) others p q = p
 pub or_else_none : (faults others : List Fault) → or_else faults (λ _. others) ≡ [] → (faults ≡ []) × (others ≡ [])
 or_else_none [] others none = (refl, none)
 or_else_none (fault ∷ faults) others none = absurd cc
+
+pub or_else_nothing : (faults : List Fault) → or_else faults (λ _. []) ≡ faults
+or_else_nothing [] = refl
+or_else_nothing (fault ∷ faults) = refl
 
 or_else_first : (faults others : List Fault) (first : Fault) (rest : List Fault) → or_else faults (λ _. others) ≡ first ∷ rest → (faults ≡ first ∷ rest) ⊎ ((faults ≡ []) × (others ≡ first ∷ rest))
 or_else_first [] others first rest same = inr (refl, same)
@@ -342,14 +344,6 @@ first_in_more image (stage ∷ stages) more fault is =
       | inl here ↦ first_here (stage_faults image stage) (faults_in (stages ++ more) image) fault here
       | inr (none, later) ↦ ap first_fault (skip_stage image stage (stages ++ more) none) ∙ first_in_more image stages more fault later
     ]
-
--- the refusal of one stage, after stages without faults
-pub refused_after : (image passed : List ℕ) (stage : ℕ) (more : List ℕ) (error : CheckError) → faults_in passed image ≡ []
-    → IsFirstOf (stage_faults image stage) error → IsFirstOf (faults_in (passed ++ stage ∷ more) image) error
-unfolding faults_in
-refused_after image passed stage more (FaultError fault) none is =
-    ap first_fault (skip_stages image passed (stage ∷ more) none) ∙ first_here (stage_faults image stage) (faults_in more image) fault is
-refused_after image passed stage more MemoryError none is = tt
 
 -- The verdict.
 

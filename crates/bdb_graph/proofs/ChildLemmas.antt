@@ -21,8 +21,8 @@ use Rattle.bdb_format.proofs.MemberLemmas.{of_filter, of_map}
 use Rattle.bdb_graph.specs.Formed.{IsFormed}
 use Rattle.bdb_graph.specs.Linked.{IsForest}
 use Rattle.bdb_graph.proofs.FirstLemmas.{formed_page}
-use Rattle.bdb_graph.proofs.HeldLemmas.{kind_is, last_page, page_is}
 use Rattle.bdb_format.proofs.ReferenceLemmas.{forest_names}
+use Rattle.bdb_format.proofs.FileLemmas.{kind_is, last_page, page_is}
 
 -- A queue file.
 

@@ -18,10 +18,10 @@ use Rattle.bdb_format.specs.Reading.{is_zero, page_type}
 use Rattle.bdb_format.specs.Rows.{body_code, form_code, identity_rows, index_rows, is_queue_type, is_tree_type, all_item_rows, field_rows, listed_code, may_have_type, metadata_rows, page_code, queue_code, type_of, typed_code}
 use Rattle.bdb_format.specs.Table.{Row, ◌:?◌, answer, first_row}
 use Rattle.bdb_format.proofs.PageLemmas.{later_type, metadata_code}
+use Rattle.bdb_format.proofs.SizeLemmas.{size_bounds}
 use Rattle.bdb_form.specs.declared.view.PageView.{PageView}
 use Rattle.bdb_form.specs.Formed.{unless}
 use Rattle.bdb_form.specs.Seen.{form_seen}
-use Rattle.bdb_graph.proofs.FormedLemmas.{size_bounds}
 use Rattle.bdb_format.specs.HeadOf.{is_page_size}
 
 -- What the calls answer.

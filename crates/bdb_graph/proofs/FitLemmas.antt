@@ -1,28 +1,22 @@
 -- What a page is to a reference, by its bytes, and the codes with which references fail.
-use Rattle.std.proofs.Common.{◌≡◌, ℕ, zero, suc, ◌+◌, ◌≤◌, ◌<◌, Bool, true, false, cond, List, [], ◌∷◌, ◌++◌, arith, refl, sym, ◌∙◌, ap, subst, inl, inr}
-use Rattle.std.specs.Prelude.{Option, Some, None, ◌==◌, ◌||◌, nat_lt, map}
-use Rattle.std.specs.Option.{option_map}
+use Rattle.std.proofs.Common.{◌≡◌, ℕ, ◌+◌, ◌≤◌, ◌<◌, Bool, true, false, cond, List, [], ◌∷◌, ◌++◌, arith, refl, sym, ◌∙◌, ap, subst, inl, inr}
+use Rattle.std.specs.Prelude.{Option, Some, None, ◌==◌, ◌||◌, nat_lt}
 use Rattle.std.specs.List.{list_any}
 use Rattle.std.proofs.lemmas.Bool.{cases_order, eqb-true, eqb-false, le-ltb, lt-ltb, ne_eqb, or_from}
+use Rattle.std.proofs.Math.Bool.{or-true}
 use Rattle.bdb_format.specs.declared.kinds.Fault.{Fault}
 use Rattle.bdb_format.specs.declared.kinds.Order.{Order}
 use Rattle.bdb_format.specs.declared.references.Reference.{Reference}
 use Rattle.bdb_format.specs.File.{File, header_in, no_header, page_at, type_in}
-use Rattle.bdb_format.specs.HeadOf.{is_page_size}
 use Rattle.bdb_format.specs.Numbers.{byte_at, four_at, has_bit}
 use Rattle.bdb_format.specs.Page.{Page, PageType, FreePage, HashPage, InternalPage, RecnoInternalPage, LeafPage, RecnoLeafPage, OverflowPage, HashMetaPage, BtreeMetaPage, QueueMetaPage, QueuePage, DupLeafPage, OtherPage, Zero}
 use Rattle.bdb_format.specs.Reading.{abstract_page, header_of, is_zero, listed, page_as, page_type}
 use Rattle.bdb_format.specs.References.{Asked, asked_by, child_types, fit_code, is_zero_page, root_types}
 use Rattle.bdb_format.specs.Table.{Row, first_row, lesser}
-use Rattle.bdb_format.specs.Verdict.{by_page, holding, first_fault}
-use Rattle.bdb_format.proofs.VerdictLemmas.{none_holds, none_is_first_row}
-use Rattle.bdb_graph.proofs.FormedLemmas.{size_bounds}
+use Rattle.bdb_format.specs.Verdict.{first_fault}
 use Rattle.bdb_graph.specs.Fits.{page_rows}
 use Rattle.bdb_format.proofs.GraphLemmas.{zero_page, typed_page}
 use Rattle.bdb_format.proofs.TypeLemmas.{if_type}
-
-pub long_page : (n : ℕ) → is_page_size n ≡ true → 512 ≤ n
-long_page n legal = (size_bounds n legal).0
 
 -- Bytes as a page.
 
@@ -209,14 +203,10 @@ fits_there file p reference inside =
 pub names_zero : (file : File) (p : ℕ) (reference : Reference) → reference.target ≡ 0 → Some 1 ≡ fit_code file p reference
 names_zero file p reference is = fits_nowhere file p reference (ap (λ n. n == 0 || nat_lt file.last n) is)
 
-or_true : (b : Bool) → (b || true) ≡ true
-or_true true = refl
-or_true false = refl
-
 -- a reference to a page above the last one
 pub names_above : (file : File) (p : ℕ) (reference : Reference) → file.last < reference.target → Some 1 ≡ fit_code file p reference
 names_above file p reference above =
-    fits_nowhere file p reference (ap (λ b. reference.target == 0 || b) (lt-ltb file.last reference.target above) ∙ or_true (reference.target == 0))
+    fits_nowhere file p reference (ap (λ b. reference.target == 0 || b) (lt-ltb file.last reference.target above) ∙ or-true (reference.target == 0))
 
 -- a reference to a page that is there, by what it asks and what that page is
 pub names_page : (file : File) (p : ℕ) (reference : Reference) (asked : Asked) (holder target : Page) (code : Option ℕ) → (reference.target ≡ 0 → ⊥) → reference.target ≤ file.last
@@ -234,44 +224,12 @@ names_page file p reference asked holder target code some low code_is asked_is h
 abbrev named : ℕ → ℕ → ℕ → Fault
 named stage page code = record { stage = stage; page = page; code = code }
 
--- the first row that holds is the first fault of a page
-page_first : (stage page : ℕ) (rows : List (Row ℕ)) → first_fault (map (named stage page) (holding rows)) ≡ option_map (named stage page) (first_row rows)
-page_first stage page [] = refl
-page_first stage page (row ∷ rows) =
-    elim row.holds as (λ b. first_fault (map (named stage page) (cond b (row.code ∷ holding rows) (holding rows))) ≡ option_map (named stage page) (cond b (Some row.code) (first_row rows))) [
-      | true ↦ refl
-      | false ↦ page_first stage page rows
-    ]
-
-first_of_more : (faults later : List Fault) (fault : Fault) → first_fault faults ≡ Some fault → first_fault (faults ++ later) ≡ Some fault
-first_of_more [] later fault first = absurd cc
-first_of_more (one ∷ faults) later fault first = first
-
 first_of_none : (faults later : List Fault) → faults ≡ [] → first_fault (faults ++ later) ≡ first_fault later
 first_of_none faults later none = ap (λ (before : List Fault). first_fault (before ++ later)) none
-
--- where no page before one has a code, the first fault of the stage is that page's
-first_by_page : (stage from n page code : ℕ) (codes : ℕ → List ℕ) → from ≤ page → page < from + n → ((p : ℕ) → from ≤ p → p < page → codes p ≡ [])
-    → first_fault (map (named stage page) (codes page)) ≡ Some (named stage page code) → first_fault (by_page stage from n codes) ≡ Some (named stage page code)
-first_by_page stage from zero page code codes low high none at = absurd (omega arith)
-first_by_page stage from (suc n) page code codes low high none at =
-    let later : List Fault = by_page stage (from + 1) n codes in
-    elim (cases_order from page) [
-      | inl same ↦
-          subst (λ p. first_fault (map (named stage p) (codes p) ++ later) ≡ Some (named stage page code)) (sym same)
-          (first_of_more (map (named stage page) (codes page)) later (named stage page code) at)
-      | inr (inl below) ↦
-          first_of_none (map (named stage from) (codes from)) later (ap (map (named stage from)) (none from (omega arith) below))
-          ∙ first_by_page stage (from + 1) n page code codes (omega arith) (omega arith) (λ p above. none p (omega arith)) at
-      | inr (inr above) ↦ absurd (omega arith)
-    ]
 
 -- no row of these holds at the pages from one on and below another
 abbrev pub NoneHold : (ℕ → List (Row ℕ)) → ℕ → ℕ → Type 0
 NoneHold rows from to = (p : ℕ) → from ≤ p → p < to → None ≡ first_row (rows p)
-
-no_code_holds : (rows : List (Row ℕ)) → None ≡ first_row rows → holding rows ≡ []
-no_code_holds rows none = none_holds rows (none_is_first_row rows (sym none))
 
 -- one more page at which no row holds
 pub none_more : (rows : ℕ → List (Row ℕ)) (from to : ℕ) → NoneHold rows from to → None ≡ first_row (rows to) → NoneHold rows from (to + 1)
@@ -281,11 +239,3 @@ none_more rows from to none here p low below =
       | inr (inl lesser) ↦ none p low lesser
       | inr (inr above) ↦ absurd (omega arith)
     ]
-
--- the first fault of a stage is at the first page at which a row holds, the first row there
-pub first_of_stage : (stage from n page code : ℕ) (rows : ℕ → List (Row ℕ)) → from ≤ page → page < from + n → NoneHold rows from page → Some code ≡ first_row (rows page)
-    → Some (named stage page code) ≡ first_fault (by_page stage from n (λ p. holding (rows p)))
-first_of_stage stage from n page code rows low high none at =
-    sym
-    (first_by_page stage from n page code (λ p. holding (rows p)) low high (λ p above below. no_code_holds (rows p) (none p above below))
-    (page_first stage page (rows page) ∙ ap (option_map (named stage page)) (sym at)))

@@ -1,7 +1,6 @@
 -- What an accepted page 0 says of the pages, and what a formed image says of each of them.
-use Rattle.std.proofs.Common.{◌≡◌, ℕ, zero, suc, ◌+◌, ◌*◌, ◌-◌, ◌/◌, ◌%◌, ◌^◌, ◌<◌, ◌≤◌, Bool, true, false, List, [], ◌∷◌, length, take, drop, arith, refl, sym, ◌∙◌, ap, subst}
+use Rattle.std.proofs.Common.{◌≡◌, ℕ, zero, suc, ◌+◌, ◌*◌, ◌-◌, ◌/◌, ◌%◌, ◌^◌, ◌<◌, ◌≤◌, Bool, true, false, List, length, take, drop, arith, refl, sym, ◌∙◌, ap, subst}
 use Rattle.std.specs.Prelude.{◌==◌, ◌||◌, not, None}
-use Rattle.std.specs.List.{list_any}
 use Rattle.std.proofs.Math.Nat.{mul-le-mul_left, mul-le-mul_right}
 use Rattle.std.proofs.lemmas.Bool.{eqb-true, leb-false, ltb-false, not-false}
 use Rattle.std.proofs.lemmas.List.{length-take-le, length-drop}
@@ -13,28 +12,8 @@ use Rattle.bdb_format.specs.HeadOf.{file_kind, head_of, head_rows, is_page_size,
 use Rattle.bdb_format.specs.Numbers.{four_at}
 use Rattle.bdb_format.specs.Table.{first_row}
 use Rattle.bdb_format.proofs.VerdictLemmas.{AllFail, none_is_first_row}
+use Rattle.bdb_format.proofs.SizeLemmas.{size_bounds}
 use Rattle.bdb_graph.specs.Formed.{IsAccepted}
-
--- Page sizes.
-
-abbrev AllWithin : List ℕ → Type 0
-AllWithin [] = Unit {0}
-AllWithin (size ∷ sizes) = (512 ≤ size) × (size ≤ 32768) × AllWithin sizes
-
-within : (n : ℕ) (sizes : List ℕ) → AllWithin sizes → list_any (λ size. size == n) sizes ≡ true → (512 ≤ n) × (n ≤ 32768)
-within n [] all one = absurd cc
-within n (size ∷ sizes) all one =
-    elim (size == n) as (λ b. (size == n) ≡ b → (b || list_any (λ s. s == n) sizes) ≡ true → (512 ≤ n) × (n ≤ 32768)) [
-      | true ↦ λ same some. let is : size ≡ n = eqb-true size n same in (omega (arith, all.0), omega (arith, all.1))
-      | false ↦ λ same some. within n sizes all.2 some
-    ] refl one
-
--- a legal page size is from 512 to 32768
-pub size_bounds : (n : ℕ) → is_page_size n ≡ true → (512 ≤ n) × (n ≤ 32768)
-size_bounds n legal =
-    within n (512 ∷ 1024 ∷ 2048 ∷ 4096 ∷ 8192 ∷ 16384 ∷ 32768 ∷ [])
-    (omega arith, omega arith, (omega arith, omega arith, (omega arith, omega arith, (omega arith, omega arith, (omega arith, omega arith, (omega arith, omega arith, (omega arith, omega arith, tt)))))))
-    legal
 
 -- Page 0.
 

@@ -1,8 +1,7 @@
 -- What a page without a fault of form is, by its type.
-use Rattle.std.proofs.Common.{◌≡◌, ℕ, zero, suc, ◌+◌, ◌≤◌, Bool, true, false, cond, List, length, arith, refl, sym, ◌∙◌, ap}
+use Rattle.std.proofs.Common.{◌≡◌, ℕ, zero, suc, ◌≤◌, Bool, true, false, cond, List, length, arith, refl, sym, ◌∙◌, ap}
 use Rattle.std.specs.Prelude.{Option, Some, None, ◌==◌, ◌&&◌, nat_lt}
 use Rattle.std.proofs.lemmas.Bool.{ltb-false, or_parts}
-use Rattle.std.proofs.lemmas.List.FromFn.{get_or-map-range_with_len}
 use Rattle.bdb_form.specs.declared.view.PageView.{PageView}
 use Rattle.bdb_form.specs.declared.view.PageView.TheVariants.{Zero as ZeroView, Free as FreeView, Meta as MetaView, Leaf as LeafView, Internal as InternalView, RecnoLeaf as RecnoLeafView, RecnoInternal as RecnoInternalView, DupLeaf as DupLeafView, Hash as HashView, Overflow as OverflowView, Queue as QueueView}
 use Rattle.bdb_form.specs.Seen.{page_seen}
@@ -13,7 +12,7 @@ use Rattle.bdb_format.specs.declared.metadata.Head.{Head}
 use Rattle.bdb_format.specs.File.{file_of, page_at, page_bytes}
 use Rattle.bdb_format.specs.HeadOf.{head_of, is_page_size}
 use Rattle.bdb_format.specs.Numbers.{byte_at}
-use Rattle.bdb_format.specs.Page.{Zero, Meta, BtreeFields, HashFields, NoType, PageType, FreePage, HashPage, InternalPage, RecnoInternalPage, LeafPage, RecnoLeafPage, OverflowPage, HashMetaPage, BtreeMetaPage, QueueMetaPage, QueuePage, DupLeafPage, OtherPage}
+use Rattle.bdb_format.specs.Page.{Zero, Meta, BtreeFields, HashFields, PageType, FreePage, HashPage, InternalPage, RecnoInternalPage, LeafPage, RecnoLeafPage, OverflowPage, HashMetaPage, BtreeMetaPage, QueueMetaPage, QueuePage, DupLeafPage, OtherPage}
 use Rattle.bdb_format.specs.Reading.{abstract_page, btree_fields, hash_fields, is_zero, page_as, page_type}
 use Rattle.bdb_format.specs.References.{targets_of, refs}
 use Rattle.bdb_format.specs.Rows.{body_code, form_code, identity_rows, is_tree_type, lacks_spare, may_have_type, metadata_rows, page_code, type_of, typed_code}
@@ -21,23 +20,9 @@ use Rattle.bdb_format.specs.Table.{first_row}
 use Rattle.bdb_format.specs.Graph.{is_meta}
 use Rattle.bdb_format.proofs.PageLemmas.{metadata_code}
 use Rattle.bdb_format.proofs.VerdictLemmas.{AllFail, none_is_first_row}
+use Rattle.bdb_format.proofs.FileLemmas.{page_is, kind_is}
 use Rattle.bdb_graph.specs.Slots.{IsNoMetadata, placed}
 use Rattle.bdb_graph.proofs.CodeLemmas.{btree_last, code_by, code_same, differs, is_body, is_same, no_queue_type, not_zero, tree_code, two_none, typed_metadata}
-
--- The file.
-
-pub last_page : (image : List ℕ) → (file_of image).last ≡ (head_of image).last
-unfolding file_of
-last_page image = refl
-
-pub page_is : (image : List ℕ) (p : ℕ) → p ≤ (head_of image).last → page_at (file_of image) p ≡ abstract_page (head_of image).order (page_bytes (head_of image) image p)
-unfolding file_of
-page_is image p low =
-    get_or-map-range_with_len (λ q. abstract_page (head_of image).order (page_bytes (head_of image) image q)) 0 ((head_of image).last + 1) p p NoType (omega arith) (omega arith)
-
-pub kind_is : (image : List ℕ) → (file_of image).kind ≡ (head_of image).kind
-unfolding file_of
-kind_is image = refl
 
 pub refs_of_page : (image : List ℕ) (p : ℕ) → p ≤ (head_of image).last
     → refs (file_of image) p ≡ placed 0 (targets_of (head_of image).kind p (abstract_page (head_of image).order (page_bytes (head_of image) image p)))

@@ -55,7 +55,7 @@ kept_twice test x y xs first second at =
 
 -- Lists without a page twice.
 
-not_in : (x : ℕ) (xs : List ℕ) → (Contains xs x → ⊥) → NotIn x xs
+pub not_in : (x : ℕ) (xs : List ℕ) → (Contains xs x → ⊥) → NotIn x xs
 not_in x [] none = tt
 not_in x (y ∷ ys) none = (λ same. none (subst (Contains (y ∷ ys)) (sym same) (first_member y ys)), not_in x ys (λ at. none (later_member y ys x at)))
 

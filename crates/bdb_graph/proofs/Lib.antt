@@ -11,6 +11,7 @@ pub mod MarkLemmas
 pub mod MetaLemmas
 pub mod NotedLemmas
 pub mod ReachLemmas
+pub mod ReadLemmas
 pub mod RoleLemmas
 pub mod SlotLemmas
 pub mod SourceLemmas

@@ -38,11 +38,12 @@ use Rattle.bdb_form.specs.Formed.{fields_as}
 use Rattle.bdb_graph.proofs.CodeLemmas.{code_by, form_queue, is_same, not_zero, tree_refused, two_none}
 use Rattle.bdb_graph.proofs.FirstLemmas.{formed_page}
 use Rattle.bdb_graph.proofs.ForestLemmas.{sound_graph}
-use Rattle.bdb_graph.proofs.HeldLemmas.{identity_none, kind_is, last_page, page_is}
+use Rattle.bdb_graph.proofs.HeldLemmas.{identity_none}
 use Rattle.bdb_graph.proofs.MetaLemmas.{is_by_fields}
 use Rattle.bdb_graph.specs.Metas.{meta_in}
 use Rattle.bdb_format.proofs.ListLemmas.{in_enumerated}
 use Rattle.bdb_format.proofs.ReferenceLemmas.{forest_names, held_in_all, of_all}
+use Rattle.bdb_format.proofs.FileLemmas.{kind_is, last_page, page_is}
 
 -- Form.
 

@@ -22,8 +22,9 @@ use Rattle.bdb_graph.specs.Linked.{meta_pages, metas_below}
 use Rattle.bdb_graph.specs.Metas.{meta_in}
 use Rattle.bdb_format.specs.declared.metadata.HashMeta.{HashMeta}
 use Rattle.bdb_graph.proofs.CodeLemmas.{differs, not_zero, queue_last}
-use Rattle.bdb_graph.proofs.HeldLemmas.{few_buckets, metadata_formed, table_formed, table_page, tree_page, other_page, other_type, page_is}
+use Rattle.bdb_graph.proofs.HeldLemmas.{few_buckets, metadata_formed, table_formed, table_page, tree_page, other_page, other_type}
 use Rattle.bdb_format.proofs.ListLemmas.{range_more}
+use Rattle.bdb_format.proofs.FileLemmas.{page_is}
 
 -- Queue metadata.
 
@@ -31,7 +32,8 @@ pub queue_page : (order : Order) (page : List ℕ) → is_page_size (length page
 unfolding abstract_page
 queue_page order page size is = rw (not_zero page Queue size is, abstract_page) (ap (λ byte. page_as order page (page_type byte)) is)
 
-zero_number : (kind : FileKind) (number byte : ℕ) → byte ≡ 10 → may_have_type kind number byte ≡ true → number ≡ 0
+-- metadata of a queue is page 0
+pub zero_number : (kind : FileKind) (number byte : ℕ) → byte ≡ 10 → may_have_type kind number byte ≡ true → number ≡ 0
 zero_number kind zero byte is may = refl
 zero_number Btree (suc n) byte is may = absurd (true≢false (sym (subst (λ b. may_have_type Btree (suc n) b ≡ true) is may) ∙ later_type Btree n 10))
 zero_number Hash (suc n) byte is may = absurd (true≢false (sym (subst (λ b. may_have_type Hash (suc n) b ≡ true) is may) ∙ later_type Hash n 10))

@@ -36,7 +36,7 @@ use Rattle.bdb_format.specs.Table.{Row, ◌:?◌, answer, first_row}
 use Rattle.bdb_format.specs.Verdict.{Judgement, by_page, fails_as, faults_in, form_faults, head_faults, holding, or_else, ownership_faults, ownership_rows, reach_faults, reach_rows, reference_faults, reference_rows, some_fails, stage_faults, tail_faults, tail_rows}
 use Rattle.bdb_format.specs.Graph.{is_anchor, is_owned_twice, is_reserve, is_shared_too_often, is_unowned, reaches}
 use Rattle.bdb_format.proofs.MemberLemmas.{first_member, no_member}
-use Rattle.bdb_format.proofs.VerdictLemmas.{or_else_none}
+use Rattle.bdb_format.proofs.VerdictLemmas.{or_else_none, or_else_nothing}
 use Rattle.bdb_graph.proofs.CodeLemmas.{fault_of_rows}
 use Rattle.bdb_graph.specs.declared.fits.Misfits.{Misfits}
 use Rattle.bdb_graph.specs.Noted.{misfit_faults, misfits_of, more_misfits, page_faults}
@@ -214,11 +214,7 @@ pub head_passed : (image : List ℕ) → first_row (head_rows image) ≡ None �
 unfolding faults_in head_faults
 head_passed image none =
     ap (λ (code : Option ℕ). or_else (or_else (by_page 1 0 1 (λ p. option_to_list code)) (λ _. tail_faults image)) (λ _. or_else (form_faults image) (λ _. []))) none
-    ∙ ap (λ (forms : List Fault). or_else (tail_faults image) (λ _. forms)) (or_nothing (form_faults image))
-  where
-    or_nothing : (faults : List Fault) → or_else faults (λ _. []) ≡ faults
-    or_nothing [] = refl
-    or_nothing (fault ∷ faults) = refl
+    ∙ ap (λ (forms : List Fault). or_else (tail_faults image) (λ _. forms)) (or_else_nothing (form_faults image))
 
 -- Stage by stage.
 
@@ -283,11 +279,7 @@ module _ (before middle : List Fault → Type 0) (faults : List Fault) (empty : 
 -- the last of some stages
 pub last_stage : (image : List ℕ) (stage : ℕ) → faults_in (stage ∷ []) image ≡ stage_faults image stage
 unfolding faults_in
-last_stage image stage = or_nothing (stage_faults image stage)
-  where
-    or_nothing : (faults : List Fault) → or_else faults (λ _. []) ≡ faults
-    or_nothing [] = refl
-    or_nothing (fault ∷ faults) = refl
+last_stage image stage = or_else_nothing (stage_faults image stage)
 
 -- All faults.
 

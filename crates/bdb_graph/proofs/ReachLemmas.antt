@@ -7,17 +7,16 @@ use Rattle.bdb_format.specs.Graph.{Owner, first_holder, if_some, owners, reaches
 use Rattle.bdb_graph.specs.Forest.{is_top, AllDistinct, IsWayUp, NotIn}
 use Rattle.bdb_format.proofs.GraphLemmas.{is_owner}
 use Rattle.bdb_format.proofs.MemberLemmas.{first_member}
+use Rattle.bdb_format.proofs.FileLemmas.{count_is, last_page}
 use Rattle.std.proofs.Math.Nat.{suc-add, zero-add}
 use Rattle.std.proofs.lemmas.Bool.{cases_Bool, eqb-true, ne_eqb}
 use Rattle.std.proofs.lemmas.Map.Steps.{length-le_from_distinct_below}
 use Rattle.bdb_format.specs.declared.metadata.Head.{Head}
 use Rattle.bdb_format.specs.Verdict.{reference_faults}
-use Rattle.bdb_format.proofs.ReferenceLemmas.{count_is}
 use Rattle.bdb_graph.specs.Formed.{IsFormed}
 use Rattle.bdb_graph.specs.Marks.{IsFit, IsHeldBy, IsUp}
 use Rattle.bdb_graph.proofs.FirstLemmas.{formed_last}
 use Rattle.bdb_graph.proofs.ForestLemmas.{fewer, owned_inside, step, way_distinct, way_of, way_reaches}
-use Rattle.bdb_graph.proofs.HeldLemmas.{last_page}
 
 pub at_end : (file : File) (turns p : ℕ) → is_top file p ≡ true → reaches_in turns file p ≡ true
 unfolding reaches_in

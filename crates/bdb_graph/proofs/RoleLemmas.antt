@@ -13,7 +13,7 @@ use Rattle.bdb_format.specs.Reading.{abstract_page, hash_item_at, header_of, is_
 use Rattle.bdb_format.proofs.PageLemmas.{header_listed}
 use Rattle.bdb_format.proofs.ListLemmas.{none_of_list}
 use Rattle.bdb_format.proofs.GraphLemmas.{zero_page, typed_page}
-use Rattle.bdb_format.proofs.ReferenceLemmas.{pages_counted}
+use Rattle.bdb_format.proofs.FileLemmas.{pages_counted}
 
 -- Bytes as a page.
 

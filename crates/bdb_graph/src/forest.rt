@@ -90,7 +90,7 @@ impl<'a> Forest<'a> {
     }
 
     /// A page up to the last one, by its type.
-    #[tactic(auto, using(crate::proofs::HeldLemmas::page_is, crate::proofs::HeldLemmas::last_page, crate::proofs::HeldLemmas::kind_is))]
+    #[tactic(auto, using(bdb_format::proofs::FileLemmas::page_is, bdb_format::proofs::FileLemmas::last_page, bdb_format::proofs::FileLemmas::kind_is))]
     pub fn page(&self, number: u32) -> PageView<'a>
         requires { number ≤ (file_of self.now).last }
         ensures page { page_seen result ≡ page_at (file_of self.now) number }

@@ -21,7 +21,7 @@ pub enum Meta {
 }
 
 /// The numbers of the metadata pages of an image, ascending, 4 bytes for each in a list that grows.
-#[tactic(auto, using(crate::proofs::HeldLemmas::last_page))]
+#[tactic(auto, using(bdb_format::proofs::FileLemmas::last_page))]
 pub(crate) fn metas_of(alloc: Global, formed: &Formed) -> Result<Vec<u32>, AllocError>
     ensures { IfOk result (λ metas. metas.items ≡ meta_pages (file_of formed.now)) }
 {
@@ -35,7 +35,7 @@ pub(crate) fn metas_of(alloc: Global, formed: &Formed) -> Result<Vec<u32>, Alloc
 }
 
 /// The fields of a page, if it's metadata.
-#[tactic(auto, using(crate::proofs::MetaLemmas::meta_of_page, crate::proofs::HeldLemmas::last_page))]
+#[tactic(auto, using(crate::proofs::MetaLemmas::meta_of_page, bdb_format::proofs::FileLemmas::last_page))]
 pub(crate) fn meta_at(formed: &Formed, number: u32) -> Option<Meta>
     requires { number ≤ (file_of formed.now).last }
     ensures { option_map meta_seen result ≡ meta_in (page_at (file_of formed.now) number) }

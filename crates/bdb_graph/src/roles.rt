@@ -81,7 +81,7 @@ impl<'a> Roles<'a> {
     }
 
     /// Whether a page needs no owner: it's metadata, or a page of a queue file.
-    #[tactic(auto, using(crate::proofs::HeldLemmas::kind_is), unfolding(bdb_format::specs::Graph::is_anchor))]
+    #[tactic(auto, using(bdb_format::proofs::FileLemmas::kind_is), unfolding(bdb_format::specs::Graph::is_anchor))]
     fn is_anchor(&self, page: u32) -> bool
         requires { page ≤ (file_of self.now).last }
         ensures { result ≡ is_anchor (file_of self.now) page }
@@ -111,7 +111,7 @@ impl<'a> Roles<'a> {
 }
 
 /// Whether a page is the metadata of a hash table.
-#[tactic(auto, using(crate::proofs::HeldLemmas::last_page, crate::proofs::RoleLemmas::some_table, crate::proofs::RoleLemmas::no_table))]
+#[tactic(auto, using(bdb_format::proofs::FileLemmas::last_page, crate::proofs::RoleLemmas::some_table, crate::proofs::RoleLemmas::no_table))]
 fn has_table(formed: &Formed<'_>) -> bool
     ensures { result ≡ list_any is_hash_meta (file_of formed.now).pages }
 {

@@ -84,7 +84,7 @@ impl Tally {
 
 /// Notes the references that don't fit, and tells the tallies of pages 0 to the last: the one walk over the
 /// references of the file, with one step for each page. An error is want of memory. It takes 12 bytes for each page.
-#[tactic(auto, using(crate::proofs::HeldLemmas::last_page))]
+#[tactic(auto, using(bdb_format::proofs::FileLemmas::last_page))]
 pub(crate) fn note_references<L: Ledger, F: FaultSink>(
     alloc: Global,
     formed: &Formed<'_>,

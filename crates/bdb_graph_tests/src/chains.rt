@@ -136,7 +136,7 @@ enum Told {
 }
 
 // The item of the data on the leaf, where the image is linked.
-#[tactic(auto, using(bdb_graph::proofs::HeldLemmas::last_page, bdb_overflow::proofs::ContentLemmas::leaf_item_fits))]
+#[tactic(auto, using(bdb_format::proofs::FileLemmas::last_page, bdb_overflow::proofs::ContentLemmas::leaf_item_fits))]
 fn datum_in<'a>(linked: &Linked<'a>) -> Option<Datum<'a>> {
     let forest = linked.forest();
     if forest.head().last < 1 {
@@ -149,7 +149,7 @@ fn datum_in<'a>(linked: &Linked<'a>) -> Option<Datum<'a>> {
 }
 
 // The head of its chain.
-#[tactic(auto, using(bdb_graph::proofs::HeldLemmas::last_page, bdb_overflow::proofs::ContentLemmas::leaf_item_fits))]
+#[tactic(auto, using(bdb_format::proofs::FileLemmas::last_page, bdb_overflow::proofs::ContentLemmas::leaf_item_fits))]
 fn head_in(linked: &Linked<'_>) -> Option<u32>
     ensures { IfSome result (λ head. FitsChain (file_of linked.now) head) }
 {

@@ -168,7 +168,7 @@ fn is_fit(linked: &Linked<'_>, number: u32, sought: &Sought<'_>) -> bool
 }
 
 /// Whether a key can be sought by halves on each internal page.
-#[tactic(auto, using(bdb_graph::proofs::HeldLemmas::last_page))]
+#[tactic(auto, using(bdb_format::proofs::FileLemmas::last_page))]
 fn are_fit(linked: &Linked<'_>, sought: &Sought<'_>) -> bool
     ensures { OnTrue result (AllFit sought.now.key.now (file_of linked.now) ((file_of linked.now).last + 1)) }
 {
@@ -192,7 +192,7 @@ fn is_keyed(linked: &Linked<'_>, root: u32) -> bool
 }
 
 /// The leaf to which a key leads, where it can be sought.
-#[tactic(auto, using(bdb_graph::proofs::HeldLemmas::last_page))]
+#[tactic(auto, using(bdb_format::proofs::FileLemmas::last_page))]
 fn leaf_below<L: Ledger>(
     linked: &Linked<'_>,
     root: Ref<TreeRoot>,

@@ -190,7 +190,7 @@ fn are(found: References<'_>, expected: &[(Sort, u64)]) -> bool {
     count as usize == expected.len()
 }
 
-#[tactic(auto, using(bdb_graph::proofs::HeldLemmas::last_page))]
+#[tactic(auto, using(bdb_format::proofs::FileLemmas::last_page))]
 fn holds<L: Ledger>(
     alloc: Global,
     image: &[u8; COUNT * SIZE],

@@ -340,7 +340,7 @@ fn tells_the_first_fault_of_the_leaves(rt: HostRuntime) {
 }
 
 /// Whether these are the leaves below page 1, and these the pages right below it.
-#[tactic(auto, using(bdb_graph::proofs::HeldLemmas::last_page))]
+#[tactic(auto, using(bdb_format::proofs::FileLemmas::last_page))]
 fn has_below(alloc: Global, linked: &Linked<'_>, leaves: &[u32], children: &[u32]) -> bool {
     let forest = linked.forest();
     if forest.head().last < 1 {

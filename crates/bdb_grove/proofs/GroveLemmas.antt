@@ -1,5 +1,5 @@
 -- What owners, references and faces are in a file whose pages stay as they were.
-use Rattle.std.proofs.Common.{◌≡◌, ℕ, zero, suc, ◌+◌, ◌-◌, ◌≤◌, Bool, true, false, not, List, [], ◌∷◌, ◌++◌, map, length, None, arith, refl, sym, ◌∙◌, ap, subst, inl, inr}
+use Rattle.std.proofs.Common.{◌≡◌, ℕ, suc, ◌+◌, ◌-◌, ◌≤◌, Bool, true, false, not, List, [], ◌∷◌, ◌++◌, map, length, None, arith, refl, sym, ◌∙◌, ap, subst, inl, inr}
 use Rattle.std.specs.Prelude.{◌==◌, ◌||◌, ◌&&◌, nat_lt}
 use Rattle.std.specs.List.{Contains, filter, flat_map, range_with_len, enumerate_from}
 use Rattle.std.proofs.lemmas.Bool.{ltb-false, ne_eqb, or_parts, or_from}
@@ -19,19 +19,12 @@ use Rattle.bdb_format.specs.Graph.{Owner, first_holder, held_by}
 use Rattle.bdb_format.proofs.MemberLemmas.{first_member, later_member, member_cases, no_member, of_filter, of_range}
 use Rattle.bdb_format.proofs.VerdictLemmas.{AllFail, none_is_first_row}
 use Rattle.bdb_format.proofs.ReferenceLemmas.{forest_names}
+use Rattle.bdb_format.proofs.ListLemmas.{range_parts}
 use Rattle.bdb_grove.specs.Part.{IsWayIn, owners_among}
 use Rattle.bdb_grove.specs.Growing.{IsSamePage, KeepsFace, ReferencesComeLast}
 use Rattle.bdb_grove.proofs.OwnerLemmas.{filter_none, names_page}
 
 -- Lists.
-
--- a range, cut in two
-pub range_parts : (a m n : ℕ) → range_with_len a (m + n) ≡ range_with_len a m ++ range_with_len (a + m) n
-range_parts a zero n = let e : a ≡ a + 0 = omega arith in let f : 0 + n ≡ n = omega arith in ap (range_with_len a) f ∙ ap (λ b. range_with_len b n) e
-range_parts a (suc m) n =
-    let e : (a + 1) + m ≡ a + suc m = omega arith in
-    let f : suc m + n ≡ suc (m + n) = omega arith in
-    ap (range_with_len a) f ∙ ap (λ xs. a ∷ xs) (range_parts (a + 1) m n ∙ ap (λ b. range_with_len (a + 1) m ++ range_with_len b n) e)
 
 -- the pages of a set up to a greater last page are no more
 pub same_range : (pages : ℕ → Bool) (m n : ℕ) → m ≤ n → ((p : ℕ) → pages p ≡ true → p ≤ m)

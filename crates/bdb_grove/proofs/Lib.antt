@@ -1,3 +1,4 @@
+pub mod AscendLemmas
 pub mod BesideLemmas
 pub mod BranchLemmas
 pub mod ChainLemmas

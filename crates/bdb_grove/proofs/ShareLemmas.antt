@@ -13,9 +13,9 @@ use Rattle.bdb_format.specs.Graph.{Owner, first_holder, held_by, is_head_referen
 use Rattle.bdb_format.proofs.MemberLemmas.{first_member, later_member, of_filter, of_range}
 use Rattle.bdb_grove.specs.Part.{IsOwnedBy, IsWayIn, are_heads_alone, owners_among}
 use Rattle.bdb_grove.specs.Growing.{GroveKeepsFaces, GroveLasts, GroveShares, KeepsFace}
-use Rattle.bdb_format.proofs.ListLemmas.{only_member}
+use Rattle.bdb_format.proofs.ListLemmas.{only_member, range_parts}
 use Rattle.bdb_grove.proofs.OwnerLemmas.{filter_none, names_page, owner_of}
-use Rattle.bdb_grove.proofs.GroveLemmas.{code_kept, held_same, owners_same, range_parts, refs_kept, refs_same, same_face, same_page_face, way_same}
+use Rattle.bdb_grove.proofs.GroveLemmas.{code_kept, held_same, owners_same, refs_kept, refs_same, same_face, same_page_face, way_same}
 use Rattle.bdb_grove.proofs.TakeLemmas.{held_more, other_names, owned_more}
 
 pub keeps_faces : GroveKeepsFaces

@@ -13,10 +13,10 @@ use Rattle.bdb_format.specs.File.{File, page_at, header_in}
 use Rattle.bdb_format.specs.References.{fit_code, refs}
 use Rattle.bdb_format.specs.Graph.{Owner, first_holder, held_by, is_head_reference}
 use Rattle.bdb_format.proofs.MemberLemmas.{first_member, later_member, in_filter, in_map, no_member, of_filter, of_map, of_range}
+use Rattle.bdb_format.proofs.ListLemmas.{range_parts}
 use Rattle.bdb_grove.specs.Part.{IsOwnedBy, IsWayIn, are_heads_alone, owners_among}
 use Rattle.bdb_grove.specs.Standing.{PageStandsOver, named_by}
 use Rattle.bdb_grove.proofs.OwnerLemmas.{names_page, owner_of, unowned}
-use Rattle.bdb_grove.proofs.GroveLemmas.{range_parts}
 use Rattle.bdb_grove.proofs.BesideLemmas.{first_inside}
 
 -- Owners.

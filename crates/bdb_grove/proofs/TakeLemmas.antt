@@ -39,7 +39,7 @@ new_name f g p r names none =
     ∙ ap (λ os. os ++ (owner_of p r ∷ [])) (held_none f r.target p none)))
 
 -- one page of a set
-filter_inner : (pages : ℕ → Bool) (m : ℕ) (xs : List ℕ) → pages m ≡ true → filter (λ q. q == m) (filter pages xs) ≡ filter (λ q. q == m) xs
+pub filter_inner : (pages : ℕ → Bool) (m : ℕ) (xs : List ℕ) → pages m ≡ true → filter (λ q. q == m) (filter pages xs) ≡ filter (λ q. q == m) xs
 filter_inner pages m [] is = refl
 filter_inner pages m (x ∷ xs) is =
     elim (cases_Bool (pages x)) [

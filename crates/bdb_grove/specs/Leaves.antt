@@ -1,6 +1,6 @@
 -- Leaves over a branch, by what their items hold.
 -- Source: docs/FORMAT.md, "Items", "References" and "Stage 3, references" to "Stage 6, chains and trees".
-use Rattle.std.specs.Prelude.{◌≡◌, ℕ, ◌<◌, ◌≤◌, ◌==◌, ◌||◌, Bool, true, false, List, [], ◌∷◌, length, map, Some}
+use Rattle.std.specs.Prelude.{◌≡◌, ℕ, ◌+◌, ◌<◌, ◌≤◌, ◌==◌, ◌||◌, Bool, true, false, List, [], ◌∷◌, length, map, Some}
 use Rattle.std.specs.List.{All, filter, flat_map, list_any}
 use Rattle.bdb_format.specs.declared.metadata.FileKind.TheVariants.{Queue}
 use Rattle.bdb_format.specs.declared.references.Sort.{Sort}
@@ -56,6 +56,11 @@ pub record IsFilled (g : File) (pages : ℕ → Bool) (leaf : FilledLeaf) : Type
 abbrev pub Ascend : ℕ → List ℕ → Type 0
 Ascend low [] = Unit {0}
 Ascend low (x ∷ xs) = (low < x) × Ascend x xs
+
+-- numbers that ascend, from one number up to another
+abbrev pub AscendIn : ℕ → ℕ → List ℕ → Type 0
+AscendIn low beyond [] = low ≤ beyond
+AscendIn low beyond (x ∷ xs) = (low ≤ x) × AscendIn (x + 1) beyond xs
 
 -- Leaves over a branch, none twice; the numbers of the pages that they name ascend.
 pub record LeavesOver (g : File) (pages : ℕ → Bool) (leaves : List FilledLeaf) : Type 0 where

@@ -30,8 +30,9 @@ use Rattle.bdb_graph.proofs.LinkedLemmas.{target_inside}
 use Rattle.bdb_hash.specs.Told.{Told, is_of_bucket, page_told, pages_from, told, told_pair}
 use Rattle.bdb_hash.specs.Views.{IsOnWay, IsTable}
 use Rattle.bdb_hash.proofs.PairLemmas.{page_names}
-use Rattle.bdb_format.proofs.ReferenceLemmas.{of_all, count_is}
+use Rattle.bdb_format.proofs.ReferenceLemmas.{of_all}
 use Rattle.bdb_format.proofs.ChainLemmas.{chain_few}
+use Rattle.bdb_format.proofs.FileLemmas.{count_is}
 use Rattle.bdb_graph.proofs.TargetLemmas.{is_no_queue}
 
 -- Which pages a bucket has.

@@ -6,8 +6,8 @@ use Rattle.std.specs.List.{AllPairs, Contains, IsDistinct, flat_map, range_with_
 use Rattle.std.specs.List.Sorted.{IsPermutation, IsSorted, IsStrictlyIncreasing}
 use Rattle.std.specs.Ordering.{nat_cmp}
 use Rattle.std.specs.Str.{bytes_eq}
-use Rattle.std.proofs.lemmas.Bool.{eqb-false, eqb-true, eq-eqb, or_from}
-use Rattle.std.proofs.lemmas.List.{map-append}
+use Rattle.std.proofs.lemmas.Bool.{eqb-false, eqb-true, eq-eqb, or_from, false_from_ne_true}
+use Rattle.std.proofs.lemmas.List.{get_or_default, map-append}
 use Rattle.std.proofs.lemmas.List.Elements.{All-contains, All-from_recursion, recursion_from_All}
 use Rattle.std.proofs.lemmas.List.Kept.{AllPairs-from_increasing}
 use Rattle.std.proofs.lemmas.List.Sorted.{IsPermutation-sym}
@@ -21,12 +21,12 @@ use Rattle.bdb_format.specs.File.{file_of}
 use Rattle.bdb_format.specs.Hashing.{hash5}
 use Rattle.bdb_format.proofs.MemberLemmas.{first_member, in_map, later_member, of_map}
 use Rattle.bdb_format.proofs.RepeatLemmas.{repeated_after, repeated_is}
+use Rattle.bdb_format.proofs.LessLemmas.{eq_same}
 use Rattle.bdb_hash.specs.Noted.{repeat_fault, repeat_faults, stored}
 use Rattle.bdb_hash.specs.Passed.{is_among, is_missed, key_hash}
 use Rattle.bdb_hash.specs.Told.{Told, bucket_told, joined_pages, page_told}
 use Rattle.bdb_hash.proofs.RepeatLemmas.{has_same}
 use Rattle.bdb_hash.proofs.TableLemmas.{told_more}
-use Rattle.bdb_overflow.proofs.KeyLemmas.{eq_same, not_true}
 use Rattle.bdb_faults.proofs.SinkLemmas.{notes_nothing}
 
 -- Numbers that are apart.
@@ -41,11 +41,6 @@ sorted_apart old new moved sorted apart =
     (IsDistinct-from_AllPairs {eq = nat_eq} (λ a b. (eqb-true a b, eq-eqb a b)) new all)
 
 -- Numbers that are apart but for those that are among others.
-
-same_default : (xs : List ℕ) (k d e : ℕ) → k < length xs → get_or xs k d ≡ get_or xs k e
-same_default [] k d e low = absurd (omega (arith, low))
-same_default (x ∷ xs) zero d e low = refl
-same_default (x ∷ xs) (suc k) d e low = same_default xs k d e (omega arith)
 
 rising : (xs : List ℕ) (k : ℕ) → IsSorted nat_cmp xs → k + 1 < length xs → get_or xs k 0 ≤ get_or xs (k + 1) 0
 rising xs k sorted low = let order = sorted k 0 (omega arith) low in grind arith
@@ -84,7 +79,7 @@ pub sorted_missed : (old new : List ℕ) (twice : BTreeSet ℕ) → IsPermutatio
 sorted_missed old new twice moved sorted each =
     IsDistinct-IsPermutation (is_missed twice) (missed_flips twice) new old (IsPermutation-sym old new moved)
     (distinct_from (is_missed twice) new (λ i j d low high.
-    rw (same_default new i d 0 (omega arith), same_default new j d 0 high)
+    rw (get_or_default new i d 0 (omega arith), get_or_default new j d 0 high)
     (not_missed twice (get_or new i 0) (get_or new j 0) (λ same.
     let n : ℕ = j - (i + 1) in
     let place : i + 1 + n ≡ j = omega arith in
@@ -112,7 +107,7 @@ unfolding IsDistinct
 none_after before [] apart other = refl
 none_after before (t ∷ ts) apart other =
     let later : (pair : StoredPair) → Contains (stored ts) pair → bytes_eq t.pair.key pair.key ≡ false = λ pair at.
-    not_true (bytes_eq t.pair.key pair.key) (λ same.
+    false_from_ne_true (bytes_eq t.pair.key pair.key) (λ same.
     let found = of_map (λ (u : Told). u.pair) ts pair at in
     let hash : nat_eq (key_hash t) (key_hash found.0) ≡ false =
     All-contains (λ n. nat_eq (key_hash t) n ≡ false) (map key_hash ts) (key_hash found.0) (All-from_recursion _ (map key_hash ts) apart.0)

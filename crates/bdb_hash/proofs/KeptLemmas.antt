@@ -4,7 +4,7 @@ use Rattle.std.specs.Prelude.{nat_eq}
 use Rattle.std.specs.BTreeSet.{BTreeSet, IsEmpty}
 use Rattle.std.specs.List.{Contains, IsDistinct, filter, flat_map, range_with_len}
 use Rattle.std.specs.Str.{bytes_eq}
-use Rattle.std.proofs.lemmas.Bool.{eq-eqb, or_from}
+use Rattle.std.proofs.lemmas.Bool.{eq-eqb, false_from_ne_true, or_from}
 use Rattle.std.proofs.lemmas.List.Elements.{All-contains, All-from_recursion, filter-append}
 use Rattle.bdb_faults.specs.Notes.{Notes}
 use Rattle.bdb_format.specs.declared.kinds.Fault.{Fault}
@@ -14,12 +14,12 @@ use Rattle.bdb_format.specs.File.{file_of}
 use Rattle.bdb_format.specs.Hashing.{hash5}
 use Rattle.bdb_format.proofs.MemberLemmas.{first_member, in_map, later_member}
 use Rattle.bdb_format.proofs.RepeatLemmas.{has_key as has_this, repeated_after, repeated_is}
+use Rattle.bdb_format.proofs.LessLemmas.{eq_same}
 use Rattle.bdb_hash.specs.Noted.{repeat_fault, repeat_faults, stored}
 use Rattle.bdb_hash.specs.Passed.{IsNoting, NotesRepeats, is_among, is_kept, is_missed, key_hash}
 use Rattle.bdb_hash.specs.Told.{Told, bucket_told, joined_pages, page_told}
 use Rattle.bdb_hash.proofs.RepeatLemmas.{all_noting, both_noted, more_noting, none_noting, noted_anew}
 use Rattle.bdb_hash.proofs.TableLemmas.{told_more}
-use Rattle.bdb_overflow.proofs.KeyLemmas.{eq_same, not_true}
 
 -- Going through the pairs.
 
@@ -74,7 +74,7 @@ other_hash : (twice : BTreeSet ℕ) (t : Told) (ts : List Told) (u : Told) → I
     → is_kept twice t ≡ false → Contains ts u → bytes_eq t.pair.key u.pair.key ≡ false
 unfolding IsDistinct
 other_hash twice t ts u apart lost at =
-    not_true (bytes_eq t.pair.key u.pair.key) (λ same.
+    false_from_ne_true (bytes_eq t.pair.key u.pair.key) (λ same.
     let missed : is_missed twice (key_hash t) (key_hash u) ≡ false =
     All-contains (λ n. is_missed twice (key_hash t) n ≡ false) (map key_hash ts) (key_hash u) (All-from_recursion _ (map key_hash ts) apart.0)
     (in_map key_hash ts u at) in
@@ -106,7 +106,7 @@ kept_repeats twice seen kept (t ∷ ts) apart new same =
         same t.pair.key is,
         kept_repeats twice (t.pair ∷ seen) (t.pair ∷ kept) ts (later_apart twice t ts apart)
             (λ u at lost. or_from (bytes_eq t.pair.key u.pair.key) (has_this u.pair.key seen)
-            (not_true (bytes_eq t.pair.key u.pair.key) (λ one.
+            (false_from_ne_true (bytes_eq t.pair.key u.pair.key) (λ one.
             let alike : is_among twice (hash5 t.pair.key) ≡ is_among twice (hash5 u.pair.key) = kept_alike twice t.pair.key u.pair.key one in cc))
             (new u (later_member t ts u at) lost))
             (λ key among. same_or (bytes_eq t.pair.key key) (has_this key kept) (has_this key seen) (same key among)),
@@ -117,7 +117,7 @@ kept_repeats twice seen kept (t ∷ ts) apart new same =
             (λ u at lost. or_from (bytes_eq t.pair.key u.pair.key) (has_this u.pair.key seen) (other_hash twice t ts u apart is at)
             (new u (later_member t ts u at) lost))
             (λ key among. same key among
-            ∙ ap (λ b. b || has_this key seen) (sym (not_true (bytes_eq t.pair.key key) (λ one.
+            ∙ ap (λ b. b || has_this key seen) (sym (false_from_ne_true (bytes_eq t.pair.key key) (λ one.
             let alike : is_among twice (hash5 t.pair.key) ≡ is_among twice (hash5 key) = kept_alike twice t.pair.key key one in cc)))),
       ) refl
     ] refl

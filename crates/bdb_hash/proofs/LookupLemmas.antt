@@ -5,7 +5,7 @@ use Rattle.std.specs.Prelude.{Option, Some, None, ◌==◌}
 use Rattle.std.specs.List.{Contains, find, flat_map, list_any, range_with_len}
 use Rattle.std.specs.Option.{option_or}
 use Rattle.std.specs.Str.{bytes_eq}
-use Rattle.std.proofs.lemmas.Bool.{cases_Bool, eq-eqb, eqb-true, not-false, or_parts, true≢false}
+use Rattle.std.proofs.lemmas.Bool.{cases_Bool, eq-eqb, eqb-true, false_from_ne_true, not-false, or_parts, true≢false}
 use Rattle.std.proofs.lemmas.List.{append-nil}
 use Rattle.std.proofs.lemmas.List.Elements.{Contains-append_left}
 use Rattle.std.proofs.lemmas.List.Folds.{find-append}
@@ -16,7 +16,7 @@ use Rattle.bdb_format.specs.File.{File, file_of}
 use Rattle.bdb_format.specs.Less.{less, Less}
 use Rattle.bdb_format.specs.Lists.{ListKey, BytesKey, by_key, get, hash_list, insert_pair, listed_pair}
 use Rattle.bdb_format.specs.Page.{HashFields}
-use Rattle.bdb_format.proofs.LessLemmas.{not_less_same}
+use Rattle.bdb_format.proofs.LessLemmas.{eq_same, not_less_same}
 use Rattle.bdb_format.proofs.MemberLemmas.{first_member, in_range, is_empty, later_member, member_cases, no_member, none_passes, of_range}
 use Rattle.bdb_format.proofs.VerdictLemmas.{AllFail, no_rows_at}
 use Rattle.bdb_format.proofs.PairLemmas.{get_append}
@@ -25,7 +25,6 @@ use Rattle.bdb_graph.specs.Linked.{HasMetadata}
 use Rattle.bdb_hash.specs.Told.{IsSought, Told, bucket_told, has_key, joined_pages, told}
 use Rattle.bdb_hash.specs.Views.{IsTable}
 use Rattle.bdb_hash.proofs.FaultLemmas.{bucket_is, few_buckets, table_plain}
-use Rattle.bdb_overflow.proofs.KeyLemmas.{eq_same, not_true}
 use Rattle.bdb_hash.proofs.PlainLemmas.{IsPlain, bucket_plain}
 use Rattle.bdb_hash.proofs.RowLemmas.{ArePlain, buckets_of}
 use Rattle.bdb_format.proofs.ListLemmas.{passes_here, flat_map_twice}
@@ -94,7 +93,7 @@ one_under : (file : File) (key : List ℕ) (a b : StoredPair) → less a.key b.k
 one_under file key a b is =
     elim (cases_Bool (bytes_eq a.key key)) [
       | inl own ↦
-          inr (under_other file key b (not_true (bytes_eq b.key key) (λ same.
+          inr (under_other file key b (false_from_ne_true (bytes_eq b.key key) (λ same.
           not_less_same b.key (subst (λ xs. Less xs b.key) (eq_same a.key key own ∙ sym (eq_same b.key key same)) is))))
       | inr other ↦ inl (under_other file key a other)
     ]
@@ -246,7 +245,7 @@ told_data None = []
 told_data (Some t) = data_of (file_of t.image) t.pair.data_item
 
 pub same_key : (a b key : List ℕ) → bytes_eq a b ≡ false → bytes_eq a key ≡ true → bytes_eq b key ≡ false
-same_key a b key apart own = not_true (bytes_eq b key)
+same_key a b key apart own = false_from_ne_true (bytes_eq b key)
     (λ same. true≢false (sym (subst (λ xs. bytes_eq a xs ≡ true) (sym (eq_same b key same)) own) ∙ apart))
 
 first_under : (image key : List ℕ) (pairs : List StoredPair) → ArePlain (file_of image) pairs → AreApart pairs
@@ -280,7 +279,7 @@ list_found image meta key b found table has none is few same =
     let listed : Contains (buckets_of meta) b = in_range 0 (meta.max_bucket + 1) b (omega arith) (omega arith) in
     let others : (c : ℕ) → Contains (buckets_of meta) c → (c ≡ b → ⊥) → flat_map (under file key) (bucket_pairs file meta c) ≡ [] =
     λ c at_c apart. all_empty (under file key) (bucket_pairs file meta c) (λ pair at. under_other file key pair
-    (not_true (bytes_eq pair.key key) (λ own.
+    (false_from_ne_true (bytes_eq pair.key key) (λ own.
     apart (sym (own_bucket image meta c pair table has none at_c at) ∙ (ap (bucket_of_key meta) (eq_same pair.key key own) ∙ sym is))))) in
     sym
     (list_under file meta key

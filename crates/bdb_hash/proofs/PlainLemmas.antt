@@ -19,8 +19,8 @@ use Rattle.bdb_format.specs.Page.{HashFields, Item, Listed, Page, PageType, Hash
 use Rattle.bdb_format.specs.Reading.{abstract_page, entries_of, hash_item_at, is_zero, listed, page_as, page_type}
 use Rattle.bdb_format.specs.References.{item_at, no_item}
 use Rattle.bdb_format.proofs.MemberLemmas.{member_cases, no_member, of_flat_map, of_map}
+use Rattle.bdb_format.proofs.FileLemmas.{last_page, page_is}
 use Rattle.bdb_graph.specs.Linked.{HasMetadata}
-use Rattle.bdb_graph.proofs.HeldLemmas.{last_page, page_is}
 use Rattle.bdb_graph.proofs.LinkedLemmas.{bucket_fits}
 use Rattle.bdb_hash.specs.Told.{is_of_bucket, pages_from}
 use Rattle.bdb_hash.specs.Views.{IsOfBucket, IsOnWay, IsTable}

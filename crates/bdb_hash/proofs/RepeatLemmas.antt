@@ -8,7 +8,7 @@ use Rattle.std.specs.Ordering.{nat_cmp}
 use Rattle.std.specs.List.{Contains, flat_map, list_any, range_with_len}
 use Rattle.std.specs.Str.{bytes_eq}
 use Rattle.std.proofs.Math.Bool.{or-false}
-use Rattle.std.proofs.lemmas.Bool.{eqb-true, not-false, or_from}
+use Rattle.std.proofs.lemmas.Bool.{eqb-true, false_from_ne_true, not-false, or_from}
 use Rattle.std.proofs.lemmas.List.{map-append}
 use Rattle.std.proofs.lemmas.List.Elements.{Contains-append_left, Contains-append_right}
 use Rattle.std.proofs.lemmas.List.Folds.{list_any-append}
@@ -25,11 +25,11 @@ use Rattle.bdb_format.specs.ContentRows.{bucket_of_key, repeated}
 use Rattle.bdb_format.specs.Contents.{StoredPair}
 use Rattle.bdb_format.proofs.MemberLemmas.{filter_step, first_member, later_member, member_cases, no_member, none_passes, of_flat_map, of_map, of_range}
 use Rattle.bdb_format.proofs.RepeatLemmas.{has_key as has_this, repeated_after, repeated_is}
+use Rattle.bdb_format.proofs.LessLemmas.{eq_same}
 use Rattle.bdb_hash.specs.Noted.{has_stray, has_stray_in, is_stray, repeat_fault, repeat_faults, stored}
 use Rattle.bdb_hash.specs.Passed.{AreKeysOf, IsNoting, NotesRepeats, behind, key_of}
 use Rattle.bdb_hash.specs.Told.{Told, bucket_told, table_told}
 use Rattle.bdb_faults.specs.declared.rows.ContentsRow.TheVariants.{KeyTwice}
-use Rattle.bdb_overflow.proofs.KeyLemmas.{eq_same, not_true}
 use Rattle.bdb_hash.proofs.RowLemmas.{buckets_of}
 use Rattle.bdb_faults.proofs.SinkLemmas.{notes_nothing, notes_then}
 
@@ -86,7 +86,7 @@ by_part parts home a zero own = refl
 by_part parts home a (suc n) own =
     let later : List ℕ = range_with_len (a + 1) n in
     let apart : (x y : StoredPair) → Contains (parts a) x → Contains (flat_map parts later) y → bytes_eq x.key y.key ≡ false = λ x y at_x at_y.
-    not_true (bytes_eq x.key y.key) (λ same.
+    false_from_ne_true (bytes_eq x.key y.key) (λ same.
     let found : (c : ℕ) × Contains later c × Contains (parts c) y = of_flat_map parts later y at_y in
     let above : (a + 1 ≤ found.0) × (found.0 < a + 1 + n) = of_range (a + 1) n found.0 found.1 in
     let one : a ≡ found.0 = sym (own a (first_member a later) x at_x)

@@ -7,7 +7,6 @@ use Rattle.std.proofs.Math.Bool.{and-false}
 use Rattle.std.proofs.lemmas.Bool.{and_parts, eq-eqb, eqb-true}
 use Rattle.std.proofs.lemmas.List.{append-nil}
 use Rattle.std.proofs.lemmas.List.Elements.{Contains-append_cases, Contains-append_left, Contains-append_right}
-use Rattle.std.proofs.lemmas.List.Folds.{list_any-append}
 use Rattle.std.proofs.lemmas.List.Sums.{take_while-cons}
 use Rattle.bdb_format.specs.declared.metadata.HashMeta.{HashMeta}
 use Rattle.bdb_format.specs.ContentRows.{ascends, bucket_of_key, groups, hash_contents, is_duplicate, is_unsorted, is_wrong_set, live_data, repeated}
@@ -23,6 +22,7 @@ use Rattle.bdb_hash.specs.Told.{Told}
 use Rattle.bdb_hash.proofs.NotedLemmas.{contents_fault, rows_noted}
 use Rattle.bdb_hash.proofs.PlainLemmas.{IsPlain}
 use Rattle.bdb_format.proofs.ListLemmas.{any_member, only_member, passes_here}
+use Rattle.bdb_overflow.proofs.LengthLemmas.{any_of_all}
 
 -- Rows that hold.
 
@@ -52,10 +52,6 @@ in_holding (r ∷ rows) row at holds =
     ]
 
 -- Tests of pairs.
-
-any_flat : {X Y : Type 0} (test : Y → Bool) (f : X → List Y) (xs : List X) → list_any test (flat_map f xs) ≡ list_any (λ x. list_any test (f x)) xs
-any_flat test f [] = refl
-any_flat test f (x ∷ xs) = list_any-append test (f x) (flat_map f xs) ∙ ap (λ b. list_any test (f x) || b) (any_flat test f xs)
 
 and_any : {X : Type 0} (given : Bool) (at test : X → Bool) (xs : List X)
     → (given && list_any (λ x. at x && test x) xs) ≡ list_any (λ x. at x && (given && test x)) xs
@@ -226,8 +222,8 @@ rows_are file meta p plain =
     let at : StoredPair → Bool = λ pair. pair.page == p in
     rows_eq _ _ _ _ _ _ _ _
     (and_any (not (has_duplicates (HashFields meta))) at is_duplicate all
-    ∙ any_flat (λ (pair : StoredPair). pair.page == p && (not (has_duplicates (HashFields meta)) && is_duplicate pair)) pairs buckets)
-    (any_flat (λ (pair : StoredPair). pair.page == p && is_wrong_set file (is_sorted (HashFields meta)) pair.data_item) pairs buckets)
+    ∙ any_of_all (λ (pair : StoredPair). pair.page == p && (not (has_duplicates (HashFields meta)) && is_duplicate pair)) pairs buckets)
+    (any_of_all (λ (pair : StoredPair). pair.page == p && is_wrong_set file (is_sorted (HashFields meta)) pair.data_item) pairs buckets)
     (ap (λ b. is_sorted (HashFields meta) && b) (groups_alone file all p plain)
     ∙ (and_any (is_sorted (HashFields meta)) at (λ (pair : StoredPair). not (ascends (data_of file pair.data_item))) all
-    ∙ any_flat (λ (pair : StoredPair). pair.page == p && (is_sorted (HashFields meta) && not (ascends (data_of file pair.data_item)))) pairs buckets))
+    ∙ any_of_all (λ (pair : StoredPair). pair.page == p && (is_sorted (HashFields meta) && not (ascends (data_of file pair.data_item)))) pairs buckets))

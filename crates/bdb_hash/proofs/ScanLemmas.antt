@@ -24,7 +24,7 @@ use Rattle.bdb_format.specs.Less.{less, Less}
 use Rattle.bdb_format.specs.Lists.{by_key, hash_list, insert_pair}
 use Rattle.bdb_format.specs.Page.{HashFields}
 use Rattle.bdb_format.proofs.ListLemmas.{all_of}
-use Rattle.bdb_format.proofs.LessLemmas.{not_less_both, not_less_same}
+use Rattle.bdb_format.proofs.LessLemmas.{eq_same, eq_self, less_trans, not_less_both, not_less_same}
 use Rattle.bdb_format.proofs.MemberLemmas.{first_member, in_map, later_member, member_cases, no_member, of_map}
 use Rattle.bdb_graph.specs.Linked.{HasMetadata}
 use Rattle.bdb_hash.specs.Scanned.{ranked}
@@ -33,15 +33,10 @@ use Rattle.bdb_hash.specs.Passed.{key_of}
 use Rattle.bdb_hash.specs.Told.{Told, listed_told, table_told, told, told_cmp}
 use Rattle.bdb_hash.specs.Views.{IsTable}
 use Rattle.bdb_hash.proofs.FaultLemmas.{table_is_told, table_stored}
-use Rattle.bdb_overflow.proofs.KeyLemmas.{eq_same, eq_self, is_order}
+use Rattle.bdb_overflow.proofs.KeyLemmas.{is_order}
 use Rattle.bdb_hash.proofs.LookupLemmas.{AreApart, same_key, table_apart}
 
 -- The order of keys.
-
-less_through : (a b c : List ℕ) → Less a b → Less b c → Less a c
-less_through a b c first second =
-    let below : slice_cmp nat_cmp a c ≡ Below = nat_list_cmp_total.trans a b c (sym (is_order Below a b first)) (sym (is_order Below b c second)) in
-    subst (λ r. OrderingIs r a c) below (slice_cmp-is a c)
 
 -- of two keys that differ the first is less where the second isn't
 less_where : (r : Ordering) (a b : List ℕ) → OrderingIs r a b → bytes_eq a b ≡ false → (Less b a → ⊥) → Less a b
@@ -124,7 +119,7 @@ insert_rising pair (other ∷ others) rising apart =
           (apart other (first_member other others)) (λ below. true≢false (sym below ∙ not_below)) in (
             λ q at. elim (member_cases other others q at) [
               | inl same ↦ subst (λ (p : StoredPair). Less pair.key p.key) same first
-              | inr later ↦ less_through pair.key other.key q.key first (rising.0 q later)
+              | inr later ↦ less_trans pair.key other.key q.key first (rising.0 q later)
             ],
             rising,
           )

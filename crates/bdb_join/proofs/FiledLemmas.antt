@@ -4,13 +4,13 @@ use Rattle.std.proofs.Common.{arith, append_assoc, refl, sym, ◌∙◌, ap, sub
 use Rattle.std.specs.List.{Contains}
 use Rattle.std.proofs.lemmas.Bool.{cases_lt}
 use Rattle.std.proofs.lemmas.List.{append-nil, get_or_past, length-map, length-replicate}
-use Rattle.bdb_pack.proofs.ImageLemmas.{page_so_far}
+use Rattle.bdb_pack.proofs.ImageLemmas.{counted_so_far, page_so_far}
 use Rattle.bdb_format.specs.declared.kinds.Order.{Order}
 use Rattle.bdb_format.specs.declared.metadata.BtreeMeta.{BtreeMeta}
 use Rattle.bdb_format.specs.declared.metadata.FileKind.TheVariants.{Btree}
 use Rattle.bdb_format.specs.declared.metadata.Head.{Head}
 use Rattle.bdb_format.specs.Spelling.{btree_bytes, common_bytes, last_field, zeros}
-use Rattle.bdb_format.specs.Numbers.{byte_at, spelled}
+use Rattle.bdb_format.specs.Numbers.{spelled}
 use Rattle.bdb_format.specs.Page.{BtreeFields, Meta, NoType}
 use Rattle.bdb_format.specs.Reading.{abstract_page}
 use Rattle.bdb_format.specs.HeadOf.{head_of, is_page_size}
@@ -18,15 +18,15 @@ use Rattle.bdb_format.specs.Rows.{form_code, page_code}
 use Rattle.bdb_format.specs.File.{file_of, page_at}
 use Rattle.bdb_format.specs.Graph.{is_meta}
 use Rattle.bdb_format.proofs.SpellingLemmas.{length-spelled}
+use Rattle.bdb_format.proofs.SizeLemmas.{size_bounds}
 use Rattle.bdb_graph.proofs.CodeLemmas.{tree_passed}
-use Rattle.bdb_graph.proofs.FormedLemmas.{size_bounds}
 use Rattle.bdb_graph.proofs.HeldLemmas.{table_page, tree_page}
-use Rattle.bdb_grove.specs.Growing.{IsCounted, IsLater}
+use Rattle.bdb_grove.specs.Growing.{IsLater}
 use Rattle.bdb_meta.proofs.CommonLemmas.{length-common}
 use Rattle.bdb_pack.specs.Built.{Built, bytes_of, file_so_far, joined_pages}
 use Rattle.bdb_pack.proofs.CutLemmas.{all_size}
 use Rattle.bdb_join.specs.Filed.{AreFiled, BtreesAreSpelled, FiledPartsAreJoined, IsSpelled, head_for}
-use Rattle.bdb_join.specs.Joining.{AreJoined, IsMetaOf, Joint, free_of}
+use Rattle.bdb_join.specs.Joining.{AreJoined, Joint, free_of}
 use Rattle.bdb_join.specs.Written.{AreLegal, HasHead, SpellsMeta}
 use Rattle.bdb_join.proofs.CommonLemmas.{ReadsAs, reads_common}
 use Rattle.bdb_join.proofs.HeadLemmas.{IsBtreePage, IsImage, head_accepted, image_head, page_accepted}
@@ -138,14 +138,6 @@ no_page : (built : Built) (p : ℕ) → length built.pages ≤ p → page_at (fi
 no_page built p past =
     get_or_past (map (abstract_page built.order) built.pages) p NoType (omega (arith, past, length-map built.pages (abstract_page built.order)))
 
-counted : (built : Built) → 1 ≤ length built.pages → IsCounted (file_so_far built)
-counted built some =
-    record {
-      no_queue = λ queue. cc;
-      counted = omega (arith, some);
-      pages = omega (arith, some, length-map built.pages (abstract_page built.order));
-    }
-
 -- the pages of a part are as they were
 stays : (before after : Built) (joints : List Joint) (j : Joint) (p : ℕ) → AreFiled before after joints → Contains joints j → j.part.pages p ≡ true
     → page_at (file_so_far after) p ≡ page_at (file_so_far before) p
@@ -183,7 +175,7 @@ joined before after joints filed =
     record {
       forest = λ queue. cc;
       shared_out = filed.shared_out;
-      parts = λ j member. filed.parts j member (file_so_far after) (counted after filed.pages.some) (later before after joints j filed member);
+      parts = λ j member. filed.parts j member (file_so_far after) (counted_so_far after filed.pages.some) (later before after joints j filed member);
       named = λ j member. named before after joints j filed member;
       no_free = λ j member. let spelled : IsSpelled after j = filed.spelled j member in spelled.no_free;
     }

@@ -16,8 +16,8 @@ use Rattle.bdb_format.specs.Rows.{is_tree_type, magic_of, metadata_rows, page_co
 use Rattle.bdb_format.specs.Reading.{is_zero, page_type}
 use Rattle.bdb_format.specs.Table.{Row, first_row}
 use Rattle.bdb_format.proofs.VerdictLemmas.{AllFail, none_is_first_row}
+use Rattle.bdb_format.proofs.SizeLemmas.{size_bounds}
 use Rattle.bdb_graph.proofs.CodeLemmas.{code_by, first_page_code, tree_metadata}
-use Rattle.bdb_graph.proofs.FormedLemmas.{size_bounds}
 use Rattle.bdb_meta.specs.RowGroups.{flag_rows}
 use Rattle.bdb_join.proofs.CommonLemmas.{ReadsAs}
 

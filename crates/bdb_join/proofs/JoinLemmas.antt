@@ -4,9 +4,8 @@ use Rattle.bdb_format.specs.declared.kinds.Fault.{Fault}
 use Rattle.bdb_format.specs.File.{File, file_of}
 use Rattle.bdb_format.specs.Verdict.{or_else, faults_of, ownership_faults, reach_faults, head_faults, tail_faults}
 use Rattle.bdb_format.proofs.GraphLemmas.{each_page_has_one_role}
-use Rattle.bdb_format.proofs.ReferenceLemmas.{count_is}
 use Rattle.bdb_format.proofs.VerdictLemmas.{none_in}
-use Rattle.bdb_graph.proofs.HeldLemmas.{last_page}
+use Rattle.bdb_format.proofs.FileLemmas.{count_is, last_page}
 use Rattle.bdb_join.specs.Joining.{Joint, AreJoined, JoinsUnderMaster}
 use Rattle.bdb_join.proofs.SourceLemmas.{references_none}
 use Rattle.bdb_join.proofs.RoleLemmas.{role_of}

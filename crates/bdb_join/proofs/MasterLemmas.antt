@@ -4,7 +4,7 @@ use Rattle.std.proofs.Common.{arith, refl, sym, ◌∙◌, ap, subst, inl, inr}
 use Rattle.std.specs.Prelude.{◌==◌, ◌&&◌, nat_lt}
 use Rattle.std.specs.List.{Contains, filter, flat_map, list_any}
 use Rattle.std.specs.Str.{bytes_eq}
-use Rattle.std.proofs.lemmas.Bool.{cases_Bool, cases_lt, and_left, and_right, and_parts, eq-eqb, lt-ltb, or_parts}
+use Rattle.std.proofs.lemmas.Bool.{cases_Bool, cases_lt, and_left, and_right, and_parts, eq-eqb, lt-ltb, or_parts, and_from}
 use Rattle.std.proofs.lemmas.List.{get_or_past}
 use Rattle.bdb_format.specs.declared.metadata.BtreeMeta.{BtreeMeta}
 use Rattle.bdb_format.specs.declared.metadata.Head.{Head}
@@ -24,10 +24,9 @@ use Rattle.bdb_format.specs.Master.{pairs_under}
 use Rattle.bdb_format.specs.Verdict.{holding, master_faults}
 use Rattle.bdb_format.proofs.MemberLemmas.{first_member, in_filter, in_map, later_member, member_cases, no_member, none_pass, none_passes}
 use Rattle.bdb_format.proofs.MemberLemmas.{of_filter, of_flat_map}
-use Rattle.bdb_format.proofs.ReferenceLemmas.{pages_counted}
 use Rattle.bdb_format.proofs.RepeatLemmas.{repeated_after, repeated_is}
 use Rattle.bdb_format.proofs.VerdictLemmas.{AllFail, all_fail, no_faults, none_holds}
-use Rattle.bdb_graph.proofs.HeldLemmas.{last_page, page_is}
+use Rattle.bdb_format.proofs.FileLemmas.{last_page, page_is, pages_counted}
 use Rattle.bdb_join.specs.Joining.{AreJoined, HasForm, IsJoined, IsMetaOf, Joint}
 use Rattle.bdb_join.specs.Masters.{AreNamesApart, Entry, IsUnderMaster}
 use Rattle.bdb_join.proofs.FirstLemmas.{first_flags, master_is_keyed}
@@ -226,11 +225,8 @@ above_zero : (file : File) (p : ℕ) → is_named_kind file p ≡ true → (1 �
 above_zero file zero is = absurd cc
 above_zero file (suc p) is = (omega arith, (and_parts (nat_lt 0 (suc p)) (is_meta (page_at file (suc p))) is).1)
 
-both : (a b : Bool) → a ≡ true → b ≡ true → (a && b) ≡ true
-both a b first second = rw (first, second) refl
-
 of_named_kind : (file : File) (p : ℕ) → 1 ≤ p → is_meta (page_at file p) ≡ true → is_named_kind file p ≡ true
-of_named_kind file p above is = both (nat_lt 0 p) (is_meta (page_at file p)) (lt-ltb 0 p above) is
+of_named_kind file p above is = and_from (nat_lt 0 p) (is_meta (page_at file p)) (lt-ltb 0 p above) is
 
 meta_of : (file : File) (joints : List Joint) (p : ℕ) → AreJoined file joints → p ≤ file.last → is_meta (page_at file p) ≡ true → IsMetaOf joints p
 meta_of file joints p all high is =

@@ -30,7 +30,7 @@ use Rattle.bdb_format.proofs.ListLemmas.{only_member}
 use Rattle.bdb_format.proofs.MemberLemmas.{is_empty, no_member, none_pass, of_flat_map, of_map}
 use Rattle.bdb_format.proofs.PageLemmas.{later_type}
 use Rattle.bdb_format.proofs.VerdictLemmas.{no_code, no_codes_at, no_faults, none_holds, none_in, none_within}
-use Rattle.bdb_graph.proofs.HeldLemmas.{kind_is, last_page, page_is}
+use Rattle.bdb_format.proofs.FileLemmas.{kind_is, last_page, page_is}
 use Rattle.bdb_graph.proofs.ReachLemmas.{at_end}
 use Rattle.bdb_join.specs.Queues.{QueuesAreSound}
 use Rattle.bdb_join.proofs.AloneLemmas.{master_rows_fail, named_kind, no_pairs_at, unnamed_at}

@@ -5,14 +5,14 @@ use Rattle.std.proofs.lemmas.Bool.{or_left}
 use Rattle.bdb_format.specs.File.{File}
 use Rattle.bdb_format.specs.Graph.{Owner, owners, first_holder, is_anchor, is_reserve, reaches}
 use Rattle.bdb_format.proofs.GraphLemmas.{IsOwner, is_owner}
-use Rattle.bdb_format.proofs.MemberLemmas.{first_member}
+use Rattle.bdb_format.proofs.MemberLemmas.{first_member, member_or_not}
 use Rattle.bdb_graph.specs.Marks.{IsFit}
 use Rattle.bdb_graph.proofs.ReachLemmas.{at_end, reaches_onward}
 use Rattle.bdb_grove.specs.Part.{IsWayIn, entrances}
 use Rattle.bdb_grove.proofs.BesideLemmas.{first_inside}
 use Rattle.bdb_join.specs.Joining.{Joint, AreJoined}
 use Rattle.bdb_join.proofs.SourceLemmas.{source_into, references_none}
-use Rattle.bdb_join.proofs.RoleLemmas.{entrance_count, inner_owners, is_in, joint_is_anchor}
+use Rattle.bdb_join.proofs.RoleLemmas.{entrance_count, inner_owners, joint_is_anchor}
 
 one_owner : (os : List Owner) → length os ≡ 1 → (owner : Owner) × Contains os owner × (first_holder os ≡ Some owner.holder)
 one_owner [] one = absurd (omega (arith, one))
@@ -42,7 +42,7 @@ way_reaches : (file : File) (joints : List Joint) (j : Joint) (p : ℕ) (hs : Li
 way_reaches file joints j p [] fit all member inside entrance =
     reaches_onward file p j.meta fit (entrance_holder file joints j p all member entrance) ∙ meta_reaches file joints j all member
 way_reaches file joints j p (h ∷ hs) fit all member inside way =
-    elim (is_in (entrances j.part.fields) p) [
+    elim (member_or_not (entrances j.part.fields) p) [
       | inl entrance ↦
           reaches_onward file p j.meta fit (entrance_holder file joints j p all member entrance) ∙ meta_reaches file joints j all member
       | inr inner ↦

@@ -2,7 +2,7 @@
 use Rattle.std.proofs.Common.{◌≡◌, ◌⊎◌, ℕ, ◌≤◌, true, false, List, [], ◌∷◌, length, arith, refl, sym, ◌∙◌, ap, subst, inl, inr, true≢false}
 use Rattle.std.specs.Prelude.{◌==◌, ◌&&◌}
 use Rattle.std.specs.List.{Contains}
-use Rattle.std.proofs.lemmas.Bool.{cases_eq, eqb-false}
+use Rattle.std.proofs.lemmas.Bool.{eqb-false}
 use Rattle.bdb_format.specs.declared.metadata.FileKind.{FileKind}
 use Rattle.bdb_format.specs.declared.metadata.FileKind.TheVariants.{Btree, Hash as HashFile, Queue as QueueFile}
 use Rattle.bdb_format.specs.Page.{Metadata, BtreeFields, HashFields, QueueFields, Page}
@@ -10,26 +10,13 @@ use Rattle.bdb_format.specs.File.{File, page_at, header_in}
 use Rattle.bdb_format.specs.Graph.{Owner, owners, is_anchor, is_anchor_in, is_meta}
 use Rattle.bdb_format.specs.Graph.{is_head_reference, has_heads_alone, HasRole, IsOwnedOnce, IsSharedHead}
 use Rattle.bdb_format.proofs.GraphLemmas.{IsOwner, is_owner, anchor_unowned}
-use Rattle.bdb_format.proofs.MemberLemmas.{first_member, later_member, member_cases, no_member}
+use Rattle.bdb_format.proofs.MemberLemmas.{first_member, member_or_not}
 use Rattle.bdb_grove.specs.Part.{IsOwnedBy, are_heads_alone, entrances, entrance_sort, owners_among}
 use Rattle.bdb_grove.proofs.SeveralLemmas.{count, some_count}
 use Rattle.bdb_join.specs.Joining.{Joint, AreJoined}
 use Rattle.bdb_join.proofs.OwnerLemmas.{owners_are, owners_of_one}
 use Rattle.bdb_join.proofs.MetaLemmas.{count_of_meta}
 use Rattle.bdb_join.proofs.SourceLemmas.{source_into, references_none}
-
--- a number is in a list or it isn't
-pub is_in : (xs : List ℕ) (x : ℕ) → Contains xs x ⊎ (Contains xs x → ⊥)
-is_in [] x = inr (no_member [] x refl)
-is_in (y ∷ ys) x =
-    elim (cases_eq y x) [
-      | inl same ↦ inl (subst (Contains (y ∷ ys)) same (first_member y ys))
-      | inr other ↦
-          elim (is_in ys x) [
-            | inl later ↦ inl (later_member y ys x later)
-            | inr out ↦ inr (λ at. elim (member_cases y ys x at) [ inl here ↦ other here | inr later ↦ out later ])
-          ]
-    ]
 
 -- Owners.
 
@@ -112,7 +99,7 @@ owned_role file p os same owned = subst (λ xs. IsOwnedBy xs (header_in (page_at
 part_role : (file : File) (joints : List Joint) (j : Joint) (p : ℕ) → AreJoined file joints → Contains joints j → j.part.pages p ≡ true
     → IsOwnedOnce file p ⊎ IsSharedHead file p
 part_role file joints j p all member inside =
-    elim (is_in (entrances j.part.fields) p) [
+    elim (member_or_not (entrances j.part.fields) p) [
       | inl entrance ↦
           inl (
             entrance_count file joints j p all member entrance,

@@ -24,7 +24,7 @@ use Rattle.bdb_format.specs.Verdict.{tail_faults, form_faults, structure_rows, s
 use Rattle.bdb_format.proofs.ListLemmas.{only_member}
 use Rattle.bdb_format.proofs.MemberLemmas.{no_member, none_passes, none_pass, of_map, of_flat_map, of_filter, of_range}
 use Rattle.bdb_format.proofs.VerdictLemmas.{AllFail, all_fail, no_faults, none_holds}
-use Rattle.bdb_graph.proofs.HeldLemmas.{page_is}
+use Rattle.bdb_format.proofs.FileLemmas.{page_is}
 use Rattle.bdb_grove.specs.Part.{entrance_trees, has_wrong_place, is_wrong_place}
 use Rattle.bdb_join.specs.Joining.{Joint, AreJoined}
 use Rattle.bdb_join.proofs.MetaLemmas.{NamesEntrance}

@@ -11,7 +11,7 @@ use Rattle.bdb_format.specs.File.{File}
 use Rattle.bdb_format.specs.HeadOf.{head_of}
 use Rattle.bdb_format.specs.Lists.{ListKey}
 use Rattle.bdb_format.proofs.MemberLemmas.{first_member}
-use Rattle.bdb_graph.proofs.HeldLemmas.{last_page}
+use Rattle.bdb_format.proofs.FileLemmas.{last_page}
 use Rattle.bdb_grove.specs.Growing.{IsCounted, IsLater}
 use Rattle.bdb_grove.specs.Part.{IsPart, Part}
 use Rattle.bdb_grove.proofs.ChainLemmas.{between_is, is_between}

@@ -24,9 +24,8 @@ use Rattle.bdb_model.specs.declared.pairs.Key.TheVariants.{Bytes, Number}
 use Rattle.bdb_model.specs.declared.pairs.TextPair.{TextPair}
 use Rattle.bdb_model.specs.Written.{has_sets, is_queue as is_queue_kind}
 use Rattle.bdb_queue.proofs.QueueLemmas.{IsQueue, queue_is}
-use Rattle.bdb_settle.specs.declared.load_error.LoadError.{LoadError}
 use Rattle.bdb_settle.specs.Loaded.{has_length, has_records, keeps_data, sorts_data}
-use Rattle.bdb_settle.specs.LoadErrors.{is_queue, is_too_wide, is_zero, pair_errors, slot_size, where_so}
+use Rattle.bdb_settle.specs.LoadErrors.{is_queue, is_too_wide, is_zero, pair_errors, slot_size}
 use Rattle.bdb_text.specs.WrittenLaw.{key_in, pair_in}
 use Rattle.bdb_kept.specs.Kept.{KeepsLists, LoadsAlike, LoadsWithoutErrors, settings_in}
 use Rattle.bdb_kept.proofs.LaterLemmas.{later_other}
@@ -87,9 +86,6 @@ keeps_lists image database settings pairs are alike =
     (λ pair at. length_alike settings others pair alike (kept.long pair at))
 
 -- Errors.
-
-none_so : (holds : Bool) (error : LoadError) → holds ≡ false → where_so holds error ≡ []
-none_so holds error is = rw is refl
 
 not_zero : (key : Key) → IsNotZero (key_in key) → is_zero key ≡ false
 not_zero (Bytes bytes) some = refl

@@ -26,8 +26,7 @@ use Rattle.bdb_format.specs.Reading.{page_as, page_type}
 use Rattle.bdb_format.specs.References.{is_shared_key, item_at, no_item}
 use Rattle.bdb_format.proofs.ListLemmas.{all_of, only_member}
 use Rattle.bdb_format.proofs.MemberLemmas.{no_member, of_filter, of_flat_map, of_map}
-use Rattle.bdb_graph.proofs.HeldLemmas.{last_page, page_is}
-use Rattle.bdb_queue.proofs.RecordLemmas.{past_last}
+use Rattle.bdb_format.proofs.FileLemmas.{last_page, page_is, past_last}
 use Rattle.bdb_text.specs.WrittenLaw.{AreBytes}
 
 -- Numbers.

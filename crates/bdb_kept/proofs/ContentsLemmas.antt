@@ -1,5 +1,5 @@
 -- The lists of a btree and of a hash of which no row of the contents holds are kept.
-use Rattle.std.proofs.Common.{◌≡◌, ℕ, ◌+◌, ◌≤◌, Bool, true, false, cond, List, [], arith, refl, sym, ◌∙◌, ap, subst, inl}
+use Rattle.std.proofs.Common.{◌≡◌, ℕ, ◌+◌, ◌≤◌, Bool, true, false, cond, List, [], arith, refl, sym, ◌∙◌, ap, subst}
 use Rattle.std.specs.Prelude.{◌&&◌, ◌==◌}
 use Rattle.std.specs.List.{Contains, flat_map, range_with_len}
 use Rattle.std.proofs.lemmas.Bool.{eq-eqb, true≢false}
@@ -20,10 +20,8 @@ use Rattle.bdb_format.proofs.PairLemmas.{keyed_rows}
 use Rattle.bdb_format.proofs.RepeatLemmas.{of_repeated, repeated_is}
 use Rattle.bdb_format.proofs.VerdictLemmas.{AllFail, all_fail, no_codes_at}
 use Rattle.bdb_graph.specs.Linked.{HasMetadata, IsForest}
-use Rattle.bdb_graph.proofs.LinkedLemmas.{root_fits}
-use Rattle.bdb_format.specs.HeadOf.{head_of}
 use Rattle.bdb_btree.proofs.FallLemmas.{tree_keys}
-use Rattle.bdb_btree.proofs.PairLemmas.{tree_pair}
+use Rattle.bdb_tree.proofs.PairLemmas.{tree_pair_inside}
 use Rattle.bdb_hash.proofs.PlainLemmas.{IsPlain, bucket_plain}
 use Rattle.bdb_hash.proofs.TableLemmas.{table_is}
 use Rattle.bdb_settle.specs.Loaded.{has_records}
@@ -49,11 +47,6 @@ pairs_kept settings file pairs keyed free each goes = record {
 
 -- Btrees.
 
-inside_tree : (image : List ℕ) (meta : BtreeMeta) (pair : StoredPair) → IsForest image → HasMetadata (file_of image) (BtreeFields meta)
-    → Contains (tree_pairs (file_of image) meta.root) pair → pair.page ≤ (file_of image).last
-inside_tree image meta pair forest has at =
-    (tree_pair image meta.root pair forest (inl (root_fits image (head_of image) meta forest.formed has)) at).inside
-
 tree_fails : (image : List ℕ) (meta : BtreeMeta) (p : ℕ) → is_recno meta ≡ false → database_faults (file_of image) (BtreeFields meta) ≡ []
     → p ≤ (file_of image).last → AllFail (btree_contents (file_of image) meta p)
 unfolding database_faults
@@ -72,8 +65,8 @@ btree_kept image meta size order forest has keyed none =
     let settings : Settings = btree_settings size order meta in
     let pairs : List StoredPair = tree_pairs file meta.root in
     let rows : NoRowHolds settings.duplicates settings.sorted file pairs = record {
-      duplicate = λ pair at. (tree_fails image meta pair.page keyed none (inside_tree image meta pair forest has at)).0;
-      unsorted = λ pair at. (tree_fails image meta pair.page keyed none (inside_tree image meta pair forest has at)).1.1.1.1.0;
+      duplicate = λ pair at. (tree_fails image meta pair.page keyed none (tree_pair_inside image meta pair forest has at)).0;
+      unsorted = λ pair at. (tree_fails image meta pair.page keyed none (tree_pair_inside image meta pair forest has at)).1.1.1.1.0;
     } in
     pairs_kept settings file pairs refl refl (λ pair at. fit_data settings file pairs pair rows at)
     (pairs_go settings file pairs (tree_keys image meta.root []) (keys_kept image meta forest has keyed none) (in_order settings file pairs rows))

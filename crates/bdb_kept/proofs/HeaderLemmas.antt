@@ -9,6 +9,7 @@ use Rattle.bdb_format.specs.declared.kinds.Order.{Order}
 use Rattle.bdb_format.specs.declared.kinds.Order.TheVariants.{Big, Little}
 use Rattle.bdb_format.specs.declared.settings.Settings.{Settings}
 use Rattle.std.proofs.lemmas.List.{append_cancel_right}
+use Rattle.std.proofs.Math.Bool.{and-false}
 use Rattle.bdb_model.specs.Header.{entries, given, is_value}
 use Rattle.bdb_model.specs.Keywords.{number_read}
 use Rattle.bdb_model.specs.Written.{entry_line, header_end, header_lines, header_table, kind_text, order_text, written}
@@ -118,25 +119,17 @@ alike_by print name Btree p q o u d s r n x l a m f e t v w y k b g h page low a
   page_size = page;
   sorted = λ is. same_flag s t (same (codes "dupsort"));
   duplicates = λ is. same_flag (d || s) (e || t) (same (codes "duplicates"));
-  fixed = λ is. absurd (true≢false (sym is ∙ none x));
+  fixed = λ is. absurd (true≢false (sym is ∙ and-false x));
   wide = λ is. absurd (true≢false (sym is));
 }
-  where
-    none : (c : Bool) → (c && false) ≡ false
-    none true = refl
-    none false = refl
 alike_by print name Hash p q o u d s r n x l a m f e t v w y k b g h page low also recno queue same = record {
   kind = refl;
   page_size = page;
   sorted = λ is. same_flag s t (same (codes "dupsort"));
   duplicates = λ is. same_flag (d || s) (e || t) (same (codes "duplicates"));
-  fixed = λ is. absurd (true≢false (sym is ∙ none x));
+  fixed = λ is. absurd (true≢false (sym is ∙ and-false x));
   wide = λ is. absurd (true≢false (sym is));
 }
-  where
-    none : (c : Bool) → (c && false) ≡ false
-    none true = refl
-    none false = refl
 alike_by print name Recno p q o u d s r n x l a m f e t v w y k b g h page low also recno queue same = record {
   kind = refl;
   page_size = page;

@@ -20,9 +20,8 @@ use Rattle.bdb_format.proofs.BoolLemmas.{second_false}
 use Rattle.bdb_format.proofs.ListLemmas.{only_member}
 use Rattle.bdb_format.proofs.MemberLemmas.{first_member, in_flat_map, later_member, member_cases, no_member, none_passes, of_map}
 use Rattle.bdb_format.proofs.RepeatLemmas.{has_key, repeated_after}
+use Rattle.bdb_format.proofs.LessLemmas.{eq_self, less_trans, same_unless_less}
 use Rattle.bdb_btree.proofs.FallLemmas.{ShareKeys}
-use Rattle.bdb_btree.proofs.LessLemmas.{less_trans, same_unless_less}
-use Rattle.bdb_overflow.proofs.KeyLemmas.{eq_self}
 use Rattle.bdb_settle.specs.Loaded.{has_records, keeps_data, sorts_data}
 use Rattle.bdb_kept.proofs.LaterLemmas.{AllLater, later_flat, later_map, later_one, later_other}
 use Rattle.bdb_kept.proofs.SettledLemmas.{ComesBefore, InOrder}

@@ -1,112 +1,45 @@
 -- The names of the databases of a sound image, and that a queue stands alone.
-use Rattle.std.proofs.Common.{◌≡◌, ℕ, zero, suc, ◌<◌, ◌≤◌, Bool, true, false, cond, List, [], ◌∷◌, length, map, Option, Some, None, arith, refl, sym}
-use Rattle.std.proofs.Common.{◌∙◌, ap, subst, inl, inr, true≢false}
+use Rattle.std.proofs.Common.{◌≡◌, ℕ, Bool, true, false, cond, List, [], ◌∷◌, map, Option, Some, None, refl, sym}
+use Rattle.std.proofs.Common.{◌∙◌, ap, subst, true≢false}
 use Rattle.std.specs.Prelude.{is_some, unwrap_or}
 use Rattle.std.specs.List.{Contains}
 use Rattle.std.specs.Str.{bytes_eq}
-use Rattle.std.proofs.lemmas.Bool.{cases_eq, false_from_ne_true}
+use Rattle.std.proofs.lemmas.Bool.{false_from_ne_true}
 use Rattle.bdb_format.specs.declared.kinds.Kind.TheVariants.{Queue}
-use Rattle.bdb_format.specs.declared.kinds.Order.{Order}
 use Rattle.bdb_format.specs.declared.metadata.BtreeMeta.{BtreeMeta}
 use Rattle.bdb_format.specs.declared.metadata.QueueMeta.{QueueMeta}
-use Rattle.bdb_format.specs.declared.metadata.FileKind.{FileKind}
-use Rattle.bdb_format.specs.declared.metadata.FileKind.TheVariants.{Btree as BtreeFile, Hash as HashFile, Queue as QueueFile}
+use Rattle.bdb_format.specs.declared.metadata.FileKind.TheVariants.{Queue as QueueFile}
 use Rattle.bdb_format.specs.ContentRows.{fields_in}
 use Rattle.bdb_format.specs.Databases.{Database, btree_settings, database_on, databases, databases_under, is_name, named_database, recno_settings}
 use Rattle.bdb_format.specs.File.{File, file_of, page_at, page_bytes}
 use Rattle.bdb_format.specs.Flags.{is_recno}
-use Rattle.bdb_format.specs.HeadOf.{head_of, is_page_size}
+use Rattle.bdb_format.specs.HeadOf.{head_of}
 use Rattle.bdb_format.specs.Less.{less}
 use Rattle.bdb_format.specs.Master.{master_in, master_pairs, named_by}
 use Rattle.bdb_format.specs.Numbers.{byte_at}
 use Rattle.bdb_format.specs.Page.{BtreeFields, HashFields, Meta, Metadata, Page, QueueFields}
-use Rattle.bdb_format.specs.Reading.{abstract_page, btree_fields, hash_fields, queue_fields}
-use Rattle.bdb_format.specs.Rows.{form_code, may_have_type}
 use Rattle.bdb_format.proofs.GraphLemmas.{type_fits}
 use Rattle.bdb_format.proofs.ListLemmas.{only_member}
-use Rattle.bdb_format.proofs.LessLemmas.{less_self}
+use Rattle.bdb_format.proofs.LessLemmas.{eq_same, less_self}
 use Rattle.bdb_format.proofs.MemberLemmas.{first_member, in_map, later_member, no_member, none_pass, of_flat_map, of_map}
-use Rattle.bdb_format.proofs.PageLemmas.{later_type}
-use Rattle.bdb_graph.specs.Formed.{IsAccepted}
-use Rattle.bdb_graph.specs.Linked.{HasMetadata, IsForest}
-use Rattle.bdb_graph.specs.Metas.{meta_in}
+use Rattle.bdb_graph.specs.Linked.{HasMetadata}
 use Rattle.bdb_graph.proofs.CodeLemmas.{not_zero}
-use Rattle.bdb_graph.proofs.FirstLemmas.{formed_accepted, formed_page}
-use Rattle.bdb_graph.proofs.FormedLemmas.{IsPaged, accepted_paged, page_length}
-use Rattle.bdb_graph.proofs.HeldLemmas.{last_page, page_is, table_page, tree_page}
-use Rattle.bdb_graph.proofs.MetaLemmas.{no_meta, queue_page}
+use Rattle.bdb_graph.proofs.MetaLemmas.{zero_number}
+use Rattle.bdb_graph.proofs.ReadLemmas.{IsMetaPage, page_of_meta}
 use Rattle.bdb_file.proofs.NamedLemmas.{with_name}
 use Rattle.bdb_file.proofs.NameOrderLemmas.{names_ascend}
-use Rattle.bdb_overflow.proofs.KeyLemmas.{eq_same}
 use Rattle.bdb_text.specs.WrittenLaw.{AreNamedApart, CanStandTogether}
 use Rattle.bdb_kept.specs.Kept.{AreInOrderOfNames, CanAllStandTogether, IsSound, QueuesStandAlone, bytes_of_name, settings_in}
 use Rattle.bdb_kept.proofs.KeyedLemmas.{Rise, ascends_rise}
 use Rattle.bdb_kept.proofs.SoundLemmas.{forest_of, has_fields, no_faults}
 
--- Metadata is read from a page of its type.
-
-abbrev pub IsReadAs : Order → List ℕ → Metadata → Type 0
-IsReadAs order page (BtreeFields meta) = (byte_at page 25 ≡ 9) × (btree_fields order page ≡ meta)
-IsReadAs order page (HashFields meta) = (byte_at page 25 ≡ 8) × (hash_fields order page ≡ meta)
-IsReadAs order page (QueueFields meta) = (byte_at page 25 ≡ 10) × (queue_fields order page ≡ meta)
-
-meta_read : (order : Order) (page : List ℕ) (fields : Metadata) → is_page_size (length page) ≡ true → abstract_page order page ≡ Meta fields
-    → IsReadAs order page fields
-meta_read order page fields size is =
-    elim (cases_eq (byte_at page 25) 9) [
-      | inl tree ↦
-          let same : BtreeFields (btree_fields order page) ≡ fields = cc (sym (tree_page order page size tree) ∙ is) in
-          subst (IsReadAs order page) same (tree, refl)
-      | inr no_tree ↦ elim (cases_eq (byte_at page 25) 8) [
-        | inl table ↦
-            let same : HashFields (hash_fields order page) ≡ fields = cc (sym (table_page order page size table) ∙ is) in
-            subst (IsReadAs order page) same (table, refl)
-        | inr no_table ↦ elim (cases_eq (byte_at page 25) 10) [
-          | inl queue ↦
-              let same : QueueFields (queue_fields order page) ≡ fields = cc (sym (queue_page order page size queue) ∙ is) in
-              subst (IsReadAs order page) same (queue, refl)
-          | inr no_queue ↦ let none : Some fields ≡ None = sym (ap meta_in is) ∙ no_meta order page no_table no_tree no_queue in absurd cc
-        ]
-      ]
-    ]
-
--- a page of a sound form with metadata
-pub record IsMetaPage (image : List ℕ) (p : ℕ) (fields : Metadata) : Type 0 where
-  pub size : length (page_bytes (head_of image) image p) ≡ (head_of image).page_size
-  pub legal : is_page_size (head_of image).page_size ≡ true
-  pub formed : form_code (head_of image) p (page_bytes (head_of image) image p) ≡ None
-  pub read : IsReadAs (head_of image).order (page_bytes (head_of image) image p) fields
-
-pub page_of_meta : (image : List ℕ) (fields : Metadata) → IsForest image → (has : HasMetadata (file_of image) fields)
-    → IsMetaPage image has.page fields
-page_of_meta image fields forest has =
-    let accepted : IsAccepted image (head_of image) = formed_accepted image (head_of image) forest.formed in
-    let paged : IsPaged image (head_of image) = accepted_paged image (head_of image) accepted in
-    let low : has.page ≤ (head_of image).last = omega (arith, has.inside, last_page image) in
-    let there : has.page < (head_of image).pages = omega (arith, low, paged.last) in
-    let size : length (page_bytes (head_of image) image has.page) ≡ (head_of image).page_size =
-    page_length image (head_of image) has.page accepted there in
-    record {
-      size = size;
-      legal = paged.legal;
-      formed = formed_page image has.page forest.formed.form low;
-      read = meta_read (head_of image).order (page_bytes (head_of image) image has.page) fields (ap is_page_size size ∙ paged.legal)
-          (sym (page_is image has.page low) ∙ has.is);
-    }
-
 -- Queues stand on page 0.
 
-later_queue : (kind : FileKind) (n byte : ℕ) → byte ≡ 10 → may_have_type kind (suc n) byte ≡ true → ⊥
-later_queue BtreeFile n byte is may = true≢false (sym (subst (λ b. may_have_type BtreeFile (suc n) b ≡ true) is may) ∙ later_type BtreeFile n 10)
-later_queue HashFile n byte is may = true≢false (sym (subst (λ b. may_have_type HashFile (suc n) b ≡ true) is may) ∙ later_type HashFile n 10)
-later_queue QueueFile n byte is may = true≢false (sym (subst (λ b. may_have_type QueueFile (suc n) b ≡ true) is may) ∙ later_type QueueFile n 10)
-
 zero_page : (image : List ℕ) (p : ℕ) (meta : QueueMeta) → IsMetaPage image p (QueueFields meta) → p ≡ 0
-zero_page image zero meta is = refl
-zero_page image (suc p) meta is =
-    let page : List ℕ = page_bytes (head_of image) image (suc p) in
-    absurd (later_queue (head_of image).kind p (byte_at page 25) is.read.0
-    (type_fits (head_of image) (suc p) page (not_zero page QueueFile (ap is_page_size is.size ∙ is.legal) is.read.0) is.formed))
+zero_page image p meta is =
+    let page : List ℕ = page_bytes (head_of image) image p in
+    zero_number (head_of image).kind p (byte_at page 25) is.read.0
+    (type_fits (head_of image) p page (not_zero page QueueFile is.size is.read.0) is.formed)
 
 no_master : (page : Page) (meta : QueueMeta) → page ≡ Meta (QueueFields meta) → master_in page ≡ None
 no_master page meta is = ap master_in is

@@ -6,7 +6,7 @@ use Rattle.std.specs.Str.{bytes_eq}
 use Rattle.std.proofs.lemmas.List.Elements.{All-cons, All-head, All-nil, All-tail}
 use Rattle.bdb_format.specs.declared.kinds.Kind.TheVariants.{Recno}
 use Rattle.bdb_format.specs.declared.settings.Settings.{Settings}
-use Rattle.bdb_graph.proofs.FormedLemmas.{size_bounds}
+use Rattle.bdb_format.proofs.SizeLemmas.{size_bounds}
 use Rattle.bdb_model.specs.declared.pairs.TextPair.{TextPair}
 use Rattle.bdb_model.specs.declared.sections.Section.{Section}
 use Rattle.bdb_model.specs.Header.{Values, has_type, name_in, number_or, settings_in, values}

@@ -8,8 +8,8 @@ use Rattle.bdb_format.specs.Less.{less}
 use Rattle.bdb_format.specs.Lists.{ListKey, BytesKey, NumberKey}
 use Rattle.bdb_format.proofs.ListLemmas.{all_of, only_member}
 use Rattle.bdb_format.proofs.MemberLemmas.{first_member, later_member, no_member}
+use Rattle.bdb_format.proofs.LessLemmas.{less_not_back}
 use Rattle.std.proofs.lemmas.List.Elements.{Contains-append_cases}
-use Rattle.bdb_btree.proofs.LessLemmas.{less_not_back}
 use Rattle.bdb_model.specs.declared.list.Pair.{Pair}
 use Rattle.bdb_model.specs.declared.pairs.Key.{Key}
 use Rattle.bdb_model.specs.declared.pairs.Key.TheVariants.{Bytes, Number}

@@ -8,7 +8,6 @@ use Rattle.std.proofs.lemmas.List.Elements.{All-drop, All-nil, All-take}
 use Rattle.bdb_format.specs.declared.kinds.Kind.TheVariants.{Queue as QueueKind}
 use Rattle.bdb_format.specs.declared.kinds.Order.{Order}
 use Rattle.bdb_format.specs.declared.metadata.BtreeMeta.{BtreeMeta}
-use Rattle.bdb_format.specs.declared.metadata.FileKind.TheVariants.{Btree}
 use Rattle.bdb_format.specs.declared.metadata.HashMeta.{HashMeta}
 use Rattle.bdb_format.specs.declared.metadata.QueueMeta.{QueueMeta}
 use Rattle.bdb_format.specs.ContentRows.{fields_in}
@@ -21,16 +20,15 @@ use Rattle.bdb_format.specs.HeadOf.{head_of, is_page_size}
 use Rattle.bdb_format.specs.Lists.{ListKey, BytesKey, NumberKey, btree_list, by_key, hash_list, is_record, list_of, listed_pair, queue_list}
 use Rattle.bdb_format.specs.Lists.{recno_list, record_number, slot_at}
 use Rattle.bdb_format.specs.Master.{master_in, master_pairs, named_by, pairs_under}
-use Rattle.bdb_format.specs.Numbers.{four_at, has_bit}
+use Rattle.bdb_format.specs.Numbers.{has_bit}
 use Rattle.bdb_format.specs.Page.{BtreeFields, HashFields, Metadata, Page, Queue, QueueFields}
-use Rattle.bdb_format.specs.Rows.{are_wrong_flags, metadata_rows}
+use Rattle.bdb_format.specs.Rows.{are_wrong_flags}
 use Rattle.bdb_format.proofs.ListLemmas.{all_of}
 use Rattle.bdb_format.proofs.MemberLemmas.{in_range, no_member, none_passes, of_filter, of_flat_map, of_map}
-use Rattle.bdb_format.proofs.VerdictLemmas.{AllFail, none_is_first_row}
 use Rattle.bdb_file.proofs.NamedLemmas.{with_name}
 use Rattle.bdb_graph.specs.Linked.{HasMetadata, IsForest}
-use Rattle.bdb_graph.proofs.HeldLemmas.{tree_formed}
 use Rattle.bdb_graph.proofs.LinkedLemmas.{root_fits}
+use Rattle.bdb_graph.proofs.ReadLemmas.{IsMetaPage, IsReadAs, flags_fit, page_of_meta}
 use Rattle.bdb_model.specs.Keywords.{legal_size}
 use Rattle.bdb_recno.proofs.PageLemmas.{root_recno}
 use Rattle.bdb_recno.proofs.ScanLemmas.{few_records}
@@ -40,7 +38,6 @@ use Rattle.bdb_kept.proofs.BytesLemmas.{FileHoldsBytes, IsOfBytes, PageHoldsByte
 use Rattle.bdb_kept.proofs.BytesLemmas.{table_pair_holds, tree_entry_holds, tree_pair_holds}
 use Rattle.bdb_kept.proofs.KeyedLemmas.{of_by_key, of_listed}
 use Rattle.bdb_kept.proofs.LaterLemmas.{of_enumerate}
-use Rattle.bdb_kept.proofs.NameLemmas.{IsMetaPage, IsReadAs, page_of_meta}
 use Rattle.bdb_kept.proofs.NumberedLemmas.{of_queue, of_recno}
 use Rattle.bdb_kept.proofs.SoundLemmas.{forest_of, has_fields}
 use Rattle.bdb_sections.proofs.HeaderLemmas.{any_turned}
@@ -175,22 +172,7 @@ no_flag_conflict number flags fit =
     let low : flags < 256 = grind (arith, nat_tests, fit) in
     grind (arith, fit, sorted_set flags low)
 
-flags_fit : (image : List ℕ) (p : ℕ) (meta : BtreeMeta) → IsMetaPage image p (BtreeFields meta) → are_wrong_flags p meta.flags ≡ false
-unfolding metadata_rows
-flags_fit image p meta is =
-    let order : Order = (head_of image).order in
-    let page : List ℕ = page_bytes (head_of image) image p in
-    let fail : AllFail (metadata_rows order page p 0 Btree) =
-    none_is_first_row (metadata_rows order page p 0 Btree)
-    (tree_formed (head_of image) p page (ap is_page_size is.size ∙ is.legal) is.read.0 is.formed) in
-    let flags : four_at order page 48 ≡ meta.flags = ap (λ (m : BtreeMeta). m.flags) is.read.1 in
-    subst (λ n. are_wrong_flags p n ≡ false) flags fail.1.1.1.1.1.1.1.1.1.0
-
 -- Each kind.
-
-no_conflict_so : (a b : Bool) → a ≡ false → (a || b && false) ≡ false
-no_conflict_so a true is = grind (arith, is)
-no_conflict_so a false is = grind (arith, is)
 
 btree_written : (name : Option (List ℕ)) (size : ℕ) (order : Order) (meta : BtreeMeta) (p : ℕ) (list : List (ListKey × List ℕ))
     → is_page_size size ≡ true

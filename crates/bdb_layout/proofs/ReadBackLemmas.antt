@@ -190,7 +190,7 @@ first_block order (b ∷ bs) block rest is =
     let same : (length block == length block) ≡ true = eq-eqb (length block) (length block) refl in
     blocks_of-cons order b bs ∙ rw (is.size, room, is.again, same, is.block_is, is.rest_is) refl
 
-blocks_of-back : (order : Order) (blocks : List (List ℕ)) → All (λ block. length block < 2 ^ 16) blocks → blocks_of order (flat_map (block_bytes order) blocks) ≡ Some blocks
+pub blocks_of-back : (order : Order) (blocks : List (List ℕ)) → All (λ block. length block < 2 ^ 16) blocks → blocks_of order (flat_map (block_bytes order) blocks) ≡ Some blocks
 unfolding blocks_of
 blocks_of-back order [] short = refl
 blocks_of-back order (block ∷ blocks) short =

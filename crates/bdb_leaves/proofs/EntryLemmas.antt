@@ -6,7 +6,6 @@ use Rattle.std.specs.List.{sum_by}
 use Rattle.std.proofs.lemmas.Bool.{cases_lt, and_left, and_right, eq-eqb, le-leb, lt-leb, ne_eqb}
 use Rattle.std.proofs.lemmas.List.{get_or-set_same, get_or_append_left, get_or_push, length-map, map-append}
 use Rattle.std.proofs.lemmas.List.{get_or-map}
-use Rattle.std.proofs.lemmas.List.FromFn.{get_or-map-range_with_len}
 use Rattle.std.proofs.lemmas.List.Sums.{sum_by_push}
 use Rattle.bdb_format.specs.declared.kinds.Order.{Order}
 use Rattle.bdb_format.specs.Numbers.{byte_at, four_at, pad4}
@@ -16,6 +15,7 @@ use Rattle.bdb_format.specs.References.{is_shared_key, no_item}
 use Rattle.bdb_format.specs.Rows.{item_row}
 use Rattle.bdb_format.specs.Spelling.{IsLeafContent, leaf_bytes}
 use Rattle.bdb_format.proofs.PageLemmas.{index_offset, length_items}
+use Rattle.bdb_format.proofs.LeafLemmas.{leaf_item_is}
 use Rattle.bdb_layout.proofs.WritingLemmas.{length-leaf_chain, length-leaf_inline, length-leaf_tree}
 use Rattle.bdb_pack.specs.Built.{Built, bytes_of, with_page}
 use Rattle.bdb_pack.specs.OnPages.{HasPlaceOn, with_item_on}
@@ -308,12 +308,6 @@ shares_key order page p previous next entries holds even some room =
       room = omega (arith, room);
     }
 
-pub item_listed : (order : Order) (page : List ℕ) (k : ℕ) → k < entries_of order page
-    → get_or (listed order page (leaf_item_at order page)).items k no_item ≡ leaf_item_at order page k
-unfolding listed
-item_listed order page k low =
-    get_or-map-range_with_len (leaf_item_at order page) 0 (entries_of order page) k k no_item low (let e : 0 + k ≡ k = omega arith in e)
-
 key_entered : (order : Order) (page : List ℕ) (p previous next : ℕ) (entries : List Entry) → HoldsEntries Pairs order page p previous next entries
     → 2 ≤ length entries → 2 ≤ room_of order page
     → IsEntered order page (page_and_shared order page) (offset_of order page (entries_of order page - 2)) (high_free_of order page)
@@ -351,7 +345,7 @@ key_added order page p previous next entries holds even some room =
     ∙ ap (λ (l : Listed Item). get_or l.offsets (n - 2) 0) here) in
     let item : leaf_item_at order page (entries_of order page - 2) ≡ (get_or entries (n - 2) no_entry).item =
     ap (λ k. leaf_item_at order page (k - 2)) count
-    ∙ (sym (item_listed order page (n - 2) (omega (arith, count, some)))
+    ∙ (sym (leaf_item_is order page (n - 2) (omega (arith, count, some)))
     ∙ (ap (λ (l : Listed Item). get_or l.items (n - 2) no_item) here
     ∙ (ap (λ items. get_or items (n - 2) no_item) holds.items
     ∙ get_or-map (λ (entry : Entry). entry.item) entries (n - 2) no_entry no_item (omega (arith, some))))) in

@@ -1,20 +1,19 @@
 -- Units that are put on leaves.
 use Rattle.std.proofs.Common.{◌≡◌, ℕ, suc, ◌+◌, ◌<◌, ◌≤◌, Bool, false, List, [], ◌∷◌, length, map, arith, refl, sym, ◌∙◌, ap, subst, inl}
 use Rattle.std.specs.List.{All, flat_map, sum_by}
-use Rattle.std.proofs.lemmas.List.{length-map}
 use Rattle.std.proofs.lemmas.Simd.{map-map}
 use Rattle.std.proofs.lemmas.List.Elements.{All-cons, All-nil}
 use Rattle.std.proofs.lemmas.List.Sums.{sum_by-cons}
 use Rattle.bdb_format.specs.declared.metadata.FileKind.TheVariants.{Btree, Queue}
-use Rattle.bdb_format.specs.Reading.{abstract_page}
 use Rattle.bdb_format.specs.Page.{Content, Inline, Set, Chain, Tree, Unknown}
 use Rattle.bdb_format.specs.File.{File}
 use Rattle.bdb_format.specs.Chains.{value_of}
-use Rattle.bdb_grove.specs.Growing.{IsCounted, IsLater}
-use Rattle.bdb_grove.specs.Leaves.{content_pages}
+use Rattle.bdb_grove.specs.Growing.{IsLater}
+use Rattle.bdb_grove.specs.Leaves.{AscendIn, content_pages}
 use Rattle.bdb_grove.specs.Part.{between}
 use Rattle.bdb_pack.specs.Built.{Built, file_so_far}
-use Rattle.bdb_leaves.specs.Filled.{AscendIn, IsUnitPut, StandOn, unit_contents}
+use Rattle.bdb_pack.proofs.ImageLemmas.{counted_so_far}
+use Rattle.bdb_leaves.specs.Filled.{IsUnitPut, StandOn, unit_contents}
 use Rattle.bdb_leaves.specs.Layout.{HasTreeOn}
 use Rattle.bdb_leaves.specs.LeafEntries.{own_content}
 use Rattle.bdb_leaves.specs.Leaves.{AreSomeLeaves}
@@ -61,18 +60,6 @@ by_size g size first beyond Unknown value stands = absurd stands
 
 pub later_self : (built : Built) (pages : ℕ → Bool) → IsLater pages (file_so_far built) (file_so_far built)
 later_self built pages = record { no_queue_before = λ e. no_queue e; no_queue = λ e. no_queue e; grows = omega arith; same = λ p at. inl refl }
-  where
-    no_queue : Btree ≡ Queue → ⊥
-    no_queue e = grind arith
-
-pub counted_so_far : (built : Built) → 1 ≤ length built.pages → IsCounted (file_so_far built)
-counted_so_far built some =
-    record {
-      no_queue = λ e. no_queue e;
-      counted = omega (arith, some);
-      pages = length-map built.pages (abstract_page built.order)
-          ∙ omega (arith, some);
-    }
   where
     no_queue : Btree ≡ Queue → ⊥
     no_queue e = grind arith

@@ -18,6 +18,7 @@ use Rattle.bdb_grove.proofs.BranchLemmas.{of_list}
 use Rattle.bdb_grove.proofs.ChainLemmas.{between_is, is_between, same_test}
 use Rattle.bdb_grove.proofs.LeafLemmas.{above_low, ascend_once}
 use Rattle.bdb_grove.proofs.SeveralLemmas.{count, count-append}
+use Rattle.bdb_grove.proofs.AscendLemmas.{ascend_strictly}
 use Rattle.bdb_levels.specs.Nodes.{Node}
 use Rattle.bdb_levels.specs.Roots.{is_of, pages_of as level_pages}
 use Rattle.bdb_pack.specs.Built.{Built, bytes_of, file_so_far}
@@ -32,7 +33,7 @@ use Rattle.bdb_leaves.specs.Tower.{levels_to}
 use Rattle.bdb_leaves.specs.declared.leaf_type.LeafType.{LeafType}
 use Rattle.bdb_leaves.proofs.FinishLemmas.{but_are, is_but, pages_but}
 use Rattle.bdb_leaves.proofs.FinishedLemmas.{first_two, moved_from, moved_pages, others_of}
-use Rattle.bdb_leaves.proofs.GrownLemmas.{all_joined, as_many, ascend_above, contents_held, heads_among, laid_leaves, pages_named, rise_on, zip_all}
+use Rattle.bdb_leaves.proofs.GrownLemmas.{all_joined, as_many, contents_held, heads_among, laid_leaves, pages_named, rise_on, zip_all}
 use Rattle.bdb_leaves.proofs.GrownLemmas.{zip_pages}
 use Rattle.bdb_leaves.proofs.LaterLemmas.{later_chain, later_fewer}
 use Rattle.bdb_leaves.proofs.NumberedLemmas.{AreNumbered, are_numbered}
@@ -81,7 +82,7 @@ finished_trees_are_laid leaves old new counted before closed units root filled o
         (λ q at. (known.within q (subst (λ ps. Contains ps q) (sym was) at)).1))));
     fit = all_joined (ContentFits g) (λ (leaf : LeafUnits). contents_of type (entries_on leaf)) placed
         (subst (All (ContentFits g)) contents stand.on.fit);
-    held = subst (Ascend 0) names (ascend_above 0 before m _ filled.low filled.ascend);
+    held = subst (Ascend 0) names (ascend_strictly 0 before m _ filled.low filled.ascend);
     branch = branch;
     nodes_are = on.nodes_are;
     some = inl on.some;

@@ -6,6 +6,7 @@ use Rattle.std.proofs.lemmas.List.Folds.{flat_map-map}
 use Rattle.bdb_format.specs.Page.{Tree}
 use Rattle.bdb_format.specs.Contents.{data_of}
 use Rattle.bdb_format.specs.ContentRows.{is_wrong_set}
+use Rattle.bdb_format.proofs.ListLemmas.{map_joined}
 use Rattle.bdb_grove.specs.Growing.{IsLater}
 use Rattle.bdb_grove.specs.Leaves.{ContentFits, SetFits}
 use Rattle.bdb_grove.specs.Part.{between}
@@ -22,7 +23,7 @@ use Rattle.bdb_leaves.specs.Rooted.{CountsLeaves, leaf_with, placed_on, zip_unit
 use Rattle.bdb_leaves.specs.Tower.{levels_to}
 use Rattle.bdb_leaves.proofs.FinishedLaws.{finished_trees_are_laid}
 use Rattle.bdb_leaves.proofs.FinishedLemmas.{moved_from}
-use Rattle.bdb_leaves.proofs.GrownLemmas.{as_many, map_joined, zip_groups}
+use Rattle.bdb_leaves.proofs.GrownLemmas.{as_many, zip_groups}
 use Rattle.bdb_leaves.proofs.LaidBranchLemmas.{laid_trees_are_branches}
 use Rattle.bdb_leaves.proofs.LaidSetLemmas.{laid_sets_hold_data}
 use Rattle.bdb_leaves.proofs.NodesLemmas.{all_units}

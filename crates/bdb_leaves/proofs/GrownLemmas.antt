@@ -1,8 +1,7 @@
 -- Filled leaves as the leaves of a tree, with what they hold.
-use Rattle.std.proofs.Common.{◌≡◌, ℕ, suc, zero, ◌+◌, ◌<◌, List, [], ◌∷◌, ◌++◌, length, map, arith, refl, sym, ◌∙◌, ap, subst, inl, inr, append-nil}
+use Rattle.std.proofs.Common.{◌≡◌, ℕ, suc, ◌<◌, List, [], ◌∷◌, ◌++◌, length, map, arith, refl, sym, ◌∙◌, ap, subst, inl, inr, append-nil}
 use Rattle.std.specs.List.{All, AllZip, Contains, flat_map, range_with_len}
 use Rattle.std.proofs.lemmas.Grind.{flat_map-append}
-use Rattle.std.proofs.lemmas.List.{map-append}
 use Rattle.std.proofs.lemmas.List.Elements.{All-contains, All-head, All-tail}
 use Rattle.std.proofs.lemmas.List.Folds.{flat_map-map}
 use Rattle.bdb_format.specs.Page.{Item, Listed, Overflow, Page}
@@ -10,19 +9,19 @@ use Rattle.bdb_format.specs.declared.pages.Header.{Header}
 use Rattle.bdb_format.specs.File.{File, page_at}
 use Rattle.bdb_format.specs.Leaves.{first_or_zero}
 use Rattle.bdb_format.specs.Reading.{abstract_page}
-use Rattle.bdb_format.proofs.ListLemmas.{all_of, flat_map_twice}
+use Rattle.bdb_format.proofs.ListLemmas.{all_of, flat_map_same, flat_map_twice, map_joined}
 use Rattle.bdb_format.proofs.MemberLemmas.{first_member, in_flat_map, later_member, no_member, of_flat_map}
 use Rattle.bdb_grove.specs.Growing.{IsSamePage}
 use Rattle.bdb_grove.specs.Leaves.{Ascend, content_pages, pages_held}
 use Rattle.bdb_grove.proofs.SeveralLemmas.{some_count}
+use Rattle.bdb_grove.proofs.AscendLemmas.{range_ascends}
 use Rattle.bdb_levels.specs.Nodes.{Node}
 use Rattle.bdb_levels.specs.Roots.{key_heads}
 use Rattle.bdb_levels.specs.declared.inner_type.InnerType.{InnerType}
 use Rattle.bdb_levels.specs.declared.inner_type.InnerType.TheVariants.{Keyed, Numbered}
 use Rattle.bdb_pack.specs.Built.{Built, bytes_of}
-use Rattle.bdb_tree.proofs.TreeLemmas.{flat_map_same}
 use Rattle.bdb_levels.proofs.TakenLemmas.{counted_member}
-use Rattle.bdb_leaves.specs.Filled.{AscendIn, unit_contents}
+use Rattle.bdb_leaves.specs.Filled.{unit_contents}
 use Rattle.bdb_leaves.specs.Laid.{AreLaid, IsNodeOf, entries_on, filled, held_by_leaves, inner_of}
 use Rattle.bdb_leaves.specs.LeafEntries.{Entry, IsLeafIn, contents_of, leaf_of, own_content}
 use Rattle.bdb_leaves.specs.Leaves.{first_of}
@@ -116,10 +115,6 @@ laid_leaves type built g previous (p ∷ ps) (units ∷ groups) (holds, rest) sa
 
 -- What they hold.
 
-pub map_joined : {X Y Z : Type 0} (f : Y → Z) (g : X → List Y) (xs : List X) → map f (flat_map g xs) ≡ flat_map (λ x. map f (g x)) xs
-map_joined f g [] = refl
-map_joined f g (x ∷ xs) = map-append f (g x) (flat_map g xs) ∙ ap (λ zs. map f (g x) ++ zs) (map_joined f g xs)
-
 contents_joined : (type : LeafType) (units : List Placed) → contents_of type (flat_map entries_of units) ≡ flat_map (unit_contents type) units
 contents_joined Pairs units = flat_map_twice own_content entries_of units
 contents_joined Records units = map_joined (λ (entry : Entry). entry.item.content) entries_of units
@@ -151,17 +146,9 @@ heads_among Numbered type placed nodes h is zip at = absurd (no_member [] h refl
 
 -- Numbers that ascend.
 
-pub ascend_above : (low first beyond : ℕ) (xs : List ℕ) → low < first → AscendIn first beyond xs → Ascend low xs
-ascend_above low first beyond [] below ascend = tt
-ascend_above low first beyond (x ∷ xs) below (up, ascend) = (omega (arith, below, up), ascend_above x (x + 1) beyond xs (omega arith) ascend)
-
-range_rises : (low first n : ℕ) → low < first → Ascend low (range_with_len first n)
-range_rises low first zero below = tt
-range_rises low first (suc n) below = (below, range_rises first (first + 1) n (omega arith))
-
 -- numbers below others that follow each other
 pub rise_on : (low first n : ℕ) (ps : List ℕ) → Ascend low ps → low < first → ((p : ℕ) → Contains ps p → p < first)
     → Ascend low (ps ++ range_with_len first n)
-rise_on low first n [] rise below under = range_rises low first n below
+rise_on low first n [] rise below under = range_ascends low first n below
 rise_on low first n (p ∷ ps) (up, rise) below under =
     (up, rise_on p first n ps rise (under p (first_member p ps)) (λ q among. under q (later_member p ps q among)))

@@ -18,7 +18,7 @@ use Rattle.bdb_format.specs.Rows.{is_wrong_entry_count, is_wrong_level}
 use Rattle.bdb_format.proofs.MemberLemmas.{of_range}
 use Rattle.bdb_format.proofs.PageLemmas.{header_listed}
 use Rattle.bdb_format.proofs.TargetLemmas.{each_own}
-use Rattle.bdb_tree.proofs.TreeLemmas.{flat_map_same}
+use Rattle.bdb_format.proofs.ListLemmas.{flat_map_same}
 use Rattle.bdb_pack.specs.Built.{bytes_of}
 use Rattle.bdb_pack.proofs.FormLemmas.{begun_is_formed}
 use Rattle.bdb_leaves.specs.LeafEntries.{Entry, HoldsIn, LeavesAreFormed, LeavesStand, contents_of, leaf_of, no_entry, own_content, own_entry}
@@ -99,7 +99,7 @@ contents_held SortedData page entries has =
 two_more : (n : ℕ) → suc (suc n) / 2 ≡ suc (n / 2)
 two_more n = grind arith
 
-length-pairs_from : (g : File) (p : ℕ) (entries : List Entry) → length (pairs_from g p entries) ≡ length entries / 2
+pub length-pairs_from : (g : File) (p : ℕ) (entries : List Entry) → length (pairs_from g p entries) ≡ length entries / 2
 length-pairs_from g p [] = refl
 length-pairs_from g p (key ∷ []) = refl
 length-pairs_from g p (key ∷ datum ∷ entries) = ap suc (length-pairs_from g p entries) ∙ sym (two_more (length entries))

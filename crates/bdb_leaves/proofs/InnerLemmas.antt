@@ -17,7 +17,7 @@ use Rattle.bdb_format.specs.Spelling.{IsKey, header_bytes, internal_bytes}
 use Rattle.bdb_format.specs.Table.{◌:?◌, first_row}
 use Rattle.bdb_format.proofs.PageLemmas.{header_listed, length_items}
 use Rattle.bdb_format.proofs.SpellingLemmas.{length-overwritten, length-spelled}
-use Rattle.bdb_graph.proofs.FormedLemmas.{size_bounds}
+use Rattle.bdb_format.proofs.SizeLemmas.{size_bounds}
 use Rattle.bdb_grove.specs.Growing.{IsSamePage}
 use Rattle.bdb_grove.proofs.GroveLemmas.{above}
 use Rattle.bdb_layout.proofs.WritingLemmas.{length-internal_chain, length-internal_inline}

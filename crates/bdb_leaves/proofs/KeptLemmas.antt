@@ -12,6 +12,7 @@ use Rattle.bdb_grove.proofs.BranchLemmas.{of_list}
 use Rattle.bdb_levels.specs.Nodes.{Node}
 use Rattle.bdb_levels.specs.Roots.{is_of}
 use Rattle.bdb_pack.specs.Built.{Built, bytes_of, file_so_far}
+use Rattle.bdb_pack.proofs.ImageLemmas.{counted_so_far}
 use Rattle.bdb_leaves.specs.Filled.{AllStand, AreFilled, all_contents, rest_of}
 use Rattle.bdb_leaves.specs.Finished.{FinishedTreesAreFormed, FinishedTreesKeepOlderPages}
 use Rattle.bdb_leaves.specs.Laid.{IsNodeOf, held_by_leaves, inner_of}
@@ -22,7 +23,7 @@ use Rattle.bdb_leaves.specs.Placed.{LeafUnits, Placed, StandsPlaced, entries_of}
 use Rattle.bdb_leaves.specs.Rooted.{placed_on}
 use Rattle.bdb_leaves.specs.declared.leaf_type.LeafType.{LeafType}
 use Rattle.bdb_leaves.specs.declared.leaves.Leaves.{Leaves}
-use Rattle.bdb_leaves.proofs.FilledLemmas.{counted_so_far, later_self}
+use Rattle.bdb_leaves.proofs.FilledLemmas.{later_self}
 use Rattle.bdb_leaves.proofs.FinishedLemmas.{first_two, moved_from, moved_pages, others_of}
 use Rattle.bdb_leaves.proofs.GrownLemmas.{as_many, contents_held, heads_among, pages_named, zip_all}
 use Rattle.bdb_leaves.proofs.HeldLemmas.{leaves_are_formed}

@@ -1,9 +1,9 @@
 -- A tree that is laid is a branch: its leaves stand over what they name, and the levels over them.
-use Rattle.std.proofs.Common.{◌≡◌, ◌⊎◌, ℕ, ◌+◌, ◌≤◌, Bool, true, false, cond, List, [], ◌∷◌, ◌++◌, get_or, map, length, Some, append-nil, arith, refl}
+use Rattle.std.proofs.Common.{◌≡◌, ◌⊎◌, ℕ, ◌+◌, ◌≤◌, Bool, true, false, List, [], ◌∷◌, ◌++◌, get_or, map, length, Some, append-nil, arith, refl}
 use Rattle.std.proofs.Common.{sym, ◌∙◌, ap, subst, inl, inr, true≢false}
 use Rattle.std.specs.Prelude.{◌==◌, ◌||◌}
 use Rattle.std.specs.List.{All, AllZip, Contains, filter, flat_map, list_any, range_with_len}
-use Rattle.std.proofs.lemmas.Bool.{cases_Bool, eqb-false, false_from_ne_true, ne_eqb, or_from, or_left, or_cases}
+use Rattle.std.proofs.lemmas.Bool.{eqb-false, false_from_ne_true, or_from, or_left, or_cases}
 use Rattle.std.proofs.lemmas.Simd.{map-map}
 use Rattle.std.proofs.lemmas.List.Elements.{All-head, All-map, Contains-append_left, Contains-append_right, Contains-get_or}
 use Rattle.bdb_format.specs.declared.references.Reference.{Reference}
@@ -20,6 +20,7 @@ use Rattle.bdb_grove.proofs.BranchLemmas.{of_list}
 use Rattle.bdb_grove.proofs.LeafLemmas.{all_names, ascend_once, chain_fits, leaf_names, leaves_stand_over, names_fit}
 use Rattle.bdb_grove.proofs.OwnerLemmas.{filter_first, names_page, one_of_range}
 use Rattle.bdb_grove.proofs.SeveralLemmas.{count, count-append, named_count, named_not, named_reference, once_apart, some_count}
+use Rattle.bdb_grove.proofs.TakeLemmas.{filter_inner}
 use Rattle.bdb_levels.specs.Branches.{KeyHasLength}
 use Rattle.bdb_levels.specs.Nodes.{Node}
 use Rattle.bdb_levels.specs.Roots.{IsHeadOnce, IsOfLevel, KeyStands, KeysStand, is_of, key_heads, pages_of as level_pages, types_below}
@@ -163,23 +164,13 @@ heads_of_nodes type (leaf ∷ placed) (node ∷ nodes) e keyed zip =
 
 -- A page that one page alone names.
 
-filter_both : (pages : ℕ → Bool) (p : ℕ) (xs : List ℕ) → pages p ≡ true → filter (λ q. q == p) (filter pages xs) ≡ filter (λ q. q == p) xs
-filter_both pages p [] is = refl
-filter_both pages p (x ∷ xs) is =
-    elim (cases_Bool (pages x)) [
-      | inl of ↦ rw of (ap (λ ys. cond (x == p) (x ∷ ys) ys) (filter_both pages p xs is))
-      | inr not_of ↦
-          let other : (x == p) ≡ false = ne_eqb x p (λ same. true≢false (sym is ∙ (ap pages (sym same) ∙ not_of))) in
-          rw (not_of, other) (filter_both pages p xs is)
-    ]
-
 owned_alone : (g : File) (pages : ℕ → Bool) (p h : ℕ) → pages p ≡ true → p ≤ g.last
     → ((q : ℕ) → pages q ≡ true → (q ≡ p → ⊥) → named_by g q h ≡ []) → owners_among pages g h ≡ named_by g p h
 owned_alone g pages p h is high other =
     filter_first (λ q. q == p) (names_page h) (held_by g) (filter pages (range_with_len 0 (g.last + 1)))
     (λ q at differs. other q (of_filter pages (range_with_len 0 (g.last + 1)) q at).1 (eqb-false q p differs))
     ∙ (ap (λ ps. filter (names_page h) (flat_map (held_by g) ps))
-    (filter_both pages p (range_with_len 0 (g.last + 1)) is ∙ one_of_range p 0 (g.last + 1) (omega arith) (omega arith))
+    (filter_inner pages p (range_with_len 0 (g.last + 1)) is ∙ one_of_range p 0 (g.last + 1) (omega arith) (omega arith))
     ∙ ap (filter (names_page h)) (append-nil (held_by g p)))
 
 named_twice : (f : ℕ → List ℕ) (ps : List ℕ) (p q h : ℕ) → Contains ps p → Contains ps q → (q ≡ p → ⊥) → Contains (f p) h → Contains (f q) h

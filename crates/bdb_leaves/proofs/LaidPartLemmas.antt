@@ -33,7 +33,7 @@ use Rattle.bdb_levels.specs.Links.{leaf_types}
 use Rattle.bdb_levels.specs.Nodes.{HasLeaves, IsTower, Node}
 use Rattle.bdb_levels.specs.declared.inner_type.InnerType.TheVariants.{Keyed}
 use Rattle.bdb_levels.proofs.ContentLemmas.{counts_of_records, counts_of_towers, separators_of_towers}
-use Rattle.bdb_leaves.specs.LeafEntries.{Entry, pairs_from, type_number}
+use Rattle.bdb_leaves.specs.LeafEntries.{type_number}
 use Rattle.bdb_leaves.specs.Units.{key_of, list_of_units}
 use Rattle.bdb_leaves.specs.Laid.{Counts, HasUnits, IsKeyOf, IsLaid, IsNodeOf, LaidTreesAreParts, SuitsBtree, SuitsRecno, entries_on, inner_of}
 use Rattle.bdb_leaves.specs.Laid.{is_laid}
@@ -46,6 +46,7 @@ use Rattle.bdb_leaves.proofs.LaidLemmas.{at_bottom, both_zip, have_leaves, hold_
 use Rattle.bdb_leaves.proofs.LaidLemmas.{of_leaves, root_type_is}
 use Rattle.bdb_leaves.proofs.LaidSetLemmas.{entries_are}
 use Rattle.bdb_leaves.proofs.PlacedLaws.{unless, pairs_follow, records_keep_length, units_are_listed, units_keep_rules}
+use Rattle.bdb_leaves.proofs.HeldLemmas.{length-pairs_from}
 
 -- Leaves and their nodes.
 
@@ -82,16 +83,11 @@ begins_with g p (unit ∷ units) node holds some is =
 
 -- Counts.
 
-pairs_length : (g : File) (p : ℕ) (entries : List Entry) → length (pairs_from g p entries) ≡ length entries / 2
-pairs_length g p [] = refl
-pairs_length g p (key ∷ []) = refl
-pairs_length g p (key ∷ datum ∷ entries) = omega (arith, pairs_length g p entries)
-
 pairs_counted : (g : File) (leaf : LeafUnits) → HoldsUnits Pairs g leaf → length (pairs_of g leaf.page) ≡ length (entries_on leaf) / 2
 unfolding pairs_of
 pairs_counted g leaf holds =
     ap (λ page. length (pairs_in g leaf.page page)) holds.is_leaf.is
-    ∙ (ap length holds.is_leaf.holds ∙ pairs_length g leaf.page (entries_on leaf))
+    ∙ (ap length holds.is_leaf.holds ∙ length-pairs_from g leaf.page (entries_on leaf))
 
 pair_count : (g : File) (leaf : LeafUnits) (node : Node) → IsNodeOf Pairs leaf node × Counts Pairs leaf node → HoldsUnits Pairs g leaf
     → node.count ≡ length (pairs_below g node)

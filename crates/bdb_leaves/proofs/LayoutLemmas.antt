@@ -15,11 +15,13 @@ use Rattle.bdb_format.proofs.MemberLemmas.{no_member, of_flat_map}
 use Rattle.bdb_grove.specs.Growing.{IsCounted, IsLater}
 use Rattle.bdb_grove.specs.Part.{between}
 use Rattle.bdb_grove.proofs.ChainLemmas.{is_between}
+use Rattle.bdb_grove.proofs.AscendLemmas.{ascend_bounds}
 use Rattle.bdb_levels.specs.declared.inner_type.InnerType.{InnerType}
 use Rattle.bdb_levels.specs.declared.inner_type.InnerType.TheVariants.{Keyed, Numbered}
 use Rattle.bdb_levels.specs.Nodes.{Node}
 use Rattle.bdb_levels.specs.Roots.{key_heads}
 use Rattle.bdb_pack.specs.Built.{Built, bytes_of, file_so_far}
+use Rattle.bdb_pack.proofs.ImageLemmas.{counted_so_far}
 use Rattle.bdb_leaves.specs.Filled.{AreFilled, AreSpreadOver, all_contents, rest_of}
 use Rattle.bdb_leaves.specs.Finished.{FinishedTreesAreLaidOut, FinishedTreesKeepTrees, HasRootOn}
 use Rattle.bdb_leaves.specs.Laid.{IsKeyOf, IsLaid, IsNodeOf, entries_on, inner_of, is_laid}
@@ -37,7 +39,7 @@ use Rattle.bdb_leaves.specs.Units.{page_room}
 use Rattle.bdb_leaves.specs.declared.leaf_type.LeafType.{LeafType}
 use Rattle.bdb_leaves.specs.declared.leaf_type.LeafType.TheVariants.{Records, SortedData}
 use Rattle.bdb_leaves.specs.declared.leaves.Leaves.{Leaves}
-use Rattle.bdb_leaves.proofs.FilledLemmas.{counted_so_far, later_self}
+use Rattle.bdb_leaves.proofs.FilledLemmas.{later_self}
 use Rattle.bdb_leaves.proofs.FinishLemmas.{zero_at}
 use Rattle.bdb_leaves.proofs.FinishedLaws.{finished_trees_are_laid, finished_trees_keep_pages}
 use Rattle.bdb_leaves.proofs.FinishedLemmas.{first_two, moved_from, one_moved}
@@ -50,7 +52,6 @@ use Rattle.bdb_leaves.proofs.LaterLemmas.{later_chain, later_fewer}
 use Rattle.bdb_leaves.proofs.NumberedLemmas.{are_numbered, leaf_is_laid}
 use Rattle.bdb_leaves.proofs.RestLemmas.{is_one, rest_is}
 use Rattle.bdb_leaves.proofs.RunLemmas.{all_map}
-use Rattle.bdb_leaves.proofs.StandLemmas.{ascend_bounds}
 
 -- Heads of chains.
 

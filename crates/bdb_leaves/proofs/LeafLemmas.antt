@@ -13,7 +13,7 @@ use Rattle.bdb_format.specs.Reading.{abstract_page, entries_of, header_of, index
 use Rattle.bdb_format.specs.Rows.{item_row}
 use Rattle.bdb_format.specs.Spelling.{header_bytes}
 use Rattle.bdb_format.proofs.SpellingLemmas.{length-overwritten, length-spelled}
-use Rattle.bdb_graph.proofs.FormedLemmas.{size_bounds}
+use Rattle.bdb_format.proofs.SizeLemmas.{size_bounds}
 use Rattle.bdb_grove.proofs.GroveLemmas.{above}
 use Rattle.bdb_pack.specs.Built.{AreWhole, Built, bytes_of, with_page, with_zeros, written_over}
 use Rattle.bdb_pack.specs.Items.{takes_items}

@@ -1,15 +1,15 @@
 -- A level that is laid stands over its nodes in each later file.
-use Rattle.std.proofs.Common.{◌≡◌, ◌⊎◌, ℕ, zero, suc, ◌+◌, ◌-◌, ◌<◌, ◌≤◌, List, [], ◌∷◌, length, map, get_or, None, arith, refl, sym, ◌∙◌, ap, subst}
+use Rattle.std.proofs.Common.{◌≡◌, ℕ, zero, suc, ◌+◌, ◌-◌, ◌<◌, ◌≤◌, List, [], ◌∷◌, length, map, get_or, None, arith, refl, sym, ◌∙◌, ap, subst}
 use Rattle.std.proofs.Common.{inl, inr, length-append}
 use Rattle.std.specs.List.{All, Contains, flat_map, range_with_len}
-use Rattle.std.proofs.lemmas.Bool.{cases_eq, cases_lt}
+use Rattle.std.proofs.lemmas.Bool.{cases_lt}
 use Rattle.bdb_pack.proofs.ImageLemmas.{page_so_far}
 use Rattle.bdb_format.specs.declared.pages.Header.{Header}
 use Rattle.bdb_format.specs.Page.{Content, Inline, Set, Chain, Tree, Unknown, Internal, Overflow, Page, RecnoInternal}
 use Rattle.bdb_format.specs.File.{File, header_in, page_at}
 use Rattle.bdb_format.specs.Reading.{abstract_page, header_of}
 use Rattle.bdb_format.specs.Rows.{page_code}
-use Rattle.bdb_format.proofs.MemberLemmas.{first_member, in_flat_map, later_member, member_cases, no_member}
+use Rattle.bdb_format.proofs.MemberLemmas.{first_member, in_flat_map, later_member, member_cases, member_or_not, no_member}
 use Rattle.bdb_grove.specs.Growing.{IsSamePage}
 use Rattle.bdb_levels.specs.declared.inner_type.InnerType.{InnerType}
 use Rattle.bdb_levels.specs.declared.inner_type.InnerType.TheVariants.{Keyed, Numbered}
@@ -211,7 +211,7 @@ levels_go_on inner level old new above nodes laid =
           page.key;
     })
 
-numbers_over : (p : ℕ) (groups : List (List Node)) → map (λ (node : Node). node.page) (nodes_over p groups) ≡ range_with_len p (length groups)
+pub numbers_over : (p : ℕ) (groups : List (List Node)) → map (λ (node : Node). node.page) (nodes_over p groups) ≡ range_with_len p (length groups)
 numbers_over p [] = refl
 numbers_over p (group ∷ groups) = ap (λ (ps : List ℕ). p ∷ ps) (numbers_over (p + 1) groups)
 
@@ -232,17 +232,6 @@ levels_are_formed inner level old new above nodes p laid high low under =
     subst (λ q. page_code new.order q (bytes_of new q) ≡ None) is
     (children_are_formed inner new.order (bytes_of new (length old.pages + k)) (length old.pages + k) level (get_or laid.groups k []) page.holds high
     page.some)
-
-pub member_or_not : (hs : List ℕ) (h : ℕ) → Contains hs h ⊎ (Contains hs h → ⊥)
-member_or_not [] h = inr (λ at. no_member [] h refl at)
-member_or_not (x ∷ xs) h =
-    elim (cases_eq x h) [
-      | inl same ↦ inl (subst (Contains (x ∷ xs)) same (first_member x xs))
-      | inr other ↦ elim (member_or_not xs h) [
-        | inl later ↦ inl (later_member x xs h later)
-        | inr out ↦ inr (λ at. elim (member_cases x xs h at) [ inl here ↦ other here | inr there ↦ out there ])
-      ]
-    ]
 
 pub levels_keep_pages : LevelsKeepPages
 levels_keep_pages inner level old new above nodes p laid low =

@@ -18,7 +18,8 @@ use Rattle.bdb_format.specs.Spelling.{header_bytes}
 use Rattle.bdb_format.specs.Table.{first_row}
 use Rattle.bdb_format.proofs.MemberLemmas.{first_member, member_cases, no_member}
 use Rattle.bdb_format.proofs.SpellingLemmas.{length-overwritten}
-use Rattle.bdb_graph.proofs.FormedLemmas.{size_bounds}
+use Rattle.bdb_format.proofs.LeafLemmas.{leaf_item_is}
+use Rattle.bdb_format.proofs.SizeLemmas.{size_bounds}
 use Rattle.bdb_levels.specs.declared.inner_type.InnerType.{InnerType}
 use Rattle.bdb_levels.specs.declared.inner_type.InnerType.TheVariants.{Keyed, Numbered}
 use Rattle.bdb_levels.specs.Nodes.{Node, keyed_item, numbered_item}
@@ -39,7 +40,7 @@ use Rattle.bdb_leaves.specs.Levels.{BeginsWithKey, HasKey, IsStarted, IsTaken, K
 use Rattle.bdb_leaves.specs.declared.leaf_type.LeafType.{LeafType}
 use Rattle.bdb_leaves.specs.declared.leaf_type.LeafType.TheVariants.{Pairs, Records, SortedData}
 use Rattle.bdb_leaves.specs.declared.levels.Child.{Child}
-use Rattle.bdb_leaves.proofs.EntryLemmas.{bytes_with, entries_held, item_listed, page_is}
+use Rattle.bdb_leaves.proofs.EntryLemmas.{bytes_with, entries_held, page_is}
 use Rattle.bdb_leaves.proofs.InnerLemmas.{HasShape, ShapeOf, first_cost_is, inner_extent, item_cost_is}
 use Rattle.bdb_leaves.proofs.LevelHeadLemmas.{raising_count, raising_few, raising_order, raising_other, raising_size, raising_whole}
 
@@ -72,7 +73,7 @@ begins_so built leaf key begins =
       some = some;
       sound = leaf_row_none begins.type order bytes 0
           (subst (λ t. item_row (page_type t) order bytes 0 ≡ None) begins.holds.type_is (begins.holds.begun.items 0 some));
-      content = ap (λ (i : Item). i.content) (sym (item_listed order bytes 0 some)
+      content = ap (λ (i : Item). i.content) (sym (leaf_item_is order bytes 0 some)
           ∙ (ap (λ (l : Listed Item). get_or l.items 0 no_item) listed ∙ ap (λ (items : List Item). get_or items 0 no_item) begins.holds.items))
           ∙ begins.key_is;
     }

@@ -5,7 +5,7 @@ use Rattle.std.specs.List.{Contains}
 use Rattle.std.proofs.lemmas.List.{get_or-set_other, get_or_append_left, get_or_push, length-replicate}
 use Rattle.bdb_format.specs.HeadOf.{is_page_size}
 use Rattle.bdb_format.proofs.MemberLemmas.{first_member, later_member}
-use Rattle.bdb_graph.proofs.FormedLemmas.{size_bounds}
+use Rattle.bdb_format.proofs.SizeLemmas.{size_bounds}
 use Rattle.bdb_grove.specs.Leaves.{Ascend}
 use Rattle.bdb_grove.proofs.LeafLemmas.{above_low}
 use Rattle.bdb_pack.specs.Built.{AreWhole, Built, bytes_of, with_copy, with_page, written_over}

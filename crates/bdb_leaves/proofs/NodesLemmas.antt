@@ -8,7 +8,7 @@ use Rattle.std.proofs.lemmas.List.Elements.{All-cons, All-nil}
 use Rattle.bdb_format.specs.HeadOf.{is_page_size}
 use Rattle.bdb_format.specs.Page.{Content, Inline, Set, Chain, Tree, Unknown}
 use Rattle.bdb_format.proofs.MemberLemmas.{first_member, later_member, member_cases, no_member}
-use Rattle.bdb_graph.proofs.FormedLemmas.{size_bounds}
+use Rattle.bdb_format.proofs.SizeLemmas.{size_bounds}
 use Rattle.bdb_levels.specs.Nodes.{Node}
 use Rattle.bdb_levels.proofs.NodeLemmas.{all_left, all_right}
 use Rattle.bdb_levels.specs.declared.inner_type.InnerType.{InnerType}
@@ -308,10 +308,6 @@ leaf_rooted leaves built counted before closed units none whole filled =
     begins_or_none (unit ∷ us) fills = inr (units_begin leaves.leaf_type built.size before built (unit ∷ us) (omega arith) fills.sizes fills.heads)
 
 -- Which of the two.
-
-pub none_of : {X : Type 0} (xs : List X) → length xs ≡ 0 → xs ≡ []
-none_of [] none = refl
-none_of (x ∷ xs) none = absurd (omega (arith, none))
 
 -- several leaves have a unit on the last
 pub last_has_unit : (leaves : Leaves) (built : Built) (before : ℕ) (closed : List (List Placed)) (units : List Placed)

@@ -15,6 +15,7 @@ use Rattle.bdb_grove.proofs.BranchLemmas.{of_list}
 use Rattle.bdb_grove.proofs.ChainLemmas.{between_is, is_between, same_test}
 use Rattle.bdb_grove.proofs.LeafLemmas.{ascend_once}
 use Rattle.bdb_grove.proofs.SeveralLemmas.{count}
+use Rattle.bdb_grove.proofs.AscendLemmas.{ascend_strictly}
 use Rattle.bdb_levels.specs.Nodes.{Node}
 use Rattle.bdb_levels.specs.Roots.{is_of}
 use Rattle.bdb_pack.specs.Built.{Built, file_so_far}
@@ -27,7 +28,7 @@ use Rattle.bdb_leaves.specs.Placed.{LeafUnits, Placed, StandsPlaced, entries_of,
 use Rattle.bdb_leaves.specs.Rooted.{placed_on}
 use Rattle.bdb_leaves.specs.declared.leaf_type.LeafType.{LeafType}
 use Rattle.bdb_leaves.specs.declared.leaves.Leaves.{Leaves}
-use Rattle.bdb_leaves.proofs.GrownLemmas.{all_joined, as_many, ascend_above, contents_held, laid_leaves, pages_named, zip_all, zip_groups, zip_pages}
+use Rattle.bdb_leaves.proofs.GrownLemmas.{all_joined, as_many, contents_held, laid_leaves, pages_named, zip_all, zip_groups, zip_pages}
 use Rattle.bdb_leaves.proofs.LaterLemmas.{later_fewer}
 use Rattle.bdb_leaves.proofs.LeavesLemmas.{leaf_closed}
 use Rattle.bdb_leaves.proofs.MovedLemmas.{any_order, leaves_rise}
@@ -99,7 +100,7 @@ leaf_is_laid leaves built before closed units node filled zip g counted later = 
     apart = λ p. subst (λ ps. count p ps ≤ 1) (sym all_pages) (ascend_once 0 p numbers known.rise);
     fit = all_joined (ContentFits g) (λ (leaf : LeafUnits). contents_of type (entries_on leaf)) placed
         (subst (All (ContentFits g)) contents stand.on.fit);
-    held = subst (Ascend 0) names (ascend_above 0 before a _ filled.low filled.ascend);
+    held = subst (Ascend 0) names (ascend_strictly 0 before a _ filled.low filled.ascend);
     branch = subst (IsBranch g rest) names stand.on.branch;
     nodes_are = zip;
     some = inr refl;

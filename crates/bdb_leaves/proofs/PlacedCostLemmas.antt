@@ -27,7 +27,7 @@ stored_cost : (order : Order) (size : ℕ) (stored : ValueItem) → IsStoredBySi
     → item_cost order stored.item ≡ value_cost size stored.value
 stored_cost order size stored stands = content_cost order size stored.item.content stored.item.deleted stored.value stands
 
-tree_cost : (order : Order) (root : ℕ) → item_cost order (tree_item root) ≡ 12
+pub tree_cost : (order : Order) (root : ℕ) → item_cost order (tree_item root) ≡ 12
 tree_cost order root = ap pad4 (length-leaf_tree order root false)
 
 two_entries : (order : Order) (a b : Entry) (rest : List Entry)

@@ -7,7 +7,7 @@ use Rattle.bdb_format.specs.HeadOf.{is_page_size}
 use Rattle.bdb_format.specs.Numbers.{byte_at, four_at}
 use Rattle.bdb_format.specs.Page.{Internal, InternalItem, Listed, RecnoInternal}
 use Rattle.bdb_format.specs.Reading.{abstract_page, entries_of, internal_item_at, listed, recno_item_at}
-use Rattle.bdb_graph.proofs.FormedLemmas.{size_bounds}
+use Rattle.bdb_format.proofs.SizeLemmas.{size_bounds}
 use Rattle.bdb_levels.specs.declared.inner_type.InnerType.{InnerType}
 use Rattle.bdb_levels.specs.declared.inner_type.InnerType.TheVariants.{Keyed, Numbered}
 use Rattle.bdb_levels.specs.Nodes.{Node}

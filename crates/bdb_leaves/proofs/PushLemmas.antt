@@ -9,9 +9,10 @@ use Rattle.std.proofs.lemmas.Bool.{cases_lt, leb-false, leb-true, lt-ltb}
 use Rattle.bdb_format.specs.File.{File}
 use Rattle.bdb_format.specs.HeadOf.{is_page_size}
 use Rattle.bdb_format.specs.Numbers.{pad4}
-use Rattle.bdb_graph.proofs.FormedLemmas.{size_bounds}
+use Rattle.bdb_format.proofs.SizeLemmas.{size_bounds}
 use Rattle.bdb_levels.proofs.NodeLemmas.{all_right}
 use Rattle.bdb_pack.specs.Built.{AreWhole, Built, bytes_of, file_so_far}
+use Rattle.bdb_pack.proofs.ImageLemmas.{counted_so_far}
 use Rattle.bdb_leaves.specs.Filled.{AreFilled, AreSomeFilled, FilledNow, IsPushed, IsUnitPut, rest_of}
 use Rattle.bdb_leaves.specs.LeafEntries.{room_of}
 use Rattle.bdb_leaves.specs.Leaves.{AreSomeLeaves, HasRoomNow, KeepsOthers, has_room}
@@ -22,7 +23,7 @@ use Rattle.bdb_leaves.specs.Spread.{own_pages}
 use Rattle.bdb_leaves.specs.Units.{EntryUnit, KeyedUnit, TreeUnit, has_own_tree, set_cost, unit_cost, unit_has_tree, value_cost}
 use Rattle.bdb_leaves.specs.declared.leaf_type.LeafType.TheVariants.{Pairs}
 use Rattle.bdb_leaves.specs.declared.leaves.Leaves.{Leaves}
-use Rattle.bdb_leaves.proofs.FilledLemmas.{counted_so_far, entry_is_unit, later_self, pairs_are_unit}
+use Rattle.bdb_leaves.proofs.FilledLemmas.{entry_is_unit, later_self, pairs_are_unit}
 use Rattle.bdb_leaves.proofs.RestLemmas.{leaf_opened, unit_added}
 use Rattle.bdb_leaves.proofs.StayLemmas.{first_now, stays_now}
 

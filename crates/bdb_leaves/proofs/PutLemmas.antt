@@ -11,8 +11,8 @@ use Rattle.bdb_format.specs.HeadOf.{is_page_size}
 use Rattle.bdb_format.specs.Numbers.{pad4}
 use Rattle.bdb_format.specs.Page.{Chain, Inline, Item}
 use Rattle.bdb_format.specs.Rows.{page_code}
+use Rattle.bdb_format.proofs.SizeLemmas.{size_bounds}
 use Rattle.bdb_layout.proofs.WritingLemmas.{length-leaf_chain, length-leaf_inline}
-use Rattle.bdb_graph.proofs.FormedLemmas.{size_bounds}
 use Rattle.bdb_pack.specs.Built.{Built, bytes_of}
 use Rattle.bdb_pack.specs.Items.{IsWritable, OnLeaf}
 use Rattle.bdb_pack.specs.Values.{AreChainPages, HasChain, chain_page}

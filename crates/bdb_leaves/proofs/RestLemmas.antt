@@ -15,17 +15,18 @@ use Rattle.bdb_format.specs.Rows.{page_code}
 use Rattle.bdb_format.proofs.ListLemmas.{only_member}
 use Rattle.bdb_format.proofs.MemberLemmas.{first_member, none_pass, none_passes}
 use Rattle.bdb_grove.specs.Growing.{IsLater}
-use Rattle.bdb_grove.specs.Leaves.{ContentFits, content_pages}
+use Rattle.bdb_grove.specs.Leaves.{AscendIn, ContentFits, content_pages}
 use Rattle.bdb_grove.specs.Part.{IsBranch, between}
 use Rattle.bdb_grove.proofs.BranchLemmas.{branch_is_known, branches_stand_together, no_branch}
 use Rattle.bdb_grove.proofs.ChainLemmas.{between_is, is_between, same_test}
 use Rattle.bdb_levels.specs.Roots.{key_heads}
 use Rattle.bdb_levels.specs.Roots.{is_of}
 use Rattle.bdb_pack.specs.Built.{Built, bytes_of, file_so_far}
-use Rattle.bdb_leaves.specs.Filled.{AllStand, AreFilled, AscendIn, IsUnitPut, StandOn, all_contents, rest_of, unit_contents}
+use Rattle.bdb_leaves.specs.Filled.{AllStand, AreFilled, IsUnitPut, StandOn, all_contents, rest_of, unit_contents}
 use Rattle.bdb_leaves.specs.Layout.{HasTreeOn}
 use Rattle.bdb_leaves.specs.LeafEntries.{Entry, HoldsEntriesOn, type_number}
 use Rattle.bdb_grove.proofs.BranchLemmas.{of_list}
+use Rattle.bdb_grove.proofs.AscendLemmas.{ascend_bounds, ascend_follow, ascend_on}
 use Rattle.bdb_leaves.specs.Inner.{CountsOne}
 use Rattle.bdb_leaves.specs.Puts.{CountsOneFrom}
 use Rattle.bdb_leaves.specs.declared.leaf_type.LeafType.TheVariants.{Pairs, Records, SortedData}
@@ -36,7 +37,6 @@ use Rattle.bdb_leaves.specs.declared.leaves.Leaves.{Leaves}
 use Rattle.bdb_leaves.proofs.LastingLemmas.{has_tree_stays, heads_one}
 use Rattle.bdb_leaves.proofs.LeavesLemmas.{at_most_last}
 use Rattle.bdb_leaves.proofs.RunLemmas.{all_map, one_kept, later_before}
-use Rattle.bdb_leaves.proofs.StandLemmas.{ascend_bounds, ascend_follow, ascend_on}
 
 -- Leaves among pages.
 

@@ -13,6 +13,7 @@ use Rattle.bdb_grove.specs.Growing.{IsCounted, IsLater}
 use Rattle.bdb_grove.specs.Part.{between}
 use Rattle.bdb_grove.proofs.ChainLemmas.{between_is}
 use Rattle.bdb_pack.specs.Built.{Built, file_so_far}
+use Rattle.bdb_pack.proofs.ImageLemmas.{counted_so_far}
 use Rattle.bdb_leaves.specs.Filled.{AreFilled, AreSpreadOver, FilledNow, IsPushed, SpreadNow}
 use Rattle.bdb_leaves.specs.Finished.{HasFirstRoot}
 use Rattle.bdb_leaves.specs.Grown.{live_entry}
@@ -27,7 +28,7 @@ use Rattle.bdb_leaves.specs.Units.{chain_pages, unit_cost}
 use Rattle.bdb_leaves.specs.declared.leaf_type.LeafType.{LeafType}
 use Rattle.bdb_leaves.specs.declared.leaf_type.LeafType.TheVariants.{Pairs}
 use Rattle.bdb_leaves.specs.declared.leaves.Leaves.{Leaves}
-use Rattle.bdb_leaves.proofs.FilledLemmas.{counted_so_far, later_self}
+use Rattle.bdb_leaves.proofs.FilledLemmas.{later_self}
 use Rattle.bdb_leaves.proofs.GrownLaws.{grown_sets_stand}
 use Rattle.bdb_leaves.proofs.KeptLemmas.{finished_trees_are_formed, finished_trees_keep_older_pages}
 use Rattle.bdb_leaves.proofs.LayoutLemmas.{finished_trees_are_laid_out}

@@ -8,24 +8,23 @@ use Rattle.std.proofs.lemmas.Grind.{flat_map-append}
 use Rattle.std.proofs.lemmas.List.{append_assoc}
 use Rattle.std.proofs.lemmas.List.Elements.{All-append, All-cons, All-head, All-nil}
 use Rattle.std.proofs.lemmas.List.Sums.{sum_by-cons}
-use Rattle.bdb_format.specs.declared.kinds.Order.{Order}
 use Rattle.bdb_format.specs.HeadOf.{is_page_size}
-use Rattle.bdb_format.specs.Numbers.{pad4}
 use Rattle.bdb_format.specs.Page.{Content, Tree}
 use Rattle.bdb_format.specs.File.{File}
 use Rattle.bdb_format.specs.Rows.{page_code}
-use Rattle.bdb_graph.proofs.FormedLemmas.{size_bounds}
+use Rattle.bdb_format.proofs.SizeLemmas.{size_bounds}
 use Rattle.bdb_grove.specs.Growing.{IsCounted, IsLater}
-use Rattle.bdb_grove.specs.Leaves.{ContentFits, content_pages}
+use Rattle.bdb_grove.specs.Leaves.{AscendIn, ContentFits, content_pages}
 use Rattle.bdb_grove.specs.Part.{IsBranch, between}
 use Rattle.bdb_grove.proofs.BranchLemmas.{branches_follow}
 use Rattle.bdb_grove.proofs.ChainLemmas.{between_is, is_between}
-use Rattle.bdb_layout.proofs.WritingLemmas.{length-leaf_tree}
+use Rattle.bdb_grove.proofs.AscendLemmas.{ascend_bounds, ascend_follow}
 use Rattle.bdb_levels.specs.Roots.{key_heads}
 use Rattle.bdb_pack.specs.Built.{AreWhole, Built, bytes_of, file_so_far}
-use Rattle.bdb_leaves.specs.Filled.{AreSomeFilled, AscendIn, IsPushed, StandOn, leaves_added, unit_contents, FilledNow, rest_of}
+use Rattle.bdb_pack.proofs.ImageLemmas.{counted_so_far}
+use Rattle.bdb_leaves.specs.Filled.{AreSomeFilled, IsPushed, StandOn, leaves_added, unit_contents, FilledNow, rest_of}
 use Rattle.bdb_leaves.specs.Layout.{IsTreeOn, TreeParts, leaf_heads, live_entry}
-use Rattle.bdb_leaves.specs.LeafEntries.{CanTakeEntry, Entry, HoldsEntriesOn, entry_cost, item_cost, own_entry, room_of}
+use Rattle.bdb_leaves.specs.LeafEntries.{CanTakeEntry, Entry, HoldsEntriesOn, entry_cost, own_entry, room_of}
 use Rattle.bdb_leaves.specs.Leaves.{AreLeaves, AreSomeLeaves, HasRoomNow, has_room, last_of}
 use Rattle.bdb_leaves.specs.Placed.{Placed, PlacedTree, StandsPlaced, ValueItem, tree_item, IsPlacedBySize, PlacedEntry, PlacedPairs, has_wrong_root}
 use Rattle.bdb_leaves.specs.Placed.{unit_of, values_in}
@@ -40,13 +39,14 @@ use Rattle.bdb_leaves.proofs.RestLemmas.{is_rest, leaves_low}
 use Rattle.bdb_leaves.specs.declared.leaf_type.LeafType.{LeafType}
 use Rattle.bdb_leaves.specs.declared.leaf_type.LeafType.TheVariants.{Pairs, Records, SortedData}
 use Rattle.bdb_leaves.specs.declared.leaves.Leaves.{Leaves}
-use Rattle.bdb_leaves.proofs.FilledLemmas.{by_size, counted_so_far, later_self, value_read}
+use Rattle.bdb_leaves.proofs.FilledLemmas.{by_size, later_self, value_read}
 use Rattle.bdb_leaves.proofs.LastingLemmas.{heads_one, tree_stays}
 use Rattle.bdb_leaves.proofs.PairsLemmas.{live_put, some_of}
 use Rattle.bdb_leaves.proofs.PushLemmas.{IsReady, cost_few, pushed, ready, room_count, whole_now}
 use Rattle.bdb_leaves.proofs.PutLemmas.{pages_stay}
 use Rattle.bdb_leaves.proofs.RunLemmas.{one_kept, later_before, put_is_run}
-use Rattle.bdb_leaves.proofs.StandLemmas.{ascend_follow, values_stand_on, ascend_bounds}
+use Rattle.bdb_leaves.proofs.StandLemmas.{values_stand_on}
+use Rattle.bdb_leaves.proofs.PlacedCostLemmas.{tree_cost}
 
 tree_contents : (type : LeafType) (unit : ValueItem) (root : ℕ) (values : List (List ℕ))
     → unit_contents type (PlacedTree unit root values) ≡ unit.item.content ∷ Tree root ∷ []
@@ -55,9 +55,6 @@ tree_contents Records unit root values = refl
 tree_contents SortedData unit root values = refl
 
 -- The item of the tree.
-
-tree_cost : (order : Order) (root : ℕ) → item_cost order (tree_item root) ≡ 12
-tree_cost order root = ap pad4 (length-leaf_tree order root false)
 
 -- the last leaf takes it after the key
 pub takes_tree : (leaves : Leaves) (old one two : Built) (key : List ℕ) (values : List (List ℕ)) (sorted : Bool) (root : ℕ)

@@ -9,7 +9,7 @@ use Rattle.bdb_levels.specs.declared.inner_type.InnerType.{InnerType}
 use Rattle.bdb_levels.specs.Nodes.{Node, no_node}
 use Rattle.bdb_leaves.specs.Inner.{child_cost, first_cost, nodes_cost}
 use Rattle.bdb_leaves.specs.Spread.{spread_items, spread_nodes, spread_on, spread_units}
-use Rattle.bdb_leaves.specs.Units.{AreSpread, TreeUnit, page_room, unit_cost}
+use Rattle.bdb_leaves.specs.Units.{TreeUnit, page_room, unit_cost}
 
 -- Steps.
 
@@ -78,29 +78,6 @@ spread_map {A} {B} f room first cost left page (x ∷ xs) =
     ]
 
 -- Leaves.
-
--- leaves that are spread are greedy
-leaves_greedy : (size room : ℕ) (unit : TreeUnit) (units : List TreeUnit) (leaves : List (List TreeUnit))
-    → AreSpread size room ((unit ∷ units) ∷ leaves)
-    → AreGreedy room (unit_cost size) (unit_cost size) (room - unit_cost size unit) units leaves
-leaves_greedy size room unit units [] are = omega (arith, are, sum_by-cons (unit_cost size) unit units)
-leaves_greedy size room unit units ([] ∷ leaves) are = absurd are
-leaves_greedy size room unit units ((next ∷ more) ∷ leaves) (fits, full, rest) =
-    let sum = sum_by-cons (unit_cost size) unit units in
-    (omega (arith, fits, sum), omega (arith, fits, full, sum), leaves_greedy size room next more leaves rest)
-
-first_greedy : (size room : ℕ) (units : List TreeUnit) (leaves : List (List TreeUnit)) → AreSpread size room (units ∷ leaves)
-    → AreGreedy room (unit_cost size) (unit_cost size) room units leaves
-first_greedy size room units [] are = are
-first_greedy size room units ([] ∷ leaves) are = absurd are
-first_greedy size room units ((next ∷ more) ∷ leaves) (fits, full, rest) = (fits, full, leaves_greedy size room next more leaves rest)
-
-pub leaves_are_spread : (size : ℕ) (leaves : List (List TreeUnit)) → AreSpread size (page_room size) leaves
-    → leaves ≡ spread_units size (flat_map (λ leaf. leaf) leaves)
-leaves_are_spread size [] are = absurd are
-leaves_are_spread size (units ∷ leaves) are =
-    sym (greedy_is_spread (page_room size) (unit_cost size) (unit_cost size) (page_room size) [] units leaves
-    (first_greedy size (page_room size) units leaves are))
 
 -- Levels.
 

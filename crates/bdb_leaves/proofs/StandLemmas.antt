@@ -7,31 +7,14 @@ use Rattle.bdb_format.specs.Page.{Content, Inline, Set, Chain, Tree, Unknown}
 use Rattle.bdb_format.specs.File.{File, header_in, page_at, type_in}
 use Rattle.bdb_format.specs.Chains.{joined, pieces_of, value_of}
 use Rattle.bdb_grove.specs.Growing.{IsCounted, IsRun}
-use Rattle.bdb_grove.specs.Leaves.{ChainFits, ContentFits, content_pages}
+use Rattle.bdb_grove.specs.Leaves.{AscendIn, ChainFits, ContentFits, content_pages}
 use Rattle.bdb_grove.specs.Part.{IsBranch, between}
 use Rattle.bdb_grove.proofs.BranchLemmas.{branches_follow, chain_is_branch, no_branch}
+use Rattle.bdb_grove.proofs.AscendLemmas.{ascend_from}
 use Rattle.bdb_pack.specs.Stored.{AreFull, StandsIn}
-use Rattle.bdb_leaves.specs.Filled.{AscendIn, StandOn}
+use Rattle.bdb_leaves.specs.Filled.{StandOn}
 use Rattle.bdb_leaves.specs.Puts.{ValueStands}
 use Rattle.bdb_leaves.specs.Runs.{ValuesStand}
-
--- Numbers that ascend.
-
-pub ascend_from : (low lower beyond : ℕ) (xs : List ℕ) → lower ≤ low → AscendIn low beyond xs → AscendIn lower beyond xs
-ascend_from low lower beyond [] less is = omega (arith, less, is)
-ascend_from low lower beyond (x ∷ xs) less (up, is) = (omega (arith, less, up), is)
-
-pub ascend_on : (low beyond further : ℕ) (xs : List ℕ) → beyond ≤ further → AscendIn low beyond xs → AscendIn low further xs
-ascend_on low beyond further [] more is = omega (arith, more, is)
-ascend_on low beyond further (x ∷ xs) more (up, is) = (up, ascend_on (x + 1) beyond further xs more is)
-
-pub ascend_bounds : (low beyond : ℕ) (xs : List ℕ) → AscendIn low beyond xs → low ≤ beyond
-ascend_bounds low beyond [] is = is
-ascend_bounds low beyond (x ∷ xs) (up, is) = let more = ascend_bounds (x + 1) beyond xs is in omega (arith, up, more)
-
-pub ascend_follow : (low middle beyond : ℕ) (xs ys : List ℕ) → AscendIn low middle xs → AscendIn middle beyond ys → AscendIn low beyond (xs ++ ys)
-ascend_follow low middle beyond [] ys one two = ascend_from middle low beyond ys one two
-ascend_follow low middle beyond (x ∷ xs) ys (up, one) two = (up, ascend_follow (x + 1) middle beyond xs ys one two)
 
 -- Chains.
 

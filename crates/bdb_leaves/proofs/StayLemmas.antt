@@ -4,6 +4,7 @@ use Rattle.std.proofs.lemmas.List.Elements.{Contains-append_right}
 use Rattle.bdb_format.specs.File.{File}
 use Rattle.bdb_format.proofs.MemberLemmas.{first_member}
 use Rattle.bdb_grove.specs.Growing.{IsLater}
+use Rattle.bdb_grove.proofs.AscendLemmas.{ascend_bounds}
 use Rattle.bdb_levels.specs.Roots.{is_of}
 use Rattle.bdb_pack.specs.Built.{Built, file_so_far}
 use Rattle.bdb_leaves.specs.Filled.{AreFilled, rest_of}
@@ -13,7 +14,6 @@ use Rattle.bdb_leaves.specs.Placed.{Placed}
 use Rattle.bdb_leaves.specs.declared.leaves.Leaves.{Leaves}
 use Rattle.bdb_leaves.proofs.RestLemmas.{is_one, is_rest, leaves_low, rest_is, rest_opened}
 use Rattle.bdb_leaves.proofs.RunLemmas.{later_before}
-use Rattle.bdb_leaves.proofs.StandLemmas.{ascend_bounds}
 
 first_closed : (closed : List ℕ) (last next : ℕ) → first_of (closed ++ (last ∷ [])) next ≡ first_of closed last
 first_closed [] last next = refl

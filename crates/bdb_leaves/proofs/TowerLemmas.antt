@@ -10,9 +10,9 @@ use Rattle.std.proofs.Math.Dec.{ltb}
 use Rattle.bdb_format.specs.File.{File}
 use Rattle.bdb_format.specs.Reading.{entries_of}
 use Rattle.bdb_format.specs.Rows.{page_code}
-use Rattle.bdb_format.proofs.MemberLemmas.{first_member, in_flat_map, later_member, member_cases, no_member, of_flat_map}
+use Rattle.bdb_format.proofs.MemberLemmas.{first_member, in_flat_map, later_member, member_cases, member_or_not, no_member, of_flat_map}
+use Rattle.bdb_format.proofs.ListLemmas.{range_parts}
 use Rattle.bdb_grove.specs.Growing.{IsLater}
-use Rattle.bdb_grove.proofs.GroveLemmas.{range_parts}
 use Rattle.bdb_levels.specs.declared.inner_type.InnerType.{InnerType}
 use Rattle.bdb_levels.specs.declared.inner_type.InnerType.TheVariants.{Keyed, Numbered}
 use Rattle.bdb_levels.specs.Nodes.{IsTower, Node, no_node}
@@ -24,8 +24,8 @@ use Rattle.bdb_leaves.specs.Spread.{AreSpreadLevels, IsNodeOver, first_or, named
 use Rattle.bdb_leaves.specs.Tower.{CountsAll, EndsInRoot, HasTower}
 use Rattle.bdb_leaves.specs.declared.levels.Child.{Child}
 use Rattle.bdb_leaves.proofs.FilledLemmas.{later_self}
-use Rattle.bdb_leaves.proofs.LevelLawLemmas.{keys_of, levels_are_formed, levels_are_later, levels_go_on, levels_keep_pages, levels_shrink}
-use Rattle.bdb_leaves.proofs.LevelLawLemmas.{levels_stand, member_at, member_or_not}
+use Rattle.bdb_leaves.proofs.LevelLawLemmas.{keys_of, levels_are_formed, levels_are_later, levels_go_on, levels_keep_pages, levels_shrink, numbers_over}
+use Rattle.bdb_leaves.proofs.LevelLawLemmas.{levels_stand, member_at}
 use Rattle.bdb_leaves.proofs.LaterLemmas.{later_chain}
 use Rattle.bdb_leaves.proofs.LevelLemmas.{as_many}
 use Rattle.bdb_leaves.proofs.LevelTakeLemmas.{heads_few}
@@ -105,10 +105,6 @@ heads_low inner built children nodes h are at =
 
 -- Numbers.
 
-level_numbers : (p : ℕ) (groups : List (List Node)) → map (λ (node : Node). node.page) (nodes_over p groups) ≡ range_with_len p (length groups)
-level_numbers p [] = refl
-level_numbers p (group ∷ groups) = ap (λ ps. p ∷ ps) (level_numbers (p + 1) groups)
-
 numbers_more : (levels : List (List Node)) (groups : List (List Node)) (from now new : ℕ) → from ≤ now → new ≡ now + length groups
     → pages_of levels ≡ range_with_len from (now - from)
     → pages_of (levels ++ (nodes_over now groups ∷ [])) ≡ range_with_len from (new - from)
@@ -119,7 +115,7 @@ numbers_more levels groups from now new low count numbers =
     let here : from + (now - from) ≡ now = omega (arith, low) in
     let all : now - from + n ≡ new - from = omega (arith, low, count) in
     flat_map-append pages levels (top ∷ [])
-    ∙ (ap (λ ps. pages_of levels ++ ps) (append-nil (pages top) ∙ level_numbers now groups)
+    ∙ (ap (λ ps. pages_of levels ++ ps) (append-nil (pages top) ∙ numbers_over now groups)
     ∙ (ap (λ ps. ps ++ range_with_len now n) numbers
     ∙ (ap (λ q. range_with_len from (now - from) ++ range_with_len q n) (sym here)
     ∙ (sym (range_parts from (now - from) n) ∙ ap (range_with_len from) all))))

@@ -6,7 +6,7 @@ use Rattle.bdb_format.specs.Page.{Content}
 use Rattle.bdb_format.specs.File.{File}
 use Rattle.bdb_format.specs.Rows.{page_code}
 use Rattle.bdb_grove.specs.Growing.{IsCounted, IsLater}
-use Rattle.bdb_grove.specs.Leaves.{ContentFits, content_pages}
+use Rattle.bdb_grove.specs.Leaves.{AscendIn, ContentFits, content_pages}
 use Rattle.bdb_grove.specs.Part.{IsBranch, between}
 use Rattle.bdb_levels.specs.Roots.{is_of}
 use Rattle.bdb_pack.specs.Built.{AreWhole, Built, bytes_of, file_so_far}
@@ -20,11 +20,6 @@ use Rattle.bdb_leaves.specs.Spread.{own_pages, spread_units}
 use Rattle.bdb_leaves.specs.Units.{TreeUnit, page_room, unit_cost, unit_has_tree}
 use Rattle.bdb_leaves.specs.declared.leaf_type.LeafType.{LeafType}
 use Rattle.bdb_leaves.specs.declared.leaves.Leaves.{Leaves}
-
--- numbers that ascend, from one number up to another
-abbrev pub AscendIn : ℕ → ℕ → List ℕ → Type 0
-AscendIn low beyond [] = low ≤ beyond
-AscendIn low beyond (x ∷ xs) = (low ≤ x) × AscendIn (x + 1) beyond xs
 
 -- in a file these pages are what contents name: a branch that is entered by the pages that they name, in their order
 pub record StandOn (g : File) (pages : ℕ → Bool) (contents : List Content) : Type 0 where

@@ -4,10 +4,9 @@ use Rattle.std.specs.List.{Contains, flat_map}
 use Rattle.std.proofs.lemmas.Bool.{cases_Bool}
 use Rattle.bdb_format.specs.Less.{less}
 use Rattle.bdb_format.specs.Contents.{StoredPair}
-use Rattle.bdb_format.proofs.LessLemmas.{less_self}
+use Rattle.bdb_format.proofs.LessLemmas.{less_self, less_trans}
 use Rattle.bdb_format.proofs.ListLemmas.{only_member}
 use Rattle.bdb_format.proofs.MemberLemmas.{first_member, member_cases, no_member}
-use Rattle.bdb_btree.proofs.LessLemmas.{less_trans}
 use Rattle.bdb_levels.specs.Contents.{Follow, Follows}
 
 follow_tail : (pair : StoredPair) (pairs : List StoredPair) → Follow (pair ∷ pairs) → Follow pairs

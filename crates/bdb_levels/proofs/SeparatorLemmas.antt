@@ -7,7 +7,7 @@ use Rattle.std.proofs.lemmas.List.{drop_more}
 use Rattle.bdb_format.specs.Less.{less}
 use Rattle.bdb_format.specs.ContentRows.{Separated, breaks, no_separator}
 use Rattle.bdb_format.proofs.MemberLemmas.{later_member, member_cases, no_member, none_pass, of_flat_map, of_range}
-use Rattle.bdb_btree.proofs.LessLemmas.{less_trans}
+use Rattle.bdb_format.proofs.LessLemmas.{less_trans}
 use Rattle.bdb_levels.specs.Separators.{AreInOrder, KeysRise, NoneLess, SeparatorsStand}
 
 -- a separator is less than each later one

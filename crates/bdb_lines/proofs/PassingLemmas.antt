@@ -11,7 +11,7 @@ use Rattle.bdb_lines.specs.Passing.{Passes}
 use Rattle.bdb_lines.specs.Printing.{Prints, Writes}
 use Rattle.bdb_lines.specs.declared.cut.Cut.{Cut}
 use Rattle.bdb_lines.specs.declared.printer.Printer.{Printer}
-use Rattle.bdb_lines.proofs.PrintingLemmas.{begins_cut, cut_short, nothing_printed, then_more, then_written}
+use Rattle.bdb_lines.proofs.PrintingLemmas.{begins_cut, cut_short, then_more, then_written}
 
 -- a text and then another
 pub then_passes : {K : Type 0} (written : K → Option (List ℕ)) (faults : K → ℕ) (old mid new : Printer K) (one two : List ℕ) (given result : Result Unit Cut) → given ≡ Ok tt
@@ -59,10 +59,6 @@ all_cut {K = K} written faults old new end text given result cut ends begins was
     (subst (λ (before : List ℕ). Prints before new.room.now text (change written faults old.out.now new.out.now) given) begins first.prints))
 
 -- Items by their places.
-
--- the texts of the items before a place were added
-pub nothing_passed : {K : Type 0} (written : K → Option (List ℕ)) (faults : K → ℕ) (old : Printer K) → Passes written faults old old [] (Ok tt)
-nothing_passed written faults old = record { same_sink = refl; prints = nothing_printed (written old.out.now) (faults old.out.now) old.room.now }
 
 -- what stands at a place
 item_at : {A : Type 0} (items : List A) (i : ℕ) → i < length items → (item : A) × (slice_get items i ≡ Some item)

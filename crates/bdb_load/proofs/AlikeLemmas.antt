@@ -1,5 +1,5 @@
 -- Lists for settings that say the same of them.
-use Rattle.std.proofs.Common.{◌≡◌, ◌&&◌, Bool, false, List, [], ◌∷◌, refl, sym, ◌∙◌, ap, subst, inl, inr}
+use Rattle.std.proofs.Common.{◌≡◌, ◌&&◌, Bool, false, List, [], ◌∷◌, refl, sym, ◌∙◌, ap, subst}
 use Rattle.bdb_format.specs.declared.kinds.Kind.{Kind}
 use Rattle.bdb_format.specs.declared.kinds.Kind.TheVariants.{Btree, Recno, Hash, Queue}
 use Rattle.bdb_format.specs.declared.settings.Settings.{Settings}
@@ -7,8 +7,7 @@ use Rattle.bdb_model.specs.declared.list.Pair.{Pair}
 use Rattle.bdb_leaves.proofs.RunLemmas.{all_map}
 use Rattle.bdb_leaves.specs.Spread.{tree_size}
 use Rattle.bdb_mktree.specs.Lists.{IsKeyFor, IsListFor, IsPairFor, is_in_order, may_follow, units_in}
-use Rattle.bdb_mktree.specs.Units.{IsTreeKind, leaf_type_of}
-use Rattle.bdb_need.specs.Need.{tree_pages}
+use Rattle.bdb_mktree.specs.Units.{leaf_type_of}
 use Rattle.bdb_count.specs.Need.{list_pages}
 use Rattle.bdb_alone.specs.Settled.{file_settings, own_settings}
 use Rattle.bdb_alone.specs.Trees.{IsTreeSettings}
@@ -91,13 +90,6 @@ buildable_own settings pairs is =
     (own_built settings.kind settings pairs refl is)
 
 -- How many pages lists have.
-
-pub list_pages_tree : (kind : Kind) (settings : Settings) (pairs : List Pair) → IsTreeKind kind
-    → list_pages kind settings pairs ≡ tree_pages settings pairs
-list_pages_tree Btree settings pairs tree = refl
-list_pages_tree Recno settings pairs tree = refl
-list_pages_tree Hash settings pairs tree = absurd (elim tree [ inl e ↦ cc e | inr e ↦ cc e ])
-list_pages_tree Queue settings pairs tree = absurd (elim tree [ inl e ↦ cc e | inr e ↦ cc e ])
 
 own_pages : (k : Kind) (settings : Settings) (pairs : List Pair) → settings.kind ≡ k → IsBuildable k settings pairs
     → list_pages k (own_settings k settings.page_size settings.order settings) pairs ≡ list_pages k settings pairs

@@ -8,19 +8,16 @@ use Rattle.std.specs.List.{All, fold, list_any, sum_by}
 use Rattle.std.proofs.lemmas.List.Elements.{All-cons, All-head, All-nil, All-tail}
 use Rattle.std.proofs.lemmas.List.Folds.{list_any-append}
 use Rattle.std.proofs.lemmas.List.Sums.{sum_by-cons}
-use Rattle.std.proofs.lemmas.Bool.{and_parts}
+use Rattle.std.proofs.lemmas.Bool.{and_parts, or_parts}
 use Rattle.bdb_format.specs.ContentRows.{ascends, ascends_from}
 use Rattle.bdb_format.specs.Databases.{is_name}
 use Rattle.bdb_format.specs.Less.{less}
-use Rattle.bdb_btree.proofs.LessLemmas.{same_unless_less}
-use Rattle.bdb_overflow.proofs.KeyLemmas.{eq_self}
+use Rattle.bdb_format.proofs.LessLemmas.{eq_self, same_unless_less}
 use Rattle.bdb_model.specs.declared.sections.Section.{Section}
 use Rattle.bdb_sections.specs.Fit.{AreNamedBehind}
-use Rattle.bdb_settle.proofs.PutLemmas.{or_false}
 use Rattle.bdb_load.specs.Builds.{in_name_order, name_of, put_named}
 use Rattle.bdb_load.specs.Order.{AreApart, IsApart, named_before, with_named}
 use Rattle.bdb_load.proofs.NameLemmas.{swapped}
-use Rattle.bdb_sections.proofs.HeaderLemmas.{neither_right as or_right}
 
 -- What holds of each section.
 
@@ -162,7 +159,7 @@ named_behind : (name : Option (List ℕ)) (names : List (Option (List ℕ))) (se
 named_behind name names [] named = All-nil HasName
 named_behind name names (section ∷ sections) named =
     All-cons HasName section sections
-    (some_name section.name (or_false (is_none section.name) (list_any is_none (name ∷ names)) named.0))
+    (some_name section.name (or_parts (is_none section.name) (list_any is_none (name ∷ names)) named.0).0)
     (named_behind name (names ++ (section.name ∷ [])) sections named.2)
 
 -- where the first section has a name, each has
@@ -176,15 +173,15 @@ pub alone_unnamed : (section : Section) (sections : List Section) → is_some se
 alone_unnamed section [] unnamed named = refl
 alone_unnamed section (other ∷ others) unnamed named =
     let some : is_none section.name ≡ false =
-    or_false (is_none section.name) false (or_right (is_none other.name) (list_any is_none (section.name ∷ [])) named.2.0) in
+    (or_parts (is_none section.name) false (or_parts (is_none other.name) (list_any is_none (section.name ∷ [])) named.2.0).1).0 in
     absurd (true≢false (sym (some_name section.name some) ∙ unnamed))
 
 not_this : (names more : List (Option (List ℕ))) (name other : Option (List ℕ)) → list_any (is_name other) (names ++ name ∷ more) ≡ false
     → is_name other name ≡ false
 not_this names more name other none =
-    or_false (is_name other name) (list_any (is_name other) more)
-    (or_right (list_any (is_name other) names) (list_any (is_name other) (name ∷ more))
-    (sym (list_any-append (is_name other) names (name ∷ more)) ∙ none))
+    (or_parts (is_name other name) (list_any (is_name other) more)
+    (or_parts (list_any (is_name other) names) (list_any (is_name other) (name ∷ more))
+    (sym (list_any-append (is_name other) names (name ∷ more)) ∙ none)).1).0
 
 later_apart : (names more : List (Option (List ℕ))) (name : Option (List ℕ)) (sections : List Section)
     → AreNamedBehind (names ++ name ∷ more) sections → All (λ (section : Section). is_name section.name name ≡ false) sections

@@ -1,6 +1,6 @@
 -- The image of sections with their lists is one that is built of the sections.
 use Rattle.std.proofs.Common.{◌≡◌, ℕ, ◌+◌, ◌-◌, ◌*◌, Result, Ok, Err, Bool, true, false, cond, List, [], ◌∷◌, length, map, Option, Some}
-use Rattle.std.proofs.Common.{None, refl, sym, ◌∙◌, ap, subst, arith, inl, inr}
+use Rattle.std.proofs.Common.{None, refl, sym, ◌∙◌, ap, subst, arith}
 use Rattle.std.specs.Prelude.{is_some, nat_lt, slice_get, if◌then◌else◌, IfOk}
 use Rattle.std.specs.declared.alloc.AllocError.{AllocError}
 use Rattle.std.specs.List.{AllZip, fold, sum_by}
@@ -14,9 +14,8 @@ use Rattle.bdb_model.specs.declared.list.Pair.{Pair}
 use Rattle.bdb_model.specs.declared.sections.Section.{Section}
 use Rattle.bdb_model.specs.Pairs.{listed}
 use Rattle.bdb_model.specs.Written.{header_lines}
-use Rattle.bdb_settle.specs.declared.load_error.LoadError.{LoadError}
 use Rattle.bdb_settle.specs.declared.load_error.LoadError.TheVariants.{TooLarge}
-use Rattle.bdb_settle.specs.LoadErrors.{IsRefusal, load_error}
+use Rattle.bdb_settle.specs.LoadErrors.{load_error}
 use Rattle.bdb_settle.specs.Loaded.{loaded, loaded_section}
 use Rattle.bdb_need.specs.Need.{pairs_in}
 use Rattle.bdb_count.specs.Need.{list_pages, master_pages, need_of, section_pages}
@@ -24,7 +23,7 @@ use Rattle.bdb_alone.specs.Settled.{file_settings, own_settings}
 use Rattle.bdb_alone.proofs.SettingsLemmas.{own_size, settings_shown}
 use Rattle.bdb_named.specs.Images.{AreNamed, IsDatabaseOf, IsNamed, IsNamedImage, names_pages}
 use Rattle.bdb_load.specs.Builds.{Builds, IsLoadedAs, image_size, in_file_of, in_name_order}
-use Rattle.bdb_load.specs.Loading.{IsLoadRefusal, loading_error, or_else, size_error}
+use Rattle.bdb_load.specs.Loading.{loading_error, or_else, size_error}
 use Rattle.bdb_load.specs.Order.{with_named}
 use Rattle.bdb_load.specs.Settled.{AreBuildable, AreNamedApart, IsAloneImage, IsBuildable, IsImageOfSections, size_in}
 use Rattle.bdb_load.proofs.AlikeLemmas.{pages_own}
@@ -210,12 +209,3 @@ too_large max pages sections settled none lists pages_are above =
     let test : nat_lt max (image_size sections) ≡ true =
     ap (nat_lt max) (sym (counted_size sections settled pages lists pages_are)) ∙ above in
     ap (λ e. or_else e (size_error max sections)) none ∙ ap (λ (b : Bool). if b then Some TooLarge else None) test
-
--- a refusal of settling is one of loading
-pub settle_refused : (max : ℕ) (sections : List Section) (error : LoadError) → IsRefusal (load_error sections) error
-    → IsLoadRefusal (loading_error max sections) error
-settle_refused max sections error is = by_error (load_error sections) is
-  where
-    by_error : (found : Option LoadError) → IsRefusal found error → IsLoadRefusal (or_else found (size_error max sections)) error
-    by_error None is = inl is
-    by_error (Some first) is = inr (ap (λ e. Some e) (sym is))

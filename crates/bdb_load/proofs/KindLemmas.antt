@@ -1,18 +1,17 @@
 -- One section alone, of each kind.
 use Rattle.std.proofs.Common.{◌≡◌, ℕ, ◌+◌, ◌*◌, List, sym, ◌∙◌, ap, subst, inl, inr}
 use Rattle.bdb_format.specs.declared.kinds.Kind.{Kind}
-use Rattle.bdb_format.specs.declared.kinds.Kind.TheVariants.{Hash, Queue}
+use Rattle.bdb_format.specs.declared.kinds.Kind.TheVariants.{Queue}
 use Rattle.bdb_format.specs.declared.settings.Settings.{Settings}
-use Rattle.bdb_format.specs.Page.{HashFields, QueueFields}
+use Rattle.bdb_format.specs.Page.{QueueFields}
 use Rattle.bdb_model.specs.declared.list.Pair.{Pair}
 use Rattle.bdb_mktree.specs.Lists.{IsListFor}
 use Rattle.bdb_mktree.specs.Units.{IsTreeKind}
 use Rattle.bdb_mkqueue.specs.Layout.{queue_meta}
 use Rattle.bdb_count.specs.Need.{list_pages}
-use Rattle.bdb_alone.specs.Images.{IsQueueImage, IsTableImage, table_fields}
-use Rattle.bdb_alone.specs.Trees.{IsTreeImage, IsTreeSettings}
+use Rattle.bdb_alone.specs.Images.{IsQueueImage}
+use Rattle.bdb_alone.specs.Trees.{IsTreeSettings}
 use Rattle.bdb_load.specs.Settled.{IsAloneImage, IsBuildable}
-use Rattle.bdb_load.proofs.AlikeLemmas.{list_pages_tree}
 
 pub of_tree : (settings : Settings) (pairs : List Pair) → IsTreeKind settings.kind → IsBuildable settings.kind settings pairs
     → IsTreeSettings settings × IsListFor settings pairs
@@ -24,28 +23,6 @@ pub of_kind : (k : Kind) (settings : Settings) (pairs : List Pair) → settings.
 of_kind k settings pairs same is = subst (λ q. IsBuildable q settings pairs) same is
 
 -- the image of each kind is one of a database alone
-
-pub tree_alone : (settings : Settings) (pairs : List Pair) (image : List ℕ) → IsTreeKind settings.kind → IsTreeImage settings pairs image
-    → IsAloneImage settings pairs image
-tree_alone settings pairs image tree is = record {
-  sound = is.sound;
-  size = is.size ∙ ap (λ n. (1 + n) * settings.page_size) (sym (list_pages_tree settings.kind settings pairs tree));
-  fields = is.fields;
-  alone = is.alone;
-  settings_are = is.settings_are;
-  list = is.list;
-}
-
-pub table_alone : (settings : Settings) (pairs : List Pair) (image : List ℕ) → settings.kind ≡ Hash → IsTableImage settings pairs image
-    → IsAloneImage settings pairs image
-table_alone settings pairs image hash is = record {
-  sound = is.sound;
-  size = is.size ∙ ap (λ k. (1 + list_pages k settings pairs) * settings.page_size) (sym hash);
-  fields = HashFields (table_fields settings pairs);
-  alone = is.alone;
-  settings_are = is.settings_are;
-  list = is.list;
-}
 
 pub queue_alone : (settings : Settings) (pairs : List Pair) (image : List ℕ) → settings.kind ≡ Queue → IsQueueImage settings pairs image
     → IsAloneImage settings pairs image

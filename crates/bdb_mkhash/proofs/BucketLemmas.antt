@@ -7,14 +7,12 @@ use Rattle.std.proofs.lemmas.Bool.{cases_eq, eq-eqb, le-leb, lt-leb, ne_eqb}
 use Rattle.std.proofs.lemmas.List.{append-nil, get_or-map, get_or-set_other, get_or-set_same, length-set, map-set, same_lists}
 use Rattle.std.proofs.lemmas.List.Elements.{filter-append}
 use Rattle.std.proofs.lemmas.List.FromFn.{get_or-map-range_with_len, length-map-range_with_len}
-use Rattle.std.proofs.lemmas.List.Sums.{sum_by-cons}
 use Rattle.std.proofs.lemmas.Nat.{pow_pos}
 use Rattle.bdb_model.specs.declared.list.Pair.{Pair}
 use Rattle.bdb_leaves.specs.Units.{KeyedUnit, page_room}
 use Rattle.bdb_mktree.specs.Lists.{IsRunAt}
 use Rattle.bdb_buckets.specs.Tables.{Keyed, bucket_among, dealt}
-use Rattle.bdb_mkhash.specs.Buckets.{bits_for, buckets_of, keyed_of, table_cost, table_units}
-use Rattle.bdb_mkhash.specs.Costs.{unit_cost}
+use Rattle.bdb_mkhash.specs.Buckets.{bits_for, buckets_of, keyed_of, table_units}
 
 -- How many buckets.
 
@@ -50,15 +48,6 @@ two_at_least (suc bits) some = let p = pow_pos bits in rw pow-suc (omega (arith,
 pub run_unit : (pairs : List Pair) (start end : ℕ) (key : List ℕ) (values : List (List ℕ)) → IsRunAt pairs start (KeyedUnit key values) end
     → table_units (drop start pairs) ≡ record { key = key; values = values } ∷ table_units (drop end pairs)
 run_unit pairs start end key values run = ap (map keyed_of) run.units
-
--- a run's cost is taken off what is left
-pub cost_taken : (size : ℕ) (pairs : List Pair) (start end : ℕ) (key : List ℕ) (values : List (List ℕ))
-    → IsRunAt pairs start (KeyedUnit key values) end
-    → table_cost size (table_units (drop start pairs))
-    ≡ unit_cost size (record { key = key; values = values }) + table_cost size (table_units (drop end pairs))
-cost_taken size pairs start end key values run =
-    ap (table_cost size) (run_unit pairs start end key values run)
-    ∙ sum_by-cons (unit_cost size) (record { key = key; values = values }) (table_units (drop end pairs))
 
 -- Dealing.
 
@@ -125,14 +114,6 @@ one_dealt bits all left unit old new before low is =
           (get_or-map-range_with_len (dealt bits before.done) 0 (2 ^ bits) b b [] low e)
           ∙ dealt_more bits before.done unit low));
     }
-
-pub all_dealt : (bits : ℕ) (all : List Keyed) (buckets : List (List Keyed)) → AreDealt bits all [] buckets → buckets ≡ buckets_of bits all
-all_dealt bits all buckets dealt_all = dealt_all.are ∙ ap (buckets_of bits) (sym (append-nil dealt_all.done) ∙ dealt_all.whole)
-
--- one bucket more without keys
-pub replicate_more : (n : ℕ) → replicate n [] ++ ([] ∷ []) ≡ replicate {A = List Keyed} (n + 1) []
-replicate_more zero = refl
-replicate_more (suc n) = ap (λ us. [] ∷ us) (replicate_more n) ∙ ap (λ k. replicate k []) (let e : suc (n + 1) ≡ suc n + 1 = omega arith in e)
 
 pub dealt_length : (bits : ℕ) (all left : List Keyed) (buckets : List (List Keyed)) → AreDealt bits all left buckets → length buckets ≡ 2 ^ bits
 dealt_length bits all left buckets before = ap length before.are ∙ length-map-range_with_len (dealt bits before.done) 0 (2 ^ bits)

@@ -7,7 +7,7 @@ use Rattle.std.proofs.lemmas.List.Elements.{All-cons, All-nil}
 use Rattle.std.proofs.lemmas.List.Folds.{list_all_at, list_all_more}
 use Rattle.std.proofs.lemmas.List.Sums.{sum_by-take-le, sum_by_more, sum_by_more_le}
 use Rattle.bdb_format.specs.HeadOf.{is_page_size}
-use Rattle.bdb_graph.proofs.FormedLemmas.{size_bounds}
+use Rattle.bdb_format.proofs.SizeLemmas.{size_bounds}
 use Rattle.bdb_mkhash.specs.Costs.{cost_in, data_cost, data_form, first_value, is_inline, item_cost, set_cost, stand_together}
 use Rattle.bdb_mkhash.specs.declared.form.DataForm.{DataForm}
 use Rattle.bdb_mkhash.specs.declared.form.DataForm.TheVariants.{One, Set, Tree}
@@ -60,11 +60,6 @@ pub cost_left : (values : List (List ℕ)) (i : ℕ) → i < length values
 cost_left values i low = sum_by_more_le block_cost values i [] low
 
 -- Forms.
-
-pub form_one : (size : ℕ) (values : List (List ℕ)) → length values ≡ 1 → One ≡ data_form size values
-form_one size [] one = absurd (omega (arith, one))
-form_one size (value ∷ []) one = refl
-form_one size (value ∷ next ∷ values) one = absurd (omega (arith, one))
 
 pub form_more : (size : ℕ) (values : List (List ℕ)) → (length values ≡ 1 → ⊥) → (length values ≡ 0 → ⊥)
     → data_form size values ≡ cond (stand_together size values) Set Tree

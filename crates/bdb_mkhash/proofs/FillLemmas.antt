@@ -12,7 +12,7 @@ use Rattle.bdb_format.specs.HeadOf.{is_page_size}
 use Rattle.bdb_format.specs.File.{File}
 use Rattle.bdb_format.specs.Page.{Content}
 use Rattle.bdb_format.specs.Rows.{page_code}
-use Rattle.bdb_graph.proofs.FormedLemmas.{size_bounds}
+use Rattle.bdb_format.proofs.SizeLemmas.{size_bounds}
 use Rattle.bdb_grove.specs.Growing.{IsLater}
 use Rattle.bdb_grove.specs.Part.{between}
 use Rattle.bdb_grove.proofs.ChainLemmas.{between_is, is_between}
@@ -23,7 +23,7 @@ use Rattle.bdb_leaves.specs.Units.{page_room}
 use Rattle.bdb_leaves.proofs.RunLemmas.{later_before}
 use Rattle.bdb_buckets.specs.Tables.{Keyed, PlacedUnit, UnitStands, UnitsStand, contents_of, contents_on, unit_of}
 use Rattle.bdb_mkhash.specs.Costs.{own_pages, unit_cost}
-use Rattle.bdb_mkhash.specs.Filling.{AreEmptyPages, ArePut, IsEmptyPage, IsFollowed, IsOpenPage, IsPageFilled, IsUnitPut, IsWholePage, no_unit, room_on}
+use Rattle.bdb_mkhash.specs.Filling.{AreEmptyPages, ArePut, IsEmptyPage, IsFollowed, IsOpenPage, IsUnitPut, IsWholePage, no_unit}
 use Rattle.bdb_mkhash.specs.Units.{IsShortUnit, unit_seen, units_seen}
 use Rattle.bdb_mkhash.specs.declared.unit.Unit.{Unit as CodeUnit}
 use Rattle.bdb_mkhash.specs.Pages.{HoldsContents, HoldsContentsOn, content_cost, with_hash_page, with_next}
@@ -157,16 +157,6 @@ pub put_next : (p : ℕ) (old now new : Built) (sorted : Bool) (units : List Key
 put_next p old now new sorted units n unit empty put low is one =
     subst (ArePut p old new sorted) (ap (λ u. take n units ++ (u ∷ [])) is ∙ sym (take_more units n no_unit low))
     (put_more p old now new sorted (take n units) unit empty put one)
-
-pub page_filled : (p : ℕ) (old new : Built) (sorted : Bool) (units : List Keyed) (n : ℕ) → ArePut p old new sorted (take n units) → n ≡ length units
-    → IsPageFilled p old new sorted units n
-page_filled p old new sorted units n put all = record { few = omega (arith, all); put = put; full = inl all }
-
-pub page_full : (p : ℕ) (old new : Built) (sorted : Bool) (units : List Keyed) (n : ℕ) (unit : Keyed) → ArePut p old new sorted (take n units)
-    → n < length units
-    → unit ≡ get_or units n no_unit → room_on new p < unit_cost old.size unit → IsPageFilled p old new sorted units n
-page_full p old new sorted units n unit put low is full =
-    record { few = omega (arith, low); put = put; full = inr (low, subst (λ u. room_on new p < unit_cost old.size u) is full) }
 
 -- a key of a list
 pub seen_at : (units : List CodeUnit) (n : ℕ) (unit : CodeUnit) → n < length units → unit ≡ get_or units n unit

@@ -1,9 +1,9 @@
 -- The keys of a bucket, page by page.
-use Rattle.std.proofs.Common.{◌≡◌, ◌⊎◌, ℕ, ◌+◌, ◌-◌, ◌<◌, ◌≤◌, Bool, true, false, List, [], ◌∷◌, ◌++◌, map, length, get_or, take, take-add, drop, None, append_assoc, arith, refl, sym}
+use Rattle.std.proofs.Common.{◌≡◌, ◌⊎◌, ℕ, ◌+◌, ◌-◌, ◌<◌, ◌≤◌, Bool, true, List, [], ◌∷◌, ◌++◌, map, length, get_or, take, take-add, drop, None, append_assoc, arith, refl, sym}
 use Rattle.std.proofs.Common.{◌∙◌, ap, subst, inl, inr, length-append, length-drop, true≢false}
-use Rattle.std.specs.Prelude.{◌==◌, ◌&&◌, ◌||◌, not}
+use Rattle.std.specs.Prelude.{◌==◌, ◌&&◌, not}
 use Rattle.std.specs.List.{sum_by}
-use Rattle.std.proofs.lemmas.Bool.{and_parts, cases_eq, cases_lt, eq-eqb, eqb-true, ne_eqb, or_cases}
+use Rattle.std.proofs.lemmas.Bool.{and_parts, cases_eq, cases_lt, eq-eqb, eqb-true, ne_eqb, or_cases, or_left, or_right}
 use Rattle.std.proofs.lemmas.List.{drop_all, drop-drop, drop_more, get_or-drop, get_or-map, map-append, take_all}
 use Rattle.std.proofs.lemmas.List.Sums.{sum_by-append}
 use Rattle.bdb_format.specs.HeadOf.{is_page_size}
@@ -29,21 +29,14 @@ use Rattle.bdb_mkhash.proofs.SpreadLemmas.{spread_over, spread_taken}
 
 -- Sets of pages.
 
-or_left : {a : Bool} (b : Bool) → a ≡ true → (a || b) ≡ true
-or_left b is = ap (λ t. t || b) is
-
-or_right : (a : Bool) {b : Bool} → b ≡ true → (a || b) ≡ true
-or_right true is = refl
-or_right false is = is
-
 pub bucket_is : (p a b q : ℕ) → of_bucket p a b q ≡ true → (q ≡ p) ⊎ ((a ≤ q) × (q < b))
 bucket_is p a b q is = elim (or_cases (q == p) (between a b q) is) [ inl here ↦ inl (eqb-true q p here) | inr there ↦ inr (between_is a b q there) ]
 
 pub is_first : (p a b : ℕ) → of_bucket p a b p ≡ true
-is_first p a b = or_left (between a b p) (eq-eqb p p refl)
+is_first p a b = or_left _ (between a b p) (eq-eqb p p refl)
 
 pub is_further : (p a b q : ℕ) → a ≤ q → q < b → of_bucket p a b q ≡ true
-is_further p a b q low high = or_right (q == p) (is_between a b q low high)
+is_further p a b q low high = or_right (q == p) _ (is_between a b q low high)
 
 is_closed : (p a b current q : ℕ) → of_bucket p a b q ≡ true → (q ≡ current → ⊥) → closed_of p a b current q ≡ true
 is_closed p a b current q is other = ap (λ t. t && not (q == current)) is ∙ ap not (ne_eqb q current other)

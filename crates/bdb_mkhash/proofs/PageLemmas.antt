@@ -15,10 +15,10 @@ use Rattle.bdb_format.specs.Rows.{is_wrong_entry_count, is_wrong_level}
 use Rattle.bdb_format.specs.Spelling.{hash_bytes, header_bytes}
 use Rattle.bdb_format.proofs.PageLemmas.{header_listed, length_items}
 use Rattle.bdb_format.proofs.SpellingLemmas.{length-overwritten, length-spelled}
-use Rattle.bdb_graph.proofs.FormedLemmas.{size_bounds}
+use Rattle.bdb_format.proofs.SizeLemmas.{size_bounds}
 use Rattle.bdb_pack.specs.Built.{Built, bytes_of, with_page, with_zeros}
 use Rattle.bdb_pack.specs.Items.{HasPlace, IsWritable, OnHash, extent, holds_item}
-use Rattle.bdb_pack.specs.OnPages.{HasPlaceOn, HasRoomOn, holds_on, with_item_on}
+use Rattle.bdb_pack.specs.OnPages.{HasPlaceOn, with_item_on}
 use Rattle.bdb_pack.specs.Placing.{HasRoom, begun_header, begun_page, empty_listed, high_free_of, page_and_item, page_with, place_below, with_item}
 use Rattle.bdb_pack.proofs.BegunLemmas.{begun_stays}
 use Rattle.bdb_pack.proofs.FormLemmas.{begun_is_formed}
@@ -148,18 +148,6 @@ item_placed built p content can =
     let count = contents_held built.order (bytes_of built p) p can.previous can.next can.contents can.holds in
     subst (λ t. HasPlace t (entries_of built.order (bytes_of built p)) (OnHash content)) (sym can.holds.type_is)
     (subst (λ k. HasPlace 13 k (OnHash content)) (sym count) can.place)
-
-pub item_on : (built : Built) (p : ℕ) (content : Content) → CanTakeContent built p content → holds_on built p (OnHash content) ≡ true
-item_on built p content can = ap (λ t. holds_item t (OnHash content)) can.holds.type_is
-
-pub item_roomy : (built : Built) (p : ℕ) (content : Content) → CanTakeContent built p content → HasRoomOn built p (hash_bytes built.order content)
-item_roomy built p content can =
-    let n : ℕ = length (hash_bytes built.order content) in
-    let taken : extent (byte_at (bytes_of built p) 25) n ≡ n = ap (λ t. extent t n) can.holds.type_is in
-    let in_order : index_end built.order (bytes_of built p) ≤ high_free_of built.order (bytes_of built p) = can.holds.begun.room in
-    let room : content_cost built.order content ≤ room_of built.order (bytes_of built p) = can.room in
-    let some = some_bytes built.order content can.fits in
-    omega (arith, taken, in_order, room, some)
 
 -- A page that begins.
 

@@ -19,10 +19,10 @@ use Rattle.bdb_format.specs.File.{File}
 use Rattle.bdb_format.specs.Reading.{blocks_of}
 use Rattle.bdb_format.specs.Rows.{page_code}
 use Rattle.bdb_format.specs.Spelling.{block_bytes, hash_bytes}
-use Rattle.bdb_graph.proofs.FormedLemmas.{size_bounds}
 use Rattle.bdb_layout.specs.Blocks.{BlockRun, run_in}
 use Rattle.bdb_layout.proofs.WritingLemmas.{length-hash_chain, length-hash_inline, length-hash_tree}
 use Rattle.bdb_format.proofs.SpellingLemmas.{length-spelled}
+use Rattle.bdb_format.proofs.SizeLemmas.{size_bounds}
 use Rattle.bdb_grove.specs.Growing.{IsCounted, IsLater}
 use Rattle.bdb_grove.specs.Leaves.{ContentFits}
 use Rattle.bdb_grove.specs.Part.{between}
@@ -32,7 +32,6 @@ use Rattle.bdb_pack.specs.Built.{Built, bytes_of, file_so_far}
 use Rattle.bdb_pack.specs.Items.{IsWritable, OnLeaf}
 use Rattle.bdb_pack.specs.Values.{HasChain}
 use Rattle.bdb_pack.proofs.OpenLemmas.{open_is}
-use Rattle.bdb_leaves.specs.Filled.{AscendIn as AscendOn}
 use Rattle.bdb_leaves.specs.Leaves.{KeepsAll, KeepsOthers}
 use Rattle.bdb_leaves.specs.Puts.{ValueStands}
 use Rattle.bdb_leaves.specs.Sets.{IsSetBuilt}
@@ -40,7 +39,7 @@ use Rattle.bdb_leaves.proofs.FilledLemmas.{value_read}
 use Rattle.bdb_leaves.proofs.PutLemmas.{chain_item, inline_item}
 use Rattle.bdb_leaves.proofs.RunLemmas.{later_before}
 use Rattle.bdb_leaves.proofs.StandLemmas.{values_stand_on}
-use Rattle.bdb_buckets.specs.Tables.{AscendIn, ContentsStand, Keyed, PlacedUnit}
+use Rattle.bdb_buckets.specs.Tables.{ContentsStand, Keyed, PlacedUnit}
 use Rattle.bdb_buckets.proofs.OverLemmas.{contents_follow}
 use Rattle.bdb_mkhash.specs.Costs.{cost_in, data_cost, data_form, first_value, item_cost, pages_in, set_cost, stand_together, unit_cost}
 use Rattle.bdb_mkhash.specs.Filling.{AreDataPut, DataStand, IsGrown, IsHalfPage, IsHashItem, IsOpenPage, IsUnitPut, IsValuePut, IsWholePage, room_on}
@@ -152,10 +151,6 @@ pub record ValueHere (g : File) (sorted : Bool) (first beyond : ℕ) (content : 
   pub no_set : is_set content ≡ false
   pub right : is_wrong_set g sorted content ≡ false
 
-ascend_as : (low beyond : ℕ) (xs : List ℕ) → AscendOn low beyond xs → AscendIn low beyond xs
-ascend_as low beyond [] is = is
-ascend_as low beyond (x ∷ xs) (up, is) = (up, ascend_as (x + 1) beyond xs is)
-
 data_one : (g : File) (size first beyond : ℕ) (content : Content) (value : List ℕ) → ValueStands g size first beyond content value
     → value_of g content ≡ value → data_of g content ≡ value ∷ []
 unfolding data_of
@@ -188,7 +183,7 @@ value_here g sorted size first beyond content value counted low high stands =
     let read = value_read g size first beyond content value stands in
     let plain = not_set g sorted size first beyond content value stands in
     record {
-      on = record { branch = both.0.branch; fit = both.0.fit; ascend = ascend_as first beyond _ both.1 };
+      on = record { branch = both.0.branch; fit = both.0.fit; ascend = both.1 };
       is = read;
       data_is = data_one g size first beyond content value stands read;
       no_set = plain.0;

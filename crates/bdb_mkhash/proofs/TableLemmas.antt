@@ -3,7 +3,7 @@ use Rattle.std.proofs.Common.{◌≡◌, ◌⊎◌, ℕ, suc, ◌+◌, ◌<◌, 
 use Rattle.std.proofs.Common.{◌∙◌, ap, subst, inl, inr, length-append, length-take, true≢false}
 use Rattle.std.specs.Prelude.{◌||◌}
 use Rattle.std.specs.List.{sum_by}
-use Rattle.std.proofs.lemmas.Bool.{cases_eq, cases_lt, or_cases}
+use Rattle.std.proofs.lemmas.Bool.{cases_eq, cases_lt, or_cases, or_right}
 use Rattle.std.proofs.lemmas.List.{length-map, map-append, take_more}
 use Rattle.std.proofs.lemmas.List.Sums.{sum_by_push}
 use Rattle.bdb_format.specs.File.{File}
@@ -49,11 +49,7 @@ pub are_first : (p n a b q : ℕ) → p ≤ q → q < p + n → of_buckets p n a
 are_first p n a b q low high = ap (λ t. t || between a b q) (is_between p (p + n) q low high)
 
 pub are_further : (p n a b q : ℕ) → a ≤ q → q < b → of_buckets p n a b q ≡ true
-are_further p n a b q low high = either (between p (p + n) q) (is_between a b q low high)
-  where
-    either : (t : Bool) {u : Bool} → u ≡ true → (t || u) ≡ true
-    either true is = refl
-    either false is = is
+are_further p n a b q low high = or_right (between p (p + n) q) _ (is_between a b q low high)
 
 not_between : (a b q : ℕ) → b ≤ q → between a b q ≡ false
 not_between a b q high = by_test (between a b q) refl
@@ -61,24 +57,6 @@ not_between a b q high = by_test (between a b q) refl
     by_test : (t : Bool) → between a b q ≡ t → t ≡ false
     by_test true is = absurd (omega (arith, high, (between_is a b q is).1))
     by_test false is = refl
-
--- No bucket yet.
-pub none_filled : (p : ℕ) (old : Built) (sorted : Bool) → AreFilled p old old sorted []
-none_filled p old sorted =
-    record {
-      size = refl;
-      order = refl;
-      grows = omega arith;
-      same = λ q low other. refl;
-      pages = [];
-      spread = refl;
-      stands = λ g counted later. refl;
-      formed = λ q at. elim (buckets_is p 0 (length old.pages) (length old.pages) q at) [
-        | inl first ↦ absurd (omega (arith, first.0, first.1))
-        | inr further ↦ absurd (omega (arith, further.0, further.1))
-      ];
-      count = omega arith;
-    }
 
 -- the first page of the next bucket is as it was
 pub still_empty : (p n : ℕ) (old now : Built) (sorted : Bool) (buckets : List (List Keyed)) → AreEmptyPages p n old

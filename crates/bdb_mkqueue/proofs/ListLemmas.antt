@@ -16,7 +16,7 @@ use Rattle.bdb_format.specs.Reading.{abstract_page}
 use Rattle.bdb_format.specs.File.{File, page_at}
 use Rattle.bdb_format.specs.Lists.{ListKey, NumberKey, is_record, list_of, listed_slot, page_records, queue_list, record_number, slot_at}
 use Rattle.bdb_format.specs.Spelling.{zeros}
-use Rattle.bdb_format.proofs.ListLemmas.{range_more}
+use Rattle.bdb_format.proofs.ListLemmas.{range_more, range_parts}
 use Rattle.bdb_format.proofs.SpellingLemmas.{byte_at-in, slice_range-in}
 use Rattle.bdb_model.specs.Pairs.{listed, listed_key}
 use Rattle.bdb_model.specs.declared.list.Pair.{Pair}
@@ -40,16 +40,6 @@ entry number None = []
 entry number (Some value) = (NumberKey number, value) ∷ []
 
 -- Ranges.
-
-range_join : (a m n : ℕ) → range_with_len a (m + n) ≡ range_with_len a m ++ range_with_len (a + m) n
-range_join a zero n =
-    let none : 0 + n ≡ n = omega arith in
-    let at : a + 0 ≡ a = omega arith in
-    ap (range_with_len a) none ∙ ap (λ b. range_with_len b n) (sym at)
-range_join a (suc m) n =
-    let more : suc m + n ≡ suc (m + n) = omega arith in
-    let at : a + 1 + m ≡ a + suc m = omega arith in
-    ap (range_with_len a) more ∙ ap (λ xs. a ∷ xs) (range_join (a + 1) m n ∙ ap (λ b. range_with_len (a + 1) m ++ range_with_len b n) at)
 
 flat_range_same : (f g : ℕ → Entries) (a b n : ℕ) → ((s : ℕ) → s < n → f (a + s) ≡ g (b + s))
     → flat_map f (range_with_len a n) ≡ flat_map g (range_with_len b n)
@@ -82,7 +72,7 @@ blocks f k (suc n) =
     ∙ (ap (λ xs. flat_map f (range_with_len 1 (n * k)) ++ xs) (append-nil (page (1 + n)))
     ∙ (ap (λ m. flat_map f (range_with_len 1 (n * k)) ++ flat_map f (range_with_len m k)) at
     ∙ (sym (flat_map-append f (range_with_len 1 (n * k)) (range_with_len (1 + n * k) k))
-    ∙ (ap (flat_map f) (sym (range_join 1 (n * k) k)) ∙ ap (λ m. flat_map f (range_with_len 1 m)) all)))))))
+    ∙ (ap (flat_map f) (sym (range_parts 1 (n * k) k)) ∙ ap (λ m. flat_map f (range_with_len 1 m)) all)))))))
 
 -- The records of a list, number by number.
 

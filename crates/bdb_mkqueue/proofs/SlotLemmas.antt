@@ -7,6 +7,7 @@ use Rattle.std.proofs.lemmas.Bool.{cases_lt}
 use Rattle.bdb_format.proofs.ListLemmas.{passes_here}
 use Rattle.bdb_format.proofs.MemberLemmas.{in_map, in_range, none_pass, of_map, of_range}
 use Rattle.bdb_model.specs.declared.list.Pair.{Pair}
+use Rattle.bdb_pack.proofs.StandingLemmas.{map_same}
 use Rattle.bdb_mkqueue.specs.Layout.{page_of, queue_size, record_of, slot_of, slots_of}
 use Rattle.bdb_mkqueue.specs.Lists.{AscendFrom, next_number, number_in}
 use Rattle.bdb_mkqueue.proofs.NumberLemmas.{page_here, page_rises, place_of, slot_low}
@@ -14,22 +15,13 @@ use Rattle.bdb_mkqueue.proofs.RecordLemmas.{last_there, next-append, next_low, n
 
 -- Ranges.
 
--- functions that are the same on a range
-pub map_range_same : {X : Type 0} (f g : ℕ → X) (a n : ℕ) → ((r : ℕ) → a ≤ r → r < a + n → f r ≡ g r)
-    → map f (range_with_len a n) ≡ map g (range_with_len a n)
-map_range_same f g a zero same = refl
-map_range_same f g a (suc n) same =
-    let rest : map f (range_with_len (a + 1) n) ≡ map g (range_with_len (a + 1) n) =
-    map_range_same f g (a + 1) n (λ r low high. same r (omega arith) (omega arith)) in
-    ap (λ x. x ∷ map f (range_with_len (a + 1) n)) (same a (omega arith) (omega arith)) ∙ ap (λ xs. g a ∷ xs) rest
-
--- or but at one place
+-- functions that are the same on a range but at one place
 pub map_range_set : {X : Type 0} (f g : ℕ → X) (a n s : ℕ) (x : X) → s < n → g (a + s) ≡ x
     → ((r : ℕ) → a ≤ r → r < a + n → (r ≡ a + s → ⊥) → g r ≡ f r) → map g (range_with_len a n) ≡ set (map f (range_with_len a n)) s x
 map_range_set f g a zero s x low here others = absurd (omega arith)
 map_range_set f g a (suc n) zero x low here others =
     let rest : map g (range_with_len (a + 1) n) ≡ map f (range_with_len (a + 1) n) =
-    map_range_same g f (a + 1) n (λ r from to. others r (omega arith) (omega arith) (λ same. omega arith)) in
+    map_same g f (a + 1) n (λ r from to. others r (omega arith) (omega arith) (λ same. omega arith)) in
     let at : a + 0 ≡ a = omega arith in
     ap (λ y. y ∷ map g (range_with_len (a + 1) n)) (ap g (sym at) ∙ here) ∙ ap (λ xs. x ∷ xs) rest
 map_range_set f g a (suc n) (suc s) x low here others =
@@ -97,7 +89,7 @@ slots_empty k xs q some is one past =
 pub slots_others : (k : ℕ) (xs : List Pair) (y : Pair) (q : ℕ) → 1 ≤ q → (page_of k (number_in y.key) ≡ q → ⊥)
     → slots_of (xs ++ (y ∷ [])) k q ≡ slots_of xs k q
 slots_others k xs y q one differs =
-    map_range_same (record_of (xs ++ (y ∷ []))) (record_of xs) ((q - 1) * k + 1) k (λ r low high.
+    map_same (record_of (xs ++ (y ∷ []))) (record_of xs) ((q - 1) * k + 1) k (λ r low high.
     record_more xs y r (λ same. differs (ap (page_of k) same ∙ here k q r one low high)))
 
 pub slots_own : (k : ℕ) (xs : List Pair) (y : Pair) → 1 ≤ k → 1 ≤ number_in y.key → record_of xs (number_in y.key) ≡ None

@@ -8,7 +8,7 @@ use Rattle.bdb_format.specs.declared.kinds.Order.{Order}
 use Rattle.bdb_format.specs.declared.metadata.FileKind.TheVariants.{Queue}
 use Rattle.bdb_format.specs.declared.metadata.Head.{Head}
 use Rattle.bdb_format.specs.declared.metadata.QueueMeta.{QueueMeta}
-use Rattle.bdb_format.specs.Table.{Row, first_row}
+use Rattle.bdb_format.specs.Table.{first_row}
 use Rattle.bdb_format.specs.Page.{Meta, QueueFields}
 use Rattle.bdb_format.specs.Numbers.{byte_at, four_at, has_bit, spelled}
 use Rattle.bdb_format.specs.Reading.{abstract_page}
@@ -19,10 +19,10 @@ use Rattle.bdb_format.specs.File.{file_of, page_at, page_bytes}
 use Rattle.bdb_format.specs.Databases.{Database}
 use Rattle.bdb_format.specs.Verdict.{faults_in, or_else, tail_faults}
 use Rattle.bdb_format.proofs.SpellingLemmas.{length-spelled, number_at-in}
-use Rattle.bdb_format.proofs.VerdictLemmas.{AllFail, none_in, none_is_first_row}
+use Rattle.bdb_format.proofs.VerdictLemmas.{none_in, none_is_first_row}
+use Rattle.bdb_format.proofs.FileLemmas.{kind_is, last_page, page_is}
+use Rattle.bdb_format.proofs.SizeLemmas.{size_bounds}
 use Rattle.bdb_graph.proofs.CodeLemmas.{first_page_code, form_queue}
-use Rattle.bdb_graph.proofs.FormedLemmas.{size_bounds}
-use Rattle.bdb_graph.proofs.HeldLemmas.{kind_is, last_page, page_is}
 use Rattle.bdb_graph.proofs.MetaLemmas.{queue_page}
 use Rattle.bdb_meta.proofs.CommonLemmas.{length-common}
 use Rattle.bdb_meta.proofs.FilledLemmas.{zeros-spelled}
@@ -148,10 +148,6 @@ page_of_image built page meta image p is head low =
 
 first_page : (built : Built) (page : List ℕ) → 1 ≤ length built.pages → bytes_of (with_page built 0 page) 0 ≡ page
 first_page built page some = get_or-set_same built.pages 0 page [] (omega (arith, some))
-
-same_database : (database : Database) (meta other : QueueMeta) → meta ≡ other → database ≡ record { name = None; fields = QueueFields meta }
-    → database ≡ record { name = None; fields = QueueFields other }
-same_database database meta other same is = is ∙ ap (λ m. let d : Database = record { name = None; fields = QueueFields m } in d) same
 
 pub written_queues_are_sound : WrittenQueuesAreSound
 written_queues_are_sound settings list old built meta page image queue is =

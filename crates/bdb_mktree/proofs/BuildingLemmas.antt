@@ -4,12 +4,13 @@ use Rattle.std.specs.Prelude.{◌⊎◌}
 use Rattle.std.specs.List.{All, flat_map}
 use Rattle.std.proofs.lemmas.List.{append_assoc, map-append}
 use Rattle.std.proofs.lemmas.List.Elements.{All-head, All-nil, All-push, All-tail, Contains-append_right}
-use Rattle.bdb_pack.proofs.ImageLemmas.{page_so_far}
+use Rattle.bdb_pack.proofs.ImageLemmas.{counted_so_far, page_so_far}
 use Rattle.bdb_format.specs.declared.kinds.Kind.{Kind}
 use Rattle.bdb_format.specs.declared.settings.Settings.{Settings}
 use Rattle.bdb_format.specs.File.{File}
 use Rattle.bdb_format.specs.HeadOf.{is_page_size}
 use Rattle.bdb_format.proofs.MemberLemmas.{first_member}
+use Rattle.bdb_format.proofs.ListLemmas.{map_joined}
 use Rattle.bdb_grove.specs.Growing.{IsLater}
 use Rattle.bdb_pack.specs.Built.{Built, file_so_far}
 use Rattle.bdb_leaves.specs.Counted.{AreCounted, CountedNow}
@@ -24,9 +25,9 @@ use Rattle.bdb_leaves.specs.Units.{EntryUnit, TreeUnit, unit_cost, units_on}
 use Rattle.bdb_leaves.specs.declared.leaf_type.LeafType.{LeafType}
 use Rattle.bdb_leaves.specs.declared.leaves.Leaves.{Leaves}
 use Rattle.bdb_leaves.proofs.CountedLaws.{begun_leaves_are_counted, pushed_units_are_counted}
-use Rattle.bdb_leaves.proofs.FilledLemmas.{counted_so_far, later_self}
+use Rattle.bdb_leaves.proofs.FilledLemmas.{later_self}
 use Rattle.bdb_leaves.proofs.NumberedLemmas.{AreNumbered, are_numbered}
-use Rattle.bdb_leaves.proofs.GrownLemmas.{all_joined, laid_leaves, map_joined}
+use Rattle.bdb_leaves.proofs.GrownLemmas.{all_joined, laid_leaves}
 use Rattle.bdb_leaves.proofs.LaidLemmas.{hold_units}
 use Rattle.bdb_leaves.proofs.MovedLemmas.{any_order}
 use Rattle.bdb_leaves.proofs.NodesLemmas.{all_units}

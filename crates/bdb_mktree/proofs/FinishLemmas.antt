@@ -15,6 +15,7 @@ use Rattle.bdb_format.specs.File.{File}
 use Rattle.bdb_format.specs.Flags.{btree_kind, counts_records, has_duplicates, is_fixed, is_recno, is_sorted}
 use Rattle.bdb_format.specs.ContentRows.{ascends}
 use Rattle.bdb_format.specs.Databases.{btree_settings, recno_settings, settings_of}
+use Rattle.bdb_format.proofs.ListLemmas.{map_joined}
 use Rattle.bdb_grove.specs.Growing.{IsCounted, IsLater}
 use Rattle.bdb_grove.specs.Part.{IsPart, between}
 use Rattle.bdb_grove.proofs.ChainLemmas.{is_between}
@@ -34,7 +35,7 @@ use Rattle.bdb_leaves.specs.declared.leaves.Leaves.{Leaves}
 use Rattle.bdb_leaves.proofs.CountedLaws.{finished_trees_have_size}
 use Rattle.bdb_leaves.proofs.FinishedLaws.{finished_trees_keep_pages}
 use Rattle.bdb_leaves.proofs.GrownLaws.{first_roots_are_laid}
-use Rattle.bdb_leaves.proofs.GrownLemmas.{all_joined, map_joined}
+use Rattle.bdb_leaves.proofs.GrownLemmas.{all_joined}
 use Rattle.bdb_leaves.proofs.KeptLemmas.{finished_trees_are_formed, finished_trees_keep_older_pages}
 use Rattle.bdb_leaves.proofs.LaidPartLemmas.{laid_trees_are_parts}
 use Rattle.bdb_leaves.proofs.LayoutLemmas.{finished_trees_are_laid_out}

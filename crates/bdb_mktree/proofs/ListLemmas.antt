@@ -8,11 +8,11 @@ use Rattle.std.proofs.lemmas.List.Elements.{All-drop, All-head, All-tail}
 use Rattle.std.proofs.lemmas.List.Sums.{prefix_len-le-length}
 use Rattle.bdb_format.specs.declared.kinds.Kind.{Kind}
 use Rattle.bdb_format.specs.Lists.{BytesKey, NumberKey}
+use Rattle.bdb_format.proofs.LessLemmas.{eq_same, eq_self}
 use Rattle.bdb_model.specs.Pairs.{keys_of, listed, listed_key, values_of}
 use Rattle.bdb_model.specs.declared.list.Pair.{Pair}
 use Rattle.bdb_model.specs.declared.pairs.Key.{Key}
 use Rattle.bdb_model.specs.declared.pairs.Key.TheVariants.{Bytes, Number}
-use Rattle.bdb_overflow.proofs.KeyLemmas.{eq_same, eq_self}
 use Rattle.bdb_leaves.specs.Units.{EntryUnit, KeyedUnit, TreeUnit, list_of_units, listed_keyed, listed_record}
 use Rattle.bdb_mktree.specs.Lists.{AreKeysOf, AscendFrom, HasBytes, HasNumber, IsRecordAt, IsRunAt, bytes_in, has_key, keyed_units, missing, number_in, record_units, units_in, with_pair}
 use Rattle.bdb_mktree.specs.Units.{IsTreeKind}

@@ -10,8 +10,7 @@ use Rattle.bdb_format.specs.declared.kinds.Kind.TheVariants.{Btree, Recno}
 use Rattle.bdb_format.specs.declared.settings.Settings.{Settings}
 use Rattle.bdb_format.specs.ContentRows.{ascends}
 use Rattle.bdb_format.specs.Less.{less}
-use Rattle.bdb_format.proofs.LessLemmas.{less_self}
-use Rattle.bdb_overflow.proofs.KeyLemmas.{eq_same}
+use Rattle.bdb_format.proofs.LessLemmas.{eq_same, less_self}
 use Rattle.bdb_model.specs.declared.list.Pair.{Pair}
 use Rattle.bdb_leaves.specs.Runs.{IsShort}
 use Rattle.bdb_leaves.specs.Units.{EntryUnit, KeyedUnit, TreeUnit, key_of}

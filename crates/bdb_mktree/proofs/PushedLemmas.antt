@@ -78,36 +78,6 @@ pushed_next builder next last old mid new all some unit left pushed is building 
       keys = are.keys;
     }
 
--- those that are left can be pushed by themselves
-pub can_go_on : (builder next : TreeBuilder) (old new : Built) (all left : List TreeUnit) → ArePushed builder next old new all left
-    → CanBePushed next new left
-can_go_on builder next old new all left are =
-    record {
-      building = are.building;
-      settings = refl;
-      first = refl;
-      kept = record { size = refl; order = refl; grows = omega arith; same = λ p low. refl };
-      units = refl;
-      suit = subst (λ s. All (Suits s) left) (sym are.settings) are.suit;
-      short = are.short;
-      keys = subst (λ s. KeysAscend s (units_of next new ++ left)) (sym are.settings) (subst (KeysAscend builder.settings) (sym are.units) are.keys);
-    }
-
--- and what was pushed so comes after what was pushed before
-pub pushed_on : (builder next last : TreeBuilder) (old mid new : Built) (all some left : List TreeUnit) → ArePushed builder next old mid all some
-    → ArePushed next last mid new some left → ArePushed builder last old new all left
-pushed_on builder next last old mid new all some left one two =
-    record {
-      building = two.building;
-      settings = two.settings ∙ one.settings;
-      first = two.first ∙ one.first;
-      kept = kept_on (first_leaf builder.leaves) old mid new one.kept (subst (λ n. KeepsBefore n mid new) one.first two.kept);
-      units = two.units ∙ one.units;
-      suit = subst (λ s. All (Suits s) left) one.settings two.suit;
-      short = two.short;
-      keys = one.keys;
-    }
-
 -- Before the first unit.
 
 pub can_begin : (builder : TreeBuilder) (built : Built) (settings : Settings) (units : List TreeUnit) → Building builder built

@@ -21,17 +21,17 @@ use Rattle.bdb_join.proofs.FiledLemmas.{btrees_are_spelled}
 use Rattle.bdb_leaves.specs.Spread.{tree_size}
 use Rattle.bdb_leaves.proofs.RunLemmas.{all_map}
 use Rattle.bdb_mktree.specs.Building.{IsTreeBuilt}
-use Rattle.bdb_mktree.specs.Lists.{IsKeyFor, IsListFor, IsPairFor, is_in_order, may_follow, units_in}
+use Rattle.bdb_mktree.specs.Lists.{IsListFor, IsPairFor, is_in_order, may_follow, units_in}
 use Rattle.bdb_mktree.specs.Units.{IsTreeKind, leaf_type_of}
 use Rattle.bdb_buckets.specs.Tables.{table_meta}
 use Rattle.bdb_mkhash.specs.Buckets.{table_bits, table_cost, table_size, table_units}
 use Rattle.bdb_mkhash.specs.Table.{IsTableBuilt}
 use Rattle.bdb_need.specs.Need.{pairs_in, tree_pages}
-use Rattle.bdb_count.specs.Need.{IsListOf, list_pages, sized}
+use Rattle.bdb_count.specs.Need.{list_pages, sized}
 use Rattle.bdb_alone.specs.Settled.{file_settings, own_settings}
 use Rattle.bdb_alone.specs.Trees.{IsTreeSettings}
 use Rattle.bdb_alone.proofs.MetaLemmas.{buckets_fit, some_bits}
-use Rattle.bdb_alone.proofs.SettingsLemmas.{fit_in_file, only_duplicates, own_size}
+use Rattle.bdb_alone.proofs.SettingsLemmas.{only_duplicates, own_size}
 use Rattle.bdb_named.specs.declared.metadata.DatabaseMeta.TheVariants.{Table, Tree}
 use Rattle.bdb_named.specs.declared.metadata.DatabaseMeta.{DatabaseMeta}
 use Rattle.bdb_named.specs.Images.{AreNamedSettings, IsNamed}
@@ -43,11 +43,11 @@ use Rattle.bdb_named.proofs.TreeMetaLemmas.{trees_have_names}
 
 -- Trees.
 
-tree_list : (k : Kind) (settings : Settings) (list : List Pair) → IsTreeKind k → list_pages k settings list ≡ tree_pages settings list
-tree_list Btree settings list is = refl
-tree_list Recno settings list is = refl
-tree_list Hash settings list is = absurd (elim is [ inl e ↦ cc e | inr e ↦ cc e ])
-tree_list Queue settings list is = absurd (elim is [ inl e ↦ cc e | inr e ↦ cc e ])
+pub list_pages_tree : (k : Kind) (settings : Settings) (list : List Pair) → IsTreeKind k → list_pages k settings list ≡ tree_pages settings list
+list_pages_tree Btree settings list is = refl
+list_pages_tree Recno settings list is = refl
+list_pages_tree Hash settings list is = absurd (elim is [ inl e ↦ cc e | inr e ↦ cc e ])
+list_pages_tree Queue settings list is = absurd (elim is [ inl e ↦ cc e | inr e ↦ cc e ])
 
 -- a tree behind all pages, for settings as they are in a file
 pub record IsTreeBehind (settings : Settings) (list : List Pair) (old new : Built) (root : ℕ) (meta : BtreeMeta) : Type 0 where
@@ -108,7 +108,7 @@ tree_built settings list old new root meta is =
     count =
         is.tree.count
         ∙ (ap (λ n. length old.pages + tree_size (leaf_type_of settings.kind) n settings.sorted (units_in settings.kind list)) size
-        ∙ ap (λ n. length old.pages + n) (sym (tree_list settings.kind settings list is.fit.kind)))
+        ∙ ap (λ n. length old.pages + n) (sym (list_pages_tree settings.kind settings list is.fit.kind)))
 
     says : settings_of settings.page_size settings.order (BtreeFields meta) ≡ settings
     says =
@@ -198,24 +198,6 @@ same_list one two pairs follow each is = record {
   in_order = same_order one two pairs follow ∙ is.in_order;
 }
 
--- a list for the settings of a section is one for those in the file
-pub own_list : (k : Kind) (size : ℕ) (order : Order) (settings : Settings) (pairs : List Pair) → settings.kind ≡ k
-    → IsListOf k (record settings { page_size = size }) pairs → IsListOf k (own_settings k size order settings) pairs
-own_list Btree size order settings pairs same is =
-    same_list (record settings { page_size = size }) (own_settings Btree size order settings) pairs
-    (λ a b. ap (λ k. may_follow k (record settings { page_size = size }) a b) (sym same))
-    (λ pair fit. record { key = subst (λ k. IsKeyFor k pair.key) same fit.key; short = fit.short; long = λ e. absurd (cc e) })
-    is
-own_list Recno size order settings pairs same is =
-    same_list (record settings { page_size = size }) (own_settings Recno size order settings) pairs
-    (λ a b. ap (λ k. may_follow k (record settings { page_size = size }) a b) (sym same))
-    (λ pair fit. record { key = subst (λ k. IsKeyFor k pair.key) same fit.key; short = fit.short; long = λ e fixed. fit.long same fixed })
-    is
-own_list Hash size order settings pairs same is =
-    same_list (record settings { page_size = size; kind = Btree }) (record (own_settings Hash size order settings) { kind = Btree }) pairs
-    (λ a b. refl) (λ pair fit. record { key = fit.key; short = fit.short; long = λ e. absurd (cc e) }) is
-own_list Queue size order settings pairs same is = is
-
 -- settings of a recno sort no data
 no_sorting : (settings : Settings) → AreNamedSettings settings → settings.kind ≡ Recno → settings.sorted ≡ false
 no_sorting settings are recno =
@@ -236,30 +218,6 @@ own_pages Recno size order settings pairs same are =
 own_pages Hash size order settings pairs same are = refl
 own_pages Queue size order settings pairs same are =
     absurd (elim are [ inl tree ↦ elim tree.kind [ inl e ↦ cc (e, same) | inr e ↦ cc (e, same) ] | inr hash ↦ cc (hash.0, same) ])
-
--- the settings of a section in the file are those of a tree, or of a hash
-pub own_tree : (k : Kind) (size : ℕ) (order : Order) (settings : Settings) → settings.kind ≡ k → IsTreeKind k
-    → AreNamedSettings (record settings { page_size = size }) → IsTreeSettings (own_settings k size order settings)
-own_tree k size order settings same tree are =
-    elim are [
-      | inl is ↦
-          subst (λ q. IsTreeSettings (own_settings q size order settings)) same
-          (subst IsTreeSettings (in_file settings.kind size order settings)
-          (fit_in_file (record settings { page_size = size; order = order })
-          (record { kind = is.kind; page_size = is.page_size; sorted = is.sorted; counted = is.counted; records = is.records })))
-      | inr hash ↦ absurd (elim tree [ inl e ↦ cc (e, same, hash.0) | inr e ↦ cc (e, same, hash.0) ])
-    ]
-
-pub own_sorted : (k : Kind) (size : ℕ) (order : Order) (settings : Settings) → settings.kind ≡ k → k ≡ Hash
-    → AreNamedSettings (record settings { page_size = size }) → (own_settings k size order settings).sorted ≡ true
-    → (own_settings k size order settings).duplicates ≡ true
-own_sorted k size order settings same is are =
-    let both : settings.sorted ≡ true → settings.duplicates ≡ true = elim are [ inl tree ↦ tree.sorted | inr hash ↦ hash.1 ] in
-    subst (λ q. (own_settings q size order settings).sorted ≡ true → (own_settings q size order settings).duplicates ≡ true) (sym is) both
-
-pub never_queue : (settings : Settings) → AreNamedSettings settings → settings.kind ≡ Queue → ⊥
-never_queue settings are queue =
-    elim are [ inl tree ↦ elim tree.kind [ inl e ↦ cc (e, queue) | inr e ↦ cc (e, queue) ] | inr hash ↦ cc (hash.0, queue) ]
 
 own_order : (k : Kind) (size : ℕ) (order : Order) (settings : Settings) → (own_settings k size order settings).order ≡ order
 own_order Btree size order settings = refl

@@ -41,9 +41,6 @@ kept_again old now new first second =
       same = λ p low. second.same p (omega (arith, low, first.grows)) ∙ first.same p low;
     }
 
-pub kept_none : (old : Built) → KeepsAll old old
-kept_none old = record { size = refl; order = refl; grows = omega arith; same = λ p low. refl }
-
 -- a file that is later than the pages of which some were kept is later than those before
 later_before : (old new : Built) (from beyond : ℕ) (g : File) → beyond ≤ length old.pages → KeepsBefore beyond old new
     → IsLater (between from beyond) (file_so_far new) g → IsLater (between from beyond) (file_so_far old) g
@@ -101,9 +98,6 @@ all_still old new base beyond (laid ∷ row) kept are =
 
 -- Databases that were built.
 
-pub built_none : (old : Built) → AreBuilt [] old old []
-built_none old = record { kept = kept_none old; row = []; sections_are = refl; metas_are = refl; laid = refl }
-
 -- one more section before the others
 pub built_more : (sections : List Section) (section : Section) (old now new : Built) (metas : List DatabaseMeta) (meta : DatabaseMeta)
     → AreBuilt sections old now metas → IsSectionBuilt section now new meta → AreBuilt (section ∷ sections) old new (metas ++ (meta ∷ []))
@@ -117,9 +111,6 @@ built_more sections section old now new metas meta are is =
     }
 
 -- Zero pages.
-
-pub added_none : (old : Built) → AreAdded old old 0
-added_none old = record { kept = kept_none old; many = omega arith; zero_pages = λ p low high. absurd (omega (arith, low, high)) }
 
 pub added_more : (old now new : Built) (count : ℕ) → AreAdded old now count → new ≡ with_zeros now → AreAdded old new (count + 1)
 added_more old now new count are is = subst (λ b. AreAdded old b (count + 1)) (sym is) (record {

@@ -81,20 +81,6 @@ length-spread {A} room first cost head left page (x ∷ xs) =
           ∙ ap (λ (ns : List ℕ). suc (length ns)) (sym (behind_open room first cost head left x xs fits)))
     ]
 
--- no more than there are things
-pub length-behind_le : {A : Type 0} (room : ℕ) (first cost head : A → ℕ) (left : ℕ) (xs : List A)
-    → length (behind room first cost head left xs) ≤ length xs
-length-behind_le room first cost head left [] = omega arith
-length-behind_le {A} room first cost head left (x ∷ xs) =
-    elim (cases_lt left (cost x)) [
-      | inl full ↦
-          let step = ap length (behind_new room first cost head left x xs full) in
-          omega (arith, step, length-behind_le room first cost head (room - first x) xs)
-      | inr fits ↦
-          let step = ap length (behind_open room first cost head left x xs fits) in
-          omega (arith, step, length-behind_le room first cost head (left - cost x) xs)
-    ]
-
 -- things by what they take
 pub behind-map : {A B : Type 0} (f : A → B) (room : ℕ) (first cost head : B → ℕ) (left : ℕ) (xs : List A)
     → behind room first cost head left (map f xs) ≡ behind room (λ x. first (f x)) (λ x. cost (f x)) (λ x. head (f x)) left xs
@@ -192,10 +178,6 @@ level_on most room first c cs some =
     (length-spread room (λ (x : ℕ). first) self self (room - first) (c ∷ []) cs)
     ∙ ap (λ (ns : List ℕ). suc (length (behind room (λ (x : ℕ). first) self self (room - first) cs)) + pages_over most room first ns)
     (heads_of_items room first c cs))
-
-pub level_done : (most room first c : ℕ) → pages_over most room first (c ∷ []) ≡ 0
-level_done zero room first c = refl
-level_done (suc most) room first c = refl
 
 -- Where two items fit a page, a level has at most half as many pages as the one below, rounded up.
 halved : (room first : ℕ) (cs : List ℕ) → All (λ c. c ≤ room - first) cs

@@ -7,7 +7,7 @@ use Rattle.std.proofs.lemmas.List.{drop-map, get_or-map, length-drop, length-map
 use Rattle.std.proofs.lemmas.List.Elements.{All-head, All-tail}
 use Rattle.std.proofs.lemmas.List.Sums.{prefix_len-drop_no, prefix_len-drop_yes, prefix_len-le-length, sum_by-cons}
 use Rattle.bdb_format.specs.HeadOf.{is_page_size}
-use Rattle.bdb_graph.proofs.FormedLemmas.{size_bounds}
+use Rattle.bdb_format.proofs.SizeLemmas.{size_bounds}
 use Rattle.bdb_model.specs.Pairs.{keys_of, values_of}
 use Rattle.bdb_model.specs.declared.list.Pair.{Pair}
 use Rattle.bdb_model.specs.declared.pairs.Key.{Key}

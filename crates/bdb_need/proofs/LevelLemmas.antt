@@ -17,9 +17,6 @@ pub record CountsDone (room pages total below : ℕ) : Type 0 where
   pub enough : below ≤ most
   pub sum : total + pages_over most room 10 (replicate below 10) ≡ pages_over pages room 10 (replicate pages 10)
 
-pub counts_begun : (room pages : ℕ) → CountsDone room pages 0 pages
-counts_begun room pages = record { most = pages; enough = omega arith; sum = omega arith }
-
 -- each level has fewer pages than the one below
 pub fewer : (below each : ℕ) → 2 ≤ each → 1 < below → (below - 1) / each + 1 < below
 fewer below each two many =
@@ -83,10 +80,6 @@ pub record KeysDone (room : ℕ) (all : List ℕ) (total : ℕ) (items : List �
 
 pub keys_begun : (room : ℕ) (all : List ℕ) → All (λ c. c ≤ room - 14) all → KeysDone room all 0 all
 keys_begun room all fit = record { most = length all + 1; enough = omega arith; sum = λ first. omega arith; fit = fit }
-
--- the items over the next level
-pub AreFirsts : ℕ → List ℕ → List ℕ → Type 0
-AreFirsts room items next = (first : ℕ) → map (first_or 0) (spread_items room 14 (first ∷ items)) ≡ first ∷ next
 
 firsts_behind : (room : ℕ) (items next : List ℕ) → ((first : ℕ) → map (first_or 0) (spread_items room 14 (first ∷ items)) ≡ first ∷ next)
     → next ≡ behind room (λ (x : ℕ). 14) self self (room - 14) items

@@ -54,12 +54,6 @@ pub record RecordsPassed (size : ℕ) (pairs : List TextPair) (i next : ℕ) (op
   pub closed : open_page.closed < next
   pub few : next ≤ 2 ^ 32
 
-pub records_begun : (size : ℕ) (pairs : List TextPair) (open_page : OpenPage) → AscendFrom 1 (pairs_in pairs)
-    → CountedTo size (record_units 1 (pairs_in pairs)) (record_units 1 (pairs_in pairs)) open_page → open_page.closed ≡ 0
-    → RecordsPassed size pairs 0 1 open_page
-records_begun size pairs open_page ascend counted none =
-    record { ascend = ascend; counted = counted; closed = omega (arith, none); few = omega arith }
-
 here : (pairs : List TextPair) (i : ℕ) (pair : TextPair) → i < length pairs → pair ≡ get_or pairs i pair
     → drop i (pairs_in pairs) ≡ unlined pair ∷ drop (i + 1) (pairs_in pairs)
 here pairs i pair within is =

@@ -39,10 +39,6 @@ pub record CountedTo (size : ℕ) (all rest : List TreeUnit) (open_page : OpenPa
   pub pages : open_page.closed + pages_on open_page.room open_page.left (map (unit_cost size) rest)
       ≡ pages_on (page_room size) (page_room size) (map (unit_cost size) all)
 
-pub counted_begun : (size : ℕ) (all : List TreeUnit)
-    → CountedTo size all all (record { room = page_room size; closed = 0; left = page_room size })
-counted_begun size all = record { room = refl; pages = omega arith }
-
 pub counted_next : (size : ℕ) (all done rest : List TreeUnit) (costs : List ℕ) (old new : OpenPage) → CountedTo size all (done ++ rest) old
     → ArePut old new costs → costs ≡ map (unit_cost size) done → CountedTo size all rest new
 counted_next size all done rest costs old new counted put are =

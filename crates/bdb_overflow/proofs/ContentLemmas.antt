@@ -17,12 +17,12 @@ use Rattle.bdb_format.proofs.PageLemmas.{index_offset, length_items}
 use Rattle.bdb_format.proofs.TargetLemmas.{held_named, own_held}
 use Rattle.bdb_graph.specs.Linked.{FitsChain, IsForest}
 use Rattle.bdb_graph.proofs.ChildLemmas.{is_queue_page, queue_page}
-use Rattle.bdb_graph.proofs.HeldLemmas.{last_page, page_is}
 use Rattle.bdb_graph.proofs.LinkedLemmas.{named_target}
 use Rattle.bdb_overflow.specs.Datum.{FitsContent}
 use Rattle.bdb_format.proofs.ListLemmas.{member_of}
 use Rattle.bdb_format.proofs.ReferenceLemmas.{forest_names}
 use Rattle.bdb_format.proofs.LeafLemmas.{leaf_item_is, one_offset}
+use Rattle.bdb_format.proofs.FileLemmas.{last_page, page_is}
 
 -- Pages with items stand in no queue file.
 
@@ -87,7 +87,7 @@ leaf_as : (order : Order) (page : List ℕ) (t : PageType) (leaf : Listed Item) 
 leaf_as order page LeafPage leaf is = cc
 leaf_as order page t leaf is = absurd cc
 
-leaf_of : (order : Order) (page : List ℕ) (leaf : Listed Item) → abstract_page order page ≡ Leaf leaf → leaf ≡ listed order page (leaf_item_at order page)
+pub leaf_of : (order : Order) (page : List ℕ) (leaf : Listed Item) → abstract_page order page ≡ Leaf leaf → leaf ≡ listed order page (leaf_item_at order page)
 unfolding abstract_page
 leaf_of order page leaf is =
     elim (is_zero page) as (λ zeros. elim zeros [ true ↦ Zero | false ↦ page_as order page (page_type (byte_at page 25)) ] ≡ Leaf leaf → leaf ≡ listed order page (leaf_item_at order page)) [

@@ -5,18 +5,14 @@ use Rattle.std.specs.declared.cmp.Ordering.TheVariants.{Less as Below, Equal, Gr
 use Rattle.std.specs.Cmp.Lexicographic.{slice_cmp}
 use Rattle.std.specs.Ordering.{nat_cmp}
 use Rattle.std.specs.Str.{bytes_eq}
-use Rattle.std.proofs.lemmas.Slice.Eq.{bytes_eq-Decides}
+use Rattle.std.proofs.lemmas.Bool.{false_from_ne_true}
 use Rattle.bdb_layout.specs.Seen.{OrderingIs}
 use Rattle.bdb_layout.proofs.KeyLemmas.{slice_cmp-is}
 use Rattle.bdb_format.specs.Less.{less, Less}
-use Rattle.bdb_format.proofs.LessLemmas.{not_less_both, not_less_same}
-
-pub not_true : (b : Bool) → (b ≡ true → ⊥) → b ≡ false
-not_true true none = absurd (none refl)
-not_true false none = refl
+use Rattle.bdb_format.proofs.LessLemmas.{eq_same, eq_self, not_less_both, not_less_same}
 
 not_less_here : (a b : List ℕ) → a ≡ b → less a b ≡ false
-not_less_here a b same = not_true (less a b) (λ is. not_less_same b (subst (λ xs. Less xs b) same is))
+not_less_here a b same = false_from_ne_true (less a b) (λ is. not_less_same b (subst (λ xs. Less xs b) same is))
 
 abbrev answers_less : Ordering → Bool
 answers_less Below = true
@@ -26,24 +22,17 @@ answers_less Greater = false
 pub is_less : (r : Ordering) (a b : List ℕ) → OrderingIs r a b → answers_less r ≡ less a b
 is_less Below a b is = sym is
 is_less Equal a b is = sym (not_less_here a b is)
-is_less Greater a b is = sym (not_true (less a b) (λ other. not_less_both a b other is))
+is_less Greater a b is = sym (false_from_ne_true (less a b) (λ other. not_less_both a b other is))
 
 abbrev answers_same : Ordering → Bool
 answers_same Below = false
 answers_same Equal = true
 answers_same Greater = false
 
--- equal bytes
-pub eq_self : (a : List ℕ) → bytes_eq a a ≡ true
-eq_self a = (bytes_eq-Decides a a).1 refl
-
-pub eq_same : (a b : List ℕ) → bytes_eq a b ≡ true → a ≡ b
-eq_same a b is = (bytes_eq-Decides a b).0 is
-
 pub is_same : (r : Ordering) (a b : List ℕ) → OrderingIs r a b → answers_same r ≡ bytes_eq a b
-is_same Below a b is = sym (not_true (bytes_eq a b) (λ same. not_less_same b (subst (λ xs. Less xs b) (eq_same a b same) is)))
+is_same Below a b is = sym (false_from_ne_true (bytes_eq a b) (λ same. not_less_same b (subst (λ xs. Less xs b) (eq_same a b same) is)))
 is_same Equal a b is = sym (subst (λ xs. bytes_eq a xs ≡ true) is (eq_self a))
-is_same Greater a b is = sym (not_true (bytes_eq a b) (λ same. not_less_same a (subst (λ xs. Less xs a) (sym (eq_same a b same)) is)))
+is_same Greater a b is = sym (false_from_ne_true (bytes_eq a b) (λ same. not_less_same a (subst (λ xs. Less xs a) (sym (eq_same a b same)) is)))
 
 one_order : (r s : Ordering) (a b : List ℕ) → OrderingIs r a b → OrderingIs s a b → r ≡ s
 one_order Below Below a b p q = refl

@@ -31,11 +31,13 @@ use Rattle.bdb_graph.proofs.CodeLemmas.{code_by}
 use Rattle.bdb_graph.proofs.FirstLemmas.{formed_accepted, formed_last, formed_page}
 use Rattle.bdb_graph.proofs.FitLemmas.{typed, untyped, zero_type}
 use Rattle.bdb_graph.proofs.ForestLemmas.{no_page_twice_below, sound_graph}
-use Rattle.bdb_graph.proofs.FormedLemmas.{IsPaged, accepted_paged, page_length, size_bounds}
-use Rattle.bdb_graph.proofs.HeldLemmas.{kind_is, last_page, other_formed, page_is}
+use Rattle.bdb_graph.proofs.FormedLemmas.{IsPaged, accepted_paged, page_length}
+use Rattle.bdb_graph.proofs.HeldLemmas.{other_formed}
 use Rattle.bdb_overflow.specs.Whole.{EndsIn, IsLink, IsWholeChain, next_at}
 use Rattle.bdb_overflow.proofs.WholeLemmas.{after_piece, count_as, data_at, link_next, link_piece, overflow_page, pieces_in, pieces_turn}
 use Rattle.bdb_format.proofs.ReferenceLemmas.{forest_names}
+use Rattle.bdb_format.proofs.FileLemmas.{kind_is, last_page, page_is}
+use Rattle.bdb_format.proofs.SizeLemmas.{size_bounds}
 
 -- Pages of a linked image.
 
@@ -63,7 +65,7 @@ length_is image p forest low =
     page_length image (head_of image) p (formed_accepted image (head_of image) forest.formed) (omega (arith, formed_last image (head_of image) forest.formed))
 
 -- the type of a page is its type byte
-type_byte : (order : Order) (page : List ℕ) (t : ℕ) → type_in (abstract_page order page) ≡ Some t → (is_zero page ≡ false) × (byte_at page 25 ≡ t)
+pub type_byte : (order : Order) (page : List ℕ) (t : ℕ) → type_in (abstract_page order page) ≡ Some t → (is_zero page ≡ false) × (byte_at page 25 ≡ t)
 type_byte order page t is =
     elim (cases_Bool (is_zero page)) [
       | inl empty ↦ absurd (let none : None ≡ Some t = zero_type order page empty ∙ is in cc)

@@ -13,10 +13,10 @@ use Rattle.bdb_format.specs.HeadOf.{is_page_size}
 use Rattle.bdb_format.specs.Numbers.{byte_at, two_at}
 use Rattle.bdb_format.specs.Page.{NoType, Overflow}
 use Rattle.bdb_format.specs.Reading.{abstract_page, header_of, is_zero, page_as, page_type}
-use Rattle.bdb_graph.proofs.FormedLemmas.{size_bounds}
 use Rattle.bdb_overflow.specs.Whole.{EndsIn, IsLeft, IsLink, IsWholeChain, bytes_of, next_at, pieces_from}
 use Rattle.bdb_format.proofs.GraphLemmas.{typed_page}
 use Rattle.bdb_format.proofs.ChainLemmas.{chain_few}
+use Rattle.bdb_format.proofs.SizeLemmas.{size_bounds}
 
 -- Pages.
 

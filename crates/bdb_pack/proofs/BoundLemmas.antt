@@ -2,7 +2,7 @@
 use Rattle.std.proofs.Common.{◌≡◌, ℕ, zero, suc, ◌+◌, ◌≤◌, Bool, true, false, List, [], ◌∷◌, length, None, arith, refl}
 use Rattle.std.specs.Prelude.{nat_le, nat_lt, ◌||◌}
 use Rattle.std.specs.Option.{option_map}
-use Rattle.std.proofs.lemmas.Bool.{or_parts}
+use Rattle.std.proofs.lemmas.Bool.{ltb-false, or_parts}
 use Rattle.std.proofs.lemmas.Bool.Decides.{nat_tests}
 use Rattle.bdb_format.specs.declared.kinds.Order.{Order}
 use Rattle.bdb_format.specs.declared.pages.ItemFault.{ItemFault}
@@ -12,8 +12,8 @@ use Rattle.bdb_format.specs.Page.{HashPage, InternalPage, LeafPage, PageType, Re
 use Rattle.bdb_format.specs.Reading.{entries_of, index_end, offset_of, page_type}
 use Rattle.bdb_format.specs.Rows.{does_not_fall, hash_rows, internal_rows, item_code, item_row, leaf_rows, recno_rows}
 use Rattle.bdb_format.specs.Table.{◌:?◌, first_row}
+use Rattle.bdb_format.proofs.SizeLemmas.{size_bounds}
 use Rattle.bdb_pack.specs.Placing.{RowsBegin, high_free_of}
-use Rattle.bdb_graph.proofs.FormedLemmas.{size_bounds}
 use Rattle.bdb_pack.proofs.RowsLemmas.{none_of_three}
 
 -- an offset between the index and the page's end
@@ -21,17 +21,14 @@ record Bound (order : Order) (page : List ℕ) (at : ℕ) : Type 0 where
   low : index_end order page ≤ at
   high : at ≤ length page
 
-at_least : (a b : ℕ) → nat_lt a b ≡ false → b ≤ a
-at_least a b is = grind (arith, nat_tests)
-
 above : (a b : ℕ) → nat_le a b ≡ false → b ≤ a
 above a b is = grind (arith, nat_tests)
 
 by_size : (order : Order) (page : List ℕ) (at more : ℕ) → (nat_lt at (index_end order page) || nat_lt (length page) (at + more)) ≡ false → Bound order page at
 by_size order page at more is =
     let both = or_parts (nat_lt at (index_end order page)) (nat_lt (length page) (at + more)) is in
-    let up : at + more ≤ length page = at_least (length page) (at + more) both.1 in
-    record { low = at_least at (index_end order page) both.0; high = omega (arith, up) }
+    let up : at + more ≤ length page = ltb-false (length page) (at + more) both.1 in
+    record { low = ltb-false at (index_end order page) both.0; high = omega (arith, up) }
 
 first_two : (a b c : Bool) → (a || b || c) ≡ false → (a ≡ false) × (b ≡ false)
 first_two true b c is = absurd cc
@@ -48,7 +45,7 @@ hash_bound order page i none =
     let both =
     first_two (nat_lt (offset_of order page i) (index_end order page)) (nat_le (length page) (offset_of order page i)) (does_not_fall order page i)
     (none_of_three _ _ _ none).0 in
-    record { low = at_least _ _ both.0; high = above _ _ both.1 }
+    record { low = ltb-false _ _ both.0; high = above _ _ both.1 }
 
 leaf_bound : (order : Order) (page : List ℕ) (i : ℕ) → item_row LeafPage order page i ≡ None → Bound order page (offset_of order page i)
 unfolding leaf_rows

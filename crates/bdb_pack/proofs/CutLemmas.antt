@@ -1,6 +1,6 @@
 -- Bytes that are cut into pages.
 use Rattle.std.proofs.Common.{◌≡◌, ℕ, zero, suc, ◌+◌, ◌-◌, ◌*◌, ◌<◌, ◌≤◌, List, [], ◌∷◌, ◌++◌, length, take, drop, get_or, set, replicate, arith, refl, sym, ◌∙◌, ap, length-append, length-drop, length-take, min, inl, inr}
-use Rattle.std.proofs.lemmas.List.{length-take-le, take-append-drop, drop-drop, drop-take, get_or_append_left, get_or_push, get_or-set_other, get_or-set_same, length-replicate, length-set, drop_all, append-nil, take-take, take_all, take-append-le, drop-append-le, take_at, drop_at, append_assoc}
+use Rattle.std.proofs.lemmas.List.{length-take-le, take-append-drop, drop-drop, drop-take, get_or_append_left, get_or_push, get_or-set_other, get_or-set_same, length-replicate, length-set, drop_all, append-nil, take-take, take_all, take-append-le, drop-append-le, take_at, drop_at, append_assoc, nil_from_length}
 use Rattle.std.specs.List.{copy_within}
 use Rattle.std.proofs.Math.Seq.{paste}
 use Rattle.std.proofs.Math.Nat.{mul-le-mul_right}
@@ -13,16 +13,12 @@ pub length_cut : (size count : ℕ) (bytes : List ℕ) → length (cut size coun
 length_cut size zero bytes = refl
 length_cut size (suc n) bytes = let rest : length (cut size n (drop size bytes)) ≡ n = length_cut size n (drop size bytes) in omega arith
 
-no_length : (bytes : List ℕ) → length bytes ≡ 0 → bytes ≡ []
-no_length [] none = refl
-no_length (b ∷ bs) none = absurd (omega (arith, none))
-
 pub suc-times : (n size : ℕ) → suc n * size ≡ size + n * size
 suc-times n size = grind arith
 
 -- the pages of bytes, joined again
 pub joined_cut : (size count : ℕ) (bytes : List ℕ) → length bytes ≡ count * size → joined_pages (cut size count bytes) ≡ bytes
-joined_cut size zero bytes whole = let none : length bytes ≡ 0 = grind arith in sym (no_length bytes none)
+joined_cut size zero bytes whole = let none : length bytes ≡ 0 = grind arith in sym (nil_from_length bytes none)
 joined_cut size (suc n) bytes whole =
     let long : length bytes ≡ size + n * size = whole ∙ suc-times n size in
     let rest : length (drop size bytes) ≡ n * size = omega (arith, length-drop size bytes, long) in
@@ -41,7 +37,7 @@ pub cut_more : (size n : ℕ) (bytes page : List ℕ) → length bytes ≡ n * s
     → cut size (n + 1) (bytes ++ page) ≡ cut size n bytes ++ (page ∷ [])
 cut_more size zero bytes page whole long =
     let none : length bytes ≡ 0 = grind arith in
-    ap (λ bs. cut size 1 (bs ++ page)) (no_length bytes none) ∙ ap (λ p. p ∷ []) (take_all size page (omega arith))
+    ap (λ bs. cut size 1 (bs ++ page)) (nil_from_length bytes none) ∙ ap (λ p. p ∷ []) (take_all size page (omega arith))
 cut_more size (suc n) bytes page whole long =
     let total : length bytes ≡ size + n * size = whole ∙ suc-times n size in
     let rest : length (drop size bytes) ≡ n * size = omega (arith, length-drop size bytes, total) in

@@ -11,9 +11,9 @@ use Rattle.bdb_format.specs.Reading.{entries_of, header_of, listed, offset_of, p
 use Rattle.bdb_format.specs.Spelling.{header_bytes, lsn_bytes}
 use Rattle.bdb_format.proofs.SpellingLemmas.{length-overwritten, length-spelled, number_at-first}
 use Rattle.bdb_format.proofs.TurnLemmas.{byte_at_past, number_at_past}
+use Rattle.bdb_format.proofs.SizeLemmas.{size_bounds}
 use Rattle.bdb_pack.specs.Items.{takes_items}
 use Rattle.bdb_pack.specs.Placing.{BegunPagesTakeItems, begun_header, begun_page, empty_listed, empty_page}
-use Rattle.bdb_graph.proofs.FormedLemmas.{size_bounds}
 use Rattle.bdb_pack.proofs.StandingLemmas.{listing, typed}
 use Rattle.bdb_pack.proofs.TypeLemmas.{Takes, by_type, takes}
 

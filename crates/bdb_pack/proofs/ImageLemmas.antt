@@ -1,5 +1,5 @@
 -- The bytes of all pages as an image.
-use Rattle.std.proofs.Common.{◌≡◌, ℕ, ◌+◌, ◌*◌, ◌<◌, List, [], length, take, drop, get_or, arith, sym, ◌∙◌, ap, inl}
+use Rattle.std.proofs.Common.{◌≡◌, ℕ, ◌+◌, ◌*◌, ◌<◌, ◌≤◌, List, [], length, take, drop, get_or, arith, sym, ◌∙◌, ap, inl}
 use Rattle.std.specs.List.{range_with_len}
 use Rattle.std.proofs.lemmas.List.{get_or-map, length-map}
 use Rattle.std.proofs.lemmas.List.FromFn.{length-range_with_len}
@@ -9,7 +9,7 @@ use Rattle.bdb_format.specs.Page.{NoType}
 use Rattle.bdb_format.specs.File.{file_of, page_at, page_bytes}
 use Rattle.bdb_format.specs.HeadOf.{head_of}
 use Rattle.bdb_format.specs.Reading.{abstract_page}
-use Rattle.bdb_graph.proofs.HeldLemmas.{last_page, page_is}
+use Rattle.bdb_format.proofs.FileLemmas.{last_page, page_is}
 use Rattle.bdb_grove.specs.Growing.{IsCounted}
 use Rattle.bdb_pack.specs.Built.{AreWhole, Built, bytes_of, file_so_far, joined_pages}
 use Rattle.bdb_pack.proofs.CutLemmas.{all_size, page_of_cut}
@@ -28,6 +28,14 @@ counted_of image kind low =
 -- a page as the file so far has it
 pub page_so_far : (built : Built) (p : ℕ) → p < length built.pages → page_at (file_so_far built) p ≡ abstract_page built.order (bytes_of built p)
 page_so_far built p low = get_or-map (abstract_page built.order) built.pages p [] NoType low
+
+pub counted_so_far : (built : Built) → 1 ≤ length built.pages → IsCounted (file_so_far built)
+counted_so_far built some =
+    record {
+      no_queue = λ queue. cc;
+      counted = omega (arith, some);
+      pages = omega (arith, some, length-map built.pages (abstract_page built.order));
+    }
 
 -- a page of the image is the page of the list
 image_page : (built : Built) (p : ℕ) → AreWhole built → p < length built.pages

@@ -3,7 +3,7 @@ use Rattle.std.proofs.Common.{◌≡◌, ℕ, zero, suc, ◌+◌, ◌-◌, ◌<�
 use Rattle.std.specs.Prelude.{◌==◌, ◌||◌, ◌&&◌, ◌%◌, is_none, nat_le, nat_lt, slice_range}
 use Rattle.std.specs.List.{flat_map}
 use Rattle.std.specs.Option.{unwrap_or}
-use Rattle.std.proofs.lemmas.Bool.{eq-eqb, or_from}
+use Rattle.std.proofs.lemmas.Bool.{and_right, eq-eqb, or_from}
 use Rattle.std.proofs.lemmas.List.{append_assoc}
 use Rattle.bdb_format.specs.declared.kinds.Order.{Order}
 use Rattle.bdb_format.specs.declared.pages.RecnoItem.{RecnoItem}
@@ -170,10 +170,6 @@ three_or a b c p q r = rw (p, q, r) refl
 four_or : (a b c d : Bool) → a ≡ false → b ≡ false → c ≡ false → d ≡ false → (a || b || c || d) ≡ false
 four_or a b c d p q r s = rw (p, q, r, s) refl
 
-and_false : (a b : Bool) → b ≡ false → (a && b) ≡ false
-and_false true b is = is
-and_false false b is = refl
-
 not_at_least : (a b : ℕ) → b < a → nat_le a b ≡ false
 not_at_least a b low = grind arith
 
@@ -181,7 +177,7 @@ not_fallen : (order : Order) (new : List ℕ) (index at : ℕ) → (0 < index �
     → (not (index == 0) && nat_le (offset_of order new (index - 1)) at) ≡ false
 not_fallen order new zero at apart = refl
 not_fallen order new (suc k) at apart =
-    and_false (not (suc k == 0)) (nat_le (offset_of order new (suc k - 1)) at) (not_at_least (offset_of order new (suc k - 1)) at (apart (omega arith)))
+    and_right (not (suc k == 0)) (nat_le (offset_of order new (suc k - 1)) at) (not_at_least (offset_of order new (suc k - 1)) at (apart (omega arith)))
 
 -- what the bytes of an item say of its kind, and that it has the extent of its kind
 record SaysHash (order : Order) (new : List ℕ) (index at kind end : ℕ) : Type 0 where

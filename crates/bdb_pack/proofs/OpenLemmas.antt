@@ -5,7 +5,7 @@ use Rattle.bdb_format.specs.declared.pages.RecnoItem.{RecnoItem}
 use Rattle.bdb_format.specs.HeadOf.{is_page_size}
 use Rattle.bdb_format.specs.Spelling.{recno_bytes}
 use Rattle.bdb_format.proofs.SpellingLemmas.{length-pair}
-use Rattle.bdb_graph.proofs.FormedLemmas.{size_bounds}
+use Rattle.bdb_format.proofs.SizeLemmas.{size_bounds}
 use Rattle.bdb_pack.specs.Placing.{IsBegun, IsOpen}
 use Rattle.bdb_pack.specs.Built.{Built, built_of, bytes_of, with_page, written_over}
 use Rattle.bdb_pack.proofs.CutLemmas.{length_cut, page_length, written_page}

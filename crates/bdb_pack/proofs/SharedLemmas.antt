@@ -1,14 +1,14 @@
 -- An entry that is shared.
-use Rattle.std.proofs.Common.{◌≡◌, ℕ, ◌+◌, ◌-◌, ◌≤◌, false, List, length, drop, None, arith, refl, sym, ◌∙◌, ap, subst}
+use Rattle.std.proofs.Common.{◌≡◌, ℕ, ◌+◌, ◌-◌, ◌≤◌, List, length, drop, None, arith, refl, sym, ◌∙◌, ap, subst}
 use Rattle.std.specs.Prelude.{◌%◌, nat_lt}
-use Rattle.std.proofs.lemmas.Bool.{or_parts}
-use Rattle.std.proofs.lemmas.Bool.Decides.{nat_tests}
+use Rattle.std.proofs.lemmas.Bool.{ltb-false, or_parts}
 use Rattle.bdb_format.specs.declared.kinds.Order.{Order}
 use Rattle.bdb_format.specs.Numbers.{byte_at}
-use Rattle.bdb_format.specs.Page.{Item, Leaf, LeafPage}
-use Rattle.bdb_format.specs.Reading.{entries_of, index_end, is_deleted, kind_at, leaf_content, leaf_item_at, listed, offset_of, page_type}
+use Rattle.bdb_format.specs.Page.{Leaf, LeafPage}
+use Rattle.bdb_format.specs.Reading.{entries_of, index_end, leaf_item_at, listed, offset_of, page_type}
 use Rattle.bdb_format.specs.Rows.{item_row, leaf_rows, item_code}
 use Rattle.bdb_format.specs.Table.{first_row}
+use Rattle.bdb_format.proofs.LeafLemmas.{one_offset}
 use Rattle.std.specs.Option.{option_map}
 use Rattle.bdb_pack.specs.Placing.{EntriesAreShared, high_free_of, page_again, page_and_shared, with_item}
 use Rattle.bdb_pack.proofs.BegunLemmas.{grown_stays, still_none}
@@ -18,21 +18,14 @@ use Rattle.bdb_pack.proofs.PlaceLemmas.{drop_same}
 use Rattle.bdb_pack.proofs.RowsLemmas.{none_of_three}
 use Rattle.bdb_pack.proofs.StandingLemmas.{leaf_item_same, listed_more, typed}
 
-within : (a b : ℕ) → nat_lt a b ≡ false → b ≤ a
-within a b is = grind (arith, nat_tests)
-
 -- an item of a leaf begins before the page's end
 pub begins_within : (order : Order) (page : List ℕ) (i : ℕ) → item_row LeafPage order page i ≡ None → offset_of order page i + 3 ≤ length page
 unfolding leaf_rows
 begins_within order page i none =
-    within (length page) (offset_of order page i + 3)
+    ltb-false (length page) (offset_of order page i + 3)
     (or_parts (nat_lt (offset_of order page i) (index_end order page)) (nat_lt (length page) (offset_of order page i + 3)) (none_of_three _ _ _ none).0).1
 
 -- an item is read, and has its rows, by its offset and by whether it stands as data
-item_again : (order : Order) (page : List ℕ) (n k : ℕ) → offset_of order page n ≡ offset_of order page k → leaf_item_at order page n ≡ leaf_item_at order page k
-unfolding leaf_item_at
-item_again order page n k same = ap (λ x. let i : Item = record { content = leaf_content order page x (kind_at page x); deleted = is_deleted page x } in i) same
-
 rows_again : (order : Order) (page : List ℕ) (n k : ℕ) → offset_of order page n ≡ offset_of order page k → n % 2 ≡ k % 2
     → leaf_rows order page n ≡ leaf_rows order page k
 unfolding leaf_rows
@@ -64,7 +57,7 @@ entries_are_shared order page begun can =
     let end : index_end order new ≤ h = omega (arith, room, is.entries) in
     let same : offset_of order new n ≡ offset_of order new (n - 2) = is.last ∙ sym (is.index (n - 2) (omega (arith, some))) in
     let item : leaf_item_at order new n ≡ leaf_item_at order page (n - 2) =
-    item_again order new n (n - 2) same ∙ leaf_item_same order new page h (n - 2) body (is.index (n - 2) (omega (arith, some))) up in
+    one_offset order new n (n - 2) same ∙ leaf_item_same order new page h (n - 2) body (is.index (n - 2) (omega (arith, some))) up in
     let grows : listed order new (leaf_item_at order new) ≡ with_item (listed order page (leaf_item_at order page)) at h (leaf_item_at order page (n - 2)) =
     listed_more order page new at h (leaf_item_at order new) (leaf_item_at order page) (leaf_item_at order page (n - 2)) is
     (λ k low. leaf_item_same order new page h k body (is.index k low) (begun.above k low)) item in

@@ -121,7 +121,3 @@ whole_chain old now value head previous rest begun none first = record {
   pages = begun.pages;
   chain = subst (AreChainPages old.order old.size head 0 value) (append-nil begun.added) (begun.chain [] none);
 }
-
-pub no_rest : (rest : List ℕ) → length rest ≡ 0 → rest ≡ []
-no_rest [] none = refl
-no_rest (b ∷ bs) none = absurd (omega (arith, none))

@@ -12,7 +12,8 @@ use Rattle.bdb_printing.specs.Printers.{Adds, HasAdded}
 use Rattle.bdb_lines.specs.declared.cut.Cut.{Cut}
 use Rattle.bdb_printing.specs.declared.printing.Printer.{Printer}
 use Rattle.bdb_lines.proofs.PrintingLemmas.{begins_cut, cut_short, nothing_printed, then_more, then_written}
-use Rattle.bdb_printing.proofs.SpellingLemmas.{spelling_none, spelling_of_both}
+use Rattle.bdb_text.proofs.SpellingLemmas.{spelling-append}
+use Rattle.bdb_printing.proofs.SpellingLemmas.{spelling_none}
 
 -- a text and then another
 pub then_adds : {K : Type 0} (written : K → Option (List ℕ)) (faults : K → ℕ) (old mid new : Printer K) (one two : List ℕ) (given result : Result Unit Cut) → given ≡ Ok tt
@@ -108,7 +109,7 @@ byte_cut written faults old new byte text given result cut was is first = adds_c
 pub spelling_joined : (print : Bool) (pieces : List (List ℕ)) → flat_map (spelling print) pieces ≡ spelling print (joined pieces)
 spelling_joined print [] = sym (spelling_none print)
 spelling_joined print (piece ∷ pieces) =
-    ap (λ (rest : List ℕ). spelling print piece ++ rest) (spelling_joined print pieces) ∙ sym (spelling_of_both print piece (joined pieces))
+    ap (λ (rest : List ℕ). spelling print piece ++ rest) (spelling_joined print pieces) ∙ sym (spelling-append print piece (joined pieces))
 
 -- Items by their places.
 

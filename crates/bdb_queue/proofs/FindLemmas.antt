@@ -8,8 +8,8 @@ use Rattle.bdb_format.specs.declared.metadata.QueueMeta.{QueueMeta}
 use Rattle.bdb_format.specs.File.{File, file_of, page_at}
 use Rattle.bdb_format.specs.Lists.{ListKey, NumberKey, get, is_key, listed_slot, page_records, queue_list, record_number}
 use Rattle.bdb_format.specs.Page.{Page, Queue}
+use Rattle.bdb_format.proofs.FileLemmas.{past_last}
 use Rattle.bdb_queue.specs.Records.{data_in, record_in_slot, record_of}
-use Rattle.bdb_queue.proofs.RecordLemmas.{past_last}
 
 -- Lists in which one part alone counts.
 

@@ -1,9 +1,8 @@
 -- What the metadata of a queue keeps, and that its pages have room for their slots.
 use Rattle.std.proofs.lemmas.Bool.Decides.{nat_tests}
-use Rattle.std.proofs.Common.{◌≡◌, ℕ, ◌+◌, ◌-◌, ◌*◌, ◌<◌, ◌≤◌, true, false, not, List, [], ◌∷◌, length, drop, arith, sym, ◌∙◌, ap, subst, inl, inr, length-drop}
+use Rattle.std.proofs.Common.{◌≡◌, ℕ, ◌+◌, ◌-◌, ◌*◌, ◌<◌, ◌≤◌, true, false, not, List, length, drop, arith, sym, ◌∙◌, ap, subst, length-drop}
 use Rattle.std.specs.Prelude.{Some, None, ◌==◌}
-use Rattle.std.specs.List.{list_any}
-use Rattle.std.proofs.lemmas.Bool.{cases_Bool, eqb-true, not-false, or_parts}
+use Rattle.std.proofs.lemmas.Bool.{eqb-true, not-false, or_parts}
 use Rattle.std.proofs.Math.Nat.{div-mul-le_self}
 use Rattle.bdb_form.specs.Formed.{QueuePage}
 use Rattle.bdb_format.specs.declared.kinds.Order.{Order}
@@ -20,26 +19,12 @@ use Rattle.bdb_format.specs.Table.{first_row}
 use Rattle.bdb_format.proofs.VerdictLemmas.{AllFail, none_is_first_row}
 use Rattle.bdb_graph.specs.Linked.{HasMetadata, IsForest}
 use Rattle.bdb_graph.proofs.FirstLemmas.{formed_accepted, formed_last, formed_page}
-use Rattle.bdb_graph.proofs.FitLemmas.{typed, untyped, zero_type}
 use Rattle.bdb_graph.proofs.FormedLemmas.{accepted_paged, page_length}
-use Rattle.bdb_graph.proofs.HeldLemmas.{last_page, page_is}
 use Rattle.bdb_graph.proofs.MetaLemmas.{queue_formed}
 use Rattle.bdb_queue.specs.Records.{HasSlots}
 use Rattle.bdb_format.proofs.GraphLemmas.{typed_page}
-
--- the type byte of a page that has a type
-type_byte : (order : Order) (bytes : List ℕ) (t : ℕ) → type_in (abstract_page order bytes) ≡ Some t → (is_zero bytes ≡ false) × (byte_at bytes 25 ≡ t)
-type_byte order bytes t is =
-    elim (cases_Bool (is_zero bytes)) [
-      | inl empty ↦ absurd (let none : None ≡ Some t = zero_type order bytes empty ∙ is in cc)
-      | inr some ↦ (
-        some,
-        elim (cases_Bool (list_any (λ k. k == byte_at bytes 25) (0 ∷ 2 ∷ 3 ∷ 4 ∷ 5 ∷ 6 ∷ 7 ∷ 8 ∷ 9 ∷ 10 ∷ 11 ∷ 12 ∷ 13 ∷ []))) [
-          | inl one ↦ let same : Some (byte_at bytes 25) ≡ Some t = typed order bytes some one ∙ is in cc
-          | inr other ↦ absurd (let none : None ≡ Some t = untyped order bytes some other ∙ is in cc)
-        ],
-      )
-    ]
+use Rattle.bdb_format.proofs.FileLemmas.{last_page, page_is}
+use Rattle.bdb_overflow.proofs.LinkedLemmas.{type_byte}
 
 -- a page of a type is that page of its bytes
 page_of_type : (image : List ℕ) (p t : ℕ) → p ≤ (file_of image).last → type_in (page_at (file_of image) p) ≡ Some t

@@ -1,17 +1,14 @@
 -- The records of a queue, slot by slot and page by page.
-use Rattle.std.proofs.Common.{◌≡◌, ℕ, suc, ◌+◌, ◌-◌, ◌*◌, ◌<◌, ◌≤◌, List, [], ◌∷◌, ◌++◌, length, map, arith, refl, sym, ◌∙◌, ap, inl, inr}
+use Rattle.std.proofs.Common.{◌≡◌, ℕ, suc, ◌+◌, ◌-◌, ◌*◌, ◌<◌, ◌≤◌, List, [], ◌∷◌, ◌++◌, length, arith, refl, sym, ◌∙◌, ap, inl, inr}
 use Rattle.std.specs.List.{flat_map, range_with_len}
 use Rattle.std.proofs.Math.Nat.{mul-le-mul_right}
 use Rattle.bdb_format.specs.declared.metadata.QueueMeta.{QueueMeta}
-use Rattle.bdb_format.specs.File.{File, file_of, page_at, page_bytes}
-use Rattle.bdb_format.specs.HeadOf.{head_of}
+use Rattle.bdb_format.specs.File.{File, file_of, page_at}
 use Rattle.bdb_format.specs.Lists.{ListKey, listed_slot, page_records, queue_list}
 use Rattle.bdb_format.specs.Page.{Page, Queue, NoType}
-use Rattle.bdb_format.specs.Reading.{abstract_page}
 use Rattle.std.proofs.lemmas.Bool.{cases_lt}
-use Rattle.std.proofs.lemmas.List.{get_or_past, length-map}
-use Rattle.std.proofs.lemmas.List.FromFn.{length-range_with_len}
 use Rattle.bdb_format.specs.Numbers.{pad4}
+use Rattle.bdb_format.proofs.FileLemmas.{past_last}
 use Rattle.bdb_queue.specs.Records.{HasSlots, left_from, records_from, slots_from}
 
 -- The slots of a page.
@@ -38,12 +35,6 @@ from_start meta p page = refl
 
 no_records : (meta : QueueMeta) (p slot : ℕ) (page : Page) → page ≡ NoType → records_from meta p page slot ≡ []
 no_records meta p slot page is = ap (λ q. records_from meta p q slot) is
-
--- a page past the last is none
-pub past_last : (image : List ℕ) (p : ℕ) → (file_of image).last < p → page_at (file_of image) p ≡ NoType
-unfolding file_of
-past_last image p past =
-    get_or_past (map (λ q. abstract_page (head_of image).order (page_bytes (head_of image) image q)) (range_with_len 0 ((head_of image).last + 1))) p NoType (simp (length-map, length-range_with_len) (omega arith))
 
 pub none_left : (image : List ℕ) (meta : QueueMeta) (p slot : ℕ) → (file_of image).last < p → left_from (file_of image) meta p slot ≡ []
 unfolding left_from

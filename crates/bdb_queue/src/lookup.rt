@@ -32,7 +32,7 @@ fn record_on<'a>(forest: &Forest<'a>, meta: &QueueMeta, page: u32, slot: u32) ->
 }
 
 /// The record with the number after this one, if it's live. It stands at one place alone.
-#[tactic(auto, using(bdb_graph::proofs::HeldLemmas::last_page))]
+#[tactic(auto, using(bdb_format::proofs::FileLemmas::last_page))]
 fn record_after<'a, L: Ledger>(
     forest: &Forest<'a>,
     meta: &QueueMeta,

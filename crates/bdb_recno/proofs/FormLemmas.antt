@@ -3,8 +3,7 @@ use Rattle.std.proofs.Common.{◌≡◌, ℕ, ◌*◌, ◌≤◌, true, false, L
 use Rattle.bdb_form.specs.Formed.{IsListed}
 use Rattle.bdb_form.proofs.FormedLemmas.{listed_room}
 use Rattle.bdb_graph.proofs.FirstLemmas.{formed_accepted, formed_last, formed_page}
-use Rattle.bdb_graph.proofs.FormedLemmas.{IsPaged, accepted_paged, page_length, size_bounds}
-use Rattle.bdb_graph.proofs.HeldLemmas.{kind_is, last_page, page_is}
+use Rattle.bdb_graph.proofs.FormedLemmas.{IsPaged, accepted_paged, page_length}
 use Rattle.bdb_graph.proofs.LinkedLemmas.{forest_code}
 use Rattle.bdb_graph.specs.Linked.{IsForest}
 use Rattle.bdb_format.specs.declared.kinds.Order.{Order}
@@ -16,6 +15,8 @@ use Rattle.bdb_format.specs.Reading.{abstract_page, entries_of, index_end, is_ze
 use Rattle.bdb_format.specs.Rows.{body_code, identity_rows, is_tree_type, page_code}
 use Rattle.bdb_format.specs.Table.{first_row}
 use Rattle.bdb_format.proofs.PageLemmas.{length_items}
+use Rattle.bdb_format.proofs.FileLemmas.{kind_is, last_page, page_is}
+use Rattle.bdb_format.proofs.SizeLemmas.{size_bounds}
 use Rattle.bdb_graph.proofs.ChildLemmas.{is_queue_page}
 use Rattle.bdb_tree.proofs.ShapeLemmas.{no_queue}
 

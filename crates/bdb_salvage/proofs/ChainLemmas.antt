@@ -2,6 +2,7 @@
 use Rattle.std.proofs.Common.{◌≡◌, ◌⊎◌, ℕ, zero, suc, ◌+◌, ◌/◌, ◌<◌, ◌≤◌, Bool, true, false, cond, List, [], ◌∷◌, map, length, take, drop, arith, refl, sym, ◌∙◌, ap, inl, inr, eqb-true}
 use Rattle.std.specs.Prelude.{◌==◌, ◌&&◌, not, nat_lt, Option, Some, None}
 use Rattle.std.proofs.Common.{ltb-false}
+use Rattle.std.proofs.lemmas.Bool.{and_parts}
 use Rattle.bdb_format.specs.declared.kinds.Order.{Order}
 use Rattle.bdb_format.specs.Chains.{chain_in, next_of, piece_in, pieces_of}
 use Rattle.bdb_format.specs.File.{File, file_as, header_in, page_at}
@@ -10,9 +11,9 @@ use Rattle.bdb_format.specs.Numbers.{byte_at, four_at, two_at}
 use Rattle.bdb_format.specs.Page.{Page, Zero, PageType}
 use Rattle.bdb_format.specs.Reading.{abstract_page, is_zero, page_as, page_type}
 use Rattle.bdb_format.specs.Rows.{page_code}
+use Rattle.bdb_format.proofs.SizeLemmas.{size_bounds}
 use Rattle.bdb_form.specs.Formed.{HoldsData}
 use Rattle.bdb_form.proofs.FormedLemmas.{holds_data, tree_body}
-use Rattle.bdb_graph.proofs.FormedLemmas.{size_bounds}
 use Rattle.bdb_overflow.specs.Whole.{EndsIn, IsLink, IsWholeChain, bytes_of, next_at}
 use Rattle.bdb_overflow.proofs.WholeLemmas.{page_as_is, page_length}
 use Rattle.bdb_stored.specs.Salvage.{follows, is_link, is_overflow, is_row, salvaged_file, salvaged_page, unless_code}
@@ -79,14 +80,6 @@ chain_page order page header size is = by_code order page header size (page_code
 
 -- The same by its number.
 
-and_left : (a b : Bool) → (a && b) ≡ true → a ≡ true
-and_left true b both = refl
-and_left false b both = absurd cc
-
-and_right : (a b : Bool) → (a && b) ≡ true → b ≡ true
-and_right true b both = both
-and_right false b both = absurd cc
-
 -- a link of a chain is one of the image, and the same page of it
 record IsSameLink (order : Order) (size : ℕ) (image : List ℕ) (p : ℕ) : Type 0 where
   link : IsLink order size image p
@@ -103,9 +96,9 @@ there_of order size image p is =
 same_link : (order : Order) (size : ℕ) (image : List ℕ) (before p : ℕ) → is_page_size size ≡ true → is_link (salvaged_file order size image) is_overflow before p ≡ true → IsSameLink order size image p
 same_link order size image before p legal is =
     let file : File = salvaged_file order size image in
-    let some : (not (p == 0) && is_overflow (page_at file p)) ≡ true = and_left _ _ is in
-    let low : not (p == 0) ≡ true = and_left _ _ some in
-    let chain : is_overflow (page_at file p) ≡ true = and_right _ _ some in
+    let some : (not (p == 0) && is_overflow (page_at file p)) ≡ true = (and_parts _ _ is).0 in
+    let low : not (p == 0) ≡ true = (and_parts _ _ some).0 in
+    let chain : is_overflow (page_at file p) ≡ true = (and_parts _ _ some).1 in
     let there : p < length image / size = there_of order size image p chain in
     let long : 512 ≤ size = (size_bounds size legal).0 in
     let short : size ≤ 32768 = (size_bounds size legal).1 in
@@ -123,13 +116,13 @@ same_link order size image before p legal is =
 -- Turns.
 
 first_link : (file : File) (test : Page → Bool) (before p : ℕ) (ps : List ℕ) → follows file test before (p ∷ ps) ≡ true → is_link file test before p ≡ true
-first_link file test before p [] all = and_left _ _ all
-first_link file test before p (q ∷ ps) all = and_left _ _ all
+first_link file test before p [] all = (and_parts _ _ all).0
+first_link file test before p (q ∷ ps) all = (and_parts _ _ all).0
 
 -- the rest of a row whose page isn't the last
 after_link : (file : File) (test : Page → Bool) (before p : ℕ) (ps : List ℕ) → (next_of file p == 0) ≡ false → follows file test before (p ∷ ps) ≡ true → follows file test p ps ≡ true
-after_link file test before p [] more all = absurd (let no : false ≡ true = sym more ∙ and_right _ _ all in cc)
-after_link file test before p (q ∷ ps) more all = and_right _ _ all
+after_link file test before p [] more all = absurd (let no : false ≡ true = sym more ∙ (and_parts _ _ all).1 in cc)
+after_link file test before p (q ∷ ps) more all = (and_parts _ _ all).1
 
 abbrev pub pieces_along : File → List ℕ → List (List ℕ)
 pieces_along file ps = map (λ q. piece_in (page_at file q)) ps

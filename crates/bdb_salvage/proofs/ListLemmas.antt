@@ -1,7 +1,7 @@
 -- Lists that are made piece by piece.
-use Rattle.std.proofs.Common.{◌≡◌, ℕ, suc, subst, ◌+◌, List, [], ◌∷◌, ◌++◌, map, arith, refl, sym, ◌∙◌, ap}
+use Rattle.std.proofs.Common.{◌≡◌, ℕ, suc, subst, ◌+◌, List, [], ◌∷◌, ◌++◌, arith, refl, sym, ◌∙◌, ap}
 use Rattle.std.specs.List.{All, Contains, flat_map, range_with_len}
-use Rattle.std.proofs.lemmas.List.{flat_map_more, map-append}
+use Rattle.std.proofs.lemmas.List.{flat_map_more}
 use Rattle.std.proofs.lemmas.List.Elements.{All-contains}
 use Rattle.bdb_format.proofs.ListLemmas.{all_of, only_member, range_more}
 use Rattle.bdb_format.proofs.MemberLemmas.{of_flat_map}
@@ -14,10 +14,6 @@ flat_map_alike f g (x ∷ xs) same = ap (λ ys. ys ++ flat_map f xs) (same x) �
 pub flat_map_none : {X Y : Type 0} (xs : List X) → flat_map {X = X} {A = Y} (λ x. []) xs ≡ []
 flat_map_none [] = refl
 flat_map_none (x ∷ xs) = flat_map_none xs
-
-pub map_of_pieces : {X Y Z : Type 0} (f : Y → Z) (g : X → List Y) (xs : List X) → map f (flat_map g xs) ≡ flat_map (λ x. map f (g x)) xs
-map_of_pieces f g [] = refl
-map_of_pieces f g (x ∷ xs) = map-append f (g x) (flat_map g xs) ∙ ap (λ ys. map f (g x) ++ ys) (map_of_pieces f g xs)
 
 -- one piece more, after what was there
 pub more_pieces : {Y : Type 0} (f : ℕ → List Y) (before : List Y) (n : ℕ) → (before ++ flat_map f (range_with_len 0 n)) ++ f n ≡ before ++ flat_map f (range_with_len 0 (n + 1))

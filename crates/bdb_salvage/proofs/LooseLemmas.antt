@@ -5,7 +5,7 @@ use Rattle.std.specs.List.{flat_map, range_with_len}
 use Rattle.std.proofs.lemmas.List.{ext_get_or}
 use Rattle.std.proofs.lemmas.List.FromFn.{get_or-map-range_with_len, length-map-range_with_len}
 use Rattle.std.proofs.lemmas.List.Folds.{flat_map-map}
-use Rattle.bdb_format.proofs.ListLemmas.{flat_map_twice}
+use Rattle.bdb_format.proofs.ListLemmas.{flat_map_twice, map_joined}
 use Rattle.bdb_format.specs.Chains.{value_of}
 use Rattle.bdb_format.specs.Contents.{entries_in}
 use Rattle.bdb_format.specs.File.{File, page_at}
@@ -13,7 +13,7 @@ use Rattle.bdb_format.specs.Page.{Item, Page, Zero, Free, Meta, Hash, Internal, 
 use Rattle.bdb_format.specs.References.{no_item}
 use Rattle.bdb_salvage.specs.Kept.{given_loose, is_valued, kept_value, kept_values, slot_at, slots_in, value_at, values_in, values_on}
 use Rattle.bdb_stored.specs.Salvage.{is_taken, live_value, live_whole, loose, loose_on}
-use Rattle.bdb_salvage.proofs.ListLemmas.{flat_map_alike, flat_map_none, map_of_pieces}
+use Rattle.bdb_salvage.proofs.ListLemmas.{flat_map_alike, flat_map_none}
 use Rattle.bdb_salvage.proofs.StoredLemmas.{AreOn, values_are}
 
 -- the items of a list by their places
@@ -39,7 +39,7 @@ value_gives file p i items is_loose on =
 values_give : (file : File) (p : ℕ) (items : List Item) (is_loose : Bool) → AreOn file p items → map (value_at file) (values_in file p is_loose items) ≡ flat_map (live_value file) items
 values_give file p items is_loose on =
     let indexes : List ℕ = range_with_len 0 (length items) in
-    map_of_pieces (value_at file) (kept_value file p is_loose items) indexes
+    map_joined (value_at file) (kept_value file p is_loose items) indexes
     ∙ (flat_map_alike (λ i. map (value_at file) (kept_value file p is_loose items i)) (λ i. live_value file (slot_at items i)) indexes (λ i. value_gives file p i items is_loose on)
     ∙ (sym (flat_map-map (live_value file) (slot_at items) indexes)
     ∙ ap (flat_map (live_value file)) (all_slots items)))
@@ -92,7 +92,7 @@ page_loose file p is_loose items =
     flat_map_twice (given_loose file) (kept_value file p is_loose items) indexes
     ∙ (flat_map_alike (λ i. flat_map (given_loose file) (kept_value file p is_loose items i)) (λ i. cond is_loose (map (value_at file) (kept_value file p is_loose items i)) []) indexes (λ i. loose_by file p i items is_loose)
     ∙ (cond_pieces is_loose (λ i. map (value_at file) (kept_value file p is_loose items i)) indexes
-    ∙ ap (λ xs. cond is_loose xs []) (sym (map_of_pieces (value_at file) (kept_value file p is_loose items) indexes))))
+    ∙ ap (λ xs. cond is_loose xs []) (sym (map_joined (value_at file) (kept_value file p is_loose items) indexes))))
 
 on_page : (file : File) (p : ℕ) → flat_map (given_loose file) (values_on file p) ≡ loose_on file p
 unfolding values_on live_whole

@@ -1,6 +1,6 @@
 -- Marks on pages, and rows that are walked.
 use Rattle.std.proofs.Common.{◌≡◌, ℕ, zero, suc, ◌+◌, ◌-◌, ◌*◌, ◌/◌, ◌<◌, ◌≤◌, Bool, true, false, cond, List, [], ◌∷◌, ◌++◌, map, length, drop, arith, refl, sym, ◌∙◌, ap, subst, inl, inr, eqb-true}
-use Rattle.std.specs.Prelude.{◌==◌, ◌&&◌, not, Option, Some, None, slice_index_or, take}
+use Rattle.std.specs.Prelude.{◌==◌, not, Option, Some, None, slice_index_or, take}
 use Rattle.std.specs.List.{All, Contains, flat_map, range_with_len}
 use Rattle.std.proofs.lemmas.Bool.{and_parts, cases_lt, eq-eqb}
 use Rattle.std.proofs.lemmas.List.{get_or_default, take_more}
@@ -144,15 +144,7 @@ here_of file test p past none is =
     ]
 
 link_here : (file : File) (test : Page → Bool) (before p : ℕ) → IsPast file → test NoType ≡ false → is_link file test before p ≡ true → p < file.count
-link_here file test before p past none is = here_of file test p past none (and_right _ _ (and_left _ _ is))
-  where
-    and_left : (a b : Bool) → (a && b) ≡ true → a ≡ true
-    and_left true b both = refl
-    and_left false b both = absurd cc
-
-    and_right : (a b : Bool) → (a && b) ≡ true → b ≡ true
-    and_right true b both = both
-    and_right false b both = absurd cc
+link_here file test before p past none is = here_of file test p past none (and_parts _ _ (and_parts _ _ is).0).1
 
 row_here : (file : File) (test : Page → Bool) (before : ℕ) (ps : List ℕ) → IsPast file → test NoType ≡ false → follows file test before ps ≡ true → (q : ℕ) → Contains ps q → q < file.count
 row_here file test before [] past none all q inside = absurd (no_member [] q refl inside)

@@ -18,15 +18,12 @@ use Rattle.bdb_format.specs.Numbers.{byte_at, four_at, two_at}
 use Rattle.bdb_format.specs.Page.{Page, Zero, NoType, PageType, FreePage, HashPage, InternalPage, RecnoInternalPage, LeafPage, RecnoLeafPage, OverflowPage, HashMetaPage, BtreeMetaPage, QueueMetaPage, QueuePage, DupLeafPage, OtherPage}
 use Rattle.bdb_format.specs.Reading.{abstract_page, is_zero, page_as, page_type}
 use Rattle.bdb_format.specs.Rows.{page_code}
-use Rattle.bdb_graph.proofs.FormedLemmas.{size_bounds}
+use Rattle.bdb_format.proofs.SizeLemmas.{size_bounds}
 use Rattle.bdb_overflow.specs.Whole.{bytes_of}
 use Rattle.bdb_overflow.proofs.WholeLemmas.{page_length}
 use Rattle.bdb_salvage.specs.Kept.{slots_in}
 use Rattle.bdb_stored.specs.Salvage.{salvaged_file, salvaged_page, unless_code}
 use Rattle.bdb_stored.proofs.PageLemmas.{page_is, page_past}
-
-pub size_some : (size : ℕ) → is_page_size size ≡ true → 512 ≤ size
-size_some size legal = (size_bounds size legal).0
 
 few_pages : (n size : ℕ) → 512 ≤ size → n ≤ 2 ^ 30 → n / size ≤ 2 ^ 21
 few_pages n size large small = div-le_of_le-mul size (omega (arith, small, bound size large))
@@ -35,7 +32,7 @@ few_pages n size large small = div-le_of_le-mul size (omega (arith, small, bound
     bound size large = omega arith
 
 pub few : (n size : ℕ) → is_page_size size ≡ true → n ≤ 2 ^ 30 → n / size ≤ 2 ^ 21
-few n size legal small = few_pages n size (size_some size legal) small
+few n size legal small = few_pages n size (size_bounds size legal).0 small
 
 -- The data on a page are no longer than a page.
 
@@ -74,7 +71,7 @@ pub short_page : (order : Order) (size : ℕ) (image : List ℕ) (p : ℕ) → i
 short_page order size image p legal there =
     let bytes : List ℕ = bytes_of size image p in
     let same : length (piece_in (page_at (salvaged_file order size image) p)) ≡ length (piece_in (salvaged_page order bytes)) = ap (λ page. length (piece_in page)) (page_is order size image p there) in
-    omega (arith, same, salvaged_short order bytes, page_length size image p (omega (arith, size_some size legal)) there, (size_bounds size legal).1)
+    omega (arith, same, salvaged_short order bytes, page_length size image p (omega (arith, (size_bounds size legal).0)) there, (size_bounds size legal).1)
 
 -- the view that a test of a page answers, if it answers one
 abbrev pub answer_page : Result PageView ℕ → Page

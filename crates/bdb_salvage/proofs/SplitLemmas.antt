@@ -7,7 +7,7 @@ use Rattle.std.proofs.lemmas.Bool.{cases_lt, lt-ltb, le-ltb}
 use Rattle.std.proofs.lemmas.List.{append_assoc, get_or_append_left}
 use Rattle.std.proofs.lemmas.Grind.{flat_map-append}
 use Rattle.std.proofs.Math.Seq.{drop-append_seam, take-append_seam}
-use Rattle.bdb_format.proofs.ListLemmas.{range_more}
+use Rattle.bdb_format.proofs.ListLemmas.{range_more, range_parts}
 use Rattle.bdb_format.proofs.MemberLemmas.{of_range}
 use Rattle.bdb_format.specs.declared.kinds.Order.{Order}
 use Rattle.bdb_format.specs.Contents.{entries_in}
@@ -92,24 +92,11 @@ values_from file a m page high =
     all_pieces (λ (v : KeptValue). page ≤ v.page) (values_on file) (range_with_len a m)
     (λ q inside. on_page file q (λ (v : KeptValue). page ≤ v.page) (λ index loose'. high q (of_range a m q inside).0 (of_range a m q inside).1))
 
-range_split : (a n m : ℕ) → range_with_len a (n + m) ≡ range_with_len a n ++ range_with_len (a + n) m
-range_split a n zero = ap (range_with_len a) (let same : n + 0 ≡ n = omega arith in same) ∙ sym (append_nil (range_with_len a n))
-range_split a n (suc m) =
-    let more : n + suc m ≡ (n + m) + 1 = omega arith in
-    let last : a + (n + m) ≡ (a + n) + m = omega arith in
-    let one : m + 1 ≡ suc m = omega arith in
-    ap (range_with_len a) more
-    ∙ (range_more a (n + m)
-    ∙ (ap (λ xs. xs ++ (a + (n + m)) ∷ []) (range_split a n m)
-    ∙ (append_assoc (range_with_len a n) (range_with_len (a + n) m) ((a + (n + m)) ∷ [])
-    ∙ (ap (λ k. range_with_len a n ++ (range_with_len (a + n) m ++ k ∷ [])) last
-    ∙ (ap (λ xs. range_with_len a n ++ xs) (sym (range_more (a + n) m)) ∙ ap (λ k. range_with_len a n ++ range_with_len (a + n) k) one)))))
-
 pub split_at : (file : File) (n m : ℕ) → n + m ≡ file.count → kept_values file ≡ flat_map (values_on file) (range_with_len 0 n) ++ flat_map (values_on file) (range_with_len n m)
 unfolding kept_values
 split_at file n m all =
     ap (λ k. flat_map (values_on file) (range_with_len 0 k)) (sym all)
-    ∙ (ap (flat_map (values_on file)) (range_split 0 n m ∙ ap (λ k. range_with_len 0 n ++ range_with_len k m) (let same : 0 + n ≡ n = omega arith in same))
+    ∙ (ap (flat_map (values_on file)) (range_parts 0 n m ∙ ap (λ k. range_with_len 0 n ++ range_with_len k m) (let same : 0 + n ≡ n = omega arith in same))
     ∙ flat_map-append (values_on file) (range_with_len 0 n) (range_with_len n m))
 
 none_past : (file : File) (p : ℕ) → page_at file p ≡ NoType → values_on file p ≡ []
@@ -182,13 +169,6 @@ count_rises file p =
       | inl there ↦ omega (arith, count_there file p there)
       | inr ge ↦ omega (arith, count_past file p ge)
     ]
-
-pub count_most : (file : File) (page : ℕ) → count_below file page ≤ length (kept_values file)
-count_most file page =
-    let n : ℕ = min page file.count in
-    let m : ℕ = file.count - n in
-    let all : n + m ≡ file.count = omega arith in
-    omega (arith, ap (λ (xs : List KeptValue). length xs) (split_at file n m all), length-append (flat_map (values_on file) (range_with_len 0 n)) (flat_map (values_on file) (range_with_len n m)))
 
 pub past_of : (order : Order) (size : ℕ) (image : List ℕ) → (q : ℕ) → (salvaged_file order size image).count ≤ q → page_at (salvaged_file order size image) q ≡ NoType
 past_of order size image q past = page_past order size image q (omega (arith, past, count_is order size image))

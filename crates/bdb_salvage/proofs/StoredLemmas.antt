@@ -3,7 +3,7 @@ use Rattle.std.proofs.Common.{◌≡◌, ℕ, ◌+◌, ◌*◌, ◌/◌, Bool, t
 use Rattle.std.specs.Prelude.{not}
 use Rattle.std.specs.List.{flat_map, range_with_len}
 use Rattle.std.proofs.lemmas.List.Folds.{flat_map-map}
-use Rattle.bdb_format.proofs.ListLemmas.{flat_map_twice}
+use Rattle.bdb_format.proofs.ListLemmas.{flat_map_twice, map_joined}
 use Rattle.bdb_format.specs.Chains.{chain, joined, pieces_of, value_of}
 use Rattle.bdb_format.specs.File.{File, page_at}
 use Rattle.bdb_format.specs.Page.{Content, Inline, Set, Chain, Tree, Unknown, Item, Page, Zero, Free, Meta, Hash, Internal, RecnoInternal, Leaf, RecnoLeaf, DupLeaf, Overflow, Queue, NoType}
@@ -12,7 +12,7 @@ use Rattle.bdb_salvage.specs.declared.kept.DataPlace.TheVariants.{Set as OnLeave
 use Rattle.bdb_salvage.specs.declared.kept.KeptPair.{KeptPair}
 use Rattle.bdb_salvage.specs.Kept.{data_at, data_places, given, given_live, is_valued, item_of, kept_in, kept_on, kept_pair, kept_pairs, slot_at, under}
 use Rattle.bdb_stored.specs.Salvage.{is_whole, item_pairs, live_whole, pair_in, paired_items, set_start, stored, stored_on, stored_pair, whole_data, whole_values}
-use Rattle.bdb_salvage.proofs.ListLemmas.{flat_map_alike, flat_map_none, map_of_pieces}
+use Rattle.bdb_salvage.proofs.ListLemmas.{flat_map_alike, flat_map_none}
 
 pub append_nil : {X : Type 0} (xs : List X) → xs ++ [] ≡ xs
 append_nil [] = refl
@@ -66,7 +66,7 @@ given_by file p i items false places on =
     flat_map_alike (λ place. given file (place_of p i (slot_at items (2 * i + 1)) place))
     (λ place. under (value_of file (slot_at items (2 * i)).content) (data_at file (slot_at items (2 * i + 1)).content place)) places
     (λ place. live_given file p i items place on)
-    ∙ sym (map_of_pieces (λ value. (value_of file (slot_at items (2 * i)).content, value)) (data_at file (slot_at items (2 * i + 1)).content) places)
+    ∙ sym (map_joined (λ value. (value_of file (slot_at items (2 * i)).content, value)) (data_at file (slot_at items (2 * i + 1)).content) places)
 
 valued_pair : (file : File) (p i : ℕ) (items : List Item) (valued deleted : Bool) (data' : List (List ℕ)) → AreOn file p items
     → data' ≡ flat_map (data_at file (slot_at items (2 * i + 1)).content) (data_places file (slot_at items (2 * i + 1)).content)

@@ -1,6 +1,6 @@
 -- Page 0 of a sound file tells the order and the page size of the file.
-use Rattle.std.proofs.Common.{◌≡◌, ℕ, ◌≤◌, Bool, true, false, List, length, arith, refl, sym, ◌∙◌, ap, subst, inl, inr, true≢false}
-use Rattle.std.specs.Prelude.{◌==◌, ◌&&◌, ◌||◌, not, nat_lt, if◌then◌else◌, Option, Some, None}
+use Rattle.std.proofs.Common.{◌≡◌, ℕ, ◌≤◌, true, false, List, length, arith, refl, sym, ◌∙◌, ap, inl, inr, true≢false}
+use Rattle.std.specs.Prelude.{◌==◌, if◌then◌else◌, Option, Some, None}
 use Rattle.std.specs.Option.{option_or}
 use Rattle.std.proofs.lemmas.Bool.{cases_Bool, le-ltb, ltb-false, not-false, or_cases, or_parts}
 use Rattle.bdb_format.specs.declared.kinds.Order.{Order}
@@ -14,7 +14,6 @@ use Rattle.bdb_graph.specs.Formed.{IsAccepted}
 use Rattle.bdb_graph.proofs.FirstLemmas.{formed_accepted}
 use Rattle.bdb_census.specs.Databases.{IsSoundForest}
 use Rattle.bdb_census.proofs.MetaLemmas.{sound_forest}
-use Rattle.bdb_whole.specs.Kept.{IsSoundFile}
 use Rattle.bdb_whole.proofs.KeptLemmas.{sound_files_are_kept}
 use Rattle.bdb_salvage.specs.declared.guess.Guess.{Guess}
 use Rattle.bdb_salvage.specs.Guesses.{chosen, guess_in, guess_of, is_known_magic}

@@ -1,6 +1,7 @@
 -- A row is whole where it has a length.
 use Rattle.std.proofs.Common.{◌≡◌, ℕ, Bool, true, false, cond, length, refl, ◌∙◌, ap}
 use Rattle.std.specs.Prelude.{◌==◌, ◌&&◌, Some, None}
+use Rattle.std.proofs.lemmas.Bool.{and_parts}
 use Rattle.bdb_format.specs.Chains.{joined, pieces_of}
 use Rattle.bdb_format.specs.File.{File}
 use Rattle.bdb_format.specs.Page.{Page}
@@ -40,8 +41,4 @@ whole_by file head total n some =
 -- a whole chain is a whole row
 pub whole_row : (file : File) (head total : ℕ) → is_whole file head total ≡ true → is_row file is_overflow head ≡ true
 unfolding is_whole
-whole_row file head total whole = left _ _ whole
-  where
-    left : (a b : Bool) → (a && b) ≡ true → a ≡ true
-    left true b both = refl
-    left false b both = absurd cc
+whole_row file head total whole = (and_parts _ _ whole).0

@@ -50,7 +50,7 @@ fn page_of<'a>(image: &'a [u8], size: u32, number: u32) -> &'a [u8]
     &image[start..start + size]
 }
 
-#[tactic(auto, using(bdb_stored::proofs::PageLemmas::count_is, crate::proofs::PageLemmas::size_some, crate::proofs::PageLemmas::few))]
+#[tactic(auto, using(bdb_stored::proofs::PageLemmas::count_is, bdb_format::proofs::SizeLemmas::long_page, crate::proofs::PageLemmas::few))]
 impl<'a> WholePages<'a> {
     /// The pages of an image.
     pub(crate) fn over(image: &'a [u8], guess: Guess) -> WholePages<'a>
@@ -91,7 +91,7 @@ impl<'a> WholePages<'a> {
 
     /// A page by its number; none where there's no such page, or a row of form holds for it. Its own number
     /// isn't looked at.
-    #[tactic(auto, using(bdb_stored::proofs::PageLemmas::page_past, crate::proofs::PageLemmas::size_some))]
+    #[tactic(auto, using(bdb_stored::proofs::PageLemmas::page_past, bdb_format::proofs::SizeLemmas::long_page))]
     pub(crate) fn page(&self, number: u32) -> Option<PageView<'a>>
         ensures page { view_page result ≡ page_at self.now number }
         ensures short { length (piece_in (view_page result)) ≤ 32768 }

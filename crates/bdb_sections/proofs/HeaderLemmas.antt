@@ -13,32 +13,12 @@ use Rattle.bdb_format.specs.Digits.{digits_value, is_number}
 use Rattle.bdb_model.specs.TextSpelling.{digit_value}
 use Rattle.std.proofs.Math.Pow.{pow_mono}
 use Rattle.std.proofs.lemmas.Nat.{pow-add}
-use Rattle.std.proofs.lemmas.Bool.{or_cases, or_right}
+use Rattle.std.proofs.lemmas.Bool.{and_parts, not-true, or_cases, or_parts, or_right}
 use Rattle.bdb_format.specs.Databases.{is_name}
 use Rattle.bdb_model.specs.Reasons.{keyword_named, name_missing}
 use Rattle.bdb_model.specs.Sections.{entry_fits, fits, header_fits, keyword_fits, lines_fit}
 use Rattle.bdb_model.specs.Written.{Entry, holds_records}
 use Rattle.bdb_sections.specs.Fit.{AreFitSettings}
-
-pub left : (a b : Bool) → (a && b) ≡ true → a ≡ true
-left true b is = refl
-left false b is = absurd (cc is)
-
-pub right : (a b : Bool) → (a && b) ≡ true → b ≡ true
-right true b is = is
-right false b is = absurd (cc is)
-
-pub neither_left : (a b : Bool) → (a || b) ≡ false → a ≡ false
-neither_left true b is = absurd (cc is)
-neither_left false b is = refl
-
-pub neither_right : (a b : Bool) → (a || b) ≡ false → b ≡ false
-neither_right true b is = absurd (cc is)
-neither_right false b is = is
-
-pub not_true : (a : Bool) → not a ≡ true → a ≡ false
-not_true true is = absurd (cc is)
-not_true false is = refl
 
 -- A value that a header gives fits its keyword.
 
@@ -46,7 +26,7 @@ entry_there : (before : List Entry) (entry : Option Entry) → entry_fits before
     → (found : Entry) × (entry ≡ Some found) × (keyword_fits found (keyword_named found.name) ≡ true)
 entry_there before None is = absurd (cc is)
 entry_there before (Some entry) is =
-    (entry, refl, right (is_none (given entry.name before)) (keyword_fits entry (keyword_named entry.name)) is)
+    (entry, refl, (and_parts (is_none (given entry.name before)) (keyword_fits entry (keyword_named entry.name)) is).1)
 
 value_if : (name value : List ℕ) (entry : Entry) (others : Option (List ℕ)) (b : Bool) → b ≡ bytes_eq entry.name name
     → (if b then Some entry.value else others) ≡ Some value
@@ -62,8 +42,8 @@ pub given_fits : (before lines : List (List ℕ)) (name value : List ℕ) → li
 given_fits before [] name value fit is = absurd (cc is)
 given_fits before (line ∷ lines) name value fit is =
     let first = entry_there (entries before) (entry_of line)
-    (left (entry_fits (entries before) (entry_of line)) (lines_fit (before ++ (line ∷ [])) lines) fit) in
-    let rest : lines_fit (before ++ (line ∷ [])) lines ≡ true = right (entry_fits (entries before) (entry_of line)) (lines_fit (before ++ (line ∷ [])) lines) fit in
+    (and_parts (entry_fits (entries before) (entry_of line)) (lines_fit (before ++ (line ∷ [])) lines) fit).0 in
+    let rest : lines_fit (before ++ (line ∷ [])) lines ≡ true = (and_parts (entry_fits (entries before) (entry_of line)) (lines_fit (before ++ (line ∷ [])) lines) fit).1 in
     let there : given name (first.0 ∷ entries lines) ≡ Some value = subst (λ o. given name (cons_option o (entries lines)) ≡ Some value) first.1 is in
     value_if name value first.0 (given name (entries lines)) (bytes_eq first.0.name name) refl there first.2
     (λ e. given_fits (before ++ (line ∷ [])) lines name value rest e)
@@ -151,7 +131,7 @@ least : (a b : ℕ) → nat_le a b ≡ true → a ≤ b
 least a b is = grind (arith, nat_tests)
 
 within : (a b n : ℕ) → (nat_le a n && nat_le n b) ≡ true → n ≤ b
-within a b n is = least n b (right (nat_le a n) (nat_le n b) is)
+within a b n is = least n b (and_parts (nat_le a n) (nat_le n b) is).1
 
 hex_short : (text : List ℕ) → is_hex text ≡ true → length text ≤ 10
 hex_short text is =
@@ -159,7 +139,7 @@ hex_short text is =
     let long = nat_le 3 (length text) in
     let short = nat_le (length text) 10 in
     let digits = list_all (λ (digit : ℕ). is_some (digit_value digit)) (drop 2 text) in
-    least (length text) 10 (right (prefix && long) short (left (prefix && long && short) digits is))
+    least (length text) 10 (and_parts (prefix && long) short (and_parts (prefix && long && short) digits is).0).1
 
 digit_small : (digit : ℕ) (a b c : Bool) → a ≡ (nat_le 48 digit && nat_le digit 57) → b ≡ (nat_le 97 digit && nat_le digit 102)
     → c ≡ (nat_le 65 digit && nat_le digit 70)
@@ -208,7 +188,7 @@ pub record HeaderSays (header : Values) : Type 0 where
   pub no_conflict : conflicts header ≡ false
 
 both : (a b c : Bool) → (a && (b || c)) ≡ false → a ≡ true → c ≡ false
-both true b c is on = neither_right b c is
+both true b c is on = (or_parts b c is).1
 both false b c is on = absurd (cc on)
 
 -- pairs are counted only where there are no duplicates
@@ -220,9 +200,7 @@ counted_alone header none on =
     let keyless = gives (codes "keys") (codes "0") header && (has_type (codes "btree") header || has_type (codes "hash") header) in
     let narrow = has_type (codes "queue") header && (number_or 0 (header (codes "re_len")) == 0) in
     both (is_on (codes "recnum") header) (not (has_type (codes "btree") header)) (repeats header)
-    (neither_right records counts
-    (neither_left (records || counts) renumbers
-    (neither_left (records || counts || renumbers) keyless (neither_left (records || counts || renumbers || keyless) narrow none)))) on
+    (or_parts _ _ (or_parts _ _ (or_parts _ _ (or_parts _ _ none).0).0).0).1 on
 
 not_narrow : (header : Values) → conflicts header ≡ false → has_type (codes "queue") header ≡ true → (number_or 0 (header (codes "re_len")) == 0) ≡ false
 not_narrow header none queue =
@@ -232,7 +210,7 @@ not_narrow header none queue =
     let keyless = gives (codes "keys") (codes "0") header && (has_type (codes "btree") header || has_type (codes "hash") header) in
     let narrow = has_type (codes "queue") header && (number_or 0 (header (codes "re_len")) == 0) in
     both (has_type (codes "queue") header) false (number_or 0 (header (codes "re_len")) == 0)
-    (neither_right (records || counts || renumbers || keyless) narrow none) queue
+    (or_parts (records || counts || renumbers || keyless) narrow none).1 queue
 
 pub settings_fit : (header : Values) → HeaderSays header → AreFitSettings (settings_in header)
 settings_fit header says =
@@ -306,16 +284,16 @@ fit_header names header fit =
     let conflict = conflicts (values header) in
     let missing = name_missing names (name_in (values header)) in
     let twice = list_any (is_name (name_in (values header))) names in
-    let rest : (typed && (not conflict && (not missing && not twice))) ≡ true = right lines (typed && (not conflict && (not missing && not twice))) fit in
-    let more : (not conflict && (not missing && not twice)) ≡ true = right typed (not conflict && (not missing && not twice)) rest in
-    let last : (not missing && not twice) ≡ true = right (not conflict) (not missing && not twice) more in
-    let fits : lines ≡ true = left lines (typed && (not conflict && (not missing && not twice))) fit in
+    let rest : (typed && (not conflict && (not missing && not twice))) ≡ true = (and_parts lines (typed && (not conflict && (not missing && not twice))) fit).1 in
+    let more : (not conflict && (not missing && not twice)) ≡ true = (and_parts typed (not conflict && (not missing && not twice)) rest).1 in
+    let last : (not missing && not twice) ≡ true = (and_parts (not conflict) (not missing && not twice) more).1 in
+    let fits : lines ≡ true = (and_parts lines (typed && (not conflict && (not missing && not twice))) fit).0 in
     record {
       says = record {
-        typed = type_read header (values header (codes "type")) fits refl (left typed (not conflict && (not missing && not twice)) rest);
+        typed = type_read header (values header (codes "type")) fits refl (and_parts typed (not conflict && (not missing && not twice)) rest).0;
         size = size_legal header (values header (codes "db_pagesize")) fits refl;
-        no_conflict = not_true conflict (left (not conflict) (not missing && not twice) more);
+        no_conflict = not-true conflict (and_parts (not conflict) (not missing && not twice) more).0;
       };
-      there = not_true missing (left (not missing) (not twice) last);
-      apart = not_true twice (right (not missing) (not twice) last);
+      there = not-true missing (and_parts (not missing) (not twice) last).0;
+      apart = not-true twice (and_parts (not missing) (not twice) last).1;
     }

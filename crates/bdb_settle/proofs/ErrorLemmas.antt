@@ -2,7 +2,7 @@
 use Rattle.std.proofs.Common.{◌≡◌, Bool, true, false, cond, List, [], ◌∷◌, ◌++◌, length, refl, Some, None}
 use Rattle.std.specs.List.{All, flat_map, fold}
 use Rattle.std.specs.Prelude.{◌==◌}
-use Rattle.std.proofs.lemmas.List.Elements.{All-cons, All-nil}
+use Rattle.std.proofs.lemmas.List.Elements.{All-cons, All-nil, All-weaker}
 use Rattle.bdb_format.specs.declared.settings.Settings.{Settings}
 use Rattle.bdb_model.specs.declared.pairs.TextPair.{TextPair}
 use Rattle.bdb_model.specs.declared.sections.Section.{Section}
@@ -50,15 +50,12 @@ sound_pair settings pair none =
       number = not_so (is_zero pair.key) (RecordZero pair.line) parts.1;
     }
 
-pub all_map : {X : Type 0} (P Q : X → Type 0) → ((x : X) → P x → Q x) → (xs : List X) → All P xs → All Q xs
-all_map P Q step xs all k d below = step _ (all k d below)
-
 -- where no section has an error, no pair of one has
 pub sound_pairs : (sections : List Section) → load_error sections ≡ None → All (λ section. All (IsSound section.settings) section.pairs) sections
 sound_pairs sections none =
     let alone = length sections == 1 in
-    all_map (λ section. section_errors alone section ≡ []) (λ section. All (IsSound section.settings) section.pairs)
-    (λ section empty. all_map (λ pair. pair_errors section.settings pair ≡ []) (IsSound section.settings) (sound_pair section.settings) section.pairs
+    All-weaker (λ section. section_errors alone section ≡ []) (λ section. All (IsSound section.settings) section.pairs)
+    (λ section empty. All-weaker (λ pair. pair_errors section.settings pair ≡ []) (IsSound section.settings) (sound_pair section.settings) section.pairs
     (each_empty (pair_errors section.settings) section.pairs
     (both_empty (header_errors alone section) (flat_map (pair_errors section.settings) section.pairs) empty).1))
     sections (each_empty (section_errors alone) sections (no_errors (flat_map (section_errors alone) sections) none))

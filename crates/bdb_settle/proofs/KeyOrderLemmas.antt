@@ -6,8 +6,7 @@ use Rattle.std.proofs.lemmas.Bool.{false_from_ne_true}
 use Rattle.std.proofs.lemmas.Bool.Decides.{nat_tests}
 use Rattle.bdb_format.specs.declared.settings.Settings.{Settings}
 use Rattle.bdb_format.specs.Less.{less}
-use Rattle.bdb_format.proofs.LessLemmas.{less_self}
-use Rattle.bdb_btree.proofs.LessLemmas.{below_less, less_not_back}
+use Rattle.bdb_format.proofs.LessLemmas.{below_less, less_not_back, less_self}
 use Rattle.bdb_model.specs.declared.list.Pair.{Pair}
 use Rattle.bdb_model.specs.declared.pairs.Key.{Key}
 use Rattle.bdb_model.specs.declared.pairs.Key.TheVariants.{Bytes, Number}

@@ -7,13 +7,13 @@ use Rattle.std.specs.List.{All}
 use Rattle.std.specs.Str.{bytes_eq}
 use Rattle.std.proofs.lemmas.Bool.Decides.{nat_tests}
 use Rattle.std.proofs.lemmas.List.{length-replicate}
-use Rattle.std.proofs.lemmas.List.Elements.{All-cons, All-head, All-nil, All-tail}
+use Rattle.std.proofs.lemmas.List.Elements.{All-cons, All-head, All-nil, All-tail, All-weaker}
+use Rattle.std.proofs.Math.Bool.{and-false, and-true}
 use Rattle.bdb_format.specs.declared.kinds.Kind.{Kind}
 use Rattle.bdb_format.specs.declared.kinds.Kind.TheVariants.{Btree, Recno}
 use Rattle.bdb_format.specs.declared.settings.Settings.{Settings}
 use Rattle.bdb_format.specs.Less.{less}
-use Rattle.bdb_btree.proofs.LessLemmas.{same_unless_less}
-use Rattle.bdb_overflow.proofs.KeyLemmas.{eq_self}
+use Rattle.bdb_format.proofs.LessLemmas.{eq_self, same_unless_less}
 use Rattle.bdb_leaves.specs.Runs.{IsShort}
 use Rattle.bdb_model.specs.declared.list.Pair.{Pair}
 use Rattle.bdb_model.specs.declared.pairs.Key.{Key}
@@ -25,7 +25,7 @@ use Rattle.bdb_mktree.specs.Units.{IsTreeKind}
 use Rattle.bdb_settle.specs.ListLaw.{FitsFields, IsFit, IsKeyOf, LoadIntoLists}
 use Rattle.bdb_settle.specs.LoadErrors.{is_zero}
 use Rattle.bdb_settle.specs.Loaded.{filled, filled_value, has_length, has_records, keeps_data, loaded, sorts_data, stands_before}
-use Rattle.bdb_settle.proofs.ErrorLemmas.{IsSound, all_map, sound_pairs}
+use Rattle.bdb_settle.proofs.ErrorLemmas.{IsSound, sound_pairs}
 use Rattle.bdb_settle.proofs.OrderedLemmas.{Ordered, OrderedFrom, fold_all, fold_ordered, follows}
 
 -- Each pair.
@@ -73,14 +73,6 @@ pairs_fit settings (pair ∷ pairs) kind below fits sound =
 
 -- Two pairs, one behind the other.
 
-and_true : (b : Bool) → (b && true) ≡ b
-and_true true = refl
-and_true false = refl
-
-pub and_false : (b : Bool) → (b && false) ≡ false
-and_false true = refl
-and_false false = refl
-
 further : (duplicates sorted is_less is_above : Bool) → (sorted ≡ true → duplicates ≡ true)
     → ((sorted && is_less) || (not (sorted && is_above) && (duplicates && not sorted))) ≡ true → (duplicates && (not sorted || is_less)) ≡ true
 further true true true is_above both after = refl
@@ -112,9 +104,9 @@ keyed_next : (settings : Settings) (a b : Key) (first then : List ℕ) → setti
 keyed_next settings (Number number) b first then btree both has_a has_b after = absurd has_a
 keyed_next settings (Bytes a) (Number number) first then btree both has_a has_b after = absurd has_b
 keyed_next settings (Bytes a) (Bytes b) first then btree both has_a has_b after =
-    let sorts : sorts_data settings ≡ settings.sorted = ap (λ k. settings.sorted && not (has_records k)) btree ∙ and_true settings.sorted in
+    let sorts : sorts_data settings ≡ settings.sorted = ap (λ k. settings.sorted && not (has_records k)) btree ∙ and-true settings.sorted in
     let keeps : keeps_data settings ≡ (settings.duplicates && not settings.sorted) =
-    ap (λ k. settings.duplicates && not settings.sorted && not (has_records k)) btree ∙ and_true (settings.duplicates && not settings.sorted) in
+    ap (λ k. settings.duplicates && not settings.sorted && not (has_records k)) btree ∙ and-true (settings.duplicates && not settings.sorted) in
     ap (λ k. may_follow k settings (record { key = Bytes a; value = first }) (record { key = Bytes b; value = then })) btree
     ∙ by_bytes (less a b) (less b a) (bytes_eq a b) settings.duplicates settings.sorted (sorts_data settings) (keeps_data settings) (less first then)
     (less then first)
@@ -126,9 +118,9 @@ numbered_next : (settings : Settings) (a b : Key) (first then : List ℕ) → se
 numbered_next settings (Bytes bytes) b first then recno has_a has_b after = absurd has_a
 numbered_next settings (Number m) (Bytes bytes) first then recno has_a has_b after = absurd has_b
 numbered_next settings (Number m) (Number n) first then recno has_a has_b after =
-    let sorts : sorts_data settings ≡ false = ap (λ k. settings.sorted && not (has_records k)) recno ∙ and_false settings.sorted in
+    let sorts : sorts_data settings ≡ false = ap (λ k. settings.sorted && not (has_records k)) recno ∙ and-false settings.sorted in
     let keeps : keeps_data settings ≡ false =
-    ap (λ k. settings.duplicates && not settings.sorted && not (has_records k)) recno ∙ and_false (settings.duplicates && not settings.sorted) in
+    ap (λ k. settings.duplicates && not settings.sorted && not (has_records k)) recno ∙ and-false (settings.duplicates && not settings.sorted) in
     ap (λ k. may_follow k settings (record { key = Number m; value = first }) (record { key = Number n; value = then })) recno
     ∙ by_numbers (nat_lt m n) (nat_lt n m) (sorts_data settings) (keeps_data settings) (less first then) (less then first) sorts keeps after
 
@@ -176,6 +168,6 @@ section_loads section kind fit sound =
 
 pub load_into_lists : LoadIntoLists
 load_into_lists sections none =
-    all_map (λ section. All (IsSound section.settings) section.pairs)
+    All-weaker (λ section. All (IsSound section.settings) section.pairs)
     (λ section. IsTreeKind section.settings.kind → IsFit section → IsListFor section.settings (loaded section.settings section.pairs))
     (λ section sound kind fit. section_loads section kind fit sound) sections (sound_pairs sections none)

@@ -3,12 +3,13 @@ use Rattle.std.proofs.Common.{◌≡◌, Bool, true, false, cond, not, List, [],
 use Rattle.std.specs.Prelude.{◌&&◌, ◌||◌}
 use Rattle.std.specs.Cmp.{IsStrictWeakOrder}
 use Rattle.std.specs.List.{All, fold}
+use Rattle.std.proofs.lemmas.Bool.{or_parts}
 use Rattle.std.proofs.lemmas.List.Elements.{All-cons, All-head, All-nil, All-tail}
 use Rattle.bdb_format.specs.declared.settings.Settings.{Settings}
 use Rattle.bdb_model.specs.declared.list.Pair.{Pair}
 use Rattle.bdb_settle.specs.Loaded.{keeps_data, put, stands_before, with_pair}
 use Rattle.bdb_settle.proofs.KeyOrderLemmas.{pairs_weakly}
-use Rattle.bdb_settle.proofs.PutLemmas.{below, or_false}
+use Rattle.bdb_settle.proofs.PutLemmas.{below}
 
 -- What holds of each pair.
 
@@ -61,10 +62,6 @@ module _ (before : Pair → Pair → Bool) (weak : IsStrictWeakOrder before) (ke
       by_tests false true false none so = absurd cc
       by_tests false false false none so = absurd cc
 
-  or_false_later : (a b : Bool) → (a || b) ≡ false → b ≡ false
-  or_false_later true b is = absurd cc
-  or_false_later false b is = is
-
   -- a pair in the place of one that it neither stands before nor behind
   instead : (old new : Pair) (rest : List Pair) → keeps ≡ false → before old new ≡ false → OrderedFrom before keeps old rest
       → OrderedFrom before keeps new rest
@@ -84,7 +81,7 @@ module _ (before : Pair → Pair → Bool) (weak : IsStrictWeakOrder before) (ke
       by_tests true b first second more = (after, (before_follows pair other first, ordered.1))
       by_tests false true first second more = (ordered.0, more (after_follows other pair first second))
       by_tests false false first second more =
-          (after, instead other pair others (or_false_later (before other pair) keeps second) (or_false (before other pair) keeps second) ordered.1)
+          (after, instead other pair others (or_parts (before other pair) keeps second).1 (or_parts (before other pair) keeps second).0 ordered.1)
 
   put_ordered : (pair : Pair) (list : List Pair) → Ordered before keeps list → Ordered before keeps (put before keeps pair list)
   put_ordered pair [] ordered = tt
@@ -95,7 +92,7 @@ module _ (before : Pair → Pair → Bool) (weak : IsStrictWeakOrder before) (ke
       by_tests true b first second = (before_follows pair other first, ordered)
       by_tests false true first second = put_from other pair others (after_follows other pair first second) ordered
       by_tests false false first second =
-          instead other pair others (or_false_later (before other pair) keeps second) (or_false (before other pair) keeps second) ordered
+          instead other pair others (or_parts (before other pair) keeps second).1 (or_parts (before other pair) keeps second).0 ordered
 
 pub fold_ordered : (settings : Settings) (pairs list : List Pair) → Ordered (stands_before settings) (keeps_data settings) list
     → Ordered (stands_before settings) (keeps_data settings) (fold (with_pair settings) list pairs)

@@ -3,29 +3,19 @@ use Rattle.std.proofs.Common.{◌≡◌, Bool, true, false, cond, not, List, [],
 use Rattle.std.specs.Prelude.{◌&&◌, ◌||◌}
 use Rattle.std.specs.Cmp.{IsStrictWeakOrder}
 use Rattle.std.specs.List.{All}
+use Rattle.std.proofs.lemmas.Bool.{or_parts, true_from_ne_false}
 use Rattle.std.proofs.lemmas.List.Elements.{All-head, All-tail}
 use Rattle.bdb_model.specs.declared.list.Pair.{Pair}
 use Rattle.bdb_settle.specs.Loaded.{put}
 use Rattle.bdb_settle.specs.Settling.{stays}
 
-true_from : (b : Bool) → (b ≡ false → ⊥) → b ≡ true
-true_from b never = by_case b refl
-  where
-    by_case : (c : Bool) → b ≡ c → c ≡ true
-    by_case true is = refl
-    by_case false is = absurd (never is)
-
-pub or_false : (a b : Bool) → (a || b) ≡ false → a ≡ false
-or_false true b is = absurd cc
-or_false false b is = refl
-
 module _ (before : Pair → Pair → Bool) (weak : IsStrictWeakOrder before) where
   -- what stands before one that stands before a third, or beside it, stands before the third
   pub above : (a b c : Pair) → before a b ≡ true → before c b ≡ false → before a c ≡ true
-  above a b c is not_above = true_from (before a c) (λ no. true≢false (sym is ∙ weak.chain a c b no not_above))
+  above a b c is not_above = true_from_ne_false (before a c) (λ no. true≢false (sym is ∙ weak.chain a c b no not_above))
 
   pub below : (a b c : Pair) → before b a ≡ false → before b c ≡ true → before a c ≡ true
-  below a b c not_above is = true_from (before a c) (λ no. true≢false (sym is ∙ weak.chain b a c not_above no))
+  below a b c not_above is = true_from_ne_false (before a c) (λ no. true≢false (sym is ∙ weak.chain b a c not_above no))
 
   module _ (keeps : Bool) where
     -- a pair is put behind those that stay
@@ -83,7 +73,7 @@ module _ (before : Pair → Pair → Bool) (weak : IsStrictWeakOrder before) whe
           ap (put before keeps x) (put_after y other others is_yo is_oy) ∙ put_instead x other (put before keeps y others) is_xo is_ox
           ∙ sym (ap (put before keeps y) (put_instead x other others is_xo is_ox) ∙ behind others)
       both_more other others false false false ox is_yo is_xo is_oy is_ox same =
-          absurd (true≢false (sym (above x y other is (or_false (before other y) keeps is_oy)) ∙ is_xo))
+          absurd (true≢false (sym (above x y other is (or_parts (before other y) keeps is_oy).0) ∙ is_xo))
 
       -- two pairs of which one stands before the other come into a list in either order
       pub put_both : (list : List Pair) → put before keeps x (put before keeps y list) ≡ put before keeps y (put before keeps x list)

@@ -1,13 +1,14 @@
 -- A page that names the one before it, and so on back to one that names 0, comes only once: the way back from a page is one.
-use Rattle.std.proofs.Common.{◌≡◌, ℕ, ◌≤◌, Bool, true, false, List, [], ◌∷◌, length, arith, refl, sym, ◌∙◌, subst, inl, inr}
+use Rattle.std.proofs.Common.{◌≡◌, ℕ, ◌≤◌, Bool, true, List, [], ◌∷◌, length, arith, refl, sym, ◌∙◌, subst, inl, inr}
 use Rattle.std.specs.Prelude.{◌==◌, ◌&&◌, not}
 use Rattle.std.specs.List.{Contains}
-use Rattle.std.proofs.lemmas.Bool.{and_parts, eqb-true, eqb-false}
+use Rattle.std.proofs.lemmas.Bool.{and_parts, eqb-true, eqb-false, not-true}
 use Rattle.bdb_format.specs.Chains.{next_of}
 use Rattle.bdb_format.specs.File.{File, header_in, page_at}
 use Rattle.bdb_format.specs.Page.{Page}
 use Rattle.bdb_format.proofs.MemberLemmas.{first_member, later_member, member_cases, no_member}
-use Rattle.bdb_graph.specs.Forest.{AllDistinct, NotIn}
+use Rattle.bdb_graph.specs.Forest.{AllDistinct}
+use Rattle.bdb_graph.proofs.LeavesLemmas.{not_in}
 use Rattle.bdb_stored.specs.Rows.{NoPageTwiceInARow}
 use Rattle.bdb_stored.specs.Salvage.{follows, is_link}
 
@@ -43,11 +44,6 @@ not_behind file before p xs back names some at =
     let own : LeadsBack file p (p ∷ xs) = (refl, some, subst (λ n. LeadsBack file n xs) (sym names) back) in
     omega (arith, one_way file p other.0 (p ∷ xs) other.1 own, other.2)
 
-not_in : (x : ℕ) (ys : List ℕ) → (Contains ys x → ⊥) → NotIn x ys
-not_in x [] out = tt
-not_in x (y ∷ ys) out =
-    (λ same. out (subst (λ z. Contains (y ∷ ys) z) (sym same) (first_member y ys)), not_in x ys (λ at. out (later_member y ys x at)))
-
 -- what a link says
 record Links (file : File) (before p : ℕ) : Type 0 where
   some : p ≡ 0 → ⊥
@@ -57,11 +53,7 @@ links : (file : File) (test : Page → Bool) (before p : ℕ) → is_link file t
 links file test before p is =
     let both = and_parts (not (p == 0) && test (page_at file p)) (previous_of file p == before) is in
     let first = and_parts (not (p == 0)) (test (page_at file p)) both.0 in
-    record { some = eqb-false p 0 (not_true (p == 0) first.0); back = eqb-true (previous_of file p) before both.1 }
-  where
-    not_true : (b : Bool) → not b ≡ true → b ≡ false
-    not_true false is = refl
-    not_true true is = absurd cc
+    record { some = eqb-false p 0 (not-true (p == 0) first.0); back = eqb-true (previous_of file p) before both.1 }
 
 first_follows : (file : File) (test : Page → Bool) (before p : ℕ) (ps : List ℕ) → follows file test before (p ∷ ps) ≡ true → Links file before p
 first_follows file test before p [] is = links file test before p (and_parts (is_link file test before p) (next_of file p == 0) is).0

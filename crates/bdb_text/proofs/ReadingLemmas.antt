@@ -1,7 +1,7 @@
 -- What a text begins with, and the value of digits.
 use Rattle.std.proofs.Common.{◌≡◌, ◌≢◌, ℕ, ◌+◌, ◌*◌, ◌<◌, Bool, true, false, List, [], ◌∷◌, ◌++◌, length, slice_index, ne_eqb, append_assoc, Option, Some, None, Result, Ok, Err, refl, sym, ap, ◌∙◌, arith}
 use Rattle.std.specs.Prelude.{MatchResult, is_some}
-use Rattle.std.proofs.lemmas.List.{append-nil}
+use Rattle.std.proofs.lemmas.List.{append-nil, nil_from_length}
 use Rattle.std.proofs.lemmas.Bool.Decides.{nat_tests}
 use Rattle.hex.specs.declared.error.FromHexError.{FromHexError}
 use Rattle.hex.specs.Hex.{decode_pairs, decode_sized, digit_or_error, hex_digit_value, ◌>>=◌}
@@ -62,22 +62,18 @@ byte_of_err high low out result x h e = decoded_err (decode_sized (high ∷ low 
 -- The first unit.
 
 -- no text has length 0 but the empty one
-nothing : (s : List ℕ) → length s ≡ 0 → s ≡ []
-nothing [] h = refl
-nothing (b ∷ s) h = absurd (omega arith)
-
 pub digits_none : (text : List ℕ) → length text ≡ 0 → None ≡ digits_unit text
-digits_none text none = ap digits_unit (sym (nothing text none))
+digits_none text none = ap digits_unit (sym (nil_from_length text none))
 
 pub digits_odd : (text : List ℕ) (high : ℕ) (behind : List ℕ) → text ≡ high ∷ behind → length behind ≡ 0 → None ≡ digits_unit text
-digits_odd text high behind is none = rw (is, nothing behind none) refl
+digits_odd text high behind is none = rw (is, nil_from_length behind none) refl
 
 pub digits_are : (text : List ℕ) (high low : ℕ) (behind rest : List ℕ) (byte : Option ℕ) → text ≡ high ∷ behind → behind ≡ low ∷ rest
     → byte ≡ byte_of_digits (digit_value high) (digit_value low) → byte_before byte rest ≡ digits_unit text
 digits_are text high low behind rest byte is more value = rw (is, more) (ap (λ it. byte_before it rest) value)
 
 pub escaped_none : (text : List ℕ) → length text ≡ 0 → None ≡ escaped_unit text
-escaped_none text none = ap escaped_unit (sym (nothing text none))
+escaped_none text none = ap escaped_unit (sym (nil_from_length text none))
 
 pub escaped_backslash : (text : List ℕ) (byte : ℕ) (rest : List ℕ) → text ≡ byte ∷ rest → byte ≡ 92 → Some (byte, rest) ≡ escaped_unit text
 escaped_backslash text byte rest is same = rw (is, same) refl
@@ -86,7 +82,7 @@ pub escaped_digits : (text : List ℕ) (byte : ℕ) (rest : List ℕ) → text �
 escaped_digits text byte rest is other = rw (is, ne_eqb byte 92 other) refl
 
 pub printed_none : (text : List ℕ) → length text ≡ 0 → None ≡ printed_unit text
-printed_none text none = ap printed_unit (sym (nothing text none))
+printed_none text none = ap printed_unit (sym (nil_from_length text none))
 
 pub printed_escape : (text : List ℕ) (byte : ℕ) (rest : List ℕ) → text ≡ byte ∷ rest → byte ≡ 92 → escaped_unit rest ≡ printed_unit text
 printed_escape text byte rest is same = rw (is, same) refl
@@ -97,7 +93,7 @@ printed_itself text byte rest is other = rw (is, ne_eqb byte 92 other) refl
 -- Reading to the end.
 
 pub spelled_empty : (print : Bool) (text : List ℕ) → length text ≡ 0 → bytes_spelled print text ≡ Some []
-spelled_empty print text none = ap (bytes_spelled print) (nothing text none) ∙ read_empty print
+spelled_empty print text none = ap (bytes_spelled print) (nil_from_length text none) ∙ read_empty print
 
 -- bytes before those that follow, where these are there
 abbrev pub joined : List ℕ → Option (List ℕ) → Option (List ℕ)

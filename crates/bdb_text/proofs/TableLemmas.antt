@@ -1,7 +1,7 @@
 -- The table of a written header.
-use Rattle.std.proofs.Common.{◌≡◌, ℕ, ◌&&◌, Bool, true, false, not, if◌then◌else◌, List, [], ◌∷◌, ◌++◌, map, None, refl, sym, ap, ◌∙◌}
+use Rattle.std.proofs.Common.{◌≡◌, ℕ, ◌&&◌, Bool, true, false, not, if◌then◌else◌, List, [], ◌∷◌, ◌++◌, map, None, refl, ap, ◌∙◌}
 use Rattle.std.proofs.lemmas.List.{append-nil}
-use Rattle.std.proofs.lemmas.Bool.{or_parts, and_parts}
+use Rattle.std.proofs.lemmas.Bool.{or_parts, and_parts, not-true}
 use Rattle.std.specs.List.{list_any}
 use Rattle.bdb_format.specs.Table.{Row}
 use Rattle.bdb_model.specs.Header.{given}
@@ -49,10 +49,6 @@ names_more (first ∷ rows) row h e =
     let both = or_parts (has_equals first.code.name) (names_have_equals rows) h in
     rw (both.0, names_more rows row both.1 e) refl
 
-not-true_is : (b : Bool) → not b ≡ true → b ≡ false
-not-true_is true h = sym h
-not-true_is false h = refl
-
 -- the lines of a table fit a header
 lines_fit-step : (before : List (Row Entry)) (row : Row Entry) (rows : List (Row Entry)) → names_have_equals before ≡ false → has_equals row.code.name ≡ false
     → is_named row.code.name before ≡ false → keyword_fits row.code (keyword_named row.code.name) ≡ true
@@ -82,5 +78,5 @@ lines_fit-table before (row ∷ rows) n m h =
     let first = and_parts (not (is_named row.code.name before)) (keyword_fits row.code (keyword_named row.code.name) && table_fits (before ++ row ∷ []) rows)
     h in
     let second = and_parts (keyword_fits row.code (keyword_named row.code.name)) (table_fits (before ++ row ∷ []) rows) first.1 in
-    lines_fit-step before row rows n names.0 (not-true_is (is_named row.code.name before) first.0) second.0
+    lines_fit-step before row rows n names.0 (not-true (is_named row.code.name before) first.0) second.0
     (lines_fit-table (before ++ row ∷ []) rows (names_more before row n names.0) names.1 second.1) row.holds refl

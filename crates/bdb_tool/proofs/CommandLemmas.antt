@@ -34,15 +34,6 @@ get_without given (key ∷ []) other = absurd (other key refl)
 get_without given (key ∷ second ∷ operands) other =
     let many : (length (key ∷ second ∷ operands) == 1) ≡ false = ne_eqb _ _ (λ one. omega arith) in rw many refl
 
--- another command has none
-pub plain_with : (word : List ℕ) (action : Action) (given : List Given) (words : List (List ℕ)) (place : ℕ) → place < length words → command_with (plain_row word action) (Some (given_with given (drop place words))) ≡ None
-plain_with word action given words place within =
-    let some : (length (drop place words) == 0) ≡ false = ne_eqb _ _ (λ none. omega (arith, length-drop place words)) in rw some refl
-
-pub plain_without : (word : List ℕ) (action : Action) (given : List Given) (words : List (List ℕ)) (place : ℕ) → length words ≤ place
-    → command_with (plain_row word action) (Some (given_with given (drop place words))) ≡ within (limit_of (value_given max_bytes given)) (Some action)
-plain_without word action given words place past = rw (drop_all place words past) refl
-
 pub dump_with : (given : List Given) (words : List (List ℕ)) (place : ℕ) → place < length words → command_with dump_row (Some (given_with given (drop place words))) ≡ None
 dump_with given words place within =
     let some : (length (drop place words) == 0) ≡ false = ne_eqb _ _ (λ none. omega (arith, length-drop place words)) in rw some refl
@@ -50,10 +41,6 @@ dump_with given words place within =
 pub salvage_with : (given : List Given) (words : List (List ℕ)) (place : ℕ) → place < length words → command_with salvage_row (Some (given_with given (drop place words))) ≡ None
 salvage_with given words place within =
     let some : (length (drop place words) == 0) ≡ false = ne_eqb _ _ (λ none. omega (arith, length-drop place words)) in rw some refl
-
--- `trial` has three
-pub not_three : (given : List Given) (operands : List (List ℕ)) → length operands ≢ 3 → command_with trial_row (Some (given_with given operands)) ≡ None
-not_three given operands other = rw (ne_eqb (length operands) 3 other) refl
 
 pub three : (given : List Given) (kind seed count : List ℕ) → command_with trial_row (Some (given_with given (kind ∷ seed ∷ count ∷ []))) ≡ within (limit_of (value_given max_bytes given)) (trial_action (kind ∷ seed ∷ count ∷ []))
 three given kind seed count = refl

@@ -26,9 +26,6 @@ asks : (limit : ℕ) (request : Option Request) → IsTrue (is_some (within (Som
 asks limit None is = absurd cc
 asks limit (Some asked) is = (asked, refl)
 
-pub asks_request : (limit : ℕ) (request : CodeRequest) → IsTrue (is_some (within (Some limit) (asking (request_seen request)))) → IsTrue (is_some (request_seen request))
-asks_request limit request is = let asked = asks limit (request_seen request) is in rw asked.1 refl
-
 -- a command that reads its input
 abbrev reading : (words : List (List ℕ)) (limit : ℕ) (action : Action) → command_of words ≡ Some (made limit action) → reads_input action ≡ true → AreReading words
 reading words limit action is reads = record { command = made limit action; command_is = is; reads = reads }
@@ -43,16 +40,6 @@ is_asked words source limit request image seen input =
       seen = asked.1;
       read = record { command_is = seen.0 ∙ ap (λ it. within (Some limit) (asking it)) asked.1; reads = refl; input_is = input };
     }
-
-pub is_text_read : (words : List (List ℕ)) (source : Change) (limit : ℕ) (text : List ℕ) → IsSeen (command_of words) (record { limit = limit; action = LoadWord }) → IsInputWithin limit source text → IsTextRead words source text limit
-is_text_read words source limit text seen input = record { read = record { command_is = seen.0; reads = refl; input_is = input } }
-
-pub is_salvage_read : (words : List (List ℕ)) (source : Change) (limit : ℕ) (asked : CodeSalvage) (image : List ℕ) → IsSeen (command_of words) (record { limit = limit; action = SalvageWord asked }) → IsInputWithin limit source image
-    → IsSalvageRead words source asked image
-is_salvage_read words source limit asked image seen input = record { limit = limit; read = record { command_is = seen.0; reads = refl; input_is = input } }
-
-pub is_tried : (words : List (List ℕ)) (source : Change) (limit : ℕ) (trial : CodeTrial) → IsSeen (command_of words) (record { limit = limit; action = TrialWord trial }) → IsUncalled source → IsTried words source trial limit
-is_tried words source limit trial seen uncalled = record { command_is = seen.0; uncalled = uncalled }
 
 -- no input, of a command that reads it
 not_read : (words : List (List ℕ)) (source : Change) (limit : ℕ) (action : Action) (stop : Stop) → command_of words ≡ Some (made limit action) → reads_input action ≡ true → IsUnreadable limit source stop → IsStopped words source stop

@@ -107,10 +107,3 @@ pub all_finish : (faults : List Fault) (image : List ℕ) (error : AllError) (al
 all_finish faults image error all written count err status is are told = faults_finish faults image all written count err status (all_of faults error all is are) told
 
 -- What else is asked.
-
-pub asked_by_verdict : (request : Request) (image : List ℕ) (out err : Change) (status : ℕ) → (request ≡ Verify → ⊥)
-    → Finishes (judged_answer (verdict_of image) request image) out err status → Finishes (asked_answer request image) out err status
-asked_by_verdict Verify image out err status other finishes = absurd (other refl)
-asked_by_verdict ListAll image out err status other finishes = finishes
-asked_by_verdict (Get name key prints) image out err status other finishes = finishes
-asked_by_verdict (Dump name prints) image out err status other finishes = finishes

@@ -18,8 +18,8 @@ use Rattle.bdb_format.proofs.MemberLemmas.{first_member, later_member, no_member
 use Rattle.bdb_graph.specs.Linked.{IsForest}
 use Rattle.bdb_tree.specs.Trees.{IsTreePage, children_at}
 use Rattle.bdb_tree.proofs.ShapeLemmas.{tree_header}
-use Rattle.bdb_tree.proofs.TreeLemmas.{IsChild, child_is, flat_map_same, leaves_of_inner, leaves_of_leaf, level, tree_cases}
-use Rattle.bdb_format.proofs.ListLemmas.{flat_map_twice, only_member, all_of}
+use Rattle.bdb_tree.proofs.TreeLemmas.{IsChild, child_is, leaves_of_inner, leaves_of_leaf, level, tree_cases}
+use Rattle.bdb_format.proofs.ListLemmas.{flat_map_twice, only_member, all_of, flat_map_same}
 
 -- one item more
 pub children_more : {X : Type 0} (child : X → ℕ) (before : List ℕ) (items : List X) (i : ℕ) (item : X) → i < length items

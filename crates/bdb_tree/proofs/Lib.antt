@@ -5,6 +5,7 @@ pub mod EntryLemmas
 pub mod LevelLemmas
 pub mod LinkLemmas
 pub mod NotedLemmas
+pub mod PairLemmas
 pub mod RootLemmas
 pub mod ShapeLemmas
 pub mod StageLemmas

@@ -16,15 +16,14 @@ use Rattle.bdb_format.specs.Verdict.{structure_faults}
 use Rattle.bdb_format.proofs.MemberLemmas.{first_member, later_member, member_cases, no_member}
 use Rattle.bdb_graph.specs.Linked.{FitsLeafPage, IsForest, IsTarget}
 use Rattle.bdb_graph.proofs.FirstLemmas.{formed_last}
-use Rattle.bdb_graph.proofs.HeldLemmas.{last_page}
 use Rattle.bdb_graph.proofs.LeavesLemmas.{no_leaf_twice}
 use Rattle.bdb_graph.proofs.ReachLemmas.{AllUpTo, few_distinct}
 use Rattle.bdb_tree.specs.Links.{IsLeafWalk, pages_from}
 use Rattle.bdb_tree.specs.Trees.{IsRoot, IsTreePage}
 use Rattle.bdb_tree.proofs.BelongLemmas.{Belongs, belongs, leaf_above}
 use Rattle.bdb_tree.proofs.TreeLemmas.{leaf_fits, leaf_inside, leaf_low, link_is_right, place_of_root, root_is_tree, tree_inside}
-use Rattle.bdb_format.proofs.ReferenceLemmas.{count_is}
 use Rattle.bdb_format.proofs.ChainLemmas.{chain_few}
+use Rattle.bdb_format.proofs.FileLemmas.{count_is, last_page}
 
 -- Next pages.
 

@@ -273,7 +273,7 @@ of_tree_faults image fault forest at =
           (in_fault_if LeafLink place.leaf (is_wrong_link file place) wrong)) any
     ]
 
-place_leaf : (sort : Sort) (before : ℕ) (ps : List ℕ) (place : LeafPlace) → Contains (places_from sort before ps) place → Contains ps place.leaf
+pub place_leaf : (sort : Sort) (before : ℕ) (ps : List ℕ) (place : LeafPlace) → Contains (places_from sort before ps) place → Contains ps place.leaf
 place_leaf sort before [] place at = absurd (no_member [] place refl at)
 place_leaf sort before (p ∷ ps) place at =
     elim (member_cases (record { tree = sort; before = before; leaf = p; after = first_or_zero ps }) (places_from sort p ps) place at) [

@@ -192,7 +192,7 @@ meta_root_fits image p forest low root = of (page_at (file_of image) p) refl
         (root_fits image (head_of image) meta forest.formed (record { page = p; inside = low; is = is }))
     of page is same = absurd cc
 
-tree_of : (content : Content) (root : ℕ) → set_root content ≡ Some root → content ≡ Tree root
+pub tree_of : (content : Content) (root : ℕ) → set_root content ≡ Some root → content ≡ Tree root
 tree_of (Tree set) root same = cc
 tree_of content root same = absurd cc
 

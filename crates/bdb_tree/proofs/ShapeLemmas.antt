@@ -36,8 +36,8 @@ use Rattle.bdb_graph.specs.Linked.{IsForest}
 use Rattle.bdb_graph.proofs.ChildLemmas.{is_queue_page, queue_page}
 use Rattle.bdb_graph.proofs.FirstLemmas.{formed_page}
 use Rattle.bdb_tree.specs.Noted.{is_leaf_page}
-use Rattle.bdb_graph.proofs.HeldLemmas.{last_page, page_is}
 use Rattle.bdb_format.proofs.TypeLemmas.{if_type}
+use Rattle.bdb_format.proofs.FileLemmas.{last_page, page_is}
 
 -- Form.
 

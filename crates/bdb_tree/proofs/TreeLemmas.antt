@@ -1,5 +1,5 @@
 -- The pages of trees in a file that linking accepts: children are pages of trees a level below, so the leaves are had level by level.
-use Rattle.std.proofs.Common.{◌≡◌, ◌⊎◌, ℕ, zero, suc, ◌+◌, ◌-◌, ◌<◌, ◌≤◌, Bool, true, false, cond, List, [], ◌∷◌, ◌++◌, length, arith, refl, sym}
+use Rattle.std.proofs.Common.{◌≡◌, ◌⊎◌, ℕ, zero, suc, ◌+◌, ◌-◌, ◌<◌, ◌≤◌, Bool, true, false, cond, List, [], ◌∷◌, length, arith, refl, sym}
 use Rattle.std.proofs.Common.{◌∙◌, ap, subst, inl, inr, length-append}
 use Rattle.std.specs.Prelude.{Option, Some, None, ◌==◌, ◌&&◌, nat_lt, nat_le, ◌%◌, slice_index, get_or}
 use Rattle.std.specs.List.{Contains, filter, flat_map}
@@ -22,7 +22,7 @@ use Rattle.bdb_format.specs.References.{asked_by, child_types, content_targets, 
 use Rattle.bdb_format.specs.References.{is_zero_page, targets_in, no_item, refs, root_types, contents_in}
 use Rattle.bdb_format.specs.Verdict.{reference_faults, structure_faults, structure_rows}
 use Rattle.bdb_format.proofs.GraphLemmas.{each_fits}
-use Rattle.bdb_format.proofs.MemberLemmas.{first_member, in_filter, in_flat_map, in_map, later_member, none_passes, of_flat_map}
+use Rattle.bdb_format.proofs.MemberLemmas.{first_member, in_filter, in_flat_map, in_map, none_passes, of_flat_map}
 use Rattle.bdb_format.proofs.VerdictLemmas.{AllFail, no_rows_at, none_is_first_row}
 use Rattle.bdb_format.proofs.TargetLemmas.{held_named, own_held}
 use Rattle.bdb_format.specs.Flags.{is_recno}
@@ -37,10 +37,11 @@ use Rattle.bdb_tree.specs.Noted.{is_leaf_page}
 use Rattle.bdb_tree.specs.Trees.{IsRoot, IsTreePage}
 use Rattle.bdb_tree.proofs.ShapeLemmas.{IsFormedPage, IsInnerPage, IsLeafPage, SetsAreData, formed_at, is_tree_in, leaf_shape, no_queue, tree_in}
 use Rattle.bdb_tree.proofs.ShapeLemmas.{tree_shape, IsAlone}
-use Rattle.bdb_format.proofs.ListLemmas.{in_enumerated, only_member}
+use Rattle.bdb_format.proofs.ListLemmas.{flat_map_same, in_enumerated, only_member}
 use Rattle.bdb_format.proofs.BoolLemmas.{second_false, first_or_none}
-use Rattle.bdb_format.proofs.ReferenceLemmas.{forest_names, of_all, pages_counted}
+use Rattle.bdb_format.proofs.ReferenceLemmas.{forest_names, of_all}
 use Rattle.bdb_format.proofs.TypeLemmas.{AllTypes, of_type, either_types}
+use Rattle.bdb_format.proofs.FileLemmas.{pages_counted}
 
 abbrev pub level : File → ℕ → ℕ
 level file p = (header_in (page_at file p)).level
@@ -206,12 +207,6 @@ child_is image p c children forest are at =
     }
 
 -- Leaves.
-
-pub flat_map_same : {X Y : Type 0} (f g : X → List Y) (xs : List X) → ((x : X) → Contains xs x → f x ≡ g x) → flat_map f xs ≡ flat_map g xs
-flat_map_same f g [] same = refl
-flat_map_same f g (x ∷ xs) same =
-    ap (λ ys. ys ++ flat_map f xs) (same x (first_member x xs))
-    ∙ ap (λ ys. g x ++ ys) (flat_map_same f g xs (λ y at. same y (later_member x xs y at)))
 
 leaves_step : (levels : ℕ) (file : File) (p : ℕ) (children : Option (List ℕ)) → children_in (page_at file p) ≡ children
     → leaves_in (suc levels) file p ≡ leaves_under (leaves_in levels file) p children

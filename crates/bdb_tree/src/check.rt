@@ -11,7 +11,7 @@ use bdb_graph::{Forest, Linked};
 use std::alloc::{AllocError, Global};
 
 /// Notes the faults of the leaves of the trees that the pages of a forest name.
-#[tactic(auto, using(bdb_graph::proofs::HeldLemmas::last_page))]
+#[tactic(auto, using(bdb_format::proofs::FileLemmas::last_page))]
 fn note_forest<F: FaultSink>(
     alloc: Global,
     forest: &Forest<'_>,

@@ -6,8 +6,8 @@ use Rattle.bdb_format.specs.Chains.{chain, chain_in, joined, next_of, piece_in, 
 use Rattle.bdb_format.specs.Contents.{entries_in}
 use Rattle.bdb_format.specs.File.{file_of, header_in, page_at}
 use Rattle.bdb_format.specs.Page.{Content, Inline, Set, Chain, Tree, Unknown, Item, Page, Zero, NoType}
+use Rattle.bdb_format.proofs.ListLemmas.{flat_map_same}
 use Rattle.bdb_stored.specs.Salvage.{follows, is_link, is_overflow, is_row, is_whole, live_value, live_whole, whole_values}
-use Rattle.bdb_tree.proofs.TreeLemmas.{flat_map_same}
 use Rattle.bdb_whole.specs.Guessed.{guessed}
 use Rattle.bdb_whole.specs.Whole.{IsStructured}
 use Rattle.bdb_whole.proofs.PageLemmas.{same_count, seen_alike}

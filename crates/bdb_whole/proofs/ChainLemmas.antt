@@ -2,7 +2,7 @@
 use Rattle.std.proofs.Common.{◌≡◌, ◌⊎◌, ℕ, zero, suc, ◌+◌, ◌≤◌, Bool, true, false, List, [], ◌∷◌, length, arith, refl, sym, ◌∙◌, ap, subst, inl, inr}
 use Rattle.std.specs.Prelude.{◌==◌, ◌&&◌, not, nat_lt, Some, None}
 use Rattle.std.specs.List.{Contains}
-use Rattle.std.proofs.lemmas.Bool.{cases_Bool, cases_eq, eq-eqb, eqb-false, eqb-true, ltb-false, ne_eqb, not-false, or_parts}
+use Rattle.std.proofs.lemmas.Bool.{and_from, cases_Bool, cases_eq, eq-eqb, eqb-false, eqb-true, ltb-false, ne_eqb, not-false, or_parts}
 use Rattle.bdb_format.specs.declared.kinds.Order.{Order}
 use Rattle.bdb_format.specs.declared.references.Reference.{Reference}
 use Rattle.bdb_format.specs.declared.references.Sort.TheVariants.{OverflowNext}
@@ -17,16 +17,16 @@ use Rattle.bdb_format.specs.Verdict.{reference_faults, structure_faults, structu
 use Rattle.bdb_format.proofs.BoolLemmas.{first_or_none}
 use Rattle.bdb_format.proofs.GraphLemmas.{each_fits, typed_page}
 use Rattle.bdb_format.proofs.MemberLemmas.{first_member, in_flat_map, none_passes}
-use Rattle.bdb_format.proofs.ReferenceLemmas.{count_is, forest_names, of_all}
+use Rattle.bdb_format.proofs.ReferenceLemmas.{forest_names, of_all}
 use Rattle.bdb_format.proofs.TypeLemmas.{if_type, of_type}
 use Rattle.bdb_format.proofs.VerdictLemmas.{AllFail, no_rows_at, none_is_first_row}
+use Rattle.bdb_format.proofs.FileLemmas.{count_is, kind_is, last_page, page_is}
 use Rattle.bdb_graph.specs.Fits.{asks_previous}
 use Rattle.bdb_graph.specs.Forest.{AllDistinct, IsWayDown, Names}
 use Rattle.bdb_graph.specs.Linked.{FitsChain, IsForest}
 use Rattle.bdb_graph.proofs.FirstLemmas.{formed_last}
 use Rattle.bdb_graph.proofs.FitLemmas.{zero_type}
 use Rattle.bdb_graph.proofs.ForestLemmas.{no_page_twice_below, sound_graph}
-use Rattle.bdb_graph.proofs.HeldLemmas.{kind_is, last_page, page_is}
 use Rattle.bdb_graph.proofs.ReachLemmas.{AllUpTo, few_distinct}
 use Rattle.bdb_stored.specs.Salvage.{follows, is_link, is_overflow, is_row, is_whole}
 use Rattle.bdb_whole.specs.Whole.{IsStructured}
@@ -133,9 +133,6 @@ next_on_chain image before p sound on more =
 
 -- Rows.
 
-and_both : (a b : Bool) → a ≡ true → b ≡ true → (a && b) ≡ true
-and_both a b first second = rw (first, second) refl
-
 not_zero : (p : ℕ) → 1 ≤ p → not (p == 0) ≡ true
 not_zero p above = ap not (ne_eqb p 0 (λ is. omega arith))
 
@@ -143,18 +140,18 @@ not_zero p above = ap not (ne_eqb p 0 (λ is. omega arith))
 pub linked : (file : File) (test : Page → Bool) (before p : ℕ) → 1 ≤ p → test (page_at file p) ≡ true → (header_in (page_at file p)).previous ≡ before
     → is_link file test before p ≡ true
 linked file test before p above is back =
-    and_both (not (p == 0) && test (page_at file p)) ((header_in (page_at file p)).previous == before)
-    (and_both (not (p == 0)) (test (page_at file p)) (not_zero p above) is)
+    and_from (not (p == 0) && test (page_at file p)) ((header_in (page_at file p)).previous == before)
+    (and_from (not (p == 0)) (test (page_at file p)) (not_zero p above) is)
     (eq-eqb (header_in (page_at file p)).previous before back)
 
 pub follows_last : (file : File) (test : Page → Bool) (before p : ℕ) → is_link file test before p ≡ true → next_of file p ≡ 0
     → follows file test before (p ∷ []) ≡ true
-follows_last file test before p link last = and_both (is_link file test before p) (next_of file p == 0) link (eq-eqb (next_of file p) 0 last)
+follows_last file test before p link last = and_from (is_link file test before p) (next_of file p == 0) link (eq-eqb (next_of file p) 0 last)
 
 pub follows_more : (file : File) (test : Page → Bool) (before p : ℕ) (ps : List ℕ) → is_link file test before p ≡ true → follows file test p ps ≡ true
     → follows file test before (p ∷ ps) ≡ true
 follows_more file test before p [] link rest = absurd cc
-follows_more file test before p (q ∷ ps) link rest = and_both (is_link file test before p) (follows file test p (q ∷ ps)) link rest
+follows_more file test before p (q ∷ ps) link rest = and_from (is_link file test before p) (follows file test p (q ∷ ps)) link rest
 
 -- one turn
 pub turn_ends : (turns : ℕ) (file : File) (p : ℕ) → next_of file p ≡ 0 → chain_in (suc turns) file p ≡ p ∷ []
@@ -234,5 +231,5 @@ pub named_whole : (image : List ℕ) (p head total : ℕ) → IsStructured image
 unfolding is_whole
 named_whole image p head total sound low held fits =
     let file : File = file_of image in
-    and_both (is_row file is_overflow head) (length (joined (pieces_of file head)) == total) (chain_follows image head sound fits)
+    and_from (is_row file is_overflow head) (length (joined (pieces_of file head)) == total) (chain_follows image head sound fits)
     (eq-eqb (length (joined (pieces_of file head))) total (total_is image p head total sound low held))

@@ -7,37 +7,21 @@ use Rattle.bdb_format.specs.declared.kinds.Order.{Order}
 use Rattle.bdb_format.specs.Chains.{joined, pieces_of, value_of}
 use Rattle.bdb_format.specs.File.{File, file_of, page_at, page_bytes}
 use Rattle.bdb_format.specs.HeadOf.{head_of}
-use Rattle.bdb_format.specs.Numbers.{byte_at}
-use Rattle.bdb_format.specs.Page.{Content, Inline, Set, Chain, Tree, Unknown, Item, Listed, Page, Zero, Leaf, PageType, LeafPage}
-use Rattle.bdb_format.specs.Reading.{abstract_page, entries_of, is_zero, leaf_item_at, listed, page_as, page_type}
+use Rattle.bdb_format.specs.Page.{Content, Inline, Set, Chain, Tree, Unknown, Item, Listed, Page, Leaf}
+use Rattle.bdb_format.specs.Reading.{entries_of, leaf_item_at, listed}
 use Rattle.bdb_format.specs.References.{contents_in, is_shared_key, item_at}
 use Rattle.bdb_format.proofs.LeafLemmas.{leaf_item_is, one_offset}
 use Rattle.bdb_format.proofs.PageLemmas.{index_offset, length_items}
 use Rattle.bdb_format.proofs.TargetLemmas.{own_held}
+use Rattle.bdb_format.proofs.FileLemmas.{last_page, page_is}
 use Rattle.bdb_graph.proofs.ChildLemmas.{is_queue_page}
-use Rattle.bdb_graph.proofs.HeldLemmas.{last_page, page_is}
-use Rattle.bdb_overflow.proofs.ContentLemmas.{held_fits}
+use Rattle.bdb_overflow.proofs.ContentLemmas.{held_fits, leaf_of}
 use Rattle.bdb_stored.specs.Salvage.{is_whole, whole_values}
 use Rattle.bdb_tree.proofs.ShapeLemmas.{IsAlone}
 use Rattle.bdb_whole.specs.Whole.{IsStructured}
 use Rattle.bdb_whole.proofs.ChainLemmas.{named_whole}
 
 -- A leaf by its bytes.
-
-leaf_as : (order : Order) (page : List ℕ) (t : PageType) (leaf : Listed Item) → page_as order page t ≡ Leaf leaf
-    → leaf ≡ listed order page (leaf_item_at order page)
-leaf_as order page LeafPage leaf is = cc
-leaf_as order page t leaf is = absurd cc
-
-leaf_of : (order : Order) (page : List ℕ) (leaf : Listed Item) → abstract_page order page ≡ Leaf leaf
-    → leaf ≡ listed order page (leaf_item_at order page)
-unfolding abstract_page
-leaf_of order page leaf is =
-    elim (is_zero page) as (λ zeros. elim zeros [ true ↦ Zero | false ↦ page_as order page (page_type (byte_at page 25)) ] ≡ Leaf leaf
-    → leaf ≡ listed order page (leaf_item_at order page)) [
-      | true ↦ λ same. absurd cc
-      | false ↦ λ same. leaf_as order page (page_type (byte_at page 25)) leaf same
-    ] is
 
 -- a key that is shared is the item of the entry two before
 record IsShared (page : Listed Item) (i : ℕ) : Type 0 where

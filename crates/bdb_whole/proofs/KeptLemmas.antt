@@ -9,7 +9,7 @@ use Rattle.bdb_format.specs.HeadOf.{head_of}
 use Rattle.bdb_format.specs.Lists.{ListKey, BytesKey, NumberKey}
 use Rattle.bdb_format.proofs.ListLemmas.{range_more}
 use Rattle.bdb_format.proofs.MemberLemmas.{of_range}
-use Rattle.bdb_graph.proofs.HeldLemmas.{kind_is}
+use Rattle.bdb_format.proofs.FileLemmas.{kind_is, past_last}
 use Rattle.bdb_stored.specs.Salvage.{is_taken, item_pairs, live_value, live_whole, loose, loose_on, stored, stored_on, stored_pair}
 use Rattle.bdb_stored.proofs.PageLemmas.{count_is}
 use Rattle.bdb_census.specs.Databases.{IsSoundForest, all_lists, by_bytes, by_value, given_on, left_on}
@@ -20,7 +20,7 @@ use Rattle.bdb_census.proofs.RecordLemmas.{records_are_of_databases}
 use Rattle.bdb_whole.specs.Guessed.{guessed}
 use Rattle.bdb_whole.specs.Kept.{SoundFilesAreKept, on_pair, on_record}
 use Rattle.bdb_whole.specs.Whole.{AreBytes, IsStructured}
-use Rattle.bdb_whole.proofs.PageLemmas.{last_there, none_in_file, seen_alike}
+use Rattle.bdb_whole.proofs.PageLemmas.{last_there, seen_alike}
 use Rattle.bdb_whole.proofs.PairLemmas.{live_is, stored_is}
 use Rattle.bdb_whole.proofs.TakenLemmas.{taken_is}
 
@@ -73,14 +73,14 @@ pages_weigh image weight f g sound none same =
 nothing_stored : (image : List ℕ) (p : ℕ) → IsStructured image → (file_of image).last < p → stored_on (guessed image) p ≡ []
 nothing_stored image p sound past =
     ap (flat_map (stored_pair (guessed image)))
-    (seen_alike item_pairs image p sound.forest sound.kind refl ∙ ap item_pairs (none_in_file image p past))
+    (seen_alike item_pairs image p sound.forest sound.kind refl ∙ ap item_pairs (past_last image p past))
 
 nothing_loose : (image : List ℕ) (p : ℕ) → IsStructured image → (file_of image).last < p → loose_on (guessed image) p ≡ []
 unfolding live_whole
 nothing_loose image p sound past =
     let none : live_whole (guessed image) p ≡ [] =
     ap (flat_map (live_value (guessed image)))
-    (seen_alike entries_in image p sound.forest sound.kind refl ∙ ap entries_in (none_in_file image p past)) in
+    (seen_alike entries_in image p sound.forest sound.kind refl ∙ ap entries_in (past_last image p past)) in
     ap (λ values. if is_taken (guessed image) p then [] else values) none ∙ if_same (is_taken (guessed image) p)
   where
     if_same : (b : Bool) → ◌≡◌ {A = List (List ℕ)} (if b then [] else []) []

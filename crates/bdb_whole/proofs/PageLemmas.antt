@@ -1,10 +1,7 @@
 -- The pages of a sound file are those that salvage reads; above the last page it reads none that hold something.
-use Rattle.std.proofs.Common.{◌≡◌, ◌⊎◌, ℕ, ◌+◌, ◌-◌, ◌/◌, ◌<◌, ◌≤◌, true, false, List, [], map, length, arith, sym, ◌∙◌, ap, subst, inl, inr}
+use Rattle.std.proofs.Common.{◌≡◌, ◌⊎◌, ℕ, ◌+◌, ◌-◌, ◌/◌, ◌<◌, ◌≤◌, true, false, List, [], length, arith, sym, ◌∙◌, ap, subst, inl, inr}
 use Rattle.std.specs.Prelude.{◌==◌, Option, None}
-use Rattle.std.specs.List.{range_with_len}
 use Rattle.std.proofs.lemmas.Bool.{cases_Bool, cases_lt, eqb-true, not-false}
-use Rattle.std.proofs.lemmas.List.{get_or_past}
-use Rattle.std.proofs.lemmas.List.FromFn.{length-map-range_with_len}
 use Rattle.bdb_format.specs.declared.kinds.Order.{Order}
 use Rattle.bdb_format.specs.declared.metadata.FileKind.TheVariants.{Queue}
 use Rattle.bdb_format.specs.declared.metadata.Head.{Head}
@@ -18,12 +15,11 @@ use Rattle.bdb_format.specs.Table.{first_row}
 use Rattle.bdb_format.specs.Verdict.{head_faults, holding, tail_faults, tail_rows}
 use Rattle.bdb_format.proofs.VerdictLemmas.{all_fail, no_codes_at, none_is_first_row, none_within, or_else_none}
 use Rattle.bdb_format.proofs.GraphLemmas.{zero_page}
-use Rattle.bdb_format.proofs.ReferenceLemmas.{count_is as pages_are}
+use Rattle.bdb_format.proofs.FileLemmas.{past_last, count_is as pages_are, last_page, page_is as file_page}
 use Rattle.bdb_graph.specs.Linked.{IsForest}
 use Rattle.bdb_graph.proofs.CodeLemmas.{code_by}
 use Rattle.bdb_graph.proofs.FirstLemmas.{formed_last, formed_page}
-use Rattle.bdb_graph.proofs.HeldLemmas.{identity_none, last_page}
-use Rattle.bdb_graph.proofs.HeldLemmas.{page_is as file_page}
+use Rattle.bdb_graph.proofs.HeldLemmas.{identity_none}
 use Rattle.bdb_graph.proofs.LinkedLemmas.{forest_code}
 use Rattle.bdb_overflow.proofs.LinkedLemmas.{count_is}
 use Rattle.bdb_stored.specs.Salvage.{salvaged_page, unless_code}
@@ -97,13 +93,6 @@ salvaged_zero : (order : Order) (page : List ℕ) → is_zero page ≡ true → 
 salvaged_zero order page zeros =
     salvaged_same order page (zero_code order (four_at order page 8) page zeros) ∙ zero_page order page zeros
 
-pub none_in_file : (image : List ℕ) (p : ℕ) → (file_of image).last < p → page_at (file_of image) p ≡ NoType
-unfolding file_of
-none_in_file image p past =
-    let page : ℕ → Page = λ q. abstract_page (head_of image).order (page_bytes (head_of image) image q) in
-    let pages : ℕ = (head_of image).last + 1 in
-    get_or_past (map page (range_with_len 0 pages)) p NoType (omega (arith, past, length-map-range_with_len page 0 pages))
-
 above : (image : List ℕ) (p : ℕ) → IsForest image → (file_of image).last < p
     → (page_at (guessed image) p ≡ Zero) ⊎ (page_at (guessed image) p ≡ NoType)
 above image p forest past =
@@ -123,7 +112,7 @@ seen_alike f image p forest kind alike =
     elim (cases_lt (file_of image).last p) [
       | inr low ↦ ap f (same_page image p forest kind low)
       | inl past ↦
-          let nothing : f (page_at (file_of image) p) ≡ f NoType = ap f (none_in_file image p past) in
+          let nothing : f (page_at (file_of image) p) ≡ f NoType = ap f (past_last image p past) in
           elim (above image p forest past) [ inl zeros ↦ ap f zeros ∙ (alike ∙ sym nothing) | inr none ↦ ap f none ∙ sym nothing ]
     ]
 

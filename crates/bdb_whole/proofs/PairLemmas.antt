@@ -11,10 +11,11 @@ use Rattle.bdb_format.specs.Leaves.{leaves}
 use Rattle.bdb_format.specs.Page.{Content, Inline, Set, Chain, Tree, Unknown, Item, Listed, Page, Hash, Leaf, RecnoLeaf, DupLeaf}
 use Rattle.bdb_format.specs.References.{is_shared_key, item_at, no_item}
 use Rattle.bdb_format.proofs.MemberLemmas.{first_member, in_map, later_member, member_cases, no_member, of_range}
+use Rattle.bdb_format.proofs.ListLemmas.{flat_map_same}
 use Rattle.bdb_graph.specs.Linked.{FitsDupRoot}
 use Rattle.bdb_stored.specs.Salvage.{item_pairs, live_value, live_whole, pair_in, paired_items, stored_on, stored_pair, whole_data, whole_values}
 use Rattle.bdb_tree.proofs.ShapeLemmas.{AreAlone, IsAlone, IsFormedPage, SetsAreData, formed_at}
-use Rattle.bdb_tree.proofs.TreeLemmas.{flat_map_same, hash_dup_root, leaf_dup_root, leaf_low, root_is_tree}
+use Rattle.bdb_tree.proofs.TreeLemmas.{hash_dup_root, leaf_dup_root, leaf_low, root_is_tree}
 use Rattle.bdb_census.specs.Databases.{given_on, given_pair}
 use Rattle.bdb_whole.specs.Guessed.{guessed}
 use Rattle.bdb_whole.specs.Whole.{AreBytes, IsStructured}

@@ -22,8 +22,8 @@ use Rattle.bdb_format.proofs.BoolLemmas.{second_false}
 use Rattle.bdb_format.proofs.MemberLemmas.{first_member, later_member, member_cases, no_member, none_passes}
 use Rattle.bdb_format.proofs.TypeLemmas.{of_type}
 use Rattle.bdb_format.proofs.VerdictLemmas.{AllFail, no_rows_at}
+use Rattle.bdb_format.proofs.FileLemmas.{last_page, page_is}
 use Rattle.bdb_graph.specs.Linked.{FitsDupRoot, FitsLeafPage, IsForest}
-use Rattle.bdb_graph.proofs.HeldLemmas.{last_page, page_is}
 use Rattle.bdb_stored.specs.Salvage.{down, down_by, down_in, fits_below, follows, is_like, is_row, row_from, set_start, whole_set}
 use Rattle.bdb_stored.proofs.PageLemmas.{last_is}
 use Rattle.bdb_tree.specs.Links.{pages_from}
@@ -31,6 +31,7 @@ use Rattle.bdb_tree.specs.Trees.{IsTreePage}
 use Rattle.bdb_tree.proofs.BelongLemmas.{leaf_above, tree_above}
 use Rattle.bdb_tree.proofs.LinkLemmas.{all_pages}
 use Rattle.bdb_tree.proofs.TreeLemmas.{IsChild, child_is, dup_leaf_page, inner_type, leaf_fits, leaf_low, leaves_of_inner, leaves_of_leaf, level, link_is_right, place_of_root, recno_leaf, recno_leaf_page, root_is_tree, tree_cases, tree_inside, tree_level}
+use Rattle.bdb_tree.proofs.NotedLemmas.{place_leaf}
 use Rattle.bdb_census.proofs.LeafLemmas.{keyed_leaf}
 use Rattle.bdb_whole.specs.Guessed.{guessed}
 use Rattle.bdb_whole.specs.Whole.{AreBytes, IsStructured}
@@ -315,7 +316,7 @@ set_whole image root sound are fits =
     let here : Contains (places_from DuplicateRoot 0 (leaves file root)) place =
     subst (λ ls. Contains (places_from DuplicateRoot 0 ls) place) (sym found.leaves_are) held in
     link_is_right file place sound.structure
-    (leaf_low image root place.leaf sound.forest tree (leaf_of_place DuplicateRoot 0 (leaves file root) place here))
+    (leaf_low image root place.leaf sound.forest tree (place_leaf DuplicateRoot 0 (leaves file root) place here))
     (place_of_root file DuplicateRoot root place refl fits here)) in
     let next : chain file first ≡ leaves file root = next_leaves image root first found.others sound fits found.leaves_are in
     let row : is_row (guessed image) (is_like (page_at (guessed image) first)) first ≡ true =
@@ -328,15 +329,6 @@ set_whole image root sound are fits =
       start = ap (row_from (guessed image)) found.is ∙ ap (λ b. if b then first ∷ [] else []) row;
       row = same_chain image first sound ∙ next;
     }
-  where
-    leaf_of_place : (sort : Sort) (before : ℕ) (ps : List ℕ) (place : LeafPlace) → Contains (places_from sort before ps) place
-        → Contains ps place.leaf
-    leaf_of_place sort before [] place at = absurd (no_member [] place refl at)
-    leaf_of_place sort before (p ∷ ps) place at =
-        elim (member_cases _ (places_from sort p ps) place at) [
-          | inl here ↦ subst (Contains (p ∷ ps)) (ap (λ (pl : LeafPlace). pl.leaf) here) (first_member p ps)
-          | inr later ↦ later_member p ps place.leaf (leaf_of_place sort p ps place later)
-        ]
 
 -- the leaves that salvage finds of a set are those that it has
 pub whole_set_is : (image : List ℕ) (root : ℕ) → IsStructured image → AreBytes image → FitsDupRoot (file_of image) root

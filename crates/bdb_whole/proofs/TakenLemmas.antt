@@ -11,6 +11,7 @@ use Rattle.bdb_format.specs.Page.{Content, Tree, Item, Page, Leaf, Hash}
 use Rattle.bdb_format.specs.References.{no_item}
 use Rattle.bdb_format.proofs.ListLemmas.{any_member, only_member, passes_here}
 use Rattle.bdb_format.proofs.MemberLemmas.{first_member, in_flat_map, in_map, in_range, no_member, of_flat_map, of_map, of_range}
+use Rattle.bdb_format.proofs.FileLemmas.{past_last}
 use Rattle.bdb_graph.specs.Linked.{FitsDupRoot}
 use Rattle.bdb_stored.specs.Salvage.{ItemPair, is_taken, item_pairs, pair_in, pair_start, paired_items, set_start, set_starts, start_in, whole_values}
 use Rattle.bdb_stored.proofs.PageLemmas.{count_is}
@@ -19,7 +20,7 @@ use Rattle.bdb_census.specs.Databases.{IsOfSet, IsOfSets, IsSetOfPair}
 use Rattle.bdb_census.proofs.SetLemmas.{sets_are_of_pairs}
 use Rattle.bdb_whole.specs.Guessed.{guessed}
 use Rattle.bdb_whole.specs.Whole.{AreBytes, IsStructured}
-use Rattle.bdb_whole.proofs.PageLemmas.{last_there, none_in_file, same_page, seen_alike}
+use Rattle.bdb_whole.proofs.PageLemmas.{last_there, same_page, seen_alike}
 use Rattle.bdb_whole.proofs.PairLemmas.{HasPairs, has_pairs, key_whole}
 use Rattle.bdb_whole.proofs.SetLemmas.{IsWholeSet, set_whole}
 
@@ -128,7 +129,7 @@ taken_only image q sound are is =
     inside p {i} below =
         elim (cases_lt (file_of image).last p) [
           | inr low ↦ low
-          | inl past ↦ absurd (let none : i < 0 = subst (λ pg. i < length (paired_items pg) / 2) (none_in_file image p past) below in omega arith)
+          | inl past ↦ absurd (let none : i < 0 = subst (λ pg. i < length (paired_items pg) / 2) (past_last image p past) below in omega arith)
         ]
 
 pub taken_is : (image : List ℕ) → IsStructured image → AreBytes image → IsOfSets (file_of image) (is_taken (guessed image))

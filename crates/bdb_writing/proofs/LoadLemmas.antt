@@ -1,18 +1,16 @@
 -- From the sections of a text to its answer.
-use Rattle.std.proofs.Common.{◌≡◌, ℕ, true, List, ap, inl, inr, refl, subst, sym, ◌∙◌}
+use Rattle.std.proofs.Common.{◌≡◌, ℕ, true, List, ap, refl, subst, sym, ◌∙◌}
 use Rattle.std.specs.Prelude.{Option, Some, None, Result, Ok, Err, MatchResult, is_none, is_some}
 use Rattle.bdb_model.specs.declared.faults.TextFault.{TextFault}
 use Rattle.bdb_model.specs.declared.sections.Section.{Section}
 use Rattle.bdb_model.specs.Answers.{Answer, done, told}
 use Rattle.bdb_model.specs.Reasons.{text_fault}
 use Rattle.bdb_model.specs.Sections.{Reads}
-use Rattle.bdb_settle.specs.declared.load_error.LoadError.{LoadError}
 use Rattle.bdb_text.proofs.ReadLemmas.{reads_or_faults}
-use Rattle.bdb_load.specs.Builds.{Builds}
-use Rattle.bdb_load.specs.Loading.{IsLoadRefusal, loading_error}
+use Rattle.bdb_load.specs.Loading.{loading_error}
 use Rattle.bdb_writing.specs.declared.refusal.Refusal.{Refusal}
 use Rattle.bdb_writing.specs.Lines.{reason_line}
-use Rattle.bdb_writing.specs.Loads.{IsAnswerBy, IsErrorAnswer, IsLoadAnswer, IsTextAnswer}
+use Rattle.bdb_writing.specs.Loads.{IsAnswerBy, IsLoadAnswer, IsTextAnswer}
 use Rattle.bdb_writing.specs.Refusals.{IsRefusal, Says}
 use Rattle.bdb_writing.proofs.RefusalLemmas.{says_allowed, still_refused}
 
@@ -21,21 +19,6 @@ pub fault_refused : (limit : ℕ) (text : List ℕ) (fault : TextFault) (refusal
 fault_refused limit text fault refusal is says =
     says_allowed (IsTextAnswer limit text) (told 8 (reason_line fault)) refusal says
     (subst (λ found. IsAnswerBy limit found text (told 8 (reason_line fault))) (sym is) refl)
-
--- an image that was built
-pub image_answers : (limit : ℕ) (sections : List Section) (image : List ℕ) → loading_error limit sections ≡ None → Builds sections image
-    → IsLoadAnswer limit (loading_error limit sections) sections (done image)
-image_answers limit sections image none built =
-    subst (λ found. IsLoadAnswer limit found sections (done image)) (sym none) (record { image = image; built = built; answer_is = refl })
-
--- a load error that was told
-pub error_refused : (limit : ℕ) (sections : List Section) (error : LoadError) (refusal : Refusal) → IsLoadRefusal (loading_error limit sections) error → IsRefusal (IsErrorAnswer limit error) refusal
-    → IsRefusal (IsLoadAnswer limit (loading_error limit sections) sections) refusal
-error_refused limit sections error refusal (inl memory) refused =
-    still_refused (IsErrorAnswer limit error) (IsLoadAnswer limit (loading_error limit sections) sections) refusal
-    (λ answer is. absurd (subst (λ e. IsErrorAnswer limit e answer) memory is)) refused
-error_refused limit sections error refusal (inr is) refused =
-    subst (λ found. IsRefusal (IsLoadAnswer limit found sections) refusal) (sym is) refused
 
 -- a text that is read has no fault
 no_fault : (fault : Option TextFault) → is_none fault ≡ true → fault ≡ None

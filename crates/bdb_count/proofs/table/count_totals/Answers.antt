@@ -1,5 +1,5 @@
 use Rattle.std.proofs.Common.{arith, length}
-use Rattle.bdb_graph.proofs.FormedLemmas.{size_bounds}
+use Rattle.bdb_format.proofs.SizeLemmas.{size_bounds}
 use Rattle.bdb_count.proofs.TableLemmas.{next_counted}
 use Rattle.bdb_count.proofs.table.count_totals.Goals as goal
 

@@ -1,10 +1,10 @@
 use Rattle.std.proofs.Common.{◌≡◌, ◌∙◌, ap, arith, sym}
 use Rattle.bdb_format.specs.declared.metadata.Head.{Head}
 use Rattle.bdb_format.specs.File.{file_of}
+use Rattle.bdb_format.proofs.FileLemmas.{last_page}
 use Rattle.std.specs.Option.{option_map}
 use Rattle.bdb_faults.specs.Rows.{reference_code}
 use Rattle.bdb_graph.proofs.FitLemmas.{names_page}
-use Rattle.bdb_graph.proofs.HeldLemmas.{last_page}
 use Rattle.bdb_graph.proofs.fits.misfit.Goals as goal
 
 pub returns : goal.returns

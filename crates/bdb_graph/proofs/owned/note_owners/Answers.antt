@@ -2,7 +2,7 @@ use Rattle.std.proofs.Common.{◌≡◌, ◌∙◌, arith, ap, sym}
 use Rattle.bdb_format.specs.File.{file_of}
 use Rattle.bdb_format.specs.Verdict.{holding, ownership_rows}
 use Rattle.bdb_format.specs.declared.metadata.Head.{Head}
-use Rattle.bdb_graph.proofs.HeldLemmas.{last_page}
+use Rattle.bdb_format.proofs.FileLemmas.{last_page}
 use Rattle.bdb_graph.proofs.NotedLemmas.{none_noted, owners_noted, page_noted}
 use Rattle.bdb_graph.proofs.owned.note_owners.Goals as goal
 

@@ -3,7 +3,7 @@ use Rattle.bdb_faults.proofs.SinkLemmas.{notes_none}
 use Rattle.bdb_format.specs.declared.metadata.Head.{Head}
 use Rattle.bdb_format.specs.File.{file_of}
 use Rattle.bdb_format.specs.Verdict.{holding, reach_rows}
-use Rattle.bdb_graph.proofs.HeldLemmas.{last_page}
+use Rattle.bdb_format.proofs.FileLemmas.{last_page}
 use Rattle.bdb_graph.proofs.MarkLemmas.{none_marked}
 use Rattle.bdb_graph.proofs.NotedLemmas.{page_noted, reach_noted, reached_noted}
 use Rattle.bdb_graph.proofs.TallyLemmas.{written_back}

@@ -1,6 +1,6 @@
 use Rattle.std.proofs.Common.{◌*◌, arith, ap, sym}
 use Rattle.bdb_format.specs.declared.metadata.Head.{Head}
-use Rattle.bdb_graph.proofs.HeldLemmas.{last_page}
+use Rattle.bdb_format.proofs.FileLemmas.{last_page}
 use Rattle.bdb_overflow.specs.Datum.{datum_seen}
 use Rattle.bdb_hash.proofs.PairLemmas.{item_fits}
 use Rattle.bdb_hash.proofs.PlaceLemmas.{key_here, no_page}

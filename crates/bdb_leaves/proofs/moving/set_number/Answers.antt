@@ -1,5 +1,5 @@
 use Rattle.std.proofs.Common.{arith}
-use Rattle.bdb_graph.proofs.FormedLemmas.{size_bounds}
+use Rattle.bdb_format.proofs.SizeLemmas.{size_bounds}
 use Rattle.bdb_leaves.proofs.LeafLemmas.{field_written}
 use Rattle.bdb_leaves.proofs.moving.set_number.Goals as goal
 

@@ -1,10 +1,10 @@
 use Rattle.std.proofs.Common.{◌≡◌, ℕ, ◌-◌, ◌^◌, ◌<◌, length, subst, drop, arith, refl, sym, ◌∙◌, ap, length-drop}
 use Rattle.std.specs.Prelude.{◌/◌}
 use Rattle.std.proofs.lemmas.Bool.{eqb-false, eqb-true}
-use Rattle.std.proofs.lemmas.List.{take_all}
-use Rattle.bdb_graph.proofs.FormedLemmas.{size_bounds}
+use Rattle.std.proofs.lemmas.List.{nil_from_length, take_all}
+use Rattle.bdb_format.proofs.SizeLemmas.{size_bounds}
 use Rattle.bdb_pack.specs.ValueLoop.{IsBegunChain}
-use Rattle.bdb_pack.proofs.ValueLemmas.{begun_chain, next_piece, no_rest, page_left, whole_chain}
+use Rattle.bdb_pack.proofs.ValueLemmas.{begun_chain, next_piece, page_left, whole_chain}
 use Rattle.bdb_pack.proofs.values.push_value.Goals as goal
 
 pub loop-rest-init : goal.loop-rest-init
@@ -32,7 +32,7 @@ loop-rest-preserved c =
 
 pub returns : goal.returns
 returns c =
-    let none = no_rest c.loop-rest.rest.now (eqb-true (length c.loop-rest.rest.now) 0 (sym c.is_empty.ensures ∙ c.loop-rest-test.false)) in (
+    let none = nil_from_length c.loop-rest.rest.now (eqb-true (length c.loop-rest.rest.now) 0 (sym c.is_empty.ensures ∙ c.loop-rest-test.false)) in (
       omega (arith, c.if-value-size.false, ap (λ s. s / 8) c.size.ensures.size),
       refl,
       whole_chain c.args.pages.now c.loop-rest.pages c.args.value.now c.count-head.result c.loop-rest.previous c.loop-rest.rest.now

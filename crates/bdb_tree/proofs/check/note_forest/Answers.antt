@@ -5,7 +5,7 @@ use Rattle.bdb_faults.proofs.SinkLemmas.{notes_more, notes_same}
 use Rattle.bdb_format.specs.declared.metadata.Head.{Head}
 use Rattle.bdb_format.specs.File.{File, file_of}
 use Rattle.bdb_format.specs.Verdict.{tree_faults}
-use Rattle.bdb_graph.proofs.HeldLemmas.{last_page}
+use Rattle.bdb_format.proofs.FileLemmas.{last_page}
 use Rattle.bdb_tree.specs.Noted.{held_faults}
 use Rattle.bdb_tree.proofs.NotedLemmas.{all_noted, noted}
 use Rattle.bdb_tree.proofs.check.note_forest.Goals as goal

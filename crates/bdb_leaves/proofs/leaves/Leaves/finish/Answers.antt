@@ -1,16 +1,17 @@
 use Rattle.std.proofs.Common.{◌≡◌, ◌≤◌, [], ◌∷◌, ◌++◌, map, length, arith, sym, ap, inl, inr}
 use Rattle.std.specs.List.{flat_map}
 use Rattle.std.proofs.lemmas.Bool.{eqb-false, eqb-true}
+use Rattle.std.proofs.lemmas.List.{nil_from_length}
 use Rattle.bdb_leaves.specs.Leaves.{first_of}
 use Rattle.bdb_leaves.specs.Placed.{entries_of}
 use Rattle.bdb_leaves.proofs.FinishedLemmas.{leaves_rooted_on, moved_children, moved_linked, moved_there, several_children, some_of}
-use Rattle.bdb_leaves.proofs.NodesLemmas.{last_has_unit, leaf_rooted, none_of}
+use Rattle.bdb_leaves.proofs.NodesLemmas.{last_has_unit, leaf_rooted}
 use Rattle.bdb_leaves.proofs.leaves.Leaves.finish.Goals as goal
 
 pub returns-then-is_empty : goal.returns-then-is_empty
 returns-then-is_empty c = λ before closed units filled some.
     let none : c.args.self.closed.items ≡ [] =
-    none_of c.args.self.closed.items (omega (arith, c.args.self.closed.ok, eqb-true c.args.self.closed.len 0 (sym c.if-is_empty.ensures))) in (
+    nil_from_length c.args.self.closed.items (omega (arith, c.args.self.closed.ok, eqb-true c.args.self.closed.len 0 (sym c.if-is_empty.ensures))) in (
       sym (ap (λ ns. first_of ns c.args.self.last) none),
       inl (leaf_rooted c.args.self c.args.pages.now c.args.counted before closed units none c.requires.whole filled),
     )

@@ -1,6 +1,6 @@
 use Rattle.std.proofs.Common.{rules, ◌≡◌, ◌+◌, ap, map, length, arith}
 use Rattle.std.specs.Prelude.{Err}
-use Rattle.std.specs.List.{enumerate_from, flat_map}
+use Rattle.std.specs.List.{enumerate_from}
 use Rattle.bdb_printing.specs.Printers.{pair_text}
 use Rattle.bdb_printing.specs.SalvageText.{numbered_record}
 use Rattle.bdb_printing.proofs.PrinterLemmas.{item_added, item_cut}

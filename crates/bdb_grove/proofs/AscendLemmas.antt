@@ -1,12 +1,15 @@
 -- Numbers that ascend.
 use Rattle.std.proofs.Common.{ℕ, suc, zero, ◌+◌, ◌<◌, ◌≤◌, List, [], ◌∷◌, ◌++◌, arith}
 use Rattle.std.specs.List.{range_with_len}
-use Rattle.bdb_grove.specs.Leaves.{Ascend}
-use Rattle.bdb_buckets.specs.Tables.{AscendIn}
+use Rattle.bdb_grove.specs.Leaves.{Ascend, AscendIn}
 
 pub ascend_from : (low lower beyond : ℕ) (xs : List ℕ) → lower ≤ low → AscendIn low beyond xs → AscendIn lower beyond xs
 ascend_from low lower beyond [] less is = omega (arith, less, is)
 ascend_from low lower beyond (x ∷ xs) less (up, is) = (omega (arith, less, up), is)
+
+pub ascend_on : (low beyond further : ℕ) (xs : List ℕ) → beyond ≤ further → AscendIn low beyond xs → AscendIn low further xs
+ascend_on low beyond further [] more is = omega (arith, more, is)
+ascend_on low beyond further (x ∷ xs) more (up, is) = (up, ascend_on (x + 1) beyond further xs more is)
 
 pub ascend_bounds : (low beyond : ℕ) (xs : List ℕ) → AscendIn low beyond xs → low ≤ beyond
 ascend_bounds low beyond [] is = is
