@@ -1,10 +1,15 @@
 #!/bin/sh
 # install.sh PREFIX: puts the built program in PREFIX/bin and its manual page in PREFIX/share/man/man1.
 
-if [ $# -ne 1 ] || [ -z "$1" ]; then
+usage() {
     echo "usage: tools/install.sh PREFIX" >&2
     exit 2
-fi
+}
+
+[ $# -eq 1 ] || usage
+case $1 in
+'' | -*) usage ;;
+esac
 top=$(dirname "$(dirname "$(readlink -f "$0")")")
 program=$top/crates/bdbtool/out/bdbtool
 if ! [ -x "$program" ]; then

@@ -1,6 +1,6 @@
 -- The image of a table.
 use Rattle.std.proofs.Common.{◌≡◌, ℕ, ◌+◌, ◌-◌, ◌*◌, ◌<◌, ◌≤◌, ◌^◌, Bool, true, false, cond, List, [], ◌∷◌, length, take, None}
-use Rattle.std.proofs.Common.{arith, refl, sym, ◌∙◌, ap}
+use Rattle.std.proofs.Common.{arith, refl, sym, ◌∙◌, ap, subst}
 use Rattle.bdb_format.specs.declared.kinds.Kind.TheVariants.{Hash as HashKind}
 use Rattle.bdb_format.specs.declared.kinds.Order.{Order}
 use Rattle.bdb_format.specs.declared.metadata.FileKind.TheVariants.{Hash}
@@ -23,7 +23,7 @@ use Rattle.bdb_pack.specs.Built.{AreWhole, Built, bytes_of, joined_pages, with_z
 use Rattle.bdb_pack.proofs.CutLemmas.{written_whole}
 use Rattle.bdb_join.specs.Alone.{IsSoundAlone}
 use Rattle.bdb_join.specs.Written.{AreLegal}
-use Rattle.bdb_buckets.specs.Tables.{table_meta}
+use Rattle.bdb_buckets.specs.Tables.{HasUnsortedBuckets, table_meta}
 use Rattle.bdb_mkhash.specs.Buckets.{table_bits, table_size, table_units}
 use Rattle.bdb_mkhash.specs.Table.{IsTableBuilt}
 use Rattle.bdb_alone.specs.Settled.{file_settings, own_settings}
@@ -73,11 +73,12 @@ pub record IsTableFiled (settings : Settings) (list : List Pair) (empty added bu
   pub fields : hash_fields settings.order page ≡ meta
   pub image_is : image ≡ joined_pages (written_over built 0 page).pages
 
--- then the image is that of the table
+-- then the image is that of the table, whose buckets are unsorted
 pub table_filed : (settings : Settings) (list : List Pair) (empty added built : Built) (meta : HashMeta) (count elements : ℕ)
     (lent page image : List ℕ) → IsTableFiled settings list empty added built meta count elements lent page image → IsTableImage settings list image
 table_filed settings list empty added built meta count elements lent page image is =
     record {
+    is = record {
       sound = sound.verdict;
       size = image_length built Hash page image under ∙ (ap (λ n. n * built.size) pages ∙ ap (λ n. (1 + table_pages settings list) * n) size);
       first_is = ap (λ n. take n image) (sym size) ∙ (image_first built Hash page image under ∙ first);
@@ -89,6 +90,8 @@ table_filed settings list empty added built meta count elements lent page image 
           ∙ (says_settings settings 1 (table_bits settings.page_size (table_units list)) is.both
           ∙ (ap (λ k. own_settings k settings.page_size settings.order settings) (sym is.kind) ∙ sym is.own))));
       list = ap (λ m. list_of (file_of image) (HashFields m)) (sym meta_is) ∙ sound.list;
+    };
+    unsorted = subst (HasUnsortedBuckets (file_of image)) meta_is both.1;
     }
   where
     one : length added.pages ≡ 1
@@ -154,8 +157,11 @@ table_filed settings list empty added built meta count elements lent page image 
     under : IsUnderMeta built Hash page image
     under = under_table built page elements meta image written
 
+    both : IsSoundAlone image (table_part built meta (listed list)) × HasUnsortedBuckets (file_of image) meta
+    both = written_tables_are_sound settings added built (table_units list) (listed list) meta elements page image one is.table written
+
     sound : IsSoundAlone image (table_part built meta (listed list))
-    sound = written_tables_are_sound settings added built (table_units list) (listed list) meta elements page image one is.table written
+    sound = both.0
 
     last : length built.pages - 1 ≡ table_pages settings list
     last = omega (arith, pages)

@@ -13,7 +13,7 @@ use Rattle.bdb_format.specs.Databases.{databases, settings_of}
 use Rattle.bdb_format.specs.Verdict.{verdict_of}
 use Rattle.bdb_model.specs.declared.list.Pair.{Pair}
 use Rattle.bdb_model.specs.Pairs.{listed}
-use Rattle.bdb_buckets.specs.Tables.{table_meta}
+use Rattle.bdb_buckets.specs.Tables.{HasUnsortedBuckets, table_meta}
 use Rattle.bdb_mkhash.specs.Buckets.{table_bits, table_size, table_units}
 use Rattle.bdb_mkqueue.specs.Layout.{queue_meta, queue_size}
 
@@ -50,7 +50,7 @@ abbrev pub table_first : Settings → List Pair → List ℕ
 table_first settings pairs =
     table_bytes settings.order settings.page_size 0 (table_pages settings pairs) (length pairs) (table_fields settings pairs)
 
--- the image of a hash with these settings and this list
-abbrev pub IsTableImage : Settings → List Pair → List ℕ → Type 0
-IsTableImage settings pairs image =
-    IsImageOf settings pairs (1 + table_pages settings pairs) (table_first settings pairs) (HashFields (table_fields settings pairs)) image
+-- the image of a hash with these settings and this list, whose buckets are unsorted
+pub record IsTableImage (settings : Settings) (pairs : List Pair) (image : List ℕ) : Type 0 where
+  pub is : IsImageOf settings pairs (1 + table_pages settings pairs) (table_first settings pairs) (HashFields (table_fields settings pairs)) image
+  pub unsorted : HasUnsortedBuckets (file_of image) (table_fields settings pairs)

@@ -4,3 +4,4 @@ pub mod DealLemmas
 pub mod StoredLemmas
 pub mod ListLemmas
 pub mod TableLemmas
+pub mod UnsortedLemmas

@@ -98,7 +98,7 @@ named g p previous next contents r forest is fit at =
 
 -- a page that may be the next of another one
 pub record IsNextOf (g : File) (p next : ℕ) : Type 0 where
-  pub type : type_in (page_at g next) ≡ Some 13
+  pub type : type_in (page_at g next) ≡ Some 2
   pub previous : (header_in (page_at g next)).previous ≡ p
 
 pub is_next_of : (g : File) (p q next : ℕ) (contents : List Content) → IsHashIn g q p next contents → IsNextOf g p q

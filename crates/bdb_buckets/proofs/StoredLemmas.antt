@@ -103,17 +103,17 @@ read_stored g sorted p first beyond (unit ∷ units) (here, rest) = (
 
 -- One bucket.
 
-chain_more : (g : File) (turns p next : ℕ) → next_of g p ≡ next → (next ≡ 0 → ⊥) → chain_in (suc turns) g p ≡ p ∷ chain_in turns g next
+pub chain_more : (g : File) (turns p next : ℕ) → next_of g p ≡ next → (next ≡ 0 → ⊥) → chain_in (suc turns) g p ≡ p ∷ chain_in turns g next
 unfolding chain_in
 chain_more g turns p next is some =
     ap (λ n. p ∷ elim (n == 0) [ true ↦ [] | false ↦ chain_in turns g n ]) is
     ∙ ap (λ b. p ∷ elim b [ true ↦ [] | false ↦ chain_in turns g next ]) (ne_eqb next 0 some)
 
-chain_end : (g : File) (turns p : ℕ) → next_of g p ≡ 0 → chain_in (suc turns) g p ≡ p ∷ []
+pub chain_end : (g : File) (turns p : ℕ) → next_of g p ≡ 0 → chain_in (suc turns) g p ≡ p ∷ []
 unfolding chain_in
 chain_end g turns p is = ap (λ n. p ∷ elim (n == 0) [ true ↦ [] | false ↦ chain_in turns g n ]) is
 
-next_is : (g : File) (p previous next : ℕ) (units : List PlacedUnit) → IsHashIn g p previous next (contents_on units) → next_of g p ≡ next
+pub next_is : (g : File) (p previous next : ℕ) (units : List PlacedUnit) → IsHashIn g p previous next (contents_on units) → next_of g p ≡ next
 next_is g p previous next units is = ap (λ page. (header_in page).next) is.is ∙ is.next_is
 
 -- the pages of a bucket, in so many turns, have its keys

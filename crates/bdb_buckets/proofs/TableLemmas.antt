@@ -59,7 +59,7 @@ pub group_low : (bits b : ℕ) → bits ≤ 31 → b < 2 ^ bits → group b ≤ 
 unfolding group
 group_low bits b few low = least_passing (λ g. nat_lt b (2 ^ g)) 0 33 33 bits refl (omega arith) (lt-ltb b (2 ^ bits) low)
 
-first_pages : (settings : Settings) (first bits b : ℕ) → bits ≤ 31 → b < 2 ^ bits → first_page b (table_meta settings first bits).spares ≡ first + b
+pub first_pages : (settings : Settings) (first bits b : ℕ) → bits ≤ 31 → b < 2 ^ bits → first_page b (table_meta settings first bits).spares ≡ first + b
 first_pages settings first bits b few low =
     let g : ℕ = group b in
     let under : g ≤ bits = group_low bits b few low in

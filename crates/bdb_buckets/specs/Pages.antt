@@ -7,11 +7,11 @@ use Rattle.bdb_format.specs.File.{File, page_at}
 abbrev pub hash_item : Content → Item
 hash_item content = record { content = content; deleted = false }
 
--- A page of a file is one of a table with these items, between two others of its bucket.
+-- A page of a file is one of a table with these items, between two others of its bucket. Its type says that its keys are in no order.
 pub record IsHashIn (g : File) (p previous next : ℕ) (contents : List Content) : Type 0 where
   pub page : Listed Item
   pub is : page_at g p ≡ Hash page
-  pub type_is : page.header.page_type ≡ 13
+  pub type_is : page.header.page_type ≡ 2
   pub previous_is : page.header.previous ≡ previous
   pub next_is : page.header.next ≡ next
   pub items : page.items ≡ map hash_item contents

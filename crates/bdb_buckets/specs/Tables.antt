@@ -1,16 +1,16 @@
 -- Tables in a file: keys with their data on the pages of buckets, and the part of a database that they are.
 -- Source: docs/FORMAT.md, "Built tables", "Hash formulas" and "Stage 8, contents".
-use Rattle.std.specs.Prelude.{◌≡◌, ℕ, ◌+◌, ◌-◌, ◌/◌, ◌^◌, ◌≤◌, ◌==◌, if◌then◌else◌, Bool, true, false, List, [], ◌∷◌, ◌++◌, length, map, replicate}
-use Rattle.std.specs.List.{All, filter, flat_map, range_with_len}
+use Rattle.std.specs.Prelude.{◌≡◌, ℕ, ◌+◌, ◌-◌, ◌/◌, ◌^◌, ◌≤◌, ◌==◌, if◌then◌else◌, Bool, true, false, List, [], ◌∷◌, ◌++◌, length, map, replicate, Some}
+use Rattle.std.specs.List.{All, Contains, filter, flat_map, range_with_len}
 use Rattle.bdb_format.specs.declared.metadata.HashMeta.{HashMeta}
 use Rattle.bdb_format.specs.declared.settings.Settings.{Settings}
 use Rattle.bdb_format.specs.Chains.{value_of}
-use Rattle.bdb_format.specs.Contents.{data_of}
+use Rattle.bdb_format.specs.Contents.{bucket_pages, data_of}
 use Rattle.bdb_format.specs.ContentRows.{ascends, is_set, is_wrong_set}
-use Rattle.bdb_format.specs.File.{File}
+use Rattle.bdb_format.specs.File.{File, page_at, type_in}
 use Rattle.bdb_format.specs.Hashing.{bucket, hash5}
 use Rattle.bdb_format.specs.Lists.{BytesKey, ListKey}
-use Rattle.bdb_format.specs.Page.{Content, HashFields}
+use Rattle.bdb_format.specs.Page.{BtreeFields, Content, HashFields, Metadata, QueueFields}
 use Rattle.bdb_grove.specs.Growing.{IsCounted}
 use Rattle.bdb_grove.specs.Leaves.{AscendIn, ContentFits, content_pages}
 use Rattle.bdb_grove.specs.Part.{IsBranch, IsPart, between}
@@ -109,7 +109,24 @@ TableStands g sorted p first beyond (bucket ∷ buckets) =
 abbrev pub units_on : List (List PlacedUnit) → List Keyed
 units_on pages = map unit_of (flat_map (λ page. page) pages)
 
--- The law.
+-- each page of the buckets of a table has type 2: whoever seeks a key looks at each one, and takes none of their order for granted
+abbrev pub HasUnsortedBuckets : File → HashMeta → Type 0
+HasUnsortedBuckets g meta = (b p : ℕ) → b ≤ meta.max_bucket → Contains (bucket_pages g meta b) p → type_in (page_at g p) ≡ Some 2
+
+-- those of a database have it, where it is a hash
+abbrev pub AreUnsorted : File → Metadata → Type 0
+AreUnsorted g (BtreeFields meta) = Unit {0}
+AreUnsorted g (HashFields meta) = HasUnsortedBuckets g meta
+AreUnsorted g (QueueFields meta) = Unit {0}
+
+-- The laws.
+
+-- buckets that stand are unsorted
+abbrev pub TablesAreUnsorted : Type 0
+TablesAreUnsorted =
+    (g : File) (settings : Settings) (first bits beyond : ℕ) (buckets : List (List (List PlacedUnit))) → IsCounted g → 1 ≤ first
+    → beyond ≤ g.last + 1 → bits ≤ 31 → length buckets ≡ 2 ^ bits → TableStands g settings.sorted first (first + 2 ^ bits) beyond buckets
+    → HasUnsortedBuckets g (table_meta settings first bits)
 
 -- a table whose buckets have the keys that are theirs is the part of the database with its metadata, and has the list of the keys
 abbrev pub TablesAreParts : Type 0

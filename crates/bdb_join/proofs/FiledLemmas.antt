@@ -150,7 +150,7 @@ stays before after joints j p filed member inside =
       | inr past ↦ no_page after p past ∙ sym (no_page before p (omega (arith, past, filed.grows)))
     ]
 
-later : (before after : Built) (joints : List Joint) (j : Joint) → AreFiled before after joints → Contains joints j
+pub later : (before after : Built) (joints : List Joint) (j : Joint) → AreFiled before after joints → Contains joints j
     → IsLater j.part.pages (file_so_far before) (file_so_far after)
 later before after joints j filed member =
     record {

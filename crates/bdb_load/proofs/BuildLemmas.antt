@@ -3,7 +3,8 @@ use Rattle.std.proofs.Common.{◌≡◌, ℕ, ◌+◌, ◌-◌, ◌*◌, Result,
 use Rattle.std.proofs.Common.{None, refl, sym, ◌∙◌, ap, subst, arith}
 use Rattle.std.specs.Prelude.{is_some, nat_lt, slice_get, if◌then◌else◌, IfOk}
 use Rattle.std.specs.declared.alloc.AllocError.{AllocError}
-use Rattle.std.specs.List.{AllZip, fold, sum_by}
+use Rattle.std.specs.List.{All, AllZip, fold, sum_by}
+use Rattle.std.proofs.lemmas.List.Elements.{All-cons, All-nil}
 use Rattle.bdb_format.specs.declared.kinds.Kind.{Kind}
 use Rattle.bdb_format.specs.declared.kinds.Kind.TheVariants.{Btree, Recno, Hash, Queue}
 use Rattle.bdb_format.specs.declared.kinds.Order.{Order}
@@ -17,11 +18,12 @@ use Rattle.bdb_model.specs.Written.{header_lines}
 use Rattle.bdb_settle.specs.declared.load_error.LoadError.TheVariants.{TooLarge}
 use Rattle.bdb_settle.specs.LoadErrors.{load_error}
 use Rattle.bdb_settle.specs.Loaded.{loaded, loaded_section}
+use Rattle.bdb_buckets.specs.Tables.{AreUnsorted}
 use Rattle.bdb_need.specs.Need.{pairs_in}
 use Rattle.bdb_count.specs.Need.{list_pages, master_pages, need_of, section_pages}
 use Rattle.bdb_alone.specs.Settled.{file_settings, own_settings}
 use Rattle.bdb_alone.proofs.SettingsLemmas.{own_size, settings_shown}
-use Rattle.bdb_named.specs.Images.{AreNamed, IsDatabaseOf, IsNamed, IsNamedImage, names_pages}
+use Rattle.bdb_named.specs.Images.{AreNamed, HasUnsortedTables, IsDatabaseOf, IsNamed, IsNamedImage, names_pages}
 use Rattle.bdb_load.specs.Builds.{Builds, IsLoadedAs, image_size, in_file_of, in_name_order}
 use Rattle.bdb_load.specs.Loading.{loading_error, or_else, size_error}
 use Rattle.bdb_load.specs.Order.{with_named}
@@ -53,6 +55,10 @@ alone_built section image unnamed buildable is =
           ∙ ap (λ n. n * settings.page_size) pages));
       databases =
           subst (AllZip (IsDatabaseOf settings.page_size settings.order image) (section ∷ [])) (sym is.alone) (same, tt);
+      unsorted =
+          let of : Database → Type 0 = λ database. AreUnsorted (file_of image) database.fields in
+          subst (All of) (sym is.alone)
+          (All-cons of (record { name = None; fields = is.fields }) [] is.unsorted (All-nil of));
     }
   where
     no_name : (name : Option (List ℕ)) → is_some name ≡ false → name ≡ None
@@ -83,7 +89,7 @@ named_built first rest sorted image has named are is =
     ap (λ b. cond b (1 + master_pages size sections) 0) has in
     let master = master_same size sections named.apart in
     let others = order_sum (section_pages size) sections in omega (arith, test, master, others) in
-    record { sound = there.sound; size = there.long ∙ ap (λ n. n * size) pages; databases = there.databases }
+    record { sound = there.sound; size = there.long ∙ ap (λ n. n * size) pages; databases = there.databases; unsorted = there.unsorted }
 
 -- The first section is found, and the only one is taken off.
 
@@ -183,6 +189,11 @@ builds_loaded (first ∷ rest) image is = record {
 pub builds : (sections settled : List Section) (image : List ℕ) → settled ≡ map loaded_section sections → IsImageOfSections settled image
     → Builds sections image
 builds sections settled image lists is = builds_loaded sections image (subst (λ ss. IsImageOfSections ss image) lists is)
+
+-- and its buckets are unsorted
+pub unsorted_tables : (settled : List Section) (image : List ℕ) → IsImageOfSections settled image → HasUnsortedTables image
+unsorted_tables [] image never = absurd never
+unsorted_tables (section ∷ sections) image is = is.unsorted
 
 -- Errors.
 

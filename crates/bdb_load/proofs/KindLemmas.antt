@@ -33,4 +33,5 @@ queue_alone settings pairs image queue is = record {
   alone = is.alone;
   settings_are = is.settings_are;
   list = is.list;
+  unsorted = tt;
 }

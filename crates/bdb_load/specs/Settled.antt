@@ -17,10 +17,11 @@ use Rattle.bdb_model.specs.Pairs.{listed}
 use Rattle.bdb_mktree.specs.Lists.{IsListFor as IsTreeList}
 use Rattle.bdb_mkhash.specs.Table.{IsTableList}
 use Rattle.bdb_mkqueue.specs.Lists.{IsListFor as IsQueueList}
+use Rattle.bdb_buckets.specs.Tables.{AreUnsorted}
 use Rattle.bdb_need.specs.Need.{pairs_in}
 use Rattle.bdb_count.specs.Need.{list_pages, need_of}
 use Rattle.bdb_alone.specs.Trees.{IsTreeSettings}
-use Rattle.bdb_named.specs.Images.{IsDatabaseOf, IsNamed}
+use Rattle.bdb_named.specs.Images.{HasUnsortedTables, IsDatabaseOf, IsNamed}
 use Rattle.bdb_load.specs.Builds.{in_name_order}
 use Rattle.bdb_load.specs.Order.{AreApart}
 
@@ -35,7 +36,7 @@ IsBuildable Hash settings list =
 IsBuildable Queue settings list =
     IsTrue (is_page_size settings.page_size) × (pad4 (settings.re_len + 1) ≤ settings.page_size - 28) × IsQueueList settings list
 
--- a sound image of one database, without a name: it has these settings and this list, and as many pages as the list takes
+-- a sound image of one database, without a name: it has these settings and this list, and as many pages as the list takes. Buckets are unsorted.
 pub record IsAloneImage (settings : Settings) (pairs : List Pair) (image : List ℕ) : Type 0 where
   pub sound : verdict_of image ≡ None
   pub size : length image ≡ (1 + list_pages settings.kind settings pairs) * settings.page_size
@@ -43,6 +44,7 @@ pub record IsAloneImage (settings : Settings) (pairs : List Pair) (image : List 
   pub alone : databases (file_of image) ≡ record { name = None; fields = fields } ∷ []
   pub settings_are : settings_of (head_of image).page_size (head_of image).order fields ≡ settings
   pub list : list_of (file_of image) fields ≡ listed pairs
+  pub unsorted : AreUnsorted (file_of image) fields
 
 -- All sections.
 
@@ -70,11 +72,12 @@ abbrev pub size_in : List Section → ℕ
 size_in [] = 0
 size_in (section ∷ sections) = section.settings.page_size
 
--- a sound image of sections with their lists, of as many pages as they need
+-- a sound image of sections with their lists, of as many pages as they need. Buckets are unsorted.
 pub record AreBuilt (first : Settings) (sections : List Section) (image : List ℕ) : Type 0 where
   pub sound : verdict_of image ≡ None
   pub size : length image ≡ need_of sections * first.page_size
   pub databases : AllZip (IsDatabaseOf first.page_size first.order image) (in_name_order sections) (databases (file_of image))
+  pub unsorted : HasUnsortedTables image
 
 -- the page size and the order are those of the first section
 abbrev pub IsImageOfSections : List Section → List ℕ → Type 0

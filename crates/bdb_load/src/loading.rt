@@ -1,4 +1,5 @@
 ghost use Rattle.std.specs.Prelude.{◌≡◌, ◌*◌, ◌≤◌, ◌^◌, nat_lt, None, IfErr, IfOk, OnOk};
+ghost use Rattle.bdb_named.specs.Images.{HasUnsortedTables};
 ghost use Rattle.bdb_load.specs.Builds.{Builds};
 ghost use Rattle.bdb_load.specs.Loading.{AreLoadable, IsLoadRefusal, loading_error};
 ghost use Rattle.bdb_load.specs.Settled.{AreBuildable, IsImageOfSections, size_in};
@@ -53,12 +54,14 @@ fn settled_image(alloc: Global, settled: Sections) -> Result<Image, AllocError>
     section_image(alloc, section)
 }
 
-/// The image of sections: a sound file with their databases, of at most `max` bytes, in the page size and the order of the first. An error
+/// The image of sections: a sound file with their databases, of at most `max` bytes, in the page size and the order of the first. Pages of
+/// buckets have type 2. An error
 /// is the first of the sections, or that the image would have more than `max` bytes, or want of memory.
 pub fn load(alloc: Global, sections: Sections, max: u64) -> Result<Image, LoadError>
     requires max { max ≤ 2 ^ 30 }
     requires fit { AreLoadable sections }
     ensures built { IfOk result (λ image. Builds sections image) }
+    ensures unsorted { IfOk result (λ image. HasUnsortedTables image) }
     ensures sound { OnOk result (loading_error max sections ≡ None) }
     ensures refused { IfErr result (IsLoadRefusal (loading_error max sections)) }
 {

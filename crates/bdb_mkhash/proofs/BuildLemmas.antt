@@ -30,9 +30,10 @@ use Rattle.bdb_mktree.specs.Lists.{HasBytes, keyed_units}
 use Rattle.bdb_mktree.specs.Units.{IsShortUnit as IsShortTreeUnit, Suits}
 use Rattle.bdb_mktree.proofs.ListLemmas.{units_listed}
 use Rattle.bdb_mktree.proofs.OrderLemmas.{FitUnits, keys_fit, units_fit}
-use Rattle.bdb_buckets.specs.Tables.{Keyed, PlacedUnit, SuitsTable, TableStands, bucket_among, dealt, key_of, listed_unit, table_meta, unit_of, units_on}
+use Rattle.bdb_buckets.specs.Tables.{HasUnsortedBuckets, Keyed, PlacedUnit, SuitsTable, TableStands, bucket_among, dealt, key_of, listed_unit, table_meta, unit_of, units_on}
 use Rattle.bdb_buckets.proofs.DealLemmas.{deal, dealt_back, insert_unit, units_by_key}
 use Rattle.bdb_buckets.proofs.TableLemmas.{among_low, tables_are_parts}
+use Rattle.bdb_buckets.proofs.UnsortedLemmas.{tables_are_unsorted}
 use Rattle.bdb_mkhash.specs.Buckets.{buckets_of, keyed_of, spread_bucket, table_bits, table_units}
 use Rattle.bdb_mkhash.specs.Costs.{own_pages, unit_cost}
 use Rattle.bdb_mkhash.specs.Filling.{AreFilled, of_buckets}
@@ -212,6 +213,13 @@ table_built settings old mid new pairs bits buckets meta list some bits_are one 
       stands = λ g counted later.
           subst (λ n. TableStands g settings.sorted (length old.pages) n (length new.pages) filled.pages) (omega_pages)
           (filled.stands g counted (all_later g later));
+      unsorted = λ g counted later.
+          let up = later.grows in
+          subst (HasUnsortedBuckets g) (sym meta_is)
+          (tables_are_unsorted g settings (length old.pages) bits (length new.pages) filled.pages counted some
+          (omega (arith, up, some, grows, more)) (omega (arith, few)) pages_many
+          (subst (λ n. TableStands g settings.sorted (length old.pages) n (length new.pages) filled.pages) count
+          (filled.stands g counted (all_later g later))));
       part = λ g counted later.
           let up = later.grows in
           subst (λ m. IsPart g (record { pages = between (length old.pages) (length new.pages); fields = HashFields m; list = listed pairs }))

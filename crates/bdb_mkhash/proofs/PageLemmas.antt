@@ -44,7 +44,7 @@ pub page_is : (order : Order) (bytes : List ℕ) (p previous next : ℕ) (conten
     (holds : HoldsContents order bytes p previous next contents) → listed order bytes (hash_item_at order bytes) ≡ holds.page
 page_is order bytes p previous next contents holds =
     let bounds = open_is order bytes holds.begun in
-    hash_inside _ _ (sym (typed order bytes 13 (omega (arith, bounds.least)) refl holds.type_is) ∙ holds.is)
+    hash_inside _ _ (sym (typed order bytes 2 (omega (arith, bounds.least)) refl holds.type_is) ∙ holds.is)
 
 -- it has as many entries in its index
 pub contents_held : (order : Order) (bytes : List ℕ) (p previous next : ℕ) (contents : List Content)
@@ -78,7 +78,7 @@ hash_pages_stand built p previous next contents g holds same =
 -- An item more.
 
 item_added : (order : Order) (page : List ℕ) (p previous next : ℕ) (contents : List Content) (content : Content)
-    → HoldsContents order page p previous next contents → IsWritable (OnHash content) → HasPlace 13 (length contents) (OnHash content)
+    → HoldsContents order page p previous next contents → IsWritable (OnHash content) → HasPlace 2 (length contents) (OnHash content)
     → content_cost order content ≤ room_of order page
     → HoldsContents order (page_and_item order page (hash_bytes order content)) p previous next (contents ++ (content ∷ []))
     × (length (page_and_item order page (hash_bytes order content)) ≡ length page)
@@ -94,7 +94,7 @@ item_added order page p previous next contents content holds fits place room =
     let count : entries_of order page ≡ length contents = contents_held order page p previous next contents holds in
     let there : HasPlace (byte_at page 25) (entries_of order page) (OnHash content) =
     subst (λ t. HasPlace t (entries_of order page) (OnHash content)) (sym holds.type_is)
-    (subst (λ k. HasPlace 13 k (OnHash content)) (sym count) place) in
+    (subst (λ k. HasPlace 2 k (OnHash content)) (sym count) place) in
     let below : IsPlaced order page new (place_below order page n) piece = is_below order page piece (open_is order page holds.begun) enough in
     let at : ℕ = place_below order page n in (
       record {
@@ -139,7 +139,7 @@ item_grown old new p content low is can =
           let same = contents_same old.order (bytes_of old p) p can.previous can.next previous next can.contents contents can.holds holds in
           subst (λ bs. HoldsContents old.order bs p previous next (contents ++ (content ∷ []))) (sym (bytes_with old p page low))
           (item_added old.order (bytes_of old p) p previous next contents content holds can.fits
-          (subst (λ k. HasPlace 13 k (OnHash content)) same can.place) can.room).0;
+          (subst (λ k. HasPlace 2 k (OnHash content)) same can.place) can.room).0;
     })
 
 -- what `append_hash` asks of the page
@@ -147,7 +147,7 @@ pub item_placed : (built : Built) (p : ℕ) (content : Content) → CanTakeConte
 item_placed built p content can =
     let count = contents_held built.order (bytes_of built p) p can.previous can.next can.contents can.holds in
     subst (λ t. HasPlace t (entries_of built.order (bytes_of built p)) (OnHash content)) (sym can.holds.type_is)
-    (subst (λ k. HasPlace 13 k (OnHash content)) (sym count) can.place)
+    (subst (λ k. HasPlace 2 k (OnHash content)) (sym count) can.place)
 
 -- A page that begins.
 
@@ -242,7 +242,7 @@ followed order page p previous before next contents low holds =
     let bounds = open_is order page holds.begun in
     let new : List ℕ = with_next order page next in
     let is : HasLinks order page new p previous next = next_written order page p previous next bounds.least low holds.number holds.before in
-    let type_is : byte_at new 25 ≡ 13 = byte_same new page 20 25 is.body (omega arith) ∙ holds.type_is in
+    let type_is : byte_at new 25 ≡ 2 = byte_same new page 20 25 is.body (omega arith) ∙ holds.type_is in
     let index : (k : ℕ) → k < entries_of order page → offset_of order new k ≡ offset_of order page k =
     λ k low. (offset_linked order page new p previous next k holds.begun is low).0 in
     let items : (k : ℕ) → k < entries_of order page → hash_item_at order new k ≡ hash_item_at order page k =
@@ -258,7 +258,7 @@ followed order page p previous before next contents low holds =
       before = is.previous_is;
       after = is.next_is;
       page = with_links holds.page p previous next;
-      is = typed order new 13 (omega (arith, bounds.least, is.long)) refl type_is
+      is = typed order new 2 (omega (arith, bounds.least, is.long)) refl type_is
           ∙ ap Hash (linked_page order page new p previous next (hash_item_at order new) (hash_item_at order page) holds.begun is items
           ∙ ap (λ l. with_links l p previous next) (page_is order page p previous before contents holds));
       items = holds.items;

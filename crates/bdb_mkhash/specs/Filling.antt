@@ -26,7 +26,7 @@ use Rattle.bdb_mkhash.specs.Pages.{HoldsContentsOn, content_cost, room_of}
 pub record IsHashItem (old new : Built) (value : List ℕ) (content : Content) : Type 0 where
   pub item : IsItemOf old new value false (hash_item content)
   pub fits : IsWritable (OnHash content)
-  pub place : (index : ℕ) → HasPlace 13 index (OnHash content)
+  pub place : (index : ℕ) → HasPlace 2 index (OnHash content)
   pub cost : (order : Order) → content_cost order content ≡ item_cost old.size value
 
 -- an item that a page gets at its end, while no other page changes

@@ -22,10 +22,11 @@ content_cost order content = 2 + length (hash_bytes order content)
 abbrev pub room_of : Order → List ℕ → ℕ
 room_of order page = high_free_of order page - index_end order page
 
--- A page is one of a table that takes items, with its number, between two others of its bucket, and holds these items.
+-- A page is one of a table that takes items, with its number, between two others of its bucket, and holds these items. Its type says that they are
+-- in no order.
 pub record HoldsContents (order : Order) (bytes : List ℕ) (p previous next : ℕ) (contents : List Content) : Type 0 where
   pub begun : IsBegun order bytes
-  pub type_is : byte_at bytes 25 ≡ 13
+  pub type_is : byte_at bytes 25 ≡ 2
   pub number : four_at order bytes 8 ≡ p
   pub before : four_at order bytes 12 ≡ previous
   pub after : four_at order bytes 16 ≡ next
@@ -45,13 +46,13 @@ pub record CanTakeContent (built : Built) (p : ℕ) (content : Content) : Type 0
   pub contents : List Content
   pub holds : HoldsContentsOn built p previous next contents
   pub fits : IsWritable (OnHash content)
-  pub place : HasPlace 13 (length contents) (OnHash content)
+  pub place : HasPlace 2 (length contents) (OnHash content)
   pub room : content_cost built.order content ≤ room_of built.order (bytes_of built p)
 
 -- the header of a page that is added after another one of its bucket: it has no next page yet
 abbrev pub page_header : ℕ → ℕ → Header
 page_header number previous =
-    record { number = number; previous = previous; next = 0; entries = 0; high_free = 0; level = 0; page_type = 13 }
+    record { number = number; previous = previous; next = 0; entries = 0; high_free = 0; level = 0; page_type = 2 }
 
 -- the pages with such a page at their end
 abbrev pub with_hash_page : Built → ℕ → Built

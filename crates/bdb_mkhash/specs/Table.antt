@@ -13,7 +13,7 @@ use Rattle.bdb_model.specs.declared.list.Pair.{Pair}
 use Rattle.bdb_pack.specs.Built.{Built, bytes_of, file_so_far}
 use Rattle.bdb_leaves.specs.Leaves.{KeepsAll}
 use Rattle.bdb_mktree.specs.Lists.{IsListFor}
-use Rattle.bdb_buckets.specs.Tables.{Keyed, PlacedUnit, TableStands, table_meta, unit_of}
+use Rattle.bdb_buckets.specs.Tables.{HasUnsortedBuckets, Keyed, PlacedUnit, TableStands, table_meta, unit_of}
 use Rattle.bdb_mkhash.specs.Buckets.{buckets_of, spread_bucket, table_bits, table_size}
 
 -- a list in its order, with the rule that a btree of these settings has
@@ -22,7 +22,8 @@ IsTableList settings pairs = IsListFor (record settings { kind = Btree }) pairs
 
 -- A table of these keys was built behind all pages: the older pages are as they were; the new ones are as many as the keys take; none has a row of
 -- form; its metadata has the number of buckets, the spares and the flags of the settings; each key stands in the bucket of its hash, on the page on
--- which its cost puts it, with its data; and in each later file the new pages are the part of the database with this metadata and list.
+-- which its cost puts it, with its data; and in each later file the pages of the buckets are unsorted, and the new pages are the part of the database
+-- with this metadata and list.
 pub record IsTableBuilt (settings : Settings) (old new : Built) (units : List Keyed) (list : List (ListKey × List ℕ)) (meta : HashMeta) : Type 0 where
   pub kept : KeepsAll old new
   pub count : length new.pages ≡ length old.pages + table_size old.size settings.sorted units
@@ -32,5 +33,6 @@ pub record IsTableBuilt (settings : Settings) (old new : Built) (units : List Ke
   pub spread : map (map (map unit_of)) pages ≡ map (spread_bucket old.size) (buckets_of (table_bits old.size units) units)
   pub stands : (g : File) → IsCounted g → IsLater (between (length old.pages) (length new.pages)) (file_so_far new) g
       → TableStands g settings.sorted (length old.pages) (length old.pages + length pages) (length new.pages) pages
+  pub unsorted : (g : File) → IsCounted g → IsLater (between (length old.pages) (length new.pages)) (file_so_far new) g → HasUnsortedBuckets g meta
   pub part : (g : File) → IsCounted g → IsLater (between (length old.pages) (length new.pages)) (file_so_far new) g
       → IsPart g (record { pages = between (length old.pages) (length new.pages); fields = HashFields meta; list = list })

@@ -23,7 +23,7 @@ use Rattle.bdb_leaves.proofs.RunLemmas.{all_map}
 use Rattle.bdb_mktree.specs.Building.{IsTreeBuilt}
 use Rattle.bdb_mktree.specs.Lists.{IsListFor, IsPairFor, is_in_order, may_follow, units_in}
 use Rattle.bdb_mktree.specs.Units.{IsTreeKind, leaf_type_of}
-use Rattle.bdb_buckets.specs.Tables.{table_meta}
+use Rattle.bdb_buckets.specs.Tables.{HasUnsortedBuckets, table_meta}
 use Rattle.bdb_mkhash.specs.Buckets.{table_bits, table_cost, table_size, table_units}
 use Rattle.bdb_mkhash.specs.Table.{IsTableBuilt}
 use Rattle.bdb_need.specs.Need.{pairs_in, tree_pages}
@@ -83,6 +83,7 @@ tree_built settings list old new root meta is =
             (ap (λ n. settings_of n new.order (BtreeFields meta)) size
             ∙ (ap (λ o. settings_of settings.page_size o (BtreeFields meta)) order ∙ says))
             (ap (λ (m : BtreeMeta). m.root) is.meta_is);
+        unsorted = λ g counted later. tt;
       };
       spelled = λ built number pages above there room written.
           btrees_are_spelled built (record {
@@ -151,6 +152,7 @@ table_built settings list old new built meta elements is =
             (tables_have_names g pages settings (length old.pages) bits (listed list)
             (subst (λ m. IsPart g (record { pages = pages; fields = HashFields m; list = listed list })) is.table.fields
             (is.table.part g counted later)));
+        unsorted = λ g counted later. subst (λ m. HasUnsortedBuckets g m) (sym is.meta_is) (is.table.unsorted g counted later);
       };
       spelled = λ after number legal above there room written.
           tables_are_spelled after

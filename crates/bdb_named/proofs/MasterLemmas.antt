@@ -93,6 +93,7 @@ master_built sections size settings count first list old new root meta is =
             there = omega arith;
             formed = is.tree.formed;
             part = λ g counted later. is.tree.part g meta counted later says (ap (λ (m : BtreeMeta). m.root) is.meta_is);
+            unsorted = λ g counted later. tt;
           });
     }
   where

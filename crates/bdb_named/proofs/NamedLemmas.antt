@@ -1,11 +1,13 @@
 -- The image of databases under names.
 use Rattle.std.proofs.Common.{◌≡◌, ◌⊎◌, ℕ, ◌+◌, ◌-◌, ◌*◌, ◌<◌, ◌≤◌, ◌^◌, true, IsTrue, List, [], ◌∷◌, length, map, reverse, None}
 use Rattle.std.proofs.Common.{arith, refl, sym, ◌∙◌, ap, subst, inl, inr}
-use Rattle.std.specs.List.{Contains, sum_by}
+use Rattle.std.specs.List.{All, AllZip, Contains, sum_by}
 use Rattle.std.proofs.lemmas.Bool.{cases_lt}
 use Rattle.std.proofs.lemmas.List.{length-map, length-reverse}
+use Rattle.std.proofs.lemmas.List.Elements.{All-cons, All-nil}
 use Rattle.bdb_format.specs.declared.kinds.Order.{Order}
 use Rattle.bdb_format.specs.declared.metadata.BtreeMeta.{BtreeMeta}
+use Rattle.bdb_format.specs.Databases.{Database, databases}
 use Rattle.bdb_format.specs.File.{File, file_of}
 use Rattle.bdb_format.specs.Flags.{has_duplicates, names_databases}
 use Rattle.bdb_format.specs.Lists.{ListKey}
@@ -23,12 +25,14 @@ use Rattle.bdb_model.specs.declared.sections.Section.{Section}
 use Rattle.bdb_model.specs.Pairs.{listed}
 use Rattle.bdb_pack.specs.Built.{Built, bytes_of, file_so_far, joined_pages, with_zeros}
 use Rattle.bdb_pack.proofs.CutLemmas.{all_size}
+use Rattle.bdb_pack.proofs.ImageLemmas.{counted_so_far}
 use Rattle.bdb_join.specs.Filed.{AreFiled, IsSpelled}
 use Rattle.bdb_join.specs.Joining.{IsInPartOf, IsJoined, IsMetaOf, Joint}
-use Rattle.bdb_join.specs.Masters.{IsSoundUnderMaster, IsUnderMaster}
+use Rattle.bdb_join.specs.Masters.{Entry, IsDatabase, IsSoundUnderMaster, IsUnderMaster}
 use Rattle.bdb_join.specs.Written.{HasHead, SpellsMeta}
-use Rattle.bdb_join.proofs.FiledLemmas.{btrees_are_spelled, filed_parts_are_joined, has_head}
+use Rattle.bdb_join.proofs.FiledLemmas.{btrees_are_spelled, filed_parts_are_joined, has_head, later as filed_later, read_back}
 use Rattle.bdb_join.proofs.NamedLemmas.{joins_all}
+use Rattle.bdb_buckets.specs.Tables.{AreUnsorted}
 use Rattle.bdb_count.specs.Need.{section_pages}
 use Rattle.bdb_alone.proofs.TreeLemmas.{first_zero}
 use Rattle.bdb_named.specs.declared.metadata.DatabaseMeta.{DatabaseMeta}
@@ -97,6 +101,16 @@ pub record IsFilledIn (size : ℕ) (order : Order) (sections : List Section) (em
   pub top : IsPut filled after 0 (Tree master)
   pub image_is : image ≡ joined_pages after.pages
 
+-- buckets are unsorted in the databases where they are in the parts
+all_unsorted : (g : File) (joints : List Joint) (entries : List Entry) (found : List Database)
+    → ((j : Joint) → Contains joints j → AreUnsorted g j.part.fields) → AllZip (IsDatabase joints) entries found
+    → All (λ (database : Database). AreUnsorted g database.fields) found
+all_unsorted g joints [] [] each zip = All-nil (λ (database : Database). AreUnsorted g database.fields)
+all_unsorted g joints [] (database ∷ found) each zip = absurd zip
+all_unsorted g joints (entry ∷ entries) [] each zip = absurd zip
+all_unsorted g joints (entry ∷ entries) (database ∷ found) each zip =
+    All-cons (λ (one : Database). AreUnsorted g one.fields) database found (subst (AreUnsorted g) (sym zip.0.fields) (each zip.0.joint zip.0.at)) (all_unsorted g joints entries found each zip.1)
+
 -- that is the image of the sections
 pub named_filed : (size : ℕ) (order : Order) (sections : List Section) (empty one topped spaced built filled after : Built) (master : BtreeMeta)
     (beyond : ℕ) (metas : List DatabaseMeta) (image : List ℕ)
@@ -108,6 +122,7 @@ named_filed size order sections empty one topped spaced built filled after maste
       databases =
           entries_name_databases size order first sections top tail image is.named some few refl joints_ok
           (head.tells.size ∙ after_size) (head.tells.order ∙ after_order) sound.holds sound.named;
+      unsorted = all_unsorted (file_of image) joints entries (databases (file_of image)) unsorted sound.named;
     }
   where
     out : IsLaidOut sections empty one topped spaced built master beyond metas
@@ -257,6 +272,16 @@ named_filed size order sections empty one topped spaced built filled after maste
           (of.stands.holds.part g counted (subst (λ (k : Joint). IsLater k.part.pages (file_so_far built) g) of.is so_late))
     ]
 
+    unsorted_in : (j : Joint) → Contains joints j → (g : File) → IsCounted g → IsLater j.part.pages (file_so_far built) g
+        → AreUnsorted g j.part.fields
+    unsorted_in j at g counted so_late = elim (member_cases top tail j at) [
+      | inl here ↦ subst (λ (k : Joint). AreUnsorted g k.part.fields) here tt
+      | inr later ↦
+          let of : IsOfRow built after base (length built.pages) first (length row) j = from_row j later in
+          subst (λ (k : Joint). AreUnsorted g k.part.fields) (sym of.is)
+          (of.stands.holds.unsorted g counted (subst (λ (k : Joint). IsLater k.part.pages (file_so_far built) g) of.is so_late))
+    ]
+
     spelled : (j : Joint) → Contains joints j → IsSpelled after j
     spelled j at = elim (member_cases top tail j at) [
       | inl here ↦
@@ -346,6 +371,12 @@ named_filed size order sections empty one topped spaced built filled after maste
 
     head : HasHead after image
     head = has_head after master image (record { pages = is.top.pages; spells = spells; image_is = is.image_is })
+
+    unsorted : (j : Joint) → Contains joints j → AreUnsorted (file_of image) j.part.fields
+    unsorted j at =
+        subst (λ g. AreUnsorted g j.part.fields)
+        (sym (read_back after master image (record { pages = is.top.pages; spells = spells; image_is = is.image_is })))
+        (unsorted_in j at (file_so_far after) (counted_so_far after is.top.pages.some) (filed_later built after joints j filed at))
 
     summed : sum_by (section_pages built.size) (map (λ (l : Laid). l.section) row) ≡ sum_by (section_pages size) sections
     summed =

@@ -67,6 +67,7 @@ holds_still old new from beyond fields list kept holds =
       formed = λ p low high.
           ap (λ o. page_code o p (bytes_of new p)) kept.order ∙ (ap (page_code old.order p) (kept.same p high) ∙ holds.formed p low high);
       part = λ g counted later. holds.part g counted (later_before old new from beyond g holds.there kept later);
+      unsorted = λ g counted later. holds.unsorted g counted (later_before old new from beyond g holds.there kept later);
     }
 
 pub laid_still : (old new : Built) (laid : Laid) → KeepsBefore laid.beyond old new → IsLaid old laid → IsLaid new laid

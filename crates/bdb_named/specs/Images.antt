@@ -16,6 +16,7 @@ use Rattle.bdb_model.specs.declared.pairs.Key.TheVariants.{Bytes}
 use Rattle.bdb_model.specs.declared.sections.Section.{Section}
 use Rattle.bdb_model.specs.Pairs.{listed}
 use Rattle.bdb_leaves.specs.Runs.{IsShort}
+use Rattle.bdb_buckets.specs.Tables.{AreUnsorted}
 use Rattle.bdb_need.specs.Need.{pairs_in, tree_pages}
 use Rattle.bdb_count.specs.Need.{IsListOf, master_settings, name_in, section_pages, sized}
 use Rattle.bdb_alone.specs.Settled.{own_settings}
@@ -52,9 +53,14 @@ pub record IsDatabaseOf (size : ℕ) (order : Order) (image : List ℕ) (section
       ≡ own_settings section.settings.kind size order section.settings
   pub list : list_of (file_of image) database.fields ≡ listed (pairs_in section.pairs)
 
+-- the buckets of each hash of a file are unsorted
+abbrev pub HasUnsortedTables : List ℕ → Type 0
+HasUnsortedTables image = All (λ (database : Database). AreUnsorted (file_of image) database.fields) (databases (file_of image))
+
 -- A sound image of sections under their names: it has the pages of the master and its metadata, those of each section and its metadata, and the
--- databases of the sections in the order of their names.
+-- databases of the sections in the order of their names. Buckets are unsorted.
 pub record IsNamedImage (size : ℕ) (order : Order) (sections : List Section) (image : List ℕ) : Type 0 where
   pub sound : verdict_of image ≡ None
   pub long : length image ≡ (1 + names_pages size sections + sum_by (section_pages size) sections) * size
   pub databases : AllZip (IsDatabaseOf size order image) sections (databases (file_of image))
+  pub unsorted : HasUnsortedTables image

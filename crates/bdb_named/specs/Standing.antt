@@ -17,6 +17,7 @@ use Rattle.bdb_pack.specs.Built.{Built, bytes_of, file_so_far}
 use Rattle.bdb_join.specs.Filed.{IsSpelled}
 use Rattle.bdb_join.specs.Written.{AreLegal}
 use Rattle.bdb_leaves.specs.Leaves.{KeepsAll}
+use Rattle.bdb_buckets.specs.Tables.{AreUnsorted}
 use Rattle.bdb_need.specs.Need.{pairs_in}
 use Rattle.bdb_count.specs.Need.{list_pages, sized}
 use Rattle.bdb_alone.specs.Settled.{own_settings}
@@ -30,11 +31,12 @@ use Rattle.bdb_named.specs.Written.{IsWrittenOn, fields_of}
 abbrev pub part_between : ℕ → ℕ → Metadata → List (ListKey × List ℕ) → Part
 part_between from beyond fields list = record { pages = between from beyond; fields = fields; list = list }
 
--- they are this part in each later file, and none has a row of form
+-- they are this part in each later file, buckets being unsorted there, and none has a row of form
 pub record HoldsPart (built : Built) (from beyond : ℕ) (fields : Metadata) (list : List (ListKey × List ℕ)) : Type 0 where
   pub there : beyond ≤ length built.pages
   pub formed : (p : ℕ) → from ≤ p → p < beyond → page_code built.order p (bytes_of built p) ≡ None
   pub part : (g : File) → IsCounted g → IsLater (between from beyond) (file_so_far built) g → IsPart g (part_between from beyond fields list)
+  pub unsorted : (g : File) → IsCounted g → IsLater (between from beyond) (file_so_far built) g → AreUnsorted g fields
 
 -- metadata of a part, where it is written on a page above page 0, is read as it is, and has no row of form
 abbrev pub CanBeSpelled : ℕ → DatabaseMeta → Part → Type 0

@@ -1,7 +1,7 @@
 use Rattle.std.proofs.Common.{◌≡◌, ◌*◌, true, false, inr, sym, ◌∙◌, ap}
 use Rattle.std.specs.Prelude.{nat_lt}
 use Rattle.bdb_load.specs.Settled.{size_in}
-use Rattle.bdb_load.proofs.BuildLemmas.{builds, no_error, too_large}
+use Rattle.bdb_load.proofs.BuildLemmas.{builds, no_error, too_large, unsorted_tables}
 use Rattle.bdb_load.proofs.FitLemmas.{are_buildable, are_settled}
 use Rattle.bdb_load.proofs.LengthLemmas.{short_sections}
 use Rattle.bdb_load.proofs.loading.load.Goals as goal
@@ -38,6 +38,9 @@ settled_image-requires c =
 pub returns-clause-built : goal.returns-clause-built
 returns-clause-built c =
     builds c.args.sections c.in_ok-settled.settled c.in_ok-settled_image.field-0 c.in_ok-settled.ensures.lists c.in_ok-settled_image.ensures
+
+pub returns-clause-unsorted : goal.returns-clause-unsorted
+returns-clause-unsorted c = unsorted_tables c.in_ok-settled.settled c.in_ok-settled_image.field-0 c.in_ok-settled_image.ensures
 
 pub returns-clause-sound : goal.returns-clause-sound
 returns-clause-sound c =
