@@ -78,20 +78,20 @@ pub table_filed : (settings : Settings) (list : List Pair) (empty added built : 
     (lent page image : List ℕ) → IsTableFiled settings list empty added built meta count elements lent page image → IsTableImage settings list image
 table_filed settings list empty added built meta count elements lent page image is =
     record {
-    is = record {
-      sound = sound.verdict;
-      size = image_length built Hash page image under ∙ (ap (λ n. n * built.size) pages ∙ ap (λ n. (1 + table_pages settings list) * n) size);
-      first_is = ap (λ n. take n image) (sym size) ∙ (image_first built Hash page image under ∙ first);
-      alone = sound.alone ∙ ap (λ m. record { name = None; fields = HashFields m } ∷ []) meta_is;
-      settings_are =
-          ap (λ (h : Head). settings_of h.page_size h.order (HashFields (table_fields settings list))) (head_is built Hash page image under)
-          ∙ (ap (λ n. settings_of n built.order (HashFields (table_fields settings list))) size
-          ∙ (ap (λ o. settings_of settings.page_size o (HashFields (table_fields settings list))) order
-          ∙ (says_settings settings 1 (table_bits settings.page_size (table_units list)) is.both
-          ∙ (ap (λ k. own_settings k settings.page_size settings.order settings) (sym is.kind) ∙ sym is.own))));
-      list = ap (λ m. list_of (file_of image) (HashFields m)) (sym meta_is) ∙ sound.list;
-    };
-    unsorted = subst (HasUnsortedBuckets (file_of image)) meta_is both.1;
+      is = record {
+        sound = sound.verdict;
+        size = image_length built Hash page image under ∙ (ap (λ n. n * built.size) pages ∙ ap (λ n. (1 + table_pages settings list) * n) size);
+        first_is = ap (λ n. take n image) (sym size) ∙ (image_first built Hash page image under ∙ first);
+        alone = sound.alone ∙ ap (λ m. record { name = None; fields = HashFields m } ∷ []) meta_is;
+        settings_are =
+            ap (λ (h : Head). settings_of h.page_size h.order (HashFields (table_fields settings list))) (head_is built Hash page image under)
+            ∙ (ap (λ n. settings_of n built.order (HashFields (table_fields settings list))) size
+            ∙ (ap (λ o. settings_of settings.page_size o (HashFields (table_fields settings list))) order
+            ∙ (says_settings settings 1 (table_bits settings.page_size (table_units list)) is.both
+            ∙ (ap (λ k. own_settings k settings.page_size settings.order settings) (sym is.kind) ∙ sym is.own))));
+        list = ap (λ m. list_of (file_of image) (HashFields m)) (sym meta_is) ∙ sound.list;
+      };
+      unsorted = subst (HasUnsortedBuckets (file_of image)) meta_is both.1;
     }
   where
     one : length added.pages ≡ 1
