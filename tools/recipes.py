@@ -13,12 +13,30 @@ TOP = os.path.dirname(os.path.dirname(os.path.abspath(__file__)))
 FOLDER = f"{TOP}/tools/recipes"
 PAGE = f"{TOP}/docs/RECIPES.md"
 PROGRAM = f"{TOP}/crates/bdbtool/out/bdbtool"
-NAMES = ["report", "lookup", "move", "edit", "rescue", "status"]
+NAMES = ["report", "lookup", "move", "edit", "rescue", "restore", "guess", "records", "status"]
+# What the recipes run, and the Debian package that has it.
+NEEDED = {
+    "db5.3_verify": "db5.3-util",
+    "postmap": "postfix",
+    "saslpasswd2": "sasl2-bin",
+    "sasldblistusers2": "sasl2-bin",
+    "makemap": "sendmail-bin",
+    "editmap": "sendmail-bin",
+}
 HEAD = """# Recipes
 
 What an administrator does with the tool, each a script of [tools/recipes](../tools/recipes) that was run: below it stand the commands with what they wrote.
-`bdbtool` is on the PATH, as after `tools/install.sh`. The files are made by [files.sh](../tools/recipes/files.sh). Beside each stands how it is done with the
-original's tools (`db5.3_verify` and the others of Debian's package `db5.3-util`), run on the same files, and what differs.
+`bdbtool` is on the PATH, as after `tools/install.sh`. The files are made by [files.sh](../tools/recipes/files.sh), and by
+[maps.sh](../tools/recipes/maps.sh) with the programs that own them, of Debian's packages `postfix`, `sasl2-bin` and `sendmail-bin`; no server runs, and
+`-C /dev/null` stands for a sendmail that isn't set up. Beside each stands how it is done with the original's tools (`db5.3_verify` and the others of Debian's
+package `db5.3-util`), run on the same files, and what differs.
+
+Take care of `> NEW`: the shell makes that file, or empties it, before the program starts, whatever the status then is. So `NEW` is never the file that is
+read. It takes the place of that one, with its owner and mode, once the status was 0, and while the program that owns the file is stopped:
+
+```sh
+chown --reference=OLD NEW && chmod --reference=OLD NEW && mv NEW OLD
+```
 
 <!-- This page is written by tools/recipes.py, which runs all of it. -->
 """
@@ -32,13 +50,16 @@ def text_of(name):
         return file.read()
 
 
+def started(command, place, paths, **others):
+    """A command that ran in a folder; postfix's programs read the settings that maps.sh makes there."""
+    return subprocess.run(["sh", "-c", command], cwd=place, env=dict(os.environ, PATH=paths, LC_ALL="C", MAIL_CONFIG=f"{place}/etc"), **others)
+
+
 def shown(commands, place, paths):
     """The commands of a text, each behind a dollar sign and with what it wrote."""
     lines = []
     for command in commands.splitlines():
-        ran = subprocess.run(
-            ["sh", "-c", command], cwd=place, env=dict(os.environ, PATH=paths), stdout=subprocess.PIPE, stderr=subprocess.STDOUT, check=False
-        )
+        ran = started(command, place, paths, stdout=subprocess.PIPE, stderr=subprocess.STDOUT, check=False)
         lines += [f"$ {command}", *ran.stdout.decode(errors="replace").splitlines()]
     return "```text\n" + "\n".join(lines) + "\n```\n"
 
@@ -48,8 +69,8 @@ def recipe(name, paths):
         for file in os.listdir(FOLDER):
             if file.endswith(".sh"):
                 shutil.copy(f"{FOLDER}/{file}", place)
-        for commands in ("sh files.sh\n" + text_of(f"{name}.before")).splitlines():
-            subprocess.run(["sh", "-c", commands], cwd=place, env=dict(os.environ, PATH=paths), check=True)
+        for command in ("sh files.sh\n" + text_of(f"{name}.before")).splitlines():
+            started(command, place, paths, check=True)
         return "\n".join(
             [
                 text_of(f"{name}.md"),
@@ -65,9 +86,14 @@ def recipe(name, paths):
 def main():
     if not os.access(PROGRAM, os.X_OK):
         sys.exit("recipes.py: the program isn't built: run ./bdbtool verify < samples/one-pair-little.db first")
-    if not shutil.which("db5.3_verify"):
-        sys.exit("recipes.py: the original's tools aren't there: apt-get install db5.3-util")
-    paths = f"{os.path.dirname(PROGRAM)}:{os.environ['PATH']}"
+    paths = f"{os.path.dirname(PROGRAM)}:{os.environ['PATH']}:/usr/sbin:/sbin"
+    missing = [f"{command} ({package})" for command, package in NEEDED.items() if not shutil.which(command, path=paths)]
+    if missing:
+        sys.exit(
+            f"recipes.py: not on the PATH: {', '.join(missing)}. In brackets stands the Debian package.\n"
+            "postfix and sendmail-bin exclude each other: install one, and take the programs of the other alone, as by\n"
+            "  apt-get download sendmail-bin; dpkg -x sendmail-bin_*.deb /opt/sendmail; PATH=$PATH:/opt/sendmail/usr/sbin tools/recipes.py"
+        )
     page = "\n".join([HEAD, *[recipe(name, paths) for name in NAMES]])
     if "--check" in sys.argv[1:]:
         with open(PAGE, encoding="utf-8") as file:
