@@ -15,10 +15,10 @@ pub(crate) enum Answer {
     Other,
 }
 
-/// Loads a text of at most 1 MiB into an image of at most so many bytes.
+/// Loads a text into an image of at most so many bytes; both have at most 2^30.
 #[tactic(auto, using(bdb_load::proofs::ReadLemmas::read_sections_are_loadable))]
 pub(crate) fn loaded(alloc: Global, text: &[u8], most: u64) -> Answer {
-    if text.len() > 1048576 || most > 1073741824 {
+    if text.len() > 1073741824 || most > 1073741824 {
         return Answer::Other;
     }
     let Ok(sections) = read_dump(alloc, text) else {

@@ -4,8 +4,8 @@
 
 ghost use Rattle.std.specs.Prelude.{◌≤◌, ◌^◌, length};
 
+use bdb_building_tests::built_table;
 use bdb_io::{ReadError, StdSink, StdSource, put_all, read_image};
-use bdb_mkhash_tests::built;
 use bdb_model::{Bytes, Pair, PairList, Settings, TextPair, TextPairs};
 use bdb_settle::settle;
 use bdb_text::read_dump;
@@ -77,7 +77,7 @@ fn answer_of(
     if matches!(told, Told::Pairs) {
         return count(alloc, list.len(), "pairs");
     }
-    match built(alloc, settings, list)? {
+    match built_table(alloc, settings, list)? {
         Some(image) => count(
             alloc,
             image.bytes.as_slice().len() / (settings.page_size as usize).max(1),

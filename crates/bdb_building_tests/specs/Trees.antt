@@ -1,0 +1,31 @@
+-- Lists of pairs that are tested when a test runs, and trees that take a pair more.
+use Rattle.std.specs.Prelude.{◌≡◌, ℕ, Bool, true, List, [], ◌∷◌, ◌++◌, map, Option, None, Some}
+use Rattle.bdb_format.specs.ContentRows.{ascends}
+use Rattle.bdb_format.specs.Less.{less}
+use Rattle.bdb_format.specs.declared.kinds.Kind.TheVariants.{Btree}
+use Rattle.bdb_model.specs.declared.list.Pair.{Pair}
+use Rattle.bdb_model.specs.declared.pairs.Key.TheVariants.{Number}
+use Rattle.bdb_pack.specs.Built.{Built}
+use Rattle.bdb_leaves.specs.Units.{key_of}
+use Rattle.bdb_mktree.specs.Building.{Building, units_of}
+use Rattle.bdb_mktree.specs.declared.builder.TreeBuilder.{TreeBuilder}
+use Rattle.bdb_building_tests.specs.declared.tree_lists.One.{One}
+
+-- a pair without where it lies in memory
+abbrev pub one_seen : One → Pair
+one_seen one = record { key = one.key.now; value = one.value.now }
+
+-- what is read past the end of a list
+abbrev pub no_pair : Pair
+no_pair = record { key = Number 0; value = [] }
+
+-- whether a key is above the last one, where there is one
+abbrev pub is_above : Option (List ℕ) → List ℕ → Bool
+is_above None key = true
+is_above (Some last) key = less last key
+
+-- A btree that is being built: a key that is above the last one may come next.
+pub record IsGrowing (pages : Built) (builder : TreeBuilder) (last : Option (List ℕ)) : Type 0 where
+  pub building : Building builder pages
+  pub kind : builder.settings.kind ≡ Btree
+  pub next : (key : List ℕ) → is_above last key ≡ true → ascends (map key_of (units_of builder pages) ++ (key ∷ [])) ≡ true

@@ -1,0 +1,91 @@
+//! A btree that takes pairs one by one.
+
+ghost use Rattle.std.specs.Prelude.{◌≡◌, IsTrue};
+ghost use Rattle.bdb_format.specs.HeadOf.{is_page_size};
+ghost use Rattle.bdb_format.specs.declared.kinds.Kind.TheVariants.{Btree};
+ghost use Rattle.bdb_building_tests.specs.Trees.{is_above};
+
+use bdb_format::{Bytes, Settings};
+use bdb_mktree::{TreeBuilder, Unit};
+use bdb_overflow::{Datum, is_less};
+use bdb_pack::Pages;
+use std::alloc::{AllocError, Global};
+use std::marker::Model;
+
+// Whether a key is above the last one, where there is one.
+fn is_above(last: &Option<Bytes>, key: &[u8]) -> bool
+    ensures { result ≡ is_above last.now key.now }
+{
+    match last {
+        None => true,
+        Some(last) => is_less(&Datum::Inline(last.as_slice()), &Datum::Inline(key)),
+    }
+}
+
+/// A btree that is being built behind a zero page, which is kept for its metadata.
+#[derive(Drop)]
+pub struct Growing {
+    pages: Pages,
+    builder: TreeBuilder,
+    last: Option<Bytes>,
+}
+
+impl Model for Growing {
+    ghost use Rattle.bdb_pack.specs.Built.{Built};
+    ghost use Rattle.bdb_building_tests.specs.Trees.{IsGrowing};
+
+    ghost Value = { Built };
+
+    ghost view = { λ g. g.pages };
+
+    ghost invariant = { λ g. IsGrowing g.pages g.builder g.last };
+}
+
+impl Growing {
+    /// A tree without pairs.
+    pub fn new(alloc: Global, settings: &Settings) -> Result<Growing, AllocError>
+        requires kind { settings.now.kind ≡ Btree }
+        requires size { IsTrue (is_page_size settings.now.page_size) }
+    {
+        let mut pages = Pages::new(alloc, settings.page_size, settings.order);
+        pages.add()?;
+        let builder = TreeBuilder::start(alloc, &mut pages, settings)?;
+        Ok(Growing {
+            pages,
+            builder,
+            last: None,
+        })
+    }
+
+    /// With a pair after the others. It stays as it is where the key isn't above theirs, or a value is too long.
+    pub fn with_pair(self, alloc: Global, key: &[u8], value: Bytes) -> Result<Growing, AllocError> {
+        if !is_above(&self.last, key) || key.len() >= 1 << 32 {
+            return Ok(self);
+        }
+        if value.as_slice().len() >= 1 << 32 {
+            return Ok(self);
+        }
+        let mut pages = self.pages;
+        let mut builder = self.builder;
+        let mut last = Bytes::new(alloc);
+        last.push_all(key)?;
+        let values = [value];
+        let unit = Unit::Keyed {
+            key,
+            values: &values,
+        };
+        builder.push(&mut pages, &unit)?;
+        Ok(Growing {
+            pages,
+            builder,
+            last: Some(last),
+        })
+    }
+
+    /// The root, with the bytes of all pages.
+    pub fn finish(self) -> Result<(u32, Bytes), AllocError> {
+        let mut pages = self.pages;
+        let root = self.builder.finish(&mut pages)?;
+        Ok((root, pages.into_bytes()))
+    }
+}

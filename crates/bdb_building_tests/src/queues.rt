@@ -1,0 +1,54 @@
+//! A queue under its metadata: the bytes of a whole file.
+
+ghost use Rattle.std.specs.Prelude.{◌≤◌, ◌+◌, ◌-◌, IfOk, IsTrue};
+ghost use Rattle.bdb_format.specs.HeadOf.{is_page_size};
+ghost use Rattle.bdb_format.specs.Numbers.{pad4};
+ghost use Rattle.bdb_mkqueue.specs.Layout.{queue_meta};
+ghost use Rattle.bdb_mkqueue.specs.Lists.{IsListFor};
+ghost use Rattle.bdb_mkqueue.specs.Written.{IsSoundQueueOf};
+
+use crate::legal::is_page_size;
+use crate::queue_lists::is_list_for;
+use bdb_format::{Bytes, Settings};
+use bdb_meta::put_queue_meta;
+use bdb_mkqueue::build_queue;
+use bdb_model::PairList;
+use bdb_pack::Pages;
+use std::alloc::{AllocError, Global};
+
+// Whether a page has room for a record.
+fn has_room(settings: &Settings) -> bool
+    requires { 28 ≤ settings.now.page_size }
+    ensures { IsTrue result → pad4 (settings.now.re_len + 1) ≤ settings.now.page_size - 28 }
+{
+    (u64::from(settings.re_len) + 1).div_ceil(4) * 4 <= u64::from(settings.page_size) - 28
+}
+
+/// The file of the queue of a list, which is sound and has this list: its pages, with the metadata written over the first.
+pub fn queue_file(alloc: Global, settings: &Settings, list: &PairList) -> Result<Bytes, AllocError>
+    requires legal { IsTrue (is_page_size settings.now.page_size) }
+    requires room { pad4 (settings.now.re_len + 1) ≤ settings.now.page_size - 28 }
+    requires list { IsListFor settings.now list.now }
+    ensures { IfOk result (λ image. IsSoundQueueOf image (queue_meta settings.now list.now) list.now) }
+{
+    let mut pages = Pages::new(alloc, settings.page_size, settings.order);
+    pages.add()?;
+    let meta = build_queue(&mut pages, settings, list)?;
+    let _size = pages.size();
+    let last = pages.count() - 1;
+    put_queue_meta(pages.page_mut(0), settings.order, last, &meta);
+    Ok(pages.into_bytes())
+}
+
+/// The file of the queue of a list; nothing where none can be built of it with these settings.
+pub fn built_queue(
+    alloc: Global,
+    settings: &Settings,
+    list: &PairList,
+) -> Result<Option<Bytes>, AllocError> {
+    if !is_page_size(settings.page_size) || !has_room(settings) || !is_list_for(settings, list) {
+        return Ok(None);
+    }
+    let image = queue_file(alloc, settings, list)?;
+    Ok(Some(image))
+}

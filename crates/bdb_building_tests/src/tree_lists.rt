@@ -1,0 +1,116 @@
+//! Whether a tree can be built of a list, found by one pass from its end.
+
+ghost use Rattle.std.specs.Prelude.{◌≡◌, ◌+◌, ◌<◌, IsTrue, drop, get_or, length};
+ghost use Rattle.bdb_mktree.specs.Lists.{IsKeyFor, IsListFor, IsPairFor, bytes_in, keyed_follow, may_follow, number_in};
+ghost use Rattle.bdb_building_tests.specs.Trees.{no_pair, one_seen};
+
+use bdb_format::{Kind, Settings};
+use bdb_model::{Key, PairList};
+use bdb_overflow::{Datum, is_less};
+
+/// A pair where it stands in its list.
+#[derive(Clone, Copy)]
+struct One<'a> {
+    key: &'a Key,
+    value: &'a [u8],
+}
+
+fn pair_at(list: &PairList, i: usize) -> One<'_>
+    requires { i < length list.now }
+    ensures { one_seen result ≡ get_or list.now i no_pair }
+{
+    One {
+        key: &list.keys()[i],
+        value: list.values()[i].as_slice(),
+    }
+}
+
+fn is_key_for(kind: Kind, key: &Key) -> bool
+    ensures { IsTrue result → IsKeyFor kind key.now }
+{
+    match (kind, key) {
+        (Kind::Btree, Key::Bytes(key)) => key.as_slice().len() < 1 << 32,
+        (Kind::Recno, Key::Number(number)) => *number >= 1,
+        _ => false,
+    }
+}
+
+fn is_pair_for(settings: &Settings, pair: &One<'_>) -> bool
+    ensures { IsTrue result → IsPairFor settings.now (one_seen pair.now) }
+{
+    is_key_for(settings.kind, pair.key)
+        && pair.value.len() < 1 << 32
+        && (!settings.fixed || pair.value.len() as u64 == u64::from(settings.re_len))
+}
+
+fn bytes_in(key: &Key) -> &[u8]
+    ensures { result.now ≡ bytes_in key.now }
+{
+    match key {
+        Key::Bytes(key) => key.as_slice(),
+        Key::Number(_) => &[],
+    }
+}
+
+fn number_in(key: &Key) -> u32
+    ensures { result ≡ number_in key.now }
+{
+    match key {
+        Key::Bytes(_) => 0,
+        Key::Number(number) => *number,
+    }
+}
+
+// Whether a key is above the one before it, or its datum is a further one of the same key.
+fn keyed_follow(settings: &Settings, before: &One<'_>, pair: &One<'_>) -> bool
+    ensures { result ≡ keyed_follow settings.now (one_seen before.now) (one_seen pair.now) }
+{
+    let key = bytes_in(pair.key);
+    let other = bytes_in(before.key);
+    is_less(&Datum::Inline(other), &Datum::Inline(key))
+        || (other == key
+            && settings.duplicates
+            && (!settings.sorted
+                || is_less(&Datum::Inline(before.value), &Datum::Inline(pair.value))))
+}
+
+fn may_follow(settings: &Settings, before: &One<'_>, pair: &One<'_>) -> bool
+    ensures { result ≡ may_follow settings.now.kind settings.now (one_seen before.now) (one_seen pair.now) }
+{
+    match settings.kind {
+        Kind::Btree => keyed_follow(settings, before, pair),
+        Kind::Recno => number_in(before.key) < number_in(pair.key),
+        Kind::Hash | Kind::Queue => false,
+    }
+}
+
+// Whether a pair may stand before those after it.
+fn fits_at(settings: &Settings, list: &PairList, i: usize) -> bool
+    requires { i < length list.now }
+    ensures { IsTrue result → IsListFor settings.now (drop (i + 1) list.now) → IsListFor settings.now (drop i list.now) }
+{
+    let count = list.len();
+    let pair = pair_at(list, i);
+    if !is_pair_for(settings, &pair) {
+        return false;
+    }
+    if i + 1 == count {
+        return true;
+    }
+    let next = pair_at(list, i + 1);
+    may_follow(settings, &pair, &next)
+}
+
+/// Whether a tree can be built of a list with these settings.
+pub fn is_list_for(settings: &Settings, list: &PairList) -> bool
+    ensures { IsTrue result → IsListFor settings.now list.now }
+{
+    let mut i = list.len();
+    while i > 0 {
+        i -= 1;
+        if !fits_at(settings, list, i) {
+            return false;
+        }
+    }
+    true
+}

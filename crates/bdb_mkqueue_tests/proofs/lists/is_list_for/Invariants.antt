@@ -1,9 +1,0 @@
-use Rattle.bdb_mkqueue_tests.specs.Checked.{MayStandFrom}
-use Rattle.bdb_mkqueue_tests.proofs.lists.is_list_for.Given as goal
-
--- the records from `i` on may stand in a queue
-abbrev pub invariant-loop-i : goal.invariant-loop-i
-invariant-loop-i l = MayStandFrom l.settings l.list l.i l.beyond
-
-abbrev pub decreases-loop-i : goal.decreases-loop-i
-decreases-loop-i l = l.i

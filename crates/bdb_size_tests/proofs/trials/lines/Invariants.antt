@@ -1,4 +1,0 @@
-use Rattle.bdb_size_tests.proofs.trials.lines.Given as goal
-
-abbrev pub ghosts-lines_blank : goal.ghosts-lines_blank
-ghosts-lines_blank a = record { name = a.blank.name; parts = a.blank.parts }
