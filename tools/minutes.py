@@ -1,8 +1,8 @@
 #!/usr/bin/env python3
 """minutes.py FILE COMMAND..: runs a command that proves crates, as `.ci/run` or `./bdbtool verify`, and writes to FILE what each crate took.
 
-The processes that prove are looked at five times a second while the command runs: each names its crate, and lies in a folder of its own where it
-tries an edit. FILE gets a line for each crate with the processor minutes of its proof, of its tests' proof and of its must-fail edits, by tabs, and
+The processes that prove are looked at five times a second while the command runs, those alone that it started: each names its crate, and lies in a
+folder of its own where it tries an edit. FILE gets a line for each crate with the processor minutes of its proof, of its tests' proof and of its must-fail edits, by tabs, and
 a last line `all` with those of the whole command, everything that it started counted in, by the clock, and the load of the machine when it began
 and ended. `tools/lines.sh FILE` makes the table of docs/CRATES.md of it. The status is that of the command.
 """
@@ -57,12 +57,26 @@ def beginning(pid):
     return stat[19] if stat else None
 
 
-def watch(ended, taken):
-    """Keeps what each prover has taken, by process, until the command has ended."""
+def parent(pid):
+    stat = read(f"/proc/{pid}/stat").rpartition(b") ")[2].split()
+    return stat[1].decode() if stat else None
+
+
+def is_of(pid, top):
+    """Whether a process was started by another, or by one that it started."""
+    while pid not in (None, "0", "1"):
+        if pid == top:
+            return True
+        pid = parent(pid)
+    return False
+
+
+def watch(top, ended, taken):
+    """Keeps what each prover below a process has taken, by process, until the command has ended."""
     while not ended.wait(SECONDS_BETWEEN):
         for pid in filter(str.isdigit, os.listdir("/proc")):
             found, now, key = prover(pid), seconds(pid), (pid, beginning(pid))
-            if found and now is not None:
+            if found and now is not None and (key in taken or is_of(pid, top)):
                 taken[key] = found, now
 
 
@@ -88,7 +102,7 @@ def main():
     if len(sys.argv) < 3 or re.match("-", sys.argv[1]):
         sys.exit(__doc__)
     ended, taken = threading.Event(), {}
-    watcher = threading.Thread(target=watch, args=(ended, taken))
+    watcher = threading.Thread(target=watch, args=(str(os.getpid()), ended, taken))
     start, before = time.time(), os.getloadavg()[0]
     watcher.start()
     status = subprocess.run(sys.argv[2:], check=False).returncode
