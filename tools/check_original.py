@@ -5,7 +5,7 @@ usage: check_original.py [PROGRAM [PAIRS]]
 
 PROGRAM is the built program bdbtool; without it, crates/bdbtool/out/bdbtool. Each text is loaded in both byte orders, and
 
-- the file passes `db5.3_verify`, and `db5.3_dump` of it has the names and pairs that PROGRAM's `dump` of it has;
+- the file passes `db5.3_verify`, which tells nothing but that it succeeded, and `db5.3_dump` of it has the names and pairs that PROGRAM's `dump` of it has;
 - what `db5.3_load` builds of that dump, in either spelling, is sound for PROGRAM, and has the same names and pairs.
 
 A text that is refused counts as such, and so does a dump that the original can't load as it is meant: one whose re_pad isn't a digit, or a
@@ -24,6 +24,7 @@ TOP = pathlib.Path(__file__).resolve().parent.parent
 SECONDS_A_RUN = 120
 TOOLS = ("db5.3_verify", "db5.3_dump", "db5.3_load")
 REFUSED = 8
+SUCCEEDED = re.compile(rb"BDB5105 Verification of .* succeeded\.\n")
 
 
 def run(*words, given=b""):
@@ -67,6 +68,13 @@ def unloadable(text):
     return None
 
 
+def verifier_told(file):
+    """What db5.3_verify tells besides that it succeeded, or that it ended otherwise; it tells some errors and ends with 0."""
+    ran = run("db5.3_verify", str(file))
+    told = SUCCEEDED.sub(b"", ran.stdout) + ran.stderr
+    return told.decode(errors="replace")[:200] or (f"status {ran.returncode}" if ran.returncode else None)
+
+
 def loaded_wrong(program, folder, text):
     """What is wrong with the file of a text, and the file; a text that is refused has none."""
     ran = run(program, "load", given=text)
@@ -76,9 +84,9 @@ def loaded_wrong(program, folder, text):
         return f"load ended with {ran.returncode}: {ran.stderr.decode()}", None
     file = folder / "built.db"
     file.write_bytes(ran.stdout)
-    verified = run("db5.3_verify", str(file))
-    if verified.returncode:
-        return f"db5.3_verify: {verified.stderr.decode()[:200]}", None
+    told = verifier_told(file)
+    if told:
+        return f"db5.3_verify: {told}", None
     original, ours = run("db5.3_dump", "-k", str(file)), run(program, "dump", given=ran.stdout)
     if databases(original.stdout) != databases(ours.stdout):
         return "db5.3_dump has other pairs", None
