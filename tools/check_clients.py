@@ -15,9 +15,9 @@ Before and after, PROGRAM's `verify` and `db5.3_verify` judge the file; any line
 the library's changes PROGRAM's `dump` has to have what was put.
 
 Where something fails, the same is done with the file that `db5.3_load` builds of the text, and told beside it. The library sorts a page of a hash when it
-writes to it, by an order that contradicts itself where a key of the page begins one that stands in a chain. So a use of a hash with keys in chains isn't
-counted that fails after changes alone, or before them no oftener than with that file, where it fails with that file too, or `db5.3_load` can't build one; as
-long as in all these uses together ours fail no oftener.
+writes to it, by an order that contradicts itself where a key of the page begins one that stands in a chain; and it breaks such chains where it adds data to
+their keys on a full page. So a use of a hash with keys in chains isn't counted that fails after changes alone, or before them no oftener than with that file,
+where it fails with that file too, or `db5.3_load` can't build one; as long as in all these uses together ours fail no oftener.
 
 Prints a line for each use that fails, with the first answers that were otherwise where it counts, and then the counts; the exit status is 1 where one of the
 last four isn't 0. A user that isn't installed is skipped, and its package told.

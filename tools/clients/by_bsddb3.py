@@ -11,11 +11,14 @@ nothing, or `!` and why the library refused.
     get KEY         the data of the key, in order
     has KEY DATUM   whether the pair is there: its datum
     from KEY        the first pair whose key isn't less
-    put KEY DATUM   stores a pair; over KEY DATUM OTHER puts another datum in the place of one, by a cursor
-    del KEY         deletes the key; drop KEY DATUM deletes the pair, by a cursor
+    put KEY DATUM   stores a pair
+    over KEY DATUM OTHER   puts another datum in the place of one, by a cursor
+    del KEY         deletes the key
+    drop KEY DATUM  deletes the pair, by a cursor
     add DATUM       appends a record: its number
     take            takes the first record of a queue: its number and datum
-    all             all pairs, by a cursor from the first on; back from the last on
+    all             all pairs, by a cursor from the first on
+    back            all pairs, from the last on
 """
 import sys
 

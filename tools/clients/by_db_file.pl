@@ -3,7 +3,7 @@
 #
 # usage: by_db_file.pl FILE btree|hash [duplicates]
 #
-# The lines and answers are those of by_bsddb3.py, of `use -`, get, has, from, put, del, drop, all and back.
+# The lines and answers are those of by_bsddb3.py, of `use -`, get, has, from, put, over, del, drop, all and back.
 use strict;
 use warnings;
 use DB_File;
@@ -55,7 +55,7 @@ sub all {
 
 sub answer {
     my ($verb, @words) = @_;
-    my ($key, $datum) = map { bytes_of($_) } @words;
+    my ($key, $datum, $other) = map { bytes_of($_) } @words;
     return (1) if $verb eq 'use';
     return get($key) if $verb eq 'get';
     return find($key, $datum) ? ($datum) : () if $verb eq 'has';
@@ -67,7 +67,8 @@ sub answer {
     }
     my $status = $verb eq 'put' ? $base->put($key, $datum)
         : $verb eq 'del' ? $base->del($key)
-        : find($key, $datum) ? $base->del($key, R_CURSOR) : 1;
+        : !find($key, $datum) ? 1
+        : $verb eq 'over' ? $base->put($key, $other, R_CURSOR) : $base->del($key, R_CURSOR);
     die "$verb: $!\n" if $status < 0;
     return $status == 0 ? (1) : ();
 }
@@ -76,7 +77,7 @@ while (my $line = <STDIN>) {
     my @words = split ' ', $line;
     my @found = eval { answer(@words) };
     if ($@) { print '! ', join(' ', split ' ', $@), "\n"; next }
-    my $done = $words[0] =~ /^(use|put|del|drop)$/;
+    my $done = $words[0] =~ /^(use|put|over|del|drop)$/;
     print @found ? join(' ', map { $done ? $_ : word($_) } @found) : '-', "\n";
 }
 undef $base;

@@ -104,8 +104,13 @@ class Keyed:
         self.remove(key, datum)
 
     def replaced(self, key):
+        datum = self.draw.choice(self.data[key])
+        if self.base.duplicates != "sorted" and self.draw.randrange(2):
+            other = self.datum(key)
+            yield step("changed", [1], "over", key, datum, other)
+            self.data[key][self.data[key].index(datum)] = other
+            return
         if self.base.duplicates:
-            datum = self.draw.choice(self.data[key])
             yield step("changed", [1], "drop", key, datum)
             self.remove(key, datum)
         yield self.put_step(key)
@@ -148,8 +153,8 @@ class Records:
         return step("changed", [1], "put", number, datum)
 
     def changed(self):
-        """Of the records about a fourth is deleted, and another fourth replaced; gaps are filled, records appended, and the first of a queue taken. What doesn't
-        renumber gets one past its end too."""
+        """Of the records about a fourth is deleted, and another fourth replaced; gaps are filled, records appended, and the first of a queue taken. What
+        doesn't renumber gets one past its end too."""
         numbers = [number for number in range(1, self.last + 1) if number in self.data or not self.base.renumber]
         for number in self.draw.sample(numbers, len(numbers)):
             draw = self.draw.randrange(4)
