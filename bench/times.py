@@ -2,6 +2,7 @@
 """Times `bdbtool` beside the original library's tools, both in one run on the same files.
 
 usage: times.py verify|kinds|chains|dump|load|salvage [PROGRAM]
+       times.py before PROGRAM BEFORE
 
 PROGRAM is the built program; without it, crates/bdbtool/out/bdbtool. The files are made with `db5.3_load` in a temporary folder.
 Prints a Markdown table. `verify` stands beside `db5.3_verify`, on a btree and a hash of tenfold growing numbers of pairs: seconds by
@@ -10,11 +11,15 @@ wouldn't fit into the longest input. `kinds` has `verify` on files of each kind 
 grow longer, one by one: seconds of user time. `dump` stands beside `db5.3_dump -k`, on a file of each kind: seconds of user time, and peak
 memory. `load` stands beside `db5.3_load`, on the texts that `dump` gives of such files and of files with a quarter of the items. `salvage` stands beside
 `db5.3_dump -r`, on the files of `kinds`, and on each of them with every hundredth page overwritten by other bytes: seconds of user time,
-peak memory, and how many pairs or records each gives. Where the program or the library's tools are missing, nothing is timed. docs/BENCH.md says how to read the tables.
+peak memory, and how many pairs or records each gives. `before` has `verify` of two programs by turns, on the files of `kinds` and `chains` and on the
+files of `verify` that have a million pairs: the least user and system time of each, and their ratio. Where the program or the library's tools are missing, nothing is
+timed. docs/BENCH.md says how to read the tables.
 """
+import itertools
 import os
 import pathlib
 import random
+import resource
 import shutil
 import struct
 import subprocess
@@ -41,6 +46,10 @@ USER_COLUMNS = ("File", "Bytes of the file", "`bdbtool`", "`db5.3_verify`", "Rat
 SMALL_PAGE = 512
 CHAINS = (50_000, 100_000, 200_000, 500_000)
 FREE_PAGES = 18_000
+
+# `before`
+TURNS = 15
+BEFORE_COLUMNS = ("File", "Bytes of the file", "Program", "Before", "Ratio")
 
 # `dump`
 MILLION = 1_000_000
@@ -375,13 +384,42 @@ def time_salvage(program, folder):
         image.unlink()
 
 
+def chains(folder):
+    """A file with each chain, and one with free pages, one after another."""
+    for pages in CHAINS:
+        yield f"a chain of {pages:,} pages", make(f"chain-{pages}", "btree", one_chain(pages), folder, SMALL_PAGE)
+    yield f"{FREE_PAGES:,} free pages", free_list(FREE_PAGES, folder)
+
+
 def time_chains(program, folder):
     """The table of `verify` on chains."""
     print_head(USER_COLUMNS)
-    for pages in CHAINS:
-        image = make(f"chain-{pages}", "btree", one_chain(pages), folder, SMALL_PAGE)
-        print_user(f"a chain of {pages:,} pages", program, image)
-    print_user(f"{FREE_PAGES:,} free pages", program, free_list(FREE_PAGES, folder))
+    for name, image in chains(folder):
+        print_user(name, program, image)
+
+
+def growing(folder):
+    """The file of each kind in the table of `verify` that has a million pairs."""
+    for kind in KINDS:
+        yield f"{kind}, data of 0 to 63", make(f"{kind}-{MILLION}", kind, pairs(MILLION, 0), folder)
+
+
+def processor_seconds(words, image):
+    """The user and system time of a run: both, since they are told apart by ticks of the clock alone, which is too coarse for a short run."""
+    before = resource.getrusage(resource.RUSAGE_CHILDREN)
+    spent(words, image)
+    after = resource.getrusage(resource.RUSAGE_CHILDREN)
+    return after.ru_utime + after.ru_stime - before.ru_utime - before.ru_stime
+
+
+def time_before(program, before, folder):
+    """The table of two programs. They run by turns, so that other work on the machine slows both."""
+    print_head(BEFORE_COLUMNS)
+    for name, image in itertools.chain(kinds(folder), growing(folder), chains(folder)):
+        rounds = [[processor_seconds([it, "verify"], image) for it in (program, before)] for _ in range(TURNS)]
+        own, other = map(min, zip(*rounds))
+        print_row([name, f"{image.stat().st_size:,}", f"{own:.3g}", f"{other:.3g}", f"{own / max(other, 0.001):.3f}"])
+        image.unlink()
 
 
 TABLES = {
@@ -394,17 +432,23 @@ TABLES = {
 }
 
 
-def main(table, program):
-    tool, fill = TABLES[table]
-    if lack := missing(program, tool):
+def main(table, program, before=None):
+    tool, fill = TABLES.get(table, ("db5.3_load", None))
+    if lack := next(filter(None, (missing(it, tool) for it in (program, before or program))), None):
         sys.exit(f"skipped: {lack}")
     with tempfile.TemporaryDirectory() as name:
         folder = pathlib.Path(name)
         (folder / "DB_CONFIG").write_text(CACHE)
-        fill(program, folder)
+        if before:
+            time_before(program, before, folder)
+        else:
+            fill(program, folder)
 
 
 if __name__ == "__main__":
-    if len(sys.argv) not in (2, 3) or sys.argv[1] not in TABLES:
+    if len(sys.argv) == 4 and sys.argv[1] == "before":
+        main(*sys.argv[1:])
+    elif len(sys.argv) in (2, 3) and sys.argv[1] in TABLES:
+        main(sys.argv[1], sys.argv[2] if len(sys.argv) == 3 else TOP / "crates/bdbtool/out/bdbtool")
+    else:
         sys.exit(__doc__)
-    main(sys.argv[1], sys.argv[2] if len(sys.argv) == 3 else TOP / "crates/bdbtool/out/bdbtool")

@@ -36,7 +36,7 @@ use Rattle.bdb_leaves.specs.Spread.{spread_on}
 use Rattle.bdb_leaves.specs.Units.{page_room}
 use Rattle.bdb_buckets.specs.Tables.{Keyed, dealt, table_meta}
 use Rattle.bdb_mkhash.specs.Buckets.{bits_for, buckets_of, spread_bucket, table_bits, table_size}
-use Rattle.bdb_mkhash.specs.Costs.{unit_cost}
+use Rattle.bdb_mkhash.specs.Costs.{keyed_cost}
 use Rattle.bdb_buckets.proofs.TableLemmas.{group_low}
 
 -- How many bits.
@@ -84,7 +84,7 @@ buckets_fit size sorted units =
     let many : length (buckets_of bits units) ≡ 2 ^ bits = length-map-range_with_len (dealt bits units) 0 (2 ^ bits) in
     let each : length (buckets_of bits units) ≤ sum_by (λ bucket. length (spread_bucket size bucket)) (buckets_of bits units) =
     sum_some (λ bucket. length (spread_bucket size bucket)) (buckets_of bits units)
-    (λ bucket. spread_some (page_room size) (unit_cost size) (unit_cost size) (page_room size) [] bucket) in
+    (λ bucket. spread_some (page_room size) (keyed_cost size) (keyed_cost size) (page_room size) [] bucket) in
     omega (arith, many, each)
 
 -- Masks and spares.

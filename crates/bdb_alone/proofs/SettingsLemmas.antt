@@ -11,10 +11,10 @@ use Rattle.bdb_format.specs.Flags.{names_databases}
 use Rattle.bdb_format.specs.Page.{BtreeFields}
 use Rattle.bdb_format.specs.Table.{first_row}
 use Rattle.bdb_meta.specs.RowGroups.{flag_rows}
-use Rattle.bdb_model.specs.Written.{header_lines}
-use Rattle.bdb_model.specs.declared.list.Pair.{Pair}
+use Rattle.bdb_text_format.specs.Written.{header_lines}
+use Rattle.bdb_text_format.specs.declared.list.Pair.{Pair}
 use Rattle.bdb_leaves.proofs.RunLemmas.{all_map}
-use Rattle.bdb_mktree.specs.Lists.{IsKeyFor, IsListFor, IsPairFor, is_in_order, may_follow}
+use Rattle.bdb_mktree.specs.Lists.{IsKeyFor, IsTreeList, IsPairFor, is_in_order, may_follow}
 use Rattle.bdb_alone.specs.Trees.{IsTreeSettings}
 use Rattle.bdb_alone.specs.Settled.{file_settings, own_settings, tree_meta}
 
@@ -99,7 +99,7 @@ pair_own Queue size order settings pair same is =
     record { key = subst (λ q. IsKeyFor q pair.key) same is.key; short = is.short; long = λ e. absurd (cc e) }
 
 -- a list for settings is one for the database's own
-pub list_own : (settings : Settings) (pairs : List Pair) → IsListFor settings pairs → IsListFor (file_settings settings) pairs
+pub list_own : (settings : Settings) (pairs : List Pair) → IsTreeList settings pairs → IsTreeList (file_settings settings) pairs
 list_own settings pairs is = record {
   each =
       all_map {P = IsPairFor settings} {Q = IsPairFor (file_settings settings)}

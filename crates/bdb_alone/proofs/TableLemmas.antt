@@ -17,13 +17,13 @@ use Rattle.bdb_format.specs.Reading.{hash_fields}
 use Rattle.bdb_format.specs.Spelling.{table_bytes}
 use Rattle.bdb_format.proofs.SizeLemmas.{size_bounds}
 use Rattle.std.proofs.lemmas.List.FromFn.{length-map-range_with_len}
-use Rattle.bdb_model.specs.declared.list.Pair.{Pair}
-use Rattle.bdb_model.specs.Pairs.{listed}
+use Rattle.bdb_text_format.specs.declared.list.Pair.{Pair}
+use Rattle.bdb_text_format.specs.Pairs.{listed}
 use Rattle.bdb_pack.specs.Built.{AreWhole, Built, bytes_of, joined_pages, with_zeros, written_over}
 use Rattle.bdb_pack.proofs.CutLemmas.{written_whole}
 use Rattle.bdb_join.specs.Alone.{IsSoundAlone}
 use Rattle.bdb_join.specs.Written.{AreLegal}
-use Rattle.bdb_buckets.specs.Tables.{HasUnsortedBuckets, table_meta}
+use Rattle.bdb_buckets.specs.Tables.{HasBuiltBuckets, table_meta}
 use Rattle.bdb_mkhash.specs.Buckets.{table_bits, table_size, table_units}
 use Rattle.bdb_mkhash.specs.Table.{IsTableBuilt}
 use Rattle.bdb_alone.specs.Settled.{file_settings, own_settings}
@@ -73,7 +73,7 @@ pub record IsTableFiled (settings : Settings) (list : List Pair) (empty added bu
   pub fields : hash_fields settings.order page ≡ meta
   pub image_is : image ≡ joined_pages (written_over built 0 page).pages
 
--- then the image is that of the table, whose buckets are unsorted
+-- then the image is that of the table, whose buckets are as built
 pub table_filed : (settings : Settings) (list : List Pair) (empty added built : Built) (meta : HashMeta) (count elements : ℕ)
     (lent page image : List ℕ) → IsTableFiled settings list empty added built meta count elements lent page image → IsTableImage settings list image
 table_filed settings list empty added built meta count elements lent page image is =
@@ -91,7 +91,7 @@ table_filed settings list empty added built meta count elements lent page image 
             ∙ (ap (λ k. own_settings k settings.page_size settings.order settings) (sym is.kind) ∙ sym is.own))));
         list = ap (λ m. list_of (file_of image) (HashFields m)) (sym meta_is) ∙ sound.list;
       };
-      unsorted = subst (HasUnsortedBuckets (file_of image)) meta_is both.1;
+      buckets = subst (HasBuiltBuckets (file_of image)) meta_is both.1;
     }
   where
     one : length added.pages ≡ 1
@@ -157,7 +157,7 @@ table_filed settings list empty added built meta count elements lent page image 
     under : IsUnderMeta built Hash page image
     under = under_table built page elements meta image written
 
-    both : IsSoundAlone image (table_part built meta (listed list)) × HasUnsortedBuckets (file_of image) meta
+    both : IsSoundAlone image (table_part built meta (listed list)) × HasBuiltBuckets (file_of image) meta
     both = written_tables_are_sound settings added built (table_units list) (listed list) meta elements page image one is.table written
 
     sound : IsSoundAlone image (table_part built meta (listed list))

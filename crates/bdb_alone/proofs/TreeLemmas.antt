@@ -1,29 +1,43 @@
 -- A tree under the metadata that is written over page 0.
-use Rattle.std.proofs.Common.{◌≡◌, ℕ, ◌+◌, ◌-◌, ◌*◌, ◌<◌, ◌≤◌, ◌^◌, true, List, [], ◌∷◌, length, replicate}
+use Rattle.std.proofs.Common.{◌≡◌, ℕ, ◌+◌, ◌-◌, ◌*◌, ◌<◌, ◌≤◌, ◌^◌, true, List, [], ◌∷◌, length, replicate, take, Bool}
 use Rattle.std.proofs.Common.{arith, refl, sym, ◌∙◌, ap, subst, length-append, IsTrue}
-use Rattle.std.proofs.lemmas.List.{length-set}
+use Rattle.std.proofs.lemmas.List.{length-set, take_at}
 use Rattle.bdb_format.specs.declared.kinds.Order.{Order}
 use Rattle.bdb_format.specs.declared.metadata.BtreeMeta.{BtreeMeta}
 use Rattle.bdb_format.specs.declared.settings.Settings.{Settings}
 use Rattle.bdb_format.specs.Databases.{settings_of}
+use Rattle.bdb_format.specs.File.{file_of}
 use Rattle.bdb_format.specs.HeadOf.{head_of, is_page_size}
 use Rattle.bdb_format.specs.Page.{BtreeFields}
 use Rattle.bdb_format.specs.Reading.{btree_fields, is_zero}
 use Rattle.bdb_format.specs.Spelling.{btree_bytes}
 use Rattle.bdb_format.proofs.SizeLemmas.{size_bounds}
-use Rattle.bdb_model.specs.declared.list.Pair.{Pair}
-use Rattle.bdb_model.specs.Pairs.{listed}
-use Rattle.bdb_pack.specs.Built.{AreWhole, Built, bytes_of, joined_pages, with_page, with_zeros, written_over}
+use Rattle.bdb_text_format.specs.declared.list.Pair.{Pair}
+use Rattle.bdb_text_format.specs.Pairs.{listed}
+use Rattle.bdb_grove.specs.Growing.{IsCounted, IsLater}
+use Rattle.bdb_grove.specs.Part.{between}
+use Rattle.bdb_grove.proofs.ChainLemmas.{between_is}
+use Rattle.bdb_pack.specs.Built.{AreWhole, Built, bytes_of, file_so_far, joined_pages, with_page, with_zeros, written_over}
 use Rattle.bdb_pack.proofs.AddedLemmas.{added_zero}
 use Rattle.bdb_pack.proofs.CutLemmas.{all_size, page_whole, written_whole}
+use Rattle.bdb_pack.proofs.ImageLemmas.{counted_so_far}
 use Rattle.bdb_join.specs.Alone.{IsSoundAlone}
+use Rattle.bdb_join.proofs.ReadLemmas.{page_read}
 use Rattle.bdb_join.specs.Written.{HasHead, HoldsTree, IsWritten, tree_part}
-use Rattle.bdb_join.proofs.WrittenLemmas.{written_pages_are_read, written_trees_are_sound}
+use Rattle.bdb_join.proofs.WrittenLemmas.{above_stay, written_pages_are_read, written_trees_are_sound}
+use Rattle.bdb_leaves.specs.Layout.{AreTreesIn, HasPagesOf}
 use Rattle.bdb_leaves.specs.Spread.{tree_size}
+use Rattle.bdb_leaves.specs.Units.{TreeUnit}
+use Rattle.bdb_leaves.specs.declared.leaf_type.LeafType.{LeafType}
+use Rattle.bdb_leaves.proofs.FilledLemmas.{later_self}
+use Rattle.bdb_leaves.proofs.LayoutLemmas.{trees_are_in}
+use Rattle.bdb_leaves.proofs.RunLemmas.{later_before}
+use Rattle.bdb_mkqueue.proofs.WrittenLemmas.{begins}
 use Rattle.bdb_mktree.specs.Building.{IsTreeBuilt}
 use Rattle.bdb_mktree.specs.Lists.{units_in}
-use Rattle.bdb_mktree.specs.Units.{leaf_type_of}
-use Rattle.bdb_alone.specs.Trees.{IsTreeImage, IsTreeSettings}
+use Rattle.bdb_mktree.specs.Units.{is_counted, leaf_type_of}
+use Rattle.bdb_need.specs.Need.{tree_pages}
+use Rattle.bdb_alone.specs.Trees.{IsTreeImage, IsTreeSettings, tree_first}
 use Rattle.bdb_alone.specs.Settled.{file_settings, tree_meta}
 use Rattle.bdb_alone.proofs.SettingsLemmas.{SaysSettings, says_settings}
 use Rattle.bdb_join.proofs.FiledLemmas.{length-btree}
@@ -72,7 +86,13 @@ topped_image settings list old built root meta image is image_is =
     record {
       sound = alone.verdict;
       size = long;
+      first_is = first;
+      laid_out =
+          subst (AreTreesIn type image settings.page_size counted units) is.tree.root_is
+          (subst (λ n. AreTreesIn type image n counted units root) is.size
+          (trees_are_in type built (between 1 (length built.pages)) counted units root is.tree.laid_out is.tree.sets_laid_out image has_pages));
       fields = BtreeFields meta;
+      fields_are = ap (λ m. BtreeFields m) meta_at;
       alone = alone.alone;
       settings_are =
           ap (λ n. settings_of n (head_of image).order (BtreeFields meta)) (head.tells.size ∙ is.size)
@@ -119,6 +139,60 @@ topped_image settings list old built root meta image is image_is =
 
     fills : length page ≡ built.size
     fills = length-btree built.order built.size 0 (length built.pages - 1) meta (omega (arith, (size_bounds built.size is.legal).0))
+
+    units : List TreeUnit
+    units = units_in settings.kind list
+
+    type : LeafType
+    type = leaf_type_of settings.kind
+
+    counted : Bool
+    counted = is_counted settings.kind settings.recnum
+
+    meta_at : meta ≡ tree_meta settings 1
+    meta_at = is.meta_is ∙ ap (tree_meta settings) is.tree.root_is
+
+    after : Built
+    after = with_page built 0 page
+
+    count : length after.pages ≡ length built.pages
+    count = length-set built.pages 0 page
+
+    -- the pages above page 0 stand in the image
+    kept : IsCounted (file_of image) × IsLater (between 1 (length built.pages)) (file_so_far built) (file_of image)
+    kept =
+        subst (λ g. IsCounted g × IsLater (between 1 (length built.pages)) (file_so_far built) g)
+        (sym (written_pages_are_read built page meta image written).1) (
+          counted_so_far after (omega (arith, count, some)),
+          later_before built after (between 1 (length built.pages)) (between 1 (length built.pages)) (file_so_far after) refl (omega (arith, count))
+              (λ p at. at)
+              (λ p at. let within = between_is 1 (length built.pages) p at in (within.1, above_stay built page p within.0))
+              (later_self after (between 1 (length built.pages))),
+        )
+
+    has_pages : HasPagesOf built (between 1 (length built.pages)) image
+    has_pages = record {
+      counted = kept.0;
+      later = kept.1;
+      order = head.tells.order;
+      same = λ p at there.
+          page_read after image (head_of image) p (page_whole built 0 page is.whole low fills) image_is head.tells.size (omega (arith, there, count))
+          ∙ above_stay built page p (between_is 1 (length built.pages) p at).0;
+    }
+
+    last : length built.pages - 1 ≡ tree_pages settings list
+    last = omega (arith, is.tree.count, ap (λ n. tree_size type n settings.sorted units) is.size)
+
+    first : take settings.page_size image ≡ tree_first settings list
+    first =
+        let begun = begins built.pages page some in
+        ap (λ n. take n image) (sym is.size)
+        ∙ (ap (take built.size) (image_is ∙ begun.1)
+        ∙ (take_at page begun.0 built.size fills
+        ∙ (ap (λ o. btree_bytes o built.size 0 (length built.pages - 1) meta) is.order
+        ∙ (ap (λ n. btree_bytes settings.order n 0 (length built.pages - 1) meta) is.size
+        ∙ (ap (λ n. btree_bytes settings.order settings.page_size 0 n meta) last
+        ∙ ap (btree_bytes settings.order settings.page_size 0 (tree_pages settings list)) meta_at)))))
 
     long : length image
         ≡ (1 + tree_size (leaf_type_of settings.kind) settings.page_size settings.sorted (units_in settings.kind list)) * settings.page_size

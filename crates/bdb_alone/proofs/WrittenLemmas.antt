@@ -69,7 +69,7 @@ under_table built page elements meta image is = record {
 
 pub written_tables_are_sound : WrittenTablesAreSound
 written_tables_are_sound settings old built units list meta elements page image one table is =
-    (joins_alone image part formed_all alone, table.unsorted (file_of image) image_later.counted later)
+    (joins_alone image part formed_all alone, table.buckets (file_of image) image_later.counted later)
   where
     part : Part
     part = table_part built meta list

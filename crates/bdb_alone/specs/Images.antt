@@ -11,15 +11,15 @@ use Rattle.bdb_format.specs.Rows.{records_per_page}
 use Rattle.bdb_format.specs.Spelling.{queue_bytes, table_bytes}
 use Rattle.bdb_format.specs.Databases.{databases, settings_of}
 use Rattle.bdb_format.specs.Verdict.{verdict_of}
-use Rattle.bdb_model.specs.declared.list.Pair.{Pair}
-use Rattle.bdb_model.specs.Pairs.{listed}
-use Rattle.bdb_buckets.specs.Tables.{HasUnsortedBuckets, table_meta}
+use Rattle.bdb_text_format.specs.declared.list.Pair.{Pair}
+use Rattle.bdb_text_format.specs.Pairs.{listed}
+use Rattle.bdb_buckets.specs.Tables.{HasBuiltBuckets, table_meta}
 use Rattle.bdb_mkhash.specs.Buckets.{table_bits, table_size, table_units}
 use Rattle.bdb_mkqueue.specs.Layout.{queue_meta, queue_size}
 
 -- A sound image of so many pages with one database, without a name: its metadata is this, says these settings, and gives this list. Page 0 has
 -- these bytes.
-pub record IsImageOf (settings : Settings) (pairs : List Pair) (pages : ℕ) (first : List ℕ) (fields : Metadata) (image : List ℕ) : Type 0 where
+pub record IsLoneImage (settings : Settings) (pairs : List Pair) (pages : ℕ) (first : List ℕ) (fields : Metadata) (image : List ℕ) : Type 0 where
   pub sound : verdict_of image ≡ None
   pub size : length image ≡ pages * settings.page_size
   pub first_is : take settings.page_size image ≡ first
@@ -37,7 +37,7 @@ queue_first settings pairs = queue_bytes settings.order settings.page_size (queu
 -- the image of a queue with these settings and this list
 abbrev pub IsQueueImage : Settings → List Pair → List ℕ → Type 0
 IsQueueImage settings pairs image =
-    IsImageOf settings pairs (1 + queue_pages settings pairs) (queue_first settings pairs) (QueueFields (queue_meta settings pairs)) image
+    IsLoneImage settings pairs (1 + queue_pages settings pairs) (queue_first settings pairs) (QueueFields (queue_meta settings pairs)) image
 
 -- the pages of a table, its metadata, whose buckets begin on page 1, and the metadata as page 0 spells it: the elements are the pairs
 abbrev pub table_pages : Settings → List Pair → ℕ
@@ -50,7 +50,7 @@ abbrev pub table_first : Settings → List Pair → List ℕ
 table_first settings pairs =
     table_bytes settings.order settings.page_size 0 (table_pages settings pairs) (length pairs) (table_fields settings pairs)
 
--- the image of a hash with these settings and this list, whose buckets are unsorted
+-- the image of a hash with these settings and this list, whose buckets are unsorted, and whose trees of data say how many data there are
 pub record IsTableImage (settings : Settings) (pairs : List Pair) (image : List ℕ) : Type 0 where
-  pub is : IsImageOf settings pairs (1 + table_pages settings pairs) (table_first settings pairs) (HashFields (table_fields settings pairs)) image
-  pub unsorted : HasUnsortedBuckets (file_of image) (table_fields settings pairs)
+  pub is : IsLoneImage settings pairs (1 + table_pages settings pairs) (table_first settings pairs) (HashFields (table_fields settings pairs)) image
+  pub buckets : HasBuiltBuckets (file_of image) (table_fields settings pairs)

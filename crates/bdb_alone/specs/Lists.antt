@@ -6,20 +6,22 @@ use Rattle.bdb_format.specs.declared.kinds.Kind.TheVariants.{Hash, Queue}
 use Rattle.bdb_format.specs.declared.settings.Settings.{Settings}
 use Rattle.bdb_format.specs.HeadOf.{is_page_size}
 use Rattle.bdb_format.specs.Numbers.{pad4}
-use Rattle.bdb_model.specs.declared.list.Pair.{Pair}
-use Rattle.bdb_model.specs.declared.pairs.TextPair.{TextPair}
-use Rattle.bdb_model.specs.declared.sections.Section.{Section}
-use Rattle.bdb_settle.specs.ListLaw.{IsFit}
+use Rattle.bdb_text_format.specs.declared.list.Pair.{Pair}
+use Rattle.bdb_text_format.specs.declared.pairs.TextPair.{TextPair}
+use Rattle.bdb_text_format.specs.declared.sections.Section.{Section}
+use Rattle.bdb_text_format.specs.Pairs.{AscendFrom}
+use Rattle.bdb_settle.specs.ListLaw.{HasShortBytes, IsFit}
 use Rattle.bdb_settle.specs.LoadErrors.{load_error}
 use Rattle.bdb_settle.specs.Loaded.{loaded}
 use Rattle.bdb_mkhash.specs.Table.{IsTableList}
-use Rattle.bdb_mkqueue.specs.Lists.{AscendFrom, HasLength, HasNext, IsListFor}
+use Rattle.bdb_mkqueue.specs.Lists.{HasLength, HasNext, IsQueueList}
 use Rattle.bdb_alone.specs.Images.{queue_pages}
 
--- where no error holds, each section of a hash loads into a list that a table can be built of
+-- where no error holds, each section of a hash loads into a list that a table can be built of, if its bytes have lengths that fit
 abbrev pub LoadIntoTables : Type 0
 LoadIntoTables = (sections : List Section) → load_error sections ≡ None
-    → All (λ section. section.settings.kind ≡ Hash → IsFit section → IsTableList section.settings (loaded section.settings section.pairs)) sections
+    → All (λ section. section.settings.kind ≡ Hash → IsFit section → All HasShortBytes (loaded section.settings section.pairs)
+    → IsTableList section.settings (loaded section.settings section.pairs)) sections
 
 -- the number after that of a record fits its field
 abbrev pub TextHasNext : TextPair → Type 0
@@ -30,7 +32,7 @@ TextHasNext pair = HasNext (record { key = pair.key; value = pair.value })
 abbrev pub LoadIntoQueues : Type 0
 LoadIntoQueues = (sections : List Section) → load_error sections ≡ None
     → All (λ section. section.settings.kind ≡ Queue → section.settings.fixed ≡ true → IsFit section → All TextHasNext section.pairs
-    → IsListFor section.settings (loaded section.settings section.pairs)) sections
+    → IsQueueList section.settings (loaded section.settings section.pairs)) sections
 
 -- a section of a queue as it loads: it is alone, without a name, its record fits a page, numbers ascend from 1, and records have one length
 pub record IsQueueAlone (sections : List Section) (section : Section) : Type 0 where

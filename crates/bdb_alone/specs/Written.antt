@@ -12,7 +12,7 @@ use Rattle.bdb_grove.specs.Part.{Part, between}
 use Rattle.bdb_pack.specs.Built.{Built, joined_pages, with_page}
 use Rattle.bdb_join.specs.Alone.{IsSoundAlone}
 use Rattle.bdb_join.specs.Written.{AreLegal}
-use Rattle.bdb_buckets.specs.Tables.{HasUnsortedBuckets, Keyed}
+use Rattle.bdb_buckets.specs.Tables.{HasBuiltBuckets, Keyed}
 use Rattle.bdb_mkhash.specs.Table.{IsTableBuilt}
 
 -- the image of pages after hash metadata is written over page 0, with a number of elements
@@ -26,9 +26,9 @@ pub record IsWrittenTable (built : Built) (page : List ℕ) (elements : ℕ) (me
 abbrev pub table_part : Built → HashMeta → List (ListKey × List ℕ) → Part
 table_part built meta list = record { pages = between 1 (length built.pages); fields = HashFields meta; list = list }
 
--- a table that was built behind page 0 is, under such metadata, a sound file with its list, whose buckets are unsorted
+-- a table that was built behind page 0 is, under such metadata, a sound file with its list, whose buckets are as built
 abbrev pub WrittenTablesAreSound : Type 0
 WrittenTablesAreSound =
     (settings : Settings) (old built : Built) (units : List Keyed) (list : List (ListKey × List ℕ)) (meta : HashMeta) (elements : ℕ)
     (page image : List ℕ) → length old.pages ≡ 1 → IsTableBuilt settings old built units list meta → IsWrittenTable built page elements meta image
-    → IsSoundAlone image (table_part built meta list) × HasUnsortedBuckets (file_of image) meta
+    → IsSoundAlone image (table_part built meta list) × HasBuiltBuckets (file_of image) meta

@@ -1,7 +1,7 @@
 ghost use Rattle.std.specs.Prelude.{◌≡◌, reverse, IfOk};
-ghost use Rattle.bdb_need.specs.Need.{pairs_in, unlined};
+ghost use Rattle.bdb_need.specs.Need.{unlined_pairs, unlined};
 
-use bdb_model::{Pair, PairList, TextPair, TextPairs};
+use bdb_text_format::{Pair, PairList, TextPair, TextPairs};
 use std::alloc::{AllocError, Global};
 
 // A pair without its line.
@@ -16,7 +16,7 @@ fn unlined(pair: TextPair) -> Pair
 
 // Pairs without their lines, the last one first.
 fn backward_pairs(alloc: Global, pairs: TextPairs) -> Result<Vec<Pair>, AllocError>
-    ensures { IfOk result (λ all. all.items ≡ reverse (pairs_in pairs)) }
+    ensures { IfOk result (λ all. all.items ≡ reverse (unlined_pairs pairs)) }
 {
     let mut pairs = pairs;
     let mut all = Vec::with_capacity(alloc, pairs.len())?;
@@ -28,7 +28,7 @@ fn backward_pairs(alloc: Global, pairs: TextPairs) -> Result<Vec<Pair>, AllocErr
 
 /// The pairs of a section as a list, in their order.
 pub fn listed_pairs(alloc: Global, pairs: TextPairs) -> Result<PairList, AllocError>
-    ensures { IfOk result (λ list. list ≡ pairs_in pairs) }
+    ensures { IfOk result (λ list. list ≡ unlined_pairs pairs) }
 {
     let mut backward = backward_pairs(alloc, pairs)?;
     let mut list = PairList::new(alloc);

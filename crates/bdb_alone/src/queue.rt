@@ -2,7 +2,7 @@ ghost use Rattle.std.specs.Prelude.{◌≡◌, ◌+◌, ◌-◌, ◌≤◌, IfOk
 ghost use Rattle.bdb_format.specs.declared.kinds.Kind.TheVariants.{Queue as QueueKind};
 ghost use Rattle.bdb_format.specs.HeadOf.{is_page_size};
 ghost use Rattle.bdb_format.specs.Numbers.{pad4};
-ghost use Rattle.bdb_mkqueue.specs.Lists.{IsListFor};
+ghost use Rattle.bdb_mkqueue.specs.Lists.{IsQueueList};
 ghost use Rattle.bdb_alone.specs.Settled.{file_settings};
 ghost use Rattle.bdb_alone.specs.Images.{IsQueueImage};
 
@@ -10,8 +10,8 @@ use bdb_format::Settings;
 use bdb_io::Image;
 use bdb_meta::put_queue_meta;
 use bdb_mkqueue::build_queue;
-use bdb_model::PairList;
 use bdb_pack::Pages;
+use bdb_text_format::PairList;
 use std::alloc::{AllocError, Global};
 
 /// The image of a queue with these settings and this list: page 0 is its metadata, and its pages follow. It is also refused where a record
@@ -21,7 +21,7 @@ pub fn queue_image(alloc: Global, settings: &Settings, list: &PairList) -> Resul
     requires own { settings.now ≡ file_settings settings.now }
     requires legal { IsTrue (is_page_size settings.now.page_size) }
     requires room { pad4 (settings.now.re_len + 1) ≤ settings.now.page_size - 28 }
-    requires list { IsListFor settings.now list.now }
+    requires list { IsQueueList settings.now list.now }
     ensures { IfOk result (λ image. IsQueueImage settings.now list.now image) }
 {
     let mut pages = Pages::new(alloc, settings.page_size, settings.order);

@@ -9,8 +9,8 @@ use bdb_format::Settings;
 use bdb_io::Image;
 use bdb_meta::put_hash_meta;
 use bdb_mkhash::build_table;
-use bdb_model::PairList;
 use bdb_pack::Pages;
+use bdb_text_format::PairList;
 use std::alloc::{AllocError, Global};
 
 /// How many pairs there are, where that fits the field of the metadata of a hash.

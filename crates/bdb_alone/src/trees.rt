@@ -2,7 +2,7 @@ ghost use Rattle.std.specs.Prelude.{◌≡◌, ◌≤◌, ◌^◌, IfOk, IsTrue,
 ghost use Rattle.bdb_format.specs.HeadOf.{is_page_size};
 ghost use Rattle.bdb_format.specs.Reading.{btree_fields, is_zero};
 ghost use Rattle.bdb_pack.specs.Built.{AreWhole, bytes_of, with_page};
-ghost use Rattle.bdb_mktree.specs.Lists.{IsListFor};
+ghost use Rattle.bdb_mktree.specs.Lists.{IsTreeList};
 ghost use Rattle.bdb_alone.specs.Trees.{IsTreeImage, IsTreeSettings};
 ghost use Rattle.bdb_alone.specs.Settled.{file_settings, first_bytes};
 
@@ -11,8 +11,8 @@ use bdb_format::{BtreeMeta, Settings};
 use bdb_io::Image;
 use bdb_meta::put_btree_meta;
 use bdb_mktree::build_tree;
-use bdb_model::PairList;
 use bdb_pack::Pages;
+use bdb_text_format::PairList;
 use std::alloc::{AllocError, Global};
 
 // Writes the metadata of a tree over page 0, which was kept for it.
@@ -35,7 +35,7 @@ fn put_first(pages: &mut Pages, meta: &BtreeMeta)
 pub fn tree_image(alloc: Global, settings: &Settings, list: &PairList) -> Result<Image, AllocError>
     requires settings { IsTreeSettings settings.now }
     requires own { settings.now ≡ file_settings settings.now }
-    requires list { IsListFor settings.now list.now }
+    requires list { IsTreeList settings.now list.now }
     ensures { IfOk result (λ image. IsTreeImage settings.now list.now image) }
 {
     let mut pages = Pages::new(alloc, settings.page_size, settings.order);

@@ -27,9 +27,8 @@ use Rattle.bdb_format.proofs.FileLemmas.{last_page, page_is, pages_counted}
 use Rattle.bdb_graph.specs.Linked.{IsForest}
 use Rattle.bdb_tree.proofs.TreeLemmas.{leaves_of_inner}
 use Rattle.bdb_btree.specs.Bounds.{DontFall, NoneBelow, OrderedIf}
-use Rattle.bdb_btree.specs.Rows.{next_pair, no_pairs_passed}
+use Rattle.bdb_btree.specs.Rows.{Passed, next_pair, no_pairs_passed}
 use Rattle.bdb_btree.specs.Runs.{KeyOrder, next_key}
-use Rattle.bdb_btree.specs.declared.pair_rows.Passed.{Passed}
 use Rattle.bdb_btree.proofs.OrderLemmas.{Shares, all_in_order, keys_alone}
 use Rattle.bdb_btree.proofs.PairLemmas.{PageShares, pages_share}
 use Rattle.bdb_form.proofs.FormedLemmas.{shared_after}

@@ -2,6 +2,7 @@ pub mod CheckLemmas
 pub mod CountLemmas
 pub mod FallLemmas
 pub mod FindLemmas
+pub mod HeldLemmas
 pub mod InnerLemmas
 pub mod NotedLemmas
 pub mod OrderLemmas

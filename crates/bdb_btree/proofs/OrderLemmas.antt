@@ -12,9 +12,8 @@ use Rattle.bdb_format.specs.File.{File}
 use Rattle.bdb_format.specs.Contents.{StoredPair}
 use Rattle.bdb_format.specs.ContentRows.{ascends, ascends_from, has_unsorted, is_out_of_order, is_unsorted, live_data, neighbours, neighbours_from}
 use Rattle.bdb_format.proofs.MemberLemmas.{member_cases, no_member}
-use Rattle.bdb_btree.specs.Rows.{has_wrong_order, next_pair, no_pairs_passed, passes}
+use Rattle.bdb_btree.specs.Rows.{Passed, has_wrong_order, next_pair, no_pairs_passed, passes}
 use Rattle.bdb_btree.specs.Runs.{KeyOrder, Run, follow, is_not_above, is_wrong_key, next_key}
-use Rattle.bdb_btree.specs.declared.pair_rows.Passed.{Passed}
 
 -- Keys.
 

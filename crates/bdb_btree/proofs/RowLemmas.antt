@@ -11,9 +11,8 @@ use Rattle.bdb_format.specs.File.{File, file_of}
 use Rattle.bdb_faults.specs.Notes.{Notes}
 use Rattle.bdb_graph.specs.Linked.{FitsTreeRoot, IsForest}
 use Rattle.bdb_btree.specs.Pairs.{AreFit, FitsPair}
-use Rattle.bdb_btree.specs.Rows.{has_wrong_order, next_pair, no_pairs_passed, pair_faults, pairs_faults, passes}
+use Rattle.bdb_btree.specs.Rows.{Passed, has_wrong_order, next_pair, no_pairs_passed, pair_faults, pairs_faults, passes}
 use Rattle.bdb_faults.specs.declared.rows.ContentsRow.TheVariants.{Duplicates, DuplicateKind, KeyOrder, DuplicateOrder}
-use Rattle.bdb_btree.specs.declared.pair_rows.Passed.{Passed}
 use Rattle.bdb_btree.specs.declared.pair_rows.Rules.{Rules}
 use Rattle.bdb_btree.proofs.NotedLemmas.{both_have, has, is_of, row_has}
 use Rattle.bdb_btree.proofs.OrderLemmas.{data_in_order, keys_in_order}

@@ -1,8 +1,8 @@
 -- Pages and items seen one after another.
 use Rattle.std.proofs.Common.{◌≡◌, ℕ, zero, suc, ◌+◌, ◌<◌, ◌≤◌, true, false, List, [], ◌∷◌, length, map, get_or, take, Some, arith, refl}
-use Rattle.std.proofs.Common.{sym, ◌∙◌, ap, subst, add-one}
+use Rattle.std.proofs.Common.{sym, ◌∙◌, ap, subst, add-one, Bool}
 use Rattle.std.specs.Prelude.{◌==◌}
-use Rattle.std.specs.List.{Contains, fold, slice_get}
+use Rattle.std.specs.List.{All, Contains, fold, slice_get}
 use Rattle.std.proofs.lemmas.Bool.{ne_eqb}
 use Rattle.std.proofs.lemmas.List.{take_all, take_more}
 use Rattle.std.proofs.lemmas.List.Elements.{Contains-get_or}
@@ -16,7 +16,7 @@ use Rattle.bdb_format.specs.Page.{InternalItem, Listed, Page, Internal}
 use Rattle.bdb_format.proofs.MemberLemmas.{in_map}
 use Rattle.bdb_graph.specs.Linked.{FitsLeafPage, IsForest}
 use Rattle.bdb_overflow.proofs.ContentLemmas.{got, key_fits}
-use Rattle.bdb_btree.specs.Bounds.{Bounds, ItemsFit, beyond, bounds_of, no_bounds, past, see_item, see_items, under, under_page, under_pair}
+use Rattle.bdb_btree.specs.Bounds.{Bounds, ItemsFit, OrderedIf, beyond, bounds_of, no_bounds, past, see_item, see_items, under, under_page, under_pair}
 use Rattle.bdb_tree.specs.Trees.{IsTreePage}
 use Rattle.bdb_btree.proofs.CountLemmas.{pages_folded}
 use Rattle.bdb_btree.proofs.SeparatorLemmas.{wrong_separators}
@@ -95,3 +95,10 @@ page_bounds file (item ∷ items) =
 
 pub page_wrong : (file : File) (page : Listed InternalItem) → (see_items file no_bounds page.items).wrong ≡ has_wrong_separator file (Internal page)
 page_wrong file page = ap (λ (b : Bounds). b.wrong) (page_bounds file page.items) ∙ wrong_separators (map (separated file) page.items)
+
+-- what is told of each item is so of this one
+pub order_at : (file : File) (ordered : Bool) (items : List InternalItem) (i : ℕ) (item : InternalItem) → slice_get items i ≡ Some item
+    → All (λ (other : InternalItem). OrderedIf ordered file other.child) items → OrderedIf ordered file item.child
+order_at file ordered items i item at all =
+    let found = got items i item item at in
+    subst (λ (other : InternalItem). OrderedIf ordered file other.child) found.1 (all i item found.0)

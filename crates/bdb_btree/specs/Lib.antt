@@ -1,5 +1,6 @@
 pub mod Bounds
 pub mod Counts
+pub mod Held
 pub mod Noted
 pub mod Pairs
 pub mod Rows

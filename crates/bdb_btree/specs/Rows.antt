@@ -8,9 +8,13 @@ use Rattle.bdb_format.specs.declared.kinds.Fault.{Fault}
 use Rattle.bdb_format.specs.ContentRows.{is_duplicate, is_out_of_order, is_wrong_set, neighbours}
 use Rattle.bdb_format.specs.Contents.{StoredPair}
 use Rattle.bdb_format.specs.File.{File}
-use Rattle.bdb_btree.specs.Runs.{next_data, next_key}
-use Rattle.bdb_btree.specs.declared.pair_rows.Passed.{Passed}
+use Rattle.bdb_btree.specs.Runs.{KeyOrder as KeysPassed, Run, next_data, next_key}
 use Rattle.bdb_btree.specs.declared.pair_rows.Rules.{Rules}
+
+-- what is kept of the pairs that have been gone through
+pub record Passed : Type 0 where
+  pub keys : KeysPassed
+  pub values : Run
 
 abbrev pub no_pairs_passed : Passed
 no_pairs_passed =

@@ -20,6 +20,7 @@ use crate::separators::note_separators;
 use bdb_faults::{FaultSink, First, NamedList};
 use bdb_format::{BtreeMeta, CheckError};
 use bdb_graph::{Forest, Linked};
+use bdb_overflow::Values;
 use std::alloc::{AllocError, Global};
 
 /// No row on what a btree holds holds. A refusal is the first fault: the least page, and there the least code;
@@ -32,7 +33,7 @@ pub fn check(alloc: Global, linked: &Linked<'_>, meta: &BtreeMeta) -> Result<(),
     ensures refusal { IfErr result (IsFirstOf (database_faults (file_of linked.now) (BtreeFields meta.now))) }
 {
     let mut first = First::new();
-    let Ok(()) = note_contents(alloc, linked, meta, &mut first) else {
+    let Ok(()) = note_alone(alloc, linked, meta, &mut first) else {
         return Err(CheckError::Memory);
     };
     match first.fault() {
@@ -53,12 +54,11 @@ pub fn all_faults(
     requires stage { structure_faults (file_of linked.now) ≡ [] }
     ensures { OnOk result (NotesAll (HasNoted found.old) (HasNoted found.new) (database_faults (file_of linked.now) (BtreeFields meta.now))) }
 {
-    note_contents(alloc, linked, meta, found)
+    note_alone(alloc, linked, meta, found)
 }
 
-/// Notes each row on what a btree holds at each page where it holds, in any order and repeats allowed. An error is
-/// want of memory: the sink's, or that of 4 bytes for each internal page and 8 for each page below one.
-pub fn note_contents<F: FaultSink>(
+/// The same for any sink.
+fn note_alone<F: FaultSink>(
     alloc: Global,
     linked: &Linked<'_>,
     meta: &BtreeMeta,
@@ -67,20 +67,42 @@ pub fn note_contents<F: FaultSink>(
     requires meta { HasMetadata (file_of linked.now) (BtreeFields meta.now) }
     requires keyed { is_recno meta.now ≡ false }
     requires stage { structure_faults (file_of linked.now) ≡ [] }
-    ensures { OnOk result (NotesAll (F.has_noted found.old) (F.has_noted found.new)
+    ensures { OnOk result (NotesAll (F.has_noted found.old) (F.has_noted found.new) (database_faults (file_of linked.now) (BtreeFields meta.now))) }
+{
+    let mut known = Values::new(alloc, linked.forest());
+    note_contents(alloc, linked, meta, &mut known, found)
+}
+
+/// Notes each row on what a btree holds at each page where it holds, in any order and repeats allowed. What is found of chains
+/// that are shared is kept for other databases of the file. An error is want of memory: the sink's, that for these chains, or
+/// that of 4 bytes for each internal page and 8 for each page below one.
+pub fn note_contents<'a, F: FaultSink>(
+    alloc: Global,
+    linked: &Linked<'a>,
+    meta: &BtreeMeta,
+    known: &mut Values<'a>,
+    found: &mut F,
+) -> Result<(), AllocError>
+    requires meta { HasMetadata (file_of linked.now) (BtreeFields meta.now) }
+    requires keyed { is_recno meta.now ≡ false }
+    requires stage { structure_faults (file_of linked.now) ≡ [] }
+    requires known { known.old ≡ linked.now }
+    ensures noted { OnOk result (NotesAll (F.has_noted found.old) (F.has_noted found.new)
         (database_faults (file_of linked.now) (BtreeFields meta.now))) }
+    ensures same { known.new ≡ known.old }
 {
     linked.root(meta);
-    note_forest(alloc, &linked.forest(), meta, found)?;
+    note_forest(alloc, &linked.forest(), meta, known, found)?;
     Ok(())
 }
 
 /// The same, of the forest of a file.
 #[tactic(auto, using(crate::proofs::RootLemmas::root_keyed, crate::proofs::CountLemmas::keyed_is_tree, crate::proofs::InnerLemmas::all_ordered))]
-fn note_forest<F: FaultSink>(
+fn note_forest<'a, F: FaultSink>(
     alloc: Global,
-    forest: &Forest<'_>,
+    forest: &Forest<'a>,
     meta: &BtreeMeta,
+    known: &mut Values<'a>,
     found: &mut F,
 ) -> Result<(), AllocError>
     requires forest { IsForest forest.now }
@@ -88,16 +110,18 @@ fn note_forest<F: FaultSink>(
     requires keyed { is_recno meta.now ≡ false }
     requires root { FitsTreeRoot (file_of forest.now) meta.now.root }
     requires stage { structure_faults (file_of forest.now) ≡ [] }
-    ensures { OnOk result (NotesAll (F.has_noted found.old) (F.has_noted found.new)
+    requires known { known.old ≡ forest.now }
+    ensures noted { OnOk result (NotesAll (F.has_noted found.old) (F.has_noted found.new)
         (database_faults (file_of forest.now) (BtreeFields meta.now))) }
+    ensures same { known.new ≡ known.old }
 {
     let rules = Rules {
         duplicates: has_bit(meta.flags, 0x41),
         sorted: has_bit(meta.flags, 0x40),
     };
-    let ordered = note_pairs(forest, meta.root, rules, found)?;
+    let ordered = note_pairs(known, meta.root, rules, found)?;
     let pages = inner_pages(alloc, forest, meta.root)?;
-    note_separators(alloc, forest, &pages, ordered, found)?;
+    note_separators(alloc, known, &pages, ordered, found)?;
     note_counted(alloc, forest, has_bit(meta.flags, 0x04), &pages, found)?;
     Ok(())
 }

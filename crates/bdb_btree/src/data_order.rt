@@ -1,48 +1,46 @@
-ghost use Rattle.std.specs.Prelude.{◌≡◌, if◌then◌else◌, false, [], None};
+ghost use Rattle.std.specs.Prelude.{◌≡◌, if◌then◌else◌, false, [], None, OnOk};
 ghost use Rattle.std.specs.List.{fold};
-ghost use Rattle.bdb_btree.specs.Pairs.{FitsPair, FitsSet, pair_seen};
+ghost use Rattle.bdb_btree.specs.Held.{pair_held, run_seen, stored_as};
+ghost use Rattle.bdb_btree.specs.Pairs.{FitsPair, FitsSet};
 ghost use Rattle.bdb_btree.specs.Runs.{follow, next_data};
-ghost use Rattle.bdb_overflow.specs.Datum.{FitsContent, datum_seen};
+ghost use Rattle.bdb_overflow.specs.Datum.{FitsContent};
+ghost use Rattle.bdb_overflow.specs.Held.{FitsAny, FitsHeld, value_held};
 ghost use Rattle.bdb_layout.specs.Seen.{leaf_item_seen};
 ghost use Rattle.bdb_format.specs.Contents.{data_of};
 ghost use Rattle.bdb_format.specs.File.{file_of};
+ghost use Rattle.bdb_format.specs.Page.{Tree};
 ghost use Rattle.bdb_format.specs.Verdict.{structure_faults};
+ghost use Rattle.bdb_graph.specs.Linked.{FitsDupRoot};
 
-use crate::data::item_data;
+use crate::held::HeldPair;
 use crate::order::is_not_above;
-use crate::pair::Pair;
-use bdb_graph::Forest;
 use bdb_layout::LeafItem;
-use bdb_overflow::Datum;
-use std::marker::Model;
+use bdb_overflow::{Held, Values, is_deleted, leaf_held};
+use bdb_tree::tree_entries;
+use std::alloc::AllocError;
 
 /// Values that ought to ascend: the last one, and whether some value wasn't above the one before it.
 #[derive(Drop)]
 pub(crate) struct Run<'a> {
-    last: Option<Datum<'a>>,
+    last: Option<Held<'a>>,
     broken: bool,
 }
 
-impl<'a> Model for Run<'a> {
-    ghost use Rattle.std.specs.Option.{option_map};
-    ghost use Rattle.bdb_btree.specs.Runs.{Run as RunSeen};
-
-    ghost Value = { RunSeen };
-
-    ghost use Rattle.bdb_overflow.specs.Datum.{datum_seen};
-
-    ghost view = { λ v. record { last = option_map datum_seen v.last; broken = v.broken } };
-}
-
 impl<'a> Run<'a> {
-    /// The next value.
-    fn follow(&mut self, value: Datum<'a>)
-        ensures { self.new ≡ follow self.old (datum_seen value.entry) }
+    /// The next value. An error is want of memory.
+    fn follow(&mut self, known: &mut Values<'a>, value: Held<'a>) -> Result<(), AllocError>
+        requires last { FitsAny (file_of known.old) self.old.last }
+        requires value { FitsHeld (file_of known.old) value }
+        ensures run { OnOk result (run_seen (file_of known.old) self.new
+            ≡ follow (run_seen (file_of known.old) self.old) (value_held (file_of known.old) value.entry)) }
+        ensures fits { OnOk result (FitsAny (file_of known.old) self.new.last) }
+        ensures same { known.new ≡ known.old }
     {
-        if is_not_above(&self.last, &value) {
+        if is_not_above(known, self.last, value)? {
             self.broken = true;
         }
         self.last = Some(value);
+        Ok(())
     }
 }
 
@@ -67,30 +65,65 @@ impl<'a> Run<'a> {
         self.broken = false;
     }
 
-    /// The data of a data item.
-    fn see_content(&mut self, forest: &Forest<'a>, item: &LeafItem<'a>)
-        requires content { FitsContent (file_of forest.now) (leaf_item_seen item.now).content }
-        requires set { FitsSet (file_of forest.now) (leaf_item_seen item.now).content }
-        requires stage { structure_faults (file_of forest.now) ≡ [] }
-        ensures { self.new ≡ fold follow self.old (data_of (file_of forest.now) (leaf_item_seen item.now).content) }
+    /// The data of a set off the page, the live ones of its entries.
+    fn see_set(&mut self, known: &mut Values<'a>, root: u32) -> Result<(), AllocError>
+        requires last { FitsAny (file_of known.old) self.old.last }
+        requires root { FitsDupRoot (file_of known.old) root }
+        requires stage { structure_faults (file_of known.old) ≡ [] }
+        ensures run { OnOk result (run_seen (file_of known.old) self.new
+            ≡ fold follow (run_seen (file_of known.old) self.old) (data_of (file_of known.old) (Tree root))) }
+        ensures fits { OnOk result (FitsAny (file_of known.old) self.new.last) }
+        ensures same { known.new ≡ known.old }
     {
-        for value in item_data(forest, item) {
-            self.follow(value);
+        for entry in tree_entries(&known.forest(), root) {
+            if !is_deleted(&entry) {
+                self.follow(known, leaf_held(&entry))?;
+            }
+        }
+        Ok(())
+    }
+
+    /// The data of a data item.
+    #[tactic(auto, unfolding(bdb_format::specs::Contents::data_of, bdb_format::specs::Chains::value_of))]
+    fn see_content(&mut self, known: &mut Values<'a>, item: &LeafItem<'a>) -> Result<(), AllocError>
+        requires last { FitsAny (file_of known.old) self.old.last }
+        requires content { FitsContent (file_of known.old) (leaf_item_seen item.now).content }
+        requires set { FitsSet (file_of known.old) (leaf_item_seen item.now).content }
+        requires stage { structure_faults (file_of known.old) ≡ [] }
+        ensures run { OnOk result (run_seen (file_of known.old) self.new
+            ≡ fold follow (run_seen (file_of known.old) self.old) (data_of (file_of known.old) (leaf_item_seen item.now).content)) }
+        ensures fits { OnOk result (FitsAny (file_of known.old) self.new.last) }
+        ensures same { known.new ≡ known.old }
+    {
+        match *item {
+            LeafItem::Duplicates { root, .. } => self.see_set(known, root),
+            LeafItem::Inline { bytes, .. } => self.follow(known, Held::Inline(bytes)),
+            LeafItem::Overflow { head, .. } => self.follow(known, Held::Chained(head)),
         }
     }
 }
 
 impl<'a> Run<'a> {
-    /// The live data of the next pair: they have to ascend, and where it shares its key to follow those before.
-    pub(crate) fn see(&mut self, forest: &Forest<'a>, pair: &Pair<'a>)
-        requires fits { FitsPair (file_of forest.now) (pair_seen pair.now) }
-        requires stage { structure_faults (file_of forest.now) ≡ [] }
-        ensures { self.new ≡ next_data (file_of forest.now) self.old (pair_seen pair.now) }
+    /// The live data of the next pair: they have to ascend, and where it shares its key to follow those before. An error
+    /// is want of memory.
+    pub(crate) fn see(
+        &mut self,
+        known: &mut Values<'a>,
+        pair: &HeldPair<'a>,
+    ) -> Result<(), AllocError>
+        requires last { FitsAny (file_of known.old) self.old.last }
+        requires fits { FitsPair (file_of known.old) (stored_as (file_of known.old) (pair_held pair.now)) }
+        requires stage { structure_faults (file_of known.old) ≡ [] }
+        ensures run { OnOk result (run_seen (file_of known.old) self.new
+            ≡ next_data (file_of known.old) (run_seen (file_of known.old) self.old) (stored_as (file_of known.old) (pair_held pair.now))) }
+        ensures fits { OnOk result (FitsAny (file_of known.old) self.new.last) }
+        ensures same { known.new ≡ known.old }
     {
         self.begin(pair.shares);
-        if pair.live {
-            self.see_content(forest, &pair.item);
+        if !is_deleted(&pair.value) {
+            self.see_content(known, &pair.value)?;
         }
+        Ok(())
     }
 
     /// Whether some value of the last pair wasn't above the one before it.

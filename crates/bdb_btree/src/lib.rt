@@ -8,6 +8,7 @@ mod data_order;
 mod duplicates;
 mod entries;
 mod found;
+mod held;
 mod inner;
 mod leaf_pairs;
 mod lookups;

@@ -1,40 +1,42 @@
-ghost use Rattle.std.specs.Prelude.{◌≡◌, None, false, true};
+ghost use Rattle.std.specs.Prelude.{◌≡◌, IfOk, None, OnOk, false, true};
 ghost use Rattle.std.specs.Option.{option_map};
-ghost use Rattle.bdb_btree.specs.Pairs.{pair_seen};
+ghost use Rattle.bdb_format.specs.File.{file_of};
+ghost use Rattle.bdb_btree.specs.Held.{keys_seen, pair_held, stored_as};
 ghost use Rattle.bdb_btree.specs.Runs.{is_not_above, next_key};
-ghost use Rattle.bdb_overflow.specs.Datum.{datum_seen};
+ghost use Rattle.bdb_overflow.specs.Datum.{FitsContent};
+ghost use Rattle.bdb_overflow.specs.Held.{FitsAny, FitsHeld, value_held};
 
-use crate::pair::Pair;
-use bdb_overflow::{Datum, is_less};
-use std::marker::Model;
+use crate::held::HeldPair;
+use bdb_overflow::{Held, Values, leaf_held};
+use std::alloc::AllocError;
 
-/// Whether a value isn't above the one before it, where there is one.
-pub(crate) fn is_not_above(before: &Option<Datum<'_>>, value: &Datum<'_>) -> bool
-    ensures { result ≡ is_not_above (option_map datum_seen before.now) (datum_seen value.now) }
+/// Whether a value isn't above the one before it, where there is one. An error is want of memory, for chains that are
+/// shared.
+pub(crate) fn is_not_above(
+    known: &mut Values<'_>,
+    before: Option<Held<'_>>,
+    value: Held<'_>,
+) -> Result<bool, AllocError>
+    requires before { FitsAny (file_of known.old) before }
+    requires value { FitsHeld (file_of known.old) value }
+    ensures above { IfOk result (λ is. is ≡ is_not_above (option_map (value_held (file_of known.old)) before.entry) (value_held (file_of known.old) value.entry)) }
+    ensures same { known.new ≡ known.old }
 {
     match before {
-        Some(before) => !is_less(before, value),
-        None => false,
+        Some(before) => {
+            let is_below = known.is_less(before, value)?;
+            Ok(!is_below)
+        }
+        None => Ok(false),
     }
 }
 
 /// The order of keys, pair after pair: the last key, whether it was out of order, and whether none was so far.
 #[derive(Drop)]
 pub(crate) struct KeyOrder<'a> {
-    before: Option<Datum<'a>>,
+    before: Option<Held<'a>>,
     wrong: bool,
     ordered: bool,
-}
-
-impl<'a> Model for KeyOrder<'a> {
-    ghost use Rattle.std.specs.Option.{option_map};
-    ghost use Rattle.bdb_btree.specs.Runs.{KeyOrder as KeysSeen};
-
-    ghost Value = { KeysSeen };
-
-    ghost use Rattle.bdb_overflow.specs.Datum.{datum_seen};
-
-    ghost view = { λ v. record { before = option_map datum_seen v.before; wrong = v.wrong; ordered = v.ordered } };
 }
 
 impl<'a> KeyOrder<'a> {
@@ -49,15 +51,27 @@ impl<'a> KeyOrder<'a> {
         }
     }
 
-    /// The next pair: its key has to be above that of the pair before it, unless it shares that.
-    pub(crate) fn see(&mut self, pair: &Pair<'a>)
-        ensures { self.new ≡ next_key self.old (pair_seen pair.now) }
+    /// The next pair: its key has to be above that of the pair before it, unless it shares that. An error is want of
+    /// memory.
+    pub(crate) fn see(
+        &mut self,
+        known: &mut Values<'a>,
+        pair: &HeldPair<'a>,
+    ) -> Result<(), AllocError>
+        requires before { FitsAny (file_of known.old) self.old.before }
+        requires key { FitsContent (file_of known.old) (pair_held pair.now).key.content }
+        ensures keys { OnOk result (keys_seen (file_of known.old) self.new
+            ≡ next_key (keys_seen (file_of known.old) self.old) (stored_as (file_of known.old) (pair_held pair.now))) }
+        ensures fits { OnOk result (FitsAny (file_of known.old) self.new.before) }
+        ensures same { known.new ≡ known.old }
     {
-        self.wrong = !pair.shares && is_not_above(&self.before, &pair.key);
+        let key = leaf_held(&pair.key);
+        self.wrong = !pair.shares && is_not_above(known, self.before, key)?;
         if self.wrong {
             self.ordered = false;
         }
-        self.before = Some(pair.key.again());
+        self.before = Some(key);
+        Ok(())
     }
 
     /// Whether the last pair was out of order.

@@ -6,13 +6,14 @@ ghost use Rattle.bdb_format.specs.References.{item_at};
 ghost use Rattle.bdb_form.specs.Pairs.{pair_seen as view_seen};
 ghost use Rattle.bdb_graph.specs.Linked.{IsForest};
 ghost use Rattle.bdb_btree.specs.Pairs.{pair_seen, stored_pair};
-ghost use Rattle.bdb_overflow.specs.Datum.{FitsContent, datum_seen};
+ghost use Rattle.bdb_overflow.specs.Datum.{FitsContent};
+ghost use Rattle.bdb_overflow.specs.Held.{FitsHeld, value_held};
 ghost use Rattle.bdb_layout.specs.Seen.{leaf_item_seen};
 
 use bdb_form::LeafView;
 use bdb_graph::Forest;
 use bdb_layout::LeafItem;
-use bdb_overflow::{Datum, is_deleted, value_of};
+use bdb_overflow::{Datum, Held, is_deleted, leaf_held, value_of};
 
 /// A pair of a leaf, where it lies.
 #[derive(Drop)]
@@ -46,12 +47,13 @@ impl<'a> Pair<'a> {
 
 /// The key alone of a pair of a leaf, by its place there from 0.
 #[tactic(auto, using(bdb_form::proofs::WalkLemmas::read_item, bdb_overflow::proofs::ContentLemmas::leaf_item_fits))]
-pub(crate) fn key_at<'a>(forest: &Forest<'a>, page: u32, leaf: &LeafView<'a>, i: u16) -> Datum<'a>
+pub(crate) fn key_at<'a>(forest: &Forest<'a>, page: u32, leaf: &LeafView<'a>, i: u16) -> Held<'a>
     requires forest { IsForest forest.now }
     requires inside { page ≤ (file_of forest.now).last }
     requires leaf { page_at (file_of forest.now) page ≡ Leaf leaf.now }
     requires pair { 2 * i < length leaf.now.items }
-    ensures { datum_seen result ≡ value_of (file_of forest.now) (item_at leaf.now (2 * i)).content }
+    ensures key { value_held (file_of forest.now) result ≡ value_of (file_of forest.now) (item_at leaf.now (2 * i)).content }
+    ensures fits { FitsHeld (file_of forest.now) result }
 {
-    value_of(forest, &leaf.key(i))
+    leaf_held(&leaf.key(i))
 }

@@ -3,19 +3,21 @@ ghost use Rattle.bdb_graph.specs.Linked.{FitsTreeRoot};
 ghost use Rattle.bdb_faults.specs.Notes.{Notes};
 ghost use Rattle.bdb_format.specs.ContentRows.{is_duplicate};
 ghost use Rattle.bdb_format.specs.Contents.{tree_pairs};
-ghost use Rattle.bdb_format.specs.File.{file_of};
+ghost use Rattle.bdb_format.specs.File.{File, file_of};
 ghost use Rattle.bdb_format.specs.Verdict.{structure_faults};
+ghost use Rattle.bdb_overflow.specs.Datum.{FitsContent};
 ghost use Rattle.bdb_btree.specs.Bounds.{OrderedIf};
-ghost use Rattle.bdb_btree.specs.Pairs.{FitsPair, pair_seen};
+ghost use Rattle.bdb_btree.specs.Held.{FitsPassed, pair_held, passed_seen, stored_as, without_key};
+ghost use Rattle.bdb_btree.specs.Pairs.{FitsPair};
 ghost use Rattle.bdb_btree.specs.Rows.{next_pair, no_pairs_passed, pair_faults, pairs_faults};
 
 use crate::data_order::Run;
 use crate::duplicates::{is_duplicate, is_wrong_set};
+use crate::held::{HeldPair, tree_items};
 use crate::order::KeyOrder;
-use crate::pair::Pair;
-use crate::walk::tree_pairs;
 use bdb_faults::{ContentsRow, FaultSink, Row, note_if};
 use bdb_graph::Forest;
+use bdb_overflow::Values;
 use std::alloc::AllocError;
 
 /// What a database lets its pairs be.
@@ -35,8 +37,8 @@ struct Passed<'a> {
 }
 
 /// Whether only another database may have a pair.
-fn is_refused(rules: Rules, pair: &Pair<'_>) -> bool
-    ensures { result ≡ (not rules.duplicates && is_duplicate (pair_seen pair.now)) }
+fn is_refused(rules: Rules, pair: &HeldPair<'_>) -> bool
+    ensures { result ≡ (not rules.duplicates && is_duplicate (without_key (pair_held pair.now))) }
 {
     !rules.duplicates && is_duplicate(pair)
 }
@@ -44,7 +46,8 @@ fn is_refused(rules: Rules, pair: &Pair<'_>) -> bool
 impl<'a> Passed<'a> {
     /// No pair yet.
     fn new() -> Passed<'a>
-        ensures { result ≡ no_pairs_passed }
+        ensures none { (file : File) → passed_seen file result ≡ no_pairs_passed }
+        ensures fits { (file : File) → FitsPassed file result }
     {
         Passed {
             keys: KeyOrder::new(),
@@ -52,16 +55,27 @@ impl<'a> Passed<'a> {
         }
     }
 
-    /// The next pair, in a database whose sets are sorted or not.
-    fn see(&mut self, forest: &Forest<'a>, sorted: bool, pair: &Pair<'a>)
-        requires fits { FitsPair (file_of forest.now) (pair_seen pair.now) }
-        requires stage { structure_faults (file_of forest.now) ≡ [] }
-        ensures { self.new ≡ next_pair (file_of forest.now) sorted self.old (pair_seen pair.now) }
+    /// The next pair, in a database whose sets are sorted or not. An error is want of memory.
+    fn see(
+        &mut self,
+        known: &mut Values<'a>,
+        sorted: bool,
+        pair: &HeldPair<'a>,
+    ) -> Result<(), AllocError>
+        requires passed { FitsPassed (file_of known.old) self.old }
+        requires key { FitsContent (file_of known.old) (pair_held pair.now).key.content }
+        requires fits { FitsPair (file_of known.old) (stored_as (file_of known.old) (pair_held pair.now)) }
+        requires stage { structure_faults (file_of known.old) ≡ [] }
+        ensures next { OnOk result (passed_seen (file_of known.old) self.new
+            ≡ next_pair (file_of known.old) sorted (passed_seen (file_of known.old) self.old) (stored_as (file_of known.old) (pair_held pair.now))) }
+        ensures passed { OnOk result (FitsPassed (file_of known.old) self.new) }
+        ensures same { known.new ≡ known.old }
     {
-        self.keys.see(pair);
+        self.keys.see(known, pair)?;
         if sorted {
-            self.values.see(forest, pair);
+            self.values.see(known, pair)?;
         }
+        Ok(())
     }
 
     /// Whether the data of the last pair are out of order, where they ought to be in order.
@@ -76,12 +90,12 @@ impl<'a> Passed<'a> {
         &self,
         forest: &Forest<'a>,
         rules: Rules,
-        pair: &Pair<'a>,
+        pair: &HeldPair<'a>,
         found: &mut F,
     ) -> Result<(), AllocError>
-        requires { FitsPair (file_of forest.now) (pair_seen pair.now) }
+        requires { FitsPair (file_of forest.now) (stored_as (file_of forest.now) (pair_held pair.now)) }
         ensures { OnOk result (Notes (F.has_noted found.old) (F.has_noted found.new)
-            (pair_faults (file_of forest.now) rules self.now (pair_seen pair.now))) }
+            (pair_faults (file_of forest.now) rules (passed_seen (file_of forest.now) self.now) (stored_as (file_of forest.now) (pair_held pair.now)))) }
     {
         note_if(
             found,
@@ -111,25 +125,27 @@ impl<'a> Passed<'a> {
     }
 }
 
-/// Notes the rows on the pairs of a btree: one walk over its leaves, which takes no memory of its own. It tells
-/// whether no key is out of order.
+/// Notes the rows on the pairs of a btree: one walk over its leaves. It tells whether no key is out of order. An error is want
+/// of memory, the sink's or that for chains that are shared.
 pub(crate) fn note_pairs<F: FaultSink>(
-    forest: &Forest<'_>,
+    known: &mut Values<'_>,
     root: u32,
     rules: Rules,
     found: &mut F,
 ) -> Result<bool, AllocError>
-    requires root { FitsTreeRoot (file_of forest.now) root }
-    requires stage { structure_faults (file_of forest.now) ≡ [] }
+    requires root { FitsTreeRoot (file_of known.old) root }
+    requires stage { structure_faults (file_of known.old) ≡ [] }
     ensures noted { OnOk result (Notes (F.has_noted found.old) (F.has_noted found.new)
-        (pairs_faults (file_of forest.now) rules no_pairs_passed (tree_pairs (file_of forest.now) root))) }
-    ensures order { IfOk result (λ ordered. OrderedIf ordered (file_of forest.now) root) }
+        (pairs_faults (file_of known.old) rules no_pairs_passed (tree_pairs (file_of known.old) root))) }
+    ensures order { IfOk result (λ ordered. OrderedIf ordered (file_of known.old) root) }
+    ensures same { known.new ≡ known.old }
 {
+    let forest = known.forest();
     forest.head();
     let mut passed = Passed::new();
-    for pair in tree_pairs(forest, root) {
-        passed.see(forest, rules.sorted, &pair);
-        passed.note(forest, rules, &pair, found)?;
+    for pair in tree_items(&forest, root) {
+        passed.see(known, rules.sorted, &pair)?;
+        passed.note(&forest, rules, &pair, found)?;
     }
     Ok(passed.keys.is_ordered())
 }

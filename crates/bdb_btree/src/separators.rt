@@ -1,49 +1,63 @@
 ghost use Rattle.std.specs.Prelude.{◌≡◌, IfOk, OnOk};
 ghost use Rattle.std.specs.List.{All, fold};
 ghost use Rattle.std.specs.Option.{option_map};
-ghost use Rattle.bdb_graph.specs.Linked.{FitsLeafPage};
+ghost use Rattle.bdb_graph.specs.Linked.{FitsLeafPage, IsForest};
 ghost use Rattle.bdb_format.specs.ContentRows.{has_wrong_separator};
 ghost use Rattle.bdb_format.specs.Contents.{pairs_of, tree_pairs};
-ghost use Rattle.bdb_format.specs.File.{file_of, page_at};
+ghost use Rattle.bdb_format.specs.File.{File, file_of, page_at};
 ghost use Rattle.bdb_format.specs.Page.{Internal};
-ghost use Rattle.bdb_overflow.specs.Datum.{FitsContent, datum_seen};
+ghost use Rattle.bdb_overflow.specs.Datum.{FitsContent};
+ghost use Rattle.bdb_overflow.specs.Held.{FitsAny, FitsHeld, value_held};
 ghost use Rattle.bdb_layout.specs.Seen.{internal_item_seen, key_seen};
 ghost use Rattle.bdb_btree.specs.Bounds.{DontFall, ItemsFit, OrderedIf, beyond, exceeds, is_below, no_bounds};
 ghost use Rattle.bdb_btree.specs.Bounds.{see_item, see_items, under, under_pair};
+ghost use Rattle.bdb_btree.specs.Held.{FitsBounds, bounds_seen};
 ghost use Rattle.bdb_btree.specs.Noted.{faults_at};
 ghost use Rattle.bdb_faults.specs.declared.rows.ContentsRow.TheVariants.{Separator};
 ghost use Rattle.bdb_faults.specs.Notes.{Notes};
 ghost use Rattle.bdb_tree.specs.Trees.{IsTreePage};
 
+use crate::held::page_items;
 use crate::order::is_not_above;
 use crate::pair::key_at;
-use crate::walk::page_pairs;
 use bdb_faults::{ContentsRow, FaultSink, Row, note_if};
 use bdb_form::{InternalView, PageView};
-use bdb_graph::Forest;
 use bdb_layout::InternalItem;
-use bdb_overflow::{Datum, is_less, key_datum};
+use bdb_overflow::{Held, Values, key_held, leaf_held};
 use bdb_tree::leaves_below;
 use std::alloc::{AllocError, Global};
-use std::marker::Model;
 
-/// Whether a value is below a bound, where there is one.
-fn is_below(bound: &Option<Datum<'_>>, value: &Datum<'_>) -> bool
-    ensures { result ≡ is_below (option_map datum_seen bound.now) (datum_seen value.now) }
+/// Whether a value is below a bound, where there is one. An error is want of memory, for chains that are shared.
+fn is_below(
+    known: &mut Values<'_>,
+    bound: Option<Held<'_>>,
+    value: Held<'_>,
+) -> Result<bool, AllocError>
+    requires bound { FitsAny (file_of known.old) bound }
+    requires value { FitsHeld (file_of known.old) value }
+    ensures below { IfOk result (λ is. is ≡ is_below (option_map (value_held (file_of known.old)) bound.entry) (value_held (file_of known.old) value.entry)) }
+    ensures same { known.new ≡ known.old }
 {
     match bound {
-        Some(bound) => is_less(value, bound),
-        None => false,
+        Some(bound) => known.is_less(value, bound),
+        None => Ok(false),
     }
 }
 
-/// Whether a value is above the greatest one so far, or the first.
-fn exceeds(greatest: &Option<Datum<'_>>, value: &Datum<'_>) -> bool
-    ensures { result ≡ exceeds (option_map datum_seen greatest.now) (datum_seen value.now) }
+/// Whether a value is above the greatest one so far, or the first. An error is want of memory, for chains that are shared.
+fn exceeds(
+    known: &mut Values<'_>,
+    greatest: Option<Held<'_>>,
+    value: Held<'_>,
+) -> Result<bool, AllocError>
+    requires greatest { FitsAny (file_of known.old) greatest }
+    requires value { FitsHeld (file_of known.old) value }
+    ensures above { IfOk result (λ is. is ≡ exceeds (option_map (value_held (file_of known.old)) greatest.entry) (value_held (file_of known.old) value.entry)) }
+    ensures same { known.new ≡ known.old }
 {
     match greatest {
-        Some(greatest) => is_less(greatest, value),
-        None => true,
+        Some(greatest) => known.is_less(greatest, value),
+        None => Ok(true),
     }
 }
 
@@ -51,26 +65,16 @@ fn exceeds(greatest: &Option<Datum<'_>>, value: &Datum<'_>) -> bool
 /// the greatest of the keys below the items so far, and whether a condition on separators failed.
 #[derive(Drop)]
 struct Bounds<'a> {
-    separator: Option<Datum<'a>>,
-    greatest: Option<Datum<'a>>,
+    separator: Option<Held<'a>>,
+    greatest: Option<Held<'a>>,
     wrong: bool,
-}
-
-impl<'a> Model for Bounds<'a> {
-    ghost use Rattle.std.specs.Option.{option_map};
-    ghost use Rattle.bdb_btree.specs.Bounds.{Bounds as BoundsSeen};
-
-    ghost Value = { BoundsSeen };
-
-    ghost use Rattle.bdb_overflow.specs.Datum.{datum_seen};
-
-    ghost view = { λ v. record { separator = option_map datum_seen v.separator; greatest = option_map datum_seen v.greatest; wrong = v.wrong } };
 }
 
 impl<'a> Bounds<'a> {
     /// No item yet.
     fn new() -> Bounds<'a>
-        ensures { result ≡ no_bounds }
+        ensures none { (file : File) → bounds_seen file result ≡ no_bounds }
+        ensures fits { (file : File) → FitsBounds file result }
     {
         Bounds {
             separator: None,
@@ -79,76 +83,103 @@ impl<'a> Bounds<'a> {
         }
     }
 
-    /// A key below the last item.
-    fn see_key(&mut self, key: Datum<'a>)
-        ensures { self.new ≡ under self.old (datum_seen key.entry) }
+    /// A key below the last item. An error is want of memory.
+    fn see_key(&mut self, known: &mut Values<'_>, key: Held<'a>) -> Result<(), AllocError>
+        requires bounds { FitsBounds (file_of known.old) self.old }
+        requires key { FitsHeld (file_of known.old) key }
+        ensures bounds { OnOk result (bounds_seen (file_of known.old) self.new
+            ≡ under (bounds_seen (file_of known.old) self.old) (value_held (file_of known.old) key.entry)) }
+        ensures fits { OnOk result (FitsBounds (file_of known.old) self.new) }
+        ensures same { known.new ≡ known.old }
     {
-        if is_below(&self.separator, &key) {
+        if is_below(known, self.separator, key)? {
             self.wrong = true;
         }
-        if exceeds(&self.greatest, &key) {
+        if exceeds(known, self.greatest, key)? {
             self.greatest = Some(key);
         }
+        Ok(())
     }
 
-    /// The key of the next item.
-    fn see_separator(&mut self, key: Datum<'a>)
-        ensures { self.new ≡ beyond self.old (datum_seen key.entry) }
+    /// The key of the next item. An error is want of memory.
+    fn see_separator(&mut self, known: &mut Values<'_>, key: Held<'a>) -> Result<(), AllocError>
+        requires bounds { FitsBounds (file_of known.old) self.old }
+        requires key { FitsHeld (file_of known.old) key }
+        ensures bounds { OnOk result (bounds_seen (file_of known.old) self.new
+            ≡ beyond (bounds_seen (file_of known.old) self.old) (value_held (file_of known.old) key.entry)) }
+        ensures fits { OnOk result (FitsBounds (file_of known.old) self.new) }
+        ensures same { known.new ≡ known.old }
     {
-        if is_not_above(&self.separator, &key) || is_not_above(&self.greatest, &key) {
+        if is_not_above(known, self.separator, key)? || is_not_above(known, self.greatest, key)? {
             self.wrong = true;
         }
         self.separator = Some(key);
+        Ok(())
     }
 
     /// The keys of a leaf below the last item.
-    fn see_leaf(&mut self, forest: &Forest<'a>, leaf: u32)
-        requires { FitsLeafPage (file_of forest.now) leaf }
-        ensures { self.new ≡ fold under_pair self.old (pairs_of (file_of forest.now) leaf) }
+    fn see_leaf(&mut self, known: &mut Values<'a>, leaf: u32) -> Result<(), AllocError>
+        requires bounds { FitsBounds (file_of known.old) self.old }
+        requires leaf { FitsLeafPage (file_of known.old) leaf }
+        ensures bounds { OnOk result (bounds_seen (file_of known.old) self.new
+            ≡ fold under_pair (bounds_seen (file_of known.old) self.old) (pairs_of (file_of known.old) leaf)) }
+        ensures fits { OnOk result (FitsBounds (file_of known.old) self.new) }
+        ensures same { known.new ≡ known.old }
     {
-        if let Some(pairs) = page_pairs(forest, leaf) {
+        if let Some(pairs) = page_items(&known.forest(), leaf) {
             for pair in pairs {
-                self.see_key(pair.key);
+                self.see_key(known, leaf_held(&pair.key))?;
             }
         }
+        Ok(())
     }
 
     /// The same where the keys don't fall: the first and the last bound the others.
     #[tactic(auto, using(bdb_tree::proofs::TreeLemmas::leaf_inside, crate::proofs::SeparatorLemmas::no_ends))]
-    fn see_ends(&mut self, forest: &Forest<'a>, leaf: u32)
-        requires leaf { FitsLeafPage (file_of forest.now) leaf }
-        requires order { DontFall (pairs_of (file_of forest.now) leaf) }
-        ensures { self.new ≡ fold under_pair self.old (pairs_of (file_of forest.now) leaf) }
+    fn see_ends(&mut self, known: &mut Values<'a>, leaf: u32) -> Result<(), AllocError>
+        requires bounds { FitsBounds (file_of known.old) self.old }
+        requires leaf { FitsLeafPage (file_of known.old) leaf }
+        requires order { DontFall (pairs_of (file_of known.old) leaf) }
+        ensures bounds { OnOk result (bounds_seen (file_of known.old) self.new
+            ≡ fold under_pair (bounds_seen (file_of known.old) self.old) (pairs_of (file_of known.old) leaf)) }
+        ensures fits { OnOk result (FitsBounds (file_of known.old) self.new) }
+        ensures same { known.new ≡ known.old }
     {
+        let forest = known.forest();
         if let PageView::Leaf(view) = forest.page(leaf) {
             let pairs = view.pairs();
             if pairs > 0 {
-                self.see_key(key_at(forest, leaf, &view, 0));
-                self.see_key(key_at(forest, leaf, &view, pairs - 1));
+                self.see_key(known, key_at(&forest, leaf, &view, 0))?;
+                self.see_key(known, key_at(&forest, leaf, &view, pairs - 1))?;
             }
         }
+        Ok(())
     }
 
     /// All keys below the last item, of which two of each leaf are read where they are in order. An error is
-    /// want of memory: 4 bytes for each leaf and each page above it.
+    /// want of memory: 4 bytes for each leaf and each page above it, and that for chains that are shared.
     #[tactic(auto, using(crate::proofs::SeenLemmas::leaf_at, crate::proofs::SeenLemmas::tree_under, crate::proofs::FallLemmas::leaf_ordered))]
     fn see_below(
         &mut self,
         alloc: Global,
-        forest: &Forest<'a>,
+        known: &mut Values<'a>,
         child: u32,
         ordered: bool,
     ) -> Result<(), AllocError>
-        requires tree { IsTreePage (file_of forest.now) child }
-        requires order { OrderedIf ordered (file_of forest.now) child }
-        ensures { OnOk result (self.new ≡ fold under_pair self.old (tree_pairs (file_of forest.now) child)) }
+        requires bounds { FitsBounds (file_of known.old) self.old }
+        requires tree { IsTreePage (file_of known.old) child }
+        requires order { OrderedIf ordered (file_of known.old) child }
+        ensures bounds { OnOk result (bounds_seen (file_of known.old) self.new
+            ≡ fold under_pair (bounds_seen (file_of known.old) self.old) (tree_pairs (file_of known.old) child)) }
+        ensures fits { OnOk result (FitsBounds (file_of known.old) self.new) }
+        ensures same { known.new ≡ known.old }
     {
-        let leaves = leaves_below(alloc, forest, child)?;
+        let leaves = leaves_below(alloc, &known.forest(), child)?;
         for leaf in &leaves {
             if ordered {
-                self.see_ends(forest, *leaf);
+                self.see_ends(known, *leaf)?;
             } else {
-                self.see_leaf(forest, *leaf);
+                self.see_leaf(known, *leaf)?;
             }
         }
         Ok(())
@@ -160,36 +191,43 @@ impl<'a> Bounds<'a> {
     fn see_item(
         &mut self,
         alloc: Global,
-        forest: &Forest<'a>,
+        known: &mut Values<'a>,
         item: &InternalItem<'a>,
         first: bool,
         ordered: bool,
     ) -> Result<(), AllocError>
-        requires key { FitsContent (file_of forest.now) (key_seen item.now.key) }
-        requires child { IsTreePage (file_of forest.now) item.now.child }
-        requires order { OrderedIf ordered (file_of forest.now) item.now.child }
-        ensures { OnOk result (self.new ≡ see_item (file_of forest.now) first self.old (internal_item_seen item.now)) }
+        requires bounds { FitsBounds (file_of known.old) self.old }
+        requires key { FitsContent (file_of known.old) (key_seen item.now.key) }
+        requires child { IsTreePage (file_of known.old) item.now.child }
+        requires order { OrderedIf ordered (file_of known.old) item.now.child }
+        ensures bounds { OnOk result (bounds_seen (file_of known.old) self.new
+            ≡ see_item (file_of known.old) first (bounds_seen (file_of known.old) self.old) (internal_item_seen item.now)) }
+        ensures fits { OnOk result (FitsBounds (file_of known.old) self.new) }
+        ensures same { known.new ≡ known.old }
     {
         if !first {
-            self.see_separator(key_datum(forest, &item.key));
+            self.see_separator(known, key_held(&item.key))?;
         }
-        self.see_below(alloc, forest, item.child, ordered)
+        self.see_below(alloc, known, item.child, ordered)
     }
 
     /// All items of an internal page.
     fn see_items(
         &mut self,
         alloc: Global,
-        forest: &Forest<'a>,
+        known: &mut Values<'a>,
         page: &InternalView<'a>,
         ordered: bool,
     ) -> Result<(), AllocError>
-        requires items { ItemsFit (file_of forest.now) page.now.items }
-        requires order { All (λ item. OrderedIf ordered (file_of forest.now) item.child) page.now.items }
-        ensures { OnOk result (self.new ≡ see_items (file_of forest.now) self.old page.now.items) }
+        requires bounds { FitsBounds (file_of known.old) self.old }
+        requires items { ItemsFit (file_of known.old) page.now.items }
+        requires order { All (λ item. OrderedIf ordered (file_of known.old) item.child) page.now.items }
+        ensures bounds { OnOk result (bounds_seen (file_of known.old) self.new
+            ≡ see_items (file_of known.old) (bounds_seen (file_of known.old) self.old) page.now.items) }
+        ensures same { known.new ≡ known.old }
     {
         for i in 0..page.entries() {
-            self.see_item(alloc, forest, &page.item(i), i == 0, ordered)?;
+            self.see_item(alloc, known, &page.item(i), i == 0, ordered)?;
         }
         Ok(())
     }
@@ -198,18 +236,19 @@ impl<'a> Bounds<'a> {
 /// Whether a condition on separators fails at some item of an internal page: one pass over its items and the
 /// keys below them, each compared twice. An error is want of memory.
 #[tactic(auto, using(crate::proofs::SeenLemmas::page_wrong))]
-fn is_wrong_view(
+fn is_wrong_view<'a>(
     alloc: Global,
-    forest: &Forest<'_>,
-    page: &InternalView<'_>,
+    known: &mut Values<'a>,
+    page: &InternalView<'a>,
     ordered: bool,
 ) -> Result<bool, AllocError>
-    requires items { ItemsFit (file_of forest.now) page.now.items }
-    requires order { All (λ item. OrderedIf ordered (file_of forest.now) item.child) page.now.items }
-    ensures { IfOk result (λ wrong. wrong ≡ has_wrong_separator (file_of forest.now) (Internal page.now)) }
+    requires items { ItemsFit (file_of known.old) page.now.items }
+    requires order { All (λ item. OrderedIf ordered (file_of known.old) item.child) page.now.items }
+    ensures wrong { IfOk result (λ wrong. wrong ≡ has_wrong_separator (file_of known.old) (Internal page.now)) }
+    ensures same { known.new ≡ known.old }
 {
     let mut bounds = Bounds::new();
-    bounds.see_items(alloc, forest, page, ordered)?;
+    bounds.see_items(alloc, known, page, ordered)?;
     Ok(bounds.wrong)
 }
 
@@ -217,16 +256,18 @@ fn is_wrong_view(
 #[tactic(auto, using(bdb_tree::proofs::TreeLemmas::tree_inside, crate::proofs::FallLemmas::items_ordered))]
 fn is_wrong_page(
     alloc: Global,
-    forest: &Forest<'_>,
+    known: &mut Values<'_>,
     number: u32,
     ordered: bool,
 ) -> Result<bool, AllocError>
-    requires tree { IsTreePage (file_of forest.now) number }
-    requires order { OrderedIf ordered (file_of forest.now) number }
-    ensures { IfOk result (λ wrong. wrong ≡ has_wrong_separator (file_of forest.now) (page_at (file_of forest.now) number)) }
+    requires tree { IsTreePage (file_of known.old) number }
+    requires order { OrderedIf ordered (file_of known.old) number }
+    ensures wrong { IfOk result (λ wrong. wrong ≡ has_wrong_separator (file_of known.old) (page_at (file_of known.old) number)) }
+    ensures same { known.new ≡ known.old }
 {
+    let forest = known.forest();
     match forest.page(number) {
-        PageView::Internal(page) => is_wrong_view(alloc, forest, &page, ordered),
+        PageView::Internal(page) => is_wrong_view(alloc, known, &page, ordered),
         _ => Ok(false),
     }
 }
@@ -235,18 +276,19 @@ fn is_wrong_page(
 /// order, few of them are read.
 pub(crate) fn note_separators<F: FaultSink>(
     alloc: Global,
-    forest: &Forest<'_>,
+    known: &mut Values<'_>,
     pages: &[u32],
     ordered: bool,
     found: &mut F,
 ) -> Result<(), AllocError>
-    requires trees { All (IsTreePage (file_of forest.now)) pages.now }
-    requires order { All (OrderedIf ordered (file_of forest.now)) pages.now }
-    ensures { OnOk result (Notes (F.has_noted found.old) (F.has_noted found.new)
-        (faults_at Separator (λ p. has_wrong_separator (file_of forest.now) (page_at (file_of forest.now) p)) pages.now)) }
+    requires trees { All (IsTreePage (file_of known.old)) pages.now }
+    requires order { All (OrderedIf ordered (file_of known.old)) pages.now }
+    ensures noted { OnOk result (Notes (F.has_noted found.old) (F.has_noted found.new)
+        (faults_at Separator (λ p. has_wrong_separator (file_of known.old) (page_at (file_of known.old) p)) pages.now)) }
+    ensures same { known.new ≡ known.old }
 {
     for page in pages {
-        let wrong = is_wrong_page(alloc, forest, *page, ordered)?;
+        let wrong = is_wrong_page(alloc, known, *page, ordered)?;
         note_if(found, Row::Contents(ContentsRow::Separator), *page, wrong)?;
     }
     Ok(())

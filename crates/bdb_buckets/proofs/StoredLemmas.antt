@@ -12,7 +12,7 @@ use Rattle.bdb_format.specs.File.{File, header_in}
 use Rattle.bdb_format.specs.Page.{Item}
 use Rattle.bdb_format.specs.References.{no_item}
 use Rattle.bdb_buckets.specs.Pages.{IsHashIn, hash_item}
-use Rattle.bdb_buckets.specs.Tables.{BucketStands, Keyed, PlacedUnit, TableStands, UnitsStand, contents_on, unit_of, units_on}
+use Rattle.bdb_buckets.specs.Tables.{BucketStands, HasSum, Keyed, PlacedUnit, TableStands, UnitsStand, contents_on, unit_of, units_on}
 use Rattle.bdb_grove.proofs.AscendLemmas.{ascend_bounds}
 use Rattle.bdb_buckets.proofs.OverLemmas.{bucket_up, table_up, units_contents}
 
@@ -24,6 +24,7 @@ pub record IsStored (g : File) (sorted : Bool) (pair : StoredPair) (unit : Keyed
   pub values : data_of g pair.data_item ≡ unit.values
   pub single : length unit.values ≡ 1 → is_set pair.data_item ≡ false
   pub right : is_wrong_set g sorted pair.data_item ≡ false
+  pub summed : HasSum g pair.data_item
 
 abbrev pub AreStored : File → Bool → List StoredPair → List Keyed → Type 0
 AreStored g sorted [] [] = Unit {0}
@@ -97,7 +98,7 @@ read_stored : (g : File) (sorted : Bool) (p first beyond : ℕ) (units : List Pl
     → AreStored g sorted (map (pair_read g p) units) (map unit_of units)
 read_stored g sorted p first beyond [] stand = tt
 read_stored g sorted p first beyond (unit ∷ units) (here, rest) = (
-  record { live = refl; shares = refl; key = here.key; values = here.values; single = here.single; right = here.right },
+  record { live = refl; shares = refl; key = here.key; values = here.values; single = here.single; right = here.right; summed = here.summed },
   read_stored g sorted p unit.beyond beyond units rest,
 )
 

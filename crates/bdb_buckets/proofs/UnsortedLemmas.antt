@@ -1,18 +1,20 @@
--- The pages of the buckets of a table have the type that says that their keys are in no order.
-use Rattle.std.proofs.Common.{◌≡◌, ℕ, zero, suc, ◌+◌, ◌<◌, ◌≤◌, Bool, List, [], ◌∷◌, length, Some, arith, ◌∙◌, ap, subst, inl, inr}
+-- The pages of the buckets of a table have the type that says that their keys are in no order, and trees of data say how many these are.
+use Rattle.std.proofs.Common.{◌≡◌, ℕ, zero, suc, ◌+◌, ◌<◌, ◌≤◌, Bool, List, [], ◌∷◌, length, Some, arith, sym, ◌∙◌, ap, subst, inl, inr}
 use Rattle.std.specs.Prelude.{◌^◌}
-use Rattle.std.specs.List.{Contains}
+use Rattle.std.specs.List.{All, Contains, flat_map}
+use Rattle.std.proofs.lemmas.List.Elements.{All-cons, All-nil}
 use Rattle.std.proofs.lemmas.Nat.{pow_pos}
 use Rattle.bdb_format.specs.Chains.{chain_in}
+use Rattle.bdb_format.specs.Contents.{StoredPair, pairs_of}
 use Rattle.bdb_format.specs.File.{File, page_at, type_in}
 use Rattle.bdb_format.specs.Page.{Content}
 use Rattle.bdb_format.proofs.ListLemmas.{only_member}
 use Rattle.bdb_format.proofs.MemberLemmas.{member_cases}
 use Rattle.bdb_grove.proofs.AscendLemmas.{ascend_bounds}
 use Rattle.bdb_buckets.specs.Pages.{IsHashIn}
-use Rattle.bdb_buckets.specs.Tables.{BucketStands, PlacedUnit, TableStands, TablesAreUnsorted}
+use Rattle.bdb_buckets.specs.Tables.{BucketStands, HasSum, Keyed, PlacedUnit, StandingTablesAreBuilt, TableStands}
 use Rattle.bdb_buckets.proofs.OverLemmas.{bucket_up, table_up, units_contents}
-use Rattle.bdb_buckets.proofs.StoredLemmas.{chain_end, chain_more, next_is}
+use Rattle.bdb_buckets.proofs.StoredLemmas.{AreStored, chain_end, chain_more, next_is, table_stored}
 use Rattle.bdb_buckets.proofs.TableLemmas.{first_pages}
 
 abbrev IsUnsorted : File → ℕ → Type 0
@@ -59,11 +61,30 @@ table_unsorted g sorted p first beyond (bucket ∷ buckets) low few (middle, sta
     table_unsorted g sorted (p + 1) middle beyond buckets (omega (arith, low, up)) (omega (arith, few, up)) rest b q (omega (arith, under))
     (subst (λ k. Contains (chain_in g.count g k) q) e at)
 
-pub tables_are_unsorted : TablesAreUnsorted
-tables_are_unsorted g settings first bits beyond buckets counted low high few many stands b p under at =
+-- the data of pairs that are read have their sums
+all_summed : (g : File) (sorted : Bool) (pairs : List StoredPair) (units : List Keyed) → AreStored g sorted pairs units
+    → All (λ (pair : StoredPair). HasSum g pair.data_item) pairs
+all_summed g sorted [] [] stored = All-nil (λ (pair : StoredPair). HasSum g pair.data_item)
+all_summed g sorted [] (unit ∷ units) stored = absurd stored
+all_summed g sorted (pair ∷ pairs) [] stored = absurd stored
+all_summed g sorted (pair ∷ pairs) (unit ∷ units) (first, rest) =
+    All-cons (λ (one : StoredPair). HasSum g one.data_item) pair pairs first.summed (all_summed g sorted pairs units rest)
+
+pub tables_are_built : StandingTablesAreBuilt
+tables_are_built g settings first bits beyond buckets counted low high few many stands =
     let some = pow_pos bits in
     let last = counted.counted in
-    let within : b < 2 ^ bits = omega (arith, under, some) in
-    table_unsorted g settings.sorted first (first + 2 ^ bits) beyond buckets (omega (arith, low)) (omega (arith, high, last, low, some)) stands
-    b p (omega (arith, within, many))
-    (subst (λ k. Contains (chain_in g.count g k) p) (first_pages settings first bits b few within) at)
+    record {
+      unsorted = λ b p under at.
+          let within : b < 2 ^ bits = omega (arith, under, some) in
+          table_unsorted g settings.sorted first (first + 2 ^ bits) beyond buckets (omega (arith, low)) (omega (arith, high, last, low, some)) stands
+          b p (omega (arith, within, many))
+          (subst (λ k. Contains (chain_in g.count g k) p) (first_pages settings first bits b few within) at);
+      sums = λ b under.
+          let within : b < 2 ^ bits = omega (arith, under, some) in
+          subst (λ k. All (λ (pair : StoredPair). HasSum g pair.data_item) (flat_map (pairs_of g) (chain_in g.count g k)))
+          (sym (first_pages settings first bits b few within))
+          (all_summed g settings.sorted _ _
+          (table_stored g settings.sorted first (first + 2 ^ bits) beyond buckets (omega (arith, low)) (omega (arith, high, last, low, some)) stands
+          b (omega (arith, within, many))));
+    }

@@ -1,16 +1,18 @@
 -- Tables in a file: keys with their data on the pages of buckets, and the part of a database that they are.
 -- Source: docs/FORMAT.md, "Built tables", "Hash formulas" and "Stage 8, contents".
 use Rattle.std.specs.Prelude.{◌≡◌, ℕ, ◌+◌, ◌-◌, ◌/◌, ◌^◌, ◌≤◌, ◌==◌, if◌then◌else◌, Bool, true, false, List, [], ◌∷◌, ◌++◌, length, map, replicate, Some}
+use Rattle.std.specs.Prelude.{is_some}
 use Rattle.std.specs.List.{All, Contains, filter, flat_map, range_with_len}
 use Rattle.bdb_format.specs.declared.metadata.HashMeta.{HashMeta}
 use Rattle.bdb_format.specs.declared.settings.Settings.{Settings}
 use Rattle.bdb_format.specs.Chains.{value_of}
-use Rattle.bdb_format.specs.Contents.{bucket_pages, data_of}
+use Rattle.bdb_format.specs.Contents.{StoredPair, bucket_pages, bucket_pairs, data_of}
 use Rattle.bdb_format.specs.ContentRows.{ascends, is_set, is_wrong_set}
-use Rattle.bdb_format.specs.File.{File, page_at, type_in}
+use Rattle.bdb_format.specs.File.{File, header_in, page_at, type_in}
 use Rattle.bdb_format.specs.Hashing.{bucket, hash5}
+use Rattle.bdb_format.specs.Leaves.{children_in}
 use Rattle.bdb_format.specs.Lists.{BytesKey, ListKey}
-use Rattle.bdb_format.specs.Page.{BtreeFields, Content, HashFields, Metadata, QueueFields}
+use Rattle.bdb_format.specs.Page.{BtreeFields, Chain, Content, HashFields, Inline, Metadata, QueueFields, Set, Tree, Unknown}
 use Rattle.bdb_grove.specs.Growing.{IsCounted}
 use Rattle.bdb_grove.specs.Leaves.{AscendIn, ContentFits, content_pages}
 use Rattle.bdb_grove.specs.Part.{IsBranch, IsPart, between}
@@ -71,6 +73,14 @@ contents_of placed = placed.key_item ∷ placed.data_item ∷ []
 abbrev pub contents_on : List PlacedUnit → List Content
 contents_on units = flat_map contents_of units
 
+-- the root of a tree of data that stands over leaves says how many data there are, where other pages have the one before them
+abbrev pub HasSum : File → Content → Type 0
+HasSum g (Inline bytes) = Unit {0}
+HasSum g (Set blocks) = Unit {0}
+HasSum g (Chain head total) = Unit {0}
+HasSum g (Tree root) = is_some (children_in (page_at g root)) ≡ true → (header_in (page_at g root)).previous ≡ length (data_of g (Tree root))
+HasSum g Unknown = Unit {0}
+
 -- in a file the pages from one number up to another are what contents name, in their order
 pub record ContentsStand (g : File) (first beyond : ℕ) (contents : List Content) : Type 0 where
   pub branch : IsBranch g (between first beyond) (flat_map content_pages contents)
@@ -84,6 +94,7 @@ pub record UnitStands (g : File) (sorted : Bool) (first beyond : ℕ) (placed : 
   pub values : data_of g placed.data_item ≡ placed.unit.values
   pub single : length placed.unit.values ≡ 1 → is_set placed.data_item ≡ false
   pub right : is_wrong_set g sorted placed.data_item ≡ false
+  pub summed : HasSum g placed.data_item
 
 -- keys stand one after the other
 abbrev pub UnitsStand : File → Bool → ℕ → ℕ → List PlacedUnit → Type 0
@@ -113,20 +124,29 @@ units_on pages = map unit_of (flat_map (λ page. page) pages)
 abbrev pub HasUnsortedBuckets : File → HashMeta → Type 0
 HasUnsortedBuckets g meta = (b p : ℕ) → b ≤ meta.max_bucket → Contains (bucket_pages g meta b) p → type_in (page_at g p) ≡ Some 2
 
--- those of a database have it, where it is a hash
-abbrev pub AreUnsorted : File → Metadata → Type 0
-AreUnsorted g (BtreeFields meta) = Unit {0}
-AreUnsorted g (HashFields meta) = HasUnsortedBuckets g meta
-AreUnsorted g (QueueFields meta) = Unit {0}
+-- the trees of data that the keys of a table have say how many data there are
+abbrev pub HasSums : File → HashMeta → Type 0
+HasSums g meta = (b : ℕ) → b ≤ meta.max_bucket → All (λ (pair : StoredPair). HasSum g pair.data_item) (bucket_pairs g meta b)
+
+-- what is so of the buckets of a table that was built, though the rules of the format don't ask it
+pub record HasBuiltBuckets (g : File) (meta : HashMeta) : Type 0 where
+  pub unsorted : HasUnsortedBuckets g meta
+  pub sums : HasSums g meta
+
+-- of those of a database, where it is a hash
+abbrev pub HasBuiltTable : File → Metadata → Type 0
+HasBuiltTable g (BtreeFields meta) = Unit {0}
+HasBuiltTable g (HashFields meta) = HasBuiltBuckets g meta
+HasBuiltTable g (QueueFields meta) = Unit {0}
 
 -- The laws.
 
--- buckets that stand are unsorted
-abbrev pub TablesAreUnsorted : Type 0
-TablesAreUnsorted =
+-- buckets that stand are such
+abbrev pub StandingTablesAreBuilt : Type 0
+StandingTablesAreBuilt =
     (g : File) (settings : Settings) (first bits beyond : ℕ) (buckets : List (List (List PlacedUnit))) → IsCounted g → 1 ≤ first
     → beyond ≤ g.last + 1 → bits ≤ 31 → length buckets ≡ 2 ^ bits → TableStands g settings.sorted first (first + 2 ^ bits) beyond buckets
-    → HasUnsortedBuckets g (table_meta settings first bits)
+    → HasBuiltBuckets g (table_meta settings first bits)
 
 -- a table whose buckets have the keys that are theirs is the part of the database with its metadata, and has the list of the keys
 abbrev pub TablesAreParts : Type 0

@@ -5,8 +5,9 @@ use Rattle.std.specs.List.{All}
 use Rattle.std.proofs.lemmas.List.{drop_all}
 use Rattle.std.proofs.lemmas.List.Elements.{All-cons}
 use Rattle.bdb_format.specs.declared.settings.Settings.{Settings}
-use Rattle.bdb_model.specs.declared.list.Pair.{Pair}
-use Rattle.bdb_mkqueue.specs.Lists.{AscendFrom, HasLength, HasNext, IsListFor, number_in}
+use Rattle.bdb_text_format.specs.declared.list.Pair.{Pair}
+use Rattle.bdb_text_format.specs.Pairs.{AscendFrom, number_of}
+use Rattle.bdb_mkqueue.specs.Lists.{HasLength, HasNext, IsQueueList}
 use Rattle.bdb_mkqueue.proofs.StepLemmas.{no_pair, pair_at}
 use Rattle.bdb_building_tests.specs.Queues.{MayStandFrom}
 
@@ -30,7 +31,7 @@ none_looked_at settings list place least at fits =
 
 -- one record more
 pub one_looked_at : (settings : Settings) (list : List Pair) (place number beyond : ℕ) → place < length list
-    → number ≡ number_in (pair_at list place).key → number < beyond → length (pair_at list place).value ≡ settings.re_len
+    → number ≡ number_of (pair_at list place).key → number < beyond → length (pair_at list place).value ≡ settings.re_len
     → MayStandFrom settings list (place + 1) beyond → MayStandFrom settings list place number
 one_looked_at settings list place number beyond low number_is below long is =
     let pair : Pair = pair_at list place in
@@ -41,7 +42,7 @@ one_looked_at settings list place number beyond low number_is below long is =
       small = omega (arith, below, is.small);
       ascend = subst (AscendFrom number) (sym cut) (
         omega (arith, number_is),
-        ascend_lower (number_in pair.key + 1) beyond (drop (place + 1) list) (omega (arith, number_is, below)) is.ascend,
+        ascend_lower (number_of pair.key + 1) beyond (drop (place + 1) list) (omega (arith, number_is, below)) is.ascend,
       );
       few = subst (All HasNext) (sym cut) (All-cons HasNext pair (drop (place + 1) list) (omega (arith, number_is, below, is.small)) is.few);
       long = subst (All (HasLength settings.re_len)) (sym cut)
@@ -49,5 +50,5 @@ one_looked_at settings list place number beyond low number_is below long is =
     }
 
 -- all of them
-pub all_looked_at : (settings : Settings) (list : List Pair) (least : ℕ) → 1 ≤ least → MayStandFrom settings list 0 least → IsListFor settings list
+pub all_looked_at : (settings : Settings) (list : List Pair) (least : ℕ) → 1 ≤ least → MayStandFrom settings list 0 least → IsQueueList settings list
 all_looked_at settings list least some is = record { ascend = ascend_lower 1 least list some is.ascend; few = is.few; long = is.long }

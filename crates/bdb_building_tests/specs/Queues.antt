@@ -2,8 +2,9 @@
 use Rattle.std.specs.Prelude.{ℕ, ◌≤◌, ◌<◌, ◌^◌, List, drop, length}
 use Rattle.std.specs.List.{All}
 use Rattle.bdb_format.specs.declared.settings.Settings.{Settings}
-use Rattle.bdb_model.specs.declared.list.Pair.{Pair}
-use Rattle.bdb_mkqueue.specs.Lists.{AscendFrom, HasLength, HasNext}
+use Rattle.bdb_text_format.specs.declared.list.Pair.{Pair}
+use Rattle.bdb_text_format.specs.Pairs.{AscendFrom}
+use Rattle.bdb_mkqueue.specs.Lists.{HasLength, HasNext}
 
 -- the records from a place on may stand in a queue, behind those below a number
 pub record MayStandFrom (settings : Settings) (list : List Pair) (place least : ℕ) : Type 0 where

@@ -4,7 +4,7 @@ use crate::counting::counted;
 use crate::settings::plain;
 use crate::values::value_of;
 use bdb_format::{Kind, Order, Settings};
-use bdb_model::{Key, Section, TextPair, TextPairs};
+use bdb_text_format::{Key, Section, TextPair, TextPairs};
 use std::alloc::{AllocError, Global};
 use std::test::Fail;
 

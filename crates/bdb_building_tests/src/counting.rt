@@ -1,13 +1,13 @@
 //! The pages of a section whose list is tested first.
 
 ghost use Rattle.std.specs.Prelude.{◌≡◌, IfOk};
-ghost use Rattle.bdb_need.specs.Need.{pairs_in};
+ghost use Rattle.bdb_need.specs.Need.{unlined_pairs};
 
 use crate::legal::{is_page_size, is_tree_kind};
 use crate::tree_lists::is_list_for;
 use bdb_format::Bytes;
-use bdb_model::{Key, Pair, PairList, Section, TextPairs};
 use bdb_need::tree_pages;
+use bdb_text_format::{Key, Pair, PairList, Section, TextPairs};
 use std::alloc::{AllocError, Global};
 
 fn copy_of(alloc: Global, bytes: &Bytes) -> Result<Bytes, AllocError>
@@ -29,7 +29,7 @@ fn key_of(alloc: Global, key: &Key) -> Result<Key, AllocError>
 
 // The pairs without their lines.
 fn list_of(alloc: Global, pairs: &TextPairs) -> Result<PairList, AllocError>
-    ensures { IfOk result (λ list. list ≡ pairs_in pairs.now) }
+    ensures { IfOk result (λ list. list ≡ unlined_pairs pairs.now) }
 {
     let mut list = PairList::new(alloc);
     for pair in pairs.as_slice() {

@@ -4,7 +4,7 @@ use crate::built_table;
 use crate::trees::{TreeImage, built_tree};
 use bdb_format::Settings;
 use bdb_judging::gives;
-use bdb_model::PairList;
+use bdb_text_format::PairList;
 use std::alloc::{AllocError, Global};
 
 /// How many levels a tree has, and how many pages its file, the metadata among them.

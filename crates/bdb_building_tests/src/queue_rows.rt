@@ -7,7 +7,7 @@ use bdb_format::{Bytes, Kind, Order};
 use bdb_gen::generate;
 use bdb_judging::gives;
 use bdb_layout::u32_at;
-use bdb_model::{Key, Pair, PairList};
+use bdb_text_format::{Key, Pair, PairList};
 use std::alloc::{AllocError, Global};
 use std::test::Fail;
 

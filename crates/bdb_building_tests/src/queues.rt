@@ -4,7 +4,7 @@ ghost use Rattle.std.specs.Prelude.{◌≤◌, ◌+◌, ◌-◌, IfOk, IsTrue};
 ghost use Rattle.bdb_format.specs.HeadOf.{is_page_size};
 ghost use Rattle.bdb_format.specs.Numbers.{pad4};
 ghost use Rattle.bdb_mkqueue.specs.Layout.{queue_meta};
-ghost use Rattle.bdb_mkqueue.specs.Lists.{IsListFor};
+ghost use Rattle.bdb_mkqueue.specs.Lists.{IsQueueList};
 ghost use Rattle.bdb_mkqueue.specs.Written.{IsSoundQueueOf};
 
 use crate::legal::is_page_size;
@@ -12,8 +12,8 @@ use crate::queue_lists::is_list_for;
 use bdb_format::{Bytes, Settings};
 use bdb_meta::put_queue_meta;
 use bdb_mkqueue::build_queue;
-use bdb_model::PairList;
 use bdb_pack::Pages;
+use bdb_text_format::PairList;
 use std::alloc::{AllocError, Global};
 
 // Whether a page has room for a record.
@@ -28,7 +28,7 @@ fn has_room(settings: &Settings) -> bool
 pub fn queue_file(alloc: Global, settings: &Settings, list: &PairList) -> Result<Bytes, AllocError>
     requires legal { IsTrue (is_page_size settings.now.page_size) }
     requires room { pad4 (settings.now.re_len + 1) ≤ settings.now.page_size - 28 }
-    requires list { IsListFor settings.now list.now }
+    requires list { IsQueueList settings.now list.now }
     ensures { IfOk result (λ image. IsSoundQueueOf image (queue_meta settings.now list.now) list.now) }
 {
     let mut pages = Pages::new(alloc, settings.page_size, settings.order);

@@ -7,7 +7,7 @@ use crate::trees::tree_image;
 use crate::values::{Keyed, Numbered, ORDERS, copy, keyed, numbered};
 use bdb_format::{Bytes, Kind, Order};
 use bdb_judging::gives;
-use bdb_model::{Key, Pair, PairList};
+use bdb_text_format::{Key, Pair, PairList};
 use std::alloc::{AllocError, Global};
 use std::test::Fail;
 

@@ -4,7 +4,7 @@ use crate::judging::{TableShape, is_table_built};
 use crate::settings::table_settings;
 use crate::values::{ORDERS, keyed, value_of};
 use bdb_format::Order;
-use bdb_model::{Key, Pair, PairList};
+use bdb_text_format::{Key, Pair, PairList};
 use std::alloc::{AllocError, Global};
 use std::test::Fail;
 

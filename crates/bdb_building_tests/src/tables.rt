@@ -8,8 +8,8 @@ use crate::tree_lists::is_list_for;
 use bdb_format::{Bytes, HashMeta, Kind, Settings};
 use bdb_meta::put_hash_meta;
 use bdb_mkhash::build_table;
-use bdb_model::PairList;
 use bdb_pack::Pages;
+use bdb_text_format::PairList;
 use std::alloc::{AllocError, Global};
 
 // The bytes of the longest image.

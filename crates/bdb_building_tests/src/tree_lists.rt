@@ -1,12 +1,13 @@
 //! Whether a tree can be built of a list, found by one pass from its end.
 
 ghost use Rattle.std.specs.Prelude.{◌≡◌, ◌+◌, ◌<◌, IsTrue, drop, get_or, length};
-ghost use Rattle.bdb_mktree.specs.Lists.{IsKeyFor, IsListFor, IsPairFor, bytes_in, keyed_follow, may_follow, number_in};
+ghost use Rattle.bdb_text_format.specs.Pairs.{number_of};
+ghost use Rattle.bdb_mktree.specs.Lists.{IsKeyFor, IsTreeList, IsPairFor, bytes_in, keyed_follow, may_follow};
 ghost use Rattle.bdb_building_tests.specs.Trees.{no_pair, one_seen};
 
 use bdb_format::{Kind, Settings};
-use bdb_model::{Key, PairList};
 use bdb_overflow::{Datum, is_less};
+use bdb_text_format::{Key, PairList};
 
 /// A pair where it stands in its list.
 #[derive(Clone, Copy)]
@@ -52,8 +53,8 @@ fn bytes_in(key: &Key) -> &[u8]
     }
 }
 
-fn number_in(key: &Key) -> u32
-    ensures { result ≡ number_in key.now }
+fn number_of(key: &Key) -> u32
+    ensures { result ≡ number_of key.now }
 {
     match key {
         Key::Bytes(_) => 0,
@@ -79,7 +80,7 @@ fn may_follow(settings: &Settings, before: &One<'_>, pair: &One<'_>) -> bool
 {
     match settings.kind {
         Kind::Btree => keyed_follow(settings, before, pair),
-        Kind::Recno => number_in(before.key) < number_in(pair.key),
+        Kind::Recno => number_of(before.key) < number_of(pair.key),
         Kind::Hash | Kind::Queue => false,
     }
 }
@@ -87,7 +88,7 @@ fn may_follow(settings: &Settings, before: &One<'_>, pair: &One<'_>) -> bool
 // Whether a pair may stand before those after it.
 fn fits_at(settings: &Settings, list: &PairList, i: usize) -> bool
     requires { i < length list.now }
-    ensures { IsTrue result → IsListFor settings.now (drop (i + 1) list.now) → IsListFor settings.now (drop i list.now) }
+    ensures { IsTrue result → IsTreeList settings.now (drop (i + 1) list.now) → IsTreeList settings.now (drop i list.now) }
 {
     let count = list.len();
     let pair = pair_at(list, i);
@@ -103,7 +104,7 @@ fn fits_at(settings: &Settings, list: &PairList, i: usize) -> bool
 
 /// Whether a tree can be built of a list with these settings.
 pub fn is_list_for(settings: &Settings, list: &PairList) -> bool
-    ensures { IsTrue result → IsListFor settings.now list.now }
+    ensures { IsTrue result → IsTreeList settings.now list.now }
 {
     let mut i = list.len();
     while i > 0 {

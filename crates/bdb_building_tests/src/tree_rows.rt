@@ -5,7 +5,7 @@ use crate::settings::tree_settings;
 use crate::trees::built_tree;
 use crate::values::{ORDERS, value_of};
 use bdb_format::Order;
-use bdb_model::{Key, Pair, PairList};
+use bdb_text_format::{Key, Pair, PairList};
 use std::alloc::{AllocError, Global};
 use std::test::Fail;
 

@@ -8,8 +8,8 @@ use crate::tree_lists::is_list_for;
 use bdb_format::{BtreeMeta, Bytes, Kind, Settings};
 use bdb_meta::put_btree_meta;
 use bdb_mktree::build_tree;
-use bdb_model::PairList;
 use bdb_pack::Pages;
+use bdb_text_format::PairList;
 use std::alloc::{AllocError, Global};
 
 // The bytes of the longest image.

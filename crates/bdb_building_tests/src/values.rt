@@ -1,7 +1,7 @@
 //! What lists are made of.
 
 use bdb_format::{Bytes, Order};
-use bdb_model::{Key, Pair, PairList};
+use bdb_text_format::{Key, Pair, PairList};
 use std::alloc::{AllocError, Global};
 
 pub const ORDERS: [Order; 2] = [Order::Little, Order::Big];

@@ -16,8 +16,8 @@ abbrev pub zeros : ℕ → List ℕ
 zeros n = replicate n 0
 
 -- a page that begins with these bytes; the others are 0
-abbrev pub filled : List ℕ → List ℕ
-filled bytes = bytes ++ zeros (512 - length bytes)
+abbrev pub filled_out : List ℕ → List ℕ
+filled_out bytes = bytes ++ zeros (512 - length bytes)
 
 -- Metadata.
 
@@ -30,18 +30,18 @@ common number magic version type last flags = joined (
 
 abbrev pub btree_meta : (number last flags re_len root : ℕ) → List ℕ
 btree_meta number last flags re_len root =
-    filled (joined (common number 0x053162 9 9 last flags ∷ four 0 ∷ four 2 ∷ four re_len ∷ four 0 ∷ four root ∷ []))
+    filled_out (joined (common number 0x053162 9 9 last flags ∷ four 0 ∷ four 2 ∷ four re_len ∷ four 0 ∷ four root ∷ []))
 
 -- the spares are those of the first groups; the others are 0
 abbrev pub hash_meta : (number last flags max_bucket high_mask low_mask : ℕ) → List ℕ → List ℕ
-hash_meta number last flags max_bucket high_mask low_mask spares = filled (joined (
+hash_meta number last flags max_bucket high_mask low_mask spares = filled_out (joined (
     common number 0x061561 9 8 last flags
     ∷ four max_bucket ∷ four high_mask ∷ four low_mask ∷ four 0 ∷ four 0 ∷ four 0x5E688DD1
     ∷ map four spares))
 
 abbrev pub queue_meta : (first current re_len per_page : ℕ) → List ℕ
 queue_meta first current re_len per_page =
-    filled (joined (common 0 0x042253 4 10 0 0 ∷ four first ∷ four current ∷ four re_len ∷ four 0 ∷ four per_page ∷ []))
+    filled_out (joined (common 0 0x042253 4 10 0 0 ∷ four first ∷ four current ∷ four re_len ∷ four 0 ∷ four per_page ∷ []))
 
 -- Items.
 
@@ -163,11 +163,11 @@ hash_page number previous next list = indexed 13 0 number previous next (pairs l
 
 -- a page of a chain, whose header counts the references to it
 abbrev pub overflow : (number previous next count : ℕ) → List ℕ → List ℕ
-overflow number previous next count piece = filled (header number previous next count (length piece) 0 7 ++ piece)
+overflow number previous next count piece = filled_out (header number previous next count (length piece) 0 7 ++ piece)
 
 -- a page of a queue with its slots from byte 28 on
 abbrev pub queue_page : ℕ → List (List ℕ) → List ℕ
-queue_page number slots = filled (joined (zeros 8 ∷ four number ∷ zeros 13 ∷ (11 ∷ 0 ∷ 0 ∷ []) ∷ slots))
+queue_page number slots = filled_out (joined (zeros 8 ∷ four number ∷ zeros 13 ∷ (11 ∷ 0 ∷ 0 ∷ []) ∷ slots))
 
 abbrev pub zero_page : List ℕ
 zero_page = zeros 512

@@ -2,3 +2,4 @@ pub mod NeedLemmas
 pub mod QueueLemmas
 pub mod TableLemmas
 pub mod UnitLemmas
+pub mod FilledLemmas

@@ -7,17 +7,17 @@ use Rattle.std.proofs.lemmas.Bool.{cases_eq, eq-eqb, le-leb, lt-leb, ne_eqb}
 use Rattle.std.proofs.lemmas.List.{get_or-set_other, get_or-set_same, get_or_default, length-replicate, length-set}
 use Rattle.std.proofs.lemmas.List.Elements.{All-head, All-tail}
 use Rattle.std.proofs.lemmas.List.Sums.{sum_by-cons}
-use Rattle.bdb_model.specs.declared.list.Pair.{Pair}
-use Rattle.bdb_model.specs.declared.pairs.TextPair.{TextPair}
+use Rattle.bdb_text_format.specs.declared.list.Pair.{Pair}
+use Rattle.bdb_text_format.specs.declared.pairs.TextPair.{TextPair}
 use Rattle.bdb_leaves.specs.Units.{KeyedUnit, TreeUnit, page_room}
 use Rattle.bdb_mktree.specs.Lists.{IsRunAt, keyed_units}
 use Rattle.bdb_mktree.specs.Units.{IsShortUnit}
 use Rattle.bdb_buckets.specs.Tables.{Keyed, bucket_among, dealt}
 use Rattle.bdb_mkhash.specs.Buckets.{bits_for, buckets_of, spread_bucket, table_cost, table_units}
-use Rattle.bdb_mkhash.specs.Costs.{own_pages, unit_cost}
+use Rattle.bdb_mkhash.specs.Costs.{keyed_own_pages, keyed_cost}
 use Rattle.bdb_mkhash.proofs.BucketLemmas.{run_unit, found_at}
 use Rattle.bdb_need.specs.Counting.{values_in}
-use Rattle.bdb_need.specs.Need.{pairs_in}
+use Rattle.bdb_need.specs.Need.{unlined_pairs}
 use Rattle.bdb_need.proofs.BehindLemmas.{behind, behind_new, behind_open, length-spread}
 use Rattle.bdb_need.proofs.KeyLemmas.{length-pairs}
 use Rattle.bdb_count.specs.Counts.{keyed}
@@ -91,7 +91,7 @@ sums_map f g a (suc n) =
 
 -- how many pages keys begin behind the open one of their bucket, which has so many bytes left
 abbrev pub pages_behind : ℕ → ℕ → List Keyed → ℕ
-pages_behind size left units = length (behind (page_room size) (unit_cost size) (unit_cost size) (unit_cost size) left units)
+pages_behind size left units = length (behind (page_room size) (keyed_cost size) (keyed_cost size) (keyed_cost size) left units)
 
 -- how many pages the rest of keys begin in all buckets
 abbrev pub begun_by : ℕ → ℕ → List ℕ → List Keyed → ℕ
@@ -117,7 +117,7 @@ none_placed size bits room all room_is =
     let fresh : ℕ → ℕ = λ b. pages_behind size (page_room size) (dealt bits all b) in
     let whole = sums_map (λ bucket. length (spread_bucket size bucket)) (dealt bits all) 0 (2 ^ bits) in
     let each = sums_same (λ b. length (spread_bucket size (dealt bits all b))) (λ b. suc (fresh b)) 0 (2 ^ bits)
-    (λ b from under. length-spread (page_room size) (unit_cost size) (unit_cost size) (unit_cost size) (page_room size) [] (dealt bits all b)) in
+    (λ b from under. length-spread (page_room size) (keyed_cost size) (keyed_cost size) (keyed_cost size) (page_room size) [] (dealt bits all b)) in
     let ones = sums_one_more fresh 0 (2 ^ bits) in
     let same = sums_same (λ b. pages_behind size (get_or (replicate (2 ^ bits) room) b 0) (dealt bits all b)) fresh 0 (2 ^ bits)
     (λ b from under. ap (λ l. pages_behind size l (dealt bits all b)) (first_left (2 ^ bits) room b (omega (arith, under)) ∙ room_is)) in
@@ -155,13 +155,13 @@ placed size bits pages more b left_now all rest unit left was b_is low begins =
     record { many = length-set left b left_now ∙ many; sum = omega (arith, step, sum) }
 
 pub placed_open : (size bits pages cost here b : ℕ) (all rest : List Keyed) (unit : Keyed) (left : List ℕ)
-    → ArePlaced size bits all (unit ∷ rest) pages left → b ≡ bucket_among bits unit.key → b < 2 ^ bits → cost ≡ unit_cost size unit
+    → ArePlaced size bits all (unit ∷ rest) pages left → b ≡ bucket_among bits unit.key → b < 2 ^ bits → cost ≡ keyed_cost size unit
     → here ≡ get_or left b 0 → cost ≤ here → ArePlaced size bits all rest pages (set left b (here - cost))
 placed_open size bits pages cost here b all rest unit left was b_is low cost_is here_is fits =
     let chain : pages_behind size (get_or left b 0) (unit ∷ dealt bits rest b) ≡ pages_behind size (here - cost) (dealt bits rest b) =
-    ap length (behind_open (page_room size) (unit_cost size) (unit_cost size) (unit_cost size) (get_or left b 0) unit (dealt bits rest b)
+    ap length (behind_open (page_room size) (keyed_cost size) (keyed_cost size) (keyed_cost size) (get_or left b 0) unit (dealt bits rest b)
     (omega (arith, cost_is, here_is, fits)))
-    ∙ (ap (λ l. pages_behind size (l - unit_cost size unit) (dealt bits rest b)) (sym here_is)
+    ∙ (ap (λ l. pages_behind size (l - keyed_cost size unit) (dealt bits rest b)) (sym here_is)
     ∙ ap (λ n. pages_behind size (here - n) (dealt bits rest b)) (sym cost_is)) in
     let step : pages_behind size (get_or left b 0) (unit ∷ dealt bits rest b) ≡ 0 + pages_behind size (here - cost) (dealt bits rest b) =
     omega (arith, chain) in
@@ -169,13 +169,13 @@ placed_open size bits pages cost here b all rest unit left was b_is low cost_is 
     (placed size bits pages 0 b (here - cost) all rest unit left was b_is low step)
 
 pub placed_new : (size bits pages cost here room b : ℕ) (all rest : List Keyed) (unit : Keyed) (left : List ℕ)
-    → ArePlaced size bits all (unit ∷ rest) pages left → b ≡ bucket_among bits unit.key → b < 2 ^ bits → cost ≡ unit_cost size unit
+    → ArePlaced size bits all (unit ∷ rest) pages left → b ≡ bucket_among bits unit.key → b < 2 ^ bits → cost ≡ keyed_cost size unit
     → room ≡ page_room size → here ≡ get_or left b 0 → here < cost → ArePlaced size bits all rest (pages + 1) (set left b (room - cost))
 placed_new size bits pages cost here room b all rest unit left was b_is low cost_is room_is here_is full =
     let chain : pages_behind size (get_or left b 0) (unit ∷ dealt bits rest b) ≡ suc (pages_behind size (room - cost) (dealt bits rest b)) =
-    ap length (behind_new (page_room size) (unit_cost size) (unit_cost size) (unit_cost size) (get_or left b 0) unit (dealt bits rest b)
+    ap length (behind_new (page_room size) (keyed_cost size) (keyed_cost size) (keyed_cost size) (get_or left b 0) unit (dealt bits rest b)
     (omega (arith, cost_is, here_is, full)))
-    ∙ (ap (λ r. suc (pages_behind size (r - unit_cost size unit) (dealt bits rest b))) (sym room_is)
+    ∙ (ap (λ r. suc (pages_behind size (r - keyed_cost size unit) (dealt bits rest b))) (sym room_is)
     ∙ ap (λ n. suc (pages_behind size (room - n) (dealt bits rest b))) (sym cost_is)) in
     let step : pages_behind size (get_or left b 0) (unit ∷ dealt bits rest b) ≡ 1 + pages_behind size (room - cost) (dealt bits rest b) =
     omega (arith, chain) in
@@ -192,22 +192,22 @@ all_placed size bits pages all left done =
 -- those before a place are on their pages
 pub record KeysPlaced (size bits : ℕ) (pairs : List TextPair) (start pages : ℕ) (left : List ℕ) : Type 0 where
   pub low : start ≤ length pairs
-  pub placed : ArePlaced size bits (table_units (pairs_in pairs)) (table_units (drop start (pairs_in pairs))) pages left
+  pub placed : ArePlaced size bits (table_units (unlined_pairs pairs)) (table_units (drop start (unlined_pairs pairs))) pages left
   pub few : pages ≤ 2 ^ bits + start
 
 pub keys_begun : (size bits room pages : ℕ) (pairs : List TextPair) (left : List ℕ) → room ≡ page_room size → pages ≡ 2 ^ bits
     → left ≡ replicate pages room → KeysPlaced size bits pairs 0 pages left
 keys_begun size bits room pages pairs left room_is pages_are left_is = record {
   low = omega arith;
-  placed = rw (left_is, pages_are) (none_placed size bits room (table_units (pairs_in pairs)) room_is);
+  placed = rw (left_is, pages_are) (none_placed size bits room (table_units (unlined_pairs pairs)) room_is);
   few = omega (arith, pages_are);
 }
 
 -- a run of pairs is put
 keys_next : (size bits start pages pages_now n : ℕ) (pairs run : List TextPair) (key : List ℕ) (left left_now : List ℕ)
-    → KeysPlaced size bits pairs start pages left → IsRunAt (pairs_in pairs) start (KeyedUnit key (values_in run)) (start + n)
-    → (ArePlaced size bits (table_units (pairs_in pairs)) (keyed key run ∷ table_units (drop (start + n) (pairs_in pairs))) pages left
-    → ArePlaced size bits (table_units (pairs_in pairs)) (table_units (drop (start + n) (pairs_in pairs))) pages_now left_now)
+    → KeysPlaced size bits pairs start pages left → IsRunAt (unlined_pairs pairs) start (KeyedUnit key (values_in run)) (start + n)
+    → (ArePlaced size bits (table_units (unlined_pairs pairs)) (keyed key run ∷ table_units (drop (start + n) (unlined_pairs pairs))) pages left
+    → ArePlaced size bits (table_units (unlined_pairs pairs)) (table_units (drop (start + n) (unlined_pairs pairs))) pages_now left_now)
     → pages_now ≤ pages + 1 → KeysPlaced size bits pairs (start + n) pages_now left_now
 keys_next size bits start pages pages_now n pairs run key left left_now was at put few =
     let long = length-pairs pairs in
@@ -216,8 +216,8 @@ keys_next size bits start pages pages_now n pairs run key left left_now was at p
     let before = was.few in
     record {
       low = omega (arith, within, long);
-      placed = put (subst (λ us. ArePlaced size bits (table_units (pairs_in pairs)) us pages left)
-          (run_unit (pairs_in pairs) start (start + n) key (values_in run) at) was.placed);
+      placed = put (subst (λ us. ArePlaced size bits (table_units (unlined_pairs pairs)) us pages left)
+          (run_unit (unlined_pairs pairs) start (start + n) key (values_in run) at) was.placed);
       few = omega (arith, before, few, ahead);
     }
 
@@ -228,51 +228,51 @@ room_here size bits start pages b seen pairs left was low is =
 
 -- on the open page of its bucket
 pub key_open : (size bits start pages pages_now n cost seen here b : ℕ) (pairs run : List TextPair) (key : List ℕ) (left left_now : List ℕ)
-    → KeysPlaced size bits pairs start pages left → IsRunAt (pairs_in pairs) start (KeyedUnit key (values_in run)) (start + n)
-    → b ≡ bucket_among bits key → b < 2 ^ bits → cost ≡ unit_cost size (keyed key run) → seen ≡ get_or left b seen → here ≡ get_or left b here
+    → KeysPlaced size bits pairs start pages left → IsRunAt (unlined_pairs pairs) start (KeyedUnit key (values_in run)) (start + n)
+    → b ≡ bucket_among bits key → b < 2 ^ bits → cost ≡ keyed_cost size (keyed key run) → seen ≡ get_or left b seen → here ≡ get_or left b here
     → cost ≤ seen → pages_now ≡ pages → left_now ≡ set left b (here - cost) → KeysPlaced size bits pairs (start + n) pages_now left_now
 key_open size bits start pages pages_now n cost seen here b pairs run key left left_now was at b_is low cost_is seen_is here_is fits pages_is left_is =
     let room = room_here size bits start pages b here pairs left was low here_is in
     let same = room_here size bits start pages b seen pairs left was low seen_is in
     keys_next size bits start pages pages_now n pairs run key left left_now was at
     (λ placed_so_far. rw (pages_is, left_is)
-    (placed_open size bits pages cost here b (table_units (pairs_in pairs)) (table_units (drop (start + n) (pairs_in pairs))) (keyed key run) left
+    (placed_open size bits pages cost here b (table_units (unlined_pairs pairs)) (table_units (drop (start + n) (unlined_pairs pairs))) (keyed key run) left
     placed_so_far b_is low cost_is room (omega (arith, fits, room, same))))
     (omega (arith, pages_is))
 
 -- on a new one
 pub key_new : (size bits start pages pages_now n cost seen room b : ℕ) (pairs run : List TextPair) (key : List ℕ) (left left_now : List ℕ)
-    → KeysPlaced size bits pairs start pages left → IsRunAt (pairs_in pairs) start (KeyedUnit key (values_in run)) (start + n)
-    → b ≡ bucket_among bits key → b < 2 ^ bits → cost ≡ unit_cost size (keyed key run) → room ≡ page_room size → seen ≡ get_or left b seen
+    → KeysPlaced size bits pairs start pages left → IsRunAt (unlined_pairs pairs) start (KeyedUnit key (values_in run)) (start + n)
+    → b ≡ bucket_among bits key → b < 2 ^ bits → cost ≡ keyed_cost size (keyed key run) → room ≡ page_room size → seen ≡ get_or left b seen
     → seen < cost → pages_now ≡ pages + 1 → left_now ≡ set left b (room - cost) → KeysPlaced size bits pairs (start + n) pages_now left_now
 key_new size bits start pages pages_now n cost seen room b pairs run key left left_now was at b_is low cost_is room_is seen_is full pages_is left_is =
     let same = room_here size bits start pages b seen pairs left was low seen_is in
     keys_next size bits start pages pages_now n pairs run key left left_now was at
     (λ placed_so_far. rw (pages_is, left_is)
-    (placed_new size bits pages cost seen room b (table_units (pairs_in pairs)) (table_units (drop (start + n) (pairs_in pairs))) (keyed key run)
+    (placed_new size bits pages cost seen room b (table_units (unlined_pairs pairs)) (table_units (drop (start + n) (unlined_pairs pairs))) (keyed key run)
     left placed_so_far b_is low cost_is room_is same full))
     (omega (arith, pages_is))
 
 pub keys_end : (size bits start pages : ℕ) (pairs : List TextPair) (left : List ℕ) → KeysPlaced size bits pairs start pages left
-    → length pairs ≤ start → pages ≡ all_pages size bits (table_units (pairs_in pairs))
+    → length pairs ≤ start → pages ≡ all_pages size bits (table_units (unlined_pairs pairs))
 keys_end size bits start pages pairs left done past =
     let long = length-pairs pairs in
-    let none : drop start (pairs_in pairs) ≡ [] = drop_of_length-le (pairs_in pairs) (omega (arith, past, long)) in
-    all_placed size bits pages (table_units (pairs_in pairs)) left
-    (subst (λ (ps : List Pair). ArePlaced size bits (table_units (pairs_in pairs)) (table_units ps) pages left) none done.placed)
+    let none : drop start (unlined_pairs pairs) ≡ [] = drop_of_length-le (unlined_pairs pairs) (omega (arith, past, long)) in
+    all_placed size bits pages (table_units (unlined_pairs pairs)) left
+    (subst (λ (ps : List Pair). ArePlaced size bits (table_units (unlined_pairs pairs)) (table_units ps) pages left) none done.placed)
 
 -- What is counted of keys before a place.
 
 pub record KeysCounted (size : ℕ) (sorted : Bool) (pairs : List TextPair) (start cost own : ℕ) : Type 0 where
   pub low : start ≤ length pairs
-  pub short : All IsShortUnit (keyed_units (drop start (pairs_in pairs)))
-  pub cost_sum : cost + table_cost size (table_units (drop start (pairs_in pairs))) ≡ table_cost size (table_units (pairs_in pairs))
-  pub own_sum : own + sum_by (own_pages size sorted) (table_units (drop start (pairs_in pairs)))
-      ≡ sum_by (own_pages size sorted) (table_units (pairs_in pairs))
+  pub short : All IsShortUnit (keyed_units (drop start (unlined_pairs pairs)))
+  pub cost_sum : cost + table_cost size (table_units (drop start (unlined_pairs pairs))) ≡ table_cost size (table_units (unlined_pairs pairs))
+  pub own_sum : own + sum_by (keyed_own_pages size sorted) (table_units (drop start (unlined_pairs pairs)))
+      ≡ sum_by (keyed_own_pages size sorted) (table_units (unlined_pairs pairs))
   pub cost_few : cost ≤ start * 2 ^ 16
   pub own_few : own ≤ start * 2 ^ 34
 
-pub none_counted : (size : ℕ) (sorted : Bool) (pairs : List TextPair) → All IsShortUnit (keyed_units (pairs_in pairs))
+pub none_counted : (size : ℕ) (sorted : Bool) (pairs : List TextPair) → All IsShortUnit (keyed_units (unlined_pairs pairs))
     → KeysCounted size sorted pairs 0 0 0
 none_counted size sorted pairs short = record {
   low = omega arith;
@@ -284,29 +284,29 @@ none_counted size sorted pairs short = record {
 }
 
 pub unit_short : (size : ℕ) (sorted : Bool) (pairs : List TextPair) (start end cost own : ℕ) (unit : TreeUnit)
-    → KeysCounted size sorted pairs start cost own → IsRunAt (pairs_in pairs) start unit end → IsShortUnit unit
+    → KeysCounted size sorted pairs start cost own → IsRunAt (unlined_pairs pairs) start unit end → IsShortUnit unit
 unit_short size sorted pairs start end cost own unit counted run =
-    All-head IsShortUnit unit (keyed_units (drop end (pairs_in pairs))) (subst (All IsShortUnit) run.units counted.short)
+    All-head IsShortUnit unit (keyed_units (drop end (unlined_pairs pairs))) (subst (All IsShortUnit) run.units counted.short)
 
 pub next_counted : (size : ℕ) (sorted : Bool) (pairs run : List TextPair) (start n cost own cost_more own_more : ℕ) (key : List ℕ)
-    → KeysCounted size sorted pairs start cost own → IsRunAt (pairs_in pairs) start (KeyedUnit key (values_in run)) (start + n)
-    → cost_more ≡ unit_cost size (keyed key run) → cost_more ≤ 2 ^ 16 → own_more ≡ own_pages size sorted (keyed key run)
+    → KeysCounted size sorted pairs start cost own → IsRunAt (unlined_pairs pairs) start (KeyedUnit key (values_in run)) (start + n)
+    → cost_more ≡ keyed_cost size (keyed key run) → cost_more ≤ 2 ^ 16 → own_more ≡ keyed_own_pages size sorted (keyed key run)
     → own_more ≤ (n + 1) * 2 ^ 33 → KeysCounted size sorted pairs (start + n) (cost + cost_more) (own + own_more)
 next_counted size sorted pairs run start n cost own cost_more own_more key was at cost_is cost_low own_is own_low =
-    let rest : List Keyed = table_units (drop (start + n) (pairs_in pairs)) in
+    let rest : List Keyed = table_units (drop (start + n) (unlined_pairs pairs)) in
     let long = length-pairs pairs in
     let ahead = at.ahead in
     let within = at.within in
-    let units = run_unit (pairs_in pairs) start (start + n) key (values_in run) at in
-    let cost_split = ap (table_cost size) units ∙ sum_by-cons (unit_cost size) (keyed key run) rest in
-    let own_split = ap (sum_by (own_pages size sorted)) units ∙ sum_by-cons (own_pages size sorted) (keyed key run) rest in
+    let units = run_unit (unlined_pairs pairs) start (start + n) key (values_in run) at in
+    let cost_split = ap (table_cost size) units ∙ sum_by-cons (keyed_cost size) (keyed key run) rest in
+    let own_split = ap (sum_by (keyed_own_pages size sorted)) units ∙ sum_by-cons (keyed_own_pages size sorted) (keyed key run) rest in
     let cost_sum = was.cost_sum in
     let own_sum = was.own_sum in
     let cost_before = was.cost_few in
     let own_before = was.own_few in
     record {
       low = omega (arith, within, long);
-      short = All-tail IsShortUnit (KeyedUnit key (values_in run)) (keyed_units (drop (start + n) (pairs_in pairs)))
+      short = All-tail IsShortUnit (KeyedUnit key (values_in run)) (keyed_units (drop (start + n) (unlined_pairs pairs)))
           (subst (All IsShortUnit) at.units was.short);
       cost_sum = omega (arith, cost_split, cost_sum, cost_is);
       own_sum = omega (arith, own_split, own_sum, own_is);
@@ -316,12 +316,12 @@ next_counted size sorted pairs run start n cost own cost_more own_more key was a
 
 pub all_counted : (size : ℕ) (sorted : Bool) (pairs : List TextPair) (start cost own : ℕ) → length pairs ≤ start
     → KeysCounted size sorted pairs start cost own
-    → (cost ≡ table_cost size (table_units (pairs_in pairs))) × (own ≡ sum_by (own_pages size sorted) (table_units (pairs_in pairs)))
+    → (cost ≡ table_cost size (table_units (unlined_pairs pairs))) × (own ≡ sum_by (keyed_own_pages size sorted) (table_units (unlined_pairs pairs)))
 all_counted size sorted pairs start cost own past done =
     let long = length-pairs pairs in
-    let none : drop start (pairs_in pairs) ≡ [] = drop_of_length-le (pairs_in pairs) (omega (arith, past, long)) in
+    let none : drop start (unlined_pairs pairs) ≡ [] = drop_of_length-le (unlined_pairs pairs) (omega (arith, past, long)) in
     let cost_sum = done.cost_sum in
     let own_sum = done.own_sum in
     let cost_rest = ap (λ (ps : List Pair). table_cost size (table_units ps)) none in
-    let own_rest = ap (λ (ps : List Pair). sum_by (own_pages size sorted) (table_units ps)) none in
+    let own_rest = ap (λ (ps : List Pair). sum_by (keyed_own_pages size sorted) (table_units ps)) none in
     (omega (arith, cost_sum, cost_rest), omega (arith, own_sum, own_rest))

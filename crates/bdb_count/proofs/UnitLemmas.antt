@@ -4,10 +4,10 @@ use Rattle.std.specs.Prelude.{◌/◌, is_some}
 use Rattle.std.specs.List.{list_all, sum_by}
 use Rattle.bdb_format.specs.HeadOf.{is_page_size}
 use Rattle.bdb_format.proofs.SizeLemmas.{size_bounds}
-use Rattle.bdb_model.specs.declared.pairs.TextPair.{TextPair}
+use Rattle.bdb_text_format.specs.declared.pairs.TextPair.{TextPair}
 use Rattle.bdb_leaves.specs.Spread.{leaves_and_levels, set_type}
 use Rattle.bdb_leaves.specs.Units.{chain_pages, page_room}
-use Rattle.bdb_mkhash.specs.Costs.{cost_in, data_cost, data_form, is_inline, item_cost, pages_in, set_cost, stand_together}
+use Rattle.bdb_mkhash.specs.Costs.{cost_in, data_cost, data_form, is_inline, hash_item_cost, pages_in, blocks_cost, stand_together}
 use Rattle.bdb_mkhash.proofs.CostLemmas.{cost_more, data_few, form_more, inline_more, item_few, long_apart, much_apart}
 use Rattle.bdb_need.specs.Counting.{data_units, values_in}
 use Rattle.bdb_need.proofs.DataLemmas.{length-values, value_here}
@@ -34,7 +34,7 @@ pub set_long : (size : ℕ) (pairs : List TextPair) (i : ℕ) (pair : TextPair) 
     → pair ≡ get_or pairs i pair → value ≡ pair.value → len ≡ length value → size / 8 < len → None ≡ set_or_none size (values_in pairs)
 set_long size pairs i pair value len within is value_is long much =
     let one = here pairs i pair value len within is value_is long in
-    sym (ap (λ b. cond b (Some (set_cost (values_in pairs))) None)
+    sym (ap (λ b. cond b (Some (blocks_cost (values_in pairs))) None)
     (long_apart size (values_in pairs) i (low pairs i within) (omega (arith, one, much))))
 
 pub set_more : (size : ℕ) (pairs : List TextPair) (i cost : ℕ) (pair : TextPair) (value : List ℕ) (len : ℕ) → SetSoFar size pairs i cost
@@ -57,7 +57,7 @@ set_much size pairs i cost pair value len was within is value_is long much =
     let one = here pairs i pair value len within is value_is long in
     let step = cost_more (values_in pairs) i (low pairs i within) in
     let before = was.sum in
-    sym (ap (λ b. cond b (Some (set_cost (values_in pairs))) None)
+    sym (ap (λ b. cond b (Some (blocks_cost (values_in pairs))) None)
     (much_apart size (cost + (4 + len)) (values_in pairs) (i + 1) (omega (arith, one, step, before)) much))
 
 -- What the data take, and the pages of their own.
@@ -67,18 +67,18 @@ when_false x y b is = ap (λ (t : Bool). cond t x y) is
 
 -- where they stand together, and where not
 together : (size cost : ℕ) (values : List (List ℕ)) → Some cost ≡ set_or_none size values
-    → (stand_together size values ≡ true) × (cost ≡ set_cost values)
+    → (stand_together size values ≡ true) × (cost ≡ blocks_cost values)
 together size cost values is = by_test (stand_together size values) refl is
   where
-    by_test : (b : Bool) → stand_together size values ≡ b → Some cost ≡ cond b (Some (set_cost values)) None
-        → (stand_together size values ≡ true) × (cost ≡ set_cost values)
+    by_test : (b : Bool) → stand_together size values ≡ b → Some cost ≡ cond b (Some (blocks_cost values)) None
+        → (stand_together size values ≡ true) × (cost ≡ blocks_cost values)
     by_test true test same = (test, cc)
     by_test false test same = absurd cc
 
 apart : (size : ℕ) (values : List (List ℕ)) → None ≡ set_or_none size values → stand_together size values ≡ false
 apart size values is = by_test (stand_together size values) refl is
   where
-    by_test : (b : Bool) → stand_together size values ≡ b → None ≡ cond b (Some (set_cost values)) None → stand_together size values ≡ false
+    by_test : (b : Bool) → stand_together size values ≡ b → None ≡ cond b (Some (blocks_cost values)) None → stand_together size values ≡ false
     by_test true test same = absurd cc
     by_test false test same = test
 
@@ -108,7 +108,7 @@ apart_pages size chains tree sorted pairs some many is chains_are tree_is =
 
 -- a key with its data fits a page
 pub unit_fits : (size : ℕ) (key : List ℕ) (values : List (List ℕ)) → is_page_size size ≡ true
-    → item_cost size key + data_cost size values ≤ page_room size
+    → hash_item_cost size key + data_cost size values ≤ page_room size
 unit_fits size key values legal =
     let bounds = size_bounds size legal in
     let one = item_few size key legal in

@@ -9,17 +9,17 @@ use Rattle.bdb_format.specs.declared.settings.Settings.{Settings}
 use Rattle.bdb_format.specs.HeadOf.{is_page_size}
 use Rattle.bdb_format.specs.Numbers.{pad4}
 use Rattle.bdb_format.specs.Rows.{records_per_page}
-use Rattle.bdb_model.specs.declared.list.Pair.{Pair}
-use Rattle.bdb_model.specs.declared.pairs.Key.TheVariants.{Bytes}
-use Rattle.bdb_model.specs.declared.pairs.TextPair.{TextPair}
-use Rattle.bdb_model.specs.declared.sections.Section.{Section}
+use Rattle.bdb_text_format.specs.declared.list.Pair.{Pair}
+use Rattle.bdb_text_format.specs.declared.pairs.Key.TheVariants.{Bytes}
+use Rattle.bdb_text_format.specs.declared.pairs.TextPair.{TextPair}
+use Rattle.bdb_text_format.specs.declared.sections.Section.{Section}
+use Rattle.bdb_text_format.specs.Pairs.{AscendFrom}
 use Rattle.bdb_leaves.specs.Runs.{IsShort}
-use Rattle.bdb_mktree.specs.Lists.{IsListFor}
+use Rattle.bdb_mktree.specs.Lists.{IsTreeList}
 use Rattle.bdb_mkhash.specs.Buckets.{table_size, table_units}
 use Rattle.bdb_mkhash.specs.Table.{IsTableList}
 use Rattle.bdb_mkqueue.specs.Layout.{queue_size}
-use Rattle.bdb_mkqueue.specs.Lists.{AscendFrom}
-use Rattle.bdb_need.specs.Need.{pairs_in, tree_pages}
+use Rattle.bdb_need.specs.Need.{unlined_pairs, tree_pages}
 use Rattle.bdb_settle.specs.Loaded.{loaded}
 
 -- the pages of the database of a list, its metadata not counted
@@ -35,7 +35,7 @@ sized size section = record section.settings { page_size = size }
 
 -- the pages of a section: one with its metadata, and those of its database
 abbrev pub section_pages : ℕ → Section → ℕ
-section_pages size section = 1 + list_pages section.settings.kind (sized size section) (pairs_in section.pairs)
+section_pages size section = 1 + list_pages section.settings.kind (sized size section) (unlined_pairs section.pairs)
 
 -- The master is a btree without duplicates: its keys are the names, in byte order, each with four bytes of data.
 
@@ -75,14 +75,14 @@ need_of (first ∷ rest) =
 -- What is asked of sections: their lists are those of their kinds, in order.
 
 abbrev pub IsListOf : Kind → Settings → List Pair → Type 0
-IsListOf Btree settings list = IsListFor settings list
-IsListOf Recno settings list = IsListFor settings list
+IsListOf Btree settings list = IsTreeList settings list
+IsListOf Recno settings list = IsTreeList settings list
 IsListOf Hash settings list = IsTableList settings list
 IsListOf Queue settings list = (pad4 (settings.re_len + 1) ≤ settings.page_size - 28) × AscendFrom 1 list
 
 -- a section with its list, whose name fits its field
 pub record IsSettled (size : ℕ) (section : Section) : Type 0 where
-  pub list : IsListOf section.settings.kind (sized size section) (pairs_in section.pairs)
+  pub list : IsListOf section.settings.kind (sized size section) (unlined_pairs section.pairs)
   pub name : IsShort (name_in section.name)
 
 -- sections with their lists, of which there is one at least

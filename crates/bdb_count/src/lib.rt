@@ -8,5 +8,5 @@ mod table;
 mod units;
 
 pub use queue::queue_pages;
-pub use sections::need;
+pub use sections::{filled_need, need};
 pub use table::table_pages;

@@ -5,9 +5,9 @@ ghost use Rattle.bdb_leaves.specs.Runs.{IsShort};
 ghost use Rattle.bdb_count.specs.Need.{master_pages, master_settings, name_in, name_pair};
 
 use bdb_format::{Bytes, Kind, Order, Settings};
-use bdb_model::{Key, Section, Sections, TextPair, TextPairs};
 use bdb_need::tree_pages;
 use bdb_settle::settle;
+use bdb_text_format::{Key, Section, Sections, TextPair, TextPairs};
 use std::alloc::{AllocError, Global};
 
 // The settings of the master.

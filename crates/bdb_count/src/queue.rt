@@ -3,15 +3,15 @@ ghost use Rattle.bdb_format.specs.HeadOf.{is_page_size};
 ghost use Rattle.bdb_format.specs.Numbers.{pad4};
 ghost use Rattle.bdb_format.specs.Rows.{records_per_page};
 ghost use Rattle.bdb_mkqueue.specs.Layout.{queue_size};
-ghost use Rattle.bdb_mkqueue.specs.Lists.{AscendFrom, number_in};
-ghost use Rattle.bdb_need.specs.Need.{pairs_in};
+ghost use Rattle.bdb_text_format.specs.Pairs.{AscendFrom, number_of};
+ghost use Rattle.bdb_need.specs.Need.{unlined_pairs};
 
 use bdb_format::Settings;
-use bdb_model::{Key, TextPairs};
+use bdb_text_format::{Key, TextPairs};
 
 // The number of a record.
 fn number_of(key: &Key) -> u64
-    ensures number { result ≡ number_in key.now }
+    ensures number { result ≡ number_of key.now }
     ensures few { result < 2 ^ 32 }
 {
     match key {
@@ -40,8 +40,8 @@ fn records_per_page(size: u32, re_len: u32) -> u64
 pub fn queue_pages(settings: &Settings, list: &TextPairs) -> u64
     requires legal { IsTrue (is_page_size settings.now.page_size) }
     requires room { pad4 (settings.now.re_len + 1) ≤ settings.now.page_size - 28 }
-    requires ascend { AscendFrom 1 (pairs_in list.now) }
-    ensures pages { result ≡ queue_size (records_per_page settings.now.page_size settings.now.re_len) (pairs_in list.now) }
+    requires ascend { AscendFrom 1 (unlined_pairs list.now) }
+    ensures pages { result ≡ queue_size (records_per_page settings.now.page_size settings.now.re_len) (unlined_pairs list.now) }
     ensures few { result ≤ 2 ^ 32 }
 {
     let per_page = records_per_page(settings.page_size, settings.re_len);

@@ -1,26 +1,27 @@
-ghost use Rattle.std.specs.Prelude.{◌≡◌, ◌+◌, ◌<◌, ◌^◌, IfOk, IsTrue};
+ghost use Rattle.std.specs.Prelude.{◌≡◌, ◌+◌, ◌<◌, ◌^◌, IfOk, IsTrue, map};
 ghost use Rattle.std.specs.List.{All, sum_by};
 ghost use Rattle.bdb_format.specs.HeadOf.{is_page_size};
 ghost use Rattle.bdb_count.specs.Need.{AreSettled, IsListOf, IsSettled, list_pages, need_of, section_pages, sized};
-ghost use Rattle.bdb_need.specs.Need.{pairs_in};
+ghost use Rattle.bdb_need.specs.Need.{unlined_pairs};
+ghost use Rattle.bdb_settle.specs.Loaded.{filled_pairs, filled_section};
 
 use crate::master::master_pages;
 use crate::queue::queue_pages;
 use crate::table::table_pages;
 use bdb_format::{Kind, Settings};
-use bdb_model::{Section, Sections, TextPairs};
-use bdb_need::tree_pages;
+use bdb_need::filled_tree_pages;
+use bdb_text_format::{Section, Sections, TextPairs};
 use std::alloc::{AllocError, Global};
 
-// The pages of the database of a list, its metadata not counted.
+// The pages of the database of a list once its records are filled up, its metadata not counted.
 fn list_pages(alloc: Global, settings: &Settings, list: &TextPairs) -> Result<u128, AllocError>
     requires legal { IsTrue (is_page_size settings.now.page_size) }
-    requires list { IsListOf settings.now.kind settings.now (pairs_in list.now) }
-    ensures pages { IfOk result (λ pages. pages ≡ list_pages settings.now.kind settings.now (pairs_in list.now)) }
+    requires list { IsListOf settings.now.kind settings.now (unlined_pairs (filled_pairs settings.now list.now)) }
+    ensures pages { IfOk result (λ pages. pages ≡ list_pages settings.now.kind settings.now (unlined_pairs (filled_pairs settings.now list.now))) }
     ensures few { IfOk result (λ pages. pages < 2 ^ 101) }
 {
     match settings.kind {
-        Kind::Btree | Kind::Recno => tree_pages(alloc, settings, list),
+        Kind::Btree | Kind::Recno => filled_tree_pages(alloc, settings, list),
         Kind::Hash => table_pages(alloc, settings, list),
         Kind::Queue => Ok(u128::from(queue_pages(settings, list))),
     }
@@ -35,11 +36,11 @@ fn sized(size: u32, section: &Section) -> Settings
     settings
 }
 
-// The pages of sections, each with its metadata.
+// The pages of sections once their records are filled up, each with its metadata.
 fn sections_pages(alloc: Global, size: u32, sections: &[Section]) -> Result<u128, AllocError>
     requires legal { IsTrue (is_page_size size) }
-    requires each { All (IsSettled size) sections.now }
-    ensures { IfOk result (λ pages. pages ≡ sum_by (section_pages size) sections.now) }
+    requires each { All (λ section. IsSettled size (filled_section section)) sections.now }
+    ensures { IfOk result (λ pages. pages ≡ sum_by (λ section. section_pages size (filled_section section)) sections.now) }
 {
     let mut pages: u128 = 0;
     for section in sections {
@@ -49,11 +50,11 @@ fn sections_pages(alloc: Global, size: u32, sections: &[Section]) -> Result<u128
     Ok(pages)
 }
 
-/// How many pages loading needs: those of the file that is made of the sections. The page size is that of the first section; where
-/// that has a name, each has one, and there is a master.
-pub fn need(alloc: Global, sections: &Sections) -> Result<u128, AllocError>
-    requires { AreSettled sections.now }
-    ensures { IfOk result (λ pages. pages ≡ need_of sections.now) }
+/// How many pages loading needs: those of the file that is made of the sections once their records are filled up. The page size is that
+/// of the first section; where that has a name, each has one, and there is a master. No record is filled up for that.
+pub fn filled_need(alloc: Global, sections: &Sections) -> Result<u128, AllocError>
+    requires { AreSettled (map filled_section sections.now) }
+    ensures { IfOk result (λ pages. pages ≡ need_of (map filled_section sections.now)) }
 {
     let Some(first) = sections.get(0) else {
         unreachable!()
@@ -66,4 +67,13 @@ pub fn need(alloc: Global, sections: &Sections) -> Result<u128, AllocError>
     let master = master_pages(alloc, size, sections.as_slice())?;
     let pages = own.checked_add(1 + master).ok_or(AllocError)?;
     Ok(pages)
+}
+
+/// How many pages loading needs: those of the file that is made of the sections. The page size is that of the first section; where
+/// that has a name, each has one, and there is a master.
+pub fn need(alloc: Global, sections: &Sections) -> Result<u128, AllocError>
+    requires { AreSettled sections.now }
+    ensures { IfOk result (λ pages. pages ≡ need_of sections.now) }
+{
+    filled_need(alloc, sections)
 }

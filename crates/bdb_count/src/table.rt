@@ -5,15 +5,15 @@ ghost use Rattle.bdb_mktree.specs.Lists.{HasBytes, keyed_units};
 ghost use Rattle.bdb_mktree.specs.Units.{IsShortUnit};
 ghost use Rattle.bdb_buckets.specs.Tables.{bucket_among};
 ghost use Rattle.bdb_mkhash.specs.Buckets.{bits_for, buckets_of, spread_bucket, table_cost, table_size, table_units};
-ghost use Rattle.bdb_mkhash.specs.Costs.{own_pages};
+ghost use Rattle.bdb_mkhash.specs.Costs.{keyed_own_pages};
 ghost use Rattle.bdb_mkhash.specs.Table.{IsTableList};
-ghost use Rattle.bdb_need.specs.Need.{pairs_in};
+ghost use Rattle.bdb_need.specs.Need.{unlined_pairs};
 
-use crate::units::{own_pages, unit_cost};
+use crate::units::{keyed_cost, keyed_own_pages};
 use bdb_format::Settings;
 use bdb_layout::{bucket_of, hash5};
-use bdb_model::{TextPair, TextPairs};
 use bdb_need::run_at;
+use bdb_text_format::{TextPair, TextPairs};
 use std::alloc::{AllocError, Global};
 
 /// What all keys of a list take of the pages of buckets, and how many pages they have of their own.
@@ -31,18 +31,18 @@ fn count_totals(
     pairs: &[TextPair],
 ) -> Result<Totals, AllocError>
     requires legal { IsTrue (is_page_size size) }
-    requires keys { All (λ pair. HasBytes pair.key) (pairs_in pairs.now) }
-    requires short { All IsShortUnit (keyed_units (pairs_in pairs.now)) }
-    ensures cost { IfOk result (λ totals. totals.cost ≡ table_cost size (table_units (pairs_in pairs.now))) }
-    ensures own { IfOk result (λ totals. totals.own ≡ sum_by (own_pages size sorted) (table_units (pairs_in pairs.now))) }
+    requires keys { All (λ pair. HasBytes pair.key) (unlined_pairs pairs.now) }
+    requires short { All IsShortUnit (keyed_units (unlined_pairs pairs.now)) }
+    ensures cost { IfOk result (λ totals. totals.cost ≡ table_cost size (table_units (unlined_pairs pairs.now))) }
+    ensures own { IfOk result (λ totals. totals.own ≡ sum_by (keyed_own_pages size sorted) (table_units (unlined_pairs pairs.now))) }
     ensures few { IfOk result (λ totals. totals.own < 2 ^ 100) }
 {
     let mut totals = Totals { cost: 0, own: 0 };
     let mut start = 0;
     while start < pairs.len() {
         let run = run_at(pairs, start);
-        totals.cost += unit_cost(size, &run) as u128;
-        totals.own += own_pages(alloc, size, sorted, &run)?;
+        totals.cost += keyed_cost(size, &run) as u128;
+        totals.own += keyed_own_pages(alloc, size, sorted, &run)?;
         start += run.pairs.len();
     }
     Ok(totals)
@@ -95,8 +95,8 @@ fn bucket_pages(
     requires legal { IsTrue (is_page_size size) }
     requires some { 1 ≤ bits }
     requires few { bits ≤ 31 }
-    requires keys { All (λ pair. HasBytes pair.key) (pairs_in pairs.now) }
-    ensures pages { IfOk result (λ pages. pages ≡ sum_by (λ bucket. length (spread_bucket size bucket)) (buckets_of bits (table_units (pairs_in pairs.now)))) }
+    requires keys { All (λ pair. HasBytes pair.key) (unlined_pairs pairs.now) }
+    ensures pages { IfOk result (λ pages. pages ≡ sum_by (λ bucket. length (spread_bucket size bucket)) (buckets_of bits (table_units (unlined_pairs pairs.now)))) }
     ensures few { IfOk result (λ pages. pages < 2 ^ 100) }
 {
     let room = (size - 26) as u16;
@@ -106,7 +106,7 @@ fn bucket_pages(
     let mut start = 0;
     while start < pairs.len() {
         let run = run_at(pairs, start);
-        let cost = unit_cost(size, &run) as u16;
+        let cost = keyed_cost(size, &run) as u16;
         let b = bucket_among(bits, run.key) as usize;
         if cost <= left[b] {
             left[b] -= cost;
@@ -122,8 +122,8 @@ fn bucket_pages(
 /// How many pages the table of a list has, its metadata not counted: those of its buckets, the chains and the trees of data.
 pub fn table_pages(alloc: Global, settings: &Settings, list: &TextPairs) -> Result<u128, AllocError>
     requires legal { IsTrue (is_page_size settings.now.page_size) }
-    requires list { IsTableList settings.now (pairs_in list.now) }
-    ensures pages { IfOk result (λ pages. pages ≡ table_size settings.now.page_size settings.now.sorted (table_units (pairs_in list.now))) }
+    requires list { IsTableList settings.now (unlined_pairs list.now) }
+    ensures pages { IfOk result (λ pages. pages ≡ table_size settings.now.page_size settings.now.sorted (table_units (unlined_pairs list.now))) }
     ensures few { IfOk result (λ pages. pages < 2 ^ 101) }
 {
     let size = settings.page_size as usize;

@@ -3,21 +3,21 @@ ghost use Rattle.std.specs.List.{All};
 ghost use Rattle.bdb_format.specs.HeadOf.{is_page_size};
 ghost use Rattle.bdb_leaves.specs.Runs.{IsShort};
 ghost use Rattle.bdb_leaves.specs.Units.{page_room};
-ghost use Rattle.bdb_mkhash.specs.Costs.{data_cost, data_form, item_cost, own_pages, pages_in, unit_cost};
+ghost use Rattle.bdb_mkhash.specs.Costs.{data_cost, data_form, hash_item_cost, keyed_own_pages, pages_in, keyed_cost};
 ghost use Rattle.bdb_need.specs.Counting.{values_in};
 ghost use Rattle.bdb_count.specs.Counts.{keyed, set_or_none};
 
-use bdb_model::TextPair;
 use bdb_need::{Run, chain_pages, data_chains, data_pages};
+use bdb_text_format::TextPair;
 use std::alloc::{AllocError, Global};
 
 // What the item of a tree of data takes of a page, with its entry.
 const TREE_COST: usize = 10;
 
 // What a value takes of a page: the entry of its item, and the item.
-fn item_cost(size: usize, value: &[u8]) -> usize
+fn hash_item_cost(size: usize, value: &[u8]) -> usize
     requires { IsTrue (is_page_size size) }
-    ensures { result ≡ item_cost size value.now }
+    ensures { result ≡ hash_item_cost size value.now }
 {
     if value.len() <= size / 8 {
         3 + value.len()
@@ -27,7 +27,7 @@ fn item_cost(size: usize, value: &[u8]) -> usize
 }
 
 // What several data take of a page as a set there, or `None` where they don't stand together.
-fn set_cost(size: usize, pairs: &[TextPair]) -> Option<usize>
+fn set_or_none(size: usize, pairs: &[TextPair]) -> Option<usize>
     requires { IsTrue (is_page_size size) }
     ensures { result ≡ set_or_none size (values_in pairs.now) }
 {
@@ -53,9 +53,9 @@ fn data_cost(size: usize, pairs: &[TextPair]) -> usize
     ensures cost { result ≡ data_cost size (values_in pairs.now) }
 {
     if pairs.len() == 1 {
-        return item_cost(size, pairs[0].value.as_slice());
+        return hash_item_cost(size, pairs[0].value.as_slice());
     }
-    match set_cost(size, pairs) {
+    match set_or_none(size, pairs) {
         Some(cost) => cost,
         None => TREE_COST,
     }
@@ -77,7 +77,7 @@ fn data_own_pages(
     if pairs.len() == 1 {
         return Ok(chain_pages(size, pairs[0].value.as_slice()));
     }
-    if set_cost(size, pairs).is_some() {
+    if set_or_none(size, pairs).is_some() {
         return Ok(0);
     }
     let chains = data_chains(size, pairs);
@@ -86,17 +86,17 @@ fn data_own_pages(
 }
 
 /// What a key with its data takes of a page.
-pub(crate) fn unit_cost(size: usize, run: &Run<'_>) -> usize
+pub(crate) fn keyed_cost(size: usize, run: &Run<'_>) -> usize
     requires legal { IsTrue (is_page_size size) }
     requires some { 0 < length run.now.pairs.now }
-    ensures cost { result ≡ unit_cost size (keyed run.now.key.now run.now.pairs.now) }
+    ensures cost { result ≡ keyed_cost size (keyed run.now.key.now run.now.pairs.now) }
     ensures fits { result ≤ page_room size }
 {
-    item_cost(size, run.key) + data_cost(size, run.pairs)
+    hash_item_cost(size, run.key) + data_cost(size, run.pairs)
 }
 
 /// The pages that a key and its data have of their own.
-pub(crate) fn own_pages(
+pub(crate) fn keyed_own_pages(
     alloc: Global,
     size: usize,
     sorted: bool,
@@ -106,7 +106,7 @@ pub(crate) fn own_pages(
     requires some { 0 < length run.now.pairs.now }
     requires key { IsShort run.now.key.now }
     requires short { All IsShort (values_in run.now.pairs.now) }
-    ensures pages { IfOk result (λ pages. pages ≡ own_pages size sorted (keyed run.now.key.now run.now.pairs.now)) }
+    ensures pages { IfOk result (λ pages. pages ≡ keyed_own_pages size sorted (keyed run.now.key.now run.now.pairs.now)) }
     ensures few { IfOk result (λ pages. pages ≤ (length run.now.pairs.now + 1) * 2 ^ 33) }
 {
     let data = data_own_pages(alloc, size, sorted, run.pairs)?;

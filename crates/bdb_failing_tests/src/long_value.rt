@@ -1,7 +1,7 @@
 //! A value of 40,000 bytes, whose 80,000 digits are written in two pieces.
 
+use bdb_format::Bytes;
 use bdb_io::{MemSink, MemSource, Sink};
-use bdb_model::Bytes;
 use bdb_running::files::LONG_VALUE;
 use bdb_running::images::bytes_of;
 use bdb_running::outside::Narrow;

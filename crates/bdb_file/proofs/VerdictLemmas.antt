@@ -1,5 +1,5 @@
 -- The verdict of a file from the answers of opening, linking and the checks after them.
-use Rattle.std.proofs.Common.{◌≡◌, ℕ, ◌<◌, ◌++◌, length, map, List, [], ◌∷◌, Option, Some, None, arith, refl, sym, ◌∙◌, ap, subst}
+use Rattle.std.proofs.Common.{◌≡◌, ℕ, ◌+◌, ◌^◌, ◌<◌, ◌≤◌, ◌++◌, length, map, List, [], ◌∷◌, Option, Some, None, arith, refl, sym, ◌∙◌, ap, subst}
 use Rattle.std.specs.List.{range_with_len}
 use Rattle.std.specs.Option.{option_map}
 use Rattle.bdb_format.specs.declared.kinds.CheckError.{CheckError}
@@ -8,9 +8,14 @@ use Rattle.bdb_format.specs.declared.kinds.Verdict.{Verdict}
 use Rattle.bdb_format.specs.Verdict.{Faulty, IsFirstOf, Judgement, LeftOut, as_verdict, faults_in, faults_of, first_judgement, judgement_of, or_else, stage_faults, verdict_in, verdict_of}
 use Rattle.bdb_format.proofs.VerdictLemmas.{skip_stage, skip_stages, verdict_after, verdict_in_more}
 use Rattle.bdb_format.specs.declared.kinds.Fault.{Fault}
+use Rattle.bdb_format.specs.File.{file_of}
+use Rattle.bdb_format.specs.HeadOf.{head_of}
+use Rattle.bdb_format.proofs.FileLemmas.{count_is, last_page}
 use Rattle.bdb_faults.specs.All.{IsAllOf}
 use Rattle.bdb_faults.specs.declared.named.AllError.{AllError}
 use Rattle.bdb_faults.specs.declared.named.AllError.TheVariants.{Faults, Memory}
+use Rattle.bdb_graph.specs.Formed.{IsFormed}
+use Rattle.bdb_graph.proofs.FirstLemmas.{formed_last}
 use Rattle.bdb_file.specs.Whole.{IsVerdictOf, told_as}
 
 is_verdict : (image : List ℕ) (judgement : Judgement) → verdict_of image ≡ Some judgement → IsVerdictOf image (as_verdict judgement)
@@ -57,6 +62,14 @@ file_accepted image form linked none = skip_stages image (1 ∷ 2 ∷ 3 ∷ 4 �
 
 pub no_verdict : (image : List ℕ) → faults_of image ≡ [] → verdict_of image ≡ None
 no_verdict image none = ap first_judgement none
+
+-- A step for each page.
+
+-- the pages up to the last are whole pages of the image
+pub whole_pages : (image : List ℕ) → length image ≤ 2 ^ 30 → faults_in (1 ∷ 2 ∷ []) image ≡ [] → (file_of image).last + 1 ≤ (file_of image).count
+whole_pages image small form =
+    let formed : IsFormed image (head_of image) = record { size = small; head_is = refl; form = form } in
+    omega (arith, formed_last image (head_of image) formed, last_page image, count_is image)
 
 -- All faults.
 

@@ -39,7 +39,7 @@ impl<'a> Model for Entry<'a> {
 fn page_named(alloc: Global, value: &Datum<'_>) -> Result<Option<u32>, AllocError>
     ensures { IfOk result (λ named. named ≡ page_named (datum_seen value.now)) }
 {
-    if value.len() != 4 {
+    if !value.has_len(4) {
         return Ok(None);
     }
     let bytes = value.copy(alloc)?;

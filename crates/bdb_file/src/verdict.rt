@@ -42,8 +42,8 @@ fn checked<'a, L: Ledger>(
 
 /// An image as a sound file, or its verdict: the least page, and there the least code, of the first of the eight
 /// stages in which a row holds, or the case that is left out by name. `Memory` is want of memory. It takes no
-/// more steps than the file has pages up to its last.
-#[tactic(auto, using(crate::proofs::VerdictLemmas::form_refused, crate::proofs::VerdictLemmas::no_verdict))]
+/// more steps than the image has whole pages.
+#[tactic(auto, using(crate::proofs::VerdictLemmas::form_refused, crate::proofs::VerdictLemmas::no_verdict, crate::proofs::VerdictLemmas::whole_pages))]
 pub fn verify<'a, L: Ledger>(
     alloc: Global,
     image: &'a [u8],
@@ -53,7 +53,7 @@ pub fn verify<'a, L: Ledger>(
     ensures sound { IfOk result (λ sound. sound ≡ image.now) }
     ensures accepted { OnOk result (verdict_of image.now ≡ None) }
     ensures refusal { IfErr result (IsVerdictOf image.now) }
-    ensures cost { steps.new ≤ steps.old + ((file_of image.now).last + 1) }
+    ensures cost { steps.new ≤ steps.old + (file_of image.now).count }
 {
     let formed = open_image(alloc, image)?;
     checked(alloc, formed, steps).map_err(told_as)

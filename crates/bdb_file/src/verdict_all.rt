@@ -52,8 +52,8 @@ fn sound_or_all<'a, L: Ledger>(
 
 /// An image as a sound file, or all faults of the first of the eight stages in which a row holds, page by page and code by
 /// code, each once; a case that is left out by name stands among them. `Memory` is want of memory. It takes no more steps
-/// than the file has pages up to its last, and at most 24 bytes for each fault beside what `verify` takes.
-#[tactic(auto, using(crate::proofs::VerdictLemmas::form_all))]
+/// than the image has whole pages, and at most 24 bytes for each fault beside what `verify` takes.
+#[tactic(auto, using(crate::proofs::VerdictLemmas::form_all, crate::proofs::VerdictLemmas::whole_pages))]
 pub fn verify_all<'a, L: Ledger>(
     alloc: Global,
     image: &'a [u8],
@@ -63,7 +63,7 @@ pub fn verify_all<'a, L: Ledger>(
     ensures sound { IfOk result (λ sound. sound ≡ image.now) }
     ensures accepted { OnOk result (faults_of image.now ≡ []) }
     ensures refusal { IfErr result (IsAllOf (faults_of image.now)) }
-    ensures cost { steps.new ≤ steps.old + ((file_of image.now).last + 1) }
+    ensures cost { steps.new ≤ steps.old + (file_of image.now).count }
 {
     let formed = open_all(alloc, image)?;
     sound_or_all(alloc, formed, steps)

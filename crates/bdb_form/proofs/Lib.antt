@@ -1,3 +1,4 @@
 pub mod FormedLemmas
 pub mod SlotLemmas
 pub mod WalkLemmas
+pub mod ZeroLemmas

@@ -4,11 +4,12 @@ ghost use Rattle.bdb_form.specs.Seen.{form_seen, header_seen, page_seen};
 ghost use Rattle.bdb_format.specs.HeadOf.{is_page_size};
 ghost use Rattle.bdb_format.specs.Numbers.{byte_at};
 ghost use Rattle.bdb_format.specs.Page.{OverflowPage};
-ghost use Rattle.bdb_format.specs.Reading.{abstract_page, header_of, is_zero, page_as, page_type};
+ghost use Rattle.bdb_format.specs.Reading.{abstract_page, header_of, page_as, page_type};
 ghost use Rattle.bdb_format.specs.Rows.{body_code, identity_rows, is_queue_type, is_tree_type, page_code, queue_code};
 ghost use Rattle.bdb_format.specs.Table.{first_row};
 
 use crate::codes::listed_code;
+use crate::zeros::is_zero;
 use crate::{
     DupLeafKind, FreeView, HashKind, IndexedView, InternalKind, LeafKind, MetaView, OverflowView,
     PageView, QueueView, RecnoInternalKind, RecnoLeafKind, ZeroView,
@@ -99,15 +100,6 @@ pub fn known_queue_form(page: &[u8], number: u32, order: Order) -> PageView<'_>
         return PageView::Zero(ZeroView);
     }
     PageView::Queue(QueueView::over(page, order))
-}
-
-// Whether all bytes are 0. The type of most pages tells that at a glance.
-#[tactic(auto, using(crate::proofs::FormedLemmas::zero_type))]
-fn is_zero(page: &[u8]) -> bool
-    requires { 26 ≤ length page.now }
-    ensures { result ≡ is_zero page.now }
-{
-    page[25] == 0 && page.iter().all(|byte| *byte == 0)
 }
 
 // The code of the first row that holds of those on the number and the type of a page.

@@ -19,6 +19,7 @@ mod recno_internal;
 mod recno_leaf;
 mod view;
 mod zero;
+mod zeros;
 
 pub use dup_leaf::{DupLeafKind, DupLeafView};
 pub use forms::{form, known_form, known_queue_form, page_code, queue_code, queue_form};
@@ -37,3 +38,4 @@ pub use recno_internal::{RecnoInternalKind, RecnoInternalView};
 pub use recno_leaf::{RecnoLeafKind, RecnoLeafView};
 pub use view::PageView;
 pub use zero::ZeroView;
+pub use zeros::is_zero;

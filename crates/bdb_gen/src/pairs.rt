@@ -5,7 +5,7 @@ ghost use Rattle.bdb_format.specs.Numbers.{spelled};
 ghost use Rattle.bdb_gen.specs.Generated.{generated, next_number, pair_key, pair_of, value_length};
 
 use bdb_format::{Bytes, Kind};
-use bdb_model::{Key, Pair, PairList};
+use bdb_text_format::{Key, Pair, PairList};
 use std::alloc::{AllocError, Global};
 
 // The number after a number.

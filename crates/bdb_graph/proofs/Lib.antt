@@ -1,3 +1,6 @@
+pub mod ApartLemmas
+pub mod BucketLemmas
+pub mod ChainLengthLemmas
 pub mod ChildLemmas
 pub mod CodeLemmas
 pub mod FirstLemmas
@@ -5,6 +8,7 @@ pub mod FitLemmas
 pub mod ForestLemmas
 pub mod FormedLemmas
 pub mod HeldLemmas
+pub mod LeapLemmas
 pub mod LeavesLemmas
 pub mod LinkedLemmas
 pub mod MarkLemmas
@@ -13,7 +17,9 @@ pub mod NotedLemmas
 pub mod ReachLemmas
 pub mod ReadLemmas
 pub mod RoleLemmas
+pub mod RunLemmas
 pub mod SlotLemmas
 pub mod SourceLemmas
+pub mod TableLemmas
 pub mod TallyLemmas
 pub mod TargetLemmas

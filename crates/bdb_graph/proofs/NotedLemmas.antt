@@ -73,7 +73,7 @@ row_alone row stage page code holds is = sym (append-nil (fault_if row page hold
 any_more : (test : Reference → Bool) (before : List Reference) (reference : Reference) → (list_any test before || test reference) ≡ list_any test (before ++ (reference ∷ []))
 any_more test before reference = sym (list_any-append test before (reference ∷ []) ∙ ap (λ b. list_any test before || b) (or-false (test reference)))
 
-same_misfits : (a b c d e f g h : Bool) → a ≡ e → b ≡ f → c ≡ g → d ≡ h
+pub same_misfits : (a b c d e f g h : Bool) → a ≡ e → b ≡ f → c ≡ g → d ≡ h
     → ◌≡◌ {A = Misfits} (record { target = a; page_type = b; level = c; previous = d }) (record { target = e; page_type = f; level = g; previous = h })
 same_misfits a b c d e f g h ae bf cg dh = cc
 

@@ -1,6 +1,9 @@
+pub mod Buckets
+pub mod ChainLengths
 pub mod Fits
 pub mod Forest
 pub mod Formed
+pub mod Leaps
 pub mod Linked
 pub mod Marks
 pub mod Metas

@@ -34,6 +34,15 @@ more_misfits misfits code = record {
   previous = misfits.previous || fails_as 4 code;
 }
 
+-- the same, with others behind them
+abbrev pub both_misfits : Misfits → Misfits → Misfits
+both_misfits a b = record {
+  target = a.target || b.target;
+  page_type = a.page_type || b.page_type;
+  level = a.level || b.level;
+  previous = a.previous || b.previous;
+}
+
 -- the faults of the references of a page
 abbrev pub misfit_faults : Misfits → ℕ → List Fault
 misfit_faults misfits page =

@@ -1,5 +1,5 @@
 -- What is counted of the references to each page. Who owns a page is `owners` of bdb_format.
-use Rattle.std.specs.Prelude.{◌≡◌, ℕ, ◌+◌, ◌-◌, ◌^◌, ◌<◌, ◌≤◌, ◌==◌, min, if◌then◌else◌, Bool, false, List, length, get_or, Option, Some, None}
+use Rattle.std.specs.Prelude.{◌≡◌, ℕ, ◌+◌, ◌-◌, ◌^◌, ◌<◌, ◌≤◌, ◌==◌, min, if◌then◌else◌, Bool, true, false, List, length, get_or, Option, Some, None}
 use Rattle.std.specs.List.{filter, list_all, list_any}
 use Rattle.bdb_graph.specs.declared.tally.Tally.{Tally}
 use Rattle.bdb_format.specs.declared.references.Reference.{Reference}
@@ -16,9 +16,14 @@ names_page p owner = owner.reference.target == p
 abbrev pub first_of : Tally → Option ℕ
 first_of tally = if tally.count == 0 then None else Some tally.first
 
--- what a tally says of the owners so far; the count stands still at its type's end
+-- as far as owners are counted: where all are to the head of a chain to the end of the count's type, else to two, since no more is asked
+abbrev pub counted_to : Bool → ℕ
+counted_to true = 2 ^ 32 - 1
+counted_to false = 2
+
+-- what a tally says of the owners so far
 pub record IsTally (tally : Tally) (os : List Owner) : Type 0 where
-  pub counted : tally.count ≡ min (2 ^ 32 - 1) (length os)
+  pub counted : min (counted_to tally.heads_alone) tally.count ≡ min (counted_to tally.heads_alone) (length os)
   pub led : first_of tally ≡ first_holder os
   pub heads : tally.heads_alone ≡ list_all (λ (owner : Owner). is_head_reference owner.reference.sort) os
 

@@ -1,9 +1,9 @@
-ghost use Rattle.std.specs.Prelude.{◌≡◌, ◌≤◌, IsTrue, OnErr, OnOk};
+ghost use Rattle.std.specs.Prelude.{◌≡◌, ◌≤◌, IsTrue, OnErr, OnOk, false};
 ghost use Rattle.std.specs.Option.{option_map};
 ghost use Rattle.bdb_faults.specs.Notes.{Notes};
 ghost use Rattle.bdb_faults.specs.Rows.{reference_code};
 ghost use Rattle.bdb_graph.specs.Fits.{asks_previous, is_of_type, page_rows};
-ghost use Rattle.bdb_graph.specs.Noted.{misfit_faults, more_misfits, no_misfits};
+ghost use Rattle.bdb_graph.specs.Noted.{both_misfits, misfit_faults, more_misfits, no_misfits};
 ghost use Rattle.bdb_format.specs.File.{file_of};
 ghost use Rattle.bdb_format.specs.References.{asked_by, asks_type, fit_code, has_type, is_asked};
 ghost use Rattle.bdb_format.specs.Table.{first_row};
@@ -166,6 +166,30 @@ impl Misfits {
             page_type: self.page_type || matches!(misfit, Some(ReferenceRow::WrongKind)),
             level: self.level || matches!(misfit, Some(ReferenceRow::WrongLevel)),
             previous: self.previous || matches!(misfit, Some(ReferenceRow::WrongBack)),
+        }
+    }
+
+    /// Those of references to buckets, which ask for no level.
+    pub(crate) fn of_buckets(target: bool, page_type: bool, previous: bool) -> Misfits
+        ensures { result ≡ record { target = target; page_type = page_type; level = false; previous = previous } }
+    {
+        Misfits {
+            target,
+            page_type,
+            level: false,
+            previous,
+        }
+    }
+
+    /// The rows of these references and of others behind them.
+    pub(crate) fn both(self, others: Misfits) -> Misfits
+        ensures { result ≡ both_misfits self others }
+    {
+        Misfits {
+            target: self.target || others.target,
+            page_type: self.page_type || others.page_type,
+            level: self.level || others.level,
+            previous: self.previous || others.previous,
         }
     }
 

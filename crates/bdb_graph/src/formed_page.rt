@@ -1,13 +1,14 @@
-ghost use Rattle.std.specs.Prelude.{◌≡◌, ◌≤◌, ◌==◌};
+ghost use Rattle.std.specs.Prelude.{◌≡◌, ◌≤◌, ◌==◌, length};
 ghost use Rattle.std.specs.List.{list_any};
+ghost use Rattle.bdb_format.specs.Chains.{piece_in};
 ghost use Rattle.bdb_format.specs.File.{file_of, header_in, page_at, type_in};
 ghost use Rattle.bdb_format.specs.Graph.{is_hash_meta, is_meta, is_spare};
 ghost use Rattle.bdb_format.specs.References.{child_types, is_zero_page, root_types};
 
 use crate::Formed;
-use crate::open::is_zero;
+use bdb_form::is_zero;
 use bdb_format::{Header, Order};
-use bdb_layout::{header, u32_at};
+use bdb_layout::{header, u16_at, u32_at};
 use std::marker::Model;
 
 /// A page of a formed image, where its bytes lie.
@@ -88,6 +89,18 @@ impl<'a> FormedPage<'a> {
             return NO_HEADER;
         }
         header(self.bytes, self.order)
+    }
+
+    /// How many bytes of a value it holds; none where it isn't a page of a chain.
+    #[tactic(auto, using(crate::proofs::ChainLengthLemmas::no_piece, crate::proofs::ChainLengthLemmas::piece_there, crate::proofs::ChainLengthLemmas::zero_piece))]
+    pub(crate) fn piece_len(&self) -> u32
+        ensures { result ≡ length (piece_in self.now) }
+    {
+        if is_zero(self.bytes) || self.bytes[25] != 7 {
+            return 0;
+        }
+        let told = usize::from(u16_at(self.bytes, 22, self.order));
+        told.min(self.bytes.len() - 26) as u32
     }
 
     /// The types that the root of a tree may have, where this is btree metadata: those of a recno where it is one.

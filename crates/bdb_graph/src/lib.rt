@@ -1,13 +1,17 @@
 //! The graph of the pages of a file, by its references.
 #![tactic(auto)]
 
+mod bucket_fits;
+mod buckets;
 mod cases;
+mod chain_lengths;
 mod fits;
 mod forest;
 mod formed;
 mod formed_page;
 mod held;
 pub mod laws;
+mod leaps;
 mod linked;
 mod linking;
 mod listing;
@@ -20,6 +24,7 @@ mod page;
 mod reach;
 mod roles;
 mod source;
+mod table;
 mod tally;
 
 pub use bdb_format::{Reference, Sort};

@@ -2,6 +2,7 @@ ghost use Rattle.std.specs.Prelude.{◌≡◌, ◌+◌, ◌^◌, ◌<◌, ◌≤
 ghost use Rattle.std.specs.List.{slice_get};
 ghost use Rattle.bdb_form.specs.Seen.{header_seen, page_seen};
 ghost use Rattle.bdb_graph.specs.Linked.{IsForest, FitsBucket, FitsChain, FitsDupRoot, FitsTreeRoot, HasMetadata, meta_pages};
+ghost use Rattle.bdb_graph.specs.ChainLengths.{IsKept, chain_length};
 ghost use Rattle.bdb_graph.specs.Metas.{meta_seen};
 ghost use Rattle.bdb_format.specs.File.{file_of, page_at, page_bytes};
 ghost use Rattle.bdb_format.specs.Hashing.{first_page};
@@ -21,27 +22,33 @@ use std::marker::Model;
 pub struct Linked<'a> {
     forest: Forest<'a>,
     metas: Vec<u32>,
+    // The length of each chain that an item names, at its head; empty where no item names one.
+    lengths: Vec<u32>,
 }
 
 impl<'a> Model for Linked<'a> {
-    ghost use Rattle.std.specs.Prelude.{◌≡◌, List, ℕ};
-    ghost use Rattle.bdb_graph.specs.Linked.{meta_pages};
+    ghost use Rattle.std.specs.Prelude.{List, ℕ};
+    ghost use Rattle.bdb_graph.specs.ChainLengths.{IsKept};
     ghost use Rattle.bdb_format.specs.File.{file_of};
 
     ghost Value = { List ℕ };
 
     ghost view = { λ v. v.forest };
 
-    ghost invariant = { λ v. v.metas.items ≡ meta_pages (file_of v.forest) };
+    ghost invariant = { λ v. IsKept (file_of v.forest) v.metas.items v.lengths.items };
 }
 
 impl<'a> Linked<'a> {
-    // An image for which the stages are decided, with its metadata pages.
-    pub(crate) fn over(forest: Forest<'a>, metas: Vec<u32>) -> Linked<'a>
-        requires { metas.items ≡ meta_pages (file_of forest) }
+    // An image for which the stages are decided, with its metadata pages and the lengths of its chains.
+    pub(crate) fn over(forest: Forest<'a>, metas: Vec<u32>, lengths: Vec<u32>) -> Linked<'a>
+        requires { IsKept (file_of forest) metas.items lengths.items }
         ensures { result ≡ forest.entry }
     {
-        Linked { forest, metas }
+        Linked {
+            forest,
+            metas,
+            lengths,
+        }
     }
 
     /// A handle to its pages.
@@ -129,6 +136,17 @@ impl<'a> Linked<'a> {
         ensures { result ≡ head }
     {
         Ref::at(head)
+    }
+
+    /// How many bytes a chain has that an item names. It was counted once, however many items name it.
+    pub fn chain_length(&self, head: u32) -> u32
+        requires { FitsChain (file_of self.now) head }
+        ensures { result ≡ chain_length (file_of self.now) head }
+    {
+        match self.lengths.get(head as usize) {
+            Some(length) => *length,
+            None => 0,
+        }
     }
 
     /// The root of a tree of duplicates that an item names.

@@ -5,6 +5,7 @@ ghost use Rattle.bdb_format.specs.File.{file_of};
 ghost use Rattle.bdb_format.specs.Verdict.{faults_in, reference_faults, IsFirstOf};
 ghost use Rattle.bdb_graph.specs.Walked.{IsWalked};
 
+use crate::chain_lengths::lengths_of;
 use crate::meta::metas_of;
 use crate::owned::note_owners;
 use crate::reach::note_reach;
@@ -19,7 +20,8 @@ use std::sync::ledger::Ledger;
 /// The image as one whose pages are a forest, or else the first fault of stages 3 to 5: a reference that
 /// doesn't fit, a page without an owner or with too many, or one that isn't reached. It takes at most a step for
 /// each page up to the last, which are no more than the whole pages of the image, and 13 bytes for each while it
-/// runs. The answer keeps the number of each metadata page, in 4 bytes. `Memory` is want of memory.
+/// runs, 24 where the file has a table. The answer keeps the number of each metadata page, in 4 bytes, and where an item names a
+/// chain 4 bytes for each page, the lengths of chains. `Memory` is want of memory.
 pub fn link<'a, L: Ledger>(
     alloc: Global,
     formed: Formed<'a>,
@@ -66,11 +68,12 @@ fn walked<'a>(alloc: Global, formed: Formed<'a>, kinds: Kinds) -> Result<Linked<
     ensures { IfOk result (λ linked. linked ≡ formed.entry) }
 {
     let metas = metas_of(alloc, &formed)?;
-    Ok(Linked::over(Forest::over(formed, kinds), metas))
+    let lengths = lengths_of(alloc, &formed, kinds)?;
+    Ok(Linked::over(Forest::over(formed, kinds), metas, lengths))
 }
 
 /// Notes the faults of the first of stages 3 to 5 that has any, in one step for each page, and tells what the
-/// references name. An error is want of memory. It takes 13 bytes for each page.
+/// references name. An error is want of memory. It takes 13 bytes for each page, 24 where the file has a table.
 fn note_graph<L: Ledger, F: FaultSink>(
     alloc: Global,
     formed: &Formed<'_>,

@@ -1,14 +1,16 @@
 ghost use Rattle.std.specs.Prelude.{◌≡◌, ◌^◌, ◌<◌, ℕ, []};
 ghost use Rattle.std.specs.Iterator.{YieldsFirst, item_count};
 ghost use Rattle.bdb_form.specs.Seen.{page_seen};
+ghost use Rattle.bdb_graph.specs.Buckets.{IsApart};
 ghost use Rattle.bdb_graph.specs.Slots.{HasRoom, IsNoMetadata, names_from, placed};
 ghost use Rattle.bdb_format.specs.Page.{BtreeFields, HashFields, Meta};
 ghost use Rattle.bdb_format.specs.References.{first_free, targets_in, unless_zero};
 ghost use Rattle.bdb_format.specs.declared.references.Sort.TheVariants.{Free};
 
+use crate::buckets::Buckets;
 use crate::source::Source;
 use bdb_form::PageView;
-use bdb_format::{BtreeMeta, HashMeta, Reference};
+use bdb_format::{BtreeMeta, HashMeta, Reference, Sort};
 use std::marker::Model;
 
 /// The references that a page holds, in order.
@@ -72,6 +74,25 @@ impl<'a> References<'a> {
             max_bucket: meta.max_bucket,
             spares: meta.spares,
         })
+    }
+
+    /// The references one by one, but for those to the buckets of a table, which stand behind all others. They are apart
+    /// only before the first one is taken.
+    #[tactic(auto, using(crate::proofs::ApartLemmas::none_apart))]
+    pub(crate) fn apart(self) -> (References<'a>, Option<Buckets>)
+        ensures { IsApart self.entry result.0 result.1 }
+    {
+        match self.source {
+            Source::Table {
+                free,
+                max_bucket,
+                spares,
+            } if self.slot == 0 => (
+                References::over(Source::Next(Sort::Free, free)),
+                Some(Buckets { max_bucket, spares }),
+            ),
+            _ => (self, None),
+        }
     }
 
     // The references of all slots.

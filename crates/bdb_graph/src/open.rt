@@ -5,7 +5,6 @@ ghost use Rattle.bdb_faults.specs.Notes.{NotesAll};
 ghost use Rattle.bdb_graph.specs.Formed.{IsAccepted, IsRead};
 ghost use Rattle.bdb_graph.specs.Noted.{page_faults};
 ghost use Rattle.bdb_format.specs.HeadOf.{is_page_size};
-ghost use Rattle.bdb_format.specs.Reading.{is_zero};
 ghost use Rattle.bdb_format.specs.Rows.{form_code};
 ghost use Rattle.bdb_format.specs.Verdict.{as_verdict, faults_in, form_faults, tail_faults, verdict_in};
 
@@ -17,6 +16,7 @@ use bdb_faults::{
     AllError, FaultSink, FileRow, First, NamedList, Row, fault_of_form, fault_of_head, note_if,
     refused_by,
 };
+use bdb_form::is_zero;
 use bdb_format::{Head, Verdict};
 use std::alloc::{AllocError, Global};
 
@@ -143,10 +143,4 @@ fn note_page<F: FaultSink>(
         found.note(fault_of_form(fault, number))?;
     }
     Ok(())
-}
-
-pub(crate) fn is_zero(page: &[u8]) -> bool
-    ensures { result ≡ is_zero page.now }
-{
-    page.iter().all(|byte| *byte == 0)
 }

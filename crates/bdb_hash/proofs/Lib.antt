@@ -1,3 +1,4 @@
+pub mod ChainedLemmas
 pub mod BucketLemmas
 pub mod DataLemmas
 pub mod FaultLemmas

@@ -1,3 +1,4 @@
+pub mod Chained
 pub mod Noted
 pub mod Passed
 pub mod Places

@@ -11,6 +11,7 @@ ghost use Rattle.bdb_format.specs.Page.{HashFields};
 ghost use Rattle.bdb_format.specs.Verdict.{structure_faults, IsFirstOf};
 
 use crate::bucket_pages;
+use crate::chained::ChainHashes;
 use crate::passed::{Passed, note_bucket};
 use crate::repeats::note_again;
 use crate::strays::note_strayed;
@@ -23,6 +24,7 @@ use std::alloc::{AllocError, Global};
 /// Notes the pairs of a table by themselves, and those that have the key of an earlier one of their bucket, while its
 /// pages are at hand. It tells whether the table has a stray. It takes memory for the pairs of one bucket at a time; an
 /// error is want of it, or the sink's.
+#[tactic(auto, using(crate::proofs::ChainedLemmas::bucket_of_file))]
 fn note_by_bucket<F: FaultSink>(
     alloc: Global,
     linked: &Linked<'_>,
@@ -35,12 +37,22 @@ fn note_by_bucket<F: FaultSink>(
     ensures stray { IfOk result (λ strayed. strayed ≡ has_stray linked.now meta.now) }
     ensures table { IsTable linked.now }
 {
+    let forest = linked.forest();
     let mut passed = Passed::new(alloc);
+    let mut known = ChainHashes::new(alloc, linked.forest());
     for b in 0..buckets(linked, meta) {
         passed.hashes.clear();
-        note_bucket(&mut passed, bucket_pages(linked, meta, b), meta, b, found)?;
+        note_bucket(
+            &mut passed,
+            &mut known,
+            bucket_pages(linked, meta, b),
+            meta,
+            b,
+            found,
+        )?;
         note_again(
             alloc,
+            &forest,
             &mut passed.hashes,
             bucket_pages(linked, meta, b),
             found,

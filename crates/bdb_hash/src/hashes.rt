@@ -2,13 +2,14 @@ ghost use Rattle.std.specs.Prelude.{◌≡◌, ◌++◌, ℕ, [], IfOk, OnOk, ma
 ghost use Rattle.std.specs.BTreeSet.{BTreeSet};
 ghost use Rattle.std.specs.List.{IsDistinct};
 ghost use Rattle.bdb_graph.specs.Linked.{HasMetadata};
+ghost use Rattle.bdb_hash.specs.Chained.{AreAllOf, AreOf};
 ghost use Rattle.bdb_hash.specs.Passed.{is_among, is_missed, key_hash};
 ghost use Rattle.bdb_hash.specs.Told.{joined_pages, table_told};
 ghost use Rattle.bdb_format.specs.File.{file_of};
 ghost use Rattle.bdb_format.specs.Page.{HashFields};
 ghost use Rattle.bdb_format.specs.Verdict.{structure_faults};
 
-use crate::key::hash_of;
+use crate::chained::ChainHashes;
 use crate::table::buckets;
 use crate::{BucketPages, PagePairs, bucket_pages};
 use bdb_format::HashMeta;
@@ -17,35 +18,51 @@ use std::alloc::{AllocError, Global};
 use std::collections::BTreeSet;
 
 /// Adds the hashes of the keys of a page.
-fn push_page(hashes: &mut Vec<u32>, page: PagePairs<'_>) -> Result<(), AllocError>
-    ensures { OnOk result (hashes.new.items ≡ hashes.old.items ++ map key_hash page.entry) }
+#[tactic(auto, using(crate::proofs::ChainedLemmas::first_of, crate::proofs::ChainedLemmas::rest_of))]
+fn push_page(
+    hashes: &mut Vec<u32>,
+    known: &mut ChainHashes<'_>,
+    page: PagePairs<'_>,
+) -> Result<(), AllocError>
+    requires { AreOf known.old page }
+    ensures same { known.new ≡ known.old }
+    ensures hashes { OnOk result (hashes.new.items ≡ hashes.old.items ++ map key_hash page.entry) }
 {
     for pair in page {
-        hashes.push(hash_of(pair.key()))?;
+        let hash = known.hash_of(&pair)?;
+        hashes.push(hash)?;
     }
     Ok(())
 }
 
 /// Adds the hashes of the keys of the pages of a bucket.
-fn push_bucket(hashes: &mut Vec<u32>, pages: BucketPages<'_>) -> Result<(), AllocError>
-    ensures { OnOk result (hashes.new.items ≡ hashes.old.items ++ map key_hash (joined_pages pages.entry)) }
+#[tactic(auto, using(crate::proofs::ChainedLemmas::first_page_of, crate::proofs::ChainedLemmas::other_pages_of))]
+fn push_bucket(
+    hashes: &mut Vec<u32>,
+    known: &mut ChainHashes<'_>,
+    pages: BucketPages<'_>,
+) -> Result<(), AllocError>
+    requires { AreAllOf known.old pages }
+    ensures same { known.new ≡ known.old }
+    ensures hashes { OnOk result (hashes.new.items ≡ hashes.old.items ++ map key_hash (joined_pages pages.entry)) }
 {
     for page in pages {
-        push_page(hashes, page)?;
+        push_page(hashes, known, page)?;
     }
     Ok(())
 }
 
 /// The hashes of the keys of a table, four bytes each. An error is want of memory.
-#[tactic(auto, using(crate::proofs::HashedLemmas::hashes_more))]
+#[tactic(auto, using(crate::proofs::ChainedLemmas::bucket_of_file, crate::proofs::HashedLemmas::hashes_more))]
 fn table_hashes(alloc: Global, linked: &Linked<'_>, meta: &HashMeta) -> Result<Vec<u32>, AllocError>
     requires meta { HasMetadata (file_of linked.now) (HashFields meta.now) }
     requires stage { structure_faults (file_of linked.now) ≡ [] }
     ensures { IfOk result (λ hashes. hashes.items ≡ map key_hash (table_told linked.now meta.now)) }
 {
     let mut hashes = Vec::new(alloc);
+    let mut known = ChainHashes::new(alloc, linked.forest());
     for b in 0..buckets(linked, meta) {
-        push_bucket(&mut hashes, bucket_pages(linked, meta, b))?;
+        push_bucket(&mut hashes, &mut known, bucket_pages(linked, meta, b))?;
     }
     Ok(hashes)
 }

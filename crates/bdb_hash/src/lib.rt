@@ -2,6 +2,7 @@
 #![tactic(auto)]
 
 mod bucket;
+mod chained;
 mod contents;
 mod data;
 mod hashes;
@@ -16,6 +17,7 @@ mod ranked;
 mod ranking;
 mod repeats;
 mod rows;
+mod seen;
 mod strays;
 mod table;
 

@@ -1,6 +1,7 @@
-ghost use Rattle.std.specs.Prelude.{◌≡◌};
+ghost use Rattle.std.specs.Prelude.{◌≡◌, IfSome};
 ghost use Rattle.bdb_form.specs.Pairs.{pair_seen};
 ghost use Rattle.bdb_overflow.specs.Datum.{FitsContent, datum_seen};
+ghost use Rattle.bdb_hash.specs.Chained.{chain_head, chain_value};
 ghost use Rattle.bdb_hash.specs.Places.{IsAt, IsGiven};
 ghost use Rattle.bdb_hash.specs.Told.{entry_list, has_key, listed_told, told_pair};
 ghost use Rattle.bdb_layout.specs.Seen.{hash_content_seen, hash_item_seen};
@@ -23,6 +24,8 @@ pub(crate) struct Pair<'a> {
     forest: Forest<'a>,
     page: u32,
     index: u16,
+    // The head of the key's chain, if it's one.
+    head: Option<u32>,
     key: Datum<'a>,
     item: HashItem<'a>,
 }
@@ -30,14 +33,14 @@ pub(crate) struct Pair<'a> {
 impl<'a> Model for Pair<'a> {
     ghost use Rattle.bdb_overflow.specs.Datum.{datum_seen};
     ghost use Rattle.bdb_hash.specs.Told.{Told, told_as};
-    ghost use Rattle.bdb_hash.specs.Places.{IsRead};
+    ghost use Rattle.bdb_hash.specs.Chained.{IsKeyed};
     ghost use Rattle.bdb_layout.specs.Seen.{hash_content_seen};
 
     ghost Value = { Told };
 
     ghost view = { λ it. told_as it.forest it.page (datum_seen it.key) (hash_content_seen it.item) };
 
-    ghost invariant = { λ it. IsRead it.page it.index (told_as it.forest it.page (datum_seen it.key) (hash_content_seen it.item)) };
+    ghost invariant = { λ it. IsKeyed it.head it.page it.index (told_as it.forest it.page (datum_seen it.key) (hash_content_seen it.item)) };
 }
 
 /// The value of a key, which is never a set.
@@ -52,6 +55,16 @@ pub(crate) fn key_of<'a>(forest: &Forest<'a>, item: &HashItem<'a>) -> Datum<'a>
     }
 }
 
+/// The head of the chain that an item is, if it's one.
+fn head_of(item: &HashItem<'_>) -> Option<u32>
+    ensures { result ≡ chain_head (hash_content_seen item.now) }
+{
+    match item {
+        HashItem::Overflow { head, .. } => Some(*head),
+        HashItem::Inline(_) | HashItem::Set(_) | HashItem::OffPage { .. } => None,
+    }
+}
+
 impl<'a> Pair<'a> {
     /// A pair as the view of its page gives it.
     pub(crate) fn of(forest: &Forest<'a>, page: u32, pair: bdb_form::Pair<HashItem<'a>>) -> Pair<'a>
@@ -62,6 +75,7 @@ impl<'a> Pair<'a> {
             forest: forest.again(),
             page,
             index: pair.index,
+            head: head_of(&pair.key),
             key: key_of(forest, &pair.key),
             item: pair.value,
         }
@@ -83,6 +97,13 @@ impl<'a> Pair<'a> {
             page: self.page,
             index: self.index,
         }
+    }
+
+    /// The head of its key's chain, if the key is one.
+    pub(crate) fn head(&self) -> Option<u32>
+        ensures { IfSome result (λ head. self.now.pair.key ≡ chain_value self.now.image head) }
+    {
+        self.head
     }
 
     /// Its key.

@@ -1,8 +1,9 @@
 ghost use Rattle.std.specs.Prelude.{◌≡◌, ◌||◌, ◌∷◌, ◌++◌, [], OnOk, false};
+ghost use Rattle.bdb_hash.specs.Chained.{AreAllOf, AreOf};
 ghost use Rattle.bdb_hash.specs.Passed.{Passes};
 ghost use Rattle.bdb_hash.specs.Told.{joined_pages};
 
-use crate::key::hash_of;
+use crate::chained::ChainHashes;
 use crate::rows::{home_of, note_pair};
 use crate::{BucketPages, PagePairs, Pair};
 use bdb_faults::FaultSink;
@@ -42,14 +43,17 @@ impl Passed {
 /// Notes a pair of a bucket by itself. An error is want of memory.
 fn note_next<F: FaultSink>(
     passed: &mut Passed,
+    known: &mut ChainHashes<'_>,
     pair: Pair<'_>,
     meta: &HashMeta,
     b: u32,
     found: &mut F,
 ) -> Result<(), AllocError>
-    ensures { OnOk result (Passes meta.now b (F.has_noted found.old) (F.has_noted found.new) passed.old passed.new (pair.entry ∷ [])) }
+    requires { pair.image ≡ known.old }
+    ensures passes { OnOk result (Passes meta.now b (F.has_noted found.old) (F.has_noted found.new) passed.old passed.new (pair.entry ∷ [])) }
+    ensures same { known.new ≡ known.old }
 {
-    let hash = hash_of(pair.key());
+    let hash = known.hash_of(&pair)?;
     let is_stray = home_of(meta, hash) != b;
     passed.see(hash, is_stray)?;
     note_pair(pair, meta, is_stray, found)?;
@@ -57,35 +61,41 @@ fn note_next<F: FaultSink>(
 }
 
 /// Notes the pairs of a page of a bucket by themselves.
-#[tactic(auto, using(crate::proofs::PassedLemmas::all_passing, crate::proofs::PassedLemmas::none_passing, crate::proofs::PassedLemmas::one_passing))]
+#[tactic(auto, using(crate::proofs::ChainedLemmas::first_of, crate::proofs::ChainedLemmas::rest_of, crate::proofs::PassedLemmas::all_passing, crate::proofs::PassedLemmas::none_passing, crate::proofs::PassedLemmas::one_passing))]
 fn note_page<F: FaultSink>(
     passed: &mut Passed,
+    known: &mut ChainHashes<'_>,
     page: PagePairs<'_>,
     meta: &HashMeta,
     b: u32,
     found: &mut F,
 ) -> Result<(), AllocError>
-    ensures { OnOk result (Passes meta.now b (F.has_noted found.old) (F.has_noted found.new) passed.old passed.new page.entry) }
+    requires { AreOf known.old page }
+    ensures passes { OnOk result (Passes meta.now b (F.has_noted found.old) (F.has_noted found.new) passed.old passed.new page.entry) }
+    ensures same { known.new ≡ known.old }
 {
     for pair in page {
-        note_next(passed, pair, meta, b, found)?;
+        note_next(passed, known, pair, meta, b, found)?;
     }
     Ok(())
 }
 
 /// Notes the pairs of the pages of a bucket by themselves.
-#[tactic(auto, using(crate::proofs::PassedLemmas::all_passing, crate::proofs::PassedLemmas::more_passing, crate::proofs::PassedLemmas::none_passing))]
+#[tactic(auto, using(crate::proofs::ChainedLemmas::first_page_of, crate::proofs::ChainedLemmas::other_pages_of, crate::proofs::PassedLemmas::all_passing, crate::proofs::PassedLemmas::more_passing, crate::proofs::PassedLemmas::none_passing))]
 pub(crate) fn note_bucket<F: FaultSink>(
     passed: &mut Passed,
+    known: &mut ChainHashes<'_>,
     pages: BucketPages<'_>,
     meta: &HashMeta,
     b: u32,
     found: &mut F,
 ) -> Result<(), AllocError>
-    ensures { OnOk result (Passes meta.now b (F.has_noted found.old) (F.has_noted found.new) passed.old passed.new (joined_pages pages.entry)) }
+    requires { AreAllOf known.old pages }
+    ensures passes { OnOk result (Passes meta.now b (F.has_noted found.old) (F.has_noted found.new) passed.old passed.new (joined_pages pages.entry)) }
+    ensures same { known.new ≡ known.old }
 {
     for page in pages {
-        note_page(passed, page, meta, b, found)?;
+        note_page(passed, known, page, meta, b, found)?;
     }
     Ok(())
 }

@@ -3,6 +3,7 @@ ghost use Rattle.std.specs.BTreeSet.{BTreeSet};
 ghost use Rattle.std.specs.List.{IsDistinct, filter};
 ghost use Rattle.bdb_faults.specs.Notes.{Notes};
 ghost use Rattle.bdb_graph.specs.Linked.{HasMetadata};
+ghost use Rattle.bdb_hash.specs.Chained.{AreAllOf, AreOf};
 ghost use Rattle.bdb_hash.specs.Noted.{repeat_faults, stray_faults};
 ghost use Rattle.bdb_hash.specs.Passed.{NotesRepeats, is_kept};
 ghost use Rattle.bdb_hash.specs.Told.{joined_pages, table_told};
@@ -10,69 +11,84 @@ ghost use Rattle.bdb_format.specs.File.{file_of};
 ghost use Rattle.bdb_format.specs.Page.{HashFields};
 ghost use Rattle.bdb_format.specs.Verdict.{structure_faults};
 
+use crate::chained::ChainHashes;
 use crate::hashes::repeated_hashes;
-use crate::key::hash_of;
-use crate::repeats::note_next;
+use crate::seen::SeenKeys;
 use crate::table::buckets;
 use crate::{BucketPages, PagePairs, Pair, bucket_pages};
 use bdb_faults::FaultSink;
 use bdb_format::HashMeta;
 use bdb_graph::Linked;
-use bdb_overflow::Keys;
 use std::alloc::{AllocError, Global};
 use std::collections::BTreeSet;
 
 /// Notes a pair whose key there was, and adds its key, where its hash is among these.
 #[tactic(auto, using(crate::proofs::RepeatLemmas::none_noted))]
 fn note_kept<'a, F: FaultSink>(
-    keys: &mut Keys<'a>,
+    keys: &mut SeenKeys<'a>,
+    known: &mut ChainHashes<'a>,
     twice: &BTreeSet<u32>,
     pair: &Pair<'a>,
     found: &mut F,
 ) -> Result<(), AllocError>
-    ensures { OnOk result (NotesRepeats keys.old keys.new (F.has_noted found.old) (F.has_noted found.new) (filter (is_kept twice.now) (pair.now ∷ []))) }
+    requires seen { pair.now.image ≡ keys.old.image }
+    requires hashed { pair.now.image ≡ known.old }
+    ensures noted { OnOk result (NotesRepeats keys.old.keys keys.new.keys (F.has_noted found.old) (F.has_noted found.new) (filter (is_kept twice.now) (pair.now ∷ []))) }
+    ensures seen { keys.new.image ≡ keys.old.image }
+    ensures hashed { known.new ≡ known.old }
 {
-    if twice.contains(&hash_of(pair.key())) {
-        note_next(keys, pair, found)?;
+    let hash = known.hash_of(pair)?;
+    if twice.contains(&hash) {
+        keys.note(pair, found)?;
     }
     Ok(())
 }
 
 /// The same, of the pairs of a page.
-#[tactic(auto, using(crate::proofs::KeptLemmas::all_kept, crate::proofs::KeptLemmas::none_kept, crate::proofs::KeptLemmas::one_kept))]
+#[tactic(auto, using(crate::proofs::ChainedLemmas::first_of, crate::proofs::ChainedLemmas::rest_of, crate::proofs::KeptLemmas::all_kept, crate::proofs::KeptLemmas::none_kept, crate::proofs::KeptLemmas::one_kept))]
 fn note_page<'a, F: FaultSink>(
-    keys: &mut Keys<'a>,
+    keys: &mut SeenKeys<'a>,
+    known: &mut ChainHashes<'a>,
     twice: &BTreeSet<u32>,
     page: PagePairs<'a>,
     found: &mut F,
 ) -> Result<(), AllocError>
-    ensures { OnOk result (NotesRepeats keys.old keys.new (F.has_noted found.old) (F.has_noted found.new) (filter (is_kept twice.now) page.entry)) }
+    requires seen { AreOf keys.old.image page }
+    requires hashed { AreOf known.old page }
+    ensures noted { OnOk result (NotesRepeats keys.old.keys keys.new.keys (F.has_noted found.old) (F.has_noted found.new) (filter (is_kept twice.now) page.entry)) }
+    ensures seen { keys.new.image ≡ keys.old.image }
+    ensures hashed { known.new ≡ known.old }
 {
     for pair in page {
-        note_kept(keys, twice, &pair, found)?;
+        note_kept(keys, known, twice, &pair, found)?;
     }
     Ok(())
 }
 
 /// The same, of the pairs of the pages of a bucket.
-#[tactic(auto, using(crate::proofs::KeptLemmas::all_kept, crate::proofs::KeptLemmas::more_kept, crate::proofs::KeptLemmas::none_kept))]
+#[tactic(auto, using(crate::proofs::ChainedLemmas::first_page_of, crate::proofs::ChainedLemmas::other_pages_of, crate::proofs::KeptLemmas::all_kept, crate::proofs::KeptLemmas::more_kept, crate::proofs::KeptLemmas::none_kept))]
 fn note_bucket<'a, F: FaultSink>(
-    keys: &mut Keys<'a>,
+    keys: &mut SeenKeys<'a>,
+    known: &mut ChainHashes<'a>,
     twice: &BTreeSet<u32>,
     pages: BucketPages<'a>,
     found: &mut F,
 ) -> Result<(), AllocError>
-    ensures { OnOk result (NotesRepeats keys.old keys.new (F.has_noted found.old) (F.has_noted found.new) (filter (is_kept twice.now) (joined_pages pages.entry))) }
+    requires seen { AreAllOf keys.old.image pages }
+    requires hashed { AreAllOf known.old pages }
+    ensures noted { OnOk result (NotesRepeats keys.old.keys keys.new.keys (F.has_noted found.old) (F.has_noted found.new) (filter (is_kept twice.now) (joined_pages pages.entry))) }
+    ensures seen { keys.new.image ≡ keys.old.image }
+    ensures hashed { known.new ≡ known.old }
 {
     for page in pages {
-        note_page(keys, twice, page, found)?;
+        note_page(keys, known, twice, page, found)?;
     }
     Ok(())
 }
 
 /// Notes the pairs of a table that have the key of an earlier one. It takes memory for the hashes of all keys, and for the
 /// keys whose hash another one has too; an error is want of it, or the sink's.
-#[tactic(auto, using(crate::proofs::KeptLemmas::kept_anew, crate::proofs::RepeatLemmas::none_noted, crate::proofs::KeptLemmas::kept_more))]
+#[tactic(auto, using(crate::proofs::ChainedLemmas::bucket_of_file, crate::proofs::KeptLemmas::kept_anew, crate::proofs::RepeatLemmas::none_noted, crate::proofs::KeptLemmas::kept_more))]
 fn note_whole<F: FaultSink>(
     alloc: Global,
     linked: &Linked<'_>,
@@ -84,9 +100,16 @@ fn note_whole<F: FaultSink>(
     ensures { OnOk result (Notes (F.has_noted found.old) (F.has_noted found.new) (repeat_faults (table_told linked.now meta.now))) }
 {
     let twice = repeated_hashes(alloc, linked, meta)?;
-    let mut keys = Keys::new(alloc);
+    let mut keys = SeenKeys::new(alloc, linked.forest());
+    let mut known = ChainHashes::new(alloc, linked.forest());
     for b in 0..buckets(linked, meta) {
-        note_bucket(&mut keys, &twice, bucket_pages(linked, meta, b), found)?;
+        note_bucket(
+            &mut keys,
+            &mut known,
+            &twice,
+            bucket_pages(linked, meta, b),
+            found,
+        )?;
     }
     Ok(())
 }

@@ -5,10 +5,10 @@ use Rattle.std.specs.Io.KnownBytes.{Appends}
 use Rattle.bdb_format.specs.Verdict.{faults_of}
 use Rattle.bdb_model.specs.Answers.{Answer, told, too_large_line}
 use Rattle.bdb_model.specs.Change.{Change, Gains, HasFailed}
-use Rattle.bdb_model.specs.Faults.{Rose}
+use Rattle.bdb_format.specs.Faults.{Rose}
 use Rattle.bdb_model.specs.Command.{Verify}
 use Rattle.bdb_tool.specs.Commands.{Ask, Command, command_of}
-use Rattle.bdb_tool.specs.Outputs.{IsAnswerBy, IsAnswerTo, IsCommandAnswer, IsInput, verified}
+use Rattle.bdb_tool.specs.Outputs.{IsAnswerBySize, IsAnswerTo, IsCommandAnswer, IsInput, verified}
 use Rattle.bdb_tool.specs.Runs.{IsAnswered, RunsAs}
 use Rattle.bdb_images.specs.Lines.{text_told, verify_answer, verify_words}
 
@@ -19,7 +19,7 @@ command_is : command_of verify_words ≡ Some verify_command
 unfolding command_of
 command_is = refl
 
-by_size : (beyond : Bool) (image : List ℕ) (answer : Answer) → IsAnswerBy beyond verify_command image answer
+by_size : (beyond : Bool) (image : List ℕ) (answer : Answer) → IsAnswerBySize beyond verify_command image answer
     → answer ≡ (if beyond then told 6 (too_large_line (2 ^ 30)) else verified (faults_of image) image)
 by_size true image answer is = is
 by_size false image answer is = is

@@ -2,7 +2,7 @@
 use Rattle.std.specs.Prelude.{◌≡◌, ◌⊎◌, ℕ, ◌^◌, ◌==◌, nat_lt, if◌then◌else◌, List, ◌∷◌, [], ◌++◌, length, codes}
 use Rattle.bdb_format.specs.Verdict.{faults_of}
 use Rattle.bdb_model.specs.Answers.{Answer, told, too_large_line}
-use Rattle.bdb_model.specs.Lines.{line}
+use Rattle.bdb_text_format.specs.LineEnd.{line}
 use Rattle.bdb_tool.specs.Outputs.{verified}
 
 -- the words that ask for the verdict

@@ -1,7 +1,7 @@
 ghost use Rattle.std.specs.Prelude.{◌≡◌, IfOk};
 ghost use Rattle.bdb_images.specs.Lines.{lines_on};
 
-use bdb_model::Bytes;
+use bdb_format::Bytes;
 use std::alloc::{AllocError, Global};
 
 /// The lines on an image: its name, and what is told of it.

@@ -9,7 +9,7 @@ mod verdict;
 
 use crate::lines::lines_on;
 use crate::verdict::verdict_on;
-use bdb_model::Bytes;
+use bdb_format::Bytes;
 use std::alloc::AllocError;
 use std::io::Write;
 use std::rt::Files;

@@ -1,8 +1,9 @@
 ghost use Rattle.std.specs.Prelude.{◌≡◌, IfOk};
 ghost use Rattle.bdb_images.specs.Lines.{verdict_on, verify_words};
 
+use bdb_format::Bytes;
 use bdb_io::{MemSink, PureSource};
-use bdb_model::{Bytes, Words};
+use bdb_model::Words;
 use bdb_tool::run_counted;
 use bdb_tool::status::{DONE, MEMORY, WRITE_FAULT};
 use std::alloc::{AllocError, Global};

@@ -1,4 +1,4 @@
-use bdb_model::{Kind, Order, Settings};
+use bdb_format::{Kind, Order, Settings};
 use bdb_text::{header_text, kind_word};
 use std::test::Fail;
 

@@ -6,6 +6,8 @@ mod generated;
 #[cfg(test)]
 mod headers;
 #[cfg(test)]
+mod many_names;
+#[cfg(test)]
 mod memory_streams;
 #[cfg(test)]
 mod numbers;

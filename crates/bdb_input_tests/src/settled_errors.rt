@@ -7,7 +7,7 @@ type Row = (&'static [u8], &'static [u8]);
 
 #[test]
 fn least_line_is_answered(rt: HostRuntime) -> Result<(), Fail> {
-    let rows: [Row; 10] = [
+    let rows: [Row; 14] = [
         // a datum of three bytes
         (
             b"VERSION=3\nformat=print\nkeys=1\nre_len=2\ntype=recno\nHEADER=END\n 1\n ab\n 2\n abc\nDATA=END\n",
@@ -59,6 +59,28 @@ fn least_line_is_answered(rt: HostRuntime) -> Result<(), Fail> {
             b"VERSION=3\ndatabase=b\nre_len=4\ntype=queue\nHEADER=END\nDATA=END\n\
               VERSION=3\ndatabase=a\nformat=print\nkeys=1\ntype=recno\nHEADER=END\n 0\n a\nDATA=END\n",
             b"among names, line 5",
+        ),
+        // a record of 1000 bytes, and the page size of the first section: 512, whatever the header of the queue says
+        (
+            b"VERSION=3\ndatabase=a\ntype=btree\ndb_pagesize=512\nHEADER=END\nDATA=END\n\
+              VERSION=3\ndatabase=b\ntype=queue\nre_len=1000\ndb_pagesize=4096\nHEADER=END\nDATA=END\n",
+            b"too long, line 12",
+        ),
+        (
+            b"VERSION=3\ndatabase=a\ntype=btree\ndb_pagesize=512\nHEADER=END\nDATA=END\n\
+              VERSION=3\ndatabase=b\ntype=queue\nre_len=1000\nHEADER=END\nDATA=END\n",
+            b"too long, line 11",
+        ),
+        // 4096, as it says and as it is where it says none
+        (
+            b"VERSION=3\ndatabase=a\ntype=btree\ndb_pagesize=4096\nHEADER=END\nDATA=END\n\
+              VERSION=3\ndatabase=b\ntype=queue\nre_len=1000\ndb_pagesize=512\nHEADER=END\nDATA=END\n",
+            b"among names, line 12",
+        ),
+        (
+            b"VERSION=3\ndatabase=a\ntype=btree\nHEADER=END\nDATA=END\n\
+              VERSION=3\ndatabase=b\ntype=queue\nre_len=1000\ndb_pagesize=512\nHEADER=END\nDATA=END\n",
+            b"among names, line 11",
         ),
     ];
     for (text, error) in rows {

@@ -1,7 +1,8 @@
 // What is answered to the sections of a dump text, as a text.
-use bdb_model::{Bytes, Key, Section, Sections, TextPair};
+use bdb_format::Bytes;
 use bdb_settle::{LoadError, settle};
 use bdb_text::read_dump;
+use bdb_text_format::{Key, Section, Sections, TextPair};
 use std::alloc::{AllocError, Global};
 
 // A line of the key, a space and the datum.

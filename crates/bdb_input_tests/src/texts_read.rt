@@ -1,5 +1,5 @@
 // Dump texts that are read, field by field.
-use bdb_model::{Bytes, Kind, Order, Settings};
+use bdb_format::{Bytes, Kind, Order, Settings};
 use bdb_text::{Key, Section, Sections, TextError, TextPair, TextPairs, read_dump};
 use std::alloc::Global;
 use std::test::Fail;

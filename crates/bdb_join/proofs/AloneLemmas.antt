@@ -17,7 +17,7 @@ use Rattle.bdb_format.proofs.MemberLemmas.{first_member}
 use Rattle.bdb_format.proofs.VerdictLemmas.{AllFail, no_faults, none_holds}
 use Rattle.bdb_grove.specs.Part.{IsPart, Part}
 use Rattle.bdb_join.specs.Alone.{JoinsAlone, StandsAlone}
-use Rattle.bdb_join.specs.Joining.{AreJoined, HoldsLists, IsInPartOf, IsMetaOf, Joint, ShareOut, free_of}
+use Rattle.bdb_join.specs.Joining.{AreJoined, HoldsLists, IsInPartOf, IsMetaOf, Joint, ShareOut, NamesNoFree}
 use Rattle.bdb_join.proofs.JoinLemmas.{joins_under_master}
 use Rattle.bdb_join.proofs.RoleLemmas.{no_meta_inside}
 
@@ -59,7 +59,7 @@ joined file part alone =
       shared_out = shared_alone file part alone.all;
       parts = of_joint part (λ (j : Joint). IsPart file j.part) alone.is;
       named = of_joint part (λ (j : Joint). page_at file j.meta ≡ Meta j.part.fields) alone.named;
-      no_free = of_joint part (λ (j : Joint). free_of j.part.fields ≡ 0) alone.no_free;
+      no_free = of_joint part (λ (j : Joint). NamesNoFree j.meta j.part.fields) (λ zero. alone.no_free);
     }
 
 -- Stage 7: page 0 is no master, and no other page is metadata.

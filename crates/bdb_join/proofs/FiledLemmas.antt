@@ -81,7 +81,7 @@ btrees_are_spelled built joint meta pages there is spells no_free =
     record {
       says = tree_page built.order page legal btree.reads.type ∙ (ap (λ m. Meta (BtreeFields m)) spells.fields ∙ sym (ap (λ f. Meta f) is));
       formed = page_accepted (head_for built) joint.meta page meta.flags btree;
-      no_free = ap free_of is ∙ no_free;
+      no_free = λ zero. ap free_of is ∙ no_free zero;
     }
 
 -- The image.

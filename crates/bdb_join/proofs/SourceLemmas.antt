@@ -32,7 +32,8 @@ source file joints q r all high at =
     elim (all.shared_out.each q high) [
       | inl (j, member, is) ↦
           let names : NamesEntrance j.part.fields r =
-          names_entrance file q j.part.fields r all.forest (page_of_meta file joints j q all member is) (all.no_free j member) at in
+          names_entrance file q j.part.fields r all.forest (page_of_meta file joints j q all member is)
+          (λ zero. all.no_free j member (is ∙ zero)) at in
           (j, member, (all.parts j member).branch.grove.entered r.target names.target, inl (is, names))
       | inr (j, member, inside) ↦ (j, member, (all.parts j member).branch.grove.closed q r inside at, inr inside)
     ]

@@ -68,7 +68,7 @@ filed built page meta list image holds is =
       shared_out = shared_alone (file_so_far after) part
           (λ p above high. is_between 1 (length built.pages) p above (omega (arith, high, count, is.pages.some)));
       spelled = of_joint part (IsSpelled after)
-          (btrees_are_spelled after (joint_of part) meta top.pages (omega (arith, top.pages.some)) refl top.spells holds.no_free);
+          (btrees_are_spelled after (joint_of part) meta top.pages (omega (arith, top.pages.some)) refl top.spells (λ zero. holds.no_free));
       same = λ j p member inside.
           of_joint part (λ (k : Joint). k.part.pages p ≡ true → bytes_of after p ≡ bytes_of built p)
           (λ within. above_stay built page p (between_is 1 (length built.pages) p within).0) j member inside;
@@ -104,6 +104,6 @@ written_trees_are_sound built page meta list image holds is =
       all = λ p above high. is_between 1 (length built.pages) p above (omega (arith, high, last_page image, last));
       is = all.joined.parts (joint_of part) member;
       named = all.joined.named (joint_of part) member;
-      no_free = all.joined.no_free (joint_of part) member;
+      no_free = all.joined.no_free (joint_of part) member refl;
       no_master = rw (holds.no_master) refl;
     })

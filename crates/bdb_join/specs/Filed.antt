@@ -12,7 +12,7 @@ use Rattle.bdb_format.specs.File.{File}
 use Rattle.bdb_grove.specs.Growing.{IsCounted, IsLater}
 use Rattle.bdb_grove.specs.Part.{IsPart}
 use Rattle.bdb_pack.specs.Built.{Built, bytes_of, file_so_far, joined_pages}
-use Rattle.bdb_join.specs.Joining.{IsJoined, IsMetaOf, Joint, ShareOut, free_of}
+use Rattle.bdb_join.specs.Joining.{IsJoined, IsMetaOf, Joint, NamesNoFree, ShareOut}
 use Rattle.bdb_join.specs.Written.{AreLegal, SpellsMeta}
 
 -- the head of a file of these pages, with btree metadata on page 0
@@ -25,17 +25,17 @@ head_for built = record {
   pages = length built.pages;
 }
 
--- the metadata page of a joint is read as the fields of its part, which name no free page, and no row of form holds for it
+-- the metadata page of a joint is read as the fields of its part, and no row of form holds for it; on page 0 they name no free page
 pub record IsSpelled (built : Built) (joint : Joint) : Type 0 where
   pub says : abstract_page built.order (bytes_of built joint.meta) ≡ Meta joint.part.fields
   pub formed : form_code (head_for built) joint.meta (bytes_of built joint.meta) ≡ None
-  pub no_free : free_of joint.part.fields ≡ 0
+  pub no_free : NamesNoFree joint.meta joint.part.fields
 
 -- so is btree metadata that is spelled on its page
 abbrev pub BtreesAreSpelled : Type 0
 BtreesAreSpelled =
     (built : Built) (joint : Joint) (meta : BtreeMeta) → AreLegal built → joint.meta < length built.pages → joint.part.fields ≡ BtreeFields meta
-    → SpellsMeta built joint.meta (bytes_of built joint.meta) meta → meta.free ≡ 0 → IsSpelled built joint
+    → SpellsMeta built joint.meta (bytes_of built joint.meta) meta → (joint.meta ≡ 0 → meta.free ≡ 0) → IsSpelled built joint
 
 -- Pages before and after the metadata of joints is written on pages of their own, page 0 among them, which has that of a btree. The pages of the parts
 -- stay, are parts in each later file, and have no row of form.

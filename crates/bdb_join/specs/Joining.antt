@@ -23,6 +23,10 @@ free_of (BtreeFields meta) = meta.free
 free_of (HashFields meta) = meta.free
 free_of (QueueFields meta) = 0
 
+-- metadata on page 0 names no free page; what other metadata has in that field means nothing
+abbrev pub NamesNoFree : ℕ → Metadata → Type 0
+NamesNoFree p fields = p ≡ 0 → free_of fields ≡ 0
+
 -- the page is the metadata page of a joint
 abbrev pub IsMetaOf : List Joint → ℕ → Type 0
 IsMetaOf joints p = (joint : Joint) × Contains joints joint × (joint.meta ≡ p)
@@ -39,13 +43,13 @@ pub record ShareOut (file : File) (joints : List Joint) : Type 0 where
   -- of one part alone
   pub one_part : (j k : Joint) (p : ℕ) → Contains joints j → Contains joints k → j.part.pages p ≡ true → k.part.pages p ≡ true → j ≡ k
 
--- the metadata pages name their parts, and no free page
+-- the metadata pages name their parts, and page 0 no free page
 pub record AreJoined (file : File) (joints : List Joint) : Type 0 where
   pub forest : file.kind ≡ Queue → ⊥
   pub shared_out : ShareOut file joints
   pub parts : (j : Joint) → Contains joints j → IsPart file j.part
   pub named : (j : Joint) → Contains joints j → page_at file j.meta ≡ Meta j.part.fields
-  pub no_free : (j : Joint) → Contains joints j → free_of j.part.fields ≡ 0
+  pub no_free : (j : Joint) → Contains joints j → NamesNoFree j.meta j.part.fields
 
 -- no row of stages 1 and 2 holds for an image, and its last page is the last one there is
 pub record HasForm (image : List ℕ) : Type 0 where

@@ -7,8 +7,8 @@ ghost use Rattle.bdb_format.specs.Verdict.{verdict_of};
 
 use bdb_file::{Db, Sound, verify};
 use bdb_format::{Bytes, Steps};
-use bdb_model::{Key, PairList};
 use bdb_overflow::{Datum, KeyView, is_same};
+use bdb_text_format::{Key, PairList};
 use std::alloc::{AllocError, Global};
 use std::marker::Brand;
 use std::sync::ledger::{Blank, Ledger};

@@ -19,15 +19,15 @@ use Rattle.bdb_format.specs.Rows.{records_per_page}
 use Rattle.bdb_format.proofs.ListLemmas.{all_of}
 use Rattle.bdb_format.proofs.MemberLemmas.{in_map}
 use Rattle.bdb_graph.specs.Linked.{HasMetadata, IsForest}
-use Rattle.bdb_model.specs.declared.pairs.Key.{Key}
-use Rattle.bdb_model.specs.declared.pairs.Key.TheVariants.{Bytes, Number}
-use Rattle.bdb_model.specs.declared.pairs.TextPair.{TextPair}
-use Rattle.bdb_model.specs.Written.{has_sets, is_queue as is_queue_kind}
+use Rattle.bdb_text_format.specs.declared.pairs.Key.{Key}
+use Rattle.bdb_text_format.specs.declared.pairs.Key.TheVariants.{Bytes, Number}
+use Rattle.bdb_text_format.specs.declared.pairs.TextPair.{TextPair}
+use Rattle.bdb_text_format.specs.Written.{has_sets, holds_records, is_queue}
 use Rattle.bdb_queue.proofs.QueueLemmas.{IsQueue, queue_is}
-use Rattle.bdb_settle.specs.Loaded.{has_length, has_records, keeps_data, sorts_data}
-use Rattle.bdb_settle.specs.LoadErrors.{is_queue, is_too_wide, is_zero, pair_errors, slot_size}
+use Rattle.bdb_settle.specs.Loaded.{has_length, keeps_data, sorts_data}
+use Rattle.bdb_settle.specs.LoadErrors.{is_too_wide, is_zero, pair_errors}
 use Rattle.bdb_text.specs.WrittenLaw.{key_in, pair_in}
-use Rattle.bdb_kept.specs.Kept.{KeepsLists, LoadsAlike, LoadsWithoutErrors, settings_in}
+use Rattle.bdb_kept.specs.Kept.{ListsAreKept, LoadsAlike, LoadsWithoutErrors, settings_in}
 use Rattle.bdb_kept.proofs.LaterLemmas.{later_other}
 use Rattle.bdb_kept.proofs.NumberedLemmas.{IsKeptList, IsNotZero}
 use Rattle.bdb_kept.proofs.SettledLemmas.{ComesBefore, HasItsLength, InOrder, loads_as_it_is}
@@ -35,7 +35,7 @@ use Rattle.bdb_kept.proofs.SoundLemmas.{forest_of, has_fields, sound_kept}
 
 -- Order.
 
-sets_or_records : (kind : Kind) → has_sets kind ≡ not (has_records kind)
+sets_or_records : (kind : Kind) → has_sets kind ≡ not (holds_records kind)
 sets_or_records Btree = refl
 sets_or_records Recno = refl
 sets_or_records Hash = refl
@@ -50,18 +50,18 @@ same_keeps : (d s d' s' records : Bool) → (records ≡ false → s ≡ s') →
 same_keeps d s d' s' true same also = grind arith
 same_keeps d s d' s' false same also = grind (arith, same refl, also refl)
 
-has_sets_of : (kind : Kind) → has_records kind ≡ false → has_sets kind ≡ true
+has_sets_of : (kind : Kind) → holds_records kind ≡ false → has_sets kind ≡ true
 has_sets_of kind is = sets_or_records kind ∙ ap not is
 
 pub sorts_alike : (settings others : Settings) → LoadsAlike settings others → sorts_data settings ≡ sorts_data others
 sorts_alike settings others alike =
-    ap (λ k. settings.sorted && not (has_records k)) alike.kind
-    ∙ same_sorts settings.sorted others.sorted (has_records others.kind) (λ is. alike.sorted (has_sets_of others.kind is))
+    ap (λ k. settings.sorted && not (holds_records k)) alike.kind
+    ∙ same_sorts settings.sorted others.sorted (holds_records others.kind) (λ is. alike.sorted (has_sets_of others.kind is))
 
 pub keeps_alike : (settings others : Settings) → LoadsAlike settings others → keeps_data settings ≡ keeps_data others
 keeps_alike settings others alike =
-    ap (λ k. settings.duplicates && not settings.sorted && not (has_records k)) alike.kind
-    ∙ same_keeps settings.duplicates settings.sorted others.duplicates others.sorted (has_records others.kind)
+    ap (λ k. settings.duplicates && not settings.sorted && not (holds_records k)) alike.kind
+    ∙ same_keeps settings.duplicates settings.sorted others.duplicates others.sorted (holds_records others.kind)
     (λ is. alike.sorted (has_sets_of others.kind is)) (λ is. alike.duplicates (has_sets_of others.kind is))
 
 before_alike : (settings others : Settings) (a b : ListKey × List ℕ) → LoadsAlike settings others → ComesBefore others a b → ComesBefore settings a b
@@ -77,7 +77,7 @@ length_alike : (settings others : Settings) (pair : ListKey × List ℕ) → Loa
     → HasItsLength settings pair
 length_alike settings others pair alike long fixed = let same = alike.fixed fixed in long same.0 ∙ sym same.1
 
-pub keeps_lists : KeepsLists
+pub keeps_lists : ListsAreKept
 keeps_lists image database settings pairs are alike =
     let others : Settings = settings_in image database.fields in
     let list : List (ListKey × List ℕ) = list_of (file_of image) database.fields in
@@ -100,12 +100,6 @@ no_pair_errors : (settings : Settings) (pair : TextPair) → HasItsLength settin
 no_pair_errors settings pair long some =
     rw (not_long (has_length settings) settings.re_len (length pair.value) long, not_zero pair.key some) refl
 
-same_queue : (kind : Kind) → is_queue kind ≡ is_queue_kind kind
-same_queue Btree = refl
-same_queue Recno = refl
-same_queue Hash = refl
-same_queue Queue = refl
-
 -- a page with room for a record has a slot of its size
 one_slot : (room pad : ℕ) → 1 ≤ room / pad → pad ≤ room
 one_slot room pad some =
@@ -113,7 +107,7 @@ one_slot room pad some =
     let more : 1 * pad ≤ room / pad * pad = mul-le-mul_right pad some in
     omega (arith, fits, more)
 
-not_wide : (size re_len : ℕ) → 1 ≤ records_per_page size re_len → nat_lt (size - 28) (slot_size re_len) ≡ false
+not_wide : (size re_len : ℕ) → 1 ≤ records_per_page size re_len → nat_lt (size - 28) (pad4 (re_len + 1)) ≡ false
 not_wide size re_len some =
     let fits : pad4 (re_len + 1) ≤ size - 28 = one_slot (size - 28) (pad4 (re_len + 1)) some in
     grind (arith, nat_tests, fits)
@@ -133,15 +127,15 @@ fields_not_wide image (QueueFields meta) forest has is =
     let queue : IsQueue image meta = queue_is image meta forest has in omega (arith, queue.per_page, queue.some)
 
 settings_not_wide : (settings others : Settings) (b : Bool) → LoadsAlike settings others → is_queue others.kind ≡ b
-    → (is_queue others.kind ≡ true → 1 ≤ records_per_page others.page_size others.re_len) → is_too_wide settings ≡ false
+    → (is_queue others.kind ≡ true → 1 ≤ records_per_page others.page_size others.re_len) → is_too_wide settings.page_size settings ≡ false
 settings_not_wide settings others true alike is some =
     let size : settings.page_size ≡ others.page_size = alike.page_size in
-    let long : settings.re_len ≡ others.re_len = alike.wide (sym (same_queue others.kind) ∙ is) in
-    ap (λ b. b && nat_lt (settings.page_size - 28) (slot_size settings.re_len)) (ap is_queue alike.kind ∙ is)
+    let long : settings.re_len ≡ others.re_len = alike.wide is in
+    ap (λ b. b && nat_lt (settings.page_size - 28) (pad4 (settings.re_len + 1))) (ap is_queue alike.kind ∙ is)
     ∙ not_wide settings.page_size settings.re_len
     (subst (λ n. 1 ≤ records_per_page n settings.re_len) (sym size) (subst (λ n. 1 ≤ records_per_page others.page_size n) (sym long) (some is)))
 settings_not_wide settings others false alike is some =
-    ap (λ b. b && nat_lt (settings.page_size - 28) (slot_size settings.re_len)) (ap is_queue alike.kind ∙ is)
+    ap (λ b. b && nat_lt (settings.page_size - 28) (pad4 (settings.re_len + 1))) (ap is_queue alike.kind ∙ is)
 
 pub loads_without_errors : LoadsWithoutErrors
 loads_without_errors image database settings pairs are alike =

@@ -24,7 +24,7 @@ use Rattle.bdb_btree.proofs.FallLemmas.{tree_keys}
 use Rattle.bdb_tree.proofs.PairLemmas.{tree_pair_inside}
 use Rattle.bdb_hash.proofs.PlainLemmas.{IsPlain, bucket_plain}
 use Rattle.bdb_hash.proofs.TableLemmas.{table_is}
-use Rattle.bdb_settle.specs.Loaded.{has_records}
+use Rattle.bdb_text_format.specs.Written.{holds_records}
 use Rattle.bdb_kept.proofs.KeyedLemmas.{GoesBefore, HasFitData, NoRowHolds, fit_data, in_order, of_by_key, of_listed, pairs_go, pairs_ordered}
 use Rattle.bdb_kept.proofs.KeyedLemmas.{table_goes}
 use Rattle.bdb_kept.proofs.LaterLemmas.{AllLater}
@@ -33,12 +33,12 @@ use Rattle.bdb_file.proofs.NameOrderLemmas.{keys_kept}
 use Rattle.bdb_hash.proofs.LookupLemmas.{all_fail_at as table_fails}
 
 -- pairs that go in order, with fit data, give a kept list
-pairs_kept : (settings : Settings) (file : File) (pairs : List StoredPair) → has_records settings.kind ≡ false → settings.fixed ≡ false
+pairs_kept : (settings : Settings) (file : File) (pairs : List StoredPair) → holds_records settings.kind ≡ false → settings.fixed ≡ false
     → ((pair : StoredPair) → Contains pairs pair → HasFitData settings file pair) → AllLater (GoesBefore settings file) pairs
     → IsKeptList settings (flat_map (listed_pair file) pairs)
 pairs_kept settings file pairs keyed free each goes = record {
   ordered = pairs_ordered settings file pairs keyed each goes;
-  long = λ pair at fixed. absurd (true≢false (sym fixed ∙ ap (λ b. b && has_records settings.kind) free));
+  long = λ pair at fixed. absurd (true≢false (sym fixed ∙ ap (λ b. b && holds_records settings.kind) free));
   some = λ entry at.
       let pair = of_flat_map (listed_pair file) pairs entry at in
       let found = of_listed file pair.0 entry pair.2 in

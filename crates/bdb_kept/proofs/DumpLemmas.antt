@@ -20,12 +20,12 @@ use Rattle.bdb_format.specs.Lists.{list_of}
 use Rattle.bdb_format.specs.Page.{BtreeFields, HashFields, Meta, Metadata, Page, QueueFields}
 use Rattle.bdb_format.proofs.ListLemmas.{all_of}
 use Rattle.bdb_format.proofs.MemberLemmas.{first_member, later_member, of_map}
-use Rattle.bdb_model.specs.declared.pairs.TextPair.{TextPair}
-use Rattle.bdb_model.specs.declared.sections.Section.{Section}
-use Rattle.bdb_model.specs.Lines.{line}
-use Rattle.bdb_model.specs.Written.{data_end, database_text, dump_text, header_lines, pair_lines, section_lines, section_text}
+use Rattle.bdb_text_format.specs.declared.pairs.TextPair.{TextPair}
+use Rattle.bdb_text_format.specs.declared.sections.Section.{Section}
+use Rattle.bdb_text_format.specs.LineEnd.{line}
+use Rattle.bdb_text_format.specs.Written.{data_end, database_text, dump_text, header_lines, is_queue, pair_lines, section_lines, section_text}
 use Rattle.bdb_settle.specs.declared.load_error.LoadError.{LoadError}
-use Rattle.bdb_settle.specs.LoadErrors.{is_among_names, is_queue, is_too_wide, pair_errors, section_errors, sooner, where_so}
+use Rattle.bdb_settle.specs.LoadErrors.{is_among_names, is_too_wide, page_size_in, pair_errors, section_errors, sooner, where_so}
 use Rattle.bdb_text.specs.WrittenLaw.{AreSectionsOf, CanBeWritten, IsSectionOf, IsWritable, written_of}
 use Rattle.bdb_text.proofs.LookedLemmas.{legal_below}
 use Rattle.bdb_text.proofs.WrittenLemmas.{dump_is_read}
@@ -127,12 +127,15 @@ not_among alone kind name stands = step (is_queue kind) refl
     step false is = refl
 
 one_section : (print : Bool) (image : List ℕ) (database : Database) (section : Section) (alone : Bool) → IsReadAs print image database section
-    → (databases (file_of image) ≡ database ∷ [] → alone ≡ true) → section_errors alone section ≡ []
+    → (databases (file_of image) ≡ database ∷ [] → alone ≡ true) → section_errors (head_of image).page_size alone section ≡ []
 one_section print image database section alone read when =
     let loads : LoadsAlike section.settings (settings_in image database.fields) = alike print image database section read in
     let none : HasNoErrors section.settings section.pairs =
     loads_without_errors image database section.settings section.pairs (are_list print image database section read) loads in
-    none_at_all (is_too_wide section.settings) (is_among_names alone section) _ _ (flat_map (pair_errors section.settings) section.pairs) none.wide
+    let narrow : is_too_wide (head_of image).page_size section.settings ≡ false =
+    subst (λ size. is_too_wide size section.settings ≡ false) (kept_as print image database section read).page_size none.wide in
+    none_at_all (is_too_wide (head_of image).page_size section.settings) (is_among_names alone section) _ _
+    (flat_map (pair_errors section.settings) section.pairs) narrow
     (not_among alone section.settings.kind section.name (λ queue.
     let stands = queues_stand_alone image database read.sound read.among (sym loads.kind ∙ queue) in
     (read.is.name_is ∙ stands.0, when stands.1)))
@@ -183,13 +186,24 @@ as_many print image (database ∷ all) [] read = absurd read
 as_many print image (database ∷ all) (section ∷ sections) read = ap (λ n. suc n) (as_many print image all sections read.1)
 
 no_errors : (print : Bool) (image : List ℕ) (alone : Bool) (all : List Database) (sections : List Section) → AreReadAs print image all sections
-    → ((database : Database) → databases (file_of image) ≡ database ∷ [] → alone ≡ true) → flat_map (section_errors alone) sections ≡ []
+    → ((database : Database) → databases (file_of image) ≡ database ∷ [] → alone ≡ true) → flat_map (section_errors (head_of image).page_size alone) sections ≡ []
 no_errors print image alone [] [] read when = refl
 no_errors print image alone [] (section ∷ sections) read when = absurd read
 no_errors print image alone (database ∷ all) [] read when = absurd read
 no_errors print image alone (database ∷ all) (section ∷ sections) read when =
-    ap (λ errors. errors ++ flat_map (section_errors alone) sections) (one_section print image database section alone read.0 (when database))
+    ap (λ errors. errors ++ flat_map (section_errors (head_of image).page_size alone) sections) (one_section print image database section alone read.0 (when database))
     ∙ no_errors print image alone all sections read.1 when
+
+-- the file that is made of them has the page size of the image
+none_in_all : (print : Bool) (image : List ℕ) (alone : Bool) (all : List Database) (sections : List Section) → AreReadAs print image all sections
+    → ((database : Database) → databases (file_of image) ≡ database ∷ [] → alone ≡ true)
+    → flat_map (section_errors (page_size_in sections) alone) sections ≡ []
+none_in_all print image alone [] [] read when = refl
+none_in_all print image alone [] (section ∷ sections) read when = absurd read
+none_in_all print image alone (database ∷ all) [] read when = absurd read
+none_in_all print image alone (database ∷ all) (section ∷ sections) read when =
+    subst (λ size. flat_map (section_errors size alone) (section ∷ sections) ≡ []) (sym (kept_as print image database section read.0).page_size)
+    (no_errors print image alone (database ∷ all) (section ∷ sections) read when)
 
 -- Names.
 
@@ -235,7 +249,7 @@ dumps_are_kept print image sound bytes some full =
         reads = read.1;
         kept = all_kept print image all read.0 are;
         in_order = ap ascends (same_names print image all read.0 are) ∙ all_in_order image sound;
-        no_error = ap (fold sooner None) (no_errors print image (length read.0 == 1) all read.0 are
+        no_error = ap (fold sooner None) (none_in_all print image (length read.0 == 1) all read.0 are
             (λ database is. ap (λ n. n == 1) (as_many print image all read.0 are ∙ ap length is)));
       },
     )

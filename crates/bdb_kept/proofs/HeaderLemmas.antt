@@ -10,9 +10,9 @@ use Rattle.bdb_format.specs.declared.kinds.Order.TheVariants.{Big, Little}
 use Rattle.bdb_format.specs.declared.settings.Settings.{Settings}
 use Rattle.std.proofs.lemmas.List.{append_cancel_right}
 use Rattle.std.proofs.Math.Bool.{and-false}
-use Rattle.bdb_model.specs.Header.{entries, given, is_value}
-use Rattle.bdb_model.specs.Keywords.{number_read}
-use Rattle.bdb_model.specs.Written.{entry_line, header_end, header_lines, header_table, kind_text, order_text, written}
+use Rattle.bdb_text_format.specs.Header.{entries, given, is_value}
+use Rattle.bdb_text_format.specs.Keywords.{number_read}
+use Rattle.bdb_text_format.specs.Written.{entry_line, header_end, header_lines, header_table, kind_text, order_text, written}
 use Rattle.bdb_text.proofs.LineLemmas.{entries-written, given-written}
 use Rattle.bdb_text.proofs.LookedLemmas.{looked, made}
 use Rattle.bdb_text.proofs.ValueLemmas.{number_read-decimal}

@@ -22,7 +22,8 @@ use Rattle.bdb_format.proofs.MemberLemmas.{first_member, in_flat_map, later_memb
 use Rattle.bdb_format.proofs.RepeatLemmas.{has_key, repeated_after}
 use Rattle.bdb_format.proofs.LessLemmas.{eq_self, less_trans, same_unless_less}
 use Rattle.bdb_btree.proofs.FallLemmas.{ShareKeys}
-use Rattle.bdb_settle.specs.Loaded.{has_records, keeps_data, sorts_data}
+use Rattle.bdb_text_format.specs.Written.{holds_records}
+use Rattle.bdb_settle.specs.Loaded.{keeps_data, sorts_data}
 use Rattle.bdb_kept.proofs.LaterLemmas.{AllLater, later_flat, later_map, later_one, later_other}
 use Rattle.bdb_kept.proofs.SettledLemmas.{ComesBefore, InOrder}
 use Rattle.bdb_file.proofs.NameOrderLemmas.{not_repeated}
@@ -102,14 +103,14 @@ few_later R [] few = tt
 few_later R (x ∷ []) few = later_one R x
 few_later R (x ∷ y ∷ xs) few = absurd (omega (arith, few))
 
-kept_so : (settings : Settings) → has_records settings.kind ≡ false → settings.duplicates ≡ true → settings.sorted ≡ false
+kept_so : (settings : Settings) → holds_records settings.kind ≡ false → settings.duplicates ≡ true → settings.sorted ≡ false
     → keeps_data settings ≡ true
 kept_so settings keyed dup sorted = rw (keyed, dup, sorted) refl
 
-sorts_so : (settings : Settings) → has_records settings.kind ≡ false → settings.sorted ≡ true → sorts_data settings ≡ true
+sorts_so : (settings : Settings) → holds_records settings.kind ≡ false → settings.sorted ≡ true → sorts_data settings ≡ true
 sorts_so settings keyed sorted = rw (keyed, sorted) refl
 
-data_ordered : (settings : Settings) (file : File) (pair : StoredPair) → has_records settings.kind ≡ false → HasFitData settings file pair
+data_ordered : (settings : Settings) (file : File) (pair : StoredPair) → holds_records settings.kind ≡ false → HasFitData settings file pair
     → InOrder settings (listed_pair file pair)
 data_ordered settings file pair keyed fit =
     subst (InOrder settings) (sym (listed_live file pair))
@@ -130,7 +131,7 @@ data_ordered settings file pair keyed fit =
         all_so (value ∷ values) = ((λ w at. inr (refl, inl (kept_so settings keyed is_dup is_sorted))), all_so values)
     by_flags false false is_sorted is_dup = few_later _ (live_data file pair) (fit.alone is_dup)
 
-across_pairs : (settings : Settings) (file : File) (a b : StoredPair) → has_records settings.kind ≡ false → GoesBefore settings file a b
+across_pairs : (settings : Settings) (file : File) (a b : StoredPair) → holds_records settings.kind ≡ false → GoesBefore settings file a b
     → (x y : ListKey × List ℕ) → Contains (listed_pair file a) x → Contains (listed_pair file b) y → ComesBefore settings x y
 across_pairs settings file a b keyed before x y at_x at_y =
     let one = of_listed file a x at_x in
@@ -150,7 +151,7 @@ across_pairs settings file a b keyed before x y at_x at_y =
         by_sorted false is = inl (kept_so settings keyed dup is)
 
 -- the list of pairs that go in order, each with fit data
-pub pairs_ordered : (settings : Settings) (file : File) (pairs : List StoredPair) → has_records settings.kind ≡ false
+pub pairs_ordered : (settings : Settings) (file : File) (pairs : List StoredPair) → holds_records settings.kind ≡ false
     → ((pair : StoredPair) → Contains pairs pair → HasFitData settings file pair) → AllLater (GoesBefore settings file) pairs
     → InOrder settings (flat_map (listed_pair file) pairs)
 pairs_ordered settings file pairs keyed each later =

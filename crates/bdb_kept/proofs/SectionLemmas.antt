@@ -7,14 +7,14 @@ use Rattle.std.proofs.lemmas.List.Elements.{All-cons, All-head, All-nil, All-tai
 use Rattle.bdb_format.specs.declared.kinds.Kind.TheVariants.{Recno}
 use Rattle.bdb_format.specs.declared.settings.Settings.{Settings}
 use Rattle.bdb_format.proofs.SizeLemmas.{size_bounds}
-use Rattle.bdb_model.specs.declared.pairs.TextPair.{TextPair}
-use Rattle.bdb_model.specs.declared.sections.Section.{Section}
-use Rattle.bdb_model.specs.Header.{Values, has_type, name_in, number_or, settings_in, values}
-use Rattle.bdb_model.specs.Reasons.{Parts, lines_with, names_with, parts_of}
-use Rattle.bdb_model.specs.Sections.{Reads, begin_with, header_fits, nothing_left, pairs_read, parts_read, section_read, sections_from, sections_in}
-use Rattle.bdb_model.specs.Sections.{text_sections, with_pairs, with_section}
-use Rattle.bdb_model.specs.TextLines.{is_data_end, text_lines}
-use Rattle.bdb_model.specs.Written.{version_line}
+use Rattle.bdb_text_format.specs.declared.pairs.TextPair.{TextPair}
+use Rattle.bdb_text_format.specs.declared.sections.Section.{Section}
+use Rattle.bdb_text_format.specs.Header.{Values, has_type, name_in, number_or, settings_in, values}
+use Rattle.bdb_text_format.specs.Reasons.{Parts, lines_with, names_with, parts_of}
+use Rattle.bdb_text_format.specs.Sections.{Reads, begin_with, header_fits, nothing_left, pairs_read, parts_read, section_read, sections_from, sections_in}
+use Rattle.bdb_text_format.specs.Sections.{text_sections, with_pairs, with_section}
+use Rattle.bdb_text_format.specs.TextLines.{is_data_end, text_lines}
+use Rattle.bdb_text_format.specs.Written.{version_line}
 use Rattle.bdb_sections.specs.Fit.{AreFitSettings, IsFitSection}
 use Rattle.bdb_sections.proofs.SectionLemmas.{read_sections_are_fit}
 use Rattle.bdb_kept.proofs.HeaderLemmas.{TellsLength}

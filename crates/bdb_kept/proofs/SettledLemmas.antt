@@ -10,12 +10,12 @@ use Rattle.bdb_format.proofs.ListLemmas.{all_of, only_member}
 use Rattle.bdb_format.proofs.MemberLemmas.{first_member, later_member, no_member}
 use Rattle.bdb_format.proofs.LessLemmas.{less_not_back}
 use Rattle.std.proofs.lemmas.List.Elements.{Contains-append_cases}
-use Rattle.bdb_model.specs.declared.list.Pair.{Pair}
-use Rattle.bdb_model.specs.declared.pairs.Key.{Key}
-use Rattle.bdb_model.specs.declared.pairs.Key.TheVariants.{Bytes, Number}
-use Rattle.bdb_model.specs.declared.pairs.TextPair.{TextPair}
-use Rattle.bdb_model.specs.Pairs.{listed, listed_key}
-use Rattle.bdb_settle.specs.Loaded.{filled, has_length, keeps_data, key_less, loaded, put, sorts_data, stands_before, with_pair}
+use Rattle.bdb_text_format.specs.declared.list.Pair.{Pair}
+use Rattle.bdb_text_format.specs.declared.pairs.Key.{Key}
+use Rattle.bdb_text_format.specs.declared.pairs.Key.TheVariants.{Bytes, Number}
+use Rattle.bdb_text_format.specs.declared.pairs.TextPair.{TextPair}
+use Rattle.bdb_text_format.specs.Pairs.{listed, listed_key}
+use Rattle.bdb_settle.specs.Loaded.{loaded_pair, has_length, keeps_data, key_less, loaded, put, sorts_data, stands_before, with_loaded}
 use Rattle.bdb_settle.specs.Settling.{stays}
 use Rattle.bdb_settle.proofs.KeyOrderLemmas.{key_less_self, key_one_way, pairs_weakly}
 use Rattle.bdb_settle.proofs.PutLemmas.{put_behind}
@@ -29,16 +29,16 @@ Stays settings a b = stays (stands_before settings) (keeps_data settings) b a �
 
 -- pairs that stay behind those that are done, and behind each other, are put at the end in turn
 put_in_turn : (settings : Settings) (done rest : List Pair) → ((a b : Pair) → Contains done a → Contains rest b → Stays settings a b)
-    → AllLater (Stays settings) rest → fold (with_pair settings) done rest ≡ done ++ rest
+    → AllLater (Stays settings) rest → fold (with_loaded settings) done rest ≡ done ++ rest
 put_in_turn settings done [] across later = sym (append-nil done)
 put_in_turn settings done (pair ∷ rest) across later =
     let all : All (λ other. stays (stands_before settings) (keeps_data settings) pair other ≡ true) done =
     all_of (λ other. stays (stands_before settings) (keeps_data settings) pair other ≡ true) done
     (λ a at. across a pair at (first_member pair rest)) in
-    let here : with_pair settings done pair ≡ done ++ pair ∷ [] =
+    let here : with_loaded settings done pair ≡ done ++ pair ∷ [] =
     ap (put (stands_before settings) (keeps_data settings) pair) (sym (append-nil done))
     ∙ put_behind (stands_before settings) (pairs_weakly settings) (keeps_data settings) pair done [] all in
-    ap (λ l. fold (with_pair settings) l rest) here
+    ap (λ l. fold (with_loaded settings) l rest) here
     ∙ (put_in_turn settings (done ++ pair ∷ []) rest
     (λ a b at_a at_b. elim (Contains-append_cases done (pair ∷ []) a at_a) [
       | inl before ↦ across a b before (later_member pair rest b at_b)
@@ -95,7 +95,7 @@ comes_stays settings a b (inr (same, kept)) =
 abbrev pub HasItsLength : Settings → (ListKey × List ℕ) → Type 0
 HasItsLength settings pair = has_length settings ≡ true → length pair.1 ≡ settings.re_len
 
-unfilled : (settings : Settings) (pair : TextPair) → HasItsLength settings (pair_in pair) → filled settings pair ≡ pair_out (pair_in pair)
+unfilled : (settings : Settings) (pair : TextPair) → HasItsLength settings (pair_in pair) → loaded_pair settings pair ≡ pair_out (pair_in pair)
 unfilled settings pair long = by_key pair.key (has_length settings) long
   where
     none_more : (n : ℕ) → length pair.value ≡ n → pair.value ++ replicate (n - length pair.value) (settings.re_pad % 256) ≡ pair.value
@@ -125,10 +125,10 @@ unfilled settings pair long = by_key pair.key (has_length settings) long
 
 all_unfilled : (settings : Settings) (pairs : List TextPair)
     → ((pair : ListKey × List ℕ) → Contains (map pair_in pairs) pair → HasItsLength settings pair)
-    → map (filled settings) pairs ≡ map pair_out (map pair_in pairs)
+    → map (loaded_pair settings) pairs ≡ map pair_out (map pair_in pairs)
 all_unfilled settings [] long = refl
 all_unfilled settings (pair ∷ pairs) long =
-    ap (λ p. p ∷ map (filled settings) pairs) (unfilled settings pair (long (pair_in pair) (first_member (pair_in pair) (map pair_in pairs))))
+    ap (λ p. p ∷ map (loaded_pair settings) pairs) (unfilled settings pair (long (pair_in pair) (first_member (pair_in pair) (map pair_in pairs))))
     ∙ ap (λ ps. pair_out (pair_in pair) ∷ ps)
     (all_unfilled settings pairs (λ other at. long other (later_member (pair_in pair) (map pair_in pairs) other at)))
 
@@ -146,11 +146,11 @@ pub loads_as_it_is : (settings : Settings) (pairs : List TextPair) (list : List 
     → InOrder settings list → ((pair : ListKey × List ℕ) → Contains list pair → HasItsLength settings pair)
     → listed (loaded settings pairs) ≡ list
 loads_as_it_is settings pairs list is ordered long =
-    let unfilled_all : map (filled settings) pairs ≡ map pair_out list =
+    let unfilled_all : map (loaded_pair settings) pairs ≡ map pair_out list =
     all_unfilled settings pairs (λ pair at. long pair (subst (λ l. Contains l pair) is at)) ∙ ap (map pair_out) is in
-    let put : fold (with_pair settings) [] (map pair_out list) ≡ map pair_out list =
+    let put : fold (with_loaded settings) [] (map pair_out list) ≡ map pair_out list =
     put_in_turn settings [] (map pair_out list) (λ a b at_a at_b. absurd (no_member [] a refl at_a))
     (later_map (Stays settings) pair_out list
     (later_other (ComesBefore settings) (λ a b. Stays settings (pair_out a) (pair_out b)) list
     (λ a b at_a at_b. comes_stays settings a b) ordered)) in
-    ap listed (ap (fold (with_pair settings) []) unfilled_all ∙ put) ∙ all_listed list
+    ap listed (ap (fold (with_loaded settings) []) unfilled_all ∙ put) ∙ all_listed list

@@ -29,7 +29,7 @@ use Rattle.bdb_file.proofs.NamedLemmas.{with_name}
 use Rattle.bdb_graph.specs.Linked.{HasMetadata, IsForest}
 use Rattle.bdb_graph.proofs.LinkedLemmas.{root_fits}
 use Rattle.bdb_graph.proofs.ReadLemmas.{IsMetaPage, IsReadAs, flags_fit, page_of_meta}
-use Rattle.bdb_model.specs.Keywords.{legal_size}
+use Rattle.bdb_text_format.specs.Keywords.{legal_size}
 use Rattle.bdb_recno.proofs.PageLemmas.{root_recno}
 use Rattle.bdb_recno.proofs.ScanLemmas.{few_records}
 use Rattle.bdb_text.specs.WrittenLaw.{AreBytes, CanBeWritten, IsPairOf}

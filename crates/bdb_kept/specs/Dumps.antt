@@ -7,10 +7,10 @@ use Rattle.bdb_format.specs.Databases.{Database, databases}
 use Rattle.bdb_format.specs.File.{file_of}
 use Rattle.bdb_format.specs.HeadOf.{head_of}
 use Rattle.bdb_format.specs.Lists.{list_of}
-use Rattle.bdb_model.specs.declared.sections.Section.{Section}
-use Rattle.bdb_model.specs.Pairs.{listed}
-use Rattle.bdb_model.specs.Sections.{Reads}
-use Rattle.bdb_model.specs.Written.{dump_text, header_lines}
+use Rattle.bdb_text_format.specs.declared.sections.Section.{Section}
+use Rattle.bdb_text_format.specs.Pairs.{listed}
+use Rattle.bdb_text_format.specs.Sections.{Reads}
+use Rattle.bdb_text_format.specs.Written.{dump_text, header_lines}
 use Rattle.bdb_settle.specs.Loaded.{loaded}
 use Rattle.bdb_settle.specs.LoadErrors.{load_error}
 use Rattle.bdb_text.specs.WrittenLaw.{AreBytes}

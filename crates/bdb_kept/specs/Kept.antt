@@ -12,9 +12,9 @@ use Rattle.bdb_format.specs.Lists.{list_of}
 use Rattle.bdb_format.specs.Master.{master_in}
 use Rattle.bdb_format.specs.Page.{Metadata}
 use Rattle.bdb_format.specs.Verdict.{verdict_of}
-use Rattle.bdb_model.specs.declared.pairs.TextPair.{TextPair}
-use Rattle.bdb_model.specs.Pairs.{listed}
-use Rattle.bdb_model.specs.Written.{has_sets, is_queue}
+use Rattle.bdb_text_format.specs.declared.pairs.TextPair.{TextPair}
+use Rattle.bdb_text_format.specs.Pairs.{listed}
+use Rattle.bdb_text_format.specs.Written.{has_sets, is_queue}
 use Rattle.bdb_settle.specs.Loaded.{has_length, loaded}
 use Rattle.bdb_settle.specs.LoadErrors.{is_too_wide, pair_errors}
 use Rattle.bdb_text.specs.WrittenLaw.{AreBytes, CanBeWritten, CanStandTogether, pair_in}
@@ -44,16 +44,16 @@ pub record AreListOf (image : List ℕ) (database : Database) (pairs : List Text
   pub list_is : map pair_in pairs ≡ list_of (file_of image) database.fields
 
 -- such pairs are loaded as they are
-abbrev pub KeepsLists : Type 0
-KeepsLists =
+abbrev pub ListsAreKept : Type 0
+ListsAreKept =
     (image : List ℕ) (database : Database) (settings : Settings) (pairs : List TextPair) → AreListOf image database pairs
     → LoadsAlike settings (settings_in image database.fields)
     → listed (loaded settings pairs) ≡ list_of (file_of image) database.fields
 
--- there is no error of loading in a pair, or in the settings of a queue
+-- there is no error of loading in a pair, or in the settings of a queue in a file of its page size
 pub record HasNoErrors (settings : Settings) (pairs : List TextPair) : Type 0 where
   pub each : All (λ pair. pair_errors settings pair ≡ []) pairs
-  pub wide : is_too_wide settings ≡ false
+  pub wide : is_too_wide settings.page_size settings ≡ false
 
 -- such pairs have no error of loading
 abbrev pub LoadsWithoutErrors : Type 0

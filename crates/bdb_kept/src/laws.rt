@@ -1,10 +1,10 @@
 //! What follows from the definitions alone.
 ghost use Rattle.bdb_kept.specs.Dumps.{DumpsAreKept, LoadedDumpsAreTheSame};
-ghost use Rattle.bdb_kept.specs.Kept.{AreInOrderOfNames, CanAllBeWritten, CanAllStandTogether, KeepsLists, LoadsWithoutErrors, QueuesStandAlone};
+ghost use Rattle.bdb_kept.specs.Kept.{AreInOrderOfNames, CanAllBeWritten, CanAllStandTogether, ListsAreKept, LoadsWithoutErrors, QueuesStandAlone};
 
 /// Pairs of a text that are the list of a database of a sound file are loaded as they are, under settings that load alike.
 pub fn keeps_lists()
-    ensures { KeepsLists }
+    ensures { ListsAreKept }
 {}
 
 /// No error of loading holds for them.

@@ -177,7 +177,7 @@ pairs_are_unit leaves old new key first more type positive put small =
     (λ g stand.
     let all = data_stand g old.size stand.0 (length new.pages) (f ∷ put.others) live stand.4 in
     subst (λ t. StandsPlaced t g (PlacedPairs k f put.others)) (sym type) (
-      value_read g old.size (length old.pages) stand.0 put.key_item.content key stand.3,
+      record { live = put.key_live.live; value = value_read g old.size (length old.pages) stand.0 put.key_item.content key stand.3 },
       all.0 0 f (omega arith),
       (λ i d low. all.0 (suc i) d (omega (arith, low))),
     ))

@@ -17,7 +17,7 @@ use Rattle.bdb_levels.specs.declared.inner_type.InnerType.{InnerType}
 use Rattle.bdb_levels.specs.Nodes.{Node}
 use Rattle.bdb_pack.specs.Built.{Built, bytes_of, file_so_far, without_last}
 use Rattle.bdb_leaves.specs.Finished.{HasTowerOn, IsRootPlaced}
-use Rattle.bdb_leaves.specs.Inner.{HoldsChildrenOn}
+use Rattle.bdb_leaves.specs.Inner.{HasLiveKeys, HoldsChildrenOn}
 use Rattle.bdb_leaves.specs.Levels.{AreChildren, heads_of, node_over}
 use Rattle.bdb_leaves.specs.Tower.{EndsInRoot, HasTower}
 use Rattle.bdb_leaves.specs.declared.levels.Child.{Child}
@@ -168,6 +168,12 @@ tower_on inner old mid new nodes first root sum children are several stood blank
           form_same first root sum p mid new placed (omega (arith, here, count)) (λ e. omega (arith, e, low, stood))
           ∙ tower.formed p low (omega (arith, here, count, last));
       root_formed = children_are_formed inner new.order (bytes_of new first) first ends.level ends.below holds ends.high ends.some;
+      root_type = holds.type_is;
+      live = λ p low here.
+          subst (λ o. HasLiveKeys o (bytes_of new p)) (sym placed.order)
+          (subst (HasLiveKeys mid.order) (sym (placed.same p (omega (arith, here, count)) (λ e. omega (arith, e, low, stood))))
+          (tower.live p low (omega (arith, here, count, last))));
+      root_live = holds.live;
       summed = placed.summed ∙ (adds ∙ counted_alike inner old children nodes are);
       form_kept = λ p low other. form_same first root sum p mid new placed (omega (arith, low, low_root)) other ∙ tower.form_kept p low;
       kept = λ p low other no_head. placed.same p (omega (arith, low, low_root)) other ∙ tower.kept p low no_head;

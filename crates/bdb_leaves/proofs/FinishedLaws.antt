@@ -7,7 +7,7 @@ use Rattle.std.proofs.lemmas.Bool.{cases_Bool, cases_eq, cases_lt, false_from_ne
 use Rattle.std.proofs.lemmas.Grind.{flat_map-append}
 use Rattle.std.proofs.lemmas.List.Elements.{Contains-append_cases, Contains-append_left, Contains-append_right}
 use Rattle.bdb_pack.proofs.ImageLemmas.{page_so_far}
-use Rattle.bdb_format.specs.File.{page_at}
+use Rattle.bdb_format.specs.File.{header_in, page_at}
 use Rattle.bdb_format.specs.Rows.{page_code}
 use Rattle.bdb_format.proofs.MemberLemmas.{first_member, in_range, later_member, member_cases, of_range}
 use Rattle.bdb_format.proofs.ListLemmas.{only_member}
@@ -39,6 +39,7 @@ use Rattle.bdb_leaves.proofs.LaterLemmas.{later_chain, later_fewer}
 use Rattle.bdb_leaves.proofs.NumberedLemmas.{AreNumbered, are_numbered}
 use Rattle.bdb_leaves.proofs.RestLemmas.{is_one, is_rest, rest_is}
 use Rattle.bdb_leaves.proofs.RunLemmas.{later_before}
+use Rattle.bdb_leaves.proofs.SumLemmas.{sum_stands}
 
 -- one is moved from the end to the front
 counts_moved : (e p n : ℕ) (others range : List ℕ) → count e ((p ∷ others) ++ (n ∷ range)) ≤ 1 → count e ((n ∷ others) ++ (range ++ (p ∷ []))) ≤ 1
@@ -86,6 +87,11 @@ finished_trees_are_laid leaves old new counted before closed units root filled o
     branch = branch;
     nodes_are = on.nodes_are;
     some = inl on.some;
+    summed = λ several.
+        let there : first < b = omega (arith, (known.within first first_in).1, more, grows) in
+        ap (λ p. (header_in (page_at g p)).previous) on.tower.top_is
+        ∙ (sum_stands (inner_of type) new g first there on.tower.root_type
+        (later.same first (is_between before b first (known.within first first_in).0 there)) ∙ on.tower.summed);
     tower = on.tower.tower g (between before b) (λ p low high. is_between before b p (omega (arith, low, start, more)) high)
         (is_between before b first (known.within first first_in).0 (omega (arith, (known.within first first_in).1, more, grows)))
         (λ h at.

@@ -22,7 +22,7 @@ use Rattle.bdb_levels.specs.declared.inner_type.InnerType.TheVariants.{Keyed, Nu
 use Rattle.bdb_pack.specs.Built.{Built, bytes_of}
 use Rattle.bdb_levels.proofs.TakenLemmas.{counted_member}
 use Rattle.bdb_leaves.specs.Filled.{unit_contents}
-use Rattle.bdb_leaves.specs.Laid.{AreLaid, IsNodeOf, entries_on, filled, held_by_leaves, inner_of}
+use Rattle.bdb_leaves.specs.Laid.{AreLaid, IsNodeOf, entries_on, filled_leaf, held_by_leaves, inner_of}
 use Rattle.bdb_leaves.specs.LeafEntries.{Entry, IsLeafIn, contents_of, leaf_of, own_content}
 use Rattle.bdb_leaves.specs.Leaves.{first_of}
 use Rattle.bdb_leaves.specs.Levels.{heads_of}
@@ -132,7 +132,7 @@ pub pages_named : (type : LeafType) (placed : List LeafUnits)
     → flat_map content_pages (flat_map (λ (leaf : LeafUnits). contents_of type (entries_on leaf)) placed) ≡ held_by_leaves type placed
 pages_named type placed =
     flat_map_twice content_pages (λ (leaf : LeafUnits). contents_of type (entries_on leaf)) placed
-    ∙ sym (flat_map-map pages_held (filled type) placed)
+    ∙ sym (flat_map-map pages_held (filled_leaf type) placed)
 
 -- Their keys.
 

@@ -160,6 +160,7 @@ leaves_stand type built p previous next entries g holds even same =
       level = ap (λ (h : Header). h.level) header ∙ holds.level;
       previous_is = ap (λ (h : Header). h.previous) header ∙ holds.before;
       next_is = ap (λ (h : Header). h.next) header ∙ holds.after;
+      items = holds.items;
       contents = contents_held type holds.page entries has;
       holds = held_in type g p holds.page entries has even;
     }

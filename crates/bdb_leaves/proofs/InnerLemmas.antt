@@ -43,6 +43,7 @@ use Rattle.bdb_leaves.specs.Inner.{RaisedPagesStand, added_key, child_cost, chil
 use Rattle.bdb_leaves.specs.Inner.{key_cost, nodes_cost, raised, with_inner}
 use Rattle.bdb_leaves.specs.LeafEntries.{room_of}
 use Rattle.bdb_leaves.proofs.EntryLemmas.{bytes_with}
+use Rattle.bdb_leaves.proofs.LiveLemmas.{live_added}
 
 -- What the types of internal pages have in common.
 
@@ -164,6 +165,8 @@ child_added inner order page p level nodes node holds fits room =
       number = below.entry.low 4 8 (omega arith) ∙ holds.number;
       is = subst (λ (q : Page). HasNodes inner q (nodes ++ (node ∷ []))) (sym (items_are_placed order page item holds.begun kind fits room))
           (nodes_more inner (abstract_page order page) (place_below order page (length piece)) nodes node holds.is);
+      live = live_added inner order page (page_and_item order page piece) (place_below order page (length piece)) (added_key nodes node) node below
+          holds.begun fits (below.entry.type ∙ holds.type_is) holds.type_is holds.live;
       room =
           let cost : 2 + pad4 (length piece) ≡ added_cost inner nodes node = added_cost_is inner order nodes node fits in
           let old : room_of order page + nodes_cost inner nodes ≡ length page - 26 = holds.room in
@@ -214,6 +217,7 @@ empty_inner inner order page number level legal low =
       level_is = ap (λ (x : Header). x.level) is;
       number = ap (λ (x : Header). x.number) is;
       is = subst (λ (q : Page). HasNodes inner q []) (sym law.0) (no_nodes inner h);
+      live = λ keyed k low. absurd (omega (arith, low, none));
       room = omega (arith, none, high, long);
     }
 

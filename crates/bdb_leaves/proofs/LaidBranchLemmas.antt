@@ -29,7 +29,7 @@ use Rattle.bdb_levels.specs.declared.inner_type.InnerType.TheVariants.{Keyed, Nu
 use Rattle.bdb_levels.proofs.BranchLemmas.{towers_are_branches}
 use Rattle.bdb_levels.proofs.TakenLemmas.{all_heads}
 use Rattle.bdb_leaves.specs.LeafEntries.{Entry, contents_of, leaf_of, own_entry, type_number}
-use Rattle.bdb_leaves.specs.Laid.{IsKeyOf, IsLaid, IsNodeOf, LaidTreesAreBranches, entries_on, filled, held_by_leaves, inner_of, tree_pages}
+use Rattle.bdb_leaves.specs.Laid.{IsKeyOf, IsTreeLaid, IsNodeOf, LaidTreesAreBranches, entries_on, filled_leaf, held_by_leaves, inner_of, tree_pages}
 use Rattle.bdb_leaves.specs.Placed.{HoldsUnits, IsOneValue, LeafUnits, Placed, PlacedEntry, PlacedPairs, PlacedTree, entries_of, further_entries}
 use Rattle.bdb_leaves.specs.Placed.{pages_of, tree_item}
 use Rattle.bdb_leaves.specs.declared.leaf_type.LeafType.{LeafType}
@@ -46,7 +46,7 @@ targets_are SortedData p page = refl
 
 is_filled : (type : LeafType) (g : File) (rest : ℕ → Bool) (leaf : LeafUnits) → HoldsUnits type g leaf
     → (1 ≤ leaf.page) × (leaf.page ≤ g.last) × (rest leaf.page ≡ false) → All (ContentFits g) (contents_of type (entries_on leaf))
-    → IsFilled g rest (filled type leaf)
+    → IsFilled g rest (filled_leaf type leaf)
 is_filled type g rest leaf holds inside fit = record {
   low = inside.0;
   high = inside.1;
@@ -57,8 +57,8 @@ is_filled type g rest leaf holds inside fit = record {
   fit = fit;
 }
 
-numbers_of : (type : LeafType) (placed : List LeafUnits) → map (λ (leaf : FilledLeaf). leaf.page) (map (filled type) placed) ≡ pages_of placed
-numbers_of type placed = map-map (λ (leaf : FilledLeaf). leaf.page) (filled type) placed
+numbers_of : (type : LeafType) (placed : List LeafUnits) → map (λ (leaf : FilledLeaf). leaf.page) (map (filled_leaf type) placed) ≡ pages_of placed
+numbers_of type placed = map-map (λ (leaf : FilledLeaf). leaf.page) (filled_leaf type) placed
 
 -- the leaves with what they name
 abbrev with_leaves : (ℕ → Bool) → List LeafUnits → ℕ → Bool
@@ -69,10 +69,10 @@ record IsIn (type : LeafType) (g : File) (rest : ℕ → Bool) (placed : List Le
   there : Contains placed leaf
   holds : HoldsUnits type g leaf
   fit : All (ContentFits g) (contents_of type (entries_on leaf))
-  filled_is : IsFilled g rest (filled type leaf)
+  filled_is : IsFilled g rest (filled_leaf type leaf)
 
 all_in : (type : LeafType) (g : File) (rest : ℕ → Bool) (placed : List LeafUnits) (nodes : List Node) (above : List (List Node)) (root : Node)
-    → IsLaid type g rest placed nodes above root → All (IsIn type g rest placed) placed
+    → IsTreeLaid type g rest placed nodes above root → All (IsIn type g rest placed) placed
 all_in type g rest placed nodes above root laid k d low =
     let leaf : LeafUnits = get_or placed k d in
     let at : Contains placed leaf = Contains-get_or placed k d low in
@@ -83,18 +83,18 @@ all_in type g rest placed nodes above root laid k d low =
     record { there = at; holds = holds; fit = fit; filled_is = is_filled type g rest leaf holds (laid.inside leaf.page number) fit }
 
 leaves_apart : (type : LeafType) (g : File) (rest : ℕ → Bool) (placed : List LeafUnits) (nodes : List Node) (above : List (List Node)) (root : Node)
-    → IsLaid type g rest placed nodes above root → (p : ℕ) → count p (pages_of placed) ≤ 1
+    → IsTreeLaid type g rest placed nodes above root → (p : ℕ) → count p (pages_of placed) ≤ 1
 leaves_apart type g rest placed nodes above root laid p = omega (arith, laid.apart p, count-append p (pages_of placed) (level_pages above))
 
 leaves_branch : (type : LeafType) (g : File) (rest : ℕ → Bool) (placed : List LeafUnits) (nodes : List Node) (above : List (List Node)) (root : Node)
-    → IsLaid type g rest placed nodes above root → IsBranch g (with_leaves rest placed) (pages_of placed)
+    → IsTreeLaid type g rest placed nodes above root → IsBranch g (with_leaves rest placed) (pages_of placed)
 leaves_branch type g rest placed nodes above root laid =
     let all = all_in type g rest placed nodes above root laid in
     subst (λ ps. IsBranch g (λ q. rest q || is_of ps q) ps) (numbers_of type placed)
-    (leaves_stand_over g rest (map (filled type) placed)
+    (leaves_stand_over g rest (map (filled_leaf type) placed)
     (record {
       no_queue = laid.no_queue;
-      filled = All-map (IsFilled g rest) (filled type) placed (λ k d low. (all k d low).filled_is);
+      filled = All-map (IsFilled g rest) (filled_leaf type) placed (λ k d low. (all k d low).filled_is);
       apart = λ p. subst (λ ps. count p ps ≤ 1) (sym (numbers_of type placed)) (leaves_apart type g rest placed nodes above root laid p);
       held = laid.held;
     })
@@ -135,10 +135,10 @@ heads_named Unknown one = absurd one
 
 -- a leaf names the head of its key's chain as often as the key
 heads_held : (type : LeafType) (leaf : LeafUnits) (key : Content) (e : ℕ) → IsKeyOf Keyed (entries_on leaf) key
-    → count e (key_heads key) ≤ count e (pages_held (filled type leaf))
+    → count e (key_heads key) ≤ count e (pages_held (filled_leaf type leaf))
 heads_held type leaf key e is =
     elim (key_first type leaf.units key is) [
-      | inl inline ↦ subst (λ k. count e (key_heads k) ≤ count e (pages_held (filled type leaf))) (sym inline.1) (omega arith)
+      | inl inline ↦ subst (λ k. count e (key_heads k) ≤ count e (pages_held (filled_leaf type leaf))) (sym inline.1) (omega arith)
       | inr first ↦ omega (
         arith,
         ap (count e) (heads_named key first.2),
@@ -159,7 +159,7 @@ heads_of_nodes type (leaf ∷ placed) (node ∷ nodes) e keyed zip =
       heads_held type leaf node.key e (subst (λ inner. IsKeyOf inner (entries_on leaf) node.key) keyed zip.0.key),
       heads_of_nodes type placed nodes e keyed zip.1,
       count-append e (key_heads node.key) (flat_map (λ (other : Node). key_heads other.key) nodes),
-      count-append e (pages_held (filled type leaf)) (held_by_leaves type placed),
+      count-append e (pages_held (filled_leaf type leaf)) (held_by_leaves type placed),
     )
 
 -- A page that one page alone names.
@@ -203,7 +203,7 @@ count_within f (x ∷ xs) p h at =
 -- The key of a leaf stands: its chain has its head among the rest, and the leaf names it, alone and once.
 
 head_once : (type : LeafType) (g : File) (rest : ℕ → Bool) (placed : List LeafUnits) (nodes : List Node) (above : List (List Node)) (root : Node)
-    → IsLaid type g rest placed nodes above root → (leaf : LeafUnits) → IsIn type g rest placed leaf
+    → IsTreeLaid type g rest placed nodes above root → (leaf : LeafUnits) → IsIn type g rest placed leaf
     → (h total : ℕ) → IsFirst type (entries_on leaf) (Chain h total) → IsHeadOnce g (with_leaves rest placed) h
 head_once type g rest placed nodes above root laid leaf is h total first =
     record {
@@ -211,7 +211,7 @@ head_once type g rest placed nodes above root laid leaf is h total first =
       heads = ap are_heads_alone owned ∙ all_heads (named_by g leaf.page h) (λ owner at.
           let found = named_reference g leaf.page h owner at in
           ap (λ (r : Reference). is_head_reference r.sort) found.2
-          ∙ elim (names_fit g rest (filled type leaf) found.0 laid.no_queue is.filled_is found.1) [
+          ∙ elim (names_fit g rest (filled_leaf type leaf) found.0 laid.no_queue is.filled_is found.1) [
             | inl head ↦ ap is_head_reference head.0
             | inr set ↦ absurd (true≢false (sym set.1.type
                 ∙ ap (has_type (3 ∷ 4 ∷ 6 ∷ 12 ∷ [])) (ap (λ p. type_in (page_at g p)) found.3 ∙ fits.type)))
@@ -228,20 +228,20 @@ head_once type g rest placed nodes above root laid leaf is h total first =
     fits : ChainFits g h total
     fits = All-head (ContentFits g) (Chain h total) first.0 (subst (All (ContentFits g)) first.1 is.fit)
 
-    held : Contains (pages_held (filled type leaf)) h
+    held : Contains (pages_held (filled_leaf type leaf)) h
     held = subst (λ contents. Contains (flat_map content_pages contents) h) (sym first.1) (first_member h (flat_map content_pages first.0))
 
     number : Contains (pages_of placed) leaf.page
     number = in_map (λ (other : LeafUnits). other.page) placed leaf is.there
 
     named : Contains (names g leaf.page) h
-    named = subst (λ ps. Contains ps h) (sym (leaf_names g rest (filled type leaf) laid.no_queue is.filled_is)) held
+    named = subst (λ ps. Contains ps h) (sym (leaf_names g rest (filled_leaf type leaf) laid.no_queue is.filled_is)) held
 
     -- all names of all leaves
     same : flat_map (names g) (pages_of placed) ≡ held_by_leaves type placed
     same = ap (flat_map (names g)) (sym (numbers_of type placed))
-        ∙ all_names g rest (map (filled type) placed) laid.no_queue
-        (All-map (IsFilled g rest) (filled type) placed (λ k d low. (all k d low).filled_is))
+        ∙ all_names g rest (map (filled_leaf type) placed) laid.no_queue
+        (All-map (IsFilled g rest) (filled_leaf type) placed (λ k d low. (all k d low).filled_is))
 
     entrance : Contains (held_by_leaves type placed) h
     entrance = subst (λ ps. Contains ps h) same (in_flat_map (names g) (pages_of placed) leaf.page h number named)
@@ -271,7 +271,7 @@ head_once type g rest placed nodes above root laid leaf is h total first =
             laid.branch.grove.apart q found.0 old found.1 (subst (Contains (held_by_leaves type placed)) (sym found.2) entrance)
 
 key_stands : (type : LeafType) (g : File) (rest : ℕ → Bool) (placed : List LeafUnits) (nodes : List Node) (above : List (List Node)) (root : Node)
-    → IsLaid type g rest placed nodes above root → (leaf : LeafUnits) → IsIn type g rest placed leaf → (key : Content)
+    → IsTreeLaid type g rest placed nodes above root → (leaf : LeafUnits) → IsIn type g rest placed leaf → (key : Content)
     → ((bytes : List ℕ) × (key ≡ Inline bytes)) ⊎ IsFirst type (entries_on leaf) key → KeyStands g (with_leaves rest placed) key
 key_stands type g rest placed nodes above root laid leaf is key (inl inline) = subst (KeyStands g (with_leaves rest placed)) (sym inline.1) tt
 key_stands type g rest placed nodes above root laid leaf is (Inline bytes) (inr first) = tt
@@ -290,7 +290,7 @@ key_long type g leaf key fit (inr first) =
     chain_fits g key chain (All-head (ContentFits g) key first.0 (subst (All (ContentFits g)) first.1 fit)))
 
 keys_stand : (type : LeafType) (g : File) (rest : ℕ → Bool) (placed : List LeafUnits) (nodes : List Node) (above : List (List Node)) (root : Node)
-    → IsLaid type g rest placed nodes above root → (inner : InnerType) → inner_of type ≡ inner
+    → IsTreeLaid type g rest placed nodes above root → (inner : InnerType) → inner_of type ≡ inner
     → KeysStand inner g (with_leaves rest placed) nodes × All (KeyHasLength inner g) nodes
 keys_stand type g rest placed nodes above root laid Keyed keyed = (
   (

@@ -14,7 +14,7 @@ use Rattle.bdb_levels.proofs.LinkLemmas.{links_of_towers, links_stand}
 use Rattle.bdb_levels.proofs.NodeLemmas.{all_over, towers_have_leaves}
 use Rattle.bdb_leaves.specs.Inner.{inner_number}
 use Rattle.bdb_leaves.specs.LeafEntries.{Entry, IsLeafIn, type_number}
-use Rattle.bdb_leaves.specs.Laid.{AreLaid, IsLaid, IsNodeOf, LaidTreesAreLinked, LaidTreesHaveLeaves, entries_on, inner_of}
+use Rattle.bdb_leaves.specs.Laid.{AreLaid, IsTreeLaid, IsNodeOf, LaidTreesAreLinked, LaidTreesHaveLeaves, entries_on, inner_of}
 use Rattle.bdb_leaves.specs.Placed.{HoldsUnits, LeafUnits, pages_of}
 use Rattle.bdb_leaves.specs.declared.leaf_type.LeafType.{LeafType}
 use Rattle.bdb_leaves.specs.declared.leaf_type.LeafType.TheVariants.{Pairs, Records, SortedData}
@@ -130,7 +130,7 @@ one_leaf type g leaf node is holds =
 
 pub have_leaves : (type : LeafType) (g : File) (rest : ℕ → Bool) (placed : List LeafUnits) (nodes : List Node) (above : List (List Node))
     (root : Node)
-    → IsLaid type g rest placed nodes above root → All (HasLeaves g 1) nodes
+    → IsTreeLaid type g rest placed nodes above root → All (HasLeaves g 1) nodes
 have_leaves type g rest placed nodes above root laid =
     of_leaves (IsNodeOf type) (HoldsUnits type g) (HasLeaves g 1) (one_leaf type g) placed nodes laid.nodes_are
     (hold_units type g 0 placed laid.leaves)
@@ -177,7 +177,7 @@ bottom_types type g leaf node is holds = ap (λ p. type_in (page_at g p)) is.pag
 -- what is so of a leaf's type and of that of the internal pages is so of the root's
 pub root_type_is : (type : LeafType) (g : File) (rest : ℕ → Bool) (placed : List LeafUnits) (nodes : List Node) (above : List (List Node))
     (root : Node)
-    → IsLaid type g rest placed nodes above root → (test : Option ℕ → Bool) (b : Bool) → test (Some (type_number type)) ≡ b
+    → IsTreeLaid type g rest placed nodes above root → (test : Option ℕ → Bool) (b : Bool) → test (Some (type_number type)) ≡ b
     → test (Some (inner_number (inner_of type))) ≡ b → test (type_in (page_at g root.page)) ≡ b
 root_type_is type g rest placed nodes above root laid test b at_leaf at_inner =
     let typed = of_leaves (IsNodeOf type) (HoldsUnits type g) (HasType g (type_number type)) (bottom_types type g) placed nodes laid.nodes_are

@@ -35,7 +35,7 @@ use Rattle.bdb_levels.specs.declared.inner_type.InnerType.TheVariants.{Keyed}
 use Rattle.bdb_levels.proofs.ContentLemmas.{counts_of_records, counts_of_towers, separators_of_towers}
 use Rattle.bdb_leaves.specs.LeafEntries.{type_number}
 use Rattle.bdb_leaves.specs.Units.{key_of, list_of_units}
-use Rattle.bdb_leaves.specs.Laid.{Counts, HasUnits, IsKeyOf, IsLaid, IsNodeOf, LaidTreesAreParts, SuitsBtree, SuitsRecno, entries_on, inner_of}
+use Rattle.bdb_leaves.specs.Laid.{Counts, HasUnits, IsKeyOf, IsTreeLaid, IsNodeOf, LaidTreesAreParts, SuitsBtree, SuitsRecno, entries_on, inner_of}
 use Rattle.bdb_leaves.specs.Laid.{is_laid}
 use Rattle.bdb_leaves.specs.Placed.{HasLength, HoldsUnits, LeafUnits, Placed, PlacedEntry, PlacedPairs, PlacedTree, StandsPlaced, entries_of}
 use Rattle.bdb_leaves.specs.Placed.{pages_of, pairs_on, unit_of, units_in}
@@ -55,7 +55,7 @@ childless : (type : LeafType) (g : File) (leaf : LeafUnits) (node : Node) → Is
 childless type g leaf node is holds = ap (λ p. children_in (page_at g p)) is.page ∙ (at_bottom type g leaf holds).childless
 
 are_leaves : (type : LeafType) (g : File) (rest : ℕ → Bool) (placed : List LeafUnits) (nodes : List Node) (above : List (List Node)) (root : Node)
-    → IsLaid type g rest placed nodes above root → AreLeaves g nodes
+    → IsTreeLaid type g rest placed nodes above root → AreLeaves g nodes
 are_leaves type g rest placed nodes above root laid =
     of_leaves (IsNodeOf type) (HoldsUnits type g) (λ node. children_in (page_at g node.page) ≡ None) (childless type g) placed nodes laid.nodes_are
     (hold_units type g 0 placed laid.leaves)
@@ -71,8 +71,8 @@ below_leaf type f leaf node is = ap (flat_map f) is.leaves ∙ append-nil (f lea
 first_key : (g : File) (unit : Placed) (units : List Placed) (node : Node) → StandsPlaced Pairs g unit
     → IsKeyOf Keyed (flat_map entries_of (unit ∷ units)) node.key → value_of g node.key ≡ key_of (unit_of unit)
 first_key g (PlacedEntry entry) units node stands is = absurd stands
-first_key g (PlacedPairs key first more) units node stands is = ap (value_of g) is.0 ∙ stands.0
-first_key g (PlacedTree key root values) units node stands is = ap (value_of g) is.0 ∙ stands.0
+first_key g (PlacedPairs key first more) units node stands is = ap (value_of g) is.0 ∙ stands.0.value
+first_key g (PlacedTree key root values) units node stands is = ap (value_of g) is.0 ∙ stands.0.value
 
 begins_with : (g : File) (p : ℕ) (units : List Placed) (node : Node) → HoldsUnits Pairs g (record { page = p; units = units })
     → 0 < length units → IsNodeOf Pairs (record { page = p; units = units }) node → BeginsWith g node (pairs_below g node)
@@ -104,7 +104,7 @@ entry_count g leaf node both holds =
 
 -- a root without levels below it is a leaf
 no_inner : (type : LeafType) (g : File) (rest : ℕ → Bool) (placed : List LeafUnits) (nodes : List Node) (above : List (List Node)) (root : Node)
-    → IsLaid type g rest placed nodes above root → above ≡ [] → inner_pages g root.page ≡ []
+    → IsTreeLaid type g rest placed nodes above root → above ≡ [] → inner_pages g root.page ≡ []
 unfolding inner_pages
 no_inner type g rest placed nodes above root laid none =
     let alone : nodes ≡ root ∷ [] = subst (λ levels. IsTower (inner_of type) g 1 nodes levels root) none laid.tower in
@@ -115,7 +115,7 @@ no_inner type g rest placed nodes above root laid none =
     ap (λ n. inner_in n g (root.page ∷ [])) level.level_is ∙ rw leaf refl
 
 separators_right : (g : File) (rest : ℕ → Bool) (placed : List LeafUnits) (nodes : List Node) (above : List (List Node)) (root : Node) (p : ℕ)
-    → IsLaid Pairs g rest placed nodes above root → ascends (map key_of (units_in placed)) ≡ true
+    → IsTreeLaid Pairs g rest placed nodes above root → ascends (map key_of (units_in placed)) ≡ true
     → is_wrong_at g (has_wrong_separator g) (inner_pages g root.page) p ≡ false
 separators_right g rest placed nodes above root p laid ascend =
     let hold : All (HoldsUnits Pairs g) placed = hold_units Pairs g 0 placed laid.leaves in
@@ -134,7 +134,7 @@ separators_right g rest placed nodes above root p laid ascend =
 -- The rows.
 
 btree_rows : (g : File) (rest : ℕ → Bool) (placed : List LeafUnits) (nodes : List Node) (above : List (List Node)) (root : Node) (meta : BtreeMeta)
-    (p : ℕ) → IsLaid Pairs g rest placed nodes above root → meta.root ≡ root.page → SuitsBtree g meta placed nodes → AllFail (btree_contents g meta p)
+    (p : ℕ) → IsTreeLaid Pairs g rest placed nodes above root → meta.root ≡ root.page → SuitsBtree g meta placed nodes → AllFail (btree_contents g meta p)
 unfolding tree_pairs
 btree_rows g rest placed nodes above root meta p laid is suits =
     let duplicates : Bool = has_duplicates (BtreeFields meta) in
@@ -171,7 +171,7 @@ btree_rows g rest placed nodes above root meta p laid is suits =
     )
 
 recno_rows : (g : File) (rest : ℕ → Bool) (placed : List LeafUnits) (nodes : List Node) (above : List (List Node)) (root : Node) (meta : BtreeMeta)
-    (p : ℕ) → IsLaid Records g rest placed nodes above root → meta.root ≡ root.page → SuitsRecno meta placed nodes → AllFail (recno_contents g meta p)
+    (p : ℕ) → IsTreeLaid Records g rest placed nodes above root → meta.root ≡ root.page → SuitsRecno meta placed nodes → AllFail (recno_contents g meta p)
 recno_rows g rest placed nodes above root meta p laid is suits =
     let hold : All (HoldsUnits Records g) placed = hold_units Records g 0 placed laid.leaves in (
       ap (λ r. is_wrong_at g (has_wrong_count g) (inner_pages g r) p) is
@@ -198,7 +198,7 @@ recno_rows g rest placed nodes above root meta p laid is suits =
 -- The part.
 
 part_of : (type : LeafType) (g : File) (rest : ℕ → Bool) (placed : List LeafUnits) (nodes : List Node) (above : List (List Node)) (root : Node)
-    (meta : BtreeMeta) (list : List (ListKey × List ℕ)) → IsLaid type g rest placed nodes above root → meta.root ≡ root.page
+    (meta : BtreeMeta) (list : List (ListKey × List ℕ)) → IsTreeLaid type g rest placed nodes above root → meta.root ≡ root.page
     → has_type (root_types (Meta (BtreeFields meta))) (type_in (page_at g root.page)) ≡ true
     → has_type (leaf_types Root) (Some (type_number type)) ≡ true
     → ((p : ℕ) → holding (database_rows g (BtreeFields meta) p) ≡ []) → list_of g (BtreeFields meta) ≡ list

@@ -8,9 +8,9 @@ use Rattle.bdb_format.specs.Reading.{entries_of as count_on}
 use Rattle.bdb_format.proofs.ListLemmas.{only_member}
 use Rattle.bdb_format.proofs.MemberLemmas.{no_member, of_flat_map}
 use Rattle.bdb_grove.specs.Growing.{IsLater}
-use Rattle.bdb_levels.specs.Roots.{key_heads}
+use Rattle.bdb_levels.specs.Roots.{key_heads, pages_of as level_pages}
 use Rattle.bdb_pack.specs.Built.{Built, bytes_of, file_so_far}
-use Rattle.bdb_leaves.specs.Inner.{CountsOne}
+use Rattle.bdb_leaves.specs.Inner.{CountsOne, HasLiveKeys}
 use Rattle.bdb_leaves.specs.Layout.{HasTreeOn, HeadCounts, IsLaidOut, IsTreeOn, TreeParts, heads_named, leaf_heads, live_entry}
 use Rattle.bdb_leaves.specs.Placed.{Placed, PlacedEntry, PlacedPairs, PlacedTree}
 use Rattle.bdb_leaves.specs.Puts.{CountsOneFrom}
@@ -41,8 +41,10 @@ pub tree_stays : (type : LeafType) (old new : Built) (pages more : ℕ → Bool)
     → (on : IsTreeOn type old pages counted units root)
     → ((h : ℕ) → Contains (leaf_heads type on.tree.placed) h → pages h ≡ true
     → (more h ≡ true) × (h < length new.pages) × (bytes_of new h ≡ bytes_of old h))
+    → ((p : ℕ) → Contains (level_pages on.tree.above) p → pages p ≡ true
+    → (more p ≡ true) × (p < length new.pages) × (bytes_of new p ≡ bytes_of old p))
     → (now : IsTreeOn type new more counted units root) × (now.tree ≡ on.tree)
-tree_stays type old new pages more counted units root size order before on same = (
+tree_stays type old new pages more counted units root size order before on same levels_same = (
   record {
     tree = on.tree;
     root_is = on.root_is;
@@ -59,6 +61,14 @@ tree_stays type old new pages more counted units root size order before on same 
         let now : count_on new.order (bytes_of new h) ≡ count_on old.order (bytes_of old h) =
         ap (λ o. count_on o (bytes_of new h)) order ∙ ap (count_on old.order) kept in
         record { there = there; low = low; one = λ out. now ∙ was.one out; two = λ named. now ∙ was.two named });
+    levels = λ p at.
+        let was = on.levels p at in
+        let (there, low, kept) = levels_same p at was.there in
+        record {
+          there = there;
+          low = low;
+          live = subst (λ o. HasLiveKeys o (bytes_of new p)) (sym order) (subst (HasLiveKeys old.order) (sym kept) was.live);
+        };
   },
   refl,
 )
@@ -71,12 +81,15 @@ pub has_tree_stays : (old new : Built) (pages more : ℕ → Bool) (named next :
     → HasTreeOn old pages named unit → HasTreeOn new more next unit
 has_tree_stays old new pages more named next (PlacedEntry entry) size order before same has = tt
 has_tree_stays old new pages more named next (PlacedPairs key first others) size order before same has = tt
-has_tree_stays old new pages more named next (PlacedTree key root values) size order before same (sorted, on, apart) =
+has_tree_stays old new pages more named next (PlacedTree key root values) size order before same (sorted, on, apart, aside) =
     let type : LeafType = set_type sorted in
     let (now, tree) = tree_stays type old new pages more true (map live_entry values) root size order before on
-    (λ h at there. let stays = same h there (on.heads h at).low (apart h at) in (stays.0, stays.1, stays.2)) in (
+    (λ h at there. let stays = same h there (on.heads h at).low (apart h at) in (stays.0, stays.1, stays.2))
+    (λ p at there. let stays = same p there (on.levels p at).low (aside p at) in (stays.0, stays.1, stays.2)) in (
       sorted,
       now,
       subst (λ (t : TreeParts). (h : ℕ) → Contains (leaf_heads type t.placed) h → Contains (flat_map key_heads next) h → ⊥) (sym tree)
           (λ h at. (same h (on.heads h at).there (on.heads h at).low (apart h at)).3),
+      subst (λ (t : TreeParts). (p : ℕ) → Contains (level_pages t.above) p → Contains (flat_map key_heads next) p → ⊥) (sym tree)
+          (λ p at. (same p (on.levels p at).there (on.levels p at).low (aside p at)).3),
     )

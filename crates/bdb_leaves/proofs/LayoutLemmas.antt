@@ -1,17 +1,19 @@
 -- Finished trees are laid out, and the heads of their chains count their references.
-use Rattle.std.proofs.Common.{◌≡◌, ℕ, Bool, true, List, [], ◌∷◌, ◌++◌, length, map, arith, refl, sym, ◌∙◌, ap, subst, inl, inr}
+use Rattle.std.proofs.Common.{◌≡◌, ℕ, ◌-◌, ◌<◌, Bool, true, List, [], ◌∷◌, ◌++◌, length, map, arith, refl, sym, ◌∙◌, ap, subst, inl, inr}
 use Rattle.std.proofs.Common.{false, true≢false}
-use Rattle.std.specs.List.{All, AllZip, Contains, flat_map}
+use Rattle.std.specs.List.{All, AllZip, Contains, flat_map, range_with_len}
 use Rattle.std.proofs.lemmas.Grind.{flat_map-append}
 use Rattle.std.proofs.lemmas.List.Elements.{All-contains, Contains-append_cases, Contains-append_left, Contains-append_right}
 use Rattle.std.proofs.lemmas.Simd.{map-map}
-use Rattle.bdb_format.specs.File.{File}
+use Rattle.bdb_format.specs.File.{File, file_of, page_bytes}
+use Rattle.bdb_format.specs.HeadOf.{head_of}
 use Rattle.bdb_format.specs.Numbers.{byte_at}
 use Rattle.bdb_format.specs.Page.{Content, Tree}
 use Rattle.bdb_format.specs.ContentRows.{is_wrong_set}
 use Rattle.bdb_format.specs.References.{has_type}
 use Rattle.bdb_format.specs.Reading.{entries_of as count_on}
-use Rattle.bdb_format.proofs.MemberLemmas.{no_member, of_flat_map}
+use Rattle.bdb_format.proofs.ListLemmas.{only_member}
+use Rattle.bdb_format.proofs.MemberLemmas.{no_member, of_flat_map, of_range}
 use Rattle.bdb_grove.specs.Growing.{IsCounted, IsLater}
 use Rattle.bdb_grove.specs.Part.{between}
 use Rattle.bdb_grove.proofs.ChainLemmas.{is_between}
@@ -19,23 +21,25 @@ use Rattle.bdb_grove.proofs.AscendLemmas.{ascend_bounds}
 use Rattle.bdb_levels.specs.declared.inner_type.InnerType.{InnerType}
 use Rattle.bdb_levels.specs.declared.inner_type.InnerType.TheVariants.{Keyed, Numbered}
 use Rattle.bdb_levels.specs.Nodes.{Node}
-use Rattle.bdb_levels.specs.Roots.{key_heads}
+use Rattle.bdb_levels.specs.Roots.{key_heads, pages_of as level_pages}
 use Rattle.bdb_pack.specs.Built.{Built, bytes_of, file_so_far}
 use Rattle.bdb_pack.proofs.ImageLemmas.{counted_so_far}
 use Rattle.bdb_leaves.specs.Filled.{AreFilled, AreSpreadOver, all_contents, rest_of}
 use Rattle.bdb_leaves.specs.Finished.{FinishedTreesAreLaidOut, FinishedTreesKeepTrees, HasRootOn}
-use Rattle.bdb_leaves.specs.Laid.{IsKeyOf, IsLaid, IsNodeOf, entries_on, inner_of, is_laid}
-use Rattle.bdb_leaves.specs.Layout.{HasTreeOn, HeadCounts, IsTreeOn, TreeParts, TreesAreSorted, heads_named, leaf_heads}
+use Rattle.bdb_leaves.specs.Inner.{HasLiveKeys}
+use Rattle.bdb_leaves.specs.Laid.{IsKeyOf, IsTreeLaid, IsNodeOf, entries_on, inner_of, is_laid}
+use Rattle.bdb_leaves.specs.Layout.{HasPagesOf, HasTreeIn, HasTreeOn, HeadCounts, IsLevelPage, IsTreeIn, IsTreeOn, TreeParts, TreesAreIn, TreesAreSorted}
+use Rattle.bdb_leaves.specs.Layout.{contents_below, heads_named, leaf_heads, live_entry, placed_below}
 use Rattle.bdb_leaves.specs.LeafEntries.{contents_of}
 use Rattle.bdb_leaves.specs.Leaves.{KeepsBefore, first_of}
 use Rattle.bdb_leaves.specs.Levels.{heads_of}
 use Rattle.bdb_leaves.specs.Moved.{first_leaf, numbers_of, second_leaf}
-use Rattle.bdb_leaves.specs.Placed.{IsPlacedBySize, LeafUnits, Placed, entries_of, unit_of}
+use Rattle.bdb_leaves.specs.Placed.{IsPlacedBySize, LeafUnits, Placed, PlacedEntry, PlacedPairs, PlacedTree, entries_of, unit_of}
 use Rattle.bdb_leaves.specs.Puts.{CountsOneFrom}
 use Rattle.bdb_leaves.specs.Rooted.{CountsLeaves, leaf_with, placed_on, zip_units}
 use Rattle.bdb_leaves.specs.Spread.{AreSpreadLevels, named_heads, set_type, spread_units}
 use Rattle.bdb_leaves.specs.Tower.{levels_to}
-use Rattle.bdb_leaves.specs.Units.{page_room}
+use Rattle.bdb_leaves.specs.Units.{TreeUnit, page_room}
 use Rattle.bdb_leaves.specs.declared.leaf_type.LeafType.{LeafType}
 use Rattle.bdb_leaves.specs.declared.leaf_type.LeafType.TheVariants.{Records, SortedData}
 use Rattle.bdb_leaves.specs.declared.leaves.Leaves.{Leaves}
@@ -106,34 +110,39 @@ tree_on : (leaves : Leaves) (old new : Built) (counted : Bool) (before : ℕ) (c
     → CountsLeaves counted leaves.leaf_type tree.placed tree.nodes
     → AreSpreadLevels (inner_of leaves.leaf_type) (page_room new.size) tree.nodes tree.above → tree.top.page ≡ root
     → ((g : File) → IsCounted g → IsLater (between before (length new.pages)) (file_so_far new) g
-    → IsLaid leaves.leaf_type g (rest_of before leaves old) tree.placed tree.nodes tree.above tree.top
+    → IsTreeLaid leaves.leaf_type g (rest_of before leaves old) tree.placed tree.nodes tree.above tree.top
     × ((p : ℕ) → is_laid (rest_of before leaves old) tree.placed tree.above p ≡ between before (length new.pages) p))
     → ((h : ℕ) → Contains (leaf_heads leaves.leaf_type tree.placed) h
     → HeadCounts new (between before (length new.pages)) (heads_named leaves.leaf_type new.size tree) h)
-    → IsTreeOn leaves.leaf_type new (between before (length new.pages)) counted (map unit_of (flat_map (λ leaf. leaf) closed ++ units)) root
-tree_on leaves old new counted before closed units root tree filled spread keeps groups_are units_are counts levels top laid heads =
+    → ((p : ℕ) → Contains (level_pages tree.above) p → IsLevelPage new (between before (length new.pages)) p)
+    → (on : IsTreeOn leaves.leaf_type new (between before (length new.pages)) counted (map unit_of (flat_map (λ leaf. leaf) closed ++ units)) root)
+    × (map (λ (leaf : LeafUnits). leaf.units) on.tree.placed ≡ closed ++ (units ∷ []))
+tree_on leaves old new counted before closed units root tree filled spread keeps groups_are units_are counts levels top laid heads live =
     let first = ascend_bounds before (length old.pages) _ filled.ascend in
     let low = filled.low in
-    let grows = keeps.grows in
-    record {
-      tree = tree;
-      root_is = top;
-      out = record {
-        spread = subst (λ n. map (λ (leaf : LeafUnits). map unit_of leaf.units) tree.placed
-            ≡ spread_units n (map unit_of (flat_map (λ leaf. leaf) closed ++ units))) (sym keeps.size)
-            (leaves_spread tree.placed old.size closed units spread groups_are);
-        sizes = subst (λ n. All (IsPlacedBySize n) (flat_map (λ (leaf : LeafUnits). leaf.units) tree.placed)) (sym keeps.size)
-            (subst (All (IsPlacedBySize old.size)) (sym units_are) filled.sizes);
-        counts = counts;
-        levels = levels;
-      };
-      rest = rest_of before leaves old;
-      first = before;
-      beyond = length new.pages;
-      all = (laid (file_so_far new) (counted_so_far new (omega (arith, first, low, grows))) (later_self new (between before (length new.pages)))).1;
-      stands = λ g is_counted later. (laid g is_counted later).0;
-      heads = heads;
-    }
+    let grows = keeps.grows in (
+      record {
+        tree = tree;
+        root_is = top;
+        out = record {
+          spread = subst (λ n. map (λ (leaf : LeafUnits). map unit_of leaf.units) tree.placed
+              ≡ spread_units n (map unit_of (flat_map (λ leaf. leaf) closed ++ units))) (sym keeps.size)
+              (leaves_spread tree.placed old.size closed units spread groups_are);
+          sizes = subst (λ n. All (IsPlacedBySize n) (flat_map (λ (leaf : LeafUnits). leaf.units) tree.placed)) (sym keeps.size)
+              (subst (All (IsPlacedBySize old.size)) (sym units_are) filled.sizes);
+          counts = counts;
+          levels = levels;
+        };
+        rest = rest_of before leaves old;
+        first = before;
+        beyond = length new.pages;
+        all = (laid (file_so_far new) (counted_so_far new (omega (arith, first, low, grows))) (later_self new (between before (length new.pages)))).1;
+        stands = λ g is_counted later. (laid g is_counted later).0;
+        heads = heads;
+        levels = live;
+      },
+      groups_are,
+    )
 
 -- of several leaves, the heads count as the levels name them
 several_heads : (leaves : Leaves) (old new : Built) (counted : Bool) (before : ℕ) (closed : List (List Placed)) (units : List Placed) (root : ℕ)
@@ -168,6 +177,35 @@ several_heads leaves old new counted before closed units root filled on units_ar
       two = λ named. on.tower.counts.two h (under, other) named;
     }
 
+-- and its levels are among the pages since the leaves were begun
+several_levels : (leaves : Leaves) (old new : Built) (counted : Bool) (before : ℕ) (closed : List (List Placed)) (units : List Placed) (root : ℕ)
+    → AreFilled leaves old before closed units → (on : HasRootOn leaves old new counted closed units root)
+    → (p : ℕ) → Contains (level_pages (levels_to on.tower.levels on.tower.top)) p → IsLevelPage new (between before (length new.pages)) p
+several_levels leaves old new counted before closed units root filled on p at =
+    let n : ℕ = length on.between.pages in
+    let b : ℕ = length new.pages in
+    let first : ℕ = first_leaf leaves in
+    let more = on.moved.count in
+    let grows = on.tower.grows in
+    let known = (are_numbered leaves old before closed units filled).within first (first_two leaves on.several).0 in
+    let all : level_pages (levels_to on.tower.levels on.tower.top) ≡ range_with_len n (b - n) ++ (first ∷ []) =
+    flat_map-append (map (λ (node : Node). node.page)) on.tower.levels ((on.tower.top ∷ []) ∷ [])
+    ∙ (ap (λ ps. ps ++ (on.tower.top.page ∷ [])) on.tower.numbers ∙ ap (λ q. range_with_len n (b - n) ++ (q ∷ [])) on.tower.top_is) in
+    elim (Contains-append_cases (range_with_len n (b - n)) (first ∷ []) p (subst (λ ps. Contains ps p) all at)) [
+      | inl range ↦
+          let is = of_range n (b - n) p range in
+          let low : p < b = omega (arith, is.0, is.1, grows) in
+          record { there = is_between before b p (omega (arith, is.0, known.0, known.1, more)) low; low = low; live = on.tower.live p is.0 low }
+      | inr top ↦
+          let same : first ≡ p = only_member first p top in
+          let low : p < b = omega (arith, same, known.1, more, grows) in
+          record {
+            there = is_between before b p (omega (arith, same, known.0)) low;
+            low = low;
+            live = subst (λ q. HasLiveKeys new.order (bytes_of new q)) same on.tower.root_live;
+          }
+    ]
+
 pub finished_trees_are_laid_out : FinishedTreesAreLaidOut
 finished_trees_are_laid_out leaves old new counted before closed units root filled spread (is, inl one) =
     let type : LeafType = leaves.leaf_type in
@@ -177,7 +215,9 @@ finished_trees_are_laid_out leaves old new counted before closed units root fill
     sym (ap (λ ns. zip_units (ns ++ (leaves.last ∷ [])) (closed ++ (units ∷ []))) one.numbers
     ∙ ap (λ groups. zip_units (leaves.last ∷ []) (groups ++ (units ∷ []))) one.closed_is) in
     let known = are_numbered leaves old before closed units filled in
-    subst (λ (b : Built). IsTreeOn type b (between before (length b.pages)) counted (map unit_of (flat_map (λ leaf. leaf) closed ++ units)) root)
+    subst (λ (b : Built).
+    (on : IsTreeOn type b (between before (length b.pages)) counted (map unit_of (flat_map (λ leaf. leaf) closed ++ units)) root)
+    × (map (λ (other : LeafUnits). other.units) on.tree.placed ≡ closed ++ (units ∷ [])))
     (sym one.same)
     (tree_on leaves old old counted before closed units root
     (record { placed = placed; nodes = one.node ∷ []; above = []; top = one.node }) filled spread
@@ -194,7 +234,8 @@ finished_trees_are_laid_out leaves old new counted before closed units root fill
       low = under;
       one = λ out. counts.one;
       two = λ named. absurd (no_member [] h refl named);
-    }))
+    })
+    (λ p at. absurd (no_member [] p refl at)))
 finished_trees_are_laid_out leaves old new counted before closed units root filled spread (is, inr on) =
     let type : LeafType = leaves.leaf_type in
     let groups : List (List Placed) = closed ++ (units ∷ []) in
@@ -213,6 +254,7 @@ finished_trees_are_laid_out leaves old new counted before closed units root fill
     (subst (λ n. (h : ℕ) → Contains (leaf_heads type placed) h
     → HeadCounts new (between before (length new.pages)) (named_heads (inner_of type) (page_room n) on.nodes above) h) (sym on.tower.size)
     (several_heads leaves old new counted before closed units root filled on units_are))
+    (several_levels leaves old new counted before closed units root filled on)
 
 -- The trees of data.
 
@@ -265,7 +307,7 @@ finished_trees_keep_trees leaves old new counted before closed units root filled
 
 -- the root of a set of the other kind has a wrong type
 other_wrong : (sorted asked : Bool) (g : File) (rest : ℕ → Bool) (placed : List LeafUnits) (nodes : List Node) (above : List (List Node)) (top : Node)
-    → IsLaid (set_type sorted) g rest placed nodes above top → is_wrong_set g asked (Tree top.page) ≡ false → sorted ≡ asked
+    → IsTreeLaid (set_type sorted) g rest placed nodes above top → is_wrong_set g asked (Tree top.page) ≡ false → sorted ≡ asked
 other_wrong true true g rest placed nodes above top laid right = refl
 other_wrong false false g rest placed nodes above top laid right = refl
 other_wrong true false g rest placed nodes above top laid right =
@@ -274,6 +316,45 @@ other_wrong false true g rest placed nodes above top laid right =
     absurd (true≢false (sym (root_type_is Records g rest placed nodes above top laid (has_type (4 ∷ 6 ∷ [])) true refl refl) ∙ right))
 
 pub trees_are_sorted : TreesAreSorted
-trees_are_sorted built pages contents key root values sorted (kind, on, apart) g is_counted later right =
+trees_are_sorted built pages contents key root values sorted (kind, on, apart, levels) g is_counted later right =
     other_wrong kind sorted g on.rest on.tree.placed on.tree.nodes on.tree.above on.tree.top (on.stands g is_counted later)
     (ap (λ p. is_wrong_set g sorted (Tree p)) on.root_is ∙ right)
+
+-- Trees in an image.
+
+tree_in : (type : LeafType) (built : Built) (pages : ℕ → Bool) (counted : Bool) (units : List TreeUnit) (root : ℕ)
+    → (on : IsTreeOn type built pages counted units root) → (image : List ℕ) → HasPagesOf built pages image
+    → (now : IsTreeIn type image built.size counted units root) × (now.tree ≡ on.tree)
+tree_in type built pages counted units root on image has = (
+  record {
+    tree = on.tree;
+    root_is = on.root_is;
+    out = on.out;
+    rest = on.rest;
+    first = on.first;
+    beyond = on.beyond;
+    all = on.all;
+    laid = on.stands (file_of image) has.counted has.later;
+    live = λ p at.
+        let level = on.levels p at in
+        subst (λ o. HasLiveKeys o (page_bytes (head_of image) image p)) (sym has.order)
+        (subst (HasLiveKeys built.order) (sym (has.same p level.there level.low)) level.live);
+  },
+  refl,
+)
+
+has_tree_in : (built : Built) (pages : ℕ → Bool) (named : List Content) (unit : Placed) (image : List ℕ) → HasPagesOf built pages image
+    → HasTreeOn built pages named unit → HasTreeIn image built.size unit
+has_tree_in built pages named (PlacedEntry entry) image has_pages has = tt
+has_tree_in built pages named (PlacedPairs key first more) image has_pages has = tt
+has_tree_in built pages named (PlacedTree key root values) image has_pages (sorted, on, apart, levels) =
+    (sorted, (tree_in (set_type sorted) built pages true (map live_entry values) root on image has_pages).0)
+
+pub trees_are_in : TreesAreIn
+trees_are_in type built pages counted units root on have image has =
+    let (top, same) = tree_in type built pages counted units root on image has in
+    record {
+      top = top;
+      trees = subst (λ (t : TreeParts). All (HasTreeIn image built.size) (placed_below t)) (sym same)
+          (all_map (λ unit stands. has_tree_in built pages (contents_below type on.tree) unit image has stands) (placed_below on.tree) have);
+    }

@@ -16,8 +16,9 @@ use Rattle.bdb_levels.specs.declared.inner_type.InnerType.TheVariants.{Keyed, Nu
 use Rattle.bdb_levels.specs.Nodes.{AreOver, CountsTwo, IsOver, Node, no_node}
 use Rattle.bdb_levels.specs.Roots.{key_heads}
 use Rattle.bdb_pack.specs.Built.{Built, bytes_of, file_so_far}
-use Rattle.bdb_leaves.specs.Inner.{CountsFew, HasNodes, HoldsChildrenOn, KeysCount, child_cost, first_cost, nodes_cost}
-use Rattle.bdb_leaves.specs.Levels.{AreChildren, HasKey, IsChild, IsLaidBy, KeyStandsOn, IsKeptPage, LevelsAreFormed, LevelsAreLater}
+use Rattle.bdb_pack.proofs.PlaceLemmas.{byte_same}
+use Rattle.bdb_leaves.specs.Inner.{CountsFew, HasLiveKeys, HasNodes, HoldsChildrenOn, KeysCount, child_cost, first_cost, nodes_cost}
+use Rattle.bdb_leaves.specs.Levels.{AreChildren, HasKey, IsChild, IsLevelLaid, IsLaidBy, KeyStandsOn, IsKeptPage, LevelsAreFormed, LevelsAreLater}
 use Rattle.bdb_leaves.specs.Levels.{LevelsAreNumbered, LevelsGoOn, LevelsKeepPages, LevelsShrink, LevelsStand, heads_in, heads_of, heads_under}
 use Rattle.bdb_leaves.specs.Levels.{no_child, node_over, nodes_over}
 use Rattle.bdb_leaves.specs.declared.levels.Child.{Child}
@@ -25,6 +26,7 @@ use Rattle.bdb_leaves.proofs.InnerLemmas.{IsRaised, chain_as, children_are_forme
 use Rattle.bdb_leaves.proofs.LevelHeadLemmas.{raising_head, raising_other}
 use Rattle.bdb_leaves.proofs.LevelLemmas.{laid_keeps}
 use Rattle.bdb_leaves.proofs.LevelTakeLemmas.{key_kept}
+use Rattle.bdb_leaves.proofs.LiveLemmas.{no_keys}
 
 -- Pages in a later file.
 
@@ -233,6 +235,16 @@ levels_are_formed inner level old new above nodes p laid high low under =
     (children_are_formed inner new.order (bytes_of new (length old.pages + k)) (length old.pages + k) level (get_or laid.groups k []) page.holds high
     page.some)
 
+-- no key of its pages is marked deleted
+pub levels_live : (inner : InnerType) (level : ℕ) (old new : Built) (above : List Child) (nodes : List Node) (p : ℕ)
+    → IsLevelLaid inner level old new above nodes → length old.pages ≤ p → p < length new.pages → HasLiveKeys new.order (bytes_of new p)
+levels_live inner level old new above nodes p laid low under =
+    let by = laid.laid in
+    let count = by.count in
+    let k : ℕ = p - length old.pages in
+    let is : length old.pages + k ≡ p = omega (arith, low) in
+    subst (λ q. HasLiveKeys new.order (bytes_of new q)) is (by.pages k (omega (arith, is, under, count))).holds.live
+
 pub levels_keep_pages : LevelsKeepPages
 levels_keep_pages inner level old new above nodes p laid low =
     let by = laid.laid in
@@ -242,7 +254,14 @@ levels_keep_pages inner level old new above nodes p laid low =
       | inl at ↦
           let is = named inner level old new above laid.groups p by at in
           let stands = raised_stands old.order p (bytes_of old p) (bytes_of new p) is.few is.is in
-          record { same = λ out. absurd (out at); two = λ among. is.is.entries; page = stands.0; form = stands.1 }
+          record {
+            same = λ out. absurd (out at);
+            two = λ among. is.is.entries;
+            page = stands.0;
+            form = stands.1;
+            live = λ live. no_keys old.order (bytes_of new p) 7 (byte_same (bytes_of new p) (bytes_of old p) 22 25 is.is.body (omega arith) ∙ is.few.type_is)
+                (λ e. omega (arith, e));
+          }
       | inr out ↦
           let same : bytes_of new p ≡ bytes_of old p = by.kept p low ∙ raising_other old heads p out in
           record {
@@ -250,6 +269,7 @@ levels_keep_pages inner level old new above nodes p laid low =
             two = λ among. absurd (out among);
             page = inl (ap (abstract_page old.order) same);
             form = ap (page_code old.order p) same;
+            live = λ live. subst (HasLiveKeys old.order) (sym same) live;
           }
     ])
 

@@ -13,7 +13,7 @@ use Rattle.bdb_levels.specs.declared.inner_type.InnerType.{InnerType}
 use Rattle.bdb_levels.specs.Nodes.{Node, no_node}
 use Rattle.bdb_pack.specs.Built.{AreWhole, Built, bytes_of}
 use Rattle.bdb_leaves.specs.Inner.{HoldsChildren, HoldsChildrenOn, child_cost, nodes_cost}
-use Rattle.bdb_leaves.specs.Levels.{AreChildren, CanBeAsked, CanPush, HasKey, IsChild, IsLaid, IsLaidBy, IsLaidPage, IsStarted, IsTaken, LacksRoom}
+use Rattle.bdb_leaves.specs.Levels.{AreChildren, CanBeAsked, CanPush, HasKey, IsChild, IsLevelLaid, IsLaidBy, IsLaidPage, IsStarted, TakesNode, LacksRoom}
 use Rattle.bdb_leaves.specs.Levels.{LaidNow, TakesNow, heads_in, heads_of, heads_under, no_child, raising}
 use Rattle.bdb_leaves.specs.declared.levels.Child.{Child}
 use Rattle.bdb_leaves.proofs.LevelHeadLemmas.{raising_append, raising_count, raising_like, raising_order}
@@ -90,7 +90,7 @@ last_child above last n is long some =
 -- what its last page says of a child, as `take_child` answers it
 pub last_takes_now : (inner : InnerType) (level : ℕ) (old now new : Built) (above : List Child) (nodes : List Node) (child last : Child) (node : Node)
     (took : Bool)
-    → (laid : IsLaid inner level old now above nodes) → IsChild inner old child node → 0 < length above → last
+    → (laid : IsLevelLaid inner level old now above nodes) → IsChild inner old child node → 0 < length above → last
     ≡ get_or above (length above - 1) no_child
     → ((height : ℕ) (group : List Node) (other : Node) → HoldsChildrenOn inner now last.page height group → 0 < length group
     → IsChild inner now child other → TakesNow took inner height now new last.page group other)
@@ -152,7 +152,7 @@ heads_more inner front last node some =
 
 -- another page holds what it held
 other_holds : (inner : InnerType) (level : ℕ) (now new : Built) (p q : ℕ) (last group : List Node) (node : Node)
-    → IsTaken inner level now new p last node
+    → TakesNode inner level now new p last node
     → HeadsFew now (heads_of inner node) → q < length now.pages → (q ≡ p → ⊥) → HoldsChildrenOn inner now q level group
     → HoldsChildrenOn inner new q level group
 other_holds inner level now new p q last group node took few low other holds =
@@ -175,7 +175,7 @@ counting child count = record { page = child.page; count = count; leaf = child.l
 taken_by : (inner : InnerType) (level : ℕ) (old now new : Built) (above : List Child) (front : List (List Node)) (last : List Node) (node : Node)
     (child : Child) (p count : ℕ)
     → IsLaidBy inner level old now above (front ++ (last ∷ [])) → IsChild inner old child node → p ≡ length old.pages + length front
-    → IsTaken inner level now new p last node → count ≡ (get_or above (length front) no_child).count + child.count
+    → TakesNode inner level now new p last node → count ≡ (get_or above (length front) no_child).count + child.count
     → IsLaidBy inner level old new (set above (length front) (counting (get_or above (length front) no_child) count))
     (front ++ ((last ++ (node ∷ [])) ∷ []))
 taken_by inner level old now new above front last node child p count laid is at took sum =
@@ -267,10 +267,10 @@ taken_by inner level old now new above front last node child p count laid is at 
 
 pub laid_taken : (inner : InnerType) (level : ℕ) (old now new : Built) (above : List Child) (nodes : List Node) (node : Node) (child : Child)
     (count : ℕ)
-    → (laid : IsLaid inner level old now above nodes) → IsChild inner old child node → 0 < length above
-    → IsTaken inner level now new (get_or above (length above - 1) no_child).page (get_or laid.groups (length laid.groups - 1) []) node
+    → (laid : IsLevelLaid inner level old now above nodes) → IsChild inner old child node → 0 < length above
+    → TakesNode inner level now new (get_or above (length above - 1) no_child).page (get_or laid.groups (length laid.groups - 1) []) node
     → count ≡ (get_or above (length above - 1) no_child).count + child.count
-    → IsLaid inner level old new (set above (length above - 1) (counting (get_or above (length above - 1) no_child) count)) (nodes ++ (node ∷ []))
+    → IsLevelLaid inner level old new (set above (length above - 1) (counting (get_or above (length above - 1) no_child) count)) (nodes ++ (node ∷ []))
 laid_taken inner level old now new above nodes node child count laid is some took sum =
     let groups : List (List Node) = laid.groups in
     let many = laid.laid.many in
@@ -284,7 +284,7 @@ laid_taken inner level old now new above nodes node child count laid is some too
     let page_is = (last_is inner level old now above groups laid.laid some).page_is in
     let by : IsLaidBy inner level old now above (front ++ (last ∷ [])) = subst (IsLaidBy inner level old now above) split laid.laid in
     let p : ℕ = (get_or above (length above - 1) no_child).page in
-    let took_last : IsTaken inner level now new p last node = subst (λ (g : List Node). IsTaken inner level now new p g node) group_is took in
+    let took_last : TakesNode inner level now new p last node = subst (λ (g : List Node). TakesNode inner level now new p g node) group_is took in
     let sum_n : count ≡ (get_or above n no_child).count + child.count = sum ∙ ap (λ j. (get_or above j no_child).count + child.count) at_above in
     let done = taken_by inner level old now new above front last node child p count by is (page_is ∙ ap (λ k. length old.pages + k) at_groups)
     took_last sum_n in
@@ -300,12 +300,12 @@ laid_taken inner level old now new above nodes node child count laid is some too
 -- the same where the last page is read from the level, and its count is written there
 pub laid_takes : (inner : InnerType) (level : ℕ) (old now new : Built) (above : List Child) (nodes : List Node) (node : Node) (child last : Child)
     (n count : ℕ)
-    → (laid : IsLaid inner level old now above nodes) → IsChild inner old child node → 0 < length above → n ≡ length above
+    → (laid : IsLevelLaid inner level old now above nodes) → IsChild inner old child node → 0 < length above → n ≡ length above
     → last ≡ get_or above (length above - 1) no_child
-    → IsTaken inner level now new (get_or above (length above - 1) no_child).page (get_or laid.groups (length laid.groups - 1) []) node
-    → count ≡ last.count + child.count → IsLaid inner level old new (set above (n - 1) (counting last count)) (nodes ++ (node ∷ []))
+    → TakesNode inner level now new (get_or above (length above - 1) no_child).page (get_or laid.groups (length laid.groups - 1) []) node
+    → count ≡ last.count + child.count → IsLevelLaid inner level old new (set above (n - 1) (counting last count)) (nodes ++ (node ∷ []))
 laid_takes inner level old now new above nodes node child last n count laid is some long here took sum =
-    subst (λ (l : List Child). IsLaid inner level old new l (nodes ++ (node ∷ [])))
+    subst (λ (l : List Child). IsLevelLaid inner level old new l (nodes ++ (node ∷ [])))
     (ap (λ (c : Child). set above (length above - 1) (counting c count)) (sym here) ∙ ap (λ k. set above (k - 1) (counting last count)) (sym long))
     (laid_taken inner level old now new above nodes node child count laid is some took (sum ∙ ap (λ (c : Child). c.count + child.count) here))
 
@@ -316,9 +316,9 @@ sum_is r P v x is e = (subst (λ o. SomeIff o P v) e is).1
 
 pub laid_started : (inner : InnerType) (level : ℕ) (old now new : Built) (above : List Child) (nodes : List Node) (node : Node) (child : Child)
     (p : ℕ)
-    → IsLaid inner level old now above nodes → IsChild inner old child node → IsStarted inner level now new p node
+    → IsLevelLaid inner level old now above nodes → IsChild inner old child node → IsStarted inner level now new p node
     → (0 < length above → LacksRoom inner now (get_or above (length above - 1) no_child).page node)
-    → IsLaid inner level old new (above ++ (record { page = p; count = child.count; leaf = child.leaf } ∷ [])) (nodes ++ (node ∷ []))
+    → IsLevelLaid inner level old new (above ++ (record { page = p; count = child.count; leaf = child.leaf } ∷ [])) (nodes ++ (node ∷ []))
 laid_started inner level old now new above nodes node child p laid is start lacks =
     let groups : List (List Node) = laid.groups in
     let by = laid.laid in
@@ -414,7 +414,7 @@ laid_started inner level old now new above nodes node child p laid is start lack
 -- a level whose last page has no room stays as it was
 pub stays_as : (inner : InnerType) (level : ℕ) (now new : Built) (above over : List Child) (child : Child) (took : Bool) → took ≡ false
     → CanPush inner level now above child.leaf
-    → ((old : Built) (nodes : List Node) (node : Node) → IsLaid inner level old now above nodes → IsChild inner old child node
+    → ((old : Built) (nodes : List Node) (node : Node) → IsLevelLaid inner level old now above nodes → IsChild inner old child node
     → LaidNow took inner level old now new above over nodes node) → new ≡ now
 stays_as inner level now new above over child took not_taken can says =
     let node : Node = record { page = child.page; count = child.count; leaves = []; key = can.key } in
@@ -423,7 +423,7 @@ stays_as inner level now new above over child took not_taken can says =
 
 -- A level without pages yet.
 
-pub laid_none : (inner : InnerType) (level : ℕ) (old : Built) → AreWhole old → IsLaid inner level old old [] []
+pub laid_none : (inner : InnerType) (level : ℕ) (old : Built) → AreWhole old → IsLevelLaid inner level old old [] []
 laid_none inner level old whole = record {
   groups = [];
   joined_is = refl;

@@ -36,7 +36,7 @@ use Rattle.bdb_pack.proofs.PlacedLemmas.{is_below}
 use Rattle.bdb_leaves.specs.Inner.{CanTakeChild, CountsFew, HoldsChildren, HoldsChildrenOn, added_key, child_cost, child_item, inner_header}
 use Rattle.bdb_leaves.specs.Inner.{inner_number, with_inner}
 use Rattle.bdb_leaves.specs.LeafEntries.{Entry, HoldsEntries, room_of, type_number}
-use Rattle.bdb_leaves.specs.Levels.{BeginsWithKey, HasKey, IsStarted, IsTaken, KeyStandsOn, LacksRoom, heads_of, raising, stored_heads, stored_key}
+use Rattle.bdb_leaves.specs.Levels.{BeginsWithKey, HasKey, IsStarted, TakesNode, KeyStandsOn, LacksRoom, heads_of, raising, stored_heads, stored_key}
 use Rattle.bdb_leaves.specs.declared.leaf_type.LeafType.{LeafType}
 use Rattle.bdb_leaves.specs.declared.leaf_type.LeafType.TheVariants.{Pairs, Records, SortedData}
 use Rattle.bdb_leaves.specs.declared.levels.Child.{Child}
@@ -246,7 +246,7 @@ pub taken : (inner : InnerType) (old mid new : Built) (p level : ℕ) (nodes : L
     → AreWhole old
     → p < length old.pages → HoldsChildrenOn inner old p level nodes → HeadsFew old (heads_of inner node) → mid ≡ raising old (heads_of inner node)
     → new ≡ with_item_on mid p (item_bytes mid.order item) → HasRoomOn mid p (item_bytes mid.order item)
-    → (HoldsChildrenOn inner mid p level nodes → HoldsChildrenOn inner new p level (nodes ++ (node ∷ []))) → IsTaken inner level old new p nodes node
+    → (HoldsChildrenOn inner mid p level nodes → HoldsChildrenOn inner new p level (nodes ++ (node ∷ []))) → TakesNode inner level old new p nodes node
 taken inner old mid new p level nodes node item legal whole low holds few raises is room more =
     let hs : List ℕ = heads_of inner node in
     let piece : List ℕ = item_bytes mid.order item in

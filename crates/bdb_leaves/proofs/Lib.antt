@@ -23,6 +23,8 @@ pub mod LevelHeadLemmas
 pub mod LevelLawLemmas
 pub mod LevelLemmas
 pub mod LevelTakeLemmas
+pub mod LiveLeafLemmas
+pub mod LiveLemmas
 pub mod MovedLemmas
 pub mod NodesLemmas
 pub mod NumberedLemmas
@@ -41,6 +43,7 @@ pub mod SetPutLemmas
 pub mod SpreadLemmas
 pub mod StandLemmas
 pub mod StayLemmas
+pub mod SumLemmas
 pub mod TopLemmas
 pub mod TowerLemmas
 pub mod TreeCountLemmas

@@ -20,7 +20,7 @@ use Rattle.bdb_levels.specs.Nodes.{Node}
 use Rattle.bdb_levels.specs.Roots.{is_of}
 use Rattle.bdb_pack.specs.Built.{Built, file_so_far}
 use Rattle.bdb_leaves.specs.Filled.{AllStand, AreFilled, all_contents, rest_of}
-use Rattle.bdb_leaves.specs.Laid.{IsLaid, IsNodeOf, entries_on, held_by_leaves, is_laid, tree_pages}
+use Rattle.bdb_leaves.specs.Laid.{IsTreeLaid, IsNodeOf, entries_on, held_by_leaves, is_laid, tree_pages}
 use Rattle.bdb_leaves.specs.LeafEntries.{contents_of}
 use Rattle.bdb_leaves.specs.Leaves.{LeavesFrom}
 use Rattle.bdb_leaves.specs.Moved.{numbers_of}
@@ -84,7 +84,7 @@ contents_on leaves old before closed units known =
 pub leaf_is_laid : (leaves : Leaves) (built : Built) (before : ℕ) (closed : List (List Placed)) (units : List Placed) (node : Node)
     → AreFilled leaves built before closed units → AllZip (IsNodeOf leaves.leaf_type) (placed_on leaves closed units) (node ∷ [])
     → (g : File) → IsCounted g → IsLater (between before (length built.pages)) (file_so_far built) g
-    → IsLaid leaves.leaf_type g (rest_of before leaves built) (placed_on leaves closed units) (node ∷ []) [] node
+    → IsTreeLaid leaves.leaf_type g (rest_of before leaves built) (placed_on leaves closed units) (node ∷ []) [] node
     × ((p : ℕ) → is_laid (rest_of before leaves built) (placed_on leaves closed units) [] p ≡ between before (length built.pages) p)
 leaf_is_laid leaves built before closed units node filled zip g counted later = (
   record {
@@ -104,6 +104,7 @@ leaf_is_laid leaves built before closed units node filled zip g counted later = 
     branch = subst (IsBranch g rest) names stand.on.branch;
     nodes_are = zip;
     some = inr refl;
+    summed = λ several. absurd (omega (arith, several));
     tower = refl;
   },
   λ p. same_test (is_laid rest placed [] p) (between before a p)

@@ -109,9 +109,9 @@ further_data g p key (datum ∷ more) all =
 pub unit_of_run : (g : File) (at : Located) → Stands g at → group_unit g (run_of g at) ≡ unit_of at.1
 unit_of_run g (p, PlacedEntry entry) stands = absurd stands
 unit_of_run g (p, PlacedPairs key first more) stands =
-    rw (stands.0, one_datum g first.item.content first.value stands.1.one stands.1.value, further_data g p key more stands.2) refl
+    rw (stands.0.value, one_datum g first.item.content first.value stands.1.one stands.1.value, further_data g p key more stands.2) refl
 unit_of_run g (p, PlacedTree key root values) stands =
-    rw (stands.0, append-nil (data_of g (Tree root)), stands.1) refl
+    rw (stands.0.value, append-nil (data_of g (Tree root)), stands.1) refl
 
 pub units_of_located : (g : File) (all : List Located) → All (Stands g) all
     → map (group_unit g) (map (run_of g) all) ≡ map (λ (at : Located). unit_of at.1) all

@@ -21,6 +21,7 @@ use Rattle.bdb_leaves.specs.Finished.{IsRootPlaced}
 use Rattle.bdb_leaves.specs.Inner.{HasNodes, HoldsChildren, inner_number, nodes_cost}
 use Rattle.bdb_leaves.specs.LeafEntries.{room_of, with_field}
 use Rattle.bdb_leaves.proofs.EntryLemmas.{bytes_with}
+use Rattle.bdb_leaves.proofs.LiveLemmas.{live_same}
 use Rattle.bdb_leaves.proofs.LeafLemmas.{HasLinks, length-field, linked_begun, linked_page, number_written, previous_written, offset_linked, with_links}
 
 -- An internal page holds its nodes whatever its links.
@@ -80,6 +81,8 @@ renumbered inner order page p level number nodes low holds =
       number = is.number_is;
       is = linked_nodes inner order page new p level number before after nodes is holds type (omega (arith, bounds.least))
           (omega (arith, bounds.least, is.long));
+      live = live_same order page new 20 is.body (omega arith)
+          (λ k low. offset_linked order page new number before after k holds.begun is low) count holds.live;
       room = let room : room_of order page + nodes_cost inner nodes ≡ length page - 26 = holds.room in omega (arith, room, high, count, is.long);
     }
 
@@ -102,6 +105,7 @@ summed inner order page p level sum nodes low holds =
       number = is.number_is;
       is = linked_nodes inner order page new p level p sum after nodes is holds type (omega (arith, bounds.least))
           (omega (arith, bounds.least, is.long));
+      live = live_same order page new 20 is.body (omega arith) (λ k low. offset_linked order page new p sum after k holds.begun is low) count holds.live;
       room = let room : room_of order page + nodes_cost inner nodes ≡ length page - 26 = holds.room in omega (arith, room, high, count, is.long);
     }
 

@@ -161,7 +161,7 @@ set_built old mid new sorted values leaves root set has =
           omega (arith, leaves_and_chains, tree, same);
       tree = subst (λ type. IsTreeOn type new (between (length old.pages) (length new.pages)) true (map live_entry values) root) set.type_is
           (subst (λ us. IsTreeOn leaves.leaf_type new (between (length old.pages) (length new.pages)) true us root) set.units_are
-          (finished_trees_are_laid_out leaves mid new true (length old.pages) set.closed set.units root set.filled set.spread has));
+          (finished_trees_are_laid_out leaves mid new true (length old.pages) set.closed set.units root set.filled set.spread has).0);
     }
   where
     keeps : KeepsBefore (length old.pages) mid new

@@ -19,7 +19,7 @@ use Rattle.bdb_grove.specs.Part.{IsBranch, between}
 use Rattle.bdb_grove.proofs.BranchLemmas.{branches_follow}
 use Rattle.bdb_grove.proofs.ChainLemmas.{between_is, is_between}
 use Rattle.bdb_grove.proofs.AscendLemmas.{ascend_bounds, ascend_follow}
-use Rattle.bdb_levels.specs.Roots.{key_heads}
+use Rattle.bdb_levels.specs.Roots.{key_heads, pages_of as level_pages}
 use Rattle.bdb_pack.specs.Built.{AreWhole, Built, bytes_of, file_so_far}
 use Rattle.bdb_pack.proofs.ImageLemmas.{counted_so_far}
 use Rattle.bdb_leaves.specs.Filled.{AreSomeFilled, IsPushed, StandOn, leaves_added, unit_contents, FilledNow, rest_of}
@@ -108,6 +108,7 @@ pub tree_put : (leaves : Leaves) (old one two new : Built) (key : List ℕ) (val
 tree_put leaves old one two new key values sorted root has put set grown count many =
     record {
       key_item = put.item;
+      key_live = live;
       root = root;
       put = record {
         kept = record {
@@ -135,8 +136,10 @@ tree_put leaves old one two new key values sorted root has put set grown count m
                   (stand_follow g a b d (put.item.content ∷ []) (Tree root ∷ []) start (omega (arith, more, count))
                   (values_stand_on g old.size a b held counted_g first (omega (arith, more, count, first, start, up)) key_there).0
                   (subst (λ n. StandOn g (between b n) (Tree root ∷ [])) (sym count) set_there.on));
-              placed = subst (λ t. StandsPlaced t g unit) (sym has.type)
-                  (value_read g old.size a key_there.0 put.item.content key key_there.3, set_there.holds);
+              placed = subst (λ t. StandsPlaced t g unit) (sym has.type) (
+                record { live = live; value = value_read g old.size a key_there.0 put.item.content key key_there.3 },
+                set_there.holds,
+              );
             };
         sizes =
             let key_there = key_stands f counted itself in (by_size f old.size a key_there.0 put.item.content key key_there.3, many);
@@ -163,6 +166,13 @@ tree_put leaves old one two new key values sorted root has put set grown count m
               let below = heads_one a one (put.item.content ∷ Tree root ∷ []) h own_heads
               (subst (λ cs. Contains (flat_map key_heads cs) h) contents key) in
               omega (arith, above.0, below.1)),
+          subst (λ (t : TreeParts). (h : ℕ) → Contains (level_pages t.above) h
+              → Contains (flat_map key_heads (unit_contents leaves.leaf_type unit)) h → ⊥) (sym set_on.1)
+              (λ h at key.
+              let above = between_is b (length two.pages) h (set.tree.levels h at).there in
+              let below = heads_one a one (put.item.content ∷ Tree root ∷ []) h own_heads
+              (subst (λ cs. Contains (flat_map key_heads cs) h) contents key) in
+              omega (arith, above.0, below.1)),
         );
       };
       right = λ g counted_g later. (set_stands g counted_g later).right;
@@ -184,6 +194,9 @@ tree_put leaves old one two new key values sorted root has put set grown count m
 
     run : IsRunPut leaves old one (own_entry put.item ∷ []) ((put.item.content, key) ∷ [])
     run = put_is_run leaves old one key false there put (some_of leaves old has)
+
+    live : put.item.deleted ≡ false
+    live = (live_put leaves old one key put).live
 
     a : ℕ
     a = length old.pages
@@ -250,6 +263,7 @@ tree_put leaves old one two new key values sorted root has put set grown count m
     set_on : (now : IsTreeOn (set_type sorted) new (between a d) true (map live_entry values) root) × (now.tree ≡ set.tree.tree)
     set_on = tree_stays (set_type sorted) two new (between b (length two.pages)) (between a d) true (map live_entry values) root grown.kept.size
         grown.kept.order set_later set.tree
+        (λ h at is. let s = between_is b (length two.pages) h is in (set_within h is, omega (arith, s.1, count), set_same h is))
         (λ h at is. let s = between_is b (length two.pages) h is in (set_within h is, omega (arith, s.1, count), set_same h is))
 
     own_heads : All (CountsOneFrom a one) (put.item.content ∷ Tree root ∷ [])

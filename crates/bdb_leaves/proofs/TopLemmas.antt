@@ -12,7 +12,7 @@ use Rattle.bdb_levels.specs.declared.inner_type.InnerType.{InnerType}
 use Rattle.bdb_levels.specs.Nodes.{AreOver, IsOver, Node}
 use Rattle.bdb_pack.specs.Built.{Built, file_so_far, without_last}
 use Rattle.bdb_leaves.specs.Inner.{HoldsChildrenOn}
-use Rattle.bdb_leaves.specs.Levels.{AreChildren, IsLaid, heads_in, heads_of, heads_under, no_child, node_over}
+use Rattle.bdb_leaves.specs.Levels.{AreChildren, IsLevelLaid, heads_in, heads_of, heads_under, no_child, node_over}
 use Rattle.bdb_leaves.specs.Spread.{IsNodeOver, spread_nodes}
 use Rattle.bdb_leaves.specs.Tower.{CountsAll, EndsInRoot}
 use Rattle.bdb_leaves.specs.declared.levels.Child.{Child}
@@ -30,7 +30,7 @@ pub record IsTopped (inner : InnerType) (old now : Built) (nodes : List Node) (a
   pub high : 1 ≤ level
   pub many : 1 < length below
   pub built : IsBuilding inner old was nodes level below
-  pub laid : IsLaid inner (level + 1) was now above built.top
+  pub laid : IsLevelLaid inner (level + 1) was now above built.top
 
 -- over two pages or more, one page is of a level that was laid
 pub is_topped : {P : Type 0} (n m : ℕ) → (n ≡ m) ⊎ P → n ≡ 1 → 2 ≤ m → P
@@ -67,7 +67,7 @@ only_one (group ∷ other ∷ groups) one = absurd (omega (arith, one))
 
 -- what stood before the last level is, without its one page, as before
 was_later : (inner : InnerType) (level : ℕ) (was now : Built) (above : List Child) (nodes : List Node) (pages : ℕ → Bool)
-    → IsLaid inner level was now above nodes → length now.pages ≡ length was.pages + 1 → ((p : ℕ) → pages p ≡ true → p < length was.pages)
+    → IsLevelLaid inner level was now above nodes → length now.pages ≡ length was.pages + 1 → ((p : ℕ) → pages p ≡ true → p < length was.pages)
     → IsLater pages (file_so_far was) (file_so_far (without_last now))
 was_later inner level was now above nodes pages laid count low =
     let fewer : Built = without_last now in

@@ -18,14 +18,14 @@ use Rattle.bdb_levels.specs.declared.inner_type.InnerType.TheVariants.{Keyed, Nu
 use Rattle.bdb_levels.specs.Nodes.{IsTower, Node, no_node}
 use Rattle.bdb_levels.specs.Roots.{key_heads, pages_of}
 use Rattle.bdb_pack.specs.Built.{AreWhole, Built, bytes_of, file_so_far}
-use Rattle.bdb_leaves.specs.Inner.{child_cost, first_cost, key_cost}
-use Rattle.bdb_leaves.specs.Levels.{AreChildren, IsLaid, heads_in, heads_of, heads_under, no_child, node_over, nodes_over}
+use Rattle.bdb_leaves.specs.Inner.{HasLiveKeys, child_cost, first_cost, key_cost}
+use Rattle.bdb_leaves.specs.Levels.{AreChildren, IsLevelLaid, heads_in, heads_of, heads_under, no_child, node_over, nodes_over}
 use Rattle.bdb_leaves.specs.Spread.{AreSpreadLevels, IsNodeOver, first_or, named_heads, pages_over, spread_items, spread_nodes}
 use Rattle.bdb_leaves.specs.Tower.{CountsAll, EndsInRoot, HasTower}
 use Rattle.bdb_leaves.specs.declared.levels.Child.{Child}
 use Rattle.bdb_leaves.proofs.FilledLemmas.{later_self}
 use Rattle.bdb_leaves.proofs.LevelLawLemmas.{keys_of, levels_are_formed, levels_are_later, levels_go_on, levels_keep_pages, levels_shrink, numbers_over}
-use Rattle.bdb_leaves.proofs.LevelLawLemmas.{levels_stand, member_at}
+use Rattle.bdb_leaves.proofs.LevelLawLemmas.{levels_live, levels_stand, member_at}
 use Rattle.bdb_leaves.proofs.LaterLemmas.{later_chain}
 use Rattle.bdb_leaves.proofs.LevelLemmas.{as_many}
 use Rattle.bdb_leaves.proofs.LevelTakeLemmas.{heads_few}
@@ -67,7 +67,7 @@ group_over p (group ∷ groups) node at =
     ]
 
 keys_over : (inner : InnerType) (level : ℕ) (old new : Built) (above : List Child) (nodes : List Node) (node : Node)
-    → (laid : IsLaid inner level old new above nodes) → Contains (nodes_over (length old.pages) laid.groups) node → HasKeyOf nodes node
+    → (laid : IsLevelLaid inner level old new above nodes) → Contains (nodes_over (length old.pages) laid.groups) node → HasKeyOf nodes node
 keys_over inner level old new above nodes node laid at =
     let (group, (k, under, is), key) = group_over (length old.pages) laid.groups node at in
     let groups : List (List Node) = laid.groups in
@@ -133,7 +133,7 @@ costs_over inner p ((node ∷ nodes) ∷ groups) some =
 
 -- the nodes of a level are spread over its pages
 pub level_spread : (inner : InnerType) (level : ℕ) (old new : Built) (above : List Child) (nodes : List Node)
-    → (laid : IsLaid inner level old new above nodes) → spread_nodes inner (old.size - 26) nodes ≡ laid.groups
+    → (laid : IsLevelLaid inner level old new above nodes) → spread_nodes inner (old.size - 26) nodes ≡ laid.groups
 level_spread inner level old new above nodes laid =
     let by = laid.laid in
     let count = by.count in
@@ -154,7 +154,7 @@ stand_over p (group ∷ groups) = (refl, stand_over (p + 1) groups)
 
 -- over two pages or more stand those of the next level, and those over it
 pages_counted : (inner : InnerType) (level most : ℕ) (old new : Built) (above : List Child) (nodes : List Node)
-    → (laid : IsLaid inner level old new above nodes) → 2 ≤ length nodes
+    → (laid : IsLevelLaid inner level old new above nodes) → 2 ≤ length nodes
     → pages_over (suc most) (old.size - 26) (first_cost inner) (map (child_cost inner) nodes)
     ≡ length laid.groups
     + pages_over most (old.size - 26) (first_cost inner) (map (child_cost inner) (nodes_over (length old.pages) laid.groups))
@@ -208,6 +208,7 @@ pub record IsBuilding (inner : InnerType) (old now : Built) (nodes : List Node) 
   pub later : (pages : ℕ → Bool) → ((p : ℕ) → pages p ≡ true → p < length old.pages) → IsLater pages (file_so_far old) (file_so_far now)
   pub formed : (p : ℕ) → length old.pages ≤ p → p < length now.pages → page_code now.order p (bytes_of now p) ≡ None
   pub form_kept : (p : ℕ) → p < length old.pages → page_code now.order p (bytes_of now p) ≡ page_code old.order p (bytes_of old p)
+  pub live : (p : ℕ) → length old.pages ≤ p → p < length now.pages → HasLiveKeys now.order (bytes_of now p)
   pub kept : (p : ℕ) → p < length old.pages → (Contains (flat_map (heads_of inner) nodes) p → ⊥) → bytes_of now p ≡ bytes_of old p
   -- so many levels may follow at most, and the pages that are there and those that they have are all
   pub most : ℕ
@@ -237,6 +238,7 @@ none_built inner old nodes children whole are =
       later = λ pages among. later_self old pages;
       formed = λ p low under. absurd (omega (arith, low, under));
       form_kept = λ p low. refl;
+      live = λ p low under. absurd (omega (arith, low, under));
       kept = λ p low other. refl;
       most = length nodes;
       enough = omega arith;
@@ -255,7 +257,7 @@ is_under pages n p there low = ap (λ b. b && ltb p n) there ∙ lt-ltb p n low
 
 -- a level more names more heads
 pub counts_more : (inner : InnerType) (level : ℕ) (old now new : Built) (above : List Child) (nodes : List Node) (named : List ℕ)
-    → CountsAll old now named → length old.pages ≤ length now.pages → (laid : IsLaid inner level now new above nodes)
+    → CountsAll old now named → length old.pages ≤ length now.pages → (laid : IsLevelLaid inner level now new above nodes)
     → CountsAll old new (named ++ heads_in inner laid.groups)
 counts_more inner level old now new above nodes named counts grows laid =
     let heads : List ℕ = heads_in inner laid.groups in
@@ -275,7 +277,7 @@ counts_more inner level old now new above nodes named counts grows laid =
 
 pub level_built : (inner : InnerType) (old now new : Built) (nodes : List Node) (level : ℕ) (below children above : List Child)
     → AreChildren inner old below nodes → 1 ≤ level → (built : IsBuilding inner old now nodes level children)
-    → IsLaid inner (level + 1) now new above built.top → 1 < length children → length above < length children
+    → IsLevelLaid inner (level + 1) now new above built.top → 1 < length children → length above < length children
     → IsBuilding inner old new nodes (level + 1) above
 level_built inner old now new nodes level below children above are high built laid many fewer_above =
     let n : ℕ = length now.pages in
@@ -337,6 +339,10 @@ level_built inner old now new nodes level below children above are high built la
         | inr fresh ↦ levels_are_formed inner (level + 1) now new above built.top p laid (omega (arith, high)) (omega (arith, fresh)) here
       ];
       form_kept = λ p low. kept p (omega (arith, low, low_now)) ∙ built.form_kept p low;
+      live = λ p low here. elim (cases_lt p n) [
+        | inl stood ↦ (levels_keep_pages inner (level + 1) now new above built.top p laid stood).live (built.live p low stood)
+        | inr fresh ↦ levels_live inner (level + 1) now new above built.top p laid fresh here
+      ];
       kept = λ p low other.
           (levels_keep_pages inner (level + 1) now new above built.top p laid (omega (arith, low, low_now))).same (λ at. other (named p at))
           ∙ built.kept p low other;
@@ -366,7 +372,7 @@ level_built inner old now new nodes level below children above are high built la
 
 -- a level of more than one page has fewer than the one below
 pub level_shrinks : (inner : InnerType) (old now new : Built) (nodes : List Node) (level : ℕ) (children above : List Child)
-    → (built : IsBuilding inner old now nodes level children) → IsLaid inner (level + 1) now new above built.top
+    → (built : IsBuilding inner old now nodes level children) → IsLevelLaid inner (level + 1) now new above built.top
     → ((node : Node) → Contains nodes node → child_cost inner node + 40 ≤ old.size) → 1 < length children → length above < length children
 level_shrinks inner old now new nodes level children above built laid cheap many =
     let as_long = as_many inner now children built.top built.are in
@@ -380,7 +386,7 @@ level_shrinks inner old now new nodes level children above built laid cheap many
     omega (arith, shrinks, as_long)
 
 -- and has one at least
-pub some_laid : (inner : InnerType) (level : ℕ) (old new : Built) (above : List Child) (nodes : List Node) → IsLaid inner level old new above nodes
+pub some_laid : (inner : InnerType) (level : ℕ) (old new : Built) (above : List Child) (nodes : List Node) → IsLevelLaid inner level old new above nodes
     → 0 < length nodes → 0 < length above
 some_laid inner level old new above nodes laid some =
     let many = laid.laid.many in
@@ -424,6 +430,7 @@ tower_built inner old now nodes level children built one ends =
       later = built.later;
       formed = built.formed;
       form_kept = built.form_kept;
+      live = built.live;
       kept = built.kept;
       count =
           let all = built.count in

@@ -2,7 +2,7 @@
 use Rattle.std.specs.Prelude.{◌≡◌, ◌⊎◌, ℕ, ◌+◌, ◌-◌, ◌<◌, ◌≤◌, Bool, true, false, List, [], ◌∷◌, ◌++◌, length, map, None}
 use Rattle.std.specs.List.{All, AllZip, Contains, flat_map, range_with_len, sum_by}
 use Rattle.bdb_format.specs.File.{File}
-use Rattle.bdb_format.specs.Numbers.{four_at}
+use Rattle.bdb_format.specs.Numbers.{byte_at, four_at}
 use Rattle.bdb_format.specs.Rows.{page_code}
 use Rattle.bdb_grove.specs.Growing.{IsCounted, IsLater}
 use Rattle.bdb_grove.specs.Part.{between}
@@ -11,8 +11,8 @@ use Rattle.bdb_levels.specs.Nodes.{IsTower, Node}
 use Rattle.bdb_levels.specs.Roots.{is_of, pages_of}
 use Rattle.bdb_pack.specs.Built.{AreWhole, Built, bytes_of, file_so_far}
 use Rattle.bdb_leaves.specs.Filled.{AreFilled, AreSpreadOver, all_contents, rest_of}
-use Rattle.bdb_leaves.specs.Inner.{HoldsChildrenOn, child_cost, first_cost}
-use Rattle.bdb_leaves.specs.Laid.{HasUnits, IsLaid, IsNodeOf, inner_of, is_laid}
+use Rattle.bdb_leaves.specs.Inner.{HasLiveKeys, HoldsChildrenOn, child_cost, first_cost, inner_number}
+use Rattle.bdb_leaves.specs.Laid.{HasUnits, IsTreeLaid, IsNodeOf, inner_of, is_laid}
 use Rattle.bdb_leaves.specs.Layout.{HasTreeOn, IsTreeOn}
 use Rattle.bdb_leaves.specs.LeafEntries.{with_field}
 use Rattle.bdb_leaves.specs.Leaves.{KeepsBefore}
@@ -59,6 +59,9 @@ pub record HasTowerOn (inner : InnerType) (old new : Built) (nodes : List Node) 
       → IsLater pages (file_so_far old) (file_so_far new)
   pub formed : (p : ℕ) → length old.pages ≤ p → p < length new.pages → page_code new.order p (bytes_of new p) ≡ None
   pub root_formed : page_code new.order first (bytes_of new first) ≡ None
+  pub root_type : byte_at (bytes_of new first) 25 ≡ inner_number inner
+  pub live : (p : ℕ) → length old.pages ≤ p → p < length new.pages → HasLiveKeys new.order (bytes_of new p)
+  pub root_live : HasLiveKeys new.order (bytes_of new first)
   -- the root says how many pairs or entries are counted below it
   pub summed : four_at new.order (bytes_of new first) 12 ≡ sum_by (λ (node : Node). node.count) nodes
   pub form_kept : (p : ℕ) → p < length old.pages → (p ≡ first → ⊥)
@@ -94,7 +97,7 @@ pub record HasLaidTree (type : LeafType) (g : File) (rest : ℕ → Bool) (first
   pub nodes : List Node
   pub above : List (List Node)
   pub top : Node
-  pub laid : IsLaid type g rest placed nodes above top
+  pub laid : IsTreeLaid type g rest placed nodes above top
   pub top_is : top.page ≡ root
   pub units_are : map (λ (leaf : LeafUnits). leaf.units) placed ≡ groups
   pub counts : CountsLeaves counted type placed nodes
@@ -108,12 +111,13 @@ FirstRootsAreLaid =
     → (g : File) → IsCounted g → IsLater (between before (length new.pages)) (file_so_far new) g
     → HasLaidTree leaves.leaf_type g (rest_of before leaves old) before (length new.pages) counted (closed ++ (units ∷ [])) root
 
--- Where its units were spread by what they take, it is laid out, and the heads of its chains count their references.
+-- Where its units were spread by what they take, it is laid out, and the heads of its chains count their references; these units are on its leaves.
 abbrev pub FinishedTreesAreLaidOut : Type 0
 FinishedTreesAreLaidOut =
     (leaves : Leaves) (old new : Built) (counted : Bool) (before : ℕ) (closed : List (List Placed)) (units : List Placed) (root : ℕ)
     → AreFilled leaves old before closed units → AreSpreadOver old.size closed units → HasFirstRoot leaves old new counted closed units root
-    → IsTreeOn leaves.leaf_type new (between before (length new.pages)) counted (map unit_of (flat_map (λ leaf. leaf) closed ++ units)) root
+    → (on : IsTreeOn leaves.leaf_type new (between before (length new.pages)) counted (map unit_of (flat_map (λ leaf. leaf) closed ++ units)) root)
+    × (map (λ (leaf : LeafUnits). leaf.units) on.tree.placed ≡ closed ++ (units ∷ []))
 
 -- The trees of its units' data stand as they did.
 abbrev pub FinishedTreesKeepTrees : Type 0
@@ -149,7 +153,7 @@ FinishedTreesAreLaid =
     (leaves : Leaves) (old new : Built) (counted : Bool) (before : ℕ) (closed : List (List Placed)) (units : List Placed) (root : ℕ)
     → AreFilled leaves old before closed units → (on : HasRootOn leaves old new counted closed units root)
     → (g : File) → IsCounted g → IsLater (between before (length new.pages)) (file_so_far new) g
-    → IsLaid leaves.leaf_type g (rest_of before leaves old) (placed_on on.next closed units) on.nodes
+    → IsTreeLaid leaves.leaf_type g (rest_of before leaves old) (placed_on on.next closed units) on.nodes
     (levels_to on.tower.levels on.tower.top) on.tower.top
     × ((p : ℕ)
     → is_laid (rest_of before leaves old) (placed_on on.next closed units) (levels_to on.tower.levels on.tower.top) p

@@ -1,6 +1,6 @@
 -- Internal pages that take the items of children: what an item takes of its page, and the page that holds them.
 -- Source: docs/FORMAT.md, "Internal items".
-use Rattle.std.specs.Prelude.{◌≡◌, ℕ, ◌+◌, ◌-◌, ◌<◌, ◌≤◌, List, [], ◌∷◌, length, map, None}
+use Rattle.std.specs.Prelude.{◌≡◌, ℕ, ◌+◌, ◌-◌, ◌<◌, ◌≤◌, false, List, [], ◌∷◌, length, map, None}
 use Rattle.std.specs.List.{All, sum_by}
 use Rattle.bdb_format.specs.declared.kinds.Order.{Order}
 use Rattle.bdb_format.specs.declared.pages.Header.{Header}
@@ -8,7 +8,7 @@ use Rattle.bdb_format.specs.declared.pages.RecnoItem.{RecnoItem}
 use Rattle.bdb_format.specs.Numbers.{byte_at, four_at, overwritten, pad4, spelled}
 use Rattle.bdb_format.specs.Page.{Content, Inline, Set, Chain, Tree, Unknown, Internal, InternalItem, Listed, Page, RecnoInternal}
 use Rattle.bdb_format.specs.File.{File, page_at}
-use Rattle.bdb_format.specs.Reading.{abstract_page, entries_of}
+use Rattle.bdb_format.specs.Reading.{abstract_page, entries_of, is_deleted, offset_of}
 use Rattle.bdb_format.specs.Rows.{page_code}
 use Rattle.bdb_grove.specs.Growing.{IsSamePage}
 use Rattle.bdb_levels.specs.declared.inner_type.InnerType.{InnerType}
@@ -52,6 +52,10 @@ abbrev pub nodes_cost : InnerType → List Node → ℕ
 nodes_cost inner [] = 0
 nodes_cost inner (node ∷ nodes) = first_cost inner + sum_by (child_cost inner) nodes
 
+-- no key of an internal page is marked deleted
+abbrev pub HasLiveKeys : Order → List ℕ → Type 0
+HasLiveKeys order bytes = byte_at bytes 25 ≡ 3 → (k : ℕ) → k < entries_of order bytes → is_deleted bytes (offset_of order bytes k) ≡ false
+
 -- A page is an internal one of this type and level that takes items, with its number, and holds an item for each of these nodes.
 pub record HoldsChildren (inner : InnerType) (order : Order) (bytes : List ℕ) (p level : ℕ) (nodes : List Node) : Type 0 where
   pub begun : IsBegun order bytes
@@ -59,6 +63,7 @@ pub record HoldsChildren (inner : InnerType) (order : Order) (bytes : List ℕ) 
   pub level_is : byte_at bytes 24 ≡ level
   pub number : four_at order bytes 8 ≡ p
   pub is : HasNodes inner (abstract_page order bytes) nodes
+  pub live : HasLiveKeys order bytes
   pub room : room_of order bytes + nodes_cost inner nodes ≡ length bytes - 26
 
 -- it does in its place among the pages

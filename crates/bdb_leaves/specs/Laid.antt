@@ -1,13 +1,13 @@
 -- Trees as a builder has laid them: leaves with their units, what these name, and the levels over them, in one file.
 -- Source: docs/FORMAT.md, "Built trees", "References" and "Stage 3, references" to "Stage 8, contents".
 use Rattle.std.specs.Prelude.{◌≡◌, ◌⊎◌, ℕ, ◌/◌, ◌<◌, ◌≤◌, ◌==◌, ◌||◌, if◌then◌else◌, Bool, true, false, List, [], ◌∷◌, ◌++◌, length, map, Some}
-use Rattle.std.specs.List.{All, AllZip, Contains, filter, flat_map}
+use Rattle.std.specs.List.{All, AllZip, Contains, filter, flat_map, list_any, sum_by}
 use Rattle.bdb_format.specs.declared.metadata.BtreeMeta.{BtreeMeta}
 use Rattle.bdb_format.specs.declared.metadata.FileKind.TheVariants.{Queue}
 use Rattle.bdb_format.specs.declared.references.Sort.{Sort}
-use Rattle.bdb_format.specs.Page.{BtreeFields, Content, Inline, Tree}
+use Rattle.bdb_format.specs.Page.{BtreeFields, Content, DupLeaf, Inline, Item, Leaf, Page, RecnoLeaf, Tree}
 use Rattle.bdb_format.specs.Flags.{btree_kind, counts_records, has_duplicates, is_fixed, is_recno, is_sorted}
-use Rattle.bdb_format.specs.File.{File}
+use Rattle.bdb_format.specs.File.{File, header_in, page_at}
 use Rattle.bdb_format.specs.References.{has_type}
 use Rattle.bdb_format.specs.Leaves.{first_or_zero, leaves}
 use Rattle.bdb_format.specs.Contents.{data_of}
@@ -35,12 +35,12 @@ abbrev pub entries_on : LeafUnits → List Entry
 entries_on leaf = flat_map entries_of leaf.units
 
 -- a leaf with what its items hold
-abbrev pub filled : LeafType → LeafUnits → FilledLeaf
-filled type leaf = record { page = leaf.page; contents = contents_of type (entries_on leaf) }
+abbrev pub filled_leaf : LeafType → LeafUnits → FilledLeaf
+filled_leaf type leaf = record { page = leaf.page; contents = contents_of type (entries_on leaf) }
 
 -- the pages that they name
 abbrev pub held_by_leaves : LeafType → List LeafUnits → List ℕ
-held_by_leaves type placed = flat_map pages_held (map (filled type) placed)
+held_by_leaves type placed = flat_map pages_held (map (filled_leaf type) placed)
 
 -- Leaves in their order, the first of them after a page: each has the entries of its units between its neighbours, 0 after the last; and
 -- the units stand.
@@ -70,7 +70,7 @@ abbrev pub tree_pages : List LeafUnits → List (List Node) → List ℕ
 tree_pages placed above = pages_of placed ++ level_pages above
 
 -- Leaves, what they name, and levels over them up to the root.
-pub record IsLaid (type : LeafType) (g : File) (rest : ℕ → Bool) (placed : List LeafUnits) (nodes : List Node) (above : List (List Node))
+pub record IsTreeLaid (type : LeafType) (g : File) (rest : ℕ → Bool) (placed : List LeafUnits) (nodes : List Node) (above : List (List Node))
     (root : Node) : Type 0 where
   pub no_queue : g.kind ≡ Queue → ⊥
   pub leaves : AreLaid type g 0 placed
@@ -84,6 +84,8 @@ pub record IsLaid (type : LeafType) (g : File) (rest : ℕ → Bool) (placed : L
   pub nodes_are : AllZip (IsNodeOf type) placed nodes
   -- each leaf has a unit, or is the root
   pub some : All HasUnits placed ⊎ (above ≡ [])
+  -- over leaves the root says, where other pages have the one before them, how many pairs or entries the items over these count
+  pub summed : 0 < length above → (header_in (page_at g root.page)).previous ≡ sum_by (λ (node : Node). node.count) nodes
   pub tower : IsTower (inner_of type) g 1 nodes above root
 
 -- all pages of a tree
@@ -94,6 +96,18 @@ is_laid rest placed above p = (rest p || is_of (pages_of placed) p) || is_of (le
 abbrev pub live_value : TreeUnit → List (List ℕ)
 live_value (KeyedUnit key values) = []
 live_value (EntryUnit value deleted) = if deleted then [] else value ∷ []
+
+-- an item of a leaf is marked deleted
+abbrev pub has_deleted : Page → Bool
+has_deleted (Leaf page) = list_any (λ (item : Item). item.deleted) page.items
+has_deleted (RecnoLeaf page) = list_any (λ (item : Item). item.deleted) page.items
+has_deleted (DupLeaf page) = list_any (λ (item : Item). item.deleted) page.items
+has_deleted page = false
+
+-- a unit isn't: only a record may be
+abbrev pub IsLiveUnit : TreeUnit → Type 0
+IsLiveUnit (KeyedUnit key values) = Unit {0}
+IsLiveUnit (EntryUnit value deleted) = deleted ≡ false
 
 -- the data of a set are sorted
 abbrev pub has_sorted_data : LeafType → Bool
@@ -134,28 +148,35 @@ Suits SortedData g meta placed nodes = ⊥
 abbrev pub LaidTreesAreBranches : Type 0
 LaidTreesAreBranches =
     (type : LeafType) (g : File) (rest : ℕ → Bool) (placed : List LeafUnits) (nodes : List Node) (above : List (List Node)) (root : Node)
-    → IsLaid type g rest placed nodes above root → IsBranch g (is_laid rest placed above) (root.page ∷ [])
+    → IsTreeLaid type g rest placed nodes above root → IsBranch g (is_laid rest placed above) (root.page ∷ [])
 
 -- the leaves of the root are those with the units, in their order
 abbrev pub LaidTreesHaveLeaves : Type 0
 LaidTreesHaveLeaves =
     (type : LeafType) (g : File) (rest : ℕ → Bool) (placed : List LeafUnits) (nodes : List Node) (above : List (List Node)) (root : Node)
-    → IsLaid type g rest placed nodes above root → leaves g root.page ≡ pages_of placed
+    → IsTreeLaid type g rest placed nodes above root → leaves g root.page ≡ pages_of placed
 
 -- and have their kinds and links, of metadata and of sets
 abbrev pub LaidTreesAreLinked : Type 0
 LaidTreesAreLinked =
     (type : LeafType) (g : File) (rest : ℕ → Bool) (placed : List LeafUnits) (nodes : List Node) (above : List (List Node)) (root : Node)
     (sort : Sort)
-    → IsLaid type g rest placed nodes above root → has_type (leaf_types sort) (Some (type_number type)) ≡ true
+    → IsTreeLaid type g rest placed nodes above root → has_type (leaf_types sort) (Some (type_number type)) ≡ true
     → has_wrong_place g sort root.page ≡ false
+
+-- no item of their leaves is marked deleted, where no unit is: no key, no datum of a key, and no record or datum of a set
+abbrev pub LaidTreesAreLive : Type 0
+LaidTreesAreLive =
+    (type : LeafType) (g : File) (rest : ℕ → Bool) (placed : List LeafUnits) (nodes : List Node) (above : List (List Node)) (root : Node)
+    → IsTreeLaid type g rest placed nodes above root → All IsLiveUnit (units_in placed)
+    → All (λ (leaf : LeafUnits). has_deleted (page_at g leaf.page) ≡ false) placed
 
 -- a set holds the values of its live units, in their order; its root has the type of sorted data or of unsorted ones, and it
 -- fits where a datum names it
 abbrev pub LaidSetsHoldData : Type 0
 LaidSetsHoldData =
     (type : LeafType) (g : File) (rest : ℕ → Bool) (placed : List LeafUnits) (nodes : List Node) (above : List (List Node)) (root : Node)
-    → IsLaid type g rest placed nodes above root → (type ≡ Pairs → ⊥)
+    → IsTreeLaid type g rest placed nodes above root → (type ≡ Pairs → ⊥)
     → (data_of g (Tree root.page) ≡ flat_map live_value (units_in placed)) × (is_wrong_set g (has_sorted_data type) (Tree root.page) ≡ false)
     × SetFits g root.page
 
@@ -163,7 +184,7 @@ LaidSetsHoldData =
 abbrev pub LaidTreesAreParts : Type 0
 LaidTreesAreParts =
     (type : LeafType) (g : File) (rest : ℕ → Bool) (placed : List LeafUnits) (nodes : List Node) (above : List (List Node)) (root : Node)
-    (meta : BtreeMeta) → IsLaid type g rest placed nodes above root → meta.root ≡ root.page → Suits type g meta placed nodes
+    (meta : BtreeMeta) → IsTreeLaid type g rest placed nodes above root → meta.root ≡ root.page → Suits type g meta placed nodes
     → IsPart g (record {
       pages = is_laid rest placed above;
       fields = BtreeFields meta;

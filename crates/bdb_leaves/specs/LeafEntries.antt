@@ -162,6 +162,7 @@ pub record IsLeafIn (type : LeafType) (g : File) (p previous next : ℕ) (entrie
   pub level : page.header.level ≡ 1
   pub previous_is : page.header.previous ≡ previous
   pub next_is : page.header.next ≡ next
+  pub items : page.items ≡ map (λ (entry : Entry). entry.item) entries
   pub contents : contents_in (leaf_of type page) ≡ contents_of type entries
   pub holds : HoldsIn type g p page entries
 

@@ -13,7 +13,7 @@ use Rattle.bdb_levels.specs.Roots.{key_heads}
 use Rattle.bdb_pack.specs.Built.{AreWhole, Built, bytes_of, file_so_far}
 use Rattle.bdb_pack.specs.declared.values.Stored.{Stored}
 use Rattle.bdb_pack.specs.declared.values.Stored.TheVariants.{Inline as OnPage, Chain as InChain}
-use Rattle.bdb_leaves.specs.Inner.{CountsFew, HoldsChildrenOn, child_cost, nodes_cost, raised}
+use Rattle.bdb_leaves.specs.Inner.{CountsFew, HasLiveKeys, HoldsChildrenOn, child_cost, nodes_cost, raised}
 use Rattle.bdb_leaves.specs.LeafEntries.{Entry, HoldsEntriesOn, room_of}
 use Rattle.bdb_leaves.specs.declared.leaf_type.LeafType.{LeafType}
 use Rattle.bdb_leaves.specs.declared.levels.Child.{Child}
@@ -92,7 +92,7 @@ heads_in inner groups = flat_map (heads_under inner) groups
 -- Steps.
 
 -- a page has an item more, and the chain of its key counts it
-pub record IsTaken (inner : InnerType) (level : ℕ) (old new : Built) (p : ℕ) (nodes : List Node) (node : Node) : Type 0 where
+pub record TakesNode (inner : InnerType) (level : ℕ) (old new : Built) (p : ℕ) (nodes : List Node) (node : Node) : Type 0 where
   pub size : new.size ≡ old.size
   pub order : new.order ≡ old.order
   pub whole : AreWhole new
@@ -105,7 +105,7 @@ abbrev pub LacksRoom : InnerType → Built → ℕ → Node → Type 0
 LacksRoom inner built p node = room_of built.order (bytes_of built p) < child_cost inner node
 
 abbrev pub TakesNow : Bool → InnerType → ℕ → Built → Built → ℕ → List Node → Node → Type 0
-TakesNow true inner level old new p nodes node = IsTaken inner level old new p nodes node
+TakesNow true inner level old new p nodes node = TakesNode inner level old new p nodes node
 TakesNow false inner level old new p nodes node = (new ≡ old) × LacksRoom inner old p node
 
 -- what a page with items answers to a child, of whatever node it is
@@ -163,7 +163,7 @@ pub record IsLaidBy (inner : InnerType) (level : ℕ) (old new : Built) (above :
       → old.size - 26 < nodes_cost inner (get_or groups k []) + child_cost inner (get_or (get_or groups (k + 1) []) 0 no_node)
 
 -- they are over these nodes, in their order
-pub record IsLaid (inner : InnerType) (level : ℕ) (old new : Built) (above : List Child) (nodes : List Node) : Type 0 where
+pub record IsLevelLaid (inner : InnerType) (level : ℕ) (old new : Built) (above : List Child) (nodes : List Node) : Type 0 where
   pub groups : List (List Node)
   pub joined_is : flat_map (λ group. group) groups ≡ nodes
   pub laid : IsLaidBy inner level old new above groups
@@ -172,27 +172,27 @@ pub record IsLaid (inner : InnerType) (level : ℕ) (old new : Built) (above : L
 pub record CanPush (inner : InnerType) (level : ℕ) (now : Built) (above : List Child) (leaf : ℕ) : Type 0 where
   pub old : Built
   pub nodes : List Node
-  pub laid : IsLaid inner level old now above nodes
+  pub laid : IsLevelLaid inner level old now above nodes
   pub key : Content
   pub has : HasKey inner old leaf key
 
 -- the last of its pages takes a node, or has no room
 abbrev pub LaidNow : Bool → InnerType → ℕ → Built → Built → Built → List Child → List Child → List Node → Node → Type 0
-LaidNow true inner level origin old new before above nodes node = IsLaid inner level origin new above (nodes ++ (node ∷ []))
+LaidNow true inner level origin old new before above nodes node = IsLevelLaid inner level origin new above (nodes ++ (node ∷ []))
 LaidNow false inner level origin old new before above nodes node =
     (new ≡ old) × (above ≡ before) × (0 < length before → LacksRoom inner old (get_or before (length before - 1) no_child).page node)
 
 -- so it answers to a child, of whatever nodes it is the level so far
 abbrev pub LastAnswers : Bool → InnerType → ℕ → Built → Built → List Child → List Child → Child → Type 0
 LastAnswers took inner level old new before above child =
-    (origin : Built) (nodes : List Node) (node : Node) → IsLaid inner level origin old before nodes → IsChild inner origin child node
+    (origin : Built) (nodes : List Node) (node : Node) → IsLevelLaid inner level origin old before nodes → IsChild inner origin child node
     → LaidNow took inner level origin old new before above nodes node
 
 -- the level has one node more
 abbrev pub Pushes : InnerType → ℕ → Built → Built → List Child → List Child → Child → Type 0
 Pushes inner level old new before above child =
-    (origin : Built) (nodes : List Node) (node : Node) → IsLaid inner level origin old before nodes → IsChild inner origin child node
-    → IsLaid inner level origin new above (nodes ++ (node ∷ []))
+    (origin : Built) (nodes : List Node) (node : Node) → IsLevelLaid inner level origin old before nodes → IsChild inner origin child node
+    → IsLevelLaid inner level origin new above (nodes ++ (node ∷ []))
 
 -- The laws.
 
@@ -213,7 +213,7 @@ nodes_over p (group ∷ groups) = node_over p group ∷ nodes_over (p + 1) group
 abbrev pub LevelsStand : Type 0
 LevelsStand =
     (inner : InnerType) (level : ℕ) (old new : Built) (below above : List Child) (nodes : List Node) (pages : ℕ → Bool) (g : File)
-    → (laid : IsLaid inner level old new above nodes) → AreChildren inner old below nodes
+    → (laid : IsLevelLaid inner level old new above nodes) → AreChildren inner old below nodes
     → ((p : ℕ) → length old.pages ≤ p → p < length new.pages → pages p ≡ true)
     → ((h : ℕ) → Contains (heads_in inner laid.groups) h → pages h ≡ true) → IsLater pages (file_so_far new) g
     → AreOver inner g level (nodes_over (length old.pages) laid.groups) nodes
@@ -221,44 +221,46 @@ LevelsStand =
 -- another level can be laid over it
 abbrev pub LevelsGoOn : Type 0
 LevelsGoOn =
-    (inner : InnerType) (level : ℕ) (old new : Built) (above : List Child) (nodes : List Node) → (laid : IsLaid inner level old new above nodes)
+    (inner : InnerType) (level : ℕ) (old new : Built) (above : List Child) (nodes : List Node) → (laid : IsLevelLaid inner level old new above nodes)
     → AreChildren inner new above (nodes_over (length old.pages) laid.groups)
 
 -- its pages have the numbers from the count of those that stood on
 abbrev pub LevelsAreNumbered : Type 0
 LevelsAreNumbered =
-    (inner : InnerType) (level : ℕ) (old new : Built) (above : List Child) (nodes : List Node) → (laid : IsLaid inner level old new above nodes)
+    (inner : InnerType) (level : ℕ) (old new : Built) (above : List Child) (nodes : List Node) → (laid : IsLevelLaid inner level old new above nodes)
     → (map (λ (node : Node). node.page) (nodes_over (length old.pages) laid.groups) ≡ range_with_len (length old.pages) (length above))
     × (length new.pages ≡ length old.pages + length above)
 
 -- its pages have no row of form
 abbrev pub LevelsAreFormed : Type 0
 LevelsAreFormed =
-    (inner : InnerType) (level : ℕ) (old new : Built) (above : List Child) (nodes : List Node) (p : ℕ) → IsLaid inner level old new above nodes
+    (inner : InnerType) (level : ℕ) (old new : Built) (above : List Child) (nodes : List Node) (p : ℕ) → IsLevelLaid inner level old new above nodes
     → 2 ≤ level
     → length old.pages ≤ p → p < length new.pages → page_code new.order p (bytes_of new p) ≡ None
 
--- a page that stood is as before; or it is the head of a chain that a key names, and then it counts two references; its form stays
+-- a page that stood is as before; or it is the head of a chain that a key names, and then it counts two references; its form stays,
+-- and so do the marks of its keys
 pub record IsKeptPage (old new : Built) (heads : List ℕ) (p : ℕ) : Type 0 where
   pub same : (Contains heads p → ⊥) → bytes_of new p ≡ bytes_of old p
   pub two : Contains heads p → entries_of new.order (bytes_of new p) ≡ 2
   pub page : IsSamePage (abstract_page old.order (bytes_of old p)) (abstract_page new.order (bytes_of new p))
   pub form : page_code new.order p (bytes_of new p) ≡ page_code old.order p (bytes_of old p)
+  pub live : HasLiveKeys old.order (bytes_of old p) → HasLiveKeys new.order (bytes_of new p)
 
 abbrev pub LevelsKeepPages : Type 0
 LevelsKeepPages =
     (inner : InnerType) (level : ℕ) (old new : Built) (above : List Child) (nodes : List Node) (p : ℕ)
-    → (laid : IsLaid inner level old new above nodes) → p < length old.pages → IsKeptPage old new (heads_in inner laid.groups) p
+    → (laid : IsLevelLaid inner level old new above nodes) → p < length old.pages → IsKeptPage old new (heads_in inner laid.groups) p
 
 -- so the pages with the level are a later file than those that stood
 abbrev pub LevelsAreLater : Type 0
 LevelsAreLater =
     (inner : InnerType) (level : ℕ) (old new : Built) (above : List Child) (nodes : List Node) (pages : ℕ → Bool)
-    → IsLaid inner level old new above nodes → ((p : ℕ) → pages p ≡ true → p < length old.pages)
+    → IsLevelLaid inner level old new above nodes → ((p : ℕ) → pages p ≡ true → p < length old.pages)
     → IsLater pages (file_so_far old) (file_so_far new)
 
 -- over two nodes or more, each of which has room behind another, there are fewer pages than nodes
 abbrev pub LevelsShrink : Type 0
 LevelsShrink =
-    (inner : InnerType) (level : ℕ) (old new : Built) (above : List Child) (nodes : List Node) → IsLaid inner level old new above nodes
+    (inner : InnerType) (level : ℕ) (old new : Built) (above : List Child) (nodes : List Node) → IsLevelLaid inner level old new above nodes
     → ((node : Node) → Contains nodes node → child_cost inner node + 40 ≤ old.size) → 2 ≤ length nodes → length above < length nodes

@@ -68,11 +68,16 @@ pub record IsDatum (g : File) (datum : ValueItem) : Type 0 where
   pub one : IsOneValue datum.item.content
   pub value : HasValue g datum
 
+-- a live key
+pub record IsKey (g : File) (key : ValueItem) : Type 0 where
+  pub live : key.item.deleted ≡ false
+  pub value : HasValue g key
+
 -- a unit stands on a leaf of this type: keys with data on one of pairs, records and data of a set on the others
 abbrev pub StandsPlaced : LeafType → File → Placed → Type 0
 StandsPlaced Pairs g (PlacedEntry entry) = ⊥
-StandsPlaced Pairs g (PlacedPairs key first more) = HasValue g key × IsDatum g first × All (IsDatum g) more
-StandsPlaced Pairs g (PlacedTree key root values) = HasValue g key × (data_of g (Tree root) ≡ values)
+StandsPlaced Pairs g (PlacedPairs key first more) = IsKey g key × IsDatum g first × All (IsDatum g) more
+StandsPlaced Pairs g (PlacedTree key root values) = IsKey g key × (data_of g (Tree root) ≡ values)
 StandsPlaced Records g (PlacedEntry entry) = HasValue g entry
 StandsPlaced Records g (PlacedPairs key first more) = ⊥
 StandsPlaced Records g (PlacedTree key root values) = ⊥

@@ -51,6 +51,7 @@ pub record IsSetBuilt (old new : Built) (sorted : Bool) (values : List (List ℕ
 -- A key whose data have a tree of their own is put on the last leaf.
 pub record IsTreePut (leaves : Leaves) (old new : Built) (sorted : Bool) (key : List ℕ) (values : List (List ℕ)) : Type 0 where
   pub key_item : Item
+  pub key_live : key_item.deleted ≡ false
   pub root : ℕ
   pub put : IsUnitPut leaves old new (PlacedTree (record { item = key_item; value = key }) root values)
   pub right : (g : File) → IsCounted g → IsLater (between (length old.pages) (length new.pages)) (file_so_far new) g

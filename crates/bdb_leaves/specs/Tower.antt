@@ -9,7 +9,7 @@ use Rattle.bdb_levels.specs.declared.inner_type.InnerType.{InnerType}
 use Rattle.bdb_levels.specs.Nodes.{IsTower, Node}
 use Rattle.bdb_levels.specs.Roots.{pages_of}
 use Rattle.bdb_pack.specs.Built.{AreWhole, Built, bytes_of, file_so_far, without_last}
-use Rattle.bdb_leaves.specs.Inner.{HoldsChildrenOn, child_cost, first_cost}
+use Rattle.bdb_leaves.specs.Inner.{HasLiveKeys, HoldsChildrenOn, child_cost, first_cost}
 use Rattle.bdb_leaves.specs.Levels.{heads_of, node_over}
 use Rattle.bdb_leaves.specs.Spread.{AreSpreadLevels, named_heads, pages_over}
 
@@ -64,6 +64,7 @@ pub record HasTower (inner : InnerType) (old new : Built) (nodes : List Node) (r
   pub later : (pages : ℕ → Bool) → ((p : ℕ) → pages p ≡ true → p < length old.pages) → IsLater pages (file_so_far old) (file_so_far new)
   pub formed : (p : ℕ) → length old.pages ≤ p → p < length new.pages → page_code new.order p (bytes_of new p) ≡ None
   pub form_kept : (p : ℕ) → p < length old.pages → page_code new.order p (bytes_of new p) ≡ page_code old.order p (bytes_of old p)
+  pub live : (p : ℕ) → length old.pages ≤ p → p < length new.pages → HasLiveKeys new.order (bytes_of new p)
   pub kept : (p : ℕ) → p < length old.pages → (Contains (flat_map (heads_of inner) nodes) p → ⊥) → bytes_of new p ≡ bytes_of old p
   pub count : length new.pages ≡ length old.pages + pages_over (length nodes) (old.size - 26) (first_cost inner) (map (child_cost inner) nodes)
   pub ends : 2 ≤ length nodes → EndsInRoot inner old new nodes root

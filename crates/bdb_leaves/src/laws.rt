@@ -5,8 +5,8 @@ ghost use Rattle.bdb_leaves.specs.Finished.{FinishedTreesAreCounted, FinishedTre
 ghost use Rattle.bdb_leaves.specs.Finished.{FinishedTreesKeepOlderPages, FinishedTreesKeepPages, FinishedTreesKeepTrees, FirstRootsAreLaid};
 ghost use Rattle.bdb_leaves.specs.Grown.{GrownSetsStand};
 ghost use Rattle.bdb_leaves.specs.Inner.{ChildrenAreFormed, ChildrenStand, RaisedPagesStand};
-ghost use Rattle.bdb_leaves.specs.Laid.{LaidSetsHoldData, LaidTreesAreBranches, LaidTreesAreLinked, LaidTreesAreParts, LaidTreesHaveLeaves};
-ghost use Rattle.bdb_leaves.specs.Layout.{TreesAreSorted};
+ghost use Rattle.bdb_leaves.specs.Laid.{LaidSetsHoldData, LaidTreesAreBranches, LaidTreesAreLinked, LaidTreesAreLive, LaidTreesAreParts, LaidTreesHaveLeaves};
+ghost use Rattle.bdb_leaves.specs.Layout.{TreesAreIn, TreesAreSorted};
 ghost use Rattle.bdb_leaves.specs.LeafEntries.{LeavesAreFormed, LeavesStand};
 ghost use Rattle.bdb_leaves.specs.Levels.{LevelsAreFormed, LevelsAreLater, LevelsAreNumbered, LevelsGoOn, LevelsKeepPages, LevelsShrink, LevelsStand};
 ghost use Rattle.bdb_leaves.specs.Placed.{PairsFollow, RecordsKeepLength, UnitsAreListed, UnitsAreRead, UnitsCost, UnitsKeepRules};
@@ -85,6 +85,11 @@ pub fn laid_trees_are_linked()
     ensures { LaidTreesAreLinked }
 {}
 
+/// No item of the leaves of a tree that is laid is marked deleted, where no unit is.
+pub fn laid_trees_are_live()
+    ensures { LaidTreesAreLive }
+{}
+
 /// A set that is laid holds the values of its live units, and fits where a datum names it.
 pub fn laid_sets_hold_data()
     ensures { LaidSetsHoldData }
@@ -148,6 +153,11 @@ pub fn finished_trees_keep_trees()
 /// The tree of a unit's data is sorted where its root has the type of a sorted set, and else not.
 pub fn trees_are_sorted()
     ensures { TreesAreSorted }
+{}
+
+/// A tree that was built, and the trees of its units' data, are laid out so in each image that has its pages.
+pub fn trees_are_in()
+    ensures { TreesAreIn }
 {}
 
 /// None of these pages has a fault of form.

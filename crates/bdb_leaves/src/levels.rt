@@ -5,7 +5,7 @@ ghost use Rattle.bdb_layout.specs.Seen.{key_seen};
 ghost use Rattle.bdb_levels.specs.Nodes.{Node};
 ghost use Rattle.bdb_levels.specs.declared.inner_type.InnerType.TheVariants.{Keyed, Numbered};
 ghost use Rattle.bdb_pack.specs.Built.{AreWhole};
-ghost use Rattle.bdb_leaves.specs.Levels.{AnswersTo, AreChildren, BeginsWithKey, CanBeAsked, CanPush, IsLaid, LastAnswers, Pushes, Starts, raising};
+ghost use Rattle.bdb_leaves.specs.Levels.{AnswersTo, AreChildren, BeginsWithKey, CanBeAsked, CanPush, IsLevelLaid, LastAnswers, Pushes, Starts, raising};
 ghost use Rattle.bdb_leaves.specs.Levels.{stored_heads, stored_key};
 
 use crate::inner::{add_inner, append_child, append_count, raise_count};
@@ -224,7 +224,7 @@ pub(crate) fn lay_level(
     requires whole { AreWhole pages.old }
     requires children { (nodes : List Node) × AreChildren inner pages.old below.now nodes }
     ensures { IfOk result (λ above. (nodes : List Node) → AreChildren inner pages.old below.now nodes
-        → IsLaid inner level pages.old pages.new above.items nodes) }
+        → IsLevelLaid inner level pages.old pages.new above.items nodes) }
 {
     let mut above = Vec::new(alloc);
     let mut buffer = Vec::new(alloc);

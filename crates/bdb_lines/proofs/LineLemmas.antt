@@ -6,7 +6,7 @@ use Rattle.bdb_format.specs.declared.kinds.Fault.{Fault}
 use Rattle.bdb_format.specs.declared.kinds.Unsupported.{Unsupported}
 use Rattle.bdb_model.specs.Answers.{fault_line, unsupported_line}
 use Rattle.bdb_format.specs.FaultNames.{fault_name, unsupported_name}
-use Rattle.bdb_model.specs.Lines.{line}
+use Rattle.bdb_text_format.specs.LineEnd.{line}
 use Rattle.bdb_lines.specs.Passing.{Passes}
 use Rattle.bdb_lines.specs.Telling.{case_page_part, case_part, code_part, name_part, page_part, stage_part}
 use Rattle.bdb_lines.specs.declared.cut.Cut.{Cut}

@@ -4,7 +4,7 @@ use Rattle.std.specs.Fmt.{decimal}
 use Rattle.std.specs.List.{flat_map}
 use Rattle.bdb_format.specs.Verdict.{Judgement, Faulty, LeftOut}
 use Rattle.bdb_model.specs.Answers.{fault_line, unsupported_line}
-use Rattle.bdb_model.specs.Lines.{line}
+use Rattle.bdb_text_format.specs.LineEnd.{line}
 
 abbrev pub judgement_line : Judgement → List ℕ
 judgement_line (Faulty fault) = fault_line fault

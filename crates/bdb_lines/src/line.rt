@@ -8,7 +8,7 @@ ghost use Rattle.bdb_lines.specs.Telling.{case_page_part, case_part, code_part, 
 ghost use Rattle.bdb_lines.specs.declared.cut.Cut.TheVariants.{WriteFault};
 ghost use Rattle.bdb_model.specs.Answers.{fault_line, unsupported_line};
 ghost use Rattle.bdb_format.specs.FaultNames.{fault_name, unsupported_name};
-ghost use Rattle.bdb_model.specs.Lines.{line};
+ghost use Rattle.bdb_text_format.specs.LineEnd.{line};
 
 use crate::Cut;
 use crate::digits::Digits;

@@ -23,9 +23,9 @@ fn print_all<K: Sink>(printer: &mut Printer<'_, K>, all: &NamedList) -> Result<(
     Ok(())
 }
 
-/// Writes a line for each of these to a sink. The room has nothing in it at the start. An error is a write that failed.
+/// Writes a line for each of these to a sink, through a room with nothing in it. An error is a write that failed.
 #[tactic(auto, using(crate::proofs::PassingLemmas::all_cut))]
-pub fn tell_all<K: Sink>(out: &mut K, room: &mut Room, all: &NamedList) -> Result<(), Cut>
+fn write_all<K: Sink>(out: &mut K, room: &mut Room, all: &NamedList) -> Result<(), Cut>
     requires { room.old ≡ [] }
     ensures lines { Writes (judgements_text all.now) (change K.written K.faults out.old out.new) result }
     ensures cause { IfErr result (λ cut. cut ≡ WriteFault) }
@@ -35,9 +35,9 @@ pub fn tell_all<K: Sink>(out: &mut K, room: &mut Room, all: &NamedList) -> Resul
     printer.flush()
 }
 
-/// Writes the line of what holds at a page to a sink. The room has nothing in it at the start. An error is a write that failed.
+/// The same with one line.
 #[tactic(auto, using(crate::proofs::PassingLemmas::all_cut))]
-pub fn tell_one<K: Sink>(out: &mut K, room: &mut Room, named: Named) -> Result<(), Cut>
+fn write_one<K: Sink>(out: &mut K, room: &mut Room, named: Named) -> Result<(), Cut>
     requires { room.old ≡ [] }
     ensures lines { Writes (judgement_line (judgement_seen named)) (change K.written K.faults out.old out.new) result }
     ensures cause { IfErr result (λ cut. cut ≡ WriteFault) }
@@ -45,4 +45,28 @@ pub fn tell_one<K: Sink>(out: &mut K, room: &mut Room, named: Named) -> Result<(
     let mut printer = Printer { out, room };
     printer.line(named)?;
     printer.flush()
+}
+
+/// Writes a line for each of these to a sink. The room has nothing in it at the start, nor afterwards. An error is a write that failed.
+pub fn tell_all<K: Sink>(out: &mut K, room: &mut Room, all: &NamedList) -> Result<(), Cut>
+    requires { room.old ≡ [] }
+    ensures lines { Writes (judgements_text all.now) (change K.written K.faults out.old out.new) result }
+    ensures cause { IfErr result (λ cut. cut ≡ WriteFault) }
+    ensures empty { room.new ≡ [] }
+{
+    let told = write_all(out, room, all);
+    room.clear();
+    told
+}
+
+/// Writes the line of what holds at a page to a sink. The room has nothing in it at the start, nor afterwards. An error is a write that failed.
+pub fn tell_one<K: Sink>(out: &mut K, room: &mut Room, named: Named) -> Result<(), Cut>
+    requires { room.old ≡ [] }
+    ensures lines { Writes (judgement_line (judgement_seen named)) (change K.written K.faults out.old out.new) result }
+    ensures cause { IfErr result (λ cut. cut ≡ WriteFault) }
+    ensures empty { room.new ≡ [] }
+{
+    let told = write_one(out, room, named);
+    room.clear();
+    told
 }

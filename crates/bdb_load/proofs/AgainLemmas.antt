@@ -9,8 +9,8 @@ use Rattle.bdb_format.specs.Databases.{Database, databases}
 use Rattle.bdb_format.specs.File.{file_of}
 use Rattle.bdb_format.specs.HeadOf.{head_of}
 use Rattle.bdb_format.specs.Less.{less}
-use Rattle.bdb_model.specs.declared.sections.Section.{Section}
-use Rattle.bdb_model.specs.Written.{header_lines}
+use Rattle.bdb_text_format.specs.declared.sections.Section.{Section}
+use Rattle.bdb_text_format.specs.Written.{header_lines}
 use Rattle.bdb_leaves.proofs.UnitLemmas.{ascends_later}
 use Rattle.bdb_kept.specs.Dumps.{AreKept, AreKeptAs, IsLoadedOf, bytes_of_section}
 use Rattle.bdb_kept.proofs.DumpLemmas.{dumps_are_kept, loaded_dumps_are_the_same}

@@ -3,10 +3,10 @@ use Rattle.std.proofs.Common.{◌≡◌, ◌&&◌, Bool, false, List, [], ◌∷
 use Rattle.bdb_format.specs.declared.kinds.Kind.{Kind}
 use Rattle.bdb_format.specs.declared.kinds.Kind.TheVariants.{Btree, Recno, Hash, Queue}
 use Rattle.bdb_format.specs.declared.settings.Settings.{Settings}
-use Rattle.bdb_model.specs.declared.list.Pair.{Pair}
+use Rattle.bdb_text_format.specs.declared.list.Pair.{Pair}
 use Rattle.bdb_leaves.proofs.RunLemmas.{all_map}
 use Rattle.bdb_leaves.specs.Spread.{tree_size}
-use Rattle.bdb_mktree.specs.Lists.{IsKeyFor, IsListFor, IsPairFor, is_in_order, may_follow, units_in}
+use Rattle.bdb_mktree.specs.Lists.{IsKeyFor, IsTreeList, IsPairFor, is_in_order, may_follow, units_in}
 use Rattle.bdb_mktree.specs.Units.{leaf_type_of}
 use Rattle.bdb_count.specs.Need.{list_pages}
 use Rattle.bdb_alone.specs.Settled.{file_settings, own_settings}
@@ -52,7 +52,7 @@ pair_alike a b pair alike is = record {
   long = λ recno fixed. is.long (alike.kind ∙ recno) (alike.fixed recno ∙ fixed) ∙ alike.re_len recno;
 }
 
-pub list_alike : (a b : Settings) (pairs : List Pair) → AreAlike a b → IsListFor a pairs → IsListFor b pairs
+pub list_alike : (a b : Settings) (pairs : List Pair) → AreAlike a b → IsTreeList a pairs → IsTreeList b pairs
 list_alike a b pairs alike is = record {
   each = all_map {P = IsPairFor a} {Q = IsPairFor b} (λ pair fit. pair_alike a b pair alike fit) pairs is.each;
   in_order = sym (in_order_alike a b pairs alike) ∙ is.in_order;
@@ -64,11 +64,11 @@ own_built : (k : Kind) (settings : Settings) (pairs : List Pair) → settings.ki
     → IsBuildable k (own_settings k settings.page_size settings.order settings) pairs
 own_built Btree settings pairs same is = (
   subst (λ k. IsTreeSettings (own_settings k settings.page_size settings.order settings)) same (fit_in_file settings is.0),
-  subst (λ k. IsListFor (own_settings k settings.page_size settings.order settings) pairs) same (list_own settings pairs is.1),
+  subst (λ k. IsTreeList (own_settings k settings.page_size settings.order settings) pairs) same (list_own settings pairs is.1),
 )
 own_built Recno settings pairs same is = (
   subst (λ k. IsTreeSettings (own_settings k settings.page_size settings.order settings)) same (fit_in_file settings is.0),
-  subst (λ k. IsListFor (own_settings k settings.page_size settings.order settings) pairs) same (list_own settings pairs is.1),
+  subst (λ k. IsTreeList (own_settings k settings.page_size settings.order settings) pairs) same (list_own settings pairs is.1),
 )
 own_built Hash settings pairs same is =
     let own : Settings = own_settings Hash settings.page_size settings.order settings in
@@ -91,21 +91,21 @@ buildable_own settings pairs is =
 
 -- How many pages lists have.
 
-own_pages : (k : Kind) (settings : Settings) (pairs : List Pair) → settings.kind ≡ k → IsBuildable k settings pairs
+pages_alike : (k : Kind) (settings : Settings) (pairs : List Pair) → settings.kind ≡ k → IsBuildable k settings pairs
     → list_pages k (own_settings k settings.page_size settings.order settings) pairs ≡ list_pages k settings pairs
-own_pages Btree settings pairs same is =
+pages_alike Btree settings pairs same is =
     ap (λ k. tree_size (leaf_type_of k) settings.page_size settings.sorted (units_in k pairs)) (sym same)
-own_pages Recno settings pairs same is =
+pages_alike Recno settings pairs same is =
     let unsorted : false ≡ settings.sorted =
     subst (λ k. (own_settings k settings.page_size settings.order settings).sorted ≡ settings.sorted) same (sorted_in_file settings is.0) in
     ap (λ s. tree_size (leaf_type_of Recno) settings.page_size s (units_in Recno pairs)) unsorted
     ∙ ap (λ k. tree_size (leaf_type_of k) settings.page_size settings.sorted (units_in k pairs)) (sym same)
-own_pages Hash settings pairs same is = refl
-own_pages Queue settings pairs same is = refl
+pages_alike Hash settings pairs same is = refl
+pages_alike Queue settings pairs same is = refl
 
 -- a list has as many for a database's own settings
 pub pages_own : (settings : Settings) (pairs : List Pair) → IsBuildable settings.kind settings pairs
     → list_pages (file_settings settings).kind (file_settings settings) pairs ≡ list_pages settings.kind settings pairs
 pages_own settings pairs is =
     ap (λ k. list_pages k (file_settings settings) pairs) (own_kind settings.kind settings.page_size settings.order settings)
-    ∙ own_pages settings.kind settings pairs refl is
+    ∙ pages_alike settings.kind settings pairs refl is

@@ -1,6 +1,6 @@
 -- The image of sections with their lists is one that is built of the sections.
 use Rattle.std.proofs.Common.{◌≡◌, ℕ, ◌+◌, ◌-◌, ◌*◌, Result, Ok, Err, Bool, true, false, cond, List, [], ◌∷◌, length, map, Option, Some}
-use Rattle.std.proofs.Common.{None, refl, sym, ◌∙◌, ap, subst, arith}
+use Rattle.std.proofs.Common.{◌⊎◌, None, refl, sym, ◌∙◌, ap, subst, arith, inl, inr}
 use Rattle.std.specs.Prelude.{is_some, nat_lt, slice_get, if◌then◌else◌, IfOk}
 use Rattle.std.specs.declared.alloc.AllocError.{AllocError}
 use Rattle.std.specs.List.{All, AllZip, fold, sum_by}
@@ -11,23 +11,24 @@ use Rattle.bdb_format.specs.declared.kinds.Order.{Order}
 use Rattle.bdb_format.specs.declared.settings.Settings.{Settings}
 use Rattle.bdb_format.specs.Databases.{Database, databases}
 use Rattle.bdb_format.specs.File.{file_of}
-use Rattle.bdb_model.specs.declared.list.Pair.{Pair}
-use Rattle.bdb_model.specs.declared.sections.Section.{Section}
-use Rattle.bdb_model.specs.Pairs.{listed}
-use Rattle.bdb_model.specs.Written.{header_lines}
-use Rattle.bdb_settle.specs.declared.load_error.LoadError.TheVariants.{TooLarge}
-use Rattle.bdb_settle.specs.LoadErrors.{load_error}
+use Rattle.bdb_text_format.specs.declared.list.Pair.{Pair}
+use Rattle.bdb_text_format.specs.declared.sections.Section.{Section}
+use Rattle.bdb_text_format.specs.Pairs.{listed}
+use Rattle.bdb_text_format.specs.Written.{header_lines}
+use Rattle.bdb_settle.specs.declared.load_error.LoadError.{LoadError}
+use Rattle.bdb_settle.specs.declared.load_error.LoadError.TheVariants.{TooLarge, Memory}
+use Rattle.bdb_settle.specs.LoadErrors.{IsSettleRefusal, load_error, page_size_in}
 use Rattle.bdb_settle.specs.Loaded.{loaded, loaded_section}
-use Rattle.bdb_buckets.specs.Tables.{AreUnsorted}
-use Rattle.bdb_need.specs.Need.{pairs_in}
+use Rattle.bdb_buckets.specs.Tables.{HasBuiltTable}
+use Rattle.bdb_need.specs.Need.{unlined_pairs}
 use Rattle.bdb_count.specs.Need.{list_pages, master_pages, need_of, section_pages}
 use Rattle.bdb_alone.specs.Settled.{file_settings, own_settings}
 use Rattle.bdb_alone.proofs.SettingsLemmas.{own_size, settings_shown}
-use Rattle.bdb_named.specs.Images.{AreNamed, HasUnsortedTables, IsDatabaseOf, IsNamed, IsNamedImage, names_pages}
+use Rattle.bdb_named.specs.Images.{AreNamed, HasBuiltTables, IsDatabaseOf, IsNamed, IsNamedImage, names_pages}
 use Rattle.bdb_load.specs.Builds.{Builds, IsLoadedAs, image_size, in_file_of, in_name_order}
-use Rattle.bdb_load.specs.Loading.{loading_error, or_else, size_error}
+use Rattle.bdb_load.specs.Loading.{IsLoadRefusal, IsLoadRefusalBy, loading_error, or_else, size_error}
 use Rattle.bdb_load.specs.Order.{with_named}
-use Rattle.bdb_load.specs.Settled.{AreBuildable, AreNamedApart, IsAloneImage, IsBuildable, IsImageOfSections, size_in}
+use Rattle.bdb_load.specs.Settled.{AreBuildable, AreNamedApart, IsAloneImage, IsBuildable, IsImageOfSections}
 use Rattle.bdb_load.proofs.AlikeLemmas.{pages_own}
 use Rattle.bdb_load.proofs.ApartLemmas.{fold_is_order, order_all, order_map, order_sum}
 use Rattle.bdb_load.proofs.MasterLemmas.{master_same, names_ascend}
@@ -36,11 +37,11 @@ use Rattle.bdb_count.proofs.NeedLemmas.{listed_again}
 -- One section alone.
 
 pub alone_built : (section : Section) (image : List ℕ) → is_some section.name ≡ false
-    → IsBuildable section.settings.kind section.settings (pairs_in section.pairs)
-    → IsAloneImage (file_settings section.settings) (pairs_in section.pairs) image → IsImageOfSections (section ∷ []) image
+    → IsBuildable section.settings.kind section.settings (unlined_pairs section.pairs)
+    → IsAloneImage (file_settings section.settings) (unlined_pairs section.pairs) image → IsImageOfSections (section ∷ []) image
 alone_built section image unnamed buildable is =
     let settings : Settings = section.settings in
-    let list : List Pair = pairs_in section.pairs in
+    let list : List Pair = unlined_pairs section.pairs in
     let none : section.name ≡ None = no_name section.name unnamed in
     let pages : 1 + list_pages settings.kind settings list ≡ need_of (section ∷ []) =
     let test : cond (is_some section.name) (1 + master_pages settings.page_size (section ∷ [])) 0 ≡ 0 =
@@ -55,10 +56,10 @@ alone_built section image unnamed buildable is =
           ∙ ap (λ n. n * settings.page_size) pages));
       databases =
           subst (AllZip (IsDatabaseOf settings.page_size settings.order image) (section ∷ [])) (sym is.alone) (same, tt);
-      unsorted =
-          let of : Database → Type 0 = λ database. AreUnsorted (file_of image) database.fields in
+      tables =
+          let of : Database → Type 0 = λ database. HasBuiltTable (file_of image) database.fields in
           subst (All of) (sym is.alone)
-          (All-cons of (record { name = None; fields = is.fields }) [] is.unsorted (All-nil of));
+          (All-cons of (record { name = None; fields = is.fields }) [] is.buckets (All-nil of));
     }
   where
     no_name : (name : Option (List ℕ)) → is_some name ≡ false → name ≡ None
@@ -89,7 +90,7 @@ named_built first rest sorted image has named are is =
     ap (λ b. cond b (1 + master_pages size sections) 0) has in
     let master = master_same size sections named.apart in
     let others = order_sum (section_pages size) sections in omega (arith, test, master, others) in
-    record { sound = there.sound; size = there.long ∙ ap (λ n. n * size) pages; databases = there.databases; unsorted = there.unsorted }
+    record { sound = there.sound; size = there.long ∙ ap (λ n. n * size) pages; databases = there.databases; tables = there.tables }
 
 -- The first section is found, and the only one is taken off.
 
@@ -124,7 +125,7 @@ named_image_built sections sorted found (Ok image) built at has are is =
 pub record IsOnly (sections : List Section) (section : Section) : Type 0 where
   pub one : sections ≡ section ∷ []
   pub unnamed : is_some section.name ≡ false
-  pub built : IsBuildable section.settings.kind section.settings (pairs_in section.pairs)
+  pub built : IsBuildable section.settings.kind section.settings (unlined_pairs section.pairs)
 
 pub taken_only : (sections : List Section) (found section : Section) → AreBuildable sections → Some found ≡ slice_get sections 0
     → is_some found.name ≡ false → Some section ≡ slice_get sections (length sections - 1) → IsOnly sections section
@@ -139,7 +140,7 @@ taken_only sections found section built at none last =
 
 pub alone_image : (sections : List Section) (found section : Section) (result : Result (List ℕ) AllocError) → AreBuildable sections
     → Some found ≡ slice_get sections 0 → is_some found.name ≡ false → Some section ≡ slice_get sections (length sections - 1)
-    → IfOk result (λ image. IsAloneImage (file_settings section.settings) (pairs_in section.pairs) image)
+    → IfOk result (λ image. IsAloneImage (file_settings section.settings) (unlined_pairs section.pairs) image)
     → IfOk result (λ image. IsImageOfSections sections image)
 alone_image sections found section (Err error) built at none last is = tt
 alone_image sections found section (Ok image) built at none last is =
@@ -190,33 +191,59 @@ pub builds : (sections settled : List Section) (image : List ℕ) → settled �
     → Builds sections image
 builds sections settled image lists is = builds_loaded sections image (subst (λ ss. IsImageOfSections ss image) lists is)
 
--- and its buckets are unsorted
-pub unsorted_tables : (settled : List Section) (image : List ℕ) → IsImageOfSections settled image → HasUnsortedTables image
-unsorted_tables [] image never = absurd never
-unsorted_tables (section ∷ sections) image is = is.unsorted
+-- and its buckets are as built
+pub built_tables : (settled : List Section) (image : List ℕ) → IsImageOfSections settled image → HasBuiltTables image
+built_tables [] image never = absurd never
+built_tables (section ∷ sections) image is = is.tables
 
 -- Errors.
 
-loaded_size : (sections : List Section) → need_of (map loaded_section sections) * size_in (map loaded_section sections) ≡ image_size sections
+loaded_size : (sections : List Section) → need_of (map loaded_section sections) * page_size_in (map loaded_section sections) ≡ image_size sections
 loaded_size [] = refl
 loaded_size (section ∷ sections) = refl
 
 -- the bytes of the pages that are counted are those of the image
 pub counted_size : (sections settled : List Section) (pages : ℕ) → settled ≡ map loaded_section sections → pages ≡ need_of settled
-    → pages * size_in settled ≡ image_size sections
+    → pages * page_size_in settled ≡ image_size sections
 counted_size sections settled pages lists pages_are =
-    ap (λ n. n * size_in settled) pages_are ∙ ap (λ ss. need_of ss * size_in ss) lists ∙ loaded_size sections
+    ap (λ n. n * page_size_in settled) pages_are ∙ ap (λ ss. need_of ss * page_size_in ss) lists ∙ loaded_size sections
 
 pub no_error : (max pages : ℕ) (sections settled : List Section) → load_error sections ≡ None → settled ≡ map loaded_section sections
-    → pages ≡ need_of settled → nat_lt max (pages * size_in settled) ≡ false → loading_error max sections ≡ None
+    → pages ≡ need_of settled → nat_lt max (pages * page_size_in settled) ≡ false → loading_error max sections ≡ None
 no_error max pages sections settled none lists pages_are within =
     let test : nat_lt max (image_size sections) ≡ false =
     ap (nat_lt max) (sym (counted_size sections settled pages lists pages_are)) ∙ within in
     ap (λ e. or_else e (size_error max sections)) none ∙ ap (λ (b : Bool). if b then Some TooLarge else None) test
 
-pub too_large : (max pages : ℕ) (sections settled : List Section) → load_error sections ≡ None → settled ≡ map loaded_section sections
-    → pages ≡ need_of settled → nat_lt max (pages * size_in settled) ≡ true → loading_error max sections ≡ Some TooLarge
-too_large max pages sections settled none lists pages_are above =
+pub too_large : (max pages : ℕ) (sections settled : List Section) → settled ≡ map loaded_section sections
+    → pages ≡ need_of settled → nat_lt max (pages * page_size_in settled) ≡ true → size_error max sections ≡ Some TooLarge
+too_large max pages sections settled lists pages_are above =
     let test : nat_lt max (image_size sections) ≡ true =
     ap (nat_lt max) (sym (counted_size sections settled pages lists pages_are)) ∙ above in
-    ap (λ e. or_else e (size_error max sections)) none ∙ ap (λ (b : Bool). if b then Some TooLarge else None) test
+    ap (λ (b : Bool). if b then Some TooLarge else None) test
+
+-- Refusals.
+
+-- sections that have an error are refused by it
+pub refused_first : (most : ℕ) (sections : List Section) (error : LoadError) → IsSettleRefusal (load_error sections) error
+    → IsLoadRefusal most sections error
+refused_first most sections error is = by_first (load_error sections) is
+  where
+    by_first : (first : Option LoadError) → IsSettleRefusal first error → IsLoadRefusalBy first (size_error most sections) error
+    by_first (Some first) is = is
+    by_first None is = inl is
+
+-- others for want of memory, or by the size of their image
+pub refused_late : (most : ℕ) (sections : List Section) (error : LoadError) → load_error sections ≡ None
+    → (error ≡ Memory) ⊎ (size_error most sections ≡ Some error) → IsLoadRefusal most sections error
+refused_late most sections error none is = subst (λ first. IsLoadRefusalBy first (size_error most sections) error) (sym none) is
+
+-- a refusal is for want of memory, or gives the error that there is
+pub refusal_found : (most : ℕ) (sections : List Section) (error : LoadError) → IsLoadRefusal most sections error
+    → (error ≡ Memory) ⊎ (loading_error most sections ≡ Some error)
+refusal_found most sections error is = by_first (load_error sections) is
+  where
+    by_first : (first : Option LoadError) → IsLoadRefusalBy first (size_error most sections) error
+        → (error ≡ Memory) ⊎ (or_else first (size_error most sections) ≡ Some error)
+    by_first (Some first) is = inr (ap Some (sym is))
+    by_first None is = is

@@ -11,33 +11,35 @@ use Rattle.bdb_format.specs.declared.kinds.Kind.TheVariants.{Btree, Recno, Hash,
 use Rattle.bdb_format.specs.declared.settings.Settings.{Settings}
 use Rattle.bdb_format.specs.HeadOf.{is_page_size}
 use Rattle.bdb_format.specs.Numbers.{pad4}
-use Rattle.bdb_model.specs.declared.list.Pair.{Pair}
-use Rattle.bdb_model.specs.declared.pairs.Key.{Key}
-use Rattle.bdb_model.specs.declared.pairs.Key.TheVariants.{Bytes, Number}
-use Rattle.bdb_model.specs.declared.sections.Section.{Section}
-use Rattle.bdb_model.specs.Written.{holds_records}
+use Rattle.bdb_text_format.specs.declared.list.Pair.{Pair}
+use Rattle.bdb_text_format.specs.declared.pairs.Key.{Key}
+use Rattle.bdb_text_format.specs.declared.pairs.Key.TheVariants.{Bytes, Number}
+use Rattle.bdb_text_format.specs.declared.sections.Section.{Section}
+use Rattle.bdb_text_format.specs.Written.{holds_records}
 use Rattle.bdb_sections.specs.Fit.{AreFit, AreFitSettings, AreNamedBehind, IsFitSection, is_number}
 use Rattle.bdb_leaves.specs.Runs.{IsShort}
-use Rattle.bdb_mktree.specs.Lists.{IsListFor as IsTreeList}
+use Rattle.bdb_mktree.specs.Lists.{IsTreeList}
 use Rattle.bdb_mktree.specs.Units.{IsTreeKind}
 use Rattle.bdb_mkhash.specs.Table.{IsTableList}
 use Rattle.bdb_mkqueue.specs.Lists.{HasNext}
-use Rattle.bdb_settle.specs.ListLaw.{IsFit, IsKeyOf}
-use Rattle.bdb_settle.specs.LoadErrors.{load_error}
-use Rattle.bdb_settle.specs.Loaded.{loaded, loaded_section, unnumbered}
+use Rattle.bdb_settle.specs.ListLaw.{HasShortBytes, IsFit, IsKeyOf}
+use Rattle.bdb_settle.specs.LoadErrors.{load_error, page_size_in}
+use Rattle.bdb_settle.specs.Loaded.{filled_section, loaded, loaded_section, ordered_section, unnumbered}
+use Rattle.bdb_settle.proofs.FillingLemmas.{sections_filled}
+use Rattle.bdb_settle.proofs.ErrorLemmas.{sound_pairs}
 use Rattle.bdb_settle.proofs.ListLawLemmas.{load_into_lists}
-use Rattle.bdb_need.specs.Need.{pairs_in}
+use Rattle.bdb_need.specs.Need.{unlined_pairs}
 use Rattle.bdb_count.specs.Need.{AreSettled, IsListOf, IsSettled, list_pages, name_in, need_of, sized}
 use Rattle.bdb_alone.specs.Images.{queue_pages}
 use Rattle.bdb_alone.specs.Lists.{IsQueueAlone}
 use Rattle.bdb_alone.specs.Trees.{IsTreeSettings}
 use Rattle.bdb_alone.proofs.ListLemmas.{load_into_tables, queues_are_alone, records_are_few}
 use Rattle.bdb_named.specs.Images.{AreNamedSettings, IsNamed}
-use Rattle.bdb_load.specs.Order.{AreApart, IsApart}
-use Rattle.bdb_load.specs.Lengths.{IsShortSection}
-use Rattle.bdb_load.specs.Settled.{AreBuildable, AreNamedApart, IsBuildable, IsUnnamedAlone, size_in}
+use Rattle.bdb_load.specs.Order.{AreApart}
+use Rattle.bdb_load.specs.Settled.{AreBuildable, AreNamedApart, IsBuildable, IsUnnamedAlone}
 use Rattle.bdb_load.proofs.AlikeLemmas.{list_alike}
 use Rattle.bdb_load.proofs.ApartLemmas.{HasName, all_named, alone_unnamed, named_apart}
+use Rattle.bdb_load.proofs.ShortLemmas.{HasShortList, loaded_short, settled_apart}
 use Rattle.bdb_count.proofs.NeedLemmas.{listed_again}
 
 -- Each section.
@@ -52,14 +54,9 @@ key_of Hash (Number number) is = absurd (cc is)
 key_of Queue (Bytes bytes) is = absurd (cc is)
 key_of Queue (Number number) is = tt
 
-section_fits : (most : ℕ) (section : Section) → IsFitSection most section → IsShortSection section → IsFit section
-section_fits most section fit short = record {
-  pairs = λ k d low. record {
-    key = key_of section.settings.kind (get_or section.pairs k d).key (fit.pairs k d low).key;
-    key_short = (short.pairs k d low).key;
-    short = (short.pairs k d low).value;
-  };
-  length = fit.settings.re_len;
+section_fits : (most : ℕ) (section : Section) → IsFitSection most section → IsFit section
+section_fits most section fit = record {
+  pairs = λ k d low. key_of section.settings.kind (get_or section.pairs k d).key (fit.pairs k d low).key;
   sorted = fit.settings.sorted;
 }
 
@@ -71,16 +68,18 @@ pub record IsReady (sections : List Section) (section : Section) : Type 0 where
   pub table : section.settings.kind ≡ Hash → IsTableList section.settings (loaded section.settings section.pairs)
   pub queue : section.settings.kind ≡ Queue → IsQueueAlone sections section
 
-pub are_ready : (most : ℕ) (sections : List Section) → AreFit most sections → All IsShortSection sections → load_error sections ≡ None
+pub are_ready : (most : ℕ) (sections : List Section) → AreFit most sections → All HasShortList sections → load_error sections ≡ None
     → All (IsReady sections) sections
 are_ready most sections fit short none k d low =
     let section : Section = get_or sections k d in
-    let is_fit : IsFit section = section_fits most section (fit.each k d low) (short k d low) in
+    let is_fit : IsFit section = section_fits most section (fit.each k d low) in
+    let bytes : All HasShortBytes (loaded section.settings section.pairs) =
+    loaded_short section (sound_pairs sections none k d low) (fit.each k d low).settings.re_len (short k d low).list in
     record {
       settings = (fit.each k d low).settings;
       name = (short k d low).name;
-      tree = λ tree. load_into_lists sections none k d low tree is_fit;
-      table = λ hash. load_into_tables sections none k d low hash is_fit;
+      tree = λ tree. load_into_lists sections none k d low tree is_fit bytes;
+      table = λ hash. load_into_tables sections none k d low hash is_fit bytes;
       queue = λ queue. queues_are_alone sections none k d low queue ((fit.each k d low).settings.fixed queue) is_fit;
     }
 
@@ -109,7 +108,7 @@ list_of_kind Queue sections rest first section are same ready =
 
 -- a section with its list, in the file of the first
 settled_list : (sections rest : List Section) (first section : Section) → sections ≡ first ∷ rest → IsReady sections section
-    → IsListOf section.settings.kind (sized first.settings.page_size section) (pairs_in (map unnumbered (loaded section.settings section.pairs)))
+    → IsListOf section.settings.kind (sized first.settings.page_size section) (unlined_pairs (map unnumbered (loaded section.settings section.pairs)))
 settled_list sections rest first section are ready =
     subst (λ ps. IsListOf section.settings.kind (sized first.settings.page_size section) ps)
     (sym (listed_again (loaded section.settings section.pairs)))
@@ -121,13 +120,22 @@ settled_list sections rest first section are ready =
 pub record AreLoading (sections settled : List Section) : Type 0 where
   pub most : ℕ
   pub fit : AreFit most sections
-  pub short : All IsShortSection sections
+  pub short : All HasShortList sections
   pub none : load_error sections ≡ None
   pub lists : settled ≡ map loaded_section sections
 
 split_first : (sections : List Section) → (length sections == 0) ≡ false → (first : Section) × (rest : List Section) × (sections ≡ first ∷ rest)
 split_first [] some = absurd (cc some)
 split_first (first ∷ rest) some = (first, rest, refl)
+
+-- sections in order, with their records filled up, are those that are loaded
+pub lists_filled : (sections ordered : List Section) → ordered ≡ map ordered_section sections → map filled_section ordered ≡ map loaded_section sections
+lists_filled sections ordered is = ap (map filled_section) is ∙ sections_filled sections
+
+-- their page size is the same
+pub filled_size : (sections : List Section) → page_size_in (map filled_section sections) ≡ page_size_in sections
+filled_size [] = refl
+filled_size (section ∷ sections) = refl
 
 pub are_settled : (sections settled : List Section) → AreLoading sections settled → AreSettled settled
 are_settled sections settled loading =
@@ -178,7 +186,7 @@ queue_needs : (first : Section) → first.settings.kind ≡ Queue
     → queue_pages first.settings (loaded first.settings first.pairs) ≤ need_of (map loaded_section (first ∷ []))
 queue_needs first queue =
     let list : List Pair = loaded first.settings first.pairs in
-    let same : list_pages first.settings.kind first.settings (pairs_in (map unnumbered list)) ≡ queue_pages first.settings list =
+    let same : list_pages first.settings.kind first.settings (unlined_pairs (map unnumbered list)) ≡ queue_pages first.settings list =
     ap (list_pages first.settings.kind first.settings) (listed_again list) ∙ ap (λ k. list_pages k first.settings list) queue in
     omega (arith, same)
 
@@ -186,14 +194,14 @@ queue_needs first queue =
 pub record IsWithin (max pages : ℕ) (settled : List Section) : Type 0 where
   pub max_low : max ≤ 2 ^ 30
   pub pages_are : pages ≡ need_of settled
-  pub within : nat_lt max (pages * size_in settled) ≡ false
+  pub within : nat_lt max (pages * page_size_in settled) ≡ false
 
 queue_few : (max pages : ℕ) (settled : List Section) (first : Section) → settled ≡ map loaded_section (first ∷ []) → IsWithin max pages settled
     → first.settings.kind ≡ Queue → queue_pages first.settings (loaded first.settings first.pairs) * first.settings.page_size ≤ 2 ^ 30
 queue_few max pages settled first are within queue =
     let needed : pages ≡ need_of (map loaded_section (first ∷ [])) = within.pages_are ∙ ap need_of are in
     let low : queue_pages first.settings (loaded first.settings first.pairs) ≤ pages = omega (arith, needed, queue_needs first queue) in
-    let test : nat_lt max (pages * first.settings.page_size) ≡ false = sym (ap (λ ss. nat_lt max (pages * size_in ss)) are) ∙ within.within in
+    let test : nat_lt max (pages * first.settings.page_size) ≡ false = sym (ap (λ ss. nat_lt max (pages * page_size_in ss)) are) ∙ within.within in
     let bytes : pages * first.settings.page_size ≤ max = grind (arith, nat_tests) in
     let more : queue_pages first.settings (loaded first.settings first.pairs) * first.settings.page_size ≤ pages * first.settings.page_size =
     mul-le-mul_right first.settings.page_size low in omega (arith, bytes, more, within.max_low)
@@ -259,11 +267,6 @@ is_named sections rest first section are legal ready has =
       settings = named_settings section.settings.kind first.settings.page_size sections section refl legal ready has;
       list = settled_list sections rest first section are ready;
     }
-
-settled_apart : (sections : List Section) → AreApart sections → AreApart (map loaded_section sections)
-settled_apart [] apart = tt
-settled_apart (section ∷ sections) apart =
-    (All-map (IsApart (loaded_section section)) loaded_section sections apart.0, settled_apart sections apart.1)
 
 named_parts : (sections settled rest : List Section) (first : Section) → sections ≡ first ∷ rest → settled ≡ map loaded_section sections
     → IsTrue (is_page_size first.settings.page_size) → All (IsReady sections) sections → All HasName sections → AreNamedBehind [] sections

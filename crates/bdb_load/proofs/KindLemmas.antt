@@ -4,8 +4,8 @@ use Rattle.bdb_format.specs.declared.kinds.Kind.{Kind}
 use Rattle.bdb_format.specs.declared.kinds.Kind.TheVariants.{Queue}
 use Rattle.bdb_format.specs.declared.settings.Settings.{Settings}
 use Rattle.bdb_format.specs.Page.{QueueFields}
-use Rattle.bdb_model.specs.declared.list.Pair.{Pair}
-use Rattle.bdb_mktree.specs.Lists.{IsListFor}
+use Rattle.bdb_text_format.specs.declared.list.Pair.{Pair}
+use Rattle.bdb_mktree.specs.Lists.{IsTreeList}
 use Rattle.bdb_mktree.specs.Units.{IsTreeKind}
 use Rattle.bdb_mkqueue.specs.Layout.{queue_meta}
 use Rattle.bdb_count.specs.Need.{list_pages}
@@ -14,7 +14,7 @@ use Rattle.bdb_alone.specs.Trees.{IsTreeSettings}
 use Rattle.bdb_load.specs.Settled.{IsAloneImage, IsBuildable}
 
 pub of_tree : (settings : Settings) (pairs : List Pair) → IsTreeKind settings.kind → IsBuildable settings.kind settings pairs
-    → IsTreeSettings settings × IsListFor settings pairs
+    → IsTreeSettings settings × IsTreeList settings pairs
 of_tree settings pairs (inl btree) is = subst (λ k. IsBuildable k settings pairs) btree is
 of_tree settings pairs (inr recno) is = subst (λ k. IsBuildable k settings pairs) recno is
 
@@ -33,5 +33,5 @@ queue_alone settings pairs image queue is = record {
   alone = is.alone;
   settings_are = is.settings_are;
   list = is.list;
-  unsorted = tt;
+  buckets = tt;
 }

@@ -5,8 +5,8 @@ use Rattle.std.specs.List.{All, fold}
 use Rattle.std.proofs.lemmas.List.Elements.{All-head, All-nil, All-tail}
 use Rattle.bdb_format.specs.Less.{less}
 use Rattle.bdb_format.specs.ContentRows.{ascends}
-use Rattle.bdb_model.specs.declared.sections.Section.{Section}
-use Rattle.bdb_settle.specs.Loaded.{filled, with_pair}
+use Rattle.bdb_text_format.specs.declared.sections.Section.{Section}
+use Rattle.bdb_settle.specs.Loaded.{loaded_pair, with_loaded}
 use Rattle.bdb_need.specs.Need.{tree_pages}
 use Rattle.bdb_count.specs.Need.{master_pages, master_settings, name_in, name_pair}
 use Rattle.bdb_named.specs.Images.{name_entry, names_pages}
@@ -41,7 +41,7 @@ other_way a b apart is = same_test b a ∙ by_tests (named_before a b) (named_be
     by_tests false false apart is = absurd cc
 
 put_entry : (size : ℕ) (section : Section) (list : List Section) → All (IsApart section) list
-    → with_pair (master_settings size) (map name_entry list) (name_entry section) ≡ map name_entry (put_named section list)
+    → with_loaded (master_settings size) (map name_entry list) (name_entry section) ≡ map name_entry (put_named section list)
 put_entry size section [] all = refl
 put_entry size section (other ∷ others) all =
     by_tests (less (name_in section.name) (name_in other.name)) (less (name_in other.name) (name_in section.name))
@@ -50,9 +50,9 @@ put_entry size section (other ∷ others) all =
     ∙ ap (λ b. map name_entry (cond b (section ∷ other ∷ others) (other ∷ put_named section others))) (same_test section other)
   where
     by_tests : (x y : Bool) → (x ≡ false → y ≡ true)
-        → with_pair (master_settings size) (map name_entry others) (name_entry section) ≡ map name_entry (put_named section others)
+        → with_loaded (master_settings size) (map name_entry others) (name_entry section) ≡ map name_entry (put_named section others)
         → cond (x || (not y && false)) (name_entry section ∷ name_entry other ∷ map name_entry others)
-        (cond ((y || (not x && false)) || false) (name_entry other ∷ with_pair (master_settings size) (map name_entry others) (name_entry section))
+        (cond ((y || (not x && false)) || false) (name_entry other ∷ with_loaded (master_settings size) (map name_entry others) (name_entry section))
         (name_entry section ∷ map name_entry others))
         ≡ map name_entry (cond x (section ∷ other ∷ others) (other ∷ put_named section others))
     by_tests true y after same = refl
@@ -69,16 +69,16 @@ apart_too a b apart = by_tests (named_before a b) (named_before b a) apart
     by_tests false false is = is
 
 put_entries : (size : ℕ) (list sections : List Section) → AreApart sections → All (λ section. All (IsApart section) list) sections
-    → fold (with_pair (master_settings size)) (map name_entry list) (map name_entry sections) ≡ map name_entry (fold with_named list sections)
+    → fold (with_loaded (master_settings size)) (map name_entry list) (map name_entry sections) ≡ map name_entry (fold with_named list sections)
 put_entries size list [] apart all = refl
 put_entries size list (section ∷ sections) apart all =
-    ap (λ l. fold (with_pair (master_settings size)) l (map name_entry sections))
+    ap (λ l. fold (with_loaded (master_settings size)) l (map name_entry sections))
     (put_entry size section list (All-head (λ s. All (IsApart s) list) section sections all))
     ∙ put_entries size (put_named section list) sections apart.1
     (λ k d low. put_all (IsApart (get_or sections k d)) section list (apart_too section (get_or sections k d) (apart.0 k d low))
     (All-tail (λ s. All (IsApart s) list) section sections all k d low))
 
-entries_are : (size : ℕ) (sections : List Section) → map (filled (master_settings size)) (map name_pair sections) ≡ map name_entry sections
+entries_are : (size : ℕ) (sections : List Section) → map (loaded_pair (master_settings size)) (map name_pair sections) ≡ map name_entry sections
 entries_are size [] = refl
 entries_are size (section ∷ sections) = ap (λ l. name_entry section ∷ l) (entries_are size sections)
 
@@ -86,6 +86,6 @@ entries_are size (section ∷ sections) = ap (λ l. name_entry section ∷ l) (e
 pub master_same : (size : ℕ) (sections : List Section) → AreApart sections → names_pages size (in_name_order sections) ≡ master_pages size sections
 master_same size sections apart =
     ap (tree_pages (master_settings size))
-    (sym (ap (fold (with_pair (master_settings size)) []) (entries_are size sections)
+    (sym (ap (fold (with_loaded (master_settings size)) []) (entries_are size sections)
     ∙ put_entries size [] sections apart (λ k d low. All-nil (IsApart (get_or sections k d)))
     ∙ ap (map name_entry) (fold_is_order sections apart)))

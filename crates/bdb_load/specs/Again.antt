@@ -2,9 +2,9 @@
 use Rattle.std.specs.Prelude.{◌≡◌, ℕ, Bool, List, [], None}
 use Rattle.bdb_format.specs.Databases.{databases}
 use Rattle.bdb_format.specs.File.{file_of}
-use Rattle.bdb_model.specs.declared.sections.Section.{Section}
-use Rattle.bdb_model.specs.Sections.{Reads}
-use Rattle.bdb_model.specs.Written.{dump_text}
+use Rattle.bdb_text_format.specs.declared.sections.Section.{Section}
+use Rattle.bdb_text_format.specs.Sections.{Reads}
+use Rattle.bdb_text_format.specs.Written.{dump_text}
 use Rattle.bdb_settle.specs.LoadErrors.{load_error}
 use Rattle.bdb_text.specs.WrittenLaw.{AreBytes}
 use Rattle.bdb_kept.specs.Dumps.{HasNoEmptyRecords}

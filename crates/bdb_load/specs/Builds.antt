@@ -8,9 +8,9 @@ use Rattle.bdb_format.specs.File.{file_of}
 use Rattle.bdb_format.specs.Lists.{list_of}
 use Rattle.bdb_format.specs.Databases.{Database, databases, settings_of}
 use Rattle.bdb_format.specs.Verdict.{verdict_of}
-use Rattle.bdb_model.specs.declared.sections.Section.{Section}
-use Rattle.bdb_model.specs.Pairs.{listed}
-use Rattle.bdb_model.specs.Written.{header_lines}
+use Rattle.bdb_text_format.specs.declared.sections.Section.{Section}
+use Rattle.bdb_text_format.specs.Pairs.{listed}
+use Rattle.bdb_text_format.specs.Written.{header_lines}
 use Rattle.bdb_settle.specs.Loaded.{loaded, loaded_section}
 use Rattle.bdb_count.specs.Need.{need_of}
 

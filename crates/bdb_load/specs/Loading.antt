@@ -1,7 +1,7 @@
 -- What can be loaded, and why it isn't. Source: docs/FORMAT.md, "Loading".
 use Rattle.std.specs.Prelude.{◌≡◌, ◌⊎◌, ℕ, nat_lt, if◌then◌else◌, List, Option, Some, None}
-use Rattle.bdb_model.specs.declared.sections.Section.{Section}
-use Rattle.bdb_model.specs.Sections.{Reads}
+use Rattle.bdb_text_format.specs.declared.sections.Section.{Section}
+use Rattle.bdb_text_format.specs.Sections.{Reads}
 use Rattle.bdb_sections.specs.Fit.{AreFit}
 use Rattle.bdb_settle.specs.declared.load_error.LoadError.{LoadError}
 use Rattle.bdb_settle.specs.declared.load_error.LoadError.TheVariants.{TooLarge, Memory}
@@ -26,9 +26,14 @@ or_else (Some error) other = Some error
 abbrev pub loading_error : ℕ → List Section → Option LoadError
 loading_error most sections = or_else (load_error sections) (size_error most sections)
 
--- a refusal gives the error that there is, or want of memory
-abbrev pub IsLoadRefusal : Option LoadError → LoadError → Type 0
-IsLoadRefusal found error = (error ≡ Memory) ⊎ (found ≡ Some error)
+-- a refusal, by the first error of sections and by whether their image is too large
+abbrev pub IsLoadRefusalBy : Option LoadError → Option LoadError → LoadError → Type 0
+IsLoadRefusalBy (Some first) large error = error ≡ first
+IsLoadRefusalBy None large error = (error ≡ Memory) ⊎ (large ≡ Some error)
+
+-- a refusal gives the first error of sections; where there is none, that their image would be too large, or want of memory
+abbrev pub IsLoadRefusal : ℕ → List Section → LoadError → Type 0
+IsLoadRefusal most sections error = IsLoadRefusalBy (load_error sections) (size_error most sections) error
 
 -- the sections of a text can be loaded
 abbrev pub ReadSectionsAreLoadable : Type 0

@@ -11,17 +11,17 @@ use Rattle.bdb_format.specs.Lists.{list_of}
 use Rattle.bdb_format.specs.Numbers.{pad4}
 use Rattle.bdb_format.specs.Page.{Metadata}
 use Rattle.bdb_format.specs.Verdict.{verdict_of}
-use Rattle.bdb_model.specs.declared.list.Pair.{Pair}
-use Rattle.bdb_model.specs.declared.sections.Section.{Section}
-use Rattle.bdb_model.specs.Pairs.{listed}
-use Rattle.bdb_mktree.specs.Lists.{IsListFor as IsTreeList}
+use Rattle.bdb_text_format.specs.declared.list.Pair.{Pair}
+use Rattle.bdb_text_format.specs.declared.sections.Section.{Section}
+use Rattle.bdb_text_format.specs.Pairs.{listed}
+use Rattle.bdb_mktree.specs.Lists.{IsTreeList}
 use Rattle.bdb_mkhash.specs.Table.{IsTableList}
-use Rattle.bdb_mkqueue.specs.Lists.{IsListFor as IsQueueList}
-use Rattle.bdb_buckets.specs.Tables.{AreUnsorted}
-use Rattle.bdb_need.specs.Need.{pairs_in}
+use Rattle.bdb_mkqueue.specs.Lists.{IsQueueList}
+use Rattle.bdb_buckets.specs.Tables.{HasBuiltTable}
+use Rattle.bdb_need.specs.Need.{unlined_pairs}
 use Rattle.bdb_count.specs.Need.{list_pages, need_of}
 use Rattle.bdb_alone.specs.Trees.{IsTreeSettings}
-use Rattle.bdb_named.specs.Images.{HasUnsortedTables, IsDatabaseOf, IsNamed}
+use Rattle.bdb_named.specs.Images.{HasBuiltTables, IsDatabaseOf, IsNamed}
 use Rattle.bdb_load.specs.Builds.{in_name_order}
 use Rattle.bdb_load.specs.Order.{AreApart}
 
@@ -36,7 +36,7 @@ IsBuildable Hash settings list =
 IsBuildable Queue settings list =
     IsTrue (is_page_size settings.page_size) × (pad4 (settings.re_len + 1) ≤ settings.page_size - 28) × IsQueueList settings list
 
--- a sound image of one database, without a name: it has these settings and this list, and as many pages as the list takes. Buckets are unsorted.
+-- a sound image of one database, without a name: it has these settings and this list, and as many pages as the list takes. Buckets are as built.
 pub record IsAloneImage (settings : Settings) (pairs : List Pair) (image : List ℕ) : Type 0 where
   pub sound : verdict_of image ≡ None
   pub size : length image ≡ (1 + list_pages settings.kind settings pairs) * settings.page_size
@@ -44,7 +44,7 @@ pub record IsAloneImage (settings : Settings) (pairs : List Pair) (image : List 
   pub alone : databases (file_of image) ≡ record { name = None; fields = fields } ∷ []
   pub settings_are : settings_of (head_of image).page_size (head_of image).order fields ≡ settings
   pub list : list_of (file_of image) fields ≡ listed pairs
-  pub unsorted : AreUnsorted (file_of image) fields
+  pub buckets : HasBuiltTable (file_of image) fields
 
 -- All sections.
 
@@ -57,7 +57,7 @@ pub record AreNamedApart (size : ℕ) (sections : List Section) : Type 0 where
 -- what is so of a section without a name, before these: none follows it
 pub record IsUnnamedAlone (section : Section) (rest : List Section) : Type 0 where
   pub none : rest ≡ []
-  pub built : IsBuildable section.settings.kind section.settings (pairs_in section.pairs)
+  pub built : IsBuildable section.settings.kind section.settings (unlined_pairs section.pairs)
 
 -- sections with their lists, of which an image can be built
 pub record AreBuildable (sections : List Section) : Type 0 where
@@ -67,17 +67,12 @@ pub record AreBuildable (sections : List Section) : Type 0 where
   pub unnamed : is_some first.name ≡ false → IsUnnamedAlone first rest
   pub named : is_some first.name ≡ true → AreNamedApart first.settings.page_size sections
 
--- the page size of the first section
-abbrev pub size_in : List Section → ℕ
-size_in [] = 0
-size_in (section ∷ sections) = section.settings.page_size
-
--- a sound image of sections with their lists, of as many pages as they need. Buckets are unsorted.
+-- a sound image of sections with their lists, of as many pages as they need. Buckets are as built.
 pub record AreBuilt (first : Settings) (sections : List Section) (image : List ℕ) : Type 0 where
   pub sound : verdict_of image ≡ None
   pub size : length image ≡ need_of sections * first.page_size
   pub databases : AllZip (IsDatabaseOf first.page_size first.order image) (in_name_order sections) (databases (file_of image))
-  pub unsorted : HasUnsortedTables image
+  pub tables : HasBuiltTables image
 
 -- the page size and the order are those of the first section
 abbrev pub IsImageOfSections : List Section → List ℕ → Type 0

@@ -1,12 +1,12 @@
 ghost use Rattle.std.specs.Prelude.{◌≡◌, IfOk};
 ghost use Rattle.bdb_alone.specs.Settled.{file_settings};
-ghost use Rattle.bdb_need.specs.Need.{pairs_in};
+ghost use Rattle.bdb_need.specs.Need.{unlined_pairs};
 ghost use Rattle.bdb_load.specs.Settled.{IsAloneImage, IsBuildable};
 
 use bdb_alone::{file_settings, listed_pairs, queue_image, table_image, tree_image};
 use bdb_format::{Kind, Settings};
 use bdb_io::Image;
-use bdb_model::{PairList, Section};
+use bdb_text_format::{PairList, Section};
 use std::alloc::{AllocError, Global};
 
 // The image of a list as the only database of its file, of each kind.
@@ -24,8 +24,8 @@ fn list_image(alloc: Global, settings: &Settings, list: &PairList) -> Result<Ima
 
 /// The image of one section, with its list, as the only database of its file.
 pub(crate) fn section_image(alloc: Global, section: Section) -> Result<Image, AllocError>
-    requires { IsBuildable section.settings.kind section.settings (pairs_in section.pairs) }
-    ensures { IfOk result (λ image. IsAloneImage (file_settings section.settings) (pairs_in section.pairs) image) }
+    requires { IsBuildable section.settings.kind section.settings (unlined_pairs section.pairs) }
+    ensures { IfOk result (λ image. IsAloneImage (file_settings section.settings) (unlined_pairs section.pairs) image) }
 {
     let settings = file_settings(&section.settings);
     let list = listed_pairs(alloc, section.pairs)?;

@@ -5,7 +5,7 @@ ghost use Rattle.bdb_mktree.specs.Lists.{bytes_in};
 ghost use Rattle.bdb_load.specs.Lengths.{is_short, is_short_pair, is_short_section};
 
 use bdb_format::Bytes;
-use bdb_model::{Key, Section, Sections, TextPair, TextPairs};
+use bdb_text_format::{Key, Section, Sections, TextPair, TextPairs};
 
 /// The most bytes that a field of four bytes can count.
 const MOST: usize = 4294967295;

@@ -7,4 +7,6 @@ mod lengths;
 mod loading;
 mod order;
 
+pub use bdb_count::need;
+pub use bdb_settle::{LoadError, settle};
 pub use loading::load;

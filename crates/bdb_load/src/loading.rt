@@ -1,17 +1,18 @@
 ghost use Rattle.std.specs.Prelude.{◌≡◌, ◌*◌, ◌≤◌, ◌^◌, nat_lt, None, IfErr, IfOk, OnOk};
-ghost use Rattle.bdb_named.specs.Images.{HasUnsortedTables};
+ghost use Rattle.bdb_named.specs.Images.{HasBuiltTables};
 ghost use Rattle.bdb_load.specs.Builds.{Builds};
 ghost use Rattle.bdb_load.specs.Loading.{AreLoadable, IsLoadRefusal, loading_error};
-ghost use Rattle.bdb_load.specs.Settled.{AreBuildable, IsImageOfSections, size_in};
+ghost use Rattle.bdb_load.specs.Settled.{AreBuildable, IsImageOfSections};
+ghost use Rattle.bdb_settle.specs.LoadErrors.{page_size_in};
 
 use crate::alone::section_image;
 use crate::lengths::are_short;
 use crate::order::in_name_order;
-use bdb_count::need;
+use bdb_count::filled_need;
 use bdb_io::Image;
-use bdb_model::Sections;
 use bdb_named::named_image;
-use bdb_settle::{LoadError, settle};
+use bdb_settle::{LoadError, filled, ordered};
+use bdb_text_format::Sections;
 use std::alloc::{AllocError, Global};
 
 // Whether so many pages have more bytes than a number.
@@ -26,7 +27,7 @@ fn are_too_many(pages: u128, page_size: u32, max: u64) -> bool
 
 // The page size of the first section.
 fn page_size(sections: &Sections) -> u32
-    ensures { result ≡ size_in sections.now }
+    ensures { result ≡ page_size_in sections.now }
 {
     match sections.get(0) {
         Some(section) => section.settings.page_size,
@@ -55,23 +56,24 @@ fn settled_image(alloc: Global, settled: Sections) -> Result<Image, AllocError>
 }
 
 /// The image of sections: a sound file with their databases, of at most `max` bytes, in the page size and the order of the first. Pages of
-/// buckets have type 2. An error
-/// is the first of the sections, or that the image would have more than `max` bytes, or want of memory.
+/// buckets have type 2, and the root of a tree of data says how many there are. An error is the first of the sections; where there is none,
+/// that the image would have more than `max` bytes, or want of memory.
 pub fn load(alloc: Global, sections: Sections, max: u64) -> Result<Image, LoadError>
     requires max { max ≤ 2 ^ 30 }
     requires fit { AreLoadable sections }
     ensures built { IfOk result (λ image. Builds sections image) }
-    ensures unsorted { IfOk result (λ image. HasUnsortedTables image) }
+    ensures tables { IfOk result (λ image. HasBuiltTables image) }
     ensures sound { OnOk result (loading_error max sections ≡ None) }
-    ensures refused { IfErr result (IsLoadRefusal (loading_error max sections)) }
+    ensures refused { IfErr result (IsLoadRefusal max sections) }
 {
-    if !are_short(&sections) {
-        return Err(LoadError::Memory);
-    }
-    let settled = settle(alloc, sections)?;
-    let pages = need(alloc, &settled)?;
-    if are_too_many(pages, page_size(&settled), max) {
+    let ordered = ordered(alloc, sections)?;
+    if !are_short(&ordered) {
         return Err(LoadError::TooLarge);
     }
+    let pages = filled_need(alloc, &ordered)?;
+    if are_too_many(pages, page_size(&ordered), max) {
+        return Err(LoadError::TooLarge);
+    }
+    let settled = filled(alloc, ordered)?;
     Ok(settled_image(alloc, settled)?)
 }

@@ -6,7 +6,7 @@ ghost use Rattle.bdb_load.specs.Builds.{name_of};
 ghost use Rattle.bdb_load.specs.Order.{named_before, with_named};
 
 use bdb_layout::compare;
-use bdb_model::{Section, Sections};
+use bdb_text_format::{Section, Sections};
 use std::alloc::{AllocError, Global};
 use std::cmp::Ordering;
 

@@ -98,7 +98,7 @@ type Asked = (&'static [u8], usize, &'static [Question]);
 
 #[test]
 fn keys_are_found(rt: HostRuntime) -> Result<(), Fail> {
-    let rows: [Asked; 2] = [
+    let rows: [Asked; 3] = [
         (
             b"VERSION=3\nformat=bytevalue\ntype=btree\ndb_pagesize=512\nduplicates=1\ndupsort=1\nHEADER=END\n 61\n 33\n 61\n 31\n 61\n 33\nDATA=END\n",
             1024,
@@ -120,6 +120,15 @@ fn keys_are_found(rt: HostRuntime) -> Result<(), Fail> {
                 (&["list"], 0, b"recno\n"),
             ],
         ),
+        // an empty record, filled up: a leaf, and a chain of three full pages
+        (
+            b"VERSION=3\nformat=print\ntype=recno\ndb_pagesize=512\nre_len=1458\nHEADER=END\n \nDATA=END\n",
+            2560,
+            &[
+                (&["verify"], 0, b"sound, 5 pages\n"),
+                (&["list"], 0, b"recno\n"),
+            ],
+        ),
     ];
     for (text, long, questions) in rows {
         let image = image_of(rt.alloc(), text)?;
@@ -134,7 +143,7 @@ type Refused = (&'static [u8], u64, LoadError);
 
 #[test]
 fn errors_are_answered(rt: HostRuntime) -> Result<(), Fail> {
-    let rows: [Refused; 8] = [
+    let rows: [Refused; 11] = [
         // record 0 on line 6
         (
             b"VERSION=3\nformat=bytevalue\ntype=recno\nkeys=1\nHEADER=END\n 30\n 61\nDATA=END\n",
@@ -179,6 +188,23 @@ fn errors_are_answered(rt: HostRuntime) -> Result<(), Fail> {
         (
             b"VERSION=3\nformat=print\ntype=btree\nHEADER=END\nDATA=END\n",
             0,
+            LoadError::TooLarge,
+        ),
+        // a record that would be filled up to fifty million bytes, and to all that a number of a header can say
+        (
+            b"VERSION=3\nformat=print\ntype=recno\nre_len=50000000\nHEADER=END\n a\nDATA=END\n",
+            100000,
+            LoadError::TooLarge,
+        ),
+        (
+            b"VERSION=3\nformat=print\ntype=recno\nre_len=4294967295\nHEADER=END\n a\n b\nDATA=END\n",
+            1073741824,
+            LoadError::TooLarge,
+        ),
+        // three pages of a chain that an empty record is filled up to, and a byte too few for them
+        (
+            b"VERSION=3\nformat=print\ntype=recno\ndb_pagesize=512\nre_len=1458\nHEADER=END\n \nDATA=END\n",
+            2559,
             LoadError::TooLarge,
         ),
     ];

@@ -104,7 +104,7 @@ type Refused = (&'static [u8], u64, LoadError);
 
 #[test]
 fn errors_of_hashes_and_queues_are_answered(rt: HostRuntime) -> Result<(), Fail> {
-    let rows: [Refused; 8] = [
+    let rows: [Refused; 12] = [
         // a queue with a name
         (
             b"VERSION=3\nformat=print\ndatabase=q\ntype=queue\nre_len=1\nHEADER=END\nDATA=END\n",
@@ -116,6 +116,29 @@ fn errors_of_hashes_and_queues_are_answered(rt: HostRuntime) -> Result<(), Fail>
             b"VERSION=3\nformat=print\ndatabase=a\ntype=btree\nHEADER=END\nDATA=END\nVERSION=3\nformat=print\ndatabase=q\ntype=queue\nre_len=1\nHEADER=END\nDATA=END\n",
             1073741824,
             LoadError::QueueAmongNames(12),
+        ),
+        // and with a record that is too long for the pages of the other database, whatever its own header says
+        (
+            b"VERSION=3\nformat=print\ndatabase=a\ntype=btree\ndb_pagesize=512\nHEADER=END\nDATA=END\nVERSION=3\nformat=print\ndatabase=q\ntype=queue\nre_len=1000\ndb_pagesize=4096\nHEADER=END\nDATA=END\n",
+            1073741824,
+            LoadError::RecordTooLong(14),
+        ),
+        // and the other way round
+        (
+            b"VERSION=3\nformat=print\ndatabase=a\ntype=btree\ndb_pagesize=4096\nHEADER=END\nDATA=END\nVERSION=3\nformat=print\ndatabase=q\ntype=queue\nre_len=1000\ndb_pagesize=512\nHEADER=END\nDATA=END\n",
+            1073741824,
+            LoadError::QueueAmongNames(14),
+        ),
+        // where the header of the queue says no page size, the usual 4096 bytes don't count; where the first section says none, they do
+        (
+            b"VERSION=3\nformat=print\ndatabase=a\ntype=btree\ndb_pagesize=512\nHEADER=END\nDATA=END\nVERSION=3\nformat=print\ndatabase=q\ntype=queue\nre_len=1000\nHEADER=END\nDATA=END\n",
+            1073741824,
+            LoadError::RecordTooLong(13),
+        ),
+        (
+            b"VERSION=3\nformat=print\ndatabase=a\ntype=btree\nHEADER=END\nDATA=END\nVERSION=3\nformat=print\ndatabase=q\ntype=queue\nre_len=1000\ndb_pagesize=512\nHEADER=END\nDATA=END\n",
+            1073741824,
+            LoadError::QueueAmongNames(13),
         ),
         // a slot of 488 bytes, where a page has room for 484
         (

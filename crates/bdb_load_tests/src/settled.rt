@@ -1,8 +1,8 @@
 // The list that a dump text is loaded into.
 use bdb_alone::listed_pairs;
-use bdb_model::PairList;
 use bdb_settle::settle;
 use bdb_text::read_dump;
+use bdb_text_format::PairList;
 use std::alloc::{AllocError, Global};
 
 /// The list of the last section of a text; an empty one where there is none.

@@ -20,8 +20,8 @@ use Rattle.bdb_format.proofs.MemberLemmas.{of_filter}
 use Rattle.bdb_grove.specs.Growing.{IsLater}
 use Rattle.bdb_grove.specs.Part.{IsPart, between}
 use Rattle.bdb_grove.proofs.ChainLemmas.{between_is, is_between}
-use Rattle.bdb_model.specs.Pairs.{listed}
-use Rattle.bdb_model.specs.declared.list.Pair.{Pair}
+use Rattle.bdb_text_format.specs.Pairs.{listed}
+use Rattle.bdb_text_format.specs.declared.list.Pair.{Pair}
 use Rattle.bdb_pack.specs.Built.{Built, file_so_far}
 use Rattle.bdb_leaves.specs.Leaves.{KeepsAll}
 use Rattle.bdb_leaves.specs.Units.{EntryUnit, KeyedUnit, TreeUnit, key_of as tree_key, listed_keyed}
@@ -30,12 +30,13 @@ use Rattle.bdb_mktree.specs.Lists.{HasBytes, keyed_units}
 use Rattle.bdb_mktree.specs.Units.{IsShortUnit as IsShortTreeUnit, Suits}
 use Rattle.bdb_mktree.proofs.ListLemmas.{units_listed}
 use Rattle.bdb_mktree.proofs.OrderLemmas.{FitUnits, keys_fit, units_fit}
-use Rattle.bdb_buckets.specs.Tables.{HasUnsortedBuckets, Keyed, PlacedUnit, SuitsTable, TableStands, bucket_among, dealt, key_of, listed_unit, table_meta, unit_of, units_on}
+use Rattle.bdb_buckets.specs.Tables.{HasBuiltBuckets, Keyed, PlacedUnit, SuitsTable, TableStands, bucket_among, dealt, key_of, listed_unit, table_meta}
+use Rattle.bdb_buckets.specs.Tables.{unit_of, units_on}
 use Rattle.bdb_buckets.proofs.DealLemmas.{deal, dealt_back, insert_unit, units_by_key}
 use Rattle.bdb_buckets.proofs.TableLemmas.{among_low, tables_are_parts}
-use Rattle.bdb_buckets.proofs.UnsortedLemmas.{tables_are_unsorted}
+use Rattle.bdb_buckets.proofs.UnsortedLemmas.{tables_are_built}
 use Rattle.bdb_mkhash.specs.Buckets.{buckets_of, keyed_of, spread_bucket, table_bits, table_units}
-use Rattle.bdb_mkhash.specs.Costs.{own_pages, unit_cost}
+use Rattle.bdb_mkhash.specs.Costs.{keyed_own_pages, keyed_cost}
 use Rattle.bdb_mkhash.specs.Filling.{AreFilled, of_buckets}
 use Rattle.bdb_mkhash.specs.Table.{IsTableBuilt, IsTableList}
 use Rattle.bdb_mkhash.specs.Units.{IsShortUnit}
@@ -173,7 +174,7 @@ each_joined (pages ∷ buckets) = ap (λ us. us ∷ map (flat_map (λ page. page
 each_spread : (size : ℕ) (buckets : List (List Keyed)) → map (flat_map (λ page. page)) (map (spread_bucket size) buckets) ≡ buckets
 each_spread size [] = refl
 each_spread size (bucket ∷ buckets) =
-    ap (λ us. us ∷ map (flat_map (λ page. page)) (map (spread_bucket size) buckets)) (spread_all _ (unit_cost size) (unit_cost size) _ [] bucket)
+    ap (λ us. us ∷ map (flat_map (λ page. page)) (map (spread_bucket size) buckets)) (spread_all _ (keyed_cost size) (keyed_cost size) _ [] bucket)
     ∙ ap (λ uss. bucket ∷ uss) (each_spread size buckets)
 
 -- The table.
@@ -198,10 +199,10 @@ table_built settings old mid new pairs bits buckets meta list some bits_are one 
           ap (λ s. sum_by (λ bucket. length (spread_bucket s bucket)) buckets) kept.size
           ∙ (ap (sum_by (λ bucket. length (spread_bucket old.size bucket))) are
           ∙ ap (λ b. sum_by (λ bucket. length (spread_bucket old.size bucket)) (buckets_of b units)) bits_are) in
-          let own : sum_by (λ bucket. sum_by (own_pages mid.size settings.sorted) bucket) buckets ≡ sum_by (own_pages old.size settings.sorted)
+          let own : sum_by (λ bucket. sum_by (keyed_own_pages mid.size settings.sorted) bucket) buckets ≡ sum_by (keyed_own_pages old.size settings.sorted)
           units =
-          ap (λ s. sum_by (λ bucket. sum_by (own_pages s settings.sorted) bucket) buckets) kept.size
-          ∙ (ap (sum_by (λ bucket. sum_by (own_pages old.size settings.sorted) bucket)) are ∙ sum_dealt (own_pages old.size settings.sorted) bits
+          ap (λ s. sum_by (λ bucket. sum_by (keyed_own_pages s settings.sorted) bucket) buckets) kept.size
+          ∙ (ap (sum_by (λ bucket. sum_by (keyed_own_pages old.size settings.sorted) bucket)) are ∙ sum_dealt (keyed_own_pages old.size settings.sorted) bits
           units suits.keys) in
           omega (arith, all, pages_are, own, many, count);
       formed = λ p low high. filled.formed p (inside p low high);
@@ -213,10 +214,10 @@ table_built settings old mid new pairs bits buckets meta list some bits_are one 
       stands = λ g counted later.
           subst (λ n. TableStands g settings.sorted (length old.pages) n (length new.pages) filled.pages) (omega_pages)
           (filled.stands g counted (all_later g later));
-      unsorted = λ g counted later.
+      buckets = λ g counted later.
           let up = later.grows in
-          subst (HasUnsortedBuckets g) (sym meta_is)
-          (tables_are_unsorted g settings (length old.pages) bits (length new.pages) filled.pages counted some
+          subst (HasBuiltBuckets g) (sym meta_is)
+          (tables_are_built g settings (length old.pages) bits (length new.pages) filled.pages counted some
           (omega (arith, up, some, grows, more)) (omega (arith, few)) pages_many
           (subst (λ n. TableStands g settings.sorted (length old.pages) n (length new.pages) filled.pages) count
           (filled.stands g counted (all_later g later))));

@@ -8,7 +8,7 @@ use Rattle.std.proofs.lemmas.List.Folds.{list_all_at, list_all_more}
 use Rattle.std.proofs.lemmas.List.Sums.{sum_by-take-le, sum_by_more, sum_by_more_le}
 use Rattle.bdb_format.specs.HeadOf.{is_page_size}
 use Rattle.bdb_format.proofs.SizeLemmas.{size_bounds}
-use Rattle.bdb_mkhash.specs.Costs.{cost_in, data_cost, data_form, first_value, is_inline, item_cost, set_cost, stand_together}
+use Rattle.bdb_mkhash.specs.Costs.{cost_in, data_cost, data_form, first_value, is_inline, hash_item_cost, blocks_cost, stand_together}
 use Rattle.bdb_mkhash.specs.declared.form.DataForm.{DataForm}
 use Rattle.bdb_mkhash.specs.declared.form.DataForm.TheVariants.{One, Set, Tree}
 
@@ -20,14 +20,14 @@ block_cost value = 4 + length value
 pub long_apart : (size : ℕ) (values : List (List ℕ)) (i : ℕ) → i < length values → size / 8 < length (get_or values i [])
     → stand_together size values ≡ false
 long_apart size values i low long =
-    and_left (list_all (is_inline size) values) (nat_le (set_cost values) ((size - 26) / 4))
+    and_left (list_all (is_inline size) values) (nat_le (blocks_cost values) ((size - 26) / 4))
     (list_all_at (is_inline size) values i [] low (lt-leb (length (get_or values i [])) (size / 8) long))
 
 pub much_apart : (size cost : ℕ) (values : List (List ℕ)) (i : ℕ) → cost ≡ 3 + sum_by block_cost (take i values) → (size - 26) / 4 < cost
     → stand_together size values ≡ false
 much_apart size cost values i is much =
-    and_right (list_all (is_inline size) values) (nat_le (set_cost values) ((size - 26) / 4))
-    (lt-leb (set_cost values) ((size - 26) / 4) (omega (arith, is, much, sum_by-take-le block_cost values i)))
+    and_right (list_all (is_inline size) values) (nat_le (blocks_cost values) ((size - 26) / 4))
+    (lt-leb (blocks_cost values) ((size - 26) / 4) (omega (arith, is, much, sum_by-take-le block_cost values i)))
 
 pub cost_more : (values : List (List ℕ)) (i : ℕ) → i < length values
     → sum_by block_cost (take (i + 1) values) ≡ sum_by block_cost (take i values) + (4 + length (get_or values i []))
@@ -41,9 +41,9 @@ inline_more size values i low all short =
 
 -- What stands together is little.
 
-pub together_few : (size : ℕ) (values : List (List ℕ)) → stand_together size values ≡ true → set_cost values ≤ (size - 26) / 4
-together_few size values is = leb-true (set_cost values) ((size - 26) / 4)
-    (and_parts (list_all (is_inline size) values) (nat_le (set_cost values) ((size - 26) / 4)) is).1
+pub together_few : (size : ℕ) (values : List (List ℕ)) → stand_together size values ≡ true → blocks_cost values ≤ (size - 26) / 4
+together_few size values is = leb-true (blocks_cost values) ((size - 26) / 4)
+    (and_parts (list_all (is_inline size) values) (nat_le (blocks_cost values) ((size - 26) / 4)) is).1
 
 all_inline : (size : ℕ) (values : List (List ℕ)) → list_all (is_inline size) values ≡ true → All (λ value. length value ≤ size / 8) values
 all_inline size [] is = All-nil (λ value. length value ≤ size / 8)
@@ -52,7 +52,7 @@ all_inline size (value ∷ values) is =
     All-cons (λ (v : List ℕ). length v ≤ size / 8) value values (leb-true (length value) (size / 8) parts.0) (all_inline size values parts.1)
 
 pub together_inline : (size : ℕ) (values : List (List ℕ)) → stand_together size values ≡ true → All (λ value. length value ≤ size / 8) values
-together_inline size values is = all_inline size values (and_parts (list_all (is_inline size) values) (nat_le (set_cost values) ((size - 26) / 4))
+together_inline size values is = all_inline size values (and_parts (list_all (is_inline size) values) (nat_le (blocks_cost values) ((size - 26) / 4))
     is).0
 
 pub cost_left : (values : List (List ℕ)) (i : ℕ) → i < length values
@@ -95,13 +95,13 @@ first_is [] d one = absurd (omega (arith, one))
 first_is (value ∷ values) d one = refl
 
 -- an item takes at most an eighth of a page and 3, or 14
-pub item_few : (size : ℕ) (value : List ℕ) → is_page_size size ≡ true → item_cost size value ≤ size / 8 + 3
+pub item_few : (size : ℕ) (value : List ℕ) → is_page_size size ≡ true → hash_item_cost size value ≤ size / 8 + 3
 item_few size value legal =
     let bounds = size_bounds size legal in
     elim (cases_lt (size / 8) (length value)) [
-      | inl long ↦ let is : item_cost size value ≡ 14 = ap (λ b. cond b (3 + length value) 14) (lt-leb (length value) (size / 8) long) in omega
+      | inl long ↦ let is : hash_item_cost size value ≡ 14 = ap (λ b. cond b (3 + length value) 14) (lt-leb (length value) (size / 8) long) in omega
           (arith, is, bounds.0)
-      | inr short ↦ let is : item_cost size value ≡ 3 + length value = ap (λ b. cond b (3 + length value) 14)
+      | inr short ↦ let is : hash_item_cost size value ≡ 3 + length value = ap (λ b. cond b (3 + length value) 14)
           (le-leb (length value) (size / 8) short) in
           omega (arith, is, short)
     ]

@@ -22,7 +22,7 @@ use Rattle.bdb_leaves.specs.Leaves.{KeepsAll}
 use Rattle.bdb_leaves.specs.Units.{page_room}
 use Rattle.bdb_leaves.proofs.RunLemmas.{later_before}
 use Rattle.bdb_buckets.specs.Tables.{Keyed, PlacedUnit, UnitStands, UnitsStand, contents_of, contents_on, unit_of}
-use Rattle.bdb_mkhash.specs.Costs.{own_pages, unit_cost}
+use Rattle.bdb_mkhash.specs.Costs.{keyed_own_pages, keyed_cost}
 use Rattle.bdb_mkhash.specs.Filling.{AreEmptyPages, ArePut, IsEmptyPage, IsFollowed, IsOpenPage, IsUnitPut, IsWholePage, no_unit}
 use Rattle.bdb_mkhash.specs.Units.{IsShortUnit, unit_seen, units_seen}
 use Rattle.bdb_mkhash.specs.declared.unit.Unit.{Unit as CodeUnit}
@@ -32,7 +32,7 @@ use Rattle.bdb_mkhash.proofs.PageLemmas.{added_keeps}
 use Rattle.bdb_mkhash.proofs.StoreLemmas.{keeps_others, later_of}
 
 -- A key has room on a page without any.
-pub unit_fits : (size : ℕ) (unit : Keyed) → is_page_size size ≡ true → unit_cost size unit ≤ page_room size
+pub unit_fits : (size : ℕ) (unit : Keyed) → is_page_size size ≡ true → keyed_cost size unit ≤ page_room size
 unit_fits size unit legal =
     let bounds = size_bounds size legal in
     let key = item_few size unit.key legal in
@@ -95,13 +95,13 @@ put_more p old now new sorted units unit empty put one =
           let long = one.long in
           let size = put.kept.size in
           let cost : sum_by (content_cost new.order) (contents_on (put.placed ++ (one.placed ∷ [])))
-          ≡ sum_by (content_cost now.order) (contents_on put.placed) + unit_cost old.size unit =
+          ≡ sum_by (content_cost now.order) (contents_on put.placed) + keyed_cost old.size unit =
           ap (λ o. sum_by (content_cost o) (contents_on (put.placed ++ (one.placed ∷ [])))) one.kept.order
           ∙ (ap (sum_by (content_cost now.order)) (on_more put.placed one.placed)
           ∙ (sum_by-append (content_cost now.order) (contents_on put.placed) (contents_of one.placed)
-          ∙ ap (λ n. sum_by (content_cost now.order) (contents_on put.placed) + n) (one.cost ∙ ap (λ n. unit_cost n unit) size))) in
+          ∙ ap (λ n. sum_by (content_cost now.order) (contents_on put.placed) + n) (one.cost ∙ ap (λ n. keyed_cost n unit) size))) in
           let big : 26 ≤ length (bytes_of now p) = (open_is now.order (bytes_of now p) (put.hold empty.previous 0 empty.holds).begun).least in
-          omega (arith, was, now_holds, before, long, cost, big, sum_by_push (unit_cost old.size) units unit);
+          omega (arith, was, now_holds, before, long, cost, big, sum_by_push (keyed_cost old.size) units unit);
       stands = λ g counted later.
           units_follow g sorted a b d put.placed (one.placed ∷ [])
           (put.stands g counted (later_of p a b now new (between a d) g one.kept low (omega arith)
@@ -116,8 +116,8 @@ put_more p old now new sorted units unit empty put one =
       count =
           let before = put.count in
           let added = one.count in
-          let same : own_pages now.size sorted unit ≡ own_pages old.size sorted unit = ap (λ n. own_pages n sorted unit) put.kept.size in
-          omega (arith, before, added, same, sum_by_push (own_pages old.size sorted) units unit);
+          let same : keyed_own_pages now.size sorted unit ≡ keyed_own_pages old.size sorted unit = ap (λ n. keyed_own_pages n sorted unit) put.kept.size in
+          omega (arith, before, added, same, sum_by_push (keyed_own_pages old.size sorted) units unit);
     }
   where
     a : ℕ

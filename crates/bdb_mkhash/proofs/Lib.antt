@@ -5,6 +5,7 @@ pub mod OpenLemmas
 pub mod PageLemmas
 pub mod SetLemmas
 pub mod SpreadLemmas
+pub mod SumLemmas
 pub mod StoreLemmas
 pub mod TableLemmas
 pub mod BuildLemmas

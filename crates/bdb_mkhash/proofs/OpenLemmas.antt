@@ -20,7 +20,7 @@ use Rattle.bdb_leaves.specs.Units.{page_room}
 use Rattle.bdb_leaves.proofs.RunLemmas.{later_before}
 use Rattle.bdb_buckets.specs.Pages.{IsHashIn}
 use Rattle.bdb_buckets.specs.Tables.{BucketStands, Keyed, PlacedUnit, UnitsStand, contents_on, unit_of}
-use Rattle.bdb_mkhash.specs.Costs.{own_pages, unit_cost}
+use Rattle.bdb_mkhash.specs.Costs.{keyed_own_pages, keyed_cost}
 use Rattle.bdb_mkhash.specs.Filling.{IsBucketFilled, IsBucketOpen, IsFollowed, IsPageFilled, closed_of, no_unit, of_bucket, room_on}
 use Rattle.bdb_mkhash.specs.Pages.{HoldsContents, HoldsContentsOn}
 use Rattle.bdb_mkhash.proofs.FillLemmas.{contents_even, unit_fits}
@@ -110,7 +110,7 @@ bucket_begun p old now sorted units n there empty filled =
     room_size = page_room old.size
 
     cost : Keyed → ℕ
-    cost = unit_cost old.size
+    cost = keyed_cost old.size
 
     taken : room_on now p + sum_by cost (take n units) ≡ room_size
     taken = filled.put.room
@@ -245,10 +245,10 @@ module _ (p : ℕ) (old now mid new : Built) (sorted : Bool) (units : List Keyed
       ]
 
   abbrev cost : Keyed → ℕ
-  cost = unit_cost old.size
+  cost = keyed_cost old.size
 
-  cost_same : (us : List Keyed) → sum_by (unit_cost mid.size) us ≡ sum_by cost us
-  cost_same us = ap (λ k. sum_by (unit_cost k) us) size_is
+  cost_same : (us : List Keyed) → sum_by (keyed_cost mid.size) us ≡ sum_by cost us
+  cost_same us = ap (λ k. sum_by (keyed_cost k) us) size_is
 
   room_new : room_on new next + sum_by cost (take m (drop done units)) ≡ page_room old.size
   room_new =
@@ -277,8 +277,8 @@ module _ (p : ℕ) (old now mid new : Built) (sorted : Bool) (units : List Keyed
       ∙ (ap (λ us. spread_on (page_room old.size) cost cost (room_on new next) us (drop m (drop done units))) (sym filled.put.are)
       ∙ ap (spread_on (page_room old.size) cost cost (room_on new next) (map unit_of filled.put.placed)) (drop-drop m done units))))))
 
-  own_same : (us : List Keyed) → sum_by (own_pages mid.size sorted) us ≡ sum_by (own_pages old.size sorted) us
-  own_same us = ap (λ k. sum_by (own_pages k sorted) us) size_is
+  own_same : (us : List Keyed) → sum_by (keyed_own_pages mid.size sorted) us ≡ sum_by (keyed_own_pages old.size sorted) us
+  own_same us = ap (λ k. sum_by (keyed_own_pages k sorted) us) size_is
 
   take_both : take (done + m) units ≡ take done units ++ take m (drop done units)
   take_both = take-add done m units
@@ -322,8 +322,8 @@ module _ (p : ℕ) (old now mid new : Built) (sorted : Bool) (units : List Keyed
     full = elim filled.full [
       | inl all ↦ inl (omega (arith, all, length-drop done units, left))
       | inr full ↦
-          let cost_is : unit_cost mid.size (get_or (drop done units) m no_unit) ≡ cost (get_or units (done + m) no_unit) =
-          ap (λ k. unit_cost k (get_or (drop done units) m no_unit)) size_is ∙ ap cost (get_or-drop done units m no_unit) in
+          let cost_is : keyed_cost mid.size (get_or (drop done units) m no_unit) ≡ cost (get_or units (done + m) no_unit) =
+          ap (λ k. keyed_cost k (get_or (drop done units) m no_unit)) size_is ∙ ap cost (get_or-drop done units m no_unit) in
           let less = full.1 in
           inr (omega (arith, full.0, length-drop done units), omega (arith, less, cost_is))
     ];
@@ -331,9 +331,9 @@ module _ (p : ℕ) (old now mid new : Built) (sorted : Bool) (units : List Keyed
         let before = was.count in
         let one = followed.count in
         let added = filled.put.count in
-        let sums : sum_by (own_pages old.size sorted) (take (done + m) units)
-        ≡ sum_by (own_pages old.size sorted) (take done units) + sum_by (own_pages old.size sorted) (take m (drop done units)) =
-        ap (sum_by (own_pages old.size sorted)) take_both ∙ sum_by-append (own_pages old.size sorted) (take done units) (take m (drop done units)) in
+        let sums : sum_by (keyed_own_pages old.size sorted) (take (done + m) units)
+        ≡ sum_by (keyed_own_pages old.size sorted) (take done units) + sum_by (keyed_own_pages old.size sorted) (take m (drop done units)) =
+        ap (sum_by (keyed_own_pages old.size sorted)) take_both ∙ sum_by-append (keyed_own_pages old.size sorted) (take done units) (take m (drop done units)) in
         omega (arith, before, one, added, sums, own_same (take m (drop done units)), length-append was.closed (was.last ∷ []));
   }
     where
@@ -370,7 +370,7 @@ bucket_done p old new sorted units current done low is all =
       spread =
           map-append (map unit_of) is.closed (is.last ∷ [])
           ∙ sym (is.spread ∙ ap (λ us. map (map unit_of) is.closed
-          ++ spread_on (page_room old.size) (unit_cost old.size) (unit_cost old.size) (room_on new current) (map unit_of is.last) us)
+          ++ spread_on (page_room old.size) (keyed_cost old.size) (keyed_cost old.size) (room_on new current) (map unit_of is.last) us)
           (drop_all done units (omega (arith, all))));
       stands = λ g counted later.
           let up = is.up in
@@ -399,8 +399,8 @@ bucket_done p old new sorted units current done low is all =
       ];
       count =
           let count = is.count in
-          let whole : sum_by (own_pages old.size sorted) (take done units) ≡ sum_by (own_pages old.size sorted) units =
-          ap (sum_by (own_pages old.size sorted)) (take_all done units (omega (arith, all))) in
+          let whole : sum_by (keyed_own_pages old.size sorted) (take done units) ≡ sum_by (keyed_own_pages old.size sorted) units =
+          ap (sum_by (keyed_own_pages old.size sorted)) (take_all done units (omega (arith, all))) in
           omega (arith, count, whole, length-append is.closed (is.last ∷ []));
     }
   where

@@ -39,26 +39,27 @@ use Rattle.bdb_leaves.proofs.FilledLemmas.{value_read}
 use Rattle.bdb_leaves.proofs.PutLemmas.{chain_item, inline_item}
 use Rattle.bdb_leaves.proofs.RunLemmas.{later_before}
 use Rattle.bdb_leaves.proofs.StandLemmas.{values_stand_on}
-use Rattle.bdb_buckets.specs.Tables.{ContentsStand, Keyed, PlacedUnit}
+use Rattle.bdb_buckets.specs.Tables.{ContentsStand, HasSum, Keyed, PlacedUnit}
 use Rattle.bdb_buckets.proofs.OverLemmas.{contents_follow}
-use Rattle.bdb_mkhash.specs.Costs.{cost_in, data_cost, data_form, first_value, item_cost, pages_in, set_cost, stand_together, unit_cost}
+use Rattle.bdb_mkhash.specs.Costs.{cost_in, data_cost, data_form, first_value, hash_item_cost, pages_in, blocks_cost, stand_together, keyed_cost}
 use Rattle.bdb_mkhash.specs.Filling.{AreDataPut, DataStand, IsGrown, IsHalfPage, IsHashItem, IsOpenPage, IsUnitPut, IsValuePut, IsWholePage, room_on}
 use Rattle.bdb_mkhash.specs.Pages.{CanTakeContent, HoldsContents, HoldsContentsOn, content_cost, room_of}
 use Rattle.bdb_mkhash.proofs.CostLemmas.{together_inline}
 use Rattle.bdb_mkhash.proofs.SetLemmas.{set_read}
+use Rattle.bdb_mkhash.proofs.SumLemmas.{set_summed}
 use Rattle.bdb_mkhash.specs.declared.form.DataForm.TheVariants.{One, Set as OnPage, Tree as OffPage}
 
 -- Items of values.
 
-inline_cost : (order : Order) (size : ℕ) (value : List ℕ) → length value ≤ size / 8 → content_cost order (Inline value) ≡ item_cost size value
+inline_cost : (order : Order) (size : ℕ) (value : List ℕ) → length value ≤ size / 8 → content_cost order (Inline value) ≡ hash_item_cost size value
 inline_cost order size value short =
-    let is : item_cost size value ≡ 3 + length value = ap (λ b. cond b (3 + length value) 14) (le-leb (length value) (size / 8) short) in
+    let is : hash_item_cost size value ≡ 3 + length value = ap (λ b. cond b (3 + length value) 14) (le-leb (length value) (size / 8) short) in
     omega (arith, is, length-hash_inline order value)
 
 chain_cost : (order : Order) (size head total : ℕ) (value : List ℕ) → size / 8 < length value
-    → content_cost order (Chain head total) ≡ item_cost size value
+    → content_cost order (Chain head total) ≡ hash_item_cost size value
 chain_cost order size head total value long =
-    let is : item_cost size value ≡ 14 = ap (λ b. cond b (3 + length value) 14) (lt-leb (length value) (size / 8) long) in
+    let is : hash_item_cost size value ≡ 14 = ap (λ b. cond b (3 + length value) 14) (lt-leb (length value) (size / 8) long) in
     omega (arith, is, length-hash_chain order head total)
 
 pub inline_stored : (old new : Built) (value : List ℕ) → IsWritable (OnLeaf (record { content = Inline value; deleted = false }))
@@ -128,7 +129,7 @@ later_of p a b old new large g kept low high within later =
 
 -- what a page takes
 pub takes_item : (old mid : Built) (p : ℕ) (value : List ℕ) (content : Content) → IsOpenPage p old → IsHashItem old mid value content
-    → item_cost old.size value ≤ room_on old p → CanTakeContent mid p content
+    → hash_item_cost old.size value ≤ room_on old p → CanTakeContent mid p content
 takes_item old mid p value content page stored room =
     let same = room_stays old mid p stored.item.kept page.there in
     record {
@@ -150,6 +151,7 @@ pub record ValueHere (g : File) (sorted : Bool) (first beyond : ℕ) (content : 
   pub data_is : data_of g content ≡ value ∷ []
   pub no_set : is_set content ≡ false
   pub right : is_wrong_set g sorted content ≡ false
+  pub summed : HasSum g content
 
 data_one : (g : File) (size first beyond : ℕ) (content : Content) (value : List ℕ) → ValueStands g size first beyond content value
     → value_of g content ≡ value → data_of g content ≡ value ∷ []
@@ -161,9 +163,9 @@ data_one g size first beyond (Tree root) value stands read = absurd stands
 data_one g size first beyond Unknown value stands read = absurd stands
 
 not_set : (g : File) (sorted : Bool) (size first beyond : ℕ) (content : Content) (value : List ℕ) → ValueStands g size first beyond content value
-    → (is_set content ≡ false) × (is_wrong_set g sorted content ≡ false)
-not_set g sorted size first beyond (Inline bytes) value stands = (refl, refl)
-not_set g sorted size first beyond (Chain head total) value stands = (refl, refl)
+    → (is_set content ≡ false) × (is_wrong_set g sorted content ≡ false) × HasSum g content
+not_set g sorted size first beyond (Inline bytes) value stands = (refl, refl, tt)
+not_set g sorted size first beyond (Chain head total) value stands = (refl, refl, tt)
 not_set g sorted size first beyond (Set blocks) value stands = absurd stands
 not_set g sorted size first beyond (Tree root) value stands = absurd stands
 not_set g sorted size first beyond Unknown value stands = absurd stands
@@ -188,6 +190,7 @@ value_here g sorted size first beyond content value counted low high stands =
       data_is = data_one g size first beyond content value stands read;
       no_set = plain.0;
       right = plain.1;
+      summed = plain.2;
     }
 
 -- the value stands in each file that is later on its pages
@@ -265,6 +268,7 @@ one_put p old new sorted values low form put =
             values_are = here.data_is ∙ sym (one_value old.size values form);
             single = λ one. here.no_set;
             right = here.right;
+            summed = here.summed;
           };
       formed = value_put_formed p old new (first_value values) put low;
       count = put.grown.count ∙ (put.stored.item.count ∙ ap (λ f. length old.pages + pages_in f old.size sorted values) (sym form));
@@ -290,7 +294,7 @@ blocks_long order (value ∷ values) =
           (λ (v : List ℕ). 4 + length v) value values,
     )
 
-set_cost_is : (order : Order) (values : List (List ℕ)) → content_cost order (Set values) ≡ set_cost values
+set_cost_is : (order : Order) (values : List (List ℕ)) → content_cost order (Set values) ≡ blocks_cost values
 unfolding hash_bytes
 set_cost_is order values = let long = blocks_long order values in omega (arith, long)
 
@@ -301,7 +305,7 @@ data_set g values = refl
 pub takes_set : (built : Built) (p : ℕ) (values : List (List ℕ)) → IsHalfPage p built → data_form built.size values ≡ OnPage
     → All (λ value. length value < 2 ^ 16) values → data_cost built.size values ≤ room_on built p → CanTakeContent built p (Set values)
 takes_set built p values page form short room =
-    let is : data_cost built.size values ≡ set_cost values = ap (λ f. cost_in f built.size values) form in
+    let is : data_cost built.size values ≡ blocks_cost values = ap (λ f. cost_in f built.size values) form in
     record {
       previous = page.previous;
       next = 0;
@@ -333,6 +337,7 @@ set_put p old new sorted values low form grown =
             values_are = data_set g values;
             single = λ one. let many = (several old.size values form).0 in absurd (omega (arith, one, many));
             right = refl;
+            summed = tt;
           });
       formed = λ q from under. absurd (omega (arith, from, under, count));
       count = count ∙ (let none : length old.pages ≡ length old.pages + 0 = omega arith in none)
@@ -391,9 +396,7 @@ tree_put p old mid new sorted values root low form set grown =
       hold = λ previous next contents holds. grown.hold previous next contents (holds_stay old mid p previous next contents set.kept low holds);
       cost = tree_cost old.order root ∙ sym (ap (λ f. cost_in f old.size values) form);
       stands = λ g counted later.
-          let there = set.stands g counted
-          (later_of p (length old.pages) (length mid.pages) mid new (between (length old.pages) (length new.pages)) g grown.kept low (omega arith)
-          (λ q from under. is_between (length old.pages) (length new.pages) q from (omega (arith, under, count))) later) in
+          let there = set.stands g counted (tree_later g later) in
           let first = set.low in
           let last = set.high in
           subst (λ n. DataStand g sorted (length old.pages) n (Tree root) values) (sym count)
@@ -402,6 +405,7 @@ tree_put p old mid new sorted values root low form set grown =
             values_are = there.holds;
             single = λ one. absurd (no_one old.size values form one);
             right = there.right;
+            summed = set_summed g mid (between (length old.pages) (length mid.pages)) sorted values root set.tree counted (tree_later g later) there.holds;
           });
       formed = λ q from under.
           ap (λ o. page_code o q (bytes_of new q)) grown.kept.order
@@ -409,6 +413,13 @@ tree_put p old mid new sorted values root low form set grown =
           ∙ set.formed q from (omega (arith, under, count)));
       count = count ∙ (set.count ∙ ap (λ f. length old.pages + pages_in f old.size sorted values) (sym form));
     }
+  where
+    tree_later : (g : File) → IsLater (between (length old.pages) (length new.pages)) (file_so_far new) g
+        → IsLater (between (length old.pages) (length mid.pages)) (file_so_far mid) g
+    tree_later g later =
+        let count = grown.count in
+        later_of p (length old.pages) (length mid.pages) mid new (between (length old.pages) (length new.pages)) g grown.kept low (omega arith)
+        (λ q from under. is_between (length old.pages) (length new.pages) q from (omega (arith, under, count))) later
 
 -- A key with its data.
 
@@ -427,14 +438,14 @@ half_page p old mid key page put =
 
 -- the room that a key leaves is enough for its data
 pub room_left : (p : ℕ) (old mid : Built) (unit : Keyed) (page : IsWholePage p old) → IsValuePut p old mid unit.key
-    → unit_cost old.size unit ≤ room_on old p → data_cost mid.size unit.values ≤ room_on mid p
+    → keyed_cost old.size unit ≤ room_on old p → data_cost mid.size unit.values ≤ room_on mid p
 room_left p old mid unit page put room =
     let was = page.holds.room in
     let now = (value_put_hold p old mid unit.key put page.there page.previous 0 page.contents page.holds).room in
     let order = put.grown.kept.order ∙ put.stored.item.kept.order in
     let size = put.grown.kept.size ∙ put.stored.item.kept.size in
     let long = value_put_long p old mid unit.key put page.there in
-    let sum : sum_by (content_cost mid.order) (page.contents ++ (put.content ∷ [])) ≡ sum_by (content_cost old.order) page.contents + item_cost
+    let sum : sum_by (content_cost mid.order) (page.contents ++ (put.content ∷ [])) ≡ sum_by (content_cost old.order) page.contents + hash_item_cost
     old.size unit.key =
     ap (λ o. sum_by (content_cost o) (page.contents ++ (put.content ∷ []))) order
     ∙ (sum_by_push (content_cost old.order) page.contents put.content
@@ -473,6 +484,7 @@ unit_put p old mid new sorted unit low put data' =
             values = datum.values_are;
             single = datum.single;
             right = datum.right;
+            summed = datum.summed;
           };
       formed = λ q from under. elim (cases_lt q (length mid.pages)) [
         | inl below ↦

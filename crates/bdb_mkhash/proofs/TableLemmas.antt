@@ -15,7 +15,7 @@ use Rattle.bdb_pack.specs.Built.{Built, bytes_of, file_so_far}
 use Rattle.bdb_leaves.proofs.RunLemmas.{later_before}
 use Rattle.bdb_buckets.specs.Tables.{BucketStands, Keyed, PlacedUnit, TableStands, unit_of}
 use Rattle.bdb_mkhash.specs.Buckets.{spread_bucket}
-use Rattle.bdb_mkhash.specs.Costs.{own_pages}
+use Rattle.bdb_mkhash.specs.Costs.{keyed_own_pages}
 use Rattle.bdb_mkhash.specs.Filling.{AreEmptyPages, AreFilled, IsBucketFilled, of_bucket, of_buckets}
 use Rattle.bdb_mkhash.specs.Pages.{HoldsContentsOn}
 use Rattle.bdb_mkhash.proofs.OpenLemmas.{bucket_is, holds_kept, is_first, is_further}
@@ -165,8 +165,8 @@ module _ (p n : ℕ) (old now new : Built) (sorted : Bool) (buckets : List (List
         let added = one.count in
         let pages_are : length one.pages ≡ length (spread_bucket old.size bucket) =
         sym (length-map one.pages (map unit_of)) ∙ (ap length one.spread ∙ ap (λ s. length (spread_bucket s bucket)) was.size) in
-        let own : sum_by (own_pages now.size sorted) bucket ≡ sum_by (own_pages old.size sorted) bucket = ap
-        (λ s. sum_by (own_pages s sorted) bucket) was.size in
+        let own : sum_by (keyed_own_pages now.size sorted) bucket ≡ sum_by (keyed_own_pages old.size sorted) bucket = ap
+        (λ s. sum_by (keyed_own_pages s sorted) bucket) was.size in
         omega (
           arith,
           before,
@@ -175,7 +175,7 @@ module _ (p n : ℕ) (old now new : Built) (sorted : Bool) (buckets : List (List
           own,
           all_long,
           sum_by_push (λ (us : List Keyed). length (spread_bucket old.size us)) buckets bucket,
-          sum_by_push (λ (us : List Keyed). sum_by (own_pages old.size sorted) us) buckets bucket,
+          sum_by_push (λ (us : List Keyed). sum_by (keyed_own_pages old.size sorted) us) buckets bucket,
         );
   }
     where

@@ -2,13 +2,13 @@
 use Rattle.std.specs.Prelude.{ℕ, ◌+◌, ◌*◌, ◌/◌, ◌^◌, nat_le, Bool, List, [], length, map}
 use Rattle.std.specs.List.{find, range_with_len, sum_by}
 use Rattle.std.specs.Option.{unwrap_or}
-use Rattle.bdb_model.specs.declared.list.Pair.{Pair}
+use Rattle.bdb_text_format.specs.declared.list.Pair.{Pair}
 use Rattle.bdb_leaves.specs.Placed.{values_in}
 use Rattle.bdb_leaves.specs.Spread.{spread_on}
 use Rattle.bdb_leaves.specs.Units.{TreeUnit, key_of, page_room}
 use Rattle.bdb_mktree.specs.Lists.{keyed_units}
 use Rattle.bdb_buckets.specs.Tables.{Keyed, dealt}
-use Rattle.bdb_mkhash.specs.Costs.{own_pages, unit_cost}
+use Rattle.bdb_mkhash.specs.Costs.{keyed_own_pages, keyed_cost}
 
 -- a key with all its data, as the list of a btree has it
 abbrev pub keyed_of : TreeUnit → Keyed
@@ -24,14 +24,14 @@ bits_for size cost = unwrap_or (find (λ bits. nat_le cost (2 ^ bits * (page_roo
 
 -- all keys take so much
 abbrev pub table_cost : ℕ → List Keyed → ℕ
-table_cost size units = sum_by (unit_cost size) units
+table_cost size units = sum_by (keyed_cost size) units
 
 abbrev pub table_bits : ℕ → List Keyed → ℕ
 table_bits size units = bits_for size (table_cost size units)
 
 -- the keys on each page of a bucket: there is one page at least
 abbrev pub spread_bucket : ℕ → List Keyed → List (List Keyed)
-spread_bucket size units = spread_on (page_room size) (unit_cost size) (unit_cost size) (page_room size) [] units
+spread_bucket size units = spread_on (page_room size) (keyed_cost size) (keyed_cost size) (page_room size) [] units
 
 -- the keys of each bucket
 abbrev pub buckets_of : ℕ → List Keyed → List (List Keyed)
@@ -40,4 +40,4 @@ buckets_of bits units = map (dealt bits units) (range_with_len 0 (2 ^ bits))
 -- the pages of a table: those of its buckets, and what its keys have of their own
 abbrev pub table_size : ℕ → Bool → List Keyed → ℕ
 table_size size sorted units =
-    sum_by (λ bucket. length (spread_bucket size bucket)) (buckets_of (table_bits size units) units) + sum_by (own_pages size sorted) units
+    sum_by (λ bucket. length (spread_bucket size bucket)) (buckets_of (table_bits size units) units) + sum_by (keyed_own_pages size sorted) units

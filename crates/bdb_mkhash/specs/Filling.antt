@@ -1,6 +1,7 @@
 -- What is put on pages of a table: items, keys with their data, the keys of a page, of a bucket, and of all buckets.
 -- Source: docs/FORMAT.md, "Built tables" and "Stored values".
-use Rattle.std.specs.Prelude.{◌≡◌, ◌⊎◌, ℕ, ◌+◌, ◌%◌, ◌<◌, ◌≤◌, ◌==◌, ◌&&◌, ◌||◌, not, Bool, true, false, List, [], ◌∷◌, ◌++◌, drop, get_or, length, map, take, None}
+use Rattle.std.specs.Prelude.{◌≡◌, ◌⊎◌, ℕ, ◌+◌, ◌%◌, ◌<◌, ◌≤◌, ◌==◌, ◌&&◌, ◌||◌, not, Bool, true, false, List, [], ◌∷◌, ◌++◌, drop, get_or, length, map, take}
+use Rattle.std.specs.Prelude.{None}
 use Rattle.std.specs.List.{sum_by}
 use Rattle.bdb_format.specs.declared.kinds.Order.{Order}
 use Rattle.bdb_format.specs.Page.{Content}
@@ -17,9 +18,10 @@ use Rattle.bdb_leaves.specs.Puts.{IsItemOf}
 use Rattle.bdb_leaves.specs.Spread.{spread_on}
 use Rattle.bdb_leaves.specs.Units.{page_room}
 use Rattle.bdb_buckets.specs.Pages.{hash_item}
-use Rattle.bdb_buckets.specs.Tables.{BucketStands, ContentsStand, Keyed, PlacedUnit, TableStands, UnitStands, UnitsStand, contents_of, contents_on, unit_of}
+use Rattle.bdb_buckets.specs.Tables.{BucketStands, ContentsStand, HasSum, Keyed, PlacedUnit, TableStands, UnitStands, UnitsStand, contents_of, contents_on}
+use Rattle.bdb_buckets.specs.Tables.{unit_of}
 use Rattle.bdb_mkhash.specs.Buckets.{spread_bucket}
-use Rattle.bdb_mkhash.specs.Costs.{data_cost, data_form, item_cost, own_pages, pages_in, unit_cost}
+use Rattle.bdb_mkhash.specs.Costs.{data_cost, data_form, hash_item_cost, keyed_own_pages, pages_in, keyed_cost}
 use Rattle.bdb_mkhash.specs.Pages.{HoldsContentsOn, content_cost, room_of}
 
 -- an item for a value, which is stored in a chain behind all pages where it's long
@@ -27,7 +29,7 @@ pub record IsHashItem (old new : Built) (value : List ℕ) (content : Content) :
   pub item : IsItemOf old new value false (hash_item content)
   pub fits : IsWritable (OnHash content)
   pub place : (index : ℕ) → HasPlace 2 index (OnHash content)
-  pub cost : (order : Order) → content_cost order content ≡ item_cost old.size value
+  pub cost : (order : Order) → content_cost order content ≡ hash_item_cost old.size value
 
 -- an item that a page gets at its end, while no other page changes
 pub record IsGrown (p : ℕ) (old new : Built) (content : Content) : Type 0 where
@@ -76,6 +78,7 @@ pub record DataStand (g : File) (sorted : Bool) (first beyond : ℕ) (content : 
   pub values_are : data_of g content ≡ values
   pub single : length values ≡ 1 → is_set content ≡ false
   pub right : is_wrong_set g sorted content ≡ false
+  pub summed : HasSum g content
 
 -- The data of a key are put on a page: in a later file the pages that are added are those that their item names.
 pub record AreDataPut (p : ℕ) (old new : Built) (sorted : Bool) (values : List (List ℕ)) : Type 0 where
@@ -99,11 +102,11 @@ pub record IsUnitPut (p : ℕ) (old new : Built) (sorted : Bool) (unit : Keyed) 
   pub beyond : placed.beyond ≡ length new.pages
   pub hold : (previous next : ℕ) (contents : List Content) → HoldsContentsOn old p previous next contents
       → HoldsContentsOn new p previous next (contents ++ contents_of placed)
-  pub cost : sum_by (content_cost old.order) (contents_of placed) ≡ unit_cost old.size unit
+  pub cost : sum_by (content_cost old.order) (contents_of placed) ≡ keyed_cost old.size unit
   pub stands : (g : File) → IsCounted g → IsLater (between (length old.pages) (length new.pages)) (file_so_far new) g
       → UnitStands g sorted (length old.pages) (length new.pages) placed
   pub formed : (q : ℕ) → length old.pages ≤ q → q < length new.pages → page_code new.order q (bytes_of new q) ≡ None
-  pub count : length new.pages ≡ length old.pages + own_pages old.size sorted unit
+  pub count : length new.pages ≡ length old.pages + keyed_own_pages old.size sorted unit
 
 -- Keys are put on a page that had none.
 pub record ArePut (p : ℕ) (old new : Built) (sorted : Bool) (units : List Keyed) : Type 0 where
@@ -111,11 +114,11 @@ pub record ArePut (p : ℕ) (old new : Built) (sorted : Bool) (units : List Keye
   pub placed : List PlacedUnit
   pub are : map unit_of placed ≡ units
   pub hold : (previous next : ℕ) → HoldsContentsOn old p previous next [] → HoldsContentsOn new p previous next (contents_on placed)
-  pub room : room_on new p + sum_by (unit_cost old.size) units ≡ page_room old.size
+  pub room : room_on new p + sum_by (keyed_cost old.size) units ≡ page_room old.size
   pub stands : (g : File) → IsCounted g → IsLater (between (length old.pages) (length new.pages)) (file_so_far new) g
       → UnitsStand g sorted (length old.pages) (length new.pages) placed
   pub formed : (q : ℕ) → length old.pages ≤ q → q < length new.pages → page_code new.order q (bytes_of new q) ≡ None
-  pub count : length new.pages ≡ length old.pages + sum_by (own_pages old.size sorted) units
+  pub count : length new.pages ≡ length old.pages + sum_by (keyed_own_pages old.size sorted) units
 
 abbrev pub no_unit : Keyed
 no_unit = record { key = []; values = [] }
@@ -124,7 +127,7 @@ no_unit = record { key = []; values = [] }
 pub record IsPageFilled (p : ℕ) (old new : Built) (sorted : Bool) (units : List Keyed) (n : ℕ) : Type 0 where
   pub few : n ≤ length units
   pub put : ArePut p old new sorted (take n units)
-  pub full : (n ≡ length units) ⊎ ((n < length units) × (room_on new p < unit_cost old.size (get_or units n no_unit)))
+  pub full : (n ≡ length units) ⊎ ((n < length units) × (room_on new p < keyed_cost old.size (get_or units n no_unit)))
 
 -- a page without keys
 pub record IsEmptyPage (p : ℕ) (built : Built) : Type 0 where
@@ -153,7 +156,7 @@ pub record IsBucketFilled (p : ℕ) (old new : Built) (sorted : Bool) (units : L
   pub stands : (g : File) → IsCounted g → IsLater (of_bucket p (length old.pages) (length new.pages)) (file_so_far new) g
       → BucketStands g sorted 0 p (length old.pages) (length new.pages) pages
   pub formed : (q : ℕ) → of_bucket p (length old.pages) (length new.pages) q ≡ true → page_code new.order q (bytes_of new q) ≡ None
-  pub count : length new.pages + 1 ≡ length old.pages + length pages + sum_by (own_pages old.size sorted) units
+  pub count : length new.pages + 1 ≡ length old.pages + length pages + sum_by (keyed_own_pages old.size sorted) units
 
 -- the pages of a bucket that are closed: all but the open one
 abbrev pub closed_of : ℕ → ℕ → ℕ → ℕ → ℕ → Bool
@@ -173,7 +176,7 @@ pub record IsBucketOpen (p : ℕ) (old now : Built) (sorted : Bool) (units : Lis
   pub previous : ℕ
   pub last : List PlacedUnit
   pub holds : HoldsContentsOn now current previous 0 (contents_on last)
-  pub room : room_on now current + sum_by (unit_cost old.size) (map unit_of last) ≡ page_room old.size
+  pub room : room_on now current + sum_by (keyed_cost old.size) (map unit_of last) ≡ page_room old.size
   pub last_stands : (g : File) → IsCounted g → IsLater (between start (length now.pages)) (file_so_far now) g
       → UnitsStand g sorted start (length now.pages) last
   pub closed : List (List PlacedUnit)
@@ -183,9 +186,9 @@ pub record IsBucketOpen (p : ℕ) (old now : Built) (sorted : Bool) (units : Lis
   pub formed : (q : ℕ) → closed_of p (length old.pages) (length now.pages) current q ≡ true → page_code now.order q (bytes_of now q) ≡ None
   pub spread : spread_bucket old.size units
       ≡ map (map unit_of) closed
-      ++ spread_on (page_room old.size) (unit_cost old.size) (unit_cost old.size) (room_on now current) (map unit_of last) (drop done units)
-  pub full : (done ≡ length units) ⊎ ((done < length units) × (room_on now current < unit_cost old.size (get_or units done no_unit)))
-  pub count : length now.pages ≡ length old.pages + length closed + sum_by (own_pages old.size sorted) (take done units)
+      ++ spread_on (page_room old.size) (keyed_cost old.size) (keyed_cost old.size) (room_on now current) (map unit_of last) (drop done units)
+  pub full : (done ≡ length units) ⊎ ((done < length units) × (room_on now current < keyed_cost old.size (get_or units done no_unit)))
+  pub count : length now.pages ≡ length old.pages + length closed + sum_by (keyed_own_pages old.size sorted) (take done units)
 
 -- the pages of the first buckets: their first ones, and those from a number on
 abbrev pub of_buckets : ℕ → ℕ → ℕ → ℕ → ℕ → Bool
@@ -204,7 +207,7 @@ pub record AreFilled (p : ℕ) (old new : Built) (sorted : Bool) (buckets : List
   pub formed : (q : ℕ) → of_buckets p (length buckets) (length old.pages) (length new.pages) q ≡ true → page_code new.order q (bytes_of new q) ≡ None
   pub count : length new.pages + length buckets
       ≡ length old.pages + sum_by (λ bucket. length (spread_bucket old.size bucket)) buckets + sum_by
-      (λ bucket. sum_by (own_pages old.size sorted) bucket) buckets
+      (λ bucket. sum_by (keyed_own_pages old.size sorted) bucket) buckets
 
 -- pages without keys, as many, from a number on
 abbrev pub AreEmptyPages : ℕ → ℕ → Built → Type 0

@@ -6,10 +6,10 @@ ghost use Rattle.bdb_mktree.specs.Lists.{HasBytes};
 ghost use Rattle.bdb_mkhash.specs.Buckets.{bits_for, buckets_of, table_cost, table_units};
 ghost use Rattle.bdb_mkhash.specs.Units.{units_seen};
 
-use crate::unit::{Unit, unit_cost};
+use crate::unit::{Unit, keyed_cost};
 use bdb_layout::{bucket_of, hash5};
 use bdb_mktree::{Run, run_at};
-use bdb_model::PairList;
+use bdb_text_format::PairList;
 use std::alloc::{AllocError, Global};
 
 // A key of a list as it is stored.
@@ -35,7 +35,7 @@ pub(crate) fn table_cost(size: usize, list: &PairList) -> Result<u64, AllocError
         let run = run_at(list, start);
         let unit = unit_of(&run);
         cost = cost
-            .checked_add(unit_cost(size, &unit) as u64)
+            .checked_add(keyed_cost(size, &unit) as u64)
             .ok_or(AllocError)?;
         start = run.end;
     }

@@ -1,6 +1,6 @@
 ghost use Rattle.std.specs.Prelude.{◌≡◌, ◌≤◌, ◌+◌, ◌-◌, ◌++◌, IfOk, length, replicate};
 ghost use Rattle.bdb_format.specs.declared.kinds.Kind.TheVariants.{Hash as HashKind};
-ghost use Rattle.bdb_model.specs.Pairs.{listed};
+ghost use Rattle.bdb_text_format.specs.Pairs.{listed};
 ghost use Rattle.bdb_buckets.specs.Tables.{table_meta};
 ghost use Rattle.bdb_mkhash.specs.Buckets.{table_units};
 ghost use Rattle.bdb_mkhash.specs.Table.{IsTableBuilt, IsTableList};
@@ -8,8 +8,8 @@ ghost use Rattle.bdb_mkhash.specs.Table.{IsTableBuilt, IsTableList};
 use crate::buckets::{bits_for, bucket_count, deal, table_cost};
 use crate::fill::{add_buckets, fill_buckets};
 use bdb_format::{HashMeta, Settings};
-use bdb_model::PairList;
 use bdb_pack::Pages;
+use bdb_text_format::PairList;
 use std::alloc::{AllocError, Global};
 
 // The spares of a table with so many bits to the number of a bucket, whose first page this is.

@@ -2,7 +2,7 @@ ghost use Rattle.std.specs.Prelude.{◌≡◌, ◌+◌, ◌<◌, ◌≤◌, ◌%
 ghost use Rattle.std.specs.List.{All};
 ghost use Rattle.bdb_format.specs.HeadOf.{is_page_size};
 ghost use Rattle.bdb_leaves.specs.Runs.{IsShort};
-ghost use Rattle.bdb_mkhash.specs.Costs.{data_cost, data_form, item_cost, unit_cost};
+ghost use Rattle.bdb_mkhash.specs.Costs.{data_cost, data_form, hash_item_cost, keyed_cost};
 ghost use Rattle.bdb_mkhash.specs.Filling.{AreDataPut, IsHalfPage, IsOpenPage, IsUnitPut, IsValuePut, IsWholePage, room_on};
 ghost use Rattle.bdb_mkhash.specs.Units.{IsShortUnit, unit_seen};
 ghost use Rattle.bdb_mkhash.specs.declared.form.DataForm.TheVariants.{One as OneDatum, Set as SetOnPage, Tree as OwnTree};
@@ -23,7 +23,7 @@ fn put_value(pages: &mut Pages, page: u32, value: &[u8]) -> Result<(), AllocErro
     requires open { IsOpenPage page pages.old }
     requires short { IsShort value.now }
     requires legal { IsTrue (is_page_size pages.old.size) }
-    requires room { item_cost pages.old.size value.now ≤ room_on pages.old page }
+    requires room { hash_item_cost pages.old.size value.now ≤ room_on pages.old page }
     ensures { IfOk result (λ _. IsValuePut page pages.old pages.new value.now) }
 {
     let item = store(pages, value)?;
@@ -121,7 +121,7 @@ pub(crate) fn put_unit(
     requires open { IsWholePage page pages.old }
     requires short { IsShortUnit (unit_seen unit.now) }
     requires legal { IsTrue (is_page_size pages.old.size) }
-    requires room { unit_cost pages.old.size (unit_seen unit.now) ≤ room_on pages.old page }
+    requires room { keyed_cost pages.old.size (unit_seen unit.now) ≤ room_on pages.old page }
     ensures { IfOk result (λ _. IsUnitPut page pages.old pages.new sorted (unit_seen unit.now)) }
 {
     put_value(pages, page, unit.key)?;

@@ -8,7 +8,7 @@ ghost use Rattle.bdb_mkhash.specs.Units.{IsShortUnit, units_seen};
 
 use crate::data::put_unit;
 use crate::page::{add_page, set_next};
-use crate::unit::{Unit, unit_cost};
+use crate::unit::{Unit, keyed_cost};
 use bdb_pack::Pages;
 use std::alloc::{AllocError, Global};
 
@@ -28,7 +28,7 @@ fn fill_page(
     let size = pages.size();
     let mut n = 0;
     for unit in units {
-        if unit_cost(size, unit) > pages.room(page) as usize {
+        if keyed_cost(size, unit) > pages.room(page) as usize {
             return Ok(n);
         }
         put_unit(alloc, pages, page, sorted, unit)?;

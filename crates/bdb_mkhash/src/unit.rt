@@ -1,6 +1,6 @@
 ghost use Rattle.std.specs.Prelude.{◌≡◌, ◌<◌, ◌≤◌, ◌-◌, ◌/◌, IsTrue, length};
 ghost use Rattle.bdb_format.specs.HeadOf.{is_page_size};
-ghost use Rattle.bdb_mkhash.specs.Costs.{data_cost, data_form, item_cost, set_cost, stand_together, unit_cost};
+ghost use Rattle.bdb_mkhash.specs.Costs.{data_cost, data_form, hash_item_cost, blocks_cost, stand_together, keyed_cost};
 ghost use Rattle.bdb_mkhash.specs.Units.{unit_seen};
 
 use crate::form::DataForm;
@@ -14,9 +14,9 @@ pub(crate) struct Unit<'a> {
 }
 
 // The entry of a value's item, and the item, on a page of so many bytes.
-fn item_cost(size: usize, value: &[u8]) -> usize
+fn hash_item_cost(size: usize, value: &[u8]) -> usize
     requires { IsTrue (is_page_size size) }
-    ensures { result ≡ item_cost size value.now }
+    ensures { result ≡ hash_item_cost size value.now }
 {
     if value.len() <= size / 8 {
         3 + value.len()
@@ -60,10 +60,10 @@ pub(crate) fn data_form(size: usize, values: &[Bytes]) -> DataForm
 }
 
 // The entry and the item of a set on the page.
-fn set_cost(size: usize, values: &[Bytes]) -> usize
+fn blocks_cost(size: usize, values: &[Bytes]) -> usize
     requires legal { IsTrue (is_page_size size) }
     requires few { IsTrue (stand_together size values.now) }
-    ensures { result ≡ set_cost values.now }
+    ensures { result ≡ blocks_cost values.now }
 {
     let mut cost = 3;
     for value in values {
@@ -79,16 +79,16 @@ fn data_cost(size: usize, values: &[Bytes]) -> usize
     ensures few { result < size }
 {
     match data_form(size, values) {
-        DataForm::One => item_cost(size, values[0].as_slice()),
-        DataForm::Set => set_cost(size, values),
+        DataForm::One => hash_item_cost(size, values[0].as_slice()),
+        DataForm::Set => blocks_cost(size, values),
         DataForm::Tree => 10,
     }
 }
 
 /// What a key with its data takes of a page.
-pub(crate) fn unit_cost(size: usize, unit: &Unit<'_>) -> usize
+pub(crate) fn keyed_cost(size: usize, unit: &Unit<'_>) -> usize
     requires { IsTrue (is_page_size size) }
-    ensures { result ≡ unit_cost size (unit_seen unit.now) }
+    ensures { result ≡ keyed_cost size (unit_seen unit.now) }
 {
-    item_cost(size, unit.key) + data_cost(size, unit.values)
+    hash_item_cost(size, unit.key) + data_cost(size, unit.values)
 }

@@ -11,11 +11,12 @@ use Rattle.bdb_format.specs.Numbers.{four_at}
 use Rattle.bdb_format.specs.Reading.{queue_fields}
 use Rattle.bdb_format.specs.Rows.{queue_code, queue_rows, records_per_page}
 use Rattle.bdb_format.specs.Table.{first_row}
-use Rattle.bdb_model.specs.declared.list.Pair.{Pair}
+use Rattle.bdb_text_format.specs.declared.list.Pair.{Pair}
+use Rattle.bdb_text_format.specs.Pairs.{AscendFrom, number_of}
 use Rattle.bdb_pack.specs.Built.{Built}
 use Rattle.bdb_mkqueue.specs.Building.{HasRoom, IsQueueBuilt, IsQueueOn, KeepsFirst, SaysQueue}
 use Rattle.bdb_mkqueue.specs.Layout.{queue_meta, queue_size, slots_of}
-use Rattle.bdb_mkqueue.specs.Lists.{AscendFrom, HasLength, HasNext, IsListFor, first_number, next_number, number_in}
+use Rattle.bdb_mkqueue.specs.Lists.{HasLength, HasNext, IsQueueList, first_number, next_number}
 use Rattle.bdb_mkqueue.proofs.LastLemmas.{next_last}
 use Rattle.bdb_mkqueue.proofs.ListLemmas.{SaysList, queue_listed}
 use Rattle.bdb_mkqueue.proofs.PageLemmas.{page_formed}
@@ -35,21 +36,21 @@ size_few : (k : ℕ) (list : List Pair) → next_number 1 list < 2 ^ 32 → Asce
 size_few k [] few is = omega arith
 size_few k (x ∷ xs) few is =
     let n : ℕ = next_number 1 (x ∷ xs) - 1 in
-    let after : number_in x.key + 1 ≤ next_number (number_in x.key + 1) xs = next_low (number_in x.key + 1) xs is.1 in
+    let after : number_of x.key + 1 ≤ next_number (number_of x.key + 1) xs = next_low (number_of x.key + 1) xs is.1 in
     omega (arith, div-le_self (n - 1) k, few, after, is.0)
 
 first_low : (list : List Pair) → AscendFrom 1 list → (1 ≤ first_number list) × (first_number list ≤ next_number 1 list)
 first_low [] is = (omega arith, omega arith)
 first_low (x ∷ xs) is =
-    let after : number_in x.key + 1 ≤ next_number (number_in x.key + 1) xs = next_low (number_in x.key + 1) xs is.1 in
+    let after : number_of x.key + 1 ≤ next_number (number_of x.key + 1) xs = next_low (number_of x.key + 1) xs is.1 in
     (is.0, omega (arith, after))
 
 -- records have the length that the metadata says
-pub lengths_for : (settings : Settings) (list : List Pair) (meta : QueueMeta) → IsListFor settings list → meta ≡ queue_meta settings list
+pub lengths_for : (settings : Settings) (list : List Pair) (meta : QueueMeta) → IsQueueList settings list → meta ≡ queue_meta settings list
     → All (HasLength meta.re_len) list
 lengths_for settings list meta for is = subst (λ n. All (HasLength n) list) (sym (ap (λ (m : QueueMeta). m.re_len) is)) for.long
 
-says_list : (settings : Settings) (list : List Pair) (meta : QueueMeta) → IsListFor settings list → meta ≡ queue_meta settings list
+says_list : (settings : Settings) (list : List Pair) (meta : QueueMeta) → IsQueueList settings list → meta ≡ queue_meta settings list
     → SaysList meta list
 says_list settings list meta for is =
     record {
@@ -65,7 +66,7 @@ no_rows : (extent none some first current wrapped : Bool) → extent ≡ false �
     → cond {A = Option ℕ} extent (Some 15) (cond (none || some) (Some 16) (cond (first || current) (Some 17) (cond wrapped (Some 18) None))) ≡ None
 no_rows extent none some first current wrapped one two three four five six = rw (one, two, three, four, five, six) refl
 
-meta_formed : (settings : Settings) (list : List Pair) (built : Built) (meta : QueueMeta) (page : List ℕ) → IsListFor settings list
+meta_formed : (settings : Settings) (list : List Pair) (built : Built) (meta : QueueMeta) (page : List ℕ) → IsQueueList settings list
     → meta ≡ queue_meta settings list → built.size ≡ settings.page_size → HasRoom built.size meta → SaysQueue built meta page
     → first_row (queue_rows built.order page) ≡ None
 meta_formed settings list built meta page for is size room says =
@@ -89,7 +90,7 @@ meta_formed settings list built meta page for is size room says =
     (ne_eqb read.current 0 (λ none. omega (arith, none, next_is, first.0, first.1)))
     (le-ltb read.current read.first (omega (arith, first_is, next_is, first.1)))
 
-pub queue_built : (settings : Settings) (list : List Pair) (old new : Built) (meta : QueueMeta) → IsListFor settings list
+pub queue_built : (settings : Settings) (list : List Pair) (old new : Built) (meta : QueueMeta) → IsQueueList settings list
     → old.size ≡ settings.page_size → meta ≡ queue_meta settings list → HasRoom new.size meta → IsQueueOn meta list new → KeepsFirst old new
     → IsQueueBuilt settings list old new meta
 queue_built settings list old new meta for size is room on kept =

@@ -3,21 +3,21 @@ use Rattle.std.proofs.Common.{◌≡◌, ℕ, ◌+◌, ◌-◌, ◌<◌, List, [
 use Rattle.std.specs.Prelude.{slice_get}
 use Rattle.std.proofs.lemmas.List.{get_or-map, length-map}
 use Rattle.std.proofs.lemmas.Option.{get_or_from_slice_get, slice_get_within}
-use Rattle.bdb_model.specs.Pairs.{keys_of, values_of}
-use Rattle.bdb_model.specs.declared.list.Pair.{Pair}
-use Rattle.bdb_model.specs.declared.pairs.Key.{Key}
-use Rattle.bdb_mkqueue.specs.Lists.{next_number, number_in}
+use Rattle.bdb_text_format.specs.Pairs.{keys_of, number_of, values_of}
+use Rattle.bdb_text_format.specs.declared.list.Pair.{Pair}
+use Rattle.bdb_text_format.specs.declared.pairs.Key.{Key}
+use Rattle.bdb_mkqueue.specs.Lists.{next_number}
 use Rattle.bdb_mkqueue.proofs.StepLemmas.{no_pair, pair_at}
 
-next_of : (x : Pair) (xs : List Pair) → next_number (number_in x.key + 1) xs ≡ number_in (pair_at (x ∷ xs) (length xs)).key + 1
+next_of : (x : Pair) (xs : List Pair) → next_number (number_of x.key + 1) xs ≡ number_of (pair_at (x ∷ xs) (length xs)).key + 1
 next_of x [] = refl
 next_of x (y ∷ ys) = next_of y ys
 
-pub next_last : (list : List Pair) → 0 < length list → next_number 1 list ≡ number_in (pair_at list (length list - 1)).key + 1
+pub next_last : (list : List Pair) → 0 < length list → next_number 1 list ≡ number_of (pair_at list (length list - 1)).key + 1
 next_last [] some = absurd (omega arith)
 next_last (x ∷ xs) some =
     let last : length xs ≡ length (x ∷ xs) - 1 = omega arith in
-    next_of x xs ∙ ap (λ i. number_in (pair_at (x ∷ xs) i).key + 1) last
+    next_of x xs ∙ ap (λ i. number_of (pair_at (x ∷ xs) i).key + 1) last
 
 -- the key at a place
 pub key_at : (list : List Pair) (place : ℕ) (d : Key) → place < length list → get_or (keys_of list) place d ≡ (pair_at list place).key
@@ -43,9 +43,9 @@ last_key list keys key all at =
 
 -- what an index gives of the row of keys, and of that of values
 pub key_here : (list : List Pair) (keys : List Key) (key : Key) (place number : ℕ) → place < length list → keys ≡ keys_of list
-    → key ≡ get_or keys place key → number ≡ number_in key → number ≡ number_in (pair_at list place).key
+    → key ≡ get_or keys place key → number ≡ number_of key → number ≡ number_of (pair_at list place).key
 key_here list keys key place number low all at is =
-    is ∙ ap number_in (at ∙ (ap (λ ks. get_or ks place key) all ∙ key_at list place key low))
+    is ∙ ap number_of (at ∙ (ap (λ ks. get_or ks place key) all ∙ key_at list place key low))
 
 pub value_here : (list : List Pair) (values : List (List ℕ)) (value bytes : List ℕ) (place : ℕ) → place < length list → values ≡ values_of list
     → value ≡ get_or values place value → bytes ≡ value → bytes ≡ (pair_at list place).value

@@ -18,15 +18,15 @@ use Rattle.bdb_format.specs.Lists.{ListKey, NumberKey, is_record, list_of, liste
 use Rattle.bdb_format.specs.Spelling.{zeros}
 use Rattle.bdb_format.proofs.ListLemmas.{range_more, range_parts}
 use Rattle.bdb_format.proofs.SpellingLemmas.{byte_at-in, slice_range-in}
-use Rattle.bdb_model.specs.Pairs.{listed, listed_key}
-use Rattle.bdb_model.specs.declared.list.Pair.{Pair}
-use Rattle.bdb_model.specs.declared.pairs.Key.{Key}
-use Rattle.bdb_model.specs.declared.pairs.Key.TheVariants.{Bytes, Number}
+use Rattle.bdb_text_format.specs.Pairs.{AscendFrom, listed, listed_key, number_of}
+use Rattle.bdb_text_format.specs.declared.list.Pair.{Pair}
+use Rattle.bdb_text_format.specs.declared.pairs.Key.{Key}
+use Rattle.bdb_text_format.specs.declared.pairs.Key.TheVariants.{Bytes, Number}
 use Rattle.bdb_pack.specs.Built.{Built}
 use Rattle.bdb_pack.proofs.CutLemmas.{suc-times}
 use Rattle.bdb_mkqueue.specs.Building.{HasPages, HasRoom, IsQueueOn}
 use Rattle.bdb_mkqueue.specs.Layout.{page_of, queue_page, queue_size, record_of, records_page, slot_bytes, slot_of, slots_of}
-use Rattle.bdb_mkqueue.specs.Lists.{AscendFrom, first_number, next_number, number_in}
+use Rattle.bdb_mkqueue.specs.Lists.{first_number, next_number}
 use Rattle.bdb_mkqueue.proofs.NumberLemmas.{place_of, slot_low}
 use Rattle.bdb_mkqueue.proofs.PageLemmas.{AllFit, FitsSlot, OnPage, from_slot, records_stand, tail_of, zeros_stand}
 use Rattle.bdb_mkqueue.proofs.RecordLemmas.{next_low, none_below, none_past, record_first, record_other}
@@ -76,7 +76,7 @@ blocks f k (suc n) =
 
 -- The records of a list, number by number.
 
-number_key : (key : Key) → 1 ≤ number_in key → listed_key key ≡ NumberKey (number_in key)
+number_key : (key : Key) → 1 ≤ number_of key → listed_key key ≡ NumberKey (number_of key)
 number_key (Bytes bytes) some = absurd (omega (arith, some))
 number_key (Number number) some = refl
 
@@ -84,25 +84,25 @@ pub all_records : (list : List Pair) (least n : ℕ) → 1 ≤ least → AscendF
     → flat_map (λ r. entry r (record_of list r)) (range_with_len least n) ≡ listed list
 all_records [] least zero some is few = refl
 all_records (x ∷ xs) least zero some is few =
-    absurd (let after : number_in x.key + 1 ≤ next_number (number_in x.key + 1) xs = next_low (number_in x.key + 1) xs is.1 in
+    absurd (let after : number_of x.key + 1 ≤ next_number (number_of x.key + 1) xs = next_low (number_of x.key + 1) xs is.1 in
     omega (arith, after, few, is.0))
 all_records [] least (suc n) some is few = all_records [] (least + 1) n (omega arith) tt (omega arith)
 all_records (x ∷ xs) least (suc n) some is few =
     let under : ℕ → Entries = λ r. entry r (record_of (x ∷ xs) r) in
-    elim (cases_eq (number_in x.key) least) [
+    elim (cases_eq (number_of x.key) least) [
       | inl same ↦
           let first : under least ≡ (NumberKey least, x.value) ∷ [] = ap (entry least) (record_first x xs least same) in
           let key : NumberKey least ≡ listed_key x.key = ap NumberKey (sym same) ∙ sym (number_key x.key (omega (arith, same, some))) in
           let rest : flat_map under (range_with_len (least + 1) n) ≡ flat_map (λ r. entry r (record_of xs r)) (range_with_len (least + 1) n) =
           flat_range_same under (λ r. entry r (record_of xs r)) (least + 1) (least + 1) n
           (λ s low. ap (entry (least + 1 + s)) (record_other x xs (least + 1 + s) (λ twice. omega (arith, twice, same)))) in
-          let after : number_in x.key + 1 ≡ least + 1 = omega (arith, same) in
+          let after : number_of x.key + 1 ≡ least + 1 = omega (arith, same) in
           ap (λ es. es ++ flat_map under (range_with_len (least + 1) n)) first
           ∙ (ap (λ es. (NumberKey least, x.value) ∷ es) (rest ∙ all_records xs (least + 1) n (omega arith) (rw after at is.1)
           (let past : next_number (least + 1) xs ≤ least + suc n = rw after at few in omega (arith, past)))
           ∙ ap (λ k. (k, x.value) ∷ listed xs) key)
       | inr other ↦
-          let above : least + 1 ≤ number_in x.key = omega (arith, is.0, other) in
+          let above : least + 1 ≤ number_of x.key = omega (arith, is.0, other) in
           ap (λ o. entry least o ++ flat_map under (range_with_len (least + 1) n)) (none_below (least + 1) (x ∷ xs) least (above, is.1) (omega arith))
           ∙ all_records (x ∷ xs) (least + 1) n (omega arith) (above, is.1) (omega (arith, few))
     ]
@@ -111,9 +111,9 @@ all_records (x ∷ xs) least (suc n) some is few =
 first_there : (list : List Pair) (r : ℕ) (value : List ℕ) → AscendFrom 1 list → record_of list r ≡ Some value → first_number list ≤ r
 first_there [] r value is at = absurd cc
 first_there (x ∷ xs) r value is at =
-    elim (cases_lt r (number_in x.key)) [
+    elim (cases_lt r (number_of x.key)) [
       | inl low ↦
-          absurd (let none : record_of (x ∷ xs) r ≡ None = none_below (number_in x.key) (x ∷ xs) r (omega arith, is.1) low in
+          absurd (let none : record_of (x ∷ xs) r ≡ None = none_below (number_of x.key) (x ∷ xs) r (omega arith, is.1) low in
           let both : Some value ≡ None = sym at ∙ none in cc)
       | inr high ↦ high
     ]
@@ -153,10 +153,10 @@ slot_listed meta p records s r (Some value) rest number at live =
     let z : ℕ = pad4 (meta.re_len + 1) in
     let pad : List ℕ = zeros (z - 1 - length value) in
     let place : ℕ = slot_at meta s in
-    let from : drop place records ≡ (1 ∷ []) ++ (value ++ (pad ++ rest)) = at ∙ ap (λ bs. 1 ∷ bs) (append_assoc value pad rest) in
-    let byte : slice_index records place ≡ 1 = byte_at-in records place place [] 1 (value ++ (pad ++ rest)) from (omega arith) in
+    let from : drop place records ≡ (3 ∷ []) ++ (value ++ (pad ++ rest)) = at ∙ ap (λ bs. 3 ∷ bs) (append_assoc value pad rest) in
+    let byte : slice_index records place ≡ 3 = byte_at-in records place place [] 3 (value ++ (pad ++ rest)) from (omega arith) in
     let bytes : slice_range records (place + 1) (place + 1 + meta.re_len) ≡ value =
-    slice_range-in records place (place + 1) (place + 1 + meta.re_len) (1 ∷ []) value (pad ++ rest) from refl (omega (arith, is.2)) in
+    slice_range-in records place (place + 1) (place + 1 + meta.re_len) (3 ∷ []) value (pad ++ rest) from refl (omega (arith, is.2)) in
     let low : nat_le meta.first own ≡ true = le-leb meta.first own (omega (arith, is.0, number)) in
     let high : nat_lt own meta.current ≡ true = lt-ltb own meta.current (omega (arith, is.1, number)) in
     let valid : has_bit (slice_index records place) 0x01 ≡ true = ap (λ b. has_bit b 0x01) byte in
@@ -245,8 +245,8 @@ page_listed order size meta list p room says small =
 size_enough : (k : ℕ) (list : List Pair) → 1 ≤ k → AscendFrom 1 list → next_number 1 list ≤ 1 + queue_size k list * k
 size_enough k [] some is = omega arith
 size_enough k (x ∷ xs) some is =
-    let n : ℕ = next_number (number_in x.key + 1) xs - 1 in
-    let after : number_in x.key + 1 ≤ next_number (number_in x.key + 1) xs = next_low (number_in x.key + 1) xs is.1 in
+    let n : ℕ = next_number (number_of x.key + 1) xs - 1 in
+    let after : number_of x.key + 1 ≤ next_number (number_of x.key + 1) xs = next_low (number_of x.key + 1) xs is.1 in
     let at : (page_of k n - 1) * k + 1 + slot_of k n ≡ n = place_of k n (omega (arith, after, is.0)) in
     let low : slot_of k n < k = slot_low k n some in
     let page : suc (page_of k n - 1) ≡ page_of k n = omega arith in

@@ -67,7 +67,7 @@ over_append a b n piece =
     ∙ append_assoc a (take n b) (piece ++ drop (n + length piece) b))
 
 over_first : (z : ℕ) (value more : List ℕ) → length value + 1 ≤ z
-    → overwritten (zeros z ++ more) 0 (1 ∷ value) ≡ (1 ∷ (value ++ zeros (z - 1 - length value))) ++ more
+    → overwritten (zeros z ++ more) 0 (3 ∷ value) ≡ (3 ∷ (value ++ zeros (z - 1 - length value))) ++ more
 over_first z value more room =
     let m : ℕ = length value + 1 in
     let n : ℕ = z - 1 - length value in
@@ -79,21 +79,21 @@ over_first z value more room =
     ∙ (ap (drop (suc (length value))) (append_assoc (zeros m) (zeros n) more)
     ∙ (ap (λ k. drop k (zeros m ++ (zeros n ++ more))) at ∙ drop-append_seam (zeros m) (zeros n ++ more))) in
     let zero_at : 0 + suc (length value) ≡ suc (length value) = omega arith in
-    ap (λ k. 1 ∷ (value ++ drop k (zeros z ++ more))) zero_at
-    ∙ (ap (λ bs. 1 ∷ (value ++ bs)) rest ∙ ap (λ bs. 1 ∷ bs) (sym (append_assoc value (zeros n) more)))
+    ap (λ k. 3 ∷ (value ++ drop k (zeros z ++ more))) zero_at
+    ∙ (ap (λ bs. 3 ∷ (value ++ bs)) rest ∙ ap (λ bs. 3 ∷ bs) (sym (append_assoc value (zeros n) more)))
 
 write_slot : (re_len : ℕ) (slots : List (Option (List ℕ))) (tail : List ℕ) (s : ℕ) (value : List ℕ) → AllFit re_len slots → s < length slots
     → get_or slots s None ≡ None → length value ≡ re_len
-    → overwritten (flat_map (slot_bytes re_len) slots ++ tail) (s * pad4 (re_len + 1)) (1 ∷ value)
+    → overwritten (flat_map (slot_bytes re_len) slots ++ tail) (s * pad4 (re_len + 1)) (3 ∷ value)
     ≡ flat_map (slot_bytes re_len) (set slots s (Some value)) ++ tail
 write_slot re_len [] tail s value fits low empty long = absurd (omega arith)
 write_slot re_len (slot ∷ slots) tail zero value fits low empty long =
     let z : ℕ = pad4 (re_len + 1) in
     let more : List ℕ = flat_map (slot_bytes re_len) slots ++ tail in
     let at : 0 * z ≡ 0 = grind arith in
-    ap (λ k. overwritten ((slot_bytes re_len slot ++ flat_map (slot_bytes re_len) slots) ++ tail) k (1 ∷ value)) at
-    ∙ (ap (λ bs. overwritten bs 0 (1 ∷ value)) (append_assoc (slot_bytes re_len slot) (flat_map (slot_bytes re_len) slots) tail)
-    ∙ (ap (λ o. overwritten (slot_bytes re_len o ++ more) 0 (1 ∷ value)) empty
+    ap (λ k. overwritten ((slot_bytes re_len slot ++ flat_map (slot_bytes re_len) slots) ++ tail) k (3 ∷ value)) at
+    ∙ (ap (λ bs. overwritten bs 0 (3 ∷ value)) (append_assoc (slot_bytes re_len slot) (flat_map (slot_bytes re_len) slots) tail)
+    ∙ (ap (λ o. overwritten (slot_bytes re_len o ++ more) 0 (3 ∷ value)) empty
     ∙ (over_first z value more (omega (arith, long))
     ∙ sym (append_assoc (slot_bytes re_len (Some value)) (flat_map (slot_bytes re_len) slots) tail))))
 write_slot re_len (slot ∷ slots) tail (suc s) value fits low empty long =
@@ -101,9 +101,9 @@ write_slot re_len (slot ∷ slots) tail (suc s) value fits low empty long =
     let first : List ℕ = slot_bytes re_len slot in
     let more : List ℕ = flat_map (slot_bytes re_len) slots ++ tail in
     let at : suc s * z ≡ length first + s * z = omega (arith, suc-times s z, length-slot re_len slot fits.0) in
-    ap (λ k. overwritten ((first ++ flat_map (slot_bytes re_len) slots) ++ tail) k (1 ∷ value)) at
-    ∙ (ap (λ bs. overwritten bs (length first + s * z) (1 ∷ value)) (append_assoc first (flat_map (slot_bytes re_len) slots) tail)
-    ∙ (over_append first more (s * z) (1 ∷ value)
+    ap (λ k. overwritten ((first ++ flat_map (slot_bytes re_len) slots) ++ tail) k (3 ∷ value)) at
+    ∙ (ap (λ bs. overwritten bs (length first + s * z) (3 ∷ value)) (append_assoc first (flat_map (slot_bytes re_len) slots) tail)
+    ∙ (over_append first more (s * z) (3 ∷ value)
     ∙ (ap (λ bs. first ++ bs) (write_slot re_len slots tail s value fits.1 (omega arith) empty long)
     ∙ sym (append_assoc first (flat_map (slot_bytes re_len) (set slots s (Some value))) tail))))
 
@@ -181,16 +181,16 @@ length-records order size re_len p slots on =
 -- a record is written into its slot
 pub record_written : (order : Order) (size re_len p : ℕ) (slots : List (Option (List ℕ))) (s : ℕ) (value : List ℕ) → OnPage size re_len slots
     → s < length slots → get_or slots s None ≡ None → length value ≡ re_len
-    → overwritten (records_page order size re_len p slots) (28 + s * pad4 (re_len + 1)) (1 ∷ value)
+    → overwritten (records_page order size re_len p slots) (28 + s * pad4 (re_len + 1)) (3 ∷ value)
     ≡ records_page order size re_len p (set slots s (Some value))
 record_written order size re_len p slots s value on low empty long =
     let z : ℕ = pad4 (re_len + 1) in
     let tail : List ℕ = tail_of size re_len slots in
     let at : 28 + s * z ≡ length (front order p) + s * z = omega (arith, length-front order p) in
     let same : length (set slots s (Some value)) ≡ length slots = length-set slots s (Some value) in
-    ap (λ bs. overwritten bs (28 + s * z) (1 ∷ value)) (records_is order size re_len p slots)
-    ∙ (ap (λ k. overwritten (front order p ++ (flat_map (slot_bytes re_len) slots ++ tail)) k (1 ∷ value)) at
-    ∙ (over_append (front order p) (flat_map (slot_bytes re_len) slots ++ tail) (s * z) (1 ∷ value)
+    ap (λ bs. overwritten bs (28 + s * z) (3 ∷ value)) (records_is order size re_len p slots)
+    ∙ (ap (λ k. overwritten (front order p ++ (flat_map (slot_bytes re_len) slots ++ tail)) k (3 ∷ value)) at
+    ∙ (over_append (front order p) (flat_map (slot_bytes re_len) slots ++ tail) (s * z) (3 ∷ value)
     ∙ (ap (λ bs. front order p ++ bs) (write_slot re_len slots tail s value on.fit low empty long)
     ∙ (ap (λ n. front order p ++ (flat_map (slot_bytes re_len) (set slots s (Some value)) ++ zeros (size - 28 - n * z))) (sym same)
     ∙ sym (records_is order size re_len p (set slots s (Some value)))))))

@@ -6,10 +6,11 @@ use Rattle.std.specs.List.{list_any, range_with_len}
 use Rattle.std.proofs.lemmas.Bool.{cases_lt}
 use Rattle.bdb_format.proofs.ListLemmas.{passes_here}
 use Rattle.bdb_format.proofs.MemberLemmas.{in_map, in_range, none_pass, of_map, of_range}
-use Rattle.bdb_model.specs.declared.list.Pair.{Pair}
+use Rattle.bdb_text_format.specs.declared.list.Pair.{Pair}
+use Rattle.bdb_text_format.specs.Pairs.{AscendFrom, number_of}
 use Rattle.bdb_pack.proofs.StandingLemmas.{map_same}
 use Rattle.bdb_mkqueue.specs.Layout.{page_of, queue_size, record_of, slot_of, slots_of}
-use Rattle.bdb_mkqueue.specs.Lists.{AscendFrom, next_number, number_in}
+use Rattle.bdb_mkqueue.specs.Lists.{next_number}
 use Rattle.bdb_mkqueue.proofs.NumberLemmas.{page_here, page_rises, place_of, slot_low}
 use Rattle.bdb_mkqueue.proofs.RecordLemmas.{last_there, next-append, next_low, none_past, record_last, record_more}
 
@@ -40,10 +41,10 @@ here k q r some low high =
     let same : (q - 1) * k + 1 + s ≡ r = omega arith in
     ap (page_of k) (sym same) ∙ page_here k q s some (omega (arith, high, same))
 
-pub size-append : (k : ℕ) (xs : List Pair) (y : Pair) → queue_size k (xs ++ (y ∷ [])) ≡ page_of k (number_in y.key)
-size-append k [] y = let same : number_in y.key + 1 - 1 ≡ number_in y.key = omega arith in ap (page_of k) same
+pub size-append : (k : ℕ) (xs : List Pair) (y : Pair) → queue_size k (xs ++ (y ∷ [])) ≡ page_of k (number_of y.key)
+size-append k [] y = let same : number_of y.key + 1 - 1 ≡ number_of y.key = omega arith in ap (page_of k) same
 size-append k (x ∷ xs) y =
-    let same : next_number (number_in x.key + 1) (xs ++ (y ∷ [])) - 1 ≡ number_in y.key = omega (arith, next-append (number_in x.key + 1) xs y) in
+    let same : next_number (number_of x.key + 1) (xs ++ (y ∷ [])) - 1 ≡ number_of y.key = omega (arith, next-append (number_of x.key + 1) xs y) in
     ap (page_of k) same
 
 pub size_low : (k : ℕ) (xs : List Pair) (n : ℕ) → 1 ≤ k → next_number 1 xs ≤ n → queue_size k xs ≤ page_of k n
@@ -54,8 +55,8 @@ size_low k (x ∷ xs) n some past = page_rises k (next_number 1 (x ∷ xs) - 1) 
 pub last_page : (k : ℕ) (xs : List Pair) → 1 ≤ k → AscendFrom 1 xs → 1 ≤ queue_size k xs → list_any is_some (slots_of xs k (queue_size k xs)) ≡ true
 last_page k [] some is page = absurd (omega arith)
 last_page k (x ∷ xs) some is page =
-    let r : ℕ = next_number (number_in x.key + 1) xs - 1 in
-    let after : number_in x.key + 1 ≤ next_number (number_in x.key + 1) xs = next_low (number_in x.key + 1) xs is.1 in
+    let r : ℕ = next_number (number_of x.key + 1) xs - 1 in
+    let after : number_of x.key + 1 ≤ next_number (number_of x.key + 1) xs = next_low (number_of x.key + 1) xs is.1 in
     let one : 1 ≤ r = omega (arith, after, is.0) in
     let at : (page_of k r - 1) * k + 1 + slot_of k r ≡ r = place_of k r one in
     let slot : slot_of k r < k = slot_low k r some in
@@ -86,17 +87,17 @@ slots_empty k xs q some is one past =
 
 -- One more record.
 
-pub slots_others : (k : ℕ) (xs : List Pair) (y : Pair) (q : ℕ) → 1 ≤ q → (page_of k (number_in y.key) ≡ q → ⊥)
+pub slots_others : (k : ℕ) (xs : List Pair) (y : Pair) (q : ℕ) → 1 ≤ q → (page_of k (number_of y.key) ≡ q → ⊥)
     → slots_of (xs ++ (y ∷ [])) k q ≡ slots_of xs k q
 slots_others k xs y q one differs =
     map_same (record_of (xs ++ (y ∷ []))) (record_of xs) ((q - 1) * k + 1) k (λ r low high.
     record_more xs y r (λ same. differs (ap (page_of k) same ∙ here k q r one low high)))
 
-pub slots_own : (k : ℕ) (xs : List Pair) (y : Pair) → 1 ≤ k → 1 ≤ number_in y.key → record_of xs (number_in y.key) ≡ None
-    → slots_of (xs ++ (y ∷ [])) k (page_of k (number_in y.key))
-    ≡ set (slots_of xs k (page_of k (number_in y.key))) (slot_of k (number_in y.key)) (Some y.value)
+pub slots_own : (k : ℕ) (xs : List Pair) (y : Pair) → 1 ≤ k → 1 ≤ number_of y.key → record_of xs (number_of y.key) ≡ None
+    → slots_of (xs ++ (y ∷ [])) k (page_of k (number_of y.key))
+    ≡ set (slots_of xs k (page_of k (number_of y.key))) (slot_of k (number_of y.key)) (Some y.value)
 slots_own k xs y some one none =
-    let n : ℕ = number_in y.key in
+    let n : ℕ = number_of y.key in
     let at : (page_of k n - 1) * k + 1 + slot_of k n ≡ n = place_of k n one in
     map_range_set (record_of xs) (record_of (xs ++ (y ∷ []))) ((page_of k n - 1) * k + 1) k (slot_of k n) (Some y.value) (slot_low k n some)
     (ap (record_of (xs ++ (y ∷ []))) at ∙ record_last xs y none)

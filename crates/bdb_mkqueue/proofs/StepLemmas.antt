@@ -15,14 +15,15 @@ use Rattle.bdb_format.specs.declared.metadata.QueueMeta.{QueueMeta}
 use Rattle.bdb_format.specs.Numbers.{overwritten, pad4}
 use Rattle.bdb_format.specs.Spelling.{header_bytes, zeros}
 use Rattle.bdb_format.proofs.SpellingLemmas.{length-overwritten}
-use Rattle.bdb_model.specs.declared.list.Pair.{Pair}
-use Rattle.bdb_model.specs.declared.pairs.Key.TheVariants.{Number}
+use Rattle.bdb_text_format.specs.declared.list.Pair.{Pair}
+use Rattle.bdb_text_format.specs.declared.pairs.Key.TheVariants.{Number}
+use Rattle.bdb_text_format.specs.Pairs.{AscendFrom, number_of}
 use Rattle.bdb_pack.specs.Built.{AreWhole, Built, bytes_of, with_page, written_over}
 use Rattle.bdb_pack.proofs.CutLemmas.{suc-times, written_whole}
 use Rattle.bdb_pack.proofs.HeaderLemmas.{length-header}
 use Rattle.bdb_mkqueue.specs.Building.{HasRoom, IsQueueOn, KeepsFirst, reached, with_header, with_more, with_record}
 use Rattle.bdb_mkqueue.specs.Layout.{page_of, queue_page, queue_size, record_of, records_header, records_page, slot_of, slots_of}
-use Rattle.bdb_mkqueue.specs.Lists.{AscendFrom, HasLength, next_number, number_in}
+use Rattle.bdb_mkqueue.specs.Lists.{HasLength, next_number}
 use Rattle.bdb_mkqueue.proofs.ListLemmas.{slots_on}
 use Rattle.bdb_mkqueue.proofs.NumberLemmas.{place_of, slot_low}
 use Rattle.bdb_mkqueue.proofs.PageLemmas.{page_begun, record_written}
@@ -46,13 +47,13 @@ header_written built p order lent new whole low long ordered is wrote =
 
 pub record_put : (meta : QueueMeta) (built : Built) (p slot : ℕ) (value lent new : List ℕ) → AreWhole built → p < length built.pages
     → 28 + slot * pad4 (meta.re_len + 1) + 1 + length value ≤ built.size → lent ≡ bytes_of built p
-    → new ≡ overwritten lent (28 + slot * pad4 (meta.re_len + 1)) (1 ∷ value) → written_over built p new ≡ with_record meta built p slot value
+    → new ≡ overwritten lent (28 + slot * pad4 (meta.re_len + 1)) (3 ∷ value) → written_over built p new ≡ with_record meta built p slot value
 record_put meta built p slot value lent new whole low room is wrote =
     let at : ℕ = 28 + slot * pad4 (meta.re_len + 1) in
     let size : length (bytes_of built p) ≡ built.size = whole p low in
-    ap (written_over built p) (wrote ∙ ap (λ bs. overwritten bs at (1 ∷ value)) is)
-    ∙ written_whole built p (overwritten (bytes_of built p) at (1 ∷ value)) whole low
-    (length-overwritten (bytes_of built p) at (1 ∷ value) (omega (arith, size, room)) ∙ size)
+    ap (written_over built p) (wrote ∙ ap (λ bs. overwritten bs at (3 ∷ value)) is)
+    ∙ written_whole built p (overwritten (bytes_of built p) at (3 ∷ value)) whole low
+    (length-overwritten (bytes_of built p) at (3 ∷ value) (omega (arith, size, room)) ∙ size)
 
 -- More zero pages.
 
@@ -173,11 +174,11 @@ reached_first built p above some =
 
 put_queue : (meta : QueueMeta) (done : List Pair) (pair : Pair) (mid : Built) (p : ℕ) → IsReady meta done mid p → HasRoom mid.size meta
     → AscendFrom 1 (done ++ (pair ∷ [])) → ((r : ℕ) (value : List ℕ) → record_of done r ≡ Some value → length value ≡ meta.re_len)
-    → length pair.value ≡ meta.re_len → p ≡ page_of meta.per_page (number_in pair.key)
-    → IsQueueOn meta (done ++ (pair ∷ [])) (with_record meta mid p (slot_of meta.per_page (number_in pair.key)) pair.value)
+    → length pair.value ≡ meta.re_len → p ≡ page_of meta.per_page (number_of pair.key)
+    → IsQueueOn meta (done ++ (pair ∷ [])) (with_record meta mid p (slot_of meta.per_page (number_of pair.key)) pair.value)
 put_queue meta done pair mid p is room ascend long own page_is =
     let k : ℕ = meta.per_page in
-    let n : ℕ = number_in pair.key in
+    let n : ℕ = number_of pair.key in
     let s : ℕ = slot_of k n in
     let all : List Pair = done ++ (pair ∷ []) in
     let both = ascend_both 1 done (pair ∷ []) ascend in
@@ -185,7 +186,7 @@ put_queue meta done pair mid p is room ascend long own page_is =
     let after : 1 ≤ next_number 1 done = next_low 1 done both.0 in
     let one : 1 ≤ n = omega (arith, after, both.1.0) in
     let size : queue_size k all ≡ p = size-append k done pair ∙ sym page_is in
-    let page : List ℕ = overwritten (bytes_of mid p) (28 + s * pad4 (meta.re_len + 1)) (1 ∷ pair.value) in
+    let page : List ℕ = overwritten (bytes_of mid p) (28 + s * pad4 (meta.re_len + 1)) (3 ∷ pair.value) in
     let first : ℕ = (p - 1) * k + 1 in
     let place : first + s ≡ n = ap (λ q. (q - 1) * k + 1 + s) page_is ∙ place_of k n one in
     let slots : List (Option (List ℕ)) = slots_of done k p in
@@ -199,7 +200,7 @@ put_queue meta done pair mid p is room ascend long own page_is =
     ∙ last_page k all room.some ascend (omega (arith, size, page_is)) in
     let full : List ℕ = records_page mid.order mid.size meta.re_len p (slots_of all k p) in
     let written : page ≡ full =
-    ap (λ bs. overwritten bs (28 + s * pad4 (meta.re_len + 1)) (1 ∷ pair.value)) is.page
+    ap (λ bs. overwritten bs (28 + s * pad4 (meta.re_len + 1)) (3 ∷ pair.value)) is.page
     ∙ (record_written mid.order mid.size meta.re_len p slots s pair.value (slots_on mid.size meta done p room long)
     (omega (arith, low, slots_long)) empty own
     ∙ ap (records_page mid.order mid.size meta.re_len p) (sym more)) in
@@ -245,7 +246,7 @@ pub records_long : (list : List Pair) (re_len r : ℕ) (value : List ℕ) → Al
     → length value ≡ re_len
 records_long [] re_len r value each is = absurd cc
 records_long (x ∷ xs) re_len r value each is =
-    elim (cases_eq (number_in x.key) r) [
+    elim (cases_eq (number_of x.key) r) [
       | inl own ↦
           let value_is : Some x.value ≡ Some value = sym (record_first x xs r own) ∙ is in
           let bytes : x.value ≡ value = cc in
@@ -262,7 +263,7 @@ pub record IsPushed (meta : QueueMeta) (list : List Pair) (place : ℕ) (old : B
   pub on : IsQueueOn meta (take place list) old
 
 can_reach : (meta : QueueMeta) (list : List Pair) (place : ℕ) (old : Built) → IsPushed meta list place old
-    → CanReach meta (take place list) old (page_of meta.per_page (number_in (pair_at list place).key))
+    → CanReach meta (take place list) old (page_of meta.per_page (number_of (pair_at list place).key))
 can_reach meta list place old is =
     let done : List Pair = take place list in
     let both = ascend_both 1 done (pair_at list place ∷ []) (taken_ascend list place is.ascend is.there) in
@@ -271,11 +272,11 @@ can_reach meta list place old is =
       room = is.room;
       ascend = both.0;
       long = λ r value at. records_long done meta.re_len r value (All-take (HasLength meta.re_len) place list is.long) at;
-      page = size_low meta.per_page done (number_in (pair_at list place).key) is.room.some both.1.0;
+      page = size_low meta.per_page done (number_of (pair_at list place).key) is.room.some both.1.0;
       above = omega arith;
     }
 
-pub number_some : (list : List Pair) (place : ℕ) → AscendFrom 1 list → place < length list → 1 ≤ number_in (pair_at list place).key
+pub number_some : (list : List Pair) (place : ℕ) → AscendFrom 1 list → place < length list → 1 ≤ number_of (pair_at list place).key
 number_some list place is low =
     let both = ascend_both 1 (take place list) (pair_at list place ∷ []) (taken_ascend list place is low) in
     let after : 1 ≤ next_number 1 (take place list) = next_low 1 (take place list) both.0 in
@@ -284,10 +285,10 @@ number_some list place is low =
 -- its page is reached
 pub page_there : (meta : QueueMeta) (list : List Pair) (place : ℕ) (old mid : Built) (page : ℕ)
     → IsPushed meta list place old
-    → page ≡ page_of meta.per_page (number_in (pair_at list place).key) → mid ≡ reached old page → page < length mid.pages
+    → page ≡ page_of meta.per_page (number_of (pair_at list place).key) → mid ≡ reached old page → page < length mid.pages
 page_there meta list place old mid page is page_is reached_is =
     let k : ℕ = meta.per_page in
-    let p : ℕ = page_of k (number_in (pair_at list place).key) in
+    let p : ℕ = page_of k (number_of (pair_at list place).key) in
     let all : IsReady meta (take place list) (reached old p) p = ready meta (take place list) old p (can_reach meta list place old is) in
     let count : length mid.pages ≡ 1 + p = ap (λ (b : Built). length b.pages) (reached_is ∙ ap (reached old) page_is) ∙ all.count in
     omega (arith, count, page_is)
@@ -301,12 +302,12 @@ reached_size old p = of (nat_lt p (length old.pages))
 
 -- and its slot has room for it
 pub slot_room : (meta : QueueMeta) (list : List Pair) (place : ℕ) (old mid : Built) (page slot : ℕ) (value : List ℕ)
-    → IsPushed meta list place old → mid ≡ reached old page → slot ≡ slot_of meta.per_page (number_in (pair_at list place).key)
+    → IsPushed meta list place old → mid ≡ reached old page → slot ≡ slot_of meta.per_page (number_of (pair_at list place).key)
     → value ≡ (pair_at list place).value → 28 + slot * pad4 (meta.re_len + 1) + 1 + length value ≤ mid.size
 slot_room meta list place old mid page slot value is reached_is slot_is value_is =
     let k : ℕ = meta.per_page in
     let z : ℕ = pad4 (meta.re_len + 1) in
-    let n : ℕ = number_in (pair_at list place).key in
+    let n : ℕ = number_of (pair_at list place).key in
     let low : slot_of k n < k = slot_low k n is.room.some in
     let part : suc slot * z ≤ k * z = mul-le-mul_right z (omega (arith, low, slot_is)) in
     let size : mid.size ≡ old.size = ap (λ (b : Built). b.size) reached_is ∙ reached_size old page in
@@ -317,14 +318,14 @@ slot_room meta list place old mid page slot value is reached_is slot_is value_is
 
 -- then it is put there
 pub pushed : (meta : QueueMeta) (list : List Pair) (place : ℕ) (old mid new : Built) (page slot : ℕ) (value : List ℕ)
-    → IsPushed meta list place old → page ≡ page_of meta.per_page (number_in (pair_at list place).key)
-    → slot ≡ slot_of meta.per_page (number_in (pair_at list place).key) → value ≡ (pair_at list place).value → mid ≡ reached old page
+    → IsPushed meta list place old → page ≡ page_of meta.per_page (number_of (pair_at list place).key)
+    → slot ≡ slot_of meta.per_page (number_of (pair_at list place).key) → value ≡ (pair_at list place).value → mid ≡ reached old page
     → new ≡ with_record meta mid page slot value → IsQueueOn meta (take (place + 1) list) new × KeepsFirst old new
 pushed meta list place old mid new page slot value is page_is slot_is value_is reached_is new_is =
     let k : ℕ = meta.per_page in
     let done : List Pair = take place list in
     let pair : Pair = pair_at list place in
-    let n : ℕ = number_in pair.key in
+    let n : ℕ = number_of pair.key in
     let p : ℕ = page_of k n in
     let can : CanReach meta done old p = can_reach meta list place old is in
     let there : Built = reached old p in
@@ -346,7 +347,7 @@ pushed meta list place old mid new page slot value is page_is slot_is value_is r
         size = first.size;
         order = first.order;
         first = get_or-set_other there.pages p 0
-            (overwritten (bytes_of there p) (28 + slot_of k n * pad4 (meta.re_len + 1)) (1 ∷ pair.value)) []
+            (overwritten (bytes_of there p) (28 + slot_of k n * pad4 (meta.re_len + 1)) (3 ∷ pair.value)) []
             (λ none. omega (arith, none, can.above)) ∙ first.first;
       }),
     )

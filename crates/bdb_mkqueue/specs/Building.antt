@@ -10,8 +10,8 @@ use Rattle.bdb_format.specs.Spelling.{header_bytes, zeros}
 use Rattle.bdb_format.specs.Table.{first_row}
 use Rattle.bdb_format.specs.File.{File, page_at}
 use Rattle.bdb_format.specs.Lists.{list_of}
-use Rattle.bdb_model.specs.declared.list.Pair.{Pair}
-use Rattle.bdb_model.specs.Pairs.{listed}
+use Rattle.bdb_text_format.specs.declared.list.Pair.{Pair}
+use Rattle.bdb_text_format.specs.Pairs.{listed}
 use Rattle.bdb_pack.specs.Built.{Built, bytes_of, with_page}
 use Rattle.bdb_mkqueue.specs.Layout.{queue_meta, queue_page, queue_size, records_header, slots_of}
 
@@ -71,4 +71,4 @@ reached built p = if nat_lt p (length built.pages) then built else with_header (
 -- with a record in a slot
 abbrev pub with_record : QueueMeta → Built → ℕ → ℕ → List ℕ → Built
 with_record meta built p slot value =
-    with_page built p (overwritten (bytes_of built p) (28 + slot * pad4 (meta.re_len + 1)) (1 ∷ value))
+    with_page built p (overwritten (bytes_of built p) (28 + slot * pad4 (meta.re_len + 1)) (3 ∷ value))

@@ -8,8 +8,9 @@ use Rattle.bdb_format.specs.declared.settings.Settings.{Settings}
 use Rattle.bdb_format.specs.Numbers.{pad4}
 use Rattle.bdb_format.specs.Rows.{records_per_page}
 use Rattle.bdb_format.specs.Spelling.{header_bytes, zeros}
-use Rattle.bdb_model.specs.declared.list.Pair.{Pair}
-use Rattle.bdb_mkqueue.specs.Lists.{first_number, next_number, number_in}
+use Rattle.bdb_text_format.specs.declared.list.Pair.{Pair}
+use Rattle.bdb_text_format.specs.Pairs.{number_of}
+use Rattle.bdb_mkqueue.specs.Lists.{first_number, next_number}
 
 -- the metadata of a queue
 abbrev pub queue_meta : Settings → List Pair → QueueMeta
@@ -36,16 +37,16 @@ queue_size per_page (pair ∷ pairs) = page_of per_page (next_number 1 (pair ∷
 -- the value of the record with a number
 abbrev pub record_of : List Pair → ℕ → Option (List ℕ)
 record_of [] number = None
-record_of (pair ∷ pairs) number = if number_in pair.key == number then Some pair.value else record_of pairs number
+record_of (pair ∷ pairs) number = if number_of pair.key == number then Some pair.value else record_of pairs number
 
 -- the records in the slots of a page
 abbrev pub slots_of : List Pair → ℕ → ℕ → List (Option (List ℕ))
 slots_of list per_page p = map (record_of list) (range_with_len ((p - 1) * per_page + 1) per_page)
 
--- a slot with a record: the byte 1, the record, and zeros up to the end; an empty one is all zeros
+-- a slot with a record: the byte 3, that the record is valid and set, its bytes, and zeros up to the end; an empty one is all zeros
 abbrev pub slot_bytes : ℕ → Option (List ℕ) → List ℕ
 slot_bytes re_len None = zeros (pad4 (re_len + 1))
-slot_bytes re_len (Some value) = 1 ∷ (value ++ zeros (pad4 (re_len + 1) - 1 - length value))
+slot_bytes re_len (Some value) = 3 ∷ (value ++ zeros (pad4 (re_len + 1) - 1 - length value))
 
 -- where a page of records begins: a header of which only the number and the type aren't 0
 abbrev pub records_header : ℕ → Header

@@ -1,31 +1,20 @@
 -- Lists that a queue can be built of. Source: docs/FORMAT.md, "Built queues".
-use Rattle.std.specs.Prelude.{◌≡◌, ℕ, ◌+◌, ◌≤◌, ◌<◌, ◌^◌, List, [], ◌∷◌, length}
+use Rattle.std.specs.Prelude.{◌≡◌, ℕ, ◌+◌, ◌<◌, ◌^◌, List, [], ◌∷◌, length}
 use Rattle.std.specs.List.{All}
 use Rattle.bdb_format.specs.declared.settings.Settings.{Settings}
-use Rattle.bdb_model.specs.declared.list.Pair.{Pair}
-use Rattle.bdb_model.specs.declared.pairs.Key.{Key}
-use Rattle.bdb_model.specs.declared.pairs.Key.TheVariants.{Bytes, Number}
-
--- the number of a record, 0 where the key is none
-abbrev pub number_in : Key → ℕ
-number_in (Bytes key) = 0
-number_in (Number number) = number
-
--- the numbers of records ascend from one on
-abbrev pub AscendFrom : ℕ → List Pair → Type 0
-AscendFrom least [] = Unit {0}
-AscendFrom least (pair ∷ pairs) = (least ≤ number_in pair.key) × AscendFrom (number_in pair.key + 1) pairs
+use Rattle.bdb_text_format.specs.declared.list.Pair.{Pair}
+use Rattle.bdb_text_format.specs.Pairs.{AscendFrom, number_of}
 
 -- the number after that of a record fits its field
 abbrev pub HasNext : Pair → Type 0
-HasNext pair = number_in pair.key + 1 < 2 ^ 32
+HasNext pair = number_of pair.key + 1 < 2 ^ 32
 
 -- the value of a record has this length
 abbrev pub HasLength : ℕ → Pair → Type 0
 HasLength re_len pair = length pair.value ≡ re_len
 
 -- a list in its order, as loading makes it with these settings
-pub record IsListFor (settings : Settings) (pairs : List Pair) : Type 0 where
+pub record IsQueueList (settings : Settings) (pairs : List Pair) : Type 0 where
   pub ascend : AscendFrom 1 pairs
   pub few : All HasNext pairs
   pub long : All (HasLength settings.re_len) pairs
@@ -33,8 +22,8 @@ pub record IsListFor (settings : Settings) (pairs : List Pair) : Type 0 where
 -- the number of the first record, and the one after the last; where there are none, 1 and the one that is given
 abbrev pub first_number : List Pair → ℕ
 first_number [] = 1
-first_number (pair ∷ pairs) = number_in pair.key
+first_number (pair ∷ pairs) = number_of pair.key
 
 abbrev pub next_number : ℕ → List Pair → ℕ
 next_number least [] = least
-next_number least (pair ∷ pairs) = next_number (number_in pair.key + 1) pairs
+next_number least (pair ∷ pairs) = next_number (number_of pair.key + 1) pairs

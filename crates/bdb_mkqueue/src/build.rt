@@ -3,13 +3,14 @@ ghost use Rattle.std.specs.List.{All};
 ghost use Rattle.bdb_format.specs.Numbers.{pad4};
 ghost use Rattle.bdb_mkqueue.specs.Building.{HasRoom, IsQueueBuilt, IsQueueOn, KeepsFirst, reached, with_header, with_more, with_record};
 ghost use Rattle.bdb_mkqueue.specs.Layout.{queue_meta};
-ghost use Rattle.bdb_mkqueue.specs.Lists.{AscendFrom, HasLength, HasNext, IsListFor, first_number, next_number};
+ghost use Rattle.bdb_text_format.specs.Pairs.{AscendFrom};
+ghost use Rattle.bdb_mkqueue.specs.Lists.{HasLength, HasNext, IsQueueList, first_number, next_number};
 
 use crate::records::{number_of, page_of, put_record, records_per_page, slot_of};
 use bdb_format::{Header, QueueMeta, Settings};
 use bdb_layout::put_header;
-use bdb_model::PairList;
 use bdb_pack::Pages;
+use bdb_text_format::PairList;
 use std::alloc::AllocError;
 
 // The longest file that is read has no more pages.
@@ -142,7 +143,7 @@ pub fn build_queue(
     requires order { pages.old.order ≡ settings.now.order }
     requires one { length pages.old.pages ≡ 1 }
     requires room { pad4 (settings.now.re_len + 1) ≤ settings.now.page_size - 28 }
-    requires list { IsListFor settings.now list.now }
+    requires list { IsQueueList settings.now list.now }
     ensures { IfOk result (λ meta. IsQueueBuilt settings.now list.now pages.old pages.new meta) }
 {
     // That it is a legal size is known with it.

@@ -2,14 +2,19 @@ ghost use Rattle.std.specs.Prelude.{◌≡◌, ◌+◌, ◌*◌, ◌<◌, ◌≤
 ghost use Rattle.bdb_format.specs.Numbers.{overwritten, pad4};
 ghost use Rattle.bdb_format.specs.Rows.{records_per_page};
 ghost use Rattle.bdb_mkqueue.specs.Layout.{page_of, slot_of};
-ghost use Rattle.bdb_mkqueue.specs.Lists.{number_in};
+ghost use Rattle.bdb_text_format.specs.Pairs.{number_of};
 
 use bdb_format::QueueMeta;
-use bdb_model::Key;
+use bdb_text_format::Key;
+
+// What the first byte of a slot says of its record. Readers ask for the first bit alone; some tools of the original look for the second one.
+const VALID: u8 = 0x01;
+
+const SET: u8 = 0x02;
 
 /// The number of a record.
 pub(crate) fn number_of(key: &Key) -> u32
-    ensures { result ≡ number_in key.now }
+    ensures { result ≡ number_of key.now }
 {
     match key {
         Key::Bytes(_) => 0,
@@ -17,7 +22,7 @@ pub(crate) fn number_of(key: &Key) -> u32
     }
 }
 
-// The bytes of a slot: one, the record, and what pads them.
+// The bytes of a slot: the one that says what it is, the record, and what pads them.
 fn slot_size(re_len: u32) -> usize
     ensures size { result ≡ pad4 (re_len + 1) }
     ensures room { re_len + 1 ≤ result }
@@ -53,13 +58,13 @@ pub(crate) fn slot_of(meta: &QueueMeta, number: u32) -> u32
     (number - 1) % meta.per_page
 }
 
-/// Writes a record into a slot of its page: a byte that says that it's valid, and its bytes.
+/// Writes a record into a slot of its page: a byte that says that it's valid and set, and its bytes.
 pub(crate) fn put_record(page: &mut [u8], meta: &QueueMeta, slot: u32, value: &[u8])
     requires room { 28 + slot * pad4 (meta.now.re_len + 1) + 1 + length value.now ≤ length page.old }
     requires short { length page.old ≤ 32768 }
-    ensures { page.new ≡ overwritten page.old (28 + slot * pad4 (meta.now.re_len + 1)) (1 ∷ value.now) }
+    ensures { page.new ≡ overwritten page.old (28 + slot * pad4 (meta.now.re_len + 1)) (3 ∷ value.now) }
 {
     let at = 28 + slot as usize * slot_size(meta.re_len);
-    page[at] = 1;
+    page[at] = VALID | SET;
     page[at + 1..at + 1 + value.len()].copy_from_slice(value);
 }

@@ -23,7 +23,7 @@ use Rattle.bdb_pack.specs.Built.{Built, file_so_far}
 use Rattle.bdb_leaves.specs.Filled.{AreFilled, rest_of}
 use Rattle.bdb_leaves.specs.Finished.{HasFirstRoot, HasLaidTree}
 use Rattle.bdb_leaves.specs.Laid.{Counts, Suits as SuitsTree, is_laid}
-use Rattle.bdb_leaves.specs.Layout.{IsTreeOn}
+use Rattle.bdb_leaves.specs.Layout.{HasTreeOn, HaveTreesOn, IsTreeOn, contents_below, placed_below}
 use Rattle.bdb_leaves.specs.Moved.{first_leaf, numbers_of}
 use Rattle.bdb_leaves.specs.Placed.{HasLength, IsAllowed, IsPlacedBySize, LeafUnits, Placed, PlacedEntry, PlacedPairs, PlacedTree, has_several, has_wrong_root, unit_of, units_in, values_in}
 use Rattle.bdb_leaves.specs.Rooted.{CountsLeaves}
@@ -35,10 +35,10 @@ use Rattle.bdb_leaves.specs.declared.leaves.Leaves.{Leaves}
 use Rattle.bdb_leaves.proofs.CountedLaws.{finished_trees_have_size}
 use Rattle.bdb_leaves.proofs.FinishedLaws.{finished_trees_keep_pages}
 use Rattle.bdb_leaves.proofs.GrownLaws.{first_roots_are_laid}
-use Rattle.bdb_leaves.proofs.GrownLemmas.{all_joined}
+use Rattle.bdb_leaves.proofs.GrownLemmas.{all_joined, contents_held}
 use Rattle.bdb_leaves.proofs.KeptLemmas.{finished_trees_are_formed, finished_trees_keep_older_pages}
 use Rattle.bdb_leaves.proofs.LaidPartLemmas.{laid_trees_are_parts}
-use Rattle.bdb_leaves.proofs.LayoutLemmas.{finished_trees_are_laid_out}
+use Rattle.bdb_leaves.proofs.LayoutLemmas.{finished_trees_are_laid_out, finished_trees_keep_trees}
 use Rattle.bdb_leaves.proofs.LaterLemmas.{later_chain, later_fewer}
 use Rattle.bdb_leaves.proofs.NodesLemmas.{all_units}
 use Rattle.bdb_leaves.proofs.RestLemmas.{rest_is}
@@ -261,6 +261,45 @@ finished_part builder old new root building has grows g meta counted later says 
           )
     ]
 
+-- it is laid out, and so are the trees of its units' data
+trees_laid_out : (builder : TreeBuilder) (old new : Built) (root : ℕ) → (building : Building builder old)
+    → HasFirstRoot builder.leaves old new (is_counted builder.settings.kind builder.settings.recnum) building.closed building.units root
+    → (on : IsTreeOn (leaf_type_of builder.settings.kind) new (between (first_leaf builder.leaves) (length new.pages))
+    (is_counted builder.settings.kind builder.settings.recnum) (units_of builder old) root)
+    × HaveTreesOn (leaf_type_of builder.settings.kind) new (between (first_leaf builder.leaves) (length new.pages)) on.tree
+trees_laid_out builder old new root building has =
+    subst (λ us. (on : IsTreeOn (leaf_type_of builder.settings.kind) new pages counted us root)
+    × HaveTreesOn (leaf_type_of builder.settings.kind) new pages on.tree) (sym (building_read builder old building))
+    (subst (λ t. (on : IsTreeOn t new pages counted (map unit_of all) root) × HaveTreesOn t new pages on.tree) building.type (
+      laid.0,
+      subst (λ us. All (HasTreeOn new pages (contents_below type laid.0.tree)) us) (sym placed_is)
+          (subst (λ cs. All (HasTreeOn new pages cs) all) (contents_held type laid.0.tree.placed all placed_is)
+          (finished_trees_keep_trees builder.leaves old new counted first building.closed building.units root building.counted.filled has)),
+    ))
+  where
+    counted : Bool
+    counted = is_counted builder.settings.kind builder.settings.recnum
+
+    first : ℕ
+    first = first_leaf builder.leaves
+
+    pages : ℕ → Bool
+    pages = between first (length new.pages)
+
+    type : LeafType
+    type = builder.leaves.leaf_type
+
+    all : List Placed
+    all = all_placed building.closed building.units
+
+    laid : (on : IsTreeOn type new pages counted (map unit_of all) root)
+        × (map (λ (leaf : LeafUnits). leaf.units) on.tree.placed ≡ building.closed ++ (building.units ∷ []))
+    laid = finished_trees_are_laid_out builder.leaves old new counted first building.closed building.units root building.counted.filled
+        building.counted.spread has
+
+    placed_is : placed_below laid.0.tree ≡ all
+    placed_is = all_on laid.0.tree.placed (building.closed ++ (building.units ∷ [])) laid.1 ∙ all_units building.closed building.units
+
 pub tree_built : (builder : TreeBuilder) (old new : Built) (root : ℕ) → (building : Building builder old)
     → HasFirstRoot builder.leaves old new (is_counted builder.settings.kind builder.settings.recnum) building.closed building.units root
     → IsTreeBuilt builder.settings (first_leaf builder.leaves) old new (units_of builder old)
@@ -269,6 +308,7 @@ tree_built builder old new root building has =
     let counted : Bool = is_counted builder.settings.kind builder.settings.recnum in
     let first : ℕ = first_leaf builder.leaves in
     let older = finished_trees_keep_older_pages builder.leaves old new counted first building.closed building.units root building.counted.filled has in
+    let laid = trees_laid_out builder old new root building has in
     record {
       root_is = has.0;
       count =
@@ -278,13 +318,8 @@ tree_built builder old new root building has =
           (sym (building_read builder old building))
           ∙ ap (λ n. first + tree_size (leaf_type_of builder.settings.kind) n builder.settings.sorted (units_of builder old)) (sym older.size)));
       kept = older;
-      laid_out =
-          subst (λ us. IsTreeOn (leaf_type_of builder.settings.kind) new (between first (length new.pages)) counted us root)
-          (sym (building_read builder old building))
-          (subst (λ t. IsTreeOn t new (between first (length new.pages)) counted (map unit_of (all_placed building.closed building.units)) root)
-          building.type
-          (finished_trees_are_laid_out builder.leaves old new counted first building.closed building.units root building.counted.filled
-          building.counted.spread has));
+      laid_out = laid.0;
+      sets_laid_out = laid.1;
       formed = finished_trees_are_formed builder.leaves old new counted first building.closed building.units root building.counted.filled has;
       part = finished_part builder old new root building has older.grows;
     }

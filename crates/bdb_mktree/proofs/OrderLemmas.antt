@@ -1,5 +1,6 @@
 -- Lists in their order, and the rules that their units keep.
-use Rattle.std.proofs.Common.{Bool, ◌≡◌, ℕ, suc, zero, ◌+◌, ◌-◌, ◌<◌, ◌≤◌, true, false, cond, not, List, [], ◌∷◌, map, replicate, arith, refl, sym, ◌∙◌, ap, subst, inl, inr, true≢false}
+use Rattle.std.proofs.Common.{Bool, ◌≡◌, ℕ, suc, zero, ◌+◌, ◌-◌, ◌<◌, ◌≤◌, true, false, cond, not, List, [], ◌∷◌, map, replicate, arith, refl, sym, ◌∙◌, ap}
+use Rattle.std.proofs.Common.{subst, inl, inr, true≢false}
 use Rattle.std.specs.Prelude.{◌&&◌, ◌||◌}
 use Rattle.std.specs.Cmp.Derive.{both_true}
 use Rattle.std.specs.List.{All}
@@ -11,10 +12,12 @@ use Rattle.bdb_format.specs.declared.settings.Settings.{Settings}
 use Rattle.bdb_format.specs.ContentRows.{ascends}
 use Rattle.bdb_format.specs.Less.{less}
 use Rattle.bdb_format.proofs.LessLemmas.{eq_same, less_self}
-use Rattle.bdb_model.specs.declared.list.Pair.{Pair}
+use Rattle.bdb_text_format.specs.declared.list.Pair.{Pair}
+use Rattle.bdb_text_format.specs.Pairs.{AscendFrom, number_of}
 use Rattle.bdb_leaves.specs.Runs.{IsShort}
 use Rattle.bdb_leaves.specs.Units.{EntryUnit, KeyedUnit, TreeUnit, key_of}
-use Rattle.bdb_mktree.specs.Lists.{AreKeysOf, AscendFrom, HasBytes, IsKeyFor, IsListFor, IsPairFor, bytes_in, is_further, is_in_order, keyed_units, may_follow, missing, number_in, record_units, units_in, with_pair}
+use Rattle.bdb_mktree.specs.Lists.{AreKeysOf, HasBytes, IsKeyFor, IsTreeList, IsPairFor, bytes_in, is_further, is_in_order, keyed_units, may_follow, missing}
+use Rattle.bdb_mktree.specs.Lists.{record_units, units_in, onto_units}
 use Rattle.bdb_mktree.specs.Units.{IsShortUnit, IsTreeKind, KeysAscend, Suits}
 
 -- Keys.
@@ -30,7 +33,7 @@ record Stand (settings : Settings) (key value : List ℕ) (units : List TreeUnit
 
 -- a pair by itself
 alone : (settings : Settings) (key value : List ℕ) → settings.kind ≡ Btree → IsShort key → IsShort value
-    → Stand settings key value (with_pair key value [])
+    → Stand settings key value (onto_units key value [])
 alone settings key value btree short_key short = record {
   values = [];
   others = [];
@@ -51,7 +54,7 @@ before : (settings : Settings) (key value next_key next_value : List ℕ) (value
     → All IsShortUnit (KeyedUnit next_key (next_value ∷ values) ∷ units)
     → ascends (map key_of (KeyedUnit next_key (next_value ∷ values) ∷ units)) ≡ true
     → (less key next_key || (bytes_eq key next_key && is_further settings value next_value)) ≡ true
-    → Stand settings key value (with_pair key value (KeyedUnit next_key (next_value ∷ values) ∷ units))
+    → Stand settings key value (onto_units key value (KeyedUnit next_key (next_value ∷ values) ∷ units))
 before settings key value next_key next_value values units btree short_key short_value suit short keys follow = by_test (bytes_eq key next_key) refl
   where
     first : TreeUnit
@@ -113,7 +116,7 @@ keyed_stand settings pair (next ∷ pairs) btree each in_order =
     let is = All-head (IsPairFor settings) pair (next ∷ pairs) each in
     let parts = and_parts (may_follow settings.kind settings pair next) (is_in_order settings (next ∷ pairs)) in_order in
     let rest = keyed_stand settings next pairs btree (All-tail (IsPairFor settings) pair (next ∷ pairs) each) parts.1 in
-    subst (λ us. Stand settings (bytes_in pair.key) pair.value (with_pair (bytes_in pair.key) pair.value us)) (sym rest.is)
+    subst (λ us. Stand settings (bytes_in pair.key) pair.value (onto_units (bytes_in pair.key) pair.value us)) (sym rest.is)
     (before settings (bytes_in pair.key) pair.value (bytes_in next.key) next.value rest.values rest.others btree
     (subst (λ k. IsKeyFor k pair.key) btree is.key).1 is.short
     (subst (All (Suits settings)) rest.is rest.suit) (subst (All IsShortUnit) rest.is rest.short)
@@ -131,20 +134,19 @@ have_bytes settings (pair ∷ pairs) btree each =
 -- Records.
 
 records_rise : (settings : Settings) (next : ℕ) (pair : Pair) (pairs : List Pair) → settings.kind ≡ Recno → All (IsPairFor settings) (pair ∷ pairs)
-    → is_in_order settings (pair ∷ pairs) ≡ true → next ≤ number_in pair.key → AscendFrom next (pair ∷ pairs)
+    → is_in_order settings (pair ∷ pairs) ≡ true → next ≤ number_of pair.key → AscendFrom next (pair ∷ pairs)
 records_rise settings next pair [] recno each in_order low =
-    ((subst (λ k. IsKeyFor k pair.key) recno (All-head (IsPairFor settings) pair [] each).key).0, low, tt)
+    (low, tt)
 records_rise settings next pair (other ∷ pairs) recno each in_order low =
     let parts = and_parts (may_follow settings.kind settings pair other) (is_in_order settings (other ∷ pairs)) in_order in
-    let above : number_in pair.key < number_in other.key =
-    ltb-true (number_in pair.key) (number_in other.key) (sym (ap (λ k. may_follow k settings pair other) recno) ∙ parts.0) in (
-      (subst (λ k. IsKeyFor k pair.key) recno (All-head (IsPairFor settings) pair (other ∷ pairs) each).key).0,
+    let above : number_of pair.key < number_of other.key =
+    ltb-true (number_of pair.key) (number_of other.key) (sym (ap (λ k. may_follow k settings pair other) recno) ∙ parts.0) in (
       low,
-      records_rise settings (number_in pair.key + 1) other pairs recno (All-tail (IsPairFor settings) pair (other ∷ pairs) each) parts.1
+      records_rise settings (number_of pair.key + 1) other pairs recno (All-tail (IsPairFor settings) pair (other ∷ pairs) each) parts.1
           (omega (arith, above)),
     )
 
-records_ascend : (settings : Settings) (pairs : List Pair) → settings.kind ≡ Recno → IsListFor settings pairs → AscendFrom 1 pairs
+records_ascend : (settings : Settings) (pairs : List Pair) → settings.kind ≡ Recno → IsTreeList settings pairs → AscendFrom 1 pairs
 records_ascend settings [] recno list = tt
 records_ascend settings (pair ∷ pairs) recno list =
     records_rise settings 1 pair pairs recno list.each list.in_order
@@ -165,14 +167,14 @@ records_suit : (settings : Settings) (next : ℕ) (pairs : List Pair) → settin
 records_suit settings next [] recno each = (All-nil (Suits settings), All-nil IsShortUnit)
 records_suit settings next (pair ∷ pairs) recno each =
     let is = All-head (IsPairFor settings) pair pairs each in
-    let rest = records_suit settings (number_in pair.key + 1) pairs recno (All-tail (IsPairFor settings) pair pairs each) in
+    let rest = records_suit settings (number_of pair.key + 1) pairs recno (All-tail (IsPairFor settings) pair pairs each) in
     let unit : TreeUnit = EntryUnit pair.value false in
-    let units : List TreeUnit = record_units (number_in pair.key + 1) pairs in (
-      All-append (Suits settings) (replicate (number_in pair.key - next) missing) (unit ∷ units)
-          (missing_suit settings (number_in pair.key - next) recno)
+    let units : List TreeUnit = record_units (number_of pair.key + 1) pairs in (
+      All-append (Suits settings) (replicate (number_of pair.key - next) missing) (unit ∷ units)
+          (missing_suit settings (number_of pair.key - next) recno)
           (All-cons (Suits settings) unit units
           (record { kind = recno; missing = λ gone. cc; long = λ fixed live. is.long recno fixed }) rest.0),
-      All-append IsShortUnit (replicate (number_in pair.key - next) missing) (unit ∷ units) (missing_short (number_in pair.key - next))
+      All-append IsShortUnit (replicate (number_of pair.key - next) missing) (unit ∷ units) (missing_short (number_of pair.key - next))
           (All-cons IsShortUnit unit units is.short rest.1),
     )
 
@@ -183,25 +185,25 @@ pub record FitUnits (settings : Settings) (units : List TreeUnit) : Type 0 where
   pub keys : KeysAscend settings units
   pub short : All IsShortUnit units
 
-keyed_fit : (settings : Settings) (pairs : List Pair) → settings.kind ≡ Btree → IsListFor settings pairs → FitUnits settings (keyed_units pairs)
+keyed_fit : (settings : Settings) (pairs : List Pair) → settings.kind ≡ Btree → IsTreeList settings pairs → FitUnits settings (keyed_units pairs)
 keyed_fit settings [] btree list = record { suit = All-nil (Suits settings); keys = λ is. refl; short = All-nil IsShortUnit }
 keyed_fit settings (pair ∷ pairs) btree list =
     let stand = keyed_stand settings pair pairs btree list.each list.in_order in
     record { suit = stand.suit; keys = λ is. stand.keys; short = stand.short }
 
-records_fit : (settings : Settings) (pairs : List Pair) → settings.kind ≡ Recno → IsListFor settings pairs → FitUnits settings (record_units 1 pairs)
+records_fit : (settings : Settings) (pairs : List Pair) → settings.kind ≡ Recno → IsTreeList settings pairs → FitUnits settings (record_units 1 pairs)
 records_fit settings pairs recno list =
     let suit = records_suit settings 1 pairs recno list.each in
     record { suit = suit.0; keys = λ btree. absurd (cc (sym recno ∙ btree)); short = suit.1 }
 
-pub units_fit : (settings : Settings) (pairs : List Pair) → IsTreeKind settings.kind → IsListFor settings pairs
+pub units_fit : (settings : Settings) (pairs : List Pair) → IsTreeKind settings.kind → IsTreeList settings pairs
     → FitUnits settings (units_in settings.kind pairs)
 units_fit settings pairs kind list = elim kind [
   | inl btree ↦ subst (λ k. FitUnits settings (units_in k pairs)) (sym btree) (keyed_fit settings pairs btree list)
   | inr recno ↦ subst (λ k. FitUnits settings (units_in k pairs)) (sym recno) (records_fit settings pairs recno list)
 ]
 
-pub keys_fit : (settings : Settings) (pairs : List Pair) → IsTreeKind settings.kind → IsListFor settings pairs → AreKeysOf settings.kind pairs
+pub keys_fit : (settings : Settings) (pairs : List Pair) → IsTreeKind settings.kind → IsTreeList settings pairs → AreKeysOf settings.kind pairs
 keys_fit settings pairs kind list = elim kind [
   | inl btree ↦ subst (λ k. AreKeysOf k pairs) (sym btree) (have_bytes settings pairs btree list.each)
   | inr recno ↦ subst (λ k. AreKeysOf k pairs) (sym recno) (records_ascend settings pairs recno list)

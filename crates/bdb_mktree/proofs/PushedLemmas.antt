@@ -116,6 +116,7 @@ all_built builder next old begun mid new units list first root settings are none
       root_is = now.root_is;
       count = now.count;
       laid_out = now.laid_out;
+      sets_laid_out = now.sets_laid_out;
       kept = kept_on first old mid new (kept_on first old begun mid kept (subst (λ n. KeepsBefore n begun mid) at are.kept)) now.kept;
       formed = now.formed;
       part = now.part;

@@ -14,7 +14,7 @@ use Rattle.bdb_grove.specs.Part.{IsPart, between}
 use Rattle.bdb_pack.specs.Built.{Built, bytes_of, file_so_far}
 use Rattle.bdb_leaves.specs.Counted.{AreCounted}
 use Rattle.bdb_leaves.specs.Filled.{rest_of}
-use Rattle.bdb_leaves.specs.Layout.{IsTreeOn}
+use Rattle.bdb_leaves.specs.Layout.{HaveTreesOn, IsTreeOn}
 use Rattle.bdb_leaves.specs.Leaves.{KeepsBefore}
 use Rattle.bdb_leaves.specs.Moved.{first_leaf, numbers_of}
 use Rattle.bdb_leaves.specs.Placed.{Placed, has_wrong_root, unit_of}
@@ -66,14 +66,15 @@ abbrev pub CanBePushed : TreeBuilder → Built → List TreeUnit → Type 0
 CanBePushed builder built units = ArePushed builder builder built built units units
 
 -- A tree that was built of units on the pages from one on: that page is its root; they are as many as the units take, which are laid out on them as
--- docs/FORMAT.md says; and none has a row of form. In each later file, and for each metadata that says these settings and names the root, they are the
--- part of the database with this list.
+-- docs/FORMAT.md says, and so are the trees of their data; and none has a row of form. In each later file, and for each metadata that says these
+-- settings and names the root, they are the part of the database with this list.
 pub record IsTreeBuilt (settings : Settings) (first : ℕ) (old new : Built) (units : List TreeUnit) (list : List (ListKey × List ℕ)) (root : ℕ)
     : Type 0 where
   pub root_is : root ≡ first
   pub kept : KeepsBefore first old new
   pub count : length new.pages ≡ first + tree_size (leaf_type_of settings.kind) new.size settings.sorted units
   pub laid_out : IsTreeOn (leaf_type_of settings.kind) new (between first (length new.pages)) (is_counted settings.kind settings.recnum) units root
+  pub sets_laid_out : HaveTreesOn (leaf_type_of settings.kind) new (between first (length new.pages)) laid_out.tree
   pub formed : (p : ℕ) → first ≤ p → p < length new.pages → page_code new.order p (bytes_of new p) ≡ None
   pub part : (g : File) (meta : BtreeMeta) → IsCounted g → IsLater (between first (length new.pages)) (file_so_far new) g
       → settings_of new.size new.order (BtreeFields meta) ≡ settings → meta.root ≡ root

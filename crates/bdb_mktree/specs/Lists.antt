@@ -6,9 +6,10 @@ use Rattle.bdb_format.specs.declared.kinds.Kind.{Kind}
 use Rattle.bdb_format.specs.declared.kinds.Kind.TheVariants.{Btree, Recno, Hash, Queue}
 use Rattle.bdb_format.specs.declared.settings.Settings.{Settings}
 use Rattle.bdb_format.specs.Less.{less}
-use Rattle.bdb_model.specs.declared.list.Pair.{Pair}
-use Rattle.bdb_model.specs.declared.pairs.Key.{Key}
-use Rattle.bdb_model.specs.declared.pairs.Key.TheVariants.{Bytes, Number}
+use Rattle.bdb_text_format.specs.declared.list.Pair.{Pair}
+use Rattle.bdb_text_format.specs.declared.pairs.Key.{Key}
+use Rattle.bdb_text_format.specs.declared.pairs.Key.TheVariants.{Bytes, Number}
+use Rattle.bdb_text_format.specs.Pairs.{AscendFrom, number_of}
 use Rattle.bdb_leaves.specs.Runs.{IsShort}
 use Rattle.bdb_leaves.specs.Units.{TreeUnit, KeyedUnit, EntryUnit}
 
@@ -22,10 +23,6 @@ abbrev pub bytes_in : Key → List ℕ
 bytes_in (Bytes key) = key
 bytes_in (Number number) = []
 
-abbrev pub number_in : Key → ℕ
-number_in (Bytes key) = 0
-number_in (Number number) = number
-
 abbrev pub HasBytes : Key → Type 0
 HasBytes (Bytes key) = Unit {0}
 HasBytes (Number number) = ⊥
@@ -37,17 +34,17 @@ HasNumber (Number number) = Unit {0}
 -- Units.
 
 -- a pair before units: its datum is one more of the first unit where that has its key
-abbrev pub with_pair : List ℕ → List ℕ → List TreeUnit → List TreeUnit
-with_pair key value [] = KeyedUnit key (value ∷ []) ∷ []
-with_pair key value (KeyedUnit other values ∷ units) =
+abbrev pub onto_units : List ℕ → List ℕ → List TreeUnit → List TreeUnit
+onto_units key value [] = KeyedUnit key (value ∷ []) ∷ []
+onto_units key value (KeyedUnit other values ∷ units) =
     if bytes_eq key other then KeyedUnit other (value ∷ values) ∷ units
     else KeyedUnit key (value ∷ []) ∷ KeyedUnit other values ∷ units
-with_pair key value (EntryUnit other deleted ∷ units) = KeyedUnit key (value ∷ []) ∷ EntryUnit other deleted ∷ units
+onto_units key value (EntryUnit other deleted ∷ units) = KeyedUnit key (value ∷ []) ∷ EntryUnit other deleted ∷ units
 
 -- each key with the data of the pairs that have it one after the other
 abbrev pub keyed_units : List Pair → List TreeUnit
 keyed_units [] = []
-keyed_units (pair ∷ pairs) = with_pair (bytes_in pair.key) pair.value (keyed_units pairs)
+keyed_units (pair ∷ pairs) = onto_units (bytes_in pair.key) pair.value (keyed_units pairs)
 
 abbrev pub missing : TreeUnit
 missing = EntryUnit [] true
@@ -56,7 +53,7 @@ missing = EntryUnit [] true
 abbrev pub record_units : ℕ → List Pair → List TreeUnit
 record_units next [] = []
 record_units next (pair ∷ pairs) =
-    replicate (number_in pair.key - next) missing ++ (EntryUnit pair.value false ∷ record_units (number_in pair.key + 1) pairs)
+    replicate (number_of pair.key - next) missing ++ (EntryUnit pair.value false ∷ record_units (number_of pair.key + 1) pairs)
 
 abbrev pub units_in : Kind → List Pair → List TreeUnit
 units_in Btree pairs = keyed_units pairs
@@ -65,11 +62,6 @@ units_in Hash pairs = []
 units_in Queue pairs = []
 
 -- Lists that a tree can be built of.
-
--- the numbers of records ascend from one on
-abbrev pub AscendFrom : ℕ → List Pair → Type 0
-AscendFrom next [] = Unit {0}
-AscendFrom next (pair ∷ pairs) = HasNumber pair.key × (next ≤ number_in pair.key) × AscendFrom (number_in pair.key + 1) pairs
 
 -- the keys are those of the kind, and the numbers of records ascend from 1
 abbrev pub AreKeysOf : Kind → List Pair → Type 0
@@ -80,7 +72,7 @@ AreKeysOf Queue pairs = Unit {0}
 
 abbrev pub IsKeyFor : Kind → Key → Type 0
 IsKeyFor Btree key = HasBytes key × IsShort (bytes_in key)
-IsKeyFor Recno key = HasNumber key × (1 ≤ number_in key)
+IsKeyFor Recno key = HasNumber key × (1 ≤ number_of key)
 IsKeyFor Hash key = ⊥
 IsKeyFor Queue key = ⊥
 
@@ -102,7 +94,7 @@ keyed_follow settings before pair =
 
 abbrev pub may_follow : Kind → Settings → Pair → Pair → Bool
 may_follow Btree settings before pair = keyed_follow settings before pair
-may_follow Recno settings before pair = nat_lt (number_in before.key) (number_in pair.key)
+may_follow Recno settings before pair = nat_lt (number_of before.key) (number_of pair.key)
 may_follow Hash settings before pair = false
 may_follow Queue settings before pair = false
 
@@ -112,7 +104,7 @@ is_in_order settings (pair ∷ []) = true
 is_in_order settings (pair ∷ next ∷ pairs) = may_follow settings.kind settings pair next && is_in_order settings (next ∷ pairs)
 
 -- a list in its order, as loading makes it with these settings
-pub record IsListFor (settings : Settings) (pairs : List Pair) : Type 0 where
+pub record IsTreeList (settings : Settings) (pairs : List Pair) : Type 0 where
   pub each : All (IsPairFor settings) pairs
   pub in_order : is_in_order settings pairs ≡ true
 

@@ -1,15 +1,15 @@
 ghost use Rattle.std.specs.Prelude.{◌≡◌, ◌≤◌, ◌<◌, [], IfOk, drop, length};
 ghost use Rattle.std.specs.List.{All};
-ghost use Rattle.bdb_model.specs.Pairs.{listed};
+ghost use Rattle.bdb_text_format.specs.Pairs.{AscendFrom, listed, number_of};
 ghost use Rattle.bdb_mktree.specs.Building.{ArePushed, CanBePushed, IsTreeBuilt};
-ghost use Rattle.bdb_mktree.specs.Lists.{AreKeysOf, AscendFrom, HasBytes, IsListFor, IsRecordAt, keyed_units, number_in, record_units, units_in};
+ghost use Rattle.bdb_mktree.specs.Lists.{AreKeysOf, HasBytes, IsTreeList, IsRecordAt, keyed_units, record_units, units_in};
 ghost use Rattle.bdb_mktree.specs.Units.{IsTreeKind, unit_seen};
 
 use crate::runs::run_at;
 use crate::{TreeBuilder, Unit};
 use bdb_format::{Kind, Settings};
-use bdb_model::{Key, PairList};
 use bdb_pack::Pages;
+use bdb_text_format::{Key, PairList};
 use std::alloc::{AllocError, Global};
 
 /// A record of a list, and the place of the next one to come.
@@ -44,7 +44,7 @@ fn push_keys(
 
 // The number of a record.
 fn number_of(key: &Key) -> u32
-    ensures { result ≡ number_in key.now }
+    ensures { result ≡ number_of key.now }
 {
     match key {
         Key::Bytes(_) => 0,
@@ -126,7 +126,7 @@ pub fn build_tree(
     requires size { pages.old.size ≡ settings.now.page_size }
     requires order { pages.old.order ≡ settings.now.order }
     requires some { 1 ≤ length pages.old.pages }
-    requires list { IsListFor settings.now list.now }
+    requires list { IsTreeList settings.now list.now }
     ensures { IfOk result (λ root. IsTreeBuilt settings.now (length pages.old.pages) pages.old pages.new
         (units_in settings.now.kind list.now) (listed list.now) root) }
 {

@@ -4,7 +4,7 @@ ghost use Rattle.bdb_leaves.specs.Units.{KeyedUnit};
 ghost use Rattle.bdb_mktree.specs.Lists.{HasBytes, IsRunAt, has_key};
 
 use bdb_format::Bytes;
-use bdb_model::{Key, PairList};
+use bdb_text_format::{Key, PairList};
 
 // Whether a key of a list is this one.
 fn is_key(other: &Key, key: &[u8]) -> bool

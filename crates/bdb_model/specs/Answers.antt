@@ -8,9 +8,9 @@ use Rattle.bdb_format.specs.HeadOf.{head_of}
 use Rattle.bdb_format.specs.File.{File, file_of}
 use Rattle.bdb_format.specs.Databases.{Database, data_under, databases, place_of}
 use Rattle.bdb_format.specs.Verdict.{Faulty, Judgement, LeftOut}
-use Rattle.bdb_model.specs.TextSpelling.{spelling}
-use Rattle.bdb_model.specs.Lines.{line}
-use Rattle.bdb_model.specs.Written.{kind_text, database_text, dump_text}
+use Rattle.bdb_text_format.specs.TextSpelling.{spelling}
+use Rattle.bdb_text_format.specs.LineEnd.{line}
+use Rattle.bdb_text_format.specs.Written.{kind_text, database_text, dump_text}
 use Rattle.bdb_format.specs.FaultNames.{fault_name, unsupported_name}
 use Rattle.bdb_model.specs.Command.{Request, Verify, ListAll, Get, Dump}
 

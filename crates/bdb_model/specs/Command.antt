@@ -3,7 +3,7 @@ use Rattle.std.specs.Prelude.{ℕ, ◌^◌, nat_le, ◌&&◌, not, if◌then◌e
 use Rattle.std.specs.List.{list_any}
 use Rattle.std.specs.Str.{bytes_eq}
 use Rattle.bdb_format.specs.Digits.{number_in}
-use Rattle.bdb_model.specs.TextSpelling.{bytes_spelled}
+use Rattle.bdb_text_format.specs.TextSpelling.{bytes_spelled}
 
 -- what is asked of a sound file: of a key the name of its database, where one was given, and whether data are printed; of a
 -- dump the name of a database, where not all are asked for, and whether data are printed

@@ -1,4 +1,4 @@
--- What stands in bdb_format is passed on, so that every definition can be cited from here.
+-- What stands in bdb_format and bdb_text_format is passed on, so that every definition can be cited from here.
 pub use Rattle.bdb_format.specs.Numbers
 pub use Rattle.bdb_format.specs.Digits
 pub use Rattle.bdb_format.specs.Less
@@ -24,15 +24,16 @@ pub use Rattle.bdb_format.specs.Databases
 pub use Rattle.bdb_format.specs.Verdict
 pub use Rattle.bdb_format.specs.PageOf
 pub use Rattle.bdb_format.specs.Faults
-pub mod TextSpelling
+pub use Rattle.bdb_text_format.specs.LineEnd
+pub use Rattle.bdb_text_format.specs.TextSpelling
+pub use Rattle.bdb_text_format.specs.Written
+pub use Rattle.bdb_text_format.specs.TextLines
+pub use Rattle.bdb_text_format.specs.Keywords
+pub use Rattle.bdb_text_format.specs.Header
+pub use Rattle.bdb_text_format.specs.Reasons
+pub use Rattle.bdb_text_format.specs.Pairs
+pub use Rattle.bdb_text_format.specs.Sections
 pub mod Change
 pub mod Lines
-pub mod Written
-pub mod TextLines
-pub mod Keywords
-pub mod Header
-pub mod Reasons
-pub mod Pairs
-pub mod Sections
 pub mod Command
 pub mod Answers

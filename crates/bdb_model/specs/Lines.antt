@@ -1,9 +1,6 @@
--- The lines of the error sink that don't come from an answer, and how a line ends.
-use Rattle.std.specs.Prelude.{ℕ, List, [], ◌∷◌, ◌++◌, codes}
-
--- a text and its line feed
-abbrev pub line : List ℕ → List ℕ
-line text = text ++ 10 ∷ []
+-- The lines of the error sink that don't come from an answer.
+use Rattle.std.specs.Prelude.{ℕ, List, codes}
+use Rattle.bdb_text_format.specs.LineEnd.{line}
 
 abbrev pub read_fault_line : List ℕ
 read_fault_line = line (codes "read fault")

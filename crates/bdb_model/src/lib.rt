@@ -1,20 +1,13 @@
-//! The words of a command, the sections of a dump text, and the definitions that answers cite; what bdb_format has is passed on.
+//! The words of a command, and the definitions that answers cite; what bdb_format and bdb_text_format have is passed on.
 #![tactic(auto)]
 
-mod faults;
-mod keywords;
-mod list;
-mod pairs;
-mod sections;
 mod words;
 
 pub use bdb_format::{
     BtreeMeta, Bytes, CheckError, Fault, FileKind, HashMeta, Head, Header, ItemFault, Kind,
     MetaFault, Order, QueueMeta, RecnoItem, Reference, Settings, Sort, Steps, Unsupported, Verdict,
 };
-pub use faults::TextFault;
-pub use keywords::Judged;
-pub use list::{Pair, PairList};
-pub use pairs::{Key, TextPair, TextPairs};
-pub use sections::{Section, Sections};
+pub use bdb_text_format::{
+    Judged, Key, Pair, PairList, Section, Sections, TextFault, TextPair, TextPairs,
+};
 pub use words::Words;

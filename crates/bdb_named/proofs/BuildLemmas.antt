@@ -13,20 +13,22 @@ use Rattle.bdb_format.specs.Spelling.{table_bytes}
 use Rattle.bdb_format.specs.Table.{first_row}
 use Rattle.bdb_meta.specs.RowGroups.{flag_rows}
 use Rattle.bdb_grove.specs.Part.{IsPart, between}
-use Rattle.bdb_model.specs.declared.list.Pair.{Pair}
-use Rattle.bdb_model.specs.declared.sections.Section.{Section}
-use Rattle.bdb_model.specs.Pairs.{listed}
+use Rattle.bdb_text_format.specs.declared.list.Pair.{Pair}
+use Rattle.bdb_text_format.specs.declared.sections.Section.{Section}
+use Rattle.bdb_text_format.specs.Pairs.{listed}
 use Rattle.bdb_pack.specs.Built.{Built}
 use Rattle.bdb_join.proofs.FiledLemmas.{btrees_are_spelled}
+use Rattle.bdb_leaves.specs.Layout.{AreTreesIn}
 use Rattle.bdb_leaves.specs.Spread.{tree_size}
+use Rattle.bdb_leaves.proofs.LayoutLemmas.{trees_are_in}
 use Rattle.bdb_leaves.proofs.RunLemmas.{all_map}
 use Rattle.bdb_mktree.specs.Building.{IsTreeBuilt}
-use Rattle.bdb_mktree.specs.Lists.{IsListFor, IsPairFor, is_in_order, may_follow, units_in}
-use Rattle.bdb_mktree.specs.Units.{IsTreeKind, leaf_type_of}
-use Rattle.bdb_buckets.specs.Tables.{HasUnsortedBuckets, table_meta}
+use Rattle.bdb_mktree.specs.Lists.{IsTreeList, IsPairFor, is_in_order, may_follow, units_in}
+use Rattle.bdb_mktree.specs.Units.{IsTreeKind, is_counted, leaf_type_of}
+use Rattle.bdb_buckets.specs.Tables.{HasBuiltBuckets, table_meta}
 use Rattle.bdb_mkhash.specs.Buckets.{table_bits, table_cost, table_size, table_units}
 use Rattle.bdb_mkhash.specs.Table.{IsTableBuilt}
-use Rattle.bdb_need.specs.Need.{pairs_in, tree_pages}
+use Rattle.bdb_need.specs.Need.{unlined_pairs, tree_pages}
 use Rattle.bdb_count.specs.Need.{list_pages, sized}
 use Rattle.bdb_alone.specs.Settled.{file_settings, own_settings}
 use Rattle.bdb_alone.specs.Trees.{IsTreeSettings}
@@ -36,6 +38,7 @@ use Rattle.bdb_named.specs.declared.metadata.DatabaseMeta.TheVariants.{Table, Tr
 use Rattle.bdb_named.specs.declared.metadata.DatabaseMeta.{DatabaseMeta}
 use Rattle.bdb_named.specs.Images.{AreNamedSettings, IsNamed}
 use Rattle.bdb_named.specs.Layout.{named_table_meta, named_tree_meta}
+use Rattle.bdb_named.specs.Metas.{TreeIsIn, meta_for, settings_in}
 use Rattle.bdb_named.specs.Standing.{CanBeSpelled, Counts, HoldsPart, IsDatabaseBuilt, IsSectionBuilt, part_between}
 use Rattle.bdb_named.specs.Written.{fields_of}
 use Rattle.bdb_named.proofs.TableMetaLemmas.{table_settings, tables_are_spelled, tables_have_names}
@@ -58,6 +61,22 @@ pub record IsTreeBehind (settings : Settings) (list : List Pair) (old new : Buil
   pub tree : IsTreeBuilt settings (length old.pages) old new (units_in settings.kind list) (listed list) root
   pub meta_is : meta ≡ named_tree_meta settings root
 
+meta_of_tree : (k : Kind) (settings : Settings) (list : List Pair) (first : ℕ) → IsTreeKind k
+    → Tree (named_tree_meta settings first) ≡ meta_for k settings list first
+meta_of_tree Btree settings list first is = refl
+meta_of_tree Recno settings list first is = refl
+meta_of_tree Hash settings list first is = absurd (elim is [ inl e ↦ cc e | inr e ↦ cc e ])
+meta_of_tree Queue settings list first is = refl
+
+-- a tree that is laid out in an image is that of a list, whatever its kind
+pub tree_is_in : (k : Kind) (settings : Settings) (image : List ℕ) (list : List Pair) (root : ℕ)
+    → AreTreesIn (leaf_type_of k) image settings.page_size (is_counted k settings.recnum) (units_in k list) root
+    → TreeIsIn k settings image list root
+tree_is_in Btree settings image list root are = are
+tree_is_in Recno settings image list root are = are
+tree_is_in Hash settings image list root are = tt
+tree_is_in Queue settings image list root are = tt
+
 -- its metadata says the settings, and breaks no row of flags
 named : (settings : Settings) (root number : ℕ) → IsTreeSettings settings → settings ≡ file_settings settings → 1 ≤ number
     → (settings_of settings.page_size settings.order (BtreeFields (named_tree_meta settings root)) ≡ settings)
@@ -74,6 +93,16 @@ tree_built settings list old new root meta is =
       kept = is.tree.kept;
       count = count;
       counts = tt;
+      meta_is =
+          ap (λ m. Tree m) (is.meta_is ∙ ap (named_tree_meta settings) is.tree.root_is)
+          ∙ meta_of_tree settings.kind settings list (length old.pages) is.fit.kind;
+      tree = λ image has.
+          subst (TreeIsIn settings.kind settings image list) is.tree.root_is
+          (tree_is_in settings.kind settings image list root
+          (subst (λ n. AreTreesIn (leaf_type_of settings.kind) image n (is_counted settings.kind settings.recnum) (units_in settings.kind list) root)
+          size
+          (trees_are_in (leaf_type_of settings.kind) new (between (length old.pages) (length new.pages)) (is_counted settings.kind settings.recnum)
+          (units_in settings.kind list) root is.tree.laid_out is.tree.sets_laid_out image has)));
       says = says;
       holds = record {
         there = omega arith;
@@ -83,7 +112,7 @@ tree_built settings list old new root meta is =
             (ap (λ n. settings_of n new.order (BtreeFields meta)) size
             ∙ (ap (λ o. settings_of settings.page_size o (BtreeFields meta)) order ∙ says))
             (ap (λ (m : BtreeMeta). m.root) is.meta_is);
-        unsorted = λ g counted later. tt;
+        buckets = λ g counted later. tt;
       };
       spelled = λ built number pages above there room written.
           btrees_are_spelled built (record {
@@ -96,7 +125,7 @@ tree_built settings list old new root meta is =
             fields = written.fields;
             flags = ap (λ (m : BtreeMeta). first_row (flag_rows number m.flags)) is.meta_is ∙ (named settings root number is.fit is.own above).1;
           })
-          (ap (λ (m : BtreeMeta). m.free) is.meta_is);
+          (λ zero. ap (λ (m : BtreeMeta). m.free) is.meta_is);
     }
   where
     size : new.size ≡ settings.page_size
@@ -140,6 +169,12 @@ table_built settings list old new built meta elements is =
           ∙ (ap (λ n. length old.pages + table_size n settings.sorted (table_units list)) is.size
           ∙ ap (λ k. length old.pages + list_pages k settings list) (sym is.kind));
       counts = is.counted;
+      meta_is =
+          ap (λ m. Table m elements) meta_is
+          ∙ (ap (λ n. Table (named_table_meta (table_meta settings (length old.pages) bits)) n) is.counted
+          ∙ (ap (λ n. Table (named_table_meta (table_meta settings (length old.pages) (table_bits n (table_units list)))) (length list)) is.size
+          ∙ ap (λ k. meta_for k settings list (length old.pages)) (sym is.kind)));
+      tree = λ image has. subst (λ k. TreeIsIn k settings image list (length old.pages)) (sym is.kind) tt;
       says =
           ap (λ m. settings_of settings.page_size settings.order (HashFields m)) meta_is
           ∙ (table_settings settings settings.page_size settings.order (length old.pages) bits is.both
@@ -152,7 +187,9 @@ table_built settings list old new built meta elements is =
             (tables_have_names g pages settings (length old.pages) bits (listed list)
             (subst (λ m. IsPart g (record { pages = pages; fields = HashFields m; list = listed list })) is.table.fields
             (is.table.part g counted later)));
-        unsorted = λ g counted later. subst (λ m. HasUnsortedBuckets g m) (sym is.meta_is) (is.table.unsorted g counted later);
+        buckets = λ g counted later.
+            let there : HasBuiltBuckets g built = is.table.buckets g counted later in
+            subst (λ m. HasBuiltBuckets g m) (sym is.meta_is) (record { unsorted = there.unsorted; sums = there.sums });
       };
       spelled = λ after number legal above there room written.
           tables_are_spelled after
@@ -194,7 +231,7 @@ same_order one two (a ∷ b ∷ pairs) same =
     ∙ ap (λ t. may_follow one.kind one a b && t) (same_order one two (b ∷ pairs) same)
 
 same_list : (one two : Settings) (pairs : List Pair) → ((a b : Pair) → may_follow two.kind two a b ≡ may_follow one.kind one a b)
-    → ((pair : Pair) → IsPairFor one pair → IsPairFor two pair) → IsListFor one pairs → IsListFor two pairs
+    → ((pair : Pair) → IsPairFor one pair → IsPairFor two pair) → IsTreeList one pairs → IsTreeList two pairs
 same_list one two pairs follow each is = record {
   each = all_map {P = IsPairFor one} {Q = IsPairFor two} each pairs is.each;
   in_order = same_order one two pairs follow ∙ is.in_order;
@@ -209,16 +246,16 @@ no_sorting settings are recno =
     ]
 
 -- and it takes as many pages
-pub own_pages : (k : Kind) (size : ℕ) (order : Order) (settings : Settings) (pairs : List Pair) → settings.kind ≡ k
+pub pages_alike : (k : Kind) (size : ℕ) (order : Order) (settings : Settings) (pairs : List Pair) → settings.kind ≡ k
     → AreNamedSettings (record settings { page_size = size })
     → list_pages (own_settings k size order settings).kind (own_settings k size order settings) pairs
     ≡ list_pages k (record settings { page_size = size }) pairs
-own_pages Btree size order settings pairs same are = ap (λ k. tree_size (leaf_type_of k) size settings.sorted (units_in k pairs)) (sym same)
-own_pages Recno size order settings pairs same are =
+pages_alike Btree size order settings pairs same are = ap (λ k. tree_size (leaf_type_of k) size settings.sorted (units_in k pairs)) (sym same)
+pages_alike Recno size order settings pairs same are =
     ap (λ s. tree_size (leaf_type_of Recno) size s (units_in Recno pairs)) (sym (no_sorting (record settings { page_size = size }) are same))
     ∙ ap (λ k. tree_size (leaf_type_of k) size settings.sorted (units_in k pairs)) (sym same)
-own_pages Hash size order settings pairs same are = refl
-own_pages Queue size order settings pairs same are =
+pages_alike Hash size order settings pairs same are = refl
+pages_alike Queue size order settings pairs same are =
     absurd (elim are [ inl tree ↦ elim tree.kind [ inl e ↦ cc (e, same) | inr e ↦ cc (e, same) ] | inr hash ↦ cc (hash.0, same) ])
 
 own_order : (k : Kind) (size : ℕ) (order : Order) (settings : Settings) → (own_settings k size order settings).order ≡ order
@@ -227,6 +264,12 @@ own_order Recno size order settings = refl
 own_order Hash size order settings = refl
 own_order Queue size order settings = refl
 
+own_kind : (k : Kind) (size : ℕ) (order : Order) (settings : Settings) → (own_settings k size order settings).kind ≡ k
+own_kind Btree size order settings = refl
+own_kind Recno size order settings = refl
+own_kind Hash size order settings = refl
+own_kind Queue size order settings = refl
+
 -- A section.
 
 -- the database of its list was built behind all pages, for its settings in the file
@@ -234,7 +277,7 @@ pub record IsSectionAt (section : Section) (size : ℕ) (settings : Settings) (l
   pub named : IsNamed size section
   pub size_is : old.size ≡ size
   pub settings_are : settings ≡ own_settings section.settings.kind size old.order section.settings
-  pub list_is : list ≡ pairs_in section.pairs
+  pub list_is : list ≡ unlined_pairs section.pairs
 
 pub section_built : (section : Section) (size : ℕ) (settings : Settings) (list : List Pair) (old new : Built) (meta : DatabaseMeta)
     → IsSectionAt section size settings list old → IsDatabaseBuilt settings list old new meta → IsSectionBuilt section old new meta
@@ -247,9 +290,18 @@ section_built section size settings list old new meta is built =
             ∙ ap (λ n. length old.pages + n)
             (ap (λ s. list_pages s.kind s list) is.settings_are
             ∙ (ap (list_pages own.kind own) is.list_is
-            ∙ (own_pages section.settings.kind size old.order section.settings (pairs_in section.pairs) refl is.named.settings
-            ∙ ap (λ n. list_pages section.settings.kind (sized n section) (pairs_in section.pairs)) (sym size_is))));
+            ∙ (pages_alike section.settings.kind size old.order section.settings (unlined_pairs section.pairs) refl is.named.settings
+            ∙ ap (λ n. list_pages section.settings.kind (sized n section) (unlined_pairs section.pairs)) (sym size_is))));
         counts = subst (λ l. Counts meta (length l)) is.list_is built.counts;
+        meta_is =
+            built.meta_is
+            ∙ (ap (λ k. meta_for k settings list (length old.pages)) kind_is
+            ∙ (ap (λ s. meta_for section.settings.kind s list (length old.pages)) (is.settings_are ∙ again)
+            ∙ ap (λ l. meta_for section.settings.kind (settings_in new.size new.order section) l (length old.pages)) is.list_is));
+        tree = λ image has.
+            subst (λ l. TreeIsIn section.settings.kind (settings_in new.size new.order section) image l (length old.pages)) is.list_is
+            (subst (λ s. TreeIsIn section.settings.kind s image list (length old.pages)) (is.settings_are ∙ again)
+            (subst (λ k. TreeIsIn k settings image list (length old.pages)) kind_is (built.tree image has)));
         says =
             ap (λ n. settings_of n new.order (fields_of meta)) (size_is ∙ sym own_size_is)
             ∙ (ap (λ o. settings_of settings.page_size o (fields_of meta)) (built.kept.order ∙ sym own_order_is)
@@ -269,6 +321,9 @@ section_built section size settings list old new meta is built =
 
     own_size_is : settings.page_size ≡ size
     own_size_is = ap (λ (s : Settings). s.page_size) is.settings_are ∙ own_size section.settings.kind size old.order section.settings
+
+    kind_is : settings.kind ≡ section.settings.kind
+    kind_is = ap (λ (s : Settings). s.kind) is.settings_are ∙ own_kind section.settings.kind size old.order section.settings
 
     own_order_is : settings.order ≡ old.order
     own_order_is = ap (λ (s : Settings). s.order) is.settings_are ∙ own_order section.settings.kind size old.order section.settings

@@ -19,9 +19,9 @@ use Rattle.bdb_format.specs.Numbers.{pad4}
 use Rattle.bdb_format.proofs.SpellingLemmas.{length-spelled}
 use Rattle.bdb_levels.specs.declared.inner_type.InnerType.{InnerType}
 use Rattle.bdb_levels.specs.declared.inner_type.InnerType.TheVariants.{Keyed, Numbered}
-use Rattle.bdb_model.specs.declared.list.Pair.{Pair}
-use Rattle.bdb_model.specs.declared.pairs.Key.TheVariants.{Bytes}
-use Rattle.bdb_model.specs.declared.sections.Section.{Section}
+use Rattle.bdb_text_format.specs.declared.list.Pair.{Pair}
+use Rattle.bdb_text_format.specs.declared.pairs.Key.TheVariants.{Bytes}
+use Rattle.bdb_text_format.specs.declared.sections.Section.{Section}
 use Rattle.bdb_leaves.specs.declared.leaf_type.LeafType.{LeafType}
 use Rattle.bdb_leaves.specs.declared.leaf_type.LeafType.TheVariants.{Pairs}
 use Rattle.bdb_leaves.specs.Inner.{first_cost}
@@ -31,7 +31,7 @@ use Rattle.bdb_leaves.specs.Spread.{inner_cost, leaf_key, leaves_and_levels, own
 use Rattle.bdb_leaves.specs.Spread.{spread_on, spread_units, tree_size}
 use Rattle.bdb_leaves.specs.Units.{EntryUnit, KeyedUnit, TreeUnit, chain_pages, has_own_tree, page_room, set_cost, unit_cost, value_cost}
 use Rattle.bdb_leaves.proofs.SpreadLemmas.{spread_map}
-use Rattle.bdb_mktree.specs.Lists.{IsPairFor, bytes_in, is_in_order, keyed_units, with_pair}
+use Rattle.bdb_mktree.specs.Lists.{IsPairFor, bytes_in, is_in_order, keyed_units, onto_units}
 use Rattle.bdb_count.specs.Need.{name_in}
 use Rattle.bdb_named.specs.Images.{IsNamed, name_entry}
 use Rattle.bdb_named.specs.Laws.{EntriesAreListed, EntriesTakePages}
@@ -190,7 +190,7 @@ tree_blank type size sorted units =
 -- The units of blank pairs are blank.
 
 with_blank : (key value : List ℕ) (units : List TreeUnit)
-    → with_pair key (blank_value value) (map blank_unit units) ≡ map blank_unit (with_pair key value units)
+    → onto_units key (blank_value value) (map blank_unit units) ≡ map blank_unit (onto_units key value units)
 with_blank key value [] = refl
 with_blank key value (KeyedUnit other values ∷ units) = by_test (bytes_eq key other)
   where
@@ -205,7 +205,7 @@ with_blank key value (EntryUnit other deleted ∷ units) = refl
 units_blank : (pairs : List Pair) → keyed_units (map blank_pair pairs) ≡ map blank_unit (keyed_units pairs)
 units_blank [] = refl
 units_blank (pair ∷ pairs) =
-    ap (with_pair (bytes_in pair.key) (blank_value pair.value)) (units_blank pairs)
+    ap (onto_units (bytes_in pair.key) (blank_value pair.value)) (units_blank pairs)
     ∙ with_blank (bytes_in pair.key) pair.value (keyed_units pairs)
 
 -- the entries of sections are those of their names with numbers in place of zeros

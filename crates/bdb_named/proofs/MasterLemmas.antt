@@ -2,22 +2,28 @@
 use Rattle.std.proofs.Common.{◌≡◌, ℕ, ◌+◌, ◌<◌, List, [], ◌∷◌, ◌++◌, length, take, get_or}
 use Rattle.std.proofs.Common.{arith, sym, ◌∙◌, ap, subst}
 use Rattle.std.proofs.lemmas.List.{length-take-le, take_more}
+use Rattle.bdb_format.specs.declared.kinds.Kind.TheVariants.{Btree}
 use Rattle.bdb_format.specs.declared.metadata.BtreeMeta.{BtreeMeta}
 use Rattle.bdb_format.specs.declared.settings.Settings.{Settings}
 use Rattle.bdb_format.specs.Databases.{settings_of}
 use Rattle.bdb_format.specs.Page.{BtreeFields}
-use Rattle.bdb_model.specs.declared.list.Pair.{Pair}
-use Rattle.bdb_model.specs.declared.sections.Section.{Section}
-use Rattle.bdb_model.specs.Pairs.{listed}
+use Rattle.bdb_text_format.specs.declared.list.Pair.{Pair}
+use Rattle.bdb_text_format.specs.declared.sections.Section.{Section}
+use Rattle.bdb_text_format.specs.Pairs.{listed}
+use Rattle.bdb_grove.specs.Part.{between}
 use Rattle.bdb_pack.specs.Built.{Built}
+use Rattle.bdb_leaves.specs.Layout.{AreTreesIn}
 use Rattle.bdb_leaves.specs.Spread.{tree_size}
+use Rattle.bdb_leaves.proofs.LayoutLemmas.{trees_are_in}
 use Rattle.bdb_mktree.specs.Building.{IsTreeBuilt}
-use Rattle.bdb_mktree.specs.Lists.{IsListFor, units_in}
-use Rattle.bdb_mktree.specs.Units.{leaf_type_of}
+use Rattle.bdb_mktree.specs.Lists.{IsTreeList, units_in}
+use Rattle.bdb_mktree.specs.Units.{is_counted, leaf_type_of}
 use Rattle.bdb_need.specs.Need.{tree_pages}
 use Rattle.bdb_named.specs.Images.{AreNamed, names_pages}
 use Rattle.bdb_named.specs.Layout.{entries_from, entry_of, named_tree_meta, settings_of_master}
+use Rattle.bdb_named.specs.Metas.{TreeIsIn}
 use Rattle.bdb_named.specs.Standing.{HoldsPart, IsMasterBuilt}
+use Rattle.bdb_named.proofs.BuildLemmas.{tree_is_in}
 use Rattle.bdb_named.proofs.EntryLemmas.{entries_are_listed, entries_take_pages}
 use Rattle.bdb_named.proofs.TreeMetaLemmas.{master_is_said}
 
@@ -46,10 +52,10 @@ entries_more first i number sections section within is at =
 -- a tree can be built of it
 pub entries_listed : (settings : Settings) (pairs : List Pair) (number : ℕ) (sections : List Section)
     → settings ≡ settings_of_master settings.page_size settings.order → AreNamed settings.page_size sections → pairs ≡ entries_from number sections
-    → IsListFor settings pairs
+    → IsTreeList settings pairs
 entries_listed settings pairs number sections master named are =
-    subst (λ s. IsListFor s pairs) (sym master)
-    (subst (IsListFor (settings_of_master settings.page_size settings.order)) (sym are)
+    subst (λ s. IsTreeList s pairs) (sym master)
+    (subst (IsTreeList (settings_of_master settings.page_size settings.order)) (sym are)
     (entries_are_listed settings.page_size settings.order number sections named))
 
 -- it takes as many pages as the names do
@@ -86,14 +92,23 @@ master_built sections size settings count first list old new root meta is =
       kept = is.tree.kept;
       count = many;
       root = root;
+      root_is = is.tree.root_is;
       meta_is = is.meta_is ∙ ap (λ s. named_tree_meta s root) own;
+      tree = λ image has.
+          subst (λ ps. TreeIsIn Btree (settings_of_master old.size old.order) image ps root) list_is
+          (subst (λ (s : Settings). TreeIsIn s.kind s image list root) own
+          (tree_is_in settings.kind settings image list root
+          (subst (λ n. AreTreesIn (leaf_type_of settings.kind) image n (is_counted settings.kind settings.recnum) (units_in settings.kind list) root)
+          (is.tree.kept.size ∙ sym page_size)
+          (trees_are_in (leaf_type_of settings.kind) new (between (length old.pages) (length new.pages)) (is_counted settings.kind settings.recnum)
+          (units_in settings.kind list) root is.tree.laid_out is.tree.sets_laid_out image has))));
       holds =
           subst (λ ps. HoldsPart new (length old.pages) (length new.pages) (BtreeFields meta) (listed ps)) list_is
           (record {
             there = omega arith;
             formed = is.tree.formed;
             part = λ g counted later. is.tree.part g meta counted later says (ap (λ (m : BtreeMeta). m.root) is.meta_is);
-            unsorted = λ g counted later. tt;
+            buckets = λ g counted later. tt;
           });
     }
   where

@@ -8,7 +8,10 @@ use Rattle.std.proofs.lemmas.List.Elements.{All-cons, All-nil}
 use Rattle.bdb_format.specs.declared.kinds.Order.{Order}
 use Rattle.bdb_format.specs.declared.metadata.BtreeMeta.{BtreeMeta}
 use Rattle.bdb_format.specs.Databases.{Database, databases}
-use Rattle.bdb_format.specs.File.{File, file_of}
+use Rattle.bdb_format.specs.declared.kinds.Kind.TheVariants.{Btree}
+use Rattle.bdb_format.specs.File.{File, file_of, page_bytes}
+use Rattle.bdb_format.specs.HeadOf.{head_of}
+use Rattle.bdb_format.specs.Spelling.{btree_bytes}
 use Rattle.bdb_format.specs.Flags.{has_duplicates, names_databases}
 use Rattle.bdb_format.specs.Lists.{ListKey}
 use Rattle.bdb_format.specs.Page.{BtreeFields}
@@ -20,9 +23,10 @@ use Rattle.bdb_format.proofs.MemberLemmas.{first_member, later_member, member_ca
 use Rattle.bdb_meta.specs.RowGroups.{flag_rows}
 use Rattle.bdb_grove.specs.Growing.{IsCounted, IsLater}
 use Rattle.bdb_grove.specs.Part.{IsPart}
+use Rattle.bdb_grove.specs.Part.{between}
 use Rattle.bdb_grove.proofs.ChainLemmas.{between_is, is_between}
-use Rattle.bdb_model.specs.declared.sections.Section.{Section}
-use Rattle.bdb_model.specs.Pairs.{listed}
+use Rattle.bdb_text_format.specs.declared.sections.Section.{Section}
+use Rattle.bdb_text_format.specs.Pairs.{listed}
 use Rattle.bdb_pack.specs.Built.{Built, bytes_of, file_so_far, joined_pages, with_zeros}
 use Rattle.bdb_pack.proofs.CutLemmas.{all_size}
 use Rattle.bdb_pack.proofs.ImageLemmas.{counted_so_far}
@@ -32,23 +36,29 @@ use Rattle.bdb_join.specs.Masters.{Entry, IsDatabase, IsSoundUnderMaster, IsUnde
 use Rattle.bdb_join.specs.Written.{HasHead, SpellsMeta}
 use Rattle.bdb_join.proofs.FiledLemmas.{btrees_are_spelled, filed_parts_are_joined, has_head, later as filed_later, read_back}
 use Rattle.bdb_join.proofs.NamedLemmas.{joins_all}
-use Rattle.bdb_buckets.specs.Tables.{AreUnsorted}
+use Rattle.bdb_join.proofs.ReadLemmas.{page_read}
+use Rattle.bdb_leaves.specs.Layout.{HasPagesOf}
+use Rattle.bdb_leaves.proofs.FilledLemmas.{later_self}
+use Rattle.bdb_leaves.proofs.RunLemmas.{later_before as later_in}
+use Rattle.bdb_buckets.specs.Tables.{HasBuiltTable}
+use Rattle.bdb_need.specs.Need.{unlined_pairs}
 use Rattle.bdb_count.specs.Need.{section_pages}
 use Rattle.bdb_alone.proofs.TreeLemmas.{first_zero}
 use Rattle.bdb_named.specs.declared.metadata.DatabaseMeta.{DatabaseMeta}
 use Rattle.bdb_named.specs.declared.metadata.DatabaseMeta.TheVariants.{Tree}
-use Rattle.bdb_named.specs.Images.{AreNamed, IsNamedImage, names_pages}
-use Rattle.bdb_named.specs.Layout.{AreJointsFrom, entries_from}
-use Rattle.bdb_named.specs.Standing.{AreAdded, AreBuilt, AreLaid, HoldsPart, IsMasterBuilt, Laid, part_between}
-use Rattle.bdb_named.specs.Written.{AreAsMany, ArePut, AreWrittenFrom, IsPut}
+use Rattle.bdb_named.specs.Images.{AreNamed, IsNamedImage, last_page, names_pages}
+use Rattle.bdb_named.specs.Layout.{AreJointsFrom, entries_from, named_tree_meta, settings_of_master}
+use Rattle.bdb_named.specs.Metas.{HaveMetas, TreeIsIn, meta_for, settings_in}
+use Rattle.bdb_named.specs.Standing.{AreAdded, AreDatabasesBuilt, AreLaid, HoldsPart, IsMasterBuilt, Laid, part_between}
+use Rattle.bdb_named.specs.Written.{AreAsMany, ArePut, AreWrittenFrom, IsPut, meta_bytes}
 use Rattle.bdb_named.proofs.NamingLemmas.{entries_name_databases, entries_name_metas}
-use Rattle.bdb_named.proofs.RowLemmas.{IsOfRow, inside_row, joints_are, joints_from, metas_cover, of_row, row_apart, row_covers, row_pages}
-use Rattle.bdb_named.proofs.StandingLemmas.{holds_still, kept_again}
+use Rattle.bdb_named.proofs.RowLemmas.{IsOfRow, above_base, inside_row, joints_are, joints_from, metas_cover, of_row, row_apart, row_covers, row_pages}
+use Rattle.bdb_named.proofs.StandingLemmas.{has_before, holds_still, kept_again}
 use Rattle.bdb_named.proofs.TreeMetaLemmas.{IsMasterMeta, master_is_said}
 use Rattle.bdb_named.proofs.WritingLemmas.{many_again, still_written}
 
 -- there are as many databases, and as much metadata, as sections
-rows_long : (sections : List Section) (old new : Built) (metas : List DatabaseMeta) (are : AreBuilt sections old new metas)
+rows_long : (sections : List Section) (old new : Built) (metas : List DatabaseMeta) (are : AreDatabasesBuilt sections old new metas)
     → (length are.row ≡ length sections) × (length metas ≡ length sections)
 rows_long sections old new metas are =
     let row : length are.row ≡ length sections = sym (length-map are.row (λ (laid : Laid). laid.section)) ∙ ap length are.sections_are in
@@ -64,7 +74,7 @@ pub record IsLaidOut (sections : List Section) (empty one topped spaced built : 
   pub master_is : IsMasterBuilt sections one topped master
   pub added : AreAdded topped spaced (length sections)
   pub beyond_is : beyond ≡ length spaced.pages
-  pub databases : AreBuilt sections spaced built metas
+  pub databases : AreDatabasesBuilt sections spaced built metas
 
 -- the pages for metadata are zero pages
 pub metas_zero : (sections : List Section) (empty one topped spaced built : Built) (master : BtreeMeta) (beyond : ℕ) (metas : List DatabaseMeta)
@@ -74,6 +84,12 @@ metas_zero sections empty one topped spaced built master beyond metas is p low h
     let long = rows_long sections spaced built metas is.databases in
     subst (λ bs. IsTrue (is_zero bs)) (sym (is.databases.kept.same p (omega (arith, high, is.beyond_is))))
     (is.added.zero_pages p (omega (arith, low, long.1, is.beyond_is, is.added.many)) (omega (arith, high, is.beyond_is)))
+
+-- there are as many as metadata
+pub metas_fit : (sections : List Section) (empty one topped spaced built : Built) (master : BtreeMeta) (beyond : ℕ) (metas : List DatabaseMeta)
+    → IsLaidOut sections empty one topped spaced built master beyond metas → length metas ≤ beyond
+metas_fit sections empty one topped spaced built master beyond metas is =
+    let long = rows_long sections spaced built metas is.databases in omega (arith, long.1, is.beyond_is, is.added.many)
 
 -- so is page 0, when they are written
 pub first_zero_still : (sections : List Section) (empty one topped spaced built filled : Built) (master : BtreeMeta) (beyond : ℕ)
@@ -101,15 +117,53 @@ pub record IsFilledIn (size : ℕ) (order : Order) (sections : List Section) (em
   pub top : IsPut filled after 0 (Tree master)
   pub image_is : image ≡ joined_pages after.pages
 
--- buckets are unsorted in the databases where they are in the parts
-all_unsorted : (g : File) (joints : List Joint) (entries : List Entry) (found : List Database)
-    → ((j : Joint) → Contains joints j → AreUnsorted g j.part.fields) → AllZip (IsDatabase joints) entries found
-    → All (λ (database : Database). AreUnsorted g database.fields) found
-all_unsorted g joints [] [] each zip = All-nil (λ (database : Database). AreUnsorted g database.fields)
-all_unsorted g joints [] (database ∷ found) each zip = absurd zip
-all_unsorted g joints (entry ∷ entries) [] each zip = absurd zip
-all_unsorted g joints (entry ∷ entries) (database ∷ found) each zip =
-    All-cons (λ (one : Database). AreUnsorted g one.fields) database found (subst (AreUnsorted g) (sym zip.0.fields) (each zip.0.joint zip.0.at)) (all_unsorted g joints entries found each zip.1)
+-- buckets are as built in the databases where they are in the parts
+all_built : (g : File) (joints : List Joint) (entries : List Entry) (found : List Database)
+    → ((j : Joint) → Contains joints j → HasBuiltTable g j.part.fields) → AllZip (IsDatabase joints) entries found
+    → All (λ (database : Database). HasBuiltTable g database.fields) found
+all_built g joints [] [] each zip = All-nil (λ (database : Database). HasBuiltTable g database.fields)
+all_built g joints [] (database ∷ found) each zip = absurd zip
+all_built g joints (entry ∷ entries) [] each zip = absurd zip
+all_built g joints (entry ∷ entries) (database ∷ found) each zip =
+    All-cons (λ (one : Database). HasBuiltTable g one.fields) database found (subst (HasBuiltTable g) (sym zip.0.fields) (each zip.0.joint zip.0.at)) (all_built g joints entries found each zip.1)
+
+-- what an image has of pages with metadata and of those before
+record IsImageIn (size : ℕ) (order : Order) (image : List ℕ) (last_one base : ℕ) (built after : Built) : Type 0 where
+  after_size : after.size ≡ size
+  after_order : after.order ≡ order
+  built_size : built.size ≡ size
+  built_order : built.order ≡ order
+  last : length after.pages - 1 ≡ last_one
+  page_in : (p : ℕ) → p < length after.pages → page_bytes (head_of image) image p ≡ bytes_of after p
+  has : (from beyond : ℕ) → base ≤ from → beyond ≤ length built.pages → HasPagesOf built (between from beyond) image
+
+-- its metadata pages are those of sections
+have_metas : (size : ℕ) (order : Order) (image : List ℕ) (last_one : ℕ) (built after : Built) (base beyond number : ℕ) (row : List Laid)
+    → AreLaid built base beyond row → AreWrittenFrom after number (map (λ (l : Laid). l.meta) row)
+    → IsImageIn size order image last_one base built after → number + length row ≤ length after.pages
+    → HaveMetas size order image last_one number (map (λ (l : Laid). l.section) row)
+have_metas size order image last_one built after base beyond number [] are written is room = tt
+have_metas size order image last_one built after base beyond number (laid ∷ row) are written is room =
+    let k = laid.section.settings.kind in
+    let list = unlined_pairs laid.section.pairs in (
+      record {
+        first = laid.from;
+        bytes =
+            is.page_in number (omega (arith, room))
+            ∙ (written.0.bytes
+            ∙ (ap (λ o. meta_bytes o after.size number (length after.pages - 1) laid.meta) is.after_order
+            ∙ (ap (λ n. meta_bytes order n number (length after.pages - 1) laid.meta) is.after_size
+            ∙ (ap (λ n. meta_bytes order size number n laid.meta) is.last
+            ∙ (ap (meta_bytes order size number last_one) are.1.meta_is
+            ∙ (ap (λ n. meta_bytes order size number last_one (meta_for k (settings_in n built.order laid.section) list laid.from)) is.built_size
+            ∙ ap (λ o. meta_bytes order size number last_one (meta_for k (settings_in size o laid.section) list laid.from)) is.built_order))))));
+        laid_out =
+            subst (λ o. TreeIsIn k (settings_in size o laid.section) image list laid.from) is.built_order
+            (subst (λ n. TreeIsIn k (settings_in n built.order laid.section) image list laid.from) is.built_size
+            (are.1.tree image (is.has laid.from laid.beyond (above_base built base laid.from row are.2) are.1.holds.there)));
+      },
+      have_metas size order image last_one built after base laid.from (number + 1) row are.2 written.1 is (omega (arith, room)),
+    )
 
 -- that is the image of the sections
 pub named_filed : (size : ℕ) (order : Order) (sections : List Section) (empty one topped spaced built filled after : Built) (master : BtreeMeta)
@@ -119,10 +173,37 @@ named_filed size order sections empty one topped spaced built filled after maste
     record {
       sound = ap first_judgement sound.holds.sound;
       long = long;
+      first_is =
+          page_in 0 (omega (arith, is.top.pages.some))
+          ∙ (is.top.written.bytes
+          ∙ (ap (λ o. btree_bytes o after.size 0 (length after.pages - 1) master) after_order
+          ∙ (ap (λ n. btree_bytes order n 0 (length after.pages - 1) master) after_size
+          ∙ (ap (λ n. btree_bytes order size 0 n master) last
+          ∙ ap (btree_bytes order size 0 (last_page size sections)) master_at))));
+      names_laid_out =
+          subst (λ n. TreeIsIn Btree (settings_of_master size order) image (entries_from n sections) 1) first_is
+          (subst (TreeIsIn Btree (settings_of_master size order) image (entries_from first sections)) root_at
+          (subst (λ n. TreeIsIn Btree (settings_of_master n order) image (entries_from first sections) out.master_is.root) one_size
+          (subst (λ o. TreeIsIn Btree (settings_of_master one.size o) image (entries_from first sections) out.master_is.root) one_order
+          (out.master_is.tree image (subst (λ n. HasPagesOf topped (between n first) image) (sym one_page) has_top)))));
+      metas =
+          subst (λ n. HaveMetas size order image (last_page size sections) n sections) first_is
+          (subst (HaveMetas size order image (last_page size sections) first) out.databases.sections_are
+          (have_metas size order image (last_page size sections) built after base (length built.pages) first row laid written
+          (record {
+            after_size = after_size;
+            after_order = after_order;
+            built_size = built_size;
+            built_order = built_order;
+            last = last;
+            page_in = page_in;
+            has = λ from end low high. has_high from end (omega (arith, low, base_is, some)) low high;
+          })
+          (omega (arith, counts.0, base_is, grown, many.count))));
       databases =
           entries_name_databases size order first sections top tail image is.named some few refl joints_ok
           (head.tells.size ∙ after_size) (head.tells.order ∙ after_order) sound.holds sound.named;
-      unsorted = all_unsorted (file_of image) joints entries (databases (file_of image)) unsorted sound.named;
+      tables = all_built (file_of image) joints entries (databases (file_of image)) tables sound.named;
     }
   where
     out : IsLaidOut sections empty one topped spaced built master beyond metas
@@ -273,13 +354,13 @@ named_filed size order sections empty one topped spaced built filled after maste
     ]
 
     unsorted_in : (j : Joint) → Contains joints j → (g : File) → IsCounted g → IsLater j.part.pages (file_so_far built) g
-        → AreUnsorted g j.part.fields
+        → HasBuiltTable g j.part.fields
     unsorted_in j at g counted so_late = elim (member_cases top tail j at) [
-      | inl here ↦ subst (λ (k : Joint). AreUnsorted g k.part.fields) here tt
+      | inl here ↦ subst (λ (k : Joint). HasBuiltTable g k.part.fields) here tt
       | inr later ↦
           let of : IsOfRow built after base (length built.pages) first (length row) j = from_row j later in
-          subst (λ (k : Joint). AreUnsorted g k.part.fields) (sym of.is)
-          (of.stands.holds.unsorted g counted (subst (λ (k : Joint). IsLater k.part.pages (file_so_far built) g) of.is so_late))
+          subst (λ (k : Joint). HasBuiltTable g k.part.fields) (sym of.is)
+          (of.stands.holds.buckets g counted (subst (λ (k : Joint). IsLater k.part.pages (file_so_far built) g) of.is so_late))
     ]
 
     spelled : (j : Joint) → Contains joints j → IsSpelled after j
@@ -287,7 +368,7 @@ named_filed size order sections empty one topped spaced built filled after maste
       | inl here ↦
           subst (IsSpelled after) here
           (btrees_are_spelled after top master is.top.pages (omega (arith, is.top.pages.some)) refl spells
-          (ap (λ (m : BtreeMeta). m.free) out.master_is.meta_is))
+          (λ zero. ap (λ (m : BtreeMeta). m.free) out.master_is.meta_is))
       | inr later ↦
           let of : IsOfRow built after base (length built.pages) first (length row) j = from_row j later in
           subst (IsSpelled after) (sym of.is)
@@ -372,11 +453,55 @@ named_filed size order sections empty one topped spaced built filled after maste
     head : HasHead after image
     head = has_head after master image (record { pages = is.top.pages; spells = spells; image_is = is.image_is })
 
-    unsorted : (j : Joint) → Contains joints j → AreUnsorted (file_of image) j.part.fields
-    unsorted j at =
-        subst (λ g. AreUnsorted g j.part.fields)
+    tables : (j : Joint) → Contains joints j → HasBuiltTable (file_of image) j.part.fields
+    tables j at =
+        subst (λ g. HasBuiltTable g j.part.fields)
         (sym (read_back after master image (record { pages = is.top.pages; spells = spells; image_is = is.image_is })))
         (unsorted_in j at (file_so_far after) (counted_so_far after is.top.pages.some) (filed_later built after joints j filed at))
+
+    -- the pages of the image
+    file_is : file_of image ≡ file_so_far after
+    file_is = read_back after master image (record { pages = is.top.pages; spells = spells; image_is = is.image_is })
+
+    page_in : (p : ℕ) → p < length after.pages → page_bytes (head_of image) image p ≡ bytes_of after p
+    page_in p low = page_read after image (head_of image) p is.top.pages.whole is.image_is head.tells.size low
+
+    image_counted : IsCounted (file_of image)
+    image_counted = subst IsCounted (sym file_is) (counted_so_far after is.top.pages.some)
+
+    has_still : (from beyond : ℕ) → ((p : ℕ) → from ≤ p → p < beyond → (p < length built.pages) × (bytes_of after p ≡ bytes_of built p))
+        → HasPagesOf built (between from beyond) image
+    has_still from beyond same =
+        let stays = λ (p : ℕ) (at : between from beyond p ≡ true). let within = between_is from beyond p at in same p within.0 within.1 in
+        record {
+          counted = image_counted;
+          later =
+              subst (IsLater (between from beyond) (file_so_far built)) (sym file_is)
+              (later_in built after (between from beyond) (between from beyond) (file_so_far after) many.order (omega (arith, many.count)) (λ p at. at)
+              stays (later_self after (between from beyond)));
+          order = head.tells.order ∙ many.order;
+          same = λ p at there. page_in p (omega (arith, there, many.count)) ∙ (stays p at).1;
+        }
+
+    has_high : (from beyond : ℕ) → 1 ≤ from → base ≤ from → beyond ≤ length built.pages → HasPagesOf built (between from beyond) image
+    has_high from beyond above low high =
+        has_still from beyond
+        (λ p start end. (omega (arith, end, high), unchanged p (omega (arith, above, start)) (inr (omega (arith, low, start)))))
+
+    has_top : HasPagesOf topped (between 1 first) image
+    has_top =
+        has_before topped built 1 first image (omega arith) (kept_again topped spaced built out.added.kept out.databases.kept)
+        (has_still 1 first (λ p start end. (omega (arith, end, base_is, grown), unchanged p start (inl end))))
+
+    root_at : out.master_is.root ≡ 1
+    root_at = out.master_is.root_is ∙ one_page
+
+    master_at : master ≡ named_tree_meta (settings_of_master size order) 1
+    master_at =
+        out.master_is.meta_is
+        ∙ (ap (λ n. named_tree_meta (settings_of_master n one.order) out.master_is.root) one_size
+        ∙ (ap (λ o. named_tree_meta (settings_of_master size o) out.master_is.root) one_order
+        ∙ ap (named_tree_meta (settings_of_master size order)) root_at))
 
     summed : sum_by (section_pages built.size) (map (λ (l : Laid). l.section) row) ≡ sum_by (section_pages size) sections
     summed =
@@ -386,6 +511,9 @@ named_filed size order sections empty one topped spaced built filled after maste
     pages : length after.pages ≡ 1 + names_pages size sections + sum_by (section_pages size) sections
     pages =
         omega (arith, row_pages built base (length built.pages) row laid, summed, counts.0, base_is, first_is, many.count)
+
+    last : length after.pages - 1 ≡ last_page size sections
+    last = omega (arith, pages)
 
     long : length image ≡ (1 + names_pages size sections + sum_by (section_pages size) sections) * size
     long =

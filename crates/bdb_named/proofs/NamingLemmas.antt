@@ -19,8 +19,8 @@ use Rattle.bdb_format.specs.Numbers.{number as number_of, spelled}
 use Rattle.bdb_format.proofs.LessLemmas.{eq_same, less_trans, not_less_same}
 use Rattle.bdb_format.proofs.MemberLemmas.{first_member, later_member, member_cases, no_member}
 use Rattle.bdb_format.proofs.SpellingLemmas.{length-spelled, number-spelled}
-use Rattle.bdb_model.specs.declared.sections.Section.{Section}
-use Rattle.bdb_model.specs.Pairs.{listed}
+use Rattle.bdb_text_format.specs.declared.sections.Section.{Section}
+use Rattle.bdb_text_format.specs.Pairs.{listed}
 use Rattle.bdb_join.specs.Joining.{HoldsLists, IsMetaOf, Joint}
 use Rattle.bdb_join.specs.Masters.{AreNamesApart, Entry, IsDatabase}
 use Rattle.bdb_leaves.proofs.UnitLemmas.{ascends_later}

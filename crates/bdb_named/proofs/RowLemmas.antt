@@ -6,13 +6,13 @@ use Rattle.std.proofs.lemmas.Bool.{cases_lt}
 use Rattle.std.proofs.lemmas.List.Sums.{sum_by-cons}
 use Rattle.bdb_format.proofs.MemberLemmas.{first_member, later_member, member_cases, no_member}
 use Rattle.bdb_grove.proofs.ChainLemmas.{between_is, is_between}
-use Rattle.bdb_model.specs.declared.sections.Section.{Section}
+use Rattle.bdb_text_format.specs.declared.sections.Section.{Section}
 use Rattle.bdb_pack.specs.Built.{Built}
 use Rattle.bdb_join.specs.Joining.{IsInPartOf, IsMetaOf, Joint}
 use Rattle.bdb_count.specs.Need.{section_pages}
 use Rattle.bdb_named.specs.declared.metadata.DatabaseMeta.{DatabaseMeta}
 use Rattle.bdb_named.specs.Layout.{AreJointsFrom}
-use Rattle.bdb_named.specs.Standing.{AreLaid, IsLaid, Laid, part_of}
+use Rattle.bdb_named.specs.Standing.{AreLaid, IsDatabaseLaid, Laid, part_of}
 use Rattle.bdb_named.specs.Written.{AreWrittenFrom, IsWrittenOn}
 
 -- a database under its metadata page
@@ -60,7 +60,7 @@ pub record IsOfRow (built after : Built) (base beyond number count : ℕ) (joint
   pub is : joint ≡ joint_at place laid
   pub low : number ≤ place
   pub high : place < number + count
-  pub stands : IsLaid built laid
+  pub stands : IsDatabaseLaid built laid
   pub from : base ≤ laid.from
   pub within : laid.beyond ≤ beyond
   pub written : IsWrittenOn after place laid.meta

@@ -5,7 +5,7 @@ use Rattle.std.proofs.lemmas.Bool.{cases_lt}
 use Rattle.std.proofs.lemmas.List.{get_or_append_left, reverse-append}
 use Rattle.bdb_pack.proofs.ImageLemmas.{page_so_far}
 use Rattle.bdb_format.specs.Databases.{settings_of}
-use Rattle.bdb_format.specs.File.{File, page_at}
+use Rattle.bdb_format.specs.File.{File, file_of, page_at}
 use Rattle.bdb_format.specs.Lists.{ListKey}
 use Rattle.bdb_format.specs.Page.{Metadata}
 use Rattle.bdb_format.specs.Reading.{abstract_page, is_zero}
@@ -13,16 +13,18 @@ use Rattle.bdb_format.specs.Rows.{page_code}
 use Rattle.bdb_grove.specs.Growing.{IsLater, IsSamePage}
 use Rattle.bdb_grove.specs.Part.{between}
 use Rattle.bdb_grove.proofs.ChainLemmas.{between_is}
-use Rattle.bdb_model.specs.declared.sections.Section.{Section}
-use Rattle.bdb_model.specs.Pairs.{listed}
+use Rattle.bdb_text_format.specs.declared.sections.Section.{Section}
+use Rattle.bdb_text_format.specs.Pairs.{listed}
 use Rattle.bdb_pack.specs.Built.{Built, bytes_of, file_so_far, with_zeros}
 use Rattle.bdb_pack.proofs.AddedLemmas.{added_zero}
+use Rattle.bdb_leaves.specs.Layout.{HasPagesOf}
 use Rattle.bdb_leaves.specs.Leaves.{KeepsAll, KeepsBefore}
-use Rattle.bdb_need.specs.Need.{pairs_in}
+use Rattle.bdb_need.specs.Need.{unlined_pairs}
 use Rattle.bdb_count.specs.Need.{list_pages, sized}
 use Rattle.bdb_alone.specs.Settled.{own_settings}
 use Rattle.bdb_named.specs.declared.metadata.DatabaseMeta.{DatabaseMeta}
-use Rattle.bdb_named.specs.Standing.{AreAdded, AreBuilt, AreLaid, HoldsPart, IsLaid, IsSectionBuilt, Laid}
+use Rattle.bdb_named.specs.Standing.{AreAdded, AreDatabasesBuilt, AreLaid, HoldsPart, IsDatabaseLaid, IsSectionBuilt, Laid}
+use Rattle.bdb_named.specs.Metas.{TreeIsIn, meta_for, settings_in}
 use Rattle.bdb_named.specs.Written.{fields_of}
 
 -- Pages that are kept.
@@ -58,6 +60,17 @@ later_before old new from beyond g there kept later =
         ∙ (ap (λ o. abstract_page o (bytes_of new p)) kept.order
         ∙ (ap (abstract_page old.order) (kept.same p low) ∙ sym (page_so_far old p (omega (arith, low, there)))))
 
+-- an image that has the pages of which some were kept has those before
+pub has_before : (old new : Built) (from beyond : ℕ) (image : List ℕ) → beyond ≤ length old.pages → KeepsBefore beyond old new
+    → HasPagesOf new (between from beyond) image → HasPagesOf old (between from beyond) image
+has_before old new from beyond image there kept has =
+    record {
+      counted = has.counted;
+      later = later_before old new from beyond (file_of image) there kept has.later;
+      order = has.order ∙ kept.order;
+      same = λ p at low. has.same p at (omega (arith, low, kept.grows)) ∙ kept.same p (between_is from beyond p at).1;
+    }
+
 -- a part stands as long as its pages are kept
 pub holds_still : (old new : Built) (from beyond : ℕ) (fields : Metadata) (list : List (ListKey × List ℕ)) → KeepsBefore beyond old new
     → HoldsPart old from beyond fields list → HoldsPart new from beyond fields list
@@ -67,22 +80,32 @@ holds_still old new from beyond fields list kept holds =
       formed = λ p low high.
           ap (λ o. page_code o p (bytes_of new p)) kept.order ∙ (ap (page_code old.order p) (kept.same p high) ∙ holds.formed p low high);
       part = λ g counted later. holds.part g counted (later_before old new from beyond g holds.there kept later);
-      unsorted = λ g counted later. holds.unsorted g counted (later_before old new from beyond g holds.there kept later);
+      buckets = λ g counted later. holds.buckets g counted (later_before old new from beyond g holds.there kept later);
     }
 
-pub laid_still : (old new : Built) (laid : Laid) → KeepsBefore laid.beyond old new → IsLaid old laid → IsLaid new laid
+pub laid_still : (old new : Built) (laid : Laid) → KeepsBefore laid.beyond old new → IsDatabaseLaid old laid → IsDatabaseLaid new laid
 laid_still old new laid kept is =
     record {
       count =
           is.count
-          ∙ ap (λ size. laid.from + list_pages laid.section.settings.kind (sized size laid.section) (pairs_in laid.section.pairs)) (sym kept.size);
+          ∙ ap (λ size. laid.from + list_pages laid.section.settings.kind (sized size laid.section) (unlined_pairs laid.section.pairs)) (sym kept.size);
       counts = is.counts;
+      meta_is =
+          subst (λ o. laid.meta ≡ meta_for laid.section.settings.kind (settings_in new.size o laid.section) (unlined_pairs laid.section.pairs) laid.from)
+          (sym kept.order)
+          (subst (λ s. laid.meta ≡ meta_for laid.section.settings.kind (settings_in s old.order laid.section) (unlined_pairs laid.section.pairs) laid.from)
+          (sym kept.size) is.meta_is);
+      tree = λ image has.
+          subst (λ o. TreeIsIn laid.section.settings.kind (settings_in new.size o laid.section) image (unlined_pairs laid.section.pairs) laid.from)
+          (sym kept.order)
+          (subst (λ s. TreeIsIn laid.section.settings.kind (settings_in s old.order laid.section) image (unlined_pairs laid.section.pairs) laid.from)
+          (sym kept.size) (is.tree image (has_before old new laid.from laid.beyond image is.holds.there kept has)));
       says =
           subst (λ o. settings_of new.size o (fields_of laid.meta) ≡ own_settings laid.section.settings.kind new.size o laid.section.settings)
           (sym kept.order)
           (subst (λ s. settings_of s old.order (fields_of laid.meta) ≡ own_settings laid.section.settings.kind s old.order laid.section.settings)
           (sym kept.size) is.says);
-      holds = holds_still old new laid.from laid.beyond (fields_of laid.meta) (listed (pairs_in laid.section.pairs)) kept is.holds;
+      holds = holds_still old new laid.from laid.beyond (fields_of laid.meta) (listed (unlined_pairs laid.section.pairs)) kept is.holds;
       spelled = is.spelled;
     }
 
@@ -101,7 +124,7 @@ all_still old new base beyond (laid ∷ row) kept are =
 
 -- one more section before the others
 pub built_more : (sections : List Section) (section : Section) (old now new : Built) (metas : List DatabaseMeta) (meta : DatabaseMeta)
-    → AreBuilt sections old now metas → IsSectionBuilt section now new meta → AreBuilt (section ∷ sections) old new (metas ++ (meta ∷ []))
+    → AreDatabasesBuilt sections old now metas → IsSectionBuilt section now new meta → AreDatabasesBuilt (section ∷ sections) old new (metas ++ (meta ∷ []))
 built_more sections section old now new metas meta are is =
     record {
       kept = kept_again old now new are.kept is.kept;

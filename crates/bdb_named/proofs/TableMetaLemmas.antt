@@ -121,5 +121,5 @@ tables_are_spelled built joint settings first bits elements pages above there so
     record {
       says = table_page built.order page legal reads.type ∙ (ap (λ m. Meta (HashFields m)) fields ∙ sym (ap (λ f. Meta f) is));
       formed = table_accepted settings (head_for built) joint.meta first page bits meta.flags table;
-      no_free = ap free_of is;
+      no_free = λ zero. ap free_of is;
     }

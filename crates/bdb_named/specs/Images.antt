@@ -2,25 +2,28 @@
 -- "Stage 7, the master".
 use Rattle.std.specs.Prelude.{◌≡◌, ◌⊎◌, ℕ, ◌+◌, ◌*◌, true, List, length, map, replicate, Some, None}
 use Rattle.std.specs.List.{All, AllZip, sum_by}
-use Rattle.bdb_format.specs.declared.kinds.Kind.TheVariants.{Hash}
+use Rattle.bdb_format.specs.declared.kinds.Kind.TheVariants.{Btree, Hash}
 use Rattle.bdb_format.specs.declared.kinds.Order.{Order}
 use Rattle.bdb_format.specs.declared.settings.Settings.{Settings}
 use Rattle.bdb_format.specs.ContentRows.{ascends}
 use Rattle.bdb_format.specs.Databases.{Database, databases, settings_of}
-use Rattle.bdb_format.specs.File.{file_of}
+use Rattle.bdb_format.specs.File.{file_of, page_bytes}
 use Rattle.bdb_format.specs.HeadOf.{head_of}
 use Rattle.bdb_format.specs.Lists.{list_of}
+use Rattle.bdb_format.specs.Spelling.{btree_bytes}
 use Rattle.bdb_format.specs.Verdict.{verdict_of}
-use Rattle.bdb_model.specs.declared.list.Pair.{Pair}
-use Rattle.bdb_model.specs.declared.pairs.Key.TheVariants.{Bytes}
-use Rattle.bdb_model.specs.declared.sections.Section.{Section}
-use Rattle.bdb_model.specs.Pairs.{listed}
+use Rattle.bdb_text_format.specs.declared.list.Pair.{Pair}
+use Rattle.bdb_text_format.specs.declared.pairs.Key.TheVariants.{Bytes}
+use Rattle.bdb_text_format.specs.declared.sections.Section.{Section}
+use Rattle.bdb_text_format.specs.Pairs.{listed}
 use Rattle.bdb_leaves.specs.Runs.{IsShort}
-use Rattle.bdb_buckets.specs.Tables.{AreUnsorted}
-use Rattle.bdb_need.specs.Need.{pairs_in, tree_pages}
+use Rattle.bdb_buckets.specs.Tables.{HasBuiltTable}
+use Rattle.bdb_need.specs.Need.{unlined_pairs, tree_pages}
 use Rattle.bdb_count.specs.Need.{IsListOf, master_settings, name_in, section_pages, sized}
 use Rattle.bdb_alone.specs.Settled.{own_settings}
 use Rattle.bdb_alone.specs.Trees.{IsTreeSettings}
+use Rattle.bdb_named.specs.Layout.{entries_from, named_tree_meta, settings_of_master}
+use Rattle.bdb_named.specs.Metas.{HaveMetas, TreeIsIn}
 
 -- the settings of a section are those of a tree or a hash that don't go against each other, in a file of this page size
 abbrev pub AreNamedSettings : Settings → Type 0
@@ -32,7 +35,7 @@ pub record IsNamed (size : ℕ) (section : Section) : Type 0 where
   pub name_is : section.name ≡ Some name
   pub short : IsShort name
   pub settings : AreNamedSettings (sized size section)
-  pub list : IsListOf section.settings.kind (sized size section) (pairs_in section.pairs)
+  pub list : IsListOf section.settings.kind (sized size section) (unlined_pairs section.pairs)
 
 -- sections with names, in the byte order of these, none twice
 pub record AreNamed (size : ℕ) (sections : List Section) : Type 0 where
@@ -51,16 +54,28 @@ pub record IsDatabaseOf (size : ℕ) (order : Order) (image : List ℕ) (section
   pub name : database.name ≡ section.name
   pub settings_are : settings_of (head_of image).page_size (head_of image).order database.fields
       ≡ own_settings section.settings.kind size order section.settings
-  pub list : list_of (file_of image) database.fields ≡ listed (pairs_in section.pairs)
+  pub list : list_of (file_of image) database.fields ≡ listed (unlined_pairs section.pairs)
 
--- the buckets of each hash of a file are unsorted
-abbrev pub HasUnsortedTables : List ℕ → Type 0
-HasUnsortedTables image = All (λ (database : Database). AreUnsorted (file_of image) database.fields) (databases (file_of image))
+-- the buckets of each hash of a file are as built: unsorted, and trees of data say how many data there are
+abbrev pub HasBuiltTables : List ℕ → Type 0
+HasBuiltTables image = All (λ (database : Database). HasBuiltTable (file_of image) database.fields) (databases (file_of image))
+
+-- the last page of the image of sections, and the metadata of its master as page 0 spells it: its root is page 1
+abbrev pub last_page : ℕ → List Section → ℕ
+last_page size sections = names_pages size sections + sum_by (section_pages size) sections
+
+abbrev pub master_first : ℕ → Order → List Section → List ℕ
+master_first size order sections = btree_bytes order size 0 (last_page size sections) (named_tree_meta (settings_of_master size order) 1)
 
 -- A sound image of sections under their names: it has the pages of the master and its metadata, those of each section and its metadata, and the
--- databases of the sections in the order of their names. Buckets are unsorted.
+-- databases of the sections in the order of their names. Buckets are as built.
 pub record IsNamedImage (size : ℕ) (order : Order) (sections : List Section) (image : List ℕ) : Type 0 where
   pub sound : verdict_of image ≡ None
   pub long : length image ≡ (1 + names_pages size sections + sum_by (section_pages size) sections) * size
+  -- page 0 has just these bytes, and the names are laid out on the tree under page 1
+  pub first_is : page_bytes (head_of image) image 0 ≡ master_first size order sections
+  pub names_laid_out : TreeIsIn Btree (settings_of_master size order) image (entries_from (1 + names_pages size sections) sections) 1
+  -- behind that tree the metadata pages follow each other
+  pub metas : HaveMetas size order image (last_page size sections) (1 + names_pages size sections) sections
   pub databases : AllZip (IsDatabaseOf size order image) sections (databases (file_of image))
-  pub unsorted : HasUnsortedTables image
+  pub tables : HasBuiltTables image

@@ -13,8 +13,8 @@ use Rattle.bdb_format.specs.Page.{BtreeFields, HashFields}
 use Rattle.bdb_format.specs.Reading.{hash_fields}
 use Rattle.bdb_format.specs.Spelling.{table_bytes}
 use Rattle.bdb_format.specs.Table.{first_row}
-use Rattle.bdb_model.specs.declared.sections.Section.{Section}
-use Rattle.bdb_model.specs.Pairs.{listed}
+use Rattle.bdb_text_format.specs.declared.sections.Section.{Section}
+use Rattle.bdb_text_format.specs.Pairs.{listed}
 use Rattle.bdb_meta.specs.RowGroups.{flag_rows}
 use Rattle.bdb_grove.specs.Part.{IsPart}
 use Rattle.bdb_pack.specs.Built.{Built, bytes_of}
@@ -22,7 +22,7 @@ use Rattle.bdb_join.specs.Filed.{IsSpelled}
 use Rattle.bdb_join.specs.Joining.{HoldsLists, Joint}
 use Rattle.bdb_join.specs.Masters.{IsDatabase, NamesMetas}
 use Rattle.bdb_join.specs.Written.{AreLegal}
-use Rattle.bdb_mktree.specs.Lists.{IsListFor}
+use Rattle.bdb_mktree.specs.Lists.{IsTreeList}
 use Rattle.bdb_buckets.specs.Tables.{table_meta}
 use Rattle.bdb_need.specs.Need.{tree_pages}
 use Rattle.bdb_alone.specs.Settled.{file_settings}
@@ -63,7 +63,7 @@ TreesHaveNames =
 abbrev pub EntriesAreListed : Type 0
 EntriesAreListed =
     (size : ℕ) (order : Order) (number : ℕ) (sections : List Section) → AreNamed size sections
-    → IsListFor (settings_of_master size order) (entries_from number sections)
+    → IsTreeList (settings_of_master size order) (entries_from number sections)
 
 -- how many pages its tree has doesn't depend on the numbers in it
 abbrev pub EntriesTakePages : Type 0

@@ -8,12 +8,12 @@ use Rattle.bdb_format.specs.declared.metadata.HashMeta.{HashMeta}
 use Rattle.bdb_format.specs.declared.settings.Settings.{Settings}
 use Rattle.bdb_format.specs.Databases.{settings_of}
 use Rattle.bdb_format.specs.Numbers.{spelled}
-use Rattle.bdb_model.specs.declared.list.Pair.{Pair}
-use Rattle.bdb_model.specs.declared.pairs.Key.TheVariants.{Bytes}
-use Rattle.bdb_model.specs.declared.sections.Section.{Section}
-use Rattle.bdb_model.specs.Pairs.{listed}
+use Rattle.bdb_text_format.specs.declared.list.Pair.{Pair}
+use Rattle.bdb_text_format.specs.declared.pairs.Key.TheVariants.{Bytes}
+use Rattle.bdb_text_format.specs.declared.sections.Section.{Section}
+use Rattle.bdb_text_format.specs.Pairs.{listed}
 use Rattle.bdb_join.specs.Joining.{Joint}
-use Rattle.bdb_need.specs.Need.{pairs_in}
+use Rattle.bdb_need.specs.Need.{unlined_pairs}
 use Rattle.bdb_count.specs.Need.{master_settings, name_in}
 use Rattle.bdb_alone.specs.Settled.{flags_of, own_settings, tree_meta}
 
@@ -43,7 +43,7 @@ entries_from number (section ∷ sections) = entry_of number section ∷ entries
 pub record IsJointOf (size : ℕ) (order : Order) (number : ℕ) (section : Section) (joint : Joint) : Type 0 where
   pub meta : joint.meta ≡ number
   pub settings : settings_of size order joint.part.fields ≡ own_settings section.settings.kind size order section.settings
-  pub list : joint.part.list ≡ listed (pairs_in section.pairs)
+  pub list : joint.part.list ≡ listed (unlined_pairs section.pairs)
 
 -- those of sections whose metadata pages follow each other from a page on
 abbrev pub AreJointsFrom : ℕ → Order → ℕ → List Section → List Joint → Type 0

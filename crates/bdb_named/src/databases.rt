@@ -2,20 +2,20 @@ ghost use Rattle.std.specs.Prelude.{◌≡◌, ◌+◌, ◌≤◌, ◌<◌, ◌^
 ghost use Rattle.std.specs.List.{All};
 ghost use Rattle.bdb_format.specs.declared.kinds.Kind.TheVariants.{Hash as HashKind};
 ghost use Rattle.bdb_format.specs.HeadOf.{is_page_size};
-ghost use Rattle.bdb_mktree.specs.Lists.{IsListFor};
+ghost use Rattle.bdb_mktree.specs.Lists.{IsTreeList};
 ghost use Rattle.bdb_mkhash.specs.Table.{IsTableList};
 ghost use Rattle.bdb_alone.specs.Settled.{file_settings, own_settings};
 ghost use Rattle.bdb_alone.specs.Trees.{IsTreeSettings};
 ghost use Rattle.bdb_named.specs.Images.{IsNamed};
-ghost use Rattle.bdb_named.specs.Standing.{AreAdded, AreBuilt, IsDatabaseBuilt, IsSectionBuilt};
+ghost use Rattle.bdb_named.specs.Standing.{AreAdded, AreDatabasesBuilt, IsDatabaseBuilt, IsSectionBuilt};
 
 use crate::metadata::{DatabaseMeta, named_table_meta, named_tree_meta};
 use bdb_alone::{element_count, file_settings, listed_pairs};
 use bdb_format::{Kind, Order, Settings};
 use bdb_mkhash::build_table;
 use bdb_mktree::build_tree;
-use bdb_model::{PairList, Section, Sections};
 use bdb_pack::Pages;
+use bdb_text_format::{PairList, Section, Sections};
 use std::alloc::{AllocError, Global};
 
 /// Adds so many zero pages at the end.
@@ -53,7 +53,7 @@ fn build_named_tree(
     requires size { pages.old.size ≡ settings.now.page_size }
     requires order { pages.old.order ≡ settings.now.order }
     requires some { 1 ≤ length pages.old.pages }
-    requires list { IsListFor settings.now list.now }
+    requires list { IsTreeList settings.now list.now }
     ensures { IfOk result (λ meta. IsDatabaseBuilt settings.now list.now pages.old pages.new meta) }
 {
     let root = build_tree(alloc, pages, settings, list)?;
@@ -115,7 +115,7 @@ pub(crate) fn build_databases(
     requires size { pages.old.size ≡ page_size }
     requires some { 1 ≤ length pages.old.pages }
     requires each { All (IsNamed page_size) sections }
-    ensures { IfOk result (λ metas. AreBuilt sections pages.old pages.new metas.items) }
+    ensures { IfOk result (λ metas. AreDatabasesBuilt sections pages.old pages.new metas.items) }
 {
     let mut sections = sections;
     let mut metas = Vec::with_capacity(alloc, sections.len())?;

@@ -7,8 +7,8 @@ use crate::master::build_master;
 use crate::metadata::{DatabaseMeta, put_meta, put_metas};
 use bdb_format::Order;
 use bdb_io::Image;
-use bdb_model::Sections;
 use bdb_pack::Pages;
+use bdb_text_format::Sections;
 use std::alloc::{AllocError, Global};
 
 /// The image of sections under their names, in a file of this page size and order: page 0 is the metadata of the master, its tree

@@ -3,7 +3,7 @@ ghost use Rattle.bdb_format.specs.declared.kinds.Order.TheVariants.{Big};
 ghost use Rattle.bdb_format.specs.HeadOf.{is_page_size};
 ghost use Rattle.bdb_format.specs.Numbers.{spelled};
 ghost use Rattle.bdb_count.specs.Need.{name_in};
-ghost use Rattle.bdb_need.specs.Need.{pairs_in, unlined};
+ghost use Rattle.bdb_need.specs.Need.{unlined_pairs, unlined};
 ghost use Rattle.bdb_named.specs.Images.{AreNamed, names_pages};
 ghost use Rattle.bdb_named.specs.Layout.{entries_from, entry_of, settings_of_master};
 ghost use Rattle.bdb_named.specs.Standing.{IsMasterBuilt};
@@ -12,9 +12,9 @@ use crate::metadata::named_tree_meta;
 use bdb_alone::{listed_pairs, plain_settings};
 use bdb_format::{BtreeMeta, Bytes, Kind, Order, Settings};
 use bdb_mktree::build_tree;
-use bdb_model::{Key, Section, TextPair, TextPairs};
 use bdb_need::tree_pages;
 use bdb_pack::Pages;
+use bdb_text_format::{Key, Section, TextPair, TextPairs};
 use std::alloc::{AllocError, Global};
 
 // The settings of the master.
@@ -58,7 +58,7 @@ fn entry_of(alloc: Global, number: u32, section: &Section) -> Result<TextPair, A
 
 // The pairs of sections whose metadata pages follow each other from a page on.
 fn entries_from(alloc: Global, first: u32, sections: &[Section]) -> Result<TextPairs, AllocError>
-    ensures { IfOk result (λ pairs. pairs_in pairs ≡ entries_from first sections.now) }
+    ensures { IfOk result (λ pairs. unlined_pairs pairs ≡ entries_from first sections.now) }
 {
     let mut pairs = TextPairs::new(alloc);
     let mut number = first;

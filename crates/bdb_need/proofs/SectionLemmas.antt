@@ -1,32 +1,86 @@
 -- What lists in their order give to the calls that count.
-use Rattle.std.proofs.Common.{◌≡◌, List, [], ◌∷◌, subst, inl, inr}
+use Rattle.std.proofs.Common.{◌≡◌, ℕ, ◌-◌, Bool, true, false, List, [], ◌∷◌, length, refl, ◌∙◌, ap, subst, arith, inl, inr}
+use Rattle.std.specs.Prelude.{◌&&◌}
+use Rattle.std.proofs.lemmas.List.{append-nil}
+use Rattle.std.proofs.Math.Bool.{and-false}
 use Rattle.std.specs.List.{All}
 use Rattle.std.proofs.lemmas.List.Elements.{All-cons, All-head, All-nil, All-tail}
 use Rattle.bdb_format.specs.declared.kinds.Kind.TheVariants.{Btree, Recno}
 use Rattle.bdb_format.specs.declared.settings.Settings.{Settings}
-use Rattle.bdb_model.specs.declared.pairs.TextPair.{TextPair}
+use Rattle.bdb_text_format.specs.declared.list.Pair.{Pair}
+use Rattle.bdb_text_format.specs.declared.pairs.TextPair.{TextPair}
+use Rattle.bdb_text_format.specs.Pairs.{AscendFrom}
 use Rattle.bdb_leaves.specs.Runs.{IsShort}
-use Rattle.bdb_mktree.specs.Lists.{AreKeysOf, AscendFrom, IsListFor, IsPairFor, keyed_units, units_in}
-use Rattle.bdb_mktree.specs.Units.{IsShortUnit}
+use Rattle.bdb_mktree.specs.Lists.{AreKeysOf, HasBytes, IsTreeList, IsPairFor, keyed_units, units_in}
+use Rattle.bdb_mktree.specs.Units.{IsShortUnit, IsTreeKind}
+use Rattle.bdb_text_format.specs.Written.{holds_records}
+use Rattle.bdb_settle.specs.Loaded.{filled_pair, filled_pairs, filled_value, has_length}
+use Rattle.bdb_settle.proofs.FillingLemmas.{as_they_are, value_as_is}
 use Rattle.bdb_mktree.proofs.OrderLemmas.{keys_fit, units_fit}
 use Rattle.bdb_need.specs.Counting.{values_in}
-use Rattle.bdb_need.specs.Need.{pairs_in, unlined}
+use Rattle.bdb_need.specs.Need.{unlined_pairs, unlined}
 
-pub short_units : (settings : Settings) (pairs : List TextPair) → settings.kind ≡ Btree → IsListFor settings (pairs_in pairs)
-    → All IsShortUnit (keyed_units (pairs_in pairs))
+pub short_units : (settings : Settings) (pairs : List TextPair) → settings.kind ≡ Btree → IsTreeList settings (unlined_pairs pairs)
+    → All IsShortUnit (keyed_units (unlined_pairs pairs))
 short_units settings pairs btree list =
-    subst (λ k. All IsShortUnit (units_in k (pairs_in pairs))) btree (units_fit settings (pairs_in pairs) (inl btree) list).short
+    subst (λ k. All IsShortUnit (units_in k (unlined_pairs pairs))) btree (units_fit settings (unlined_pairs pairs) (inl btree) list).short
 
-pub numbers_ascend : (settings : Settings) (pairs : List TextPair) → settings.kind ≡ Recno → IsListFor settings (pairs_in pairs)
-    → AscendFrom 1 (pairs_in pairs)
+pub keys_have_bytes : (settings : Settings) (pairs : List TextPair) → settings.kind ≡ Btree → IsTreeList settings (unlined_pairs pairs)
+    → All (λ (pair : Pair). HasBytes pair.key) (unlined_pairs pairs)
+keys_have_bytes settings pairs btree list =
+    subst (λ k. AreKeysOf k (unlined_pairs pairs)) btree (keys_fit settings (unlined_pairs pairs) (inl btree) list)
+
+pub numbers_ascend : (settings : Settings) (pairs : List TextPair) → settings.kind ≡ Recno → IsTreeList settings (unlined_pairs pairs)
+    → AscendFrom 1 (unlined_pairs pairs)
 numbers_ascend settings pairs recno list =
-    subst (λ k. AreKeysOf k (pairs_in pairs)) recno (keys_fit settings (pairs_in pairs) (inr recno) list)
+    subst (λ k. AreKeysOf k (unlined_pairs pairs)) recno (keys_fit settings (unlined_pairs pairs) (inr recno) list)
 
-short_pairs : (settings : Settings) (pairs : List TextPair) → All (IsPairFor settings) (pairs_in pairs) → All IsShort (values_in pairs)
+short_pairs : (settings : Settings) (pairs : List TextPair) → All (IsPairFor settings) (unlined_pairs pairs) → All IsShort (values_in pairs)
 short_pairs settings [] all = All-nil IsShort
 short_pairs settings (pair ∷ pairs) all =
-    All-cons IsShort pair.value (values_in pairs) (All-head (IsPairFor settings) (unlined pair) (pairs_in pairs) all).short
-    (short_pairs settings pairs (All-tail (IsPairFor settings) (unlined pair) (pairs_in pairs) all))
+    All-cons IsShort pair.value (values_in pairs) (All-head (IsPairFor settings) (unlined pair) (unlined_pairs pairs) all).short
+    (short_pairs settings pairs (All-tail (IsPairFor settings) (unlined pair) (unlined_pairs pairs) all))
 
-pub short_values : (settings : Settings) (pairs : List TextPair) → IsListFor settings (pairs_in pairs) → All IsShort (values_in pairs)
+pub short_values : (settings : Settings) (pairs : List TextPair) → IsTreeList settings (unlined_pairs pairs) → All IsShort (values_in pairs)
 short_values settings pairs list = short_pairs settings pairs list.each
+
+-- Lists whose records have their length.
+
+-- keys have no records
+pub keyed_as_is : (settings : Settings) (pairs : List TextPair) → settings.kind ≡ Btree → filled_pairs settings pairs ≡ pairs
+keyed_as_is settings pairs btree =
+    as_they_are settings pairs (ap (λ k. settings.fixed && holds_records k) btree ∙ and-false settings.fixed)
+
+value_before : (settings : Settings) (value : List ℕ) → length value ≡ settings.re_len → (b : Bool) → has_length settings ≡ b → filled_value settings value ≡ value
+value_before settings value long false is = value_as_is settings value is
+value_before settings value long true is =
+    let none : settings.re_len - length value ≡ 0 = omega (arith, long) in
+    rw (is, none) (append-nil value)
+
+fixed_is : (a b : Bool) → (a && b) ≡ true → a ≡ true
+fixed_is true b is = refl
+fixed_is false b is = absurd cc
+
+pair_before : (settings : Settings) (pair : TextPair) (b : Bool) → has_length settings ≡ b → IsTreeKind settings.kind → IsPairFor settings (unlined pair)
+    → filled_pair settings pair ≡ pair
+pair_before settings pair false is kind fits =
+    ap (λ (value : List ℕ). record { key = pair.key; value = value; line = pair.line }) (value_as_is settings pair.value is)
+pair_before settings pair true is (inl btree) fits =
+    ap (λ (value : List ℕ). record { key = pair.key; value = value; line = pair.line })
+    (value_as_is settings pair.value (ap (λ k. settings.fixed && holds_records k) btree ∙ and-false settings.fixed))
+pair_before settings pair true is (inr recno) fits =
+    ap (λ (value : List ℕ). record { key = pair.key; value = value; line = pair.line })
+    (value_before settings pair.value (fits.long recno (fixed_is settings.fixed (holds_records settings.kind) is)) true is)
+
+pairs_before : (settings : Settings) (pairs : List TextPair) → IsTreeKind settings.kind → All (IsPairFor settings) (unlined_pairs pairs)
+    → filled_pairs settings pairs ≡ pairs
+pairs_before settings [] kind all = refl
+pairs_before settings (pair ∷ pairs) kind all =
+    ap (λ p. p ∷ filled_pairs settings pairs)
+    (pair_before settings pair (has_length settings) refl kind (All-head (IsPairFor settings) (unlined pair) (unlined_pairs pairs) all))
+    ∙ ap (λ ps. pair ∷ ps) (pairs_before settings pairs kind (All-tail (IsPairFor settings) (unlined pair) (unlined_pairs pairs) all))
+
+-- a list in its order is filled up already
+pub filled_before : (settings : Settings) (pairs : List TextPair) → IsTreeKind settings.kind → IsTreeList settings (unlined_pairs pairs)
+    → filled_pairs settings pairs ≡ pairs
+filled_before settings pairs kind list = pairs_before settings pairs kind list.each

@@ -1,8 +1,9 @@
 -- Pages that are counted while things are put on them. Source: docs/FORMAT.md, "Built trees".
-use Rattle.std.specs.Prelude.{◌≡◌, ℕ, ◌+◌, ◌≤◌, false, List, [], ◌++◌, length, map}
+use Rattle.std.specs.Prelude.{◌≡◌, ℕ, ◌+◌, ◌-◌, ◌/◌, ◌≤◌, nat_le, if◌then◌else◌, false, List, [], ◌++◌, length, map}
+use Rattle.bdb_format.specs.Numbers.{pad4}
 use Rattle.bdb_leaves.specs.Spread.{spread_on}
-use Rattle.bdb_leaves.specs.Units.{EntryUnit, TreeUnit}
-use Rattle.bdb_model.specs.declared.pairs.TextPair.{TextPair}
+use Rattle.bdb_leaves.specs.Units.{EntryUnit, TreeUnit, page_room}
+use Rattle.bdb_text_format.specs.declared.pairs.TextPair.{TextPair}
 use Rattle.bdb_need.specs.declared.open_page.OpenPage.{OpenPage}
 
 -- how many pages things need that take so much, where the open page has so many bytes left
@@ -22,3 +23,13 @@ values_in pairs = map (λ (pair : TextPair). pair.value) pairs
 -- the units of the tree of a key's data
 abbrev pub data_units : List (List ℕ) → List TreeUnit
 data_units values = map (λ value. EntryUnit value false) values
+
+-- What a value takes, by its length alone.
+
+-- the bytes of its item on a leaf
+abbrev pub length_cost : ℕ → ℕ → ℕ
+length_cost size n = if nat_le n (size / 8) then pad4 (3 + n) else 12
+
+-- the pages of its chain
+abbrev pub length_chain : ℕ → ℕ → ℕ
+length_chain size n = if nat_le n (size / 8) then 0 else (n + page_room size - 1) / page_room size

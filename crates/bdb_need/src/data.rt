@@ -7,10 +7,10 @@ ghost use Rattle.bdb_leaves.specs.Units.{chain_pages};
 ghost use Rattle.bdb_leaves.specs.declared.leaf_type.LeafType.TheVariants.{Records, SortedData};
 ghost use Rattle.bdb_need.specs.Counting.{data_units, values_in};
 
-use crate::costs::{chain_pages, item_cost, page_room, value_cost};
+use crate::costs::{chain_pages, key_item_cost, page_room, value_cost};
 use crate::keyed_leaves::KeyedLeaves;
 use crate::open_page::OpenPage;
-use bdb_model::TextPair;
+use bdb_text_format::TextPair;
 use std::alloc::{AllocError, Global};
 
 /// The pages of the chains of data.
@@ -49,7 +49,7 @@ fn sorted_pages(alloc: Global, size: usize, pairs: &[TextPair]) -> Result<u128, 
     let mut leaves = KeyedLeaves::new(alloc, page_room(size));
     for pair in pairs {
         let value = pair.value.as_slice();
-        leaves.put(2 + value_cost(size, value), item_cost(size, value))?;
+        leaves.put(2 + value_cost(size, value), key_item_cost(size, value))?;
     }
     Ok(leaves.tree_pages())
 }

@@ -8,13 +8,13 @@ ghost use Rattle.bdb_leaves.specs.declared.leaf_type.LeafType.TheVariants.{Pairs
 ghost use Rattle.bdb_mktree.specs.Lists.{HasBytes, keyed_units};
 ghost use Rattle.bdb_mktree.specs.Units.{IsShortUnit};
 ghost use Rattle.bdb_need.specs.Counting.{values_in};
-ghost use Rattle.bdb_need.specs.Need.{pairs_in};
+ghost use Rattle.bdb_need.specs.Need.{unlined_pairs};
 
-use crate::costs::{chain_pages, item_cost, page_room, value_cost};
+use crate::costs::{chain_pages, key_item_cost, page_room, value_cost};
 use crate::data::{data_chains, data_cost, data_pages};
 use crate::keyed_leaves::KeyedLeaves;
 use crate::runs::{Run, run_at};
-use bdb_model::TextPair;
+use bdb_text_format::TextPair;
 use std::alloc::{AllocError, Global};
 
 /// What a key with its data takes of its leaf.
@@ -79,9 +79,9 @@ pub(crate) fn keyed_pages(
     pairs: &[TextPair],
 ) -> Result<u128, AllocError>
     requires legal { IsTrue (is_page_size size) }
-    requires keys { All (λ pair. HasBytes pair.key) (pairs_in pairs.now) }
-    requires short { All IsShortUnit (keyed_units (pairs_in pairs.now)) }
-    ensures pages { IfOk result (λ pages. pages ≡ tree_size Pairs size sorted (keyed_units (pairs_in pairs.now))) }
+    requires keys { All (λ pair. HasBytes pair.key) (unlined_pairs pairs.now) }
+    requires short { All IsShortUnit (keyed_units (unlined_pairs pairs.now)) }
+    ensures pages { IfOk result (λ pages. pages ≡ tree_size Pairs size sorted (keyed_units (unlined_pairs pairs.now))) }
     ensures few { IfOk result (λ pages. pages < 2 ^ 100) }
 {
     let mut leaves = KeyedLeaves::new(alloc, page_room(size));
@@ -90,7 +90,7 @@ pub(crate) fn keyed_pages(
     while start < pairs.len() {
         let run = run_at(pairs, start);
         let taken = run.taken(size);
-        leaves.put(taken.cost, item_cost(size, run.key))?;
+        leaves.put(taken.cost, key_item_cost(size, run.key))?;
         own += run.own_pages(alloc, size, sorted, taken.has_tree)?;
         start += run.pairs.len();
     }

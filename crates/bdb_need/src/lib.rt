@@ -14,4 +14,4 @@ mod sections;
 pub use costs::chain_pages;
 pub use data::{data_chains, data_pages};
 pub use runs::{Run, run_at};
-pub use sections::tree_pages;
+pub use sections::{filled_tree_pages, tree_pages};

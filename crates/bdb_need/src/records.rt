@@ -4,20 +4,24 @@ ghost use Rattle.bdb_format.specs.HeadOf.{is_page_size};
 ghost use Rattle.bdb_leaves.specs.Runs.{IsShort};
 ghost use Rattle.bdb_leaves.specs.Spread.{tree_size};
 ghost use Rattle.bdb_leaves.specs.declared.leaf_type.LeafType.TheVariants.{Records};
-ghost use Rattle.bdb_mktree.specs.Lists.{AscendFrom, number_in, record_units};
+ghost use Rattle.bdb_text_format.specs.Pairs.{AscendFrom, number_of};
+ghost use Rattle.bdb_mktree.specs.Lists.{record_units};
 ghost use Rattle.bdb_need.specs.Counting.{values_in};
-ghost use Rattle.bdb_need.specs.Need.{pairs_in};
+ghost use Rattle.bdb_need.specs.Need.{unlined_pairs};
+ghost use Rattle.bdb_settle.specs.Loaded.{filled_pairs};
 
-use crate::costs::{chain_pages, page_room, value_cost};
+use crate::costs::{length_chain, length_cost, page_room};
 use crate::open_page::OpenPage;
-use bdb_model::{Key, TextPair};
+use bdb_format::Settings;
+use bdb_settle::filled_len;
+use bdb_text_format::{Key, TextPair};
 
 // What a missing record takes of a leaf: an entry, and a deleted item without bytes.
 const MISSING_COST: usize = 6;
 
 // The number of a record.
 fn number_of(key: &Key) -> u64
-    ensures number { result ≡ number_in key.now }
+    ensures number { result ≡ number_of key.now }
     ensures few { result < 2 ^ 32 }
 {
     match key {
@@ -26,12 +30,12 @@ fn number_of(key: &Key) -> u64
     }
 }
 
-/// The pages of a recno with these records. Those that are missing before one are counted at once.
-pub(crate) fn record_pages(size: usize, pairs: &[TextPair]) -> u128
+/// The pages of a recno with these records, once they are filled up. Those that are missing before one are counted at once.
+pub(crate) fn record_pages(size: usize, settings: &Settings, pairs: &[TextPair]) -> u128
     requires legal { IsTrue (is_page_size size) }
-    requires ascend { AscendFrom 1 (pairs_in pairs.now) }
-    requires short { All IsShort (values_in pairs.now) }
-    ensures pages { (sorted : Bool) → result ≡ tree_size Records size sorted (record_units 1 (pairs_in pairs.now)) }
+    requires ascend { AscendFrom 1 (unlined_pairs (filled_pairs settings.now pairs.now)) }
+    requires short { All IsShort (values_in (filled_pairs settings.now pairs.now)) }
+    ensures pages { (sorted : Bool) → result ≡ tree_size Records size sorted (record_units 1 (unlined_pairs (filled_pairs settings.now pairs.now))) }
     ensures few { result < 2 ^ 100 }
 {
     let mut open = OpenPage::new(page_room(size));
@@ -39,10 +43,10 @@ pub(crate) fn record_pages(size: usize, pairs: &[TextPair]) -> u128
     let mut next: u64 = 1;
     for pair in pairs {
         let number = number_of(&pair.key);
-        let value = pair.value.as_slice();
+        let len = filled_len(settings, &pair.value);
         open.put_many(number - next, MISSING_COST);
-        open.put(2 + value_cost(size, value));
-        chains += chain_pages(size, value);
+        open.put(2 + length_cost(size, len));
+        chains += length_chain(size, len);
         next = number + 1;
     }
     chains + open.tree_pages()

@@ -2,11 +2,11 @@ ghost use Rattle.std.specs.Prelude.{◌≡◌, ◌+◌, ◌<◌, length};
 ghost use Rattle.std.specs.List.{All, prefix_len};
 ghost use Rattle.bdb_leaves.specs.Units.{KeyedUnit};
 ghost use Rattle.bdb_mktree.specs.Lists.{HasBytes, IsRunAt, has_key};
-ghost use Rattle.bdb_model.specs.Pairs.{keys_of};
+ghost use Rattle.bdb_text_format.specs.Pairs.{keys_of};
 ghost use Rattle.bdb_need.specs.Counting.{values_in};
-ghost use Rattle.bdb_need.specs.Need.{pairs_in};
+ghost use Rattle.bdb_need.specs.Need.{unlined_pairs};
 
-use bdb_model::{Key, TextPair};
+use bdb_text_format::{Key, TextPair};
 
 // Whether a key of a list is this one.
 fn is_key(other: &Key, key: &[u8]) -> bool
@@ -20,7 +20,7 @@ fn is_key(other: &Key, key: &[u8]) -> bool
 
 // How many pairs from the first on have this key.
 fn run_length(pairs: &[TextPair], key: &[u8]) -> usize
-    ensures { result ≡ prefix_len (has_key key.now) (keys_of (pairs_in pairs.now)) }
+    ensures { result ≡ prefix_len (has_key key.now) (keys_of (unlined_pairs pairs.now)) }
 {
     let mut n = 0;
     for pair in pairs {
@@ -43,9 +43,9 @@ pub struct Run<'a> {
 
 /// The pairs of the key at a place of a list, from there on.
 pub fn run_at<'a>(pairs: &'a [TextPair], start: usize) -> Run<'a>
-    requires keys { All (λ pair. HasBytes pair.key) (pairs_in pairs.now) }
+    requires keys { All (λ pair. HasBytes pair.key) (unlined_pairs pairs.now) }
     requires more { start < length pairs.now }
-    ensures { IsRunAt (pairs_in pairs.now) start (KeyedUnit result.key.now (values_in result.pairs.now)) (start + length result.pairs.now) }
+    ensures { IsRunAt (unlined_pairs pairs.now) start (KeyedUnit result.key.now (values_in result.pairs.now)) (start + length result.pairs.now) }
 {
     let (_, rest) = pairs.split_at(start);
     let Key::Bytes(key) = &rest[0].key else {

@@ -1,5 +1,6 @@
 pub mod ChainLemmas
 pub mod ContentLemmas
+pub mod HeldLemmas
 pub mod KeyLemmas
 pub mod LengthLemmas
 pub mod LinkedLemmas

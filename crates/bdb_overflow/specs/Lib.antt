@@ -1,4 +1,5 @@
 pub mod Datum
+pub mod Held
 pub mod Keys
 pub mod Lengths
 pub mod Prefix

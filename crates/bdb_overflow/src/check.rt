@@ -9,7 +9,7 @@ ghost use Rattle.bdb_overflow.specs.Lengths.{faults_at};
 use crate::lengths::has_wrong;
 use bdb_faults::{FaultSink, First, NamedList, Row, StructureRow};
 use bdb_format::Fault;
-use bdb_graph::{Forest, Linked};
+use bdb_graph::Linked;
 use std::alloc::AllocError;
 
 /// Each chain has the length that the items which name it tell. A refusal is the first fault: the least
@@ -49,29 +49,29 @@ pub fn note_chains<F: FaultSink>(linked: &Linked<'_>, found: &mut F) -> Result<(
     if !forest.has_chains() {
         return Ok(());
     }
-    note_pages(&forest, found)
+    note_pages(linked, found)
 }
 
-/// The same, page by page of the forest of a file.
-fn note_pages<F: FaultSink>(forest: &Forest<'_>, found: &mut F) -> Result<(), AllocError>
-    ensures noted { OnOk result (NotesAll (F.has_noted found.old) (F.has_noted found.new) (chain_faults (file_of forest.now))) }
+/// The same, page by page.
+fn note_pages<F: FaultSink>(linked: &Linked<'_>, found: &mut F) -> Result<(), AllocError>
+    ensures noted { OnOk result (NotesAll (F.has_noted found.old) (F.has_noted found.new) (chain_faults (file_of linked.now))) }
     ensures refused { OnErr result (IsTrue F.takes_memory) }
 {
-    let last = forest.head().last;
+    let last = linked.head().last;
     for page in 0..=last {
-        note_page(forest, page, found)?;
+        note_page(linked, page, found)?;
     }
     Ok(())
 }
 
 /// Notes a page, where an item of it tells another length than its chain has.
-fn note_page<F: FaultSink>(forest: &Forest<'_>, page: u32, found: &mut F) -> Result<(), AllocError>
-    requires forest { IsForest forest.now }
-    requires there { page ≤ (file_of forest.now).last }
-    ensures noted { OnOk result (Notes (F.has_noted found.old) (F.has_noted found.new) (faults_at (file_of forest.now) page)) }
+fn note_page<F: FaultSink>(linked: &Linked<'_>, page: u32, found: &mut F) -> Result<(), AllocError>
+    requires forest { IsForest linked.now }
+    requires there { page ≤ (file_of linked.now).last }
+    ensures noted { OnOk result (Notes (F.has_noted found.old) (F.has_noted found.new) (faults_at (file_of linked.now) page)) }
     ensures refused { OnErr result (IsTrue F.takes_memory) }
 {
-    if has_wrong(forest, page) {
+    if has_wrong(linked, page) {
         found.note(Row::Structure(StructureRow::ChainLength).at(page))?;
     }
     Ok(())

@@ -1,4 +1,4 @@
-ghost use Rattle.std.specs.Prelude.{◌≡◌, ◌++◌, IfOk, OnOk, length};
+ghost use Rattle.std.specs.Prelude.{◌≡◌, ◌++◌, ◌==◌, IfOk, OnOk, length};
 ghost use Rattle.bdb_format.specs.Chains.{joined};
 ghost use Rattle.bdb_overflow.specs.Datum.{datum_seen};
 
@@ -38,6 +38,16 @@ impl<'a> Datum<'a> {
         match self {
             Datum::Inline(bytes) => bytes.len() as u64,
             Datum::Chained(pieces) => pieces.length(),
+        }
+    }
+
+    /// Whether the value has this many bytes. Of a chain no more pages are gone through than tell that.
+    pub fn has_len(&self, len: u64) -> bool
+        ensures { result ≡ (length (datum_seen self.now) == len) }
+    {
+        match self {
+            Datum::Inline(bytes) => bytes.len() as u64 == len,
+            Datum::Chained(pieces) => pieces.has_length(len),
         }
     }
 

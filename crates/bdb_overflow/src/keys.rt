@@ -1,5 +1,5 @@
-ghost use Rattle.std.specs.Prelude.{◌≡◌, true, not, IfOk, OnOk};
-ghost use Rattle.std.specs.BTreeSet.{IsEmpty, Updates};
+ghost use Rattle.std.specs.Prelude.{◌≡◌, true, not, IfOk, OnErr, OnOk};
+ghost use Rattle.std.specs.BTreeSet.{IsEmpty, IsUnchanged, Updates};
 ghost use Rattle.std.specs.Cmp.Lexicographic.{slice_cmp};
 ghost use Rattle.std.specs.Ordering.{nat_cmp};
 ghost use Rattle.bdb_faults.specs.Notes.{Notes};
@@ -42,6 +42,7 @@ impl<'a> Keys<'a> {
     pub fn add(&mut self, key: Datum<'a>) -> Result<bool, AllocError>
         ensures added { IfOk result (λ is_new. is_new ≡ not (has_key self.old (datum_seen key.entry))) }
         ensures updates { OnOk result (Updates (slice_cmp nat_cmp) self.old self.new (datum_seen key.entry) true) }
+        ensures unchanged { OnErr result (IsUnchanged self.old self.new) }
     {
         let is_new = self.set.insert(Key::of(key))?;
         Ok(is_new)

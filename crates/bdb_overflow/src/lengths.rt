@@ -7,51 +7,50 @@ ghost use Rattle.bdb_format.specs.Page.{DupLeaf, Hash, Internal, Leaf, RecnoLeaf
 ghost use Rattle.bdb_overflow.specs.Datum.{FitsContent};
 ghost use Rattle.bdb_overflow.specs.Lengths.{has_wrong, is_wrong, is_wrong_entry, is_wrong_item, is_wrong_key};
 
-use crate::chain_pieces;
 use bdb_form::{DupLeafView, HashView, InternalView, LeafView, PageView, RecnoLeafView};
-use bdb_graph::Forest;
+use bdb_graph::Linked;
 use bdb_layout::Content;
 
 /// Whether the pages of a chain don't add up to a length.
-fn is_wrong_length(forest: &Forest<'_>, head: u32, total: u32) -> bool
-    requires { FitsChain (file_of forest.now) head }
-    ensures { result ≡ is_wrong_length (file_of forest.now) (head, total) }
+fn is_wrong_length(linked: &Linked<'_>, head: u32, total: u32) -> bool
+    requires { FitsChain (file_of linked.now) head }
+    ensures { result ≡ is_wrong_length (file_of linked.now) (head, total) }
 {
-    chain_pieces(forest, head).length() != u64::from(total)
+    linked.chain_length(head) != total
 }
 
 /// Whether an item names a chain of another length, by what it holds.
-fn tells_wrong(forest: &Forest<'_>, content: &Content<'_>) -> bool
-    requires { FitsContent (file_of forest.now) (content_seen content.now) }
-    ensures { result ≡ is_wrong (file_of forest.now) (content_seen content.now) }
+fn tells_wrong(linked: &Linked<'_>, content: &Content<'_>) -> bool
+    requires { FitsContent (file_of linked.now) (content_seen content.now) }
+    ensures { result ≡ is_wrong (file_of linked.now) (content_seen content.now) }
 {
     match content {
-        Content::Overflow { head, total } => is_wrong_length(forest, *head, *total),
+        Content::Overflow { head, total } => is_wrong_length(linked, *head, *total),
         Content::Inline(_) | Content::Set(_) | Content::OffPage { .. } => false,
     }
 }
 
 /// Whether an entry of a leaf of records names a chain of another length.
 #[tactic(auto, using(crate::proofs::ContentLemmas::recno_item_fits, crate::proofs::LengthLemmas::item_is_wrong))]
-fn is_wrong_record(forest: &Forest<'_>, number: u32, page: &RecnoLeafView<'_>, i: u16) -> bool
-    requires forest { IsForest forest.now }
-    requires there { number ≤ (file_of forest.now).last }
-    requires page { page_at (file_of forest.now) number ≡ RecnoLeaf page.now }
+fn is_wrong_record(linked: &Linked<'_>, number: u32, page: &RecnoLeafView<'_>, i: u16) -> bool
+    requires forest { IsForest linked.now }
+    requires there { number ≤ (file_of linked.now).last }
+    requires page { page_at (file_of linked.now) number ≡ RecnoLeaf page.now }
     requires item { i < length page.now.items }
-    ensures { result ≡ is_wrong_item (file_of forest.now) page.now i }
+    ensures { result ≡ is_wrong_item (file_of linked.now) page.now i }
 {
-    tells_wrong(forest, &page.item(i).content())
+    tells_wrong(linked, &page.item(i).content())
 }
 
 /// Whether some entry of a leaf of records does.
-fn records_have_wrong(forest: &Forest<'_>, number: u32, page: &RecnoLeafView<'_>) -> bool
-    requires forest { IsForest forest.now }
-    requires there { number ≤ (file_of forest.now).last }
-    requires page { page_at (file_of forest.now) number ≡ RecnoLeaf page.now }
-    ensures { result ≡ has_wrong (file_of forest.now) (RecnoLeaf page.now) }
+fn records_have_wrong(linked: &Linked<'_>, number: u32, page: &RecnoLeafView<'_>) -> bool
+    requires forest { IsForest linked.now }
+    requires there { number ≤ (file_of linked.now).last }
+    requires page { page_at (file_of linked.now) number ≡ RecnoLeaf page.now }
+    ensures { result ≡ has_wrong (file_of linked.now) (RecnoLeaf page.now) }
 {
     for i in 0..page.entries() {
-        if is_wrong_record(forest, number, page, i) {
+        if is_wrong_record(linked, number, page, i) {
             return true;
         }
     }
@@ -60,25 +59,25 @@ fn records_have_wrong(forest: &Forest<'_>, number: u32, page: &RecnoLeafView<'_>
 
 /// Whether an entry of a leaf of sorted duplicates names a chain of another length.
 #[tactic(auto, using(crate::proofs::ContentLemmas::dup_item_fits, crate::proofs::LengthLemmas::item_is_wrong))]
-fn is_wrong_duplicate(forest: &Forest<'_>, number: u32, page: &DupLeafView<'_>, i: u16) -> bool
-    requires forest { IsForest forest.now }
-    requires there { number ≤ (file_of forest.now).last }
-    requires page { page_at (file_of forest.now) number ≡ DupLeaf page.now }
+fn is_wrong_duplicate(linked: &Linked<'_>, number: u32, page: &DupLeafView<'_>, i: u16) -> bool
+    requires forest { IsForest linked.now }
+    requires there { number ≤ (file_of linked.now).last }
+    requires page { page_at (file_of linked.now) number ≡ DupLeaf page.now }
     requires item { i < length page.now.items }
-    ensures { result ≡ is_wrong_item (file_of forest.now) page.now i }
+    ensures { result ≡ is_wrong_item (file_of linked.now) page.now i }
 {
-    tells_wrong(forest, &page.item(i).content())
+    tells_wrong(linked, &page.item(i).content())
 }
 
 /// Whether some entry of a leaf of sorted duplicates does.
-fn duplicates_have_wrong(forest: &Forest<'_>, number: u32, page: &DupLeafView<'_>) -> bool
-    requires forest { IsForest forest.now }
-    requires there { number ≤ (file_of forest.now).last }
-    requires page { page_at (file_of forest.now) number ≡ DupLeaf page.now }
-    ensures { result ≡ has_wrong (file_of forest.now) (DupLeaf page.now) }
+fn duplicates_have_wrong(linked: &Linked<'_>, number: u32, page: &DupLeafView<'_>) -> bool
+    requires forest { IsForest linked.now }
+    requires there { number ≤ (file_of linked.now).last }
+    requires page { page_at (file_of linked.now) number ≡ DupLeaf page.now }
+    ensures { result ≡ has_wrong (file_of linked.now) (DupLeaf page.now) }
 {
     for i in 0..page.entries() {
-        if is_wrong_duplicate(forest, number, page, i) {
+        if is_wrong_duplicate(linked, number, page, i) {
             return true;
         }
     }
@@ -87,25 +86,25 @@ fn duplicates_have_wrong(forest: &Forest<'_>, number: u32, page: &DupLeafView<'_
 
 /// Whether a key of an internal page names a chain of another length.
 #[tactic(auto, using(crate::proofs::ContentLemmas::key_fits, crate::proofs::LengthLemmas::key_is_wrong))]
-fn is_wrong_key(forest: &Forest<'_>, number: u32, page: &InternalView<'_>, i: u16) -> bool
-    requires forest { IsForest forest.now }
-    requires there { number ≤ (file_of forest.now).last }
-    requires page { page_at (file_of forest.now) number ≡ Internal page.now }
+fn is_wrong_key(linked: &Linked<'_>, number: u32, page: &InternalView<'_>, i: u16) -> bool
+    requires forest { IsForest linked.now }
+    requires there { number ≤ (file_of linked.now).last }
+    requires page { page_at (file_of linked.now) number ≡ Internal page.now }
     requires item { i < length page.now.items }
-    ensures { result ≡ is_wrong_key (file_of forest.now) page.now i }
+    ensures { result ≡ is_wrong_key (file_of linked.now) page.now i }
 {
-    tells_wrong(forest, &page.item(i).key.content())
+    tells_wrong(linked, &page.item(i).key.content())
 }
 
 /// Whether some key of an internal page does.
-fn keys_have_wrong(forest: &Forest<'_>, number: u32, page: &InternalView<'_>) -> bool
-    requires forest { IsForest forest.now }
-    requires there { number ≤ (file_of forest.now).last }
-    requires page { page_at (file_of forest.now) number ≡ Internal page.now }
-    ensures { result ≡ has_wrong (file_of forest.now) (Internal page.now) }
+fn keys_have_wrong(linked: &Linked<'_>, number: u32, page: &InternalView<'_>) -> bool
+    requires forest { IsForest linked.now }
+    requires there { number ≤ (file_of linked.now).last }
+    requires page { page_at (file_of linked.now) number ≡ Internal page.now }
+    ensures { result ≡ has_wrong (file_of linked.now) (Internal page.now) }
 {
     for i in 0..page.entries() {
-        if is_wrong_key(forest, number, page, i) {
+        if is_wrong_key(linked, number, page, i) {
             return true;
         }
     }
@@ -114,25 +113,25 @@ fn keys_have_wrong(forest: &Forest<'_>, number: u32, page: &InternalView<'_>) ->
 
 /// Whether an item of a hash page names a chain of another length: a key, or data.
 #[tactic(auto, using(crate::proofs::ContentLemmas::hash_item_fits, crate::proofs::LengthLemmas::item_is_wrong))]
-fn is_wrong_hash_item(forest: &Forest<'_>, number: u32, page: &HashView<'_>, i: u16) -> bool
-    requires forest { IsForest forest.now }
-    requires there { number ≤ (file_of forest.now).last }
-    requires page { page_at (file_of forest.now) number ≡ Hash page.now }
+fn is_wrong_hash_item(linked: &Linked<'_>, number: u32, page: &HashView<'_>, i: u16) -> bool
+    requires forest { IsForest linked.now }
+    requires there { number ≤ (file_of linked.now).last }
+    requires page { page_at (file_of linked.now) number ≡ Hash page.now }
     requires item { i < length page.now.items }
-    ensures { result ≡ is_wrong_item (file_of forest.now) page.now i }
+    ensures { result ≡ is_wrong_item (file_of linked.now) page.now i }
 {
-    tells_wrong(forest, &page.item(i).content())
+    tells_wrong(linked, &page.item(i).content())
 }
 
 /// Whether some item of a hash page does.
-fn hash_items_have_wrong(forest: &Forest<'_>, number: u32, page: &HashView<'_>) -> bool
-    requires forest { IsForest forest.now }
-    requires there { number ≤ (file_of forest.now).last }
-    requires page { page_at (file_of forest.now) number ≡ Hash page.now }
-    ensures { result ≡ has_wrong (file_of forest.now) (Hash page.now) }
+fn hash_items_have_wrong(linked: &Linked<'_>, number: u32, page: &HashView<'_>) -> bool
+    requires forest { IsForest linked.now }
+    requires there { number ≤ (file_of linked.now).last }
+    requires page { page_at (file_of linked.now) number ≡ Hash page.now }
+    ensures { result ≡ has_wrong (file_of linked.now) (Hash page.now) }
 {
     for i in 0..page.entries() {
-        if is_wrong_hash_item(forest, number, page, i) {
+        if is_wrong_hash_item(linked, number, page, i) {
             return true;
         }
     }
@@ -141,38 +140,38 @@ fn hash_items_have_wrong(forest: &Forest<'_>, number: u32, page: &HashView<'_>) 
 
 /// Whether the key of a pair of a btree leaf names a chain of another length; a shared key names none.
 #[tactic(auto, using(crate::proofs::ContentLemmas::leaf_item_fits, crate::proofs::LengthLemmas::own_is_wrong, crate::proofs::LengthLemmas::shared_is_right))]
-fn is_wrong_leaf_key(forest: &Forest<'_>, number: u32, page: &LeafView<'_>, i: u16) -> bool
-    requires forest { IsForest forest.now }
-    requires there { number ≤ (file_of forest.now).last }
-    requires page { page_at (file_of forest.now) number ≡ Leaf page.now }
+fn is_wrong_leaf_key(linked: &Linked<'_>, number: u32, page: &LeafView<'_>, i: u16) -> bool
+    requires forest { IsForest linked.now }
+    requires there { number ≤ (file_of linked.now).last }
+    requires page { page_at (file_of linked.now) number ≡ Leaf page.now }
     requires pair { 2 * i < length page.now.items }
-    ensures { result ≡ is_wrong_entry (file_of forest.now) page.now (2 * i) }
+    ensures { result ≡ is_wrong_entry (file_of linked.now) page.now (2 * i) }
 {
-    !page.shares(i) && tells_wrong(forest, &page.key(i).content())
+    !page.shares(i) && tells_wrong(linked, &page.key(i).content())
 }
 
 /// Whether the data of a pair of a btree leaf do.
 #[tactic(auto, using(crate::proofs::ContentLemmas::leaf_item_fits, crate::proofs::LengthLemmas::data_is_wrong))]
-fn is_wrong_leaf_value(forest: &Forest<'_>, number: u32, page: &LeafView<'_>, i: u16) -> bool
-    requires forest { IsForest forest.now }
-    requires there { number ≤ (file_of forest.now).last }
-    requires page { page_at (file_of forest.now) number ≡ Leaf page.now }
+fn is_wrong_leaf_value(linked: &Linked<'_>, number: u32, page: &LeafView<'_>, i: u16) -> bool
+    requires forest { IsForest linked.now }
+    requires there { number ≤ (file_of linked.now).last }
+    requires page { page_at (file_of linked.now) number ≡ Leaf page.now }
     requires pair { 2 * i + 1 < length page.now.items }
-    ensures { result ≡ is_wrong_entry (file_of forest.now) page.now (2 * i + 1) }
+    ensures { result ≡ is_wrong_entry (file_of linked.now) page.now (2 * i + 1) }
 {
-    tells_wrong(forest, &page.value(i).content())
+    tells_wrong(linked, &page.value(i).content())
 }
 
 /// Whether some item of a btree leaf does.
-fn leaf_has_wrong(forest: &Forest<'_>, number: u32, page: &LeafView<'_>) -> bool
-    requires forest { IsForest forest.now }
-    requires there { number ≤ (file_of forest.now).last }
-    requires page { page_at (file_of forest.now) number ≡ Leaf page.now }
-    ensures { result ≡ has_wrong (file_of forest.now) (Leaf page.now) }
+fn leaf_has_wrong(linked: &Linked<'_>, number: u32, page: &LeafView<'_>) -> bool
+    requires forest { IsForest linked.now }
+    requires there { number ≤ (file_of linked.now).last }
+    requires page { page_at (file_of linked.now) number ≡ Leaf page.now }
+    ensures { result ≡ has_wrong (file_of linked.now) (Leaf page.now) }
 {
     for i in 0..page.pairs() {
-        if is_wrong_leaf_key(forest, number, page, i)
-            || is_wrong_leaf_value(forest, number, page, i)
+        if is_wrong_leaf_key(linked, number, page, i)
+            || is_wrong_leaf_value(linked, number, page, i)
         {
             return true;
         }
@@ -181,17 +180,17 @@ fn leaf_has_wrong(forest: &Forest<'_>, number: u32, page: &LeafView<'_>) -> bool
 }
 
 /// Whether some chain that the items of a page name has another length than they tell.
-pub(crate) fn has_wrong(forest: &Forest<'_>, number: u32) -> bool
-    requires forest { IsForest forest.now }
-    requires there { number ≤ (file_of forest.now).last }
-    ensures { result ≡ has_wrong (file_of forest.now) (page_at (file_of forest.now) number) }
+pub(crate) fn has_wrong(linked: &Linked<'_>, number: u32) -> bool
+    requires forest { IsForest linked.now }
+    requires there { number ≤ (file_of linked.now).last }
+    ensures { result ≡ has_wrong (file_of linked.now) (page_at (file_of linked.now) number) }
 {
-    match forest.page(number) {
-        PageView::Hash(page) => hash_items_have_wrong(forest, number, &page),
-        PageView::Internal(page) => keys_have_wrong(forest, number, &page),
-        PageView::Leaf(page) => leaf_has_wrong(forest, number, &page),
-        PageView::RecnoLeaf(page) => records_have_wrong(forest, number, &page),
-        PageView::DupLeaf(page) => duplicates_have_wrong(forest, number, &page),
+    match linked.page(number) {
+        PageView::Hash(page) => hash_items_have_wrong(linked, number, &page),
+        PageView::Internal(page) => keys_have_wrong(linked, number, &page),
+        PageView::Leaf(page) => leaf_has_wrong(linked, number, &page),
+        PageView::RecnoLeaf(page) => records_have_wrong(linked, number, &page),
+        PageView::DupLeaf(page) => duplicates_have_wrong(linked, number, &page),
         PageView::Zero(_)
         | PageView::Free(_)
         | PageView::Meta(_)

@@ -1,4 +1,4 @@
-ghost use Rattle.std.specs.Prelude.{◌≡◌, ◌+◌, ◌/◌, ◌^◌, ◌<◌, ◌≤◌, ◌∷◌, [], IsTrue, length, take, drop};
+ghost use Rattle.std.specs.Prelude.{◌≡◌, ◌+◌, ◌/◌, ◌^◌, ◌<◌, ◌≤◌, ◌∷◌, ◌==◌, [], IsTrue, length, take, drop};
 ghost use Rattle.std.specs.Iterator.{YieldsFirstBy, item_count};
 ghost use Rattle.bdb_format.specs.Chains.{joined, pieces_of};
 ghost use Rattle.bdb_format.specs.File.{file_as};
@@ -91,6 +91,29 @@ impl<'a> Pieces<'a> {
         }
     }
 
+    /// Whether there is a first piece, and it has no bytes.
+    pub(crate) fn begin_blank(&self) -> bool {
+        let mut rest = self.again();
+        match rest.next() {
+            Some(piece) => piece.is_empty(),
+            None => false,
+        }
+    }
+
+    /// The same bytes without pieces in front that have none.
+    pub(crate) fn without_blanks(&self) -> Pieces<'a>
+        ensures { joined result ≡ joined self.now }
+    {
+        let mut rest = self.again();
+        loop {
+            let mut after = rest.again();
+            match after.next() {
+                Some(piece) if piece.is_empty() => rest = after,
+                _ => return rest,
+            }
+        }
+    }
+
     /// How many bytes the pieces have together.
     #[tactic(auto, using(crate::proofs::WholeLemmas::left_short))]
     pub(crate) fn length(&self) -> u64
@@ -99,6 +122,29 @@ impl<'a> Pieces<'a> {
         let _ = &self.image;
         length_of(self.again())
     }
+
+    /// Whether the pieces have this many bytes together.
+    pub(crate) fn has_length(&self, len: u64) -> bool
+        ensures { result ≡ (length (joined self.now) == len) }
+    {
+        let _ = &self.image;
+        have_length(self.again(), len)
+    }
+}
+
+/// Whether pieces have this many bytes together.
+fn have_length(pieces: Pieces<'_>, len: u64) -> bool
+    ensures { result ≡ (length (joined pieces.entry) == len) }
+{
+    let mut left = len;
+    for piece in pieces {
+        let here = piece.len() as u64;
+        if here > left {
+            return false;
+        }
+        left -= here;
+    }
+    left == 0
 }
 
 /// How many bytes pieces have together.

@@ -6,12 +6,12 @@ use Rattle.bdb_format.specs.declared.kinds.Order.{Order}
 use Rattle.bdb_format.specs.declared.metadata.BtreeMeta.{BtreeMeta}
 use Rattle.bdb_format.specs.declared.settings.Settings.{Settings}
 use Rattle.bdb_model.specs.Answers.{database_line, name_text}
-use Rattle.bdb_model.specs.Databases.{Database, btree_settings, recno_settings, settings_of}
-use Rattle.bdb_model.specs.Flags.{kind_of}
-use Rattle.bdb_model.specs.Lines.{line}
-use Rattle.bdb_model.specs.Numbers.{has_bit}
-use Rattle.bdb_model.specs.Page.{Metadata, BtreeFields, HashFields, QueueFields}
-use Rattle.bdb_model.specs.Written.{kind_text}
+use Rattle.bdb_format.specs.Databases.{Database, btree_settings, recno_settings, settings_of}
+use Rattle.bdb_format.specs.Flags.{kind_of}
+use Rattle.bdb_text_format.specs.LineEnd.{line}
+use Rattle.bdb_format.specs.Numbers.{has_bit}
+use Rattle.bdb_format.specs.Page.{Metadata, BtreeFields, HashFields, QueueFields}
+use Rattle.bdb_text_format.specs.Written.{kind_text}
 
 chosen_kind : (has : Bool) (size : ℕ) (order : Order) (meta : BtreeMeta) → (if has then recno_settings size order meta else btree_settings size order meta).kind ≡ (if has then Recno else Btree)
 chosen_kind true size order meta = refl

@@ -4,9 +4,9 @@ use Rattle.std.specs.List.{flat_map}
 use Rattle.std.proofs.Math.Seq.{drop-cons}
 use Rattle.std.proofs.lemmas.List.{drop_all}
 use Rattle.std.specs.Prelude.{Option, Ok, Err, OnOk, Result}
-use Rattle.bdb_model.specs.Chains.{joined}
+use Rattle.bdb_format.specs.Chains.{joined}
 use Rattle.bdb_model.specs.Change.{change}
-use Rattle.bdb_model.specs.TextSpelling.{spelling}
+use Rattle.bdb_text_format.specs.TextSpelling.{spelling}
 use Rattle.bdb_lines.specs.Printing.{Prints, Writes}
 use Rattle.bdb_printing.specs.Printers.{Adds, HasAdded}
 use Rattle.bdb_lines.specs.declared.cut.Cut.{Cut}

@@ -5,7 +5,7 @@ use Rattle.bdb_format.specs.declared.kinds.Kind.TheVariants.{Btree, Recno}
 use Rattle.bdb_format.specs.declared.settings.Settings.{Settings}
 use Rattle.bdb_format.specs.File.{File}
 use Rattle.bdb_format.specs.Lists.{ListKey, BytesKey, NumberKey}
-use Rattle.bdb_model.specs.Written.{section_text}
+use Rattle.bdb_text_format.specs.Written.{section_text}
 use Rattle.bdb_salvage.specs.declared.guess.Guess.{Guess}
 use Rattle.bdb_stored.specs.Salvage.{loose, salvaged_file, stored}
 

@@ -2,20 +2,20 @@
 ghost use Rattle.std.specs.Prelude.{◌≡◌, ◌++◌, codes, option_copied, true};
 ghost use Rattle.bdb_model.specs.Answers.{list_text, name_text, value_line, values_text};
 ghost use Rattle.bdb_model.specs.Change.{change};
-ghost use Rattle.bdb_model.specs.Databases.{databases};
-ghost use Rattle.bdb_model.specs.File.{file_of};
-ghost use Rattle.bdb_model.specs.Lines.{line};
-ghost use Rattle.bdb_model.specs.TextSpelling.{spelling};
-ghost use Rattle.bdb_model.specs.Written.{kind_text};
+ghost use Rattle.bdb_format.specs.Databases.{databases};
+ghost use Rattle.bdb_format.specs.File.{file_of};
+ghost use Rattle.bdb_text_format.specs.LineEnd.{line};
+ghost use Rattle.bdb_text_format.specs.TextSpelling.{spelling};
+ghost use Rattle.bdb_text_format.specs.Written.{kind_text};
 ghost use Rattle.bdb_overflow.specs.Datum.{datum_seen};
 ghost use Rattle.bdb_printing.specs.Printers.{Adds};
 ghost use Rattle.bdb_lines.specs.Printing.{Writes};
 
 use crate::printing::Printer;
 use bdb_file::{Found, Sound};
+use bdb_format::{Bytes, Kind};
 use bdb_io::Sink;
 use bdb_lines::Cut;
-use bdb_model::{Bytes, Kind};
 use bdb_overflow::Datum;
 use bdb_text::kind_word;
 use std::alloc::Global;

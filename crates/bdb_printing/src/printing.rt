@@ -1,13 +1,13 @@
 ghost use Rattle.std.specs.Prelude.{◌≡◌, [], OnOk};
 ghost use Rattle.bdb_model.specs.Answers.{value_line};
-ghost use Rattle.bdb_model.specs.Chains.{joined};
-ghost use Rattle.bdb_model.specs.TextSpelling.{spelling};
+ghost use Rattle.bdb_format.specs.Chains.{joined};
+ghost use Rattle.bdb_text_format.specs.TextSpelling.{spelling};
 ghost use Rattle.bdb_overflow.specs.Datum.{datum_seen};
 ghost use Rattle.bdb_printing.specs.Printers.{Adds};
 
+use bdb_format::Bytes;
 use bdb_io::{Sink, put_all};
 use bdb_lines::Cut;
-use bdb_model::Bytes;
 use bdb_overflow::{Datum, Pieces};
 use bdb_text::push_line_text;
 use std::alloc::Global;

@@ -2,8 +2,8 @@
 ghost use Rattle.std.specs.Prelude.{◌≡◌, ◌<◌, ◌≤◌, ◌^◌, ◌++◌, Some, codes, length, map};
 ghost use Rattle.std.specs.List.{enumerate_from, flat_map};
 ghost use Rattle.bdb_model.specs.Change.{change};
-ghost use Rattle.bdb_model.specs.Lines.{line};
-ghost use Rattle.bdb_model.specs.Written.{data_end, header_text, section_text};
+ghost use Rattle.bdb_text_format.specs.LineEnd.{line};
+ghost use Rattle.bdb_text_format.specs.Written.{data_end, header_text, section_text};
 ghost use Rattle.bdb_overflow.specs.Datum.{datum_seen};
 ghost use Rattle.bdb_printing.specs.Printers.{Adds, pair_text};
 ghost use Rattle.bdb_lines.specs.Printing.{Writes};
@@ -13,9 +13,9 @@ ghost use Rattle.bdb_salvage.specs.Kept.{file_in};
 ghost use Rattle.bdb_stored.specs.Salvage.{loose};
 
 use crate::printing::Printer;
+use bdb_format::{Bytes, Kind, Settings};
 use bdb_io::Sink;
 use bdb_lines::Cut;
-use bdb_model::{Bytes, Kind, Settings};
 use bdb_overflow::{Datum, KeyView};
 use bdb_salvage::{Guess, LooseItems, SalvagePairs, Salvaged};
 use bdb_text::header_text;

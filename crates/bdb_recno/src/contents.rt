@@ -71,16 +71,18 @@ pub fn note_contents<F: FaultSink>(
 {
     let forest = pages_of(linked, meta);
     note_counts(alloc, &forest, meta.root, found)?;
-    note_fixed(&forest, meta, found)?;
+    note_fixed(linked, &forest, meta, found)?;
     Ok(())
 }
 
 /// Notes the leaves with a record of a wrong length, if records have a fixed one.
 fn note_fixed<F: FaultSink>(
+    linked: &Linked<'_>,
     forest: &Forest<'_>,
     meta: &BtreeMeta,
     found: &mut F,
 ) -> Result<(), AllocError>
+    requires same { linked.now ≡ forest.now }
     requires forest { IsForest forest.now }
     requires root { IsRoot (file_of forest.now) meta.now.root }
     requires recno { IsRecnoPage (file_of forest.now) meta.now.root }
@@ -89,7 +91,7 @@ fn note_fixed<F: FaultSink>(
         (if is_fixed meta.now then length_faults (file_of forest.now) meta.now (leaves (file_of forest.now) meta.now.root) else [])) }
 {
     if is_fixed(meta) {
-        note_lengths(forest, meta, found)?;
+        note_lengths(linked, forest, meta, found)?;
     }
     Ok(())
 }

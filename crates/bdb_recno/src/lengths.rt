@@ -1,7 +1,8 @@
-ghost use Rattle.std.specs.Prelude.{◌≡◌, [], OnOk};
+ghost use Rattle.std.specs.Prelude.{◌≡◌, [], OnOk, length};
 ghost use Rattle.bdb_faults.specs.Notes.{NotesAll};
 ghost use Rattle.bdb_graph.specs.Linked.{IsForest};
 ghost use Rattle.bdb_layout.specs.Seen.{leaf_item_seen};
+ghost use Rattle.bdb_format.specs.Chains.{value_of};
 ghost use Rattle.bdb_format.specs.ContentRows.{has_wrong_record, is_wrong_record};
 ghost use Rattle.bdb_format.specs.File.{file_of, page_at};
 ghost use Rattle.bdb_format.specs.Leaves.{leaves};
@@ -14,28 +15,42 @@ ghost use Rattle.bdb_tree.specs.Trees.{IsRoot};
 use crate::page::leaf_at;
 use bdb_faults::{ContentsRow, FaultSink, Row, note_if};
 use bdb_format::BtreeMeta;
-use bdb_graph::Forest;
+use bdb_graph::{Forest, Linked};
 use bdb_layout::LeafItem;
-use bdb_overflow::{is_deleted, value_of};
+use bdb_overflow::is_deleted;
 use bdb_tree::tree_leaves;
 use std::alloc::AllocError;
 
-/// Whether a record is live and hasn't the fixed length; a deleted one isn't looked at.
-fn is_wrong_record(forest: &Forest<'_>, meta: &BtreeMeta, item: &LeafItem<'_>) -> bool
-    requires { FitsContent (file_of forest.now) (leaf_item_seen item.now).content }
-    ensures { result ≡ is_wrong_record (file_of forest.now) meta.now (leaf_item_seen item.now) }
+/// How many bytes a record has. A chain isn't gone through: its length was counted when the file was linked.
+#[tactic(auto, unfolding(bdb_format::specs::Chains::value_of))]
+fn record_len(linked: &Linked<'_>, item: &LeafItem<'_>) -> u64
+    requires { FitsContent (file_of linked.now) (leaf_item_seen item.now).content }
+    ensures { result ≡ length (value_of (file_of linked.now) (leaf_item_seen item.now).content) }
 {
-    !is_deleted(item) && value_of(forest, item).len() != u64::from(meta.re_len)
+    match item {
+        LeafItem::Inline { bytes, .. } => bytes.len() as u64,
+        LeafItem::Overflow { head, .. } => u64::from(linked.chain_length(*head)),
+        LeafItem::Duplicates { .. } => 0,
+    }
+}
+
+/// Whether a record is live and hasn't the fixed length; a deleted one isn't looked at.
+fn is_wrong_record(linked: &Linked<'_>, meta: &BtreeMeta, item: &LeafItem<'_>) -> bool
+    requires { FitsContent (file_of linked.now) (leaf_item_seen item.now).content }
+    ensures { result ≡ is_wrong_record (file_of linked.now) meta.now (leaf_item_seen item.now) }
+{
+    !is_deleted(item) && record_len(linked, item) != u64::from(meta.re_len)
 }
 
 /// Whether a live record of a leaf hasn't the fixed length.
-fn has_wrong_record(forest: &Forest<'_>, meta: &BtreeMeta, page: u32) -> bool
+fn has_wrong_record(linked: &Linked<'_>, forest: &Forest<'_>, meta: &BtreeMeta, page: u32) -> bool
+    requires same { linked.now ≡ forest.now }
     requires forest { IsForest forest.now }
     requires leaf { IsRecnoLeaf (file_of forest.now) page }
     ensures { result ≡ has_wrong_record (file_of forest.now) meta.now (page_at (file_of forest.now) page) }
 {
     for item in leaf_at(forest, page).items() {
-        if is_wrong_record(forest, meta, &item) {
+        if is_wrong_record(linked, meta, &item) {
             return true;
         }
     }
@@ -44,10 +59,12 @@ fn has_wrong_record(forest: &Forest<'_>, meta: &BtreeMeta, page: u32) -> bool
 
 /// Notes the leaves of a tree that have a record of a wrong length. It takes no memory of its own.
 pub(crate) fn note_lengths<F: FaultSink>(
+    linked: &Linked<'_>,
     forest: &Forest<'_>,
     meta: &BtreeMeta,
     found: &mut F,
 ) -> Result<(), AllocError>
+    requires same { linked.now ≡ forest.now }
     requires forest { IsForest forest.now }
     requires root { IsRoot (file_of forest.now) meta.now.root }
     requires recno { IsRecnoPage (file_of forest.now) meta.now.root }
@@ -57,7 +74,7 @@ pub(crate) fn note_lengths<F: FaultSink>(
 {
     for leaf in tree_leaves(forest, meta.root) {
         let page = leaf.number();
-        let wrong = has_wrong_record(forest, meta, page);
+        let wrong = has_wrong_record(linked, forest, meta, page);
         note_if(found, Row::Contents(ContentsRow::RecordLength), page, wrong)?;
     }
     Ok(())

@@ -1,7 +1,7 @@
 //! Images that are written a field a line.
 
 use bdb_fixtures::{Field, write};
-use bdb_model::{Bytes, Order};
+use bdb_format::{Bytes, Order};
 use std::alloc::{AllocError, Global};
 
 /// The bytes of the longest file.

@@ -1,4 +1,4 @@
-ghost use Rattle.std.specs.Prelude.{◌≡◌, ◌^◌, ◌≤◌, ◌++◌, IfOk, IfSome, IsTrue, Err, List, None, Some, drop, length, take, ◌-◌};
+ghost use Rattle.std.specs.Prelude.{◌≡◌, ◌≢◌, ◌^◌, ◌≤◌, ◌++◌, IfOk, IfSome, IsTrue, Err, List, None, Some, drop, length, take, ◌-◌};
 ghost use Rattle.bdb_salvage.specs.Split.{AreBelow, AreFrom};
 ghost use Rattle.bdb_salvage.specs.declared.kept.KeptValue.{KeptValue};
 ghost use Rattle.bdb_format.specs.HeadOf.{is_page_size};
@@ -6,7 +6,7 @@ ghost use Rattle.bdb_salvage.specs.Guesses.{chosen};
 ghost use Rattle.bdb_salvage.specs.Kept.{IsKeptValue, file_in, kept_pairs, kept_values, value_at, values_on};
 ghost use Rattle.bdb_overflow.specs.Datum.{datum_seen};
 ghost use Rattle.bdb_stored.specs.Salvage.{loose, stored};
-ghost use Rattle.bdb_salvage.specs.declared.error.SalvageError.TheVariants.{NoMeta};
+ghost use Rattle.bdb_salvage.specs.declared.error.SalvageError.TheVariants.{Memory, NoMeta};
 
 use crate::guess::chosen;
 use crate::kept::{KeptPair, KeptValue};
@@ -42,7 +42,7 @@ impl<'a> Model for Salvaged<'a> {
     ghost invariant = { λ v. IsSalvaged v.guess v.image.now v.pairs.items v.values.items };
 }
 
-/// Finds what an image still has, by the given guess or the one that page 0 tells.
+/// Finds what an image still has, by the given guess or the one that page 0 tells. Where there is neither, no memory is asked for.
 ///
 /// While it runs it keeps 16 bytes for each page, the verdict on the row that begins there, so that a chain or
 /// a set is followed once, however many items name it: the rows take at most three looks at each page
@@ -59,6 +59,7 @@ pub fn salvage<'a, L: Ledger>(
     ensures guess { IfOk result (λ salvaged. chosen guess image.now ≡ Some salvaged.guess) }
     ensures image { IfOk result (λ salvaged. salvaged.image ≡ image.now) }
     ensures no_meta { result ≡ Err NoMeta → chosen guess image.now ≡ None }
+    ensures memory { result ≡ Err Memory → chosen guess image.now ≢ None }
 {
     let Some(guess) = chosen(guess, image) else {
         return Err(SalvageError::NoMeta);

@@ -6,18 +6,18 @@ use Rattle.std.proofs.lemmas.Bool.Decides.{nat_tests}
 use Rattle.std.proofs.lemmas.Slice.Eq.{bytes_eq-Decides}
 use Rattle.std.specs.Str.{bytes_eq}
 use Rattle.bdb_format.specs.HeadOf.{is_page_size}
-use Rattle.bdb_model.specs.declared.keywords.Judged.TheVariants.{Fits, Bad, LeftOut}
-use Rattle.bdb_model.specs.Header.{Values, conflicts, entries, entry_of, given, gives, has_records, has_type, is_on, name_in, number_or, repeats, settings_in, values}
-use Rattle.bdb_model.specs.Keywords.{fitting, hex_value, is_hex, judged_number, legal_size, number_read, or_zero}
+use Rattle.bdb_text_format.specs.declared.keywords.Judged.TheVariants.{Fits, Bad, LeftOut}
+use Rattle.bdb_text_format.specs.Header.{Values, conflicts, entries, entry_of, given, gives, has_record_type, has_type, is_on, name_in, number_or, repeats, settings_in, values}
+use Rattle.bdb_text_format.specs.Keywords.{fitting, hex_value, is_hex, judged_number, legal_size, number_read, or_zero}
 use Rattle.bdb_format.specs.Digits.{digits_value, is_number}
-use Rattle.bdb_model.specs.TextSpelling.{digit_value}
+use Rattle.bdb_text_format.specs.TextSpelling.{digit_value}
 use Rattle.std.proofs.Math.Pow.{pow_mono}
 use Rattle.std.proofs.lemmas.Nat.{pow-add}
 use Rattle.std.proofs.lemmas.Bool.{and_parts, not-true, or_cases, or_parts, or_right}
 use Rattle.bdb_format.specs.Databases.{is_name}
-use Rattle.bdb_model.specs.Reasons.{keyword_named, name_missing}
-use Rattle.bdb_model.specs.Sections.{entry_fits, fits, header_fits, keyword_fits, lines_fit}
-use Rattle.bdb_model.specs.Written.{Entry, holds_records}
+use Rattle.bdb_text_format.specs.Reasons.{keyword_named, name_missing}
+use Rattle.bdb_text_format.specs.Sections.{entry_fits, fits, header_fits, keyword_fits, lines_fit}
+use Rattle.bdb_text_format.specs.Written.{Entry, holds_records}
 use Rattle.bdb_sections.specs.Fit.{AreFitSettings}
 
 -- A value that a header gives fits its keyword.
@@ -194,7 +194,7 @@ both false b c is on = absurd (cc on)
 -- pairs are counted only where there are no duplicates
 counted_alone : (header : Values) → conflicts header ≡ false → is_on (codes "recnum") header ≡ true → repeats header ≡ false
 counted_alone header none on =
-    let records = repeats header && has_records header in
+    let records = repeats header && has_record_type header in
     let counts = is_on (codes "recnum") header && (not (has_type (codes "btree") header) || repeats header) in
     let renumbers = is_on (codes "renumber") header && not (has_type (codes "recno") header) in
     let keyless = gives (codes "keys") (codes "0") header && (has_type (codes "btree") header || has_type (codes "hash") header) in
@@ -204,7 +204,7 @@ counted_alone header none on =
 
 not_narrow : (header : Values) → conflicts header ≡ false → has_type (codes "queue") header ≡ true → (number_or 0 (header (codes "re_len")) == 0) ≡ false
 not_narrow header none queue =
-    let records = repeats header && has_records header in
+    let records = repeats header && has_record_type header in
     let counts = is_on (codes "recnum") header && (not (has_type (codes "btree") header) || repeats header) in
     let renumbers = is_on (codes "renumber") header && not (has_type (codes "recno") header) in
     let keyless = gives (codes "keys") (codes "0") header && (has_type (codes "btree") header || has_type (codes "hash") header) in
@@ -261,7 +261,7 @@ settings_fit header says =
     ]
 
 -- a section holds records where its header says so
-pub records_held : (header : Values) → IsTyped header → holds_records (settings_in header).kind ≡ has_records header
+pub records_held : (header : Values) → IsTyped header → holds_records (settings_in header).kind ≡ has_record_type header
 records_held header typed =
     elim typed [
       | inl btree ↦ rw btree refl

@@ -3,13 +3,13 @@ use Rattle.std.proofs.Common.{◌≡◌, ℕ, zero, suc, ◌+◌, ◌==◌, if�
 use Rattle.std.specs.List.{All}
 use Rattle.std.proofs.lemmas.List.Elements.{All-cons, All-head, All-tail}
 use Rattle.bdb_format.specs.Digits.{digits_value}
-use Rattle.bdb_model.specs.declared.pairs.Key.{Key}
-use Rattle.bdb_model.specs.declared.pairs.Key.TheVariants.{Bytes, Number}
-use Rattle.bdb_model.specs.declared.pairs.TextPair.{TextPair}
-use Rattle.bdb_model.specs.Reasons.{is_record_number}
-use Rattle.bdb_model.specs.Sections.{counted_pairs, data_read, key_read, keyed_pairs, with_pair}
-use Rattle.bdb_model.specs.TextLines.{onto_first, text_lines}
-use Rattle.bdb_model.specs.TextSpelling.{before, bytes_spelled, next_unit, units_read}
+use Rattle.bdb_text_format.specs.declared.pairs.Key.{Key}
+use Rattle.bdb_text_format.specs.declared.pairs.Key.TheVariants.{Bytes, Number}
+use Rattle.bdb_text_format.specs.declared.pairs.TextPair.{TextPair}
+use Rattle.bdb_text_format.specs.Reasons.{is_record_number}
+use Rattle.bdb_text_format.specs.Sections.{counted_pairs, data_read, key_read, keyed_pairs, with_text_pair}
+use Rattle.bdb_text_format.specs.TextLines.{onto_first, text_lines}
+use Rattle.bdb_text_format.specs.TextSpelling.{before, bytes_spelled, next_unit, units_read}
 use Rattle.bdb_sections.specs.Fit.{IsFitPair, is_number, key_length}
 
 -- Lines.
@@ -94,7 +94,7 @@ pub record IsBefore (key : Option Key) (value : Option (List ℕ)) (line : ℕ) 
   pub pairs_are : pairs ≡ record { key = of_key; value = of_value; line = line } ∷ others
 
 stands_before : (key : Option Key) (value : Option (List ℕ)) (line : ℕ) (rest : Option (List TextPair)) (pairs : List TextPair)
-    → with_pair key value line rest ≡ Some pairs → IsBefore key value line rest pairs
+    → with_text_pair key value line rest ≡ Some pairs → IsBefore key value line rest pairs
 stands_before (Some key) (Some value) line (Some others) pairs is =
     record { of_key = key; of_value = value; others = others; key_is = refl; value_is = refl; rest_is = refl; pairs_are = sym (cc is) }
 stands_before (Some key) (Some value) line None pairs is = absurd (cc is)

@@ -6,13 +6,13 @@ use Rattle.std.specs.Str.{bytes_eq}
 use Rattle.std.proofs.lemmas.Bool.Decides.{nat_tests}
 use Rattle.std.proofs.lemmas.List.Elements.{All-cons, All-head, All-push, All-tail}
 use Rattle.bdb_format.specs.Databases.{is_name}
-use Rattle.bdb_model.specs.declared.pairs.TextPair.{TextPair}
-use Rattle.bdb_model.specs.declared.sections.Section.{Section}
-use Rattle.bdb_model.specs.Header.{Values, has_keys, has_records, is_on, name_in, prints, settings_in, values}
-use Rattle.bdb_model.specs.Reasons.{Parts, lines_with, name_missing, name_of, name_of_parts, names_with, parts_of, with_line}
-use Rattle.bdb_model.specs.Sections.{begin_with, counted_pairs, header_fits, keyed_pairs, nothing_left, pairs_read, parts_read, section_read, sections_from, sections_in, text_sections, with_pairs, with_section}
-use Rattle.bdb_model.specs.TextLines.{is_data_end, is_header_end, text_lines}
-use Rattle.bdb_model.specs.Written.{holds_records, version_line}
+use Rattle.bdb_text_format.specs.declared.pairs.TextPair.{TextPair}
+use Rattle.bdb_text_format.specs.declared.sections.Section.{Section}
+use Rattle.bdb_text_format.specs.Header.{Values, has_keys, has_record_type, is_on, name_in, prints, settings_in, values}
+use Rattle.bdb_text_format.specs.Reasons.{Parts, lines_with, name_missing, name_of, name_of_parts, names_with, parts_of, with_line}
+use Rattle.bdb_text_format.specs.Sections.{begin_with, counted_pairs, header_fits, keyed_pairs, nothing_left, pairs_read, parts_read, section_read, sections_from, sections_in, text_sections, with_pairs, with_section}
+use Rattle.bdb_text_format.specs.TextLines.{is_data_end, is_header_end, text_lines}
+use Rattle.bdb_text_format.specs.Written.{holds_records, version_line}
 use Rattle.bdb_sections.specs.Fit.{AreFit, AreNamedBehind, IsFitPair, IsFitSection, ReadSectionsAreFit}
 use Rattle.bdb_sections.proofs.HeaderLemmas.{IsFitHeader, fit_header, records_held, settings_fit}
 use Rattle.bdb_sections.proofs.PairLemmas.{AreShort, IsShort, counted_fit, keyed_fit, lines_short}
@@ -49,11 +49,11 @@ records_without false on none = absurd (cc none)
 
 pairs_by : (most at : ℕ) (header : Values) (lines : List (List ℕ)) (pairs : List TextPair) (keys : Bool) → keys ≡ has_keys header
     → AreShort most lines
-    → (if keys then keyed_pairs (prints header) (has_records header) at lines else counted_pairs (prints header) 1 at lines) ≡ Some pairs
-    → All (IsFitPair (has_records header) most) pairs
-pairs_by most at header lines pairs true is short read = keyed_fit (prints header) (has_records header) most at lines pairs short read
+    → (if keys then keyed_pairs (prints header) (has_record_type header) at lines else counted_pairs (prints header) 1 at lines) ≡ Some pairs
+    → All (IsFitPair (has_record_type header) most) pairs
+pairs_by most at header lines pairs true is short read = keyed_fit (prints header) (has_record_type header) most at lines pairs short read
 pairs_by most at header lines pairs false is short read =
-    let records : true ≡ has_records header = records_without (has_records header) (is_on (codes "keys") header) is in
+    let records : true ≡ has_record_type header = records_without (has_record_type header) (is_on (codes "keys") header) is in
     subst (λ b. All (IsFitPair b most) pairs) records (counted_fit (prints header) most 1 at lines pairs short read)
 
 -- a section that is fit, behind sections of these names
@@ -64,7 +64,7 @@ pub record IsFitBehind (most : ℕ) (names : List (Option (List ℕ))) (section 
 
 paired : (most at : ℕ) (names : List (Option (List ℕ))) (header : List (List ℕ)) (section : Section) (pairs : Option (List TextPair))
     → IsFitHeader names header
-    → ((all : List TextPair) → pairs ≡ Some all → All (IsFitPair (has_records (values header)) most) all)
+    → ((all : List TextPair) → pairs ≡ Some all → All (IsFitPair (has_record_type (values header)) most) all)
     → with_pairs at (values header) pairs ≡ Some section → IsFitBehind most names section × (section.name ≡ name_in (values header))
 paired most at names header section None fit each is = absurd (cc is)
 paired most at names header section (Some pairs) fit each is =

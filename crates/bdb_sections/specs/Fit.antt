@@ -5,13 +5,13 @@ use Rattle.bdb_format.specs.declared.kinds.Kind.TheVariants.{Queue}
 use Rattle.bdb_format.specs.declared.settings.Settings.{Settings}
 use Rattle.bdb_format.specs.Databases.{is_name}
 use Rattle.bdb_format.specs.HeadOf.{is_page_size}
-use Rattle.bdb_model.specs.declared.pairs.Key.{Key}
-use Rattle.bdb_model.specs.declared.pairs.Key.TheVariants.{Bytes, Number}
-use Rattle.bdb_model.specs.declared.pairs.TextPair.{TextPair}
-use Rattle.bdb_model.specs.declared.sections.Section.{Section}
-use Rattle.bdb_model.specs.Reasons.{name_missing}
-use Rattle.bdb_model.specs.Sections.{Reads}
-use Rattle.bdb_model.specs.Written.{holds_records}
+use Rattle.bdb_text_format.specs.declared.pairs.Key.{Key}
+use Rattle.bdb_text_format.specs.declared.pairs.Key.TheVariants.{Bytes, Number}
+use Rattle.bdb_text_format.specs.declared.pairs.TextPair.{TextPair}
+use Rattle.bdb_text_format.specs.declared.sections.Section.{Section}
+use Rattle.bdb_text_format.specs.Reasons.{name_missing}
+use Rattle.bdb_text_format.specs.Sections.{Reads}
+use Rattle.bdb_text_format.specs.Written.{holds_records}
 
 -- whether a key is the number of a record
 abbrev pub is_number : Key → Bool

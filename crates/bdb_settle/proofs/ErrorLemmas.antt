@@ -4,11 +4,11 @@ use Rattle.std.specs.List.{All, flat_map, fold}
 use Rattle.std.specs.Prelude.{◌==◌}
 use Rattle.std.proofs.lemmas.List.Elements.{All-cons, All-nil, All-weaker}
 use Rattle.bdb_format.specs.declared.settings.Settings.{Settings}
-use Rattle.bdb_model.specs.declared.pairs.TextPair.{TextPair}
-use Rattle.bdb_model.specs.declared.sections.Section.{Section}
+use Rattle.bdb_text_format.specs.declared.pairs.TextPair.{TextPair}
+use Rattle.bdb_text_format.specs.declared.sections.Section.{Section}
 use Rattle.bdb_settle.specs.declared.load_error.LoadError.{LoadError}
 use Rattle.bdb_settle.specs.declared.load_error.LoadError.TheVariants.{RecordTooLong, RecordZero}
-use Rattle.bdb_settle.specs.LoadErrors.{header_errors, is_sooner, is_too_long, is_zero, load_error, pair_errors, section_errors, sooner, where_so}
+use Rattle.bdb_settle.specs.LoadErrors.{header_errors, is_sooner, is_too_long, is_zero, load_error, page_size_in, pair_errors, section_errors, sooner, where_so}
 
 still_some : (first : LoadError) (errors : List LoadError) → fold sooner (Some first) errors ≡ None → ⊥
 still_some first [] none = absurd cc
@@ -53,9 +53,10 @@ sound_pair settings pair none =
 -- where no section has an error, no pair of one has
 pub sound_pairs : (sections : List Section) → load_error sections ≡ None → All (λ section. All (IsSound section.settings) section.pairs) sections
 sound_pairs sections none =
+    let size = page_size_in sections in
     let alone = length sections == 1 in
-    All-weaker (λ section. section_errors alone section ≡ []) (λ section. All (IsSound section.settings) section.pairs)
+    All-weaker (λ section. section_errors size alone section ≡ []) (λ section. All (IsSound section.settings) section.pairs)
     (λ section empty. All-weaker (λ pair. pair_errors section.settings pair ≡ []) (IsSound section.settings) (sound_pair section.settings) section.pairs
     (each_empty (pair_errors section.settings) section.pairs
-    (both_empty (header_errors alone section) (flat_map (pair_errors section.settings) section.pairs) empty).1))
-    sections (each_empty (section_errors alone) sections (no_errors (flat_map (section_errors alone) sections) none))
+    (both_empty (header_errors size alone section) (flat_map (pair_errors section.settings) section.pairs) empty).1))
+    sections (each_empty (section_errors size alone) sections (no_errors (flat_map (section_errors size alone) sections) none))

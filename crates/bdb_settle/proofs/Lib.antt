@@ -5,3 +5,4 @@ pub mod OrderedLemmas
 pub mod PutLemmas
 pub mod SettlingLemmas
 pub mod StableLemmas
+pub mod FillingLemmas

@@ -15,16 +15,18 @@ use Rattle.bdb_format.specs.declared.settings.Settings.{Settings}
 use Rattle.bdb_format.specs.Less.{less}
 use Rattle.bdb_format.proofs.LessLemmas.{eq_self, same_unless_less}
 use Rattle.bdb_leaves.specs.Runs.{IsShort}
-use Rattle.bdb_model.specs.declared.list.Pair.{Pair}
-use Rattle.bdb_model.specs.declared.pairs.Key.{Key}
-use Rattle.bdb_model.specs.declared.pairs.Key.TheVariants.{Bytes, Number}
-use Rattle.bdb_model.specs.declared.pairs.TextPair.{TextPair}
-use Rattle.bdb_model.specs.declared.sections.Section.{Section}
-use Rattle.bdb_mktree.specs.Lists.{HasBytes, HasNumber, IsKeyFor, IsListFor, IsPairFor, bytes_in, is_in_order, may_follow, number_in}
+use Rattle.bdb_text_format.specs.declared.list.Pair.{Pair}
+use Rattle.bdb_text_format.specs.declared.pairs.Key.{Key}
+use Rattle.bdb_text_format.specs.declared.pairs.Key.TheVariants.{Bytes, Number}
+use Rattle.bdb_text_format.specs.declared.pairs.TextPair.{TextPair}
+use Rattle.bdb_text_format.specs.declared.sections.Section.{Section}
+use Rattle.bdb_text_format.specs.Pairs.{number_of}
+use Rattle.bdb_mktree.specs.Lists.{HasBytes, HasNumber, IsKeyFor, IsTreeList, IsPairFor, bytes_in, is_in_order, may_follow}
 use Rattle.bdb_mktree.specs.Units.{IsTreeKind}
-use Rattle.bdb_settle.specs.ListLaw.{FitsFields, IsFit, IsKeyOf, LoadIntoLists}
+use Rattle.bdb_settle.specs.ListLaw.{HasShortBytes, IsFit, IsKeyOf, LoadIntoLists}
 use Rattle.bdb_settle.specs.LoadErrors.{is_zero}
-use Rattle.bdb_settle.specs.Loaded.{filled, filled_value, has_length, has_records, keeps_data, loaded, sorts_data, stands_before}
+use Rattle.bdb_text_format.specs.Written.{holds_records}
+use Rattle.bdb_settle.specs.Loaded.{loaded_pair, filled_value, has_length, keeps_data, loaded, sorts_data, stands_before}
 use Rattle.bdb_settle.proofs.ErrorLemmas.{IsSound, sound_pairs}
 use Rattle.bdb_settle.proofs.OrderedLemmas.{Ordered, OrderedFrom, fold_all, fold_ordered, follows}
 
@@ -40,12 +42,12 @@ filled_length settings value fixed fits =
     ap (λ b. length (cond b (value ++ filling) value)) fixed ∙ length-append value filling
     ∙ ap (λ n. length value + n) (length-replicate (settings.re_len - length value) (settings.re_pad % 256)) ∙ omega arith
 
-filled_short : (settings : Settings) (value : List ℕ) (b : Bool) → has_length settings ≡ b → settings.re_len < 2 ^ 32 → IsShort value
+pub filled_short : (settings : Settings) (value : List ℕ) (b : Bool) → has_length settings ≡ b → settings.re_len < 2 ^ 32 → IsShort value
     → (has_length settings && nat_lt settings.re_len (length value)) ≡ false → IsShort (filled_value settings value)
 filled_short settings value true fixed below short fits = rw (filled_length settings value fixed fits) below
 filled_short settings value false free below short fits = rw free short
 
-pub positive : (key : Key) → HasNumber key → is_zero key ≡ false → 1 ≤ number_in key
+pub positive : (key : Key) → HasNumber key → is_zero key ≡ false → 1 ≤ number_of key
 positive (Bytes bytes) never is = absurd never
 positive (Number number) numbered is = grind (arith, nat_tests)
 
@@ -54,22 +56,38 @@ key_fits kind key (inl btree) of_kind short is = subst (λ k. IsKeyFor k key) (s
 key_fits kind key (inr recno) of_kind short is =
     let numbered = subst (λ k. IsKeyOf k key) recno of_kind in subst (λ k. IsKeyFor k key) (sym recno) (numbered, positive key numbered is)
 
-pair_fits : (settings : Settings) (pair : TextPair) → IsTreeKind settings.kind → settings.re_len < 2 ^ 32 → FitsFields settings.kind pair
-    → IsSound settings pair
-    → IsPairFor settings (filled settings pair)
-pair_fits settings pair kind below fits sound = record {
-  key = key_fits settings.kind pair.key kind fits.key fits.key_short sound.number;
-  short = filled_short settings pair.value (has_length settings) refl below fits.short sound.short;
-  long = λ recno fixed. filled_length settings pair.value (both_true fixed (ap has_records recno)) sound.short;
+-- a pair of a list, whatever the lengths of its bytes
+record IsOfKind (settings : Settings) (pair : Pair) : Type 0 where
+  key : IsKeyOf settings.kind pair.key
+  some : is_zero pair.key ≡ false
+  long : settings.kind ≡ Recno → settings.fixed ≡ true → length pair.value ≡ settings.re_len
+
+of_kind : (settings : Settings) (pair : TextPair) → IsKeyOf settings.kind pair.key → IsSound settings pair → IsOfKind settings (loaded_pair settings pair)
+of_kind settings pair key sound = record {
+  key = key;
+  some = sound.number;
+  long = λ recno fixed. filled_length settings pair.value (both_true fixed (ap holds_records recno)) sound.short;
 }
 
-pairs_fit : (settings : Settings) (pairs : List TextPair) → IsTreeKind settings.kind → settings.re_len < 2 ^ 32 → All (FitsFields settings.kind) pairs
-    → All (IsSound settings) pairs → All (IsPairFor settings) (map (filled settings) pairs)
-pairs_fit settings [] kind below fits sound = All-nil (IsPairFor settings)
-pairs_fit settings (pair ∷ pairs) kind below fits sound =
-    All-cons (IsPairFor settings) (filled settings pair) (map (filled settings) pairs)
-    (pair_fits settings pair kind below (All-head (FitsFields settings.kind) pair pairs fits) (All-head (IsSound settings) pair pairs sound))
-    (pairs_fit settings pairs kind below (All-tail (FitsFields settings.kind) pair pairs fits) (All-tail (IsSound settings) pair pairs sound))
+all_of_kind : (settings : Settings) (pairs : List TextPair) → All (λ (pair : TextPair). IsKeyOf settings.kind pair.key) pairs
+    → All (IsSound settings) pairs → All (IsOfKind settings) (map (loaded_pair settings) pairs)
+all_of_kind settings [] keys sound = All-nil (IsOfKind settings)
+all_of_kind settings (pair ∷ pairs) keys sound =
+    let has : TextPair → Type 0 = λ one. IsKeyOf settings.kind one.key in
+    All-cons (IsOfKind settings) (loaded_pair settings pair) (map (loaded_pair settings) pairs)
+    (of_kind settings pair (All-head has pair pairs keys) (All-head (IsSound settings) pair pairs sound))
+    (all_of_kind settings pairs (All-tail has pair pairs keys) (All-tail (IsSound settings) pair pairs sound))
+
+-- and those whose bytes are short
+pairs_fit : (settings : Settings) (pairs : List Pair) → IsTreeKind settings.kind → All (IsOfKind settings) pairs → All HasShortBytes pairs
+    → All (IsPairFor settings) pairs
+pairs_fit settings [] kind of short = All-nil (IsPairFor settings)
+pairs_fit settings (pair ∷ pairs) kind of short =
+    let one : IsOfKind settings pair = All-head (IsOfKind settings) pair pairs of in
+    let bytes : HasShortBytes pair = All-head HasShortBytes pair pairs short in
+    All-cons (IsPairFor settings) pair pairs
+    (record { key = key_fits settings.kind pair.key kind one.key bytes.key one.some; short = bytes.value; long = one.long })
+    (pairs_fit settings pairs kind (All-tail (IsOfKind settings) pair pairs of) (All-tail HasShortBytes pair pairs short))
 
 -- Two pairs, one behind the other.
 
@@ -104,9 +122,9 @@ keyed_next : (settings : Settings) (a b : Key) (first then : List ℕ) → setti
 keyed_next settings (Number number) b first then btree both has_a has_b after = absurd has_a
 keyed_next settings (Bytes a) (Number number) first then btree both has_a has_b after = absurd has_b
 keyed_next settings (Bytes a) (Bytes b) first then btree both has_a has_b after =
-    let sorts : sorts_data settings ≡ settings.sorted = ap (λ k. settings.sorted && not (has_records k)) btree ∙ and-true settings.sorted in
+    let sorts : sorts_data settings ≡ settings.sorted = ap (λ k. settings.sorted && not (holds_records k)) btree ∙ and-true settings.sorted in
     let keeps : keeps_data settings ≡ (settings.duplicates && not settings.sorted) =
-    ap (λ k. settings.duplicates && not settings.sorted && not (has_records k)) btree ∙ and-true (settings.duplicates && not settings.sorted) in
+    ap (λ k. settings.duplicates && not settings.sorted && not (holds_records k)) btree ∙ and-true (settings.duplicates && not settings.sorted) in
     ap (λ k. may_follow k settings (record { key = Bytes a; value = first }) (record { key = Bytes b; value = then })) btree
     ∙ by_bytes (less a b) (less b a) (bytes_eq a b) settings.duplicates settings.sorted (sorts_data settings) (keeps_data settings) (less first then)
     (less then first)
@@ -118,9 +136,9 @@ numbered_next : (settings : Settings) (a b : Key) (first then : List ℕ) → se
 numbered_next settings (Bytes bytes) b first then recno has_a has_b after = absurd has_a
 numbered_next settings (Number m) (Bytes bytes) first then recno has_a has_b after = absurd has_b
 numbered_next settings (Number m) (Number n) first then recno has_a has_b after =
-    let sorts : sorts_data settings ≡ false = ap (λ k. settings.sorted && not (has_records k)) recno ∙ and-false settings.sorted in
+    let sorts : sorts_data settings ≡ false = ap (λ k. settings.sorted && not (holds_records k)) recno ∙ and-false settings.sorted in
     let keeps : keeps_data settings ≡ false =
-    ap (λ k. settings.duplicates && not settings.sorted && not (has_records k)) recno ∙ and-false (settings.duplicates && not settings.sorted) in
+    ap (λ k. settings.duplicates && not settings.sorted && not (holds_records k)) recno ∙ and-false (settings.duplicates && not settings.sorted) in
     ap (λ k. may_follow k settings (record { key = Number m; value = first }) (record { key = Number n; value = then })) recno
     ∙ by_numbers (nat_lt m n) (nat_lt n m) (sorts_data settings) (keeps_data settings) (less first then) (less then first) sorts keeps after
 
@@ -154,20 +172,22 @@ list_is_in_order settings [] kind both each ordered = refl
 list_is_in_order settings (pair ∷ pairs) kind both each ordered = from_is_in_order settings pair pairs kind both each ordered
 
 section_loads : (section : Section) → IsTreeKind section.settings.kind → IsFit section → All (IsSound section.settings) section.pairs
-    → IsListFor section.settings (loaded section.settings section.pairs)
-section_loads section kind fit sound =
+    → All HasShortBytes (loaded section.settings section.pairs) → IsTreeList section.settings (loaded section.settings section.pairs)
+section_loads section kind fit sound short =
     let settings = section.settings in
-    let each = fold_all (IsPairFor settings) settings (map (filled settings) section.pairs) []
-    (pairs_fit settings section.pairs kind fit.length fit.pairs sound)
-    (All-nil (IsPairFor settings)) in
+    let of = fold_all (IsOfKind settings) settings (map (loaded_pair settings) section.pairs) []
+    (all_of_kind settings section.pairs fit.pairs sound)
+    (All-nil (IsOfKind settings)) in
+    let each = pairs_fit settings (loaded settings section.pairs) kind of short in
     record {
       each = each;
       in_order = list_is_in_order settings (loaded settings section.pairs) kind fit.sorted each
-          (fold_ordered settings (map (filled settings) section.pairs) [] tt);
+          (fold_ordered settings (map (loaded_pair settings) section.pairs) [] tt);
     }
 
 pub load_into_lists : LoadIntoLists
 load_into_lists sections none =
     All-weaker (λ section. All (IsSound section.settings) section.pairs)
-    (λ section. IsTreeKind section.settings.kind → IsFit section → IsListFor section.settings (loaded section.settings section.pairs))
+    (λ section. IsTreeKind section.settings.kind → IsFit section → All HasShortBytes (loaded section.settings section.pairs)
+    → IsTreeList section.settings (loaded section.settings section.pairs))
     (λ section sound kind fit. section_loads section kind fit sound) sections (sound_pairs sections none)

@@ -6,8 +6,8 @@ use Rattle.std.specs.List.{All, fold}
 use Rattle.std.proofs.lemmas.Bool.{or_parts}
 use Rattle.std.proofs.lemmas.List.Elements.{All-cons, All-head, All-nil, All-tail}
 use Rattle.bdb_format.specs.declared.settings.Settings.{Settings}
-use Rattle.bdb_model.specs.declared.list.Pair.{Pair}
-use Rattle.bdb_settle.specs.Loaded.{keeps_data, put, stands_before, with_pair}
+use Rattle.bdb_text_format.specs.declared.list.Pair.{Pair}
+use Rattle.bdb_settle.specs.Loaded.{keeps_data, put, stands_before, with_loaded}
 use Rattle.bdb_settle.proofs.KeyOrderLemmas.{pairs_weakly}
 use Rattle.bdb_settle.proofs.PutLemmas.{below}
 
@@ -27,10 +27,10 @@ put_all P before keeps pair (other ∷ others) one all =
     by_tests false false first later more = All-cons P pair others one later
 
 pub fold_all : (P : Pair → Type 0) (settings : Settings) (pairs list : List Pair) → All P pairs → All P list
-    → All P (fold (with_pair settings) list pairs)
+    → All P (fold (with_loaded settings) list pairs)
 fold_all P settings [] list each all = all
 fold_all P settings (pair ∷ pairs) list each all =
-    fold_all P settings pairs (with_pair settings list pair) (All-tail P pair pairs each)
+    fold_all P settings pairs (with_loaded settings list pair) (All-tail P pair pairs each)
     (put_all P (stands_before settings) (keeps_data settings) pair list (All-head P pair pairs each) all)
 
 -- Order.
@@ -95,8 +95,8 @@ module _ (before : Pair → Pair → Bool) (weak : IsStrictWeakOrder before) (ke
           instead other pair others (or_parts (before other pair) keeps second).1 (or_parts (before other pair) keeps second).0 ordered
 
 pub fold_ordered : (settings : Settings) (pairs list : List Pair) → Ordered (stands_before settings) (keeps_data settings) list
-    → Ordered (stands_before settings) (keeps_data settings) (fold (with_pair settings) list pairs)
+    → Ordered (stands_before settings) (keeps_data settings) (fold (with_loaded settings) list pairs)
 fold_ordered settings [] list ordered = ordered
 fold_ordered settings (pair ∷ pairs) list ordered =
-    fold_ordered settings pairs (with_pair settings list pair)
+    fold_ordered settings pairs (with_loaded settings list pair)
     (put_ordered (stands_before settings) (pairs_weakly settings) (keeps_data settings) pair list ordered)

@@ -9,9 +9,9 @@ use Rattle.std.proofs.lemmas.List.Elements.{All-head, All-tail, All-append, All-
 use Rattle.std.proofs.lemmas.List.{reverse-reverse}
 use Rattle.std.proofs.lemmas.Option.{slice_get-get_or}
 use Rattle.bdb_format.specs.declared.settings.Settings.{Settings}
-use Rattle.bdb_model.specs.declared.list.Pair.{Pair}
-use Rattle.bdb_model.specs.declared.pairs.TextPair.{TextPair}
-use Rattle.bdb_settle.specs.Loaded.{keeps_data, put, stands_before, unnumbered, with_pair}
+use Rattle.bdb_text_format.specs.declared.list.Pair.{Pair}
+use Rattle.bdb_text_format.specs.declared.pairs.TextPair.{TextPair}
+use Rattle.bdb_settle.specs.Loaded.{keeps_data, put, stands_before, unnumbered, with_loaded}
 use Rattle.bdb_settle.specs.Settling.{Ascend, IsSettledTo, stays}
 use Rattle.bdb_settle.proofs.KeyOrderLemmas.{pairs_weakly}
 use Rattle.bdb_settle.proofs.PutLemmas.{put_behind}
@@ -92,7 +92,7 @@ stepped settings all list last pair rest so true is =
       stay = All-append (λ other. stays before keeps pair other ≡ true) so.done (last ∷ []) still
           (All-cons (λ other. stays before keeps pair other ≡ true) last [] here (All-nil (λ other. stays before keeps pair other ≡ true)));
       ascend = so.ascend.1;
-      whole = so.whole ∙ ap (λ l. fold (with_pair settings) l rest)
+      whole = so.whole ∙ ap (λ l. fold (with_loaded settings) l rest)
           (put_behind before (pairs_weakly settings) keeps pair so.done (last ∷ []) still ∙ ap (λ l. so.done ++ l) end
           ∙ sym (append_assoc so.done (last ∷ []) (pair ∷ [])));
     }
@@ -106,12 +106,12 @@ stepped settings all list last pair rest so false is =
       seen = so.seen;
       stay = still;
       ascend = so.ascend.1;
-      whole = so.whole ∙ ap (λ l. fold (with_pair settings) l rest)
+      whole = so.whole ∙ ap (λ l. fold (with_loaded settings) l rest)
           (put_behind before (pairs_weakly settings) keeps pair so.done (last ∷ []) still ∙ ap (λ l. so.done ++ l) end);
     }
 
 pub ended : (settings : Settings) (all : List Pair) (list : List TextPair) (last : Pair) → IsSettledTo settings all list last []
-    → list ++ (unnumbered last ∷ []) ≡ map unnumbered (fold (with_pair settings) [] all)
+    → list ++ (unnumbered last ∷ []) ≡ map unnumbered (fold (with_loaded settings) [] all)
 ended settings all list last so = ap (λ l. l ++ (unnumbered last ∷ [])) so.seen ∙ map_more so.done last ∙ ap (map unnumbered) (sym so.whole)
 
 -- One step, in the words of the loop.

@@ -1,14 +1,14 @@
 -- Why sections can't be loaded. Source: docs/FORMAT.md, "What loading does to a list".
-use Rattle.std.specs.Prelude.{◌≡◌, ℕ, ◌+◌, ◌-◌, ◌*◌, ◌/◌, nat_lt, ◌==◌, ◌&&◌, ◌||◌, not, if◌then◌else◌}
-use Rattle.std.specs.Prelude.{Bool, true, false, List, [], ◌∷◌, ◌++◌, length, Option, Some, None, is_some}
+use Rattle.std.specs.Prelude.{◌≡◌, ℕ, ◌+◌, ◌-◌, nat_lt, ◌==◌, ◌&&◌, ◌||◌, not, if◌then◌else◌}
+use Rattle.std.specs.Prelude.{Bool, false, List, [], ◌∷◌, ◌++◌, length, Option, Some, None, is_some}
 use Rattle.std.specs.List.{flat_map, fold}
-use Rattle.bdb_format.specs.declared.kinds.Kind.{Kind}
-use Rattle.bdb_format.specs.declared.kinds.Kind.TheVariants.{Btree, Recno, Hash, Queue}
 use Rattle.bdb_format.specs.declared.settings.Settings.{Settings}
-use Rattle.bdb_model.specs.declared.pairs.Key.{Key}
-use Rattle.bdb_model.specs.declared.pairs.Key.TheVariants.{Bytes, Number}
-use Rattle.bdb_model.specs.declared.pairs.TextPair.{TextPair}
-use Rattle.bdb_model.specs.declared.sections.Section.{Section}
+use Rattle.bdb_format.specs.Numbers.{pad4}
+use Rattle.bdb_text_format.specs.declared.pairs.Key.{Key}
+use Rattle.bdb_text_format.specs.declared.pairs.Key.TheVariants.{Bytes, Number}
+use Rattle.bdb_text_format.specs.declared.pairs.TextPair.{TextPair}
+use Rattle.bdb_text_format.specs.declared.sections.Section.{Section}
+use Rattle.bdb_text_format.specs.Written.{is_queue}
 use Rattle.bdb_settle.specs.declared.load_error.LoadError.{LoadError}
 use Rattle.bdb_settle.specs.declared.load_error.LoadError.TheVariants.{RecordTooLong, RecordZero, TooLarge, QueueAmongNames, Memory}
 use Rattle.bdb_settle.specs.Loaded.{has_length}
@@ -54,37 +54,33 @@ is_zero (Number number) = number == 0
 abbrev pub pair_errors : Settings → TextPair → List LoadError
 pair_errors settings pair = where_so (is_too_long settings pair) (RecordTooLong pair.line) ++ where_so (is_zero pair.key) (RecordZero pair.line)
 
-abbrev pub is_queue : Kind → Bool
-is_queue Btree = false
-is_queue Recno = false
-is_queue Hash = false
-is_queue Queue = true
-
--- the bytes of a queue's record on its page, rounded up to 4
-abbrev pub slot_size : ℕ → ℕ
-slot_size re_len = (re_len + 1 + 3) / 4 * 4
-
--- a queue whose record doesn't fit a page
-abbrev pub is_too_wide : Settings → Bool
-is_too_wide settings = is_queue settings.kind && nat_lt (settings.page_size - 28) (slot_size settings.re_len)
+-- a queue whose record doesn't fit a page of this size: with one byte more, rounded up to 4, it has more bytes than the page behind its header
+abbrev pub is_too_wide : ℕ → Settings → Bool
+is_too_wide size settings = is_queue settings.kind && nat_lt (size - 28) (pad4 (settings.re_len + 1))
 
 -- a queue that has a name or stands beside others
 abbrev pub is_among_names : Bool → Section → Bool
 is_among_names alone section = is_queue section.settings.kind && (is_some section.name || not alone)
 
-abbrev pub header_errors : Bool → Section → List LoadError
-header_errors alone section =
-    where_so (is_too_wide section.settings) (RecordTooLong section.header_line)
+-- the errors of a header, by the page size of the file
+abbrev pub header_errors : ℕ → Bool → Section → List LoadError
+header_errors size alone section =
+    where_so (is_too_wide size section.settings) (RecordTooLong section.header_line)
     ++ where_so (is_among_names alone section) (QueueAmongNames section.header_line)
 
-abbrev pub section_errors : Bool → Section → List LoadError
-section_errors alone section = header_errors alone section ++ flat_map (pair_errors section.settings) section.pairs
+abbrev pub section_errors : ℕ → Bool → Section → List LoadError
+section_errors size alone section = header_errors size alone section ++ flat_map (pair_errors section.settings) section.pairs
+
+-- the page size of the file that is made of sections: that of the first
+abbrev pub page_size_in : List Section → ℕ
+page_size_in [] = 0
+page_size_in (section ∷ sections) = section.settings.page_size
 
 -- the first error of sections, of which there is one alone or several
 abbrev pub load_error : List Section → Option LoadError
-load_error sections = fold sooner None (flat_map (section_errors (length sections == 1)) sections)
+load_error sections = fold sooner None (flat_map (section_errors (page_size_in sections) (length sections == 1)) sections)
 
 -- a refusal gives the first error, or want of memory where there is none
-abbrev pub IsRefusal : Option LoadError → LoadError → Type 0
-IsRefusal (Some first) error = error ≡ first
-IsRefusal None error = error ≡ Memory
+abbrev pub IsSettleRefusal : Option LoadError → LoadError → Type 0
+IsSettleRefusal (Some first) error = error ≡ first
+IsSettleRefusal None error = error ≡ Memory

@@ -1,15 +1,14 @@
 -- What loading does to the pairs of a section. Source: docs/FORMAT.md, "What loading does to a list" and "Order of keys".
 use Rattle.std.specs.Prelude.{ℕ, ◌-◌, ◌%◌, nat_lt, ◌&&◌, ◌||◌, not, if◌then◌else◌, Bool, true, false, List, [], ◌∷◌, ◌++◌, length, map, replicate}
 use Rattle.std.specs.List.{fold}
-use Rattle.bdb_format.specs.declared.kinds.Kind.{Kind}
-use Rattle.bdb_format.specs.declared.kinds.Kind.TheVariants.{Btree, Recno, Hash, Queue}
 use Rattle.bdb_format.specs.declared.settings.Settings.{Settings}
 use Rattle.bdb_format.specs.Less.{less}
-use Rattle.bdb_model.specs.declared.list.Pair.{Pair}
-use Rattle.bdb_model.specs.declared.pairs.Key.{Key}
-use Rattle.bdb_model.specs.declared.pairs.Key.TheVariants.{Bytes, Number}
-use Rattle.bdb_model.specs.declared.pairs.TextPair.{TextPair}
-use Rattle.bdb_model.specs.declared.sections.Section.{Section}
+use Rattle.bdb_text_format.specs.declared.list.Pair.{Pair}
+use Rattle.bdb_text_format.specs.declared.pairs.Key.{Key}
+use Rattle.bdb_text_format.specs.declared.pairs.Key.TheVariants.{Bytes, Number}
+use Rattle.bdb_text_format.specs.declared.pairs.TextPair.{TextPair}
+use Rattle.bdb_text_format.specs.declared.sections.Section.{Section}
+use Rattle.bdb_text_format.specs.Written.{holds_records}
 
 -- Order.
 
@@ -20,20 +19,13 @@ key_less (Bytes a) (Number n) = false
 key_less (Number m) (Bytes b) = true
 key_less (Number m) (Number n) = nat_lt m n
 
--- whether keys are numbers of records
-abbrev pub has_records : Kind → Bool
-has_records Btree = false
-has_records Recno = true
-has_records Hash = false
-has_records Queue = true
-
 -- whether the data of a key stand in byte order, each once
 abbrev pub sorts_data : Settings → Bool
-sorts_data settings = settings.sorted && not (has_records settings.kind)
+sorts_data settings = settings.sorted && not (holds_records settings.kind)
 
 -- whether the data of a key stand one behind the other, as they come
 abbrev pub keeps_data : Settings → Bool
-keeps_data settings = settings.duplicates && not settings.sorted && not (has_records settings.kind)
+keeps_data settings = settings.duplicates && not settings.sorted && not (holds_records settings.kind)
 
 -- a pair stands before another: its key is less, or it is the same and its datum is less, where data are sorted
 abbrev pub stands_before : Settings → Pair → Pair → Bool
@@ -49,23 +41,43 @@ put before keeps pair (other ∷ others) =
     else (if before other pair || keeps then other ∷ put before keeps pair others else pair ∷ others)
 
 -- a list with one pair more
-abbrev pub with_pair : Settings → List Pair → Pair → List Pair
-with_pair settings list pair = put (stands_before settings) (keeps_data settings) pair list
+abbrev pub with_loaded : Settings → List Pair → Pair → List Pair
+with_loaded settings list pair = put (stands_before settings) (keeps_data settings) pair list
 
 -- whether records have a fixed length
 abbrev pub has_length : Settings → Bool
-has_length settings = settings.fixed && has_records settings.kind
+has_length settings = settings.fixed && holds_records settings.kind
 
 -- a record that is shorter than the fixed length is filled up at its end with the low byte of re_pad
 abbrev pub filled_value : Settings → List ℕ → List ℕ
 filled_value settings value = if has_length settings then value ++ replicate (settings.re_len - length value) (settings.re_pad % 256) else value
 
-abbrev pub filled : Settings → TextPair → Pair
-filled settings pair = record { key = pair.key; value = filled_value settings pair.value }
+abbrev pub loaded_pair : Settings → TextPair → Pair
+loaded_pair settings pair = record { key = pair.key; value = filled_value settings pair.value }
 
 -- the list of the pairs of a section, taken in turn from the empty list on
 abbrev pub loaded : Settings → List TextPair → List Pair
-loaded settings pairs = fold (with_pair settings) [] (map (filled settings) pairs)
+loaded settings pairs = fold (with_loaded settings) [] (map (loaded_pair settings) pairs)
+
+-- Lists whose records aren't filled up yet.
+
+-- a pair without its line
+abbrev pub unlined : TextPair → Pair
+unlined pair = record { key = pair.key; value = pair.value }
+
+abbrev pub unlined_pairs : List TextPair → List Pair
+unlined_pairs pairs = map unlined pairs
+
+-- the list of pairs as they are
+abbrev pub ordered : Settings → List TextPair → List Pair
+ordered settings pairs = fold (with_loaded settings) [] (unlined_pairs pairs)
+
+-- a pair with its record filled up
+abbrev pub filled_pair : Settings → TextPair → TextPair
+filled_pair settings pair = record pair { value = filled_value settings pair.value }
+
+abbrev pub filled_pairs : Settings → List TextPair → List TextPair
+filled_pairs settings pairs = map (filled_pair settings) pairs
 
 -- Sections.
 
@@ -75,3 +87,11 @@ unnumbered pair = record { key = pair.key; value = pair.value; line = 0 }
 -- a section with its list, in which no line has a number
 abbrev pub loaded_section : Section → Section
 loaded_section section = record section { header_line = 0; pairs = map unnumbered (loaded section.settings section.pairs) }
+
+-- a section with its list, whose records aren't filled up yet
+abbrev pub ordered_section : Section → Section
+ordered_section section = record section { header_line = 0; pairs = map unnumbered (ordered section.settings section.pairs) }
+
+-- a section with its records filled up
+abbrev pub filled_section : Section → Section
+filled_section section = record section { pairs = filled_pairs section.settings section.pairs }

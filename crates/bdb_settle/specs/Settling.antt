@@ -3,11 +3,11 @@ use Rattle.std.specs.Prelude.{◌≡◌, Bool, true, false, not, ◌||◌, ◌&&
 use Rattle.std.specs.List.{All, fold}
 use Rattle.std.specs.declared.cmp.Ordering.{Ordering}
 use Rattle.std.specs.declared.cmp.Ordering.TheVariants.{Less as Below, Equal, Greater}
-use Rattle.bdb_model.specs.declared.list.Pair.{Pair}
-use Rattle.bdb_model.specs.declared.pairs.Key.{Key}
-use Rattle.bdb_model.specs.declared.pairs.TextPair.{TextPair}
+use Rattle.bdb_text_format.specs.declared.list.Pair.{Pair}
+use Rattle.bdb_text_format.specs.declared.pairs.Key.{Key}
+use Rattle.bdb_text_format.specs.declared.pairs.TextPair.{TextPair}
 use Rattle.bdb_format.specs.declared.settings.Settings.{Settings}
-use Rattle.bdb_settle.specs.Loaded.{keeps_data, key_less, stands_before, unnumbered, with_pair}
+use Rattle.bdb_settle.specs.Loaded.{keeps_data, key_less, stands_before, unnumbered, with_loaded}
 
 -- a pair that stays where another is put behind it
 abbrev pub stays : (Pair → Pair → Bool) → Bool → Pair → Pair → Bool
@@ -24,7 +24,7 @@ pub record IsSettledTo (settings : Settings) (all : List Pair) (list : List Text
   pub seen : list ≡ map unnumbered done
   pub stay : All (λ other. stays (stands_before settings) (keeps_data settings) last other ≡ true) done
   pub ascend : Ascend (stands_before settings) last rest
-  pub whole : fold (with_pair settings) [] all ≡ fold (with_pair settings) (done ++ last ∷ []) rest
+  pub whole : fold (with_loaded settings) [] all ≡ fold (with_loaded settings) (done ++ last ∷ []) rest
 
 -- the answer of a comparison of two keys
 abbrev pub KeyOrderingIs : Ordering → Key → Key → Type 0

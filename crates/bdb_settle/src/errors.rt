@@ -1,12 +1,14 @@
-ghost use Rattle.std.specs.Prelude.{◌≡◌, ◌==◌, length};
+ghost use Rattle.std.specs.Prelude.{◌≡◌, ◌+◌, ◌==◌, length};
 ghost use Rattle.std.specs.List.{flat_map, fold};
-ghost use Rattle.bdb_settle.specs.LoadErrors.{header_errors, is_among_names, is_queue, is_sooner, is_too_long, is_too_wide, is_zero};
-ghost use Rattle.bdb_settle.specs.LoadErrors.{line_of, code_of, load_error, pair_errors, section_errors, slot_size, sooner, where_so};
+ghost use Rattle.bdb_text_format.specs.Written.{is_queue};
+ghost use Rattle.bdb_settle.specs.LoadErrors.{header_errors, is_among_names, is_sooner, is_too_long, is_too_wide, is_zero};
+ghost use Rattle.bdb_settle.specs.LoadErrors.{line_of, code_of, load_error, pair_errors, page_size_in, section_errors, sooner, where_so};
+ghost use Rattle.bdb_format.specs.Numbers.{pad4};
 
 use crate::LoadError;
 use crate::filling::has_length;
 use bdb_format::{Kind, Settings};
-use bdb_model::{Key, Section, Sections, TextPair, TextPairs};
+use bdb_text_format::{Key, Section, Sections, TextPair, TextPairs};
 
 /// The line of an error.
 fn line_of(error: LoadError) -> u64
@@ -109,17 +111,16 @@ fn is_queue(kind: Kind) -> bool
 
 /// The bytes that a record of a queue takes on its page.
 fn slot_size(re_len: u32) -> u64
-    ensures { result ≡ slot_size re_len }
+    ensures { result ≡ pad4 (re_len + 1) }
 {
     (u64::from(re_len) + 1 + 3) / 4 * 4
 }
 
-/// Whether a queue's record doesn't fit a page.
-fn is_too_wide(settings: &Settings) -> bool
-    ensures { result ≡ is_too_wide settings.now }
+/// Whether a queue's record doesn't fit a page of so many bytes.
+fn is_too_wide(size: u32, settings: &Settings) -> bool
+    ensures { result ≡ is_too_wide size settings.now }
 {
-    is_queue(settings.kind)
-        && u64::from(settings.page_size.saturating_sub(28)) < slot_size(settings.re_len)
+    is_queue(settings.kind) && u64::from(size.saturating_sub(28)) < slot_size(settings.re_len)
 }
 
 /// Whether a queue has a name, or isn't alone.
@@ -129,14 +130,19 @@ fn is_among_names(alone: bool, section: &Section) -> bool
     is_queue(section.settings.kind) && (section.name.is_some() || !alone)
 }
 
-/// The first error, with those of a header.
-fn with_header(first: Option<LoadError>, alone: bool, section: &Section) -> Option<LoadError>
-    ensures { result ≡ fold sooner first (header_errors alone section.now) }
+/// The first error, with those of a header, in a file of this page size.
+fn with_header(
+    first: Option<LoadError>,
+    size: u32,
+    alone: bool,
+    section: &Section,
+) -> Option<LoadError>
+    ensures { result ≡ fold sooner first (header_errors size alone section.now) }
 {
     let line = section.header_line;
     let first = sooner_where(
         first,
-        is_too_wide(&section.settings),
+        is_too_wide(size, &section.settings),
         LoadError::RecordTooLong(line),
     );
     sooner_where(
@@ -146,22 +152,38 @@ fn with_header(first: Option<LoadError>, alone: bool, section: &Section) -> Opti
     )
 }
 
-/// The first error, with those of a section.
-fn with_section(first: Option<LoadError>, alone: bool, section: &Section) -> Option<LoadError>
-    ensures { result ≡ fold sooner first (section_errors alone section.now) }
+/// The first error, with those of a section, in a file of this page size.
+fn with_section(
+    first: Option<LoadError>,
+    size: u32,
+    alone: bool,
+    section: &Section,
+) -> Option<LoadError>
+    ensures { result ≡ fold sooner first (section_errors size alone section.now) }
 {
-    let first = with_header(first, alone, section);
+    let first = with_header(first, size, alone, section);
     with_pairs(first, &section.settings, &section.pairs)
+}
+
+/// The page size of the file that is made of sections: that of the first.
+fn page_size_in(sections: &Sections) -> u32
+    ensures { result ≡ page_size_in sections.now }
+{
+    match sections.get(0) {
+        Some(section) => section.settings.page_size,
+        None => 0,
+    }
 }
 
 /// The first error of sections.
 pub(crate) fn load_error(sections: &Sections) -> Option<LoadError>
     ensures { result ≡ load_error sections.now }
 {
+    let size = page_size_in(sections);
     let alone = sections.len() == 1;
     let mut first = None;
     for section in sections.as_slice() {
-        first = with_section(first, alone, section);
+        first = with_section(first, size, alone, section);
     }
     first
 }

@@ -1,26 +1,29 @@
-ghost use Rattle.std.specs.Prelude.{◌≡◌, ◌++◌, ◌%◌, map, replicate, IfOk, OnOk};
-ghost use Rattle.bdb_settle.specs.Loaded.{filled, filled_value, has_length};
+ghost use Rattle.std.specs.Prelude.{◌≡◌, ◌%◌, length, map, reverse, IfOk};
+ghost use Rattle.bdb_settle.specs.Loaded.{filled_pair, filled_pairs, filled_section, filled_value, has_length};
 
-use crate::order::has_records;
+use crate::order::holds_records;
+use crate::turning::turned;
 use bdb_format::{Bytes, Settings};
-use bdb_model::{Pair, TextPair, TextPairs};
+use bdb_text_format::{Section, Sections, TextPair, TextPairs};
 use std::alloc::{AllocError, Global};
 
 /// Whether records have a fixed length.
 pub(crate) fn has_length(settings: &Settings) -> bool
     ensures { result ≡ has_length settings.now }
 {
-    settings.fixed && has_records(settings.kind)
+    settings.fixed && holds_records(settings.kind)
 }
 
-/// Adds a byte so many times at the end.
-fn push_times(value: &mut Bytes, byte: u8, times: usize) -> Result<(), AllocError>
-    ensures { OnOk result (value.new ≡ value.old ++ replicate times byte) }
+/// The length of a datum once it is filled up.
+pub fn filled_len(settings: &Settings, value: &Bytes) -> usize
+    ensures { result ≡ length (filled_value settings.now value.now) }
 {
-    for _at in 0..times {
-        value.push_all(&[byte])?;
+    let len = value.as_slice().len();
+    if has_length(settings) {
+        len.max(settings.re_len as usize)
+    } else {
+        len
     }
-    Ok(())
 }
 
 /// The byte that fills up a short record.
@@ -31,41 +34,102 @@ fn padding(settings: &Settings) -> u8
 }
 
 /// A datum, filled up where it is shorter than the fixed length.
-fn filled_value(settings: &Settings, value: Bytes) -> Result<Bytes, AllocError>
+fn filled_value(alloc: Global, settings: &Settings, value: Bytes) -> Result<Bytes, AllocError>
     ensures { IfOk result (λ all. all ≡ filled_value settings.now value) }
 {
-    let mut value = value;
-    if has_length(settings) {
-        let missing = (settings.re_len as usize).saturating_sub(value.as_slice().len());
-        push_times(&mut value, padding(settings), missing)?;
+    let len = filled_len(settings, &value);
+    if len == value.as_slice().len() {
+        return Ok(value);
     }
-    Ok(value)
+    let mut all = Vec::with_capacity(alloc, len)?;
+    all.extend_from_slice(value.as_slice())?;
+    all.resize(len, padding(settings))?;
+    Ok(Bytes::from_vec(all))
 }
 
-/// The pair of a list that a pair of a section makes.
-fn filled(settings: &Settings, pair: TextPair) -> Result<Pair, AllocError>
-    ensures { IfOk result (λ filled_pair. filled_pair ≡ filled settings.now pair) }
+/// A pair with its record filled up.
+fn filled_pair(alloc: Global, settings: &Settings, pair: TextPair) -> Result<TextPair, AllocError>
+    ensures { IfOk result (λ filled. filled ≡ filled_pair settings.now pair) }
 {
-    let value = filled_value(settings, pair.value)?;
-    Ok(Pair {
+    let value = filled_value(alloc, settings, pair.value)?;
+    Ok(TextPair {
         key: pair.key,
         value,
+        line: pair.line,
     })
 }
 
-/// The pairs of a section in their order, with records filled up.
-pub(crate) fn filled_pairs(
+/// Pairs with their records filled up, the last one first.
+fn fill_backward(
     alloc: Global,
     settings: &Settings,
     pairs: TextPairs,
-) -> Result<Vec<Pair>, AllocError>
-    ensures { IfOk result (λ all. all.items ≡ map (filled settings.now) pairs) }
+) -> Result<Vec<TextPair>, AllocError>
+    ensures { IfOk result (λ all. all.items ≡ reverse (filled_pairs settings.now pairs)) }
 {
     let mut pairs = pairs;
     let mut all = Vec::with_capacity(alloc, pairs.len())?;
     while let Some(pair) = pairs.pop() {
-        all.push(filled(settings, pair)?)?;
+        all.push(filled_pair(alloc, settings, pair)?)?;
     }
-    all.reverse();
     Ok(all)
+}
+
+/// Pairs in the other order.
+fn turned_pairs(alloc: Global, pairs: Vec<TextPair>) -> Result<TextPairs, AllocError>
+    ensures { IfOk result (λ all. all ≡ reverse pairs.items) }
+{
+    let mut pairs = pairs;
+    let mut all = TextPairs::new(alloc);
+    while let Some(pair) = pairs.pop() {
+        all.push(pair)?;
+    }
+    Ok(all)
+}
+
+/// Pairs in their order, with their records filled up.
+fn filled_pairs(
+    alloc: Global,
+    settings: &Settings,
+    pairs: TextPairs,
+) -> Result<TextPairs, AllocError>
+    ensures { IfOk result (λ all. all ≡ filled_pairs settings.now pairs) }
+{
+    if !has_length(settings) {
+        return Ok(pairs);
+    }
+    turned_pairs(alloc, fill_backward(alloc, settings, pairs)?)
+}
+
+/// A section with its records filled up.
+fn filled_section(alloc: Global, section: Section) -> Result<Section, AllocError>
+    ensures { IfOk result (λ filled. filled ≡ filled_section section) }
+{
+    let settings = section.settings;
+    let pairs = filled_pairs(alloc, &settings, section.pairs)?;
+    Ok(Section {
+        name: section.name,
+        settings,
+        header_line: section.header_line,
+        pairs,
+    })
+}
+
+/// Sections with their records filled up, the last one first.
+fn fill_sections_backward(alloc: Global, sections: Sections) -> Result<Vec<Section>, AllocError>
+    ensures { IfOk result (λ all. all.items ≡ reverse (map filled_section sections)) }
+{
+    let mut sections = sections;
+    let mut all = Vec::with_capacity(alloc, sections.len())?;
+    while let Some(section) = sections.pop() {
+        all.push(filled_section(alloc, section)?)?;
+    }
+    Ok(all)
+}
+
+/// The sections, in which each record of a fixed length is filled up to it.
+pub fn filled(alloc: Global, sections: Sections) -> Result<Sections, AllocError>
+    ensures { IfOk result (λ all. all ≡ map filled_section sections) }
+{
+    turned(alloc, fill_sections_backward(alloc, sections)?)
 }

@@ -8,6 +8,8 @@ mod load_error;
 mod order;
 mod sections;
 mod settling;
+mod turning;
 
+pub use filling::{filled, filled_len};
 pub use load_error::LoadError;
-pub use sections::settle;
+pub use sections::{ordered, settle};

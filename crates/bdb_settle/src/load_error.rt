@@ -1,19 +1,24 @@
 ghost use Rattle.std.specs.Prelude.{◌≡◌};
 
 use std::alloc::AllocError;
+use thiserror::Error;
 
 /// Why sections aren't loaded. A number is that of a line of the text.
-#[derive(Clone, Copy, Debug, PartialEq, Eq)]
+#[derive(Clone, Copy, Debug, PartialEq, Eq, Error)]
 pub enum LoadError {
     /// A datum is longer than its record, or a queue's record than its page.
+    #[error("record too long")]
     RecordTooLong(u64),
     /// The number of a record is 0.
+    #[error("record number 0")]
     RecordZero(u64),
     /// The file would have too many pages. `settle` doesn't answer it.
+    #[error("file too large")]
     TooLarge,
     /// A queue has a name, or isn't alone.
+    #[error("queue among names")]
     QueueAmongNames(u64),
-    /// Memory is wanting.
+    #[error("out of memory")]
     Memory,
 }
 

@@ -1,17 +1,18 @@
 ghost use Rattle.std.specs.Prelude.{◌≡◌, ◌&&◌};
 ghost use Rattle.std.specs.Ordering.{is_lt};
-ghost use Rattle.bdb_settle.specs.Loaded.{has_records, keeps_data, sorts_data, stands_before};
+ghost use Rattle.bdb_text_format.specs.Written.{holds_records};
+ghost use Rattle.bdb_settle.specs.Loaded.{keeps_data, sorts_data, stands_before};
 ghost use Rattle.bdb_format.specs.Less.{less};
 ghost use Rattle.bdb_settle.specs.Settling.{KeyOrderingIs};
 
 use bdb_format::{Bytes, Kind, Settings};
 use bdb_layout::compare;
-use bdb_model::{Key, Pair};
+use bdb_text_format::{Key, Pair};
 use std::cmp::Ordering;
 
 /// Whether keys are numbers of records.
-pub(crate) fn has_records(kind: Kind) -> bool
-    ensures { result ≡ has_records kind }
+pub(crate) fn holds_records(kind: Kind) -> bool
+    ensures { result ≡ holds_records kind }
 {
     match kind {
         Kind::Btree | Kind::Hash => false,
@@ -23,14 +24,14 @@ pub(crate) fn has_records(kind: Kind) -> bool
 fn sorts_data(settings: &Settings) -> bool
     ensures { result ≡ sorts_data settings.now }
 {
-    settings.sorted && !has_records(settings.kind)
+    settings.sorted && !holds_records(settings.kind)
 }
 
 /// Whether the data of a key stand one behind the other.
 pub(crate) fn keeps_data(settings: &Settings) -> bool
     ensures { result ≡ keeps_data settings.now }
 {
-    settings.duplicates && !settings.sorted && !has_records(settings.kind)
+    settings.duplicates && !settings.sorted && !holds_records(settings.kind)
 }
 
 /// The order of two keys.

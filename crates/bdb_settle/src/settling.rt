@@ -1,14 +1,23 @@
 ghost use Rattle.std.specs.Prelude.{◌≡◌, ◌||◌, [], map, IfOk, OnOk};
 ghost use Rattle.std.specs.List.{fold};
 ghost use Rattle.std.specs.List.Sorted.{IsSortedBy, IsStableBy};
-ghost use Rattle.bdb_settle.specs.Loaded.{keeps_data, loaded, stands_before, unnumbered, with_pair};
+ghost use Rattle.bdb_settle.specs.Loaded.{keeps_data, ordered, unlined_pairs, stands_before, unlined, unnumbered, with_loaded};
 
-use crate::filling::filled_pairs;
 use crate::order::{compare_pairs, keeps_data, stands_before};
 use bdb_format::Settings;
-use bdb_model::{Pair, TextPair, TextPairs};
+use bdb_text_format::{Pair, TextPair, TextPairs};
 use std::alloc::{AllocError, Global};
 use std::mem;
+
+/// A pair without its line.
+fn unlined(pair: TextPair) -> Pair
+    ensures { result ≡ unlined pair }
+{
+    Pair {
+        key: pair.key,
+        value: pair.value,
+    }
+}
 
 /// A pair of a list, without a line.
 fn unnumbered(pair: Pair) -> TextPair
@@ -43,7 +52,7 @@ fn settle_sorted(
     pairs: Vec<Pair>,
 ) -> Result<TextPairs, AllocError>
     requires { IsSortedBy (stands_before settings.now) pairs.items }
-    ensures { IfOk result (λ list. list ≡ map unnumbered (fold (with_pair settings.now) [] pairs.items)) }
+    ensures { IfOk result (λ list. list ≡ map unnumbered (fold (with_loaded settings.now) [] pairs.items)) }
 {
     let mut list = TextPairs::new(alloc);
     let mut rest = pairs.into_iter();
@@ -61,15 +70,28 @@ fn settle_sorted(
     Ok(list)
 }
 
-/// The list of the pairs of a section.
-pub(crate) fn settle_pairs(
+/// Pairs in their order, without their lines.
+fn unlined_pairs(alloc: Global, pairs: TextPairs) -> Result<Vec<Pair>, AllocError>
+    ensures { IfOk result (λ all. all.items ≡ unlined_pairs pairs) }
+{
+    let mut pairs = pairs;
+    let mut all = Vec::with_capacity(alloc, pairs.len())?;
+    while let Some(pair) = pairs.pop() {
+        all.push(unlined(pair))?;
+    }
+    all.reverse();
+    Ok(all)
+}
+
+/// The list of the pairs of a section, whose records aren't filled up.
+pub(crate) fn order_pairs(
     alloc: Global,
     settings: &Settings,
     pairs: TextPairs,
 ) -> Result<TextPairs, AllocError>
-    ensures { IfOk result (λ list. list ≡ map unnumbered (loaded settings.now pairs)) }
+    ensures { IfOk result (λ list. list ≡ map unnumbered (ordered settings.now pairs)) }
 {
-    let mut all = filled_pairs(alloc, settings, pairs)?;
+    let mut all = unlined_pairs(alloc, pairs)?;
     sort_pairs(settings, &mut all)?;
     settle_sorted(alloc, settings, all)
 }

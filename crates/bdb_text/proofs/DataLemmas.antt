@@ -3,16 +3,16 @@ use Rattle.std.proofs.Common.{◌≡◌, ℕ, ◌+◌, ◌%◌, ◌==◌, ◌&&�
 use Rattle.std.proofs.lemmas.Bool.{eqb-true, eqb-false, ne_eqb}
 use Rattle.bdb_format.specs.Digits.{digits_value}
 use Rattle.std.proofs.lemmas.List.{append-nil}
-use Rattle.bdb_model.specs.declared.pairs.Key.{Key}
-use Rattle.bdb_model.specs.declared.pairs.Key.TheVariants.{Number}
-use Rattle.bdb_model.specs.TextSpelling.{bytes_spelled}
-use Rattle.bdb_model.specs.Header.{Values, has_keys, has_records, prints}
-use Rattle.bdb_model.specs.Reasons.{begins_with_space, data_end_reason, data_line_reason, has_odd_length, is_key, is_record_number, spelled_in}
-use Rattle.bdb_model.specs.Sections.{counted_pairs, data_read, key_read, keyed_pairs, pairs_read, with_pair}
+use Rattle.bdb_text_format.specs.declared.pairs.Key.{Key}
+use Rattle.bdb_text_format.specs.declared.pairs.Key.TheVariants.{Number}
+use Rattle.bdb_text_format.specs.TextSpelling.{bytes_spelled}
+use Rattle.bdb_text_format.specs.Header.{Values, has_keys, has_record_type, prints}
+use Rattle.bdb_text_format.specs.Reasons.{begins_with_space, data_end_reason, data_line_reason, has_odd_length, is_key, is_record_number, spelled_in}
+use Rattle.bdb_text_format.specs.Sections.{counted_pairs, data_read, key_read, keyed_pairs, pairs_read, with_text_pair}
 use Rattle.bdb_text.specs.DataTo.{data_clean}
 use Rattle.std.proofs.Math.Bool.{and-false, and-true}
 use Rattle.bdb_text.proofs.BoolLemmas.{none_row, some_if}
-use Rattle.bdb_model.specs.declared.pairs.TextPair.{TextPair}
+use Rattle.bdb_text_format.specs.declared.pairs.TextPair.{TextPair}
 
 -- A line.
 
@@ -40,8 +40,8 @@ by_rows true false key records line = by_spelled 9 key records (spelled_in false
 none-data_line_reason : (header : Values) (before : List (List ℕ)) (line : List ℕ)
     → is_none (data_line_reason header before line)
     ≡ (begins_with_space line && (is_some
-    (spelled_in (prints header) line) && (not (is_key header before && has_records header) || is_record_number (spelled_in (prints header) line))))
-none-data_line_reason header before line = by_rows (begins_with_space line) (prints header) (is_key header before) (has_records header) line
+    (spelled_in (prints header) line) && (not (is_key header before && has_record_type header) || is_record_number (spelled_in (prints header) line))))
+none-data_line_reason header before line = by_rows (begins_with_space line) (prints header) (is_key header before) (has_record_type header) line
 
 some-data_read : (print : Bool) (line : List ℕ) → is_some (data_read print line) ≡ (begins_with_space line && is_some (spelled_in print line))
 some-data_read print [] = refl
@@ -76,26 +76,26 @@ pub none-value : (header : Values) (before : List (List ℕ)) (line : List ℕ) 
 none-value header before line h =
     none-data_line_reason header before line
     ∙ ap (λ (b : Bool). begins_with_space
-    line && (is_some (spelled_in (prints header) line) && (not (b && has_records header) || is_record_number (spelled_in (prints header) line)))) h
+    line && (is_some (spelled_in (prints header) line) && (not (b && has_record_type header) || is_record_number (spelled_in (prints header) line)))) h
     ∙ ap (λ (b : Bool). begins_with_space line && b) (and-true (is_some (spelled_in (prints header) line)))
     ∙ sym (some-data_read (prints header) line)
 
 pub none-key : (header : Values) (before : List (List ℕ)) (line : List ℕ) → is_key header before ≡ true
-    → is_none (data_line_reason header before line) ≡ is_some (key_read (has_records header) (data_read (prints header) line))
+    → is_none (data_line_reason header before line) ≡ is_some (key_read (has_record_type header) (data_read (prints header) line))
 none-key header before line h =
     none-data_line_reason header before line
     ∙ ap (λ (b : Bool). begins_with_space
-    line && (is_some (spelled_in (prints header) line) && (not (b && has_records header) || is_record_number (spelled_in (prints header) line)))) h
-    ∙ sym (some-key_read (prints header) (has_records header) line)
+    line && (is_some (spelled_in (prints header) line) && (not (b && has_record_type header) || is_record_number (spelled_in (prints header) line)))) h
+    ∙ sym (some-key_read (prints header) (has_record_type header) line)
 
 -- Lines in turn.
 
-some-with_pair : (key : Option Key) (value : Option (List ℕ)) (at : ℕ) (pairs : Option (List TextPair))
-    → is_some (with_pair key value at pairs) ≡ (is_some key && (is_some value && is_some pairs))
-some-with_pair (Some key) (Some value) at (Some pairs) = refl
-some-with_pair (Some key) (Some value) at None = refl
-some-with_pair (Some key) None at pairs = refl
-some-with_pair None value at pairs = refl
+some-with_text_pair : (key : Option Key) (value : Option (List ℕ)) (at : ℕ) (pairs : Option (List TextPair))
+    → is_some (with_text_pair key value at pairs) ≡ (is_some key && (is_some value && is_some pairs))
+some-with_text_pair (Some key) (Some value) at (Some pairs) = refl
+some-with_text_pair (Some key) (Some value) at None = refl
+some-with_text_pair (Some key) None at pairs = refl
+some-with_text_pair None value at pairs = refl
 
 one_more : (lines : List (List ℕ)) (line : List ℕ) → length (lines ++ line ∷ []) ≡ length lines + 1
 one_more lines line = length-append lines (line ∷ [])
@@ -121,7 +121,7 @@ pairs_algebra true false c r = refl
 pairs_algebra false v c r = refl
 
 pub keyed_iff : (header : Values) (at : ℕ) (before lines : List (List ℕ)) → has_keys header ≡ true → has_odd_length before ≡ false
-    → is_some (keyed_pairs (prints header) (has_records header) at lines)
+    → is_some (keyed_pairs (prints header) (has_record_type header) at lines)
     ≡ (data_clean header before lines && is_none (data_end_reason header (before ++ lines)))
 keyed_iff header at before [] keys even =
     let none = none-data_end_reason header (before ++ []) in
@@ -141,8 +141,8 @@ keyed_iff header at before (key ∷ value ∷ lines) keys even =
     let rest = keyed_iff header (at + 2) ((before ++ key ∷ []) ++ value ∷ []) lines keys (even_more (before ++ key ∷ []) value odd) in
     let k = none-key header before key key_place in
     let v = none-value header (before ++ key ∷ []) value value_place in
-    some-with_pair (key_read (has_records header) (data_read (prints header) key)) (data_read (prints header) value) at
-    (keyed_pairs (prints header) (has_records header) (at + 2) lines)
+    some-with_text_pair (key_read (has_record_type header) (data_read (prints header) key)) (data_read (prints header) value) at
+    (keyed_pairs (prints header) (has_record_type header) (at + 2) lines)
     ∙ rw (← k, ← v, rest, more) (pairs_algebra (is_none (data_line_reason header before key)) (is_none (data_line_reason header (before ++ key ∷ []) value))
     (data_clean header ((before ++ key ∷ []) ++ value ∷ []) lines) (is_none (data_end_reason header (before ++ key ∷ value ∷ lines))))
 
@@ -152,17 +152,17 @@ counted_iff header number at before [] keys = refl
 counted_iff header number at before (line ∷ lines) keys =
     let place : is_key header before ≡ false = rw keys refl in
     let v = none-value header before line place in
-    some-with_pair (Some (Number number)) (data_read (prints header) line) at (counted_pairs (prints header) (number + 1) (at + 1) lines)
+    some-with_text_pair (Some (Number number)) (data_read (prints header) line) at (counted_pairs (prints header) (number + 1) (at + 1) lines)
     ∙ rw (← v, counted_iff header (number + 1) (at + 1) (before ++ line ∷ []) lines keys) refl
 
 data_iff_by : (header : Values) (at : ℕ) (lines : List (List ℕ)) (keys : Bool) → has_keys header ≡ keys
     → is_some (pairs_read header at lines) ≡ (data_clean header [] lines && is_none (data_end_reason header lines))
 data_iff_by header at lines true h =
-    ap (λ (b : Bool). is_some (if b then keyed_pairs (prints header) (has_records header) at lines else counted_pairs (prints header) 1 at lines)) h
+    ap (λ (b : Bool). is_some (if b then keyed_pairs (prints header) (has_record_type header) at lines else counted_pairs (prints header) 1 at lines)) h
     ∙ keyed_iff header at [] lines h refl
 data_iff_by header at lines false h =
     let end_ : is_none (data_end_reason header lines) ≡ true = none-data_end_reason header lines ∙ rw h refl in
-    ap (λ (b : Bool). is_some (if b then keyed_pairs (prints header) (has_records header) at lines else counted_pairs (prints header) 1 at lines)) h
+    ap (λ (b : Bool). is_some (if b then keyed_pairs (prints header) (has_record_type header) at lines else counted_pairs (prints header) 1 at lines)) h
     ∙ counted_iff header 1 at [] lines h ∙ sym (ap (λ (b : Bool). data_clean header [] lines && b) end_ ∙ and-true (data_clean header [] lines))
 
 pub data_iff : (header : Values) (at : ℕ) (lines : List (List ℕ))

@@ -9,8 +9,8 @@ use Rattle.std.proofs.lemmas.Bool.{le-leb}
 use Rattle.std.proofs.lemmas.List.{take_all}
 use Rattle.std.proofs.lemmas.Bool.Decides.{nat_tests}
 use Rattle.bdb_format.specs.Digits.{digits_value, is_number, number_in}
-use Rattle.bdb_model.specs.TextSpelling.{digit_value}
-use Rattle.bdb_model.specs.Keywords.{hex_value, number_read, or_zero, is_hex}
+use Rattle.bdb_text_format.specs.TextSpelling.{digit_value}
+use Rattle.bdb_text_format.specs.Keywords.{hex_value, number_read, or_zero, is_hex}
 use Rattle.bdb_text.specs.DigitsIn.{digits_from, digits_in, hexadecimal, is_digit_of}
 
 -- One digit more.

@@ -6,8 +6,8 @@ use Rattle.std.proofs.lemmas.List.{append-nil}
 use Rattle.std.proofs.lemmas.Grind.{flat_map-append}
 use Rattle.bdb_format.specs.declared.settings.Settings.{Settings}
 use Rattle.bdb_format.specs.Table.{Row}
-use Rattle.bdb_model.specs.Lines.{line}
-use Rattle.bdb_model.specs.Written.{Entry, entry_line, header_end, header_table, header_text, version_line, written}
+use Rattle.bdb_text_format.specs.LineEnd.{line}
+use Rattle.bdb_text_format.specs.Written.{Entry, entry_line, header_end, header_table, header_text, version_line, written}
 use Rattle.bdb_text.specs.Headers.{rows_text}
 
 -- the lines of the entries whose test holds are those of the rows

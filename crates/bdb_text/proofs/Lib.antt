@@ -19,3 +19,4 @@ pub mod RunLemmas
 pub mod HeaderReadLemmas
 pub mod PairLemmas
 pub mod SectionLemmas
+pub mod EarlierLemmas

@@ -10,14 +10,14 @@ use Rattle.bdb_format.specs.declared.kinds.Order.TheVariants.{Big, Little}
 use Rattle.bdb_format.specs.declared.settings.Settings.{Settings}
 use Rattle.bdb_format.specs.Lists.{ListKey}
 use Rattle.bdb_format.specs.Table.{Row}
-use Rattle.bdb_model.specs.TextSpelling.{spelling}
+use Rattle.bdb_text_format.specs.TextSpelling.{spelling}
 use Rattle.bdb_text.proofs.LawLemmas.{spelled_read}
-use Rattle.bdb_model.specs.declared.keywords.Judged.TheVariants.{Fits, Bad}
-use Rattle.bdb_model.specs.Keywords.{any_number, legal_size, or_zero}
-use Rattle.bdb_model.specs.Header.{Values, conflicts, has_keys, has_records, is_value, name_in, number_or, order_in, prints, settings_in}
-use Rattle.bdb_model.specs.Reasons.{keyword_named}
-use Rattle.bdb_model.specs.Sections.{fits, keyword_fits}
-use Rattle.bdb_model.specs.Written.{Entry, entry_line, format_text, header_lines, header_table, holds_records, kind_text, order_text, ◌=:◌}
+use Rattle.bdb_text_format.specs.declared.keywords.Judged.TheVariants.{Fits, Bad}
+use Rattle.bdb_text_format.specs.Keywords.{any_number, legal_size, or_zero}
+use Rattle.bdb_text_format.specs.Header.{Values, conflicts, has_keys, has_record_type, is_value, name_in, number_or, order_in, prints, settings_in}
+use Rattle.bdb_text_format.specs.Reasons.{keyword_named}
+use Rattle.bdb_text_format.specs.Sections.{fits, keyword_fits}
+use Rattle.bdb_text_format.specs.Written.{Entry, entry_line, format_text, header_lines, header_table, holds_records, kind_text, order_text, ◌=:◌}
 use Rattle.bdb_text.specs.WrittenLaw.{AreBytes, CanBeWritten, in_conflict}
 use Rattle.bdb_text.proofs.LineLemmas.{has_feed, looked_up, table_fits}
 use Rattle.bdb_text.proofs.ValueLemmas.{decimal-no_feed, number_read-decimal, spelling-no_feed}
@@ -76,13 +76,13 @@ pub prints-looked : (print : Bool) (name : Option (List ℕ)) (settings : Settin
 prints-looked print name settings = prints_by print
 
 records_by : (print : Bool) (name : Option (List ℕ)) (kind : Kind) (p : ℕ) (o : Order) (d s r n x : Bool) (l q m f : ℕ)
-    → has_records (looked print name (made kind p o d s r n x l q m f)) ≡ holds_records kind
+    → has_record_type (looked print name (made kind p o d s r n x l q m f)) ≡ holds_records kind
 records_by print name Btree p o d s r n x l q m f = refl
 records_by print name Hash p o d s r n x l q m f = refl
 records_by print name Recno p o d s r n x l q m f = refl
 records_by print name Queue p o d s r n x l q m f = refl
 
-pub records-looked : (print : Bool) (name : Option (List ℕ)) (settings : Settings) → has_records (looked print name settings) ≡ holds_records settings.kind
+pub records-looked : (print : Bool) (name : Option (List ℕ)) (settings : Settings) → has_record_type (looked print name settings) ≡ holds_records settings.kind
 records-looked print name settings =
     records_by print name settings.kind settings.page_size settings.order settings.duplicates settings.sorted settings.recnum settings.renumber settings.fixed
     settings.re_len settings.re_pad settings.minkey settings.ffactor

@@ -2,16 +2,16 @@
 use Rattle.std.proofs.Common.{if◌then◌else◌, ◌≡◌, ◌≢◌, ℕ, ◌+◌, ◌%◌, ◌&&◌, Bool, true, false, List, [], ◌∷◌, ◌++◌, length, Option, Some, None, is_none, is_some, refl, sym, ap, ◌∙◌, arith, append_assoc, length-append}
 use Rattle.std.proofs.lemmas.Bool.{and_from, eqb-false, ne_eqb}
 use Rattle.std.proofs.lemmas.List.{append-nil}
-use Rattle.bdb_model.specs.declared.pairs.Key.{Key}
-use Rattle.bdb_model.specs.declared.pairs.Key.TheVariants.{Number}
-use Rattle.bdb_model.specs.declared.pairs.TextPair.{TextPair}
+use Rattle.bdb_text_format.specs.declared.pairs.Key.{Key}
+use Rattle.bdb_text_format.specs.declared.pairs.Key.TheVariants.{Number}
+use Rattle.bdb_text_format.specs.declared.pairs.TextPair.{TextPair}
 use Rattle.std.specs.Str.{bytes_eq}
 use Rattle.std.proofs.lemmas.Slice.Eq.{bytes_eq-Decides}
-use Rattle.bdb_model.specs.Written.{data_end}
-use Rattle.bdb_model.specs.TextLines.{is_data_end, text_lines}
-use Rattle.bdb_model.specs.Header.{Values, has_keys, has_records, prints}
-use Rattle.bdb_model.specs.Reasons.{data_line_reason, has_odd_length, is_key}
-use Rattle.bdb_model.specs.Sections.{counted_pairs, data_read, key_read, keyed_pairs, pairs_read, with_pair}
+use Rattle.bdb_text_format.specs.Written.{data_end}
+use Rattle.bdb_text_format.specs.TextLines.{is_data_end, text_lines}
+use Rattle.bdb_text_format.specs.Header.{Values, has_keys, has_record_type, prints}
+use Rattle.bdb_text_format.specs.Reasons.{data_line_reason, has_odd_length, is_key}
+use Rattle.bdb_text_format.specs.Sections.{counted_pairs, data_read, key_read, keyed_pairs, pairs_read, with_text_pair}
 use Rattle.bdb_text.specs.declared.data_lines.LineError.{LineError}
 use Rattle.bdb_text.specs.declared.data_lines.LineError.TheVariants.{Memory, Reason}
 use Rattle.bdb_text.specs.declared.data_pairs.Data.{Data}
@@ -58,7 +58,7 @@ joined_none None = refl
 joined_none (Some others) = refl
 
 with_joined : (key : Option Key) (value : Option (List ℕ)) (at : ℕ) (pairs others : Option (List TextPair))
-    → with_pair key value at (joined_pairs pairs others) ≡ joined_pairs (with_pair key value at pairs) others
+    → with_text_pair key value at (joined_pairs pairs others) ≡ joined_pairs (with_text_pair key value at pairs) others
 with_joined None value at pairs others = refl
 with_joined (Some key) None at pairs others = refl
 with_joined (Some key) (Some value) at None others = refl
@@ -74,7 +74,7 @@ keyed-append print numbered at [] more even = let same : at + 0 ≡ at = omega a
 keyed-append print numbered at (x ∷ []) more even = absurd (let no : 1 ≢ 1 = eqb-false 1 1 even in no refl)
 keyed-append print numbered at (x ∷ y ∷ lines) more even =
     let same : at + 2 + length lines ≡ at + length (x ∷ y ∷ lines) = omega arith in
-    ap (with_pair (key_read numbered (data_read print x)) (data_read print y) at) (keyed-append print numbered (at + 2) lines more (even_less x y lines even))
+    ap (with_text_pair (key_read numbered (data_read print x)) (data_read print y) at) (keyed-append print numbered (at + 2) lines more (even_less x y lines even))
     ∙ with_joined (key_read numbered (data_read print x)) (data_read print y) at (keyed_pairs print numbered (at + 2) lines)
     (keyed_pairs print numbered (at + 2 + length lines) more)
     ∙ ap (λ (k : ℕ). joined_pairs (keyed_pairs print numbered at (x ∷ y ∷ lines)) (keyed_pairs print numbered k more)) same
@@ -87,12 +87,12 @@ value_place header before keys odd = rw (keys, odd) refl
 
 -- where the lines before are of even number, a line is a key's, and the next one its datum's
 data_line_reason-place : (header : Values) (before : List (List ℕ)) (line : List ℕ) (key : Bool) → is_key header before ≡ key
-    → data_line_reason header before line ≡ line_reason (prints header) (key && has_records header) line
-data_line_reason-place header before line key place = ap (λ (k : Bool). line_reason (prints header) (k && has_records header) line) place
+    → data_line_reason header before line ≡ line_reason (prints header) (key && has_record_type header) line
+data_line_reason-place header before line key place = ap (λ (k : Bool). line_reason (prints header) (k && has_record_type header) line) place
 
 key_more : (header : Values) (lines : List (List ℕ)) (start : ℕ) (pairs : List TextPair) (key : List ℕ) (rest : List (List ℕ)) (number : ℕ) (k : Key)
     → (to : IsKeyedTo header lines start pairs (key ∷ rest) number) → has_keys header ≡ true → is_data_end key ≡ false
-    → key_read (has_records header) (data_read (prints header) key) ≡ Some k
+    → key_read (has_record_type header) (data_read (prints header) key) ≡ Some k
     → IsDataTo header lines start (to.before ++ key ∷ []) rest (number + 1)
 key_more header lines start pairs key rest number k to keys other read =
     data_more header lines start to.before key rest number to.to other (none-key header to.before key (key_place header to.before keys to.even)
@@ -101,7 +101,7 @@ key_more header lines start pairs key rest number k to keys other read =
 pub keyed_more : (header : Values) (lines : List (List ℕ)) (start : ℕ) (pairs : List TextPair) (key value : List ℕ) (rest : List (List ℕ)) (number : ℕ)
     (k : Key) (v : List ℕ)
     → IsKeyedTo header lines start pairs (key ∷ value ∷ rest) number → has_keys header ≡ true → is_data_end key ≡ false → is_data_end value ≡ false
-    → key_read (has_records header) (data_read (prints header) key) ≡ Some k → data_read (prints header) value ≡ Some v
+    → key_read (has_record_type header) (data_read (prints header) key) ≡ Some k → data_read (prints header) value ≡ Some v
     → IsKeyedTo header lines start (pairs ++ record { key = k; value = v; line = number } ∷ []) rest (number + 2)
 keyed_more header lines start pairs key value rest number k v to keys key_other value_other key_is value_is =
     let odd = odd_more to.before key to.even in
@@ -114,10 +114,10 @@ keyed_more header lines start pairs key value rest number k v to keys key_other 
       to = rw two at second;
       even = even_more (to.before ++ key ∷ []) value odd;
       pairs_are =
-          ap (keyed_pairs (prints header) (has_records header) start) (append_assoc to.before (key ∷ []) (value ∷ []))
-          ∙ keyed-append (prints header) (has_records header) start to.before (key ∷ value ∷ []) to.even
+          ap (keyed_pairs (prints header) (has_record_type header) start) (append_assoc to.before (key ∷ []) (value ∷ []))
+          ∙ keyed-append (prints header) (has_record_type header) start to.before (key ∷ value ∷ []) to.even
           ∙ ap (λ (ps : Option (List TextPair)). joined_pairs ps
-          (keyed_pairs (prints header) (has_records header) (start + length to.before) (key ∷ value ∷ []))) to.pairs_are
+          (keyed_pairs (prints header) (has_record_type header) (start + length to.before) (key ∷ value ∷ []))) to.pairs_are
           ∙ rw (key_is, value_is) (ap (λ (n : ℕ). Some (pairs ++ record { key = k; value = v; line = n } ∷ [])) (sym to.to.number_is));
     }
 
@@ -146,7 +146,7 @@ data_ended header text start before (byte ∷ rest) number to none = absurd (ome
 
 pub key_error : (header : Values) (text : List ℕ) (start : ℕ) (pairs : List TextPair) (key : List ℕ) (rest : List (List ℕ)) (number : ℕ) (error : LineError)
     → IsKeyedTo header (text_lines text) start pairs (key ∷ rest) number → has_keys header ≡ true → is_data_end key ≡ false
-    → IsLineError (prints header) (has_records header) key error
+    → IsLineError (prints header) (has_record_type header) key error
     → OnFault (IsDataFault header text start) (error_at number error)
 key_error header text start pairs key rest number (Reason reason) to keys other is = record {
   before = to.before;
@@ -166,7 +166,7 @@ datum_reason-data header before (line ∷ rest) keys odd =
 
 pub behind_key_error : (header : Values) (text : List ℕ) (start : ℕ) (pairs : List TextPair) (key behind : List ℕ) (number : ℕ) (k : Key) (error : TextError)
     → IsKeyedTo header (text_lines text) start pairs (key ∷ text_lines behind) number → has_keys header ≡ true → is_data_end key ≡ false
-    → key_read (has_records header) (data_read (prints header) key) ≡ Some k → OnFault (IsDatumFault (prints header) behind (number + 1)) error
+    → key_read (has_record_type header) (data_read (prints header) key) ≡ Some k → OnFault (IsDatumFault (prints header) behind (number + 1)) error
     → OnFault (IsDataFault header text start) error
 behind_key_error header text start pairs key behind number k (Fault fault) to keys other read is =
     let first = key_more header (text_lines text) start pairs key (text_lines behind) number k to keys other read in
@@ -200,7 +200,7 @@ pub keyed_end : (header : Values) (text : List ℕ) (start : ℕ) (pairs : List 
     → true ≡ bytes_eq line data_end → read.pairs ≡ pairs → read.number ≡ number + 1 → IsDataRead header text start read
 keyed_end header text start pairs line rest number read to keys lines is same more =
     data_read_by header text start to.before line rest number read to.to lines is
-    (ap (λ (b : Bool). if b then keyed_pairs (prints header) (has_records header) start to.before else counted_pairs (prints header) 1 start to.before) keys
+    (ap (λ (b : Bool). if b then keyed_pairs (prints header) (has_record_type header) start to.before else counted_pairs (prints header) 1 start to.before) keys
     ∙ to.pairs_are ∙ ap Some (sym same)) more
 
 -- Data alone.
@@ -215,7 +215,7 @@ counted-append print record_number at [] more =
 counted-append print record_number at (line ∷ lines) more =
     let one : record_number + 1 + length lines ≡ record_number + length (line ∷ lines) = omega arith in
     let other : at + 1 + length lines ≡ at + length (line ∷ lines) = omega arith in
-    ap (with_pair (Some (Number record_number)) (data_read print line) at) (counted-append print (record_number + 1) (at + 1) lines more)
+    ap (with_text_pair (Some (Number record_number)) (data_read print line) at) (counted-append print (record_number + 1) (at + 1) lines more)
     ∙ with_joined (Some (Number record_number)) (data_read print line) at (counted_pairs print (record_number + 1) (at + 1) lines)
     (counted_pairs print (record_number + 1 + length lines) (at + 1 + length lines) more)
     ∙ ap (λ (k : ℕ). joined_pairs (counted_pairs print record_number at (line ∷ lines)) (counted_pairs print k (at + 1 + length lines) more)) one
@@ -262,5 +262,5 @@ pub counted_end : (header : Values) (text : List ℕ) (start : ℕ) (pairs : Lis
     → true ≡ bytes_eq line data_end → read.pairs ≡ pairs → read.number ≡ number + 1 → IsDataRead header text start read
 counted_end header text start pairs line rest number record_number read to keys lines is same more =
     data_read_by header text start to.before line rest number read to.to lines is
-    (ap (λ (b : Bool). if b then keyed_pairs (prints header) (has_records header) start to.before else counted_pairs (prints header) 1 start to.before) keys
+    (ap (λ (b : Bool). if b then keyed_pairs (prints header) (has_record_type header) start to.before else counted_pairs (prints header) 1 start to.before) keys
     ∙ to.pairs_are ∙ ap Some (sym same)) more

@@ -5,8 +5,8 @@ use Rattle.std.proofs.lemmas.List.{append-nil, nil_from_length}
 use Rattle.std.proofs.lemmas.Bool.Decides.{nat_tests}
 use Rattle.hex.specs.declared.error.FromHexError.{FromHexError}
 use Rattle.hex.specs.Hex.{decode_pairs, decode_sized, digit_or_error, hex_digit_value, ◌>>=◌}
-use Rattle.bdb_model.specs.TextSpelling.{before, byte_before, byte_of_digits, bytes_spelled, digit_value, digits_unit, escaped_unit, next_unit, printed_unit}
-use Rattle.bdb_model.proofs.UnitLemmas.{read_empty, read_no_unit, read_unit, unit_shorter}
+use Rattle.bdb_text_format.specs.TextSpelling.{before, byte_before, byte_of_digits, bytes_spelled, digit_value, digits_unit, escaped_unit, next_unit, printed_unit}
+use Rattle.bdb_text_format.proofs.UnitLemmas.{read_empty, read_no_unit, read_unit, unit_shorter}
 
 -- The value of digits.
 

@@ -4,15 +4,15 @@ use Rattle.std.specs.List.{list_any}
 use Rattle.std.specs.Str.{bytes_eq}
 use Rattle.std.proofs.lemmas.Slice.Eq.{bytes_eq-Decides}
 use Rattle.bdb_format.specs.Databases.{is_name}
-use Rattle.bdb_model.specs.declared.keywords.Judged.{Judged}
-use Rattle.bdb_model.specs.declared.keywords.Judged.TheVariants.{Fits, Bad, LeftOut}
-use Rattle.bdb_model.specs.Keywords.{Keyword}
-use Rattle.bdb_model.specs.Header.{Values, given, name_in, conflicts}
-use Rattle.bdb_model.specs.Reasons.{begins_version, first_line_reason, keyword_named, keyword_reason, entry_reason, header_end_reason, is_bad, is_left_out, name_missing}
-use Rattle.bdb_model.specs.Sections.{entry_fits, keyword_fits, fits}
+use Rattle.bdb_text_format.specs.declared.keywords.Judged.{Judged}
+use Rattle.bdb_text_format.specs.declared.keywords.Judged.TheVariants.{Fits, Bad, LeftOut}
+use Rattle.bdb_text_format.specs.Keywords.{Keyword}
+use Rattle.bdb_text_format.specs.Header.{Values, given, name_in, conflicts}
+use Rattle.bdb_text_format.specs.Reasons.{begins_version, first_line_reason, keyword_named, keyword_reason, entry_reason, header_end_reason, is_bad, is_left_out, name_missing}
+use Rattle.bdb_text_format.specs.Sections.{entry_fits, keyword_fits, fits}
 use Rattle.std.proofs.Math.Bool.{and-false}
 use Rattle.bdb_text.proofs.BoolLemmas.{not-none}
-use Rattle.bdb_model.specs.Written.{Entry, version_line}
+use Rattle.bdb_text_format.specs.Written.{Entry, version_line}
 
 -- The first line.
 

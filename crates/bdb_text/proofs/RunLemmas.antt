@@ -6,8 +6,8 @@ use Rattle.std.proofs.lemmas.List.{append-nil, take_all, take-append-drop}
 use Rattle.std.proofs.lemmas.Bool.{eqb-true, false_from_ne_true, leb-true, leb-false, or_from, or_parts}
 use Rattle.hex.specs.declared.error.FromHexError.{FromHexError}
 use Rattle.hex.specs.Hex.{decode_pairs, decode_sized, digit_or_error, hex_digit_value, ◌>>=◌}
-use Rattle.bdb_model.specs.TextSpelling.{before, byte_before, byte_of_digits, bytes_spelled, digit_value, next_unit}
-use Rattle.bdb_model.proofs.UnitLemmas.{read_empty, read_no_unit, read_unit}
+use Rattle.bdb_text_format.specs.TextSpelling.{before, byte_before, byte_of_digits, bytes_spelled, digit_value, next_unit}
+use Rattle.bdb_text_format.proofs.UnitLemmas.{read_empty, read_no_unit, read_unit}
 use Rattle.bdb_text.specs.declared.spellings.SpellError.{SpellError}
 use Rattle.bdb_text.specs.declared.spellings.SpellError.TheVariants.{Bad, Memory}
 use Rattle.bdb_text.specs.SpellErrors.{IsSpellError}

@@ -8,24 +8,24 @@ use Rattle.std.proofs.lemmas.Grind.{flat_map-append}
 use Rattle.std.proofs.lemmas.Slice.Eq.{bytes_eq-Decides}
 use Rattle.std.specs.Str.{bytes_eq}
 use Rattle.bdb_format.specs.Databases.{is_name, Database}
-use Rattle.bdb_model.specs.Lines.{line}
+use Rattle.bdb_text_format.specs.LineEnd.{line}
 use Rattle.std.proofs.lemmas.List.Folds.{list_any-append}
 use Rattle.std.specs.List.{list_any, flat_map}
 use Rattle.bdb_format.specs.declared.settings.Settings.{Settings}
 use Rattle.bdb_format.specs.Lists.{ListKey}
-use Rattle.bdb_model.specs.TextLines.{is_data_end, is_header_end, text_lines}
-use Rattle.bdb_model.specs.Header.{Values, conflicts, given, has_keys, has_records, name_in, prints, settings_in, values}
-use Rattle.bdb_model.specs.Reasons.{Parts, name_missing, name_of, name_of_parts}
-use Rattle.bdb_model.specs.Sections.{Reads, counted_pairs, header_fits, keyed_pairs, pairs_read, parts_read, section_read, sections_in, text_sections, with_pairs, with_section, sections_from}
-use Rattle.bdb_model.specs.Written.{data_end, data_line, entry_line, header_end, header_lines, header_table, holds_records, key_bytes, pair_lines, section_lines, section_text, version_line, written, dump_text}
+use Rattle.bdb_text_format.specs.TextLines.{is_data_end, is_header_end, text_lines}
+use Rattle.bdb_text_format.specs.Header.{Values, conflicts, given, has_keys, has_record_type, name_in, prints, settings_in, values}
+use Rattle.bdb_text_format.specs.Reasons.{Parts, name_missing, name_of, name_of_parts}
+use Rattle.bdb_text_format.specs.Sections.{Reads, counted_pairs, header_fits, keyed_pairs, pairs_read, parts_read, section_read, sections_in, text_sections, with_pairs, with_section, sections_from}
+use Rattle.bdb_text_format.specs.Written.{data_end, data_line, entry_line, header_end, header_lines, header_table, holds_records, key_bytes, pair_lines, section_lines, section_text, version_line, written, dump_text}
 use Rattle.bdb_text.specs.WrittenLaw.{CanBeWritten, WrittenIsRead, AreNamedApart, AreSectionsOf, CanStandTogether, IsSectionOf, IsWritable, Written, WrittenAreRead, written_text, DumpIsRead, written_of}
 use Rattle.bdb_text.proofs.PartLemmas.{has_data_end, parts_of-ended}
 use Rattle.bdb_text.proofs.LineLemmas.{entries-written, given-written, has_feed, sections_from-section, text_lines-lines}
 use Rattle.bdb_text.proofs.TableLemmas.{any-written, lines_fit-table}
 use Rattle.bdb_text.proofs.ValueLemmas.{keyed_pairs-lines, pairs_at, pairs_at-list, spelling-no_feed}
 use Rattle.bdb_text.proofs.LookedLemmas.{keys-looked, lines-looked, looked, name-looked, no_conflict, prints-looked, records-looked, table_feeds, table_fits-header}
-use Rattle.bdb_model.specs.declared.sections.Section.{Section}
-use Rattle.bdb_model.specs.declared.pairs.TextPair.{TextPair}
+use Rattle.bdb_text_format.specs.declared.sections.Section.{Section}
+use Rattle.bdb_text_format.specs.declared.pairs.TextPair.{TextPair}
 use Rattle.std.specs.Prelude.{⊤}
 
 abbrev header : Bool → Option (List ℕ) → Settings → List (List ℕ)
@@ -102,12 +102,12 @@ header_fits-written names print name settings list can standing =
 
 -- The pairs.
 
-pairs_by : (header : Values) (print numbered keyed : Bool) (at : ℕ) (lines : List (List ℕ)) → prints header ≡ print → has_records header ≡ numbered
+pairs_by : (header : Values) (print numbered keyed : Bool) (at : ℕ) (lines : List (List ℕ)) → prints header ≡ print → has_record_type header ≡ numbered
     → has_keys header ≡ true
     → pairs_read header at lines ≡ keyed_pairs print numbered at lines
 pairs_by header print numbered keyed at lines p n k =
-    ap (λ (b : Bool). if b then keyed_pairs (prints header) (has_records header) at lines else counted_pairs (prints header) 1 at lines) k
-    ∙ ap (λ (b : Bool). keyed_pairs b (has_records header) at lines) p ∙ ap (λ (b : Bool). keyed_pairs print b at lines) n
+    ap (λ (b : Bool). if b then keyed_pairs (prints header) (has_record_type header) at lines else counted_pairs (prints header) 1 at lines) k
+    ∙ ap (λ (b : Bool). keyed_pairs b (has_record_type header) at lines) p ∙ ap (λ (b : Bool). keyed_pairs print b at lines) n
 
 pairs-written : (print : Bool) (name : Option (List ℕ)) (settings : Settings) (list : List (ListKey × List ℕ)) (at : ℕ) → CanBeWritten name settings list
     → pairs_read (looked print name settings) at (pairs_lines print list) ≡ Some (pairs_at at list)

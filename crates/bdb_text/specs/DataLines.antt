@@ -2,7 +2,7 @@
 use Rattle.std.specs.Prelude.{◌≡◌, ℕ, ◌&&◌, if◌then◌else◌, Bool, true, false, not, List, [], ◌∷◌, Option, Some, None, is_none, ⊤}
 use Rattle.bdb_format.specs.Digits.{digits_value}
 use Rattle.bdb_format.specs.Table.{◌:?◌, first_row}
-use Rattle.bdb_model.specs.Reasons.{begins_with_space, is_record_number, spelled_in}
+use Rattle.bdb_text_format.specs.Reasons.{begins_with_space, is_record_number, spelled_in}
 use Rattle.bdb_text.specs.declared.data_lines.LineError.{LineError}
 use Rattle.bdb_text.specs.declared.data_lines.LineError.TheVariants.{Memory, Reason}
 

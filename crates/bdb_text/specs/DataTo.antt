@@ -1,13 +1,13 @@
 -- How far the reader of a section's data lines has come.
 use Rattle.std.specs.Prelude.{◌≡◌, ℕ, ◌+◌, ◌&&◌, if◌then◌else◌, Bool, true, false, List, [], ◌∷◌, ◌++◌, length, Option, Some, is_none}
 use Rattle.std.specs.List.{list_any}
-use Rattle.bdb_model.specs.declared.faults.TextFault.{TextFault}
-use Rattle.bdb_model.specs.declared.pairs.TextPair.{TextPair}
-use Rattle.bdb_model.specs.Written.{data_end}
-use Rattle.bdb_model.specs.TextLines.{is_data_end, text_lines}
-use Rattle.bdb_model.specs.Header.{Values, has_records, prints}
-use Rattle.bdb_model.specs.Reasons.{data_end_reason, data_line_reason, has_odd_length}
-use Rattle.bdb_model.specs.Sections.{counted_pairs, data_read, keyed_pairs, pairs_read}
+use Rattle.bdb_text_format.specs.declared.faults.TextFault.{TextFault}
+use Rattle.bdb_text_format.specs.declared.pairs.TextPair.{TextPair}
+use Rattle.bdb_text_format.specs.Written.{data_end}
+use Rattle.bdb_text_format.specs.TextLines.{is_data_end, text_lines}
+use Rattle.bdb_text_format.specs.Header.{Values, has_record_type, prints}
+use Rattle.bdb_text_format.specs.Reasons.{data_end_reason, data_line_reason, has_odd_length}
+use Rattle.bdb_text_format.specs.Sections.{counted_pairs, data_read, keyed_pairs, pairs_read}
 use Rattle.bdb_text.specs.DataLines.{line_reason}
 use Rattle.bdb_text.specs.declared.data_pairs.Data.{Data}
 use Rattle.bdb_text.specs.declared.data_pairs.Datum.{Datum}
@@ -51,7 +51,7 @@ pub record IsKeyedTo (header : Values) (lines : List (List ℕ)) (start : ℕ) (
   pub before : List (List ℕ)
   pub to : IsDataTo header lines start before rest number
   pub even : has_odd_length before ≡ false
-  pub pairs_are : keyed_pairs (prints header) (has_records header) start before ≡ Some pairs
+  pub pairs_are : keyed_pairs (prints header) (has_record_type header) start before ≡ Some pairs
 
 -- a text begins with the line of a datum
 pub record IsDatum (print : Bool) (text : List ℕ) (datum : Datum) : Type 0 where

@@ -2,9 +2,9 @@
 use Rattle.std.specs.Prelude.{ℕ, if◌then◌else◌, true, List, [], decimal}
 use Rattle.std.specs.List.{flat_map}
 use Rattle.bdb_format.specs.Table.{Row, ◌:?◌}
-use Rattle.bdb_model.specs.Lines.{line}
-use Rattle.bdb_model.specs.TextSpelling.{spelling}
-use Rattle.bdb_model.specs.Written.{Entry, ◌=:◌, entry_line}
+use Rattle.bdb_text_format.specs.LineEnd.{line}
+use Rattle.bdb_text_format.specs.TextSpelling.{spelling}
+use Rattle.bdb_text_format.specs.Written.{Entry, ◌=:◌, entry_line}
 use Rattle.bdb_text.specs.declared.header.HeaderRow.{HeaderRow}
 use Rattle.bdb_text.specs.declared.header.Value.{Value}
 use Rattle.bdb_text.specs.declared.header.Value.TheVariants.{Word, Number, Name}

@@ -4,6 +4,7 @@ pub mod Headers
 pub mod Laws
 pub mod WrittenLaw
 pub mod DigitsIn
+pub mod Earlier
 pub mod Fields
 pub mod Runs
 pub mod DataLines

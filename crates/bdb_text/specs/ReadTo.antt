@@ -1,12 +1,12 @@
 -- How far the reader of a dump text has come.
 use Rattle.std.specs.Prelude.{◌≡◌, ℕ, ◌+◌, if◌then◌else◌, true, false, List, [], ◌∷◌, ◌++◌, length, Option, Some, None, ⊤}
 use Rattle.std.specs.List.{list_any}
-use Rattle.bdb_model.specs.declared.faults.TextFault.{TextFault}
-use Rattle.bdb_model.specs.Written.{Entry, header_end}
-use Rattle.bdb_model.specs.TextLines.{is_header_end, text_lines}
-use Rattle.bdb_model.specs.Header.{entries, entry_of}
-use Rattle.bdb_model.specs.Reasons.{entry_reason}
-use Rattle.bdb_model.specs.Sections.{lines_fit}
+use Rattle.bdb_text_format.specs.declared.faults.TextFault.{TextFault}
+use Rattle.bdb_text_format.specs.Written.{Entry, header_end}
+use Rattle.bdb_text_format.specs.TextLines.{is_header_end, text_lines}
+use Rattle.bdb_text_format.specs.Header.{entries, entry_of}
+use Rattle.bdb_text_format.specs.Reasons.{entry_reason}
+use Rattle.bdb_text_format.specs.Sections.{lines_fit}
 use Rattle.bdb_text.specs.declared.headers.Header.{Header}
 use Rattle.bdb_text.specs.declared.text_errors.TextError.{TextError}
 use Rattle.bdb_text.specs.declared.text_errors.TextError.TheVariants.{Fault, Memory}

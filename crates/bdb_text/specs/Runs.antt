@@ -1,7 +1,7 @@
 -- Reading a spelling a run at a time.
 use Rattle.std.specs.Prelude.{◌≡◌, ℕ, ◌==◌, Bool, List, ◌++◌, Some}
 use Rattle.std.specs.List.{list_any}
-use Rattle.bdb_model.specs.TextSpelling.{bytes_spelled}
+use Rattle.bdb_text_format.specs.TextSpelling.{bytes_spelled}
 
 -- bytes have gained those that a text spells
 abbrev pub AddsSpelled : Bool → List ℕ → List ℕ → List ℕ → Type 0

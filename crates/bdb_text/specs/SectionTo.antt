@@ -3,13 +3,13 @@ use Rattle.std.specs.Prelude.{◌≡◌, ℕ, ◌+◌, false, List, [], ◌∷�
 use Rattle.std.specs.List.{list_any}
 use Rattle.bdb_format.specs.Databases.{is_name}
 use Rattle.bdb_format.specs.Table.{◌:?◌, first_row}
-use Rattle.bdb_model.specs.declared.faults.TextFault.{TextFault}
-use Rattle.bdb_model.specs.declared.sections.Section.{Section}
-use Rattle.bdb_model.specs.Written.{data_end}
-use Rattle.bdb_model.specs.TextLines.{is_data_end, text_lines}
-use Rattle.bdb_model.specs.Header.{Values, conflicts}
-use Rattle.bdb_model.specs.Reasons.{fault_from, name_missing, name_of, text_fault}
-use Rattle.bdb_model.specs.Sections.{section_read, sections_from, text_sections}
+use Rattle.bdb_text_format.specs.declared.faults.TextFault.{TextFault}
+use Rattle.bdb_text_format.specs.declared.sections.Section.{Section}
+use Rattle.bdb_text_format.specs.Written.{data_end}
+use Rattle.bdb_text_format.specs.TextLines.{is_data_end, text_lines}
+use Rattle.bdb_text_format.specs.Header.{Values, conflicts}
+use Rattle.bdb_text_format.specs.Reasons.{fault_from, name_missing, name_of, text_fault}
+use Rattle.bdb_text_format.specs.Sections.{section_read, sections_from, text_sections}
 use Rattle.bdb_text.specs.declared.dump.Read.{Read}
 
 -- the names of sections

@@ -4,13 +4,13 @@ use Rattle.bdb_format.specs.Databases.{is_name, Database, settings_of}
 use Rattle.std.specs.Prelude.{⊤, is_some, unwrap_or, ◌≡◌, ℕ, ◌<◌, ◌^◌, ◌==◌, ◌&&◌, ◌||◌, Bool, true, false, List, [], ◌∷◌, map, Option, All}
 use Rattle.bdb_format.specs.declared.settings.Settings.{Settings}
 use Rattle.bdb_format.specs.Lists.{ListKey, BytesKey, NumberKey, list_of}
-use Rattle.bdb_model.specs.Keywords.{legal_size}
-use Rattle.bdb_model.specs.declared.pairs.Key.{Key}
-use Rattle.bdb_model.specs.declared.pairs.Key.TheVariants.{Bytes, Number}
-use Rattle.bdb_model.specs.declared.pairs.TextPair.{TextPair}
-use Rattle.bdb_model.specs.declared.sections.Section.{Section}
-use Rattle.bdb_model.specs.Sections.{Reads}
-use Rattle.bdb_model.specs.Written.{header_lines, holds_records, is_btree, is_queue, section_text, dump_text}
+use Rattle.bdb_text_format.specs.Keywords.{legal_size}
+use Rattle.bdb_text_format.specs.declared.pairs.Key.{Key}
+use Rattle.bdb_text_format.specs.declared.pairs.Key.TheVariants.{Bytes, Number}
+use Rattle.bdb_text_format.specs.declared.pairs.TextPair.{TextPair}
+use Rattle.bdb_text_format.specs.declared.sections.Section.{Section}
+use Rattle.bdb_text_format.specs.Sections.{Reads}
+use Rattle.bdb_text_format.specs.Written.{header_lines, holds_records, is_btree, is_queue, section_text, dump_text}
 use Rattle.bdb_format.specs.HeadOf.{head_of}
 use Rattle.bdb_format.specs.File.{file_of}
 

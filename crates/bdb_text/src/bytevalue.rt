@@ -1,10 +1,10 @@
 // Bytes as two hexadecimal digits each.
 ghost use Rattle.std.specs.Prelude.{◌≡◌, ◌≤◌, ◌++◌, length, OnOk, OnErr, take, true, false};
-ghost use Rattle.bdb_model.specs.TextSpelling.{byte_of_digits, digit_value, digits_unit, spelling, two_digits};
+ghost use Rattle.bdb_text_format.specs.TextSpelling.{byte_of_digits, digit_value, digits_unit, spelling, two_digits};
 ghost use Rattle.bdb_text.specs.Spellings.{AddsPart, first_seen};
 
 use crate::spellings::First;
-use bdb_model::Bytes;
+use bdb_format::Bytes;
 use std::alloc::AllocError;
 
 /// How many bytes are spelled at once.

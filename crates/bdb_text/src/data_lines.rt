@@ -1,12 +1,12 @@
 // The lines behind a header: a space and a spelling.
-ghost use Rattle.bdb_model.specs.Sections.{data_read, key_read};
+ghost use Rattle.bdb_text_format.specs.Sections.{data_read, key_read};
 ghost use Rattle.bdb_text.specs.DataLines.{IsLineError, record_number};
 ghost use Rattle.std.specs.Prelude.{◌≡◌, if◌then◌else◌, Bool, IfOk, IfErr, Some};
 
 use crate::runs::read_run;
 use crate::spellings::SpellError;
-use bdb_format::number_in;
-use bdb_model::{Bytes, Key};
+use bdb_format::{Bytes, number_in};
+use bdb_text_format::Key;
 use std::alloc::Global;
 
 /// Why a data line isn't read.

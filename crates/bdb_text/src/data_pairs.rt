@@ -1,5 +1,5 @@
 // The data lines of a section, read as pairs.
-ghost use Rattle.bdb_model.specs.Header.{has_keys};
+ghost use Rattle.bdb_text_format.specs.Header.{has_keys};
 ghost use Rattle.bdb_text.specs.DataTo.{IsDataFault, IsDataRead, IsDatum, IsDatumFault};
 ghost use Rattle.bdb_text.specs.Fields.{values_in};
 ghost use Rattle.bdb_text.specs.ReadTo.{OnFault, error_at};
@@ -7,10 +7,11 @@ ghost use Rattle.std.specs.Prelude.{◌≡◌, ◌+◌, ◌<◌, ◌≤◌, ◌^
 
 use crate::data_lines::{LineError, read_data, read_key};
 use crate::fields::Field;
-use crate::meant::{has_keys, has_records, prints};
+use crate::meant::{has_keys, has_record_type, prints};
 use crate::text_errors::TextError;
 use crate::text_lines::cut_line;
-use bdb_model::{Bytes, Key, TextFault, TextPair, TextPairs};
+use bdb_format::Bytes;
+use bdb_text_format::{Key, TextFault, TextPair, TextPairs};
 use std::alloc::Global;
 
 const DATA_END: [u8; 8] = *b"DATA=END";
@@ -76,7 +77,7 @@ fn read_keyed<'a>(
     ensures err { IfErr result (OnFault (IsDataFault (values_in fields.now) text.now start)) }
 {
     let print = prints(fields);
-    let numbered = has_records(fields);
+    let numbered = has_record_type(fields);
     let mut pairs = TextPairs::new(alloc);
     let mut number = start;
     let mut rest = text;

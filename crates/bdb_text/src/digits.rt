@@ -1,5 +1,5 @@
-ghost use Rattle.bdb_model.specs.Keywords.{number_read};
-ghost use Rattle.bdb_model.specs.TextSpelling.{digit_value};
+ghost use Rattle.bdb_text_format.specs.Keywords.{number_read};
+ghost use Rattle.bdb_text_format.specs.TextSpelling.{digit_value};
 ghost use Rattle.bdb_text.specs.DigitsIn.{digits_in, hexadecimal};
 ghost use Rattle.std.specs.Prelude.{◌≡◌, ◌<◌, ◌≤◌, ◌^◌, IfSome, length};
 

@@ -1,22 +1,22 @@
 // A whole dump text, section by section.
-ghost use Rattle.bdb_format.specs.Databases.{is_name};
-ghost use Rattle.bdb_model.specs.Header.{name_in};
-ghost use Rattle.bdb_model.specs.Reasons.{first_line_reason, name_missing};
-ghost use Rattle.bdb_model.specs.Sections.{Reads};
+ghost use Rattle.bdb_text_format.specs.Header.{name_in};
+ghost use Rattle.bdb_text_format.specs.Reasons.{first_line_reason, name_missing};
+ghost use Rattle.bdb_text_format.specs.Sections.{Reads};
 ghost use Rattle.bdb_text.specs.Fields.{values_in};
 ghost use Rattle.bdb_text.specs.ReadTo.{OnFault};
 ghost use Rattle.bdb_text.specs.SectionTo.{IsSectionFault, IsSectionRead, IsTextFault, named_end_reason, names_of};
-ghost use Rattle.std.specs.List.{list_any};
-ghost use Rattle.std.specs.Prelude.{◌≡◌, ◌+◌, ◌<◌, ◌≤◌, ◌^◌, IfOk, IfErr, is_none, length};
+ghost use Rattle.std.specs.Prelude.{◌≡◌, ◌+◌, ◌<◌, ◌≤◌, ◌^◌, IfOk, IfErr, length};
 
 use crate::data_pairs::read_pairs;
+use crate::earlier::Earlier;
 use crate::fields::{Field, is_given, value_of};
 use crate::headers::read_header;
 use crate::meant::{conflicts, settings_in};
 use crate::spellings::{SpellError, read_spelling};
 use crate::text_errors::TextError;
 use crate::text_lines::cut_line;
-use bdb_model::{Bytes, Section, Sections, TextFault};
+use bdb_format::Bytes;
+use bdb_text_format::{Section, Sections, TextFault};
 use std::alloc::Global;
 
 const TYPE: [u8; 4] = *b"type";
@@ -40,19 +40,19 @@ pub fn read_dump(alloc: Global, text: &[u8]) -> Result<Sections, TextError>
     if text.is_empty() {
         return Err(TextError::Fault(TextFault { line: 1, reason: 1 }));
     }
-    let mut sections = Sections::new(alloc);
+    let mut earlier = Earlier::new(alloc);
     let mut number = 1;
     let mut rest = text;
     while !rest.is_empty() {
-        let read = match read_section(alloc, rest, number, &sections) {
+        let read = match read_section(alloc, rest, number, &earlier) {
             Ok(read) => read,
             Err(error) => return Err(error),
         };
-        sections.push(read.section)?;
+        earlier = earlier.with(alloc, read.section)?;
         number = read.number;
         rest = read.rest;
     }
-    Ok(sections)
+    Ok(earlier.into_sections())
 }
 
 // The section that a text begins with, behind these others. The number is that of its first line.
@@ -60,7 +60,7 @@ fn read_section<'a>(
     alloc: Global,
     text: &'a [u8],
     start: u64,
-    earlier: &Sections,
+    earlier: &Earlier,
 ) -> Result<Read<'a>, TextError>
     requires some { 0 < length text.now }
     requires room { start + length text.now ≤ 2 ^ 31 }
@@ -136,7 +136,7 @@ fn name_in(alloc: Global, fields: &[Field<'_>]) -> Result<Option<Bytes>, TextErr
 }
 
 // The first reason of the line that ends a header, by the name that it gives and the sections before it.
-fn end_reason(fields: &[Field<'_>], name: &Option<Bytes>, earlier: &Sections) -> Option<u8>
+fn end_reason(fields: &[Field<'_>], name: &Option<Bytes>, earlier: &Earlier) -> Option<u8>
     ensures { result ≡ named_end_reason (names_of earlier.now) (values_in fields.now) name.now }
 {
     if !is_given(fields, TYPE.as_slice()) {
@@ -148,50 +148,15 @@ fn end_reason(fields: &[Field<'_>], name: &Option<Bytes>, earlier: &Sections) ->
     if is_name_missing(earlier, name) {
         return Some(14);
     }
-    if is_taken(earlier.as_slice(), name) {
+    if earlier.is_taken(name) {
         return Some(15);
     }
     None
 }
 
 // Whether there are sections before, and one of these or the section itself has no name.
-fn is_name_missing(earlier: &Sections, name: &Option<Bytes>) -> bool
+fn is_name_missing(earlier: &Earlier, name: &Option<Bytes>) -> bool
     ensures { result ≡ name_missing (names_of earlier.now) name.now }
 {
-    !earlier.is_empty() && (name.is_none() || has_unnamed(earlier.as_slice()))
-}
-
-// Whether a section has no name.
-fn has_unnamed(sections: &[Section]) -> bool
-    ensures { result ≡ list_any is_none (names_of sections.now) }
-{
-    for section in sections {
-        if section.name.is_none() {
-            return true;
-        }
-    }
-    false
-}
-
-// Whether a section has this name.
-fn is_taken(sections: &[Section], name: &Option<Bytes>) -> bool
-    ensures { result ≡ list_any (is_name name.now) (names_of sections.now) }
-{
-    for section in sections {
-        if is_name(name, &section.name) {
-            return true;
-        }
-    }
-    false
-}
-
-// Whether a name is this one.
-fn is_name(name: &Option<Bytes>, other: &Option<Bytes>) -> bool
-    ensures { result ≡ is_name name.now other.now }
-{
-    match (name, other) {
-        (None, None) => true,
-        (Some(name), Some(other)) => name.as_slice() == other.as_slice(),
-        _ => false,
-    }
+    !earlier.is_empty() && (name.is_none() || earlier.has_unnamed())
 }

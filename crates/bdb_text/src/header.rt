@@ -1,11 +1,11 @@
 ghost use Rattle.std.specs.Prelude.{◌≡◌, ◌++◌, ◌==◌, ◌&&◌, ◌||◌, not, [], IfOk, OnOk, map, option_copied, unwrap_or};
-ghost use Rattle.bdb_model.specs.Written.{format_text, has_sets, header_table, header_text, holds_records, is_btree, is_hash, is_recno, kind_text, order_text, shows_length, ◌=:◌};
-ghost use Rattle.bdb_model.specs.Table.{◌:?◌};
+ghost use Rattle.bdb_text_format.specs.Written.{format_text, has_sets, header_table, header_text, holds_records, is_btree, is_hash, is_recno, kind_text, order_text, shows_length, ◌=:◌};
+ghost use Rattle.bdb_format.specs.Table.{◌:?◌};
 ghost use Rattle.bdb_text.specs.Headers.{row_seen, row_text, rows_text, value_seen};
 
 use crate::lines::push_line_text;
 use crate::numbers::number_text;
-use bdb_model::{Bytes, Kind, Order, Settings};
+use bdb_format::{Bytes, Kind, Order, Settings};
 use std::alloc::{AllocError, Global};
 
 /// What stands behind the equals sign of a header line.

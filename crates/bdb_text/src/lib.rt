@@ -6,6 +6,7 @@ mod data_lines;
 mod data_pairs;
 mod digits;
 mod dump;
+mod earlier;
 mod fields;
 mod header;
 mod headers;
@@ -20,7 +21,7 @@ mod spellings;
 mod text_errors;
 mod text_lines;
 
-pub use bdb_model::{Key, Section, Sections, TextFault, TextPair, TextPairs};
+pub use bdb_text_format::{Key, Section, Sections, TextFault, TextPair, TextPairs};
 pub use dump::read_dump;
 pub use header::{header_text, kind_word};
 pub use lines::{line_text, push_line_text};

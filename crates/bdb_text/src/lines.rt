@@ -1,10 +1,10 @@
 ghost use Rattle.std.specs.Prelude.{◌≡◌, ◌++◌, IfOk, OnOk, OnErr};
-ghost use Rattle.bdb_model.specs.TextSpelling.{spelling};
+ghost use Rattle.bdb_text_format.specs.TextSpelling.{spelling};
 ghost use Rattle.bdb_text.specs.Spellings.{AddsPart};
 
 use crate::bytevalue::push_digits;
 use crate::printed::push_printed;
-use bdb_model::Bytes;
+use bdb_format::Bytes;
 use std::alloc::{AllocError, Global};
 
 /// The spelling of bytes, without a space before it or a line feed behind: printed, or two hexadecimal digits a byte.

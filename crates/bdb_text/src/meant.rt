@@ -1,11 +1,11 @@
 // What a header says in all: its type, its conflicts and its settings.
 ghost use Rattle.bdb_format.specs.Databases.{plain_settings};
-ghost use Rattle.bdb_model.specs.Header.{number_or, conflicts, has_keys, has_records, has_type, is_on, order_in, plain_in, prints, repeats, settings_in};
+ghost use Rattle.bdb_text_format.specs.Header.{number_or, conflicts, has_keys, has_record_type, has_type, is_on, order_in, plain_in, prints, repeats, settings_in};
 ghost use Rattle.bdb_text.specs.Fields.{values_in};
 ghost use Rattle.std.specs.Prelude.{◌≡◌, codes};
 
 use crate::fields::{Field, gives, number_or};
-use bdb_model::{Kind, Order, Settings};
+use bdb_format::{Kind, Order, Settings};
 
 const TYPE: [u8; 4] = *b"type";
 
@@ -57,8 +57,8 @@ fn repeats(fields: &[Field<'_>]) -> bool
 }
 
 /// Whether a header is one of numbered records.
-pub fn has_records(fields: &[Field<'_>]) -> bool
-    ensures { result ≡ has_records (values_in fields.now) }
+pub fn has_record_type(fields: &[Field<'_>]) -> bool
+    ensures { result ≡ has_record_type (values_in fields.now) }
 {
     is_recno(fields) | is_queue(fields)
 }
@@ -67,7 +67,7 @@ pub fn has_records(fields: &[Field<'_>]) -> bool
 pub fn has_keys(fields: &[Field<'_>]) -> bool
     ensures { result ≡ has_keys (values_in fields.now) }
 {
-    !has_records(fields) | is_on(fields, b"keys".as_slice())
+    !has_record_type(fields) | is_on(fields, b"keys".as_slice())
 }
 
 /// Whether the data lines of a section are printed.
@@ -118,7 +118,7 @@ pub fn conflicts(fields: &[Field<'_>]) -> bool
 {
     let no_keys = gives(fields, b"keys".as_slice(), b"0".as_slice());
     let no_length = re_len_in(fields) == 0;
-    repeats(fields) & has_records(fields)
+    repeats(fields) & has_record_type(fields)
         | is_on(fields, b"recnum".as_slice()) & (!is_btree(fields) | repeats(fields))
         | is_on(fields, b"renumber".as_slice()) & !is_recno(fields)
         | no_keys & (is_btree(fields) | is_hash(fields))

@@ -1,12 +1,12 @@
 // A spelling is read once, a run at a time.
-ghost use Rattle.bdb_model.specs.TextSpelling.{bytes_spelled};
+ghost use Rattle.bdb_text_format.specs.TextSpelling.{bytes_spelled};
 ghost use Rattle.bdb_text.specs.Runs.{AddsSpelled, has_backslash};
 ghost use Rattle.bdb_text.specs.SpellErrors.{IsSpellError};
 ghost use Rattle.std.specs.Prelude.{◌≡◌, ◌≤◌, ◌/◌, if◌then◌else◌, None, IfOk, IfErr, Some, false, length, take, true};
 
 use crate::printed::first_printed;
 use crate::spellings::SpellError;
-use bdb_model::Bytes;
+use bdb_format::Bytes;
 use memchr::memchr;
 use std::alloc::Global;
 

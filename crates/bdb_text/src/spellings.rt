@@ -1,11 +1,11 @@
 ghost use Rattle.std.specs.Prelude.{◌≡◌, is_some, IfOk, IfErr, None, Some};
-ghost use Rattle.bdb_model.specs.TextSpelling.{bytes_spelled, next_unit};
+ghost use Rattle.bdb_text_format.specs.TextSpelling.{bytes_spelled, next_unit};
 ghost use Rattle.bdb_text.specs.Spellings.{first_seen};
 ghost use Rattle.bdb_text.specs.SpellErrors.{IsSpellError};
 
 use crate::bytevalue::first_of_digits;
 use crate::printed::first_printed;
-use bdb_model::Bytes;
+use bdb_format::Bytes;
 use std::alloc::{AllocError, Global};
 
 /// Why a text isn't read.

@@ -1,14 +1,16 @@
 ghost use Rattle.std.specs.Prelude.{◌≡◌};
 
-use bdb_model::TextFault;
+use bdb_text_format::TextFault;
 use std::alloc::AllocError;
+use thiserror::Error;
 
 /// Why a dump text isn't read.
-#[derive(Clone, Copy, Debug, PartialEq, Eq)]
+#[derive(Clone, Copy, Debug, PartialEq, Eq, Error)]
 pub enum TextError {
     /// It has this fault.
+    #[error("fault in the text")]
     Fault(TextFault),
-    /// Memory is wanting.
+    #[error("out of memory")]
     Memory,
 }
 

@@ -13,10 +13,10 @@ use Rattle.bdb_format.specs.Contents.{pairs_of, data_of, tree_pairs, tree_entrie
 use Rattle.bdb_format.specs.Lists.{btree_list, recno_list, queue_list, hash_list}
 use Rattle.bdb_format.specs.Master.{master_pairs}
 use Rattle.bdb_format.specs.Databases.{databases}
-use Rattle.bdb_model.specs.TextSpelling.{bytes_spelled, spelling}
-use Rattle.bdb_model.specs.Written.{header_text, section_text, dump_text}
-use Rattle.bdb_model.specs.Reasons.{reason_of, text_fault}
-use Rattle.bdb_model.specs.Sections.{section_read, text_sections}
+use Rattle.bdb_text_format.specs.TextSpelling.{bytes_spelled, spelling}
+use Rattle.bdb_text_format.specs.Written.{header_text, section_text, dump_text}
+use Rattle.bdb_text_format.specs.Reasons.{reason_of, text_fault}
+use Rattle.bdb_text_format.specs.Sections.{section_read, text_sections}
 
 unfoldable pub pages : ⊤
 unfolding number_at spelled group head_of head_rows leaf_rows internal_rows recno_rows hash_rows index_rows listed_code metadata_rows form_code

@@ -1,9 +1,9 @@
 -- What a text is read as, or its fault. Source: docs/FORMAT.md, "Dump text".
 use Rattle.std.specs.Prelude.{◌≡◌, ℕ, List, ◌∷◌, Some, None}
 use Prim.Native.String.{String}
-use Rattle.bdb_model.specs.declared.sections.Section.{Section}
-use Rattle.bdb_model.specs.Reasons.{text_fault}
-use Rattle.bdb_model.specs.Sections.{text_sections}
+use Rattle.bdb_text_format.specs.declared.sections.Section.{Section}
+use Rattle.bdb_text_format.specs.Reasons.{text_fault}
+use Rattle.bdb_text_format.specs.Sections.{text_sections}
 use Rattle.bdb_text_samples.specs.Texts.{lines}
 
 -- a text of these lines behind the first

@@ -5,8 +5,8 @@ use Rattle.std.specs.List.{flat_map}
 use Rattle.bdb_format.specs.Databases.{databases}
 use Rattle.bdb_format.specs.File.{file_of}
 use Rattle.bdb_format.specs.Numbers.{overwritten}
-use Rattle.bdb_model.specs.Lines.{line}
-use Rattle.bdb_model.specs.Written.{dump_text}
+use Rattle.bdb_text_format.specs.LineEnd.{line}
+use Rattle.bdb_text_format.specs.Written.{dump_text}
 use Rattle.bdb_content_samples.specs.Fields.{inline, one_leaf, pair, text}
 
 -- the dump text of an image, with all its databases

@@ -1,7 +1,7 @@
 ghost use Rattle.bdb_format.specs.Databases.{plain_settings};
 ghost use Rattle.bdb_format.specs.declared.kinds.Kind.TheVariants.{Btree, Hash, Queue, Recno};
 ghost use Rattle.bdb_format.specs.declared.kinds.Order.TheVariants.{Big, Little};
-ghost use Rattle.bdb_model.specs.declared.pairs.Key.TheVariants.{Bytes, Number};
+ghost use Rattle.bdb_text_format.specs.declared.pairs.Key.TheVariants.{Bytes, Number};
 ghost use Rattle.bdb_text_samples.specs.ReadTexts.{IsFaulty, IsRead, headed};
 ghost use Rattle.bdb_text_samples.specs.Texts.{lines};
 ghost use Rattle.std.specs.Prelude.{◌≡◌, ◌++◌, [], ◌∷◌, codes, false, true, None, Some};

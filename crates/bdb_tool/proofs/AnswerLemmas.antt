@@ -5,14 +5,14 @@ use Rattle.std.specs.Io.KnownBytes.{Appends}
 use Rattle.std.proofs.lemmas.Option.{slice_get-get_or}
 use Rattle.bdb_format.specs.declared.kinds.Verdict.{Verdict}
 use Rattle.bdb_format.specs.declared.kinds.Verdict.TheVariants.{Fault, Unsupported, Memory as MemoryVerdict}
-use Rattle.bdb_model.specs.Lines.{line}
-use Rattle.bdb_model.specs.Written.{database_text, dump_text}
+use Rattle.bdb_text_format.specs.LineEnd.{line}
+use Rattle.bdb_text_format.specs.Written.{database_text, dump_text}
 use Rattle.bdb_model.specs.Answers.{Answer, done, data_at, data_named, data_of_database, fault_line, found, judged_answer, not_found, sound_answer, told, unsupported_line, value_line, values_text, database_in, dumped, section_answer}
 use Rattle.bdb_model.specs.Change.{Change}
 use Rattle.bdb_model.specs.Command.{Request, Verify, ListAll, Get, Dump}
-use Rattle.bdb_model.specs.Databases.{Database, data_under, databases, place_of}
-use Rattle.bdb_model.specs.File.{File, file_of}
-use Rattle.bdb_model.specs.Verdict.{Faulty, Judgement, LeftOut, verdict_of}
+use Rattle.bdb_format.specs.Databases.{Database, data_under, databases, place_of}
+use Rattle.bdb_format.specs.File.{File, file_of}
+use Rattle.bdb_format.specs.Verdict.{Faulty, Judgement, LeftOut, verdict_of}
 use Rattle.bdb_file.specs.Named.{database_at, no_database}
 use Rattle.bdb_file.specs.Whole.{IsVerdictOf}
 use Rattle.bdb_printing.specs.SalvageText.{salvage_text}
@@ -22,20 +22,20 @@ use Rattle.bdb_tool.specs.Outputs.{salvage_answer, salvaged_answer}
 use Rattle.bdb_tool.specs.Parts.{Answered, Ends, Finishes, HasOwnStatus, IsRefusalTold, IsRefused, Reports, Tells, Unanswered}
 use Rattle.bdb_format.specs.declared.kinds.Kind.{Kind}
 use Rattle.bdb_format.proofs.KnownLemmas.{keeps_itself}
-use Rattle.bdb_model.specs.declared.faults.TextFault.{TextFault}
-use Rattle.bdb_model.specs.declared.sections.Section.{Section}
-use Rattle.bdb_model.specs.Reasons.{text_fault}
+use Rattle.bdb_text_format.specs.declared.faults.TextFault.{TextFault}
+use Rattle.bdb_text_format.specs.declared.sections.Section.{Section}
+use Rattle.bdb_text_format.specs.Reasons.{text_fault}
 use Rattle.bdb_settle.specs.declared.load_error.LoadError.{LoadError}
 use Rattle.bdb_settle.specs.declared.load_error.LoadError.TheVariants.{RecordTooLong, RecordZero, TooLarge, QueueAmongNames, Memory as MemoryError}
 use Rattle.bdb_load.specs.Builds.{image_size}
 use Rattle.bdb_load.specs.Loading.{loading_error}
 use Rattle.bdb_writing.specs.declared.refusal.Refusal.{Refusal}
 use Rattle.bdb_writing.specs.declared.refusal.Refusal.TheVariants.{Faulty as FaultyText, TooLarge as TooLargeImage, Memory as MemoryRefusal}
-use Rattle.bdb_writing.specs.Loads.{IsAnswerBy, IsErrorAnswer, IsLoadAnswer, IsTextAnswer}
-use Rattle.bdb_writing.specs.Refusals.{IsRefusal}
+use Rattle.bdb_writing.specs.Loads.{IsLoadAnswerBy, IsErrorAnswer, IsLoadAnswer, IsTextAnswer}
+use Rattle.bdb_writing.specs.Refusals.{IsRefusedAnswer}
 use Rattle.bdb_writing.specs.Trials.{IsTrialAnswer, IsTrialBy, trial_sections}
 use Rattle.bdb_tool.proofs.FinishLemmas.{memory_finishes, told_finishes, written_finishes}
-use Rattle.bdb_model.specs.Faults.{AppendsPrefix, Rose}
+use Rattle.bdb_format.specs.Faults.{AppendsPrefix, Rose}
 use Rattle.bdb_lines.specs.declared.cut.Cut.{Cut}
 use Rattle.bdb_lines.specs.declared.cut.Cut.TheVariants.{WriteFault, Memory}
 use Rattle.bdb_lines.specs.Printing.{Writes}
@@ -185,7 +185,7 @@ load_own : (limit : ℕ) (error : Option LoadError) (sections : List Section) (a
 load_own limit (Some error) sections answer is = error_own limit error answer is
 load_own limit None sections answer is = done_own is.image answer is.answer_is
 
-text_own_by : (limit : ℕ) (fault : Option TextFault) (text : List ℕ) (answer : Answer) → IsAnswerBy limit fault text answer → HasOwnStatus answer
+text_own_by : (limit : ℕ) (fault : Option TextFault) (text : List ℕ) (answer : Answer) → IsLoadAnswerBy limit fault text answer → HasOwnStatus answer
 text_own_by limit (Some fault) text answer is = bad_own _ answer is
 text_own_by limit None text answer is = load_own limit (loading_error limit is.sections) is.sections answer is.answered
 
@@ -204,7 +204,7 @@ pub written_ends : (allowed : Answer → Type 0) (text : List ℕ) (out err : Ch
 written_ends allowed text out err written status is writes reports = Answered (done text) is (written_finishes text out err written status writes reports)
 
 -- it was told why nothing is built
-pub refusal_ends : (allowed : Answer → Type 0) (refusal : Refusal) (written : Option (List ℕ)) (faults : ℕ) (err : Change) (status : ℕ) → IsRefusal allowed refusal → IsRefusalTold refusal err status
+pub refusal_ends : (allowed : Answer → Type 0) (refusal : Refusal) (written : Option (List ℕ)) (faults : ℕ) (err : Change) (status : ℕ) → IsRefusedAnswer allowed refusal → IsRefusalTold refusal err status
     → Ends allowed (moved written written faults faults) err status
 refusal_ends allowed (FaultyText line) written faults err status is tells =
     Answered (told 8 (string_bytes line)) is (told_finishes 8 (string_bytes line) written faults err status (λ five. omega arith) (λ seven. omega arith) tells)

@@ -5,16 +5,16 @@ use Rattle.std.specs.Io.KnownBytes.{Consumes, IsAtEnd}
 use Rattle.std.proofs.lemmas.Bool.{le-ltb, lt-ltb}
 use Rattle.bdb_model.specs.Answers.{Answer, told, too_large_line, usage}
 use Rattle.bdb_model.specs.Change.{Change, GainsPart, HasFailed, IsUncalled, Stays}
-use Rattle.bdb_model.specs.Faults.{Rose, Took}
+use Rattle.bdb_format.specs.Faults.{Rose, Took}
 use Rattle.bdb_model.specs.Lines.{memory_line, read_fault_line, write_fault_line}
 use Rattle.bdb_format.proofs.KnownLemmas.{keeps_itself}
 use Rattle.bdb_writing.specs.Loads.{IsTextAnswer}
 use Rattle.bdb_writing.specs.Trials.{IsTrialAnswer}
 use Rattle.bdb_tool.specs.Commands.{Ask, Command, Load, command_of, reads_input}
-use Rattle.bdb_tool.specs.Outputs.{AnswersInPart, IsActionAnswer, IsAnswerBy, IsAnswerTo, IsCommandAnswer, IsInput, Output, StatusIs, asked_answer, salvage_answer}
+use Rattle.bdb_tool.specs.Outputs.{AnswersInPart, IsActionAnswer, IsAnswerBySize, IsAnswerTo, IsCommandAnswer, IsInput, Output, StatusIs, asked_answer, salvage_answer}
 use Rattle.bdb_tool.specs.Parts.{Answered, Ends, Finishes, IsTaskAnswered, IsToldStop, Tells, Unanswered}
 use Rattle.bdb_tool.specs.Runs.{ErrorLine, IsAnswered, OfAnswer, OfMemory, OfReadFault, OfWriteFault, RunsAs}
-use Rattle.bdb_tool.specs.Tasks.{AreReading, IsRead, IsStopped, IsTaken, IsTooLong}
+use Rattle.bdb_tool.specs.Tasks.{AreReading, IsRead, IsStopped, IsTaskTaken, IsTooLong}
 use Rattle.bdb_tool.specs.WordsSeen.{salvage_seen, trial_seen}
 use Rattle.bdb_tool.specs.declared.command.Trial.{Trial as CodeTrial}
 use Rattle.bdb_tool.specs.declared.task.Stop.{Stop}
@@ -66,7 +66,7 @@ within_answers : (words : List (List ℕ)) (input : List ℕ) (command : Command
     → IsAnswerTo words input answer
 within_answers words input command answer is within answers =
     command_answers words input command answer is
-    (subst (λ beyond. IsAnswerBy beyond command input answer) (sym (within_limit (reads_input command.action) command.limit input within)) answers)
+    (subst (λ beyond. IsAnswerBySize beyond command input answer) (sym (within_limit (reads_input command.action) command.limit input within)) answers)
 
 beyond_limit : (reads : Bool) (limit : ℕ) (input : List ℕ) → reads ≡ true → limit < length input → (reads && nat_lt limit (length input)) ≡ true
 beyond_limit true limit input is beyond = lt-ltb limit (length input) beyond
@@ -77,14 +77,14 @@ beyond_answers : (words : List (List ℕ)) (input : List ℕ) (command : Command
     → IsAnswerTo words input (told 6 (too_large_line command.limit))
 beyond_answers words input command is reads beyond =
     command_answers words input command (told 6 (too_large_line command.limit)) is
-    (subst (λ it. IsAnswerBy it command input (told 6 (too_large_line command.limit))) (sym (beyond_limit (reads_input command.action) command.limit input reads beyond)) refl)
+    (subst (λ it. IsAnswerBySize it command input (told 6 (too_large_line command.limit))) (sym (beyond_limit (reads_input command.action) command.limit input reads beyond)) refl)
 
 -- no answer depends on the input of a command that reads none
 unread_answers : (words : List (List ℕ)) (input : List ℕ) (command : Command) (answer : Answer) → command_of words ≡ Some command → reads_input command.action ≡ false → IsActionAnswer command.action command.limit input answer
     → IsAnswerTo words input answer
 unread_answers words input command answer is unread answers =
     command_answers words input command answer is
-    (subst (λ beyond. IsAnswerBy beyond command input answer) (sym (ap (λ reads. reads && nat_lt command.limit (length input)) unread)) answers)
+    (subst (λ beyond. IsAnswerBySize beyond command input answer) (sym (ap (λ reads. reads && nat_lt command.limit (length input)) unread)) answers)
 
 -- The whole promise.
 
@@ -216,7 +216,7 @@ tried_runs words source out err limit trial status is uncalled ends =
     (λ answer allows. (unread_answers words input.0 command answer is refl allows, (trial_own limit trial.kind trial.seed trial.count answer allows).no_read_fault))
     (λ _. uncalled) (calls_nothing words source command status is refl uncalled) ends
 
-pub taken_runs : (words : List (List ℕ)) (source out err : Change) (task : Task) (status : ℕ) → IsTaken words source task → IsTaskAnswered task out err status → RunsAs words source out err status
+pub taken_runs : (words : List (List ℕ)) (source out err : Change) (task : Task) (status : ℕ) → IsTaskTaken words source task → IsTaskAnswered task out err status → RunsAs words source out err status
 taken_runs words source out err (AskTask request image) status taken answered =
     let command : Command = record { limit = taken.limit; action = Ask taken.asked } in
     asked_runs words source out err command image (asked_answer taken.asked image) status taken.read refl (asked_own taken.asked image).no_read_fault (answered taken.asked taken.seen)

@@ -3,7 +3,7 @@ use Rattle.std.proofs.Common.{◌≡◌, ℕ, ◌+◌, true, List, refl, subst, 
 use Rattle.std.specs.Prelude.{Option, Some, None, IsTrue, is_some}
 use Rattle.bdb_model.specs.Change.{Change, IsUncalled}
 use Rattle.bdb_model.specs.Command.{Request}
-use Rattle.bdb_model.specs.Faults.{Took}
+use Rattle.bdb_format.specs.Faults.{Took}
 use Rattle.bdb_tool.specs.Commands.{Action, Ask, Load, Command, asking, command_of, reads_input, within}
 use Rattle.bdb_tool.specs.declared.command.Action.TheVariants.{Ask as AskWord, Load as LoadWord, Salvage as SalvageWord, Trial as TrialWord}
 use Rattle.bdb_tool.specs.declared.command.Request.{Request as CodeRequest}

@@ -14,7 +14,7 @@ use Rattle.bdb_model.specs.Answers.{judged_answer}
 use Rattle.bdb_model.specs.Change.{Change}
 use Rattle.bdb_model.specs.Command.{Dump, Get, ListAll, Request, Verify}
 use Rattle.bdb_model.specs.Lines.{memory_line}
-use Rattle.bdb_model.specs.Verdict.{Faulty, Judgement, LeftOut, faults_of, judgement_of, verdict_of}
+use Rattle.bdb_format.specs.Verdict.{Faulty, Judgement, LeftOut, faults_of, judgement_of, verdict_of}
 use Rattle.bdb_tool.specs.Outputs.{asked_answer, first_status, verified}
 use Rattle.bdb_tool.specs.Parts.{Finishes, HasOwnStatus, Tells}
 use Rattle.bdb_tool.proofs.AnswerLemmas.{answer_own, low_own}

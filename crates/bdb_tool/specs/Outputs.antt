@@ -6,7 +6,7 @@ use Rattle.bdb_lines.specs.Telling.{judgement_status, judgements_text}
 use Rattle.bdb_model.specs.Command.{Dump, Get, ListAll, Request, Verify}
 use Rattle.bdb_model.specs.Answers.{Answer, done, judged_answer, sound_answer, told, too_large_line, usage}
 use Rattle.bdb_model.specs.Change.{Change, Gains, GainsPart, Stays}
-use Rattle.bdb_model.specs.Lines.{line}
+use Rattle.bdb_text_format.specs.LineEnd.{line}
 use Rattle.bdb_printing.specs.SalvageText.{salvage_text}
 use Rattle.bdb_salvage.specs.Guesses.{chosen}
 use Rattle.bdb_salvage.specs.declared.guess.Guess.{Guess}
@@ -49,9 +49,9 @@ IsActionAnswer (Salvage guess print) limit input answer = answer ≡ salvage_ans
 IsActionAnswer (Trial kind seed count) limit input answer = IsTrialAnswer limit kind seed count answer
 
 -- an answer to an input, by whether it is too long
-abbrev pub IsAnswerBy : Bool → Command → List ℕ → Answer → Type 0
-IsAnswerBy true command input answer = answer ≡ told 6 (too_large_line command.limit)
-IsAnswerBy false command input answer = IsActionAnswer command.action command.limit input answer
+abbrev pub IsAnswerBySize : Bool → Command → List ℕ → Answer → Type 0
+IsAnswerBySize true command input answer = answer ≡ told 6 (too_large_line command.limit)
+IsAnswerBySize false command input answer = IsActionAnswer command.action command.limit input answer
 
 abbrev pub is_too_long : Command → List ℕ → Bool
 is_too_long command input = reads_input command.action && nat_lt command.limit (length input)
@@ -59,7 +59,7 @@ is_too_long command input = reads_input command.action && nat_lt command.limit (
 -- an answer to a command, or to words that are none
 abbrev pub IsCommandAnswer : Option Command → List ℕ → Answer → Type 0
 IsCommandAnswer None input answer = answer ≡ usage
-IsCommandAnswer (Some command) input answer = IsAnswerBy (is_too_long command input) command input answer
+IsCommandAnswer (Some command) input answer = IsAnswerBySize (is_too_long command input) command input answer
 
 -- an answer to words and an input
 abbrev pub IsAnswerTo : List (List ℕ) → List ℕ → Answer → Type 0

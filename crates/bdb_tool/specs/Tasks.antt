@@ -3,7 +3,7 @@ use Rattle.std.specs.Prelude.{◌≡◌, ℕ, ◌+◌, ◌≤◌, ◌^◌, IsTru
 use Rattle.std.specs.Io.KnownBytes.{Consumes, IsAtEnd}
 use Rattle.bdb_model.specs.Change.{Change, HasFailed, IsUncalled}
 use Rattle.bdb_model.specs.Command.{Request}
-use Rattle.bdb_model.specs.Faults.{Took}
+use Rattle.bdb_format.specs.Faults.{Took}
 use Rattle.bdb_tool.specs.Commands.{Ask, Command, Load, command_of, reads_input}
 use Rattle.bdb_tool.specs.WordsSeen.{IsFitSalvage, IsFitTrial, request_seen, salvage_seen, trial_seen}
 use Rattle.bdb_tool.specs.declared.command.Request.{Request as CodeRequest}
@@ -80,11 +80,11 @@ pub record IsTried (words : List (List ℕ)) (source : Change) (trial : CodeTria
   pub uncalled : IsUncalled source
 
 -- what there is to do is what the words say
-abbrev pub IsTaken : List (List ℕ) → Change → Task → Type 0
-IsTaken words source (AskTask request image) = IsAsked words source request image
-IsTaken words source (LoadTask text limit) = IsTextRead words source text limit
-IsTaken words source (SalvageTask asked image) = IsSalvageRead words source asked image
-IsTaken words source (TrialTask trial limit) = IsTried words source trial limit
+abbrev pub IsTaskTaken : List (List ℕ) → Change → Task → Type 0
+IsTaskTaken words source (AskTask request image) = IsAsked words source request image
+IsTaskTaken words source (LoadTask text limit) = IsTextRead words source text limit
+IsTaskTaken words source (SalvageTask asked image) = IsSalvageRead words source asked image
+IsTaskTaken words source (TrialTask trial limit) = IsTried words source trial limit
 
 -- a request that was read of words, of an image that isn't too long
 pub record IsFitAsk (request : CodeRequest) (image : List ℕ) : Type 0 where

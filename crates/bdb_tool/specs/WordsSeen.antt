@@ -3,7 +3,7 @@ use Rattle.std.specs.Prelude.{ℕ, ◌≡◌, ◌<◌, ◌≤◌, ◌^◌, ◌++
 use Rattle.bdb_format.specs.HeadOf.{is_page_size}
 use Rattle.bdb_model.specs.Command.{Request, Verify, ListAll, OptionRow, Given, Arguments, arguments, asked_name, hex_option, hex_row, is_given, key_request, max_bytes, max_bytes_row, name_option, name_row, only_operands, print_option, print_row, row_of, text_request, value_given, with_option}
 use Rattle.bdb_tool.specs.Commands.{Action, Load, Salvage, Trial, Command, asking, order_option, order_row, page_size_option, page_size_row, within}
-use Rattle.bdb_model.specs.TextSpelling.{bytes_spelled}
+use Rattle.bdb_text_format.specs.TextSpelling.{bytes_spelled}
 use Rattle.bdb_tool.specs.declared.options.OptionWord.{OptionWord}
 use Rattle.bdb_tool.specs.declared.options.OptionWord.TheVariants.{MaxBytes as MaxBytesWord, Name as NameWord, Order as OrderWord, PageSize as PageSizeWord, Hex as HexWord, Print as PrintWord}
 use Rattle.bdb_tool.specs.declared.options.GivenOption.{GivenOption}
@@ -51,14 +51,14 @@ abbrev pub IsRowOf : List OptionRow → List ℕ → OptionWord → Type 0
 IsRowOf options word option = (row_of options word ≡ Some (row_seen option)) × (word ≡ (row_seen option).word)
 
 -- an option that takes a value has the next word as its value, another has none
-abbrev pub IsTaken : Bool → Option (List ℕ) → GivenOption → Type 0
-IsTaken true next given = (next ≡ Some (given_seen given).value) × (word_count given ≡ 2)
-IsTaken false next given = ((given_seen given).value ≡ []) × (word_count given ≡ 1)
+abbrev pub IsOptionGiven : Bool → Option (List ℕ) → GivenOption → Type 0
+IsOptionGiven true next given = (next ≡ Some (given_seen given).value) × (word_count given ≡ 2)
+IsOptionGiven false next given = ((given_seen given).value ≡ []) × (word_count given ≡ 1)
 
 -- an option is given by its word and the next word
 abbrev pub IsGivenBy : OptionWord → Option (List ℕ) → GivenOption → Type 0
 IsGivenBy option next given =
-    ((given_seen given).word ≡ (row_seen option).word) × IsTaken (row_seen option).takes_value next given
+    ((given_seen given).word ≡ (row_seen option).word) × IsOptionGiven (row_seen option).takes_value next given
 
 -- what was read says the options that are given
 pub record HasGiven (read : ReadArguments) (given : List Given) : Type 0 where

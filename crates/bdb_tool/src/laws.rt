@@ -3,8 +3,9 @@ ghost use Rattle.std.specs.Prelude.{◌≢◌};
 ghost use Rattle.bdb_tool.specs.Outputs.{StatusIs};
 
 use crate::run;
+use bdb_format::{Bytes, Steps};
 use bdb_io::{PureSink, PureSource};
-use bdb_model::{Bytes, Steps, Words};
+use bdb_model::Words;
 use std::alloc::Global;
 use std::sync::ledger::Ledger;
 

@@ -8,8 +8,9 @@ use crate::finish::{tell, tell_memory};
 use crate::status::{READ_FAULT, TOO_LARGE, USAGE};
 use crate::task::{Stop, task_of};
 use crate::text::too_large_line;
+use bdb_format::Steps;
 use bdb_io::{PureSource, Sink, Source};
-use bdb_model::{Steps, Words};
+use bdb_model::Words;
 use std::alloc::Global;
 use std::sync::ledger::{Blank, Ledger};
 

@@ -2,7 +2,7 @@
 ghost use Rattle.std.specs.Prelude.{◌^◌, ◌≤◌, IfOk, IsTrue, List, MatchResult, is_some, ℕ};
 ghost use Rattle.bdb_model.specs.Change.{change};
 ghost use Rattle.bdb_tool.specs.Commands.{command_of};
-ghost use Rattle.bdb_tool.specs.Tasks.{IsFitTask, IsInputWithin, IsStopped, IsTaken, IsUnreadable};
+ghost use Rattle.bdb_tool.specs.Tasks.{IsFitTask, IsInputWithin, IsStopped, IsTaskTaken, IsUnreadable};
 ghost use Rattle.bdb_tool.specs.WordsSeen.{IsFitCommand, IsSeen, command_seen};
 
 use crate::command::{Action, Command, Request, Salvage, Trial, command_of};
@@ -54,7 +54,7 @@ fn task_with<'w, S: Source>(
     source: &mut S,
 ) -> Result<Task<'w>, Stop>
     requires { IsFitCommand command }
-    ensures task { (words : List (List ℕ)) → IsSeen (command_of words) command.entry → MatchResult result (IsTaken words (change S.left S.faults source.old source.new)) (IsStopped words (change S.left S.faults source.old source.new)) }
+    ensures task { (words : List (List ℕ)) → IsSeen (command_of words) command.entry → MatchResult result (IsTaskTaken words (change S.left S.faults source.old source.new)) (IsStopped words (change S.left S.faults source.old source.new)) }
     ensures fit { IsTrue (is_some (command_seen command.entry)) → IfOk result IsFitTask }
 {
     match command.action {
@@ -80,7 +80,7 @@ pub(crate) fn task_of<'w, S: Source>(
     words: &'w Words,
     source: &mut S,
 ) -> Result<Task<'w>, Stop>
-    ensures task { MatchResult result (IsTaken words.now (change S.left S.faults source.old source.new)) (IsStopped words.now (change S.left S.faults source.old source.new)) }
+    ensures task { MatchResult result (IsTaskTaken words.now (change S.left S.faults source.old source.new)) (IsStopped words.now (change S.left S.faults source.old source.new)) }
     ensures fit { IfOk result IsFitTask }
 {
     let Some(command) = command_of(words) else {

@@ -1,8 +1,8 @@
 //! `run` with a base, and the law's function.
 ghost use Rattle.std.specs.Prelude.{◌≡◌};
 
+use bdb_format::Steps;
 use bdb_io::{MemSink, MemSource, Source};
-use bdb_model::Steps;
 use bdb_running::files::ONE_PAIR;
 use bdb_running::images::bytes_of;
 use bdb_running::outside::Dripping;

@@ -1,7 +1,7 @@
 //! Files that `load` builds of longer texts: how many pages they have, and what they answer.
 
 use crate::checking::check;
-use bdb_model::Bytes;
+use bdb_format::Bytes;
 use bdb_running::outside::Dripping;
 use bdb_running::running::Told::Done;
 use bdb_running::running::{Question, ran_over};

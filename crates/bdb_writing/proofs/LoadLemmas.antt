@@ -1,24 +1,36 @@
 -- From the sections of a text to its answer.
-use Rattle.std.proofs.Common.{◌≡◌, ℕ, true, List, ap, refl, subst, sym, ◌∙◌}
+use Rattle.std.proofs.Common.{◌≡◌, ℕ, true, List, ap, inl, inr, refl, subst, sym, ◌∙◌}
 use Rattle.std.specs.Prelude.{Option, Some, None, Result, Ok, Err, MatchResult, is_none, is_some}
-use Rattle.bdb_model.specs.declared.faults.TextFault.{TextFault}
-use Rattle.bdb_model.specs.declared.sections.Section.{Section}
+use Rattle.bdb_text_format.specs.declared.faults.TextFault.{TextFault}
+use Rattle.bdb_text_format.specs.declared.sections.Section.{Section}
 use Rattle.bdb_model.specs.Answers.{Answer, done, told}
-use Rattle.bdb_model.specs.Reasons.{text_fault}
-use Rattle.bdb_model.specs.Sections.{Reads}
+use Rattle.bdb_text_format.specs.Reasons.{text_fault}
+use Rattle.bdb_text_format.specs.Sections.{Reads}
 use Rattle.bdb_text.proofs.ReadLemmas.{reads_or_faults}
-use Rattle.bdb_load.specs.Loading.{loading_error}
+use Rattle.bdb_settle.specs.declared.load_error.LoadError.{LoadError}
+use Rattle.bdb_load.specs.Loading.{IsLoadRefusal, loading_error}
+use Rattle.bdb_load.proofs.BuildLemmas.{refusal_found}
 use Rattle.bdb_writing.specs.declared.refusal.Refusal.{Refusal}
 use Rattle.bdb_writing.specs.Lines.{reason_line}
-use Rattle.bdb_writing.specs.Loads.{IsAnswerBy, IsLoadAnswer, IsTextAnswer}
-use Rattle.bdb_writing.specs.Refusals.{IsRefusal, Says}
+use Rattle.bdb_writing.specs.Loads.{IsErrorAnswer, IsLoadAnswer, IsLoadAnswerBy, IsTextAnswer}
+use Rattle.bdb_writing.specs.Refusals.{IsRefusedAnswer, Says}
 use Rattle.bdb_writing.proofs.RefusalLemmas.{says_allowed, still_refused}
 
 -- a text with a fault
-pub fault_refused : (limit : ℕ) (text : List ℕ) (fault : TextFault) (refusal : Refusal) → text_fault text ≡ Some fault → Says (told 8 (reason_line fault)) refusal → IsRefusal (IsTextAnswer limit text) refusal
+pub fault_refused : (limit : ℕ) (text : List ℕ) (fault : TextFault) (refusal : Refusal) → text_fault text ≡ Some fault → Says (told 8 (reason_line fault)) refusal → IsRefusedAnswer (IsTextAnswer limit text) refusal
 fault_refused limit text fault refusal is says =
     says_allowed (IsTextAnswer limit text) (told 8 (reason_line fault)) refusal says
-    (subst (λ found. IsAnswerBy limit found text (told 8 (reason_line fault))) (sym is) refl)
+    (subst (λ found. IsLoadAnswerBy limit found text (told 8 (reason_line fault))) (sym is) refl)
+
+-- sections that aren't loaded
+pub load_refused : (limit most : ℕ) (sections : List Section) (error : LoadError) (refusal : Refusal) → most ≡ limit → IsLoadRefusal most sections error
+    → IsRefusedAnswer (IsErrorAnswer limit error) refusal → IsRefusedAnswer (IsLoadAnswer limit (loading_error limit sections) sections) refusal
+load_refused limit most sections error refusal same found refused =
+    still_refused (IsErrorAnswer limit error) (IsLoadAnswer limit (loading_error limit sections) sections) refusal
+    (λ answer is. elim (refusal_found most sections error found) [
+      | inl memory ↦ absurd (subst (λ e. IsErrorAnswer limit e answer) memory is)
+      | inr first ↦ subst (λ f. IsLoadAnswer limit f sections answer) (sym (subst (λ m. loading_error m sections ≡ Some error) same first)) is
+    ]) refused
 
 -- a text that is read has no fault
 no_fault : (fault : Option TextFault) → is_none fault ≡ true → fault ≡ None
@@ -32,12 +44,12 @@ read_without_fault text sections read = no_fault (text_fault text) (sym (reads_o
 pub sections_answer : (limit : ℕ) (text : List ℕ) (sections : List Section) (answer : Answer) → Reads text sections → IsLoadAnswer limit (loading_error limit sections) sections answer
     → IsTextAnswer limit text answer
 sections_answer limit text sections answer read answered =
-    subst (λ found. IsAnswerBy limit found text answer) (sym (read_without_fault text sections read)) (record { sections = sections; read = read; answered = answered })
+    subst (λ found. IsLoadAnswerBy limit found text answer) (sym (read_without_fault text sections read)) (record { sections = sections; read = read; answered = answered })
 
 -- what loading the sections of a text gives is what loading the text gives
 pub text_loaded : (limit : ℕ) (text : List ℕ) (sections : List Section) (loaded : Result (List ℕ) Refusal) → Reads text sections
-    → MatchResult loaded (λ image. IsLoadAnswer limit (loading_error limit sections) sections (done image)) (IsRefusal (IsLoadAnswer limit (loading_error limit sections) sections))
-    → MatchResult loaded (λ image. IsTextAnswer limit text (done image)) (IsRefusal (IsTextAnswer limit text))
+    → MatchResult loaded (λ image. IsLoadAnswer limit (loading_error limit sections) sections (done image)) (IsRefusedAnswer (IsLoadAnswer limit (loading_error limit sections) sections))
+    → MatchResult loaded (λ image. IsTextAnswer limit text (done image)) (IsRefusedAnswer (IsTextAnswer limit text))
 text_loaded limit text sections (Ok image) read answered = sections_answer limit text sections (done image) read answered
 text_loaded limit text sections (Err refusal) read refused =
     still_refused (IsLoadAnswer limit (loading_error limit sections) sections) (IsTextAnswer limit text) refusal (λ answer. sections_answer limit text sections answer read) refused

@@ -9,9 +9,9 @@ use Rattle.bdb_format.specs.declared.kinds.Kind.TheVariants.{Btree, Recno, Hash,
 use Rattle.bdb_format.specs.declared.kinds.Order.TheVariants.{Big}
 use Rattle.bdb_format.specs.Numbers.{spelled}
 use Rattle.bdb_format.proofs.SpellingLemmas.{length-spelled}
-use Rattle.bdb_model.specs.declared.pairs.TextPair.{TextPair}
-use Rattle.bdb_model.specs.declared.sections.Section.{Section}
-use Rattle.bdb_model.specs.Written.{holds_records}
+use Rattle.bdb_text_format.specs.declared.pairs.TextPair.{TextPair}
+use Rattle.bdb_text_format.specs.declared.sections.Section.{Section}
+use Rattle.bdb_text_format.specs.Written.{holds_records}
 use Rattle.bdb_sections.specs.Fit.{AreFitSettings, IsFitPair, IsFitSection}
 use Rattle.bdb_settle.specs.declared.load_error.LoadError.{LoadError}
 use Rattle.bdb_settle.specs.declared.load_error.LoadError.TheVariants.{Memory, TooLarge}
@@ -20,11 +20,12 @@ use Rattle.bdb_settle.specs.LoadErrors.{load_error, pair_errors}
 use Rattle.bdb_gen.specs.Generated.{generated, number_from, pair_of}
 use Rattle.bdb_load.specs.Builds.{image_size}
 use Rattle.bdb_load.specs.Loading.{AreLoadable, IsLoadRefusal, loading_error, size_error}
+use Rattle.bdb_load.proofs.BuildLemmas.{refusal_found}
 use Rattle.bdb_model.specs.Answers.{Answer, told}
 use Rattle.bdb_writing.specs.declared.refusal.Refusal.{Refusal}
 use Rattle.bdb_writing.specs.Lines.{image_too_large_line}
 use Rattle.bdb_writing.specs.Loads.{IsErrorAnswer}
-use Rattle.bdb_writing.specs.Refusals.{IsRefusal}
+use Rattle.bdb_writing.specs.Refusals.{IsRefusedAnswer}
 use Rattle.bdb_writing.proofs.RefusalLemmas.{still_refused}
 use Rattle.bdb_writing.specs.Trials.{IsTrialAnswer, IsTrialBy, trial_section, trial_sections, trial_settings}
 
@@ -111,18 +112,20 @@ large_or_none true error is = let same : TooLarge ≡ error = cc in (sym same, r
 large_or_none false error is = absurd cc
 
 -- a refusal of a trial is that its image would be too large, or want of memory
-trial_refusal : (limit most : ℕ) (kind : Kind) (seed count : ℕ) (sections : List Section) (error : LoadError) → sections ≡ trial_sections kind seed count → most ≡ limit → IsLoadRefusal (loading_error most sections) error
+trial_refusal : (limit most : ℕ) (kind : Kind) (seed count : ℕ) (sections : List Section) (error : LoadError) → sections ≡ trial_sections kind seed count → most ≡ limit → IsLoadRefusal most sections error
     → (error ≡ Memory) ⊎ ((error ≡ TooLarge) × (nat_lt limit (image_size (trial_sections kind seed count)) ≡ true))
-trial_refusal limit most kind seed count sections error sections_are most_is (inl memory) = inl memory
-trial_refusal limit most kind seed count sections error sections_are most_is (inr is) =
-    inr (large_or_none (nat_lt limit (image_size (trial_sections kind seed count))) error (sym (trial_error limit kind seed count) ∙ (rw (sections_are, most_is) at is)))
+trial_refusal limit most kind seed count sections error sections_are most_is found = elim (refusal_found most sections error found) [
+  | inl memory ↦ inl memory
+  | inr is ↦ inr (large_or_none (nat_lt limit (image_size (trial_sections kind seed count))) error
+      (sym (trial_error limit kind seed count) ∙ (rw (sections_are, most_is) at is)))
+]
 
 large_answers : (limit : ℕ) (kind : Kind) (seed count : ℕ) (answer : Answer) → nat_lt limit (image_size (trial_sections kind seed count)) ≡ true → answer ≡ told 6 (image_too_large_line limit) → IsTrialAnswer limit kind seed count answer
 large_answers limit kind seed count answer beyond is = subst (λ b. IsTrialBy b limit kind seed count answer) (sym beyond) is
 
 -- so what is told of it is an answer
 pub trial_refused : (limit most : ℕ) (kind : Kind) (seed count : ℕ) (sections : List Section) (error : LoadError) (refusal : Refusal) → sections ≡ trial_sections kind seed count → most ≡ limit
-    → IsLoadRefusal (loading_error most sections) error → IsRefusal (IsErrorAnswer limit error) refusal → IsRefusal (IsTrialAnswer limit kind seed count) refusal
+    → IsLoadRefusal most sections error → IsRefusedAnswer (IsErrorAnswer limit error) refusal → IsRefusedAnswer (IsTrialAnswer limit kind seed count) refusal
 trial_refused limit most kind seed count sections error refusal sections_are most_is found refused =
     still_refused (IsErrorAnswer limit error) (IsTrialAnswer limit kind seed count) refusal
     (λ answer is. elim (trial_refusal limit most kind seed count sections error sections_are most_is found) [

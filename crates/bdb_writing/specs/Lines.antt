@@ -1,10 +1,10 @@
 -- The lines that say why a text isn't loaded, and those of a trial. Source: README.md, "Use", and docs/FORMAT.md, "Reasons".
 use Rattle.std.specs.Prelude.{ℕ, List, [], ◌∷◌, ◌++◌, codes, decimal}
 use Rattle.bdb_format.specs.declared.kinds.Kind.{Kind}
-use Rattle.bdb_model.specs.declared.faults.TextFault.{TextFault}
+use Rattle.bdb_text_format.specs.declared.faults.TextFault.{TextFault}
 use Rattle.bdb_format.specs.FaultNames.{numbered_name}
-use Rattle.bdb_model.specs.Lines.{line}
-use Rattle.bdb_model.specs.Written.{kind_text}
+use Rattle.bdb_text_format.specs.LineEnd.{line}
+use Rattle.bdb_text_format.specs.Written.{kind_text}
 
 -- the names of the reasons of a text's line, numbered from one on
 abbrev pub reason_names : List (List ℕ)

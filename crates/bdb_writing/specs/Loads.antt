@@ -1,10 +1,10 @@
 -- What `load` answers to a text that is within the limit. Source: README.md, "Use".
 use Rattle.std.specs.Prelude.{◌≡◌, ℕ, List, Option, Some, None, codes}
-use Rattle.bdb_model.specs.declared.faults.TextFault.{TextFault}
-use Rattle.bdb_model.specs.declared.sections.Section.{Section}
+use Rattle.bdb_text_format.specs.declared.faults.TextFault.{TextFault}
+use Rattle.bdb_text_format.specs.declared.sections.Section.{Section}
 use Rattle.bdb_model.specs.Answers.{Answer, done, told}
-use Rattle.bdb_model.specs.Reasons.{text_fault}
-use Rattle.bdb_model.specs.Sections.{Reads}
+use Rattle.bdb_text_format.specs.Reasons.{text_fault}
+use Rattle.bdb_text_format.specs.Sections.{Reads}
 use Rattle.bdb_settle.specs.declared.load_error.LoadError.{LoadError}
 use Rattle.bdb_settle.specs.declared.load_error.LoadError.TheVariants.{RecordTooLong, RecordZero, TooLarge, QueueAmongNames, Memory}
 use Rattle.bdb_load.specs.Builds.{Builds}
@@ -20,7 +20,7 @@ IsErrorAnswer limit (QueueAmongNames number) answer = answer ≡ told 8 (error_l
 IsErrorAnswer limit Memory answer = ⊥
 
 -- the answer is some image that is built of sections
-pub record IsImageOf (sections : List Section) (answer : Answer) : Type 0 where
+pub record IsImageAnswer (sections : List Section) (answer : Answer) : Type 0 where
   pub image : List ℕ
   pub built : Builds sections image
   pub answer_is : answer ≡ done image
@@ -28,7 +28,7 @@ pub record IsImageOf (sections : List Section) (answer : Answer) : Type 0 where
 -- an answer to sections, by the first of their load errors
 abbrev pub IsLoadAnswer : ℕ → Option LoadError → List Section → Answer → Type 0
 IsLoadAnswer limit (Some error) sections answer = IsErrorAnswer limit error answer
-IsLoadAnswer limit None sections answer = IsImageOf sections answer
+IsLoadAnswer limit None sections answer = IsImageAnswer sections answer
 
 -- an answer to sections that a text reads as
 pub record IsReadAnswer (limit : ℕ) (text : List ℕ) (answer : Answer) : Type 0 where
@@ -37,10 +37,10 @@ pub record IsReadAnswer (limit : ℕ) (text : List ℕ) (answer : Answer) : Type
   pub answered : IsLoadAnswer limit (loading_error limit sections) sections answer
 
 -- an answer to a text, by its fault
-abbrev pub IsAnswerBy : ℕ → Option TextFault → List ℕ → Answer → Type 0
-IsAnswerBy limit (Some fault) text answer = answer ≡ told 8 (reason_line fault)
-IsAnswerBy limit None text answer = IsReadAnswer limit text answer
+abbrev pub IsLoadAnswerBy : ℕ → Option TextFault → List ℕ → Answer → Type 0
+IsLoadAnswerBy limit (Some fault) text answer = answer ≡ told 8 (reason_line fault)
+IsLoadAnswerBy limit None text answer = IsReadAnswer limit text answer
 
 -- an answer to a text that is loaded into an image of at most so many bytes
 abbrev pub IsTextAnswer : ℕ → List ℕ → Answer → Type 0
-IsTextAnswer limit text answer = IsAnswerBy limit (text_fault text) text answer
+IsTextAnswer limit text answer = IsLoadAnswerBy limit (text_fault text) text answer

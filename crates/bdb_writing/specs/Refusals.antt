@@ -11,7 +11,7 @@ Says answer (TooLarge line) = answer ≡ told 6 (string_bytes line)
 Says answer Memory = ⊤
 
 -- a refusal is one of the answers that are allowed, or want of memory
-abbrev pub IsRefusal : (Answer → Type 0) → Refusal → Type 0
-IsRefusal allowed (Faulty line) = allowed (told 8 (string_bytes line))
-IsRefusal allowed (TooLarge line) = allowed (told 6 (string_bytes line))
-IsRefusal allowed Memory = ⊤
+abbrev pub IsRefusedAnswer : (Answer → Type 0) → Refusal → Type 0
+IsRefusedAnswer allowed (Faulty line) = allowed (told 8 (string_bytes line))
+IsRefusedAnswer allowed (TooLarge line) = allowed (told 6 (string_bytes line))
+IsRefusedAnswer allowed Memory = ⊤

@@ -4,9 +4,9 @@ use Rattle.bdb_format.specs.declared.kinds.Kind.{Kind}
 use Rattle.bdb_format.specs.declared.kinds.Order.TheVariants.{Little}
 use Rattle.bdb_format.specs.declared.settings.Settings.{Settings}
 use Rattle.bdb_format.specs.Hashing.{hash5}
-use Rattle.bdb_model.specs.declared.sections.Section.{Section}
+use Rattle.bdb_text_format.specs.declared.sections.Section.{Section}
 use Rattle.bdb_model.specs.Answers.{Answer, done, told}
-use Rattle.bdb_model.specs.Written.{is_queue}
+use Rattle.bdb_text_format.specs.Written.{is_queue}
 use Rattle.bdb_settle.specs.Loaded.{loaded_section, unnumbered}
 use Rattle.bdb_count.specs.Need.{need_of}
 use Rattle.bdb_load.specs.Builds.{Builds, image_size}

@@ -1,19 +1,19 @@
 //! `load`: from a dump text to the image of its sections.
 ghost use Rattle.std.specs.Prelude.{◌≡◌, ◌≤◌, ◌^◌, IfErr, IfOk, List, MatchResult, length, string_bytes, ℕ};
 ghost use Rattle.bdb_model.specs.Answers.{done, told};
-ghost use Rattle.bdb_model.specs.Sections.{Reads};
+ghost use Rattle.bdb_text_format.specs.Sections.{Reads};
 ghost use Rattle.bdb_load.specs.Loading.{AreLoadable, loading_error};
 ghost use Rattle.bdb_writing.specs.Lines.{image_too_large_line};
 ghost use Rattle.bdb_writing.specs.Loads.{IsErrorAnswer, IsLoadAnswer, IsTextAnswer};
-ghost use Rattle.bdb_writing.specs.Refusals.{IsRefusal, Says};
+ghost use Rattle.bdb_writing.specs.Refusals.{IsRefusedAnswer, Says};
 
 use crate::refusal::Refusal;
 use crate::texts::{error_line, image_too_large_line, reason_line};
 use bdb_io::Image;
 use bdb_load::load;
-use bdb_model::{Sections, TextFault};
 use bdb_settle::LoadError;
 use bdb_text::{TextError, read_dump};
+use bdb_text_format::{Sections, TextFault};
 use std::alloc::{AllocError, Global};
 
 // A line of why a text isn't loaded, where there is memory for it.
@@ -38,7 +38,7 @@ fn too_large(alloc: Global, limit: u32) -> Refusal
 
 /// Why sections with a load error aren't loaded.
 pub(crate) fn refusal_of(alloc: Global, error: LoadError, limit: u32) -> Refusal
-    ensures { IsRefusal (IsErrorAnswer limit error) result }
+    ensures { IsRefusedAnswer (IsErrorAnswer limit error) result }
 {
     match error {
         LoadError::RecordTooLong(line) => faulty(error_line(alloc, line, 1, "RecordTooLong")),
@@ -53,7 +53,7 @@ pub(crate) fn refusal_of(alloc: Global, error: LoadError, limit: u32) -> Refusal
 fn sections_of(alloc: Global, text: Image, limit: u32) -> Result<Sections, Refusal>
     requires { length text ≤ 2 ^ 30 }
     ensures read { IfOk result (λ sections. Reads text sections) }
-    ensures refused { IfErr result (IsRefusal (IsTextAnswer limit text)) }
+    ensures refused { IfErr result (IsRefusedAnswer (IsTextAnswer limit text)) }
 {
     match read_dump(alloc, text.bytes()) {
         Ok(sections) => Ok(sections),
@@ -66,7 +66,7 @@ fn sections_of(alloc: Global, text: Image, limit: u32) -> Result<Sections, Refus
 fn load_sections(alloc: Global, sections: Sections, limit: u32) -> Result<Image, Refusal>
     requires limit { limit ≤ 2 ^ 30 }
     requires fit { AreLoadable sections }
-    ensures { MatchResult result (λ image. IsLoadAnswer limit (loading_error limit sections) sections (done image)) (IsRefusal (IsLoadAnswer limit (loading_error limit sections) sections)) }
+    ensures { MatchResult result (λ image. IsLoadAnswer limit (loading_error limit sections) sections (done image)) (IsRefusedAnswer (IsLoadAnswer limit (loading_error limit sections) sections)) }
 {
     match load(alloc, sections, u64::from(limit)) {
         Ok(image) => Ok(image),
@@ -78,7 +78,7 @@ fn load_sections(alloc: Global, sections: Sections, limit: u32) -> Result<Image,
 pub fn load_text(alloc: Global, text: Image, limit: u32) -> Result<Image, Refusal>
     requires text { length text ≤ 2 ^ 30 }
     requires limit { limit ≤ 2 ^ 30 }
-    ensures { MatchResult result (λ image. IsTextAnswer limit text (done image)) (IsRefusal (IsTextAnswer limit text)) }
+    ensures { MatchResult result (λ image. IsTextAnswer limit text (done image)) (IsRefusedAnswer (IsTextAnswer limit text)) }
 {
     let sections = sections_of(alloc, text, limit)?;
     load_sections(alloc, sections, limit)

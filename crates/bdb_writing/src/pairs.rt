@@ -2,7 +2,8 @@
 ghost use Rattle.std.specs.Prelude.{◌≡◌, IfOk, map};
 ghost use Rattle.bdb_settle.specs.Loaded.{unnumbered};
 
-use bdb_model::{Bytes, Key, PairList, TextPair, TextPairs};
+use bdb_format::Bytes;
+use bdb_text_format::{Key, PairList, TextPair, TextPairs};
 use std::alloc::{AllocError, Global};
 
 // The same bytes once more.

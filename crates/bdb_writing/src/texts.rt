@@ -1,10 +1,10 @@
 ghost use Rattle.std.specs.Prelude.{◌≡◌, IfOk, string_bytes};
 ghost use Rattle.bdb_writing.specs.Lines.{error_line, image_too_large_line, reason_line, trial_text};
-ghost use Rattle.bdb_model.specs.Written.{kind_text};
+ghost use Rattle.bdb_text_format.specs.Written.{kind_text};
 
 use crate::names::reason_name;
 use bdb_format::Kind;
-use bdb_model::TextFault;
+use bdb_text_format::TextFault;
 use std::alloc::{AllocError, Global};
 
 /// The line of a text's fault.

@@ -5,7 +5,7 @@ ghost use Rattle.bdb_format.specs.Verdict.{verdict_of};
 ghost use Rattle.bdb_model.specs.Answers.{done};
 ghost use Rattle.bdb_load.specs.Builds.{Builds, image_size};
 ghost use Rattle.bdb_writing.specs.Lines.{trial_text};
-ghost use Rattle.bdb_writing.specs.Refusals.{IsRefusal};
+ghost use Rattle.bdb_writing.specs.Refusals.{IsRefusedAnswer};
 ghost use Rattle.bdb_writing.specs.Trials.{IsTrialAnswer, trial_sections, trial_settings};
 
 use crate::loading::refusal_of;
@@ -13,12 +13,12 @@ use crate::pairs::text_pairs;
 use crate::refusal::Refusal;
 use crate::texts::trial_lines;
 use bdb_file::verify;
-use bdb_format::{Kind, Order, Settings};
+use bdb_format::{Kind, Order, Settings, Steps, Verdict};
 use bdb_gen::generate;
 use bdb_io::Image;
 use bdb_layout::hash5;
 use bdb_load::load;
-use bdb_model::{Section, Sections, Steps, Verdict};
+use bdb_text_format::{Section, Sections};
 use std::alloc::{AllocError, Global};
 use std::sync::ledger::Ledger;
 
@@ -76,7 +76,7 @@ fn trial_image(
     requires limit { limit ≤ 2 ^ 30 }
     ensures built { IfOk result (λ image. Builds (trial_sections kind seed count) image) }
     ensures within { OnOk result (nat_lt limit (image_size (trial_sections kind seed count)) ≡ false) }
-    ensures refused { IfErr result (IsRefusal (IsTrialAnswer limit kind seed count)) }
+    ensures refused { IfErr result (IsRefusedAnswer (IsTrialAnswer limit kind seed count)) }
 {
     let Ok(sections) = trial_sections(alloc, kind, seed, count) else {
         return Err(Refusal::Memory);
@@ -137,7 +137,7 @@ pub fn trial_text<L: Ledger>(
     requires seed { seed < 2 ^ 31 }
     requires count { count ≤ 200000 }
     requires limit { limit ≤ 2 ^ 30 }
-    ensures { MatchResult result (λ text. IsTrialAnswer limit kind seed count (done (string_bytes text))) (IsRefusal (IsTrialAnswer limit kind seed count)) }
+    ensures { MatchResult result (λ text. IsTrialAnswer limit kind seed count (done (string_bytes text))) (IsRefusedAnswer (IsTrialAnswer limit kind seed count)) }
 {
     let image = trial_image(alloc, kind, seed, count, limit)?;
     match lines_of(alloc, kind, count, image.bytes(), steps) {

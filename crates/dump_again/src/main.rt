@@ -2,9 +2,10 @@
 //! pairs it has. A fault is told by its line and reason, with status 8.
 #![tactic(auto)]
 
+use bdb_format::Bytes;
 use bdb_io::{ReadError, Sink, StdSink, StdSource, put_all, read_image};
-use bdb_model::{Bytes, Key, Section, Sections, TextFault, TextPair};
 use bdb_text::{TextError, header_text, number_text, push_line_text, read_dump};
+use bdb_text_format::{Key, Section, Sections, TextFault, TextPair};
 use std::alloc::{AllocError, Global};
 use std::env;
 use std::process::ExitCode;

@@ -5,10 +5,11 @@
 ghost use Rattle.std.specs.Prelude.{◌≤◌, ◌^◌, length};
 
 use bdb_building_tests::built_table;
+use bdb_format::{Bytes, Settings};
 use bdb_io::{ReadError, StdSink, StdSource, put_all, read_image};
-use bdb_model::{Bytes, Pair, PairList, Settings, TextPair, TextPairs};
 use bdb_settle::settle;
 use bdb_text::read_dump;
+use bdb_text_format::{Pair, PairList, TextPair, TextPairs};
 use std::alloc::{AllocError, Global};
 use std::env;
 use std::process::ExitCode;

@@ -4,9 +4,8 @@ ghost use Rattle.std.specs.Prelude.{◌≡◌, ◌<◌, ◌≤◌, ◌^◌, leng
 
 use crate::held::Held;
 use bdb_file::{Sound, verify};
-use bdb_format::{FileKind, Steps};
+use bdb_format::{Bytes, FileKind, Steps};
 use bdb_graph::Meta;
-use bdb_model::Bytes;
 use bdb_salvage::{SalvageError, salvage};
 use std::alloc::{AllocError, Global};
 use std::marker::Brand;

@@ -1,6 +1,6 @@
 use Rattle.std.proofs.Common.{ℕ, ◌∙◌, ap, subst, arith, IsTrue}
 use Rattle.bdb_format.specs.HeadOf.{is_page_size}
-use Rattle.bdb_model.specs.Pairs.{listed}
+use Rattle.bdb_text_format.specs.Pairs.{listed}
 use Rattle.bdb_pack.specs.Built.{Built, joined_pages}
 use Rattle.bdb_mktree.specs.Building.{IsTreeBuilt}
 use Rattle.bdb_mktree.specs.Lists.{units_in}

@@ -5,7 +5,7 @@ use Rattle.bdb_format.specs.File.{file_of}
 use Rattle.bdb_format.specs.Page.{BtreeFields}
 use Rattle.bdb_btree.proofs.contents.note_contents.Goals as goal
 
-pub returns : goal.returns
-returns g c =
+pub returns-clause-noted : goal.returns-clause-noted
+returns-clause-noted g c =
     subst (λ (image : List ℕ). NotesAll (g.F.FaultSink.has_noted c.args.found.now) (g.F.FaultSink.has_noted c.note_forest.new.found)
-    (database_faults (file_of image) (BtreeFields c.args.meta.now))) c.forest.ensures c.in_ok-note_forest.ensures
+    (database_faults (file_of image) (BtreeFields c.args.meta.now))) c.forest.ensures c.in_ok-note_forest.ensures.noted

@@ -14,9 +14,9 @@ loop-i-preserved c =
     let settings = c.args.settings.now in
     let low : c.loop-i.i - 1 < length list = omega (arith, c.loop-i-test.true, c.loop-i.invariant.there) in
     let place : c.loop-i.i ≡ c.loop-i.i - 1 + 1 = omega (arith, c.loop-i-test.true) in
-    one_looked_at settings list (c.loop-i.i - 1) c.number_in-number.result c.loop-i.beyond low
-    (key_here list c.keys.result.now c.index-keys-i.result (c.loop-i.i - 1) c.number_in-number.result low c.keys.ensures c.index-keys-i.is
-    c.number_in-number.ensures)
+    one_looked_at settings list (c.loop-i.i - 1) c.number_of-number.result c.loop-i.beyond low
+    (key_here list c.keys.result.now c.index-keys-i.result (c.loop-i.i - 1) c.number_of-number.result low c.keys.ensures c.index-keys-i.is
+    c.number_of-number.ensures)
     (omega (arith, c.if-number-beyond.false))
     (sym (ap length (value_here list c.values.result.now c.index-values-i.result c.as_slice-long.result.now (c.loop-i.i - 1) low c.values.ensures
     c.index-values-i.is c.as_slice-long.ensures)) ∙ (c.if-long-from.false ∙ c.from.ensures))

@@ -1,14 +1,12 @@
-use Rattle.std.proofs.Common.{◌≡◌, ◌+◌, ◌∙◌, true, ap, arith}
-use Rattle.std.specs.Prelude.{is_some}
-use Rattle.std.specs.List.{sum_by}
-use Rattle.bdb_count.specs.Need.{master_pages, section_pages}
-use Rattle.bdb_count.proofs.NeedLemmas.{need_named}
+use Rattle.std.proofs.Common.{◌≡◌, subst}
+use Rattle.std.specs.Prelude.{IfOk}
+use Rattle.bdb_count.proofs.FilledLemmas.{need_before, settled_filled}
 use Rattle.bdb_count.proofs.sections.need.Goals as goal
+
+-- The records are filled up already, but for those of a queue, whose length isn't counted.
+pub filled_need-requires : goal.filled_need-requires
+filled_need-requires c = settled_filled c.args.sections.now c.requires
 
 pub returns : goal.returns
 returns c =
-    need_named c.args.sections.now c.requires c.in-Some.first.now c.in_ok-own.own c.in_ok-master.master c.in_ok-pages.pages c.in-Some.ensures
-    (let named : is_some c.in-Some.first.now.name ≡ true = grind (arith, c.is_none.ensures, c.if-is_none.false) in named)
-    (c.in_ok-own.ensures ∙ ap (sum_by (section_pages c.in-Some.first.now.settings.page_size)) c.as_slice.ensures)
-    (c.in_ok-master.ensures.pages ∙ ap (master_pages c.in-Some.first.now.settings.page_size) c.as_slice-2.ensures)
-    (let sum : c.in_ok-pages.pages ≡ c.in_ok-own.own + (1 + c.in_ok-master.master) = grind (arith, c.in_ok-pages.ensures, c.checked_add.ensures) in sum)
+    subst (λ n. IfOk c.filled_need.result (λ pages. pages ≡ n)) (need_before c.args.sections.now c.requires) c.filled_need.ensures

@@ -13,15 +13,15 @@ loop-start-preserved c =
     let run = c.run_at-run.result in
     elim c.if-cost-index.branch [
       | then-cost-index w ↦
-          key_open c.args.size c.args.bits c.loop-start.start c.loop-start.pages c.if-cost-index.pages (length run.pairs.now) c.unit_cost-cost.result
+          key_open c.args.size c.args.bits c.loop-start.start c.loop-start.pages c.if-cost-index.pages (length run.pairs.now) c.keyed_cost-cost.result
           c.index.result.now w.index_mut.result.now c.bucket_among-b.result c.args.pairs.now run.pairs.now run.key.now c.loop-start.left.items
           c.if-cost-index.left.items c.loop-start.invariant c.run_at-run.ensures c.bucket_among-b.ensures.bucket c.bucket_among-b.ensures.low
-          c.unit_cost-cost.ensures.cost c.index.ensures w.index_mut.ensures.value w.if-cost-index.true w.pages-is (ap (λ v. v.items) w.left-is)
+          c.keyed_cost-cost.ensures.cost c.index.ensures w.index_mut.ensures.value w.if-cost-index.true w.pages-is (ap (λ v. v.items) w.left-is)
       | else-cost-index w ↦
-          key_new c.args.size c.args.bits c.loop-start.start c.loop-start.pages c.if-cost-index.pages (length run.pairs.now) c.unit_cost-cost.result
+          key_new c.args.size c.args.bits c.loop-start.start c.loop-start.pages c.if-cost-index.pages (length run.pairs.now) c.keyed_cost-cost.result
           c.index.result.now (c.args.size - 26) c.bucket_among-b.result c.args.pairs.now run.pairs.now run.key.now c.loop-start.left.items
           c.if-cost-index.left.items c.loop-start.invariant c.run_at-run.ensures c.bucket_among-b.ensures.bucket c.bucket_among-b.ensures.low
-          c.unit_cost-cost.ensures.cost refl c.index.ensures w.if-cost-index.false w.pages-is (ap (λ v. v.items) w.left-is)
+          c.keyed_cost-cost.ensures.cost refl c.index.ensures w.if-cost-index.false w.pages-is (ap (λ v. v.items) w.left-is)
     ]
 
 pub returns-clause-pages : goal.returns-clause-pages

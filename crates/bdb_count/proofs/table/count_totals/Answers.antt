@@ -7,7 +7,7 @@ pub loop-start-preserved : goal.loop-start-preserved
 loop-start-preserved c =
     let run = c.run_at-run.result in
     let bounds = size_bounds c.args.size c.requires.legal in
-    let fits = c.unit_cost.ensures.fits in
+    let fits = c.keyed_cost.ensures.fits in
     next_counted c.args.size c.args.sorted c.args.pairs.now run.pairs.now c.loop-start.start (length run.pairs.now) c.loop-start.totals.cost
-    c.loop-start.totals.own c.unit_cost.result c.in_ok-totals.field-0 run.key.now c.loop-start.invariant c.run_at-run.ensures
-    c.unit_cost.ensures.cost (omega (arith, bounds, fits)) c.in_ok-totals.ensures.pages c.in_ok-totals.ensures.few
+    c.loop-start.totals.own c.keyed_cost.result c.in_ok-totals.field-0 run.key.now c.loop-start.invariant c.run_at-run.ensures
+    c.keyed_cost.ensures.cost (omega (arith, bounds, fits)) c.in_ok-totals.ensures.pages c.in_ok-totals.ensures.few

@@ -1,4 +1,4 @@
-use Rattle.std.specs.Prelude.{take}
+use Rattle.std.specs.Prelude.{◌≡◌, take}
 use Rattle.std.specs.List.{flat_map}
 use Rattle.bdb_format.specs.File.{file_of}
 use Rattle.bdb_faults.specs.Notes.{NotesAll}
@@ -8,6 +8,8 @@ use Rattle.bdb_file.proofs.contents.note_contents.Given as goal
 
 -- The faults of the databases so far are noted.
 abbrev pub invariant-loop-i : goal.invariant-loop-i
-invariant-loop-i g l =
-    NotesAll (g.F.FaultSink.has_noted l.fn.found) (g.F.FaultSink.has_noted l.found)
-    (flat_map (faults_on (file_of l.linked)) (take l.i (meta_pages (file_of l.linked))))
+invariant-loop-i g l = record {
+  noted : NotesAll (g.F.FaultSink.has_noted l.fn.found) (g.F.FaultSink.has_noted l.found)
+      (flat_map (faults_on (file_of l.linked)) (take l.i (meta_pages (file_of l.linked))));
+  same : l.known ≡ l.linked;
+}

@@ -10,4 +10,5 @@ invariant-loop-b g l = record {
   noted : Notes (g.F.FaultSink.has_noted l.fn.found) (g.F.FaultSink.has_noted l.found)
       (flat_map (bucket_faults l.linked l.meta) (range_with_len 0 l.b));
   stray : l.passed.has_stray ≡ list_any (has_stray_in l.linked l.meta) (range_with_len 0 l.b);
+  known : l.known ≡ l.linked;
 }

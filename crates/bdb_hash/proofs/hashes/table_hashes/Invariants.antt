@@ -6,4 +6,7 @@ use Rattle.bdb_hash.proofs.hashes.table_hashes.Given as goal
 
 -- The hashes of the buckets so far.
 abbrev pub invariant-loop-b : goal.invariant-loop-b
-invariant-loop-b l = l.hashes.items ≡ map key_hash (flat_map (bucket_told l.linked l.meta) (range_with_len 0 l.b))
+invariant-loop-b l = record {
+  hashed : l.hashes.items ≡ map key_hash (flat_map (bucket_told l.linked l.meta) (range_with_len 0 l.b));
+  here : l.known ≡ l.linked;
+}

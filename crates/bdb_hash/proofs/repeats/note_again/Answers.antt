@@ -4,5 +4,5 @@ use Rattle.bdb_hash.proofs.repeats.note_again.Goals as goal
 
 pub returns-else-has_twice : goal.returns-else-has_twice
 returns-else-has_twice g c =
-    no_repeat (g.F.FaultSink.has_noted c.args.found.now) c.args.hashes.now.items (joined_pages c.args.pages) c.requires
+    no_repeat (g.F.FaultSink.has_noted c.args.found.now) c.args.hashes.now.items (joined_pages c.args.pages) c.requires.hashes
     (c.has_twice.ensures c.if-has_twice.false)

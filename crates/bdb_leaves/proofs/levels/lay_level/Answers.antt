@@ -4,7 +4,7 @@ use Rattle.std.proofs.Math.Seq.{take-suc}
 use Rattle.std.proofs.lemmas.List.{take_all}
 use Rattle.bdb_format.specs.HeadOf.{is_page_size}
 use Rattle.bdb_levels.specs.Nodes.{Node, no_node}
-use Rattle.bdb_leaves.specs.Levels.{AreChildren, IsLaid}
+use Rattle.bdb_leaves.specs.Levels.{AreChildren, IsLevelLaid}
 use Rattle.bdb_leaves.specs.declared.levels.Child.{Child}
 use Rattle.bdb_leaves.proofs.LevelLemmas.{as_many, child_at, laid_none}
 use Rattle.bdb_leaves.proofs.levels.lay_level.Goals as goal
@@ -13,7 +13,7 @@ pub loop-child-init : goal.loop-child-init
 loop-child-init c = record {
   legal = c.requires.legal;
   laid = λ nodes are.
-      subst (λ (l : List Child). IsLaid c.args.inner c.args.level c.args.pages.now c.args.pages.now l []) (sym c.new-above.ensures.items)
+      subst (λ (l : List Child). IsLevelLaid c.args.inner c.args.level c.args.pages.now c.args.pages.now l []) (sym c.new-above.ensures.items)
       (laid_none c.args.inner c.args.level c.args.pages.now c.requires.whole);
 }
 
@@ -37,7 +37,7 @@ loop-child-preserved c =
     record {
       legal = subst (λ size. IsTrue (is_page_size size)) (sym (pushed c.requires.children.0 c.requires.children.1).laid.size) c.requires.legal;
       laid = λ nodes are.
-          subst (λ (l : List Node). IsLaid c.args.inner c.args.level c.args.pages.now c.push_child.new.pages c.push_child.new.above.items l)
+          subst (λ (l : List Node). IsLevelLaid c.args.inner c.args.level c.args.pages.now c.push_child.new.pages c.push_child.new.above.items l)
           (sym (ap (λ k. take k nodes) (let e : i + 1 ≡ suc i = omega arith in e)
           ∙ take-suc nodes i no_node (omega (arith, as_many c.args.inner c.args.pages.now c.args.below.now nodes are, c.loop-child-test.true))))
           (pushed nodes are);
@@ -45,7 +45,7 @@ loop-child-preserved c =
 
 pub returns : goal.returns
 returns c = λ nodes are.
-    subst (λ (l : List Node). IsLaid c.args.inner c.args.level c.args.pages.now c.loop-child.pages c.loop-child.above.items l)
+    subst (λ (l : List Node). IsLevelLaid c.args.inner c.args.level c.args.pages.now c.loop-child.pages c.loop-child.above.items l)
     (take_all c.loop-child.child-index nodes (omega (
       arith,
       as_many c.args.inner c.args.pages.now c.args.below.now nodes are,

@@ -2,7 +2,7 @@ use Rattle.std.proofs.Common.{List, [], ◌∷◌, ◌++◌, sym, subst, ap, ◌
 use Rattle.std.specs.Prelude.{IsTrue}
 use Rattle.bdb_format.specs.HeadOf.{is_page_size}
 use Rattle.bdb_pack.specs.Built.{AreWhole, Built}
-use Rattle.bdb_leaves.specs.Levels.{IsLaid, IsStarted, LaidNow}
+use Rattle.bdb_leaves.specs.Levels.{IsLevelLaid, IsStarted, LaidNow}
 use Rattle.bdb_leaves.specs.declared.levels.Child.{Child}
 use Rattle.bdb_leaves.proofs.LevelLemmas.{laid_started, stays_as}
 use Rattle.bdb_leaves.proofs.levels.push_child.Goals as goal
@@ -34,7 +34,7 @@ returns c = λ origin nodes node laid is.
     nodes node)
     c.if-branch.false (c.in_ok-last_takes.ensures origin nodes node laid is) in
     let child : Child = record { page = c.in_ok-page.page; count = c.args.child.count; leaf = c.args.child.leaf } in
-    subst (λ (l : List Child). IsLaid c.args.inner c.args.level origin c.start_page.new.pages l (nodes ++ (node ∷ [])))
+    subst (λ (l : List Child). IsLevelLaid c.args.inner c.args.level origin c.start_page.new.pages l (nodes ++ (node ∷ [])))
     (sym (c.in_ok-push.ensures.items ∙ ap (λ (l : List Child). l ++ (child ∷ [])) answer.1))
     (laid_started c.args.inner c.args.level origin c.args.pages.now c.start_page.new.pages c.args.above.now.items nodes node c.args.child
     c.in_ok-page.page laid is

@@ -1,7 +1,7 @@
 use Rattle.std.proofs.Common.{◌+◌, ◌<◌, ◌≡◌, List, length, arith, inl, inr, refl, sym, subst, ap, ◌∙◌}
 use Rattle.std.proofs.lemmas.List.{get_or_default}
 use Rattle.bdb_levels.specs.Nodes.{Node}
-use Rattle.bdb_leaves.specs.Levels.{AreChildren, IsLaid, no_child}
+use Rattle.bdb_leaves.specs.Levels.{AreChildren, IsLevelLaid, no_child}
 use Rattle.bdb_leaves.specs.Tower.{HasTower}
 use Rattle.bdb_leaves.specs.declared.levels.Child.{Child}
 use Rattle.bdb_leaves.proofs.LevelLemmas.{as_many, sum_is}
@@ -23,11 +23,11 @@ one_up c = sum_is c.checked_add.result _ _ c.in_ok-level.level c.checked_add.ens
 
 -- it stands over the nodes of that
 is_laid : (c : goal.After-drop-row-in-loop-alloc) (nodes : List Node) (are : AreChildren c.args.inner c.args.pages.now c.args.below.items nodes)
-    → IsLaid c.args.inner (c.loop-alloc.level + 1) c.loop-alloc.pages c.lay_level.new.pages c.in_ok-row.row.items
+    → IsLevelLaid c.args.inner (c.loop-alloc.level + 1) c.loop-alloc.pages c.lay_level.new.pages c.in_ok-row.row.items
     (c.loop-alloc.invariant.built nodes are).top
 is_laid c nodes are =
     let built = c.loop-alloc.invariant.built nodes are in
-    subst (λ n. IsLaid c.args.inner n c.loop-alloc.pages c.lay_level.new.pages c.in_ok-row.row.items built.top) (one_up c)
+    subst (λ n. IsLevelLaid c.args.inner n c.loop-alloc.pages c.lay_level.new.pages c.in_ok-row.row.items built.top) (one_up c)
     (c.in_ok-row.ensures built.top
     (subst (λ (l : List Child). AreChildren c.args.inner c.loop-alloc.pages l built.top) (sym c.deref.ensures.value) built.are))
 

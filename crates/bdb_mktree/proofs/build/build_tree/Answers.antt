@@ -1,5 +1,5 @@
 use Rattle.std.proofs.Common.{length}
-use Rattle.bdb_model.specs.Pairs.{listed}
+use Rattle.bdb_text_format.specs.Pairs.{listed}
 use Rattle.bdb_mktree.specs.Lists.{units_in}
 use Rattle.bdb_mktree.proofs.ListLemmas.{units_listed}
 use Rattle.bdb_mktree.proofs.OrderLemmas.{keys_fit, units_fit}

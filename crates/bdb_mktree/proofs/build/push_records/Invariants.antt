@@ -1,6 +1,7 @@
 use Rattle.std.proofs.Common.{◌≤◌, drop, length}
 use Rattle.bdb_mktree.specs.Building.{ArePushed}
-use Rattle.bdb_mktree.specs.Lists.{AscendFrom, record_units}
+use Rattle.bdb_text_format.specs.Pairs.{AscendFrom}
+use Rattle.bdb_mktree.specs.Lists.{record_units}
 use Rattle.bdb_mktree.proofs.build.push_records.Given as goal
 
 -- The records below the number are pushed.

@@ -1,6 +1,6 @@
 use Rattle.std.proofs.Common.{◌∙◌, ◌+◌, ap, drop, subst, sym, take}
 use Rattle.std.proofs.lemmas.List.{drop-map}
-use Rattle.bdb_model.specs.declared.pairs.Key.TheVariants.{Bytes}
+use Rattle.bdb_text_format.specs.declared.pairs.Key.TheVariants.{Bytes}
 use Rattle.bdb_leaves.specs.Units.{KeyedUnit}
 use Rattle.bdb_mktree.specs.Lists.{HasBytes, IsRunAt}
 use Rattle.bdb_mktree.proofs.ListLemmas.{as_many_values, first_has_bytes, is_run}

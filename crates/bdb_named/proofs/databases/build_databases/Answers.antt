@@ -1,6 +1,6 @@
 use Rattle.std.proofs.Common.{◌≡◌, ◌∷◌, ◌++◌, [], append_assoc, sym, ◌∙◌, ap, subst}
 use Rattle.bdb_settle.proofs.SettlingLemmas.{none_left}
-use Rattle.bdb_named.specs.Standing.{AreBuilt}
+use Rattle.bdb_named.specs.Standing.{AreDatabasesBuilt}
 use Rattle.bdb_named.proofs.StandingLemmas.{built_more}
 use Rattle.bdb_named.proofs.databases.build_databases.Goals as goal
 
@@ -12,7 +12,7 @@ loop-section-preserved c =
       section ∷ done,
       c.loop-section.invariant.1
           ∙ (ap (λ ss. ss ++ done) c.in-Some.ensures.others ∙ append_assoc c.pop.new.self (section ∷ []) done),
-      subst (AreBuilt (section ∷ done) c.args.pages.now c.build_database.new.pages) (sym c.in_ok-push.ensures.items)
+      subst (AreDatabasesBuilt (section ∷ done) c.args.pages.now c.build_database.new.pages) (sym c.in_ok-push.ensures.items)
           (built_more done section c.args.pages.now c.loop-section.pages c.build_database.new.pages c.loop-section.metas.items meta
           c.loop-section.invariant.2 c.in_ok-build_database.ensures),
     )
@@ -20,5 +20,5 @@ loop-section-preserved c =
 pub returns : goal.returns
 returns c =
     let empty : c.loop-section.sections ≡ [] = none_left c.loop-section.sections (sym c.pop.ensures.last ∙ c.in_default.is) in
-    subst (λ ss. AreBuilt ss c.args.pages.now c.loop-section.pages c.loop-section.metas.items)
+    subst (λ ss. AreDatabasesBuilt ss c.args.pages.now c.loop-section.pages c.loop-section.metas.items)
     (sym (c.loop-section.invariant.1 ∙ ap (λ ss. ss ++ c.loop-section.invariant.0) empty)) c.loop-section.invariant.2

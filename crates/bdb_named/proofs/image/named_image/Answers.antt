@@ -1,6 +1,6 @@
 use Rattle.std.proofs.Common.{◌∙◌, arith, subst, sym}
-use Rattle.bdb_named.specs.Standing.{AreAdded, AreBuilt, IsMasterBuilt}
-use Rattle.bdb_named.proofs.NamedLemmas.{IsLaidOut, first_zero_still, metas_zero, named_filed}
+use Rattle.bdb_named.specs.Standing.{AreAdded, AreDatabasesBuilt, IsMasterBuilt}
+use Rattle.bdb_named.proofs.NamedLemmas.{IsLaidOut, first_zero_still, metas_fit, metas_zero, named_filed}
 use Rattle.bdb_named.proofs.image.named_image.Goals as goal
 use Rattle.bdb_named.proofs.image.named_image.Goals.{After-as_slice-2}
 
@@ -16,8 +16,13 @@ laid_out c =
       added = subst (AreAdded c.build_master.new.pages c.add_zeros.new.pages) c.len.ensures c.in_ok-add_zeros.ensures;
       beyond_is = c.count-beyond.ensures;
       databases =
-          subst (AreBuilt c.args.sections c.add_zeros.new.pages c.build_databases.new.pages) (sym c.as_slice-2.ensures.value) c.in_ok-metas.ensures;
+          subst (AreDatabasesBuilt c.args.sections c.add_zeros.new.pages c.build_databases.new.pages) (sym c.as_slice-2.ensures.value) c.in_ok-metas.ensures;
     }
+
+pub put_metas-requires-clause-room : goal.put_metas-requires-clause-room
+put_metas-requires-clause-room c =
+    metas_fit c.args.sections c.new-pages.result c.add.new.self c.build_master.new.pages c.add_zeros.new.pages c.build_databases.new.pages
+    c.in_ok-master.master c.count-beyond.result c.as_slice-2.result.now (laid_out c)
 
 pub put_metas-requires-clause-zero : goal.put_metas-requires-clause-zero
 put_metas-requires-clause-zero c =

@@ -1,6 +1,6 @@
 use Rattle.std.proofs.Common.{◌≡◌, ◌+◌, ◌++◌, ◌∷◌, [], take, sym, ◌∙◌, ap, arith}
 use Rattle.std.proofs.lemmas.List.{map-append}
-use Rattle.bdb_need.specs.Need.{pairs_in, unlined}
+use Rattle.bdb_need.specs.Need.{unlined_pairs, unlined}
 use Rattle.bdb_named.specs.Layout.{entries_from}
 use Rattle.bdb_named.proofs.MasterLemmas.{entries_more}
 use Rattle.bdb_named.proofs.master.entries_from.Goals as goal
@@ -9,7 +9,7 @@ pub loop-section-preserved : goal.loop-section-preserved
 loop-section-preserved c =
     let section = c.section-item.result in
     let pair = c.in_ok-entry_of.field-0 in (
-      ap pairs_in c.in_ok-push.ensures.ok
+      ap unlined_pairs c.in_ok-push.ensures.ok
           ∙ (map-append unlined c.loop-section.pairs (pair ∷ [])
           ∙ (ap (λ ps. ps ++ (unlined pair ∷ [])) c.loop-section.invariant.0
           ∙ (ap (λ p. entries_from c.args.first (take c.loop-section.section-index c.args.sections.now) ++ (p ∷ [])) c.in_ok-entry_of.ensures

@@ -14,11 +14,11 @@ loop-pair-preserved c =
     let here = value_here pairs i c.pair-item.result value c.loop-pair-test.true c.pair-item.is c.as_slice-value.ensures in
     let all = data_units (values_in pairs) in
     let put = c.in_ok-put.ensures in (
-      keyed_next c.args.size c.loop-pair.leaves.left c.put.new.self.left c.loop-pair.leaves.room (2 + c.value_cost.result) c.item_cost.result all
+      keyed_next c.args.size c.loop-pair.leaves.left c.put.new.self.left c.loop-pair.leaves.room (2 + c.value_cost.result) c.key_item_cost.result all
           (data_units (drop (i + 1) (values_in pairs))) (EntryUnit value false) c.loop-pair.leaves.items.items c.put.new.self.items.items
           (subst (λ us. KeyedTo c.args.size all us c.loop-pair.leaves.left c.loop-pair.leaves.items.items)
           (data_here pairs i value c.loop-pair-test.true here) c.loop-pair.invariant.0)
-          c.loop-pair.invariant.1 (ap (λ n. 2 + n) c.value_cost.ensures.cost) c.item_cost.ensures.cost c.item_cost.ensures.fits put.left put.same
+          c.loop-pair.invariant.1 (ap (λ n. 2 + n) c.value_cost.ensures.cost) c.key_item_cost.ensures.cost c.key_item_cost.ensures.fits put.left put.same
           put.begun put.more,
       put.room ∙ c.loop-pair.invariant.1,
       (let few = put.few in omega (arith, few, c.loop-pair.invariant.2)),

@@ -2,7 +2,7 @@ use Rattle.std.proofs.Common.{◌+◌, drop, length}
 use Rattle.bdb_leaves.specs.Units.{KeyedUnit}
 use Rattle.bdb_mktree.specs.Lists.{keyed_units}
 use Rattle.bdb_need.specs.Counting.{values_in}
-use Rattle.bdb_need.specs.Need.{pairs_in}
+use Rattle.bdb_need.specs.Need.{unlined_pairs}
 use Rattle.bdb_need.proofs.KeyLemmas.{keys_end, keys_next, leaves_here, unit_short}
 use Rattle.bdb_need.proofs.TreeLemmas.{keyed_next}
 use Rattle.bdb_need.proofs.keys.keyed_pages.Goals as goal
@@ -23,11 +23,11 @@ loop-start-preserved c =
     keys_next c.args.size c.args.sorted pairs c.loop-start.start (length run.pairs.now) c.loop-start.own c.loop-start.leaves.left c.put.new.self.left
     c.loop-start.leaves.room c.put.new.self.room c.in_ok-own.field-0 c.loop-start.leaves.items.items c.put.new.self.items.items unit before
     c.run_at-run.ensures
-    (keyed_next c.args.size c.loop-start.leaves.left c.put.new.self.left c.loop-start.leaves.room c.taken-taken.result.cost c.item_cost.result
-    (keyed_units (pairs_in pairs)) (keyed_units (drop end (pairs_in pairs))) unit c.loop-start.leaves.items.items c.put.new.self.items.items
+    (keyed_next c.args.size c.loop-start.leaves.left c.put.new.self.left c.loop-start.leaves.room c.taken-taken.result.cost c.key_item_cost.result
+    (keyed_units (unlined_pairs pairs)) (keyed_units (drop end (unlined_pairs pairs))) unit c.loop-start.leaves.items.items c.put.new.self.items.items
     (leaves_here c.args.size c.args.sorted pairs c.loop-start.start end c.loop-start.own c.loop-start.leaves.left c.loop-start.leaves.room
     c.loop-start.leaves.items.items unit before c.run_at-run.ensures)
-    before.room_is c.taken-taken.ensures.cost c.item_cost.ensures.cost c.item_cost.ensures.fits put.left put.same put.begun put.more)
+    before.room_is c.taken-taken.ensures.cost c.key_item_cost.ensures.cost c.key_item_cost.ensures.fits put.left put.same put.begun put.more)
     put.room put.few c.in_ok-own.ensures.pages c.in_ok-own.ensures.few
 
 pub returns-clause-pages : goal.returns-clause-pages

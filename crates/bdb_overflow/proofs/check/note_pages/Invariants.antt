@@ -4,4 +4,4 @@ use Rattle.bdb_overflow.proofs.check.note_pages.Given as goal
 
 -- The pages passed are noted.
 abbrev pub invariant-loop-page : goal.invariant-loop-page
-invariant-loop-page g l = AreNotedBelow (g.F.FaultSink.has_noted l.fn.found) (g.F.FaultSink.has_noted l.found) (file_of l.forest) l.page
+invariant-loop-page g l = AreNotedBelow (g.F.FaultSink.has_noted l.fn.found) (g.F.FaultSink.has_noted l.found) (file_of l.linked) l.page

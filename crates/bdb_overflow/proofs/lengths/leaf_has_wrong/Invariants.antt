@@ -6,4 +6,4 @@ use Rattle.bdb_overflow.proofs.lengths.leaf_has_wrong.Given as goal
 
 -- No item of a pair passed tells a wrong length.
 abbrev pub invariant-loop-i : goal.invariant-loop-i
-invariant-loop-i l = NoneBelow (is_wrong_entry (file_of l.forest) l.page) (2 * l.i)
+invariant-loop-i l = NoneBelow (is_wrong_entry (file_of l.linked) l.page) (2 * l.i)

@@ -5,4 +5,4 @@ use Rattle.bdb_overflow.proofs.lengths.records_have_wrong.Given as goal
 
 -- No item passed tells a wrong length.
 abbrev pub invariant-loop-i : goal.invariant-loop-i
-invariant-loop-i l = NoneBelow (is_wrong_item (file_of l.forest) l.page) l.i
+invariant-loop-i l = NoneBelow (is_wrong_item (file_of l.linked) l.page) l.i

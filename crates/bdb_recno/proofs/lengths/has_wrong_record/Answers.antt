@@ -27,7 +27,8 @@ loop-item-preserved c =
     let file : File = file_of c.args.forest.now in
     let wrong : Item → Bool = is_wrong_record file c.args.meta.now in
     let rest = c.next.new.self in
-    let right = sym c.is_wrong_record.ensures ∙ c.if-is_wrong_record.false in
+    let right = ap (λ image. is_wrong_record (file_of image) c.args.meta.now (leaf_item_seen c.in-Some.item)) (sym c.requires.same)
+    ∙ (sym c.is_wrong_record.ensures ∙ c.if-is_wrong_record.false) in
     record {
       left = sym (ap (list_any wrong) c.in-Some.ensures.steps ∙ ap (λ b. b || list_any wrong rest) right) ∙ c.loop-item.invariant.left;
       fit = rest_fit file (leaf_item_seen c.in-Some.item) rest c.loop-item.item-iterator c.in-Some.ensures.steps c.loop-item.invariant.fit;

@@ -1,10 +1,10 @@
-use Rattle.std.proofs.Common.{◌≡◌, ◌++◌, [], sym, ◌∙◌, ap, map, reverse}
-use Rattle.bdb_settle.specs.Loaded.{filled}
-use Rattle.bdb_settle.proofs.SettlingLemmas.{none_left}
+-- Where records have no length, the pairs are as they are.
+use Rattle.std.proofs.Common.{◌≡◌, false, sym, ◌∙◌}
+use Rattle.bdb_settle.specs.Loaded.{has_length}
+use Rattle.bdb_settle.proofs.FillingLemmas.{as_they_are}
 use Rattle.bdb_settle.proofs.filling.filled_pairs.Goals as goal
 
-pub returns : goal.returns
-returns c =
-    let empty : c.loop-pair.pairs ≡ [] = none_left c.loop-pair.pairs (sym c.pop.ensures.last ∙ c.in_default.is) in
-    c.reverse.ensures.items
-    ∙ sym (c.loop-pair.invariant ∙ ap (λ pairs. map (filled c.args.settings.now) pairs ++ reverse c.loop-pair.all.items) empty)
+pub returns-then-not-has_length : goal.returns-then-not-has_length
+returns-then-not-has_length c =
+    let none : has_length c.args.settings.now ≡ false = sym c.has_length.ensures ∙ c.if-not-has_length.true in
+    sym (as_they_are c.args.settings.now c.args.pairs none)

@@ -1,7 +1,7 @@
 use Rattle.std.proofs.Common.{List, ℕ, false, sym, ap, ◌∙◌, ◌≡◌, refl, arith}
 use Rattle.std.proofs.lemmas.Bool.{eqb-true}
 use Rattle.std.specs.Str.{bytes_eq}
-use Rattle.bdb_model.specs.TextLines.{is_data_end, text_lines}
+use Rattle.bdb_text_format.specs.TextLines.{is_data_end, text_lines}
 use Rattle.bdb_text.specs.Fields.{values_in}
 use Rattle.bdb_text.proofs.PairLemmas.{behind_key_error, data_ended, key_error, keyed_end, keyed_more}
 use Rattle.bdb_text.proofs.data_pairs.read_keyed.Goals as goal
@@ -11,7 +11,7 @@ returns-in-Err-clause-err c =
     let line = c.cut_line-cut.result.line.now in
     let other : is_data_end line ≡ false = ap (λ (s : List ℕ). bytes_eq line s) (sym c.as_slice.ensures) ∙ sym c.if-eq.ensures in
     let to = rw c.cut_line-cut.ensures.lines at c.loop-rest.invariant.to in
-    let error = rw (c.prints-print.ensures, c.has_records-numbered.ensures) at c.in-Err.ensures.err in
+    let error = rw (c.prints-print.ensures, c.has_record_type-numbered.ensures) at c.in-Err.ensures.err in
     rw c.error_at.ensures
     (key_error (values_in c.args.fields.now) c.args.text.now c.args.start c.loop-rest.pairs line _ c.loop-rest.number c.in-Err.error to c.requires.keys
     other error)
@@ -21,7 +21,7 @@ returns-in-Err-read_datum-clause-err c =
     let line = c.cut_line-cut.result.line.now in
     let other : is_data_end line ≡ false = ap (λ (s : List ℕ). bytes_eq line s) (sym c.as_slice.ensures) ∙ sym c.if-eq.ensures in
     let to = rw c.cut_line-cut.ensures.lines at c.loop-rest.invariant.to in
-    let key = rw (c.prints-print.ensures, c.has_records-numbered.ensures) at c.in-Ok.ensures.ok in
+    let key = rw (c.prints-print.ensures, c.has_record_type-numbered.ensures) at c.in-Ok.ensures.ok in
     let error = rw c.prints-print.ensures at c.in-Err-read_datum.ensures.err in
     behind_key_error (values_in c.args.fields.now) c.args.text.now c.args.start c.loop-rest.pairs line c.cut_line-cut.result.rest.now c.loop-rest.number
     c.in-Ok.key c.in-Err-read_datum.error
@@ -33,7 +33,7 @@ loop-rest-preserved c =
     let datum = c.in-Ok-read_datum.ensures.ok in
     let other : is_data_end line ≡ false = ap (λ (s : List ℕ). bytes_eq line s) (sym c.as_slice.ensures) ∙ sym c.if-eq.ensures in
     let to = rw (c.cut_line-cut.ensures.lines, datum.lines_are) at c.loop-rest.invariant.to in
-    let key = rw (c.prints-print.ensures, c.has_records-numbered.ensures) at c.in-Ok.ensures.ok in
+    let key = rw (c.prints-print.ensures, c.has_record_type-numbered.ensures) at c.in-Ok.ensures.ok in
     let value = rw c.prints-print.ensures at datum.value_is in
     record {
       to = rw c.in_ok-push.ensures.ok (keyed_more (values_in c.args.fields.now) (text_lines c.args.text.now) c.args.start c.loop-rest.pairs line datum.line

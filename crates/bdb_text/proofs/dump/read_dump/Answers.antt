@@ -8,18 +8,19 @@ returns-then-is_empty-clause-err c = empty_fault c.args.text.now (eqb-true _ _ (
 
 pub loop-rest-init : goal.loop-rest-init
 loop-rest-init c = record {
-  to = rw c.new-sections.ensures (text_begun c.args.text.now (eqb-false _ _ (sym c.if-is_empty.ensures)));
+  to = rw c.new-earlier.ensures (text_begun c.args.text.now (eqb-false _ _ (sym c.if-is_empty.ensures)));
   room = omega arith;
 }
 
 pub loop-rest-preserved : goal.loop-rest-preserved
 loop-rest-preserved c = record {
-  to = rw c.in_ok-push.ensures.ok
-      (text_more c.args.text.now c.loop-rest.sections c.loop-rest.rest.now c.loop-rest.number c.in-Ok.read c.loop-rest.invariant.to c.in-Ok.ensures.ok);
+  to = rw c.in_ok-earlier.ensures
+      (text_more c.args.text.now c.loop-rest.earlier c.loop-rest.rest.now c.loop-rest.number c.in-Ok.read c.loop-rest.invariant.to c.in-Ok.ensures.ok);
   room = omega (arith, c.loop-rest.invariant.room, c.in-Ok.ensures.within);
 }
 
 pub returns-clause-ok : goal.returns-clause-ok
 returns-clause-ok c =
-    text_ended c.args.text.now c.loop-rest.sections c.loop-rest.rest.now c.loop-rest.number c.loop-rest.invariant.to
-    (eqb-true _ _ (sym c.loop-rest-test.ensures))
+    rw c.into_sections.ensures
+    (text_ended c.args.text.now c.loop-rest.earlier c.loop-rest.rest.now c.loop-rest.number c.loop-rest.invariant.to
+    (eqb-true _ _ (sym c.loop-rest-test.ensures)))

@@ -5,7 +5,7 @@ use Rattle.bdb_text.proofs.dump.read_dump.Given as goal
 -- the text begins with the sections
 abbrev pub invariant-loop-rest : goal.invariant-loop-rest
 invariant-loop-rest l = record {
-  to : IsTextTo l.text l.sections l.rest l.number;
+  to : IsTextTo l.text l.earlier l.rest l.number;
   room : l.number + length l.rest ≤ 1 + length l.text;
 }
 

@@ -1,5 +1,5 @@
 use Rattle.std.proofs.Common.{◌≡◌, length, true}
-use Rattle.bdb_model.specs.TextSpelling.{bytes_spelled}
+use Rattle.bdb_text_format.specs.TextSpelling.{bytes_spelled}
 use Rattle.bdb_text.proofs.ReadingLemmas.{joined}
 use Rattle.bdb_text.proofs.runs.read_printed.Given as goal
 

@@ -1,4 +1,4 @@
-use Rattle.bdb_model.specs.Verdict.{faults_of}
+use Rattle.bdb_format.specs.Verdict.{faults_of}
 use Rattle.bdb_tool.proofs.FinishLemmas.{written_finishes}
 use Rattle.bdb_tool.proofs.TellingLemmas.{all_finish, sound_verified}
 use Rattle.bdb_tool.proofs.answer.answer_verify.Goals as goal

@@ -2,9 +2,9 @@ use Rattle.std.proofs.Common.{rules, ◌≡◌, ◌∙◌, ◌<◌, ◌≤◌, a
 use Rattle.std.specs.Prelude.{Err}
 use Rattle.bdb_file.specs.Named.{database_at, no_database}
 use Rattle.bdb_model.specs.Answers.{database_line, list_text}
-use Rattle.bdb_model.specs.Databases.{databases}
-use Rattle.bdb_model.specs.File.{file_of}
-use Rattle.bdb_model.specs.HeadOf.{head_of}
+use Rattle.bdb_format.specs.Databases.{databases}
+use Rattle.bdb_format.specs.File.{file_of}
+use Rattle.bdb_format.specs.HeadOf.{head_of}
 use Rattle.bdb_printing.proofs.ListingLemmas.{line_of_database}
 use Rattle.bdb_printing.proofs.PrinterLemmas.{begins, place_added, place_cut, places_added}
 use Rattle.bdb_printing.proofs.printing.Printer.database_lines.Goals as goal

@@ -1,7 +1,7 @@
 use Rattle.std.proofs.Common.{rules, ◌≡◌, ◌∙◌, ap}
 use Rattle.std.specs.Prelude.{Err}
 use Rattle.std.specs.List.{flat_map}
-use Rattle.bdb_model.specs.TextSpelling.{spelling}
+use Rattle.bdb_text_format.specs.TextSpelling.{spelling}
 use Rattle.bdb_printing.proofs.PrinterLemmas.{begins, item_added, item_cut, items_added, spelling_joined}
 use Rattle.bdb_printing.proofs.printing.Printer.pieces.Goals as goal
 

@@ -1,8 +1,8 @@
 use Rattle.std.proofs.Common.{rules, ◌≡◌, ◌++◌}
 use Rattle.std.specs.Prelude.{Err}
 use Rattle.std.specs.List.{flat_map}
-use Rattle.bdb_model.specs.Lines.{line}
-use Rattle.bdb_model.specs.Written.{data_end}
+use Rattle.bdb_text_format.specs.LineEnd.{line}
+use Rattle.bdb_text_format.specs.Written.{data_end}
 use Rattle.bdb_printing.specs.Printers.{pair_text}
 use Rattle.bdb_printing.proofs.PrinterLemmas.{adds_cut}
 use Rattle.bdb_printing.proofs.printing.Printer.section.Goals as goal

@@ -1,9 +1,9 @@
 use Rattle.std.proofs.Common.{rules, ◌≡◌, ◌<◌, ◌≤◌, ap, refl, arith, length}
 use Rattle.std.specs.Prelude.{Err}
 use Rattle.bdb_file.specs.Named.{database_at, no_database}
-use Rattle.bdb_model.specs.Databases.{databases}
-use Rattle.bdb_model.specs.File.{file_of}
-use Rattle.bdb_model.specs.Written.{database_text, dump_text}
+use Rattle.bdb_format.specs.Databases.{databases}
+use Rattle.bdb_format.specs.File.{file_of}
+use Rattle.bdb_text_format.specs.Written.{database_text, dump_text}
 use Rattle.bdb_printing.proofs.PrinterLemmas.{begins, place_added, place_cut, places_added}
 use Rattle.bdb_printing.proofs.printing.Printer.sections.Goals as goal
 

@@ -1,8 +1,8 @@
 use Rattle.std.proofs.Common.{drop}
 use Rattle.std.specs.List.{flat_map}
-use Rattle.bdb_model.specs.Databases.{databases}
-use Rattle.bdb_model.specs.File.{file_of}
-use Rattle.bdb_model.specs.Written.{database_text, dump_text}
+use Rattle.bdb_format.specs.Databases.{databases}
+use Rattle.bdb_format.specs.File.{file_of}
+use Rattle.bdb_text_format.specs.Written.{database_text, dump_text}
 use Rattle.bdb_printing.specs.Printers.{HasAdded}
 use Rattle.bdb_printing.proofs.printing.Printer.sections.Given as goal
 

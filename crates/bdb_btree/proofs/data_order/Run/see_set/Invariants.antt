@@ -1,0 +1,20 @@
+use Rattle.std.proofs.Common.{◌≡◌}
+use Rattle.std.specs.List.{fold}
+use Rattle.bdb_format.specs.Contents.{data_of}
+use Rattle.bdb_format.specs.File.{file_of}
+use Rattle.bdb_format.specs.Page.{Tree}
+use Rattle.bdb_overflow.specs.Held.{FitsAny}
+use Rattle.bdb_tree.specs.Entries.{AreFit, values_of}
+use Rattle.bdb_btree.specs.Held.{run_seen}
+use Rattle.bdb_btree.specs.Runs.{follow}
+use Rattle.bdb_btree.proofs.data_order.Run.see_set.Given as goal
+
+-- The run and the values that are left make up the whole.
+abbrev pub invariant-loop-entry : goal.invariant-loop-entry
+invariant-loop-entry l = record {
+  run : fold follow (run_seen (file_of l.fn.known) l.self) (values_of (file_of l.fn.known) l.entry-iterator)
+      ≡ fold follow (run_seen (file_of l.fn.known) l.fn.self) (data_of (file_of l.fn.known) (Tree l.root));
+  fits : FitsAny (file_of l.fn.known) l.self.last;
+  entries : AreFit (file_of l.fn.known) l.entry-iterator;
+  same : l.known ≡ l.fn.known;
+}

@@ -1,0 +1,227 @@
+-- How long chains are, page by page, and what is kept of that.
+use Rattle.std.proofs.Common.{◌≡◌, ℕ, zero, suc, ◌+◌, ◌*◌, ◌-◌, ◌^◌, ◌<◌, ◌≤◌, Bool, true, false, true≢false, cond, List, [], ◌∷◌, ◌++◌, map, length, take, drop, get_or, arith, refl, sym, ◌∙◌, ap, subst, inl, inr, length-append, length-drop, length-take}
+use Rattle.std.specs.Prelude.{◌==◌, ◌&&◌, ◌||◌, not, min, nat_lt, Option, Some, None}
+use Rattle.std.specs.List.{list_any, range_with_len}
+use Rattle.std.proofs.Math.Nat.{mul-le-mul_right}
+use Rattle.std.proofs.lemmas.Bool.{cases_Bool, cases_eq, eqb-true, eq-eqb, ne_eqb, not-false}
+use Rattle.std.proofs.lemmas.List.FromFn.{get_or-map-range_with_len, map-range_with_len_more}
+use Rattle.bdb_format.specs.declared.kinds.Order.{Order}
+use Rattle.bdb_format.specs.declared.metadata.Head.{Head}
+use Rattle.bdb_format.specs.declared.references.Sort.{Sort}
+use Rattle.bdb_format.specs.declared.references.Sort.TheVariants.{OverflowHead}
+use Rattle.bdb_format.specs.Chains.{chain_in, joined, next_of, piece_in, pieces_of}
+use Rattle.bdb_format.specs.File.{File, file_of, header_in, page_at, page_bytes, type_in}
+use Rattle.bdb_format.specs.Graph.{all_references, is_head_reference}
+use Rattle.bdb_format.specs.HeadOf.{head_of}
+use Rattle.bdb_format.specs.Numbers.{byte_at, two_at}
+use Rattle.bdb_format.specs.Page.{Page, PageType, FreePage, HashPage, InternalPage, RecnoInternalPage, LeafPage, RecnoLeafPage, OverflowPage, HashMetaPage, BtreeMetaPage, QueueMetaPage, QueuePage, DupLeafPage, OtherPage, NoType}
+use Rattle.bdb_format.specs.Reading.{abstract_page, is_zero, page_as, page_type}
+use Rattle.bdb_format.specs.References.{asked_by, fit_code, fit_rows, has_type}
+use Rattle.bdb_format.proofs.FileLemmas.{last_page, page_is}
+use Rattle.bdb_format.proofs.GraphLemmas.{each_fits, typed_page, zero_page}
+use Rattle.bdb_format.proofs.MemberLemmas.{none_passes}
+use Rattle.bdb_format.proofs.ReferenceLemmas.{of_all}
+use Rattle.bdb_format.proofs.TypeLemmas.{if_type}
+use Rattle.bdb_format.proofs.VerdictLemmas.{AllFail, none_is_first_row}
+use Rattle.bdb_graph.specs.declared.tally.Kinds.{Kinds}
+use Rattle.bdb_graph.specs.ChainLengths.{AreLengths, chain_length, kept_length, length_in, may_head}
+use Rattle.bdb_graph.specs.Formed.{IsAccepted, IsFormed}
+use Rattle.bdb_graph.specs.Linked.{FitsChain, IsForest}
+use Rattle.bdb_graph.specs.Walked.{IsWalked, names_head}
+use Rattle.bdb_graph.proofs.FirstLemmas.{formed_accepted}
+use Rattle.bdb_graph.proofs.ForestLemmas.{sound_graph}
+use Rattle.bdb_graph.proofs.FormedLemmas.{IsPaged, accepted_paged}
+use Rattle.bdb_graph.proofs.LinkedLemmas.{target_inside}
+
+-- One page.
+
+pub zero_piece : (order : Order) (page : List ℕ) → is_zero page ≡ true → 0 ≡ length (piece_in (abstract_page order page))
+zero_piece order page empty = sym (ap (λ p. length (piece_in p)) (zero_page order page empty))
+
+-- only a page of a chain has a piece
+other_piece : (order : Order) (page : List ℕ) (byte : ℕ) → (byte ≡ 7 → ⊥) → piece_in (page_as order page (page_type byte)) ≡ []
+other_piece order page byte other =
+    let P : PageType → Type 0 = λ t. piece_in (page_as order page t) ≡ [] in
+    if_type P (byte == 0) FreePage _ (λ _. refl) (λ _.
+    if_type P (byte == 2) HashPage _ (λ _. refl) (λ _.
+    if_type P (byte == 3) InternalPage _ (λ _. refl) (λ _.
+    if_type P (byte == 4) RecnoInternalPage _ (λ _. refl) (λ _.
+    if_type P (byte == 5) LeafPage _ (λ _. refl) (λ _.
+    if_type P (byte == 6) RecnoLeafPage _ (λ _. refl) (λ _.
+    if_type P (byte == 7) OverflowPage _ (λ is. absurd (other (eqb-true byte 7 is))) (λ _.
+    if_type P (byte == 8) HashMetaPage _ (λ _. refl) (λ _.
+    if_type P (byte == 9) BtreeMetaPage _ (λ _. refl) (λ _.
+    if_type P (byte == 10) QueueMetaPage _ (λ _. refl) (λ _.
+    if_type P (byte == 11) QueuePage _ (λ _. refl) (λ _.
+    if_type P (byte == 12) DupLeafPage _ (λ _. refl) (λ _.
+    if_type P (byte == 13) HashPage OtherPage (λ _. refl) (λ _. refl)))))))))))))
+
+pub no_piece : (order : Order) (page : List ℕ) → is_zero page ≡ false → (byte_at page 25 ≡ 7 → ⊥) → 0 ≡ length (piece_in (abstract_page order page))
+no_piece order page some other = sym (ap (λ p. length (piece_in p)) (typed_page order page some) ∙ ap length (other_piece order page (byte_at page 25) other))
+
+-- the piece of a page of a chain is as long as it tells, but no longer than the page has room
+pub piece_there : (order : Order) (page : List ℕ) → is_zero page ≡ false → byte_at page 25 ≡ 7
+    → min (two_at order page 22) (length page - 26) ≡ length (piece_in (abstract_page order page))
+piece_there order page some seven =
+    let is : abstract_page order page ≡ page_as order page (page_type 7) = typed_page order page some ∙ ap (λ b. page_as order page (page_type b)) seven in
+    sym (ap (λ p. length (piece_in p)) is ∙ (length-take (two_at order page 22) (drop 26 page) ∙ ap (min (two_at order page 22)) (length-drop 26 page)))
+
+piece_fits : (order : Order) (page : List ℕ) → length (piece_in (abstract_page order page)) ≤ length page
+piece_fits order page =
+    elim (cases_Bool (is_zero page)) [
+      | inl empty ↦ omega (arith, zero_piece order page empty)
+      | inr some ↦
+          elim (cases_eq (byte_at page 25) 7) [
+            | inl seven ↦ omega (arith, piece_there order page some seven)
+            | inr other ↦ omega (arith, no_piece order page some other)
+          ]
+    ]
+
+size_is : (image : List ℕ) → (file_of image).size ≡ (head_of image).page_size
+unfolding file_of
+size_is image = refl
+
+-- a page holds no more of a value than a page has room
+pub piece_short : (image : List ℕ) (p : ℕ) → p ≤ (head_of image).last → length (piece_in (page_at (file_of image) p)) ≤ (file_of image).size
+piece_short image p inside =
+    let page : List ℕ = page_bytes (head_of image) image p in
+    omega (
+      arith,
+      ap (λ page. length (piece_in page)) (page_is image p inside),
+      piece_fits (head_of image).order page,
+      length-take (head_of image).page_size (drop (p * (head_of image).page_size) image),
+      size_is image,
+    )
+
+-- Pages one after another.
+
+-- a page, and those after it in a turn less
+pub one_more : (turns : ℕ) (file : File) (p : ℕ)
+    → length_in (suc turns) file p ≡ length (piece_in (page_at file p)) + cond (next_of file p == 0) 0 (length_in turns file (next_of file p))
+unfolding length_in chain_in
+one_more turns file p =
+    let f : ℕ → List ℕ = λ q. piece_in (page_at file q) in
+    elim (next_of file p == 0) as (λ b.
+    length (joined (map f (p ∷ elim b [ true ↦ [] | false ↦ chain_in turns file (next_of file p) ])))
+    ≡ length (f p) + cond b 0 (length (joined (map f (chain_in turns file (next_of file p)))))) [
+      | true ↦ length-append (f p) []
+      | false ↦ length-append (f p) (joined (map f (chain_in turns file (next_of file p))))
+    ]
+
+pub all_turns : (file : File) (head : ℕ) → length_in file.count file head ≡ chain_length file head
+unfolding length_in pieces_of
+all_turns file head = refl
+
+pub no_turns : (file : File) (p : ℕ) → length_in 0 file p ≡ 0
+unfolding length_in chain_in
+no_turns file p = refl
+
+-- What is kept.
+
+none_named : (file : File) (head : ℕ) → list_any names_head (all_references file) ≡ false → FitsChain file head → ⊥
+none_named file head none fits = true≢false (sym (ap is_head_reference fits.sort_is) ∙ none_passes names_head (all_references file) fits.owner none fits.held)
+
+-- nothing is to be kept where no item names a chain
+pub none_kept : (image : List ℕ) (kinds : Kinds) (lengths : List ℕ) → IsWalked image kinds → kinds.chains ≡ false → AreLengths (file_of image) lengths
+none_kept image kinds lengths walked none =
+    record { each = λ head fits. absurd (none_named (file_of image) head (sym walked.named.chains ∙ none) fits) }
+
+only_one : (b : Bool) → not (b || false) ≡ false → b ≡ true
+only_one true some = refl
+only_one false some = absurd cc
+
+asked_head : (target : Page) → has_type (7 ∷ []) (type_in target) ≡ true → (header_in target).previous ≡ 0 → may_head target ≡ true
+asked_head target seven first = rw (seven, eq-eqb (header_in target).previous 0 first) refl
+
+-- an item names a page that may be the head of a chain
+named_head : (image : List ℕ) (head : ℕ) → IsForest image → FitsChain (file_of image) head → may_head (page_at (file_of image) head) ≡ true
+unfolding fit_code
+named_head image head forest fits =
+    let file : File = file_of image in
+    let holder : ℕ = fits.owner.holder in
+    let target : Page = page_at file head in
+    let held = of_all file fits.owner fits.held in
+    let asked : Sort → ℕ → Type 0 = λ sort p. AllFail (fit_rows file (asked_by holder (page_at file holder) sort) p) in
+    let fail : asked fits.owner.reference.sort fits.owner.reference.target =
+    none_is_first_row (fit_rows file (asked_by holder (page_at file holder) fits.owner.reference.sort) fits.owner.reference.target)
+    (each_fits file holder fits.owner.reference (sound_graph image forest.linked).references held.0 held.1) in
+    let rows : asked OverflowHead head = subst (λ sort. asked sort head) fits.sort_is (subst (asked fits.owner.reference.sort) fits.target_is fail) in
+    asked_head target (only_one (has_type (7 ∷ []) (type_in target)) rows.1.0) (sym (eqb-true 0 (header_in target).previous (not-false (0 == (header_in target).previous) rows.1.1.1.0)))
+
+pub all_kept : (image : List ℕ) (lengths : List ℕ) → IsForest image
+    → lengths ≡ map (kept_length (file_of image)) (range_with_len 0 ((file_of image).last + 1)) → AreLengths (file_of image) lengths
+all_kept image lengths forest are =
+    let file : File = file_of image in
+    record {
+      each = λ head fits.
+          let inside : head ≤ file.last = target_inside image OverflowHead head forest.linked fits in
+          ap (λ ls. get_or ls head 0) are
+          ∙ (get_or-map-range_with_len (kept_length file) 0 (file.last + 1) head head 0 (omega arith) (omega arith)
+          ∙ ap (λ b. cond b (chain_length file head) 0) (named_head image head forest fits));
+    }
+
+-- The loop over the pages of a chain.
+
+-- what was added so far, and what the pages from `page` on hold in the turns that are left, are the whole
+pub record IsAdded (file : File) (head turn page total : ℕ) : Type 0 where
+  pub whole : total + length_in (file.count - turn) file page ≡ chain_length file head
+  pub short : total ≤ turn * file.size
+
+pub at_start : (file : File) (head : ℕ) → IsAdded file head 0 head 0
+at_start file head =
+    let all : file.count - 0 ≡ file.count = omega arith in
+    let turns : length_in (file.count - 0) file head ≡ chain_length file head = ap (λ n. length_in n file head) all ∙ all_turns file head in
+    record { whole = omega (arith, turns); short = omega arith }
+
+-- a page is taken off
+at_page : (file : File) (head turn page total : ℕ) → IsAdded file head turn page total → turn < file.count
+    → total + (length (piece_in (page_at file page)) + cond (next_of file page == 0) 0 (length_in (file.count - (turn + 1)) file (next_of file page)))
+    ≡ chain_length file head
+at_page file head turn page total added more =
+    let left : file.count - turn ≡ suc (file.count - (turn + 1)) = omega arith in
+    ap (λ n. total + n) (sym (ap (λ turns. length_in turns file page) left ∙ one_more (file.count - (turn + 1)) file page)) ∙ added.whole
+
+pub at_next : (file : File) (head turn page total length' next : ℕ) → IsAdded file head turn page total → turn < file.count
+    → length' ≡ length (piece_in (page_at file page)) → next ≡ next_of file page → length' ≤ file.size → (next ≡ 0 → ⊥)
+    → IsAdded file head (turn + 1) next (total + length')
+at_next file head turn page total length' next added below is_length is_next small more =
+    let rest : ℕ = length_in (file.count - (turn + 1)) file (next_of file page) in
+    let whole : total + (length (piece_in (page_at file page)) + rest) ≡ chain_length file head =
+    subst (λ b. total + (length (piece_in (page_at file page)) + cond b 0 rest) ≡ chain_length file head) (ne_eqb (next_of file page) 0 (λ none. more (is_next ∙ none)))
+    (at_page file head turn page total added below) in
+    let same : length_in (file.count - (turn + 1)) file next ≡ rest = ap (λ n. length_in (file.count - (turn + 1)) file n) is_next in
+    let step : (turn + 1) * file.size ≡ turn * file.size + file.size = omega arith in
+    record { whole = omega (arith, whole, same, is_length); short = omega (arith, added.short, small, step) }
+
+pub at_last : (file : File) (head turn page total length' next : ℕ) → IsAdded file head turn page total → turn < file.count
+    → length' ≡ length (piece_in (page_at file page)) → next ≡ next_of file page → next ≡ 0 → total + length' ≡ chain_length file head
+at_last file head turn page total length' next added below is_length is_next last =
+    let rest : ℕ = length_in (file.count - (turn + 1)) file (next_of file page) in
+    let whole : total + (length (piece_in (page_at file page)) + 0) ≡ chain_length file head =
+    subst (λ b. total + (length (piece_in (page_at file page)) + cond b 0 rest) ≡ chain_length file head) (eq-eqb (next_of file page) 0 (sym is_next ∙ last))
+    (at_page file head turn page total added below) in
+    omega (arith, whole, is_length)
+
+pub at_end : (file : File) (head turn page total : ℕ) → IsAdded file head turn page total → file.count ≤ turn → total ≡ chain_length file head
+at_end file head turn page total added done =
+    let none : length_in (file.count - turn) file page ≡ 0 = ap (λ turns. length_in turns file page) (omega arith) ∙ no_turns file page in
+    omega (arith, added.whole, none)
+
+-- the sum fits, since the pages of an image have no more bytes than it
+pub sum_fits : (image : List ℕ) (head : Head) (turn total length' : ℕ) → IsFormed image head → turn < head.pages → total ≤ turn * (file_of image).size
+    → length' ≤ (file_of image).size → total + length' ≤ 2 ^ 30
+sum_fits image head turn total length' formed below added small =
+    let accepted : IsAccepted image head = formed_accepted image head formed in
+    let paged : IsPaged image head = accepted_paged image head accepted in
+    let size : (file_of image).size ≡ head.page_size = size_is image ∙ ap (λ (h : Head). h.page_size) (sym formed.head_is) in
+    let step : (turn + 1) * (file_of image).size ≡ turn * (file_of image).size + (file_of image).size = omega arith in
+    let room : (turn + 1) * (file_of image).size ≤ head.pages * (file_of image).size = mul-le-mul_right (file_of image).size (omega arith) in
+    let whole : length image ≡ head.pages * (file_of image).size = paged.whole ∙ ap (λ n. head.pages * n) (sym size) in
+    omega (arith, added, small, step, room, whole, accepted.size)
+
+-- The loop over all pages.
+
+-- what is kept of one page more
+pub kept_more : (file : File) (p : ℕ) (lengths : List ℕ) (kept : ℕ) → lengths ≡ map (kept_length file) (range_with_len 0 p) → kept ≡ kept_length file p
+    → lengths ++ kept ∷ [] ≡ map (kept_length file) (range_with_len 0 (p + 1))
+kept_more file p lengths kept are is = rw (map-range_with_len_more (kept_length file) 0 p p (omega arith), are, is) refl

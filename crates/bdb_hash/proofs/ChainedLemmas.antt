@@ -1,0 +1,140 @@
+-- Pairs of one file whose keys are chains.
+use Rattle.std.proofs.Common.{◌≡◌, ℕ, Bool, true, false, true≢false, ◌||◌, cond, List, [], ◌∷◌, map, refl, sym, ◌∙◌, ap, subst, inl, inr}
+use Rattle.std.specs.Prelude.{Some, None, Option, Result, Ok, Err, OnOk, OnErr}
+use Rattle.std.specs.BTreeMap.{BTreeMap, get}
+use Rattle.std.specs.BTreeSet.{BTreeSet, IsUnchanged, Updates, contains}
+use Rattle.std.specs.Cmp.Lexicographic.{slice_cmp}
+use Rattle.std.specs.Cmp.{nat_cmp_is}
+use Rattle.std.specs.Ordering.{is_eq, nat_cmp}
+use Rattle.std.specs.declared.cmp.Ordering.TheVariants.{Less, Greater}
+use Rattle.std.specs.Str.{bytes_eq}
+use Rattle.std.proofs.lemmas.Bool.{cases_Bool, cases_eq, cases_order}
+use Rattle.std.proofs.lemmas.Map.Text.{is_eq-slice_cmp}
+use Rattle.bdb_faults.specs.Notes.{Notes}
+use Rattle.bdb_format.specs.declared.kinds.Fault.{Fault}
+use Rattle.bdb_format.specs.Contents.{StoredPair, pairs_of}
+use Rattle.bdb_format.specs.Chains.{joined, pieces_of, value_of}
+use Rattle.bdb_format.specs.File.{File, file_of}
+use Rattle.bdb_format.specs.Page.{Content, Inline, Set, Chain, Tree, Unknown}
+use Rattle.bdb_format.proofs.LessLemmas.{eq_self, eq_same}
+use Rattle.bdb_overflow.specs.Keys.{has_item, has_key}
+use Rattle.bdb_hash.specs.Chained.{AreAllOf, AreAmong, AreOf, IsHeaded, Seen, chain_head, chain_value}
+use Rattle.bdb_hash.specs.Noted.{repeat_fault}
+use Rattle.bdb_hash.specs.Passed.{AreKeysOf, NotesRepeats, key_of}
+use Rattle.bdb_hash.specs.Told.{Told, page_told, told}
+
+-- Pairs of one file.
+
+pub first_of : (image : List ℕ) (left rest : List Told) (t : Told) → AreOf image left → left ≡ t ∷ rest → t.image ≡ image
+first_of image left rest t are is = (subst (AreOf image) is are).0
+
+pub rest_of : (image : List ℕ) (left rest : List Told) (t : Told) → AreOf image left → left ≡ t ∷ rest → AreOf image rest
+rest_of image left rest t are is = (subst (AreOf image) is are).1
+
+pub first_page_of : (image : List ℕ) (left rest : List (List Told)) (page : List Told) → AreAllOf image left → left ≡ page ∷ rest → AreOf image page
+first_page_of image left rest page are is = (subst (AreAllOf image) is are).0
+
+pub other_pages_of : (image : List ℕ) (left rest : List (List Told)) (page : List Told) → AreAllOf image left → left ≡ page ∷ rest → AreAllOf image rest
+other_pages_of image left rest page are is = (subst (AreAllOf image) is are).1
+
+pairs_told : (image : List ℕ) (pairs : List StoredPair) → AreOf image (map (told image) pairs)
+pairs_told image [] = tt
+pairs_told image (pair ∷ pairs) = (refl, pairs_told image pairs)
+
+pages_told : (image : List ℕ) (ps : List ℕ) → AreAllOf image (map (page_told image) ps)
+pages_told image [] = tt
+pages_told image (p ∷ ps) = (pairs_told image (pairs_of (file_of image) p), pages_told image ps)
+
+-- the pages of a bucket are of the file that it stands in
+pub bucket_of_file : (image known : List ℕ) (pages : List (List Told)) (ps : List ℕ) → pages ≡ map (page_told image) ps → known ≡ image → AreAllOf known pages
+bucket_of_file image known pages ps are same =
+    subst (AreAllOf known) (sym are) (subst (λ i. AreAllOf i (map (page_told image) ps)) (sym same) (pages_told image ps))
+
+-- The head of a key.
+
+pub is_headed : (image : List ℕ) (pair : StoredPair) (content : Content) → pair.key ≡ value_of (file_of image) content → IsHeaded (chain_head content) (told image pair)
+unfolding value_of
+is_headed image pair (Chain head total) is = is
+is_headed image pair (Inline bytes) is = tt
+is_headed image pair (Set blocks) is = tt
+is_headed image pair (Tree root) is = tt
+is_headed image pair Unknown is = tt
+
+-- Keys that were seen.
+
+-- a key that was added is among them
+pub has_added : (old new : BTreeSet (List ℕ)) (key : List ℕ) → Updates (slice_cmp nat_cmp) old new key true → has_key new key ≡ true
+has_added old new key updates =
+    updates.0 key ∙ (ap (λ b. cond b true (has_key old key)) (is_eq-slice_cmp key key) ∙ ap (λ b. cond b true (has_key old key)) (eq_self key))
+
+either : (a b : Bool) → b ≡ true → cond a true b ≡ true
+either true b is = refl
+either false b is = is
+
+-- the keys before stay
+pub has_before : (old new : BTreeSet (List ℕ)) (key other : List ℕ) → Updates (slice_cmp nat_cmp) old new key true → has_key old other ≡ true → has_key new other ≡ true
+has_before old new key other updates has = updates.0 other ∙ either _ (has_key old other) has
+
+-- a pair whose key is among them repeats it, and adds none
+pub seen_noted : (keys : BTreeSet (List ℕ)) (before after : List Fault → Type 0) (t : Told) → has_key keys t.pair.key ≡ true
+    → Notes before after (repeat_fault t.pair ∷ []) → NotesRepeats keys keys before after (t ∷ [])
+seen_noted keys before after t has notes = record {
+  next = λ seen are. (
+    λ sought. are sought ∙ one_again seen sought (sym (are t.pair.key) ∙ has),
+    subst (λ (again : Bool). Notes before after (map repeat_fault (cond again (t.pair ∷ []) []))) (sym (sym (are t.pair.key) ∙ has)) notes,
+  );
+}
+  where
+    one_again : (seen : List StoredPair) (sought : List ℕ) → has_item key_of seen t.pair.key ≡ true
+        → has_item key_of seen sought ≡ has_item key_of (t.pair ∷ seen) sought
+    one_again seen sought there =
+        elim (cases_Bool (bytes_eq t.pair.key sought)) [
+          | inl same ↦
+              let key : t.pair.key ≡ sought = eq_same t.pair.key sought same in
+              ap (has_item key_of seen) (sym key) ∙ (there ∙ ap (λ b. b || has_item key_of seen sought) (sym same))
+          | inr other ↦ ap (λ b. b || has_item key_of seen sought) (sym other)
+        ]
+
+-- the heads are still among the keys, once more of these were added
+pub among_after : (image : List ℕ) (old new : BTreeSet (List ℕ)) (heads : BTreeSet ℕ) (key : List ℕ) → AreAmong (record { image = image; keys = old }) heads
+    → Updates (slice_cmp nat_cmp) old new key true → AreAmong (record { image = image; keys = new }) heads
+among_after image old new heads key among updates = record {
+  each = λ head is. has_before old new key (chain_value image head) updates (among.each head is);
+}
+
+pub among_unchanged : (image : List ℕ) (old new : BTreeSet (List ℕ)) (heads : BTreeSet ℕ) → AreAmong (record { image = image; keys = old }) heads
+    → IsUnchanged old new → AreAmong (record { image = image; keys = new }) heads
+among_unchanged image old new heads among same = record {
+  each = λ head is. rw same (among.each head is);
+}
+
+apart_cmp : (a b : ℕ) → (a ≡ b → ⊥) → is_eq (nat_cmp a b) ≡ false
+apart_cmp a b apart =
+    elim (cases_order a b) [
+      | inl same ↦ absurd (apart same)
+      | inr rest ↦ elim rest [ inl less ↦ ap is_eq (sym (nat_cmp_is a b Less less)) | inr more ↦ ap is_eq (sym (nat_cmp_is a b Greater more)) ]
+    ]
+
+-- and one head more, of a key that is
+pub among_more : (seen : Seen) (old new : BTreeSet ℕ) (head : ℕ) → AreAmong seen old → has_key seen.keys (chain_value seen.image head) ≡ true
+    → Updates nat_cmp old new head true → AreAmong seen new
+among_more seen old new head among has updates = record {
+  each = λ other is.
+      elim (cases_eq head other) [
+        | inl same ↦ ap (λ h. has_key seen.keys (chain_value seen.image h)) (sym same) ∙ has
+        | inr apart ↦ among.each other (sym (updates.2 other (apart_cmp head other apart)) ∙ is)
+      ];
+}
+
+-- the same where the insertion may have failed
+pub among_inserted : {X E : Type 0} (result : Result X E) (seen : Seen) (old new : BTreeSet ℕ) (head : ℕ) → AreAmong seen old
+    → has_key seen.keys (chain_value seen.image head) ≡ true → OnOk result (Updates nat_cmp old new head true) → OnErr result (IsUnchanged old new) → AreAmong seen new
+among_inserted (Ok x) seen old new head among has updates failed = among_more seen old new head among has updates
+among_inserted (Err e) seen old new head among has updates failed = record { each = λ other is. among.each other (rw (← failed) is) }
+
+-- and a repeat where noting it may have failed
+pub seen_noting : {E : Type 0} (result : Result (Unit {0}) E) (keys : BTreeSet (List ℕ)) (before after : List Fault → Type 0) (t : Told) (fault : Fault)
+    → has_key keys t.pair.key ≡ true → fault ≡ repeat_fault t.pair → OnOk result (Notes before after (fault ∷ []))
+    → OnOk result (NotesRepeats keys keys before after (t ∷ []))
+seen_noting (Ok x) keys before after t fault has is notes = seen_noted keys before after t has (subst (λ f. Notes before after (f ∷ [])) is notes)
+seen_noting (Err e) keys before after t fault has is notes = tt

@@ -1,0 +1,151 @@
+ghost use Rattle.std.specs.Prelude.{◌≡◌, IfOk};
+ghost use Rattle.bdb_format.specs.Chains.{joined};
+ghost use Rattle.bdb_format.specs.File.{file_of};
+ghost use Rattle.bdb_format.specs.Less.{less};
+ghost use Rattle.bdb_graph.specs.Linked.{FitsChain};
+ghost use Rattle.bdb_overflow.specs.Held.{FitsHeld, chain_value, value_held};
+
+use crate::{Datum, Held, Pieces, chain_pieces, is_less};
+use bdb_form::PageView;
+use bdb_graph::Forest;
+use std::alloc::{AllocError, Global};
+use std::collections::BTreeMap;
+use std::marker::Model;
+
+/// The values of one file, to be compared, and what was found of their chains: two chains of which one may have several names
+/// are compared once, and blank pages in front of a chain are gone through once.
+#[derive(Drop)]
+pub struct Values<'a> {
+    forest: Forest<'a>,
+    // Whether the first of two chains is less, by their heads.
+    found: BTreeMap<(u32, u32), bool>,
+    // The chains that begin with a blank page, from their first page with data on, by their heads.
+    starts: BTreeMap<u32, Pieces<'a>>,
+}
+
+impl<'a> Model for Values<'a> {
+    ghost use Rattle.std.specs.Prelude.{List, ℕ};
+    ghost use Rattle.bdb_overflow.specs.Held.{AreKnown};
+
+    ghost Value = { List ℕ };
+
+    ghost view = { λ v. v.forest };
+
+    ghost invariant = { λ v. AreKnown v.forest v.found v.starts };
+}
+
+/// Whether more than one item may name a chain. Where none else does, nothing is to be kept of it.
+#[tactic(auto, using(bdb_format::proofs::FileLemmas::last_page))]
+pub fn is_shared(forest: &Forest<'_>, head: u32) -> bool {
+    if head > forest.head().last {
+        return false;
+    }
+    match forest.page(head) {
+        PageView::Overflow(page) => page.header().entries > 1,
+        _ => false,
+    }
+}
+
+impl<'a> Values<'a> {
+    /// Nothing was found yet.
+    pub fn new(alloc: Global, forest: Forest<'a>) -> Values<'a>
+        ensures { result ≡ forest.entry }
+    {
+        Values {
+            forest,
+            found: BTreeMap::new(alloc),
+            starts: BTreeMap::new(alloc),
+        }
+    }
+
+    /// A handle to their file.
+    pub fn forest(&self) -> Forest<'a>
+        ensures { result ≡ self.now }
+    {
+        self.forest.again()
+    }
+
+    /// A chain from its first page with data on. An error is want of memory, for one that begins with a blank page.
+    fn start(&mut self, head: u32) -> Result<Pieces<'a>, AllocError>
+        requires { FitsChain (file_of self.old) head }
+        ensures pieces { IfOk result (λ pieces. joined pieces ≡ chain_value (file_of self.old) head) }
+        ensures same { self.new ≡ self.old }
+    {
+        let pieces = chain_pieces(&self.forest, head);
+        if !pieces.begin_blank() {
+            return Ok(pieces);
+        }
+        if let Some(start) = self.starts.get(&head) {
+            return Ok(start.again());
+        }
+        let start = pieces.without_blanks();
+        self.starts.insert(head, start.again())?;
+        Ok(start)
+    }
+
+    /// Whether a value is less than another. A chain isn't less than itself, which takes no look at its pages. An error is want
+    /// of memory, for a chain that is shared or begins with a blank page.
+    pub fn is_less(&mut self, a: Held<'_>, b: Held<'_>) -> Result<bool, AllocError>
+        requires first { FitsHeld (file_of self.old) a }
+        requires second { FitsHeld (file_of self.old) b }
+        ensures less { IfOk result (λ is. is ≡ less (value_held (file_of self.old) a.entry) (value_held (file_of self.old) b.entry)) }
+        ensures same { self.new ≡ self.old }
+    {
+        match (a, b) {
+            (Held::Inline(a), Held::Inline(b)) => Ok(is_less(&Datum::Inline(a), &Datum::Inline(b))),
+            (Held::Chained(a), Held::Chained(b)) => self.is_less_chain(a, b),
+            (Held::Inline(a), Held::Chained(b)) => {
+                let start = self.start(b)?;
+                Ok(is_less(&Datum::Inline(a), &Datum::Chained(start)))
+            }
+            (Held::Chained(a), Held::Inline(b)) => {
+                let start = self.start(a)?;
+                Ok(is_less(&Datum::Chained(start), &Datum::Inline(b)))
+            }
+        }
+    }
+
+    /// The same of two chains.
+    #[tactic(auto, using(bdb_format::proofs::LessLemmas::less_self))]
+    fn is_less_chain(&mut self, a: u32, b: u32) -> Result<bool, AllocError>
+        requires first { FitsChain (file_of self.old) a }
+        requires second { FitsChain (file_of self.old) b }
+        ensures less { IfOk result (λ is. is ≡ less (chain_value (file_of self.old) a) (chain_value (file_of self.old) b)) }
+        ensures same { self.new ≡ self.old }
+    {
+        if a == b {
+            return Ok(false);
+        }
+        if is_shared(&self.forest, a) || is_shared(&self.forest, b) {
+            return self.is_less_once(a, b);
+        }
+        self.is_less_by_pages(a, b)
+    }
+
+    /// The same of two chains of which one may be named again.
+    fn is_less_once(&mut self, a: u32, b: u32) -> Result<bool, AllocError>
+        requires first { FitsChain (file_of self.old) a }
+        requires second { FitsChain (file_of self.old) b }
+        ensures less { IfOk result (λ is. is ≡ less (chain_value (file_of self.old) a) (chain_value (file_of self.old) b)) }
+        ensures same { self.new ≡ self.old }
+    {
+        if let Some(is) = self.found.get(&(a, b)) {
+            return Ok(*is);
+        }
+        let is = self.is_less_by_pages(a, b)?;
+        self.found.insert((a, b), is)?;
+        Ok(is)
+    }
+
+    /// The same of two chains, by their pages.
+    fn is_less_by_pages(&mut self, a: u32, b: u32) -> Result<bool, AllocError>
+        requires first { FitsChain (file_of self.old) a }
+        requires second { FitsChain (file_of self.old) b }
+        ensures less { IfOk result (λ is. is ≡ less (chain_value (file_of self.old) a) (chain_value (file_of self.old) b)) }
+        ensures same { self.new ≡ self.old }
+    {
+        let first = self.start(a)?;
+        let second = self.start(b)?;
+        Ok(is_less(&Datum::Chained(first), &Datum::Chained(second)))
+    }
+}

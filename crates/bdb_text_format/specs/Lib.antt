@@ -1,0 +1,9 @@
+pub mod LineEnd
+pub mod TextSpelling
+pub mod Written
+pub mod TextLines
+pub mod Keywords
+pub mod Header
+pub mod Reasons
+pub mod Pairs
+pub mod Sections

@@ -1,0 +1,39 @@
+-- Lists of pairs, as loading makes them and a database gives them. Source: docs/FORMAT.md, "Lists of databases".
+use Rattle.std.specs.Prelude.{◌≡◌, ℕ, ◌+◌, ◌≤◌, List, [], ◌∷◌, length, map}
+use Rattle.bdb_format.specs.Lists.{ListKey, BytesKey, NumberKey}
+use Rattle.bdb_text_format.specs.declared.pairs.Key.{Key}
+use Rattle.bdb_text_format.specs.declared.pairs.Key.TheVariants.{Bytes, Number}
+use Rattle.bdb_text_format.specs.declared.list.Pair.{Pair}
+
+-- keys and data, one with the other
+abbrev pub pairs_seen : List Key → List (List ℕ) → List Pair
+pairs_seen [] values = []
+pairs_seen (key ∷ keys) [] = []
+pairs_seen (key ∷ keys) (value ∷ values) = record { key = key; value = value } ∷ pairs_seen keys values
+
+abbrev pub AreAsMany : List Key → List (List ℕ) → Type 0
+AreAsMany keys values = length keys ≡ length values
+
+abbrev pub keys_of : List Pair → List Key
+keys_of pairs = map (λ (pair : Pair). pair.key) pairs
+
+abbrev pub values_of : List Pair → List (List ℕ)
+values_of pairs = map (λ (pair : Pair). pair.value) pairs
+
+-- the number of a record, 0 where the key is none
+abbrev pub number_of : Key → ℕ
+number_of (Bytes bytes) = 0
+number_of (Number number) = number
+
+-- the numbers of records ascend from one on
+abbrev pub AscendFrom : ℕ → List Pair → Type 0
+AscendFrom least [] = Unit {0}
+AscendFrom least (pair ∷ pairs) = (least ≤ number_of pair.key) × AscendFrom (number_of pair.key + 1) pairs
+
+-- a pair as the list of a database has it
+abbrev pub listed_key : Key → ListKey
+listed_key (Bytes bytes) = BytesKey bytes
+listed_key (Number number) = NumberKey number
+
+abbrev pub listed : List Pair → List (ListKey × List ℕ)
+listed pairs = map (λ (pair : Pair). (listed_key pair.key, pair.value)) pairs
