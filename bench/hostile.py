@@ -34,7 +34,7 @@ import hostile_files as files
 import hostile_texts as texts
 from times import TOP, print_head, print_row
 
-SIZES = (1 / 8, 1 / 4, 1 / 2, 1)
+SIZES, LEAST = (1 / 8, 1 / 4, 1 / 2, 1), 4
 MOST, FLOOR = 2.3, 0.05
 ROUNDS, CLEAR = 11, 20
 LONGEST, MEMORY = 60, 3 << 30
@@ -74,9 +74,9 @@ BY_HAND = tuple(Run(("salvage", "--order", "little", "--page-size", size), 0) fo
 # At the largest size a run whose time grows as its input takes some hundredths of a second, up to a few tenths.
 CLASSES = (
     # Texts.
-    Class("text-names-up", "named sections with a pair each, names of one length and beginning, ascending", texts.names_up, 64_000, "", LOADED),
-    Class("text-names-down", "such sections, descending", texts.names_down, 64_000, "", LOADED),
-    Class("text-names-mixed", "such sections, shuffled", texts.names_mixed, 64_000, "", LOADED),
+    Class("text-names-up", "named sections with a pair each, names of one length and beginning, ascending", texts.names_up, 40_000, "", LOADED),
+    Class("text-names-down", "such sections, descending", texts.names_down, 40_000, "", LOADED),
+    Class("text-names-mixed", "such sections, shuffled", texts.names_mixed, 40_000, "", LOADED),
     Class("text-sections", "named sections without pairs", texts.sections, 1_000_000, "", LOADED),
     Class("text-line", "a line of data without an end", texts.long_line, 64_000_000, "NoEnd", REFUSED),
     Class("text-line-escapes", "a line of escapes without an end", texts.long_escapes, 32_000_000, "NoEnd", REFUSED),
@@ -92,7 +92,7 @@ CLASSES = (
     Class("text-number-large", "a record whose number is the size, for too large a file", texts.far_record, 4_000_000_000, "bytes", TOO_LARGE),
     Class("text-number-queue", "a record of a queue whose number is the size, for too large a file", texts.far_queue_record, 4_000_000_000, "bytes", TOO_LARGE),
     Class("text-data-down", "data of one key of a btree with sorted duplicates, descending", texts.data_down, 1_000_000, "", LOADED),
-    Class("text-keys-mixed", "keys of a btree, of which each stands again and again, shuffled", texts.keys_mixed, 200_000, "", LOADED),
+    Class("text-keys-mixed", "keys of a btree, of which each stands again and again, shuffled", texts.keys_mixed, 100_000, "", LOADED),
     Class("text-one-hash", "keys of a hash that have one hash", texts.keys_of_one_hash, 25_000, "", LOADED),
     # Hash metadata pages that name the same buckets.
     Class("bucket-master", "hashes under a master that name the same buckets", files.shared_buckets, 32_768, "TooMany", FAULTY),
@@ -125,6 +125,7 @@ CLASSES = (
     Class("chain-name-data", "data of a master share a blank chain", files.chain_name_data, 24_000, "MetaTwice", FAULTY),
     Class("chain-first-keys", "first keys of internal pages share a blank chain", files.chain_first_keys, 8_000, "", SOUND + (get("00000000"),)),
     Class("chain-separator", "a separator in a blank chain above many leaves", files.chain_separator, 6_000, "", SOUND + (get("a"),)),
+    Class("chain-gap", "a separator in a chain that is blank but for its ends", files.chain_gap, 6_000, "", SOUND + (get("a"),)),
     Class("chain-name", "one of many names in a blank chain", files.chain_name, 6_000, "", SOUND + (get("--name", "zzzz", "key"),)),
     Class("chain-key-hash", "one of many keys of a bucket in a blank chain, two of one hash", files.chain_key_hash, 12_000, "", SOUND + (get("00000000"),)),
     Class("chain-down", "a chain whose pages each name the page before them", files.chain_down, 48_000, "", SOUND + (get("key"),)),
@@ -147,7 +148,7 @@ CLASSES = (
     Class("free-join", "free pages that all name one", files.free_join, 131_072, "TooMany", FAULTY),
     # Trees.
     Class("deep-many", "named btrees of 254 levels with one child a page", files.deep_trees, 256, "", SOUND + (get("--name", "00000000", "a"),)),
-    Class("deep-join", "a btree over rows of 250 pages with one child each", files.deep_rows, 256, "", SOUND + (get("00000000"),)),
+    Class("deep-join", "a btree over rows of 250 pages with one child each", files.deep_rows, 64, "", SOUND + (get("00000000"),)),
     Class("deep-wide", "one child a page for 250 levels above many leaves", files.deep_wide, 10_000, "", SOUND + (get("00000000"),)),
     Class("deep-grows", "one child a page for levels that grow as the leaves below do, up to 250", files.deep_grows, 10_000, "", SOUND + (get("00000000"),)),
     Class("deep-disorder", "such levels, and keys out of order", files.deep_disorder, 1_000, "KeyOrder", FAULTY),
@@ -305,7 +306,7 @@ def made(kind, factor, folder):
     for size in SIZES:
         paths.append(folder / f"{kind.word}-{len(paths)}")
         with paths[-1].open("wb") as file:
-            file.writelines(kind.make(int(kind.largest * factor * size)))
+            file.writelines(kind.make(max(LEAST, int(kind.largest * factor * size))))
     return paths
 
 

@@ -234,7 +234,7 @@ def btree_of(image, numbers, flags=0):
 
 def full(count):
     """Data of full pages, a fortieth as many as what shares them."""
-    return [b"x" * ROOM] * (count // 40)
+    return [b"x" * ROOM] * max(1, count // 40)
 
 
 def blank(count, end=b"x"):
@@ -501,15 +501,23 @@ def chain_first_keys(count):
     return image.btree(image.above([child_item(key_of(at), row) for at, row in enumerate(rows)], level=3)[0])
 
 
-def chain_separator(count):
-    """The leaves below the first child have keys that are less, and those below the second greater ones."""
-    image = Image()
-    chain = image.chain(blank(count, b"m"), references=1)
-    keys = [b"a%07x" % at for at in range(count // 2)] + [b"z%07x" % at for at in range(count // 2)]
-    leaves = image.linked(LEAF, [[inline(key), inline(b"b")] for key in [b"a", *keys[1:]]], level=1)
-    items = [child_item(key, leaf) for key, leaf in zip(keys, leaves)]
-    (left, level), (right, _) = (image.above(half) for half in (items[: count // 2], items[count // 2 :]))
-    return image.btree(image.put(INTERNAL, [child_item(b"", left), child_of_long_key(chain, right)], level=level + 1))
+def below_separator(data):
+    """What makes a btree with a separator in a chain. The leaves below the first child have keys that are less, and those below the second greater ones."""
+
+    def make(count):
+        image = Image()
+        chain = image.chain(data(count), references=1)
+        keys = [b"m%c%07x" % (side, at) for side in b"az" for at in range(count // 2)]
+        leaves = image.linked(LEAF, [[inline(key), inline(b"b")] for key in [b"a", *keys[1:]]], level=1)
+        items = [child_item(key, leaf) for key, leaf in zip(keys, leaves)]
+        (left, level), (right, _) = (image.above(half) for half in (items[: count // 2], items[count // 2 :]))
+        return image.btree(image.put(INTERNAL, [child_item(b"", left), child_of_long_key(chain, right)], level=level + 1))
+
+    return make
+
+
+chain_separator = below_separator(lambda count: blank(count, b"mm"))
+chain_gap = below_separator(lambda count: [b"m", *blank(count - 1, b"m")])
 
 
 def databases(image, count):
@@ -593,7 +601,7 @@ def keys_of_one_set(image, root, count):
 
 def shared_set(count):
     image = Image()
-    rows, kind = rows_of_one(inline(b"datum"), count // 40)
+    rows, kind = rows_of_one(inline(b"datum"), max(1, count // 40))
     return keys_of_one_set(image, set_of(image, rows, kind), count)
 
 

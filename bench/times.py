@@ -1,7 +1,7 @@
 #!/usr/bin/env python3
 """Times `bdbtool` beside the original library's tools, both in one run on the same files.
 
-usage: times.py verify|kinds|chains|dump|load|salvage [PROGRAM]
+usage: times.py verify|kinds|chains|range|dump|load|convert|salvage [PROGRAM]
        times.py before PROGRAM BEFORE
 
 PROGRAM is the built program; without it, crates/bdbtool/out/bdbtool. The files are made with `db5.3_load` in a temporary folder.
@@ -9,7 +9,7 @@ Prints a Markdown table. `verify` stands beside `db5.3_verify`, on a btree and a
 the clock, and how pages and seconds grew from the row above. A kind ends where a run takes a minute, or where ten times the pairs
 wouldn't fit into the longest input. `kinds` has `verify` on files of each kind of about 100 MB, and `chains` on chains of pages that
 grow longer, one by one: seconds of user time. `dump` stands beside `db5.3_dump -k`, on a file of each kind: seconds of user time, and peak
-memory. `load` stands beside `db5.3_load`, on the texts that `dump` gives of such files and of files with a quarter of the items. `salvage` stands beside
+memory. `range` stands beside `verify`, `get` and `dump`, on a btree of a million pairs: of ten pairs, of a thousand and of all. `load` stands beside `db5.3_load`, on the texts that `dump` gives of such files and of files with a quarter of the items. `convert` stands beside `verify` and a copy by `cat`, on a file of each kind. `salvage` stands beside
 `db5.3_dump -r`, on the files of `kinds`, and on each of them with every hundredth page overwritten by other bytes: seconds of user time,
 peak memory, and how many pairs or records each gives. `before` has `verify` of two programs by turns, on the files of `kinds` and `chains` and on the
 files of `verify` that have a million pairs: the least user and system time of each, and their ratio. Where the program or the library's tools are missing, nothing is
@@ -55,6 +55,10 @@ BEFORE_COLUMNS = ("File", "Bytes of the file", "Program", "Before", "Ratio")
 MILLION = 1_000_000
 LONG_VALUES, LONG_BYTES = 1_000, 100_000
 DUMP_COLUMNS = ("File", "Items", "Bytes of the file", "`bdbtool`", "`db5.3_dump -k`", "Ratio", "Peak of `bdbtool`, bytes", "Peak by file", "Bytes an item above 1.3 files")
+
+# `range`
+RANGES = (10, 1_000)
+RANGE_COLUMNS = ("Command", "Pairs", "`bdbtool`", "Above `verify`", "Peak of `bdbtool`, bytes", "Peak by file")
 
 # `load`
 LOAD_COLUMNS = ("Text", "Items", "Bytes of the text", "Bytes of the file", "`bdbtool`", "`db5.3_load`", "Ratio", "`bdbtool` grew", "Peak of `bdbtool`, bytes", "Bytes an item above the text and two files")
@@ -263,6 +267,26 @@ def time_dump(program, folder):
         print_dump(program, sample, folder)
 
 
+def print_range(name, count, run, judged, size):
+    """A row of the table of `range`."""
+    print_row([name, f"{count:,}", f"{run.user:.3g}", f"{run.user - judged.user:.3g}", f"{run.peak:,}", f"{run.peak / size:.2f}"])
+
+
+def time_range(program, folder):
+    """The table of `range`: the pairs stand in the middle of the file."""
+    print_head(RANGE_COLUMNS)
+    image = make("btree", "btree", pairs(MILLION, 40), folder)
+    keys = sorted(f"{i * 2654435761 % 2**32:08x}" for i in range(MILLION))
+    middle = MILLION // 2
+    judged, size = least([program, "verify"], image), image.stat().st_size
+    print_range("`verify`", 0, judged, judged, size)
+    print_range("`get`", 1, least([program, "get", keys[middle]], image), judged, size)
+    for count in RANGES:
+        print_range("`range`", count, least([program, "range", keys[middle], keys[middle + count]], image), judged, size)
+    print_range("`range`", MILLION, least([program, "range", "0", "g"], image), judged, size)
+    print_range("`dump`", MILLION, least([program, "dump"], image), judged, size)
+
+
 def print_load(program, sample, folder, before):
     """A row of the table of `load`, and what the program took."""
     image, text, built = make(sample.name, sample.kind, sample.lines, folder), folder / "text", folder / "built.db"
@@ -327,6 +351,41 @@ def time_kinds(program, folder):
     print_head(USER_COLUMNS)
     for name, image in kinds(folder):
         print_user(name, program, image)
+
+
+# `convert`
+CONVERT_COLUMNS = ("File", "Bytes", "`convert`", "`verify`", "`cat`", "Above `verify`, copies", "Peak of `bdbtool`, bytes", "Peak by file")
+
+
+def copied(image):
+    """The seconds of processor time, user's and system's, that a copy by `cat` takes, the least of some."""
+    best = None
+    for _ in range(3):
+        before = os.times()
+        with image.open("rb") as given, open(os.devnull, "wb") as sink:
+            copy = subprocess.Popen(["cat"], stdin=given, stdout=subprocess.PIPE)
+            subprocess.run(["tail", "-c", "1"], stdin=copy.stdout, stdout=sink, check=True)
+            copy.wait()
+        after = os.times()
+        taken = after.children_user + after.children_system - before.children_user - before.children_system
+        best = taken if best is None else min(best, taken)
+    return best
+
+
+def print_convert(name, program, image):
+    """A row of the table of `convert`."""
+    size = image.stat().st_size
+    own, judged, copy = least([program, "convert", "big"], image), least([program, "verify"], image), copied(image)
+    above = (own.user - judged.user) / max(copy, 0.001)
+    image.unlink()
+    print_row([name, f"{size:,}", f"{own.user:.3g}", f"{judged.user:.3g}", f"{copy:.3g}", f"{above:.3g}", f"{own.peak:,}", f"{own.peak / size:.2f}"])
+
+
+def time_convert(program, folder):
+    """The table of `convert`."""
+    print_head(CONVERT_COLUMNS)
+    for name, image in kinds(folder):
+        print_convert(name, program, image)
 
 
 def damage(image):
@@ -426,8 +485,10 @@ TABLES = {
     "verify": ("db5.3_verify", time_verify),
     "kinds": ("db5.3_verify", time_kinds),
     "chains": ("db5.3_verify", time_chains),
+    "range": ("db5.3_dump", time_range),
     "dump": ("db5.3_dump", time_dump),
     "load": ("db5.3_load", time_load),
+    "convert": ("db5.3_load", time_convert),
     "salvage": ("db5.3_dump", time_salvage),
 }
 

@@ -11,7 +11,7 @@ that are written over, exchanged, moved, cut off or added. Then
   output and the error lines that go with it;
 - each line of `verify` tells a fault, or a case that is left out, by its name in docs/FAULTS.md; the faults are of one stage and ascend by page and then by
   code, each once; and the status is that of the first line;
-- `list`, `get` and `dump` refuse what `verify` refuses, with its status and the first of its lines, and nothing else;
+- `list`, `get`, `range`, `dump` and `convert` refuse what `verify` refuses, with its status and the first of its lines, and nothing else;
 - what `verify` calls sound is dumped in either spelling, and, unless it has no database or a queue of empty records, loads to a file that is sound, and
   whose dump is the same text; a damaged text that loads does so too;
 - `salvage` without a guess answers with status 0 or 10, with a guess with status 0; its text loads to a sound file, unless that would be too large.
@@ -40,11 +40,15 @@ LINES = {
     8: rb"line \d+: (reason \d+|load error \d+) [A-Za-z]+\n",
     9: rb"not found\n",
     10: rb"no metadata page\n",
+    12: rb"not a btree\n",
+    13: rb"items overlap, page \d+\n",
 }
 ALLOWED = {
     "verify": {0, 1, 3},
     "list": {0, 1, 3},
     "get": {0, 1, 3, 9},
+    "range": {0, 1, 3, 9, 12},
+    "convert": {0, 1, 3, 13},
     "dump": {0, 1, 3, 9},
     "load": {0, 6, 8},
     "salvage": {0, 10},
@@ -269,7 +273,7 @@ def check_image(runs, name, image):
     if verdict is None:
         return
     first = verdict.stderr.splitlines(keepends=True)[:1]
-    for words in (["list"], ["get", "a"], ["get", "1"], ["dump"]):
+    for words in (["list"], ["get", "a"], ["get", "1"], ["range", "a", "b"], ["range", "", "~"], ["dump"], ["convert", "big"], ["convert", "little"]):
         ran = runs.run(name, words, image)
         if ran is None:
             continue

@@ -10,7 +10,9 @@ PROGRAM is the built program bdbtool; without it, crates/bdbtool/out/bdbtool. Ea
 
 A text that is refused counts as such, and so does a dump that the original can't load as it is meant: one whose re_pad isn't a digit, or a
 printed one of a recno or queue. Then the dump of each real file that is sound, and of a file of each kind of PAIRS pairs (a million, where
-none are given; 0 leaves these out) that the original makes, is loaded and dumped by PROGRAM: it is the same text, in either spelling. Prints a line for each that is answered otherwise, and then how many hold; the exit status is 1 where one
+none are given; 0 leaves these out) that the original makes, is loaded and dumped by PROGRAM: it is the same text, in either spelling. Each real file that is sound is put into the other byte order by PROGRAM's `convert`:
+the original's `db5.3_verify` tells of it what it tells of the first file, `db5.3_dump` gives the same text but for `db_lorder`, and converted back it is the first file byte for
+byte. Prints a line for each that is answered otherwise, and then how many hold; the exit status is 1 where one
 doesn't hold. Without the original's tools nothing is asked.
 """
 import pathlib
@@ -151,6 +153,51 @@ def check_again(program, folder, pairs):
     return asked, held
 
 
+def order_words(image):
+    """The byte order of an image, and the other one."""
+    return ("big", "little") if image[12] == 0 else ("little", "big")
+
+
+def text_without_order(file):
+    """What db5.3_dump gives of a file but its byte order."""
+    return re.sub(rb"(?m)^db_lorder=.*\n", b"", run("db5.3_dump", str(file)).stdout)
+
+
+def converted_wrong(program, folder, image):
+    """What is wrong with a file in the other byte order; None where nothing is."""
+    own, other = order_words(image)
+    there = run(program, "convert", other, given=image)
+    if there.returncode or there.stderr:
+        return f"convert {other}: status {there.returncode}, {there.stderr.decode(errors='replace')}"
+    first, file = folder / "first.db", folder / "converted.db"
+    first.write_bytes(image)
+    file.write_bytes(there.stdout)
+    if (told := verifier_told(file)) != verifier_told(first):
+        return f"convert {other}: db5.3_verify tells {told}"
+    if text_without_order(file) != text_without_order(first):
+        return f"convert {other}: db5.3_dump gives another text"
+    if run(program, "convert", own, given=there.stdout).stdout != image:
+        return f"convert {other}, and back: it isn't the first file"
+    if run(program, "convert", own, given=image).stdout != image:
+        return f"convert {own}: it isn't the file itself"
+    return None
+
+
+def check_converted(program, folder):
+    """How many real files are sound, and how many of them are converted as they should be."""
+    asked = held = 0
+    for file in sorted((TOP / "crates/nothing_lost/data").iterdir()):
+        image = file.read_bytes()
+        if run(program, "verify", given=image).returncode:
+            continue
+        wrong = converted_wrong(program, folder, image)
+        asked += 1
+        held += wrong is None
+        if wrong:
+            print(f"{file.name}, {wrong}")
+    return asked, held
+
+
 def main():
     program = sys.argv[1] if len(sys.argv) > 1 else str(TOP / "crates/bdbtool/out/bdbtool")
     pairs = int(sys.argv[2]) if len(sys.argv) > 2 else 1_000_000
@@ -178,9 +225,11 @@ def main():
                     if wrong:
                         print(f"{file.name}, {order.decode()}, dump {' '.join(spelling)}: {wrong}")
         again, same = check_again(program, folder, pairs)
+        converted, kept = check_converted(program, folder)
     print(f"{held} of {asked} hold; {refused} texts refused by name, {passed_over} dumps that the original can't load")
     print(f"{same} of {again} dumps are the same text, loaded and dumped")
-    sys.exit(held != asked or same != again)
+    print(f"{kept} of {converted} files are the same in the other byte order")
+    sys.exit(held != asked or same != again or kept != converted)
 
 
 if __name__ == "__main__":

@@ -4,8 +4,8 @@
 usage: check_real.py [PROGRAM]
 
 PROGRAM is the built program; without it, crates/bdbtool/out/bdbtool. Each file of real/expected.tsv is given to `verify`, `list`
-and, for each database of its dump text, `get` of the first, a middle and the last key, and `dump` in both spellings, whole and
-by name. Where `verify` finds no sound file, it must tell each fault of the table, and these commands the first of them. Output, error lines and status are
+and, for each database of its dump text, `get` of the first, a middle and the last key, `range` of each half of its keys, and
+`dump` in both spellings, whole and by name. Where `verify` finds no sound file, it must tell each fault of the table, and these commands the first of them. Output, error lines and status are
 compared whole, but of a `dump` the names, kinds and data lines, those of a hash in the order of their keys. Of a sound file `salvage` must give
 the pairs of all its btree and hash databases, and of the list of their names, and the records of its recno databases, in any order. Prints a line for each answer
 that differs, and then how many files have none; the exit status is 1 where a file has one.
@@ -23,6 +23,7 @@ REAL = TOP / "real"
 # Where the gate wants the files of a program that it runs.
 FILES = TOP / "crates/nothing_lost/data"
 SECONDS_A_RUN = 60
+NOT_BTREE = 12
 LONGEST_SHOWN = 120
 
 
@@ -35,7 +36,7 @@ class Answer(NamedTuple):
 
 
 class Row(NamedTuple):
-    """A row of the table: a file, and the answers to `verify` and `list`. Where it isn't sound, `get` and `dump` answer as `list` does."""
+    """A row of the table: a file, and the answers to `verify` and `list`. Where it isn't sound, `get`, `range` and `dump` answer as `list` does."""
 
     file: str
     verify: Answer
@@ -144,12 +145,23 @@ def gets(row, base):
         yield ["get", *base.naming, *key_words(base, key)], found if row.verify.status == 0 else row.list
 
 
+def ranges(row, base):
+    """The words of `range` over the lesser half of a database's keys, and over the greater one but the last key, each with the answer that it must have."""
+    keys = sorted(base.data)
+    for first, last in (0, len(keys) // 2), (len(keys) // 2, -1):
+        if keys:
+            between = [item.hex() for pair in base.pairs if keys[first] <= pair[0] < keys[last] for item in pair]
+            found = Answer(0, lines_text(between), "") if base.kind == "btree" else Answer(NOT_BTREE, "", "not a btree\n")
+            yield ["range", *base.naming, "--hex", keys[first].hex(), keys[last].hex()], found if row.verify.status == 0 else row.list
+
+
 def questions(row):
     """The words of each run on a file, with the answer that it must have."""
     yield ["verify"], row.verify
     yield ["list"], row.list
     for base in databases(row.file):
         yield from gets(row, base)
+        yield from ranges(row, base)
 
 
 def dump_lines(bases, form):

@@ -224,7 +224,7 @@ are_separated file page right =
 
 -- The child that is chosen.
 
-last_from : (test : InternalItem → Bool) (items : List InternalItem) (n : ℕ) → n < length items
+pub last_from : (test : InternalItem → Bool) (items : List InternalItem) (n : ℕ) → n < length items
     → ((j : ℕ) → n < j → j < length items → test (item_of items j) ≡ true)
     → (i : ℕ) × IsLastFalse test items i
 last_from test items zero low later = (0, record { inside = low; is_false = λ some. absurd (omega arith); later = later })
@@ -263,17 +263,17 @@ chosen_data file key items some apart =
 
 -- The way down.
 
-no_inner : (test : InternalItem → Bool) (page : Page) → children_in page ≡ None → next_below test page ≡ None
+pub no_inner : (test : InternalItem → Bool) (page : Page) → children_in page ≡ None → next_below test page ≡ None
 no_inner test (Internal page) none = absurd cc
 no_inner test page none = refl
 
-keyed_inner : (page : Page) (children : List ℕ) → children_in page ≡ Some children → has_type (3 ∷ 5 ∷ 12 ∷ []) (type_in page) ≡ true
+pub keyed_inner : (page : Page) (children : List ℕ) → children_in page ≡ Some children → has_type (3 ∷ 5 ∷ 12 ∷ []) (type_in page) ≡ true
     → (view : Listed InternalItem) × (page ≡ Internal view)
 keyed_inner (Internal page) children are keyed = (page, refl)
 keyed_inner (RecnoInternal page) children are keyed = absurd cc
 keyed_inner page children are keyed = absurd cc
 
-step_down : (levels : ℕ) (file : File) (test : InternalItem → Bool) (p : ℕ) (next : Option ℕ) → next_below test (page_at file p) ≡ next
+pub step_down : (levels : ℕ) (file : File) (test : InternalItem → Bool) (p : ℕ) (next : Option ℕ) → next_below test (page_at file p) ≡ next
     → descent (suc levels) file test p ≡ go_on (descent levels file test) p next
 unfolding descent
 step_down levels file test p next is = ap (go_on (descent levels file test) p) is

@@ -1,6 +1,7 @@
 -- Data and pairs as they are gone through, and what a key has. Source: docs/FORMAT.md, "Items" and "Lists of databases".
 use Rattle.std.specs.Prelude.{◌≡◌, ℕ, if◌then◌else◌, Bool, List, [], ◌∷◌, ◌++◌, map, Option, Some, None}
 use Rattle.std.specs.List.{flat_map}
+use Rattle.std.specs.Option.{option_to_list}
 use Rattle.std.specs.Str.{bytes_eq}
 use Rattle.bdb_format.specs.Chains.{value_of}
 use Rattle.bdb_format.specs.Contents.{StoredPair, data_of}
@@ -16,8 +17,7 @@ use Rattle.bdb_btree.specs.Pairs.{AreFit, left_of}
 
 -- the one value of an item that is no set
 abbrev pub one_value : Option Datum → List (List ℕ)
-one_value None = []
-one_value (Some datum) = datum_seen datum ∷ []
+one_value datum = map datum_seen (option_to_list datum)
 
 -- a pair that is told: its key and one of its data
 abbrev pub entry_seen : (KeyView × Datum) → ListKey × List ℕ

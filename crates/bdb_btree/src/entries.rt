@@ -16,7 +16,7 @@ use std::marker::Model;
 
 /// The data of one pair that are left, each with the pair's key.
 #[derive(Drop)]
-struct Entries<'a> {
+pub struct Entries<'a> {
     key: Datum<'a>,
     values: ItemData<'a>,
 }
@@ -47,7 +47,7 @@ impl<'a> Iterator for Entries<'a> {
 }
 
 /// The entries of a pair; a deleted one has none.
-fn pair_entries<'a>(forest: &Forest<'a>, pair: Pair<'a>) -> Option<Entries<'a>>
+pub fn pair_entries<'a>(forest: &Forest<'a>, pair: Pair<'a>) -> Option<Entries<'a>>
     requires pair { FitsPair (file_of forest.now) (pair_seen pair) }
     requires stage { structure_faults (file_of forest.now) ≡ [] }
     ensures { left_of result ≡ listed_pair (file_of forest.now) (pair_seen pair.entry) }
@@ -62,7 +62,7 @@ fn pair_entries<'a>(forest: &Forest<'a>, pair: Pair<'a>) -> Option<Entries<'a>>
 }
 
 /// The next entry of a pair, if there is one.
-fn next_entry<'a>(here: &mut Option<Entries<'a>>) -> Option<(KeyView<'a>, Datum<'a>)>
+pub fn next_entry<'a>(here: &mut Option<Entries<'a>>) -> Option<(KeyView<'a>, Datum<'a>)>
     ensures { YieldsFirstBy entry_seen left_of here.old result here.new }
 {
     match here {

@@ -17,9 +17,13 @@ mod pair;
 mod pair_rows;
 mod separators;
 mod walk;
+mod way_down;
 
 pub use contents::{all_faults, check, note_contents};
-pub use entries::Scan;
+pub use entries::{Entries, Scan, next_entry, pair_entries};
 pub use found::Found;
 pub use leaf_pairs::{LeafPair, LeafPairs, pairs};
 pub use lookups::{find, scan};
+pub use pair::Pair;
+pub use walk::{PagePairs, next_pair, page_pairs};
+pub use way_down::leaf_for;

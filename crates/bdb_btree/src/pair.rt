@@ -17,16 +17,16 @@ use bdb_overflow::{Datum, Held, is_deleted, leaf_held, value_of};
 
 /// A pair of a leaf, where it lies.
 #[derive(Drop)]
-pub(crate) struct Pair<'a> {
+pub struct Pair<'a> {
     /// The leaf that holds it.
-    pub(crate) page: u32,
-    pub(crate) key: Datum<'a>,
+    pub page: u32,
+    pub key: Datum<'a>,
     /// What its data item is.
-    pub(crate) item: LeafItem<'a>,
+    pub item: LeafItem<'a>,
     /// Whether its data item isn't marked deleted.
-    pub(crate) live: bool,
+    pub live: bool,
     /// Whether its key is that of the pair before it.
-    pub(crate) shares: bool,
+    pub shares: bool,
 }
 
 impl<'a> Pair<'a> {

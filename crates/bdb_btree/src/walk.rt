@@ -16,7 +16,7 @@ use std::marker::Model;
 
 /// The pairs of one leaf that are left, in order.
 #[derive(Drop)]
-pub(crate) struct PagePairs<'a> {
+pub struct PagePairs<'a> {
     forest: Forest<'a>,
     page: u32,
     pairs: bdb_form::PagePairs<'a, LeafKind>,
@@ -50,7 +50,7 @@ impl<'a> Iterator for PagePairs<'a> {
 }
 
 /// The pairs of a leaf, in order; none where it isn't one of pairs.
-pub(crate) fn page_pairs<'a>(forest: &Forest<'a>, page: u32) -> Option<PagePairs<'a>>
+pub fn page_pairs<'a>(forest: &Forest<'a>, page: u32) -> Option<PagePairs<'a>>
     requires { FitsLeafPage (file_of forest.now) page }
     ensures pairs { left_of result ≡ pairs_of (file_of forest.now) page }
     ensures forest { IsForest forest.now }
@@ -66,7 +66,7 @@ pub(crate) fn page_pairs<'a>(forest: &Forest<'a>, page: u32) -> Option<PagePairs
 }
 
 /// The next pair of a leaf, if there is one.
-pub(crate) fn next_pair<'a>(pairs: &mut Option<PagePairs<'a>>) -> Option<Pair<'a>>
+pub fn next_pair<'a>(pairs: &mut Option<PagePairs<'a>>) -> Option<Pair<'a>>
     ensures { YieldsFirstBy pair_seen left_of pairs.old result pairs.new }
 {
     match pairs {

@@ -1,4 +1,5 @@
 -- What the databases of a file hold together, and what its pages do. Source: docs/FORMAT.md, "Lists of databases" and "Salvage".
+use Rattle.std.specs.Option.{option_to_list}
 use Rattle.std.specs.Prelude.{◌≡◌, ◌≢◌, ℕ, ◌+◌, ◌*◌, ◌<◌, ◌≤◌, if◌then◌else◌, Bool, true, List, [], ◌∷◌, ◌++◌, map, length, get_or}
 use Rattle.std.specs.Prelude.{Option, Some, None}
 use Rattle.std.specs.List.{Contains, flat_map, range_with_len, sum_by}
@@ -51,8 +52,7 @@ by_value weight (NumberKey number, value) = weight value
 
 -- that of a master
 abbrev pub master_fields : Option BtreeMeta → List Metadata
-master_fields None = []
-master_fields (Some meta) = BtreeFields meta ∷ []
+master_fields meta = map BtreeFields (option_to_list meta)
 
 -- that of the master, and that of the databases
 abbrev pub named_fields : File → List Metadata

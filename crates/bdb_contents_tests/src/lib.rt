@@ -22,6 +22,8 @@ mod noted;
 #[cfg(test)]
 mod queues;
 #[cfg(test)]
+mod ranges;
+#[cfg(test)]
 mod recno_samples;
 #[cfg(test)]
 mod recnos;

@@ -26,7 +26,8 @@ fn is_value(value: &Datum<'_>, bytes: &[u8]) -> bool {
     compare_datum(value, &Datum::Inline(bytes)) == Ordering::Equal
 }
 
-fn is_entry(key: &KeyView<'_>, value: &Datum<'_>, entry: &Entry) -> bool {
+/// Whether a key and a datum are these.
+pub fn is_entry(key: &KeyView<'_>, value: &Datum<'_>, entry: &Entry) -> bool {
     match key {
         KeyView::Bytes(key) => is_value(key, entry.key) && is_value(value, entry.value),
         KeyView::Number(_) => false,
@@ -166,7 +167,8 @@ pub fn has_list(alloc: Global, image: &[u8], list: &[Entry], missing: &[&[u8]]) 
     agrees_blank::<Brand>(alloc, image, list, missing, Blank::new(1))
 }
 
-fn write_part(image: &mut [u8], part: &Part, order: Order) {
+/// Writes a part of an image, a page of which begins where its number says.
+pub fn write_part(image: &mut [u8], part: &Part, order: Order) {
     let start = usize::from(part.page) * 512;
     if start <= image.len() {
         write(&mut image[start..], part.fields, order);

@@ -6,7 +6,8 @@ use Rattle.std.specs.List.{flat_map, slice_get}
 use Rattle.std.proofs.lemmas.List.{get_or_default, take_all}
 use Rattle.std.proofs.lemmas.List.Filters.{length-filter_more}
 use Rattle.bdb_format.specs.declared.kinds.Fault.{Fault}
-use Rattle.bdb_file.specs.Entries.{AreCounts, NamedPair, count_fault, entries_naming, given, naming_fault, one_more as one_counted_more}
+use Rattle.std.specs.Option.{option_to_list}
+use Rattle.bdb_file.specs.Entries.{AreCounts, NamedPair, count_fault, entries_naming, naming_fault, one_more as one_counted_more}
 use Rattle.bdb_format.specs.Master.{is_page}
 use Rattle.bdb_format.specs.File.{File}
 use Rattle.bdb_faults.specs.Notes.{Notes, NotesAll}
@@ -55,10 +56,10 @@ count_read counts n p count entries are low is =
 pub naming_more : (before middle after : List Fault → Type 0) (file : File) (entries : List NamedPair) (i p count : ℕ) (found : Option Fault)
     → slice_get (meta_pages file) i ≡ Some p
     → count ≡ min 2 (length (entries_naming p entries)) → found ≡ count_fault p count
-    → NotesAll before middle (flat_map (λ q. given (naming_fault entries q)) (take i (meta_pages file)))
-    → Notes middle after (given found)
-    → NotesAll before after (flat_map (λ q. given (naming_fault entries q)) (take (i + 1) (meta_pages file)))
+    → NotesAll before middle (flat_map (λ q. option_to_list (naming_fault entries q)) (take i (meta_pages file)))
+    → Notes middle after (option_to_list found)
+    → NotesAll before after (flat_map (λ q. option_to_list (naming_fault entries q)) (take (i + 1) (meta_pages file)))
 naming_more before middle after file entries i p count found is counted is_found first noted =
-    one_more before middle after (λ q. given (naming_fault entries q)) (meta_pages file) i p is first
-    (notes_one middle after (given (naming_fault entries p))
-    (subst (λ f. Notes middle after (given f)) (is_found ∙ (ap (count_fault p) counted ∙ same_count p (length (entries_naming p entries)))) noted))
+    one_more before middle after (λ q. option_to_list (naming_fault entries q)) (meta_pages file) i p is first
+    (notes_one middle after (option_to_list (naming_fault entries p))
+    (subst (λ f. Notes middle after (option_to_list f)) (is_found ∙ (ap (count_fault p) counted ∙ same_count p (length (entries_naming p entries)))) noted))

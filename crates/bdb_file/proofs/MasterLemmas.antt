@@ -21,7 +21,8 @@ use Rattle.bdb_format.proofs.VerdictLemmas.{IsOfStage, in_by_page, of_by_page}
 use Rattle.bdb_graph.specs.Linked.{IsForest, meta_pages}
 use Rattle.bdb_tree.proofs.PairLemmas.{master_pair_inside}
 use Rattle.bdb_file.specs.Entries.{NamedPair, count_fault, entries_naming, entry_fault, fault_at, master_entries, named, naming_fault, repeat_fault}
-use Rattle.bdb_file.specs.Entries.{all_noted, by_naming, by_repeat, by_target, given, key_of, target_fault}
+use Rattle.std.specs.Option.{option_to_list}
+use Rattle.bdb_file.specs.Entries.{all_noted, by_naming, by_repeat, by_target, key_of, target_fault}
 use Rattle.bdb_overflow.specs.Keys.{repeated_by}
 use Rattle.bdb_format.specs.Master.{is_named_kind, is_none, is_page, master_pairs, master_rows, misses_target, named_by, naming}
 use Rattle.bdb_format.proofs.RepeatLemmas.{of_repeated, repeated_after, repeated_is}
@@ -48,12 +49,12 @@ in_row rows row at holds =
 
 -- Lists of at most one fault.
 
-of_given : (found : Option Fault) (fault : Fault) → Contains (given found) fault → found ≡ Some fault
+of_given : (found : Option Fault) (fault : Fault) → Contains (option_to_list found) fault → found ≡ Some fault
 of_given None fault at = absurd (no_member [] fault refl at)
 of_given (Some one) fault at = ap (λ (f : Fault). Some f) (only_member one fault at)
 
-in_given : (found : Option Fault) (fault : Fault) → found ≡ Some fault → Contains (given found) fault
-in_given found fault is = subst (λ f. Contains (given f) fault) (sym is) (first_member fault [])
+in_given : (found : Option Fault) (fault : Fault) → found ≡ Some fault → Contains (option_to_list found) fault
+in_given found fault is = subst (λ f. Contains (option_to_list f) fault) (sym is) (first_member fault [])
 
 -- Entries and the pairs that they stand for.
 
@@ -228,14 +229,14 @@ of_all file fault inside at =
     elim (Contains-append_cases (by_naming file entries ++ by_target file entries) (by_repeat entries) fault at) [
       | inl early ↦ elim (Contains-append_cases (by_naming file entries) (by_target file entries) fault early) [
         | inl here ↦
-            let found = of_flat_map (λ p. given (naming_fault entries p)) (meta_pages file) fault here in
+            let found = of_flat_map (λ p. option_to_list (naming_fault entries p)) (meta_pages file) fault here in
             in_naming file found.0 fault found.1 (of_given (naming_fault entries found.0) fault found.2)
         | inr here ↦
-            let found = of_flat_map (λ (entry : NamedPair). given (entry_fault file entry)) entries fault here in
+            let found = of_flat_map (λ (entry : NamedPair). option_to_list (entry_fault file entry)) entries fault here in
             in_targets file found.0 fault inside found.1 (of_given (entry_fault file found.0) fault found.2)
       ]
       | inr here ↦
-          let found = of_flat_map (λ (entry : NamedPair). given (repeat_fault entry)) (repeated_by key_of [] entries) fault here in
+          let found = of_flat_map (λ (entry : NamedPair). option_to_list (repeat_fault entry)) (repeated_by key_of [] entries) fault here in
           in_repeats file found.0 fault inside found.1 (of_given (repeat_fault found.0) fault found.2)
     ]
 
@@ -253,7 +254,7 @@ from_naming file fault code low kind same gives =
     ap (count_fault fault.page) (count_same file fault.page) ∙ (gives parts.0 ∙ ap (λ (f : Fault). Some f) same) in
     Contains-append_left (by_naming file entries ++ by_target file entries) (by_repeat entries) fault
     (Contains-append_left (by_naming file entries) (by_target file entries) fault
-    (in_flat_map (λ p. given (naming_fault entries p)) (meta_pages file) fault.page fault (at_meta file fault.page low parts.1)
+    (in_flat_map (λ p. option_to_list (naming_fault entries p)) (meta_pages file) fault.page fault (at_meta file fault.page low parts.1)
     (in_given (naming_fault entries fault.page) fault given_here)))
 
 from_target : (file : File) (pair : StoredPair) (fault : Fault) → Contains (master_pairs file) pair
@@ -262,7 +263,7 @@ from_target file pair fault at is =
     let entries : List NamedPair = master_entries file in
     Contains-append_left (by_naming file entries ++ by_target file entries) (by_repeat entries) fault
     (Contains-append_right (by_naming file entries) (by_target file entries) fault
-    (in_flat_map (λ (entry : NamedPair). given (entry_fault file entry)) entries (named file pair) fault
+    (in_flat_map (λ (entry : NamedPair). option_to_list (entry_fault file entry)) entries (named file pair) fault
     (in_map (named file) (master_pairs file) pair at) (in_given (entry_fault file (named file pair)) fault is)))
 
 from_repeat : (file : File) (pair : StoredPair) (fault : Fault) → Contains (repeated (master_pairs file)) pair
@@ -271,7 +272,7 @@ from_repeat : (file : File) (pair : StoredPair) (fault : Fault) → Contains (re
 from_repeat file pair fault at is =
     let entries : List NamedPair = master_entries file in
     Contains-append_right (by_naming file entries ++ by_target file entries) (by_repeat entries) fault
-    (in_flat_map (λ (entry : NamedPair). given (repeat_fault entry)) (repeated_by key_of [] entries) (named file pair) fault
+    (in_flat_map (λ (entry : NamedPair). option_to_list (repeat_fault entry)) (repeated_by key_of [] entries) (named file pair) fault
     (subst (λ es. Contains es (named file pair)) (sym (all_repeats_are file)) (in_map (named file) (repeated (master_pairs file)) pair at))
     (in_given (repeat_fault (named file pair)) fault is))
 

@@ -13,10 +13,11 @@ use Rattle.bdb_format.proofs.BoolLemmas.{cond_or}
 use Rattle.bdb_overflow.specs.Keys.{has_item, has_key, repeated_by}
 use Rattle.bdb_faults.specs.Notes.{Notes, NotesAll}
 use Rattle.bdb_faults.proofs.SinkLemmas.{notes_nothing, notes_one, notes_then}
-use Rattle.bdb_file.specs.Entries.{NamedPair, by_repeat, given, key_of, repeat_fault, repeat_of}
+use Rattle.std.specs.Option.{option_to_list}
+use Rattle.bdb_file.specs.Entries.{NamedPair, by_repeat, key_of, repeat_fault, repeat_of}
 
 abbrev faults_of : List NamedPair → List Fault
-faults_of entries = flat_map (λ entry. given (repeat_fault entry)) entries
+faults_of entries = flat_map (λ entry. option_to_list (repeat_fault entry)) entries
 
 -- the keys are those of the pairs before one, and of the pairs before it those that repeat a key are noted
 pub record IsNoted (before now : List Fault → Type 0) (keys : BTreeSet (List ℕ)) (entries : List NamedPair) (i : ℕ) : Type 0 where
@@ -44,18 +45,18 @@ keys_more keys more xs x are updates sought =
 
 -- a pair is noted where its key isn't new
 one_noted : (x : NamedPair) (later : List NamedPair) (has : Bool)
-    → given (cond (not has) None (Some (repeat_of x))) ++ faults_of later ≡ faults_of (cond has (x ∷ later) later)
+    → option_to_list (cond (not has) None (Some (repeat_of x))) ++ faults_of later ≡ faults_of (cond has (x ∷ later) later)
 one_noted x later true = refl
 one_noted x later false = refl
 
 pub noted_on : (before now after : List Fault → Type 0) (keys more : BTreeSet (List ℕ)) (xs : List NamedPair) (i : ℕ) (x : NamedPair) (is_new : Bool)
     → IsNoted before now keys xs i → i < length xs → x ≡ get_or xs i x → is_new ≡ not (has_key keys x.key)
-    → Updates (slice_cmp nat_cmp) keys more x.key true → Notes now after (given (cond is_new None (Some (repeat_of x))))
+    → Updates (slice_cmp nat_cmp) keys more x.key true → Notes now after (option_to_list (cond is_new None (Some (repeat_of x))))
     → IsNoted before after more xs (i + 1)
 noted_on before now after keys more xs i x is_new noted below is new updates notes =
     let has : Bool = has_item key_of (reverse (take i xs)) x.key in
     let says : is_new ≡ not has = new ∙ ap not (noted.keys_are x.key) in
-    let one : List Fault = given (cond is_new None (Some (repeat_of x))) in
+    let one : List Fault = option_to_list (cond is_new None (Some (repeat_of x))) in
     let later : List NamedPair = repeated_by key_of (x ∷ reverse (take i xs)) (drop (i + 1) xs) in
     record {
       keys_are = λ sought.
@@ -67,7 +68,7 @@ noted_on before now after keys more xs i x is_new noted below is new updates not
           ap (λ befores. (noted.more ++ one) ++ faults_of (repeated_by key_of befores (drop (i + 1) xs))) (one_before xs i x below is)
           ∙ (append_assoc noted.more one (faults_of later)
           ∙ (ap (λ fs. noted.more ++ fs)
-          (ap (λ b. given (cond b None (Some (repeat_of x))) ++ faults_of later) says ∙ one_noted x later has
+          (ap (λ b. option_to_list (cond b None (Some (repeat_of x))) ++ faults_of later) says ∙ one_noted x later has
           ∙ ap (λ left. faults_of (repeated_by key_of (reverse (take i xs)) left)) (sym (one_left xs i x below is)))
           ∙ noted.whole));
     }

@@ -1,4 +1,5 @@
 -- The live pairs of a master as the code keeps them, and the faults of stage 7 that they give. Source: docs/FORMAT.md, "Stage 7, the master".
+use Rattle.std.specs.Option.{option_to_list}
 use Rattle.std.specs.Prelude.{◌≡◌, ℕ, ◌+◌, ◌<◌, nat_lt, ◌==◌, min, if◌then◌else◌, List, [], ◌∷◌, ◌++◌, map, length, get_or, Option, Some, None}
 use Rattle.std.specs.List.{filter, flat_map}
 use Rattle.bdb_format.specs.declared.kinds.Fault.{Fault}
@@ -69,20 +70,16 @@ repeat_fault entry = Some (repeat_of entry)
 
 -- All faults of stage 7, by what they are told of.
 
-abbrev pub given : Option Fault → List Fault
-given None = []
-given (Some fault) = fault ∷ []
-
 -- page by page
 abbrev pub by_naming : File → List NamedPair → List Fault
-by_naming file entries = flat_map (λ p. given (naming_fault entries p)) (meta_pages file)
+by_naming file entries = flat_map (λ p. option_to_list (naming_fault entries p)) (meta_pages file)
 
 -- pair by pair
 abbrev pub by_target : File → List NamedPair → List Fault
-by_target file entries = flat_map (λ entry. given (entry_fault file entry)) entries
+by_target file entries = flat_map (λ entry. option_to_list (entry_fault file entry)) entries
 
 abbrev pub by_repeat : List NamedPair → List Fault
-by_repeat entries = flat_map (λ entry. given (repeat_fault entry)) (repeated_by key_of [] entries)
+by_repeat entries = flat_map (λ entry. option_to_list (repeat_fault entry)) (repeated_by key_of [] entries)
 
 abbrev pub all_noted : File → List NamedPair → List Fault
 all_noted file entries = (by_naming file entries ++ by_target file entries) ++ by_repeat entries

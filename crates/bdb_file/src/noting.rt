@@ -1,6 +1,6 @@
 ghost use Rattle.std.specs.Prelude.{OnOk};
 ghost use Rattle.bdb_faults.specs.Notes.{Notes};
-ghost use Rattle.bdb_file.specs.Entries.{given};
+ghost use Rattle.std.specs.Option.{option_to_list};
 
 use bdb_faults::FaultSink;
 use bdb_format::Fault;
@@ -12,7 +12,7 @@ pub(crate) fn note_given<F: FaultSink>(
     fault: Option<Fault>,
     found: &mut F,
 ) -> Result<(), AllocError>
-    ensures { OnOk result (Notes (F.has_noted found.old) (F.has_noted found.new) (given fault)) }
+    ensures { OnOk result (Notes (F.has_noted found.old) (F.has_noted found.new) (option_to_list fault)) }
 {
     match fault {
         Some(fault) => found.note(fault),

@@ -108,7 +108,7 @@ impl<'a> Sound<'a> {
 
     /// The metadata of a database, which keeps the rules of structure and of contents.
     #[tactic(auto, using(crate::proofs::SoundLemmas::has_metadata_at, crate::proofs::SoundLemmas::no_structure, crate::proofs::SoundLemmas::no_contents_at))]
-    pub(crate) fn meta(&self, db: Db) -> &Meta
+    pub fn meta(&self, db: Db) -> &Meta
         requires { db < length (databases (file_of self.now)) }
         ensures fields { meta_seen result.now ≡ (database_at (file_of self.now) db).fields }
         ensures there { HasMetadata (file_of self.now) (meta_seen result.now) }

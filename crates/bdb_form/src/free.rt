@@ -2,7 +2,7 @@ ghost use Rattle.std.specs.Prelude.{◌≡◌, ◌≤◌, length};
 ghost use Rattle.bdb_format.specs.Reading.{header_of};
 
 use bdb_format::Order;
-use bdb_layout::{Header, header};
+use bdb_layout::{Header, header, u32_at};
 use std::marker::Model;
 
 /// A free page: its header, whose next names the next free page.
@@ -38,5 +38,12 @@ impl<'a> FreeView<'a> {
         ensures { result ≡ self.now }
     {
         header(self.page, self.order)
+    }
+
+    /// The page after it, 0 for none.
+    pub fn next(&self) -> u32
+        ensures { result ≡ self.now.next }
+    {
+        u32_at(self.page, 16, self.order)
     }
 }

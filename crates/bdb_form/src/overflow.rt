@@ -6,7 +6,7 @@ ghost use Rattle.bdb_format.specs.Reading.{header_of};
 ghost use Rattle.bdb_format.specs.Rows.{body_code};
 
 use bdb_format::Order;
-use bdb_layout::{Header, header, u16_at};
+use bdb_layout::{Header, header, u16_at, u32_at};
 use std::marker::Model;
 
 /// A page of a chain: a piece of a value.
@@ -43,6 +43,13 @@ impl<'a> OverflowView<'a> {
         ensures { result ≡ self.now.header }
     {
         header(self.page, self.order)
+    }
+
+    /// The page after it, 0 for none.
+    pub fn next(&self) -> u32
+        ensures { result ≡ self.now.header.next }
+    {
+        u32_at(self.page, 16, self.order)
     }
 
     /// The data on the page.

@@ -1,6 +1,6 @@
 -- The code of a page, by the calls that judge its form and its metadata.
 use Rattle.std.proofs.Common.{◌≡◌, ℕ, zero, suc, ◌+◌, ◌<◌, ◌≤◌, Bool, true, false, cond, List, [], ◌∷◌, ◌++◌, length, arith, refl, sym, ◌∙◌, ap}
-use Rattle.std.specs.Prelude.{Option, Some, None, Result, Ok, Err, ◌==◌, ◌&&◌, not, nat_lt}
+use Rattle.std.specs.Prelude.{Option, Some, None, Err, ◌==◌, ◌&&◌, not, nat_lt}
 use Rattle.std.specs.Option.{option_map}
 use Rattle.std.specs.Result.{result_err}
 use Rattle.std.proofs.lemmas.Bool.{eqb-true, lt-ltb}
@@ -13,15 +13,12 @@ use Rattle.bdb_format.specs.declared.metadata.MetaFault.{MetaFault}
 use Rattle.bdb_format.specs.declared.metadata.MetaFault.TheVariants.{Fault as CodeFault}
 use Rattle.bdb_format.specs.HeadOf.{faulted, form_fault}
 use Rattle.bdb_format.specs.Numbers.{byte_at, four_at, two_at}
-use Rattle.bdb_format.specs.Page.{Page, PageType, FreePage, HashPage, InternalPage, RecnoInternalPage, LeafPage, RecnoLeafPage, OverflowPage, HashMetaPage, BtreeMetaPage, QueueMetaPage, QueuePage, DupLeafPage, OtherPage}
+use Rattle.bdb_format.specs.Page.{PageType, FreePage, HashPage, InternalPage, RecnoInternalPage, LeafPage, RecnoLeafPage, OverflowPage, HashMetaPage, BtreeMetaPage, QueueMetaPage, QueuePage, DupLeafPage, OtherPage}
 use Rattle.bdb_format.specs.Reading.{is_zero, page_type}
 use Rattle.bdb_format.specs.Rows.{body_code, form_code, identity_rows, index_rows, is_queue_type, is_tree_type, all_item_rows, field_rows, listed_code, may_have_type, metadata_rows, page_code, queue_code, type_of, typed_code}
 use Rattle.bdb_format.specs.Table.{Row, ◌:?◌, answer, first_row}
 use Rattle.bdb_format.proofs.PageLemmas.{later_type, metadata_code}
 use Rattle.bdb_format.proofs.SizeLemmas.{size_bounds}
-use Rattle.bdb_form.specs.declared.view.PageView.{PageView}
-use Rattle.bdb_form.specs.Formed.{unless}
-use Rattle.bdb_form.specs.Seen.{form_seen}
 use Rattle.bdb_format.specs.HeadOf.{is_page_size}
 
 -- What the calls answer.
@@ -43,13 +40,6 @@ btree_last order page number last = refl
 pub queue_last : (order : Order) (page : List ℕ) (number last : ℕ) → metadata_rows order page number last Queue ≡ metadata_rows order page number 0 Queue
 unfolding metadata_rows
 queue_last order page number last = refl
-
--- a view is refused with the code
-pub refused_code : (result : Result PageView ℕ) (code : Option ℕ) (page : Page) → form_seen result ≡ unless code page → result_err result ≡ code
-refused_code (Ok view) None page same = refl
-refused_code (Ok view) (Some code) page same = absurd cc
-refused_code (Err code) None page same = absurd cc
-refused_code (Err code) (Some other) page same = cc
 
 -- Codes that aren't cases left out by name.
 

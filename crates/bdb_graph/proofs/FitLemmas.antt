@@ -1,21 +1,24 @@
 -- What a page is to a reference, by its bytes, and the codes with which references fail.
-use Rattle.std.proofs.Common.{◌≡◌, ℕ, ◌+◌, ◌≤◌, ◌<◌, Bool, true, false, cond, List, [], ◌∷◌, ◌++◌, arith, refl, sym, ◌∙◌, ap, subst, inl, inr}
-use Rattle.std.specs.Prelude.{Option, Some, None, ◌==◌, ◌||◌, nat_lt}
+use Rattle.std.proofs.Common.{◌≡◌, ℕ, ◌+◌, ◌≤◌, ◌<◌, Bool, true, false, cond, List, [], ◌∷◌, ◌++◌, length, arith, refl, sym, ◌∙◌, ap, subst, inl, inr}
+use Rattle.std.specs.Prelude.{Option, Some, None, ◌==◌, ◌&&◌, ◌||◌, not, nat_lt}
 use Rattle.std.specs.List.{list_any}
-use Rattle.std.proofs.lemmas.Bool.{cases_order, eqb-true, eqb-false, le-ltb, lt-ltb, ne_eqb, or_from}
+use Rattle.std.proofs.lemmas.Bool.{cases_Bool, cases_eq, cases_order, eqb-true, eqb-false, le-ltb, lt-ltb, ne_eqb, or_from}
 use Rattle.std.proofs.Math.Bool.{or-true}
 use Rattle.bdb_format.specs.declared.kinds.Fault.{Fault}
 use Rattle.bdb_format.specs.declared.kinds.Order.{Order}
+use Rattle.bdb_format.specs.declared.kinds.Order.TheVariants.{Big}
+use Rattle.bdb_format.specs.declared.pages.Header.{Header}
 use Rattle.bdb_format.specs.declared.references.Reference.{Reference}
 use Rattle.bdb_format.specs.File.{File, header_in, no_header, page_at, type_in}
-use Rattle.bdb_format.specs.Numbers.{byte_at, four_at, has_bit}
+use Rattle.bdb_format.specs.Numbers.{byte_at, four_at, has_bit, two_at}
 use Rattle.bdb_format.specs.Page.{Page, PageType, FreePage, HashPage, InternalPage, RecnoInternalPage, LeafPage, RecnoLeafPage, OverflowPage, HashMetaPage, BtreeMetaPage, QueueMetaPage, QueuePage, DupLeafPage, OtherPage, Zero}
 use Rattle.bdb_format.specs.Reading.{abstract_page, header_of, is_zero, listed, page_as, page_type}
-use Rattle.bdb_format.specs.References.{Asked, asked_by, child_types, fit_code, is_zero_page, root_types}
+use Rattle.bdb_format.specs.References.{Asked, asked_by, child_types, fit_code, has_type, is_zero_page, root_types}
 use Rattle.bdb_format.specs.Table.{Row, first_row, lesser}
 use Rattle.bdb_format.specs.Verdict.{first_fault}
-use Rattle.bdb_graph.specs.Fits.{page_rows}
+use Rattle.bdb_graph.specs.Fits.{is_headed, page_rows}
 use Rattle.bdb_format.proofs.GraphLemmas.{zero_page, typed_page}
+use Rattle.bdb_format.proofs.PageLemmas.{zero_header as zero_fields}
 use Rattle.bdb_format.proofs.TypeLemmas.{if_type}
 
 -- Bytes as a page.
@@ -87,9 +90,9 @@ typed order page some one =
     (λ is. refl, (λ is. ap (λ n. Some n) is, (λ is. refl, (λ is. refl, (λ is. refl, (λ is. refl, (λ is. refl, (λ is. refl, (λ is. refl, (λ is. refl, (λ is. refl, (λ is. refl, (λ is. ap (λ n. Some n) is, tt))))))))))))) in
     sym (ap type_in (typed_page order page some) ∙ one_of (HasType order page) (byte_at page 25) typed_bytes all one refl)
 
-pub headed : (order : Order) (page : List ℕ) → is_zero page ≡ false → list_any (λ t. t == byte_at page 25) headed_bytes ≡ true → header_of order page ≡ header_in (abstract_page order page)
+headed_type : (order : Order) (page : List ℕ) → is_zero page ≡ false → list_any (λ t. t == byte_at page 25) headed_bytes ≡ true → header_of order page ≡ header_in (abstract_page order page)
 unfolding listed
-headed order page some one =
+headed_type order page some one =
     let all : AllOf (HasHeader order page) headed_bytes = (refl, (refl, (refl, (refl, (refl, (refl, (refl, (refl, (refl, tt))))))))) in
     sym (ap header_in (typed_page order page some) ∙ one_of (HasHeader order page) (byte_at page 25) headed_bytes all one)
 
@@ -112,8 +115,60 @@ no_header_as : (order : Order) (page : List ℕ) (byte : ℕ) → IsNoneOf byte 
 no_header_as order page byte (n0, (n2, (n3, (n4, (n5, (n6, (n7, (n12, (n13, end))))))))) =
     rw (n0, n2, n3, n4, n5, n6, n7, n12, n13) (without_header order page (byte == 8) (byte == 9) (byte == 10) (byte == 11))
 
-pub unheaded : (order : Order) (page : List ℕ) → is_zero page ≡ false → list_any (λ t. t == byte_at page 25) headed_bytes ≡ false → no_header ≡ header_in (abstract_page order page)
-unheaded order page some none = sym (ap header_in (typed_page order page some) ∙ no_header_as order page (byte_at page 25) (none_of (byte_at page 25) headed_bytes none))
+unheaded_type : (order : Order) (page : List ℕ) → is_zero page ≡ false → list_any (λ t. t == byte_at page 25) headed_bytes ≡ false → no_header ≡ header_in (abstract_page order page)
+unheaded_type order page some none = sym (ap header_in (typed_page order page some) ∙ no_header_as order page (byte_at page 25) (none_of (byte_at page 25) headed_bytes none))
+
+-- a page that begins with the fields of a header has them
+headed : (order : Order) (page : List ℕ) → is_headed page ≡ true → header_of order page ≡ header_in (abstract_page order page)
+headed order page is =
+    elim (is_zero page) as (λ b. is_zero page ≡ b → (not b && list_any (λ t. t == byte_at page 25) headed_bytes) ≡ true → header_of order page ≡ header_in (abstract_page order page)) [
+      | true ↦ λ empty no. absurd cc
+      | false ↦ λ some one. headed_type order page some one
+    ] refl is
+
+pub headed_previous : (order : Order) (page : List ℕ) → is_headed page ≡ true → four_at order page 12 ≡ (header_in (abstract_page order page)).previous
+headed_previous order page is = ap (λ (header : Header). header.previous) (headed order page is)
+
+pub headed_next : (order : Order) (page : List ℕ) → is_headed page ≡ true → four_at order page 16 ≡ (header_in (abstract_page order page)).next
+headed_next order page is = ap (λ (header : Header). header.next) (headed order page is)
+
+pub headed_entries : (order : Order) (page : List ℕ) → is_headed page ≡ true → two_at order page 20 ≡ (header_in (abstract_page order page)).entries
+headed_entries order page is = ap (λ (header : Header). header.entries) (headed order page is)
+
+pub headed_level : (order : Order) (page : List ℕ) → is_headed page ≡ true → byte_at page 24 ≡ (header_in (abstract_page order page)).level
+headed_level order page is = ap (λ (header : Header). header.level) (headed order page is)
+
+-- another page has none
+pub unheaded : (order : Order) (page : List ℕ) → is_headed page ≡ false → no_header ≡ header_in (abstract_page order page)
+unheaded order page is =
+    elim (is_zero page) as (λ b. is_zero page ≡ b → (not b && list_any (λ t. t == byte_at page 25) headed_bytes) ≡ false → no_header ≡ header_in (abstract_page order page)) [
+      | true ↦ λ empty no. zero_header order page empty
+      | false ↦ λ some none. unheaded_type order page some none
+    ] refl is
+
+-- The type of a page of a chain.
+
+same_seven : (byte : ℕ) → (byte == 7) ≡ has_type (7 ∷ []) (Some byte)
+same_seven byte =
+    elim (cases_eq byte 7) [
+      | inl is ↦ rw is refl
+      | inr other ↦ rw (ne_eqb byte 7 other, ne_eqb 7 byte (λ is. other (sym is))) refl
+    ]
+
+no_seven : (byte : ℕ) → IsNoneOf byte typed_bytes → (byte == 7) ≡ false
+no_seven byte (n0, (n2, (n3, (n4, (n5, (n6, (n7, others))))))) = n7
+
+-- the type byte of a page tells whether it's a page of a chain
+pub overflow_is : (order : Order) (page : List ℕ) → 26 ≤ length page → (byte_at page 25 == 7) ≡ has_type (7 ∷ []) (type_in (abstract_page order page))
+overflow_is order page long =
+    elim (cases_Bool (is_zero page)) [
+      | inl empty ↦ ap (λ byte. byte == 7) (sym (ap (λ (header : Header). header.page_type) (zero_fields Big page long empty))) ∙ ap (has_type (7 ∷ [])) (zero_type order page empty)
+      | inr some ↦
+          elim (cases_Bool (list_any (λ t. t == byte_at page 25) typed_bytes)) [
+            | inl one ↦ same_seven (byte_at page 25) ∙ ap (has_type (7 ∷ [])) (typed order page some one)
+            | inr none ↦ no_seven (byte_at page 25) (none_of (byte_at page 25) typed_bytes none) ∙ ap (has_type (7 ∷ [])) (untyped order page some none)
+          ]
+    ]
 
 -- The types that a page's references ask for.
 

@@ -1,7 +1,10 @@
 -- With which code a reference fails, as the code asks for it. Source: docs/FORMAT.md, "Stage 3, references".
-use Rattle.std.specs.Prelude.{ℕ, ◌&&◌, ◌||◌, not, Bool, false, List, [], ◌∷◌, Some, None}
+use Rattle.std.specs.Prelude.{ℕ, ◌==◌, ◌&&◌, ◌||◌, not, Bool, false, List, [], ◌∷◌, Some, None}
+use Rattle.std.specs.List.{list_any}
 use Rattle.bdb_format.specs.File.{header_in, type_in}
+use Rattle.bdb_format.specs.Numbers.{byte_at}
 use Rattle.bdb_format.specs.Page.{Page}
+use Rattle.bdb_format.specs.Reading.{is_zero}
 use Rattle.bdb_format.specs.References.{Asked, has_type, is_asked, is_zero_page}
 use Rattle.bdb_format.specs.Table.{Row, ◌:?◌}
 
@@ -20,3 +23,7 @@ page_rows asked page =
     ∷ 3 :? not (is_asked asked.level (header_in page).level)
     ∷ 4 :? not (is_asked asked.previous (header_in page).previous)
     ∷ []
+
+-- a page that begins with the fields of a header: it's no zero page, and of a type whose pages do
+abbrev pub is_headed : List ℕ → Bool
+is_headed page = not (is_zero page) && list_any (λ t. t == byte_at page 25) (0 ∷ 2 ∷ 3 ∷ 4 ∷ 5 ∷ 6 ∷ 7 ∷ 12 ∷ 13 ∷ [])

@@ -30,7 +30,7 @@ fn link_at(formed: &Formed<'_>, number: u32) -> Link
     let page = page_at(formed, number);
     Link {
         length: page.piece_len(),
-        next: page.header().next,
+        next: page.next(),
     }
 }
 
@@ -56,7 +56,7 @@ fn chain_length(formed: &Formed<'_>, head: u32) -> u32
 fn may_head(page: &FormedPage<'_>) -> bool
     ensures { result ≡ may_head page.now }
 {
-    page.page_type() == Some(7) && page.header().previous == 0
+    page.is_overflow() && page.previous() == 0
 }
 
 /// What is kept of a page: the length of the chain that begins there, 0 where none does.

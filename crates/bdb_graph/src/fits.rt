@@ -4,7 +4,7 @@ ghost use Rattle.bdb_faults.specs.Notes.{Notes};
 ghost use Rattle.bdb_faults.specs.Rows.{reference_code};
 ghost use Rattle.bdb_graph.specs.Fits.{asks_previous, is_of_type, page_rows};
 ghost use Rattle.bdb_graph.specs.Noted.{both_misfits, misfit_faults, more_misfits, no_misfits};
-ghost use Rattle.bdb_format.specs.File.{file_of};
+ghost use Rattle.bdb_format.specs.File.{file_of, header_in};
 ghost use Rattle.bdb_format.specs.References.{asked_by, asks_type, fit_code, has_type, is_asked};
 ghost use Rattle.bdb_format.specs.Table.{first_row};
 
@@ -59,12 +59,11 @@ impl Demand {
     fn misfit(&self, page: &FormedPage) -> Option<ReferenceRow>
         ensures { option_map reference_code result ≡ first_row (page_rows self.now page.now) }
     {
-        let header = page.header();
         if !self.is_of_type(page) {
             Some(ReferenceRow::WrongKind)
-        } else if !is_asked(self.level, u32::from(header.level)) {
+        } else if !self.is_of_level(page) {
             Some(ReferenceRow::WrongLevel)
-        } else if !is_asked(self.previous, header.previous) {
+        } else if !self.is_behind(page) {
             Some(ReferenceRow::WrongBack)
         } else {
             None
@@ -76,6 +75,24 @@ impl Demand {
     {
         has_type(self.types, page.page_type()) || (self.or_zero && page.is_zero())
     }
+
+    fn is_of_level(&self, page: &FormedPage) -> bool
+        ensures { result ≡ is_asked self.now.level (header_in page.now).level }
+    {
+        match self.level {
+            Some(asked) => asked == u32::from(page.level()),
+            None => true,
+        }
+    }
+
+    fn is_behind(&self, page: &FormedPage) -> bool
+        ensures { result ≡ is_asked self.now.previous (header_in page.now).previous }
+    {
+        match self.previous {
+            Some(asked) => asked == page.previous(),
+            None => true,
+        }
+    }
 }
 
 fn has_type(types: &[u8], page_type: Option<u8>) -> bool
@@ -84,15 +101,6 @@ fn has_type(types: &[u8], page_type: Option<u8>) -> bool
     match page_type {
         Some(page_type) => is_one_of(types, page_type),
         None => false,
-    }
-}
-
-fn is_asked(asked: Option<u32>, number: u32) -> bool
-    ensures { result ≡ is_asked asked number }
-{
-    match asked {
-        Some(asked) => asked == number,
-        None => true,
     }
 }
 
@@ -113,7 +121,7 @@ fn asked_by(holder: u32, page: &FormedPage, sort: Sort) -> Demand
         Sort::Child => Demand {
             types: page.child_types(),
             or_zero: false,
-            level: Some(u32::from(page.header().level).saturating_sub(1)),
+            level: Some(u32::from(page.level()).saturating_sub(1)),
             previous: None,
         },
         Sort::OverflowHead => Demand::after(&[7], 0),

@@ -1,13 +1,14 @@
-ghost use Rattle.std.specs.Prelude.{◌≡◌, ◌≤◌, ◌==◌, length};
+ghost use Rattle.std.specs.Prelude.{◌≡◌, ◌≤◌, ◌==◌, ◌∷◌, [], length};
 ghost use Rattle.std.specs.List.{list_any};
+ghost use Rattle.bdb_graph.specs.Fits.{is_headed};
 ghost use Rattle.bdb_format.specs.Chains.{piece_in};
 ghost use Rattle.bdb_format.specs.File.{file_of, header_in, page_at, type_in};
 ghost use Rattle.bdb_format.specs.Graph.{is_hash_meta, is_meta, is_spare};
-ghost use Rattle.bdb_format.specs.References.{child_types, is_zero_page, root_types};
+ghost use Rattle.bdb_format.specs.References.{child_types, has_type, is_zero_page, root_types};
 
 use crate::Formed;
 use bdb_form::is_zero;
-use bdb_format::{Header, Order};
+use bdb_format::Order;
 use bdb_layout::{header, u16_at, u32_at};
 use std::marker::Model;
 
@@ -42,21 +43,19 @@ pub(crate) fn page_at<'a>(formed: &Formed<'a>, number: u32) -> FormedPage<'a>
     }
 }
 
-const NO_HEADER: Header = Header {
-    number: 0,
-    previous: 0,
-    next: 0,
-    entries: 0,
-    high_free: 0,
-    level: 0,
-    page_type: 0,
-};
-
 /// Whether a type is one of these.
 pub(crate) fn is_one_of(types: &[u8], byte: u8) -> bool
     ensures { result ≡ list_any (λ type. type == byte) types.now }
 {
     types.iter().any(|one| *one == byte)
+}
+
+/// Whether a page begins with the fields of a header: it isn't a zero page, metadata or a page of a queue.
+fn is_headed(page: &[u8]) -> bool
+    requires { 26 ≤ length page.now }
+    ensures { result ≡ is_headed page.now }
+{
+    !is_zero(page) && matches!(page[25], 0 | 2..=7 | 12 | 13)
 }
 
 impl<'a> FormedPage<'a> {
@@ -80,15 +79,60 @@ impl<'a> FormedPage<'a> {
         Some(byte)
     }
 
-    /// Its header; all 0 where it has none.
-    #[tactic(auto, using(crate::proofs::FitLemmas::headed, crate::proofs::FitLemmas::unheaded, crate::proofs::FitLemmas::zero_header))]
-    pub(crate) fn header(&self) -> Header
-        ensures { result ≡ header_in self.now }
+    /// The page before it; 0 where it has no header.
+    #[tactic(auto, using(crate::proofs::FitLemmas::headed_previous, crate::proofs::FitLemmas::unheaded))]
+    pub(crate) fn previous(&self) -> u32
+        ensures { result ≡ (header_in self.now).previous }
     {
-        if is_zero(self.bytes) || !is_one_of(&[0, 2, 3, 4, 5, 6, 7, 12, 13], self.bytes[25]) {
-            return NO_HEADER;
+        if is_headed(self.bytes) {
+            u32_at(self.bytes, 12, self.order)
+        } else {
+            0
         }
-        header(self.bytes, self.order)
+    }
+
+    /// The page after it; 0 where it has no header.
+    #[tactic(auto, using(crate::proofs::FitLemmas::headed_next, crate::proofs::FitLemmas::unheaded))]
+    pub(crate) fn next(&self) -> u32
+        ensures { result ≡ (header_in self.now).next }
+    {
+        if is_headed(self.bytes) {
+            u32_at(self.bytes, 16, self.order)
+        } else {
+            0
+        }
+    }
+
+    /// How many entries its header tells; 0 where it has none.
+    #[tactic(auto, using(crate::proofs::FitLemmas::headed_entries, crate::proofs::FitLemmas::unheaded))]
+    pub(crate) fn entries(&self) -> u16
+        ensures { result ≡ (header_in self.now).entries }
+    {
+        if is_headed(self.bytes) {
+            u16_at(self.bytes, 20, self.order)
+        } else {
+            0
+        }
+    }
+
+    /// Its level; 0 where it has no header.
+    #[tactic(auto, using(crate::proofs::FitLemmas::headed_level, crate::proofs::FitLemmas::unheaded))]
+    pub(crate) fn level(&self) -> u8
+        ensures { result ≡ (header_in self.now).level }
+    {
+        if is_headed(self.bytes) {
+            self.bytes[24]
+        } else {
+            0
+        }
+    }
+
+    /// Whether it's a page of a chain.
+    #[tactic(auto, using(crate::proofs::FitLemmas::overflow_is))]
+    pub(crate) fn is_overflow(&self) -> bool
+        ensures { result ≡ has_type (7 ∷ []) (type_in self.now) }
+    {
+        self.bytes[25] == 7
     }
 
     /// How many bytes of a value it holds; none where it isn't a page of a chain.

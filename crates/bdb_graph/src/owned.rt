@@ -60,7 +60,7 @@ fn has_too_many(roles: &Roles<'_>, page: u32) -> bool
 {
     let tally = roles.tally(page);
     if tally.heads_alone {
-        tally.count > u32::from(roles.page(page).header().entries)
+        tally.count > u32::from(roles.page(page).entries())
     } else {
         tally.count > 1
     }

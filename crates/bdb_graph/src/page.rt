@@ -5,7 +5,7 @@ ghost use Rattle.bdb_format.specs.Rows.{form_code, metadata_rows};
 ghost use Rattle.bdb_format.specs.Table.{first_row};
 ghost use Rattle.bdb_format.specs.declared.metadata.FileKind.TheVariants.{Queue};
 
-use bdb_form::{form, queue_form};
+use bdb_form::{page_code, queue_code};
 use bdb_format::{FileKind, Head, MetaFault};
 use bdb_meta::{btree_meta, hash_meta, queue_meta};
 
@@ -48,7 +48,7 @@ fn tree_fault(page: &[u8], head: &Head, number: u32) -> Option<MetaFault>
     requires tree { head.now.kind ≢ Queue }
     ensures { result ≡ option_map form_fault (form_code head.now number page.now) }
 {
-    if let Err(code) = form(page, number, head.order) {
+    if let Some(code) = page_code(page, number, head.order) {
         return Some(MetaFault::Fault(code));
     }
     match page[25] {
@@ -65,8 +65,8 @@ fn queue_fault(page: &[u8], head: &Head, number: u32) -> Option<MetaFault>
     requires queue { head.now.kind ≡ Queue }
     ensures { result ≡ option_map form_fault (form_code head.now number page.now) }
 {
-    match queue_form(page, number, head.order) {
-        Ok(_) => None,
-        Err(code) => Some(MetaFault::Fault(code)),
+    match queue_code(page, number, head.order) {
+        Some(code) => Some(MetaFault::Fault(code)),
+        None => None,
     }
 }

@@ -52,8 +52,8 @@ impl<'a> Source<'a> {
     {
         match view {
             PageView::Zero(_) | PageView::Queue(_) => Source::Nothing,
-            PageView::Free(page) => Source::Next(Sort::Free, page.header().next),
-            PageView::Overflow(page) => Source::Next(Sort::OverflowNext, page.header().next),
+            PageView::Free(page) => Source::Next(Sort::Free, page.next()),
+            PageView::Overflow(page) => Source::Next(Sort::OverflowNext, page.next()),
             PageView::Leaf(page) => Source::Leaf(page),
             PageView::RecnoLeaf(page) => Source::RecnoLeaf(page),
             PageView::DupLeaf(page) => Source::DupLeaf(page),

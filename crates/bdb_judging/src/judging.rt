@@ -25,8 +25,8 @@ fn is_key(view: &KeyView<'_>, key: &Key) -> bool {
     }
 }
 
-// Whether these are the key and the datum at a place of a list.
-fn is_pair_at(list: &PairList, place: usize, key: &KeyView<'_>, datum: &Datum<'_>) -> bool {
+/// Whether these are the key and the datum at a place of a list.
+pub fn is_pair_at(list: &PairList, place: usize, key: &KeyView<'_>, datum: &Datum<'_>) -> bool {
     match (list.keys().get(place), list.values().get(place)) {
         (Some(other), Some(value)) => is_key(key, other) && is_datum(datum, value),
         _ => false,

@@ -3,4 +3,4 @@
 
 mod judging;
 
-pub use judging::gives;
+pub use judging::{gives, is_pair_at};

@@ -27,8 +27,8 @@ fn push_key(alloc: Global, text: &mut Bytes, key: &Key) -> Result<(), AllocError
     }
 }
 
-// The dump text of generated pairs behind this header.
-fn text_of(alloc: Global, kind: Kind, header: &[u8]) -> Result<Bytes, AllocError> {
+/// The dump text of 200,000 generated pairs behind this header.
+pub(crate) fn text_of(alloc: Global, kind: Kind, header: &[u8]) -> Result<Bytes, AllocError> {
     let list = generate(alloc, kind, 7, 200000)?;
     let mut text = Bytes::new(alloc);
     text.push_all(header)?;

@@ -16,6 +16,8 @@ mod long;
 #[cfg(test)]
 mod names;
 #[cfg(test)]
+mod ranges;
+#[cfg(test)]
 mod settled;
 #[cfg(test)]
 mod sizes;

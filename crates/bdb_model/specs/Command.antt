@@ -1,17 +1,21 @@
 -- What the words of a command line ask for. Source: README.md, "Use".
-use Rattle.std.specs.Prelude.{ℕ, ◌^◌, nat_le, ◌&&◌, not, if◌then◌else◌, Bool, true, false, List, [], ◌∷◌, take, Option, Some, None, codes}
+use Rattle.std.specs.Prelude.{ℕ, ◌^◌, nat_le, ◌&&◌, not, if◌then◌else◌, Bool, true, false, List, [], ◌∷◌, drop, take, Option, Some, None, codes}
 use Rattle.std.specs.List.{list_any}
 use Rattle.std.specs.Str.{bytes_eq}
+use Rattle.bdb_format.specs.declared.kinds.Order.{Order}
 use Rattle.bdb_format.specs.Digits.{number_in}
 use Rattle.bdb_text_format.specs.TextSpelling.{bytes_spelled}
 
 -- what is asked of a sound file: of a key the name of its database, where one was given, and whether data are printed; of a
--- dump the name of a database, where not all are asked for, and whether data are printed
+-- dump the name of a database, where not all are asked for, and whether data are printed; of a range a name as of a key, the
+-- bounds, and whether keys and data are printed; or the same file in a byte order
 pub data Request : Type 0 where
   Verify : Request
   ListAll : Request
   Get : Option (List ℕ) → List ℕ → Bool → Request
   Dump : Option (List ℕ) → Bool → Request
+  Range : Option (List ℕ) → List ℕ → List ℕ → Bool → Request
+  Convert : Order → Request
 
 -- Options and operands.
 
@@ -154,6 +158,19 @@ text_request (Some name) prints = Some (Dump name prints)
 
 abbrev pub dump_request : Arguments → Option Request
 dump_request all = text_request (asked_name (value_given name_option all.given)) (is_given print_option all.given)
+
+-- what is asked of a range, where its name and its bounds are there
+abbrev pub bounds_request : Option (Option (List ℕ)) → Option (List ℕ) → Option (List ℕ) → Bool → Option Request
+bounds_request None from to prints = None
+bounds_request (Some name) None to prints = None
+bounds_request (Some name) (Some from) None prints = None
+bounds_request (Some name) (Some from) (Some to) prints = Some (Range name from to prints)
+
+-- `range` asks what lies between its two operands, which are spelled as that of `get`
+abbrev pub range_request : Arguments → Option Request
+range_request all =
+    bounds_request (asked_name (value_given name_option all.given)) (operand_spelled (not (is_given hex_option all.given)) all.operands)
+    (operand_spelled (not (is_given hex_option all.given)) (drop 1 all.operands)) (is_given print_option all.given)
 
 -- the options that commands have
 

@@ -8,7 +8,9 @@ ghost use Rattle.bdb_overflow.specs.Held.{FitsHeld, chain_value, value_held};
 use crate::{Datum, Held, Pieces, chain_pieces, is_less};
 use bdb_form::PageView;
 use bdb_graph::Forest;
+use bdb_layout::compare;
 use std::alloc::{AllocError, Global};
+use std::cmp::Ordering;
 use std::collections::BTreeMap;
 use std::marker::Model;
 
@@ -43,6 +45,18 @@ pub fn is_shared(forest: &Forest<'_>, head: u32) -> bool {
     match forest.page(head) {
         PageView::Overflow(page) => page.header().entries > 1,
         _ => false,
+    }
+}
+
+/// Whether bytes of a page are less than others.
+#[tactic(auto, using(crate::proofs::KeyLemmas::is_less))]
+fn is_less_inline(a: &[u8], b: &[u8]) -> bool
+    ensures { result ≡ less a.now b.now }
+{
+    match compare(a, b) {
+        Ordering::Less => true,
+        Ordering::Equal => false,
+        Ordering::Greater => false,
     }
 }
 
@@ -84,7 +98,7 @@ impl<'a> Values<'a> {
     }
 
     /// Whether a value is less than another. A chain isn't less than itself, which takes no look at its pages. An error is want
-    /// of memory, for a chain that is shared or begins with a blank page.
+    /// of memory, for a chain that is shared or begins with a blank page. Most values are bytes of pages.
     pub fn is_less(&mut self, a: Held<'_>, b: Held<'_>) -> Result<bool, AllocError>
         requires first { FitsHeld (file_of self.old) a }
         requires second { FitsHeld (file_of self.old) b }
@@ -92,17 +106,31 @@ impl<'a> Values<'a> {
         ensures same { self.new ≡ self.old }
     {
         match (a, b) {
-            (Held::Inline(a), Held::Inline(b)) => Ok(is_less(&Datum::Inline(a), &Datum::Inline(b))),
+            (Held::Inline(a), Held::Inline(b)) => Ok(is_less_inline(a, b)),
             (Held::Chained(a), Held::Chained(b)) => self.is_less_chain(a, b),
-            (Held::Inline(a), Held::Chained(b)) => {
-                let start = self.start(b)?;
-                Ok(is_less(&Datum::Inline(a), &Datum::Chained(start)))
-            }
-            (Held::Chained(a), Held::Inline(b)) => {
-                let start = self.start(a)?;
-                Ok(is_less(&Datum::Chained(start), &Datum::Inline(b)))
-            }
+            (Held::Inline(a), Held::Chained(b)) => self.is_below_chain(a, b),
+            (Held::Chained(a), Held::Inline(b)) => self.is_chain_below(a, b),
         }
+    }
+
+    /// The same of bytes of a page and a chain.
+    fn is_below_chain(&mut self, a: &[u8], b: u32) -> Result<bool, AllocError>
+        requires { FitsChain (file_of self.old) b }
+        ensures less { IfOk result (λ is. is ≡ less a.now (chain_value (file_of self.old) b)) }
+        ensures same { self.new ≡ self.old }
+    {
+        let start = self.start(b)?;
+        Ok(is_less(&Datum::Inline(a), &Datum::Chained(start)))
+    }
+
+    /// The same of a chain and bytes of a page.
+    fn is_chain_below(&mut self, a: u32, b: &[u8]) -> Result<bool, AllocError>
+        requires { FitsChain (file_of self.old) a }
+        ensures less { IfOk result (λ is. is ≡ less (chain_value (file_of self.old) a) b.now) }
+        ensures same { self.new ≡ self.old }
+    {
+        let start = self.start(a)?;
+        Ok(is_less(&Datum::Chained(start), &Datum::Inline(b)))
     }
 
     /// The same of two chains.

@@ -17,7 +17,7 @@ use bdb_format::{Bytes, Kind, Settings};
 use bdb_io::Sink;
 use bdb_lines::Cut;
 use bdb_overflow::{Datum, KeyView};
-use bdb_salvage::{Guess, LooseItems, SalvagePairs, Salvaged};
+use bdb_salvage::{Guess, SalvagePairs, SalvageValues, Salvaged};
 use bdb_text::header_text;
 use std::alloc::Global;
 
@@ -97,7 +97,7 @@ impl<'k, K: Sink> Printer<'k, K> {
     }
 
     /// Prints the data lines of records, which are numbered from 1.
-    fn records(&mut self, records: LooseItems<'_, '_>, print: bool) -> Result<(), Cut>
+    fn records(&mut self, records: SalvageValues<'_, '_>, print: bool) -> Result<(), Cut>
         requires { length records < 2 ^ 32 }
         ensures { Adds K.written K.faults self.old self.new
             (flat_map (pair_text print) (map numbered_record (enumerate_from 1 records.entry))) result }
@@ -112,7 +112,7 @@ impl<'k, K: Sink> Printer<'k, K> {
 
     /// Prints the data lines of records, and the line that ends them.
     #[tactic(auto, using(crate::proofs::PrinterLemmas::then_adds, crate::proofs::PrinterLemmas::adds_cut))]
-    fn records_data(&mut self, records: LooseItems<'_, '_>, print: bool) -> Result<(), Cut>
+    fn records_data(&mut self, records: SalvageValues<'_, '_>, print: bool) -> Result<(), Cut>
         requires { length records < 2 ^ 32 }
         ensures { Adds K.written K.faults self.old self.new
             (flat_map (pair_text print) (map numbered_record (enumerate_from 1 records.entry)) ++ line data_end) result }
@@ -126,7 +126,7 @@ impl<'k, K: Sink> Printer<'k, K> {
     fn records_section(
         &mut self,
         guess: Guess,
-        records: LooseItems<'_, '_>,
+        records: SalvageValues<'_, '_>,
         print: bool,
     ) -> Result<(), Cut>
         requires { length records < 2 ^ 32 }

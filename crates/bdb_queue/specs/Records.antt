@@ -1,6 +1,7 @@
 -- The records of a queue from a place on, and what its metadata keeps. Source: docs/FORMAT.md, "Databases of a file" and "Stage 2, the form of a page".
 use Rattle.std.specs.Prelude.{ℕ, ◌+◌, ◌-◌, ◌*◌, ◌/◌, ◌%◌, ◌≤◌, List, [], ◌∷◌, ◌++◌, length, map, Option, Some, None}
 use Rattle.std.specs.List.{flat_map, range_with_len}
+use Rattle.std.specs.Option.{option_to_list}
 use Rattle.bdb_graph.specs.Linked.{HasMetadata}
 use Rattle.bdb_format.specs.declared.metadata.QueueMeta.{QueueMeta}
 use Rattle.bdb_format.specs.File.{File, page_at}
@@ -14,8 +15,7 @@ abbrev pub record_seen : Record → ListKey × List ℕ
 record_seen record_in = (NumberKey record_in.number, record_in.bytes.now)
 
 abbrev pub records_seen : Option Record → List (ListKey × List ℕ)
-records_seen None = []
-records_seen (Some found) = record_seen found ∷ []
+records_seen found = map record_seen (option_to_list found)
 
 -- the records of a page from a slot on
 unfoldable pub slots_from : QueueMeta → ℕ → List ℕ → ℕ → List (ListKey × List ℕ)

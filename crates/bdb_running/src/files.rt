@@ -54,6 +54,12 @@ pub const ONE_PAIR_BIG: File = File {
     parts: &[&BTREE, &A_LEAF, &IN_HIGH_ORDER],
 };
 
+// The data, of five bytes, go into the key behind them.
+pub const OVERLAPPING: File = File {
+    length: 1024,
+    parts: &[&BTREE, &A_LEAF, &[Field::Two(1016, 5)]],
+};
+
 pub const ONE_PAGE: File = File {
     length: 512,
     parts: &[&BTREE, &A_LEAF],

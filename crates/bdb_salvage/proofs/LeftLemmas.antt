@@ -1,23 +1,12 @@
 -- What is left of a walk over kept places, one step on.
-use Rattle.std.proofs.Common.{◌≡◌, ℕ, false, cond, List, [], ◌∷◌, ◌++◌, map, sym, ◌∙◌, ap, subst}
+use Rattle.std.proofs.Common.{◌≡◌, ℕ, List, [], ◌∷◌, ◌++◌, sym, ◌∙◌, ap, subst}
 use Rattle.std.specs.Prelude.{Option}
 use Rattle.std.specs.List.{All, flat_map}
 use Rattle.bdb_format.specs.File.{File}
 use Rattle.bdb_salvage.specs.declared.kept.KeptPair.{KeptPair}
 use Rattle.bdb_salvage.specs.declared.kept.KeptValue.{KeptValue}
-use Rattle.bdb_salvage.specs.Kept.{IsKeptPair, IsKeptValue, given_live, given_loose, left_of, pairs_left, value_at, values_left, values_on}
-use Rattle.bdb_stored.specs.Salvage.{live_whole}
-use Rattle.bdb_salvage.proofs.KeptLemmas.{all_on}
+use Rattle.bdb_salvage.specs.Kept.{IsKeptPair, IsKeptValue, given_live, left_of, pairs_left}
 use Rattle.bdb_salvage.proofs.ListLemmas.{all_first, all_rest}
-use Rattle.bdb_salvage.proofs.LooseLemmas.{leaf_values}
-
-pub next_values : (file : File) (here after : List KeptValue) (old new : List ℕ) (leaf : ℕ) → here ≡ [] → old ≡ leaf ∷ new → after ≡ values_on file leaf → values_left file after new ≡ values_left file here old
-next_values file here after old new leaf none more are =
-    ap (λ values. values ++ flat_map (live_whole file) new) (ap (map (value_at file)) are ∙ leaf_values file leaf)
-    ∙ sym (ap (λ places. map (value_at file) places ++ flat_map (live_whole file) old) none ∙ ap (flat_map (live_whole file)) more)
-
-pub values_after : (file : File) (after : List KeptValue) (leaf : ℕ) → after ≡ values_on file leaf → All (IsKeptValue file) after
-values_after file after leaf are = subst (All (IsKeptValue file)) (sym are) (all_on file leaf)
 
 pub values_rest : (file : File) (old new : List KeptValue) (value : KeptValue) → old ≡ value ∷ new → All (IsKeptValue file) old → All (IsKeptValue file) new
 values_rest file old new value more all = all_rest (IsKeptValue file) value new (subst (All (IsKeptValue file)) more all)
@@ -36,7 +25,3 @@ pairs_rest file old new pair more all = all_rest (IsKeptPair file) pair new (sub
 
 pub first_pair : (file : File) (old new : List KeptPair) (pair : KeptPair) → old ≡ pair ∷ new → All (IsKeptPair file) old → IsKeptPair file pair
 first_pair file old new pair more all = all_first (IsKeptPair file) pair new (subst (All (IsKeptPair file)) more all)
-
-pub not_loose : (file : File) (old new : List KeptValue) (value : KeptValue) → old ≡ value ∷ new → value.loose ≡ false → flat_map (given_loose file) new ≡ flat_map (given_loose file) old
-not_loose file old new value more other =
-    sym (ap (flat_map (given_loose file)) more ∙ ap (λ b. cond b (value_at file value ∷ []) [] ++ flat_map (given_loose file) new) other)

@@ -6,11 +6,12 @@ pub mod WholeLemmas
 pub mod SurveyLemmas
 pub mod ToldLemmas
 pub mod WayLemmas
+pub mod DownLemmas
 pub mod ListLemmas
 pub mod StoredLemmas
 pub mod LooseLemmas
 pub mod KeptLemmas
 pub mod MarkLemmas
-pub mod SplitLemmas
+pub mod SetLemmas
 pub mod GuessLemmas
 pub mod LeftLemmas

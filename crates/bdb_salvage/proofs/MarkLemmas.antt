@@ -188,12 +188,15 @@ among : (ps : List ℕ) (p : ℕ) → is_among ps p ≡ true → Contains ps p
 among ps p is = let found : (q : ℕ) × Contains ps q × ((q == p) ≡ true) = any_member (λ q. q == p) ps is in subst (Contains ps) (eqb-true found.0 p found.2) found.1
 
 -- a page that is marked begins a row
-pub marked_begins : (file : File) (starts : List Bool) (pairs : List KeptPair) (p : ℕ) → pairs ≡ kept_pairs file → Marks file.count starts (starts_of pairs) → p < file.count → slice_index_or starts p false ≡ true → Contains (set_starts file) p
-marked_begins file starts pairs p are marks there is = subst (λ xs. Contains xs p) (ap starts_of are ∙ starts_are file) (among (starts_of pairs) p (sym (marks.at p there) ∙ is))
+pub marked_begins : (file : File) (starts : List Bool) (p : ℕ) → Marks file.count starts (set_starts file) → p < file.count → slice_index_or starts p false ≡ true → Contains (set_starts file) p
+marked_begins file starts p marks there is = among (set_starts file) p (sym (marks.at p there) ∙ is)
 
-pub marked_here : (file : File) (starts : List Bool) (pairs : List KeptPair) (p : ℕ) → IsPast file → pairs ≡ kept_pairs file → Marks file.count starts (starts_of pairs) → p < file.count → slice_index_or starts p false ≡ true
-    → All (λ q. q < file.count) (chain file p)
-marked_here file starts pairs p past are marks there is = chain_here file p past (start_begins file p (marked_begins file starts pairs p are marks there is))
+pub marked_here : (file : File) (starts : List Bool) (p : ℕ) → IsPast file → Marks file.count starts (set_starts file) → p < file.count → slice_index_or starts p false ≡ true → All (λ q. q < file.count) (chain file p)
+marked_here file starts p past marks there is = chain_here file p past (start_begins file p (marked_begins file starts p marks there is))
+
+-- the set of a pair begins on a page that is there
+pub start_there : (file : File) (leaf : ℕ) → IsPast file → Contains (set_starts file) leaf → leaf < file.count
+start_there file leaf past inside = chain_first file leaf (start_begins file leaf inside) past
 
 -- All marks.
 
@@ -218,9 +221,9 @@ row_cases file starts f p inside = by_mark (slice_index_or starts f false) refl 
     by_mark true is inside = (is, inside)
     by_mark false is inside = absurd (no_member [] p refl inside)
 
-pub marks_are : (file : File) (starts taken : List Bool) (pairs : List KeptPair) → IsPast file → pairs ≡ kept_pairs file → Marks file.count starts (starts_of pairs)
+pub marks_are : (file : File) (starts taken : List Bool) → IsPast file → Marks file.count starts (set_starts file)
     → Marks file.count taken (flat_map (row_of file starts) (range_with_len 0 file.count)) → Marks file.count taken (flat_map (chain file) (set_starts file))
-marks_are file starts taken pairs past are marks rows = record {
+marks_are file starts taken past marks rows = record {
   all = rows.all;
   at = λ p there. rows.at p there ∙ among_iff (flat_map (row_of file starts) (range_with_len 0 file.count)) (flat_map (chain file) (set_starts file)) p (to p) (back p);
 }
@@ -230,12 +233,11 @@ marks_are file starts taken pairs past are marks rows = record {
         let from : (f : ℕ) × Contains (range_with_len 0 file.count) f × Contains (row_of file starts f) p = of_flat_map (row_of file starts) (range_with_len 0 file.count) p inside in
         let row : (slice_index_or starts from.0 false ≡ true) × Contains (chain file from.0) p = row_cases file starts from.0 p from.2 in
         let low : from.0 < file.count = omega (arith, (of_range 0 file.count from.0 from.1).1) in
-        in_flat_map (chain file) (set_starts file) from.0 p (marked_begins file starts pairs from.0 are marks low row.0) row.1
+        in_flat_map (chain file) (set_starts file) from.0 p (marked_begins file starts from.0 marks low row.0) row.1
 
     back : (p : ℕ) → Contains (flat_map (chain file) (set_starts file)) p → Contains (flat_map (row_of file starts) (range_with_len 0 file.count)) p
     back p inside =
         let from : (f : ℕ) × Contains (set_starts file) f × Contains (chain file f) p = of_flat_map (chain file) (set_starts file) p inside in
         let low : from.0 < file.count = chain_first file from.0 (start_begins file from.0 from.1) past in
-        let among_starts : Contains (starts_of pairs) from.0 = subst (λ xs. Contains xs from.0) (sym (ap starts_of are ∙ starts_are file)) from.1 in
-        let is : slice_index_or starts from.0 false ≡ true = marks.at from.0 low ∙ passes_here (λ q. q == from.0) (starts_of pairs) from.0 among_starts (eq-eqb from.0 from.0 refl) in
+        let is : slice_index_or starts from.0 false ≡ true = marks.at from.0 low ∙ passes_here (λ q. q == from.0) (set_starts file) from.0 from.1 (eq-eqb from.0 from.0 refl) in
         in_flat_map (row_of file starts) (range_with_len 0 file.count) from.0 p (in_range 0 file.count from.0 (omega arith) (omega (arith, low))) (row_true file starts from.0 p is from.2)

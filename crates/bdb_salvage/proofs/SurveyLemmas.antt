@@ -8,7 +8,10 @@ use Rattle.bdb_format.specs.File.{File, header_in, page_at}
 use Rattle.bdb_format.specs.Page.{Page, Zero, Free, Meta, Hash, Internal, RecnoInternal, Leaf, RecnoLeaf, DupLeaf, Overflow, Queue, NoType}
 use Rattle.bdb_salvage.specs.declared.survey.Row.{Row}
 use Rattle.bdb_salvage.specs.declared.survey.Row.TheVariants.{Nothing}
-use Rattle.bdb_salvage.specs.Kept.{chain_row, is_chain_of, is_leaf_row, leaf_row, row_at, row_by}
+use Rattle.bdb_salvage.specs.Kept.{chain_row, is_chain_of, is_leaf_row, leaf_row, row_at, row_by, way_row}
+use Rattle.bdb_salvage.specs.declared.down.Way.{Way}
+use Rattle.bdb_salvage.specs.declared.down.Way.TheVariants.{Ends, Child, Broken}
+use Rattle.bdb_salvage.specs.Ways.{way_from}
 use Rattle.bdb_salvage.specs.Links.{link_in, link_of, row_length}
 use Rattle.bdb_stored.specs.Salvage.{is_like, is_overflow, is_record_leaf, is_row, is_sorted_leaf, is_whole}
 use Rattle.bdb_salvage.proofs.WalkLemmas.{rest_none, whole_is_rest}
@@ -43,13 +46,18 @@ by_length file head total (Some n) some = whole_by file head total n some
 no_chain : (file : File) (head total : ℕ) (page : Page) → page_at file head ≡ page → is_overflow page ≡ false → is_whole file head total ≡ false
 no_chain file head total page is other = not_whole file head total (no_row_here file is_overflow head (ap is_overflow is ∙ other))
 
+never_way : (way : Way) (total : ℕ) → false ≡ is_chain_of (way_row way) total
+never_way Ends total = refl
+never_way (Child child) total = refl
+never_way Broken total = refl
+
 by_page : (file : File) (head total : ℕ) (page : Page) → page_at file head ≡ page → is_whole file head total ≡ is_chain_of (row_by file head page) total
 by_page file head total Zero is = no_chain file head total Zero is refl
 by_page file head total (Free header) is = no_chain file head total (Free header) is refl
 by_page file head total (Meta fields) is = no_chain file head total (Meta fields) is refl
 by_page file head total (Hash page) is = no_chain file head total (Hash page) is refl
-by_page file head total (Internal page) is = no_chain file head total (Internal page) is refl
-by_page file head total (RecnoInternal page) is = no_chain file head total (RecnoInternal page) is refl
+by_page file head total (Internal page) is = no_chain file head total (Internal page) is refl ∙ never_way (way_from file head) total
+by_page file head total (RecnoInternal page) is = no_chain file head total (RecnoInternal page) is refl ∙ never_way (way_from file head) total
 by_page file head total (Leaf page) is = no_chain file head total (Leaf page) is refl
 by_page file head total (RecnoLeaf page) is = no_chain file head total (RecnoLeaf page) is refl ∙ never (row_length file is_record_leaf head)
   where
@@ -81,13 +89,18 @@ never_chain : (found : Option ℕ) → false ≡ is_leaf_row (chain_row found)
 never_chain None = refl
 never_chain (Some n) = refl
 
+never_leaves : (way : Way) → false ≡ is_leaf_row (way_row way)
+never_leaves Ends = refl
+never_leaves (Child child) = refl
+never_leaves Broken = refl
+
 leaves_page : (file : File) (leaf : ℕ) (page : Page) → is_row file (is_like page) leaf ≡ is_leaf_row (row_by file leaf page)
 leaves_page file leaf Zero = no_leaf file leaf
 leaves_page file leaf (Free header) = no_leaf file leaf
 leaves_page file leaf (Meta fields) = no_leaf file leaf
 leaves_page file leaf (Hash page) = no_leaf file leaf
-leaves_page file leaf (Internal page) = no_leaf file leaf
-leaves_page file leaf (RecnoInternal page) = no_leaf file leaf
+leaves_page file leaf (Internal page) = no_leaf file leaf ∙ never_leaves (way_from file leaf)
+leaves_page file leaf (RecnoInternal page) = no_leaf file leaf ∙ never_leaves (way_from file leaf)
 leaves_page file leaf (Leaf page) = no_leaf file leaf
 leaves_page file leaf (RecnoLeaf page) = leaves_by file is_record_leaf leaf (row_length file is_record_leaf leaf) refl
 leaves_page file leaf (DupLeaf page) = leaves_by file is_sorted_leaf leaf (row_length file is_sorted_leaf leaf) refl

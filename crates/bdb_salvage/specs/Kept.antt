@@ -1,21 +1,24 @@
 -- What is kept of an image: the places of pairs and of values that are whole, and what stands there. Source: docs/FORMAT.md, "Salvage".
 use Rattle.std.specs.Prelude.{◌≡◌, ◌<◌, ◌≤◌, ◌^◌, ◌++◌, ℕ, ◌+◌, ◌*◌, ◌/◌, ◌==◌, not, if◌then◌else◌, Bool, true, false, List, [], ◌∷◌, map, length, get_or, Option, Some, None}
-use Rattle.std.specs.List.{flat_map, range_with_len}
+use Rattle.std.specs.List.{Contains, flat_map, list_any, range_with_len}
 use Rattle.bdb_format.specs.HeadOf.{is_page_size}
 use Rattle.bdb_format.specs.Chains.{chain, value_of}
 use Rattle.bdb_format.specs.Contents.{entries_in}
 use Rattle.bdb_format.specs.File.{File, page_at}
-use Rattle.bdb_format.specs.Page.{Content, Inline, Set, Chain, Tree, Unknown, Item, Page, Hash, Leaf, RecnoLeaf, DupLeaf, Overflow}
+use Rattle.bdb_format.specs.Page.{Content, Inline, Set, Chain, Tree, Unknown, Item, Page, Hash, Internal, RecnoInternal, Leaf, RecnoLeaf, DupLeaf, Overflow}
 use Rattle.bdb_format.specs.References.{no_item}
 use Rattle.bdb_salvage.specs.declared.guess.Guess.{Guess}
 use Rattle.bdb_salvage.specs.declared.kept.DataPlace.{DataPlace}
 use Rattle.bdb_salvage.specs.declared.kept.DataPlace.TheVariants.{Here, Set as OnLeaves}
 use Rattle.bdb_salvage.specs.declared.kept.KeptPair.{KeptPair}
 use Rattle.bdb_salvage.specs.declared.kept.KeptValue.{KeptValue}
+use Rattle.bdb_salvage.specs.declared.down.Way.{Way}
+use Rattle.bdb_salvage.specs.declared.down.Way.TheVariants.{Ends, Child, Broken}
 use Rattle.bdb_salvage.specs.declared.survey.Row.{Row}
-use Rattle.bdb_salvage.specs.declared.survey.Row.TheVariants.{Nothing, Chain as ChainRow, Leaves}
+use Rattle.bdb_salvage.specs.declared.survey.Row.TheVariants.{Nothing, Chain as ChainRow, Leaves, Way as WayRow}
 use Rattle.bdb_salvage.specs.Links.{row_length}
-use Rattle.bdb_stored.specs.Salvage.{is_overflow, is_record_leaf, is_sorted_leaf, is_taken, is_whole, live_whole, paired_items, salvaged_file, set_start}
+use Rattle.bdb_salvage.specs.Ways.{way_from}
+use Rattle.bdb_stored.specs.Salvage.{is_overflow, is_record_leaf, is_sorted_leaf, is_taken, is_whole, live_whole, paired_items, salvaged_file, set_start, set_starts}
 
 -- An image and how it's read.
 pub record Reading : Type 0 where
@@ -25,11 +28,6 @@ pub record Reading : Type 0 where
 -- its file
 abbrev pub file_in : Reading → File
 file_in reading = salvaged_file reading.guess.order reading.guess.page_size reading.image
-
--- the value that there is, as a list
-abbrev pub listed_option : {T : Type 0} → Option T → List T
-listed_option None = []
-listed_option (Some x) = x ∷ []
 
 -- What begins at a page.
 
@@ -41,13 +39,20 @@ abbrev pub leaf_row : Option ℕ → Row
 leaf_row None = Nothing
 leaf_row (Some n) = Leaves
 
+abbrev pub way_row : Way → Row
+way_row Ends = Nothing
+way_row (Child child) = WayRow child
+way_row Broken = Nothing
+
 abbrev pub row_by : File → ℕ → Page → Row
+row_by file p (Internal page) = way_row (way_from file p)
+row_by file p (RecnoInternal page) = way_row (way_from file p)
 row_by file p (Overflow header piece) = chain_row (row_length file is_overflow p)
 row_by file p (RecnoLeaf page) = leaf_row (row_length file is_record_leaf p)
 row_by file p (DupLeaf page) = leaf_row (row_length file is_sorted_leaf p)
 row_by file p page = Nothing
 
--- the whole row that begins at a page, if one does
+-- the whole row that begins at a page, if one does, or the way down that goes on from there
 abbrev pub row_at : File → ℕ → Row
 row_at file p = row_by file p (page_at file p)
 
@@ -55,11 +60,13 @@ abbrev pub is_chain_of : Row → ℕ → Bool
 is_chain_of Nothing total = false
 is_chain_of (ChainRow n) total = n == total
 is_chain_of Leaves total = false
+is_chain_of (WayRow child) total = false
 
 abbrev pub is_leaf_row : Row → Bool
 is_leaf_row Nothing = false
 is_leaf_row (ChainRow n) = false
 is_leaf_row Leaves = true
+is_leaf_row (WayRow child) = false
 
 -- Items.
 
@@ -115,20 +122,37 @@ unfoldable pub kept_pairs : File → List KeptPair
 kept_pairs file = flat_map (kept_on file) (range_with_len 0 file.count)
 
 -- the place of a live entry with a whole value
-abbrev pub kept_value : File → ℕ → Bool → List Item → ℕ → List KeptValue
-kept_value file p is_loose items i =
+abbrev pub kept_value : File → ℕ → List Item → ℕ → List KeptValue
+kept_value file p items i =
     if (slot_at items i).deleted then []
-    else (if is_valued file (slot_at items i).content then record { page = p; index = i; loose = is_loose } ∷ [] else [])
+    else (if is_valued file (slot_at items i).content then record { page = p; index = i } ∷ [] else [])
 
-abbrev pub values_in : File → ℕ → Bool → List Item → List KeptValue
-values_in file p is_loose items = flat_map (kept_value file p is_loose items) (range_with_len 0 (length items))
+abbrev pub values_in : File → ℕ → List Item → List KeptValue
+values_in file p items = flat_map (kept_value file p items) (range_with_len 0 (length items))
 
+-- the places of the live entries of a leaf with a whole value
 unfoldable pub values_on : File → ℕ → List KeptValue
-values_on file p = values_in file p (not (is_taken file p)) (entries_in (page_at file p))
+values_on file p = values_in file p (entries_in (page_at file p))
 
--- the places of the live entries with a whole value
-unfoldable pub kept_values : File → List KeptValue
-kept_values file = flat_map (values_on file) (range_with_len 0 file.count)
+abbrev pub untaken_on : File → ℕ → List KeptValue
+untaken_on file p = if is_taken file p then [] else values_on file p
+
+-- those of the leaves that belong to no whole set of a pair with a whole key
+unfoldable pub loose_values : File → List KeptValue
+loose_values file = flat_map (untaken_on file) (range_with_len 0 file.count)
+
+-- those of the set that begins at a page, if one does
+abbrev pub set_from : File → ℕ → List KeptValue
+set_from file p = if list_any (λ leaf. leaf == p) (set_starts file) then flat_map (values_on file) (chain file p) else []
+
+-- those of the sets that begin below a page
+abbrev pub sets_below : File → ℕ → List KeptValue
+sets_below file p = flat_map (set_from file) (range_with_len 0 p)
+
+-- those of all sets, and how many of them are below each page, and below the end
+pub record IsSetTable (file : File) (bounds : List ℕ) (values : List KeptValue) : Type 0 where
+  pub bounds_are : bounds ≡ map (λ p. length (sets_below file p)) (range_with_len 0 (file.count + 1))
+  pub values_are : values ≡ sets_below file file.count
 
 -- What stands at a place.
 
@@ -161,19 +185,12 @@ given file kept =
 abbrev pub given_live : File → KeptPair → List (List ℕ × List ℕ)
 given_live file kept = if kept.live then given file kept else []
 
-abbrev pub given_loose : File → KeptValue → List (List ℕ)
-given_loose file kept = if kept.loose then value_at file kept ∷ [] else []
-
 -- What is left of a walk.
 
 -- the pairs that are left of an entry, if there is one
 abbrev pub left_of : Option (List (List ℕ × List ℕ)) → List (List ℕ × List ℕ)
 left_of None = []
 left_of (Some pairs) = pairs
-
--- the values at some places, and then those of leaves
-abbrev pub values_left : File → List KeptValue → List ℕ → List (List ℕ)
-values_left file here leaves = map (value_at file) here ++ flat_map (live_whole file) leaves
 
 -- the pairs of an entry, and then those of kept places
 abbrev pub pairs_left : File → Option (List (List ℕ × List ℕ)) → List KeptPair → List (List ℕ × List ℕ)
@@ -194,15 +211,17 @@ is_held file (Chain head total) = is_whole file head total
 is_held file (Tree root) = true
 is_held file Unknown = false
 
--- there's a pair at the place, whose key is whole, and whose data are where they're in the data item
+-- there's a pair at the place, whose key is whole, and whose data are where they're said to be
 pub record IsKeptPair (file : File) (kept : KeptPair) : Type 0 where
   pub there : 2 * kept.index + 1 < length (slots_in (page_at file kept.page))
   pub valued : is_valued file (item_of file kept.page (2 * kept.index)).content ≡ true
   pub held : kept.place ≡ Here → is_held file (item_of file kept.page (2 * kept.index + 1)).content ≡ true
+  pub starts : (leaf : ℕ) → kept.place ≡ OnLeaves leaf → Contains (set_starts file) leaf
 
 -- what is kept of an image
-pub record IsSalvaged (guess : Guess) (image : List ℕ) (pairs : List KeptPair) (values : List KeptValue) : Type 0 where
+pub record IsSalvaged (guess : Guess) (image : List ℕ) (pairs : List KeptPair) (values : List KeptValue) (bounds : List ℕ) (sets : List KeptValue) : Type 0 where
   pub legal : is_page_size guess.page_size ≡ true
   pub small : length image ≤ 2 ^ 30
   pub pairs_are : pairs ≡ kept_pairs (salvaged_file guess.order guess.page_size image)
-  pub values_are : values ≡ kept_values (salvaged_file guess.order guess.page_size image)
+  pub values_are : values ≡ loose_values (salvaged_file guess.order guess.page_size image)
+  pub sets_are : IsSetTable (salvaged_file guess.order guess.page_size image) bounds sets

@@ -6,5 +6,4 @@ pub mod Links
 pub mod Marks
 pub mod Reads
 pub mod Slots
-pub mod Split
 pub mod Ways

@@ -5,17 +5,16 @@ ghost use Rattle.bdb_form.specs.Seen.{page_seen};
 ghost use Rattle.std.specs.List.{list_any};
 ghost use Rattle.bdb_format.specs.File.{header_in, page_at};
 ghost use Rattle.bdb_format.specs.References.{has_type};
-ghost use Rattle.bdb_salvage.specs.Kept.{listed_option};
 ghost use Rattle.bdb_stored.specs.Salvage.{down, fits_below, set_start};
 ghost use Rattle.bdb_salvage.specs.Ways.{fits_as, plain_type, way_from};
 ghost use Rattle.bdb_salvage.specs.declared.down.Way.TheVariants.{Broken, Child};
 
-use crate::survey::Survey;
 use crate::whole_pages::WholePages;
 use bdb_form::PageView;
 
 /// Where the way down goes on from a page.
-enum Way {
+#[derive(Clone, Copy, Debug)]
+pub(crate) enum Way {
     /// The page is no internal page.
     Ends,
     /// Its first child fits.
@@ -122,19 +121,20 @@ fn way_to(fits: bool, child: u32) -> Way
     if fits { Way::Child(child) } else { Way::Broken }
 }
 
-/// Where the way down goes on from a page.
-fn way_from(pages: &WholePages<'_>, number: u32) -> Way
+/// Where the way down goes on from a page with this number.
+pub(crate) fn way_from(pages: &WholePages<'_>, number: u32, page: &PageView<'_>) -> Way
+    requires { page_seen page.now ≡ page_at pages.now number }
     ensures { result ≡ way_from pages.now number }
 {
-    match pages.page(number) {
-        Some(PageView::Internal(view)) => {
+    match page {
+        PageView::Internal(view) => {
             if view.entries() == 0 {
                 return Way::Broken;
             }
             let child = view.item(0).child;
             way_to(fits_keyed(pages, view.header().level, child), child)
         }
-        Some(PageView::RecnoInternal(view)) => {
+        PageView::RecnoInternal(view) => {
             if view.entries() == 0 {
                 return Way::Broken;
             }
@@ -142,41 +142,5 @@ fn way_from(pages: &WholePages<'_>, number: u32) -> Way
             way_to(fits_records(pages, view.header().level, child), child)
         }
         _ => Way::Ends,
-    }
-}
-
-/// The end of the way down from a root by first children that fit. A level is a byte, and falls by one.
-#[tactic(auto, using(crate::proofs::WayLemmas::at_root, crate::proofs::WayLemmas::at_zero, crate::proofs::WayLemmas::at_end, crate::proofs::WayLemmas::at_ends, crate::proofs::WayLemmas::at_broken, crate::proofs::WayLemmas::at_child))]
-fn down(pages: &WholePages<'_>, root: u32) -> Option<u32>
-    ensures { result ≡ down pages.now root }
-{
-    if root == 0 {
-        return None;
-    }
-    let mut page = root;
-    for _level in 0..255u8 {
-        match way_from(pages, page) {
-            Way::Ends => return Some(page),
-            Way::Child(child) => page = child,
-            Way::Broken => return None,
-        }
-    }
-    None
-}
-
-/// The first leaf of the set with this root, where the set is whole.
-#[tactic(auto, unfolding(bdb_stored::specs::Salvage::set_start))]
-pub(crate) fn set_start(survey: &Survey<'_>, root: u32) -> Option<u32>
-    ensures { listed_option result ≡ set_start survey.now root }
-{
-    match down(survey.pages(), root) {
-        Some(leaf) => {
-            if survey.begins_set(leaf) {
-                Some(leaf)
-            } else {
-                None
-            }
-        }
-        None => None,
     }
 }

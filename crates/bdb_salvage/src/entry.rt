@@ -7,7 +7,7 @@ ghost use Rattle.bdb_salvage.specs.Kept.{IsKeptPair, data_at, data_here, file_in
 
 use crate::Salvaged;
 use crate::kept::{DataPlace, KeptPair};
-use crate::set_values::SetValues;
+use crate::values::SalvageValues;
 use crate::whole_pages::WholePages;
 use bdb_layout::{Content, DupBlocks};
 use bdb_overflow::Datum;
@@ -19,7 +19,7 @@ enum PairData<'s, 'a> {
     None,
     One(Datum<'a>),
     Blocks(DupBlocks<'a>),
-    Set(SetValues<'s, 'a>),
+    Set(SalvageValues<'s, 'a>),
 }
 
 /// The data of a pair that are left, each with the pair's key.
@@ -65,7 +65,7 @@ fn pair_data<'s, 'a>(salvaged: &'s Salvaged<'a>, pair: KeptPair) -> PairData<'s,
             let content = pages.content(pair.page, 2 * u32::from(pair.index) + 1);
             data_here(&pages, content)
         }
-        DataPlace::Set { leaf } => PairData::Set(SetValues::over(salvaged, leaf)),
+        DataPlace::Set { leaf } => PairData::Set(salvaged.set(leaf)),
     }
 }
 

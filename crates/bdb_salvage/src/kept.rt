@@ -23,6 +23,4 @@ pub(crate) struct KeptPair {
 pub(crate) struct KeptValue {
     pub(crate) page: u32,
     pub(crate) index: u16,
-    /// The leaf belongs to no whole set of a pair whose key is whole.
-    pub(crate) loose: bool,
 }

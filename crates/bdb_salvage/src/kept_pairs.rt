@@ -1,9 +1,9 @@
 ghost use Rattle.std.specs.Prelude.{◌≡◌, ◌++◌, ◌+◌, ◌*◌, ◌^◌, ◌<◌, IfOk, OnOk, length};
 ghost use Rattle.bdb_layout.specs.Seen.{content_seen};
-ghost use Rattle.bdb_salvage.specs.Kept.{data_places, kept_in, kept_on, kept_pair, kept_pairs, listed_option};
+ghost use Rattle.std.specs.Option.{option_to_list};
+ghost use Rattle.bdb_salvage.specs.Kept.{data_places, kept_in, kept_on, kept_pair, kept_pairs};
 ghost use Rattle.bdb_salvage.specs.Slots.{slots_seen};
 
-use crate::down::set_start;
 use crate::kept::{DataPlace, KeptPair};
 use crate::slots::{Slots, paired_slots};
 use crate::survey::Survey;
@@ -12,7 +12,7 @@ use std::alloc::{AllocError, Global};
 
 /// Where the data of a data item are, if they are whole.
 fn data_place(survey: &Survey<'_>, content: &Content<'_>) -> Option<DataPlace>
-    ensures { listed_option result ≡ data_places survey.now (content_seen content.now) }
+    ensures { option_to_list result ≡ data_places survey.now (content_seen content.now) }
 {
     match content {
         Content::Inline(_) | Content::Set(_) => Some(DataPlace::Here),
@@ -23,7 +23,7 @@ fn data_place(survey: &Survey<'_>, content: &Content<'_>) -> Option<DataPlace>
                 None
             }
         }
-        Content::OffPage { root } => match set_start(survey, *root) {
+        Content::OffPage { root } => match survey.set_start(*root) {
             Some(leaf) => Some(DataPlace::Set { leaf }),
             None => None,
         },
@@ -34,7 +34,7 @@ fn data_place(survey: &Survey<'_>, content: &Content<'_>) -> Option<DataPlace>
 fn kept_pair(survey: &Survey<'_>, slots: &Slots<'_>, page: u32, index: u16) -> Option<KeptPair>
     requires there { 2 * index + 1 < length (slots_seen slots.now) }
     requires small { 2 * index + 1 < 2 ^ 16 }
-    ensures { listed_option result ≡ kept_pair survey.now page (slots_seen slots.now) index }
+    ensures { option_to_list result ≡ kept_pair survey.now page (slots_seen slots.now) index }
 {
     if !survey.is_valued(&slots.content(2 * index)) {
         return None;
@@ -50,7 +50,7 @@ fn kept_pair(survey: &Survey<'_>, slots: &Slots<'_>, page: u32, index: u16) -> O
 
 /// Adds a pair, if there is one.
 fn push_pair(kept: &mut Vec<KeptPair>, pair: Option<KeptPair>) -> Result<(), AllocError>
-    ensures { OnOk result (kept.new.items ≡ kept.old.items ++ listed_option pair) }
+    ensures { OnOk result (kept.new.items ≡ kept.old.items ++ option_to_list pair) }
 {
     match pair {
         Some(pair) => kept.push(pair)?,

@@ -1,35 +1,38 @@
-ghost use Rattle.std.specs.Prelude.{◌≡◌, ◌≢◌, ◌^◌, ◌≤◌, ◌++◌, IfOk, IfSome, IsTrue, Err, List, None, Some, drop, length, take, ◌-◌};
-ghost use Rattle.bdb_salvage.specs.Split.{AreBelow, AreFrom};
-ghost use Rattle.bdb_salvage.specs.declared.kept.KeptValue.{KeptValue};
+ghost use Rattle.std.specs.Prelude.{◌≡◌, ◌≢◌, ◌^◌, ◌≤◌, ◌-◌, IfOk, IfSome, IsTrue, Err, None, Some, drop, length, take};
+ghost use Rattle.std.specs.List.{Contains, flat_map};
+ghost use Rattle.bdb_format.specs.Chains.{chain};
 ghost use Rattle.bdb_format.specs.HeadOf.{is_page_size};
 ghost use Rattle.bdb_salvage.specs.Guesses.{chosen};
-ghost use Rattle.bdb_salvage.specs.Kept.{IsKeptValue, file_in, kept_pairs, kept_values, value_at, values_on};
+ghost use Rattle.bdb_salvage.specs.Kept.{IsKeptValue, file_in, kept_pairs, value_at, values_on};
 ghost use Rattle.bdb_overflow.specs.Datum.{datum_seen};
-ghost use Rattle.bdb_stored.specs.Salvage.{loose, stored};
+ghost use Rattle.bdb_stored.specs.Salvage.{live_whole, loose, set_starts, stored};
 ghost use Rattle.bdb_salvage.specs.declared.error.SalvageError.TheVariants.{Memory, NoMeta};
 
 use crate::guess::chosen;
 use crate::kept::{KeptPair, KeptValue};
 use crate::kept_pairs::kept_pairs;
-use crate::kept_values::kept_values;
-use crate::starts::taken_pages;
+use crate::kept_values::loose_values;
+use crate::sets::{SetTable, set_table};
+use crate::starts::{first_leaves, taken_pages};
 use crate::survey::Survey;
 use crate::whole_pages::WholePages;
-use crate::{Guess, LooseItems, SalvageError, SalvagePairs};
+use crate::{Guess, SalvageError, SalvagePairs, SalvageValues};
 use bdb_format::Steps;
 use bdb_overflow::Datum;
 use std::alloc::{AllocError, Global};
 use std::marker::Model;
 use std::sync::ledger::Ledger;
 
-/// What can be had from an image: places of the pairs and of the values that are whole, at most one for each
-/// slot, of at most 16 bytes. The bytes are read where they lie.
+/// What can be had from an image: places of the pairs, of the loose records and of the data of sets that are
+/// whole, at most one for each slot, of at most 16 bytes, and 8 bytes for each page. The bytes are read where they
+/// lie.
 #[derive(Drop)]
 pub struct Salvaged<'a> {
     image: &'a [u8],
     guess: Guess,
     pairs: Vec<KeptPair>,
     values: Vec<KeptValue>,
+    sets: SetTable,
 }
 
 impl<'a> Model for Salvaged<'a> {
@@ -39,14 +42,13 @@ impl<'a> Model for Salvaged<'a> {
 
     ghost view = { λ v. record { guess = v.guess; image = v.image.now } };
 
-    ghost invariant = { λ v. IsSalvaged v.guess v.image.now v.pairs.items v.values.items };
+    ghost invariant = { λ v. IsSalvaged v.guess v.image.now v.pairs.items v.values.items v.sets.bounds.items v.sets.values.items };
 }
 
 /// Finds what an image still has, by the given guess or the one that page 0 tells. Where there is neither, no memory is asked for.
 ///
-/// While it runs it keeps 16 bytes for each page, the verdict on the row that begins there, so that a chain or
-/// a set is followed once, however many items name it: the rows take at most three looks at each page
-/// together, and the way down to a set at most 255 for each pair that names one.
+/// While it runs it keeps 18 bytes for each page, above all the verdict on the row that begins there, so that a chain
+/// or a set is followed once, however many items name it.
 #[tactic(auto, using(crate::proofs::GuessLemmas::chosen_legal))]
 pub fn salvage<'a, L: Ledger>(
     alloc: Global,
@@ -80,23 +82,17 @@ fn salvage_as<'a, L: Ledger>(
 {
     let survey = Survey::of(alloc, WholePages::over(image, guess), steps)?;
     let pairs = kept_pairs(alloc, &survey)?;
-    let taken = taken_pages(alloc, survey.pages(), &pairs)?;
-    let values = kept_values(alloc, &survey, &taken)?;
+    let starts = first_leaves(alloc, survey.pages(), &pairs)?;
+    let taken = taken_pages(alloc, survey.pages(), &starts)?;
+    let values = loose_values(alloc, &survey, &taken)?;
+    let sets = set_table(alloc, &survey, &starts)?;
     Ok(Salvaged {
         image,
         guess,
         pairs,
         values,
+        sets,
     })
-}
-
-/// How many of some values, in the order of their pages, are on pages below a number.
-fn below(values: &[KeptValue], page: u64) -> usize
-    ensures bound { result ≤ length values.now }
-    ensures below { (before after : List KeptValue) → values.now ≡ before ++ after → AreBelow page before → AreFrom page after
-        → result ≡ length before }
-{
-    values.partition_point(|value| u64::from(value.page) < page)
 }
 
 /// The values between two places.
@@ -125,11 +121,11 @@ impl<'a> Salvaged<'a> {
     }
 
     /// The loose records, in the order of page and slot.
-    #[tactic(auto, using(crate::proofs::LooseLemmas::loose_is))]
-    pub fn loose<'s>(&'s self) -> LooseItems<'s, 'a>
+    #[tactic(auto, using(crate::proofs::LooseLemmas::loose_is, crate::proofs::KeptLemmas::all_loose))]
+    pub fn loose<'s>(&'s self) -> SalvageValues<'s, 'a>
         ensures { result ≡ loose (file_in self.now) }
     {
-        LooseItems::over(self)
+        SalvageValues::over(self, &self.values)
     }
 
     /// The pages of the image.
@@ -146,13 +142,6 @@ impl<'a> Salvaged<'a> {
         &self.pairs
     }
 
-    /// The places of the values.
-    pub(crate) fn kept_values(&self) -> &[KeptValue]
-        ensures { result.now ≡ kept_values (file_in self.now) }
-    {
-        &self.values
-    }
-
     /// The value at a place.
     pub(crate) fn value(&self, place: KeptValue) -> Datum<'a>
         requires { IsKeptValue (file_in self.now) place }
@@ -161,13 +150,22 @@ impl<'a> Salvaged<'a> {
         self.pages().value(place.page, u32::from(place.index))
     }
 
-    /// The places of the values of a leaf.
-    pub(crate) fn values_on(&self, page: u32) -> &[KeptValue]
-        ensures { result.now ≡ values_on (file_in self.now) page }
+    /// The places of the values of the set that begins at a page.
+    fn places_in(&self, leaf: u32) -> &[KeptValue]
+        requires { Contains (set_starts (file_in self.now)) leaf }
+        ensures { result.now ≡ flat_map (values_on (file_in self.now)) (chain (file_in self.now) leaf) }
     {
-        let values = self.kept_values();
-        let start = below(values, u64::from(page));
-        let end = below(values, u64::from(page) + 1);
-        between(values, start, end)
+        let table = &self.sets;
+        let at = leaf as usize;
+        between(&table.values, table.bounds[at], table.bounds[at + 1])
+    }
+
+    /// The values of the set that begins at a page.
+    #[tactic(auto, using(crate::proofs::KeptLemmas::all_in_set, crate::proofs::LooseLemmas::set_values))]
+    pub(crate) fn set<'s>(&'s self, leaf: u32) -> SalvageValues<'s, 'a>
+        requires { Contains (set_starts (file_in self.now)) leaf }
+        ensures { result ≡ flat_map (live_whole (file_in self.now)) (chain (file_in self.now) leaf) }
+    {
+        SalvageValues::over(self, self.places_in(leaf))
     }
 }

@@ -74,19 +74,31 @@ fn mark_started(taken: &mut [bool], pages: &WholePages<'_>, page: u32, starts: b
     }
 }
 
-/// Which pages are leaves of whole sets of pairs.
-pub(crate) fn taken_pages(
+/// Which pages are first leaves of whole sets of pairs.
+pub(crate) fn first_leaves(
     alloc: Global,
     pages: &WholePages<'_>,
     pairs: &[KeptPair],
 ) -> Result<Vec<bool>, AllocError>
     requires { pairs.now ≡ kept_pairs pages.now }
-    ensures { IfOk result (λ taken. Marks pages.now.count taken.items (flat_map (chain pages.now) (set_starts pages.now))) }
+    ensures { IfOk result (λ starts. Marks pages.now.count starts.items (set_starts pages.now)) }
 {
     let starts = set_starts(alloc, pages.count(), pairs)?;
+    Ok(starts)
+}
+
+/// Which pages are leaves of whole sets of pairs.
+pub(crate) fn taken_pages(
+    alloc: Global,
+    pages: &WholePages<'_>,
+    starts: &[bool],
+) -> Result<Vec<bool>, AllocError>
+    requires { Marks pages.now.count starts.now (set_starts pages.now) }
+    ensures { IfOk result (λ taken. Marks pages.now.count taken.items (flat_map (chain pages.now) (set_starts pages.now))) }
+{
     let mut taken = vec![in alloc; false; pages.count() as usize]?;
     for page in 0..pages.count() {
-        mark_started(&mut taken, pages, page, is_marked(&starts, page));
+        mark_started(&mut taken, pages, page, is_marked(starts, page));
     }
     Ok(taken)
 }

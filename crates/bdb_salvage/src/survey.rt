@@ -1,10 +1,13 @@
 ghost use Rattle.std.specs.Prelude.{◌≡◌, IfOk, map, IfSome};
 ghost use Rattle.std.specs.List.{range_with_len};
+ghost use Rattle.bdb_form.specs.Seen.{page_seen};
 ghost use Rattle.bdb_format.specs.File.{page_at};
 ghost use Rattle.bdb_layout.specs.Seen.{content_seen};
-ghost use Rattle.bdb_salvage.specs.Kept.{chain_row, is_chain_of, is_leaf_row, is_valued, leaf_row, row_at};
-ghost use Rattle.bdb_stored.specs.Salvage.{is_like, is_row, is_whole};
+ghost use Rattle.std.specs.Option.{option_to_list};
+ghost use Rattle.bdb_salvage.specs.Kept.{chain_row, is_chain_of, is_leaf_row, is_valued, leaf_row, row_at, row_by, way_row};
+ghost use Rattle.bdb_stored.specs.Salvage.{is_whole, set_start};
 
+use crate::down::{Way, way_from};
 use crate::links::{RowKind, row_length};
 use crate::whole_pages::WholePages;
 use bdb_form::PageView;
@@ -23,9 +26,11 @@ pub(crate) enum Row {
     Chain { length: u64 },
     /// A whole row of leaves of a set.
     Leaves,
+    /// No row, but the way down to a set goes on from here to this child, which fits.
+    Way { child: u32 },
 }
 
-/// The pages of an image, and what begins at each of them.
+/// The pages of an image, and what begins at each of them, 16 bytes each.
 #[derive(Drop)]
 pub(crate) struct Survey<'a> {
     pages: WholePages<'a>,
@@ -65,15 +70,44 @@ fn leaf_row(length: Option<u64>) -> Row
     }
 }
 
-/// What begins at a page.
-fn row_from<L: Ledger>(pages: &WholePages<'_>, page: u32, steps: &mut Steps<L>) -> Row
-    ensures { result ≡ row_at pages.now page }
+/// The way that goes on, if one does.
+fn way_row(way: Way) -> Row
+    ensures { result ≡ way_row way }
 {
-    match pages.page(page) {
-        Some(PageView::Overflow(_)) => chain_row(row_length(pages, RowKind::Overflow, page, steps)),
-        Some(PageView::RecnoLeaf(_)) => leaf_row(row_length(pages, RowKind::Records, page, steps)),
-        Some(PageView::DupLeaf(_)) => leaf_row(row_length(pages, RowKind::SortedData, page, steps)),
+    match way {
+        Way::Child(child) => Row::Way { child },
+        Way::Ends | Way::Broken => Row::Nothing,
+    }
+}
+
+/// What begins at a page with this number.
+fn row_of<L: Ledger>(
+    pages: &WholePages<'_>,
+    number: u32,
+    page: &PageView<'_>,
+    steps: &mut Steps<L>,
+) -> Row
+    requires { page_seen page.now ≡ page_at pages.now number }
+    ensures { result ≡ row_by pages.now number (page_seen page.now) }
+{
+    match page {
+        PageView::Overflow(_) => chain_row(row_length(pages, RowKind::Overflow, number, steps)),
+        PageView::RecnoLeaf(_) => leaf_row(row_length(pages, RowKind::Records, number, steps)),
+        PageView::DupLeaf(_) => leaf_row(row_length(pages, RowKind::SortedData, number, steps)),
+        PageView::Internal(_) | PageView::RecnoInternal(_) => way_row(way_from(
+            pages, number, page,
+        )),
         _ => Row::Nothing,
+    }
+}
+
+/// What begins at a page.
+fn row_from<L: Ledger>(pages: &WholePages<'_>, number: u32, steps: &mut Steps<L>) -> Row
+    ensures { result ≡ row_at pages.now number }
+{
+    match pages.page(number) {
+        Some(page) => row_of(pages, number, &page, steps),
+        None => Row::Nothing,
     }
 }
 
@@ -95,7 +129,8 @@ fn all_rows<L: Ledger>(
 
 impl<'a> Survey<'a> {
     /// The survey of an image's pages: rows that begin at different pages share none but one on which a walk
-    /// ends, so all walks together look at each page at most twice, and once more where a walk begins.
+    /// ends, so all walks together look at each page at most twice, and once more where a walk begins or where it's
+    /// the first child of an internal page.
     pub(crate) fn of<L: Ledger>(
         alloc: Global,
         pages: WholePages<'a>,
@@ -131,19 +166,28 @@ impl<'a> Survey<'a> {
     {
         match self.row(head) {
             Row::Chain { length } => length == u64::from(total),
-            Row::Nothing | Row::Leaves => false,
+            Row::Nothing | Row::Leaves | Row::Way { .. } => false,
         }
     }
 
-    /// Whether a whole row of leaves of a set begins at a page.
-    #[tactic(auto, using(crate::proofs::SurveyLemmas::leaves_whole))]
-    pub(crate) fn begins_set(&self, leaf: u32) -> bool
-        ensures { result ≡ is_row self.now (is_like (page_at self.now leaf)) leaf }
+    /// The first leaf of the set with this root, where the set is whole: the way down ends there, after at most
+    /// 255 looks at what is kept, and none at a page. A level is a byte, and falls by one.
+    #[tactic(auto, using(crate::proofs::WayLemmas::at_root, crate::proofs::DownLemmas::start_of_zero, crate::proofs::DownLemmas::start_at_leaves, crate::proofs::DownLemmas::start_at_none, crate::proofs::DownLemmas::at_way, crate::proofs::DownLemmas::start_at_end))]
+    pub(crate) fn set_start(&self, root: u32) -> Option<u32>
+        ensures { option_to_list result ≡ set_start self.now root }
     {
-        match self.row(leaf) {
-            Row::Leaves => true,
-            Row::Nothing | Row::Chain { .. } => false,
+        if root == 0 {
+            return None;
         }
+        let mut page = root;
+        for _level in 0..255u8 {
+            match self.row(page) {
+                Row::Leaves => return Some(page),
+                Row::Way { child } => page = child,
+                Row::Nothing | Row::Chain { .. } => return None,
+            }
+        }
+        None
     }
 
     /// Whether an item has a value by itself that is whole.

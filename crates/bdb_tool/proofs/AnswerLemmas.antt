@@ -1,17 +1,22 @@
 -- Answers over a sound file.
 use Rattle.std.proofs.Common.{◌≡◌, ℕ, ◌<◌, Bool, true, false, List, [], ◌∷◌, ◌++◌, length, inl, inr, sym, subst, ◌∙◌, ap, arith, ◌≤◌}
-use Rattle.std.specs.Prelude.{Option, Some, None, Ok, Err, Result, nat_lt, codes, string_bytes}
+use Rattle.std.specs.Prelude.{if◌then◌else◌, Option, Some, None, Ok, Err, Result, nat_lt, codes, string_bytes}
 use Rattle.std.specs.Io.KnownBytes.{Appends}
 use Rattle.std.proofs.lemmas.Option.{slice_get-get_or}
+use Rattle.bdb_format.specs.declared.kinds.Order.{Order}
 use Rattle.bdb_format.specs.declared.kinds.Verdict.{Verdict}
 use Rattle.bdb_format.specs.declared.kinds.Verdict.TheVariants.{Fault, Unsupported, Memory as MemoryVerdict}
 use Rattle.bdb_text_format.specs.LineEnd.{line}
-use Rattle.bdb_text_format.specs.Written.{database_text, dump_text}
-use Rattle.bdb_model.specs.Answers.{Answer, done, data_at, data_named, data_of_database, fault_line, found, judged_answer, not_found, sound_answer, told, unsupported_line, value_line, values_text, database_in, dumped, section_answer}
+use Rattle.bdb_text_format.specs.Written.{database_text, dump_text, is_btree}
+use Rattle.bdb_model.specs.Answers.{Answer, converted, done, data_at, data_named, data_of_database, fault_line, found, judged_answer, not_found, range_answer, ranged, sound_answer, told, unsupported_line, not_btree, pairs_text, value_line, values_text, database_in, dumped, section_answer}
 use Rattle.bdb_model.specs.Change.{Change}
-use Rattle.bdb_model.specs.Command.{Request, Verify, ListAll, Get, Dump}
+use Rattle.bdb_model.specs.Command.{Request, Verify, ListAll, Get, Dump, Range, Convert}
 use Rattle.bdb_format.specs.Databases.{Database, data_under, databases, place_of}
 use Rattle.bdb_format.specs.File.{File, file_of}
+use Rattle.bdb_format.specs.Flags.{kind_of}
+use Rattle.bdb_format.specs.Lists.{ListKey, list_of}
+use Rattle.bdb_model.specs.Flipped.{overlap_in}
+use Rattle.bdb_model.specs.Ranges.{in_range}
 use Rattle.bdb_format.specs.Verdict.{Faulty, Judgement, LeftOut, verdict_of}
 use Rattle.bdb_file.specs.Named.{database_at, no_database}
 use Rattle.bdb_file.specs.Whole.{IsVerdictOf}
@@ -73,11 +78,29 @@ dumped_own : (prints : Bool) (image : List ℕ) (name : Option (List ℕ)) → H
 dumped_own prints image None = low_own (dumped prints image None) (omega arith)
 dumped_own prints image (Some name) = section_own prints image (database_in (databases (file_of image)) (place_of (Some name) (databases (file_of image))))
 
+range_own_by : (prints : Bool) (pairs : List (ListKey × List ℕ)) (is : Bool) → HasOwnStatus (if is then done (pairs_text prints pairs) else not_btree)
+range_own_by prints pairs true = low_own (done (pairs_text prints pairs)) (omega arith)
+range_own_by prints pairs false = record { no_read_fault = λ is. omega arith; no_write_fault = λ is. omega arith; no_memory = λ is. omega arith }
+
+range_own : (prints : Bool) (file : File) (from to : List ℕ) (database : Option Database) → HasOwnStatus (range_answer prints file from to database)
+range_own prints file from to None = record { no_read_fault = λ is. omega arith; no_write_fault = λ is. omega arith; no_memory = λ is. omega arith }
+range_own prints file from to (Some database) =
+    range_own_by prints (in_range (list_of file database.fields) from to) (is_btree (kind_of database.fields))
+
+pub ranged_own : (prints : Bool) (file : File) (name : Option (List ℕ)) (from to : List ℕ) → HasOwnStatus (ranged prints file name from to)
+ranged_own prints file name from to = range_own prints file from to (database_in (databases file) (place_of name (databases file)))
+
+pub converted_own : (overlap : Option ℕ) (order : Order) (image : List ℕ) → HasOwnStatus (converted overlap order image)
+converted_own None order image = low_own (converted None order image) (omega arith)
+converted_own (Some page) order image = record { no_read_fault = λ is. omega arith; no_write_fault = λ is. omega arith; no_memory = λ is. omega arith }
+
 sound_own : (request : Request) (image : List ℕ) → HasOwnStatus (sound_answer request image)
 sound_own Verify image = low_own (sound_answer Verify image) (omega arith)
 sound_own ListAll image = low_own (sound_answer ListAll image) (omega arith)
 sound_own (Get name key prints) image = found_own prints (data_named (file_of image) name key)
 sound_own (Dump name prints) image = dumped_own prints image name
+sound_own (Range name from to prints) image = ranged_own prints (file_of image) name from to
+sound_own (Convert order) image = converted_own (overlap_in order image) order image
 
 judged_own : (verdict : Option Judgement) (request : Request) (image : List ℕ) → HasOwnStatus (judged_answer verdict request image)
 judged_own None request image = sound_own request image

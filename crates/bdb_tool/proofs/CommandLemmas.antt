@@ -5,7 +5,7 @@ use Rattle.std.specs.Str.{bytes_eq}
 use Rattle.std.proofs.lemmas.List.{drop_all}
 use Rattle.std.proofs.lemmas.Option.{slice_get_within}
 use Rattle.bdb_model.specs.Command.{Arguments, Given, arguments, limit_of, max_bytes, once, value_given}
-use Rattle.bdb_tool.specs.Commands.{Action, command_of, command_with, dump_row, get_row, list_row, load_row, plain_row, salvage_row, trial_action, trial_row, verify_row, within}
+use Rattle.bdb_tool.specs.Commands.{Action, command_of, command_with, convert_row, dump_row, get_row, list_row, load_row, plain_row, range_row, salvage_row, trial_action, trial_row, verify_row, within}
 use Rattle.bdb_tool.proofs.StepLemmas.{from_place, past_place}
 
 -- Operands.
@@ -34,6 +34,13 @@ get_without given (key ∷ []) other = absurd (other key refl)
 get_without given (key ∷ second ∷ operands) other =
     let many : (length (key ∷ second ∷ operands) == 1) ≡ false = ne_eqb _ _ (λ one. omega arith) in rw many refl
 
+-- so has `convert`
+pub convert_without : (given : List Given) (operands : List (List ℕ)) → ((order : List ℕ) → operands ≢ order ∷ []) → command_with convert_row (Some (given_with given operands)) ≡ None
+convert_without given [] other = refl
+convert_without given (order ∷ []) other = absurd (other order refl)
+convert_without given (order ∷ second ∷ operands) other =
+    let many : (length (order ∷ second ∷ operands) == 1) ≡ false = ne_eqb _ _ (λ one. omega arith) in rw many refl
+
 pub dump_with : (given : List Given) (words : List (List ℕ)) (place : ℕ) → place < length words → command_with dump_row (Some (given_with given (drop place words))) ≡ None
 dump_with given words place within =
     let some : (length (drop place words) == 0) ≡ false = ne_eqb _ _ (λ none. omega (arith, length-drop place words)) in rw some refl
@@ -55,6 +62,24 @@ three_words words place kind seed count first second third last =
     ∙ ap (λ (rest : List (List ℕ)). kind ∷ rest) (from_place words (place + 1) seed second
     ∙ ap (λ (rest : List (List ℕ)). seed ∷ rest) (ap (λ n. drop n words) two ∙ from_place words (place + 2) count third
     ∙ ap (λ (rest : List (List ℕ)). count ∷ rest) (ap (λ n. drop n words) three_on ∙ drop_all (place + 3) words last)))
+
+-- two words from a place on
+pub two_words : (words : List (List ℕ)) (place : ℕ) (from to : List ℕ) → Some from ≡ slice_get words place → Some to ≡ slice_get words (place + 1) → length words ≤ place + 2
+    → drop place words ≡ from ∷ to ∷ []
+two_words words place from to first second last =
+    let two : place + 1 + 1 ≡ place + 2 = omega arith in
+    from_place words place from first
+    ∙ ap (λ (rest : List (List ℕ)). from ∷ rest) (from_place words (place + 1) to second
+    ∙ ap (λ (rest : List (List ℕ)). to ∷ rest) (ap (λ n. drop n words) two ∙ drop_all (place + 2) words last))
+
+-- fewer or more than two
+pub fewer_than_two : (words : List (List ℕ)) (place at : ℕ) → None ≡ slice_get words at → at ≤ place + 1 → length (drop place words) ≢ 2
+fewer_than_two words place at none near two_left =
+    let past = ap length (past_place words at none) in
+    omega (arith, length-drop place words, length-drop at words, past, two_left)
+
+pub more_than_two : (words : List (List ℕ)) (place : ℕ) → place + 2 < length words → length (drop place words) ≢ 2
+more_than_two words place more two_left = omega (arith, length-drop place words, two_left)
 
 -- fewer or more than three words from a place on
 pub fewer_words : (words : List (List ℕ)) (place at : ℕ) → None ≡ slice_get words at → at ≤ place + 2 → length (drop place words) ≢ 3
@@ -107,7 +132,24 @@ unfolding command_of
 trial_word [] word there no_verify no_list no_get no_dump no_load no_salvage is = cc
 trial_word (first ∷ words) word there no_verify no_list no_get no_dump no_load no_salvage is = let same : first ≡ word = cc in rw (same, no_verify, no_list, no_get, no_dump, no_load, no_salvage, is) refl
 
-pub other_word : (words : List (List ℕ)) (word : List ℕ) → Some word ≡ slice_get words 0 → bytes_eq word (codes "verify") ≡ false → bytes_eq word (codes "list") ≡ false → bytes_eq word (codes "get") ≡ false → bytes_eq word (codes "dump") ≡ false → bytes_eq word (codes "load") ≡ false → bytes_eq word (codes "salvage") ≡ false → bytes_eq word (codes "trial") ≡ false → command_of words ≡ None
+pub range_word : (words : List (List ℕ)) (word : List ℕ) → Some word ≡ slice_get words 0 → bytes_eq word (codes "verify") ≡ false → bytes_eq word (codes "list") ≡ false → bytes_eq word (codes "get") ≡ false → bytes_eq word (codes "dump") ≡ false → bytes_eq word (codes "load") ≡ false → bytes_eq word (codes "salvage") ≡ false → bytes_eq word (codes "trial") ≡ false → bytes_eq word (codes "range") ≡ true → command_of words ≡ command_with range_row (once (arguments range_row.options (drop 1 words)))
 unfolding command_of
-other_word [] word there no_verify no_list no_get no_dump no_load no_salvage no_trial = cc
-other_word (first ∷ words) word there no_verify no_list no_get no_dump no_load no_salvage no_trial = let same : first ≡ word = cc in rw (same, no_verify, no_list, no_get, no_dump, no_load, no_salvage, no_trial) refl
+range_word [] word there no_verify no_list no_get no_dump no_load no_salvage no_trial is = cc
+range_word (first ∷ words) word there no_verify no_list no_get no_dump no_load no_salvage no_trial is =
+    let same : first ≡ word = cc in rw (same, no_verify, no_list, no_get, no_dump, no_load, no_salvage, no_trial, is) refl
+
+pub convert_word : (words : List (List ℕ)) (word : List ℕ) → Some word ≡ slice_get words 0 → bytes_eq word (codes "verify") ≡ false → bytes_eq word (codes "list") ≡ false
+    → bytes_eq word (codes "get") ≡ false → bytes_eq word (codes "dump") ≡ false → bytes_eq word (codes "load") ≡ false → bytes_eq word (codes "salvage") ≡ false
+    → bytes_eq word (codes "trial") ≡ false → bytes_eq word (codes "range") ≡ false → bytes_eq word (codes "convert") ≡ true
+    → command_of words ≡ command_with convert_row (once (arguments convert_row.options (drop 1 words)))
+unfolding command_of
+convert_word [] word there no_verify no_list no_get no_dump no_load no_salvage no_trial no_range is = cc
+convert_word (first ∷ words) word there no_verify no_list no_get no_dump no_load no_salvage no_trial no_range is =
+    let same : first ≡ word = cc in rw (same, no_verify, no_list, no_get, no_dump, no_load, no_salvage, no_trial, no_range, is) refl
+
+pub other_word : (words : List (List ℕ)) (word : List ℕ) → Some word ≡ slice_get words 0 → bytes_eq word (codes "verify") ≡ false → bytes_eq word (codes "list") ≡ false → bytes_eq word (codes "get") ≡ false → bytes_eq word (codes "dump") ≡ false → bytes_eq word (codes "load") ≡ false → bytes_eq word (codes "salvage") ≡ false → bytes_eq word (codes "trial") ≡ false → bytes_eq word (codes "range") ≡ false
+    → bytes_eq word (codes "convert") ≡ false → command_of words ≡ None
+unfolding command_of
+other_word [] word there no_verify no_list no_get no_dump no_load no_salvage no_trial no_range no_convert = cc
+other_word (first ∷ words) word there no_verify no_list no_get no_dump no_load no_salvage no_trial no_range no_convert =
+    let same : first ≡ word = cc in rw (same, no_verify, no_list, no_get, no_dump, no_load, no_salvage, no_trial, no_range, no_convert) refl

@@ -7,3 +7,5 @@ pub mod StepLemmas
 pub mod TaskLemmas
 pub mod TellingLemmas
 pub mod AnswerLemmas
+pub mod RangeLemmas
+pub mod ConvertLemmas

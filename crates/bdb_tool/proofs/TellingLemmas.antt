@@ -12,7 +12,7 @@ use Rattle.bdb_lines.specs.declared.cut.Cut.TheVariants.{WriteFault}
 use Rattle.bdb_lines.proofs.PrintingLemmas.{moved}
 use Rattle.bdb_model.specs.Answers.{judged_answer}
 use Rattle.bdb_model.specs.Change.{Change}
-use Rattle.bdb_model.specs.Command.{Dump, Get, ListAll, Request, Verify}
+use Rattle.bdb_model.specs.Command.{Convert, Dump, Get, ListAll, Range, Request, Verify}
 use Rattle.bdb_model.specs.Lines.{memory_line}
 use Rattle.bdb_format.specs.Verdict.{Faulty, Judgement, LeftOut, faults_of, judgement_of, verdict_of}
 use Rattle.bdb_tool.specs.Outputs.{asked_answer, first_status, verified}
@@ -75,6 +75,8 @@ asked_own Verify image = verified_own (faults_of image) image
 asked_own ListAll image = answer_own ListAll image
 asked_own (Get name key prints) image = answer_own (Get name key prints) image
 asked_own (Dump name prints) image = answer_own (Dump name prints) image
+asked_own (Range name from to prints) image = answer_own (Range name from to prints) image
+asked_own (Convert order) image = answer_own (Convert order) image
 
 -- a file without faults
 pub sound_verified : (faults : List Fault) (file image : List ℕ) (out err : Change) (status : ℕ) → faults ≡ [] → file ≡ image → Finishes (verified [] file) out err status

@@ -6,7 +6,7 @@ use Rattle.bdb_format.specs.declared.kinds.Kind.TheVariants.{Btree, Recno, Hash,
 use Rattle.bdb_format.specs.declared.kinds.Order.{Order}
 use Rattle.bdb_format.specs.declared.kinds.Order.TheVariants.{Big, Little}
 use Rattle.bdb_format.specs.Digits.{number_in}
-use Rattle.bdb_model.specs.Command.{Arguments, OptionRow, Request, Verify, ListAll, arguments, dump_request, get_request, hex_row, is_given, limit_of, max_bytes, max_bytes_row, name_row, once, print_option, print_row, value_given}
+use Rattle.bdb_model.specs.Command.{Arguments, OptionRow, Request, Verify, ListAll, Convert, arguments, dump_request, get_request, hex_row, is_given, limit_of, max_bytes, max_bytes_row, name_row, once, print_option, print_row, range_request, value_given}
 use Rattle.bdb_salvage.specs.declared.guess.Guess.{Guess}
 
 -- what a command does: it asks something of a file, loads a text, salvages an image by the guess that is given and prints the data or spells them by digits,
@@ -33,7 +33,7 @@ abbrev pub asking : Option Request → Option Action
 asking None = None
 asking (Some request) = Some (Ask request)
 
--- Options of `salvage`.
+-- The order of `salvage` and `convert`, and the page size of `salvage`.
 
 abbrev pub order_option : List ℕ
 order_option = codes "--order"
@@ -112,6 +112,16 @@ trial_action (kind ∷ []) = None
 trial_action (kind ∷ seed ∷ []) = None
 trial_action (kind ∷ seed ∷ count ∷ operands) = trial_of (kind_named kind) (seed_in seed) (count_in count)
 
+-- The operand of `convert`.
+
+abbrev pub converting : Option Order → Option Action
+converting None = None
+converting (Some order) = Some (Ask (Convert order))
+
+abbrev pub convert_action : List (List ℕ) → Option Action
+convert_action [] = None
+convert_action (order ∷ operands) = converting (order_named order)
+
 -- The table.
 
 -- a command of the table: its word, the options and the number of operands that it has, and what it does by them
@@ -146,8 +156,14 @@ salvage_row = record { word = codes "salvage"; options = max_bytes_row ∷ order
 abbrev pub trial_row : CommandRow
 trial_row = record { word = codes "trial"; options = max_bytes_row ∷ []; operands = 3; does = λ all. trial_action all.operands }
 
+abbrev pub range_row : CommandRow
+range_row = record { word = codes "range"; options = max_bytes_row ∷ name_row ∷ hex_row ∷ print_row ∷ []; operands = 2; does = λ all. asking (range_request all) }
+
+abbrev pub convert_row : CommandRow
+convert_row = record { word = codes "convert"; options = max_bytes_row ∷ []; operands = 1; does = λ all. convert_action all.operands }
+
 abbrev pub commands : List CommandRow
-commands = verify_row ∷ list_row ∷ get_row ∷ dump_row ∷ load_row ∷ salvage_row ∷ trial_row ∷ []
+commands = verify_row ∷ list_row ∷ get_row ∷ dump_row ∷ load_row ∷ salvage_row ∷ trial_row ∷ range_row ∷ convert_row ∷ []
 
 abbrev pub within : Option ℕ → Option Action → Option Command
 within None action = None

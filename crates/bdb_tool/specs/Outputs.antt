@@ -3,7 +3,7 @@ use Rattle.std.specs.Prelude.{◌≡◌, ◌⊎◌, ℕ, nat_lt, ◌&&◌, Bool,
 use Rattle.bdb_format.specs.declared.kinds.Fault.{Fault}
 use Rattle.bdb_format.specs.Verdict.{Judgement, faults_of, judgement_of, verdict_of}
 use Rattle.bdb_lines.specs.Telling.{judgement_status, judgements_text}
-use Rattle.bdb_model.specs.Command.{Dump, Get, ListAll, Request, Verify}
+use Rattle.bdb_model.specs.Command.{Convert, Dump, Get, ListAll, Range, Request, Verify}
 use Rattle.bdb_model.specs.Answers.{Answer, done, judged_answer, sound_answer, told, too_large_line, usage}
 use Rattle.bdb_model.specs.Change.{Change, Gains, GainsPart, Stays}
 use Rattle.bdb_text_format.specs.LineEnd.{line}
@@ -31,6 +31,8 @@ asked_answer Verify image = verified (faults_of image) image
 asked_answer ListAll image = judged_answer (verdict_of image) ListAll image
 asked_answer (Get name key prints) image = judged_answer (verdict_of image) (Get name key prints) image
 asked_answer (Dump name prints) image = judged_answer (verdict_of image) (Dump name prints) image
+asked_answer (Range name from to prints) image = judged_answer (verdict_of image) (Range name from to prints) image
+asked_answer (Convert order) image = judged_answer (verdict_of image) (Convert order) image
 
 -- `salvage`: what is salvaged from an image by a guess, if there is one
 abbrev pub salvaged_answer : Option Guess → Bool → List ℕ → Answer

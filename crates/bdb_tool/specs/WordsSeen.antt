@@ -1,7 +1,7 @@
 -- What the values of the code are in the definitions of a command line's words.
 use Rattle.std.specs.Prelude.{ℕ, ◌≡◌, ◌<◌, ◌≤◌, ◌^◌, ◌++◌, Bool, true, false, not, List, [], ◌∷◌, drop, length, Option, Some, IfSome, IsTrue, is_some, option_copied, ⊤}
 use Rattle.bdb_format.specs.HeadOf.{is_page_size}
-use Rattle.bdb_model.specs.Command.{Request, Verify, ListAll, OptionRow, Given, Arguments, arguments, asked_name, hex_option, hex_row, is_given, key_request, max_bytes, max_bytes_row, name_option, name_row, only_operands, print_option, print_row, row_of, text_request, value_given, with_option}
+use Rattle.bdb_model.specs.Command.{Request, Verify, ListAll, Convert, OptionRow, Given, Arguments, arguments, asked_name, bounds_request, hex_option, hex_row, is_given, key_request, max_bytes, max_bytes_row, name_option, name_row, only_operands, print_option, print_row, row_of, text_request, value_given, with_option}
 use Rattle.bdb_tool.specs.Commands.{Action, Load, Salvage, Trial, Command, asking, order_option, order_row, page_size_option, page_size_row, within}
 use Rattle.bdb_text_format.specs.TextSpelling.{bytes_spelled}
 use Rattle.bdb_tool.specs.declared.options.OptionWord.{OptionWord}
@@ -10,7 +10,7 @@ use Rattle.bdb_tool.specs.declared.options.GivenOption.{GivenOption}
 use Rattle.bdb_tool.specs.declared.options.GivenOption.TheVariants.{MaxBytes, Name, Order, PageSize, Hex, Print}
 use Rattle.bdb_tool.specs.declared.options.Arguments.{Arguments as ReadArguments}
 use Rattle.bdb_tool.specs.declared.command.Request.{Request as CodeRequest}
-use Rattle.bdb_tool.specs.declared.command.Request.TheVariants.{Verify as VerifyWord, List as ListWord, Get as GetWord, Dump as DumpWord}
+use Rattle.bdb_tool.specs.declared.command.Request.TheVariants.{Verify as VerifyWord, List as ListWord, Get as GetWord, Dump as DumpWord, Range as RangeWord, Convert as ConvertWord}
 use Rattle.bdb_tool.specs.declared.command.Action.{Action as CodeAction}
 use Rattle.bdb_tool.specs.declared.command.Action.TheVariants.{Ask as AskWord, Load as LoadWord, Salvage as SalvageWord, Trial as TrialWord}
 use Rattle.bdb_tool.specs.declared.command.Command.{Command as CodeCommand}
@@ -93,6 +93,9 @@ request_seen VerifyWord = Some Verify
 request_seen ListWord = Some ListAll
 request_seen (GetWord it) = key_request (asked_name (option_copied it.name)) (bytes_spelled (not it.hex) it.key.now) it.print
 request_seen (DumpWord it) = text_request (asked_name (option_copied it.name)) it.print
+request_seen (RangeWord it) =
+    bounds_request (asked_name (option_copied it.name)) (bytes_spelled (not it.hex) it.from.now) (bytes_spelled (not it.hex) it.to.now) it.print
+request_seen (ConvertWord order) = Some (Convert order)
 
 abbrev pub trial_seen : CodeTrial → Action
 trial_seen trial = Trial trial.kind trial.seed trial.count

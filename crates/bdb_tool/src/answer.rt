@@ -17,19 +17,21 @@ ghost use Rattle.bdb_tool.specs.WordsSeen.{request_seen};
 
 use crate::building::{answer_load, answer_trial};
 use crate::command::{Lookup, Request, Selection};
+use crate::converting::answer_convert;
 use crate::finish::{put, report, tell, tell_memory};
+use crate::ranging::answer_range;
 use crate::salvaging::answer_salvage;
+use crate::spelled::{name_bytes, name_sought, spelled};
 use crate::status::{FAULT, NOT_FOUND, UNSUPPORTED, WRITE_FAULT};
 use crate::task::Task;
 use crate::text::sound_line;
 use bdb_faults::{AllError, Named, NamedList};
 use bdb_file::{Found, Sound, verify, verify_all};
-use bdb_format::{Bytes, Steps, Verdict};
+use bdb_format::{Steps, Verdict};
 use bdb_io::Sink;
 use bdb_lines::{Room, tell_all, tell_one};
 use bdb_printing::{Cut, write_found, write_list, write_section, write_sections};
-use bdb_text::{SpellError, read_spelling};
-use std::alloc::{AllocError, Global};
+use std::alloc::Global;
 use std::sync::ledger::Ledger;
 
 /// Writes the line of a sound file.
@@ -56,39 +58,6 @@ fn answer_found<K: Sink, E: Sink>(
     match values.next() {
         Some(first) => report(write_found(alloc, out, first, values, print), err),
         None => tell(err, b"not found\n", NOT_FOUND),
-    }
-}
-
-/// The bytes of a spelling that was tested.
-fn spelled(alloc: Global, text: &[u8], print: bool) -> Result<Bytes, AllocError>
-    requires { IsTrue (is_some (bytes_spelled print text.now)) }
-    ensures { IfOk result (λ bytes. bytes_spelled print text.now ≡ Some bytes) }
-{
-    match read_spelling(alloc, text, print) {
-        Ok(bytes) => Ok(bytes),
-        Err(SpellError::Memory) => Err(AllocError),
-        Err(SpellError::Bad) => unreachable!(),
-    }
-}
-
-/// The name that a tested word spells, where there is one.
-fn name_sought(alloc: Global, word: Option<&[u8]>) -> Result<Option<Bytes>, AllocError>
-    requires { IsTrue (is_some (asked_name (option_copied word))) }
-    ensures { IfOk result (λ name. asked_name (option_copied word.entry) ≡ Some name) }
-{
-    match word {
-        Some(word) => Ok(Some(spelled(alloc, word, true)?)),
-        None => Ok(None),
-    }
-}
-
-/// The bytes of a name, where there is one.
-fn name_bytes(name: &Option<Bytes>) -> Option<&[u8]>
-    ensures { option_copied result ≡ name.now }
-{
-    match name {
-        Some(name) => Some(name.as_slice()),
-        None => None,
     }
 }
 
@@ -186,6 +155,8 @@ fn answer_sound<K: Sink, E: Sink, L: Ledger>(
         Request::List => report(write_list(alloc, out, sound), err),
         Request::Get(lookup) => answer_lookup(alloc, sound, lookup, out, err, steps),
         Request::Dump(selection) => answer_dump(alloc, sound, selection, out, err),
+        Request::Range(bounds) => answer_range(alloc, sound, bounds, out, err, steps),
+        Request::Convert(order) => answer_convert(alloc, sound, *order, out, err),
     }
 }
 
@@ -304,9 +275,11 @@ fn answer_file<K: Sink, E: Sink, L: Ledger>(
 {
     match request {
         Request::Verify => answer_verify(alloc, image, out, err, steps),
-        Request::List | Request::Get(_) | Request::Dump(_) => {
-            answer_by_verdict(alloc, image, request, out, err, steps)
-        }
+        Request::List
+        | Request::Get(_)
+        | Request::Dump(_)
+        | Request::Range(_)
+        | Request::Convert(_) => answer_by_verdict(alloc, image, request, out, err, steps),
     }
 }
 

@@ -2,12 +2,12 @@
 ghost use Rattle.std.specs.Prelude.{◌≡◌, ◌≢◌, ◌≤◌, ◌^◌, [], ◌∷◌, IfSome, Some, List, MatchOption, drop, is_some, length, not, option_copied, ℕ};
 ghost use Rattle.bdb_format.specs.Digits.{number_in};
 ghost use Rattle.bdb_model.specs.Command.{arguments, asked_name, limit_of, once};
-ghost use Rattle.bdb_tool.specs.Commands.{Action as ModelAction, at_most, command_of, command_with, dump_row, get_row, kind_named, plain_row, salvage_row, trial_row};
+ghost use Rattle.bdb_tool.specs.Commands.{Action as ModelAction, at_most, command_of, command_with, convert_row, dump_row, get_row, kind_named, plain_row, range_row, salvage_row, trial_row};
 ghost use Rattle.bdb_tool.specs.WordsSeen.{IsFitAction, IsFitCommand, IsSeen, action_seen};
 
-use crate::guesses::guess_asked;
+use crate::guesses::{guess_asked, order_named};
 use crate::options::{OptionWord, read_arguments};
-use bdb_format::{Kind, number_in};
+use bdb_format::{Kind, Order, number_in};
 use bdb_model::Words;
 use bdb_salvage::Guess;
 use bdb_text::is_spelling;
@@ -31,6 +31,20 @@ pub struct Selection<'w> {
     pub print: bool,
 }
 
+/// What `range` asks, with the name and the bounds as they are spelled.
+#[derive(Clone, Copy)]
+pub struct Bounds<'w> {
+    pub name: Option<&'w [u8]>,
+    /// The keys aren't less than this one.
+    pub from: &'w [u8],
+    /// They are less than this one.
+    pub to: &'w [u8],
+    /// The bounds are spelled by digits.
+    pub hex: bool,
+    /// Keys and data are printed.
+    pub print: bool,
+}
+
 /// What is asked of a sound file.
 #[derive(Clone, Copy)]
 pub enum Request<'w> {
@@ -38,6 +52,9 @@ pub enum Request<'w> {
     List,
     Get(Lookup<'w>),
     Dump(Selection<'w>),
+    Range(Bounds<'w>),
+    /// The file in a byte order.
+    Convert(Order),
 }
 
 /// What `salvage` asks: the guess that is given, and whether data are printed.
@@ -71,6 +88,13 @@ pub struct Command<'w> {
     pub action: Action<'w>,
 }
 
+/// The operands of `range`.
+#[derive(Clone, Copy)]
+struct BoundWords<'w> {
+    from: &'w [u8],
+    to: &'w [u8],
+}
+
 /// The operands of `trial`.
 #[derive(Clone, Copy)]
 struct TrialWords<'w> {
@@ -91,7 +115,7 @@ const MOST_PAIRS: u32 = 200000;
 /// The options of a command without any of its own.
 const PLAIN: [OptionWord; 1] = [OptionWord::MaxBytes];
 
-/// The options of `get`.
+/// The options of `get` and `range`.
 const LOOKUP: [OptionWord; 4] = [
     OptionWord::MaxBytes,
     OptionWord::Name,
@@ -136,6 +160,12 @@ pub fn command_of<'w>(words: &'w Words) -> Option<Command<'w>>
     }
     if word == b"trial".as_slice() {
         return trial_command(words);
+    }
+    if word == b"range".as_slice() {
+        return range_command(words);
+    }
+    if word == b"convert".as_slice() {
+        return convert_command(words);
     }
     None
 }
@@ -231,6 +261,59 @@ fn trial_command<'w>(words: &'w Words) -> Option<Command<'w>>
     };
     let action = Action::Trial(trial);
     Some(Command { limit, action })
+}
+
+// The command `range`.
+fn range_command<'w>(words: &'w Words) -> Option<Command<'w>>
+    ensures command { MatchOption result (command_with range_row (once (arguments range_row.options (drop 1 words.now))) ≡ None)
+        (IsSeen (command_with range_row (once (arguments range_row.options (drop 1 words.now))))) }
+    ensures fit { IfSome result IsFitCommand }
+{
+    let read = read_arguments(words, &LOOKUP)?;
+    let operands = bound_words(words, read.operands)?;
+    let limit = limit_of(read.max_bytes)?;
+    if !is_name(read.name)
+        || !is_spelling(operands.from, !read.hex)
+        || !is_spelling(operands.to, !read.hex)
+    {
+        return None;
+    }
+    let bounds = Bounds {
+        name: read.name,
+        from: operands.from,
+        to: operands.to,
+        hex: read.hex,
+        print: read.print,
+    };
+    let action = Action::Ask(Request::Range(bounds));
+    Some(Command { limit, action })
+}
+
+// The command `convert`.
+fn convert_command<'w>(words: &'w Words) -> Option<Command<'w>>
+    ensures command { MatchOption result (command_with convert_row (once (arguments convert_row.options (drop 1 words.now))) ≡ None)
+        (IsSeen (command_with convert_row (once (arguments convert_row.options (drop 1 words.now))))) }
+    ensures fit { IfSome result IsFitCommand }
+{
+    let read = read_arguments(words, &PLAIN)?;
+    let word = sole_operand(words, read.operands)?;
+    let limit = limit_of(read.max_bytes)?;
+    let order = order_named(word)?;
+    let action = Action::Ask(Request::Convert(order));
+    Some(Command { limit, action })
+}
+
+// The two words from a place on, if there are just two.
+fn bound_words<'w>(words: &'w Words, place: usize) -> Option<BoundWords<'w>>
+    ensures { MatchOption result (length (drop place words.now) ≢ 2) (λ it. drop place words.now ≡ it.from.now ∷ it.to.now ∷ []) }
+{
+    let end = words.len();
+    let from = words.get(place)?;
+    let to = words.get(place + 1)?;
+    if place + 2 < end {
+        return None;
+    }
+    Some(BoundWords { from, to })
 }
 
 // The three words from a place on, if there are just three.

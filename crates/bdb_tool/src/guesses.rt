@@ -22,8 +22,8 @@ pub(crate) fn guess_asked(order: Option<&[u8]>, page_size: Option<&[u8]>) -> Opt
     }
 }
 
-// The order that a word names.
-fn order_named(word: &[u8]) -> Option<Order>
+/// The order that a word names.
+pub(crate) fn order_named(word: &[u8]) -> Option<Order>
     ensures { result ≡ order_named word.now }
 {
     if word == b"big".as_slice() {

@@ -4,12 +4,15 @@
 mod answer;
 mod building;
 mod command;
+mod converting;
 mod finish;
 mod guesses;
 pub mod laws;
 mod options;
 mod program;
+mod ranging;
 mod salvaging;
+mod spelled;
 pub mod status;
 mod task;
 mod text;

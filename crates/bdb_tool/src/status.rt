@@ -32,3 +32,9 @@ pub const NOT_FOUND: u8 = 9;
 
 /// Nothing says how the image is read: no guess is given, and page 0 tells none.
 pub const NO_META: u8 = 10;
+
+/// The database isn't a btree.
+pub const NOT_BTREE: u8 = 12;
+
+/// Items of a page overlap, so the file isn't put into the other byte order.
+pub const OVERLAP: u8 = 13;

@@ -1,5 +1,5 @@
 ghost use Rattle.std.specs.Prelude.{◌≡◌, IfOk, string_bytes};
-ghost use Rattle.bdb_model.specs.Answers.{sound_line, too_large_line};
+ghost use Rattle.bdb_model.specs.Answers.{overlap_line, sound_line, too_large_line};
 
 use std::alloc::{AllocError, Global};
 
@@ -15,4 +15,11 @@ pub(crate) fn too_large_line(alloc: Global, limit: u32) -> Result<String, AllocE
     ensures { IfOk result (λ text. string_bytes text ≡ too_large_line limit) }
 {
     format!(in alloc; "input longer than {limit} bytes\n")
+}
+
+/// The line of a page on which items overlap.
+pub(crate) fn overlap_line(alloc: Global, page: u32) -> Result<String, AllocError>
+    ensures { IfOk result (λ text. string_bytes text ≡ overlap_line page) }
+{
+    format!(in alloc; "items overlap, page {page}\n")
 }

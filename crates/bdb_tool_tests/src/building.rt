@@ -107,16 +107,21 @@ fn tells_why_sections_are_not_loaded(rt: HostRuntime) -> Result<(), Fail> {
     Ok(())
 }
 
-// What is written of a file.
-fn written(rt: &impl Abort, alloc: Global, given: &[&str], file: &File) -> Result<Ran, AllocError> {
+/// What is written of a file.
+pub fn written(
+    rt: &impl Abort,
+    alloc: Global,
+    given: &[&str],
+    file: &File,
+) -> Result<Ran, AllocError> {
     let ran = ran_of(alloc, given, file)?;
     assert_eq!(rt; ran.status, 0);
     assert!(rt; ran.err.bytes().is_empty());
     Ok(ran)
 }
 
-// Asks an image.
-fn check_image(
+/// Asks an image.
+pub fn check_image(
     rt: &impl Abort,
     alloc: Global,
     image: &[u8],

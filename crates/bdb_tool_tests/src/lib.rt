@@ -8,6 +8,8 @@ mod building;
 #[cfg(test)]
 mod checking;
 #[cfg(test)]
+mod converting;
+#[cfg(test)]
 mod dumping;
 #[cfg(test)]
 mod hostile;
@@ -15,6 +17,8 @@ mod hostile;
 mod made;
 #[cfg(test)]
 mod others;
+#[cfg(test)]
+mod ranging;
 #[cfg(test)]
 mod salvaging;
 #[cfg(test)]

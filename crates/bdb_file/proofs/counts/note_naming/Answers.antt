@@ -4,7 +4,8 @@ use Rattle.bdb_format.specs.declared.metadata.Head.{Head}
 use Rattle.bdb_format.proofs.FileLemmas.{last_page}
 use Rattle.bdb_graph.specs.Linked.{meta_pages}
 use Rattle.bdb_faults.proofs.SinkLemmas.{notes_none}
-use Rattle.bdb_file.specs.Entries.{given, naming_fault}
+use Rattle.std.specs.Option.{option_to_list}
+use Rattle.bdb_file.specs.Entries.{naming_fault}
 use Rattle.bdb_file.proofs.CountLemmas.{count_read, naming_more}
 use Rattle.bdb_file.proofs.NotingLemmas.{no_more}
 use Rattle.bdb_file.proofs.counts.note_naming.Goals as goal
@@ -23,5 +24,5 @@ loop-i-preserved g c =
 
 pub returns-clause-noted : goal.returns-clause-noted
 returns-clause-noted g c =
-    no_more (g.F.FaultSink.has_noted c.args.found.now) (g.F.FaultSink.has_noted c.loop-i.found) (λ p. given (naming_fault c.args.entries.now p)) (meta_pages (file_of c.args.linked.now))
+    no_more (g.F.FaultSink.has_noted c.args.found.now) (g.F.FaultSink.has_noted c.loop-i.found) (λ p. option_to_list (naming_fault c.args.entries.now p)) (meta_pages (file_of c.args.linked.now))
     c.loop-i.i (omega arith) c.loop-i.invariant

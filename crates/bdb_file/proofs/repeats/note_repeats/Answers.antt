@@ -5,7 +5,8 @@ use Rattle.std.specs.Cmp.Lexicographic.{slice_cmp}
 use Rattle.std.specs.Ordering.{nat_cmp}
 use Rattle.bdb_faults.specs.Notes.{Notes}
 use Rattle.bdb_overflow.specs.Keys.{has_key}
-use Rattle.bdb_file.specs.Entries.{fault_at, given}
+use Rattle.std.specs.Option.{option_to_list}
+use Rattle.bdb_file.specs.Entries.{fault_at}
 use Rattle.bdb_file.proofs.RepeatLemmas.{all_noted, begun, noted_on}
 use Rattle.bdb_file.proofs.repeats.note_repeats.Goals as goal
 
@@ -19,7 +20,7 @@ loop-entry-preserved g c =
     c.loop-entry.entry-index c.entry-item.result c.in_ok-is_new.is_new c.loop-entry.invariant (omega arith) c.entry-item.is
     (c.in_ok-is_new.ensures.added ∙ ap (λ k. not (has_key c.loop-entry.keys k)) c.key.ensures)
     (subst (λ k. Updates (slice_cmp nat_cmp) c.loop-entry.keys c.add.new.self k true) c.key.ensures c.in_ok-is_new.ensures.updates)
-    (subst (λ found. Notes (g.F.FaultSink.has_noted c.loop-entry.found) (g.F.FaultSink.has_noted c.note_given.new.found) (given found))
+    (subst (λ found. Notes (g.F.FaultSink.has_noted c.loop-entry.found) (g.F.FaultSink.has_noted c.note_given.new.found) (option_to_list found))
     (c.repeat_on.ensures ∙ ap (λ p. cond c.in_ok-is_new.is_new None (Some (fault_at p 4))) c.page.ensures) c.in_ok-note_given.ensures)
 
 pub returns : goal.returns

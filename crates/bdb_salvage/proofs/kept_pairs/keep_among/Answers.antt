@@ -8,6 +8,6 @@ use Rattle.bdb_salvage.proofs.kept_pairs.keep_among.Goals as goal
 pub loop-index-preserved : goal.loop-index-preserved
 loop-index-preserved c =
     c.in_ok-push_pair.ensures
-    ∙ (ap (λ before. before ++ Rattle.bdb_salvage.specs.Kept.listed_option c.kept_pair.result) c.loop-index.invariant
+    ∙ (ap (λ before. before ++ Rattle.std.specs.Option.option_to_list c.kept_pair.result) c.loop-index.invariant
     ∙ (ap (λ found. (c.args.kept.now.items ++ Rattle.std.specs.List.flat_map (kept_pair c.args.survey.now c.args.page (slots_seen c.args.slots.now)) (Rattle.std.specs.List.range_with_len 0 c.loop-index.index)) ++ found) c.kept_pair.ensures
     ∙ more_pieces (kept_pair c.args.survey.now c.args.page (slots_seen c.args.slots.now)) c.args.kept.now.items c.loop-index.index))

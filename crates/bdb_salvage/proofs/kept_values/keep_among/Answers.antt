@@ -8,6 +8,6 @@ use Rattle.bdb_salvage.proofs.kept_values.keep_among.Goals as goal
 pub loop-index-preserved : goal.loop-index-preserved
 loop-index-preserved c =
     c.in_ok-push_value.ensures
-    ∙ (ap (λ before. before ++ Rattle.bdb_salvage.specs.Kept.listed_option c.kept_value.result) c.loop-index.invariant
-    ∙ (ap (λ found. (c.args.kept.now.items ++ Rattle.std.specs.List.flat_map (kept_value c.args.survey.now c.args.page c.args.loose (slots_seen c.args.slots.now)) (Rattle.std.specs.List.range_with_len 0 c.loop-index.index)) ++ found) c.kept_value.ensures
-    ∙ more_pieces (kept_value c.args.survey.now c.args.page c.args.loose (slots_seen c.args.slots.now)) c.args.kept.now.items c.loop-index.index))
+    ∙ (ap (λ before. before ++ Rattle.std.specs.Option.option_to_list c.kept_value.result) c.loop-index.invariant
+    ∙ (ap (λ found. (c.args.kept.now.items ++ Rattle.std.specs.List.flat_map (kept_value c.args.survey.now c.args.page (slots_seen c.args.slots.now)) (Rattle.std.specs.List.range_with_len 0 c.loop-index.index)) ++ found) c.kept_value.ensures
+    ∙ more_pieces (kept_value c.args.survey.now c.args.page (slots_seen c.args.slots.now)) c.args.kept.now.items c.loop-index.index))

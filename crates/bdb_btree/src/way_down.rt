@@ -1,0 +1,57 @@
+ghost use Rattle.std.specs.Prelude.{◌≡◌, ◌+◌, [], false};
+ghost use Rattle.bdb_graph.specs.Linked.{FitsLeafPage, HasMetadata, IsForest};
+ghost use Rattle.bdb_format.specs.ContentRows.{database_faults};
+ghost use Rattle.bdb_format.specs.File.{file_of, header_in, page_at};
+ghost use Rattle.bdb_format.specs.Flags.{is_recno};
+ghost use Rattle.bdb_format.specs.Page.{BtreeFields};
+ghost use Rattle.bdb_overflow.specs.Datum.{FitsContent};
+ghost use Rattle.bdb_tree.specs.Descent.{descent};
+ghost use Rattle.bdb_btree.specs.Search.{is_below};
+
+use bdb_format::{BtreeMeta, Steps};
+use bdb_graph::{Forest, LeafPage, Linked, Ref};
+use bdb_overflow::{Datum, is_less, key_datum};
+use bdb_tree::{Separate, descend_in};
+use std::sync::ledger::Ledger;
+
+/// A key that is sought among the items of internal pages.
+#[derive(Drop)]
+struct Sought<'s, 'a> {
+    forest: &'s Forest<'a>,
+    key: &'s [u8],
+}
+
+impl<'s, 'a> Separate for Sought<'s, 'a> {
+    ghost reads = { λ sought item. FitsContent (file_of sought.forest.now) item.key };
+
+    ghost says = { λ sought item. is_below (file_of sought.forest.now) sought.key.now item };
+
+    fn below(&self, item: &bdb_layout::InternalItem<'_>) -> bool {
+        is_less(&Datum::Inline(self.key), &key_datum(self.forest, &item.key))
+    }
+}
+
+/// The leaf on which a key of a btree stands, or would stand. One step for each internal page on the way down;
+/// it takes no memory.
+pub fn leaf_for<L: Ledger>(
+    linked: &Linked<'_>,
+    meta: &BtreeMeta,
+    key: &[u8],
+    steps: &mut Steps<L>,
+) -> Ref<LeafPage>
+    requires meta { HasMetadata (file_of linked.now) (BtreeFields meta.now) }
+    requires keys { is_recno meta.now ≡ false }
+    requires contents { database_faults (file_of linked.now) (BtreeFields meta.now) ≡ [] }
+    ensures leaf { result ≡ descent (header_in (page_at (file_of linked.now) meta.now.root)).level (file_of linked.now)
+        (is_below (file_of linked.now) key.now) meta.now.root }
+    ensures fits { FitsLeafPage (file_of linked.now) result }
+    ensures forest { IsForest linked.now }
+    ensures cost { steps.new + 1 ≡ steps.old + (header_in (page_at (file_of linked.now) meta.now.root)).level }
+{
+    let forest = linked.forest();
+    let sought = Sought {
+        forest: &forest,
+        key,
+    };
+    descend_in(&forest, linked.root(meta).number(), &sought, steps)
+}

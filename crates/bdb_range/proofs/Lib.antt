@@ -1,0 +1,7 @@
+mod AnswerLemmas
+mod LeafLemmas
+mod LeftLemmas
+mod OpenLemmas
+mod RangeLemmas
+mod SpanLemmas
+mod SplitLemmas

@@ -1,0 +1,6 @@
+pub mod WriteLemmas
+pub mod PartLemmas
+pub mod CrossLemmas
+pub mod EndLemmas
+pub mod TypedLemmas
+pub mod ImageLemmas

@@ -1,0 +1,4 @@
+pub mod Turns
+pub mod Crossing
+pub mod Formed
+pub mod Flip

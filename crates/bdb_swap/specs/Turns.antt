@@ -1,0 +1,18 @@
+-- Numbers as they are turned round, one after another.
+use Rattle.std.specs.Prelude.{◌≡◌, ℕ, List, ◌++◌, length}
+use Rattle.std.specs.List.{flat_map, range_with_len}
+use Rattle.bdb_format.specs.declared.metadata.Head.{Head}
+use Rattle.bdb_format.specs.File.{page_bytes}
+use Rattle.bdb_model.specs.Fields.{Field}
+use Rattle.bdb_model.specs.Turning.{turned_page, turned_round}
+use Rattle.bdb_turned.specs.Apart.{AreApart, LieWithin}
+
+-- one page of bytes has more of the numbers of another turned round than before
+abbrev pub Turns : List ℕ → List Field → List ℕ → List ℕ → Type 0
+Turns source fields old new =
+    (done : List Field) → AreApart (done ++ fields) → LieWithin (done ++ fields) (length source) → old ≡ turned_round done source
+    → new ≡ turned_round (done ++ fields) source
+
+-- so many pages of an image turned round, one after another
+abbrev pub pages_turned : Head → List ℕ → ℕ → List ℕ
+pages_turned head image n = flat_map (λ p. turned_page head.order (page_bytes head image p)) (range_with_len 0 n)

@@ -1,0 +1,73 @@
+ghost use Rattle.std.specs.Prelude.{◌≡◌, ◌<◌, ◌≤◌, None, false, true, length};
+ghost use Rattle.bdb_format.specs.File.{file_of};
+ghost use Rattle.bdb_format.specs.HeadOf.{is_page_size};
+ghost use Rattle.bdb_format.specs.Numbers.{byte_at};
+ghost use Rattle.bdb_format.specs.Reading.{abstract_page, is_zero, page_as, page_type};
+ghost use Rattle.bdb_format.specs.Rows.{body_code, form_code};
+ghost use Rattle.bdb_model.specs.Flipped.{first_overlap};
+ghost use Rattle.bdb_model.specs.Overlaps.{overlaps};
+ghost use Rattle.bdb_swap.specs.Formed.{HasForm};
+
+use crate::image::page_of;
+use crate::internal::InternalItems;
+use crate::leaf::LeafItems;
+use crate::ranged::items_overlap;
+use crate::recno::RecnoItems;
+use bdb_form::is_zero;
+use bdb_format::{Head, Order};
+
+/// Whether some two items of a page that isn't zero share a byte, by its type. Those of a hash page can't.
+fn typed_overlaps(ends: &mut [u16], page: &[u8], order: Order) -> bool
+    requires long { 512 ≤ length page.now }
+    requires low { length page.now < 65536 }
+    requires code { body_code order page.now (page_type (byte_at page.now 25)) ≡ None }
+    requires size { length ends.old ≡ length page.now }
+    ensures found { result ≡ overlaps (page_as order page.now (page_type (byte_at page.now 25))) }
+    ensures same { length ends.new ≡ length ends.old }
+{
+    match page[25] {
+        0 => false,
+        2 => false,
+        3 => items_overlap::<InternalItems>(ends, page, order),
+        4 => items_overlap::<RecnoItems>(ends, page, order),
+        5 => items_overlap::<LeafItems>(ends, page, order),
+        6 => items_overlap::<LeafItems>(ends, page, order),
+        7 => false,
+        8 => false,
+        9 => false,
+        10 => false,
+        11 => false,
+        12 => items_overlap::<LeafItems>(ends, page, order),
+        13 => false,
+        _ => false,
+    }
+}
+
+/// Whether some two items of a page share a byte. The ends have a place for each byte of the page.
+fn page_overlaps(ends: &mut [u16], page: &[u8], head: &Head, number: u32) -> bool
+    requires legal { is_page_size (length page.now) ≡ true }
+    requires form { is_zero page.now ≡ false → form_code head.now number page.now ≡ None }
+    requires size { length ends.old ≡ length page.now }
+    ensures found { result ≡ overlaps (abstract_page head.now.order page.now) }
+    ensures same { length ends.new ≡ length ends.old }
+{
+    if is_zero(page) {
+        return false;
+    }
+    typed_overlaps(ends, page, head.order)
+}
+
+/// The first page on which items overlap, if there is one. It takes no memory, and time by the bytes of the pages alone.
+pub(crate) fn first_overlap(image: &[u8], head: &Head) -> Option<u32>
+    requires { HasForm head.now image.now }
+    ensures { result ≡ first_overlap (file_of image.now) }
+{
+    let mut ends = [0u16; 32768];
+    for number in 0..head.last + 1 {
+        let page = page_of(image, head, number);
+        if page_overlaps(&mut ends[..page.len()], page, head, number) {
+            return Some(number);
+        }
+    }
+    None
+}

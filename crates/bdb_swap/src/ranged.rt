@@ -1,0 +1,68 @@
+ghost use Rattle.std.specs.Prelude.{◌≡◌, ◌<◌, ◌≤◌, ℕ, List, None, if◌then◌else◌, ◌==◌, get_or, length};
+ghost use Rattle.bdb_format.specs.declared.kinds.Order.{Order as AnyOrder};
+ghost use Rattle.bdb_format.specs.Reading.{entries_of, index_end, offset_of};
+ghost use Rattle.bdb_format.specs.Rows.{item_rows};
+ghost use Rattle.bdb_format.specs.Table.{first_row};
+ghost use Rattle.bdb_swap.specs.Crossing.{AreEnds, AreRanges, some_share};
+
+use crate::crossing::crosses;
+use crate::listed::Items;
+use bdb_format::Order;
+use bdb_layout::{offset_at, u16_at};
+
+/// Items each of which is a range of bytes, from its offset up to its end.
+pub(crate) trait Ranged: Items {
+    ghost high: { AnyOrder → List ℕ → ℕ → ℕ };
+
+    /// Where an item ends.
+    fn item_end(page: &[u8], order: Order, index: u16) -> usize
+        requires room { index_end order page.now ≤ length page.now }
+        requires entry { index < entries_of order page.now }
+        requires sound { first_row (item_rows Self.page_type order page.now index) ≡ None }
+        requires low { high order page.now index < 65536 }
+        ensures { result ≡ high order page.now index };
+}
+
+/// Notes the end of a range at the place where it begins.
+fn note_end(ends: &mut [u16], at: usize, end: usize)
+    requires inside { at < length ends.old }
+    requires low { end < 65536 }
+    ensures same { length ends.new ≡ length ends.old }
+    ensures each { (p : ℕ) → p < length ends.old → get_or ends.new p 0 ≡ (if at == p then end else get_or ends.old p 0) }
+{
+    ends[at] = end as u16;
+}
+
+/// Notes where the items of a page end.
+fn note_ends<I: Ranged>(ends: &mut [u16], page: &[u8], order: Order)
+    requires header { 26 ≤ length page.now }
+    requires room { index_end order page.now ≤ length page.now }
+    requires items { (i : ℕ) → i < entries_of order page.now → first_row (item_rows I.page_type order page.now i) ≡ None }
+    requires ranges { AreRanges (entries_of order page.now) (length page.now) (offset_of order page.now) (I.high order page.now) }
+    requires low { length page.now < 65536 }
+    requires size { length ends.old ≡ length page.now }
+    requires clear { (k : ℕ) → k < length ends.old → get_or ends.old k 0 ≡ 0 }
+    ensures noted { AreEnds ends.new (entries_of order page.now) (offset_of order page.now) (I.high order page.now) }
+    ensures same { length ends.new ≡ length ends.old }
+{
+    for i in 0..u16_at(page, 20, order) {
+        let at = usize::from(offset_at(page, order, i));
+        note_end(ends, at, I::item_end(page, order, i));
+    }
+}
+
+/// Whether some two items of a page that begin at different places share a byte. What was noted of another page is cleared.
+pub(crate) fn items_overlap<I: Ranged>(ends: &mut [u16], page: &[u8], order: Order) -> bool
+    requires header { 26 ≤ length page.now }
+    requires room { index_end order page.now ≤ length page.now }
+    requires items { (i : ℕ) → i < entries_of order page.now → first_row (item_rows I.page_type order page.now i) ≡ None }
+    requires ranges { AreRanges (entries_of order page.now) (length page.now) (offset_of order page.now) (I.high order page.now) }
+    requires low { length page.now < 65536 }
+    requires size { length ends.old ≡ length page.now }
+    ensures found { result ≡ some_share (entries_of order page.now) (offset_of order page.now) (I.high order page.now) }
+    ensures same { length ends.new ≡ length ends.old }
+{
+    ends.fill(0);
+    note_ends::<I>(ends, page, order);
+    crosses(ends)
+}

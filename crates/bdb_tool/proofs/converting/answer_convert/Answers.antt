@@ -1,0 +1,8 @@
+use Rattle.std.proofs.Common.{◌∙◌}
+use Rattle.bdb_tool.proofs.ConvertLemmas.{overlap_told}
+use Rattle.bdb_tool.proofs.converting.answer_convert.Goals as goal
+
+pub returns-in-Err-Overlap : goal.returns-in-Err-Overlap
+returns-in-Err-Overlap g c =
+    overlap_told _ _ _ _ _ _ _ _ _ (c.image.ensures ∙ c.forest.ensures ∙ c.linked-linked.ensures.pages) c.in-Err-Overlap.field-0-is c.in-Err-Overlap.ensures
+    c.tell_overlap.ensures

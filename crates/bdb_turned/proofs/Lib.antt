@@ -1,0 +1,13 @@
+pub mod PlaceLemmas
+mod ReadLemmas
+mod ApartLemmas
+pub mod ListedLemmas
+pub mod LeafLemmas
+mod RunLemmas
+pub mod HashLemmas
+pub mod InnerLemmas
+mod PlainLemmas
+pub mod PageLemmas
+pub mod JoinedLemmas
+pub mod FlipLemmas
+mod LawLemmas
