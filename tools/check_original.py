@@ -159,8 +159,17 @@ def order_words(image):
 
 
 def text_without_order(file):
-    """What db5.3_dump gives of a file but its byte order."""
-    return re.sub(rb"(?m)^db_lorder=.*\n", b"", run("db5.3_dump", str(file)).stdout)
+    """What db5.3_dump gives of a file but its byte order; None where it doesn't end, as of some files that only this program calls sound."""
+    try:
+        return re.sub(rb"(?m)^db_lorder=.*\n", b"", run("db5.3_dump", str(file)).stdout)
+    except subprocess.TimeoutExpired:
+        return None
+
+
+def verifier_lines(file):
+    """What db5.3_verify tells of a file, but for the file's name."""
+    told = verifier_told(file)
+    return told and told.replace(str(file), "the file")
 
 
 def converted_wrong(program, folder, image):
@@ -169,10 +178,10 @@ def converted_wrong(program, folder, image):
     there = run(program, "convert", other, given=image)
     if there.returncode or there.stderr:
         return f"convert {other}: status {there.returncode}, {there.stderr.decode(errors='replace')}"
-    first, file = folder / "first.db", folder / "converted.db"
+    first, file = folder / "first.db", folder / "there.db"
     first.write_bytes(image)
     file.write_bytes(there.stdout)
-    if (told := verifier_told(file)) != verifier_told(first):
+    if (told := verifier_lines(file)) != verifier_lines(first):
         return f"convert {other}: db5.3_verify tells {told}"
     if text_without_order(file) != text_without_order(first):
         return f"convert {other}: db5.3_dump gives another text"
