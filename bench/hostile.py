@@ -38,7 +38,7 @@ SIZES, LEAST = (1 / 8, 1 / 4, 1 / 2, 1), 4
 MOST, FLOOR = 2.3, 0.05
 ROUNDS, CLEAR = 11, 20
 LONGEST, MEMORY = 60, 3 << 30
-COMMANDS = ("verify", "dump", "salvage", "get", "load")
+COMMANDS = ("verify", "dump", "salvage", "get", "load", "repair")
 COLUMNS = ("Class", "Bytes", *(f"`{command}`" for command in COMMANDS))
 
 
@@ -69,6 +69,8 @@ LOADED, REFUSED, TOO_LARGE = (Run(("load",), 0),), (Run(("load",), 8),), (Run(("
 SOUND = (Run(("verify",), 0), Run(("dump",), 0), Run(("salvage",), 0))
 FAULTY = (Run(("verify",), 1), Run(("dump",), 1), Run(("salvage",), 0))
 JUDGED, REFUTED = SOUND[:1], FAULTY[:2]
+# What is salvaged is far longer than the input, and the limit above all inputs of the class.
+CUT_OFF = (Run(("repair", "--max-bytes", "1000000"), 6),)
 BY_HAND = tuple(Run(("salvage", "--order", "little", "--page-size", size), 0) for size in ("512", "32768"))
 
 # At the largest size a run whose time grows as its input takes some hundredths of a second, up to a few tenths.
@@ -103,8 +105,8 @@ CLASSES = (
     Class("bucket-chain", "one bucket of pages, each of which is the next one of the page behind it", files.bucket_down, 48_000, "", SOUND + (get("a"),)),
     Class("bucket-ring", "a ring of pages of a bucket", files.bucket_ring, 131_072, "Unreached", FAULTY),
     # Items that share one chain of full pages: the texts of these are longer than their files.
-    Class("chain-full-btree", "data of a btree share a chain", files.full_chain_btree, 8_000, "", SOUND + (get("00000000"),)),
-    Class("chain-full-set", "data of one key share a chain", files.full_chain_set, 8_000, "", SOUND + (get("key"),)),
+    Class("chain-full-btree", "data of a btree share a chain", files.full_chain_btree, 8_000, "", SOUND + (get("00000000"),) + CUT_OFF),
+    Class("chain-full-set", "data of one key share a chain", files.full_chain_set, 8_000, "", SOUND + (get("key"),) + CUT_OFF),
     # Chains of full pages that aren't written: those of the outputs would be too long to write.
     Class("chain-full-order", "sorted data, two chains that begin alike under each key", files.full_chains_order, 16_000, "", JUDGED + (get("x", status=9),)),
     Class("chain-full-grid", "sorted data, each two of many such chains under a key", files.full_chains_grid, 32_000, "", JUDGED + (get("x", status=9),)),
@@ -150,7 +152,6 @@ CLASSES = (
     Class("deep-many", "named btrees of 254 levels with one child a page", files.deep_trees, 256, "", SOUND + (get("--name", "00000000", "a"),)),
     Class("deep-join", "a btree over rows of 250 pages with one child each", files.deep_rows, 64, "", SOUND + (get("00000000"),)),
     Class("deep-wide", "one child a page for 250 levels above many leaves", files.deep_wide, 10_000, "", SOUND + (get("00000000"),)),
-    Class("deep-grows", "one child a page for levels that grow as the leaves below do, up to 250", files.deep_grows, 10_000, "", SOUND + (get("00000000"),)),
     Class("deep-disorder", "such levels, and keys out of order", files.deep_disorder, 1_000, "KeyOrder", FAULTY),
     Class("deep-counts", "such levels of a btree with counts", files.deep_counts, 4_000, "", SOUND + (get("00000000"),)),
     Class("deep-recno", "such levels of a recno", files.deep_recno, 40_000, "", SOUND + (get("1"),)),

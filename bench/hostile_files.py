@@ -707,19 +707,13 @@ def deep_rows(count):
     return image.btree(image.above([child_item(key_of(at), row) for at, row in enumerate(rows)], level=251)[0])
 
 
+# As many as fit above a leaf: its level is 1, and none is above 254.
+HEIGHT = 250
+
+
 def deep_wide(count):
     image = Image()
-    return image.btree(tall(image, leaves_of(image, count), 250))
-
-
-def height_of(count, largest):
-    """A height that grows as a count does, up to 250 at the largest."""
-    return min(250, 10 + 240 * count // largest)
-
-
-def deep_grows(count):
-    image = Image()
-    return image.btree(tall(image, leaves_of(image, count), height_of(count, 10_000)))
+    return image.btree(tall(image, leaves_of(image, count), HEIGHT))
 
 
 def deep_disorder(count):
@@ -728,18 +722,18 @@ def deep_disorder(count):
     rows = [[*range(20 * at + 1, 20 * at + 20), 20 * at] for at in range(count)]
     numbers = image.linked(LEAF, [[item for at in row for item in (inline(key_of(at)), inline(b"b"))] for row in rows], level=1)
     items = [child_item(key_of(20 * at), number) for at, number in enumerate(numbers)]
-    return image.btree(tall(image, items, height_of(count, 1_000)))
+    return image.btree(tall(image, items, HEIGHT))
 
 
 def deep_counts(count):
     image = Image()
-    return image.btree(tall(image, leaves_of(image, count, 4), height_of(count, 4_000)), COUNTS)
+    return image.btree(tall(image, leaves_of(image, count, 4), HEIGHT), COUNTS)
 
 
 def deep_recno(count):
     image = Image()
     numbers = image.linked(RECORD_LEAF, [[inline(b"a")]] * count, level=1)
-    return image.btree(tall(image, [record_child(number, 1) for number in numbers], height_of(count, 40_000), RECORD_INTERNAL), RECNO)
+    return image.btree(tall(image, [record_child(number, 1) for number in numbers], HEIGHT, RECORD_INTERNAL), RECNO)
 
 
 # Leaves full of entries that are one item.

@@ -1,7 +1,7 @@
 #!/usr/bin/env python3
 """Times `bdbtool` beside the original library's tools, both in one run on the same files.
 
-usage: times.py verify|kinds|chains|range|dump|load|convert|salvage [PROGRAM]
+usage: times.py verify|kinds|chains|range|dump|load|convert|stat|salvage|repair [PROGRAM]
        times.py before PROGRAM BEFORE
 
 PROGRAM is the built program; without it, crates/bdbtool/out/bdbtool. The files are made with `db5.3_load` in a temporary folder.
@@ -9,9 +9,9 @@ Prints a Markdown table. `verify` stands beside `db5.3_verify`, on a btree and a
 the clock, and how pages and seconds grew from the row above. A kind ends where a run takes a minute, or where ten times the pairs
 wouldn't fit into the longest input. `kinds` has `verify` on files of each kind of about 100 MB, and `chains` on chains of pages that
 grow longer, one by one: seconds of user time. `dump` stands beside `db5.3_dump -k`, on a file of each kind: seconds of user time, and peak
-memory. `range` stands beside `verify`, `get` and `dump`, on a btree of a million pairs: of ten pairs, of a thousand and of all. `load` stands beside `db5.3_load`, on the texts that `dump` gives of such files and of files with a quarter of the items. `convert` stands beside `verify` and a copy by `cat`, on a file of each kind. `salvage` stands beside
+memory. `range` stands beside `verify`, `get` and `dump`, on a btree of a million pairs: of ten pairs, of a thousand and of all. `load` stands beside `db5.3_load`, on the texts that `dump` gives of such files and of files with a quarter of the items. `convert` stands beside `verify` and a copy by `cat`, on a file of each kind. `stat` stands beside `verify` and `db5.3_stat -f`, on the files of `kinds`: seconds of user time. `salvage` stands beside
 `db5.3_dump -r`, on the files of `kinds`, and on each of them with every hundredth page overwritten by other bytes: seconds of user time,
-peak memory, and how many pairs or records each gives. `before` has `verify` of two programs by turns, on the files of `kinds` and `chains` and on the
+peak memory, and how many pairs or records each gives. `repair` stands beside `salvage | load`, on the same files: user time of both commands of the pipe together, and the greater peak. `before` has `verify` of two programs by turns, on the files of `kinds` and `chains` and on the
 files of `verify` that have a million pairs: the least user and system time of each, and their ratio. Where the program or the library's tools are missing, nothing is
 timed. docs/BENCH.md says how to read the tables.
 """
@@ -361,13 +361,13 @@ def copied(image):
     """The seconds of processor time, user's and system's, that a copy by `cat` takes, the least of some."""
     best = None
     for _ in range(3):
-        before = os.times()
+        before = resource.getrusage(resource.RUSAGE_CHILDREN)
         with image.open("rb") as given, open(os.devnull, "wb") as sink:
             copy = subprocess.Popen(["cat"], stdin=given, stdout=subprocess.PIPE)
             subprocess.run(["tail", "-c", "1"], stdin=copy.stdout, stdout=sink, check=True)
             copy.wait()
-        after = os.times()
-        taken = after.children_user + after.children_system - before.children_user - before.children_system
+        after = resource.getrusage(resource.RUSAGE_CHILDREN)
+        taken = after.ru_utime + after.ru_stime - before.ru_utime - before.ru_stime
         best = taken if best is None else min(best, taken)
     return best
 
@@ -386,6 +386,26 @@ def time_convert(program, folder):
     print_head(CONVERT_COLUMNS)
     for name, image in kinds(folder):
         print_convert(name, program, image)
+
+
+# `stat`
+STAT_COLUMNS = ("File", "Bytes of the file", "`stat`", "`verify`", "Ratio", "`db5.3_stat -f`", "Peak of `bdbtool`, bytes", "Peak by file")
+
+
+def print_stat(name, program, image):
+    """A row of the table of `stat`."""
+    size = image.stat().st_size
+    own, judged, original = least([program, "stat"], image), least([program, "verify"], image), least(["db5.3_stat", "-f", "-d", image], image)
+    image.unlink()
+    times = [f"{own.user:.3g}", f"{judged.user:.3g}", f"{own.user / max(judged.user, 0.001):.3g}", f"{original.user:.3g}"]
+    print_row([name, f"{size:,}", *times, f"{own.peak:,}", f"{own.peak / size:.2f}"])
+
+
+def time_stat(program, folder):
+    """The table of `stat`."""
+    print_head(STAT_COLUMNS)
+    for name, image in kinds(folder):
+        print_stat(name, program, image)
 
 
 def damage(image):
@@ -443,6 +463,46 @@ def time_salvage(program, folder):
         image.unlink()
 
 
+# `repair`
+BY_TURNS = 5
+REPAIR_COLUMNS = ("File", "Bytes of the file", "`repair`", "`salvage \\| load`", "Ratio", "Peak of `repair`, bytes", "Peak by file", "Peak of the pipe, bytes", "Bytes of the new file")
+
+
+def piped(program, image):
+    """What `salvage | load` takes, both commands together: user time, and the greater peak; and how many bytes it writes."""
+    with image.open("rb") as given:
+        salvage = subprocess.Popen([program, "salvage"], stdin=given, stdout=subprocess.PIPE)
+        load = subprocess.Popen([program, "load"], stdin=salvage.stdout, stdout=subprocess.PIPE)
+        salvage.stdout.close()
+        size = sum(len(piece) for piece in iter(lambda: load.stdout.read(1 << 20), b""))
+        ends = [os.wait4(run.pid, 0) for run in (salvage, load)]
+    for run, (_, status, _) in zip((salvage, load), ends):
+        run.returncode = os.waitstatus_to_exitcode(status)
+    if any(run.returncode for run in (salvage, load)):
+        return None, 0
+    return Spent(sum(usage.ru_utime for _, _, usage in ends), 1024 * max(usage.ru_maxrss for _, _, usage in ends)), size
+
+
+def print_repair(name, program, image):
+    """A row of the table of `repair`. Both run by turns, and the least of each counts. A pipe whose text is longer than an input may be has no time."""
+    size = image.stat().st_size
+    rounds = [(spent([program, "repair"], image), piped(program, image)) for _ in range(BY_TURNS)]
+    own = min(it for it, _ in rounds)
+    pipe, built = min((it for _, it in rounds if it[0]), default=(None, 0))
+    both = [f"{pipe.user:.3g}", f"{own.user / max(pipe.user, 0.001):.3g}"] if pipe else ["–", "–"]
+    print_row([name, f"{size:,}", f"{own.user:.3g}", *both, f"{own.peak:,}", f"{own.peak / size:.2f}", f"{pipe.peak:,}" if pipe else "–", f"{built:,}" if pipe else "–"])
+
+
+def time_repair(program, folder):
+    """The table of `repair`."""
+    print_head(REPAIR_COLUMNS)
+    for name, image in kinds(folder):
+        print_repair(name, program, image)
+        damage(image)
+        print_repair(f"{name}, damaged", program, image)
+        image.unlink()
+
+
 def chains(folder):
     """A file with each chain, and one with free pages, one after another."""
     for pages in CHAINS:
@@ -489,7 +549,9 @@ TABLES = {
     "dump": ("db5.3_dump", time_dump),
     "load": ("db5.3_load", time_load),
     "convert": ("db5.3_load", time_convert),
+    "stat": ("db5.3_stat", time_stat),
     "salvage": ("db5.3_dump", time_salvage),
+    "repair": ("db5.3_load", time_repair),
 }
 
 

@@ -11,10 +11,12 @@ that are written over, exchanged, moved, cut off or added. Then
   output and the error lines that go with it;
 - each line of `verify` tells a fault, or a case that is left out, by its name in docs/FAULTS.md; the faults are of one stage and ascend by page and then by
   code, each once; and the status is that of the first line;
-- `list`, `get`, `range`, `dump` and `convert` refuse what `verify` refuses, with its status and the first of its lines, and nothing else;
+- `list`, `get`, `range`, `dump`, `convert` and `stat` refuse what `verify` refuses, with its status and the first of its lines, and nothing else;
+- the nine classes of `stat` add up to its pages, which are those that `verify` tells;
 - what `verify` calls sound is dumped in either spelling, and, unless it has no database or a queue of empty records, loads to a file that is sound, and
   whose dump is the same text; a damaged text that loads does so too;
-- `salvage` without a guess answers with status 0 or 10, with a guess with status 0; its text loads to a sound file, unless that would be too large.
+- `salvage` without a guess answers with status 0 or 10, with a guess with status 0; its text loads to a sound file, unless that would be too large;
+- `repair` answers as `salvage`, unless the file would be too large, with the very file that the text loads to; and of each shape with a sound file.
 
 Prints a line for each run that is otherwise, and then how many copies and runs there were, how often each status came, and the slowest run by its
 megabytes. The exit status is 1 where a run is otherwise.
@@ -49,9 +51,11 @@ ALLOWED = {
     "get": {0, 1, 3, 9},
     "range": {0, 1, 3, 9, 12},
     "convert": {0, 1, 3, 13},
+    "stat": {0, 1, 3},
     "dump": {0, 1, 3, 9},
     "load": {0, 6, 8},
     "salvage": {0, 10},
+    "repair": {0, 6, 10},
 }
 
 
@@ -265,6 +269,27 @@ def check_salvage(runs, name, image):
             runs.tell(name, f"salvage {guess} ended with {ran.returncode}")
         if ran.returncode == 0 and not guess and len(ran.stdout) < MOST:
             loads_again(runs, name, ran.stdout)
+            check_repair(runs, name, image, ran.stdout)
+
+
+def check_repair(runs, name, image, text):
+    """Holds that what is repaired is what the salvaged text loads to, and that each shape of it is sound."""
+    loaded, repaired = runs.run(name, ["load"], text), runs.run(name, ["repair"], image)
+    if loaded and repaired and (loaded.returncode, loaded.stdout, loaded.stderr) != (repaired.returncode, repaired.stdout, repaired.stderr):
+        runs.tell(name, "what is repaired isn't what the salvaged text loads to")
+    for words in (["btree"], ["btree", "--duplicates"], ["btree", "--dupsort"], ["hash"], ["hash", "--duplicates"], ["recno"]):
+        shaped = runs.run(name, ["repair", "--as", *words], image)
+        if shaped and shaped.returncode == 0 and runs.run(name, ["verify"], shaped.stdout).returncode:
+            runs.tell(name, f"repair --as {' '.join(words)} isn't sound")
+
+
+def check_figures(runs, name, sound, text):
+    """The classes of pages add up to all pages."""
+    figures = {name: int(figure) for name, figure in (line.split() for line in text.decode().splitlines())}
+    pages = int(sound.split()[1])
+    classes = sum(figure for name, figure in figures.items() if name not in ("pages", "levels", "unused"))
+    if not figures["pages"] == classes == pages:
+        runs.tell(name, f"{pages} pages, and stat tells {text!r}")
 
 
 def check_image(runs, name, image):
@@ -273,13 +298,15 @@ def check_image(runs, name, image):
     if verdict is None:
         return
     first = verdict.stderr.splitlines(keepends=True)[:1]
-    for words in (["list"], ["get", "a"], ["get", "1"], ["range", "a", "b"], ["range", "", "~"], ["dump"], ["convert", "big"], ["convert", "little"]):
+    for words in (["list"], ["get", "a"], ["get", "1"], ["range", "a", "b"], ["range", "", "~"], ["dump"], ["convert", "big"], ["convert", "little"], ["stat"]):
         ran = runs.run(name, words, image)
         if ran is None:
             continue
         refused = ran.returncode in (1, 3)
         if refused != (verdict.returncode != 0) or (refused and (ran.returncode, [ran.stderr]) != (verdict.returncode, first)):
             runs.tell(name, f"verify told {first!r} first, and {words} {ran.returncode}: {ran.stderr[:LONGEST_SHOWN]!r}")
+        if words == ["stat"] and ran.returncode == 0:
+            check_figures(runs, name, verdict.stdout, ran.stdout)
     if verdict.returncode == 0:
         check_dumps(runs, name, image)
     check_salvage(runs, name, image)

@@ -12,10 +12,12 @@ A text that is refused counts as such, and so does a dump that the original can'
 printed one of a recno or queue. Then the dump of each real file that is sound, and of a file of each kind of PAIRS pairs (a million, where
 none are given; 0 leaves these out) that the original makes, is loaded and dumped by PROGRAM: it is the same text, in either spelling. Each real file that is sound is put into the other byte order by PROGRAM's `convert`:
 the original's `db5.3_verify` tells of it what it tells of the first file, `db5.3_dump` gives the same text but for `db_lorder`, and converted back it is the first file byte for
-byte. Prints a line for each that is answered otherwise, and then how many hold; the exit status is 1 where one
+byte. Of each real file copies are damaged in the ways of DAMAGES, and each is repaired by PROGRAM's `repair`, without a shape and in each of SHAPES: the file passes `db5.3_verify`, and
+`db5.3_dump` of it has the names and pairs of what `salvage` gives of the copy, or of a shape the pairs that it keeps. Prints a line for each that is answered otherwise, and then how many hold; the exit status is 1 where one
 doesn't hold. Without the original's tools nothing is asked.
 """
 import pathlib
+import random
 import re
 import shutil
 import subprocess
@@ -26,6 +28,18 @@ TOP = pathlib.Path(__file__).resolve().parent.parent
 SECONDS_A_RUN = 120
 TOOLS = ("db5.3_verify", "db5.3_dump", "db5.3_load")
 REFUSED = 8
+# How copies are damaged: pages of other bytes, as many as this fraction of all and one at least; whether page 0 is among them; and how much of the file is left.
+DAMAGES = ((0.01, False, 1), (0.25, False, 1), (0.1, True, 1), (0.05, False, 0.7))
+# The words of `repair` for one database, its kind, and which data of a key stay.
+SHAPES = (
+    (("--as", "btree"), b"btree", "last"),
+    (("--as", "btree", "--duplicates"), b"btree", "all"),
+    (("--as", "btree", "--dupsort"), b"btree", "sorted"),
+    (("--as", "hash"), b"hash", "last"),
+    (("--as", "hash", "--duplicates"), b"hash", "all"),
+    (("--as", "hash", "--dupsort"), b"hash", "sorted"),
+    (("--as", "recno"), b"recno", "records"),
+)
 SUCCEEDED = re.compile(rb"BDB5105 Verification of .* succeeded\.\n")
 
 
@@ -207,6 +221,71 @@ def check_converted(program, folder):
     return asked, held
 
 
+def damaged(draw, image, part, first, left):
+    """A copy of an image with so many of its pages overwritten by other bytes, page 0 among them or not, and the rest cut off."""
+    size = int.from_bytes(image[20:24], order_words(image)[0])
+    if size not in (512, 1024, 2048, 4096, 8192, 16384, 32768):
+        return image
+    copy = bytearray(image[: max(size, int(len(image) * left))])
+    pages = range(1, len(copy) // size)
+    for page in ([0] if first else []) + draw.sample(pages, min(len(pages), max(1, int(len(pages) * part)))):
+        copy[page * size : (page + 1) * size] = draw.randbytes(size)
+    return bytes(copy)
+
+
+def kept(pairs, which):
+    """The pairs of a list that a shape keeps, in the order of their keys."""
+    data = {}
+    for key, value in pairs:
+        data.setdefault(key, []).append(value)
+    chosen = {"last": lambda all_data: all_data[-1:], "all": lambda all_data: all_data, "sorted": lambda all_data: sorted(set(all_data))}[which]
+    return [(key, value) for key in sorted(data) for value in chosen(data[key])]
+
+
+def asked_of(text, kind, which):
+    """The databases that a file of a salvaged text must have: by the names of the text, or of one shape without a name."""
+    found = dict(databases(text))
+    if kind is None:
+        return sorted((name, kept(pairs, "all") if name == b"salvaged" else pairs) for name, pairs in found.items())
+    return [(None, found.get(b"loose", []) if which == "records" else kept(found[b"salvaged"], which))]
+
+
+def repaired_wrong(program, folder, image, guess, words, kind, which):
+    """What is wrong with what `repair` builds of an image; None where nothing is."""
+    text = run(program, "salvage", *guess, given=image)
+    ran = run(program, "repair", *words, *guess, given=image)
+    if (ran.returncode, ran.stderr) != (text.returncode, text.stderr):
+        return f"repair ended with {ran.returncode}, salvage with {text.returncode}: {ran.stderr.decode(errors='replace')}"
+    if ran.returncode:
+        return None
+    file = folder / "repaired.db"
+    file.write_bytes(ran.stdout)
+    told = verifier_told(file)
+    if told:
+        return f"db5.3_verify: {told}"
+    original = run("db5.3_dump", "-k", str(file)).stdout
+    if sorted(databases(original)) != asked_of(text.stdout, kind, which):
+        return "db5.3_dump has other pairs than were salvaged"
+    return None
+
+
+def check_repaired(program, folder):
+    """How many damaged copies of real files were repaired, and how many of the new files are as they should be."""
+    asked = held = 0
+    for file in sorted((TOP / "crates/nothing_lost/data").iterdir()):
+        image = file.read_bytes()
+        guess = ("--order", order_words(image)[0], "--page-size", str(int.from_bytes(image[20:24], order_words(image)[0])))
+        for part, first, left in DAMAGES:
+            copy = damaged(random.Random(f"{file.name} {part}"), image, part, first, left)
+            for words, kind, which in (((), None, "all"), *SHAPES):
+                wrong = repaired_wrong(program, folder, copy, guess if first else (), words, kind, which)
+                asked += 1
+                held += wrong is None
+                if wrong:
+                    print(f"{file.name}, {part} of its pages, repair {' '.join(words)}: {wrong}")
+    return asked, held
+
+
 def main():
     program = sys.argv[1] if len(sys.argv) > 1 else str(TOP / "crates/bdbtool/out/bdbtool")
     pairs = int(sys.argv[2]) if len(sys.argv) > 2 else 1_000_000
@@ -234,11 +313,13 @@ def main():
                     if wrong:
                         print(f"{file.name}, {order.decode()}, dump {' '.join(spelling)}: {wrong}")
         again, same = check_again(program, folder, pairs)
-        converted, kept = check_converted(program, folder)
+        converted, turned = check_converted(program, folder)
+        repaired, mended = check_repaired(program, folder)
     print(f"{held} of {asked} hold; {refused} texts refused by name, {passed_over} dumps that the original can't load")
     print(f"{same} of {again} dumps are the same text, loaded and dumped")
-    print(f"{kept} of {converted} files are the same in the other byte order")
-    sys.exit(held != asked or same != again or kept != converted)
+    print(f"{turned} of {converted} files are the same in the other byte order")
+    print(f"{mended} of {repaired} repaired files have what was salvaged of damaged ones")
+    sys.exit(held != asked or same != again or turned != converted or mended != repaired)
 
 
 if __name__ == "__main__":

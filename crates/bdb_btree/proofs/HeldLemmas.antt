@@ -117,6 +117,11 @@ pub tree_keyed : (image : List ℕ) (root : ℕ) → IsForest image → IsRoot (
     → AreKeyed (file_of image) (tree_items (file_of image) root)
 tree_keyed image root forest is = leaves_keyed image (leaves (file_of image) root) forest (are_leaves image root forest is)
 
+pub stored_fit : (image : List ℕ) (root : ℕ) → IsForest image → FitsTreeRoot (file_of image) root
+    → AreFit (file_of image) (map (stored_as (file_of image)) (tree_items (file_of image) root))
+stored_fit image root forest is =
+    subst (AreFit (file_of image)) (sym (tree_stored image root forest (inl is))) (tree_pairs_fit image root forest is)
+
 -- Going through them.
 
 -- some pairs are passed, and these are left

@@ -1,5 +1,5 @@
 -- Pairs of leaves as their items hold them, and what is kept of them. Source: docs/FORMAT.md, "Items".
-use Rattle.std.specs.Prelude.{ℕ, not, Bool, true, List, [], ◌++◌, map, Option}
+use Rattle.std.specs.Prelude.{ℕ, not, Bool, true, List, [], ◌++◌, map, Option, Some, None}
 use Rattle.std.specs.List.{flat_map}
 use Rattle.std.specs.Option.{option_map}
 use Rattle.bdb_format.specs.Chains.{value_of}
@@ -12,7 +12,8 @@ use Rattle.bdb_form.specs.Pairs.{PairOf, pairs_from}
 use Rattle.bdb_layout.specs.Seen.{leaf_item_seen}
 use Rattle.bdb_overflow.specs.Datum.{FitsContent}
 use Rattle.bdb_overflow.specs.Held.{FitsAny, value_held}
-use Rattle.bdb_btree.specs.Bounds.{Bounds}
+use Rattle.bdb_overflow.specs.declared.held.Held.{Held}
+use Rattle.bdb_btree.specs.Bounds.{Bounds, under}
 use Rattle.bdb_btree.specs.Pairs.{Each, left_of}
 use Rattle.bdb_btree.specs.Rows.{Passed}
 use Rattle.bdb_btree.specs.Runs.{KeyOrder, Run}
@@ -91,6 +92,11 @@ bounds_seen file bounds = record {
   greatest = option_map (value_held file) bounds.greatest;
   wrong = bounds.wrong;
 }
+
+-- the first and the last key of a leaf, if it has any, below the last item
+abbrev pub under_ends : File → Bounds → Option (Held × Held) → Bounds
+under_ends file bounds None = bounds
+under_ends file bounds (Some ends) = under (under bounds (value_held file ends.0)) (value_held file ends.1)
 
 pub record FitsBounds (file : File) (bounds : CodeBounds) : Type 0 where
   pub separator : FitsAny file bounds.separator

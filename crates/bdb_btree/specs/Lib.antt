@@ -6,5 +6,3 @@ pub mod Pairs
 pub mod Rows
 pub mod Runs
 pub mod Search
-pub mod Told
-pub mod ToldPair

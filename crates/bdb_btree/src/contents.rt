@@ -20,7 +20,7 @@ use crate::separators::note_separators;
 use bdb_faults::{FaultSink, First, NamedList};
 use bdb_format::{BtreeMeta, CheckError};
 use bdb_graph::{Forest, Linked};
-use bdb_overflow::Values;
+use bdb_ranks::Values;
 use std::alloc::{AllocError, Global};
 
 /// No row on what a btree holds holds. A refusal is the first fault: the least page, and there the least code;
@@ -92,7 +92,8 @@ pub fn note_contents<'a, F: FaultSink>(
     ensures same { known.new ≡ known.old }
 {
     linked.root(meta);
-    note_forest(alloc, &linked.forest(), meta, known, found)?;
+    let forest = linked.forest();
+    note_forest(alloc, &forest, meta, known, found)?;
     Ok(())
 }
 

@@ -15,7 +15,8 @@ ghost use Rattle.bdb_graph.specs.Linked.{FitsDupRoot};
 use crate::held::HeldPair;
 use crate::order::is_not_above;
 use bdb_layout::LeafItem;
-use bdb_overflow::{Held, Values, is_deleted, leaf_held};
+use bdb_overflow::{Held, is_deleted, leaf_held};
+use bdb_ranks::Values;
 use bdb_tree::tree_entries;
 use std::alloc::AllocError;
 

@@ -15,18 +15,18 @@ use std::marker::Model;
 
 /// A pair of a leaf, as its items hold it: of a key or a value in a chain they tell the head.
 #[derive(Drop)]
-pub(crate) struct HeldPair<'a> {
+pub struct HeldPair<'a> {
     /// The leaf that holds it.
-    pub(crate) page: u32,
-    pub(crate) key: LeafItem<'a>,
-    pub(crate) value: LeafItem<'a>,
+    pub page: u32,
+    pub key: LeafItem<'a>,
+    pub value: LeafItem<'a>,
     /// Whether its key is that of the pair before it.
-    pub(crate) shares: bool,
+    pub shares: bool,
 }
 
 /// The pairs of one leaf that are left, in order.
 #[derive(Drop)]
-pub(crate) struct PageItems<'a> {
+pub struct PageItems<'a> {
     page: u32,
     pairs: bdb_form::PagePairs<'a, LeafKind>,
 }
@@ -86,7 +86,7 @@ fn next_pair<'a>(pairs: &mut Option<PageItems<'a>>) -> Option<HeldPair<'a>>
 
 /// The pairs of a tree that are left, from left to right.
 #[derive(Drop)]
-pub(crate) struct HeldPairs<'a> {
+pub struct HeldPairs<'a> {
     forest: Forest<'a>,
     here: Option<PageItems<'a>>,
     leaves: Leaves<'a>,

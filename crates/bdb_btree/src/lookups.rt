@@ -44,5 +44,6 @@ pub fn find<'a, L: Ledger>(
 {
     let leaf = leaf_for(linked, meta, key, steps);
     steps.tick();
-    found_on(&linked.forest(), leaf.number(), key)
+    let forest = linked.forest();
+    found_on(&forest, leaf.number(), key)
 }

@@ -1,14 +1,44 @@
 ghost use Rattle.std.specs.Prelude.{◌≡◌, IfOk, None, OnOk, false, true};
 ghost use Rattle.std.specs.Option.{option_map};
 ghost use Rattle.bdb_format.specs.File.{file_of};
+ghost use Rattle.bdb_format.specs.Less.{less};
 ghost use Rattle.bdb_btree.specs.Held.{keys_seen, pair_held, stored_as};
 ghost use Rattle.bdb_btree.specs.Runs.{is_not_above, next_key};
 ghost use Rattle.bdb_overflow.specs.Datum.{FitsContent};
 ghost use Rattle.bdb_overflow.specs.Held.{FitsAny, FitsHeld, value_held};
 
 use crate::held::HeldPair;
-use bdb_overflow::{Held, Values, leaf_held};
+use bdb_layout::compare;
+use bdb_overflow::{Held, leaf_held};
+use bdb_ranks::Values;
 use std::alloc::AllocError;
+use std::cmp::Ordering;
+
+/// Whether bytes of pages are less than others.
+#[tactic(auto, using(bdb_overflow::proofs::KeyLemmas::is_less))]
+fn is_less_bytes(a: &[u8], b: &[u8]) -> bool
+    ensures { result ≡ less a.now b.now }
+{
+    match compare(a, b) {
+        Ordering::Less => true,
+        Ordering::Equal => false,
+        Ordering::Greater => false,
+    }
+}
+
+/// Whether a value is less than another. Most lie on their pages, and are compared without a look at what is known. An error is
+/// want of memory, for chains that are shared.
+pub(crate) fn is_less(known: &mut Values<'_>, a: Held<'_>, b: Held<'_>) -> Result<bool, AllocError>
+    requires first { FitsHeld (file_of known.old) a }
+    requires second { FitsHeld (file_of known.old) b }
+    ensures less { IfOk result (λ is. is ≡ less (value_held (file_of known.old) a.entry) (value_held (file_of known.old) b.entry)) }
+    ensures same { known.new ≡ known.old }
+{
+    match (a, b) {
+        (Held::Inline(a), Held::Inline(b)) => Ok(is_less_bytes(a, b)),
+        _ => known.is_less(a, b),
+    }
+}
 
 /// Whether a value isn't above the one before it, where there is one. An error is want of memory, for chains that are
 /// shared.
@@ -24,7 +54,7 @@ pub(crate) fn is_not_above(
 {
     match before {
         Some(before) => {
-            let is_below = known.is_less(before, value)?;
+            let is_below = is_less(known, before, value)?;
             Ok(!is_below)
         }
         None => Ok(false),

@@ -17,7 +17,7 @@ use crate::held::{HeldPair, tree_items};
 use crate::order::KeyOrder;
 use bdb_faults::{ContentsRow, FaultSink, Row, note_if};
 use bdb_graph::Forest;
-use bdb_overflow::Values;
+use bdb_ranks::Values;
 use std::alloc::AllocError;
 
 /// What a database lets its pairs be.

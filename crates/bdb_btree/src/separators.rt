@@ -1,4 +1,4 @@
-ghost use Rattle.std.specs.Prelude.{◌≡◌, IfOk, OnOk};
+ghost use Rattle.std.specs.Prelude.{◌≡◌, IfOk, IfSome, OnOk};
 ghost use Rattle.std.specs.List.{All, fold};
 ghost use Rattle.std.specs.Option.{option_map};
 ghost use Rattle.bdb_graph.specs.Linked.{FitsLeafPage, IsForest};
@@ -10,20 +10,22 @@ ghost use Rattle.bdb_overflow.specs.Datum.{FitsContent};
 ghost use Rattle.bdb_overflow.specs.Held.{FitsAny, FitsHeld, value_held};
 ghost use Rattle.bdb_layout.specs.Seen.{internal_item_seen, key_seen};
 ghost use Rattle.bdb_btree.specs.Bounds.{DontFall, ItemsFit, OrderedIf, beyond, exceeds, is_below, no_bounds};
-ghost use Rattle.bdb_btree.specs.Bounds.{see_item, see_items, under, under_pair};
-ghost use Rattle.bdb_btree.specs.Held.{FitsBounds, bounds_seen};
+ghost use Rattle.bdb_btree.specs.Bounds.{Bounds as BoundsSeen, see_item, see_items, under, under_pair};
+ghost use Rattle.bdb_btree.specs.Held.{FitsBounds, bounds_seen, under_ends};
 ghost use Rattle.bdb_btree.specs.Noted.{faults_at};
 ghost use Rattle.bdb_faults.specs.declared.rows.ContentsRow.TheVariants.{Separator};
 ghost use Rattle.bdb_faults.specs.Notes.{Notes};
 ghost use Rattle.bdb_tree.specs.Trees.{IsTreePage};
 
 use crate::held::page_items;
-use crate::order::is_not_above;
+use crate::order::{is_less, is_not_above};
 use crate::pair::key_at;
 use bdb_faults::{ContentsRow, FaultSink, Row, note_if};
 use bdb_form::{InternalView, PageView};
+use bdb_graph::Forest;
 use bdb_layout::InternalItem;
-use bdb_overflow::{Held, Values, key_held, leaf_held};
+use bdb_overflow::{Held, key_held, leaf_held};
+use bdb_ranks::Values;
 use bdb_tree::leaves_below;
 use std::alloc::{AllocError, Global};
 
@@ -39,7 +41,7 @@ fn is_below(
     ensures same { known.new ≡ known.old }
 {
     match bound {
-        Some(bound) => known.is_less(value, bound),
+        Some(bound) => is_less(known, value, bound),
         None => Ok(false),
     }
 }
@@ -56,9 +58,31 @@ fn exceeds(
     ensures same { known.new ≡ known.old }
 {
     match greatest {
-        Some(greatest) => known.is_less(greatest, value),
+        Some(greatest) => is_less(known, greatest, value),
         None => Ok(true),
     }
+}
+
+/// The first and the last key of a leaf, if it has pairs. Where the keys don't fall, these bound the others.
+#[tactic(auto, using(bdb_tree::proofs::TreeLemmas::leaf_inside, crate::proofs::SeparatorLemmas::no_ends))]
+fn ends_of<'a>(forest: &Forest<'a>, leaf: u32) -> Option<(Held<'a>, Held<'a>)>
+    requires leaf { FitsLeafPage (file_of forest.now) leaf }
+    requires order { DontFall (pairs_of (file_of forest.now) leaf) }
+    ensures ends { (bounds : BoundsSeen) → fold under_pair bounds (pairs_of (file_of forest.now) leaf) ≡ under_ends (file_of forest.now) bounds result }
+    ensures first { IfSome result (λ ends. FitsHeld (file_of forest.now) ends.0) }
+    ensures last { IfSome result (λ ends. FitsHeld (file_of forest.now) ends.1) }
+{
+    let PageView::Leaf(view) = forest.page(leaf) else {
+        return None;
+    };
+    let pairs = view.pairs();
+    if pairs == 0 {
+        return None;
+    }
+    Some((
+        key_at(forest, leaf, &view, 0),
+        key_at(forest, leaf, &view, pairs - 1),
+    ))
 }
 
 /// What is kept of an internal page while its items are gone through: the key of the last item above index 0,
@@ -126,7 +150,11 @@ impl<'a> Bounds<'a> {
         ensures fits { OnOk result (FitsBounds (file_of known.old) self.new) }
         ensures same { known.new ≡ known.old }
     {
-        if let Some(pairs) = page_items(&known.forest(), leaf) {
+        let items = {
+            let forest = known.forest();
+            page_items(&forest, leaf)
+        };
+        if let Some(pairs) = items {
             for pair in pairs {
                 self.see_key(known, leaf_held(&pair.key))?;
             }
@@ -135,7 +163,6 @@ impl<'a> Bounds<'a> {
     }
 
     /// The same where the keys don't fall: the first and the last bound the others.
-    #[tactic(auto, using(bdb_tree::proofs::TreeLemmas::leaf_inside, crate::proofs::SeparatorLemmas::no_ends))]
     fn see_ends(&mut self, known: &mut Values<'a>, leaf: u32) -> Result<(), AllocError>
         requires bounds { FitsBounds (file_of known.old) self.old }
         requires leaf { FitsLeafPage (file_of known.old) leaf }
@@ -145,13 +172,13 @@ impl<'a> Bounds<'a> {
         ensures fits { OnOk result (FitsBounds (file_of known.old) self.new) }
         ensures same { known.new ≡ known.old }
     {
-        let forest = known.forest();
-        if let PageView::Leaf(view) = forest.page(leaf) {
-            let pairs = view.pairs();
-            if pairs > 0 {
-                self.see_key(known, key_at(&forest, leaf, &view, 0))?;
-                self.see_key(known, key_at(&forest, leaf, &view, pairs - 1))?;
-            }
+        let ends = {
+            let forest = known.forest();
+            ends_of(&forest, leaf)
+        };
+        if let Some((first, last)) = ends {
+            self.see_key(known, first)?;
+            self.see_key(known, last)?;
         }
         Ok(())
     }

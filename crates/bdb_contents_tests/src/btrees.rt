@@ -3,11 +3,11 @@
 ghost use Rattle.std.specs.Prelude.{◌≡◌};
 
 use crate::told::{Told, told_by};
-use bdb_btree::{LeafPair, check, pairs};
+use bdb_btree::{HeldPair, check, pairs};
 use bdb_fixtures::{Field, btree_of, has_sound_trees, is_keyed, write};
 use bdb_format::{Order, Steps};
 use bdb_graph::{Linked, link, open_image};
-use bdb_overflow::Datum;
+use bdb_overflow::{Held, is_deleted, leaf_held};
 use std::alloc::Global;
 use std::marker::Brand;
 use std::sync::ledger::{Blank, Ledger};
@@ -314,10 +314,10 @@ fn tells_the_first_fault_of_a_btree(rt: HostRuntime) {
 }
 
 /// Whether a pair has this key, no bytes of data, and is live or not.
-fn is_pair(pair: &LeafPair<'_>, key: &[u8], live: bool) -> bool {
-    match (&pair.key, &pair.value) {
-        (Datum::Inline(bytes), Some(Datum::Inline(value))) => {
-            *bytes == key && value.is_empty() && pair.live == live && pair.page == 1
+fn is_pair(pair: &HeldPair<'_>, key: &[u8], live: bool) -> bool {
+    match (leaf_held(&pair.key), leaf_held(&pair.value)) {
+        (Held::Inline(bytes), Held::Inline(value)) => {
+            bytes == key && value.is_empty() && is_deleted(&pair.value) != live && pair.page == 1
         }
         _ => false,
     }

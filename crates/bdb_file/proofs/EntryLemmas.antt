@@ -1,21 +1,21 @@
 -- The master of a file, its live pairs, and the pages that they name.
-use Rattle.std.proofs.Common.{◌≡◌, add-one, ℕ, Bool, true, false, cond, List, [], ◌∷◌, length, map, Option, Some, None, arith, refl, sym, ◌∙◌, ap}
+use Rattle.std.proofs.Common.{◌≡◌, add-one, ℕ, Bool, true, false, cond, List, [], ◌∷◌, length, map, Option, Some, None, arith, refl, sym, ◌∙◌, ap, subst}
 use Rattle.std.specs.Prelude.{◌==◌}
 use Rattle.std.specs.List.{filter, range_with_len, slice_get}
 use Rattle.std.proofs.lemmas.Bool.{ne_eqb, true≢false}
 use Rattle.std.proofs.lemmas.List.{take_all}
 use Rattle.bdb_format.specs.declared.kinds.Order.TheVariants.{Big}
 use Rattle.bdb_format.specs.declared.metadata.BtreeMeta.{BtreeMeta}
-use Rattle.bdb_format.specs.Chains.{value_of}
 use Rattle.bdb_format.specs.Contents.{StoredPair, tree_pairs}
 use Rattle.bdb_format.specs.File.{File, page_at}
 use Rattle.bdb_format.specs.Graph.{is_meta}
 use Rattle.bdb_format.specs.Numbers.{four_at, number, number_at}
-use Rattle.bdb_format.specs.Page.{Content, Inline, Page, Meta}
+use Rattle.bdb_format.specs.Page.{Page, Meta}
 use Rattle.bdb_graph.specs.Linked.{meta_pages}
-use Rattle.bdb_overflow.specs.Datum.{single_value}
-use Rattle.bdb_btree.specs.ToldPair.{told_pair}
-use Rattle.bdb_file.specs.Entries.{entry_of, live_entries, master_entries, named, page_in}
+use Rattle.bdb_overflow.specs.Datum.{FitsContent}
+use Rattle.bdb_btree.specs.Held.{ItemPair, stored_as}
+use Rattle.bdb_btree.specs.Pairs.{AreFit}
+use Rattle.bdb_file.specs.Entries.{NamedPair, entry_of, live_entries, master_entries, named}
 use Rattle.bdb_format.specs.Master.{master_in, master_pairs, named_by, page_named, pairs_under}
 
 -- Values that name pages.
@@ -35,23 +35,43 @@ names_none bytes other = rw (ne_eqb (length bytes) 4 other) refl
 
 -- Live pairs.
 
-same_name : (file : File) (content : Content) → page_in (single_value file content) ≡ named_by file content
-unfolding value_of
-same_name file (Inline bytes) = refl
-same_name file content = refl
+-- one that is live
+pub live_first : (file : File) (old left : List ItemPair) (pair : ItemPair) (names : Option ℕ) → old ≡ pair ∷ left → pair.value.deleted ≡ false
+    → names ≡ named_by file pair.value.content → live_entries file old ≡ entry_of file names pair ∷ live_entries file left
+live_first file old left pair names steps live are = rw (steps, live, are) refl
 
-same_entry : (file : File) (pair : StoredPair) → entry_of (told_pair file pair) ≡ named file pair
-same_entry file pair = ap (λ (n : Option ℕ). record { page = pair.page; key = pair.key; names = n }) (same_name file pair.data_item)
+-- or isn't
+pub not_live : (file : File) (old left : List ItemPair) (pair : ItemPair) → old ≡ pair ∷ left → pair.value.deleted ≡ true
+    → live_entries file old ≡ live_entries file left
+not_live file old left pair steps deleted = rw (steps, deleted) refl
 
-live_are : (file : File) (pairs : List StoredPair)
-    → live_entries (map (told_pair file) pairs) ≡ map (named file) (filter (λ (pair : StoredPair). pair.live) pairs)
+abbrev stored_live : File → List ItemPair → List NamedPair
+stored_live file pairs = map (named file) (filter (λ (pair : StoredPair). pair.live) (map (stored_as file) pairs))
+
+live_more : (file : File) (pair : ItemPair) (pairs : List ItemPair) (deleted : Bool) → pair.value.deleted ≡ deleted
+    → live_entries file pairs ≡ stored_live file pairs → live_entries file (pair ∷ pairs) ≡ stored_live file (pair ∷ pairs)
+live_more file pair pairs true is rest = rw is rest
+live_more file pair pairs false is rest = rw is (ap (λ (entries : List NamedPair). named file (stored_as file pair) ∷ entries) rest)
+
+live_are : (file : File) (pairs : List ItemPair) → live_entries file pairs ≡ stored_live file pairs
 live_are file [] = refl
-live_are file (pair ∷ pairs) = grind (arith, same_entry file pair, live_are file pairs)
+live_are file (pair ∷ pairs) = live_more file pair pairs pair.value.deleted refl (live_are file pairs)
 
-pub entries_of_master : (file : File) (meta : BtreeMeta) → Some meta ≡ master_in (page_at file 0)
-    → live_entries (map (told_pair file) (tree_pairs file meta.root)) ≡ master_entries file
+-- what the data of a pair name is there
+pub first_fits : (file : File) (old left : List ItemPair) (pair : ItemPair) → AreFit file (map (stored_as file) old) → old ≡ pair ∷ left
+    → FitsContent file pair.value.content
+first_fits file old left pair fits steps = (subst (λ pairs. AreFit file (map (stored_as file) pairs)) steps fits).0.content
+
+pub rest_fits : (file : File) (old left : List ItemPair) (pair : ItemPair) → AreFit file (map (stored_as file) old) → old ≡ pair ∷ left
+    → AreFit file (map (stored_as file) left)
+rest_fits file old left pair fits steps = (subst (λ pairs. AreFit file (map (stored_as file) pairs)) steps fits).1
+
+pub entries_of_master : (file : File) (meta : BtreeMeta) (pairs : List ItemPair) → Some meta ≡ master_in (page_at file 0)
+    → map (stored_as file) pairs ≡ tree_pairs file meta.root → live_entries file pairs ≡ master_entries file
 unfolding master_pairs
-entries_of_master file meta is = live_are file (tree_pairs file meta.root) ∙ ap (λ m. map (named file) (pairs_under file m)) is
+entries_of_master file meta pairs is are =
+    live_are file pairs
+    ∙ (ap (λ stored. map (named file) (filter (λ (pair : StoredPair). pair.live) stored)) are ∙ ap (λ m. map (named file) (pairs_under file m)) is)
 
 pub no_entries : (file : File) → None ≡ master_in (page_at file 0) → [] ≡ master_entries file
 unfolding master_pairs

@@ -1,47 +1,37 @@
 -- The keys that came before a pair of a master, and the faults of the pairs that repeat one.
-use Rattle.std.proofs.Common.{◌≡◌, ℕ, suc, ◌+◌, ◌<◌, ◌≤◌, Bool, true, false, not, cond, List, [], ◌∷◌, ◌++◌, length, take, drop, get_or, reverse, arith, refl, sym, ◌∙◌, ap, subst, drop-cons, append_assoc, append-nil}
-use Rattle.std.specs.Prelude.{Some, None}
+use Rattle.std.proofs.Common.{◌≡◌, ℕ, Bool, true, false, not, cond, List, [], ◌∷◌, ◌++◌, refl, sym, ◌∙◌, ap, subst, append_assoc, append-nil}
+use Rattle.std.specs.Prelude.{Some, None, ◌||◌}
 use Rattle.std.specs.BTreeSet.{BTreeSet, IsEmpty, Updates}
 use Rattle.std.specs.Cmp.Lexicographic.{slice_cmp}
 use Rattle.std.specs.List.{flat_map}
 use Rattle.std.specs.Ordering.{nat_cmp}
 use Rattle.std.specs.Str.{bytes_eq}
-use Rattle.std.proofs.lemmas.List.{drop_all, reverse-append, take_more}
 use Rattle.std.proofs.lemmas.Map.Text.{is_eq-slice_cmp}
 use Rattle.bdb_format.specs.declared.kinds.Fault.{Fault}
-use Rattle.bdb_format.proofs.BoolLemmas.{cond_or}
 use Rattle.bdb_overflow.specs.Keys.{has_item, has_key, repeated_by}
 use Rattle.bdb_faults.specs.Notes.{Notes, NotesAll}
 use Rattle.bdb_faults.proofs.SinkLemmas.{notes_nothing, notes_one, notes_then}
 use Rattle.std.specs.Option.{option_to_list}
-use Rattle.bdb_file.specs.Entries.{NamedPair, by_repeat, key_of, repeat_fault, repeat_of}
+use Rattle.bdb_btree.specs.Held.{ItemPair}
+use Rattle.bdb_file.specs.Entries.{NamedPair, by_repeat, entry_of, fault_at, key_of, live_entries, repeat_fault, repeat_of}
+use Rattle.bdb_file.specs.Names.{HasAdded}
+use Rattle.bdb_file.proofs.EntryLemmas.{live_first, not_live}
+use Rattle.bdb_format.specs.Chains.{value_of}
+use Rattle.bdb_format.specs.File.{File}
+use Rattle.bdb_format.specs.Master.{named_by}
+use Rattle.bdb_format.proofs.BoolLemmas.{cond_or}
+use Rattle.bdb_format.proofs.LessLemmas.{eq_same}
 
 abbrev faults_of : List NamedPair → List Fault
 faults_of entries = flat_map (λ entry. option_to_list (repeat_fault entry)) entries
 
--- the keys are those of the pairs before one, and of the pairs before it those that repeat a key are noted
-pub record IsNoted (before now : List Fault → Type 0) (keys : BTreeSet (List ℕ)) (entries : List NamedPair) (i : ℕ) : Type 0 where
-  pub keys_are : (sought : List ℕ) → has_key keys sought ≡ has_item key_of (reverse (take i entries)) sought
+-- the keys are those of the pairs that were passed, the last one first, and of these those that repeat a key are noted
+pub record IsNoted (before now : List Fault → Type 0) (keys : BTreeSet (List ℕ)) (file : File) (all left : List ItemPair) : Type 0 where
+  pub passed : List NamedPair
+  pub keys_are : (sought : List ℕ) → has_key keys sought ≡ has_item key_of passed sought
   pub more : List Fault
   pub notes : Notes before now more
-  pub whole : more ++ faults_of (repeated_by key_of (reverse (take i entries)) (drop i entries)) ≡ by_repeat entries
-
-one_before : (xs : List NamedPair) (i : ℕ) (x : NamedPair) → i < length xs → x ≡ get_or xs i x → reverse (take (i + 1) xs) ≡ x ∷ reverse (take i xs)
-one_before xs i x below is =
-    let more : take (i + 1) xs ≡ take i xs ++ x ∷ [] = take_more xs i x below ∙ ap (λ (one : NamedPair). take i xs ++ one ∷ []) (sym is) in
-    ap reverse more ∙ reverse-append (take i xs) (x ∷ [])
-
-one_left : (xs : List NamedPair) (i : ℕ) (x : NamedPair) → i < length xs → x ≡ get_or xs i x → drop i xs ≡ x ∷ drop (i + 1) xs
-one_left xs i x below is =
-    let next : suc i ≡ i + 1 = omega arith in
-    drop-cons xs i x below ∙ (ap (λ (one : NamedPair). one ∷ drop (suc i) xs) (sym is) ∙ ap (λ n. x ∷ drop n xs) next)
-
-keys_more : (keys more : BTreeSet (List ℕ)) (xs : List NamedPair) (x : NamedPair) → ((sought : List ℕ) → has_key keys sought ≡ has_item key_of xs sought)
-    → Updates (slice_cmp nat_cmp) keys more x.key true → (sought : List ℕ) → has_key more sought ≡ has_item key_of (x ∷ xs) sought
-keys_more keys more xs x are updates sought =
-    updates.0 sought
-    ∙ (ap (λ b. cond b true (has_key keys sought)) (is_eq-slice_cmp x.key sought)
-    ∙ (ap (λ b. cond (bytes_eq x.key sought) true b) (are sought) ∙ cond_or (bytes_eq x.key sought) (has_item key_of xs sought)))
+  pub whole : more ++ faults_of (repeated_by key_of passed (live_entries file left)) ≡ by_repeat (live_entries file all)
 
 -- a pair is noted where its key isn't new
 one_noted : (x : NamedPair) (later : List NamedPair) (has : Bool)
@@ -49,37 +39,76 @@ one_noted : (x : NamedPair) (later : List NamedPair) (has : Bool)
 one_noted x later true = refl
 one_noted x later false = refl
 
-pub noted_on : (before now after : List Fault → Type 0) (keys more : BTreeSet (List ℕ)) (xs : List NamedPair) (i : ℕ) (x : NamedPair) (is_new : Bool)
-    → IsNoted before now keys xs i → i < length xs → x ≡ get_or xs i x → is_new ≡ not (has_key keys x.key)
-    → Updates (slice_cmp nat_cmp) keys more x.key true → Notes now after (option_to_list (cond is_new None (Some (repeat_of x))))
-    → IsNoted before after more xs (i + 1)
-noted_on before now after keys more xs i x is_new noted below is new updates notes =
-    let has : Bool = has_item key_of (reverse (take i xs)) x.key in
-    let says : is_new ≡ not has = new ∙ ap not (noted.keys_are x.key) in
+-- one pair more, which is live
+pub noted_on : (before now after : List Fault → Type 0) (keys more : BTreeSet (List ℕ)) (file : File) (all old left : List ItemPair) (pair : ItemPair)
+    (value : List ℕ) (is_new : Bool)
+    → IsNoted before now keys file all old → old ≡ pair ∷ left → pair.value.deleted ≡ false → value ≡ value_of file pair.key.content
+    → is_new ≡ not (has_key keys value) → HasAdded keys more value
+    → Notes now after (option_to_list (cond is_new None (Some (fault_at pair.page 4)))) → IsNoted before after more file all left
+noted_on before now after keys more file all old left pair value is_new noted steps live is new added notes =
+    let x : NamedPair = entry_of file (named_by file pair.value.content) pair in
+    let has : Bool = has_item key_of noted.passed x.key in
+    let says : is_new ≡ not has = new ∙ ap not (ap (has_key keys) is ∙ noted.keys_are x.key) in
     let one : List Fault = option_to_list (cond is_new None (Some (repeat_of x))) in
-    let later : List NamedPair = repeated_by key_of (x ∷ reverse (take i xs)) (drop (i + 1) xs) in
+    let later : List NamedPair = repeated_by key_of (x ∷ noted.passed) (live_entries file left) in
     record {
+      passed = x ∷ noted.passed;
       keys_are = λ sought.
-          keys_more keys more (reverse (take i xs)) x noted.keys_are updates sought
-          ∙ ap (λ befores. has_item key_of befores sought) (sym (one_before xs i x below is));
+          added.each sought
+          ∙ (ap (λ (v : List ℕ). bytes_eq v sought || has_key keys sought) is ∙ ap (λ b. bytes_eq x.key sought || b) (noted.keys_are sought));
       more = noted.more ++ one;
       notes = notes_then before now after noted.more one noted.notes notes;
       whole =
-          ap (λ befores. (noted.more ++ one) ++ faults_of (repeated_by key_of befores (drop (i + 1) xs))) (one_before xs i x below is)
-          ∙ (append_assoc noted.more one (faults_of later)
+          append_assoc noted.more one (faults_of later)
           ∙ (ap (λ fs. noted.more ++ fs)
           (ap (λ b. option_to_list (cond b None (Some (repeat_of x))) ++ faults_of later) says ∙ one_noted x later has
-          ∙ ap (λ left. faults_of (repeated_by key_of (reverse (take i xs)) left)) (sym (one_left xs i x below is)))
-          ∙ noted.whole));
+          ∙ ap (λ entries. faults_of (repeated_by key_of noted.passed entries))
+          (sym (live_first file old left pair (named_by file pair.value.content) steps live refl)))
+          ∙ noted.whole);
     }
 
-pub begun : (has : List Fault → Type 0) (keys : BTreeSet (List ℕ)) (xs : List NamedPair) → IsEmpty keys → IsNoted has has keys xs 0
-begun has keys xs empty = record { keys_are = λ sought. rw empty refl; more = []; notes = notes_nothing has; whole = refl }
+-- or isn't
+pub noted_past : (before now : List Fault → Type 0) (keys : BTreeSet (List ℕ)) (file : File) (all old left : List ItemPair) (pair : ItemPair)
+    → IsNoted before now keys file all old → old ≡ pair ∷ left → pair.value.deleted ≡ true → IsNoted before now keys file all left
+noted_past before now keys file all old left pair noted steps deleted = record {
+  passed = noted.passed;
+  keys_are = noted.keys_are;
+  more = noted.more;
+  notes = noted.notes;
+  whole =
+      ap (λ entries. noted.more ++ faults_of (repeated_by key_of noted.passed entries)) (sym (not_live file old left pair steps deleted)) ∙ noted.whole;
+}
 
-pub all_noted : (before after : List Fault → Type 0) (keys : BTreeSet (List ℕ)) (xs : List NamedPair) (i : ℕ) → IsNoted before after keys xs i → length xs ≤ i
-    → NotesAll before after (by_repeat xs)
-all_noted before after keys xs i noted all =
+pub begun : (has : List Fault → Type 0) (keys : BTreeSet (List ℕ)) (file : File) (all : List ItemPair) → IsEmpty keys → IsNoted has has keys file all all
+begun has keys file all empty = record {
+  passed = [];
+  keys_are = λ sought. rw empty refl;
+  more = [];
+  notes = notes_nothing has;
+  whole = refl;
+}
+
+pub all_noted : (before after : List Fault → Type 0) (keys : BTreeSet (List ℕ)) (file : File) (all left : List ItemPair) → IsNoted before after keys file all left
+    → left ≡ [] → NotesAll before after (by_repeat (live_entries file all))
+all_noted before after keys file all left noted none =
     subst (NotesAll before after)
     (sym (append-nil noted.more)
-    ∙ (ap (λ left. noted.more ++ faults_of (repeated_by key_of (reverse (take i xs)) left)) (sym (drop_all i xs all)) ∙ noted.whole))
+    ∙ (ap (λ entries. noted.more ++ faults_of (repeated_by key_of noted.passed (live_entries file entries))) (sym none) ∙ noted.whole))
     (notes_one before after noted.more noted.notes)
+
+-- The names that were seen.
+
+-- a key that is among them changes nothing
+pub added_again : (keys : BTreeSet (List ℕ)) (key : List ℕ) → has_key keys key ≡ true → HasAdded keys keys key
+added_again keys key has = record { each = λ sought. again sought (bytes_eq key sought) refl }
+  where
+    again : (sought : List ℕ) (same : Bool) → bytes_eq key sought ≡ same → has_key keys sought ≡ (bytes_eq key sought || has_key keys sought)
+    again sought true is = ap (has_key keys) (sym (eq_same key sought is)) ∙ (has ∙ ap (λ b. b || has_key keys sought) (sym is))
+    again sought false is = ap (λ b. b || has_key keys sought) (sym is)
+
+-- a key that was added is one more
+pub added_once : (old new : BTreeSet (List ℕ)) (key : List ℕ) → Updates (slice_cmp nat_cmp) old new key true → HasAdded old new key
+added_once old new key updates = record {
+  each = λ sought.
+      updates.0 sought ∙ (ap (λ b. cond b true (has_key old sought)) (is_eq-slice_cmp key sought) ∙ cond_or (bytes_eq key sought) (has_key old sought));
+}

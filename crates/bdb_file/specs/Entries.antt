@@ -1,12 +1,16 @@
 -- The live pairs of a master as the code keeps them, and the faults of stage 7 that they give. Source: docs/FORMAT.md, "Stage 7, the master".
 use Rattle.std.specs.Option.{option_to_list}
 use Rattle.std.specs.Prelude.{◌≡◌, ℕ, ◌+◌, ◌<◌, nat_lt, ◌==◌, min, if◌then◌else◌, List, [], ◌∷◌, ◌++◌, map, length, get_or, Option, Some, None}
+use Rattle.std.specs.BTreeMap.{BTreeMap, get}
 use Rattle.std.specs.List.{filter, flat_map}
+use Rattle.std.specs.Ordering.{nat_cmp}
 use Rattle.bdb_format.specs.declared.kinds.Fault.{Fault}
 use Rattle.bdb_format.specs.Contents.{StoredPair}
-use Rattle.bdb_format.specs.File.{File}
-use Rattle.bdb_btree.specs.ToldPair.{ToldPair}
+use Rattle.bdb_format.specs.Chains.{value_of}
+use Rattle.bdb_format.specs.File.{File, file_of}
+use Rattle.bdb_btree.specs.Held.{ItemPair}
 use Rattle.bdb_graph.specs.Linked.{meta_pages}
+use Rattle.bdb_overflow.specs.Held.{chain_value}
 use Rattle.bdb_overflow.specs.Keys.{repeated_by}
 use Rattle.bdb_format.specs.Master.{is_named_kind, is_page, master_pairs, named_by, page_named}
 
@@ -23,18 +27,19 @@ named file pair = record { page = pair.page; key = pair.key; names = named_by fi
 abbrev pub master_entries : File → List NamedPair
 master_entries file = map (named file) (master_pairs file)
 
--- the page that a value names; a set names none
-abbrev pub page_in : Option (List ℕ) → Option ℕ
-page_in None = None
-page_in (Some bytes) = page_named bytes
+-- a pair that its items hold, which names a page or none
+abbrev pub entry_of : File → Option ℕ → ItemPair → NamedPair
+entry_of file names pair = record { page = pair.page; key = value_of file pair.key.content; names = names }
 
-abbrev pub entry_of : ToldPair → NamedPair
-entry_of pair = record { page = pair.page; key = pair.key; names = page_in pair.value }
+-- the live ones of pairs that their items hold
+abbrev pub live_entries : File → List ItemPair → List NamedPair
+live_entries file [] = []
+live_entries file (pair ∷ pairs) =
+    if pair.value.deleted then live_entries file pairs else entry_of file (named_by file pair.value.content) pair ∷ live_entries file pairs
 
--- the live ones of pairs that are told
-abbrev pub live_entries : List ToldPair → List NamedPair
-live_entries [] = []
-live_entries (pair ∷ pairs) = if pair.live then entry_of pair ∷ live_entries pairs else live_entries pairs
+-- the pages that these chains name, by their heads
+pub record AreNamed (image : List ℕ) (chains : BTreeMap ℕ (Option ℕ)) : Type 0 where
+  pub each : (head : ℕ) (named : Option ℕ) → get nat_cmp chains head ≡ Some named → named ≡ page_named (chain_value (file_of image) head)
 
 abbrev pub fault_at : ℕ → ℕ → Fault
 fault_at page code = record { stage = 7; page = page; code = code }

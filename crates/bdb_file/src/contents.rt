@@ -9,8 +9,8 @@ ghost use Rattle.bdb_format.specs.File.{file_of};
 use bdb_btree::note_contents as note_btree;
 use bdb_faults::FaultSink;
 use bdb_graph::{Linked, Meta};
-use bdb_hash::note_contents as note_hash;
-use bdb_overflow::Values;
+use bdb_hash::{Chains, note_contents as note_hash};
+use bdb_ranks::Values;
 use bdb_recno::note_contents as note_recno;
 use std::alloc::{AllocError, Global};
 
@@ -20,20 +20,23 @@ fn note_database<'a, F: FaultSink>(
     linked: &Linked<'a>,
     meta: &Meta,
     known: &mut Values<'a>,
+    chains: &mut Chains<'a>,
     found: &mut F,
 ) -> Result<(), AllocError>
     requires meta { HasMetadata (file_of linked.now) (meta_seen meta.now) }
     requires stage { structure_faults (file_of linked.now) ≡ [] }
     requires known { known.old ≡ linked.now }
+    requires chains { chains.old ≡ linked.now }
     ensures noted { OnOk result (NotesAll (F.has_noted found.old) (F.has_noted found.new) (database_faults (file_of linked.now) (meta_seen meta.now))) }
-    ensures same { known.new ≡ known.old }
+    ensures known { known.new ≡ known.old }
+    ensures chains { chains.new ≡ chains.old }
 {
     match meta {
         Meta::Btree(meta) if meta.flags & 0x02 == 0 => note_btree(
             alloc, linked, meta, known, found,
         ),
         Meta::Btree(meta) => note_recno(alloc, linked, meta, found),
-        Meta::Hash(meta) => note_hash(alloc, linked, meta, found),
+        Meta::Hash(meta) => note_hash(alloc, linked, meta, chains, found),
         Meta::Queue(_) => Ok(()),
     }
 }
@@ -50,9 +53,10 @@ pub(crate) fn note_contents<F: FaultSink>(
     ensures { OnOk result (NotesAll (F.has_noted found.old) (F.has_noted found.new) (contents_faults (file_of linked.now))) }
 {
     let mut known = Values::new(alloc, linked.forest());
+    let mut chains = Chains::new(alloc, linked.forest());
     for i in 0..linked.metas() {
         let (_, meta) = linked.meta(i);
-        note_database(alloc, linked, &meta, &mut known, found)?;
+        note_database(alloc, linked, &meta, &mut known, &mut chains, found)?;
     }
     Ok(())
 }

@@ -1,19 +1,19 @@
 ghost use Rattle.std.specs.Prelude.{◌≡◌, ◌++◌, [], IfOk, OnOk, map};
-ghost use Rattle.std.specs.Option.{option_map};
-ghost use Rattle.bdb_btree.specs.Told.{leaf_pair_seen};
-ghost use Rattle.bdb_file.specs.Entries.{entry_of, live_entries, master_entries, page_in};
-ghost use Rattle.bdb_format.specs.Master.{master_in, page_named};
+ghost use Rattle.bdb_btree.specs.Held.{AreKeyed, pair_held, stored_as};
+ghost use Rattle.bdb_btree.specs.Pairs.{AreFit};
+ghost use Rattle.bdb_file.specs.Entries.{entry_of, live_entries, master_entries};
+ghost use Rattle.bdb_format.specs.Master.{master_in};
 ghost use Rattle.bdb_graph.specs.Metas.{meta_seen};
 ghost use Rattle.bdb_format.specs.File.{file_of, page_at};
 ghost use Rattle.bdb_format.specs.Page.{Meta as MetaPage};
 ghost use Rattle.bdb_format.specs.Verdict.{structure_faults};
-ghost use Rattle.bdb_overflow.specs.Datum.{datum_seen};
+ghost use Rattle.bdb_overflow.specs.Datum.{FitsContent};
 
-use bdb_btree::{LeafPair, LeafPairs, pairs};
-use bdb_format::{BtreeMeta, Bytes, Order};
-use bdb_graph::{Linked, Meta};
-use bdb_layout::u32_at;
-use bdb_overflow::Datum;
+use crate::named_pages::NamedPages;
+use bdb_btree::{HeldPair, HeldPairs, pairs};
+use bdb_format::{BtreeMeta, Bytes};
+use bdb_graph::{Forest, Linked, Meta};
+use bdb_overflow::{Datum, is_deleted, value_of};
 use std::alloc::{AllocError, Global};
 use std::marker::Model;
 
@@ -34,39 +34,17 @@ impl<'a> Model for Entry<'a> {
     ghost view = { λ it. record { page = it.page; key = datum_seen it.key; names = it.names } };
 }
 
-/// The page that a value names: four bytes, the high end first. An error is want of memory.
-#[tactic(auto, using(crate::proofs::EntryLemmas::named_by_four, crate::proofs::EntryLemmas::names_none))]
-fn page_named(alloc: Global, value: &Datum<'_>) -> Result<Option<u32>, AllocError>
-    ensures { IfOk result (λ named. named ≡ page_named (datum_seen value.now)) }
-{
-    if !value.has_len(4) {
-        return Ok(None);
-    }
-    let bytes = value.copy(alloc)?;
-    Ok(Some(u32_at(bytes.as_slice(), 0, Order::Big)))
-}
-
-/// The page that the data of a pair name, unless they are a set.
-fn page_in(alloc: Global, value: &Option<Datum<'_>>) -> Result<Option<u32>, AllocError>
-    ensures { IfOk result (λ named. named ≡ page_in (option_map datum_seen value.now)) }
-{
-    match value {
-        Some(value) => page_named(alloc, value),
-        None => Ok(None),
-    }
-}
-
 impl<'a> Entry<'a> {
-    /// A pair of a master. An error is want of memory.
-    fn of(alloc: Global, pair: LeafPair<'a>) -> Result<Entry<'a>, AllocError>
-        ensures { IfOk result (λ entry. entry ≡ entry_of (leaf_pair_seen pair.entry)) }
+    /// A live pair of a master, which names a page or none.
+    fn of(forest: &Forest<'a>, pair: &HeldPair<'a>, names: Option<u32>) -> Entry<'a>
+        requires { FitsContent (file_of forest.now) (pair_held pair.now).key.content }
+        ensures { result ≡ entry_of (file_of forest.now) names (pair_held pair.now) }
     {
-        let names = page_in(alloc, &pair.value)?;
-        Ok(Entry {
+        Entry {
             page: pair.page,
-            key: pair.key,
+            key: value_of(forest, &pair.key),
             names,
-        })
+        }
     }
 
     /// The leaf that holds the pair.
@@ -74,12 +52,6 @@ impl<'a> Entry<'a> {
         ensures { result ≡ self.now.page }
     {
         self.page
-    }
-
-    pub(crate) fn key(&self) -> Datum<'a>
-        ensures { datum_seen result ≡ self.now.key }
-    {
-        self.key.again()
     }
 
     /// The bytes of the key in a list of their own. An error is want of memory.
@@ -122,17 +94,23 @@ fn master_among(meta: Meta) -> Option<BtreeMeta>
     }
 }
 
-/// Adds the live ones of these pairs.
+/// Adds the live ones of these pairs. An error is want of memory.
+#[tactic(auto, using(crate::proofs::EntryLemmas::first_fits, crate::proofs::EntryLemmas::live_first, crate::proofs::EntryLemmas::not_live, crate::proofs::EntryLemmas::rest_fits, bdb_btree::proofs::HeldLemmas::first_keyed, bdb_btree::proofs::HeldLemmas::rest_keyed))]
 fn push_live<'a>(
     alloc: Global,
     entries: &mut Vec<Entry<'a>>,
-    pairs: LeafPairs<'a>,
+    known: &mut NamedPages<'a>,
+    pairs: HeldPairs<'a>,
 ) -> Result<(), AllocError>
-    ensures { OnOk result (entries.new.items ≡ entries.old.items ++ live_entries pairs.entry) }
+    requires keyed { AreKeyed (file_of known.old) pairs }
+    requires fits { AreFit (file_of known.old) (map (stored_as (file_of known.old)) pairs) }
+    ensures { OnOk result (entries.new.items ≡ entries.old.items ++ live_entries (file_of known.old) pairs.entry) }
 {
+    let forest = known.forest();
     for pair in pairs {
-        if pair.live {
-            entries.push(Entry::of(alloc, pair)?)?;
+        if !is_deleted(&pair.value) {
+            let names = known.named_by(alloc, &pair.value)?;
+            entries.push(Entry::of(&forest, &pair, names))?;
         }
     }
     Ok(())
@@ -149,7 +127,8 @@ pub(crate) fn master_entries<'a>(
 {
     let mut entries = Vec::new(alloc);
     if let Some(meta) = master_of(linked) {
-        push_live(alloc, &mut entries, pairs(linked, &meta))?;
+        let mut known = NamedPages::new(alloc, linked.forest());
+        push_live(alloc, &mut entries, &mut known, pairs(linked, &meta))?;
     }
     Ok(entries)
 }

@@ -2,7 +2,7 @@ ghost use Rattle.std.specs.Prelude.{◌≡◌, [], OnOk};
 ghost use Rattle.bdb_faults.specs.Notes.{NotesAll};
 ghost use Rattle.bdb_file.specs.Entries.{master_entries};
 ghost use Rattle.bdb_format.specs.File.{file_of};
-ghost use Rattle.bdb_format.specs.Verdict.{master_faults};
+ghost use Rattle.bdb_format.specs.Verdict.{master_faults, structure_faults};
 
 use crate::counts::note_naming;
 use crate::entry::Entry;
@@ -20,11 +20,12 @@ pub(crate) fn note_master<F: FaultSink>(
     entries: &[Entry<'_>],
     found: &mut F,
 ) -> Result<(), AllocError>
-    requires { entries.now ≡ master_entries (file_of linked.now) }
+    requires structure { structure_faults (file_of linked.now) ≡ [] }
+    requires entries { entries.now ≡ master_entries (file_of linked.now) }
     ensures { OnOk result (NotesAll (F.has_noted found.old) (F.has_noted found.new) (master_faults (file_of linked.now))) }
 {
     note_naming(alloc, linked, entries, found)?;
     note_targets(linked, entries, found)?;
-    note_repeats(alloc, entries, found)?;
+    note_repeats(alloc, linked, found)?;
     Ok(())
 }

@@ -69,7 +69,8 @@ fn push_on(
     requires { page ≤ (file_of linked.now).last }
     ensures { OnOk result (databases.new.items ≡ databases.old.items ++ database_on (file_of linked.now) name (Some page)) }
 {
-    if let Some(meta) = linked.forest().meta(page) {
+    let forest = linked.forest();
+    if let Some(meta) = forest.meta(page) {
         databases.push(NamedMeta { name, meta })?;
     }
     Ok(())

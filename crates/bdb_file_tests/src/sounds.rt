@@ -40,15 +40,25 @@ fn add_key(alloc: Global, text: &mut Bytes, key: &KeyView<'_>) -> Result<(), All
     }
 }
 
+/// Adds ` KEY=VALUE`.
+fn add_pair(
+    alloc: Global,
+    text: &mut Bytes,
+    key: &KeyView<'_>,
+    value: &Datum<'_>,
+) -> Result<(), AllocError> {
+    text.push_all(b" ")?;
+    add_key(alloc, text, key)?;
+    text.push_all(b"=")?;
+    add_datum(alloc, text, value)
+}
+
 /// Adds ` KEY=VALUE` for each pair of the list of a database.
 fn add_list(alloc: Global, text: &mut Bytes, sound: &Sound<'_>, db: Db) -> Result<(), AllocError>
     requires { db < length (databases (file_of sound.now)) }
 {
     for (key, value) in sound.scan(alloc, db)? {
-        text.push_all(b" ")?;
-        add_key(alloc, text, &key)?;
-        text.push_all(b"=")?;
-        add_datum(alloc, text, &value)?;
+        add_pair(alloc, text, &key, &value)?;
     }
     Ok(())
 }

@@ -1,4 +1,5 @@
 pub mod ApartLemmas
+pub mod BlankLemmas
 pub mod BucketLemmas
 pub mod ChainLengthLemmas
 pub mod ChildLemmas
@@ -14,6 +15,7 @@ pub mod LinkedLemmas
 pub mod MarkLemmas
 pub mod MetaLemmas
 pub mod NotedLemmas
+pub mod OwnedLemmas
 pub mod ReachLemmas
 pub mod ReadLemmas
 pub mod RoleLemmas

@@ -5,6 +5,7 @@ use Rattle.bdb_format.specs.File.{File, header_in, page_at, type_in}
 use Rattle.bdb_format.specs.Page.{Page}
 use Rattle.bdb_format.specs.References.{has_type}
 use Rattle.bdb_graph.specs.Linked.{FitsChain, meta_pages}
+use Rattle.bdb_graph.specs.Owned.{AreOwned}
 
 -- how many bytes the value of the chain with this head has
 abbrev pub chain_length : File → ℕ → ℕ
@@ -26,7 +27,8 @@ kept_length file p = if may_head (page_at file p) then chain_length file p else 
 pub record AreLengths (file : File) (lengths : List ℕ) : Type 0 where
   pub each : (head : ℕ) → FitsChain file head → get_or lengths head 0 ≡ chain_length file head
 
--- what a linked image keeps of its file: the metadata pages, and the lengths of chains
-pub record IsKept (file : File) (metas lengths : List ℕ) : Type 0 where
+-- what a linked image keeps of its file: the metadata pages, the number of owners of each page, and the lengths of chains
+pub record IsKept (file : File) (metas counts lengths : List ℕ) : Type 0 where
   pub pages : metas ≡ meta_pages file
+  pub owned : AreOwned file counts
   pub chains : AreLengths file lengths

@@ -1,3 +1,4 @@
+pub mod Blanks
 pub mod Buckets
 pub mod ChainLengths
 pub mod Fits
@@ -8,6 +9,7 @@ pub mod Linked
 pub mod Marks
 pub mod Metas
 pub mod Noted
+pub mod Owned
 pub mod Slots
 pub mod Tallies
 pub mod Walked

@@ -1,9 +1,10 @@
 ghost use Rattle.std.specs.Prelude.{◌≡◌, ◌≢◌, ◌^◌, ◌<◌, ◌≤◌, None, IsTrue, length};
 ghost use Rattle.bdb_form.specs.Seen.{header_seen, page_seen};
+ghost use Rattle.bdb_graph.specs.Blanks.{ArePassedIfAny, IsLent};
 ghost use Rattle.bdb_graph.specs.Linked.{IsForest};
 ghost use Rattle.std.specs.List.{list_any};
 ghost use Rattle.bdb_format.specs.Graph.{all_references};
-ghost use Rattle.bdb_graph.specs.Walked.{IsWalked, names_head, names_set};
+ghost use Rattle.bdb_graph.specs.Walked.{names_head, names_set};
 ghost use Rattle.bdb_graph.specs.Metas.{meta_in, meta_seen};
 ghost use Rattle.std.specs.Option.{option_map};
 ghost use Rattle.bdb_format.specs.File.{file_of, page_at, page_bytes};
@@ -14,7 +15,7 @@ ghost use Rattle.bdb_format.specs.declared.metadata.FileKind.TheVariants.{Queue}
 
 use crate::meta::meta_at;
 use crate::tally::Kinds;
-use crate::{Formed, Meta};
+use crate::{Blanks, Formed, Meta};
 use bdb_form::{MetaView, PageView, known_form, known_queue_form};
 use bdb_format::{FileKind, Head};
 use std::marker::Model;
@@ -25,26 +26,32 @@ use std::marker::Model;
 pub struct Forest<'a> {
     formed: Formed<'a>,
     kinds: Kinds,
+    // Where some page of a chain has no data.
+    blanks: Option<Blanks>,
 }
 
 impl<'a> Model for Forest<'a> {
     ghost use Rattle.std.specs.Prelude.{List, ℕ};
-    ghost use Rattle.bdb_graph.specs.Walked.{IsWalked};
+    ghost use Rattle.bdb_graph.specs.Blanks.{IsLent};
 
     ghost Value = { List ℕ };
 
     ghost view = { λ v. v.formed };
 
-    ghost invariant = { λ v. IsWalked v.formed v.kinds };
+    ghost invariant = { λ v. IsLent v.formed v.kinds v.blanks };
 }
 
 impl<'a> Forest<'a> {
     // An image for which the stages are decided.
-    pub(crate) fn over(formed: Formed<'a>, kinds: Kinds) -> Forest<'a>
-        requires { IsWalked formed kinds }
+    pub(crate) fn over(formed: Formed<'a>, kinds: Kinds, blanks: Option<Blanks>) -> Forest<'a>
+        requires { IsLent formed kinds blanks }
         ensures { result ≡ formed.entry }
     {
-        Forest { formed, kinds }
+        Forest {
+            formed,
+            kinds,
+            blanks,
+        }
     }
 
     /// Another handle to the same pages.
@@ -54,6 +61,17 @@ impl<'a> Forest<'a> {
         Forest {
             formed: self.formed.again(),
             kinds: self.kinds,
+            blanks: self.blanks(),
+        }
+    }
+
+    /// The pages of chains that are passed over, since they have no data; none where each page of a chain has some.
+    pub fn blanks(&self) -> Option<Blanks>
+        ensures { ArePassedIfAny (file_of self.now) result }
+    {
+        match &self.blanks {
+            Some(blanks) => blanks.again(),
+            None => None,
         }
     }
 

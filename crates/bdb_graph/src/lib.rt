@@ -1,6 +1,7 @@
 //! The graph of the pages of a file, by its references.
 #![tactic(auto)]
 
+mod blanks;
 mod bucket_fits;
 mod buckets;
 mod cases;
@@ -28,6 +29,7 @@ mod table;
 mod tally;
 
 pub use bdb_format::{Reference, Sort};
+pub use blanks::Blanks;
 pub use forest::Forest;
 pub use formed::Formed;
 pub use held::references;

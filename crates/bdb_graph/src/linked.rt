@@ -6,6 +6,7 @@ ghost use Rattle.bdb_graph.specs.ChainLengths.{IsKept, chain_length};
 ghost use Rattle.bdb_graph.specs.Metas.{meta_seen};
 ghost use Rattle.bdb_format.specs.File.{file_of, page_at, page_bytes};
 ghost use Rattle.bdb_format.specs.Hashing.{first_page};
+ghost use Rattle.bdb_format.specs.Graph.{owners};
 ghost use Rattle.bdb_format.specs.HeadOf.{head_of};
 ghost use Rattle.bdb_format.specs.Page.{BtreeFields, HashFields, Meta as MetaPage};
 ghost use Rattle.bdb_format.specs.Reading.{header_of};
@@ -22,6 +23,8 @@ use std::marker::Model;
 pub struct Linked<'a> {
     forest: Forest<'a>,
     metas: Vec<u32>,
+    // How many owners each page has. That of page 0 isn't asked for.
+    owned: Vec<u32>,
     // The length of each chain that an item names, at its head; empty where no item names one.
     lengths: Vec<u32>,
 }
@@ -35,18 +38,24 @@ impl<'a> Model for Linked<'a> {
 
     ghost view = { λ v. v.forest };
 
-    ghost invariant = { λ v. IsKept (file_of v.forest) v.metas.items v.lengths.items };
+    ghost invariant = { λ v. IsKept (file_of v.forest) v.metas.items v.owned.items v.lengths.items };
 }
 
 impl<'a> Linked<'a> {
-    // An image for which the stages are decided, with its metadata pages and the lengths of its chains.
-    pub(crate) fn over(forest: Forest<'a>, metas: Vec<u32>, lengths: Vec<u32>) -> Linked<'a>
-        requires { IsKept (file_of forest) metas.items lengths.items }
+    // An image for which the stages are decided, with its metadata pages, the numbers of owners and the lengths of its chains.
+    pub(crate) fn over(
+        forest: Forest<'a>,
+        metas: Vec<u32>,
+        owned: Vec<u32>,
+        lengths: Vec<u32>,
+    ) -> Linked<'a>
+        requires { IsKept (file_of forest) metas.items owned.items lengths.items }
         ensures { result ≡ forest.entry }
     {
         Linked {
             forest,
             metas,
+            owned,
             lengths,
         }
     }
@@ -145,6 +154,18 @@ impl<'a> Linked<'a> {
     {
         match self.lengths.get(head as usize) {
             Some(length) => *length,
+            None => 0,
+        }
+    }
+
+    /// How many owners a page above 0 has: the references to it, of all pages. They were counted when the image was linked.
+    pub fn owners(&self, page: u32) -> u32
+        requires above { 1 ≤ page }
+        requires inside { page ≤ (file_of self.now).last }
+        ensures { result ≡ length (owners (file_of self.now) page) }
+    {
+        match self.owned.get(page as usize) {
+            Some(count) => *count,
             None => 0,
         }
     }

@@ -3,8 +3,10 @@ ghost use Rattle.bdb_faults.specs.All.{IsAllOf};
 ghost use Rattle.bdb_faults.specs.Notes.{NotesAll};
 ghost use Rattle.bdb_format.specs.File.{file_of};
 ghost use Rattle.bdb_format.specs.Verdict.{faults_in, reference_faults, IsFirstOf};
+ghost use Rattle.bdb_graph.specs.Owned.{AreFew, AreOwned};
 ghost use Rattle.bdb_graph.specs.Walked.{IsWalked};
 
+use crate::blanks::blanks_of;
 use crate::chain_lengths::lengths_of;
 use crate::meta::metas_of;
 use crate::owned::note_owners;
@@ -19,9 +21,9 @@ use std::sync::ledger::Ledger;
 
 /// The image as one whose pages are a forest, or else the first fault of stages 3 to 5: a reference that
 /// doesn't fit, a page without an owner or with too many, or one that isn't reached. It takes at most a step for
-/// each page up to the last, which are no more than the whole pages of the image, and 13 bytes for each while it
-/// runs, 24 where the file has a table. The answer keeps the number of each metadata page, in 4 bytes, and where an item names a
-/// chain 4 bytes for each page, the lengths of chains. `Memory` is want of memory.
+/// each page up to the last, which are no more than the whole pages of the image, and 16 bytes for each while it
+/// runs, 24 where the file has a table. The answer keeps 4 bytes for each page, how many owners it has, the number of each metadata
+/// page, in 4 bytes, and where an item names a chain 4 bytes more for each page, the lengths of chains. `Memory` is want of memory.
 pub fn link<'a, L: Ledger>(
     alloc: Global,
     formed: Formed<'a>,
@@ -33,13 +35,13 @@ pub fn link<'a, L: Ledger>(
     ensures cost { steps.new ≤ steps.old + ((file_of formed.entry).last + 1) }
 {
     let mut first = First::new();
-    let Ok(kinds) = note_graph(alloc, &formed, steps, &mut first) else {
+    let Ok(walk) = note_graph(alloc, &formed, steps, &mut first) else {
         return Err(CheckError::Memory);
     };
     if let Some(fault) = first.fault() {
         return Err(CheckError::Fault(fault));
     }
-    walked(alloc, formed, kinds).map_err(|_| CheckError::Memory)
+    walked(alloc, formed, walk).map_err(|_| CheckError::Memory)
 }
 
 /// The same, with all faults of the first of stages 3 to 5 that has any: page by page and code by code, each once. A
@@ -55,41 +57,66 @@ pub fn link_all<'a, L: Ledger>(
     ensures cost { steps.new ≤ steps.old + ((file_of formed.entry).last + 1) }
 {
     let mut found = NamedList::new(alloc);
-    let Ok(kinds) = note_graph(alloc, &formed, steps, &mut found) else {
+    let Ok(walk) = note_graph(alloc, &formed, steps, &mut found) else {
         return Err(AllError::Memory);
     };
     refused_by(found)?;
-    walked(alloc, formed, kinds).map_err(|_| AllError::Memory)
+    walked(alloc, formed, walk).map_err(|_| AllError::Memory)
 }
 
-/// The image as one whose pages are a forest, with what its references name.
-fn walked<'a>(alloc: Global, formed: Formed<'a>, kinds: Kinds) -> Result<Linked<'a>, AllocError>
-    requires { IsWalked formed kinds }
+/// What the walk over the references of a file tells: what they name, and how many owners each page has.
+#[derive(Drop)]
+struct Walk {
+    kinds: Kinds,
+    owned: Vec<u32>,
+}
+
+/// The image as one whose pages are a forest, with what its references tell.
+fn walked<'a>(alloc: Global, formed: Formed<'a>, walk: Walk) -> Result<Linked<'a>, AllocError>
+    requires walked { IsWalked formed walk.kinds }
+    requires owned { AreOwned (file_of formed) walk.owned.items }
     ensures { IfOk result (λ linked. linked ≡ formed.entry) }
 {
     let metas = metas_of(alloc, &formed)?;
-    let lengths = lengths_of(alloc, &formed, kinds)?;
-    Ok(Linked::over(Forest::over(formed, kinds), metas, lengths))
+    let lengths = lengths_of(alloc, &formed, walk.kinds)?;
+    let blanks = if lengths.has_blank {
+        Some(blanks_of(alloc, &formed)?)
+    } else {
+        None
+    };
+    Ok(Linked::over(
+        Forest::over(formed, walk.kinds, blanks),
+        metas,
+        walk.owned,
+        lengths.kept,
+    ))
 }
 
 /// Notes the faults of the first of stages 3 to 5 that has any, in one step for each page, and tells what the
-/// references name. An error is want of memory. It takes 13 bytes for each page, 24 where the file has a table.
+/// references tell. An error is want of memory. It takes 16 bytes for each page, 24 where the file has a table.
 fn note_graph<L: Ledger, F: FaultSink>(
     alloc: Global,
     formed: &Formed<'_>,
     steps: &mut Steps<L>,
     found: &mut F,
-) -> Result<Kinds, AllocError>
+) -> Result<Walk, AllocError>
     requires new { F.has_noted found.old [] }
     ensures noted { OnOk result (NotesAll (F.has_noted found.old) (F.has_noted found.new) (faults_in (3 ∷ 4 ∷ 5 ∷ []) formed.now)) }
-    ensures walked { IfOk result (λ kinds. faults_in (3 ∷ 4 ∷ 5 ∷ []) formed.now ≡ [] → IsWalked formed.now kinds) }
+    ensures walked { IfOk result (λ walk. faults_in (3 ∷ 4 ∷ 5 ∷ []) formed.now ≡ [] → IsWalked formed.now walk.kinds) }
+    ensures owned { IfOk result (λ walk. faults_in (3 ∷ 4 ∷ 5 ∷ []) formed.now ≡ [] → AreOwned (file_of formed.now) walk.owned.items) }
     ensures cost { steps.new ≤ steps.old + ((file_of formed.now).last + 1) }
 {
     let (tallies, kinds) = note_references(alloc, formed, steps, found)?;
-    if found.is_empty() {
-        note_roles(alloc, &Roles::of(formed.again(), tallies), found)?;
+    if !found.is_empty() {
+        return Ok(Walk {
+            kinds,
+            owned: Vec::new(alloc),
+        });
     }
-    Ok(kinds)
+    let roles = Roles::of(formed.again(), tallies);
+    note_roles(alloc, &roles, found)?;
+    let owned = roles.counts(alloc)?;
+    Ok(Walk { kinds, owned })
 }
 
 /// Notes the faults of stage 4, or else of stage 5. An error is want of memory.
@@ -100,7 +127,8 @@ fn note_roles<F: FaultSink>(
 ) -> Result<(), AllocError>
     requires new { F.has_noted found.old [] }
     requires fit { reference_faults (file_of roles.now) ≡ [] }
-    ensures { OnOk result (NotesAll (F.has_noted found.old) (F.has_noted found.new) (faults_in (4 ∷ 5 ∷ []) roles.now)) }
+    ensures noted { OnOk result (NotesAll (F.has_noted found.old) (F.has_noted found.new) (faults_in (4 ∷ 5 ∷ []) roles.now)) }
+    ensures few { OnOk result (AreFew (file_of roles.now) ((file_of roles.now).last + 1)) }
 {
     note_owners(roles, found)?;
     if found.is_empty() {

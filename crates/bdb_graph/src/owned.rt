@@ -1,10 +1,11 @@
-ghost use Rattle.std.specs.Prelude.{◌≡◌, ◌≤◌, ◌&&◌, ◌||◌, not, IsTrue, OnErr, OnOk};
+ghost use Rattle.std.specs.Prelude.{◌≡◌, ◌≤◌, ◌+◌, ◌&&◌, ◌||◌, not, IsTrue, OnErr, OnOk};
 ghost use Rattle.bdb_faults.specs.Notes.{NotesAll};
 ghost use Rattle.bdb_format.specs.File.{file_of};
 ghost use Rattle.bdb_format.specs.Graph.{is_anchor, is_owned_twice, is_reserve, is_shared_too_often, is_unowned};
 ghost use Rattle.bdb_format.specs.Verdict.{ownership_faults, ownership_rows};
 ghost use Rattle.bdb_format.specs.ByPage.{holding};
 ghost use Rattle.bdb_graph.specs.Noted.{page_faults};
+ghost use Rattle.bdb_graph.specs.Owned.{AreFew, IsFew};
 
 use crate::roles::Roles;
 use bdb_faults::{FaultSink, OwnershipRow, Row, note_if};
@@ -14,6 +15,7 @@ use std::alloc::AllocError;
 #[tactic(auto, using(bdb_format::proofs::FileLemmas::last_page))]
 pub(crate) fn note_owners<F: FaultSink>(roles: &Roles<'_>, found: &mut F) -> Result<(), AllocError>
     ensures noted { OnOk result (NotesAll (F.has_noted found.old) (F.has_noted found.new) (ownership_faults (file_of roles.now))) }
+    ensures few { OnOk result (AreFew (file_of roles.now) ((file_of roles.now).last + 1)) }
     ensures refused { OnErr result (IsTrue F.takes_memory) }
 {
     for page in 1..roles.head().last + 1 {
@@ -27,6 +29,7 @@ fn note_owned<F: FaultSink>(roles: &Roles<'_>, page: u32, found: &mut F) -> Resu
     requires { page ≤ (file_of roles.now).last }
     ensures noted { OnOk result (NotesAll (F.has_noted found.old) (F.has_noted found.new)
         (page_faults 4 page (holding (ownership_rows (file_of roles.now) page)))) }
+    ensures few { OnOk result (IsFew (file_of roles.now) page) }
     ensures refused { OnErr result (IsTrue F.takes_memory) }
 {
     note_if(
@@ -56,7 +59,8 @@ fn lacks_owner(roles: &Roles<'_>, page: u32) -> bool
 /// Whether a page has more owners than it may have: a chain as many as its head counts, another page one.
 fn has_too_many(roles: &Roles<'_>, page: u32) -> bool
     requires { page ≤ (file_of roles.now).last }
-    ensures { result ≡ (is_shared_too_often (file_of roles.now) page || is_owned_twice (file_of roles.now) page) }
+    ensures many { result ≡ (is_shared_too_often (file_of roles.now) page || is_owned_twice (file_of roles.now) page) }
+    ensures few { IsFew (file_of roles.now) page }
 {
     let tally = roles.tally(page);
     if tally.heads_alone {

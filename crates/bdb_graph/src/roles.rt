@@ -1,8 +1,9 @@
-ghost use Rattle.std.specs.Prelude.{◌≡◌, ◌≤◌, ◌+◌, ◌^◌, ◌<◌, ◌||◌};
+ghost use Rattle.std.specs.Prelude.{◌≡◌, ◌≤◌, ◌+◌, ◌^◌, ◌<◌, ◌||◌, IfOk};
 ghost use Rattle.std.specs.List.{list_any};
 ghost use Rattle.bdb_graph.specs.Formed.{IsFormed};
 ghost use Rattle.bdb_graph.specs.Tallies.{AreTalliesOf, IsTally};
 ghost use Rattle.bdb_graph.specs.Forest.{is_top};
+ghost use Rattle.bdb_graph.specs.Owned.{AreCounts};
 ghost use Rattle.bdb_format.specs.File.{file_of, page_at};
 ghost use Rattle.bdb_format.specs.HeadOf.{head_of};
 ghost use Rattle.bdb_format.specs.Graph.{first_holder, is_anchor, is_hash_meta, is_reserve, owners};
@@ -11,6 +12,7 @@ use crate::Formed;
 use crate::formed_page::{FormedPage, page_at};
 use crate::tally::Tally;
 use bdb_format::{FileKind, Head};
+use std::alloc::{AllocError, Global};
 use std::marker::Model;
 
 /// The pages of an image with the tallies of their owners, by which they have their roles.
@@ -70,6 +72,18 @@ impl<'a> Roles<'a> {
         ensures { IsTally result (owners (file_of self.now) page) }
     {
         self.tallies[page as usize]
+    }
+
+    /// The counts of the owners of all pages, four bytes for each.
+    #[tactic(auto, using(crate::proofs::OwnedLemmas::all_counted))]
+    pub(crate) fn counts(&self, alloc: Global) -> Result<Vec<u32>, AllocError>
+        ensures { IfOk result (λ counts. AreCounts (file_of self.now) counts.items) }
+    {
+        let mut counts = Vec::with_capacity(alloc, self.tallies.len())?;
+        for tally in self.tallies.iter() {
+            counts.push(tally.count)?;
+        }
+        Ok(counts)
     }
 
     /// The page that holds the first reference to a page, if there is one.

@@ -1,8 +1,7 @@
 -- Pairs of one file whose keys are chains.
-use Rattle.std.proofs.Common.{◌≡◌, ℕ, Bool, true, false, true≢false, ◌||◌, cond, List, [], ◌∷◌, map, refl, sym, ◌∙◌, ap, subst, inl, inr}
-use Rattle.std.specs.Prelude.{Some, None, Option, Result, Ok, Err, OnOk, OnErr}
-use Rattle.std.specs.BTreeMap.{BTreeMap, get}
-use Rattle.std.specs.BTreeSet.{BTreeSet, IsUnchanged, Updates, contains}
+use Rattle.std.proofs.Common.{◌≡◌, ℕ, Bool, true, false, ◌||◌, cond, List, [], ◌∷◌, map, refl, sym, ◌∙◌, ap, subst, inl, inr}
+use Rattle.std.specs.Prelude.{Result, Ok, Err, OnOk, OnErr}
+use Rattle.std.specs.BTreeSet.{BTreeSet, IsUnchanged, Updates}
 use Rattle.std.specs.Cmp.Lexicographic.{slice_cmp}
 use Rattle.std.specs.Cmp.{nat_cmp_is}
 use Rattle.std.specs.Ordering.{is_eq, nat_cmp}
@@ -13,14 +12,14 @@ use Rattle.std.proofs.lemmas.Map.Text.{is_eq-slice_cmp}
 use Rattle.bdb_faults.specs.Notes.{Notes}
 use Rattle.bdb_format.specs.declared.kinds.Fault.{Fault}
 use Rattle.bdb_format.specs.Contents.{StoredPair, pairs_of}
-use Rattle.bdb_format.specs.Chains.{joined, pieces_of, value_of}
-use Rattle.bdb_format.specs.File.{File, file_of}
+use Rattle.bdb_format.specs.Chains.{value_of}
+use Rattle.bdb_format.specs.File.{file_of}
 use Rattle.bdb_format.specs.Page.{Content, Inline, Set, Chain, Tree, Unknown}
 use Rattle.bdb_format.proofs.LessLemmas.{eq_self, eq_same}
 use Rattle.bdb_overflow.specs.Keys.{has_item, has_key}
 use Rattle.bdb_hash.specs.Chained.{AreAllOf, AreAmong, AreOf, IsHeaded, Seen, chain_head, chain_value}
 use Rattle.bdb_hash.specs.Noted.{repeat_fault}
-use Rattle.bdb_hash.specs.Passed.{AreKeysOf, NotesRepeats, key_of}
+use Rattle.bdb_hash.specs.Passed.{NotesRepeats, key_of}
 use Rattle.bdb_hash.specs.Told.{Told, page_told, told}
 
 -- Pairs of one file.

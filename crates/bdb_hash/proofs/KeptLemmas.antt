@@ -15,9 +15,11 @@ use Rattle.bdb_format.specs.Hashing.{hash5}
 use Rattle.bdb_format.proofs.MemberLemmas.{first_member, in_map, later_member}
 use Rattle.bdb_format.proofs.RepeatLemmas.{has_key as has_this, repeated_after, repeated_is}
 use Rattle.bdb_format.proofs.LessLemmas.{eq_same}
+use Rattle.bdb_hash.specs.Chained.{AreOf, Seen}
 use Rattle.bdb_hash.specs.Noted.{repeat_fault, repeat_faults, stored}
 use Rattle.bdb_hash.specs.Passed.{IsNoting, NotesRepeats, is_among, is_kept, is_missed, key_hash}
 use Rattle.bdb_hash.specs.Told.{Told, bucket_told, joined_pages, page_told}
+use Rattle.bdb_hash.proofs.ChainedLemmas.{rest_of}
 use Rattle.bdb_hash.proofs.RepeatLemmas.{all_noting, both_noted, more_noting, none_noting, noted_anew}
 use Rattle.bdb_hash.proofs.TableLemmas.{told_more}
 
@@ -41,6 +43,28 @@ pub one_kept : (twice : BTreeSet ℕ) (old now next : BTreeSet (List ℕ)) (befo
     → IsNoting old next before after (filter (is_kept twice) all) (filter (is_kept twice) rest)
 one_kept twice old now next before mid after all left rest t noting is notes =
     more_kept twice old now next before mid after all left (t ∷ []) rest noting is notes
+
+-- The pairs of a page that are left: all but them are noted, and the files of the keys and of the chains are the same ones.
+abbrev pub IsKeeping : BTreeSet ℕ → Seen → Seen → List ℕ → List ℕ → (List Fault → Type 0) → (List Fault → Type 0) → List Told → List Told → Type 0
+IsKeeping twice old now chains known before after all left = record {
+  noting : IsNoting old.keys now.keys before after (filter (is_kept twice) all) (filter (is_kept twice) left);
+  seen : now.image ≡ old.image;
+  known : known ≡ chains;
+  here : AreOf old.image left;
+  there : AreOf chains left;
+}
+
+pub keeps_one : (twice : BTreeSet ℕ) (old now next : Seen) (chains known then_known : List ℕ) (before mid after : List Fault → Type 0)
+    (all left rest : List Told) (t : Told) → IsKeeping twice old now chains known before mid all left → left ≡ t ∷ rest
+    → NotesRepeats now.keys next.keys mid after (filter (is_kept twice) (t ∷ [])) → next.image ≡ now.image → then_known ≡ known
+    → IsKeeping twice old next chains then_known before after all rest
+keeps_one twice old now next chains known then_known before mid after all left rest t keeping is notes seen same = record {
+  noting = one_kept twice old.keys now.keys next.keys before mid after all left rest t keeping.noting is notes;
+  seen = seen ∙ keeping.seen;
+  known = same ∙ keeping.known;
+  here = rest_of old.image left rest t keeping.here is;
+  there = rest_of chains left rest t keeping.there is;
+}
 
 pub all_kept : (twice : BTreeSet ℕ) (old new : BTreeSet (List ℕ)) (before after : List Fault → Type 0) (all left : List Told)
     → IsNoting old new before after (filter (is_kept twice) all) (filter (is_kept twice) left) → left ≡ []

@@ -14,4 +14,5 @@ pub mod PlainLemmas
 pub mod RepeatLemmas
 pub mod RowLemmas
 pub mod ScanLemmas
+pub mod SetOrderLemmas
 pub mod TableLemmas

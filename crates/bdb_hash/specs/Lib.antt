@@ -4,5 +4,6 @@ pub mod Passed
 pub mod Places
 pub mod Rest
 pub mod Scanned
+pub mod SetOrder
 pub mod Told
 pub mod Views

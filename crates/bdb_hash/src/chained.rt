@@ -1,52 +1,49 @@
-ghost use Rattle.std.specs.Prelude.{◌≡◌, OnOk, IfOk};
+ghost use Rattle.std.specs.Prelude.{◌≡◌, [], IfOk};
+ghost use Rattle.bdb_format.specs.ContentRows.{ascends};
+ghost use Rattle.bdb_format.specs.Contents.{data_of};
+ghost use Rattle.bdb_format.specs.File.{file_of};
+ghost use Rattle.bdb_format.specs.Page.{Tree};
+ghost use Rattle.bdb_format.specs.Verdict.{structure_faults};
+ghost use Rattle.bdb_graph.specs.Linked.{FitsDupRoot};
 ghost use Rattle.bdb_hash.specs.Chained.{chain_value};
 ghost use Rattle.bdb_hash.specs.Passed.{key_hash};
 
 use crate::Pair;
 use crate::key::hash_of;
-use bdb_form::PageView;
+use crate::set_order::set_ascends;
 use bdb_graph::Forest;
+use bdb_overflow::is_shared;
+use bdb_ranks::Values;
 use std::alloc::{AllocError, Global};
 use std::collections::BTreeMap;
 use std::marker::Model;
 
-/// The hashes of the keys that are chains and shared, by their heads: each is found once, however many pairs name it.
+/// What was found of the chains of one file. The hashes of keys that are chains and shared are kept by their heads: each is found
+/// once, however many pairs and tables name it. So is what was found where data were compared.
 #[derive(Drop)]
-pub(crate) struct ChainHashes<'a> {
-    forest: Forest<'a>,
+pub struct Chains<'a> {
+    values: Values<'a>,
     hashes: BTreeMap<u32, u32>,
 }
 
-impl<'a> Model for ChainHashes<'a> {
+impl<'a> Model for Chains<'a> {
     ghost use Rattle.std.specs.Prelude.{List, ℕ};
     ghost use Rattle.bdb_hash.specs.Chained.{AreHashes};
 
     ghost Value = { List ℕ };
 
-    ghost view = { λ v. v.forest };
+    ghost view = { λ v. v.values };
 
-    ghost invariant = { λ v. AreHashes v.forest v.hashes };
+    ghost invariant = { λ v. AreHashes v.values v.hashes };
 }
 
-/// Whether more than one item may name a chain. Where none else does, nothing is to be kept of it.
-#[tactic(auto, using(bdb_format::proofs::FileLemmas::last_page))]
-fn is_shared(forest: &Forest<'_>, head: u32) -> bool {
-    if head > forest.head().last {
-        return false;
-    }
-    match forest.page(head) {
-        PageView::Overflow(page) => page.header().entries > 1,
-        _ => false,
-    }
-}
-
-impl<'a> ChainHashes<'a> {
-    /// No hash yet.
-    pub(crate) fn new(alloc: Global, forest: Forest<'a>) -> ChainHashes<'a>
+impl<'a> Chains<'a> {
+    /// Nothing was found yet.
+    pub fn new(alloc: Global, forest: Forest<'a>) -> Chains<'a>
         ensures { result ≡ forest.entry }
     {
-        ChainHashes {
-            forest,
+        Chains {
+            values: Values::new(alloc, forest),
             hashes: BTreeMap::new(alloc),
         }
     }
@@ -58,7 +55,7 @@ impl<'a> ChainHashes<'a> {
         ensures same { self.new ≡ self.old }
     {
         match pair.head() {
-            Some(head) if is_shared(&self.forest, head) => self.hash_at(head, pair),
+            Some(head) if is_shared(&self.values.forest(), head) => self.hash_at(head, pair),
             _ => Ok(hash_of(pair.key())),
         }
     }
@@ -76,5 +73,16 @@ impl<'a> ChainHashes<'a> {
         let hash = hash_of(pair.key());
         self.hashes.insert(head, hash)?;
         Ok(hash)
+    }
+
+    /// Whether the data of a set off the page ascend strictly. An error is want of memory, for chains that are shared or begin
+    /// with a blank page.
+    pub(crate) fn set_ascends(&mut self, root: u32) -> Result<bool, AllocError>
+        requires root { FitsDupRoot (file_of self.old) root }
+        requires stage { structure_faults (file_of self.old) ≡ [] }
+        ensures ascends { IfOk result (λ is. is ≡ ascends (data_of (file_of self.old) (Tree root))) }
+        ensures same { self.new ≡ self.old }
+    {
+        set_ascends(&mut self.values, root)
     }
 }

@@ -10,12 +10,11 @@ ghost use Rattle.bdb_format.specs.File.{file_of};
 ghost use Rattle.bdb_format.specs.Page.{HashFields};
 ghost use Rattle.bdb_format.specs.Verdict.{structure_faults, IsFirstOf};
 
-use crate::bucket_pages;
-use crate::chained::ChainHashes;
 use crate::passed::{Passed, note_bucket};
 use crate::repeats::note_again;
 use crate::strays::note_strayed;
 use crate::table::buckets;
+use crate::{Chains, bucket_pages};
 use bdb_faults::{FaultSink, First, NamedList};
 use bdb_format::{CheckError, HashMeta};
 use bdb_graph::Linked;
@@ -25,26 +24,28 @@ use std::alloc::{AllocError, Global};
 /// pages are at hand. It tells whether the table has a stray. It takes memory for the pairs of one bucket at a time; an
 /// error is want of it, or the sink's.
 #[tactic(auto, using(crate::proofs::ChainedLemmas::bucket_of_file))]
-fn note_by_bucket<F: FaultSink>(
+fn note_by_bucket<'a, F: FaultSink>(
     alloc: Global,
-    linked: &Linked<'_>,
+    linked: &Linked<'a>,
     meta: &HashMeta,
+    known: &mut Chains<'a>,
     found: &mut F,
 ) -> Result<bool, AllocError>
     requires meta { HasMetadata (file_of linked.now) (HashFields meta.now) }
     requires stage { structure_faults (file_of linked.now) ≡ [] }
+    requires known { known.old ≡ linked.now }
     ensures noted { OnOk result (Notes (F.has_noted found.old) (F.has_noted found.new) (flat_map (bucket_faults linked.now meta.now) (range_with_len 0 (meta.now.max_bucket + 1)))) }
     ensures stray { IfOk result (λ strayed. strayed ≡ has_stray linked.now meta.now) }
     ensures table { IsTable linked.now }
+    ensures same { known.new ≡ known.old }
 {
     let forest = linked.forest();
     let mut passed = Passed::new(alloc);
-    let mut known = ChainHashes::new(alloc, linked.forest());
     for b in 0..buckets(linked, meta) {
         passed.hashes.clear();
         note_bucket(
             &mut passed,
-            &mut known,
+            known,
             bucket_pages(linked, meta, b),
             meta,
             b,
@@ -62,8 +63,27 @@ fn note_by_bucket<F: FaultSink>(
 }
 
 /// Notes each row of contents at each page where it holds for the table of this metadata, in any order and repeats
-/// allowed. An error is want of memory: the sink's, or that for hashes and keys.
-pub fn note_contents<F: FaultSink>(
+/// allowed. What is found of chains is kept for the other tables of the file. An error is want of memory: the sink's, or that for hashes and keys.
+pub fn note_contents<'a, F: FaultSink>(
+    alloc: Global,
+    linked: &Linked<'a>,
+    meta: &HashMeta,
+    known: &mut Chains<'a>,
+    found: &mut F,
+) -> Result<(), AllocError>
+    requires meta { HasMetadata (file_of linked.now) (HashFields meta.now) }
+    requires stage { structure_faults (file_of linked.now) ≡ [] }
+    requires known { known.old ≡ linked.now }
+    ensures noted { OnOk result (NotesAll (F.has_noted found.old) (F.has_noted found.new) (database_faults (file_of linked.now) (HashFields meta.now))) }
+    ensures same { known.new ≡ known.old }
+{
+    let has_stray = note_by_bucket(alloc, linked, meta, known, found)?;
+    note_strayed(alloc, linked, meta, known, has_stray, found)?;
+    Ok(())
+}
+
+/// The same for a table by itself.
+fn note_alone<F: FaultSink>(
     alloc: Global,
     linked: &Linked<'_>,
     meta: &HashMeta,
@@ -73,9 +93,8 @@ pub fn note_contents<F: FaultSink>(
     requires stage { structure_faults (file_of linked.now) ≡ [] }
     ensures { OnOk result (NotesAll (F.has_noted found.old) (F.has_noted found.new) (database_faults (file_of linked.now) (HashFields meta.now))) }
 {
-    let has_stray = note_by_bucket(alloc, linked, meta, found)?;
-    note_strayed(alloc, linked, meta, has_stray, found)?;
-    Ok(())
+    let mut known = Chains::new(alloc, linked.forest());
+    note_contents(alloc, linked, meta, &mut known, found)
 }
 
 /// No row of contents holds for the table of this metadata. A refusal is the first fault: the least page,
@@ -89,7 +108,7 @@ pub fn check(alloc: Global, linked: &Linked<'_>, meta: &HashMeta) -> Result<(), 
     ensures refusal { IfErr result (IsFirstOf (database_faults (file_of linked.now) (HashFields meta.now))) }
 {
     let mut first = First::new();
-    let Ok(()) = note_contents(alloc, linked, meta, &mut first) else {
+    let Ok(()) = note_alone(alloc, linked, meta, &mut first) else {
         return Err(CheckError::Memory);
     };
     match first.fault() {
@@ -109,5 +128,5 @@ pub fn all_faults(
     requires stage { structure_faults (file_of linked.now) ≡ [] }
     ensures { OnOk result (NotesAll (HasNoted found.old) (HasNoted found.new) (database_faults (file_of linked.now) (HashFields meta.now))) }
 {
-    note_contents(alloc, linked, meta, found)
+    note_alone(alloc, linked, meta, found)
 }

@@ -9,9 +9,8 @@ ghost use Rattle.bdb_format.specs.File.{file_of};
 ghost use Rattle.bdb_format.specs.Page.{HashFields};
 ghost use Rattle.bdb_format.specs.Verdict.{structure_faults};
 
-use crate::chained::ChainHashes;
 use crate::table::buckets;
-use crate::{BucketPages, PagePairs, bucket_pages};
+use crate::{BucketPages, Chains, PagePairs, bucket_pages};
 use bdb_format::HashMeta;
 use bdb_graph::Linked;
 use std::alloc::{AllocError, Global};
@@ -21,7 +20,7 @@ use std::collections::BTreeSet;
 #[tactic(auto, using(crate::proofs::ChainedLemmas::first_of, crate::proofs::ChainedLemmas::rest_of))]
 fn push_page(
     hashes: &mut Vec<u32>,
-    known: &mut ChainHashes<'_>,
+    known: &mut Chains<'_>,
     page: PagePairs<'_>,
 ) -> Result<(), AllocError>
     requires { AreOf known.old page }
@@ -39,7 +38,7 @@ fn push_page(
 #[tactic(auto, using(crate::proofs::ChainedLemmas::first_page_of, crate::proofs::ChainedLemmas::other_pages_of))]
 fn push_bucket(
     hashes: &mut Vec<u32>,
-    known: &mut ChainHashes<'_>,
+    known: &mut Chains<'_>,
     pages: BucketPages<'_>,
 ) -> Result<(), AllocError>
     requires { AreAllOf known.old pages }
@@ -54,15 +53,21 @@ fn push_bucket(
 
 /// The hashes of the keys of a table, four bytes each. An error is want of memory.
 #[tactic(auto, using(crate::proofs::ChainedLemmas::bucket_of_file, crate::proofs::HashedLemmas::hashes_more))]
-fn table_hashes(alloc: Global, linked: &Linked<'_>, meta: &HashMeta) -> Result<Vec<u32>, AllocError>
+fn table_hashes(
+    alloc: Global,
+    linked: &Linked<'_>,
+    meta: &HashMeta,
+    known: &mut Chains<'_>,
+) -> Result<Vec<u32>, AllocError>
     requires meta { HasMetadata (file_of linked.now) (HashFields meta.now) }
     requires stage { structure_faults (file_of linked.now) ≡ [] }
-    ensures { IfOk result (λ hashes. hashes.items ≡ map key_hash (table_told linked.now meta.now)) }
+    requires known { known.old ≡ linked.now }
+    ensures same { known.new ≡ known.old }
+    ensures hashes { IfOk result (λ hashes. hashes.items ≡ map key_hash (table_told linked.now meta.now)) }
 {
     let mut hashes = Vec::new(alloc);
-    let mut known = ChainHashes::new(alloc, linked.forest());
     for b in 0..buckets(linked, meta) {
-        push_bucket(&mut hashes, &mut known, bucket_pages(linked, meta, b))?;
+        push_bucket(&mut hashes, known, bucket_pages(linked, meta, b))?;
     }
     Ok(hashes)
 }
@@ -96,11 +101,14 @@ pub(crate) fn repeated_hashes(
     alloc: Global,
     linked: &Linked<'_>,
     meta: &HashMeta,
+    known: &mut Chains<'_>,
 ) -> Result<BTreeSet<u32>, AllocError>
     requires meta { HasMetadata (file_of linked.now) (HashFields meta.now) }
     requires stage { structure_faults (file_of linked.now) ≡ [] }
-    ensures { IfOk result (λ twice. IsDistinct (is_missed twice) (map key_hash (table_told linked.now meta.now))) }
+    requires known { known.old ≡ linked.now }
+    ensures same { known.new ≡ known.old }
+    ensures twice { IfOk result (λ twice. IsDistinct (is_missed twice) (map key_hash (table_told linked.now meta.now))) }
 {
-    let mut hashes = table_hashes(alloc, linked, meta)?;
+    let mut hashes = table_hashes(alloc, linked, meta, known)?;
     repeated_of(alloc, &mut hashes)
 }

@@ -18,10 +18,12 @@ mod ranking;
 mod repeats;
 mod rows;
 mod seen;
+mod set_order;
 mod strays;
 mod table;
 
 pub(crate) use bucket::{BucketPages, bucket_pages};
+pub use chained::Chains;
 pub use contents::{all_faults, check, note_contents};
 pub use data::Data as Found;
 pub(crate) use data::Data;

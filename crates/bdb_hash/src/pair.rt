@@ -4,11 +4,13 @@ ghost use Rattle.bdb_overflow.specs.Datum.{FitsContent, datum_seen};
 ghost use Rattle.bdb_hash.specs.Chained.{chain_head, chain_value};
 ghost use Rattle.bdb_hash.specs.Places.{IsAt, IsGiven};
 ghost use Rattle.bdb_hash.specs.Told.{entry_list, has_key, listed_told, told_pair};
+ghost use Rattle.bdb_hash.specs.Views.{IsPair};
 ghost use Rattle.bdb_layout.specs.Seen.{hash_content_seen, hash_item_seen};
 ghost use Rattle.bdb_format.specs.Chains.{value_of};
 ghost use Rattle.bdb_format.specs.ContentRows.{is_duplicate, is_wrong_set};
 ghost use Rattle.bdb_format.specs.Contents.{data_of};
 ghost use Rattle.bdb_format.specs.File.{file_of};
+ghost use Rattle.bdb_format.specs.Page.{Tree};
 
 use crate::Data;
 use crate::place::Place;
@@ -148,6 +150,17 @@ impl<'a> Pair<'a> {
         ensures { result ≡ is_duplicate self.now.pair }
     {
         matches!(self.item, HashItem::Set(_) | HashItem::OffPage { .. })
+    }
+
+    /// The root of its data, if they are a set off the page.
+    pub(crate) fn set_root(&self) -> Option<u32>
+        ensures set { IfSome result (λ root. self.now.pair.data_item ≡ Tree root) }
+        ensures pair { IsPair self.now.image self.now.pair.data_item }
+    {
+        match self.item {
+            HashItem::OffPage { root } => Some(root),
+            _ => None,
+        }
     }
 
     /// Whether its data are a set off the page that isn't of the kind that the table has.

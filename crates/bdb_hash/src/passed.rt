@@ -3,9 +3,8 @@ ghost use Rattle.bdb_hash.specs.Chained.{AreAllOf, AreOf};
 ghost use Rattle.bdb_hash.specs.Passed.{Passes};
 ghost use Rattle.bdb_hash.specs.Told.{joined_pages};
 
-use crate::chained::ChainHashes;
 use crate::rows::{home_of, note_pair};
-use crate::{BucketPages, PagePairs, Pair};
+use crate::{BucketPages, Chains, PagePairs, Pair};
 use bdb_faults::FaultSink;
 use bdb_format::HashMeta;
 use std::alloc::{AllocError, Global};
@@ -43,7 +42,7 @@ impl Passed {
 /// Notes a pair of a bucket by itself. An error is want of memory.
 fn note_next<F: FaultSink>(
     passed: &mut Passed,
-    known: &mut ChainHashes<'_>,
+    known: &mut Chains<'_>,
     pair: Pair<'_>,
     meta: &HashMeta,
     b: u32,
@@ -56,7 +55,7 @@ fn note_next<F: FaultSink>(
     let hash = known.hash_of(&pair)?;
     let is_stray = home_of(meta, hash) != b;
     passed.see(hash, is_stray)?;
-    note_pair(pair, meta, is_stray, found)?;
+    note_pair(pair, meta, is_stray, known, found)?;
     Ok(())
 }
 
@@ -64,7 +63,7 @@ fn note_next<F: FaultSink>(
 #[tactic(auto, using(crate::proofs::ChainedLemmas::first_of, crate::proofs::ChainedLemmas::rest_of, crate::proofs::PassedLemmas::all_passing, crate::proofs::PassedLemmas::none_passing, crate::proofs::PassedLemmas::one_passing))]
 fn note_page<F: FaultSink>(
     passed: &mut Passed,
-    known: &mut ChainHashes<'_>,
+    known: &mut Chains<'_>,
     page: PagePairs<'_>,
     meta: &HashMeta,
     b: u32,
@@ -84,7 +83,7 @@ fn note_page<F: FaultSink>(
 #[tactic(auto, using(crate::proofs::ChainedLemmas::first_page_of, crate::proofs::ChainedLemmas::other_pages_of, crate::proofs::PassedLemmas::all_passing, crate::proofs::PassedLemmas::more_passing, crate::proofs::PassedLemmas::none_passing))]
 pub(crate) fn note_bucket<F: FaultSink>(
     passed: &mut Passed,
-    known: &mut ChainHashes<'_>,
+    known: &mut Chains<'_>,
     pages: BucketPages<'_>,
     meta: &HashMeta,
     b: u32,

@@ -1,4 +1,4 @@
-ghost use Rattle.std.specs.Prelude.{◌≡◌, ◌&&◌, OnOk, not};
+ghost use Rattle.std.specs.Prelude.{◌≡◌, ◌&&◌, IfOk, OnOk, not};
 ghost use Rattle.bdb_faults.specs.Notes.{Notes};
 ghost use Rattle.bdb_hash.specs.Noted.{is_unsorted, told_faults};
 ghost use Rattle.bdb_format.specs.ContentRows.{ascends, is_duplicate};
@@ -6,7 +6,7 @@ ghost use Rattle.bdb_format.specs.Flags.{has_duplicates, is_sorted};
 ghost use Rattle.bdb_format.specs.Hashing.{bucket};
 ghost use Rattle.bdb_format.specs.Page.{HashFields};
 
-use crate::{Data, Pair};
+use crate::{Chains, Data, Pair};
 use bdb_faults::{ContentsRow, FaultSink, Row, note_if};
 use bdb_format::HashMeta;
 use bdb_layout::bucket_of;
@@ -60,21 +60,35 @@ fn is_refused(meta: &HashMeta, pair: &Pair<'_>) -> bool
     !has_duplicates(meta) && pair.is_duplicate()
 }
 
-/// Whether the data of a pair are out of order, where they ought to be in order.
-fn is_unsorted(meta: &HashMeta, pair: Pair<'_>) -> bool
-    ensures { result ≡ is_unsorted meta.now pair.entry }
+/// Whether the data of a pair are out of order, where they ought to be in order. An error is want of memory, for chains in a
+/// set off the page.
+fn is_unsorted(meta: &HashMeta, pair: Pair<'_>, known: &mut Chains<'_>) -> Result<bool, AllocError>
+    requires { pair.image ≡ known.old }
+    ensures unsorted { IfOk result (λ is. is ≡ is_unsorted meta.now pair.entry) }
+    ensures same { known.new ≡ known.old }
 {
-    is_sorted(meta) && !ascends(pair.into_data())
+    if !is_sorted(meta) {
+        return Ok(false);
+    }
+    let ascends = match pair.set_root() {
+        Some(root) => known.set_ascends(root)?,
+        None => ascends(pair.into_data()),
+    };
+    Ok(!ascends)
 }
 
-/// Notes each row that holds for a pair by itself, which is a stray or isn't. An error is that of the sink.
+/// Notes each row that holds for a pair by itself, which is a stray or isn't. An error is want of memory: the sink's, or that for
+/// chains in a set off the page.
 pub(crate) fn note_pair<F: FaultSink>(
     pair: Pair<'_>,
     meta: &HashMeta,
     is_stray: bool,
+    known: &mut Chains<'_>,
     found: &mut F,
 ) -> Result<(), AllocError>
-    ensures { OnOk result (Notes (F.has_noted found.old) (F.has_noted found.new) (told_faults meta.now is_stray pair.entry)) }
+    requires { pair.image ≡ known.old }
+    ensures noted { OnOk result (Notes (F.has_noted found.old) (F.has_noted found.new) (told_faults meta.now is_stray pair.entry)) }
+    ensures same { known.new ≡ known.old }
 {
     let page = pair.page();
     let is_wrong_set = pair.is_wrong_set(is_sorted(meta));
@@ -90,11 +104,12 @@ pub(crate) fn note_pair<F: FaultSink>(
         page,
         is_wrong_set,
     )?;
+    let is_unsorted = is_unsorted(meta, pair, known)?;
     note_if(
         found,
         Row::Contents(ContentsRow::DuplicateOrder),
         page,
-        is_unsorted(meta, pair),
+        is_unsorted,
     )?;
     note_if(found, Row::Contents(ContentsRow::Bucket), page, is_stray)?;
     Ok(())

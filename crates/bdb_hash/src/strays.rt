@@ -11,11 +11,10 @@ ghost use Rattle.bdb_format.specs.File.{file_of};
 ghost use Rattle.bdb_format.specs.Page.{HashFields};
 ghost use Rattle.bdb_format.specs.Verdict.{structure_faults};
 
-use crate::chained::ChainHashes;
 use crate::hashes::repeated_hashes;
 use crate::seen::SeenKeys;
 use crate::table::buckets;
-use crate::{BucketPages, PagePairs, Pair, bucket_pages};
+use crate::{BucketPages, Chains, PagePairs, Pair, bucket_pages};
 use bdb_faults::FaultSink;
 use bdb_format::HashMeta;
 use bdb_graph::Linked;
@@ -26,7 +25,7 @@ use std::collections::BTreeSet;
 #[tactic(auto, using(crate::proofs::RepeatLemmas::none_noted))]
 fn note_kept<'a, F: FaultSink>(
     keys: &mut SeenKeys<'a>,
-    known: &mut ChainHashes<'a>,
+    known: &mut Chains<'a>,
     twice: &BTreeSet<u32>,
     pair: &Pair<'a>,
     found: &mut F,
@@ -48,7 +47,7 @@ fn note_kept<'a, F: FaultSink>(
 #[tactic(auto, using(crate::proofs::ChainedLemmas::first_of, crate::proofs::ChainedLemmas::rest_of, crate::proofs::KeptLemmas::all_kept, crate::proofs::KeptLemmas::none_kept, crate::proofs::KeptLemmas::one_kept))]
 fn note_page<'a, F: FaultSink>(
     keys: &mut SeenKeys<'a>,
-    known: &mut ChainHashes<'a>,
+    known: &mut Chains<'a>,
     twice: &BTreeSet<u32>,
     page: PagePairs<'a>,
     found: &mut F,
@@ -69,7 +68,7 @@ fn note_page<'a, F: FaultSink>(
 #[tactic(auto, using(crate::proofs::ChainedLemmas::first_page_of, crate::proofs::ChainedLemmas::other_pages_of, crate::proofs::KeptLemmas::all_kept, crate::proofs::KeptLemmas::more_kept, crate::proofs::KeptLemmas::none_kept))]
 fn note_bucket<'a, F: FaultSink>(
     keys: &mut SeenKeys<'a>,
-    known: &mut ChainHashes<'a>,
+    known: &mut Chains<'a>,
     twice: &BTreeSet<u32>,
     pages: BucketPages<'a>,
     found: &mut F,
@@ -89,23 +88,25 @@ fn note_bucket<'a, F: FaultSink>(
 /// Notes the pairs of a table that have the key of an earlier one. It takes memory for the hashes of all keys, and for the
 /// keys whose hash another one has too; an error is want of it, or the sink's.
 #[tactic(auto, using(crate::proofs::ChainedLemmas::bucket_of_file, crate::proofs::KeptLemmas::kept_anew, crate::proofs::RepeatLemmas::none_noted, crate::proofs::KeptLemmas::kept_more))]
-fn note_whole<F: FaultSink>(
+fn note_whole<'a, F: FaultSink>(
     alloc: Global,
-    linked: &Linked<'_>,
+    linked: &Linked<'a>,
     meta: &HashMeta,
+    known: &mut Chains<'a>,
     found: &mut F,
 ) -> Result<(), AllocError>
     requires meta { HasMetadata (file_of linked.now) (HashFields meta.now) }
     requires stage { structure_faults (file_of linked.now) ≡ [] }
-    ensures { OnOk result (Notes (F.has_noted found.old) (F.has_noted found.new) (repeat_faults (table_told linked.now meta.now))) }
+    requires known { known.old ≡ linked.now }
+    ensures noted { OnOk result (Notes (F.has_noted found.old) (F.has_noted found.new) (repeat_faults (table_told linked.now meta.now))) }
+    ensures same { known.new ≡ known.old }
 {
-    let twice = repeated_hashes(alloc, linked, meta)?;
+    let twice = repeated_hashes(alloc, linked, meta, known)?;
     let mut keys = SeenKeys::new(alloc, linked.forest());
-    let mut known = ChainHashes::new(alloc, linked.forest());
     for b in 0..buckets(linked, meta) {
         note_bucket(
             &mut keys,
-            &mut known,
+            known,
             &twice,
             bucket_pages(linked, meta, b),
             found,
@@ -115,19 +116,22 @@ fn note_whole<F: FaultSink>(
 }
 
 /// The same, where the table has a stray: else equal keys stand in one bucket, and none is looked for.
-pub(crate) fn note_strayed<F: FaultSink>(
+pub(crate) fn note_strayed<'a, F: FaultSink>(
     alloc: Global,
-    linked: &Linked<'_>,
+    linked: &Linked<'a>,
     meta: &HashMeta,
+    known: &mut Chains<'a>,
     has_stray: bool,
     found: &mut F,
 ) -> Result<(), AllocError>
     requires meta { HasMetadata (file_of linked.now) (HashFields meta.now) }
     requires stage { structure_faults (file_of linked.now) ≡ [] }
-    ensures { OnOk result (Notes (F.has_noted found.old) (F.has_noted found.new) (stray_faults linked.now meta.now has_stray)) }
+    requires known { known.old ≡ linked.now }
+    ensures noted { OnOk result (Notes (F.has_noted found.old) (F.has_noted found.new) (stray_faults linked.now meta.now has_stray)) }
+    ensures same { known.new ≡ known.old }
 {
     if has_stray {
-        note_whole(alloc, linked, meta, found)?;
+        note_whole(alloc, linked, meta, known, found)?;
     }
     Ok(())
 }

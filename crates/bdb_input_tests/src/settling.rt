@@ -35,6 +35,8 @@ fn push_error(alloc: Global, text: &mut Bytes, error: LoadError) -> Result<(), A
         LoadError::RecordZero(line) => format!(in alloc; "zero, line {line}")?,
         LoadError::TooLarge => format!(in alloc; "too large")?,
         LoadError::QueueAmongNames(line) => format!(in alloc; "among names, line {line}")?,
+        LoadError::OntoKind(line) => format!(in alloc; "another kind, line {line}")?,
+        LoadError::OntoNames(line) => format!(in alloc; "names, line {line}")?,
         LoadError::Memory => format!(in alloc; "no memory")?,
     };
     text.push_all(line.as_bytes())

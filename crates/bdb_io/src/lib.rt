@@ -1,6 +1,7 @@
 //! Bytes in and out, with a count of what failed.
 #![tactic(auto)]
 
+mod base;
 mod calls;
 mod image;
 mod memory;
@@ -9,6 +10,7 @@ mod pure;
 mod put;
 mod source;
 
+pub use base::BaseSource;
 pub use image::{Image, ReadError, read_image};
 pub use memory::{MemSink, MemSource};
 pub use outside::{StdSink, StdSource};

@@ -167,7 +167,7 @@ type_holds order page OverflowPage all = All-take IsByte (two_at order page 22) 
 type_holds order page QueuePage all = All-drop IsByte 28 page all
 type_holds order page t all = tt
 
-page_holds : (order : Order) (page : List ℕ) → AreBytes page → PageHoldsBytes (abstract_page order page)
+pub page_holds : (order : Order) (page : List ℕ) → AreBytes page → PageHoldsBytes (abstract_page order page)
 unfolding abstract_page
 page_holds order page all =
     elim (is_zero page) as (λ zeros. PageHoldsBytes (elim zeros [ true ↦ Zero | false ↦ page_as order page (page_type (byte_at page 25)) ])) [
@@ -209,7 +209,7 @@ value_holds file (Chain head total) all some =
 value_holds file (Tree root) all some = All-nil IsByte
 value_holds file Unknown all some = All-nil IsByte
 
-entry_holds : (page : Page) (item : Item) → PageHoldsBytes page → Contains (entries_in page) item → HoldsBytes item.content
+pub entry_holds : (page : Page) (item : Item) → PageHoldsBytes page → Contains (entries_in page) item → HoldsBytes item.content
 entry_holds (RecnoLeaf page) item all at = all item at
 entry_holds (DupLeaf page) item all at = all item at
 entry_holds page item all at = absurd (no_member [] item refl at)

@@ -53,11 +53,11 @@ listed_hold file pairs all each =
     let some : IsOfBytes pair.0 = each pair.0 pair.1 in
     subst (IsPairOf false) found.2 (some.key, live_datum_holds file pair.0 found.0 all some found.1))
 
-btree_pairs : (file : File) (root : ℕ) → FileHoldsBytes file → All (IsPairOf false) (btree_list file root)
+pub btree_pairs : (file : File) (root : ℕ) → FileHoldsBytes file → All (IsPairOf false) (btree_list file root)
 unfolding btree_list
 btree_pairs file root all = listed_hold file (tree_pairs file root) all (λ pair at. tree_pair_holds file root pair all at)
 
-hash_pairs : (file : File) (meta : HashMeta) → FileHoldsBytes file → All (IsPairOf false) (hash_list file meta)
+pub hash_pairs : (file : File) (meta : HashMeta) → FileHoldsBytes file → All (IsPairOf false) (hash_list file meta)
 unfolding hash_list
 hash_pairs file meta all =
     listed_hold file (by_key (table_pairs file meta)) all (λ pair at.
@@ -67,7 +67,7 @@ numbered_pair : (pair : ListKey × List ℕ) (n : ℕ) → pair.0 ≡ NumberKey 
 numbered_pair (NumberKey k, value) n is low all = let same : k ≡ n = cc in (omega (arith, low, same), all)
 numbered_pair (BytesKey k, value) n is low all = absurd cc
 
-recno_pairs : (image : List ℕ) (meta : BtreeMeta) → IsForest image → HasMetadata (file_of image) (BtreeFields meta) → is_recno meta ≡ true
+pub recno_pairs : (image : List ℕ) (meta : BtreeMeta) → IsForest image → HasMetadata (file_of image) (BtreeFields meta) → is_recno meta ≡ true
     → FileHoldsBytes (file_of image) → All (IsPairOf true) (recno_list (file_of image) meta.root)
 recno_pairs image meta forest has recno all =
     let file : File = file_of image in
@@ -93,7 +93,7 @@ below_current meta p records slot live =
 queue_records : (page : Page) (number : ℕ) (records : List ℕ) → page ≡ Queue number records → PageHoldsBytes page → AreBytes records
 queue_records page number records is all = subst PageHoldsBytes is all
 
-queue_pairs : (file : File) (meta : QueueMeta) → meta.current < 2 ^ 32 → FileHoldsBytes file → All (IsPairOf true) (queue_list file meta)
+pub queue_pairs : (file : File) (meta : QueueMeta) → meta.current < 2 ^ 32 → FileHoldsBytes file → All (IsPairOf true) (queue_list file meta)
 queue_pairs file meta current all =
     all_of (IsPairOf true) (queue_list file meta) (λ pair at.
     let found = of_queue file meta pair at in
@@ -145,12 +145,12 @@ legal : (n : ℕ) → is_page_size n ≡ true → legal_size n ≡ true
 legal n is = any_turned n (512 ∷ 1024 ∷ 2048 ∷ 4096 ∷ 8192 ∷ 16384 ∷ 32768 ∷ []) ∙ is
 
 -- numbers of metadata
-abbrev NumbersFit : Metadata → Type 0
+abbrev pub NumbersFit : Metadata → Type 0
 NumbersFit (BtreeFields meta) = (meta.minkey < 2 ^ 32) × (meta.re_len < 2 ^ 32) × (meta.re_pad < 2 ^ 32)
 NumbersFit (HashFields meta) = meta.ffactor < 2 ^ 32
 NumbersFit (QueueFields meta) = (meta.current < 2 ^ 32) × (meta.re_len < 2 ^ 32) × (meta.re_pad < 2 ^ 32)
 
-numbers_fit : (order : Order) (page : List ℕ) (fields : Metadata) → AreBytes page → IsReadAs order page fields → NumbersFit fields
+pub numbers_fit : (order : Order) (page : List ℕ) (fields : Metadata) → AreBytes page → IsReadAs order page fields → NumbersFit fields
 numbers_fit order page (BtreeFields meta) all read =
     subst (λ (m : BtreeMeta). NumbersFit (BtreeFields m)) read.1
     (number_fits order page 76 all, number_fits order page 80 all, number_fits order page 84 all)
@@ -161,7 +161,7 @@ numbers_fit order page (QueueFields meta) all read =
 
 -- Flags.
 
-sorted_set : (flags : ℕ) → flags < 256 → (has_bit flags 0x40 && not (has_bit flags 0x41)) ≡ false
+pub sorted_set : (flags : ℕ) → flags < 256 → (has_bit flags 0x40 && not (has_bit flags 0x41)) ≡ false
 sorted_set flags low =
     none_passes (λ (n : ℕ). has_bit n 0x40 && not (has_bit n 0x41)) (range_with_len 0 256) flags refl (in_range 0 256 flags (omega arith) (omega
     (arith, low)))

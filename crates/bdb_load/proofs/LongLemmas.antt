@@ -8,6 +8,7 @@ use Rattle.std.proofs.Math.Nat.{lt-div-mul-add, mul-le-mul_left, mul-le-mul_righ
 use Rattle.std.proofs.lemmas.Bool.Decides.{nat_tests}
 use Rattle.std.proofs.lemmas.Bool.{cases_Bool, le-leb}
 use Rattle.std.proofs.lemmas.List.Elements.{All-cons, All-head, All-nil, All-tail, All-weaker}
+use Rattle.std.proofs.lemmas.List.Folds.{fold-map}
 use Rattle.std.proofs.lemmas.List.Sums.{sum_by-append, sum_by-cons}
 use Rattle.bdb_format.specs.declared.kinds.Kind.TheVariants.{Btree, Recno, Hash}
 use Rattle.bdb_format.specs.declared.settings.Settings.{Settings}
@@ -68,12 +69,6 @@ sum_low f g each (x ∷ xs) =
     let one = each x in
     let rest = sum_low f g each xs in
     omega (arith, one, rest, sum_by-cons f x xs, sum_by-cons g x xs)
-
-pub sum_mapped : {X Y : Type 0} (f : Y → ℕ) (g : X → Y) (xs : List X) → sum_by f (map g xs) ≡ sum_by (λ x. f (g x)) xs
-sum_mapped f g [] = refl
-sum_mapped f g (x ∷ xs) =
-    let rest = sum_mapped f g xs in
-    omega (arith, rest, sum_by-cons f (g x) (map g xs), sum_by-cons (λ y. f (g y)) x xs)
 
 -- Units.
 
@@ -213,7 +208,7 @@ short_keyed settings pages list legal few (inr table) =
     let own : TreeUnit → ℕ = λ unit. keyed_own_pages settings.page_size settings.sorted (keyed_of unit) in
     let low = sum_low (chains settings.page_size) own (keyed_holds settings.page_size settings.sorted) units in
     let same : sum_by (keyed_own_pages settings.page_size settings.sorted) (table_units list) ≡ sum_by own units =
-    sum_mapped (keyed_own_pages settings.page_size settings.sorted) keyed_of units in
+    fold-map (λ sum unit. sum + keyed_own_pages settings.page_size settings.sorted unit) keyed_of 0 units in
     short_pairs settings.page_size (sum_by (chains settings.page_size) units) pages list legal (omega (arith, low, same, table)) few (keyed_held settings.page_size list)
 
 -- and that of a recno

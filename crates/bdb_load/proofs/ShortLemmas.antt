@@ -8,6 +8,7 @@ use Rattle.std.specs.List.{All, list_all, sum_by}
 use Rattle.std.proofs.lemmas.Bool.{and_parts, lt-ltb}
 use Rattle.std.proofs.lemmas.Bool.Decides.{nat_tests}
 use Rattle.std.proofs.lemmas.List.Elements.{All-cons, All-head, All-map, All-nil, All-tail, All-weaker}
+use Rattle.std.proofs.lemmas.List.Folds.{fold-map}
 use Rattle.bdb_format.specs.declared.kinds.Kind.{Kind}
 use Rattle.bdb_format.specs.declared.kinds.Kind.TheVariants.{Btree, Recno, Hash, Queue}
 use Rattle.bdb_format.specs.declared.settings.Settings.{Settings}
@@ -37,7 +38,7 @@ use Rattle.bdb_load.specs.Lengths.{is_short, is_short_pair, is_short_section}
 use Rattle.bdb_load.specs.Loading.{size_error}
 use Rattle.bdb_load.specs.Order.{AreApart, IsApart, named_before}
 use Rattle.bdb_load.proofs.ApartLemmas.{all_named, alone_unnamed, named_apart}
-use Rattle.bdb_load.proofs.LongLemmas.{in_sum, no_bytes, short_keyed, short_records, sum_mapped}
+use Rattle.bdb_load.proofs.LongLemmas.{in_sum, no_bytes, short_keyed, short_records}
 use Rattle.bdb_load.proofs.MasterLemmas.{master_same}
 
 -- Tests.
@@ -276,7 +277,8 @@ lists_held : (size pages : ℕ) (sections : List Section) → sum_by (section_pa
     → All (λ (section : Section). list_pages section.settings.kind (sized size section) (loaded section.settings section.pairs) ≤ pages) sections
 lists_held size pages sections few =
     let own : Section → ℕ = λ section. section_pages size (loaded_section section) in
-    let sum = sum_mapped (section_pages size) loaded_section sections in
+    let sum : sum_by (section_pages size) (map loaded_section sections) ≡ sum_by own sections =
+    fold-map (λ sum section. sum + section_pages size section) loaded_section 0 sections in
     All-weaker (λ section. own section ≤ sum_by own sections)
     (λ (section : Section). list_pages section.settings.kind (sized size section) (loaded section.settings section.pairs) ≤ pages)
     (λ section low.

@@ -10,3 +10,4 @@ mod order;
 pub use bdb_count::need;
 pub use bdb_settle::{LoadError, settle};
 pub use loading::load;
+pub use order::in_name_order;

@@ -60,7 +60,7 @@ fn put_back(alloc: Global, sections: Vec<Section>) -> Result<Sections, AllocErro
 }
 
 /// Sections in the byte order of their names. They are moved, not copied.
-pub(crate) fn in_name_order(alloc: Global, sections: Sections) -> Result<Sections, AllocError>
+pub fn in_name_order(alloc: Global, sections: Sections) -> Result<Sections, AllocError>
     ensures { IfOk result (λ all. all ≡ fold with_named [] sections) }
 {
     let mut all = taken(alloc, sections)?;

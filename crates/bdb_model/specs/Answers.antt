@@ -1,22 +1,16 @@
--- What the program answers to a command and an input. Source: README.md, "Use".
-use Rattle.std.specs.Prelude.{ℕ, if◌then◌else◌, Bool, true, List, [], ◌∷◌, ◌++◌, Option, Some, None, codes, decimal, slice_get}
+-- The lines and texts of the program's answers. Source: README.md, "Use".
+use Rattle.std.specs.Prelude.{ℕ, Bool, true, List, [], ◌∷◌, ◌++◌, Option, Some, None, codes, decimal, slice_get}
 use Rattle.std.specs.List.{flat_map}
 use Rattle.bdb_format.specs.declared.kinds.Fault.{Fault}
-use Rattle.bdb_format.specs.declared.kinds.Order.{Order}
 use Rattle.bdb_format.specs.declared.kinds.Unsupported.{Unsupported}
 use Rattle.bdb_format.specs.Flags.{kind_of}
-use Rattle.bdb_format.specs.HeadOf.{head_of}
 use Rattle.bdb_format.specs.File.{File, file_of}
 use Rattle.bdb_format.specs.Databases.{Database, data_under, databases, place_of}
-use Rattle.bdb_format.specs.Lists.{ListKey, list_of}
-use Rattle.bdb_format.specs.Verdict.{Faulty, Judgement, LeftOut}
+use Rattle.bdb_format.specs.Lists.{ListKey}
 use Rattle.bdb_text_format.specs.TextSpelling.{spelling}
 use Rattle.bdb_text_format.specs.LineEnd.{line}
-use Rattle.bdb_text_format.specs.Written.{database_text, dump_text, is_btree, key_bytes, kind_text}
+use Rattle.bdb_text_format.specs.Written.{database_text, dump_text, key_bytes, kind_text}
 use Rattle.bdb_format.specs.FaultNames.{fault_name, unsupported_name}
-use Rattle.bdb_model.specs.Command.{Request, Verify, ListAll, Get, Dump, Range, Convert}
-use Rattle.bdb_model.specs.Flipped.{flip_of, overlap_in}
-use Rattle.bdb_model.specs.Ranges.{in_range}
 
 -- a status, and what is written to the output and to the error sink
 pub record Answer : Type 0 where
@@ -33,7 +27,7 @@ abbrev pub done : List ℕ → Answer
 done text = record { status = 0; out = text; err = [] }
 
 abbrev pub usage : Answer
-usage = told 2 (line (codes "usage: bdbtool verify, list, get, dump, load, salvage, trial, range or convert"))
+usage = told 2 (line (codes "usage: bdbtool verify, list, get, dump, load, salvage, trial, range, convert, stat or repair"))
 
 abbrev pub too_large_line : ℕ → List ℕ
 too_large_line limit = codes "input longer than " ++ (decimal limit ++ line (codes " bytes"))
@@ -102,7 +96,7 @@ abbrev pub dumped : Bool → List ℕ → Option (List ℕ) → Answer
 dumped prints image None = done (dump_text prints image (databases (file_of image)))
 dumped prints image (Some name) = section_answer prints image (database_in (databases (file_of image)) (place_of (Some name) (databases (file_of image))))
 
--- `range`: each pair of a btree with a key in the range, the key and the datum each on a line
+-- `range`: each pair, the key and the datum each on a line
 
 abbrev pub pair_lines : Bool → (ListKey × List ℕ) → List ℕ
 pair_lines prints pair = value_line prints (key_bytes pair.0) ++ value_line prints pair.1
@@ -113,34 +107,7 @@ pairs_text prints pairs = flat_map (pair_lines prints) pairs
 abbrev pub not_btree : Answer
 not_btree = told 12 (line (codes "not a btree"))
 
-abbrev pub range_answer : Bool → File → List ℕ → List ℕ → Option Database → Answer
-range_answer prints file from to None = not_found
-range_answer prints file from to (Some database) =
-    if is_btree (kind_of database.fields) then done (pairs_text prints (in_range (list_of file database.fields) from to)) else not_btree
-
-abbrev pub ranged : Bool → File → Option (List ℕ) → List ℕ → List ℕ → Answer
-ranged prints file name from to = range_answer prints file from to (database_in (databases file) (place_of name (databases file)))
-
--- `convert`: the file in the byte order, or the first page that is in the way
+-- `convert`: the first page that is in the way
 
 abbrev pub overlap_line : ℕ → List ℕ
 overlap_line page = codes "items overlap, page " ++ line (decimal page)
-
-abbrev pub converted : Option ℕ → Order → List ℕ → Answer
-converted None order image = done (flip_of order image)
-converted (Some page) order image = told 13 (overlap_line page)
-
--- what is answered over a sound file
-abbrev pub sound_answer : Request → List ℕ → Answer
-sound_answer Verify image = done (sound_line (head_of image).pages)
-sound_answer ListAll image = done (list_text (databases (file_of image)))
-sound_answer (Get name key prints) image = found prints (data_named (file_of image) name key)
-sound_answer (Dump name prints) image = dumped prints image name
-sound_answer (Range name from to prints) image = ranged prints (file_of image) name from to
-sound_answer (Convert order) image = converted (overlap_in order image) order image
-
--- what is answered by the verdict
-abbrev pub judged_answer : Option Judgement → Request → List ℕ → Answer
-judged_answer None request image = sound_answer request image
-judged_answer (Some (Faulty fault)) request image = told 1 (fault_line fault)
-judged_answer (Some (LeftOut name page)) request image = told 3 (unsupported_line name page)

@@ -8,7 +8,7 @@ use Rattle.bdb_text_format.specs.TextSpelling.{bytes_spelled}
 
 -- what is asked of a sound file: of a key the name of its database, where one was given, and whether data are printed; of a
 -- dump the name of a database, where not all are asked for, and whether data are printed; of a range a name as of a key, the
--- bounds, and whether keys and data are printed; or the same file in a byte order
+-- bounds, and whether keys and data are printed; the same file in a byte order; or what its pages are
 pub data Request : Type 0 where
   Verify : Request
   ListAll : Request
@@ -16,6 +16,7 @@ pub data Request : Type 0 where
   Dump : Option (List ℕ) → Bool → Request
   Range : Option (List ℕ) → List ℕ → List ℕ → Bool → Request
   Convert : Order → Request
+  Stat : Request
 
 -- Options and operands.
 

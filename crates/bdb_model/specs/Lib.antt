@@ -35,10 +35,5 @@ pub use Rattle.bdb_text_format.specs.Pairs
 pub use Rattle.bdb_text_format.specs.Sections
 pub mod Change
 pub mod Lines
-pub mod Fields
-pub mod Overlaps
-pub mod Turning
-pub mod Flipped
 pub mod Command
-pub mod Ranges
 pub mod Answers

@@ -6,5 +6,6 @@ pub mod LengthLemmas
 pub mod LinkedLemmas
 pub mod PrefixLemmas
 pub mod RunLemmas
+pub mod TakenLemmas
 pub mod UnchainedLemmas
 pub mod WholeLemmas

@@ -35,12 +35,3 @@ two_cmp x y = ordering_then (nat_cmp x.0 y.0) (nat_cmp x.1 y.1)
 -- these tell of chains, two by two by their heads, whether the first is less
 pub record AreFound (image : List ℕ) (found : BTreeMap (ℕ × ℕ) Bool) : Type 0 where
   pub each : (a b : ℕ) (is : Bool) → get two_cmp found (a, b) ≡ Some is → is ≡ less (chain_value (file_of image) a) (chain_value (file_of image) b)
-
--- these are what is left of chains, by their heads, once blank pages in front are passed
-pub record AreStarts (image : List ℕ) (starts : BTreeMap ℕ (List (List ℕ))) : Type 0 where
-  pub each : (head : ℕ) (pieces : List (List ℕ)) → get nat_cmp starts head ≡ Some pieces → joined pieces ≡ chain_value (file_of image) head
-
--- what is kept of the chains of a file
-pub record AreKnown (image : List ℕ) (answers : BTreeMap (ℕ × ℕ) Bool) (begins : BTreeMap ℕ (List (List ℕ))) : Type 0 where
-  pub found : AreFound image answers
-  pub starts : AreStarts image begins

@@ -4,4 +4,5 @@ pub mod Keys
 pub mod Lengths
 pub mod Prefix
 pub mod Runs
+pub mod Taken
 pub mod Whole

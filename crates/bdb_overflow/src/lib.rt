@@ -13,6 +13,7 @@ mod keys;
 mod lengths;
 mod piece;
 mod run;
+mod taken;
 mod values;
 
 pub use chains::{chain_pieces, pieces};

@@ -1,12 +1,15 @@
-ghost use Rattle.std.specs.Prelude.{◌≡◌, ◌+◌, ◌/◌, ◌^◌, ◌<◌, ◌≤◌, ◌∷◌, ◌==◌, [], IsTrue, length, take, drop};
+ghost use Rattle.std.specs.Prelude.{◌≡◌, ◌+◌, ◌/◌, ◌^◌, ◌<◌, ◌≤◌, ◌∷◌, ◌==◌, [], ℕ, List, IsTrue, length, take, drop};
 ghost use Rattle.std.specs.Iterator.{YieldsFirstBy, item_count};
 ghost use Rattle.bdb_format.specs.Chains.{joined, pieces_of};
 ghost use Rattle.bdb_format.specs.File.{file_as};
 ghost use Rattle.bdb_format.specs.HeadOf.{is_page_size};
 ghost use Rattle.bdb_format.specs.Numbers.{two_at};
+ghost use Rattle.bdb_overflow.specs.Taken.{ArePassedBy, ArePassedIfAny, IsOnWay, full_pieces, taken_pieces};
 ghost use Rattle.bdb_overflow.specs.Whole.{IsLeft, IsWholeChain, bytes_of, pieces_from};
 
+use crate::taken::Taken;
 use bdb_format::Order;
+use bdb_graph::Blanks;
 use bdb_layout::{u16_at, u32_at};
 use std::marker::Model;
 
@@ -45,24 +48,64 @@ fn first_piece<'a>(image: &'a [u8], order: Order, size: u32, head: u32) -> (&'a 
     (data_of(page, order), u32_at(page, 16, order))
 }
 
-/// The pieces of a value that are left, one for each page of its chain: slices of the image.
+/// The first page with data from one on, or 0 where there is none. Those that are passed over aren't looked at.
+#[tactic(auto, using(crate::proofs::WholeLemmas::left_whole, crate::proofs::WholeLemmas::at_end))]
+fn with_data(image: &[u8], order: Order, size: u32, taken: &Taken, from: u32) -> u32
+    requires size { IsTrue (is_page_size size) }
+    requires left { IsLeft order size image.now from }
+    requires passed { ArePassedBy order size image.now taken.now }
+    ensures left { IsLeft order size image.now result }
+    ensures same { full_pieces (pieces_from order size image.now result) ≡ full_pieces (pieces_from order size image.now from) }
+    ensures first { (piece : List ℕ) (rest : List (List ℕ)) → pieces_from order size image.now result ≡ piece ∷ rest
+        → full_pieces (piece ∷ rest) ≡ piece ∷ full_pieces rest }
+{
+    let mut at = taken.past(from);
+    while at != 0 {
+        let (piece, next) = first_piece(image, order, size, at);
+        if !piece.is_empty() {
+            return at;
+        }
+        at = taken.past(next);
+    }
+    0
+}
+
+/// The page of the first piece from a page on, or 0 where there is none.
+fn first_taken(image: &[u8], order: Order, size: u32, taken: &Taken, from: u32) -> u32
+    requires size { IsTrue (is_page_size size) }
+    requires left { IsLeft order size image.now from }
+    requires passed { ArePassedBy order size image.now taken.now }
+    ensures left { IsLeft order size image.now result }
+    ensures same { taken_pieces taken.now (pieces_from order size image.now result) ≡ taken_pieces taken.now (pieces_from order size image.now from) }
+    ensures first { (piece : List ℕ) (rest : List (List ℕ)) → pieces_from order size image.now result ≡ piece ∷ rest
+        → taken_pieces taken.now (piece ∷ rest) ≡ piece ∷ taken_pieces taken.now rest }
+{
+    match taken {
+        Taken::Each => from,
+        Taken::WithData(_) => with_data(image, order, size, taken, from),
+    }
+}
+
+/// The pieces of a value that are left, slices of the image: one for each page of its chain, or for each that has data.
 #[derive(Drop)]
 pub struct Pieces<'a> {
     image: &'a [u8],
     order: Order,
     size: u32,
     next: u32,
+    taken: Taken,
 }
 
 impl<'a> Model for Pieces<'a> {
     ghost use Rattle.std.specs.Prelude.{List, ℕ};
-    ghost use Rattle.bdb_overflow.specs.Whole.{IsLeft, pieces_from};
+    ghost use Rattle.bdb_overflow.specs.Taken.{IsOnWay, taken_pieces};
+    ghost use Rattle.bdb_overflow.specs.Whole.{pieces_from};
 
     ghost Value = { List (List ℕ) };
 
-    ghost view = { λ it. pieces_from it.order it.size it.image.now it.next };
+    ghost view = { λ it. taken_pieces it.taken (pieces_from it.order it.size it.image.now it.next) };
 
-    ghost invariant = { λ it. IsLeft it.order it.size it.image.now it.next };
+    ghost invariant = { λ it. IsOnWay it.order it.size it.image.now it.next it.taken };
 }
 
 #[tactic(auto, using(crate::proofs::WholeLemmas::none_left, crate::proofs::WholeLemmas::at_end))]
@@ -76,6 +119,7 @@ impl<'a> Pieces<'a> {
             order: Order::Big,
             size: 512,
             next: 0,
+            taken: Taken::Each,
         }
     }
 
@@ -88,34 +132,12 @@ impl<'a> Pieces<'a> {
             order: self.order,
             size: self.size,
             next: self.next,
-        }
-    }
-
-    /// Whether there is a first piece, and it has no bytes.
-    pub(crate) fn begin_blank(&self) -> bool {
-        let mut rest = self.again();
-        match rest.next() {
-            Some(piece) => piece.is_empty(),
-            None => false,
-        }
-    }
-
-    /// The same bytes without pieces in front that have none.
-    pub(crate) fn without_blanks(&self) -> Pieces<'a>
-        ensures { joined result ≡ joined self.now }
-    {
-        let mut rest = self.again();
-        loop {
-            let mut after = rest.again();
-            match after.next() {
-                Some(piece) if piece.is_empty() => rest = after,
-                _ => return rest,
-            }
+            taken: self.taken.again(),
         }
     }
 
     /// How many bytes the pieces have together.
-    #[tactic(auto, using(crate::proofs::WholeLemmas::left_short))]
+    #[tactic(auto, using(crate::proofs::TakenLemmas::taken_short))]
     pub(crate) fn length(&self) -> u64
         ensures { result ≡ length (joined self.now) }
     {
@@ -172,6 +194,31 @@ pub fn pieces_at<'a>(image: &'a [u8], order: Order, page_size: u32, head: u32) -
         order,
         size: page_size,
         next: head,
+        taken: Taken::Each,
+    }
+}
+
+/// The pieces of such a chain that have data. Pages that are known to have none are passed over.
+#[tactic(auto, using(crate::proofs::WholeLemmas::all_left, crate::proofs::TakenLemmas::full_from_all, crate::proofs::TakenLemmas::full_few_as))]
+pub(crate) fn full_pieces_at<'a>(
+    image: &'a [u8],
+    order: Order,
+    page_size: u32,
+    head: u32,
+    blanks: Option<Blanks>,
+) -> Pieces<'a>
+    requires size { IsTrue (is_page_size page_size) }
+    requires whole { IsWholeChain order page_size image.now head }
+    requires passed { ArePassedIfAny order page_size image.now blanks }
+    ensures pieces { result ≡ full_pieces (pieces_of (file_as order page_size image.now) head) }
+    ensures few { length result ≤ length image.now / page_size }
+{
+    Pieces {
+        image,
+        order,
+        size: page_size,
+        next: head,
+        taken: Taken::WithData(blanks),
     }
 }
 
@@ -184,6 +231,7 @@ impl<'a> Iterator for Pieces<'a> {
 
     #[tactic(auto, using(crate::proofs::WholeLemmas::at_end, crate::proofs::WholeLemmas::left_whole))]
     fn next(&mut self) -> Option<&'a [u8]> {
+        self.next = first_taken(self.image, self.order, self.size, &self.taken, self.next);
         if self.next == 0 {
             return None;
         }

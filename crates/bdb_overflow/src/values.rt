@@ -1,11 +1,10 @@
 ghost use Rattle.std.specs.Prelude.{◌≡◌, IfOk};
-ghost use Rattle.bdb_format.specs.Chains.{joined};
 ghost use Rattle.bdb_format.specs.File.{file_of};
 ghost use Rattle.bdb_format.specs.Less.{less};
 ghost use Rattle.bdb_graph.specs.Linked.{FitsChain};
 ghost use Rattle.bdb_overflow.specs.Held.{FitsHeld, chain_value, value_held};
 
-use crate::{Datum, Held, Pieces, chain_pieces, is_less};
+use crate::{Datum, Held, chain_pieces, is_less};
 use bdb_form::PageView;
 use bdb_graph::Forest;
 use bdb_layout::compare;
@@ -15,25 +14,23 @@ use std::collections::BTreeMap;
 use std::marker::Model;
 
 /// The values of one file, to be compared, and what was found of their chains: two chains of which one may have several names
-/// are compared once, and blank pages in front of a chain are gone through once.
+/// are compared once.
 #[derive(Drop)]
 pub struct Values<'a> {
     forest: Forest<'a>,
     // Whether the first of two chains is less, by their heads.
     found: BTreeMap<(u32, u32), bool>,
-    // The chains that begin with a blank page, from their first page with data on, by their heads.
-    starts: BTreeMap<u32, Pieces<'a>>,
 }
 
 impl<'a> Model for Values<'a> {
     ghost use Rattle.std.specs.Prelude.{List, ℕ};
-    ghost use Rattle.bdb_overflow.specs.Held.{AreKnown};
+    ghost use Rattle.bdb_overflow.specs.Held.{AreFound};
 
     ghost Value = { List ℕ };
 
     ghost view = { λ v. v.forest };
 
-    ghost invariant = { λ v. AreKnown v.forest v.found v.starts };
+    ghost invariant = { λ v. AreFound v.forest v.found };
 }
 
 /// Whether more than one item may name a chain. Where none else does, nothing is to be kept of it.
@@ -68,7 +65,6 @@ impl<'a> Values<'a> {
         Values {
             forest,
             found: BTreeMap::new(alloc),
-            starts: BTreeMap::new(alloc),
         }
     }
 
@@ -79,26 +75,8 @@ impl<'a> Values<'a> {
         self.forest.again()
     }
 
-    /// A chain from its first page with data on. An error is want of memory, for one that begins with a blank page.
-    fn start(&mut self, head: u32) -> Result<Pieces<'a>, AllocError>
-        requires { FitsChain (file_of self.old) head }
-        ensures pieces { IfOk result (λ pieces. joined pieces ≡ chain_value (file_of self.old) head) }
-        ensures same { self.new ≡ self.old }
-    {
-        let pieces = chain_pieces(&self.forest, head);
-        if !pieces.begin_blank() {
-            return Ok(pieces);
-        }
-        if let Some(start) = self.starts.get(&head) {
-            return Ok(start.again());
-        }
-        let start = pieces.without_blanks();
-        self.starts.insert(head, start.again())?;
-        Ok(start)
-    }
-
     /// Whether a value is less than another. A chain isn't less than itself, which takes no look at its pages. An error is want
-    /// of memory, for a chain that is shared or begins with a blank page. Most values are bytes of pages.
+    /// of memory, for a chain that is shared. Most values are bytes of pages.
     pub fn is_less(&mut self, a: Held<'_>, b: Held<'_>) -> Result<bool, AllocError>
         requires first { FitsHeld (file_of self.old) a }
         requires second { FitsHeld (file_of self.old) b }
@@ -108,29 +86,27 @@ impl<'a> Values<'a> {
         match (a, b) {
             (Held::Inline(a), Held::Inline(b)) => Ok(is_less_inline(a, b)),
             (Held::Chained(a), Held::Chained(b)) => self.is_less_chain(a, b),
-            (Held::Inline(a), Held::Chained(b)) => self.is_below_chain(a, b),
-            (Held::Chained(a), Held::Inline(b)) => self.is_chain_below(a, b),
+            (Held::Inline(a), Held::Chained(b)) => Ok(self.is_below_chain(a, b)),
+            (Held::Chained(a), Held::Inline(b)) => Ok(self.is_chain_below(a, b)),
         }
     }
 
     /// The same of bytes of a page and a chain.
-    fn is_below_chain(&mut self, a: &[u8], b: u32) -> Result<bool, AllocError>
-        requires { FitsChain (file_of self.old) b }
-        ensures less { IfOk result (λ is. is ≡ less a.now (chain_value (file_of self.old) b)) }
-        ensures same { self.new ≡ self.old }
+    fn is_below_chain(&self, a: &[u8], b: u32) -> bool
+        requires { FitsChain (file_of self.now) b }
+        ensures { result ≡ less a.now (chain_value (file_of self.now) b) }
     {
-        let start = self.start(b)?;
-        Ok(is_less(&Datum::Inline(a), &Datum::Chained(start)))
+        let pieces = chain_pieces(&self.forest, b);
+        is_less(&Datum::Inline(a), &Datum::Chained(pieces))
     }
 
     /// The same of a chain and bytes of a page.
-    fn is_chain_below(&mut self, a: u32, b: &[u8]) -> Result<bool, AllocError>
-        requires { FitsChain (file_of self.old) a }
-        ensures less { IfOk result (λ is. is ≡ less (chain_value (file_of self.old) a) b.now) }
-        ensures same { self.new ≡ self.old }
+    fn is_chain_below(&self, a: u32, b: &[u8]) -> bool
+        requires { FitsChain (file_of self.now) a }
+        ensures { result ≡ less (chain_value (file_of self.now) a) b.now }
     {
-        let start = self.start(a)?;
-        Ok(is_less(&Datum::Chained(start), &Datum::Inline(b)))
+        let pieces = chain_pieces(&self.forest, a);
+        is_less(&Datum::Chained(pieces), &Datum::Inline(b))
     }
 
     /// The same of two chains.
@@ -147,7 +123,7 @@ impl<'a> Values<'a> {
         if is_shared(&self.forest, a) || is_shared(&self.forest, b) {
             return self.is_less_once(a, b);
         }
-        self.is_less_by_pages(a, b)
+        Ok(self.is_less_by_pages(a, b))
     }
 
     /// The same of two chains of which one may be named again.
@@ -160,20 +136,19 @@ impl<'a> Values<'a> {
         if let Some(is) = self.found.get(&(a, b)) {
             return Ok(*is);
         }
-        let is = self.is_less_by_pages(a, b)?;
+        let is = self.is_less_by_pages(a, b);
         self.found.insert((a, b), is)?;
         Ok(is)
     }
 
     /// The same of two chains, by their pages.
-    fn is_less_by_pages(&mut self, a: u32, b: u32) -> Result<bool, AllocError>
-        requires first { FitsChain (file_of self.old) a }
-        requires second { FitsChain (file_of self.old) b }
-        ensures less { IfOk result (λ is. is ≡ less (chain_value (file_of self.old) a) (chain_value (file_of self.old) b)) }
-        ensures same { self.new ≡ self.old }
+    fn is_less_by_pages(&self, a: u32, b: u32) -> bool
+        requires first { FitsChain (file_of self.now) a }
+        requires second { FitsChain (file_of self.now) b }
+        ensures { result ≡ less (chain_value (file_of self.now) a) (chain_value (file_of self.now) b) }
     {
-        let first = self.start(a)?;
-        let second = self.start(b)?;
-        Ok(is_less(&Datum::Chained(first), &Datum::Chained(second)))
+        let first = chain_pieces(&self.forest, a);
+        let second = chain_pieces(&self.forest, b);
+        is_less(&Datum::Chained(first), &Datum::Chained(second))
     }
 }

@@ -3,7 +3,7 @@ use Rattle.std.proofs.Common.{◌≡◌, ◌∙◌, ℕ, suc, ◌+◌, ◌<◌, 
 use Rattle.std.specs.List.{flat_map}
 use Rattle.std.proofs.Math.Seq.{drop-cons}
 use Rattle.std.proofs.lemmas.List.{drop_all}
-use Rattle.std.specs.Prelude.{Option, Ok, Err, OnOk, Result}
+use Rattle.std.specs.Prelude.{Option, Ok, Err, OnOk, Result, IsErrAnd}
 use Rattle.bdb_format.specs.Chains.{joined}
 use Rattle.bdb_model.specs.Change.{change}
 use Rattle.bdb_text_format.specs.TextSpelling.{spelling}
@@ -32,6 +32,11 @@ adds_cut written faults old new one two given result cut was is first = record {
   same_sink = first.same_sink;
   prints = begins_cut (change written faults old.out.now new.out.now) old.pending.now new.pending.now new.pending.now one two given result cut was is first.prints;
 }
+
+-- `?` hands a cut up as it is
+pub cut_up : (result : Result Unit Cut) (cut : Cut) → IsErrAnd result (λ up. up ≡ cut) → result ≡ Err cut
+cut_up (Ok done) cut is = absurd is
+cut_up (Err up) cut is = ap (λ given. Err given) is
 
 -- a text was printed from the start on, and then all that was pending was written
 pub all_written : {K : Type 0} (written : K → Option (List ℕ)) (faults : K → ℕ) (old mid new : Printer K) (end : K) (text : List ℕ) (given result : Result Unit Cut) → end ≡ new.out.now

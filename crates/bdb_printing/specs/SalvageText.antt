@@ -6,7 +6,7 @@ use Rattle.bdb_format.specs.declared.settings.Settings.{Settings}
 use Rattle.bdb_format.specs.File.{File}
 use Rattle.bdb_format.specs.Lists.{ListKey, BytesKey, NumberKey}
 use Rattle.bdb_text_format.specs.Written.{section_text}
-use Rattle.bdb_salvage.specs.declared.guess.Guess.{Guess}
+use Rattle.bdb_survey.specs.declared.guess.Guess.{Guess}
 use Rattle.bdb_stored.specs.Salvage.{loose, salvaged_file, stored}
 
 -- a recno section as the image is read, without a setting of its own

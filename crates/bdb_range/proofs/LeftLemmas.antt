@@ -8,7 +8,7 @@ use Rattle.bdb_format.specs.File.{File}
 use Rattle.bdb_format.specs.Lists.{ListKey, listed_pair}
 use Rattle.bdb_btree.specs.Pairs.{left_of, pairs_left}
 use Rattle.bdb_btree.specs.Search.{entries_left}
-use Rattle.bdb_model.specs.Ranges.{lies_between}
+use Rattle.bdb_range.specs.Ranges.{lies_between}
 use Rattle.bdb_range.specs.InRange.{pairs_between}
 
 -- the pairs that are left where a walk goes on to the next leaf

@@ -23,7 +23,7 @@ use Rattle.bdb_btree.specs.Search.{AreOpen}
 use Rattle.bdb_btree.proofs.RowLemmas.{tree_pairs_fit}
 use Rattle.bdb_btree.proofs.WalkLemmas.{are_leaves, each_of}
 use Rattle.bdb_format.proofs.FileLemmas.{last_page}
-use Rattle.bdb_model.specs.Ranges.{in_range}
+use Rattle.bdb_range.specs.Ranges.{in_range}
 use Rattle.bdb_range.specs.InRange.{pairs_between}
 use Rattle.bdb_range.specs.Spans.{Covers}
 use Rattle.bdb_range.proofs.LeafLemmas.{is_root, suffix_leaves}

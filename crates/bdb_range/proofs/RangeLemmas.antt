@@ -12,7 +12,7 @@ use Rattle.bdb_format.specs.Lists.{ListKey, BytesKey, btree_list, listed_pair}
 use Rattle.bdb_format.proofs.MemberLemmas.{first_member, later_member, member_cases, no_member}
 use Rattle.bdb_graph.specs.Forest.{AllDistinct, NotIn}
 use Rattle.bdb_graph.proofs.LeavesLemmas.{no_leaf_twice}
-use Rattle.bdb_model.specs.Ranges.{in_range, is_between, lies_between}
+use Rattle.bdb_range.specs.Ranges.{in_range, is_between, lies_between}
 use Rattle.bdb_range.specs.InRange.{pairs_between}
 use Rattle.bdb_range.specs.Spans.{ListsAreFiltered, SpansGiveRanges}
 

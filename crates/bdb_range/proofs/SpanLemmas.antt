@@ -29,7 +29,7 @@ use Rattle.bdb_format.proofs.VerdictLemmas.{AllFail, all_fail, no_codes_at}
 use Rattle.bdb_tree.proofs.PairLemmas.{tree_pair_inside}
 use Rattle.bdb_btree.proofs.FallLemmas.{dont_fall, tree_keys}
 use Rattle.bdb_btree.specs.Bounds.{DontFall}
-use Rattle.bdb_model.specs.Ranges.{lies_between}
+use Rattle.bdb_range.specs.Ranges.{lies_between}
 use Rattle.bdb_range.specs.InRange.{empty_leaves, holding_leaves, holds_between, is_empty}
 use Rattle.bdb_range.specs.Spans.{WalksAreShort, WalksCover, begins_below, goes_on}
 

@@ -4,7 +4,7 @@ use Rattle.std.specs.List.{filter, list_any}
 use Rattle.bdb_format.specs.Contents.{StoredPair, pairs_of}
 use Rattle.bdb_format.specs.File.{File}
 use Rattle.bdb_format.specs.Leaves.{leaves}
-use Rattle.bdb_model.specs.Ranges.{lies_between}
+use Rattle.bdb_range.specs.Ranges.{lies_between}
 
 -- the pairs with a key in the range, deleted ones too
 abbrev pub pairs_between : List ℕ → List ℕ → List StoredPair → List StoredPair

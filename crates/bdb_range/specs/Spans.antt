@@ -13,7 +13,7 @@ use Rattle.bdb_format.specs.Page.{BtreeFields}
 use Rattle.bdb_graph.specs.Linked.{HasMetadata, IsForest}
 use Rattle.bdb_tree.specs.Descent.{descent}
 use Rattle.bdb_btree.specs.Search.{is_below}
-use Rattle.bdb_model.specs.Ranges.{in_range, lies_between}
+use Rattle.bdb_range.specs.Ranges.{in_range, lies_between}
 use Rattle.bdb_range.specs.InRange.{empty_leaves, holding_leaves, pairs_between}
 
 -- The leaf to which a descent leads, among the leaves of its tree: keys before it are less than the sought one, those after it aren't.

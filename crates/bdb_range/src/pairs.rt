@@ -8,7 +8,7 @@ ghost use Rattle.bdb_format.specs.Verdict.{structure_faults};
 ghost use Rattle.bdb_overflow.specs.Datum.{datum_seen};
 ghost use Rattle.bdb_btree.specs.Pairs.{pair_seen};
 ghost use Rattle.bdb_btree.specs.Search.{entry_seen};
-ghost use Rattle.bdb_model.specs.Ranges.{in_range, lies_between};
+ghost use Rattle.bdb_range.specs.Ranges.{in_range, lies_between};
 ghost use Rattle.bdb_range.specs.Spans.{Covers};
 
 use crate::Span;

@@ -1,9 +1,10 @@
 -- The pages of a tree of records, and the entries below a page.
-use Rattle.std.proofs.Common.{◌≡◌, ◌⊎◌, ℕ, ◌<◌, ◌≤◌, Bool, true, false, cond, List, [], ◌∷◌, ◌++◌, length, map, Option, Some, None, refl, sym, ◌∙◌}
+use Rattle.std.proofs.Common.{◌≡◌, ◌⊎◌, ℕ, ◌≤◌, Bool, true, false, cond, List, [], ◌∷◌, ◌++◌, map, Option, Some, None, refl, sym, ◌∙◌}
 use Rattle.std.proofs.Common.{ap, subst, inl, inr, append-nil}
-use Rattle.std.specs.Prelude.{◌==◌, get_or}
+use Rattle.std.specs.Prelude.{◌==◌}
 use Rattle.std.specs.List.{Contains, flat_map}
 use Rattle.std.proofs.lemmas.List.Concat.{flat_map-append}
+use Rattle.std.proofs.lemmas.List.Elements.{Contains-append_right}
 use Rattle.bdb_form.specs.declared.view.PageView.{PageView}
 use Rattle.bdb_form.specs.declared.view.PageView.TheVariants.{RecnoInternal as InternalView, RecnoLeaf as LeafView}
 use Rattle.bdb_form.specs.Seen.{page_seen}
@@ -23,6 +24,7 @@ use Rattle.bdb_tree.proofs.EntryLemmas.{entries_are}
 use Rattle.bdb_tree.proofs.ShapeLemmas.{IsLeafPage}
 use Rattle.bdb_tree.proofs.TreeLemmas.{IsChild, child_is, leaves_of_inner, leaves_of_leaf, meta_root_type, recno_internal_page, recno_leaf}
 use Rattle.bdb_tree.proofs.TreeLemmas.{recno_leaf_page, tree_cases, typed_inside}
+use Rattle.bdb_format.proofs.MemberLemmas.{first_member}
 use Rattle.bdb_format.proofs.TypeLemmas.{of_type}
 
 -- What a page is.
@@ -91,12 +93,13 @@ pub leaves_recno : (image : List ℕ) (p q : ℕ) → IsForest image → IsRecno
     → IsRecnoLeaf (file_of image) q
 leaves_recno image p q forest recno at = recno_leaf image p q forest recno at
 
--- and so is one that an iterator over the leaves gives
-pub turned_leaf : (image : List ℕ) (p i q page : ℕ) → IsForest image → IsRecnoPage (file_of image) p
-    → (i < length (leaves (file_of image) p)) × (q ≡ get_or (leaves (file_of image) p) i q) → page ≡ q
-    → IsRecnoLeaf (file_of image) page
-turned_leaf image p i q page forest recno turn same =
-    subst (IsRecnoLeaf (file_of image)) (sym same) (leaves_recno image p q forest recno (i, turn.0, sym turn.1))
+-- and so is one after those that were passed
+pub turned_leaf : (image : List ℕ) (p : ℕ) (passed left : List ℕ) (q page : ℕ) → IsForest image → IsRecnoPage (file_of image) p
+    → passed ++ (q ∷ left) ≡ leaves (file_of image) p → page ≡ q → IsRecnoLeaf (file_of image) page
+turned_leaf image p passed left q page forest recno all same =
+    subst (IsRecnoLeaf (file_of image)) (sym same)
+    (leaves_recno image p q forest recno
+    (subst (λ pages. Contains pages q) all (Contains-append_right passed (q ∷ left) q (first_member q left))))
 
 entries_joined : (file : File) (cs : List ℕ) → entries_on file (flat_map (leaves file) cs) ≡ flat_map (tree_entries file) cs
 unfolding tree_entries

@@ -60,6 +60,25 @@ pub const OVERLAPPING: File = File {
     parts: &[&BTREE, &A_LEAF, &[Field::Two(1016, 5)]],
 };
 
+// A page 2 without anything, above the last page.
+pub const ZERO_TAIL: File = File {
+    length: 1536,
+    parts: &[&BTREE, &A_LEAF],
+};
+
+pub const FREE_PAGE: File = File {
+    length: 1536,
+    parts: &[
+        &BTREE,
+        &A_LEAF,
+        &[
+            Field::Bytes(28, &[2]), // first free page
+            Field::Bytes(32, &[2]), // last page
+            Field::Bytes(1032, &[2]), // page 2
+        ],
+    ],
+};
+
 pub const ONE_PAGE: File = File {
     length: 512,
     parts: &[&BTREE, &A_LEAF],

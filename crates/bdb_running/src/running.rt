@@ -24,7 +24,7 @@ pub type Question = (&'static [&'static str], Told);
 /// The usage line.
 pub const USAGE: Told = Told::Line(
     2,
-    b"usage: bdbtool verify, list, get, dump, load, salvage, trial, range or convert\n",
+    b"usage: bdbtool verify, list, get, dump, load, salvage, trial, range, convert, stat or repair\n",
 );
 
 pub const NOT_FOUND: Told = Told::Line(9, b"not found\n");

@@ -6,7 +6,7 @@ use Rattle.bdb_format.specs.declared.kinds.Order.{Order}
 use Rattle.bdb_format.specs.declared.kinds.Order.TheVariants.{Big, Little}
 use Rattle.bdb_format.specs.HeadOf.{is_page_size}
 use Rattle.bdb_format.specs.Numbers.{four_at}
-use Rattle.bdb_salvage.specs.declared.guess.Guess.{Guess}
+use Rattle.bdb_survey.specs.declared.guess.Guess.{Guess}
 use Rattle.bdb_salvage.specs.Guesses.{chosen, guess_in, guess_of, is_known_magic}
 
 abbrev pub IsLegal : Guess → Type 0

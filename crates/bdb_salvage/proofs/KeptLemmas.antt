@@ -10,7 +10,8 @@ use Rattle.bdb_salvage.specs.declared.kept.DataPlace.{DataPlace}
 use Rattle.bdb_salvage.specs.declared.kept.DataPlace.TheVariants.{Here, Set as OnLeaves}
 use Rattle.bdb_salvage.specs.declared.kept.KeptPair.{KeptPair}
 use Rattle.bdb_salvage.specs.declared.kept.KeptValue.{KeptValue}
-use Rattle.bdb_salvage.specs.Kept.{IsKeptPair, IsKeptValue, data_places, is_held, is_valued, item_of, kept_in, kept_on, kept_pair, kept_pairs, kept_value, loose_values, slot_at, slots_in, untaken_on, values_in, values_on}
+use Rattle.bdb_salvage.specs.Kept.{IsKeptPair, IsKeptValue, data_places, is_held, item_of, kept_in, kept_on, kept_pair, kept_pairs, kept_value, loose_values, untaken_on, values_in, values_on}
+use Rattle.bdb_survey.specs.Items.{is_valued, slot_at, slots_in}
 use Rattle.bdb_stored.specs.Salvage.{is_taken, is_whole, paired_items, set_starts}
 use Rattle.bdb_salvage.proofs.ListLemmas.{all_none, all_one, all_pieces}
 use Rattle.bdb_salvage.specs.Marks.{leaf_in, start_of}

@@ -11,7 +11,8 @@ use Rattle.bdb_format.specs.Contents.{entries_in}
 use Rattle.bdb_format.specs.File.{File, page_at}
 use Rattle.bdb_format.specs.Page.{Item, Page, Zero, Free, Meta, Hash, Internal, RecnoInternal, Leaf, RecnoLeaf, DupLeaf, Overflow, Queue, NoType}
 use Rattle.bdb_format.specs.References.{no_item}
-use Rattle.bdb_salvage.specs.Kept.{is_valued, kept_value, loose_values, slot_at, slots_in, untaken_on, value_at, values_in, values_on}
+use Rattle.bdb_survey.specs.Items.{is_valued, slot_at, slots_in}
+use Rattle.bdb_salvage.specs.Kept.{kept_value, loose_values, untaken_on, value_at, values_in, values_on}
 use Rattle.bdb_stored.specs.Salvage.{is_taken, live_value, live_whole, loose, loose_on}
 use Rattle.bdb_salvage.proofs.ListLemmas.{flat_map_alike}
 use Rattle.bdb_salvage.proofs.StoredLemmas.{AreOn, values_are}

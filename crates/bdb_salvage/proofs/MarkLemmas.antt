@@ -1,5 +1,5 @@
 -- Marks on pages, and rows that are walked.
-use Rattle.std.proofs.Common.{◌≡◌, ℕ, zero, suc, ◌+◌, ◌-◌, ◌*◌, ◌/◌, ◌<◌, ◌≤◌, Bool, true, false, cond, List, [], ◌∷◌, ◌++◌, map, length, drop, arith, refl, sym, ◌∙◌, ap, subst, inl, inr, eqb-true}
+use Rattle.std.proofs.Common.{◌≡◌, ℕ, ◌+◌, ◌*◌, ◌/◌, ◌<◌, ◌≤◌, Bool, true, false, cond, List, [], ◌∷◌, ◌++◌, map, length, drop, arith, refl, sym, ◌∙◌, ap, subst, inl, inr, eqb-true}
 use Rattle.std.specs.Prelude.{◌==◌, not, Option, Some, None, slice_index_or, take}
 use Rattle.std.specs.List.{All, Contains, flat_map, range_with_len}
 use Rattle.std.proofs.lemmas.Bool.{and_parts, cases_lt, eq-eqb}
@@ -10,34 +10,19 @@ use Rattle.std.proofs.lemmas.List.Elements.{All-contains}
 use Rattle.std.proofs.lemmas.List.Folds.{flat_map-map}
 use Rattle.bdb_format.proofs.ListLemmas.{all_of, any_member, flat_map_twice, only_member, passes_here}
 use Rattle.bdb_format.proofs.MemberLemmas.{in_flat_map, in_range, member_cases, no_member, of_flat_map, of_range}
-use Rattle.bdb_format.specs.Chains.{chain, chain_in, next_of, value_of}
+use Rattle.bdb_format.specs.Chains.{chain, value_of}
 use Rattle.bdb_format.specs.File.{File, page_at}
 use Rattle.bdb_format.specs.Page.{Content, Inline, Set, Chain, Tree, Unknown, Item, Page, Zero, Free, Meta, Hash, Internal, RecnoInternal, Leaf, RecnoLeaf, DupLeaf, Overflow, Queue, NoType}
 use Rattle.bdb_salvage.specs.declared.kept.DataPlace.{DataPlace}
 use Rattle.bdb_salvage.specs.declared.kept.DataPlace.TheVariants.{Here, Set as OnLeaves}
 use Rattle.bdb_salvage.specs.declared.kept.KeptPair.{KeptPair}
-use Rattle.bdb_salvage.specs.Kept.{data_places, is_valued, kept_in, kept_on, kept_pair, kept_pairs, slot_at}
-use Rattle.bdb_salvage.specs.Marks.{Marks, is_among, leaf_in, leaves_from, row_of, start_of, starts_of, unless_zero}
+use Rattle.bdb_salvage.specs.Kept.{data_places, kept_in, kept_on, kept_pair, kept_pairs}
+use Rattle.bdb_survey.specs.Items.{is_valued, slot_at}
+use Rattle.bdb_salvage.specs.Marks.{Marks, is_among, leaf_in, row_of, start_of, starts_of}
 use Rattle.bdb_stored.specs.Salvage.{ItemPair, down, follows, is_like, is_link, is_row, is_whole, item_pairs, pair_in, pair_start, paired_items, row_from, set_start, set_starts, start_in, whole_values}
 use Rattle.bdb_salvage.proofs.ListLemmas.{flat_map_alike}
 use Rattle.bdb_salvage.proofs.StoredLemmas.{append_nil, values_are}
-use Rattle.bdb_salvage.proofs.SurveyLemmas.{no_leaf}
-use Rattle.bdb_census.proofs.HashLemmas.{no_turn, turn_is}
-
-pub no_turn_left : (file : File) (turns : ℕ) (p : ℕ) → turns ≡ 0 → leaves_from turns file (Some p) ≡ []
-no_turn_left file turns p none = ap (λ t. leaves_from t file (Some p)) none ∙ no_turn file p
-
-pub turn_left : (file : File) (turns : ℕ) (p : ℕ) (next : Option ℕ) → (turns ≡ 0 → ⊥) → next ≡ unless_zero (next_of file p) → leaves_from turns file (Some p) ≡ p ∷ leaves_from (turns - 1) file next
-turn_left file zero p next some is = absurd (some refl)
-turn_left file (suc t) p next some is =
-    let less : suc t - 1 ≡ t = omega arith in
-    turn_is t file p
-    ∙ (ap (λ ps. p ∷ ps) (by_zero (next_of file p == 0))
-    ∙ (ap (λ n. p ∷ leaves_from t file n) (sym is) ∙ ap (λ n. p ∷ leaves_from n file next) (sym less)))
-  where
-    by_zero : (b : Bool) → cond b [] (chain_in t file (next_of file p)) ≡ leaves_from t file (cond b None (Some (next_of file p)))
-    by_zero true = refl
-    by_zero false = refl
+use Rattle.bdb_survey.proofs.SurveyLemmas.{no_leaf}
 
 pub all_starts : (n : ℕ) (pairs : List KeptPair) (i : ℕ) (d : KeptPair) → All (λ leaf. leaf < n) (starts_of pairs) → i < length pairs → All (λ leaf. leaf < n) (start_of (slice_index_or pairs i d))
 all_starts n pairs i d all there =

@@ -10,7 +10,8 @@ use Rattle.bdb_format.specs.Page.{Content, Inline, Set, Chain, Tree, Unknown, It
 use Rattle.bdb_salvage.specs.declared.kept.DataPlace.{DataPlace}
 use Rattle.bdb_salvage.specs.declared.kept.DataPlace.TheVariants.{Set as OnLeaves}
 use Rattle.bdb_salvage.specs.declared.kept.KeptPair.{KeptPair}
-use Rattle.bdb_salvage.specs.Kept.{data_at, data_places, given, given_live, is_valued, item_of, kept_in, kept_on, kept_pair, kept_pairs, slot_at, under}
+use Rattle.bdb_salvage.specs.Kept.{data_at, data_places, given, given_live, item_of, kept_in, kept_on, kept_pair, kept_pairs, under}
+use Rattle.bdb_survey.specs.Items.{is_valued, slot_at}
 use Rattle.bdb_stored.specs.Salvage.{is_whole, item_pairs, live_whole, pair_in, paired_items, set_start, stored, stored_on, stored_pair, whole_data, whole_values}
 use Rattle.bdb_salvage.proofs.ListLemmas.{flat_map_alike, flat_map_none}
 
@@ -106,10 +107,10 @@ page_gives : (file : File) (p : ℕ) (page : Page) → page_at file p ≡ page �
 page_gives file p Zero is = refl
 page_gives file p (Free header) is = refl
 page_gives file p (Meta fields) is = refl
-page_gives file p (Hash page) is = pairs_give file p page.items (λ j. ap (λ pg. slot_at (Rattle.bdb_salvage.specs.Kept.slots_in pg) j) is)
+page_gives file p (Hash page) is = pairs_give file p page.items (λ j. ap (λ pg. slot_at (Rattle.bdb_survey.specs.Items.slots_in pg) j) is)
 page_gives file p (Internal page) is = refl
 page_gives file p (RecnoInternal page) is = refl
-page_gives file p (Leaf page) is = pairs_give file p page.items (λ j. ap (λ pg. slot_at (Rattle.bdb_salvage.specs.Kept.slots_in pg) j) is)
+page_gives file p (Leaf page) is = pairs_give file p page.items (λ j. ap (λ pg. slot_at (Rattle.bdb_survey.specs.Items.slots_in pg) j) is)
 page_gives file p (RecnoLeaf page) is = refl
 page_gives file p (DupLeaf page) is = refl
 page_gives file p (Overflow header piece) is = refl

@@ -7,7 +7,7 @@ use Rattle.bdb_format.specs.declared.metadata.FileKind.TheVariants.{Btree, Hash,
 use Rattle.bdb_format.specs.HeadOf.{is_page_size}
 use Rattle.bdb_format.specs.Numbers.{four_at}
 use Rattle.bdb_format.specs.Rows.{magic_of}
-use Rattle.bdb_salvage.specs.declared.guess.Guess.{Guess}
+use Rattle.bdb_survey.specs.declared.guess.Guess.{Guess}
 
 -- the magic number of a kind of file
 abbrev pub is_known_magic : ℕ → Bool

@@ -1,24 +1,19 @@
 -- What is kept of an image: the places of pairs and of values that are whole, and what stands there. Source: docs/FORMAT.md, "Salvage".
-use Rattle.std.specs.Prelude.{◌≡◌, ◌<◌, ◌≤◌, ◌^◌, ◌++◌, ℕ, ◌+◌, ◌*◌, ◌/◌, ◌==◌, not, if◌then◌else◌, Bool, true, false, List, [], ◌∷◌, map, length, get_or, Option, Some, None}
+use Rattle.std.specs.Prelude.{◌≡◌, ◌<◌, ◌≤◌, ◌^◌, ◌++◌, ℕ, ◌+◌, ◌-◌, ◌*◌, ◌/◌, ◌==◌, not, if◌then◌else◌, Bool, true, false, List, [], ◌∷◌, map, length, take, drop, slice_index_or, Option, Some, None}
 use Rattle.std.specs.List.{Contains, flat_map, list_any, range_with_len}
 use Rattle.bdb_format.specs.HeadOf.{is_page_size}
-use Rattle.bdb_format.specs.Chains.{chain, value_of}
+use Rattle.bdb_format.specs.Chains.{chain, joined, value_of}
 use Rattle.bdb_format.specs.Contents.{entries_in}
 use Rattle.bdb_format.specs.File.{File, page_at}
-use Rattle.bdb_format.specs.Page.{Content, Inline, Set, Chain, Tree, Unknown, Item, Page, Hash, Internal, RecnoInternal, Leaf, RecnoLeaf, DupLeaf, Overflow}
-use Rattle.bdb_format.specs.References.{no_item}
-use Rattle.bdb_salvage.specs.declared.guess.Guess.{Guess}
+use Rattle.bdb_format.specs.Page.{Content, Inline, Set, Chain, Tree, Unknown, Item}
+use Rattle.bdb_survey.specs.declared.guess.Guess.{Guess}
 use Rattle.bdb_salvage.specs.declared.kept.DataPlace.{DataPlace}
 use Rattle.bdb_salvage.specs.declared.kept.DataPlace.TheVariants.{Here, Set as OnLeaves}
 use Rattle.bdb_salvage.specs.declared.kept.KeptPair.{KeptPair}
 use Rattle.bdb_salvage.specs.declared.kept.KeptValue.{KeptValue}
-use Rattle.bdb_salvage.specs.declared.down.Way.{Way}
-use Rattle.bdb_salvage.specs.declared.down.Way.TheVariants.{Ends, Child, Broken}
-use Rattle.bdb_salvage.specs.declared.survey.Row.{Row}
-use Rattle.bdb_salvage.specs.declared.survey.Row.TheVariants.{Nothing, Chain as ChainRow, Leaves, Way as WayRow}
-use Rattle.bdb_salvage.specs.Links.{row_length}
-use Rattle.bdb_salvage.specs.Ways.{way_from}
-use Rattle.bdb_stored.specs.Salvage.{is_overflow, is_record_leaf, is_sorted_leaf, is_taken, is_whole, live_whole, paired_items, salvaged_file, set_start, set_starts}
+use Rattle.bdb_survey.specs.Items.{is_valued, slot_at, slots_in}
+use Rattle.bdb_survey.specs.Rows.{thin_pieces}
+use Rattle.bdb_stored.specs.Salvage.{is_taken, is_whole, live_whole, paired_items, salvaged_file, set_start, set_starts}
 
 -- An image and how it's read.
 pub record Reading : Type 0 where
@@ -29,69 +24,11 @@ pub record Reading : Type 0 where
 abbrev pub file_in : Reading → File
 file_in reading = salvaged_file reading.guess.order reading.guess.page_size reading.image
 
--- What begins at a page.
-
-abbrev pub chain_row : Option ℕ → Row
-chain_row None = Nothing
-chain_row (Some n) = ChainRow n
-
-abbrev pub leaf_row : Option ℕ → Row
-leaf_row None = Nothing
-leaf_row (Some n) = Leaves
-
-abbrev pub way_row : Way → Row
-way_row Ends = Nothing
-way_row (Child child) = WayRow child
-way_row Broken = Nothing
-
-abbrev pub row_by : File → ℕ → Page → Row
-row_by file p (Internal page) = way_row (way_from file p)
-row_by file p (RecnoInternal page) = way_row (way_from file p)
-row_by file p (Overflow header piece) = chain_row (row_length file is_overflow p)
-row_by file p (RecnoLeaf page) = leaf_row (row_length file is_record_leaf p)
-row_by file p (DupLeaf page) = leaf_row (row_length file is_sorted_leaf p)
-row_by file p page = Nothing
-
--- the whole row that begins at a page, if one does, or the way down that goes on from there
-abbrev pub row_at : File → ℕ → Row
-row_at file p = row_by file p (page_at file p)
-
-abbrev pub is_chain_of : Row → ℕ → Bool
-is_chain_of Nothing total = false
-is_chain_of (ChainRow n) total = n == total
-is_chain_of Leaves total = false
-is_chain_of (WayRow child) total = false
-
-abbrev pub is_leaf_row : Row → Bool
-is_leaf_row Nothing = false
-is_leaf_row (ChainRow n) = false
-is_leaf_row Leaves = true
-is_leaf_row (WayRow child) = false
-
 -- Items.
-
--- the items of a page whose items stand alone or in pairs
-abbrev pub slots_in : Page → List Item
-slots_in (Leaf page) = page.items
-slots_in (Hash page) = page.items
-slots_in (RecnoLeaf page) = page.items
-slots_in (DupLeaf page) = page.items
-slots_in page = []
-
-abbrev pub slot_at : List Item → ℕ → Item
-slot_at items i = get_or items i no_item
 
 -- the item at a place of a page
 abbrev pub item_of : File → ℕ → ℕ → Item
 item_of file p i = slot_at (slots_in (page_at file p)) i
-
--- an item has a value by itself that is whole
-abbrev pub is_valued : File → Content → Bool
-is_valued file (Inline bytes) = true
-is_valued file (Set blocks) = false
-is_valued file (Chain head total) = is_whole file head total
-is_valued file (Tree root) = false
-is_valued file Unknown = false
 
 -- where the whole data of a data item are, as a list of it alone
 abbrev pub data_places : File → Content → List DataPlace
@@ -145,14 +82,35 @@ loose_values file = flat_map (untaken_on file) (range_with_len 0 file.count)
 abbrev pub set_from : File → ℕ → List KeptValue
 set_from file p = if list_any (λ leaf. leaf == p) (set_starts file) then flat_map (values_on file) (chain file p) else []
 
--- those of the sets that begin below a page
-abbrev pub sets_below : File → ℕ → List KeptValue
-sets_below file p = flat_map (set_from file) (range_with_len 0 p)
+-- Lists that pages have, one after another.
 
--- those of all sets, and how many of them are below each page, and below the end
-pub record IsSetTable (file : File) (bounds : List ℕ) (values : List KeptValue) : Type 0 where
-  pub bounds_are : bounds ≡ map (λ p. length (sets_below file p)) (range_with_len 0 (file.count + 1))
-  pub values_are : values ≡ sets_below file file.count
+-- those of the pages below one
+abbrev pub below : {X : Type 0} → (ℕ → List X) → ℕ → List X
+below from p = flat_map from (range_with_len 0 p)
+
+-- those of all pages, and how much of them is below each page, and below the end
+pub record IsTable {X : Type 0} (from : ℕ → List X) (count : ℕ) (bounds : List ℕ) (all : List X) : Type 0 where
+  pub bounds_are : bounds ≡ map (λ p. length (below from p)) (range_with_len 0 (count + 1))
+  pub all_are : all ≡ below from count
+
+-- what is of a page
+abbrev pub part_of : {X : Type 0} → List ℕ → List X → ℕ → List X
+part_of bounds all p = take (slice_index_or bounds (p + 1) 0 - slice_index_or bounds p 0) (drop (slice_index_or bounds p 0) all)
+
+-- the bounds of a page are there, and between them lies a part of the list
+pub record HasPart {X : Type 0} (bounds : List ℕ) (all : List X) (p : ℕ) : Type 0 where
+  pub within : p + 1 < length bounds
+  pub order : slice_index_or bounds p 0 ≤ slice_index_or bounds (p + 1) 0
+  pub there : slice_index_or bounds (p + 1) 0 ≤ length all
+
+-- the bytes of pieces, if there are some
+abbrev pub bytes_in : Option (List (List ℕ)) → List ℕ
+bytes_in None = []
+bytes_in (Some pieces) = joined pieces
+
+-- those of the whole chain that begins at a page, where they are fewer than its pages
+abbrev pub thin_from : File → ℕ → List ℕ
+thin_from file p = bytes_in (thin_pieces file p)
 
 -- What stands at a place.
 
@@ -219,9 +177,10 @@ pub record IsKeptPair (file : File) (kept : KeptPair) : Type 0 where
   pub starts : (leaf : ℕ) → kept.place ≡ OnLeaves leaf → Contains (set_starts file) leaf
 
 -- what is kept of an image
-pub record IsSalvaged (guess : Guess) (image : List ℕ) (pairs : List KeptPair) (values : List KeptValue) (bounds : List ℕ) (sets : List KeptValue) : Type 0 where
+pub record IsSalvaged (guess : Guess) (image : List ℕ) (pairs : List KeptPair) (values : List KeptValue) (bounds : List ℕ) (sets : List KeptValue) (thin_bounds thin : List ℕ) : Type 0 where
   pub legal : is_page_size guess.page_size ≡ true
   pub small : length image ≤ 2 ^ 30
   pub pairs_are : pairs ≡ kept_pairs (salvaged_file guess.order guess.page_size image)
   pub values_are : values ≡ loose_values (salvaged_file guess.order guess.page_size image)
-  pub sets_are : IsSetTable (salvaged_file guess.order guess.page_size image) bounds sets
+  pub sets_are : IsTable (set_from (salvaged_file guess.order guess.page_size image)) (salvaged_file guess.order guess.page_size image).count bounds sets
+  pub thin_are : IsTable (thin_from (salvaged_file guess.order guess.page_size image)) (salvaged_file guess.order guess.page_size image).count thin_bounds thin

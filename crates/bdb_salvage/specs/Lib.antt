@@ -2,8 +2,4 @@ pub mod Entries
 pub mod Guesses
 pub mod KeepsAll
 pub mod Kept
-pub mod Links
 pub mod Marks
-pub mod Reads
-pub mod Slots
-pub mod Ways

@@ -1,7 +1,7 @@
--- Which pages belong to sets, as they are marked, and the leaves of a set that are left.
-use Rattle.std.specs.Prelude.{◌≡◌, ℕ, ◌==◌, ◌<◌, if◌then◌else◌, Bool, false, List, [], ◌∷◌, length, slice_index_or, Option, Some, None}
+-- Which pages belong to sets, as they are marked.
+use Rattle.std.specs.Prelude.{◌≡◌, ℕ, ◌==◌, ◌<◌, if◌then◌else◌, Bool, false, List, [], ◌∷◌, length, slice_index_or}
 use Rattle.std.specs.List.{flat_map, list_any}
-use Rattle.bdb_format.specs.Chains.{chain, chain_in}
+use Rattle.bdb_format.specs.Chains.{chain}
 use Rattle.bdb_format.specs.File.{File}
 use Rattle.bdb_salvage.specs.declared.kept.DataPlace.{DataPlace}
 use Rattle.bdb_salvage.specs.declared.kept.DataPlace.TheVariants.{Here, Set as OnLeaves}
@@ -27,15 +27,6 @@ is_among ps p = list_any (λ q. q == p) ps
 pub record Marks (count : ℕ) (marks : List Bool) (ps : List ℕ) : Type 0 where
   pub all : length marks ≡ count
   pub at : (p : ℕ) → p < count → slice_index_or marks p false ≡ is_among ps p
-
--- the pages of a row from one on, if there's one, in so many turns
-abbrev pub leaves_from : ℕ → File → Option ℕ → List ℕ
-leaves_from turns file None = []
-leaves_from turns file (Some p) = chain_in turns file p
-
--- a page's number, unless it's 0
-abbrev pub unless_zero : ℕ → Option ℕ
-unless_zero p = if p == 0 then None else Some p
 
 -- the row of a page that is marked
 abbrev pub row_of : File → List Bool → ℕ → List ℕ

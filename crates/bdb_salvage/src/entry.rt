@@ -8,7 +8,6 @@ ghost use Rattle.bdb_salvage.specs.Kept.{IsKeptPair, data_at, data_here, file_in
 use crate::Salvaged;
 use crate::kept::{DataPlace, KeptPair};
 use crate::values::SalvageValues;
-use crate::whole_pages::WholePages;
 use bdb_layout::{Content, DupBlocks};
 use bdb_overflow::Datum;
 use std::marker::Model;
@@ -17,7 +16,7 @@ use std::marker::Model;
 #[derive(Drop)]
 enum PairData<'s, 'a> {
     None,
-    One(Datum<'a>),
+    One(Datum<'s>),
     Blocks(DupBlocks<'a>),
     Set(SalvageValues<'s, 'a>),
 }
@@ -25,7 +24,7 @@ enum PairData<'s, 'a> {
 /// The data of a pair that are left, each with the pair's key.
 #[derive(Drop)]
 pub(crate) struct Entry<'s, 'a> {
-    key: Datum<'a>,
+    key: Datum<'s>,
     values: PairData<'s, 'a>,
 }
 
@@ -41,15 +40,14 @@ impl<'s, 'a> Model for Entry<'s, 'a> {
 }
 
 /// The data in a data item.
-#[tactic(auto, using(crate::proofs::WholeLemmas::whole_row), unfolding(bdb_format::specs::Chains::value_of))]
-fn data_here<'s, 'a>(pages: &WholePages<'a>, content: Content<'a>) -> PairData<'s, 'a>
-    requires { IsTrue (is_held pages.now (content_seen content)) }
-    ensures { data_left result ≡ data_here pages.now (content_seen content.entry) }
+fn data_here<'s, 'a>(salvaged: &'s Salvaged<'a>, content: Content<'a>) -> PairData<'s, 'a>
+    requires { IsTrue (is_held (file_in salvaged.now) (content_seen content)) }
+    ensures { data_left result ≡ data_here (file_in salvaged.now) (content_seen content.entry) }
 {
     match content {
         Content::Inline(bytes) => PairData::One(Datum::Inline(bytes)),
         Content::Set(blocks) => PairData::Blocks(blocks),
-        Content::Overflow { head, .. } => PairData::One(Datum::Chained(pages.pieces(head))),
+        Content::Overflow { head, total } => PairData::One(salvaged.chained(head, total)),
         Content::OffPage { .. } => PairData::None,
     }
 }
@@ -61,9 +59,8 @@ fn pair_data<'s, 'a>(salvaged: &'s Salvaged<'a>, pair: KeptPair) -> PairData<'s,
 {
     match pair.place {
         DataPlace::Here => {
-            let pages = salvaged.pages();
-            let content = pages.content(pair.page, 2 * u32::from(pair.index) + 1);
-            data_here(&pages, content)
+            let index = 2 * u32::from(pair.index) + 1;
+            data_here(salvaged, salvaged.pages().content(pair.page, index))
         }
         DataPlace::Set { leaf } => PairData::Set(salvaged.set(leaf)),
     }
@@ -71,7 +68,7 @@ fn pair_data<'s, 'a>(salvaged: &'s Salvaged<'a>, pair: KeptPair) -> PairData<'s,
 
 impl<'s, 'a> PairData<'s, 'a> {
     /// The next datum.
-    fn next(&mut self) -> Option<Datum<'a>>
+    fn next(&mut self) -> Option<Datum<'s>>
         ensures { YieldsFirstBy datum_seen data_left self.old result self.new }
     {
         match self {
@@ -98,13 +95,13 @@ impl<'s, 'a> Entry<'s, 'a> {
         ensures { result ≡ given (file_in salvaged.now) pair }
     {
         Entry {
-            key: salvaged.pages().value(pair.page, 2 * u32::from(pair.index)),
+            key: salvaged.value_on(pair.page, 2 * u32::from(pair.index)),
             values: pair_data(salvaged, pair),
         }
     }
 
     /// The key with the next datum.
-    pub(crate) fn next(&mut self) -> Option<(Datum<'a>, Datum<'a>)>
+    pub(crate) fn next(&mut self) -> Option<(Datum<'s>, Datum<'s>)>
         ensures { YieldsFirstBy pair_read (λ left. left) self.old result self.new }
     {
         let datum = self.values.next()?;

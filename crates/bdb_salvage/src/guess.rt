@@ -4,13 +4,7 @@ ghost use Rattle.bdb_salvage.specs.Guesses.{chosen, guess_in, guess_of, is_known
 
 use bdb_format::Order;
 use bdb_layout::u32_at;
-
-/// How an image is read: the order of its bytes, and the number of bytes of a page.
-#[derive(Clone, Copy, Debug, PartialEq, Eq)]
-pub struct Guess {
-    pub order: Order,
-    pub page_size: u32,
-}
+use bdb_survey::Guess;
 
 /// The guess that is given, or else the one that page 0 tells.
 pub(crate) fn chosen(guess: Option<Guess>, image: &[u8]) -> Option<Guess>

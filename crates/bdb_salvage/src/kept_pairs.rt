@@ -2,12 +2,11 @@ ghost use Rattle.std.specs.Prelude.{◌≡◌, ◌++◌, ◌+◌, ◌*◌, ◌^�
 ghost use Rattle.bdb_layout.specs.Seen.{content_seen};
 ghost use Rattle.std.specs.Option.{option_to_list};
 ghost use Rattle.bdb_salvage.specs.Kept.{data_places, kept_in, kept_on, kept_pair, kept_pairs};
-ghost use Rattle.bdb_salvage.specs.Slots.{slots_seen};
+ghost use Rattle.bdb_survey.specs.Slots.{slots_seen};
 
 use crate::kept::{DataPlace, KeptPair};
-use crate::slots::{Slots, paired_slots};
-use crate::survey::Survey;
 use bdb_layout::Content;
+use bdb_survey::{Slots, Survey, paired_slots};
 use std::alloc::{AllocError, Global};
 
 /// Where the data of a data item are, if they are whole.

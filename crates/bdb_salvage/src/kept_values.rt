@@ -5,12 +5,11 @@ ghost use Rattle.std.specs.Option.{option_to_list};
 ghost use Rattle.bdb_salvage.specs.Kept.{kept_value, loose_values, values_in, values_on};
 ghost use Rattle.bdb_salvage.specs.Marks.{Marks};
 ghost use Rattle.bdb_stored.specs.Salvage.{set_starts};
-ghost use Rattle.bdb_salvage.specs.Slots.{slots_seen};
+ghost use Rattle.bdb_survey.specs.Slots.{slots_seen};
 
 use crate::kept::KeptValue;
-use crate::slots::{Slots, entry_slots};
 use crate::starts::is_marked;
-use crate::survey::Survey;
+use bdb_survey::{Slots, Survey, entry_slots};
 use std::alloc::{AllocError, Global};
 
 /// The entry at a place, if it's live and has a whole value.

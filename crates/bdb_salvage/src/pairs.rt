@@ -58,7 +58,7 @@ fn live_entry<'s, 'a>(salvaged: &'s Salvaged<'a>, pair: KeptPair) -> Option<Entr
 }
 
 /// The next pair of an entry, if there is one.
-fn next_here<'a>(here: &mut Option<Entry<'_, 'a>>) -> Option<(Datum<'a>, Datum<'a>)>
+fn next_here<'s>(here: &mut Option<Entry<'s, '_>>) -> Option<(Datum<'s>, Datum<'s>)>
     ensures { YieldsFirstBy pair_read left_of here.old result here.new }
 {
     match here {
@@ -68,14 +68,14 @@ fn next_here<'a>(here: &mut Option<Entry<'_, 'a>>) -> Option<(Datum<'a>, Datum<'
 }
 
 impl<'s, 'a> Iterator for SalvagePairs<'s, 'a> {
-    type Item = (Datum<'a>, Datum<'a>);
+    type Item = (Datum<'s>, Datum<'s>);
 
     ghost next_gives = { YieldsFirstBy pair_read (λ left. left) };
 
     ghost remaining = { item_count (λ left. left) };
 
     #[tactic(auto, using(crate::proofs::LeftLemmas::next_pairs, crate::proofs::LeftLemmas::pairs_rest, crate::proofs::LeftLemmas::first_pair))]
-    fn next(&mut self) -> Option<(Datum<'a>, Datum<'a>)> {
+    fn next(&mut self) -> Option<(Datum<'s>, Datum<'s>)> {
         loop {
             match next_here(&mut self.here) {
                 Some(pair) => return Some(pair),

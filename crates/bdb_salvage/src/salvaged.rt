@@ -1,11 +1,15 @@
-ghost use Rattle.std.specs.Prelude.{◌≡◌, ◌≢◌, ◌^◌, ◌≤◌, ◌-◌, IfOk, IfSome, IsTrue, Err, None, Some, drop, length, take};
+ghost use Rattle.std.specs.Prelude.{◌≡◌, ◌≢◌, ◌^◌, ◌≤◌, ◌<◌, IfOk, IfSome, IsTrue, Err, None, Some, length};
 ghost use Rattle.std.specs.List.{Contains, flat_map};
-ghost use Rattle.bdb_format.specs.Chains.{chain};
+ghost use Rattle.bdb_format.specs.Chains.{chain, value_of};
+ghost use Rattle.bdb_format.specs.File.{page_at};
+ghost use Rattle.bdb_format.specs.Page.{Chain};
 ghost use Rattle.bdb_format.specs.HeadOf.{is_page_size};
 ghost use Rattle.bdb_salvage.specs.Guesses.{chosen};
-ghost use Rattle.bdb_salvage.specs.Kept.{IsKeptValue, file_in, kept_pairs, value_at, values_on};
+ghost use Rattle.bdb_salvage.specs.Kept.{IsKeptValue, file_in, item_of, kept_pairs, thin_from, value_at, values_on};
+ghost use Rattle.bdb_layout.specs.Seen.{content_seen};
+ghost use Rattle.bdb_survey.specs.Items.{is_valued, slots_in};
 ghost use Rattle.bdb_overflow.specs.Datum.{datum_seen};
-ghost use Rattle.bdb_stored.specs.Salvage.{live_whole, loose, set_starts, stored};
+ghost use Rattle.bdb_stored.specs.Salvage.{is_overflow, is_row, is_whole, live_whole, loose, set_starts, stored};
 ghost use Rattle.bdb_salvage.specs.declared.error.SalvageError.TheVariants.{Memory, NoMeta};
 
 use crate::guess::chosen;
@@ -14,18 +18,20 @@ use crate::kept_pairs::kept_pairs;
 use crate::kept_values::loose_values;
 use crate::sets::{SetTable, set_table};
 use crate::starts::{first_leaves, taken_pages};
-use crate::survey::Survey;
-use crate::whole_pages::WholePages;
+use crate::tables::part;
+use crate::thin::{ThinTable, thin_table};
 use crate::{Guess, SalvageError, SalvagePairs, SalvageValues};
 use bdb_format::Steps;
+use bdb_layout::Content;
 use bdb_overflow::Datum;
+use bdb_survey::{Survey, WholePages};
 use std::alloc::{AllocError, Global};
 use std::marker::Model;
 use std::sync::ledger::Ledger;
 
 /// What can be had from an image: places of the pairs, of the loose records and of the data of sets that are
-/// whole, at most one for each slot, of at most 16 bytes, and 8 bytes for each page. The bytes are read where they
-/// lie.
+/// whole, at most one for each slot, of at most 16 bytes, and 17 bytes for each page. Values are read where they
+/// lie, but for those of whole chains that have fewer bytes than pages, which are kept.
 #[derive(Drop)]
 pub struct Salvaged<'a> {
     image: &'a [u8],
@@ -33,6 +39,7 @@ pub struct Salvaged<'a> {
     pairs: Vec<KeptPair>,
     values: Vec<KeptValue>,
     sets: SetTable,
+    thin: ThinTable,
 }
 
 impl<'a> Model for Salvaged<'a> {
@@ -42,7 +49,7 @@ impl<'a> Model for Salvaged<'a> {
 
     ghost view = { λ v. record { guess = v.guess; image = v.image.now } };
 
-    ghost invariant = { λ v. IsSalvaged v.guess v.image.now v.pairs.items v.values.items v.sets.bounds.items v.sets.values.items };
+    ghost invariant = { λ v. IsSalvaged v.guess v.image.now v.pairs.items v.values.items v.sets.bounds.items v.sets.values.items v.thin.bounds.items v.thin.bytes.items };
 }
 
 /// Finds what an image still has, by the given guess or the one that page 0 tells. Where there is neither, no memory is asked for.
@@ -86,22 +93,15 @@ fn salvage_as<'a, L: Ledger>(
     let taken = taken_pages(alloc, survey.pages(), &starts)?;
     let values = loose_values(alloc, &survey, &taken)?;
     let sets = set_table(alloc, &survey, &starts)?;
+    let thin = thin_table(alloc, &survey)?;
     Ok(Salvaged {
         image,
         guess,
         pairs,
         values,
         sets,
+        thin,
     })
-}
-
-/// The values between two places.
-fn between(values: &[KeptValue], start: usize, end: usize) -> &[KeptValue]
-    requires order { start ≤ end }
-    requires there { end ≤ length values.now }
-    ensures { result.now ≡ take (end - start) (drop start values.now) }
-{
-    &values[start..end]
 }
 
 impl<'a> Salvaged<'a> {
@@ -142,12 +142,58 @@ impl<'a> Salvaged<'a> {
         &self.pairs
     }
 
+    /// The bytes of a whole chain, where they are fewer than its pages; else none.
+    fn thin_bytes<'s>(&'s self, head: u32) -> &'s [u8]
+        requires { IsTrue (is_row (file_in self.now) is_overflow head) }
+        ensures { result.now ≡ thin_from (file_in self.now) head }
+    {
+        part(&self.thin.bounds, &self.thin.bytes, head)
+    }
+
+    /// The value in a whole chain. Pages without data are passed only where it has as many bytes as pages.
+    #[tactic(auto, using(bdb_survey::proofs::WholeLemmas::whole_row, crate::proofs::ThinLemmas::empty_value, crate::proofs::ThinLemmas::thin_value), unfolding(bdb_format::specs::Chains::value_of))]
+    pub(crate) fn chained<'s>(&'s self, head: u32, total: u32) -> Datum<'s>
+        requires { IsTrue (is_whole (file_in self.now) head total) }
+        ensures { datum_seen result ≡ value_of (file_in self.now) (Chain head total) }
+    {
+        if total == 0 {
+            return Datum::Inline(&[]);
+        }
+        let bytes = self.thin_bytes(head);
+        if !bytes.is_empty() {
+            return Datum::Inline(bytes);
+        }
+        Datum::Chained(self.pages().pieces(head))
+    }
+
+    /// The value of an item that has one by itself.
+    #[tactic(auto, unfolding(bdb_format::specs::Chains::value_of))]
+    fn datum<'s>(&'s self, content: Content<'a>) -> Datum<'s>
+        requires { IsTrue (is_valued (file_in self.now) (content_seen content)) }
+        ensures { datum_seen result ≡ value_of (file_in self.now) (content_seen content.entry) }
+    {
+        match content {
+            Content::Inline(bytes) => Datum::Inline(bytes),
+            Content::Overflow { head, total } => self.chained(head, total),
+            Content::Set(_) | Content::OffPage { .. } => Datum::Inline(&[]),
+        }
+    }
+
+    /// The value of the item of a page that has one by itself.
+    pub(crate) fn value_on<'s>(&'s self, page: u32, index: u32) -> Datum<'s>
+        requires there { index < length (slots_in (page_at (file_in self.now) page)) }
+        requires valued { IsTrue (is_valued (file_in self.now) (item_of (file_in self.now) page index).content) }
+        ensures { datum_seen result ≡ value_of (file_in self.now) (item_of (file_in self.now) page index).content }
+    {
+        self.datum(self.pages().content(page, index))
+    }
+
     /// The value at a place.
-    pub(crate) fn value(&self, place: KeptValue) -> Datum<'a>
+    pub(crate) fn value<'s>(&'s self, place: KeptValue) -> Datum<'s>
         requires { IsKeptValue (file_in self.now) place }
         ensures { datum_seen result ≡ value_at (file_in self.now) place }
     {
-        self.pages().value(place.page, u32::from(place.index))
+        self.value_on(place.page, u32::from(place.index))
     }
 
     /// The places of the values of the set that begins at a page.
@@ -155,9 +201,7 @@ impl<'a> Salvaged<'a> {
         requires { Contains (set_starts (file_in self.now)) leaf }
         ensures { result.now ≡ flat_map (values_on (file_in self.now)) (chain (file_in self.now) leaf) }
     {
-        let table = &self.sets;
-        let at = leaf as usize;
-        between(&table.values, table.bounds[at], table.bounds[at + 1])
+        part(&self.sets.bounds, &self.sets.values, leaf)
     }
 
     /// The values of the set that begins at a page.

@@ -1,15 +1,14 @@
 ghost use Rattle.std.specs.Prelude.{◌≡◌, ◌+◌, ◌++◌, IfOk, OnOk, if◌then◌else◌, [], map};
 ghost use Rattle.std.specs.List.{flat_map, range_with_len};
 ghost use Rattle.bdb_format.specs.Chains.{chain};
-ghost use Rattle.bdb_salvage.specs.Kept.{IsSetTable, values_on};
+ghost use Rattle.bdb_salvage.specs.Kept.{IsTable, set_from, values_on};
 ghost use Rattle.bdb_salvage.specs.Marks.{Marks};
 ghost use Rattle.bdb_stored.specs.Salvage.{set_starts};
 
 use crate::kept::KeptValue;
 use crate::kept_values::keep_leaf;
-use crate::row_leaves::RowPages;
 use crate::starts::is_marked;
-use crate::survey::Survey;
+use bdb_survey::{RowPages, Survey};
 use std::alloc::{AllocError, Global};
 
 /// The whole values of the live entries of the whole sets of pairs, each set's together, in the order of first
@@ -53,7 +52,7 @@ pub(crate) fn set_table(
     starts: &[bool],
 ) -> Result<SetTable, AllocError>
     requires { Marks survey.now.count starts.now (set_starts survey.now) }
-    ensures { IfOk result (λ table. IsSetTable survey.now table.bounds.items table.values.items) }
+    ensures { IfOk result (λ table. IsTable (set_from survey.now) survey.now.count table.bounds.items table.values.items) }
 {
     let mut bounds = Vec::new(alloc);
     let mut values: Vec<KeptValue> = Vec::new(alloc);

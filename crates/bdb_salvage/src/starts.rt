@@ -6,8 +6,7 @@ ghost use Rattle.bdb_salvage.specs.Marks.{Marks, start_of, starts_of};
 ghost use Rattle.bdb_stored.specs.Salvage.{set_starts};
 
 use crate::kept::{DataPlace, KeptPair};
-use crate::row_leaves::RowPages;
-use crate::whole_pages::WholePages;
+use bdb_survey::{RowPages, WholePages};
 use std::alloc::{AllocError, Global};
 
 /// Whether a page is marked.

@@ -43,14 +43,14 @@ impl<'s, 'a> SalvageValues<'s, 'a> {
 }
 
 impl<'s, 'a> Iterator for SalvageValues<'s, 'a> {
-    type Item = Datum<'a>;
+    type Item = Datum<'s>;
 
     ghost next_gives = { YieldsFirstBy datum_seen (λ left. left) };
 
     ghost remaining = { item_count (λ left. left) };
 
     #[tactic(auto, using(crate::proofs::LeftLemmas::values_rest, crate::proofs::LeftLemmas::first_value))]
-    fn next(&mut self) -> Option<Datum<'a>> {
+    fn next(&mut self) -> Option<Datum<'s>> {
         let place = self.places.next()?;
         Some(self.salvaged.value(place))
     }

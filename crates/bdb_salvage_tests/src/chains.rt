@@ -51,6 +51,53 @@ fn gives_nothing_of_a_damaged_chain(rt: HostRuntime) {
     }
 }
 
+// Chains with fewer bytes than pages, and one with as many.
+const THIN: [Case; 4] = [
+    Case {
+        changes: &[
+            Field::Four(1000, 0),
+            Field::Two(1046, 0),
+            Field::Two(1558, 0),
+        ],
+        pairs: &[(b"k", b"")],
+        ..WHOLE
+    },
+    Case {
+        changes: &[
+            Field::Four(1000, 1),
+            Field::Two(1046, 0),
+            Field::Two(1558, 1),
+        ],
+        pairs: &[(b"k", b"d")],
+        ..WHOLE
+    },
+    Case {
+        changes: &[
+            Field::Four(1000, 1),
+            Field::Two(1046, 1),
+            Field::Two(1558, 0),
+        ],
+        pairs: &[(b"k", b"a")],
+        ..WHOLE
+    },
+    Case {
+        changes: &[
+            Field::Four(1000, 2),
+            Field::Two(1046, 1),
+            Field::Two(1558, 1),
+        ],
+        pairs: &[(b"k", b"ad")],
+        ..WHOLE
+    },
+];
+
+#[test]
+fn gives_the_bytes_of_a_chain_with_blank_pages(rt: HostRuntime) {
+    for case in &THIN {
+        assert!(rt; is_given(rt.alloc(), case));
+    }
+}
+
 /// The value of a chain, if it's whole.
 fn value<L: Ledger>(
     alloc: Global,

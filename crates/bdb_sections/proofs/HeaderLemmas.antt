@@ -5,6 +5,7 @@ use Rattle.std.specs.List.{cons_option, fold, list_all, list_any}
 use Rattle.std.proofs.lemmas.Bool.Decides.{nat_tests}
 use Rattle.std.proofs.lemmas.Slice.Eq.{bytes_eq-Decides}
 use Rattle.std.specs.Str.{bytes_eq}
+use Rattle.bdb_format.specs.declared.kinds.Kind.TheVariants.{Queue}
 use Rattle.bdb_format.specs.HeadOf.{is_page_size}
 use Rattle.bdb_text_format.specs.declared.keywords.Judged.TheVariants.{Fits, Bad, LeftOut}
 use Rattle.bdb_text_format.specs.Header.{Values, conflicts, entries, entry_of, given, gives, has_record_type, has_type, is_on, name_in, number_or, repeats, settings_in, values}
@@ -212,6 +213,23 @@ not_narrow header none queue =
     both (has_type (codes "queue") header) false (number_or 0 (header (codes "re_len")) == 0)
     (or_parts (records || counts || renumbers || keyless) narrow none).1 queue
 
+-- the records of a queue have bytes
+pub records_have_bytes : (header : Values) → HeaderSays header → (settings_in header).kind ≡ Queue → ((settings_in header).re_len == 0) ≡ false
+records_have_bytes header says =
+    elim says.typed [
+      | inl btree ↦ rw btree (λ queue. absurd (cc queue))
+      | inr other ↦ elim other [
+        | inl hash ↦ rw hash (λ queue. absurd (cc queue))
+        | inr records ↦ elim records [
+          | inl recno ↦ rw recno (λ queue. absurd (cc queue))
+          | inr queue ↦
+              let is_queue : has_type (codes "queue") header ≡ true = rw queue refl in
+              let narrow = not_narrow header says.no_conflict is_queue in
+              rw queue (λ same. narrow)
+        ]
+      ]
+    ]
+
 pub settings_fit : (header : Values) → HeaderSays header → AreFitSettings (settings_in header)
 settings_fit header says =
     elim says.typed [
@@ -221,7 +239,6 @@ settings_fit header says =
         counted = λ on. counted_alone header says.no_conflict on;
         records = λ on. absurd (cc on);
         re_len = lit< tt;
-        wide = λ queue. absurd (cc queue);
         fixed = λ queue. absurd (cc queue);
       })
       | inr other ↦ elim other [
@@ -231,7 +248,6 @@ settings_fit header says =
           counted = λ on. absurd (cc on);
           records = λ on. absurd (cc on);
           re_len = lit< tt;
-          wide = λ queue. absurd (cc queue);
           fixed = λ queue. absurd (cc queue);
         })
         | inr records ↦ elim records [
@@ -241,21 +257,16 @@ settings_fit header says =
             counted = λ on. absurd (cc on);
             records = λ on. refl;
             re_len = number_small (header (codes "re_len"));
-            wide = λ queue. absurd (cc queue);
             fixed = λ queue. absurd (cc queue);
           })
-          | inr queue ↦
-              let is_queue : has_type (codes "queue") header ≡ true = rw queue refl in
-              let narrow = not_narrow header says.no_conflict is_queue in
-              rw queue (record {
-                page_size = says.size;
-                sorted = λ on. absurd (cc on);
-                counted = λ on. absurd (cc on);
-                records = λ on. refl;
-                re_len = number_small (header (codes "re_len"));
-                wide = λ same. narrow;
-                fixed = λ same. refl;
-              })
+          | inr queue ↦ rw queue (record {
+            page_size = says.size;
+            sorted = λ on. absurd (cc on);
+            counted = λ on. absurd (cc on);
+            records = λ on. refl;
+            re_len = number_small (header (codes "re_len"));
+            fixed = λ same. refl;
+          })
         ]
       ]
     ]

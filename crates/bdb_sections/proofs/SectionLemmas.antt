@@ -13,8 +13,8 @@ use Rattle.bdb_text_format.specs.Reasons.{Parts, lines_with, name_missing, name_
 use Rattle.bdb_text_format.specs.Sections.{begin_with, counted_pairs, header_fits, keyed_pairs, nothing_left, pairs_read, parts_read, section_read, sections_from, sections_in, text_sections, with_pairs, with_section}
 use Rattle.bdb_text_format.specs.TextLines.{is_data_end, is_header_end, text_lines}
 use Rattle.bdb_text_format.specs.Written.{holds_records, version_line}
-use Rattle.bdb_sections.specs.Fit.{AreFit, AreNamedBehind, IsFitPair, IsFitSection, ReadSectionsAreFit}
-use Rattle.bdb_sections.proofs.HeaderLemmas.{IsFitHeader, fit_header, records_held, settings_fit}
+use Rattle.bdb_sections.specs.Fit.{AreFit, AreNamedBehind, HasBytes, IsFitPair, IsFitSection, ReadSectionsAreFit, ReadQueuesHaveBytes}
+use Rattle.bdb_sections.proofs.HeaderLemmas.{IsFitHeader, fit_header, records_have_bytes, records_held, settings_fit}
 use Rattle.bdb_sections.proofs.PairLemmas.{AreShort, IsShort, counted_fit, keyed_fit, lines_short}
 
 -- The data lines of a section are among its lines.
@@ -61,6 +61,7 @@ pub record IsFitBehind (most : ℕ) (names : List (Option (List ℕ))) (section 
   pub fit : IsFitSection most section
   pub there : name_missing names section.name ≡ false
   pub apart : list_any (is_name section.name) names ≡ false
+  pub bytes : HasBytes section
 
 paired : (most at : ℕ) (names : List (Option (List ℕ))) (header : List (List ℕ)) (section : Section) (pairs : Option (List TextPair))
     → IsFitHeader names header
@@ -73,7 +74,7 @@ paired most at names header section (Some pairs) fit each is =
     let all : All (IsFitPair (holds_records here.settings.kind) most) pairs =
     subst (λ b. All (IsFitPair b most) pairs) (sym (records_held (values header) fit.says.typed)) (each pairs refl) in
     let is_fit : IsFitBehind most names here =
-    record { fit = record { settings = settings_fit (values header) fit.says; pairs = all }; there = fit.there; apart = fit.apart } in
+    record { fit = record { settings = settings_fit (values header) fit.says; pairs = all }; there = fit.there; apart = fit.apart; bytes = records_have_bytes (values header) fit.says } in
     (subst (IsFitBehind most names) e is_fit, ap (λ (s : Section). s.name) (sym e))
 
 headed : (most at : ℕ) (names : List (Option (List ℕ))) (parts : Parts) (section : Section) (b : Bool) → b ≡ header_fits names parts.header
@@ -111,11 +112,12 @@ section_fit most at names (first ∷ lines) section short read =
 pub record AreFitBehind (most : ℕ) (names : List (Option (List ℕ))) (sections : List Section) : Type 0 where
   pub each : All (IsFitSection most) sections
   pub named : AreNamedBehind names sections
+  pub bytes : All HasBytes sections
 
 none_behind : (most : ℕ) (names : List (Option (List ℕ))) (sections : List Section) → Some [] ≡ Some sections → AreFitBehind most names sections
 none_behind most names sections is =
     let e : [] ≡ sections = cc is in
-    subst (AreFitBehind most names) e (record { each = λ k d low. absurd (omega arith); named = tt })
+    subst (AreFitBehind most names) e (record { each = λ k d low. absurd (omega arith); named = tt; bytes = λ k d low. absurd (omega arith) })
 
 left_behind : (most : ℕ) (names : List (Option (List ℕ))) (before : List (List ℕ)) (sections : List Section) → nothing_left before ≡ Some sections
     → AreFitBehind most names sections
@@ -136,6 +138,7 @@ one_before most names lines (Some section) (Some others) sections is first rest 
     subst (AreFitBehind most names) e (record {
       each = All-cons (IsFitSection most) section others here.0.fit behind.each;
       named = (here.0.there, here.0.apart, subst (λ n. AreNamedBehind (names ++ (n ∷ [])) others) (sym here.1) behind.named);
+      bytes = All-cons HasBytes section others here.0.bytes behind.bytes;
     })
 
 line_behind : (most at : ℕ) (names : List (Option (List ℕ))) (before : List (List ℕ)) (line : List ℕ) (others : Option (List Section))
@@ -192,12 +195,16 @@ some_in line lines [] is = let h = none_read [] [] 1 (line ∷ lines) is in absu
 some_in line lines (section ∷ sections) is = grind (arith, nat_tests)
 
 in_lines : (most : ℕ) (lines : List (List ℕ)) (sections : List Section) → AreShort most lines → sections_in lines ≡ Some sections
-    → AreFit most sections
+    → AreFit most sections × All HasBytes sections
 in_lines most [] sections short is = absurd (cc is)
 in_lines most (line ∷ lines) sections short is =
     let all : AreFitBehind most [] sections = all_behind most 1 [] [] (line ∷ lines) sections (λ k d low. absurd (omega arith)) short is in
-    record { some = some_in line lines sections is; each = all.each; names = all.named }
+    (record { some = some_in line lines sections is; each = all.each; names = all.named }, all.bytes)
 
 pub read_sections_are_fit : ReadSectionsAreFit
 unfolding text_sections
-read_sections_are_fit text sections reads = in_lines (length text) (text_lines text) sections (lines_short text) reads
+read_sections_are_fit text sections reads = (in_lines (length text) (text_lines text) sections (lines_short text) reads).0
+
+pub read_queues_have_bytes : ReadQueuesHaveBytes
+unfolding text_sections
+read_queues_have_bytes text sections reads = (in_lines (length text) (text_lines text) sections (lines_short text) reads).1

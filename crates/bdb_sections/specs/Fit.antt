@@ -35,7 +35,6 @@ pub record AreFitSettings (settings : Settings) : Type 0 where
   pub counted : settings.recnum ≡ true → settings.duplicates ≡ false
   pub records : holds_records settings.kind ≡ true → settings.duplicates ≡ false
   pub re_len : settings.re_len < 2 ^ 32
-  pub wide : settings.kind ≡ Queue → (settings.re_len == 0) ≡ false
   -- the records of a queue have one length
   pub fixed : settings.kind ≡ Queue → settings.fixed ≡ true
 
@@ -43,6 +42,10 @@ pub record AreFitSettings (settings : Settings) : Type 0 where
 pub record IsFitSection (most : ℕ) (section : Section) : Type 0 where
   pub settings : AreFitSettings section.settings
   pub pairs : All (IsFitPair (holds_records section.settings.kind) most) section.pairs
+
+-- the records of a queue have bytes
+abbrev pub HasBytes : Section → Type 0
+HasBytes section = section.settings.kind ≡ Queue → (section.settings.re_len == 0) ≡ false
 
 -- behind others with these names, each section has a name of its own; the first may lack one, where none follows
 abbrev pub AreNamedBehind : List (Option (List ℕ)) → List Section → Type 0
@@ -60,3 +63,7 @@ pub record AreFit (most : ℕ) (sections : List Section) : Type 0 where
 -- the sections of a text are fit; no key and no datum has more bytes than the text
 abbrev pub ReadSectionsAreFit : Type 0
 ReadSectionsAreFit = (text : List ℕ) (sections : List Section) → Reads text sections → AreFit (length text) sections
+
+-- nor does a text have a queue whose records have no bytes
+abbrev pub ReadQueuesHaveBytes : Type 0
+ReadQueuesHaveBytes = (text : List ℕ) (sections : List Section) → Reads text sections → All HasBytes sections

@@ -10,7 +10,7 @@ use Rattle.bdb_text_format.specs.declared.pairs.TextPair.{TextPair}
 use Rattle.bdb_text_format.specs.declared.sections.Section.{Section}
 use Rattle.bdb_text_format.specs.Written.{is_queue}
 use Rattle.bdb_settle.specs.declared.load_error.LoadError.{LoadError}
-use Rattle.bdb_settle.specs.declared.load_error.LoadError.TheVariants.{RecordTooLong, RecordZero, TooLarge, QueueAmongNames, Memory}
+use Rattle.bdb_settle.specs.declared.load_error.LoadError.TheVariants.{RecordTooLong, RecordZero, TooLarge, QueueAmongNames, Memory, OntoKind, OntoNames}
 use Rattle.bdb_settle.specs.Loaded.{has_length}
 
 -- Errors by their lines and codes.
@@ -21,6 +21,8 @@ line_of (RecordZero line) = line
 line_of TooLarge = 0
 line_of (QueueAmongNames line) = line
 line_of Memory = 0
+line_of (OntoKind line) = line
+line_of (OntoNames line) = line
 
 abbrev pub code_of : LoadError → ℕ
 code_of (RecordTooLong line) = 1
@@ -28,6 +30,8 @@ code_of (RecordZero line) = 2
 code_of TooLarge = 3
 code_of (QueueAmongNames line) = 4
 code_of Memory = 0
+code_of (OntoKind line) = 5
+code_of (OntoNames line) = 6
 
 abbrev pub is_sooner : LoadError → LoadError → Bool
 is_sooner a b = nat_lt (line_of a) (line_of b) || ((line_of a == line_of b) && nat_lt (code_of a) (code_of b))

@@ -17,7 +17,9 @@ fn line_of(error: LoadError) -> u64
     match error {
         LoadError::RecordTooLong(line)
         | LoadError::RecordZero(line)
-        | LoadError::QueueAmongNames(line) => line,
+        | LoadError::QueueAmongNames(line)
+        | LoadError::OntoKind(line)
+        | LoadError::OntoNames(line) => line,
         LoadError::TooLarge | LoadError::Memory => 0,
     }
 }
@@ -31,6 +33,8 @@ fn code_of(error: LoadError) -> u8
         LoadError::RecordZero(_) => 2,
         LoadError::TooLarge => 3,
         LoadError::QueueAmongNames(_) => 4,
+        LoadError::OntoKind(_) => 5,
+        LoadError::OntoNames(_) => 6,
         LoadError::Memory => 0,
     }
 }
@@ -53,7 +57,7 @@ fn sooner(first: Option<LoadError>, error: LoadError) -> Option<LoadError>
 }
 
 /// The first error, where another one holds or doesn't.
-fn sooner_where(first: Option<LoadError>, holds: bool, error: LoadError) -> Option<LoadError>
+pub fn sooner_where(first: Option<LoadError>, holds: bool, error: LoadError) -> Option<LoadError>
     ensures { result ≡ fold sooner first (where_so holds error) }
 {
     if holds { sooner(first, error) } else { first }
@@ -89,7 +93,11 @@ fn with_pair(first: Option<LoadError>, settings: &Settings, pair: &TextPair) -> 
 }
 
 /// The first error, with those of pairs.
-fn with_pairs(first: Option<LoadError>, settings: &Settings, pairs: &TextPairs) -> Option<LoadError>
+pub fn with_pairs(
+    first: Option<LoadError>,
+    settings: &Settings,
+    pairs: &TextPairs,
+) -> Option<LoadError>
     ensures { result ≡ fold sooner first (flat_map (pair_errors settings.now) pairs.now) }
 {
     let mut first = first;
@@ -117,14 +125,14 @@ fn slot_size(re_len: u32) -> u64
 }
 
 /// Whether a queue's record doesn't fit a page of so many bytes.
-fn is_too_wide(size: u32, settings: &Settings) -> bool
+pub fn is_too_wide(size: u32, settings: &Settings) -> bool
     ensures { result ≡ is_too_wide size settings.now }
 {
     is_queue(settings.kind) && u64::from(size.saturating_sub(28)) < slot_size(settings.re_len)
 }
 
 /// Whether a queue has a name, or isn't alone.
-fn is_among_names(alone: bool, section: &Section) -> bool
+pub fn is_among_names(alone: bool, section: &Section) -> bool
     ensures { result ≡ is_among_names alone section.now }
 {
     is_queue(section.settings.kind) && (section.name.is_some() || !alone)

@@ -20,6 +20,12 @@ pub enum LoadError {
     QueueAmongNames(u64),
     #[error("out of memory")]
     Memory,
+    /// A section's database in the file that it is loaded onto is of another kind, or keeps the data of a key in another way. `settle` doesn't answer it.
+    #[error("another kind in the base")]
+    OntoKind(u64),
+    /// A section has a name and the file that it is loaded onto no names, or the other way round. `settle` doesn't answer it.
+    #[error("names and a base without names, or the other way round")]
+    OntoNames(u64),
 }
 
 impl From<AllocError> for LoadError {

@@ -1,6 +1,7 @@
 -- Ranges that begin within others.
 use Rattle.std.proofs.Common.{◌≡◌, ◌∙◌, ◌⊎◌, inl, inr, ℕ, zero, suc, ◌+◌, ◌<◌, ◌≤◌, Bool, true, false, cond, List, [], ◌∷◌, ◌++◌, length, take, get_or, refl, sym, ap, subst, arith}
 use Rattle.std.specs.Prelude.{max, not, nat_lt, ◌&&◌, ◌==◌, Option, Some, None}
+use Rattle.std.specs.Cmp.{both_ways}
 use Rattle.std.specs.Option.{option_map, unwrap_or}
 use Rattle.std.specs.List.{Contains, find, fold, list_any, range_with_len}
 use Rattle.std.proofs.lemmas.Bool.{eqb-true, eq-eqb}
@@ -9,7 +10,7 @@ use Rattle.std.proofs.lemmas.List.{take_more}
 use Rattle.bdb_format.proofs.ListLemmas.{any_member, passes_here}
 use Rattle.bdb_format.proofs.MemberLemmas.{in_range, member_cases, no_member, none_pass, none_passes, of_range, first_member, later_member}
 use Rattle.bdb_swap.specs.Crossing.{AreEnds, AreRanges, crosses, crosses_at, end_at, greatest_below, some_share}
-use Rattle.bdb_model.specs.Overlaps.{share_bytes}
+use Rattle.bdb_turned.specs.Overlaps.{share_bytes}
 
 -- The greatest end.
 
@@ -112,11 +113,6 @@ crosses_parts ends k is = parts (get_or ends k 0) (greatest_below ends k) is
   where
     parts : (end greatest : ℕ) → (not (end == 0) && nat_lt k greatest) ≡ true → (0 < end) × (k < greatest)
     parts end greatest is = (grind (arith, nat_tests), grind (arith, nat_tests))
-
-both_ways : (a b : Bool) → (a ≡ true → b ≡ true) → (b ≡ true → a ≡ true) → a ≡ b
-both_ways true b f g = sym (f refl)
-both_ways false true f g = g refl
-both_ways false false f g = refl
 
 -- Ranges that begin at different places share a byte exactly where one begins within one that begins before it.
 pub ranges_cross : (n : ℕ) (begin end : ℕ → ℕ) (ends : List ℕ) → AreRanges n (length ends) begin end → AreEnds ends n begin end

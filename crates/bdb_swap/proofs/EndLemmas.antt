@@ -1,11 +1,12 @@
 -- The ends of ranges at their places.
-use Rattle.std.proofs.Common.{◌≡◌, ◌∙◌, ℕ, ◌+◌, ◌<◌, ◌≤◌, Bool, true, false, cond, List, [], ◌∷◌, ◌++◌, length, get_or, refl, sym, ap, arith}
+use Rattle.std.proofs.Common.{◌≡◌, ◌∙◌, ℕ, ◌+◌, ◌<◌, ◌≤◌, Bool, true, false, cond, List, [], ◌∷◌, ◌++◌, length, get_or, set, refl, sym, ap, arith}
 use Rattle.std.specs.Prelude.{◌==◌, slice_range, slice_index, Option, Some, None}
 use Rattle.std.specs.Option.{option_map, unwrap_or}
 use Rattle.std.specs.List.{Contains, find, list_any, range_with_len}
-use Rattle.std.proofs.lemmas.Bool.{eqb-true}
+use Rattle.std.proofs.lemmas.Bool.{eqb-false, eqb-true}
+use Rattle.std.proofs.lemmas.List.{get_or-set_other, get_or-set_same, length-set}
 use Rattle.bdb_format.proofs.ListLemmas.{range_more}
-use Rattle.bdb_format.proofs.MemberLemmas.{first_member, later_member, of_range}
+use Rattle.bdb_format.proofs.MemberLemmas.{of_range}
 use Rattle.bdb_format.proofs.PageLemmas.{index_offset, length_items}
 use Rattle.bdb_format.specs.References.{no_item}
 use Rattle.bdb_format.specs.declared.kinds.Order.{Order}
@@ -15,14 +16,14 @@ use Rattle.bdb_format.specs.Rows.{internal_rows, leaf_rows, recno_rows}
 use Rattle.bdb_format.specs.Table.{first_row}
 use Rattle.bdb_format.specs.Reading.{entries_of, internal_item_at, leaf_item_at, listed, offset_of, recno_item_at}
 use Rattle.bdb_swap.specs.Crossing.{AreEnds, AreRanges, end_at, some_share}
-use Rattle.bdb_model.specs.Overlaps.{internal_item_end, leaf_item_end, listed_overlap, share_bytes}
+use Rattle.bdb_turned.specs.Overlaps.{internal_item_end, leaf_item_end, listed_overlap, share_bytes}
 use Rattle.bdb_turned.specs.Parts.{internal_high, leaf_high, recno_high}
 use Rattle.bdb_format.specs.declared.pages.RecnoItem.{RecnoItem}
 use Rattle.bdb_layout.proofs.RowLemmas.{recno_fits}
-use Rattle.bdb_model.specs.Fields.{no_internal, no_recno}
+use Rattle.bdb_turned.specs.Fields.{no_internal, no_recno}
 use Rattle.bdb_turned.proofs.InnerLemmas.{IsInline as KeyInline, IsChain as KeyChain, internal_ends, key_case, same_item as inner_same}
 use Rattle.bdb_swap.proofs.CrossLemmas.{found_in}
-use Rattle.bdb_turned.proofs.ListedLemmas.{item_in}
+use Rattle.bdb_turned.proofs.ListedLemmas.{any_same, item_in}
 use Rattle.bdb_turned.proofs.LeafLemmas.{IsInline, IsTree, IsChain, kind_case, leaf_ends, same_item}
 
 abbrev otherwise : Option ℕ → Option ℕ → Option ℕ
@@ -62,12 +63,18 @@ ends_more n begin end k one =
           | false ↦ λ here. refl
         ] refl
 
-pub ends_next : (ends more : List ℕ) (n at high : ℕ) (begin end : ℕ → ℕ) → AreEnds ends n begin end → length more ≡ length ends
-    → ((p : ℕ) → p < length ends → get_or more p 0 ≡ cond (at == p) high (get_or ends p 0)) → at ≡ begin n → high ≡ end n
+set_there : (xs : List ℕ) (at x k : ℕ) → k < length xs → get_or (set xs at x) k 0 ≡ cond (at == k) x (get_or xs k 0)
+set_there xs at x k lt =
+    elim (at == k) as (λ b. (at == k) ≡ b → get_or (set xs at x) k 0 ≡ cond b x (get_or xs k 0)) [
+      | true ↦ λ here. ap (λ (i : ℕ). get_or (set xs at x) i 0) (sym (eqb-true at k here)) ∙ get_or-set_same xs at x 0 (omega (arith, eqb-true at k here))
+      | false ↦ λ other. get_or-set_other xs at k x 0 (λ same. eqb-false at k other (sym same))
+    ] refl
+
+pub ends_next : (ends more : List ℕ) (n at high : ℕ) (begin end : ℕ → ℕ) → AreEnds ends n begin end → more ≡ set ends at high → at ≡ begin n → high ≡ end n
     → ((i : ℕ) → i < n → begin i ≡ begin n → end i ≡ end n) → AreEnds more (n + 1) begin end
-ends_next ends more n at high begin end are same each at_is high_is one = λ k low.
-    let inside : k < length ends = omega (arith, same) in
-    each k inside
+ends_next ends more n at high begin end are is at_is high_is one = λ k low.
+    let inside : k < length ends = omega (arith, low, ap (λ (xs : List ℕ). length xs) is, length-set ends at high) in
+    ap (λ xs. get_or xs k 0) is ∙ (set_there ends at high k inside)
     ∙ (ap (λ (a : ℕ). cond (a == k) high (get_or ends k 0)) at_is
     ∙ (ap (λ (h : ℕ). cond (begin n == k) h (get_or ends k 0)) high_is
     ∙ (ap (cond (begin n == k) (end n)) (are k inside)
@@ -92,10 +99,6 @@ leaf_some order page i none =
     ]
 
 -- The overlaps of a page with an index.
-
-any_same : {X : Type 0} (f g : X → Bool) (xs : List X) → ((x : X) → Contains xs x → f x ≡ g x) → list_any f xs ≡ list_any g xs
-any_same f g [] same = refl
-any_same f g (x ∷ xs) same = rw (same x (first_member x xs), any_same f g xs (λ y at. same y (later_member x xs y at))) refl
 
 -- the ranges of the items are those that the page's overlaps speak of
 pub listed_shares : {I : Type 0} (item_end : ℕ → I → ℕ) (none : I) (order : Order) (page : List ℕ) (item_at : ℕ → I)

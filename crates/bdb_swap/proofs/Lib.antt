@@ -4,3 +4,4 @@ pub mod CrossLemmas
 pub mod EndLemmas
 pub mod TypedLemmas
 pub mod ImageLemmas
+pub mod WalkLemmas

@@ -1,38 +1,24 @@
 -- A page by its type.
-use Rattle.std.proofs.Common.{◌≡◌, ◌∙◌, ℕ, ◌+◌, ◌*◌, ◌<◌, ◌≤◌, List, length, sym, ap, subst}
+use Rattle.std.proofs.Common.{◌≡◌, ◌∙◌, ℕ, List, length, sym, ap, subst}
 use Rattle.std.specs.Prelude.{None, Bool, false, true, []}
-use Rattle.bdb_format.proofs.ItemLemmas.{no_item_row}
 use Rattle.bdb_format.specs.declared.kinds.Order.{Order}
 use Rattle.bdb_format.specs.Numbers.{byte_at}
 use Rattle.bdb_format.specs.Page.{Item, PageType, OtherPage}
 use Rattle.bdb_format.specs.declared.pages.RecnoItem.{RecnoItem}
 use Rattle.bdb_format.specs.References.{no_item}
 use Rattle.bdb_format.specs.Reading.{abstract_page, entries_of, hash_item_at, internal_item_at, is_zero, leaf_item_at, listed, page_as, page_type, recno_item_at}
-use Rattle.bdb_format.specs.Rows.{body_code, form_code, item_rows, listed_code}
-use Rattle.bdb_format.specs.Table.{first_row}
-use Rattle.bdb_model.specs.Fields.{Field, fields_of, hash_fields, internal_fields, leaf_fields, listed_fields, no_internal, no_recno, recno_fields}
+use Rattle.bdb_format.specs.Rows.{form_code}
+use Rattle.bdb_turned.specs.Fields.{Field, fields_of, hash_fields, internal_fields, leaf_fields, listed_fields, no_internal, no_recno, recno_fields}
 use Rattle.bdb_turned.specs.Parts.{all_fields, hash_part, internal_part, leaf_part, recno_part}
 use Rattle.bdb_turned.proofs.ListedLemmas.{listed_fields_are}
-use Rattle.bdb_model.specs.Overlaps.{overlaps}
+use Rattle.bdb_turned.specs.Overlaps.{overlaps}
 use Rattle.bdb_swap.specs.Turns.{Turns}
-use Rattle.bdb_turned.proofs.PageLemmas.{AreNumbersOf, no_fields_turn, numbers_by_type, room_of}
+pub use Rattle.bdb_turned.proofs.TypedLemmas.{has_room, has_rows}
+use Rattle.bdb_turned.proofs.PageLemmas.{AreNumbersOf, no_fields_turn, numbers_by_type}
 use Rattle.bdb_format.specs.declared.metadata.Head.{Head}
 use Rattle.bdb_format.specs.HeadOf.{is_page_size}
-use Rattle.bdb_model.specs.Turning.{turned_page}
+use Rattle.bdb_turned.specs.Turning.{turned_page}
 use Rattle.bdb_swap.proofs.WriteLemmas.{turns_none}
-
--- what the code of a page with an index says
-pub listed_none : (order : Order) (page : List ℕ) (byte : ℕ) (t : PageType) → byte_at page 25 ≡ byte → page_type byte ≡ t → body_code order page t ≡ listed_code order page t
-    → body_code order page (page_type (byte_at page 25)) ≡ None → listed_code order page t ≡ None
-listed_none order page byte t at is code none = sym code ∙ (ap (body_code order page) (sym is ∙ ap page_type (sym at)) ∙ none)
-
-pub has_room : (order : Order) (page : List ℕ) (byte : ℕ) (t : PageType) → byte_at page 25 ≡ byte → page_type byte ≡ t → body_code order page t ≡ listed_code order page t
-    → body_code order page (page_type (byte_at page 25)) ≡ None → 26 + 2 * entries_of order page ≤ length page
-has_room order page byte t at is code none = room_of order page t (listed_none order page byte t at is code none)
-
-pub has_rows : (order : Order) (page : List ℕ) (byte : ℕ) (t : PageType) → byte_at page 25 ≡ byte → page_type byte ≡ t → body_code order page t ≡ listed_code order page t
-    → body_code order page (page_type (byte_at page 25)) ≡ None → (i : ℕ) → i < entries_of order page → first_row (item_rows t order page i) ≡ None
-has_rows order page byte t at is code none i lt = no_item_row order page t i (listed_none order page byte t at is code none) lt
 
 -- the numbers of pages with an index
 

@@ -1,9 +1,16 @@
 -- What `flip` answers. Source: docs/FORMAT.md, "The other byte order".
 use Rattle.std.specs.Prelude.{◌≡◌, ℕ, List, Result, Ok, Err, Some, None, ⊤}
 use Rattle.bdb_format.specs.declared.kinds.Order.{Order}
-use Rattle.bdb_model.specs.Flipped.{flip_of, overlap_in}
+use Rattle.bdb_format.specs.File.{file_of}
+use Rattle.bdb_turned.specs.Flipped.{first_overlap, flip_of, flipped, overlap_in}
 use Rattle.bdb_swap.specs.declared.flipping.FlipError.{FlipError}
 use Rattle.bdb_swap.specs.declared.flipping.FlipError.TheVariants.{Overlap, Memory}
+
+-- the image turned round, where no page is in the way; or the first page that is; or want of memory
+abbrev pub IsTurnedImage : List ℕ → Result (List ℕ) FlipError → Type 0
+IsTurnedImage image (Ok turned) = (turned ≡ flipped image) × (first_overlap (file_of image) ≡ None)
+IsTurnedImage image (Err (Overlap page)) = first_overlap (file_of image) ≡ Some page
+IsTurnedImage image (Err Memory) = ⊤
 
 -- the image in the order, where no page is in the way; or the first page that is; or want of memory
 abbrev pub IsFlip : Order → List ℕ → Result (List ℕ) FlipError → Type 0

@@ -1,12 +1,13 @@
 -- An image whose pages can be turned round.
-use Rattle.std.specs.Prelude.{◌≡◌, ◌<◌, ℕ, List, None, false}
+use Rattle.std.specs.Prelude.{◌≡◌, ◌<◌, ℕ, List, None, false, true}
 use Rattle.bdb_format.specs.declared.metadata.Head.{Head}
 use Rattle.bdb_format.specs.File.{page_bytes}
 use Rattle.bdb_format.specs.Reading.{is_zero}
 use Rattle.bdb_format.specs.Rows.{form_code}
 use Rattle.bdb_graph.specs.Formed.{IsAccepted}
 
--- page 0 is accepted, and no row of form holds for a page that isn't zero
+-- page 0 is accepted, no row of form holds for a page that isn't zero, and those above the last page are zero
 pub record HasForm (head : Head) (image : List ℕ) : Type 0 where
   pub accepted : IsAccepted image head
   pub formed : (p : ℕ) → p < head.pages → is_zero (page_bytes head image p) ≡ false → form_code head p (page_bytes head image p) ≡ None
+  pub zeros : (p : ℕ) → head.last < p → p < head.pages → is_zero (page_bytes head image p) ≡ true

@@ -3,8 +3,8 @@ use Rattle.std.specs.Prelude.{◌≡◌, ℕ, List, ◌++◌, length}
 use Rattle.std.specs.List.{flat_map, range_with_len}
 use Rattle.bdb_format.specs.declared.metadata.Head.{Head}
 use Rattle.bdb_format.specs.File.{page_bytes}
-use Rattle.bdb_model.specs.Fields.{Field}
-use Rattle.bdb_model.specs.Turning.{turned_page, turned_round}
+use Rattle.bdb_turned.specs.Fields.{Field}
+use Rattle.bdb_turned.specs.Turning.{turned_page, turned_round}
 use Rattle.bdb_turned.specs.Apart.{AreApart, LieWithin}
 
 -- one page of bytes has more of the numbers of another turned round than before

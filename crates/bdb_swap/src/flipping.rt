@@ -2,7 +2,6 @@ ghost use Rattle.std.specs.Prelude.{◌≡◌};
 ghost use Rattle.bdb_swap.specs.Flip.{IsFlip};
 
 use crate::image::{copy_of, turned_image};
-use crate::overlap::first_overlap;
 use bdb_format::{Bytes, Order};
 use bdb_graph::Linked;
 use bdb_io::Image;
@@ -46,8 +45,5 @@ pub fn flip(
     if order == head.order {
         return Ok(Image::from_bytes(Bytes::from_vec(copy_of(alloc, image)?)));
     }
-    match first_overlap(image, &head) {
-        Some(page) => Err(FlipError::Overlap(page)),
-        None => Ok(Image::from_bytes(turned_image(alloc, image, &head)?)),
-    }
+    Ok(Image::from_bytes(turned_image(alloc, image, &head)?))
 }

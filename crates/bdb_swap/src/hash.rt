@@ -1,7 +1,7 @@
 ghost use Rattle.std.specs.Prelude.{◌≡◌, ◌+◌, ◌≤◌, length};
 ghost use Rattle.bdb_layout.specs.Seen.{hash_item_seen};
 ghost use Rattle.bdb_format.specs.Page.{HashPage};
-ghost use Rattle.bdb_model.specs.Fields.{block_fields, hash_fields};
+ghost use Rattle.bdb_turned.specs.Fields.{block_fields, hash_fields};
 ghost use Rattle.bdb_turned.specs.Apart.{run_length};
 ghost use Rattle.bdb_turned.specs.Parts.{hash_item_end, hash_part};
 ghost use Rattle.bdb_swap.specs.Turns.{Turns};

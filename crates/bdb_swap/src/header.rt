@@ -1,6 +1,6 @@
 ghost use Rattle.std.specs.Prelude.{◌≡◌, ◌≤◌, length};
 ghost use Rattle.bdb_format.specs.Reading.{entries_of, index_end};
-ghost use Rattle.bdb_model.specs.Fields.{header_fields, index_fields};
+ghost use Rattle.bdb_turned.specs.Fields.{header_fields, index_fields};
 ghost use Rattle.bdb_swap.specs.Turns.{Turns};
 
 use crate::number::{turn_four, turn_two};

@@ -1,11 +1,16 @@
-ghost use Rattle.std.specs.Prelude.{◌≡◌, ◌<◌, IfOk, false, length, ℕ};
+ghost use Rattle.std.specs.Prelude.{◌≡◌, ◌<◌, ◌++◌, IfOk, OnOk, None, false, true, length};
 ghost use Rattle.bdb_format.specs.File.{page_bytes};
-ghost use Rattle.bdb_format.specs.Reading.{abstract_page};
+ghost use Rattle.bdb_format.specs.HeadOf.{is_page_size};
+ghost use Rattle.bdb_format.specs.Reading.{abstract_page, is_zero};
+ghost use Rattle.bdb_format.specs.Rows.{form_code};
 ghost use Rattle.bdb_graph.specs.Formed.{IsAccepted};
-ghost use Rattle.bdb_model.specs.Flipped.{flipped};
-ghost use Rattle.bdb_model.specs.Overlaps.{overlaps};
+ghost use Rattle.bdb_turned.specs.Overlaps.{overlaps};
+ghost use Rattle.bdb_turned.specs.Turning.{turned_page};
+ghost use Rattle.bdb_swap.specs.Flip.{IsTurnedImage};
 ghost use Rattle.bdb_swap.specs.Formed.{HasForm};
 
+use crate::flipping::FlipError;
+use crate::overlap::page_overlaps;
 use crate::page::turn_page;
 use bdb_format::{Bytes, Head};
 use std::alloc::{AllocError, Global};
@@ -23,20 +28,6 @@ pub(crate) fn page_of<'a>(image: &'a [u8], head: &Head, number: u32) -> &'a [u8]
     &image[start..start + size]
 }
 
-/// Turns each page of the copy of an image round.
-fn turn_pages(copy: &mut [u8], image: &[u8], head: &Head)
-    requires form { HasForm head.now image.now }
-    requires apart { (p : ℕ) → p < head.now.pages → overlaps (abstract_page head.now.order (page_bytes head.now image.now p)) ≡ false }
-    requires copied { copy.old ≡ image.now }
-    ensures { copy.new ≡ flipped image.now }
-{
-    for number in 0..head.pages {
-        let source = page_of(image, head, number);
-        let start = number as usize * source.len();
-        turn_page(&mut copy[start..start + source.len()], source, head, number);
-    }
-}
-
 /// A copy of bytes, whose room is taken at once.
 pub(crate) fn copy_of(alloc: Global, bytes: &[u8]) -> Result<Vec<u8>, AllocError>
     ensures { IfOk result (λ copy. copy.items ≡ bytes.now) }
@@ -46,13 +37,33 @@ pub(crate) fn copy_of(alloc: Global, bytes: &[u8]) -> Result<Vec<u8>, AllocError
     Ok(copy)
 }
 
-/// An image with all its pages turned round.
-pub(crate) fn turned_image(alloc: Global, image: &[u8], head: &Head) -> Result<Bytes, AllocError>
-    requires form { HasForm head.now image.now }
-    requires apart { (p : ℕ) → p < head.now.pages → overlaps (abstract_page head.now.order (page_bytes head.now image.now p)) ≡ false }
-    ensures { IfOk result (λ bytes. bytes ≡ flipped image.now) }
+/// Adds a page to a copy, and turns it round there.
+fn add_turned(copy: &mut Vec<u8>, page: &[u8], head: &Head, number: u32) -> Result<(), AllocError>
+    requires size { is_page_size (length page.now) ≡ true }
+    requires form { is_zero page.now ≡ false → form_code head.now number page.now ≡ None }
+    requires apart { overlaps (abstract_page head.now.order page.now) ≡ false }
+    ensures { OnOk result (copy.new.items ≡ copy.old.items ++ turned_page head.now.order page.now) }
 {
-    let mut copy = copy_of(alloc, image)?;
-    turn_pages(&mut copy, image, head);
+    let start = copy.len();
+    copy.extend_from_slice(page)?;
+    turn_page(&mut copy[start..], page, head, number);
+    Ok(())
+}
+
+/// An image with all its pages turned round, in a copy whose room is taken at once; or the first page whose items overlap.
+/// Each page is looked at and turned while it is at hand, so the image is gone through once.
+pub(crate) fn turned_image(alloc: Global, image: &[u8], head: &Head) -> Result<Bytes, FlipError>
+    requires { HasForm head.now image.now }
+    ensures { IsTurnedImage image.now result }
+{
+    let mut copy = Vec::with_capacity(alloc, image.len())?;
+    let mut ends = [0u16; 32768];
+    for number in 0..head.pages {
+        let page = page_of(image, head, number);
+        if page_overlaps(&mut ends[..page.len()], page, head, number) {
+            return Err(FlipError::Overlap(number));
+        }
+        add_turned(&mut copy, page, head, number)?;
+    }
     Ok(Bytes::from_vec(copy))
 }

@@ -1,7 +1,7 @@
 ghost use Rattle.std.specs.Prelude.{◌≡◌, ◌+◌, ◌<◌, ◌≤◌, length};
 ghost use Rattle.bdb_layout.specs.Seen.{internal_item_seen};
-ghost use Rattle.bdb_model.specs.Fields.{internal_fields};
-ghost use Rattle.bdb_model.specs.Overlaps.{internal_item_end};
+ghost use Rattle.bdb_turned.specs.Fields.{internal_fields};
+ghost use Rattle.bdb_turned.specs.Overlaps.{internal_item_end};
 ghost use Rattle.bdb_format.specs.Page.{InternalPage};
 ghost use Rattle.bdb_turned.specs.Parts.{internal_high, internal_part};
 ghost use Rattle.bdb_swap.specs.Turns.{Turns};

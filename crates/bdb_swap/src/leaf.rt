@@ -1,7 +1,7 @@
 ghost use Rattle.std.specs.Prelude.{◌≡◌, ◌+◌, ◌<◌, ◌≤◌, length};
 ghost use Rattle.bdb_layout.specs.Seen.{leaf_item_seen};
-ghost use Rattle.bdb_model.specs.Fields.{leaf_fields};
-ghost use Rattle.bdb_model.specs.Overlaps.{leaf_item_end};
+ghost use Rattle.bdb_turned.specs.Fields.{leaf_fields};
+ghost use Rattle.bdb_turned.specs.Overlaps.{leaf_item_end};
 ghost use Rattle.bdb_format.specs.Page.{LeafPage};
 ghost use Rattle.bdb_turned.specs.Parts.{leaf_high, leaf_part};
 ghost use Rattle.bdb_swap.specs.Turns.{Turns};

@@ -5,7 +5,7 @@ ghost use Rattle.bdb_format.specs.Page.{PageType};
 ghost use Rattle.bdb_format.specs.Reading.{entries_of, index_end};
 ghost use Rattle.bdb_format.specs.Rows.{item_rows};
 ghost use Rattle.bdb_format.specs.Table.{first_row};
-ghost use Rattle.bdb_model.specs.Fields.{Field};
+ghost use Rattle.bdb_turned.specs.Fields.{Field};
 ghost use Rattle.bdb_turned.specs.Parts.{all_fields};
 ghost use Rattle.bdb_swap.specs.Turns.{Turns};
 

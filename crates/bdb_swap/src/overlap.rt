@@ -1,14 +1,10 @@
 ghost use Rattle.std.specs.Prelude.{◌≡◌, ◌<◌, ◌≤◌, None, false, true, length};
-ghost use Rattle.bdb_format.specs.File.{file_of};
 ghost use Rattle.bdb_format.specs.HeadOf.{is_page_size};
 ghost use Rattle.bdb_format.specs.Numbers.{byte_at};
 ghost use Rattle.bdb_format.specs.Reading.{abstract_page, is_zero, page_as, page_type};
 ghost use Rattle.bdb_format.specs.Rows.{body_code, form_code};
-ghost use Rattle.bdb_model.specs.Flipped.{first_overlap};
-ghost use Rattle.bdb_model.specs.Overlaps.{overlaps};
-ghost use Rattle.bdb_swap.specs.Formed.{HasForm};
+ghost use Rattle.bdb_turned.specs.Overlaps.{overlaps};
 
-use crate::image::page_of;
 use crate::internal::InternalItems;
 use crate::leaf::LeafItems;
 use crate::ranged::items_overlap;
@@ -44,7 +40,7 @@ fn typed_overlaps(ends: &mut [u16], page: &[u8], order: Order) -> bool
 }
 
 /// Whether some two items of a page share a byte. The ends have a place for each byte of the page.
-fn page_overlaps(ends: &mut [u16], page: &[u8], head: &Head, number: u32) -> bool
+pub(crate) fn page_overlaps(ends: &mut [u16], page: &[u8], head: &Head, number: u32) -> bool
     requires legal { is_page_size (length page.now) ≡ true }
     requires form { is_zero page.now ≡ false → form_code head.now number page.now ≡ None }
     requires size { length ends.old ≡ length page.now }
@@ -55,19 +51,4 @@ fn page_overlaps(ends: &mut [u16], page: &[u8], head: &Head, number: u32) -> boo
         return false;
     }
     typed_overlaps(ends, page, head.order)
-}
-
-/// The first page on which items overlap, if there is one. It takes no memory, and time by the bytes of the pages alone.
-pub(crate) fn first_overlap(image: &[u8], head: &Head) -> Option<u32>
-    requires { HasForm head.now image.now }
-    ensures { result ≡ first_overlap (file_of image.now) }
-{
-    let mut ends = [0u16; 32768];
-    for number in 0..head.last + 1 {
-        let page = page_of(image, head, number);
-        if page_overlaps(&mut ends[..page.len()], page, head, number) {
-            return Some(number);
-        }
-    }
-    None
 }

@@ -3,9 +3,9 @@ ghost use Rattle.bdb_format.specs.HeadOf.{is_page_size};
 ghost use Rattle.bdb_format.specs.Numbers.{byte_at};
 ghost use Rattle.bdb_format.specs.Reading.{abstract_page, is_zero, page_as, page_type};
 ghost use Rattle.bdb_format.specs.Rows.{body_code, form_code};
-ghost use Rattle.bdb_model.specs.Fields.{fields_of};
-ghost use Rattle.bdb_model.specs.Overlaps.{overlaps};
-ghost use Rattle.bdb_model.specs.Turning.{turned_page};
+ghost use Rattle.bdb_turned.specs.Fields.{fields_of};
+ghost use Rattle.bdb_turned.specs.Overlaps.{overlaps};
+ghost use Rattle.bdb_turned.specs.Turning.{turned_page};
 ghost use Rattle.bdb_swap.specs.Turns.{Turns};
 
 use crate::hash::HashItems;

@@ -1,11 +1,11 @@
-ghost use Rattle.std.specs.Prelude.{◌≡◌, ◌<◌, ◌≤◌, ℕ, List, None, if◌then◌else◌, ◌==◌, get_or, length};
+ghost use Rattle.std.specs.Prelude.{◌≡◌, ◌<◌, ◌≤◌, ◌==◌, ℕ, List, None, get_or, length, set};
 ghost use Rattle.bdb_format.specs.declared.kinds.Order.{Order as AnyOrder};
 ghost use Rattle.bdb_format.specs.Reading.{entries_of, index_end, offset_of};
 ghost use Rattle.bdb_format.specs.Rows.{item_rows};
 ghost use Rattle.bdb_format.specs.Table.{first_row};
-ghost use Rattle.bdb_swap.specs.Crossing.{AreEnds, AreRanges, some_share};
+ghost use Rattle.bdb_swap.specs.Crossing.{AreEnds, AreNoted, AreRanges, some_share};
 
-use crate::crossing::crosses;
+use crate::crossing::{Noted, crosses};
 use crate::listed::Items;
 use bdb_format::Order;
 use bdb_layout::{offset_at, u16_at};
@@ -23,18 +23,20 @@ pub(crate) trait Ranged: Items {
         ensures { result ≡ high order page.now index };
 }
 
-/// Notes the end of a range at the place where it begins.
-fn note_end(ends: &mut [u16], at: usize, end: usize)
+/// Notes the end of a range at the place where it begins, and tells whether none was noted there.
+fn note_end(ends: &mut [u16], at: usize, end: usize) -> bool
     requires inside { at < length ends.old }
     requires low { end < 65536 }
-    ensures same { length ends.new ≡ length ends.old }
-    ensures each { (p : ℕ) → p < length ends.old → get_or ends.new p 0 ≡ (if at == p then end else get_or ends.old p 0) }
+    ensures first { result ≡ (get_or ends.old at 0 == 0) }
+    ensures noted { ends.new ≡ set ends.old at end }
 {
+    let first = ends[at] == 0;
     ends[at] = end as u16;
+    first
 }
 
 /// Notes where the items of a page end.
-fn note_ends<I: Ranged>(ends: &mut [u16], page: &[u8], order: Order)
+fn note_ends<I: Ranged>(ends: &mut [u16], page: &[u8], order: Order) -> Noted
     requires header { 26 ≤ length page.now }
     requires room { index_end order page.now ≤ length page.now }
     requires items { (i : ℕ) → i < entries_of order page.now → first_row (item_rows I.page_type order page.now i) ≡ None }
@@ -42,13 +44,22 @@ fn note_ends<I: Ranged>(ends: &mut [u16], page: &[u8], order: Order)
     requires low { length page.now < 65536 }
     requires size { length ends.old ≡ length page.now }
     requires clear { (k : ℕ) → k < length ends.old → get_or ends.old k 0 ≡ 0 }
-    ensures noted { AreEnds ends.new (entries_of order page.now) (offset_of order page.now) (I.high order page.now) }
+    ensures ends { AreEnds ends.new (entries_of order page.now) (offset_of order page.now) (I.high order page.now) }
     ensures same { length ends.new ≡ length ends.old }
+    ensures noted { AreNoted ends.new result.first result.places }
 {
+    let mut noted = Noted {
+        first: ends.len(),
+        places: 0,
+    };
     for i in 0..u16_at(page, 20, order) {
         let at = usize::from(offset_at(page, order, i));
-        note_end(ends, at, I::item_end(page, order, i));
+        if note_end(ends, at, I::item_end(page, order, i)) {
+            noted.places += 1;
+        }
+        noted.first = noted.first.min(at);
     }
+    noted
 }
 
 /// Whether some two items of a page that begin at different places share a byte. What was noted of another page is cleared.
@@ -63,6 +74,6 @@ pub(crate) fn items_overlap<I: Ranged>(ends: &mut [u16], page: &[u8], order: Ord
     ensures same { length ends.new ≡ length ends.old }
 {
     ends.fill(0);
-    note_ends::<I>(ends, page, order);
-    crosses(ends)
+    let noted = note_ends::<I>(ends, page, order);
+    crosses(ends, &noted)
 }

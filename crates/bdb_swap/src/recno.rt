@@ -1,6 +1,6 @@
 ghost use Rattle.std.specs.Prelude.{◌≡◌, ◌+◌, ◌≤◌, length};
 ghost use Rattle.bdb_format.specs.Page.{RecnoInternalPage};
-ghost use Rattle.bdb_model.specs.Fields.{recno_fields};
+ghost use Rattle.bdb_turned.specs.Fields.{recno_fields};
 ghost use Rattle.bdb_turned.specs.Parts.{recno_high, recno_part};
 ghost use Rattle.bdb_swap.specs.Turns.{Turns};
 

@@ -282,6 +282,30 @@ written_are_read_by print one others standing can =
     let read = are_read print [] 1 (one ∷ others) standing can in
     (read.0, reads-all print one others read.0 can read.1, read.2)
 
+-- the sections that they are read as, the first of which begins at a line
+abbrev pub sections_of : Bool → ℕ → List Written → List Section
+sections_of print at [] = []
+sections_of print at (one ∷ others) =
+    section_of print one.name one.settings one.list at
+    ∷ sections_of print (at + length (version_line ∷ inner print one.name one.settings one.list) + 1) others
+
+are_these : (print : Bool) (names : List (Option (List ℕ))) (at : ℕ) (all : List Written) (follows : Follows names all) (can : All IsWritable all)
+    → (are_read print names at all follows can).0 ≡ sections_of print at all
+unfolding are_read
+are_these print names at [] follows can = refl
+are_these print names at (one ∷ others) follows can =
+    ap (λ (rest : List Section). section_of print one.name one.settings one.list at ∷ rest)
+    (are_these print (names ++ one.name ∷ []) (at + length (version_line ∷ inner print one.name one.settings one.list) + 1) others follows.1
+    (All-tail IsWritable one others can))
+
+pub written_are_these : (print : Bool) (one : Written) (others : List Written) → CanStandTogether (names_in (one ∷ others)) → All IsWritable (one ∷ others)
+    → Reads (flat_map (written_text print) (one ∷ others)) (sections_of print 1 (one ∷ others))
+written_are_these print one others together can =
+    let follows = follows_together (one ∷ others) together in
+    reads-all print one others (sections_of print 1 (one ∷ others)) can
+    ((are_read print [] 1 (one ∷ others) follows can).1
+    ∙ ap (λ (sections : List Section). Some sections) (are_these print [] 1 (one ∷ others) follows can))
+
 pub written_are_read : WrittenAreRead
 written_are_read print [] together can = absurd together
 written_are_read print (one ∷ others) together can = written_are_read_by print one others (follows_together (one ∷ others) together) can

@@ -8,21 +8,22 @@ use Rattle.bdb_format.specs.declared.kinds.Verdict.{Verdict}
 use Rattle.bdb_format.specs.declared.kinds.Verdict.TheVariants.{Fault, Unsupported, Memory as MemoryVerdict}
 use Rattle.bdb_text_format.specs.LineEnd.{line}
 use Rattle.bdb_text_format.specs.Written.{database_text, dump_text, is_btree}
-use Rattle.bdb_model.specs.Answers.{Answer, converted, done, data_at, data_named, data_of_database, fault_line, found, judged_answer, not_found, range_answer, ranged, sound_answer, told, unsupported_line, not_btree, pairs_text, value_line, values_text, database_in, dumped, section_answer}
+use Rattle.bdb_model.specs.Answers.{Answer, done, data_at, data_named, data_of_database, fault_line, found, not_found, told, unsupported_line, not_btree, pairs_text, value_line, values_text, database_in, dumped, section_answer}
+use Rattle.bdb_tool.specs.FileAnswers.{converted, judged_answer, range_answer, ranged, sound_answer}
 use Rattle.bdb_model.specs.Change.{Change}
-use Rattle.bdb_model.specs.Command.{Request, Verify, ListAll, Get, Dump, Range, Convert}
+use Rattle.bdb_model.specs.Command.{Request, Verify, ListAll, Get, Dump, Range, Convert, Stat}
 use Rattle.bdb_format.specs.Databases.{Database, data_under, databases, place_of}
 use Rattle.bdb_format.specs.File.{File, file_of}
 use Rattle.bdb_format.specs.Flags.{kind_of}
 use Rattle.bdb_format.specs.Lists.{ListKey, list_of}
-use Rattle.bdb_model.specs.Flipped.{overlap_in}
-use Rattle.bdb_model.specs.Ranges.{in_range}
+use Rattle.bdb_turned.specs.Flipped.{overlap_in}
+use Rattle.bdb_range.specs.Ranges.{in_range}
 use Rattle.bdb_format.specs.Verdict.{Faulty, Judgement, LeftOut, verdict_of}
 use Rattle.bdb_file.specs.Named.{database_at, no_database}
 use Rattle.bdb_file.specs.Whole.{IsVerdictOf}
 use Rattle.bdb_printing.specs.SalvageText.{salvage_text}
 use Rattle.bdb_salvage.specs.Guesses.{chosen}
-use Rattle.bdb_salvage.specs.declared.guess.Guess.{Guess}
+use Rattle.bdb_survey.specs.declared.guess.Guess.{Guess}
 use Rattle.bdb_tool.specs.Outputs.{salvage_answer, salvaged_answer}
 use Rattle.bdb_tool.specs.Parts.{Answered, Ends, Finishes, HasOwnStatus, IsRefusalTold, IsRefused, Reports, Tells, Unanswered}
 use Rattle.bdb_format.specs.declared.kinds.Kind.{Kind}
@@ -31,7 +32,7 @@ use Rattle.bdb_text_format.specs.declared.faults.TextFault.{TextFault}
 use Rattle.bdb_text_format.specs.declared.sections.Section.{Section}
 use Rattle.bdb_text_format.specs.Reasons.{text_fault}
 use Rattle.bdb_settle.specs.declared.load_error.LoadError.{LoadError}
-use Rattle.bdb_settle.specs.declared.load_error.LoadError.TheVariants.{RecordTooLong, RecordZero, TooLarge, QueueAmongNames, Memory as MemoryError}
+use Rattle.bdb_settle.specs.declared.load_error.LoadError.TheVariants.{RecordTooLong, RecordZero, TooLarge, QueueAmongNames, Memory as MemoryError, OntoKind, OntoNames}
 use Rattle.bdb_load.specs.Builds.{image_size}
 use Rattle.bdb_load.specs.Loading.{loading_error}
 use Rattle.bdb_writing.specs.declared.refusal.Refusal.{Refusal}
@@ -101,6 +102,7 @@ sound_own (Get name key prints) image = found_own prints (data_named (file_of im
 sound_own (Dump name prints) image = dumped_own prints image name
 sound_own (Range name from to prints) image = ranged_own prints (file_of image) name from to
 sound_own (Convert order) image = converted_own (overlap_in order image) order image
+sound_own Stat image = low_own (sound_answer Stat image) (omega arith)
 
 judged_own : (verdict : Option Judgement) (request : Request) (image : List ℕ) → HasOwnStatus (judged_answer verdict request image)
 judged_own None request image = sound_own request image
@@ -150,6 +152,13 @@ pub found_finishes : (prints : Bool) (values : List (List ℕ)) (first : List �
 unfolding values_text
 found_finishes prints values first others out err written status is writes reports =
     subst (λ data_found. Finishes (found prints data_found) out err status) (sym is) (written_finishes (values_text prints (first ∷ others)) out err written status writes reports)
+
+-- nothing was found
+pub none_found : (prints : Bool) (values : List (List ℕ)) (written : Option (List ℕ)) (faults : ℕ) (err : Change) (status : ℕ) → values ≡ []
+    → Tells not_found.err 9 err status → Finishes (found prints values) (moved written written faults faults) err status
+none_found prints values written faults err status none tells =
+    subst (λ data_there. Finishes (found prints data_there) (moved written written faults faults) err status) (sym none)
+    (told_finishes 9 not_found.err written faults err status (λ five. omega arith) (λ seven. omega arith) tells)
 
 pub data_found : (file : File) (name : Option (List ℕ)) (key : List ℕ) (i : ℕ) → place_of name (databases file) ≡ Some i → i < length (databases file) → data_named file name key ≡ data_under file (database_at file i).fields key
 unfolding data_named
@@ -203,6 +212,8 @@ error_own limit (RecordZero number) answer is = bad_own _ answer is
 error_own limit TooLarge answer is = large_own _ answer is
 error_own limit (QueueAmongNames number) answer is = bad_own _ answer is
 error_own limit MemoryError answer is = absurd is
+error_own limit (OntoKind number) answer is = bad_own _ answer is
+error_own limit (OntoNames number) answer is = bad_own _ answer is
 
 load_own : (limit : ℕ) (error : Option LoadError) (sections : List Section) (answer : Answer) → IsLoadAnswer limit error sections answer → HasOwnStatus answer
 load_own limit (Some error) sections answer is = error_own limit error answer is

@@ -5,7 +5,7 @@ use Rattle.std.specs.Str.{bytes_eq}
 use Rattle.std.proofs.lemmas.List.{drop_all}
 use Rattle.std.proofs.lemmas.Option.{slice_get_within}
 use Rattle.bdb_model.specs.Command.{Arguments, Given, arguments, limit_of, max_bytes, once, value_given}
-use Rattle.bdb_tool.specs.Commands.{Action, command_of, command_with, convert_row, dump_row, get_row, list_row, load_row, plain_row, range_row, salvage_row, trial_action, trial_row, verify_row, within}
+use Rattle.bdb_tool.specs.Commands.{command_of, command_with, convert_row, dump_row, get_row, list_row, load_row, range_row, repair_row, salvage_row, stat_row, trial_action, trial_row, verify_row, within}
 use Rattle.bdb_tool.proofs.StepLemmas.{from_place, past_place}
 
 -- Operands.
@@ -47,6 +47,10 @@ dump_with given words place within =
 
 pub salvage_with : (given : List Given) (words : List (List ℕ)) (place : ℕ) → place < length words → command_with salvage_row (Some (given_with given (drop place words))) ≡ None
 salvage_with given words place within =
+    let some : (length (drop place words) == 0) ≡ false = ne_eqb _ _ (λ none. omega (arith, length-drop place words)) in rw some refl
+
+pub repair_with : (given : List Given) (words : List (List ℕ)) (place : ℕ) → place < length words → command_with repair_row (Some (given_with given (drop place words))) ≡ None
+repair_with given words place within =
     let some : (length (drop place words) == 0) ≡ false = ne_eqb _ _ (λ none. omega (arith, length-drop place words)) in rw some refl
 
 pub three : (given : List Given) (kind seed count : List ℕ) → command_with trial_row (Some (given_with given (kind ∷ seed ∷ count ∷ []))) ≡ within (limit_of (value_given max_bytes given)) (trial_action (kind ∷ seed ∷ count ∷ []))
@@ -147,9 +151,32 @@ convert_word [] word there no_verify no_list no_get no_dump no_load no_salvage n
 convert_word (first ∷ words) word there no_verify no_list no_get no_dump no_load no_salvage no_trial no_range is =
     let same : first ≡ word = cc in rw (same, no_verify, no_list, no_get, no_dump, no_load, no_salvage, no_trial, no_range, is) refl
 
-pub other_word : (words : List (List ℕ)) (word : List ℕ) → Some word ≡ slice_get words 0 → bytes_eq word (codes "verify") ≡ false → bytes_eq word (codes "list") ≡ false → bytes_eq word (codes "get") ≡ false → bytes_eq word (codes "dump") ≡ false → bytes_eq word (codes "load") ≡ false → bytes_eq word (codes "salvage") ≡ false → bytes_eq word (codes "trial") ≡ false → bytes_eq word (codes "range") ≡ false
-    → bytes_eq word (codes "convert") ≡ false → command_of words ≡ None
+pub stat_word : (words : List (List ℕ)) (word : List ℕ) → Some word ≡ slice_get words 0 → bytes_eq word (codes "verify") ≡ false → bytes_eq word (codes "list") ≡ false
+    → bytes_eq word (codes "get") ≡ false → bytes_eq word (codes "dump") ≡ false → bytes_eq word (codes "load") ≡ false → bytes_eq word (codes "salvage") ≡ false
+    → bytes_eq word (codes "trial") ≡ false → bytes_eq word (codes "range") ≡ false → bytes_eq word (codes "convert") ≡ false → bytes_eq word (codes "stat") ≡ true
+    → command_of words ≡ command_with stat_row (once (arguments stat_row.options (drop 1 words)))
 unfolding command_of
-other_word [] word there no_verify no_list no_get no_dump no_load no_salvage no_trial no_range no_convert = cc
-other_word (first ∷ words) word there no_verify no_list no_get no_dump no_load no_salvage no_trial no_range no_convert =
-    let same : first ≡ word = cc in rw (same, no_verify, no_list, no_get, no_dump, no_load, no_salvage, no_trial, no_range, no_convert) refl
+stat_word [] word there no_verify no_list no_get no_dump no_load no_salvage no_trial no_range no_convert is = cc
+stat_word (first ∷ words) word there no_verify no_list no_get no_dump no_load no_salvage no_trial no_range no_convert is =
+    let same : first ≡ word = cc in rw (same, no_verify, no_list, no_get, no_dump, no_load, no_salvage, no_trial, no_range, no_convert, is) refl
+
+pub repair_word : (words : List (List ℕ)) (word : List ℕ) → Some word ≡ slice_get words 0 → bytes_eq word (codes "verify") ≡ false
+    → bytes_eq word (codes "list") ≡ false → bytes_eq word (codes "get") ≡ false → bytes_eq word (codes "dump") ≡ false
+    → bytes_eq word (codes "load") ≡ false → bytes_eq word (codes "salvage") ≡ false → bytes_eq word (codes "trial") ≡ false
+    → bytes_eq word (codes "range") ≡ false → bytes_eq word (codes "convert") ≡ false → bytes_eq word (codes "stat") ≡ false
+    → bytes_eq word (codes "repair") ≡ true
+    → command_of words ≡ command_with repair_row (once (arguments repair_row.options (drop 1 words)))
+unfolding command_of
+repair_word [] word there no_verify no_list no_get no_dump no_load no_salvage no_trial no_range no_convert no_stat is = cc
+repair_word (first ∷ words) word there no_verify no_list no_get no_dump no_load no_salvage no_trial no_range no_convert no_stat is =
+    let same : first ≡ word = cc in rw (same, no_verify, no_list, no_get, no_dump, no_load, no_salvage, no_trial, no_range, no_convert, no_stat, is) refl
+
+pub other_word : (words : List (List ℕ)) (word : List ℕ) → Some word ≡ slice_get words 0 → bytes_eq word (codes "verify") ≡ false
+    → bytes_eq word (codes "list") ≡ false → bytes_eq word (codes "get") ≡ false → bytes_eq word (codes "dump") ≡ false
+    → bytes_eq word (codes "load") ≡ false → bytes_eq word (codes "salvage") ≡ false → bytes_eq word (codes "trial") ≡ false
+    → bytes_eq word (codes "range") ≡ false → bytes_eq word (codes "convert") ≡ false → bytes_eq word (codes "stat") ≡ false → bytes_eq word (codes "repair") ≡ false
+    → command_of words ≡ None
+unfolding command_of
+other_word [] word there no_verify no_list no_get no_dump no_load no_salvage no_trial no_range no_convert no_stat no_repair = cc
+other_word (first ∷ words) word there no_verify no_list no_get no_dump no_load no_salvage no_trial no_range no_convert no_stat no_repair =
+    let same : first ≡ word = cc in rw (same, no_verify, no_list, no_get, no_dump, no_load, no_salvage, no_trial, no_range, no_convert, no_stat, no_repair) refl

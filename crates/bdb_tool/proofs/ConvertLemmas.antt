@@ -1,13 +1,14 @@
 -- A file that is put into an order.
 use Rattle.std.proofs.Common.{◌≡◌, ◌⊎◌, ℕ, List, inl, inr, sym, subst, arith}
-use Rattle.std.specs.Prelude.{Option, Some, None, Result, Err}
+use Rattle.std.specs.Prelude.{Option, Some, None, Result, Ok, Err}
 use Rattle.bdb_format.specs.declared.kinds.Order.{Order}
 use Rattle.bdb_lines.specs.declared.cut.Cut.{Cut}
 use Rattle.bdb_lines.specs.Printing.{Writes}
 use Rattle.bdb_lines.proofs.PrintingLemmas.{moved}
-use Rattle.bdb_model.specs.Answers.{converted, done, overlap_line}
+use Rattle.bdb_model.specs.Answers.{done, overlap_line}
+use Rattle.bdb_tool.specs.FileAnswers.{converted}
 use Rattle.bdb_model.specs.Change.{Change}
-use Rattle.bdb_model.specs.Flipped.{flip_of, overlap_in}
+use Rattle.bdb_turned.specs.Flipped.{flip_of, overlap_in}
 use Rattle.bdb_model.specs.Lines.{memory_line}
 use Rattle.bdb_swap.specs.Flip.{IsFlip}
 use Rattle.bdb_swap.specs.declared.flipping.FlipError.{FlipError}
@@ -21,15 +22,23 @@ pub line_told : (page : ℕ) (text : List ℕ) (err : Change) (status : ℕ) →
 line_told page text err status is tells = subst (λ (line : List ℕ). Tells line 13 err status) is tells
 
 -- the image in the order was written
-pub flipped_finishes : (order : Order) (image flipped : List ℕ) (out err : Change) (written : Result Unit Cut) (status : ℕ) → flipped ≡ flip_of order image
+flipped_finishes : (order : Order) (image flipped : List ℕ) (out err : Change) (written : Result Unit Cut) (status : ℕ) → flipped ≡ flip_of order image
     → overlap_in order image ≡ None → Writes flipped out written → Reports written err status
     → Finishes (converted (overlap_in order image) order image) out err status
 flipped_finishes order image flipped out err written status is none writes reports =
     subst (λ overlap. Finishes (converted overlap order image) out err status) (sym none)
     (subst (λ (text : List ℕ). Finishes (done text) out err status) is (written_finishes flipped out err written status writes reports))
 
+-- the same, of the image that was read
+pub flipped_printed : (order : Order) (image read flipped : List ℕ) (out err : Change) (written : Result Unit Cut) (status : ℕ) → read ≡ image
+    → IsFlip order read (Ok flipped) → Writes flipped out written → Reports written err status
+    → Finishes (converted (overlap_in order image) order image) out err status
+flipped_printed order image read flipped out err written status same flips writes reports =
+    subst (λ (it : List ℕ). Finishes (converted (overlap_in order it) order it) out err status) same
+    (flipped_finishes order read flipped out err written status flips.0 flips.1 writes reports)
+
 -- the page was told, or that memory was wanting for its line
-pub overlap_finishes : (order : Order) (image : List ℕ) (page : ℕ) (written : Option (List ℕ)) (faults : ℕ) (err : Change) (status : ℕ) → overlap_in order image ≡ Some page
+overlap_finishes : (order : Order) (image : List ℕ) (page : ℕ) (written : Option (List ℕ)) (faults : ℕ) (err : Change) (status : ℕ) → overlap_in order image ≡ Some page
     → (Tells (overlap_line page) 13 err status ⊎ Tells memory_line 7 err status)
     → Finishes (converted (overlap_in order image) order image) (moved written written faults faults) err status
 overlap_finishes order image page written faults err status is (inl tells) =

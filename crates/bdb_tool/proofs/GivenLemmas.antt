@@ -7,8 +7,8 @@ use Rattle.std.proofs.lemmas.List.Folds.{list_any-append}
 use Rattle.bdb_model.specs.Command.{Given, hex_option, is_given, max_bytes, name_option, print_option, value_given}
 use Rattle.bdb_tool.specs.declared.options.Arguments.{Arguments}
 use Rattle.bdb_tool.specs.declared.options.GivenOption.{GivenOption}
-use Rattle.bdb_tool.specs.declared.options.GivenOption.TheVariants.{MaxBytes, Name, Order, PageSize, Hex, Print}
-use Rattle.bdb_tool.specs.Commands.{order_option, page_size_option}
+use Rattle.bdb_tool.specs.declared.options.GivenOption.TheVariants.{MaxBytes, Name, Order, PageSize, As, Hex, Print, Duplicates, Dupsort}
+use Rattle.bdb_tool.specs.Commands.{as_option, dupsort_option, duplicates_option, order_option, page_size_option}
 use Rattle.bdb_tool.specs.WordsSeen.{HasGiven, IsNew, given_seen}
 
 -- One more option at the end.
@@ -85,6 +85,10 @@ has_order read option text before is some has = rw is (has_value order_option re
 pub has_page_size : (read : Arguments) (option : GivenOption) (text : Bor (List ℕ)) (before : List Given) → option ≡ PageSize text → is_some read.page_size ≡ true → HasGiven read before → IsTrue (is_given (given_seen option).word before)
 has_page_size read option text before is some has = rw is (has_value page_size_option read.page_size before some has.page_size_is)
 
+pub has_kind : (read : Arguments) (option : GivenOption) (text : Bor (List ℕ)) (before : List Given) → option ≡ As text → is_some read.kind ≡ true → HasGiven read before
+    → IsTrue (is_given (given_seen option).word before)
+has_kind read option text before is some has = rw is (has_value as_option read.kind before some has.kind_is)
+
 -- One more option.
 
 pub with_max_bytes : (old read : Arguments) (option : GivenOption) (text : Bor (List ℕ)) (next : ℕ) (before : List Given) → option ≡ MaxBytes text → is_some old.max_bytes ≡ false → read ≡ record old { max_bytes = Some text } → HasGiven old before → IsNew before (given_seen option) (record read { operands = next })
@@ -97,8 +101,11 @@ with_max_bytes old read option text next before is none read_is has =
         name_is = value_other name_option before (given_seen (MaxBytes text)) refl ∙ has.name_is;
         order_is = value_other order_option before (given_seen (MaxBytes text)) refl ∙ has.order_is;
         page_size_is = value_other page_size_option before (given_seen (MaxBytes text)) refl ∙ has.page_size_is;
+        kind_is = value_other as_option before (given_seen (MaxBytes text)) refl ∙ has.kind_is;
         hex_is = given_other hex_option before (given_seen (MaxBytes text)) old.hex refl has.hex_is;
         print_is = given_other print_option before (given_seen (MaxBytes text)) old.print refl has.print_is;
+        duplicates_is = given_other duplicates_option before (given_seen (MaxBytes text)) old.duplicates refl has.duplicates_is;
+        dupsort_is = given_other dupsort_option before (given_seen (MaxBytes text)) old.dupsort refl has.dupsort_is;
       },
     )
 
@@ -112,8 +119,11 @@ with_name old read option text next before is none read_is has =
         name_is = value_now name_option before (given_seen (Name text)) refl lacks;
         order_is = value_other order_option before (given_seen (Name text)) refl ∙ has.order_is;
         page_size_is = value_other page_size_option before (given_seen (Name text)) refl ∙ has.page_size_is;
+        kind_is = value_other as_option before (given_seen (Name text)) refl ∙ has.kind_is;
         hex_is = given_other hex_option before (given_seen (Name text)) old.hex refl has.hex_is;
         print_is = given_other print_option before (given_seen (Name text)) old.print refl has.print_is;
+        duplicates_is = given_other duplicates_option before (given_seen (Name text)) old.duplicates refl has.duplicates_is;
+        dupsort_is = given_other dupsort_option before (given_seen (Name text)) old.dupsort refl has.dupsort_is;
       },
     )
 
@@ -127,8 +137,11 @@ with_order old read option text next before is none read_is has =
         name_is = value_other name_option before (given_seen (Order text)) refl ∙ has.name_is;
         order_is = value_now order_option before (given_seen (Order text)) refl lacks;
         page_size_is = value_other page_size_option before (given_seen (Order text)) refl ∙ has.page_size_is;
+        kind_is = value_other as_option before (given_seen (Order text)) refl ∙ has.kind_is;
         hex_is = given_other hex_option before (given_seen (Order text)) old.hex refl has.hex_is;
         print_is = given_other print_option before (given_seen (Order text)) old.print refl has.print_is;
+        duplicates_is = given_other duplicates_option before (given_seen (Order text)) old.duplicates refl has.duplicates_is;
+        dupsort_is = given_other dupsort_option before (given_seen (Order text)) old.dupsort refl has.dupsort_is;
       },
     )
 
@@ -142,8 +155,29 @@ with_page_size old read option text next before is none read_is has =
         name_is = value_other name_option before (given_seen (PageSize text)) refl ∙ has.name_is;
         order_is = value_other order_option before (given_seen (PageSize text)) refl ∙ has.order_is;
         page_size_is = value_now page_size_option before (given_seen (PageSize text)) refl lacks;
+        kind_is = value_other as_option before (given_seen (PageSize text)) refl ∙ has.kind_is;
         hex_is = given_other hex_option before (given_seen (PageSize text)) old.hex refl has.hex_is;
         print_is = given_other print_option before (given_seen (PageSize text)) old.print refl has.print_is;
+        duplicates_is = given_other duplicates_option before (given_seen (PageSize text)) old.duplicates refl has.duplicates_is;
+        dupsort_is = given_other dupsort_option before (given_seen (PageSize text)) old.dupsort refl has.dupsort_is;
+      },
+    )
+
+pub with_kind : (old read : Arguments) (option : GivenOption) (text : Bor (List ℕ)) (next : ℕ) (before : List Given) → option ≡ As text → is_some old.kind ≡ false → read ≡ record old { kind = Some text } → HasGiven old before → IsNew before (given_seen option) (record read { operands = next })
+with_kind old read option text next before is none read_is has =
+    let lacks = has.kind_is ∙ copied_none old.kind none in
+    rw (is, read_is) (
+      not_given as_option before lacks,
+      record {
+        max_bytes_is = value_other max_bytes before (given_seen (As text)) refl ∙ has.max_bytes_is;
+        name_is = value_other name_option before (given_seen (As text)) refl ∙ has.name_is;
+        order_is = value_other order_option before (given_seen (As text)) refl ∙ has.order_is;
+        page_size_is = value_other page_size_option before (given_seen (As text)) refl ∙ has.page_size_is;
+        kind_is = value_now as_option before (given_seen (As text)) refl lacks;
+        hex_is = given_other hex_option before (given_seen (As text)) old.hex refl has.hex_is;
+        print_is = given_other print_option before (given_seen (As text)) old.print refl has.print_is;
+        duplicates_is = given_other duplicates_option before (given_seen (As text)) old.duplicates refl has.duplicates_is;
+        dupsort_is = given_other dupsort_option before (given_seen (As text)) old.dupsort refl has.dupsort_is;
       },
     )
 
@@ -156,8 +190,11 @@ with_hex old read option next before is none read_is has =
         name_is = value_other name_option before (given_seen Hex) refl ∙ has.name_is;
         order_is = value_other order_option before (given_seen Hex) refl ∙ has.order_is;
         page_size_is = value_other page_size_option before (given_seen Hex) refl ∙ has.page_size_is;
+        kind_is = value_other as_option before (given_seen Hex) refl ∙ has.kind_is;
         hex_is = given_now hex_option before (given_seen Hex) refl;
         print_is = given_other print_option before (given_seen Hex) old.print refl has.print_is;
+        duplicates_is = given_other duplicates_option before (given_seen Hex) old.duplicates refl has.duplicates_is;
+        dupsort_is = given_other dupsort_option before (given_seen Hex) old.dupsort refl has.dupsort_is;
       },
     )
 
@@ -170,7 +207,44 @@ with_print old read option next before is none read_is has =
         name_is = value_other name_option before (given_seen Print) refl ∙ has.name_is;
         order_is = value_other order_option before (given_seen Print) refl ∙ has.order_is;
         page_size_is = value_other page_size_option before (given_seen Print) refl ∙ has.page_size_is;
+        kind_is = value_other as_option before (given_seen Print) refl ∙ has.kind_is;
         hex_is = given_other hex_option before (given_seen Print) old.hex refl has.hex_is;
         print_is = given_now print_option before (given_seen Print) refl;
+        duplicates_is = given_other duplicates_option before (given_seen Print) old.duplicates refl has.duplicates_is;
+        dupsort_is = given_other dupsort_option before (given_seen Print) old.dupsort refl has.dupsort_is;
+      },
+    )
+
+pub with_duplicates : (old read : Arguments) (option : GivenOption) (next : ℕ) (before : List Given) → option ≡ Duplicates → old.duplicates ≡ false → read ≡ record old { duplicates = true } → HasGiven old before → IsNew before (given_seen option) (record read { operands = next })
+with_duplicates old read option next before is none read_is has =
+    rw (is, read_is) (
+      has.duplicates_is ∙ none,
+      record {
+        max_bytes_is = value_other max_bytes before (given_seen Duplicates) refl ∙ has.max_bytes_is;
+        name_is = value_other name_option before (given_seen Duplicates) refl ∙ has.name_is;
+        order_is = value_other order_option before (given_seen Duplicates) refl ∙ has.order_is;
+        page_size_is = value_other page_size_option before (given_seen Duplicates) refl ∙ has.page_size_is;
+        kind_is = value_other as_option before (given_seen Duplicates) refl ∙ has.kind_is;
+        hex_is = given_other hex_option before (given_seen Duplicates) old.hex refl has.hex_is;
+        print_is = given_other print_option before (given_seen Duplicates) old.print refl has.print_is;
+        duplicates_is = given_now duplicates_option before (given_seen Duplicates) refl;
+        dupsort_is = given_other dupsort_option before (given_seen Duplicates) old.dupsort refl has.dupsort_is;
+      },
+    )
+
+pub with_dupsort : (old read : Arguments) (option : GivenOption) (next : ℕ) (before : List Given) → option ≡ Dupsort → old.dupsort ≡ false → read ≡ record old { dupsort = true } → HasGiven old before → IsNew before (given_seen option) (record read { operands = next })
+with_dupsort old read option next before is none read_is has =
+    rw (is, read_is) (
+      has.dupsort_is ∙ none,
+      record {
+        max_bytes_is = value_other max_bytes before (given_seen Dupsort) refl ∙ has.max_bytes_is;
+        name_is = value_other name_option before (given_seen Dupsort) refl ∙ has.name_is;
+        order_is = value_other order_option before (given_seen Dupsort) refl ∙ has.order_is;
+        page_size_is = value_other page_size_option before (given_seen Dupsort) refl ∙ has.page_size_is;
+        kind_is = value_other as_option before (given_seen Dupsort) refl ∙ has.kind_is;
+        hex_is = given_other hex_option before (given_seen Dupsort) old.hex refl has.hex_is;
+        print_is = given_other print_option before (given_seen Dupsort) old.print refl has.print_is;
+        duplicates_is = given_other duplicates_option before (given_seen Dupsort) old.duplicates refl has.duplicates_is;
+        dupsort_is = given_now dupsort_option before (given_seen Dupsort) refl;
       },
     )

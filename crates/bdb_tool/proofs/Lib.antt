@@ -1,4 +1,5 @@
 pub mod FinishLemmas
+pub mod RepairLemmas
 pub mod RunLemmas
 pub mod CommandLemmas
 pub mod GivenLemmas
@@ -9,3 +10,4 @@ pub mod TellingLemmas
 pub mod AnswerLemmas
 pub mod RangeLemmas
 pub mod ConvertLemmas
+pub mod FigureLemmas

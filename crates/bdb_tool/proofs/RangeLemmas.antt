@@ -1,9 +1,9 @@
 -- Ranges of a sound file.
-use Rattle.std.proofs.Common.{◌≡◌, ◌∙◌, ℕ, ◌<◌, Bool, true, false, List, ◌++◌, length, inl, inr, refl, sym, subst, ap, arith}
+use Rattle.std.proofs.Common.{◌≡◌, ◌∙◌, ℕ, ◌<◌, Bool, true, false, List, length, refl, sym, subst, ap, arith}
 use Rattle.std.specs.Prelude.{if◌then◌else◌, Option, Some, None, Result}
 use Rattle.std.proofs.lemmas.Option.{slice_get-get_or}
 use Rattle.bdb_format.specs.declared.metadata.BtreeMeta.{BtreeMeta}
-use Rattle.bdb_format.specs.Databases.{Database, databases, place_of}
+use Rattle.bdb_format.specs.Databases.{databases, place_of}
 use Rattle.bdb_format.specs.File.{File}
 use Rattle.bdb_format.specs.Flags.{is_recno, kind_of}
 use Rattle.bdb_format.specs.Lists.{ListKey, btree_list, list_of}
@@ -12,9 +12,10 @@ use Rattle.bdb_file.specs.Named.{database_at, no_database}
 use Rattle.bdb_lines.specs.declared.cut.Cut.{Cut}
 use Rattle.bdb_lines.specs.Printing.{Writes}
 use Rattle.bdb_lines.proofs.PrintingLemmas.{moved}
-use Rattle.bdb_model.specs.Answers.{database_in, done, not_btree, not_found, pairs_text, range_answer, ranged}
+use Rattle.bdb_model.specs.Answers.{database_in, done, not_btree, not_found, pairs_text}
+use Rattle.bdb_tool.specs.FileAnswers.{range_answer, ranged}
 use Rattle.bdb_model.specs.Change.{Change}
-use Rattle.bdb_model.specs.Ranges.{in_range}
+use Rattle.bdb_range.specs.Ranges.{in_range}
 use Rattle.bdb_text_format.specs.Written.{is_btree}
 use Rattle.bdb_tool.specs.Parts.{Finishes, Reports, Tells}
 use Rattle.bdb_tool.proofs.FinishLemmas.{told_finishes, written_finishes}

@@ -11,19 +11,21 @@ use Rattle.bdb_format.proofs.KnownLemmas.{keeps_itself}
 use Rattle.bdb_writing.specs.Loads.{IsTextAnswer}
 use Rattle.bdb_writing.specs.Trials.{IsTrialAnswer}
 use Rattle.bdb_tool.specs.Commands.{Ask, Command, Load, command_of, reads_input}
-use Rattle.bdb_tool.specs.Outputs.{AnswersInPart, IsActionAnswer, IsAnswerBySize, IsAnswerTo, IsCommandAnswer, IsInput, Output, StatusIs, asked_answer, salvage_answer}
+use Rattle.bdb_tool.specs.Outputs.{AnswersInPart, IsActionAnswer, IsAnswerBySize, IsAnswerTo, IsCommandAnswer, IsInput, IsRepairAnswer, Output, StatusIs, asked_answer, salvage_answer}
 use Rattle.bdb_tool.specs.Parts.{Answered, Ends, Finishes, IsTaskAnswered, IsToldStop, Tells, Unanswered}
 use Rattle.bdb_tool.specs.Runs.{ErrorLine, IsAnswered, OfAnswer, OfMemory, OfReadFault, OfWriteFault, RunsAs}
 use Rattle.bdb_tool.specs.Tasks.{AreReading, IsRead, IsStopped, IsTaskTaken, IsTooLong}
-use Rattle.bdb_tool.specs.WordsSeen.{salvage_seen, trial_seen}
+use Rattle.bdb_tool.specs.WordsSeen.{repair_seen, salvage_seen, trial_seen}
+use Rattle.bdb_tool.specs.declared.command.Repair.{Repair as CodeRepair}
 use Rattle.bdb_tool.specs.declared.command.Trial.{Trial as CodeTrial}
 use Rattle.bdb_tool.specs.declared.task.Stop.{Stop}
 use Rattle.bdb_tool.specs.declared.task.Stop.TheVariants.{Usage, TooLarge, ReadFault, Memory as MemoryStop}
 use Rattle.bdb_tool.specs.declared.task.Task.{Task}
-use Rattle.bdb_tool.specs.declared.task.Task.TheVariants.{Ask as AskTask, Load as LoadTask, Salvage as SalvageTask, Trial as TrialTask}
+use Rattle.bdb_tool.specs.declared.task.Task.TheVariants.{Ask as AskTask, Load as LoadTask, Salvage as SalvageTask, Repair as RepairTask, Trial as TrialTask}
 use Rattle.bdb_tool.proofs.TellingLemmas.{asked_own}
 use Rattle.bdb_tool.proofs.AnswerLemmas.{salvage_own, text_own, trial_own}
 use Rattle.bdb_tool.proofs.FinishLemmas.{memory_finishes, told_finishes}
+use Rattle.bdb_tool.proofs.RepairLemmas.{repair_own}
 use Rattle.bdb_lines.proofs.PrintingLemmas.{moved}
 
 -- The input.
@@ -206,6 +208,19 @@ loaded_runs words source out err limit text status read ends =
     (λ answer allows. (within_answers words text command answer read.command_is read.input_is.within allows, (text_own limit text answer allows).no_read_fault))
     (λ unread. absurd (both_ways true refl unread)) (calls_read words source command status read.command_is read.reads read.input_is.end) ends
 
+-- an image that is repaired
+repaired_runs : (words : List (List ℕ)) (source out err : Change) (limit : ℕ) (asked : CodeRepair) (image : List ℕ) (status : ℕ)
+    → IsRead words source (record { limit = limit; action = repair_seen asked }) image → Ends (IsRepairAnswer limit asked.shape asked.guess image) out err status
+    → RunsAs words source out err status
+repaired_runs words source out err limit asked image status read ends =
+    let command : Command = record { limit = limit; action = repair_seen asked } in
+    ended_runs words source out err image command (IsRepairAnswer limit asked.shape asked.guess image) status
+    (whole_input source.before source.now image read.input_is.bytes read.input_is.end) read.command_is
+    (λ answer allows. (
+      within_answers words image command answer read.command_is read.input_is.within allows,
+      (repair_own limit asked.shape asked.guess image answer allows).no_read_fault,
+    )) (λ unread. absurd (both_ways true refl unread)) (calls_read words source command status read.command_is read.reads read.input_is.end) ends
+
 -- a trial
 tried_runs : (words : List (List ℕ)) (source out err : Change) (limit : ℕ) (trial : CodeTrial) (status : ℕ) → command_of words ≡ Some (record { limit = limit; action = trial_seen trial }) → IsUncalled source
     → Ends (IsTrialAnswer limit trial.kind trial.seed trial.count) out err status → RunsAs words source out err status
@@ -224,6 +239,7 @@ taken_runs words source out err (LoadTask text limit) status taken answered = lo
 taken_runs words source out err (SalvageTask asked image) status taken answered =
     let command : Command = record { limit = taken.limit; action = salvage_seen asked } in
     asked_runs words source out err command image (salvage_answer asked.guess asked.print image) status taken.read refl (salvage_own asked.guess asked.print image).no_read_fault answered
+taken_runs words source out err (RepairTask asked image limit) status taken answered = repaired_runs words source out err limit asked image status taken.read answered
 taken_runs words source out err (TrialTask trial limit) status taken answered = tried_runs words source out err limit trial status taken.command_is taken.uncalled answered
 
 -- words that are no command

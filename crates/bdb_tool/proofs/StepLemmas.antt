@@ -8,7 +8,8 @@ use Rattle.std.proofs.lemmas.Option.{get_or_from_slice_get, slice_get_cases, sli
 use Rattle.std.proofs.lemmas.Slice.Eq.{bytes_eq-Decides}
 use Rattle.bdb_model.specs.Command.{Arguments, OptionRow, WordKind, End, Operand, Plain, Valued, Unknown, arguments, arguments_behind, is_option, only_operands, option_kind, row_of, with_option, word_kind}
 use Rattle.bdb_tool.specs.declared.options.OptionWord.{OptionWord}
-use Rattle.bdb_tool.specs.declared.options.OptionWord.TheVariants.{MaxBytes as MaxBytesWord, Name as NameWord, Order as OrderWord, PageSize as PageSizeWord, Hex as HexWord, Print as PrintWord}
+use Rattle.bdb_tool.specs.declared.options.OptionWord.TheVariants.{MaxBytes as MaxBytesWord, Name as NameWord, Order as OrderWord, PageSize as PageSizeWord, As as AsWord, Hex as HexWord, Print as PrintWord}
+use Rattle.bdb_tool.specs.declared.options.OptionWord.TheVariants.{Duplicates as DuplicatesWord, Dupsort as DupsortWord}
 use Rattle.bdb_tool.specs.declared.options.GivenOption.{GivenOption}
 use Rattle.bdb_tool.specs.declared.options.Step.TheVariants.{Given as GivenStep}
 use Rattle.bdb_tool.specs.WordsSeen.{IsGivenBy, IsRowOf, IsStep, given_seen, row_seen, word_count}
@@ -172,9 +173,18 @@ step_given options words at word OrderWord given there not_end is row by =
 step_given options words at word PageSizeWord given there not_end is row by =
     taken_step options words at word (given_seen given).value 2 given (row.1 ∙ sym by.0) refl by.1.1
     (step_valued options words at word (row_seen PageSizeWord) (given_seen given).value there not_end is row.0 refl by.1.0)
+step_given options words at word AsWord given there not_end is row by =
+    taken_step options words at word (given_seen given).value 2 given (row.1 ∙ sym by.0) refl by.1.1
+    (step_valued options words at word (row_seen AsWord) (given_seen given).value there not_end is row.0 refl by.1.0)
 step_given options words at word HexWord given there not_end is row by =
     taken_step options words at word [] 1 given (row.1 ∙ sym by.0) by.1.0 by.1.1
     (step_alone options words at word (row_seen HexWord) there not_end is row.0 refl)
 step_given options words at word PrintWord given there not_end is row by =
     taken_step options words at word [] 1 given (row.1 ∙ sym by.0) by.1.0 by.1.1
     (step_alone options words at word (row_seen PrintWord) there not_end is row.0 refl)
+step_given options words at word DuplicatesWord given there not_end is row by =
+    taken_step options words at word [] 1 given (row.1 ∙ sym by.0) by.1.0 by.1.1
+    (step_alone options words at word (row_seen DuplicatesWord) there not_end is row.0 refl)
+step_given options words at word DupsortWord given there not_end is row by =
+    taken_step options words at word [] 1 given (row.1 ∙ sym by.0) by.1.0 by.1.1
+    (step_alone options words at word (row_seen DupsortWord) there not_end is row.0 refl)

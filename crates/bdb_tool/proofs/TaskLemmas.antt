@@ -1,18 +1,18 @@
 -- From the words and the source to a task.
 use Rattle.std.proofs.Common.{◌≡◌, ℕ, ◌+◌, true, List, refl, subst, sym, ◌∙◌, ap}
 use Rattle.std.specs.Prelude.{Option, Some, None, IsTrue, is_some}
-use Rattle.bdb_model.specs.Change.{Change, IsUncalled}
+use Rattle.bdb_model.specs.Change.{Change}
 use Rattle.bdb_model.specs.Command.{Request}
 use Rattle.bdb_format.specs.Faults.{Took}
 use Rattle.bdb_tool.specs.Commands.{Action, Ask, Load, Command, asking, command_of, reads_input, within}
-use Rattle.bdb_tool.specs.declared.command.Action.TheVariants.{Ask as AskWord, Load as LoadWord, Salvage as SalvageWord, Trial as TrialWord}
+use Rattle.bdb_tool.specs.declared.command.Action.TheVariants.{Ask as AskWord, Load as LoadWord, Salvage as SalvageWord, Repair as RepairWord}
 use Rattle.bdb_tool.specs.declared.command.Request.{Request as CodeRequest}
+use Rattle.bdb_tool.specs.declared.command.Repair.{Repair as CodeRepair}
 use Rattle.bdb_tool.specs.declared.command.Salvage.{Salvage as CodeSalvage}
-use Rattle.bdb_tool.specs.declared.command.Trial.{Trial as CodeTrial}
 use Rattle.bdb_tool.specs.declared.task.Stop.{Stop}
 use Rattle.bdb_tool.specs.declared.task.Stop.TheVariants.{Usage, TooLarge, ReadFault, Memory}
-use Rattle.bdb_tool.specs.Tasks.{AreReading, IsAsked, IsInputWithin, IsSalvageRead, IsStopped, IsTextRead, IsTried, IsUnreadable}
-use Rattle.bdb_tool.specs.WordsSeen.{IsSeen, request_seen, salvage_seen}
+use Rattle.bdb_tool.specs.Tasks.{AreReading, IsAsked, IsInputWithin, IsStopped, IsUnreadable}
+use Rattle.bdb_tool.specs.WordsSeen.{IsSeen, repair_seen, request_seen, salvage_seen}
 
 some_value : {A : Type 0} (value : Option A) → IsTrue (is_some value) → (x : A) × (value ≡ Some x)
 some_value None is = absurd cc
@@ -59,3 +59,7 @@ text_unread words source limit stop seen unread = not_read words source limit Lo
 
 pub salvage_unread : (words : List (List ℕ)) (source : Change) (limit : ℕ) (asked : CodeSalvage) (stop : Stop) → IsSeen (command_of words) (record { limit = limit; action = SalvageWord asked }) → IsUnreadable limit source stop → IsStopped words source stop
 salvage_unread words source limit asked stop seen unread = not_read words source limit (salvage_seen asked) stop seen.0 refl unread
+
+pub repair_unread : (words : List (List ℕ)) (source : Change) (limit : ℕ) (asked : CodeRepair) (stop : Stop)
+    → IsSeen (command_of words) (record { limit = limit; action = RepairWord asked }) → IsUnreadable limit source stop → IsStopped words source stop
+repair_unread words source limit asked stop seen unread = not_read words source limit (repair_seen asked) stop seen.0 refl unread

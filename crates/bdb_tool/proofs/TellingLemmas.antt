@@ -10,11 +10,10 @@ use Rattle.bdb_lines.specs.Telling.{judgement_status, judgements_text}
 use Rattle.bdb_lines.specs.declared.cut.Cut.{Cut}
 use Rattle.bdb_lines.specs.declared.cut.Cut.TheVariants.{WriteFault}
 use Rattle.bdb_lines.proofs.PrintingLemmas.{moved}
-use Rattle.bdb_model.specs.Answers.{judged_answer}
 use Rattle.bdb_model.specs.Change.{Change}
-use Rattle.bdb_model.specs.Command.{Convert, Dump, Get, ListAll, Range, Request, Verify}
+use Rattle.bdb_model.specs.Command.{Convert, Dump, Get, ListAll, Range, Request, Stat, Verify}
 use Rattle.bdb_model.specs.Lines.{memory_line}
-use Rattle.bdb_format.specs.Verdict.{Faulty, Judgement, LeftOut, faults_of, judgement_of, verdict_of}
+use Rattle.bdb_format.specs.Verdict.{Faulty, Judgement, LeftOut, faults_of, judgement_of}
 use Rattle.bdb_tool.specs.Outputs.{asked_answer, first_status, verified}
 use Rattle.bdb_tool.specs.Parts.{Finishes, HasOwnStatus, Tells}
 use Rattle.bdb_tool.proofs.AnswerLemmas.{answer_own, low_own}
@@ -77,6 +76,7 @@ asked_own (Get name key prints) image = answer_own (Get name key prints) image
 asked_own (Dump name prints) image = answer_own (Dump name prints) image
 asked_own (Range name from to prints) image = answer_own (Range name from to prints) image
 asked_own (Convert order) image = answer_own (Convert order) image
+asked_own Stat image = answer_own Stat image
 
 -- a file without faults
 pub sound_verified : (faults : List Fault) (file image : List ℕ) (out err : Change) (status : ℕ) → faults ≡ [] → file ≡ image → Finishes (verified [] file) out err status

@@ -6,15 +6,21 @@ use Rattle.bdb_format.specs.declared.kinds.Kind.TheVariants.{Btree, Recno, Hash,
 use Rattle.bdb_format.specs.declared.kinds.Order.{Order}
 use Rattle.bdb_format.specs.declared.kinds.Order.TheVariants.{Big, Little}
 use Rattle.bdb_format.specs.Digits.{number_in}
-use Rattle.bdb_model.specs.Command.{Arguments, OptionRow, Request, Verify, ListAll, Convert, arguments, dump_request, get_request, hex_row, is_given, limit_of, max_bytes, max_bytes_row, name_row, once, print_option, print_row, range_request, value_given}
-use Rattle.bdb_salvage.specs.declared.guess.Guess.{Guess}
+use Rattle.bdb_model.specs.Command.{Arguments, OptionRow, Request, Verify, ListAll, Convert, Stat, arguments, dump_request, get_request, hex_row, is_given, limit_of, max_bytes, max_bytes_row, name_row, once, print_option, print_row, range_request, value_given}
+use Rattle.bdb_repair.specs.declared.shape.Duplicates.{Duplicates}
+use Rattle.bdb_repair.specs.declared.shape.Duplicates.TheVariants.{No, Unsorted, Sorted}
+use Rattle.bdb_repair.specs.declared.shape.Shape.{Shape}
+use Rattle.bdb_repair.specs.declared.shape.Shape.TheVariants.{Btree as BtreeShape, Hash as HashShape, Recno as RecnoShape}
+use Rattle.bdb_survey.specs.declared.guess.Guess.{Guess}
 
 -- what a command does: it asks something of a file, loads a text, salvages an image by the guess that is given and prints the data or spells them by digits,
--- or builds a file of pairs that are generated: their kind, their seed, and how many
+-- repairs an image by the guess that is given, into one database of a shape where one is given, or builds a file of pairs that are generated: their kind,
+-- their seed, and how many
 pub data Action : Type 0 where
   Ask : Request → Action
   Load : Action
   Salvage : Option Guess → Bool → Action
+  Repair : Option Shape → Option Guess → Action
   Trial : Kind → ℕ → ℕ → Action
 
 -- a command: the longest input that it takes, or the longest image that it builds, and what it does
@@ -27,13 +33,14 @@ abbrev pub reads_input : Action → Bool
 reads_input (Ask request) = true
 reads_input Load = true
 reads_input (Salvage guess print) = true
+reads_input (Repair shape guess) = true
 reads_input (Trial kind seed count) = false
 
 abbrev pub asking : Option Request → Option Action
 asking None = None
 asking (Some request) = Some (Ask request)
 
--- The order of `salvage` and `convert`, and the page size of `salvage`.
+-- The order of `salvage`, `repair` and `convert`, and the page size of `salvage` and `repair`.
 
 abbrev pub order_option : List ℕ
 order_option = codes "--order"
@@ -79,6 +86,65 @@ salvaging (Some guess) print = Some (Salvage guess print)
 
 abbrev pub salvage_action : Arguments → Option Action
 salvage_action all = salvaging (guess_asked (value_given order_option all.given) (value_given page_size_option all.given)) (is_given print_option all.given)
+
+-- The one database that `repair` makes.
+
+abbrev pub as_option : List ℕ
+as_option = codes "--as"
+
+abbrev pub duplicates_option : List ℕ
+duplicates_option = codes "--duplicates"
+
+abbrev pub dupsort_option : List ℕ
+dupsort_option = codes "--dupsort"
+
+abbrev pub as_row : OptionRow
+as_row = record { word = as_option; takes_value = true }
+
+abbrev pub duplicates_row : OptionRow
+duplicates_row = record { word = duplicates_option; takes_value = false }
+
+abbrev pub dupsort_row : OptionRow
+dupsort_row = record { word = dupsort_option; takes_value = false }
+
+-- the data of a key by the two flags; as in a header, sorted data are several
+abbrev pub duplicates_named : Bool → Bool → Duplicates
+duplicates_named several true = Sorted
+duplicates_named true false = Unsorted
+duplicates_named false false = No
+
+-- records have no data beside them
+abbrev pub record_shape : Duplicates → Option Shape
+record_shape No = Some RecnoShape
+record_shape Unsorted = None
+record_shape Sorted = None
+
+abbrev pub shape_named : List ℕ → Duplicates → Option Shape
+shape_named word duplicates =
+    if bytes_eq word (codes "btree") then Some (BtreeShape duplicates)
+    else (if bytes_eq word (codes "hash") then Some (HashShape duplicates)
+    else (if bytes_eq word (codes "recno") then record_shape duplicates else None))
+
+abbrev pub some_shape : Option Shape → Option (Option Shape)
+some_shape None = None
+some_shape (Some shape) = Some (Some shape)
+
+-- the shape of a kind and its flags; the flags aren't given without a kind
+abbrev pub shape_asked : Option (List ℕ) → Duplicates → Option (Option Shape)
+shape_asked None No = Some None
+shape_asked None Unsorted = None
+shape_asked None Sorted = None
+shape_asked (Some word) duplicates = some_shape (shape_named word duplicates)
+
+abbrev pub repairing : Option (Option Shape) → Option (Option Guess) → Option Action
+repairing None guess = None
+repairing (Some shape) None = None
+repairing (Some shape) (Some guess) = Some (Repair shape guess)
+
+abbrev pub repair_action : Arguments → Option Action
+repair_action all =
+    repairing (shape_asked (value_given as_option all.given) (duplicates_named (is_given duplicates_option all.given) (is_given dupsort_option all.given)))
+    (guess_asked (value_given order_option all.given) (value_given page_size_option all.given))
 
 -- Operands of `trial`.
 
@@ -162,8 +228,19 @@ range_row = record { word = codes "range"; options = max_bytes_row ∷ name_row 
 abbrev pub convert_row : CommandRow
 convert_row = record { word = codes "convert"; options = max_bytes_row ∷ []; operands = 1; does = λ all. convert_action all.operands }
 
+abbrev pub stat_row : CommandRow
+stat_row = plain_row (codes "stat") (Ask Stat)
+
+abbrev pub repair_row : CommandRow
+repair_row = record {
+  word = codes "repair";
+  options = max_bytes_row ∷ order_row ∷ page_size_row ∷ as_row ∷ duplicates_row ∷ dupsort_row ∷ [];
+  operands = 0;
+  does = repair_action;
+}
+
 abbrev pub commands : List CommandRow
-commands = verify_row ∷ list_row ∷ get_row ∷ dump_row ∷ load_row ∷ salvage_row ∷ trial_row ∷ range_row ∷ convert_row ∷ []
+commands = verify_row ∷ list_row ∷ get_row ∷ dump_row ∷ load_row ∷ salvage_row ∷ trial_row ∷ range_row ∷ convert_row ∷ stat_row ∷ repair_row ∷ []
 
 abbrev pub within : Option ℕ → Option Action → Option Command
 within None action = None

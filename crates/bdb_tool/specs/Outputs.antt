@@ -3,15 +3,21 @@ use Rattle.std.specs.Prelude.{◌≡◌, ◌⊎◌, ℕ, nat_lt, ◌&&◌, Bool,
 use Rattle.bdb_format.specs.declared.kinds.Fault.{Fault}
 use Rattle.bdb_format.specs.Verdict.{Judgement, faults_of, judgement_of, verdict_of}
 use Rattle.bdb_lines.specs.Telling.{judgement_status, judgements_text}
-use Rattle.bdb_model.specs.Command.{Convert, Dump, Get, ListAll, Range, Request, Verify}
-use Rattle.bdb_model.specs.Answers.{Answer, done, judged_answer, sound_answer, told, too_large_line, usage}
+use Rattle.bdb_model.specs.Command.{Convert, Dump, Get, ListAll, Range, Request, Stat, Verify}
+use Rattle.bdb_model.specs.Answers.{Answer, done, told, too_large_line, usage}
+use Rattle.bdb_tool.specs.FileAnswers.{judged_answer, sound_answer}
 use Rattle.bdb_model.specs.Change.{Change, Gains, GainsPart, Stays}
 use Rattle.bdb_text_format.specs.LineEnd.{line}
 use Rattle.bdb_printing.specs.SalvageText.{salvage_text}
+use Rattle.bdb_load.specs.Builds.{image_size}
+use Rattle.bdb_repair.specs.Parts.{repair_sections}
+use Rattle.bdb_repair.specs.declared.shape.Shape.{Shape}
 use Rattle.bdb_salvage.specs.Guesses.{chosen}
-use Rattle.bdb_salvage.specs.declared.guess.Guess.{Guess}
-use Rattle.bdb_tool.specs.Commands.{Action, Ask, Command, Load, Salvage, Trial, command_of, reads_input}
-use Rattle.bdb_writing.specs.Loads.{IsTextAnswer}
+use Rattle.bdb_survey.specs.declared.guess.Guess.{Guess}
+use Rattle.bdb_text_format.specs.declared.sections.Section.{Section}
+use Rattle.bdb_tool.specs.Commands.{Action, Ask, Command, Load, Repair, Salvage, Trial, command_of, reads_input}
+use Rattle.bdb_writing.specs.Lines.{image_too_large_line}
+use Rattle.bdb_writing.specs.Loads.{IsImageAnswer, IsTextAnswer}
 use Rattle.bdb_writing.specs.Trials.{IsTrialAnswer}
 
 -- the status of the first of what holds
@@ -33,21 +39,41 @@ asked_answer (Get name key prints) image = judged_answer (verdict_of image) (Get
 asked_answer (Dump name prints) image = judged_answer (verdict_of image) (Dump name prints) image
 asked_answer (Range name from to prints) image = judged_answer (verdict_of image) (Range name from to prints) image
 asked_answer (Convert order) image = judged_answer (verdict_of image) (Convert order) image
+asked_answer Stat image = judged_answer (verdict_of image) Stat image
+
+abbrev pub no_metadata : Answer
+no_metadata = told 10 (line (codes "no metadata page"))
 
 -- `salvage`: what is salvaged from an image by a guess, if there is one
 abbrev pub salvaged_answer : Option Guess → Bool → List ℕ → Answer
-salvaged_answer None print image = told 10 (line (codes "no metadata page"))
+salvaged_answer None print image = no_metadata
 salvaged_answer (Some guess) print image = done (salvage_text print guess image)
 
 -- the guess is the given one, or else that of page 0
 abbrev pub salvage_answer : Option Guess → Bool → List ℕ → Answer
 salvage_answer guess print image = salvaged_answer (chosen guess image) print image
 
--- an answer to an input that isn't too long; `load` and `trial` may have several
+-- `repair`: some image that is built of what is salvaged, by whether it would be too large
+abbrev pub IsImageBy : Bool → ℕ → List Section → Answer → Type 0
+IsImageBy true limit sections answer = answer ≡ told 6 (image_too_large_line limit)
+IsImageBy false limit sections answer = IsImageAnswer sections answer
+
+-- by a guess, if there is one
+abbrev pub IsRepairBy : ℕ → Option Shape → Option Guess → List ℕ → Answer → Type 0
+IsRepairBy limit shape None image answer = answer ≡ no_metadata
+IsRepairBy limit shape (Some guess) image answer =
+    IsImageBy (nat_lt limit (image_size (repair_sections shape guess image))) limit (repair_sections shape guess image) answer
+
+-- the guess is that of `salvage`
+abbrev pub IsRepairAnswer : ℕ → Option Shape → Option Guess → List ℕ → Answer → Type 0
+IsRepairAnswer limit shape guess image answer = IsRepairBy limit shape (chosen guess image) image answer
+
+-- an answer to an input that isn't too long; `load`, `repair` and `trial` may have several
 abbrev pub IsActionAnswer : Action → ℕ → List ℕ → Answer → Type 0
 IsActionAnswer (Ask request) limit input answer = answer ≡ asked_answer request input
 IsActionAnswer Load limit input answer = IsTextAnswer limit input answer
 IsActionAnswer (Salvage guess print) limit input answer = answer ≡ salvage_answer guess print input
+IsActionAnswer (Repair shape guess) limit input answer = IsRepairAnswer limit shape guess input answer
 IsActionAnswer (Trial kind seed count) limit input answer = IsTrialAnswer limit kind seed count answer
 
 -- an answer to an input, by whether it is too long

@@ -8,10 +8,10 @@ use Rattle.bdb_model.specs.Command.{Request}
 use Rattle.bdb_model.specs.Lines.{memory_line, read_fault_line, write_fault_line}
 use Rattle.bdb_lines.specs.declared.cut.Cut.{Cut}
 use Rattle.bdb_lines.specs.declared.cut.Cut.TheVariants.{WriteFault, Memory}
-use Rattle.bdb_tool.specs.Outputs.{asked_answer, salvage_answer}
+use Rattle.bdb_tool.specs.Outputs.{IsRepairAnswer, asked_answer, salvage_answer}
 use Rattle.bdb_tool.specs.WordsSeen.{request_seen}
 use Rattle.bdb_tool.specs.declared.task.Task.{Task}
-use Rattle.bdb_tool.specs.declared.task.Task.TheVariants.{Ask as AskTask, Load as LoadTask, Salvage as SalvageTask, Trial as TrialTask}
+use Rattle.bdb_tool.specs.declared.task.Task.TheVariants.{Ask as AskTask, Load as LoadTask, Salvage as SalvageTask, Repair as RepairTask, Trial as TrialTask}
 use Rattle.bdb_tool.specs.declared.task.Stop.{Stop}
 use Rattle.bdb_tool.specs.declared.task.Stop.TheVariants.{Usage, TooLarge, ReadFault, Memory as MemoryStop}
 use Rattle.bdb_writing.specs.declared.refusal.Refusal.{Refusal}
@@ -79,4 +79,5 @@ IsTaskAnswered (AskTask request image) out err status =
     (asked : Request) → request_seen request ≡ Some asked → Finishes (asked_answer asked image) out err status
 IsTaskAnswered (LoadTask text limit) out err status = Ends (IsTextAnswer limit text) out err status
 IsTaskAnswered (SalvageTask asked image) out err status = Finishes (salvage_answer asked.guess asked.print image) out err status
+IsTaskAnswered (RepairTask asked image limit) out err status = Ends (IsRepairAnswer limit asked.shape asked.guess image) out err status
 IsTaskAnswered (TrialTask trial limit) out err status = Ends (IsTrialAnswer limit trial.kind trial.seed trial.count) out err status

@@ -5,12 +5,13 @@ use Rattle.bdb_model.specs.Change.{Change, HasFailed, IsUncalled}
 use Rattle.bdb_model.specs.Command.{Request}
 use Rattle.bdb_format.specs.Faults.{Took}
 use Rattle.bdb_tool.specs.Commands.{Ask, Command, Load, command_of, reads_input}
-use Rattle.bdb_tool.specs.WordsSeen.{IsFitSalvage, IsFitTrial, request_seen, salvage_seen, trial_seen}
+use Rattle.bdb_tool.specs.WordsSeen.{IsFitRepair, IsFitSalvage, IsFitTrial, repair_seen, request_seen, salvage_seen, trial_seen}
 use Rattle.bdb_tool.specs.declared.command.Request.{Request as CodeRequest}
+use Rattle.bdb_tool.specs.declared.command.Repair.{Repair as CodeRepair}
 use Rattle.bdb_tool.specs.declared.command.Salvage.{Salvage as CodeSalvage}
 use Rattle.bdb_tool.specs.declared.command.Trial.{Trial as CodeTrial}
 use Rattle.bdb_tool.specs.declared.task.Task.{Task}
-use Rattle.bdb_tool.specs.declared.task.Task.TheVariants.{Ask as AskTask, Load as LoadTask, Salvage as SalvageTask, Trial as TrialTask}
+use Rattle.bdb_tool.specs.declared.task.Task.TheVariants.{Ask as AskTask, Load as LoadTask, Salvage as SalvageTask, Repair as RepairTask, Trial as TrialTask}
 use Rattle.bdb_tool.specs.declared.task.Stop.{Stop}
 use Rattle.bdb_tool.specs.declared.task.Stop.TheVariants.{Usage, TooLarge, ReadFault, Memory}
 
@@ -74,6 +75,10 @@ pub record IsSalvageRead (words : List (List ℕ)) (source : Change) (asked : Co
   pub limit : ℕ
   pub read : IsRead words source (record { limit = limit; action = salvage_seen asked }) image
 
+-- the words ask to repair the image, which is the input
+pub record IsRepairRead (words : List (List ℕ)) (source : Change) (asked : CodeRepair) (image : List ℕ) (limit : ℕ) : Type 0 where
+  pub read : IsRead words source (record { limit = limit; action = repair_seen asked }) image
+
 -- the words ask for a trial, and nothing was read
 pub record IsTried (words : List (List ℕ)) (source : Change) (trial : CodeTrial) (limit : ℕ) : Type 0 where
   pub command_is : command_of words ≡ Some (record { limit = limit; action = trial_seen trial })
@@ -84,6 +89,7 @@ abbrev pub IsTaskTaken : List (List ℕ) → Change → Task → Type 0
 IsTaskTaken words source (AskTask request image) = IsAsked words source request image
 IsTaskTaken words source (LoadTask text limit) = IsTextRead words source text limit
 IsTaskTaken words source (SalvageTask asked image) = IsSalvageRead words source asked image
+IsTaskTaken words source (RepairTask asked image limit) = IsRepairRead words source asked image limit
 IsTaskTaken words source (TrialTask trial limit) = IsTried words source trial limit
 
 -- a request that was read of words, of an image that isn't too long
@@ -95,9 +101,15 @@ pub record IsFitLoad (text : List ℕ) (limit : ℕ) : Type 0 where
   pub size : length text ≤ 2 ^ 30
   pub within : limit ≤ 2 ^ 30
 
+pub record IsFitToRepair (asked : CodeRepair) (image : List ℕ) (limit : ℕ) : Type 0 where
+  pub guess : IsFitRepair asked
+  pub size : length image ≤ 2 ^ 30
+  pub within : limit ≤ 2 ^ 30
+
 -- a task that can be done
 abbrev pub IsFitTask : Task → Type 0
 IsFitTask (AskTask request image) = IsFitAsk request image
 IsFitTask (LoadTask text limit) = IsFitLoad text limit
 IsFitTask (SalvageTask asked image) = IsFitSalvage asked × (length image ≤ 2 ^ 30)
+IsFitTask (RepairTask asked image limit) = IsFitToRepair asked image limit
 IsFitTask (TrialTask trial limit) = IsFitTrial trial × (limit ≤ 2 ^ 30)

@@ -1,19 +1,21 @@
 -- What the values of the code are in the definitions of a command line's words.
 use Rattle.std.specs.Prelude.{ℕ, ◌≡◌, ◌<◌, ◌≤◌, ◌^◌, ◌++◌, Bool, true, false, not, List, [], ◌∷◌, drop, length, Option, Some, IfSome, IsTrue, is_some, option_copied, ⊤}
 use Rattle.bdb_format.specs.HeadOf.{is_page_size}
-use Rattle.bdb_model.specs.Command.{Request, Verify, ListAll, Convert, OptionRow, Given, Arguments, arguments, asked_name, bounds_request, hex_option, hex_row, is_given, key_request, max_bytes, max_bytes_row, name_option, name_row, only_operands, print_option, print_row, row_of, text_request, value_given, with_option}
-use Rattle.bdb_tool.specs.Commands.{Action, Load, Salvage, Trial, Command, asking, order_option, order_row, page_size_option, page_size_row, within}
+use Rattle.bdb_model.specs.Command.{Request, Verify, ListAll, Convert, Stat, OptionRow, Given, Arguments, arguments, asked_name, bounds_request, hex_option, hex_row, is_given, key_request, max_bytes, max_bytes_row, name_option, name_row, only_operands, print_option, print_row, row_of, text_request, value_given, with_option}
+use Rattle.bdb_tool.specs.Commands.{Action, Load, Salvage, Trial, Command, Repair, as_option, as_row, asking, dupsort_option, dupsort_row, duplicates_option, duplicates_row, order_option, order_row, page_size_option, page_size_row, within}
 use Rattle.bdb_text_format.specs.TextSpelling.{bytes_spelled}
 use Rattle.bdb_tool.specs.declared.options.OptionWord.{OptionWord}
-use Rattle.bdb_tool.specs.declared.options.OptionWord.TheVariants.{MaxBytes as MaxBytesWord, Name as NameWord, Order as OrderWord, PageSize as PageSizeWord, Hex as HexWord, Print as PrintWord}
+use Rattle.bdb_tool.specs.declared.options.OptionWord.TheVariants.{MaxBytes as MaxBytesWord, Name as NameWord, Order as OrderWord, PageSize as PageSizeWord, As as AsWord, Hex as HexWord, Print as PrintWord}
+use Rattle.bdb_tool.specs.declared.options.OptionWord.TheVariants.{Duplicates as DuplicatesWord, Dupsort as DupsortWord}
 use Rattle.bdb_tool.specs.declared.options.GivenOption.{GivenOption}
-use Rattle.bdb_tool.specs.declared.options.GivenOption.TheVariants.{MaxBytes, Name, Order, PageSize, Hex, Print}
+use Rattle.bdb_tool.specs.declared.options.GivenOption.TheVariants.{MaxBytes, Name, Order, PageSize, As, Hex, Print, Duplicates, Dupsort}
 use Rattle.bdb_tool.specs.declared.options.Arguments.{Arguments as ReadArguments}
 use Rattle.bdb_tool.specs.declared.command.Request.{Request as CodeRequest}
-use Rattle.bdb_tool.specs.declared.command.Request.TheVariants.{Verify as VerifyWord, List as ListWord, Get as GetWord, Dump as DumpWord, Range as RangeWord, Convert as ConvertWord}
+use Rattle.bdb_tool.specs.declared.command.Request.TheVariants.{Verify as VerifyWord, List as ListWord, Get as GetWord, Dump as DumpWord, Range as RangeWord, Convert as ConvertWord, Stat as StatWord}
 use Rattle.bdb_tool.specs.declared.command.Action.{Action as CodeAction}
-use Rattle.bdb_tool.specs.declared.command.Action.TheVariants.{Ask as AskWord, Load as LoadWord, Salvage as SalvageWord, Trial as TrialWord}
+use Rattle.bdb_tool.specs.declared.command.Action.TheVariants.{Ask as AskWord, Load as LoadWord, Salvage as SalvageWord, Repair as RepairWord, Trial as TrialWord}
 use Rattle.bdb_tool.specs.declared.command.Command.{Command as CodeCommand}
+use Rattle.bdb_tool.specs.declared.command.Repair.{Repair as CodeRepair}
 use Rattle.bdb_tool.specs.declared.command.Salvage.{Salvage as CodeSalvage}
 use Rattle.bdb_tool.specs.declared.command.Trial.{Trial as CodeTrial}
 use Rattle.bdb_tool.specs.declared.options.Step.{Step}
@@ -26,16 +28,22 @@ row_seen MaxBytesWord = max_bytes_row
 row_seen NameWord = name_row
 row_seen OrderWord = order_row
 row_seen PageSizeWord = page_size_row
+row_seen AsWord = as_row
 row_seen HexWord = hex_row
 row_seen PrintWord = print_row
+row_seen DuplicatesWord = duplicates_row
+row_seen DupsortWord = dupsort_row
 
 abbrev pub given_seen : GivenOption → Given
 given_seen (MaxBytes text) = record { word = max_bytes; value = text.now }
 given_seen (Name text) = record { word = name_option; value = text.now }
 given_seen (Order text) = record { word = order_option; value = text.now }
 given_seen (PageSize text) = record { word = page_size_option; value = text.now }
+given_seen (As text) = record { word = as_option; value = text.now }
 given_seen Hex = record { word = hex_option; value = [] }
 given_seen Print = record { word = print_option; value = [] }
+given_seen Duplicates = record { word = duplicates_option; value = [] }
+given_seen Dupsort = record { word = dupsort_option; value = [] }
 
 -- how many words an option takes
 abbrev pub word_count : GivenOption → ℕ
@@ -43,8 +51,11 @@ word_count (MaxBytes text) = 2
 word_count (Name text) = 2
 word_count (Order text) = 2
 word_count (PageSize text) = 2
+word_count (As text) = 2
 word_count Hex = 1
 word_count Print = 1
+word_count Duplicates = 1
+word_count Dupsort = 1
 
 -- the word of an option of these, and its row
 abbrev pub IsRowOf : List OptionRow → List ℕ → OptionWord → Type 0
@@ -66,8 +77,11 @@ pub record HasGiven (read : ReadArguments) (given : List Given) : Type 0 where
   pub name_is : value_given name_option given ≡ option_copied read.name
   pub order_is : value_given order_option given ≡ option_copied read.order
   pub page_size_is : value_given page_size_option given ≡ option_copied read.page_size
+  pub kind_is : value_given as_option given ≡ option_copied read.kind
   pub hex_is : is_given hex_option given ≡ read.hex
   pub print_is : is_given print_option given ≡ read.print
+  pub duplicates_is : is_given duplicates_option given ≡ read.duplicates
+  pub dupsort_is : is_given dupsort_option given ≡ read.dupsort
 
 -- an option that wasn't given before, and what is read with it
 abbrev pub IsNew : List Given → Given → ReadArguments → Type 0
@@ -96,6 +110,7 @@ request_seen (DumpWord it) = text_request (asked_name (option_copied it.name)) i
 request_seen (RangeWord it) =
     bounds_request (asked_name (option_copied it.name)) (bytes_spelled (not it.hex) it.from.now) (bytes_spelled (not it.hex) it.to.now) it.print
 request_seen (ConvertWord order) = Some (Convert order)
+request_seen StatWord = Some Stat
 
 abbrev pub trial_seen : CodeTrial → Action
 trial_seen trial = Trial trial.kind trial.seed trial.count
@@ -103,10 +118,14 @@ trial_seen trial = Trial trial.kind trial.seed trial.count
 abbrev pub salvage_seen : CodeSalvage → Action
 salvage_seen asked = Salvage asked.guess asked.print
 
+abbrev pub repair_seen : CodeRepair → Action
+repair_seen asked = Repair asked.shape asked.guess
+
 abbrev pub action_seen : CodeAction → Option Action
 action_seen (AskWord request) = asking (request_seen request)
 action_seen LoadWord = Some Load
 action_seen (SalvageWord asked) = Some (salvage_seen asked)
+action_seen (RepairWord asked) = Some (repair_seen asked)
 action_seen (TrialWord trial) = Some (trial_seen trial)
 
 abbrev pub command_seen : CodeCommand → Option Command
@@ -125,10 +144,14 @@ pub record IsFitTrial (trial : CodeTrial) : Type 0 where
 abbrev pub IsFitSalvage : CodeSalvage → Type 0
 IsFitSalvage asked = IfSome asked.guess (λ guess. IsTrue (is_page_size guess.page_size))
 
+abbrev pub IsFitRepair : CodeRepair → Type 0
+IsFitRepair asked = IfSome asked.guess (λ guess. IsTrue (is_page_size guess.page_size))
+
 abbrev pub IsFitAction : CodeAction → Type 0
 IsFitAction (AskWord request) = ⊤
 IsFitAction LoadWord = ⊤
 IsFitAction (SalvageWord asked) = IsFitSalvage asked
+IsFitAction (RepairWord asked) = IsFitRepair asked
 IsFitAction (TrialWord trial) = IsFitTrial trial
 
 -- what is done can be done, within a limit

@@ -1,5 +1,6 @@
 ghost use Rattle.std.specs.Prelude.{◌≡◌, ◌⊎◌, ◌<◌, ◌≤◌, ◌^◌, [], IfOk, IsTrue, MatchOption, List, Option, Some, is_some, length, not, option_copied, ℕ};
-ghost use Rattle.bdb_model.specs.Answers.{data_named, dumped, found, judged_answer, sound_answer, sound_line};
+ghost use Rattle.bdb_model.specs.Answers.{data_named, dumped, found, sound_line};
+ghost use Rattle.bdb_tool.specs.FileAnswers.{judged_answer, sound_answer};
 ghost use Rattle.bdb_model.specs.Change.{change};
 ghost use Rattle.bdb_model.specs.Command.{Request as ModelRequest, asked_name, key_request, text_request};
 ghost use Rattle.bdb_format.specs.File.{file_of};
@@ -20,8 +21,10 @@ use crate::command::{Lookup, Request, Selection};
 use crate::converting::answer_convert;
 use crate::finish::{put, report, tell, tell_memory};
 use crate::ranging::answer_range;
+use crate::repairing::answer_repair;
 use crate::salvaging::answer_salvage;
 use crate::spelled::{name_bytes, name_sought, spelled};
+use crate::stating::print_figures;
 use crate::status::{FAULT, NOT_FOUND, UNSUPPORTED, WRITE_FAULT};
 use crate::task::Task;
 use crate::text::sound_line;
@@ -157,6 +160,7 @@ fn answer_sound<K: Sink, E: Sink, L: Ledger>(
         Request::Dump(selection) => answer_dump(alloc, sound, selection, out, err),
         Request::Range(bounds) => answer_range(alloc, sound, bounds, out, err, steps),
         Request::Convert(order) => answer_convert(alloc, sound, *order, out, err),
+        Request::Stat => report(print_figures(alloc, sound, out), err),
     }
 }
 
@@ -279,7 +283,8 @@ fn answer_file<K: Sink, E: Sink, L: Ledger>(
         | Request::Get(_)
         | Request::Dump(_)
         | Request::Range(_)
-        | Request::Convert(_) => answer_by_verdict(alloc, image, request, out, err, steps),
+        | Request::Convert(_)
+        | Request::Stat => answer_by_verdict(alloc, image, request, out, err, steps),
     }
 }
 
@@ -298,6 +303,9 @@ pub(crate) fn answer<K: Sink, E: Sink, L: Ledger>(
         Task::Ask(request, image) => answer_file(alloc, image.bytes(), &request, out, err, steps),
         Task::Load(text, limit) => answer_load(alloc, text, limit, out, err),
         Task::Salvage(asked, image) => answer_salvage(alloc, image.bytes(), asked, out, err, steps),
+        Task::Repair(asked, image, limit) => {
+            answer_repair(alloc, image.bytes(), asked, limit, out, err, steps)
+        }
         Task::Trial(trial, limit) => answer_trial(alloc, trial, limit, out, err, steps),
     }
 }

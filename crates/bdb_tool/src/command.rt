@@ -2,13 +2,15 @@
 ghost use Rattle.std.specs.Prelude.{◌≡◌, ◌≢◌, ◌≤◌, ◌^◌, [], ◌∷◌, IfSome, Some, List, MatchOption, drop, is_some, length, not, option_copied, ℕ};
 ghost use Rattle.bdb_format.specs.Digits.{number_in};
 ghost use Rattle.bdb_model.specs.Command.{arguments, asked_name, limit_of, once};
-ghost use Rattle.bdb_tool.specs.Commands.{Action as ModelAction, at_most, command_of, command_with, convert_row, dump_row, get_row, kind_named, plain_row, range_row, salvage_row, trial_row};
+ghost use Rattle.bdb_tool.specs.Commands.{Action as ModelAction, at_most, command_of, command_with, convert_row, dump_row, get_row, kind_named, plain_row, range_row, repair_row, salvage_row, trial_row};
 ghost use Rattle.bdb_tool.specs.WordsSeen.{IsFitAction, IsFitCommand, IsSeen, action_seen};
 
 use crate::guesses::{guess_asked, order_named};
 use crate::options::{OptionWord, read_arguments};
+use crate::shapes::{duplicates_named, shape_asked};
 use bdb_format::{Kind, Order, number_in};
 use bdb_model::Words;
+use bdb_repair::Shape;
 use bdb_salvage::Guess;
 use bdb_text::is_spelling;
 
@@ -55,6 +57,8 @@ pub enum Request<'w> {
     Range(Bounds<'w>),
     /// The file in a byte order.
     Convert(Order),
+    /// What its pages are.
+    Stat,
 }
 
 /// What `salvage` asks: the guess that is given, and whether data are printed.
@@ -62,6 +66,13 @@ pub enum Request<'w> {
 pub struct Salvage {
     pub guess: Option<Guess>,
     pub print: bool,
+}
+
+/// What `repair` asks: the shape of the one database that the new file has, where one is given, and the guess that is given.
+#[derive(Clone, Copy)]
+pub struct Repair {
+    pub shape: Option<Shape>,
+    pub guess: Option<Guess>,
 }
 
 /// What `trial` generates: so many pairs of a kind, from a seed.
@@ -78,6 +89,7 @@ pub enum Action<'w> {
     Ask(Request<'w>),
     Load,
     Salvage(Salvage),
+    Repair(Repair),
     Trial(Trial),
 }
 
@@ -134,6 +146,16 @@ const SALVAGE: [OptionWord; 4] = [
     OptionWord::Print,
 ];
 
+/// The options of `repair`.
+const REPAIR: [OptionWord; 6] = [
+    OptionWord::MaxBytes,
+    OptionWord::Order,
+    OptionWord::PageSize,
+    OptionWord::As,
+    OptionWord::Duplicates,
+    OptionWord::Dupsort,
+];
+
 /// The command that the words are, unless they are none.
 pub fn command_of<'w>(words: &'w Words) -> Option<Command<'w>>
     ensures command { MatchOption result (command_of words.now ≡ None) (IsSeen (command_of words.now)) }
@@ -166,6 +188,12 @@ pub fn command_of<'w>(words: &'w Words) -> Option<Command<'w>>
     }
     if word == b"convert".as_slice() {
         return convert_command(words);
+    }
+    if word == b"stat".as_slice() {
+        return plain_command(words, Action::Ask(Request::Stat));
+    }
+    if word == b"repair".as_slice() {
+        return repair_command(words);
     }
     None
 }
@@ -300,6 +328,23 @@ fn convert_command<'w>(words: &'w Words) -> Option<Command<'w>>
     let limit = limit_of(read.max_bytes)?;
     let order = order_named(word)?;
     let action = Action::Ask(Request::Convert(order));
+    Some(Command { limit, action })
+}
+
+// The command `repair`.
+fn repair_command<'w>(words: &'w Words) -> Option<Command<'w>>
+    ensures command { MatchOption result (command_with repair_row (once (arguments repair_row.options (drop 1 words.now))) ≡ None)
+        (IsSeen (command_with repair_row (once (arguments repair_row.options (drop 1 words.now))))) }
+    ensures fit { IfSome result IsFitCommand }
+{
+    let read = read_arguments(words, &REPAIR)?;
+    if read.operands < words.len() {
+        return None;
+    }
+    let limit = limit_of(read.max_bytes)?;
+    let shape = shape_asked(read.kind, duplicates_named(read.duplicates, read.dupsort))?;
+    let guess = guess_asked(read.order, read.page_size)?;
+    let action = Action::Repair(Repair { shape, guess });
     Some(Command { limit, action })
 }
 

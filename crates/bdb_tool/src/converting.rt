@@ -1,8 +1,9 @@
 //! The command that puts a file into a byte order.
 ghost use Rattle.std.specs.Prelude.{◌⊎◌};
-ghost use Rattle.bdb_model.specs.Answers.{converted, overlap_line};
+ghost use Rattle.bdb_model.specs.Answers.{overlap_line};
+ghost use Rattle.bdb_tool.specs.FileAnswers.{converted};
 ghost use Rattle.bdb_model.specs.Change.{change};
-ghost use Rattle.bdb_model.specs.Flipped.{overlap_in};
+ghost use Rattle.bdb_turned.specs.Flipped.{overlap_in};
 ghost use Rattle.bdb_model.specs.Lines.{memory_line};
 ghost use Rattle.bdb_tool.specs.Parts.{Finishes, Tells};
 
@@ -27,7 +28,7 @@ fn tell_overlap<E: Sink>(alloc: Global, page: u32, err: &mut E) -> u8
 }
 
 /// Answers `convert`. Nothing is written before the image stands whole.
-#[tactic(auto, using(crate::proofs::ConvertLemmas::flipped_finishes, crate::proofs::ConvertLemmas::overlap_finishes, crate::proofs::ConvertLemmas::no_memory_finishes))]
+#[tactic(auto, using(crate::proofs::ConvertLemmas::no_memory_finishes))]
 pub(crate) fn answer_convert<K: Sink, E: Sink>(
     alloc: Global,
     sound: &Sound<'_>,
@@ -38,7 +39,8 @@ pub(crate) fn answer_convert<K: Sink, E: Sink>(
     ensures { Finishes (converted (overlap_in order sound.now) order sound.now) (change K.written K.faults out.old out.new) (change E.written E.faults err.old err.new) result }
 {
     let linked = sound.linked();
-    match flip(alloc, linked, linked.forest().image(), order) {
+    let forest = linked.forest();
+    match flip(alloc, linked, forest.image(), order) {
         Ok(image) => report(put(out, image.bytes()), err),
         Err(FlipError::Overlap(page)) => tell_overlap(alloc, page, err),
         Err(FlipError::Memory) => tell_memory(err),

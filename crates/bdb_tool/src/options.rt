@@ -12,8 +12,11 @@ pub enum OptionWord {
     Name,
     Order,
     PageSize,
+    As,
     Hex,
     Print,
+    Duplicates,
+    Dupsort,
 }
 
 /// An option that is given, with its value where it takes one.
@@ -23,8 +26,11 @@ enum GivenOption<'w> {
     Name(&'w [u8]),
     Order(&'w [u8]),
     PageSize(&'w [u8]),
+    As(&'w [u8]),
     Hex,
     Print,
+    Duplicates,
+    Dupsort,
 }
 
 /// The words after the command: the options that are given, and the place of the first operand.
@@ -34,8 +40,11 @@ pub struct Arguments<'w> {
     pub name: Option<&'w [u8]>,
     pub order: Option<&'w [u8]>,
     pub page_size: Option<&'w [u8]>,
+    pub kind: Option<&'w [u8]>,
     pub hex: bool,
     pub print: bool,
+    pub duplicates: bool,
+    pub dupsort: bool,
     pub operands: usize,
 }
 
@@ -102,8 +111,11 @@ fn word_of(option: OptionWord) -> &'static [u8]
         OptionWord::Name => b"--name",
         OptionWord::Order => b"--order",
         OptionWord::PageSize => b"--page-size",
+        OptionWord::As => b"--as",
         OptionWord::Hex => b"--hex",
         OptionWord::Print => b"--print",
+        OptionWord::Duplicates => b"--duplicates",
+        OptionWord::Dupsort => b"--dupsort",
     }
 }
 
@@ -116,8 +128,11 @@ fn given_option<'w>(option: OptionWord, next: Option<&'w [u8]>) -> Option<GivenO
         OptionWord::Name => GivenOption::Name(next?),
         OptionWord::Order => GivenOption::Order(next?),
         OptionWord::PageSize => GivenOption::PageSize(next?),
+        OptionWord::As => GivenOption::As(next?),
         OptionWord::Hex => GivenOption::Hex,
         OptionWord::Print => GivenOption::Print,
+        OptionWord::Duplicates => GivenOption::Duplicates,
+        OptionWord::Dupsort => GivenOption::Dupsort,
     })
 }
 
@@ -129,8 +144,9 @@ fn word_count(option: GivenOption<'_>) -> usize
         GivenOption::MaxBytes(_)
         | GivenOption::Name(_)
         | GivenOption::Order(_)
-        | GivenOption::PageSize(_) => 2,
-        GivenOption::Hex | GivenOption::Print => 1,
+        | GivenOption::PageSize(_)
+        | GivenOption::As(_) => 2,
+        GivenOption::Hex | GivenOption::Print | GivenOption::Duplicates | GivenOption::Dupsort => 1,
     }
 }
 
@@ -143,8 +159,11 @@ fn no_arguments<'w>() -> Arguments<'w>
         name: None,
         order: None,
         page_size: None,
+        kind: None,
         hex: false,
         print: false,
+        duplicates: false,
+        dupsort: false,
         operands: 1,
     }
 }
@@ -159,8 +178,11 @@ fn take_option<'w>(read: &mut Arguments<'w>, option: GivenOption<'w>, next: usiz
         GivenOption::Name(text) if read.name.is_none() => read.name = Some(text),
         GivenOption::Order(text) if read.order.is_none() => read.order = Some(text),
         GivenOption::PageSize(text) if read.page_size.is_none() => read.page_size = Some(text),
+        GivenOption::As(text) if read.kind.is_none() => read.kind = Some(text),
         GivenOption::Hex if !read.hex => read.hex = true,
         GivenOption::Print if !read.print => read.print = true,
+        GivenOption::Duplicates if !read.duplicates => read.duplicates = true,
+        GivenOption::Dupsort if !read.dupsort => read.dupsort = true,
         _ => return None,
     }
     read.operands = next;

@@ -78,7 +78,7 @@ fn stopped<E: Sink>(alloc: Global, stop: Stop, err: &mut E) -> u8
     match stop {
         Stop::Usage => tell(
             err,
-            b"usage: bdbtool verify, list, get, dump, load, salvage, trial, range or convert\n",
+            b"usage: bdbtool verify, list, get, dump, load, salvage, trial, range, convert, stat or repair\n",
             USAGE,
         ),
         Stop::TooLarge(limit) => match too_large_line(alloc, limit) {

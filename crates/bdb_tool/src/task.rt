@@ -5,7 +5,7 @@ ghost use Rattle.bdb_tool.specs.Commands.{command_of};
 ghost use Rattle.bdb_tool.specs.Tasks.{IsFitTask, IsInputWithin, IsStopped, IsTaskTaken, IsUnreadable};
 ghost use Rattle.bdb_tool.specs.WordsSeen.{IsFitCommand, IsSeen, command_seen};
 
-use crate::command::{Action, Command, Request, Salvage, Trial, command_of};
+use crate::command::{Action, Command, Repair, Request, Salvage, Trial, command_of};
 use bdb_io::{Image, ReadError, Source, read_image};
 use bdb_model::Words;
 use std::alloc::Global;
@@ -19,6 +19,8 @@ pub(crate) enum Task<'w> {
     Load(Image, u32),
     /// An image is salvaged.
     Salvage(Salvage, Image),
+    /// An image is repaired.
+    Repair(Repair, Image, u32),
     /// Pairs are generated.
     Trial(Trial, u32),
 }
@@ -68,6 +70,10 @@ fn task_with<'w, S: Source>(
         },
         Action::Salvage(asked) => match input_of(alloc, source, command.limit) {
             Ok(image) => Ok(Task::Salvage(asked, image)),
+            Err(stop) => Err(stop),
+        },
+        Action::Repair(asked) => match input_of(alloc, source, command.limit) {
+            Ok(image) => Ok(Task::Repair(asked, image, command.limit)),
             Err(stop) => Err(stop),
         },
         Action::Trial(trial) => Ok(Task::Trial(trial, command.limit)),

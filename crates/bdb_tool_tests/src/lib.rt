@@ -20,9 +20,13 @@ mod others;
 #[cfg(test)]
 mod ranging;
 #[cfg(test)]
+mod repairing;
+#[cfg(test)]
 mod salvaging;
 #[cfg(test)]
 mod sizes;
+#[cfg(test)]
+mod stating;
 #[cfg(test)]
 mod usage;
 #[cfg(test)]

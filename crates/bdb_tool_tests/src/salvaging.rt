@@ -14,12 +14,17 @@ use std::test::Fail;
 pub const TWO_PAIRS_PRINTED: &[u8] =
     b"VERSION=3\nformat=print\ndatabase=salvaged\ntype=btree\ndb_pagesize=512\ndb_lorder=1234\nduplicates=1\nHEADER=END\n a\n 1\n b\n 2\nDATA=END\n";
 
-const NO_PAIR: &[u8] =
+/// No pair and no record.
+pub const NO_PAIR: &[u8] =
     b"VERSION=3\nformat=bytevalue\ndatabase=salvaged\ntype=btree\ndb_pagesize=512\ndb_lorder=1234\nduplicates=1\nHEADER=END\nDATA=END\n";
 
 /// Two loose records; one between them was deleted.
 pub const TWO_RECORDS: &[u8] =
     b"VERSION=3\nformat=bytevalue\ndatabase=salvaged\ntype=btree\ndb_pagesize=512\ndb_lorder=1234\nduplicates=1\nHEADER=END\nDATA=END\nVERSION=3\nformat=bytevalue\ndatabase=loose\ntype=recno\ndb_pagesize=512\ndb_lorder=1234\nkeys=1\nHEADER=END\n 31\n 61\n 32\n 63\nDATA=END\n";
+
+/// The same two as databases of a file, in the order of their names.
+pub const TWO_RECORDS_LOOSE_FIRST: &[u8] =
+    b"VERSION=3\nformat=bytevalue\ndatabase=loose\ntype=recno\ndb_pagesize=512\ndb_lorder=1234\nkeys=1\nHEADER=END\n 31\n 61\n 32\n 63\nDATA=END\nVERSION=3\nformat=bytevalue\ndatabase=salvaged\ntype=btree\ndb_pagesize=512\ndb_lorder=1234\nduplicates=1\nHEADER=END\nDATA=END\n";
 
 const A_PAIR: Told = Done(
     b"VERSION=3\nformat=bytevalue\ndatabase=salvaged\ntype=btree\ndb_pagesize=512\ndb_lorder=1234\nduplicates=1\nHEADER=END\n 61\n 31\nDATA=END\n",

@@ -35,7 +35,8 @@ pub fn note_trees<F: FaultSink>(
 ) -> Result<(), AllocError>
     ensures { OnOk result (NotesAll (F.has_noted found.old) (F.has_noted found.new) (tree_faults (file_of linked.now))) }
 {
-    note_forest(alloc, &linked.forest(), found)?;
+    let forest = linked.forest();
+    note_forest(alloc, &forest, found)?;
     Ok(())
 }
 

@@ -25,10 +25,10 @@ use Rattle.bdb_format.specs.Rows.{form_code, is_queue, version_of}
 use Rattle.bdb_format.specs.Table.{Row, ◌:?◌, first_row}
 use Rattle.bdb_format.specs.Verdict.{reference_faults, ownership_faults, reach_faults, structure_faults, master_faults, contents_faults, by_page, faults_in, faults_of, file_faults, form_faults, head_faults, holding, or_else, stage_faults, tail_faults, tail_rows}
 use Rattle.bdb_graph.specs.Formed.{IsAccepted}
-use Rattle.bdb_model.specs.Flipped.{first_overlap, flipped}
+use Rattle.bdb_turned.specs.Flipped.{first_overlap, flipped}
 use Rattle.bdb_turned.specs.Laws.{TurnsRound, turned_head}
-use Rattle.bdb_model.specs.Overlaps.{overlaps}
-use Rattle.bdb_model.specs.Turning.{turned_page}
+use Rattle.bdb_turned.specs.Overlaps.{overlaps}
+use Rattle.bdb_turned.specs.Turning.{turned_page}
 use Rattle.bdb_turned.proofs.JoinedLemmas.{joins_back, length_joined, number_in_front, page_of_joined}
 use Rattle.bdb_turned.proofs.ListedLemmas.{map_same}
 use Rattle.bdb_turned.proofs.PageLemmas.{first_page_common, pages_turn_round, zero_stays}

@@ -14,7 +14,7 @@ use Rattle.bdb_format.specs.Page.{Content, Inline, Set, Chain, Tree, Item}
 use Rattle.bdb_format.specs.Reading.{blocks_of, entries_of, hash_content, hash_end, hash_item_at, offset_of}
 use Rattle.bdb_format.specs.Rows.{does_not_fall, hash_rows, misses_extent}
 use Rattle.bdb_format.specs.Table.{first_row}
-use Rattle.bdb_model.specs.Fields.{Field, block_fields, field, hash_fields}
+use Rattle.bdb_turned.specs.Fields.{Field, block_fields, field, hash_fields}
 use Rattle.bdb_turned.specs.Apart.{IsUntouched}
 pub use Rattle.bdb_turned.specs.Parts.{hash_part}
 use Rattle.bdb_turned.specs.Parts.{hash_item_end}

@@ -14,8 +14,8 @@ use Rattle.bdb_format.specs.Page.{Content, Inline, Chain, InternalItem}
 use Rattle.bdb_format.specs.Reading.{entries_of, internal_item_at, internal_key, kind_at, listed, offset_of, recno_item_at}
 use Rattle.bdb_format.specs.Rows.{internal_rows, recno_rows}
 use Rattle.bdb_format.specs.Table.{first_row}
-use Rattle.bdb_model.specs.Fields.{Field, field, internal_fields, key_fields, no_internal, no_recno, recno_fields}
-use Rattle.bdb_model.specs.Overlaps.{internal_item_end, listed_overlap}
+use Rattle.bdb_turned.specs.Fields.{Field, field, internal_fields, key_fields, no_internal, no_recno, recno_fields}
+use Rattle.bdb_turned.specs.Overlaps.{internal_item_end, listed_overlap}
 use Rattle.bdb_turned.specs.Apart.{IsUntouched}
 pub use Rattle.bdb_turned.specs.Parts.{internal_high, internal_part, recno_high, recno_part}
 use Rattle.bdb_turned.proofs.ReadLemmas.{IsTurned, number_same, slice_same}

@@ -14,7 +14,7 @@ use Rattle.bdb_format.specs.Numbers.{turned}
 use Rattle.bdb_format.specs.Page.{Metadata, BtreeFields, HashFields, QueueFields}
 use Rattle.bdb_format.specs.References.{refs}
 use Rattle.bdb_format.specs.Verdict.{faults_of}
-use Rattle.bdb_model.specs.Flipped.{first_overlap, flip_of, flipped, has_order, overlap_in, same_order}
+use Rattle.bdb_turned.specs.Flipped.{first_overlap, flip_of, flipped, has_order, overlap_in, same_order}
 use Rattle.bdb_turned.specs.Laws.{FilesFlip, Flips, FlippedFilesKeepDatabases}
 use Rattle.bdb_turned.proofs.FlipLemmas.{TurnsWhole, image_turns}
 

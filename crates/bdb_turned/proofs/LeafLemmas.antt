@@ -14,8 +14,8 @@ use Rattle.bdb_format.specs.References.{no_item}
 use Rattle.bdb_format.specs.Reading.{entries_of, header_of, is_deleted, kind_at, leaf_content, leaf_item_at, listed, offset_of}
 use Rattle.bdb_format.specs.Rows.{item_rows, leaf_end, leaf_rows, listed_code}
 use Rattle.bdb_format.specs.Table.{first_row}
-use Rattle.bdb_model.specs.Fields.{Field, field, leaf_fields}
-use Rattle.bdb_model.specs.Overlaps.{leaf_item_end, listed_overlap}
+use Rattle.bdb_turned.specs.Fields.{Field, field, leaf_fields}
+use Rattle.bdb_turned.specs.Overlaps.{leaf_item_end, listed_overlap}
 use Rattle.bdb_turned.specs.Apart.{IsUntouched}
 pub use Rattle.bdb_turned.specs.Parts.{leaf_high, leaf_part}
 use Rattle.bdb_turned.proofs.ReadLemmas.{IsTurned, number_same, slice_same}

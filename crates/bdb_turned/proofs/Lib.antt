@@ -11,3 +11,4 @@ pub mod PageLemmas
 pub mod JoinedLemmas
 pub mod FlipLemmas
 mod LawLemmas
+pub mod TypedLemmas

@@ -9,7 +9,7 @@ use Rattle.bdb_format.proofs.MemberLemmas.{first_member, later_member, none_pass
 use Rattle.bdb_format.proofs.ListLemmas.{flat_map_same}
 use Rattle.bdb_format.proofs.PageLemmas.{index_offset, length_items}
 use Rattle.std.proofs.lemmas.Bool.Decides.{nat_tests}
-use Rattle.bdb_model.specs.Overlaps.{listed_overlap, share_bytes}
+use Rattle.bdb_turned.specs.Overlaps.{listed_overlap, share_bytes}
 use Rattle.bdb_format.specs.declared.kinds.Order.{Order}
 use Rattle.bdb_format.specs.declared.pages.ItemFault.{ItemFault}
 use Rattle.bdb_format.specs.Numbers.{byte_at, turned, four_at, two_at}
@@ -17,7 +17,7 @@ use Rattle.bdb_format.specs.Page.{PageType}
 use Rattle.bdb_format.specs.Reading.{entries_of, header_of, listed, offset_of}
 use Rattle.bdb_format.specs.Rows.{index_rows, item_row, item_rows, is_code, item_code, listed_code}
 use Rattle.bdb_format.specs.Table.{Row, first_row}
-use Rattle.bdb_model.specs.Fields.{Field, field, header_fields, index_fields, listed_fields}
+use Rattle.bdb_turned.specs.Fields.{Field, field, header_fields, index_fields, listed_fields}
 pub use Rattle.bdb_turned.specs.Parts.{all_fields}
 use Rattle.bdb_turned.specs.Apart.{AreApart, IsUntouched, LieWithin}
 use Rattle.bdb_turned.proofs.ReadLemmas.{IsTurned, number_same}
@@ -164,7 +164,7 @@ map_same f g (x ∷ xs) same =
     let rest : map f xs ≡ map g xs = map_same f g xs (λ y at. same y (later_member x xs y at)) in
     cc
 
-any_same : {X : Type 0} (f g : X → Bool) (xs : List X) → ((x : X) → Contains xs x → f x ≡ g x) → list_any f xs ≡ list_any g xs
+pub any_same : {X : Type 0} (f g : X → Bool) (xs : List X) → ((x : X) → Contains xs x → f x ≡ g x) → list_any f xs ≡ list_any g xs
 any_same f g [] same = refl
 any_same f g (x ∷ xs) same =
     let here : f x ≡ g x = same x (first_member x xs) in

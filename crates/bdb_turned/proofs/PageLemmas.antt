@@ -23,11 +23,11 @@ use Rattle.bdb_graph.proofs.CodeLemmas.{code_by, not_zero}
 use Rattle.bdb_format.proofs.TypeLemmas.{one_type}
 use Rattle.bdb_format.proofs.PageLemmas.{later_type}
 use Rattle.std.proofs.lemmas.Bool.{eqb-true, lt-ltb}
-use Rattle.bdb_model.specs.Fields.{Field, field, fields_of, fours, hash_fields, header_fields, internal_fields, leaf_fields, listed_fields, no_internal, no_recno, recno_fields}
+use Rattle.bdb_turned.specs.Fields.{Field, field, fields_of, fours, hash_fields, header_fields, internal_fields, leaf_fields, listed_fields, no_internal, no_recno, recno_fields}
 use Rattle.bdb_turned.specs.Laws.{PagesTurnRound, TurnsRound, turned_head}
-use Rattle.bdb_model.specs.Overlaps.{internal_item_end, leaf_item_end, listed_overlap, overlaps}
+use Rattle.bdb_turned.specs.Overlaps.{internal_item_end, leaf_item_end, listed_overlap, overlaps}
 use Rattle.bdb_turned.specs.Apart.{AreApart, IsUntouched, LieWithin}
-use Rattle.bdb_model.specs.Turning.{turned_page, turned_round}
+use Rattle.bdb_turned.specs.Turning.{turned_page, turned_round}
 use Rattle.bdb_turned.proofs.PlaceLemmas.{get_or-turned_round, length-turned_round, mirror-outside}
 use Rattle.bdb_turned.proofs.ReadLemmas.{IsTurned, number_same, rest_same, turned_is, turned_twice, zero_same}
 use Rattle.bdb_turned.proofs.ApartLemmas.{Between, apart_between, bounds, untouched_past}

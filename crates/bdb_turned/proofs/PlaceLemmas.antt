@@ -6,8 +6,8 @@ use Rattle.std.proofs.lemmas.List.FromFn.{get_or-map-range_with_len, length-map-
 use Rattle.std.proofs.lemmas.Bool.Decides.{nat_tests}
 use Rattle.bdb_format.proofs.MemberLemmas.{first_member, later_member, member_cases, no_member}
 use Rattle.bdb_format.specs.Numbers.{byte_at}
-use Rattle.bdb_model.specs.Fields.{Field}
-use Rattle.bdb_model.specs.Turning.{is_in, mirror, turned_round}
+use Rattle.bdb_turned.specs.Fields.{Field}
+use Rattle.bdb_turned.specs.Turning.{is_in, mirror, turned_round}
 use Rattle.bdb_turned.specs.Apart.{AreApart, IsUntouched, LieWithin}
 
 -- the first number that holds a place

@@ -14,7 +14,7 @@ use Rattle.bdb_format.specs.Page.{Metadata, BtreeFields, HashFields, QueueFields
 use Rattle.bdb_format.specs.Reading.{btree_fields, hash_fields as table_fields, queue_fields}
 use Rattle.bdb_format.specs.Rows.{are_masks, lacks_spare, records_per_page, btree_rows, meta_rows, queue_rows, table_rows}
 use Rattle.bdb_format.specs.Table.{Row, ◌:?◌}
-use Rattle.bdb_model.specs.Fields.{Field, common_fields, field, fours, kind_fields}
+use Rattle.bdb_turned.specs.Fields.{Field, common_fields, field, fours, kind_fields}
 use Rattle.bdb_turned.specs.Apart.{IsUntouched}
 use Rattle.bdb_turned.proofs.ReadLemmas.{IsTurned, number_same}
 use Rattle.bdb_turned.proofs.ApartLemmas.{Between, bounds}

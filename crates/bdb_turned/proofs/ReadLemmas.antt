@@ -8,8 +8,8 @@ use Rattle.std.proofs.lemmas.List.{ext_get_or, length-take-le, length-reverse, g
 use Rattle.bdb_format.proofs.TurnLemmas.{number-turned}
 use Rattle.bdb_format.specs.declared.kinds.Order.{Order}
 use Rattle.bdb_format.specs.Numbers.{byte_at, number, number_at, turned}
-use Rattle.bdb_model.specs.Fields.{Field, field}
-use Rattle.bdb_model.specs.Turning.{mirror, turned_round}
+use Rattle.bdb_turned.specs.Fields.{Field, field}
+use Rattle.bdb_turned.specs.Turning.{mirror, turned_round}
 use Rattle.bdb_turned.specs.Apart.{AreApart, IsUntouched, LieWithin}
 use Rattle.bdb_turned.proofs.PlaceLemmas.{mirror-inside, mirror-outside, mirror-within, length-turned_round, get_or-turned_round, places_turn_back}
 

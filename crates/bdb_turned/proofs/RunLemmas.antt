@@ -11,7 +11,7 @@ use Rattle.bdb_layout.proofs.BlockLemmas.{after_first, blocks_of-cons, lacks_blo
 use Rattle.bdb_format.specs.declared.kinds.Order.{Order}
 use Rattle.bdb_format.specs.Numbers.{number, number_at, two_at, turned}
 use Rattle.bdb_format.specs.Reading.{blocks_of}
-use Rattle.bdb_model.specs.Fields.{Field, block_fields, field}
+use Rattle.bdb_turned.specs.Fields.{Field, block_fields, field}
 use Rattle.bdb_turned.specs.Apart.{IsUntouched}
 use Rattle.bdb_turned.proofs.ReadLemmas.{IsTurned, number_same, slice_same}
 use Rattle.bdb_turned.proofs.ApartLemmas.{Between}

@@ -1,4 +1,4 @@
-//! What pages and files are in the other byte order: laws of the definitions.
+//! What pages and files are in the other byte order: definitions, and their laws.
 #![tactic(auto)]
 
 pub mod laws;

@@ -1,7 +1,7 @@
 //! Whole files.
 ghost use Rattle.std.specs.Prelude.{◌≡◌, Some, None};
 ghost use Rattle.bdb_format.specs.declared.kinds.Order.TheVariants.{Big, Little};
-ghost use Rattle.bdb_model.specs.Flipped.{flip_of, overlap_in};
+ghost use Rattle.bdb_turned.specs.Flipped.{flip_of, overlap_in};
 ghost use Rattle.bdb_samples.specs.OnePair.{one_pair, one_pair_big};
 ghost use Rattle.bdb_turned_samples.specs.Samples.{overlapping};
 

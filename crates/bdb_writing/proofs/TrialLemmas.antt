@@ -81,10 +81,10 @@ no_errors kind (pair ∷ pairs) good =
 -- The section.
 
 fit_settings : (kind : Kind) → AreFitSettings (trial_settings kind)
-fit_settings Btree = record { page_size = refl; sorted = λ is. absurd cc; counted = λ is. refl; records = λ is. refl; re_len = omega arith; wide = λ is. absurd cc; fixed = λ is. absurd cc }
-fit_settings Recno = record { page_size = refl; sorted = λ is. absurd cc; counted = λ is. refl; records = λ is. refl; re_len = omega arith; wide = λ is. absurd cc; fixed = λ is. absurd cc }
-fit_settings Hash = record { page_size = refl; sorted = λ is. absurd cc; counted = λ is. refl; records = λ is. refl; re_len = omega arith; wide = λ is. absurd cc; fixed = λ is. absurd cc }
-fit_settings Queue = record { page_size = refl; sorted = λ is. absurd cc; counted = λ is. refl; records = λ is. refl; re_len = omega arith; wide = λ is. refl; fixed = λ is. refl }
+fit_settings Btree = record { page_size = refl; sorted = λ is. absurd cc; counted = λ is. refl; records = λ is. refl; re_len = omega arith; fixed = λ is. absurd cc }
+fit_settings Recno = record { page_size = refl; sorted = λ is. absurd cc; counted = λ is. refl; records = λ is. refl; re_len = omega arith; fixed = λ is. absurd cc }
+fit_settings Hash = record { page_size = refl; sorted = λ is. absurd cc; counted = λ is. refl; records = λ is. refl; re_len = omega arith; fixed = λ is. absurd cc }
+fit_settings Queue = record { page_size = refl; sorted = λ is. absurd cc; counted = λ is. refl; records = λ is. refl; re_len = omega arith; fixed = λ is. refl }
 
 pub trial_loadable : (kind : Kind) (seed count : ℕ) → AreLoadable (trial_sections kind seed count)
 trial_loadable kind seed count = record {

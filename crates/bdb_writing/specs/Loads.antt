@@ -6,7 +6,7 @@ use Rattle.bdb_model.specs.Answers.{Answer, done, told}
 use Rattle.bdb_text_format.specs.Reasons.{text_fault}
 use Rattle.bdb_text_format.specs.Sections.{Reads}
 use Rattle.bdb_settle.specs.declared.load_error.LoadError.{LoadError}
-use Rattle.bdb_settle.specs.declared.load_error.LoadError.TheVariants.{RecordTooLong, RecordZero, TooLarge, QueueAmongNames, Memory}
+use Rattle.bdb_settle.specs.declared.load_error.LoadError.TheVariants.{RecordTooLong, RecordZero, TooLarge, QueueAmongNames, Memory, OntoKind, OntoNames}
 use Rattle.bdb_load.specs.Builds.{Builds}
 use Rattle.bdb_load.specs.Loading.{loading_error}
 use Rattle.bdb_writing.specs.Lines.{error_line, image_too_large_line, reason_line}
@@ -18,6 +18,8 @@ IsErrorAnswer limit (RecordZero number) answer = answer ≡ told 8 (error_line n
 IsErrorAnswer limit TooLarge answer = answer ≡ told 6 (image_too_large_line limit)
 IsErrorAnswer limit (QueueAmongNames number) answer = answer ≡ told 8 (error_line number 4 (codes "QueueAmongNames"))
 IsErrorAnswer limit Memory answer = ⊥
+IsErrorAnswer limit (OntoKind number) answer = answer ≡ told 8 (error_line number 5 (codes "OntoKind"))
+IsErrorAnswer limit (OntoNames number) answer = answer ≡ told 8 (error_line number 6 (codes "OntoNames"))
 
 -- the answer is some image that is built of sections
 pub record IsImageAnswer (sections : List Section) (answer : Answer) : Type 0 where

@@ -10,4 +10,5 @@ mod trial;
 
 pub use loading::load_text;
 pub use refusal::Refusal;
+pub use texts::image_too_large_line;
 pub use trial::trial_text;

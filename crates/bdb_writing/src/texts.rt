@@ -29,7 +29,7 @@ pub(crate) fn error_line(
 }
 
 /// The line of an image that would be longer than this many bytes.
-pub(crate) fn image_too_large_line(alloc: Global, limit: u32) -> Result<String, AllocError>
+pub fn image_too_large_line(alloc: Global, limit: u32) -> Result<String, AllocError>
     ensures { IfOk result (λ text. string_bytes text ≡ image_too_large_line limit) }
 {
     format!(in alloc; "image longer than {limit} bytes\n")

@@ -45,7 +45,7 @@ fn refuse<E: Sink>(err: &mut E, cause: ErrorKind) -> ExitCode {
     }
     let _ = put_all(
         err,
-        b"usage: bdbtool verify, list, get, dump, load, salvage, trial, range or convert\n",
+        b"usage: bdbtool verify, list, get, dump, load, salvage, trial, range, convert, stat or repair\n",
     );
     ExitCode::from(USAGE)
 }

@@ -6,7 +6,7 @@ use crate::held::Held;
 use bdb_file::{Sound, verify};
 use bdb_format::{Bytes, FileKind, Steps};
 use bdb_graph::Meta;
-use bdb_salvage::{SalvageError, salvage};
+use bdb_salvage::{SalvageError, Salvaged, salvage};
 use std::alloc::{AllocError, Global};
 use std::marker::Brand;
 use std::sync::ledger::{Blank, Ledger};
@@ -42,19 +42,8 @@ fn listed<'a>(alloc: Global, sound: &Sound<'a>) -> Result<Held<'a>, AllocError> 
     Ok(held)
 }
 
-/// What salvage gives of an image, by the guess that page 0 tells.
-fn salvaged<'a, L: Ledger>(
-    alloc: Global,
-    image: &'a [u8],
-    steps: &mut Steps<L>,
-) -> Result<Option<Held<'a>>, AllocError>
-    requires { length image.now ≤ 2 ^ 30 }
-{
-    let found = match salvage(alloc, image, None, steps) {
-        Ok(found) => found,
-        Err(SalvageError::NoMeta) => return Ok(None),
-        Err(SalvageError::Memory) => return Err(AllocError),
-    };
+/// What is salvaged of an image.
+fn salvaged<'s>(alloc: Global, found: &'s Salvaged<'_>) -> Result<Held<'s>, AllocError> {
     let mut held = Held::new(alloc);
     for (key, value) in found.pairs() {
         held.add_pair(key, value)?;
@@ -62,7 +51,7 @@ fn salvaged<'a, L: Ledger>(
     for value in found.loose() {
         held.add_record(value)?;
     }
-    Ok(Some(held))
+    Ok(held)
 }
 
 fn bytes_of(alloc: Global, text: &str) -> Result<Bytes, AllocError> {
@@ -102,9 +91,10 @@ fn told_by<L: Ledger>(alloc: Global, image: &[u8], blank: Blank) -> Result<Bytes
         return bytes_of(alloc, "a queue");
     }
     let listed = listed(alloc, &sound)?;
-    match salvaged(alloc, image, &mut steps)? {
-        Some(salvaged) => compared(alloc, listed, salvaged),
-        None => bytes_of(alloc, "no guess"),
+    match salvage(alloc, image, None, &mut steps) {
+        Ok(found) => compared(alloc, listed, salvaged(alloc, &found)?),
+        Err(SalvageError::NoMeta) => bytes_of(alloc, "no guess"),
+        Err(SalvageError::Memory) => Err(AllocError),
     }
 }
 

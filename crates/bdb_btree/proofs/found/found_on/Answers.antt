@@ -29,8 +29,8 @@ returns-in-Some-first_with c =
     ∙ (found_some file c.args.key.now c.in-Some.pairs (pair_seen c.in-Some-first_with.pair) c.first_with.new.pairs c.in-Some-first_with.ensures
     ∙ ap (flat_map (data_under file c.args.key.now)) c.in-Some.ensures.pairs)
 
-pub returns-in-None : goal.returns-in-None
-returns-in-None c =
+pub returns : goal.returns
+returns c =
     let file = file_of c.args.forest.now in
     c.none-in-None.ensures ∙ (found_none file c.args.key.now c.in-Some.pairs c.in-None.ensures
     ∙ ap (flat_map (data_under file c.args.key.now)) c.in-Some.ensures.pairs)

@@ -17,6 +17,11 @@ master_entries-requires g c =
     no_structure_noted c.args.linked.now (g.F.FaultSink.has_noted c.args.found.now) (g.F.FaultSink.has_noted c.note_structure.new.found) c.requires c.in_ok-note_structure.ensures
     c.is_empty.result c.if-not-is_empty.false c.is_empty.ensures
 
+pub note_master-requires-clause-structure : goal.note_master-requires-clause-structure
+note_master-requires-clause-structure g c =
+    no_structure_noted c.args.linked.now (g.F.FaultSink.has_noted c.args.found.now) (g.F.FaultSink.has_noted c.note_structure.new.found) c.requires c.in_ok-note_structure.ensures
+    c.is_empty.result c.if-not-is_empty.false c.is_empty.ensures
+
 pub note_contents-requires : goal.note_contents-requires
 note_contents-requires g c =
     no_structure_noted c.args.linked.now (g.F.FaultSink.has_noted c.args.found.now) (g.F.FaultSink.has_noted c.note_structure.new.found) c.requires c.in_ok-note_structure.ensures

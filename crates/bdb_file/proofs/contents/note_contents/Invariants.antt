@@ -11,5 +11,6 @@ abbrev pub invariant-loop-i : goal.invariant-loop-i
 invariant-loop-i g l = record {
   noted : NotesAll (g.F.FaultSink.has_noted l.fn.found) (g.F.FaultSink.has_noted l.found)
       (flat_map (faults_on (file_of l.linked)) (take l.i (meta_pages (file_of l.linked))));
-  same : l.known ≡ l.linked;
+  known : l.known ≡ l.linked;
+  chains : l.chains ≡ l.linked;
 }

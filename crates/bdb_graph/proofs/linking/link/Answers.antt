@@ -1,4 +1,4 @@
-use Rattle.std.proofs.Common.{◌∙◌, [], ◌∷◌, sym}
+use Rattle.std.proofs.Common.{◌≡◌, ◌∙◌, [], ◌∷◌, sym}
 use Rattle.bdb_faults.proofs.SinkLemmas.{first_of_stages, none_first}
 use Rattle.bdb_format.specs.Verdict.{faults_in}
 use Rattle.bdb_graph.proofs.linking.link.Goals as goal
@@ -10,7 +10,8 @@ returns-in-Some-clause-refusal g c =
 
 pub walked-requires : goal.walked-requires
 walked-requires g c =
-    c.in-Ok.ensures.walked
-    (none_first (faults_in (3 ∷ 4 ∷ 5 ∷ []) c.args.formed)
+    let none : faults_in (3 ∷ 4 ∷ 5 ∷ []) c.args.formed ≡ [] =
+    none_first (faults_in (3 ∷ 4 ∷ 5 ∷ []) c.args.formed)
     (c.in_default-fault.ensures
-    ∙ first_of_stages c.args.formed (3 ∷ 4 ∷ 5 ∷ []) c.new-first.result c.note_graph.new.found c.new-first.ensures c.in-Ok.ensures.noted))
+    ∙ first_of_stages c.args.formed (3 ∷ 4 ∷ 5 ∷ []) c.new-first.result c.note_graph.new.found c.new-first.ensures c.in-Ok.ensures.noted) in
+    record { walked = c.in-Ok.ensures.walked none; owned = c.in-Ok.ensures.owned none }

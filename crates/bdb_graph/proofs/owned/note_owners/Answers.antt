@@ -1,22 +1,36 @@
-use Rattle.std.proofs.Common.{◌≡◌, ◌∙◌, arith, ap, sym}
+use Rattle.std.proofs.Common.{◌≡◌, ◌∙◌, arith, ap, refl, subst, sym}
 use Rattle.bdb_format.specs.File.{file_of}
 use Rattle.bdb_format.specs.Verdict.{holding, ownership_rows}
 use Rattle.bdb_format.specs.declared.metadata.Head.{Head}
 use Rattle.bdb_format.proofs.FileLemmas.{last_page}
 use Rattle.bdb_graph.proofs.NotedLemmas.{none_noted, owners_noted, page_noted}
+use Rattle.bdb_graph.specs.Owned.{AreFew}
+use Rattle.bdb_graph.proofs.OwnedLemmas.{none_few, one_more_few}
 use Rattle.bdb_graph.proofs.owned.note_owners.Goals as goal
 
 pub loop-page-init : goal.loop-page-init
-loop-page-init g c = none_noted (g.F.FaultSink.has_noted c.args.found.now) 4 1 1 (λ p. holding (ownership_rows (file_of c.args.roles.now) p)) (omega arith)
+loop-page-init g c = record {
+  rows = none_noted (g.F.FaultSink.has_noted c.args.found.now) 4 1 1 (λ p. holding (ownership_rows (file_of c.args.roles.now) p)) (omega arith);
+  few = none_few (file_of c.args.roles.now) 1 refl;
+}
 
 pub loop-page-preserved : goal.loop-page-preserved
-loop-page-preserved g c =
-    page_noted (g.F.FaultSink.has_noted c.args.found.now) (g.F.FaultSink.has_noted c.loop-page.found) (g.F.FaultSink.has_noted c.note_owned.new.found) 4 1
-    c.loop-page.page (λ p. holding (ownership_rows (file_of c.args.roles.now) p)) (omega arith) c.loop-page.invariant c.in_ok-note_owned.ensures.noted
+loop-page-preserved g c = record {
+  rows =
+      page_noted (g.F.FaultSink.has_noted c.args.found.now) (g.F.FaultSink.has_noted c.loop-page.found) (g.F.FaultSink.has_noted c.note_owned.new.found) 4 1
+      c.loop-page.page (λ p. holding (ownership_rows (file_of c.args.roles.now) p)) (omega arith) c.loop-page.invariant.rows c.in_ok-note_owned.ensures.noted;
+  few = one_more_few (file_of c.args.roles.now) c.loop-page.page c.loop-page.invariant.few c.in_ok-note_owned.ensures.few;
+}
 
 pub returns-clause-noted : goal.returns-clause-noted
 returns-clause-noted g c =
     let last : c.head-page-end.result.last ≡ (file_of c.args.roles.now).last =
     ap (λ (head : Head). head.last) c.head-page-end.ensures.head ∙ sym (last_page c.args.roles.now) in
     owners_noted (g.F.FaultSink.has_noted c.args.found.now) (g.F.FaultSink.has_noted c.loop-page.found) (file_of c.args.roles.now) c.loop-page.page
-    (omega (arith, last)) c.loop-page.invariant
+    (omega (arith, last)) c.loop-page.invariant.rows
+
+pub returns-clause-few : goal.returns-clause-few
+returns-clause-few g c =
+    let last : c.head-page-end.result.last ≡ (file_of c.args.roles.now).last =
+    ap (λ (head : Head). head.last) c.head-page-end.ensures.head ∙ sym (last_page c.args.roles.now) in
+    subst (AreFew (file_of c.args.roles.now)) (omega (arith, last)) c.loop-page.invariant.few

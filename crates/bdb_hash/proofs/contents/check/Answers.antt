@@ -10,11 +10,11 @@ pub returns-in-None-clause-accepted : goal.returns-in-None-clause-accepted
 returns-in-None-clause-accepted c =
     none_first (database_faults (file_of c.args.linked.now) (HashFields c.args.meta.now))
     (c.in-None.ensures
-    ∙ first_found 8 (database_faults (file_of c.args.linked.now) (HashFields c.args.meta.now)) c.new-first.result c.note_contents.new.found
+    ∙ first_found 8 (database_faults (file_of c.args.linked.now) (HashFields c.args.meta.now)) c.new-first.result c.note_alone.new.found
     (in_order (file_of c.args.linked.now) c.args.meta.now) c.new-first.ensures c.in-Ok.ensures)
 
 pub returns-in-Some-clause-refusal : goal.returns-in-Some-clause-refusal
 returns-in-Some-clause-refusal c =
     sym (c.in-Some.ensures
-    ∙ first_found 8 (database_faults (file_of c.args.linked.now) (HashFields c.args.meta.now)) c.new-first.result c.note_contents.new.found
+    ∙ first_found 8 (database_faults (file_of c.args.linked.now) (HashFields c.args.meta.now)) c.new-first.result c.note_alone.new.found
     (in_order (file_of c.args.linked.now) c.args.meta.now) c.new-first.ensures c.in-Ok.ensures)

@@ -13,7 +13,7 @@ walked-count-requires-clause-leaves g c =
     are_behind c.args.linked.now c.args.meta.now c.args.from.now c.leaf_for-first.result c.number.result c.at.result c.leaves-others.result
     c.next.new.self c.next.result c.leaf_for-first.ensures.forest c.requires.meta c.requires.keys c.requires.contents c.leaf_for-first.ensures.leaf
     c.number.ensures c.at.ensures c.leaves-others.ensures.tree c.next.ensures.steps in
-    rw (c.forest.ensures) behind.fit
+    rw (c.forest-forest.ensures) behind.fit
 
 pub walked-count-requires-clause-few : goal.walked-count-requires-clause-few
 walked-count-requires-clause-few g c =
@@ -29,9 +29,9 @@ overflow_add-result g c =
     are_behind c.args.linked.now c.args.meta.now c.args.from.now c.leaf_for-first.result c.number.result c.at.result c.leaves-others.result
     c.next.new.self c.next.result c.leaf_for-first.ensures.forest c.requires.meta c.requires.keys c.requires.contents c.leaf_for-first.ensures.leaf
     c.number.ensures c.at.ensures c.leaves-others.ensures.tree c.next.ensures.steps in
-    let inside : prefix_len (goes_on (file_of c.forest.result) c.args.to.now) c.next.new.self ≤ length c.next.new.self =
-    walk_inside (goes_on (file_of c.forest.result) c.args.to.now) c.next.new.self in
-    let count : c.walked-count.result ≡ prefix_len (goes_on (file_of c.forest.result) c.args.to.now) c.next.new.self = c.walked-count.ensures.count in
+    let inside : prefix_len (goes_on (file_of c.forest-forest.result) c.args.to.now) c.next.new.self ≤ length c.next.new.self =
+    walk_inside (goes_on (file_of c.forest-forest.result) c.args.to.now) c.next.new.self in
+    let count : c.walked-count.result ≡ prefix_len (goes_on (file_of c.forest-forest.result) c.args.to.now) c.next.new.self = c.walked-count.ensures.count in
     omega (arith, behind.few)
 
 pub returns-clause-covers : goal.returns-clause-covers
@@ -41,8 +41,8 @@ returns-clause-covers g c =
     c.next.new.self c.next.result c.leaf_for-first.ensures.forest c.requires.meta c.requires.keys c.requires.contents c.leaf_for-first.ensures.leaf
     c.number.ensures c.at.ensures c.leaves-others.ensures.tree c.next.ensures.steps in
     let is : IsSpan c.args.linked.now c.args.meta.now c.args.from.now c.args.to.now c.leaf_for-first.result c.walked-count.result =
-    span_is c.args.linked.now c.forest.result c.args.meta.now c.args.from.now c.args.to.now c.leaf_for-first.result c.walked-count.result c.next.new.self
-    c.leaf_for-first.ensures.forest c.requires.meta c.requires.keys c.requires.contents behind c.forest.ensures c.walked-count.ensures.count in
+    span_is c.args.linked.now c.forest-forest.result c.args.meta.now c.args.from.now c.args.to.now c.leaf_for-first.result c.walked-count.result c.next.new.self
+    c.leaf_for-first.ensures.forest c.requires.meta c.requires.keys c.requires.contents behind c.forest-forest.ensures c.walked-count.ensures.count in
     is.covers
 
 pub returns-clause-few : goal.returns-clause-few
@@ -52,8 +52,8 @@ returns-clause-few g c =
     c.next.new.self c.next.result c.leaf_for-first.ensures.forest c.requires.meta c.requires.keys c.requires.contents c.leaf_for-first.ensures.leaf
     c.number.ensures c.at.ensures c.leaves-others.ensures.tree c.next.ensures.steps in
     let is : IsSpan c.args.linked.now c.args.meta.now c.args.from.now c.args.to.now c.leaf_for-first.result c.walked-count.result =
-    span_is c.args.linked.now c.forest.result c.args.meta.now c.args.from.now c.args.to.now c.leaf_for-first.result c.walked-count.result c.next.new.self
-    c.leaf_for-first.ensures.forest c.requires.meta c.requires.keys c.requires.contents behind c.forest.ensures c.walked-count.ensures.count in
+    span_is c.args.linked.now c.forest-forest.result c.args.meta.now c.args.from.now c.args.to.now c.leaf_for-first.result c.walked-count.result c.next.new.self
+    c.leaf_for-first.ensures.forest c.requires.meta c.requires.keys c.requires.contents behind c.forest-forest.ensures c.walked-count.ensures.count in
     omega (arith, is.few)
 
 pub returns-clause-cost : goal.returns-clause-cost
@@ -63,6 +63,6 @@ returns-clause-cost g c =
     c.next.new.self c.next.result c.leaf_for-first.ensures.forest c.requires.meta c.requires.keys c.requires.contents c.leaf_for-first.ensures.leaf
     c.number.ensures c.at.ensures c.leaves-others.ensures.tree c.next.ensures.steps in
     let is : IsSpan c.args.linked.now c.args.meta.now c.args.from.now c.args.to.now c.leaf_for-first.result c.walked-count.result =
-    span_is c.args.linked.now c.forest.result c.args.meta.now c.args.from.now c.args.to.now c.leaf_for-first.result c.walked-count.result c.next.new.self
-    c.leaf_for-first.ensures.forest c.requires.meta c.requires.keys c.requires.contents behind c.forest.ensures c.walked-count.ensures.count in
+    span_is c.args.linked.now c.forest-forest.result c.args.meta.now c.args.from.now c.args.to.now c.leaf_for-first.result c.walked-count.result c.next.new.self
+    c.leaf_for-first.ensures.forest c.requires.meta c.requires.keys c.requires.contents behind c.forest-forest.ensures c.walked-count.ensures.count in
     omega (arith, is.few, c.walked-count.ensures.cost, c.leaf_for-first.ensures.cost, c.tick.ensures)

@@ -1,4 +1,4 @@
-use Rattle.std.proofs.Common.{◌++◌, [], sym, ◌∙◌, ap}
+use Rattle.std.proofs.Common.{◌++◌, [], ◌∙◌, ap}
 use Rattle.bdb_salvage.specs.Kept.{kept_on, kept_pairs}
 use Rattle.bdb_salvage.proofs.ListLemmas.{more_pieces}
 use Rattle.bdb_salvage.proofs.kept_pairs.kept_pairs.Goals as goal

@@ -1,6 +1,6 @@
 use Rattle.std.proofs.Common.{◌++◌, ◌∙◌, ap}
 use Rattle.bdb_salvage.specs.Kept.{kept_value}
-use Rattle.bdb_salvage.specs.Slots.{slots_seen}
+use Rattle.bdb_survey.specs.Slots.{slots_seen}
 use Rattle.bdb_salvage.proofs.ListLemmas.{more_pieces}
 use Rattle.bdb_salvage.proofs.kept_values.keep_among.Goals as goal
 

@@ -1,7 +1,7 @@
 use Rattle.std.specs.Prelude.{◌≡◌, ◌++◌}
 use Rattle.std.specs.List.{flat_map, range_with_len}
 use Rattle.bdb_salvage.specs.Kept.{kept_value}
-use Rattle.bdb_salvage.specs.Slots.{slots_seen}
+use Rattle.bdb_survey.specs.Slots.{slots_seen}
 use Rattle.bdb_salvage.proofs.kept_values.keep_among.Given as goal
 
 abbrev pub invariant-loop-index : goal.invariant-loop-index

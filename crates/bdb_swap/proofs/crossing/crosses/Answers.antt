@@ -1,18 +1,18 @@
-use Rattle.std.proofs.Common.{◌∙◌, arith, refl, sym}
-use Rattle.bdb_swap.proofs.CrossLemmas.{greatest_next, place_is, sweep_at, sweep_more, sweep_none}
+use Rattle.bdb_swap.proofs.WalkLemmas.{all_walked, begins, begins_not, walked_next, walked_none}
 use Rattle.bdb_swap.proofs.crossing.crosses.Goals as goal
+use Rattle.bdb_swap.proofs.crossing.crosses.Goals.{then-end-ne0, else-end-ne0}
 
-pub returns-then-begins_within : goal.returns-then-begins_within
-returns-then-begins_within c =
-    sym (sweep_at c.args.ends.now c.loop-place.place (omega arith)
-    (sym (place_is c.args.ends.now c.loop-place.place _ c.loop-place.greatest refl c.loop-place.invariant.greatest) ∙ (sym c.begins_within.ensures ∙ c.if-begins_within.true)))
+pub loop-place-init : goal.loop-place-init
+loop-place-init c = walked_none c.args.ends.now c.args.noted.now.first c.args.noted.now.places c.requires
 
 pub loop-place-preserved : goal.loop-place-preserved
-loop-place-preserved c = record {
-  none = sweep_more c.args.ends.now c.loop-place.place c.loop-place.invariant.none
-      (sym (place_is c.args.ends.now c.loop-place.place _ c.loop-place.greatest refl c.loop-place.invariant.greatest) ∙ (sym c.begins_within.ensures ∙ c.if-begins_within.false));
-  greatest = greatest_next c.args.ends.now c.loop-place.place _ c.loop-place.greatest c.max-greatest.result (omega arith) refl c.loop-place.invariant.greatest c.max-greatest.ensures;
-}
+loop-place-preserved c =
+    walked_next c.args.ends.now c.loop-place.place c.loop-place.met c.from-end.result c.max-place.result c.if-end-ne0.met c.loop-place-test.true c.from-end.ensures
+    (elim c.if-end-ne0.branch [
+      | then-end-ne0 w ↦ begins c.if-end-ne0.met c.loop-place.met c.from-end.result w.if-end-ne0.true w.met-is
+      | else-end-ne0 w ↦ begins_not c.if-end-ne0.met c.loop-place.met c.from-end.result w.if-end-ne0.false w.met-is
+    ])
+    c.max-place.ensures c.loop-place.invariant
 
 pub returns : goal.returns
-returns c = sym (sweep_none c.args.ends.now c.loop-place.place (omega arith) c.loop-place.invariant.none)
+returns c = all_walked c.args.ends.now c.loop-place.place c.loop-place.met c.args.noted.now.first c.args.noted.now.places c.loop-place-test.false c.requires c.loop-place.invariant

@@ -1,6 +1,6 @@
 use Rattle.std.specs.List.{flat_map, range_with_len}
 use Rattle.bdb_format.specs.Reading.{entries_of}
-use Rattle.bdb_model.specs.Fields.{header_fields, index_fields}
+use Rattle.bdb_turned.specs.Fields.{header_fields, index_fields}
 use Rattle.bdb_swap.proofs.WriteLemmas.{turns_both}
 use Rattle.bdb_swap.proofs.listed.turn_listed.Goals as goal
 

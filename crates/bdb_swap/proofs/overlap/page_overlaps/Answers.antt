@@ -1,6 +1,6 @@
 use Rattle.std.proofs.Common.{◌≡◌, ◌∙◌, ap, sym, true, false}
 use Rattle.bdb_format.specs.Reading.{is_zero}
-use Rattle.bdb_model.specs.Overlaps.{overlaps}
+use Rattle.bdb_turned.specs.Overlaps.{overlaps}
 use Rattle.bdb_turned.proofs.PageLemmas.{abstract_as, body_passed}
 use Rattle.bdb_swap.proofs.ImageLemmas.{no_overlap_on_zeros}
 use Rattle.bdb_swap.proofs.overlap.page_overlaps.Goals as goal

@@ -4,7 +4,7 @@ use Rattle.bdb_format.specs.Numbers.{byte_at}
 use Rattle.bdb_format.specs.Reading.{page_type}
 use Rattle.bdb_format.specs.Page.{FreePage, HashPage, InternalPage, RecnoInternalPage, LeafPage, RecnoLeafPage, OverflowPage}
 use Rattle.bdb_format.specs.Page.{HashMetaPage, BtreeMetaPage, QueueMetaPage, QueuePage, DupLeafPage, OtherPage}
-use Rattle.bdb_model.specs.Overlaps.{overlaps}
+use Rattle.bdb_turned.specs.Overlaps.{overlaps}
 use Rattle.bdb_swap.proofs.EndLemmas.{internal_ranges, internal_shares, leaf_ranges, leaf_shares, recno_ranges, recno_shares}
 use Rattle.bdb_swap.proofs.TypedLemmas.{has_room, has_rows, overlaps_as, overlaps_other}
 use Rattle.bdb_swap.proofs.overlap.typed_overlaps.Goals as goal

@@ -1,8 +1,13 @@
-use Rattle.std.proofs.Common.{◌≡◌, ◌∙◌, ◌<◌, ◌≤◌, arith, length, subst}
+use Rattle.std.proofs.Common.{◌≡◌, ◌∙◌, ℕ, ◌+◌, ◌<◌, ◌≤◌, ap, arith, cond, length, refl, subst, sym}
+use Rattle.std.specs.Prelude.{min}
+use Rattle.std.proofs.lemmas.List.{length-set}
 use Rattle.bdb_format.specs.Reading.{entries_of, offset_of}
 use Rattle.bdb_swap.specs.Crossing.{AreEnds}
 use Rattle.bdb_swap.proofs.EndLemmas.{ends_next}
+use Rattle.bdb_swap.proofs.WalkLemmas.{none_noted, noted_next}
+use Rattle.bdb_swap.specs.declared.crossing.Noted.{Noted}
 use Rattle.bdb_swap.proofs.ranged.note_ends.Goals as goal
+use Rattle.bdb_swap.proofs.ranged.note_ends.Goals.{then-note_end, else-note_end}
 
 -- The item ends on the page.
 pub item_end-requires-clause-low : goal.item_end-requires-clause-low
@@ -25,18 +30,37 @@ note_end-requires-clause-low g c =
     let within : g.I.Ranged.high c.args.order c.args.page.now c.loop-i.i ≤ length c.args.page.now = c.requires.ranges.within c.loop-i.i below in
     omega (arith, c.item_end.ensures)
 
+pub returns-clause-ends : goal.returns-clause-ends
+returns-clause-ends g c =
+    let all : c.loop-i.i ≡ entries_of c.args.order c.args.page.now = omega (arith, c.u16_at-i-end.ensures) in
+    subst (λ n. AreEnds c.loop-i.ends n (offset_of c.args.order c.args.page.now) (g.I.Ranged.high c.args.order c.args.page.now)) all
+    c.loop-i.invariant.ends
+
+pub loop-i-init : goal.loop-i-init
+loop-i-init g c = record { ends = c.requires.clear; same = refl; noted = none_noted c.args.ends.now c.requires.clear }
+
+-- One item more is noted.
 pub loop-i-preserved : goal.loop-i-preserved
 loop-i-preserved g c =
     let below : c.loop-i.i < entries_of c.args.order c.args.page.now = omega (arith, c.u16_at-i-end.ensures) in
+    let within : g.I.Ranged.high c.args.order c.args.page.now c.loop-i.i ≤ length c.args.page.now = c.requires.ranges.within c.loop-i.i below in
+    let some : offset_of c.args.order c.args.page.now c.loop-i.i < g.I.Ranged.high c.args.order c.args.page.now c.loop-i.i =
+    c.requires.ranges.some c.loop-i.i below in
+    let at : c.from-at.result ≡ offset_of c.args.order c.args.page.now c.loop-i.i = c.from-at.ensures ∙ c.offset_at.ensures in
+    let first : c.if-note_end.noted.first ≡ c.loop-i.noted.first =
+    elim c.if-note_end.branch [ then-note_end w ↦ ap (λ (n : Noted). n.first) w.noted-is | else-note_end w ↦ ap (λ (n : Noted). n.first) w.noted-is ] in
+    let places : c.if-note_end.noted.places ≡ c.loop-i.noted.places + cond c.note_end.result 1 0 =
+    elim c.if-note_end.branch [
+      | then-note_end w ↦ ap (λ (n : Noted). n.places) w.noted-is ∙ ap (λ b. c.loop-i.noted.places + cond b 1 0) (sym w.if-note_end.true)
+      | else-note_end w ↦ ap (λ (n : Noted). n.places) w.noted-is ∙ (omega arith ∙ ap (λ b. c.loop-i.noted.places + cond b 1 0) (sym w.if-note_end.false))
+    ] in
     record {
-      noted = ends_next c.loop-i.ends c.note_end.new.ends c.loop-i.i c.from-at.result c.item_end.result (offset_of c.args.order c.args.page.now)
-          (g.I.Ranged.high c.args.order c.args.page.now) c.loop-i.invariant.noted c.note_end.ensures.same c.note_end.ensures.each
-          (c.from-at.ensures ∙ c.offset_at.ensures) c.item_end.ensures (λ i lt. c.requires.ranges.one i c.loop-i.i (omega arith) below);
-      same = c.note_end.ensures.same ∙ c.loop-i.invariant.same;
+      ends = ends_next c.loop-i.ends c.note_end.new.ends c.loop-i.i c.from-at.result c.item_end.result (offset_of c.args.order c.args.page.now)
+          (g.I.Ranged.high c.args.order c.args.page.now) c.loop-i.invariant.ends c.note_end.ensures.noted at c.item_end.ensures
+          (λ i lt. c.requires.ranges.one i c.loop-i.i (omega arith) below);
+      same = ap length c.note_end.ensures.noted ∙ (length-set c.loop-i.ends c.from-at.result c.item_end.result ∙ c.loop-i.invariant.same);
+      noted = noted_next c.loop-i.ends c.note_end.new.ends c.loop-i.noted.first c.loop-i.noted.places c.from-at.result c.item_end.result c.min.result
+          c.if-note_end.noted.places c.note_end.result c.loop-i.invariant.noted (omega (arith, at, some, within, c.loop-i.invariant.same, c.requires.size))
+          (omega (arith, some, c.item_end.ensures)) c.note_end.ensures.noted c.note_end.ensures.first (c.min.ensures ∙ ap (λ (n : ℕ). min n c.from-at.result) first)
+          places;
     }
-
-pub returns-clause-noted : goal.returns-clause-noted
-returns-clause-noted g c =
-    let all : c.loop-i.i ≡ entries_of c.args.order c.args.page.now = omega (arith, c.u16_at-i-end.ensures) in
-    subst (λ n. AreEnds c.loop-i.ends n (offset_of c.args.order c.args.page.now) (g.I.Ranged.high c.args.order c.args.page.now)) all
-    c.loop-i.invariant.noted

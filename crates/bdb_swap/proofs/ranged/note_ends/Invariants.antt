@@ -1,11 +1,12 @@
 use Rattle.std.proofs.Common.{◌≡◌, length}
 use Rattle.bdb_format.specs.Reading.{offset_of}
-use Rattle.bdb_swap.specs.Crossing.{AreEnds}
+use Rattle.bdb_swap.specs.Crossing.{AreEnds, AreNoted}
 use Rattle.bdb_swap.proofs.ranged.note_ends.Given as goal
 
 -- The ends of the items so far are noted.
 abbrev pub invariant-loop-i : goal.invariant-loop-i
 invariant-loop-i g l = record {
-  noted : AreEnds l.ends l.i (offset_of l.order l.page) (g.I.Ranged.high l.order l.page);
+  ends : AreEnds l.ends l.i (offset_of l.order l.page) (g.I.Ranged.high l.order l.page);
   same : length l.ends ≡ length l.fn.ends;
+  noted : AreNoted l.ends l.noted.first l.noted.places;
 }

@@ -5,3 +5,6 @@ returns-in-Load g c = rw c.in-Load.is c.answer_load.ensures
 
 pub returns-in-Trial : goal.returns-in-Trial
 returns-in-Trial g c = rw c.in-Trial.is c.answer_trial.ensures
+
+pub returns-in-Repair : goal.returns-in-Repair
+returns-in-Repair g c = rw c.in-Repair.is (rw c.bytes-in-Repair.ensures at c.answer_repair.ensures)

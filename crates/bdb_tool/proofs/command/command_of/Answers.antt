@@ -1,8 +1,8 @@
 use Rattle.std.proofs.Common.{refl, sym}
 use Rattle.std.specs.Prelude.{codes}
-use Rattle.bdb_model.specs.Command.{ListAll, Verify}
+use Rattle.bdb_model.specs.Command.{ListAll, Stat, Verify}
 use Rattle.bdb_tool.specs.Commands.{Ask, Load}
-use Rattle.bdb_tool.proofs.CommandLemmas.{convert_word, dump_word, get_word, list_word, load_word, no_word, other_word, range_word, salvage_word, trial_word, verify_word}
+use Rattle.bdb_tool.proofs.CommandLemmas.{convert_word, dump_word, get_word, list_word, load_word, no_word, other_word, range_word, repair_word, salvage_word, stat_word, trial_word, verify_word}
 use Rattle.bdb_tool.proofs.command.command_of.Goals as goal
 
 pub returns-in_err-word-clause-command : goal.returns-in_err-word-clause-command
@@ -53,6 +53,16 @@ returns-then-eq-9-clause-command c =
     let words = convert_word c.args.words.now c.in_ok-word.word.now c.in_ok-word.ensures (rw c.as_slice.ensures at (sym c.if-eq.ensures)) (rw c.as_slice-2.ensures at (sym c.if-eq-2.ensures)) (rw c.as_slice-3.ensures at (sym c.if-eq-3.ensures)) (rw c.as_slice-4.ensures at (sym c.if-eq-4.ensures)) (rw c.as_slice-5.ensures at (sym c.if-eq-5.ensures)) (rw c.as_slice-6.ensures at (sym c.if-eq-6.ensures)) (rw c.as_slice-7.ensures at (sym c.if-eq-7.ensures)) (rw c.as_slice-8.ensures at (sym c.if-eq-8.ensures)) (rw c.as_slice-9.ensures at (sym c.if-eq-9.ensures)) in
     rw words c.convert_command.ensures.command
 
+pub returns-then-eq-10-clause-command : goal.returns-then-eq-10-clause-command
+returns-then-eq-10-clause-command c =
+    let words = stat_word c.args.words.now c.in_ok-word.word.now c.in_ok-word.ensures (rw c.as_slice.ensures at (sym c.if-eq.ensures)) (rw c.as_slice-2.ensures at (sym c.if-eq-2.ensures)) (rw c.as_slice-3.ensures at (sym c.if-eq-3.ensures)) (rw c.as_slice-4.ensures at (sym c.if-eq-4.ensures)) (rw c.as_slice-5.ensures at (sym c.if-eq-5.ensures)) (rw c.as_slice-6.ensures at (sym c.if-eq-6.ensures)) (rw c.as_slice-7.ensures at (sym c.if-eq-7.ensures)) (rw c.as_slice-8.ensures at (sym c.if-eq-8.ensures)) (rw c.as_slice-9.ensures at (sym c.if-eq-9.ensures)) (rw c.as_slice-10.ensures at (sym c.if-eq-10.ensures)) in
+    rw words (c.plain_command-then-eq-10.ensures.command (codes "stat") (Ask Stat) refl)
+
+pub returns-then-eq-11-clause-command : goal.returns-then-eq-11-clause-command
+returns-then-eq-11-clause-command c =
+    let words = repair_word c.args.words.now c.in_ok-word.word.now c.in_ok-word.ensures (rw c.as_slice.ensures at (sym c.if-eq.ensures)) (rw c.as_slice-2.ensures at (sym c.if-eq-2.ensures)) (rw c.as_slice-3.ensures at (sym c.if-eq-3.ensures)) (rw c.as_slice-4.ensures at (sym c.if-eq-4.ensures)) (rw c.as_slice-5.ensures at (sym c.if-eq-5.ensures)) (rw c.as_slice-6.ensures at (sym c.if-eq-6.ensures)) (rw c.as_slice-7.ensures at (sym c.if-eq-7.ensures)) (rw c.as_slice-8.ensures at (sym c.if-eq-8.ensures)) (rw c.as_slice-9.ensures at (sym c.if-eq-9.ensures)) (rw c.as_slice-10.ensures at (sym c.if-eq-10.ensures)) (rw c.as_slice-11.ensures at (sym c.if-eq-11.ensures)) in
+    rw words c.repair_command.ensures.command
+
 pub returns-clause-command : goal.returns-clause-command
 returns-clause-command c =
-    other_word c.args.words.now c.in_ok-word.word.now c.in_ok-word.ensures (rw c.as_slice.ensures at (sym c.if-eq.ensures)) (rw c.as_slice-2.ensures at (sym c.if-eq-2.ensures)) (rw c.as_slice-3.ensures at (sym c.if-eq-3.ensures)) (rw c.as_slice-4.ensures at (sym c.if-eq-4.ensures)) (rw c.as_slice-5.ensures at (sym c.if-eq-5.ensures)) (rw c.as_slice-6.ensures at (sym c.if-eq-6.ensures)) (rw c.as_slice-7.ensures at (sym c.if-eq-7.ensures)) (rw c.as_slice-8.ensures at (sym c.if-eq-8.ensures)) (rw c.as_slice-9.ensures at (sym c.if-eq-9.ensures))
+    other_word c.args.words.now c.in_ok-word.word.now c.in_ok-word.ensures (rw c.as_slice.ensures at (sym c.if-eq.ensures)) (rw c.as_slice-2.ensures at (sym c.if-eq-2.ensures)) (rw c.as_slice-3.ensures at (sym c.if-eq-3.ensures)) (rw c.as_slice-4.ensures at (sym c.if-eq-4.ensures)) (rw c.as_slice-5.ensures at (sym c.if-eq-5.ensures)) (rw c.as_slice-6.ensures at (sym c.if-eq-6.ensures)) (rw c.as_slice-7.ensures at (sym c.if-eq-7.ensures)) (rw c.as_slice-8.ensures at (sym c.if-eq-8.ensures)) (rw c.as_slice-9.ensures at (sym c.if-eq-9.ensures)) (rw c.as_slice-10.ensures at (sym c.if-eq-10.ensures)) (rw c.as_slice-11.ensures at (sym c.if-eq-11.ensures))

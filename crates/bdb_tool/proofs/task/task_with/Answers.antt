@@ -1,4 +1,4 @@
-use Rattle.bdb_tool.proofs.TaskLemmas.{asked_unread, salvage_unread, text_unread}
+use Rattle.bdb_tool.proofs.TaskLemmas.{asked_unread, repair_unread, salvage_unread, text_unread}
 use Rattle.bdb_tool.proofs.task.task_with.Goals as goal
 
 pub returns-in-Err-clause-task : goal.returns-in-Err-clause-task
@@ -9,3 +9,7 @@ returns-in-Err-input_of-clause-task g c = λ words seen. text_unread words _ c.a
 
 pub returns-in-Err-input_of-2-clause-task : goal.returns-in-Err-input_of-2-clause-task
 returns-in-Err-input_of-2-clause-task g c = λ words seen. salvage_unread words _ c.args.command.limit c.in-Salvage.asked c.in-Err-input_of-2.stop (rw c.in-Salvage.is at seen) c.in-Err-input_of-2.ensures
+
+pub returns-in-Err-input_of-3-clause-task : goal.returns-in-Err-input_of-3-clause-task
+returns-in-Err-input_of-3-clause-task g c =
+    λ words seen. repair_unread words _ c.args.command.limit c.in-Repair.asked c.in-Err-input_of-3.stop (rw c.in-Repair.is at seen) c.in-Err-input_of-3.ensures

@@ -1,5 +1,5 @@
 use Rattle.std.proofs.Common.{refl}
-use Rattle.bdb_settle.specs.declared.load_error.LoadError.TheVariants.{RecordTooLong, RecordZero, QueueAmongNames}
+use Rattle.bdb_settle.specs.declared.load_error.LoadError.TheVariants.{RecordTooLong, RecordZero, QueueAmongNames, OntoKind, OntoNames}
 use Rattle.bdb_writing.specs.Loads.{IsErrorAnswer}
 use Rattle.bdb_writing.proofs.RefusalLemmas.{says_allowed}
 use Rattle.bdb_writing.proofs.loading.refusal_of.Goals as goal
@@ -15,3 +15,11 @@ returns-in-RecordZero c =
 pub returns-in-QueueAmongNames : goal.returns-in-QueueAmongNames
 returns-in-QueueAmongNames c =
     rw c.in-QueueAmongNames.is (says_allowed (IsErrorAnswer c.args.limit (QueueAmongNames _)) _ _ (c.faulty-in-QueueAmongNames.ensures _ c.error_line-in-QueueAmongNames.ensures) refl)
+
+pub returns-in-OntoKind : goal.returns-in-OntoKind
+returns-in-OntoKind c =
+    rw c.in-OntoKind.is (says_allowed (IsErrorAnswer c.args.limit (OntoKind _)) _ _ (c.faulty-in-OntoKind.ensures _ c.error_line-in-OntoKind.ensures) refl)
+
+pub returns-in-OntoNames : goal.returns-in-OntoNames
+returns-in-OntoNames c =
+    rw c.in-OntoNames.is (says_allowed (IsErrorAnswer c.args.limit (OntoNames _)) _ _ (c.faulty-in-OntoNames.ensures _ c.error_line-in-OntoNames.ensures) refl)

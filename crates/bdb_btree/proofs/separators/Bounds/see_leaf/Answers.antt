@@ -12,10 +12,10 @@ pub loop-pair-init : goal.loop-pair-init
 loop-pair-init c =
     let image : List ℕ = c.args.known.now in
     let file : File = file_of image in
-    let forest : IsForest image = subst IsForest c.forest.ensures c.page_items.ensures.forest in
+    let forest : IsForest image = subst IsForest c.forest-forest.ensures c.page_items-items.ensures.forest in
     let are : c.into_iter-pair-iterator.result ≡ items_of file c.args.leaf =
     c.into_iter-pair-iterator.ensures.into_iter_gives
-    ∙ (c.in-Some.ensures.pairs ∙ ap (λ (of : List ℕ). items_of (file_of of) c.args.leaf) c.forest.ensures) in
+    ∙ (c.in-Some.ensures.pairs ∙ ap (λ (of : List ℕ). items_of (file_of of) c.args.leaf) c.forest-forest.ensures) in
     record {
       bounds =
           ap (fold under_pair (bounds_seen file c.args.self.now))
@@ -38,5 +38,5 @@ returns-in_default-clause-bounds c =
     let image : List ℕ = c.args.known.now in
     let file : File = file_of image in
     ap (fold under_pair (bounds_seen file c.args.self.now))
-    (ap (map (stored_as file)) (c.in_default.ensures.pairs ∙ ap (λ (of : List ℕ). items_of (file_of of) c.args.leaf) c.forest.ensures)
-    ∙ page_stored image c.args.leaf (subst IsForest c.forest.ensures c.page_items.ensures.forest) c.requires.leaf)
+    (ap (map (stored_as file)) (c.in_default.ensures.pairs ∙ ap (λ (of : List ℕ). items_of (file_of of) c.args.leaf) c.forest-forest.ensures)
+    ∙ page_stored image c.args.leaf (subst IsForest c.forest-forest.ensures c.page_items-items.ensures.forest) c.requires.leaf)

@@ -6,7 +6,7 @@ use Rattle.bdb_layout.specs.Seen.{hash_content_seen, hash_item_seen}
 use Rattle.bdb_overflow.specs.Datum.{datum_seen}
 use Rattle.bdb_hash.specs.Chained.{IsHeaded}
 use Rattle.bdb_hash.specs.Places.{IsRead}
-use Rattle.bdb_hash.specs.Told.{Told, told_as, told_pair}
+use Rattle.bdb_hash.specs.Told.{told_as, told_pair}
 use Rattle.bdb_hash.proofs.ChainedLemmas.{is_headed}
 use Rattle.bdb_hash.proofs.pair.Pair.of.Goals as goal
 

@@ -1,12 +1,11 @@
-use Rattle.std.proofs.Common.{rules, ◌≡◌, ◌∙◌, ◌<◌, ◌≤◌, ap, refl, arith, length}
-use Rattle.std.specs.Prelude.{Err}
+use Rattle.std.proofs.Common.{◌∙◌, ◌<◌, ◌≤◌, ap, refl, arith, length}
 use Rattle.bdb_file.specs.Named.{database_at, no_database}
 use Rattle.bdb_model.specs.Answers.{database_line, list_text}
 use Rattle.bdb_format.specs.Databases.{databases}
 use Rattle.bdb_format.specs.File.{file_of}
 use Rattle.bdb_format.specs.HeadOf.{head_of}
 use Rattle.bdb_printing.proofs.ListingLemmas.{line_of_database}
-use Rattle.bdb_printing.proofs.PrinterLemmas.{begins, place_added, place_cut, places_added}
+use Rattle.bdb_printing.proofs.PrinterLemmas.{begins, cut_up, place_added, place_cut, places_added}
 use Rattle.bdb_printing.proofs.printing.Printer.database_lines.Goals as goal
 
 pub loop-i-init : goal.loop-i-init
@@ -24,7 +23,7 @@ loop-i-preserved g c =
 
 pub returns-in_err-database_line : goal.returns-in_err-database_line
 returns-in_err-database_line g c =
-    let is : c.from_residual.result ≡ Err c.in_err-database_line.field-0.0 = search rules in
+    let is = cut_up c.from_residual.result c.in_err-database_line.field-0.0 c.from_residual.ensures.1 in
     let inside : c.loop-i.i < length (databases (file_of c.args.sound.now)) = omega (arith, c.databases-i-end.ensures, c.loop-i-test.true) in
     let text =
     line_of_database (head_of c.args.sound.now).page_size (head_of c.args.sound.now).order (database_at (file_of c.args.sound.now) c.database-db.result) _ _

@@ -1,14 +1,12 @@
-use Rattle.std.proofs.Common.{rules, ◌≡◌}
-use Rattle.std.specs.Prelude.{Err}
 use Rattle.bdb_text_format.specs.LineEnd.{line}
 use Rattle.bdb_text_format.specs.Written.{data_line, key_bytes}
 use Rattle.bdb_overflow.specs.Datum.{datum_seen, key_view_seen}
-use Rattle.bdb_printing.proofs.PrinterLemmas.{adds_cut, then_adds}
+use Rattle.bdb_printing.proofs.PrinterLemmas.{adds_cut, cut_up, then_adds}
 use Rattle.bdb_printing.proofs.printing.Printer.pair.Goals as goal
 
 pub returns-in_err-key_line : goal.returns-in_err-key_line
 returns-in_err-key_line g c =
-    let is : c.from_residual.result ≡ Err c.in_err-key_line.field-0.0 = search rules in
+    let is = cut_up c.from_residual.result c.in_err-key_line.field-0.0 c.from_residual.ensures.1 in
     adds_cut _ _ _ _ (line (data_line c.args.print (key_bytes (key_view_seen c.args.key)))) (line (data_line c.args.print (datum_seen c.args.value))) _ _ _
     c.in_err-key_line.was is c.key_line.ensures
 

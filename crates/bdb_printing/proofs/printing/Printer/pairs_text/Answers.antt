@@ -1,13 +1,12 @@
-use Rattle.std.proofs.Common.{rules, ◌≡◌, ap}
-use Rattle.std.specs.Prelude.{Err}
+use Rattle.std.proofs.Common.{ap}
 use Rattle.bdb_model.specs.Answers.{pair_lines, pairs_text}
-use Rattle.bdb_printing.proofs.PrinterLemmas.{begins, item_added, item_cut, items_added}
+use Rattle.bdb_printing.proofs.PrinterLemmas.{begins, cut_up, item_added, item_cut, items_added}
 use Rattle.bdb_printing.proofs.printing.Printer.pairs_text.Goals as goal
 
 pub loop-key-init : goal.loop-key-init
 unfolding pairs_text
 loop-key-init g c =
-    let same : c.into_iter-key-iterator.result ≡ c.args.pairs = search rules in
+    let same = c.into_iter-key-iterator.ensures.into_iter_gives in
     begins _ _ _ _ _ (ap (pairs_text c.args.print) same)
 
 pub loop-key-preserved : goal.loop-key-preserved
@@ -16,7 +15,7 @@ loop-key-preserved g c =
 
 pub returns-in_err-pair_lines : goal.returns-in_err-pair_lines
 returns-in_err-pair_lines g c =
-    let is : c.from_residual.result ≡ Err c.in_err-pair_lines.field-0.0 = search rules in
+    let is = cut_up c.from_residual.result c.in_err-pair_lines.field-0.0 c.from_residual.ensures.1 in
     item_cut _ _ _ _ _ (pair_lines c.args.print) _ _ _ _ _ _ _ c.in-Some.ensures.steps c.in_err-pair_lines.was is c.loop-key.invariant
     c.pair_lines.ensures
 

@@ -1,13 +1,12 @@
-use Rattle.std.proofs.Common.{rules, ◌≡◌, ◌∙◌, ap}
-use Rattle.std.specs.Prelude.{Err}
+use Rattle.std.proofs.Common.{◌∙◌, ap}
 use Rattle.std.specs.List.{flat_map}
 use Rattle.bdb_text_format.specs.TextSpelling.{spelling}
-use Rattle.bdb_printing.proofs.PrinterLemmas.{begins, item_added, item_cut, items_added, spelling_joined}
+use Rattle.bdb_printing.proofs.PrinterLemmas.{begins, cut_up, item_added, item_cut, items_added, spelling_joined}
 use Rattle.bdb_printing.proofs.printing.Printer.pieces.Goals as goal
 
 pub loop-piece-init : goal.loop-piece-init
 loop-piece-init g c =
-    let same : c.into_iter-piece-iterator.result ≡ c.args.pieces = search rules in
+    let same = c.into_iter-piece-iterator.ensures.into_iter_gives in
     begins _ _ _ _ _ (ap (flat_map (spelling c.args.print)) same ∙ spelling_joined c.args.print c.args.pieces)
 
 pub loop-piece-preserved : goal.loop-piece-preserved
@@ -15,7 +14,7 @@ loop-piece-preserved g c = item_added _ _ _ _ _ (spelling c.args.print) _ _ _ _ 
 
 pub returns-in_err-spelled : goal.returns-in_err-spelled
 returns-in_err-spelled g c =
-    let is : c.from_residual.result ≡ Err c.in_err-spelled.field-0.0 = search rules in
+    let is = cut_up c.from_residual.result c.in_err-spelled.field-0.0 c.from_residual.ensures.1 in
     item_cut _ _ _ _ _ (spelling c.args.print) _ _ _ _ _ _ _ c.in-Some.ensures.steps c.in_err-spelled.was is c.loop-piece.invariant c.spelled.ensures
 
 pub returns : goal.returns

@@ -1,9 +1,8 @@
-use Rattle.std.proofs.Common.{rules, ◌≡◌, ◌+◌, ap, map, length, arith}
-use Rattle.std.specs.Prelude.{Err}
+use Rattle.std.proofs.Common.{◌+◌, ap, map, length, arith}
 use Rattle.std.specs.List.{enumerate_from}
 use Rattle.bdb_printing.specs.Printers.{pair_text}
 use Rattle.bdb_printing.specs.SalvageText.{numbered_record}
-use Rattle.bdb_printing.proofs.PrinterLemmas.{item_added, item_cut}
+use Rattle.bdb_printing.proofs.PrinterLemmas.{cut_up, item_added, item_cut}
 use Rattle.bdb_printing.proofs.printing.Printer.records.Goals as goal
 
 pub loop-record-preserved : goal.loop-record-preserved
@@ -16,7 +15,7 @@ loop-record-preserved g c = (
 
 pub returns-in_err-pair : goal.returns-in_err-pair
 returns-in_err-pair g c =
-    let is : c.from_residual.result ≡ Err c.in_err-pair.field-0.0 = search rules in
+    let is = cut_up c.from_residual.result c.in_err-pair.field-0.0 c.from_residual.ensures.1 in
     item_cut _ _ _ _ _ (pair_text c.args.print) _ _ _ _ _ _ _
     (ap (λ records. map numbered_record (enumerate_from (c.loop-record.number + 1) records)) c.in-Some.ensures.steps)
     c.in_err-pair.was is c.loop-record.invariant.1

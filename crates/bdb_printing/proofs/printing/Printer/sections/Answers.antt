@@ -1,10 +1,9 @@
-use Rattle.std.proofs.Common.{rules, ◌≡◌, ◌<◌, ◌≤◌, ap, refl, arith, length}
-use Rattle.std.specs.Prelude.{Err}
+use Rattle.std.proofs.Common.{◌<◌, ◌≤◌, ap, refl, arith, length}
 use Rattle.bdb_file.specs.Named.{database_at, no_database}
 use Rattle.bdb_format.specs.Databases.{databases}
 use Rattle.bdb_format.specs.File.{file_of}
 use Rattle.bdb_text_format.specs.Written.{database_text, dump_text}
-use Rattle.bdb_printing.proofs.PrinterLemmas.{begins, place_added, place_cut, places_added}
+use Rattle.bdb_printing.proofs.PrinterLemmas.{begins, cut_up, place_added, place_cut, places_added}
 use Rattle.bdb_printing.proofs.printing.Printer.sections.Goals as goal
 
 pub loop-i-init : goal.loop-i-init
@@ -20,7 +19,7 @@ loop-i-preserved g c =
 
 pub returns-in_err-database_section : goal.returns-in_err-database_section
 returns-in_err-database_section g c =
-    let is : c.from_residual.result ≡ Err c.in_err-database_section.field-0.0 = search rules in
+    let is = cut_up c.from_residual.result c.in_err-database_section.field-0.0 c.from_residual.ensures.1 in
     let inside : c.loop-i.i < length (databases (file_of c.args.sound.now)) = omega arith in
     let text = ap (λ i. database_text c.args.print c.args.sound.now (database_at (file_of c.args.sound.now) i)) c.database.ensures in
     place_cut _ _ _ _ _ (database_text c.args.print c.args.sound.now) (databases (file_of c.args.sound.now)) c.loop-i.i no_database _ _ _ _ _ inside text

@@ -1,13 +1,12 @@
-use Rattle.std.proofs.Common.{rules, ◌≡◌, ap}
-use Rattle.std.specs.Prelude.{Err}
+use Rattle.std.proofs.Common.{ap}
 use Rattle.bdb_model.specs.Answers.{value_line, values_text}
-use Rattle.bdb_printing.proofs.PrinterLemmas.{begins, item_added, item_cut, items_added}
+use Rattle.bdb_printing.proofs.PrinterLemmas.{begins, cut_up, item_added, item_cut, items_added}
 use Rattle.bdb_printing.proofs.printing.Printer.value_lines.Goals as goal
 
 pub loop-value-init : goal.loop-value-init
 unfolding values_text
 loop-value-init g c =
-    let same : c.into_iter-value-iterator.result ≡ c.args.values = search rules in
+    let same = c.into_iter-value-iterator.ensures.into_iter_gives in
     begins _ _ _ _ _ (ap (values_text c.args.print) same)
 
 pub loop-value-preserved : goal.loop-value-preserved
@@ -15,7 +14,7 @@ loop-value-preserved g c = item_added _ _ _ _ _ (value_line c.args.print) _ _ _ 
 
 pub returns-in_err-value_line : goal.returns-in_err-value_line
 returns-in_err-value_line g c =
-    let is : c.from_residual.result ≡ Err c.in_err-value_line.field-0.0 = search rules in
+    let is = cut_up c.from_residual.result c.in_err-value_line.field-0.0 c.from_residual.ensures.1 in
     item_cut _ _ _ _ _ (value_line c.args.print) _ _ _ _ _ _ _ c.in-Some.ensures.steps c.in_err-value_line.was is c.loop-value.invariant c.value_line.ensures
 
 pub returns : goal.returns

@@ -1,5 +1,5 @@
 use Rattle.std.proofs.Common.{◌∙◌, ap, subst}
-use Rattle.bdb_model.specs.Fields.{internal_fields}
+use Rattle.bdb_turned.specs.Fields.{internal_fields}
 use Rattle.bdb_swap.specs.Turns.{Turns}
 use Rattle.bdb_turned.proofs.InnerLemmas.{internal_ends_at}
 use Rattle.bdb_swap.proofs.internal.InternalItemsItems.turn_item.Goals as goal

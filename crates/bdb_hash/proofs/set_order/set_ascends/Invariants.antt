@@ -1,0 +1,20 @@
+use Rattle.std.proofs.Common.{◌≡◌}
+use Rattle.std.specs.Option.{option_map}
+use Rattle.bdb_format.specs.ContentRows.{ascends}
+use Rattle.bdb_format.specs.Contents.{data_of}
+use Rattle.bdb_format.specs.File.{file_of}
+use Rattle.bdb_format.specs.Page.{Tree}
+use Rattle.bdb_overflow.specs.Held.{FitsAny, value_held}
+use Rattle.bdb_tree.specs.Entries.{AreFit, values_of}
+use Rattle.bdb_hash.specs.SetOrder.{ascends_after}
+use Rattle.bdb_hash.proofs.set_order.set_ascends.Given as goal
+
+-- The data that are left, after the last one passed, ascend where all do.
+abbrev pub invariant-loop-entry : goal.invariant-loop-entry
+invariant-loop-entry l = record {
+  ascends : ascends_after (option_map (value_held (file_of l.fn.known)) l.last) (values_of (file_of l.fn.known) l.entry-iterator)
+      ≡ ascends (data_of (file_of l.fn.known) (Tree l.root));
+  fits : FitsAny (file_of l.fn.known) l.last;
+  entries : AreFit (file_of l.fn.known) l.entry-iterator;
+  same : l.known ≡ l.fn.known;
+}

@@ -1,0 +1,7 @@
+pub mod RoomLemmas
+pub mod PartLemmas
+pub mod FileRoomLemmas
+pub mod RepairLemmas
+pub mod LineLemmas
+pub mod HeldLemmas
+pub mod ReadLemmas

@@ -1,0 +1,6 @@
+pub mod Laws
+pub mod Parts
+pub mod Reads
+pub mod Repairs
+pub mod Room
+pub mod Shapes

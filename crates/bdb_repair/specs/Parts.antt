@@ -1,0 +1,80 @@
+-- What is salvaged of an image, as sections that can be loaded. Source: docs/FORMAT.md, "Salvage" and "Repair".
+use Rattle.std.specs.Prelude.{ℕ, List, [], ◌∷◌, map, Option, Some, None, codes}
+use Rattle.std.specs.List.{enumerate_from}
+use Rattle.bdb_format.specs.File.{File}
+use Rattle.bdb_text_format.specs.declared.pairs.Key.TheVariants.{Bytes, Number}
+use Rattle.bdb_text_format.specs.declared.pairs.TextPair.{TextPair}
+use Rattle.bdb_text_format.specs.declared.sections.Section.{Section}
+use Rattle.bdb_printing.specs.SalvageText.{loose_settings, stored_settings}
+use Rattle.bdb_repair.specs.declared.shape.Shape.{Shape}
+use Rattle.bdb_repair.specs.declared.shape.Shape.TheVariants.{Btree as BtreeShape, Hash as HashShape, Recno as RecnoShape}
+use Rattle.bdb_repair.specs.Shapes.{shaped_settings}
+use Rattle.bdb_survey.specs.declared.guess.Guess.{Guess}
+use Rattle.bdb_stored.specs.Salvage.{loose, salvaged_file, stored}
+
+-- a stored pair in a section, without a line
+abbrev pub stored_pair : (List ℕ × List ℕ) → TextPair
+stored_pair pair = record { key = Bytes pair.0; value = pair.1; line = 0 }
+
+abbrev pub stored_pairs : List (List ℕ × List ℕ) → List TextPair
+stored_pairs pairs = map stored_pair pairs
+
+-- a record with its number
+abbrev pub loose_pair : (ℕ × List ℕ) → TextPair
+loose_pair placed = record { key = Number placed.0; value = placed.1; line = 0 }
+
+-- records, numbered from 1
+abbrev pub loose_pairs : List (List ℕ) → List TextPair
+loose_pairs records = map loose_pair (enumerate_from 1 records)
+
+-- Sections with the names that salvage writes.
+
+abbrev pub stored_section : Guess → List (List ℕ × List ℕ) → Section
+stored_section guess pairs = record {
+  name = Some (codes "salvaged");
+  settings = stored_settings guess;
+  header_line = 0;
+  pairs = stored_pairs pairs;
+}
+
+abbrev pub loose_section : Guess → List (List ℕ) → Section
+loose_section guess records = record {
+  name = Some (codes "loose");
+  settings = loose_settings guess;
+  header_line = 0;
+  pairs = loose_pairs records;
+}
+
+-- the section of the loose records, where there is one
+abbrev pub loose_part : Guess → List (List ℕ) → List Section
+loose_part guess [] = []
+loose_part guess (first ∷ others) = loose_section guess (first ∷ others) ∷ []
+
+abbrev pub named_sections : Guess → File → List Section
+named_sections guess file = stored_section guess (stored file) ∷ loose_part guess (loose file)
+
+-- One section without a name.
+
+-- a recno has the loose records, a btree or a hash the stored pairs
+abbrev pub shaped_pairs : Shape → File → List TextPair
+shaped_pairs (BtreeShape duplicates) file = stored_pairs (stored file)
+shaped_pairs (HashShape duplicates) file = stored_pairs (stored file)
+shaped_pairs RecnoShape file = loose_pairs (loose file)
+
+abbrev pub shaped_section : Guess → Shape → File → Section
+shaped_section guess shape file = record {
+  name = None;
+  settings = shaped_settings guess shape;
+  header_line = 0;
+  pairs = shaped_pairs shape file;
+}
+
+-- Both.
+
+abbrev pub sections_of_file : Option Shape → Guess → File → List Section
+sections_of_file None guess file = named_sections guess file
+sections_of_file (Some shape) guess file = shaped_section guess shape file ∷ []
+
+-- the sections of what is salvaged from an image that is read by a guess
+abbrev pub repair_sections : Option Shape → Guess → List ℕ → List Section
+repair_sections shape guess image = sections_of_file shape guess (salvaged_file guess.order guess.page_size image)

@@ -1,0 +1,45 @@
+-- The bytes that a file of what is salvaged has at least. Source: docs/FORMAT.md, "Repair".
+use Rattle.std.specs.Prelude.{⊤, ℕ, ◌+◌, Bool, true, false, List, length, Option, Some, None}
+use Rattle.std.specs.List.{sum_by}
+use Rattle.bdb_format.specs.File.{File}
+use Rattle.bdb_repair.specs.declared.room.Fit.{Fit}
+use Rattle.bdb_repair.specs.declared.room.Fit.TheVariants.{Fits, Past, Scarce}
+use Rattle.bdb_repair.specs.declared.shape.Duplicates.TheVariants.{No, Unsorted, Sorted}
+use Rattle.bdb_repair.specs.declared.shape.Shape.{Shape}
+use Rattle.bdb_repair.specs.declared.shape.Shape.TheVariants.{Btree as BtreeShape, Hash as HashShape, Recno as RecnoShape}
+use Rattle.bdb_stored.specs.Salvage.{loose, stored}
+
+-- what a datum takes of a file at least: its bytes, and four
+abbrev pub datum_room : List ℕ → ℕ
+datum_room value = 4 + length value
+
+-- a pair takes that for its datum
+abbrev pub pair_room : (List ℕ × List ℕ) → ℕ
+pair_room pair = datum_room pair.1
+
+abbrev pub stored_room : File → ℕ
+stored_room file = sum_by pair_room (stored file)
+
+abbrev pub loose_room : File → ℕ
+loose_room file = sum_by datum_room (loose file)
+
+-- the same of all that a shape keeps, where none of it may replace another
+abbrev pub room_as : Shape → File → ℕ
+room_as (BtreeShape No) file = 0
+room_as (BtreeShape Unsorted) file = stored_room file
+room_as (BtreeShape Sorted) file = 0
+room_as (HashShape duplicates) file = 0
+room_as RecnoShape file = loose_room file
+
+abbrev pub least_room : Option Shape → File → ℕ
+least_room None file = stored_room file + loose_room file
+least_room (Some shape) file = room_as shape file
+
+-- whether the data have room is told, by whether they have more bytes than the file may have
+abbrev pub IsFit : Bool → Fit → Type 0
+IsFit true Fits = ⊥
+IsFit true Past = ⊤
+IsFit true Scarce = ⊥
+IsFit false Fits = ⊤
+IsFit false Past = ⊥
+IsFit false Scarce = ⊤

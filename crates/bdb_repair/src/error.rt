@@ -1,0 +1,37 @@
+ghost use Rattle.std.specs.Prelude.{◌≡◌};
+
+use bdb_salvage::SalvageError;
+use std::alloc::AllocError;
+
+/// Why nothing is repaired.
+#[derive(Clone, Copy, Debug, PartialEq, Eq)]
+pub enum RepairError {
+    /// No guess is given, and page 0 tells none.
+    NoMeta,
+    /// The file would have more bytes than the limit.
+    TooLarge,
+    Memory,
+}
+
+impl From<AllocError> for RepairError {
+    ghost use Rattle.bdb_repair.specs.declared.error.RepairError.TheVariants.{Memory};
+
+    ghost from_gives = { λ _ error. error ≡ Memory };
+
+    fn from(_error: AllocError) -> RepairError {
+        RepairError::Memory
+    }
+}
+
+impl From<SalvageError> for RepairError {
+    ghost use Rattle.bdb_repair.specs.Repairs.{repair_error};
+
+    ghost from_gives = { λ from error. error ≡ repair_error from };
+
+    fn from(error: SalvageError) -> RepairError {
+        match error {
+            SalvageError::NoMeta => RepairError::NoMeta,
+            SalvageError::Memory => RepairError::Memory,
+        }
+    }
+}

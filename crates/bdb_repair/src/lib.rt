@@ -1,0 +1,13 @@
+//! From a damaged image to a sound file with what is salvaged of it.
+#![tactic(auto)]
+
+mod error;
+pub mod laws;
+mod parts;
+mod repairing;
+mod room;
+mod shape;
+
+pub use error::RepairError;
+pub use repairing::{repair, repair_as};
+pub use shape::{Duplicates, Shape};

@@ -1,0 +1,82 @@
+ghost use Rattle.std.specs.Prelude.{◌≡◌};
+ghost use Rattle.bdb_repair.specs.Shapes.{are_several, are_sorted, duplicates_of, kind_of, shaped_settings};
+
+use bdb_format::{Kind, Settings};
+use bdb_salvage::Guess;
+
+/// The data that a key may have.
+#[derive(Clone, Copy, Debug, PartialEq, Eq)]
+pub enum Duplicates {
+    /// One: a later datum takes the place of an earlier one.
+    No,
+    /// All, as they come.
+    Unsorted,
+    /// All in byte order, each once.
+    Sorted,
+}
+
+/// The one database that what is salvaged is put into: a btree or a hash with the stored pairs, or a recno with the loose records.
+#[derive(Clone, Copy, Debug, PartialEq, Eq)]
+pub enum Shape {
+    Btree(Duplicates),
+    Hash(Duplicates),
+    Recno,
+}
+
+fn kind_of(shape: Shape) -> Kind
+    ensures { result ≡ kind_of shape }
+{
+    match shape {
+        Shape::Btree(_) => Kind::Btree,
+        Shape::Hash(_) => Kind::Hash,
+        Shape::Recno => Kind::Recno,
+    }
+}
+
+// The data of its keys; records have none beside them.
+fn duplicates_of(shape: Shape) -> Duplicates
+    ensures { result ≡ duplicates_of shape }
+{
+    match shape {
+        Shape::Btree(duplicates) | Shape::Hash(duplicates) => duplicates,
+        Shape::Recno => Duplicates::No,
+    }
+}
+
+fn are_several(duplicates: Duplicates) -> bool
+    ensures { result ≡ are_several duplicates }
+{
+    match duplicates {
+        Duplicates::No => false,
+        Duplicates::Unsorted | Duplicates::Sorted => true,
+    }
+}
+
+fn are_sorted(duplicates: Duplicates) -> bool
+    ensures { result ≡ are_sorted duplicates }
+{
+    match duplicates {
+        Duplicates::No | Duplicates::Unsorted => false,
+        Duplicates::Sorted => true,
+    }
+}
+
+/// As the image is read, with the kind and the duplicates of a shape, and no other setting.
+pub(crate) fn shaped_settings(guess: Guess, shape: Shape) -> Settings
+    ensures { result ≡ shaped_settings guess shape }
+{
+    Settings {
+        kind: kind_of(shape),
+        page_size: guess.page_size,
+        order: guess.order,
+        duplicates: are_several(duplicates_of(shape)),
+        sorted: are_sorted(duplicates_of(shape)),
+        recnum: false,
+        renumber: false,
+        fixed: false,
+        re_len: 0,
+        re_pad: 32,
+        minkey: 2,
+        ffactor: 0,
+    }
+}

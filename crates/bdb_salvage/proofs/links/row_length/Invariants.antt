@@ -1,7 +1,0 @@
-use Rattle.bdb_salvage.specs.Links.{is_of_kind}
-use Rattle.bdb_salvage.proofs.WalkLemmas.{IsAt}
-use Rattle.bdb_salvage.proofs.links.row_length.Given as goal
-
--- What is left of the row, with the length so far, is whole where the row is.
-abbrev pub invariant-loop-turn : goal.invariant-loop-turn
-invariant-loop-turn g l = IsAt l.pages (is_of_kind l.kind) l.head l._turn l.before l.page l.length l.steps l.fn.steps

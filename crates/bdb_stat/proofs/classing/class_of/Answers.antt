@@ -1,0 +1,62 @@
+use Rattle.std.proofs.Common.{◌∙◌, ap, arith, sym}
+use Rattle.bdb_format.proofs.FileLemmas.{kind_is, last_page}
+use Rattle.bdb_format.specs.declared.metadata.Head.{Head}
+use Rattle.bdb_format.specs.File.{file_of}
+use Rattle.bdb_format.specs.Graph.{is_meta}
+use Rattle.bdb_format.specs.Rows.{is_queue}
+use Rattle.bdb_stat.specs.Classes.{class_by_type}
+use Rattle.bdb_stat.proofs.ClassLemmas.{by_meta, by_queue, by_reserve, by_type, has_class, past_last}
+use Rattle.bdb_stat.proofs.classing.class_of.Goals as goal
+
+pub returns-then-number-head : goal.returns-then-number-head
+returns-then-number-head c =
+    past_last (file_of c.args.linked.now) c.args.number
+    (let last = last_page c.args.linked.now ∙ sym (ap (λ (h : Head). h.last) c.head-head.ensures.head) in omega (arith, last, c.if-number-head.true))
+
+pub page-page-requires : goal.page-page-requires
+page-page-requires c =
+    let last = last_page c.args.linked.now ∙ sym (ap (λ (h : Head). h.last) c.head-head.ensures.head) in omega (arith, last, c.if-number-head.false)
+
+pub returns-then-is_meta : goal.returns-then-is_meta
+returns-then-is_meta c =
+    let last = last_page c.args.linked.now ∙ sym (ap (λ (h : Head). h.last) c.head-head.ensures.head) in
+    by_meta (file_of c.args.linked.now) c.args.number (omega (arith, last, c.if-number-head.false))
+    (sym (ap is_meta c.page-page.ensures.page) ∙ (sym c.is_meta.ensures ∙ c.if-is_meta.true))
+
+pub returns-then-is_queue : goal.returns-then-is_queue
+returns-then-is_queue c =
+    let last = last_page c.args.linked.now ∙ sym (ap (λ (h : Head). h.last) c.head-head.ensures.head) in
+    by_queue (file_of c.args.linked.now) c.args.number (omega (arith, last, c.if-number-head.false))
+    (sym (ap is_meta c.page-page.ensures.page) ∙ (sym c.is_meta.ensures ∙ c.if-is_meta.false))
+    (ap is_queue (kind_is c.args.linked.now ∙ sym (ap (λ (h : Head). h.kind) c.head-head.ensures.head)) ∙ (sym c.is_queue.ensures ∙ c.if-is_queue.true))
+
+pub is_reserve-requires-clause-inside : goal.is_reserve-requires-clause-inside
+is_reserve-requires-clause-inside c =
+    let last = last_page c.args.linked.now ∙ sym (ap (λ (h : Head). h.last) c.head-head.ensures.head) in omega (arith, last, c.if-number-head.false)
+
+pub is_reserve-requires-clause-no_queue : goal.is_reserve-requires-clause-no_queue
+is_reserve-requires-clause-no_queue c =
+    ap is_queue (kind_is c.args.linked.now ∙ sym (ap (λ (h : Head). h.kind) c.head-head.ensures.head)) ∙ (sym c.is_queue.ensures ∙ c.if-is_queue.false)
+
+pub returns-then-is_reserve : goal.returns-then-is_reserve
+returns-then-is_reserve c =
+    let last = last_page c.args.linked.now ∙ sym (ap (λ (h : Head). h.last) c.head-head.ensures.head) in
+    by_reserve (file_of c.args.linked.now) c.args.number (omega (arith, last, c.if-number-head.false))
+    (sym (ap is_meta c.page-page.ensures.page) ∙ (sym c.is_meta.ensures ∙ c.if-is_meta.false))
+    (ap is_queue (kind_is c.args.linked.now ∙ sym (ap (λ (h : Head). h.kind) c.head-head.ensures.head)) ∙ (sym c.is_queue.ensures ∙ c.if-is_queue.false))
+    (sym c.is_reserve.ensures ∙ c.if-is_reserve.true)
+
+pub class_by_type-requires : goal.class_by_type-requires
+class_by_type-requires c none =
+    let last = last_page c.args.linked.now ∙ sym (ap (λ (h : Head). h.last) c.head-head.ensures.head) in
+    has_class c.args.linked.now c.args.number c.head-head.ensures.forest (omega (arith, last, c.if-number-head.false))
+    (ap is_queue (kind_is c.args.linked.now ∙ sym (ap (λ (h : Head). h.kind) c.head-head.ensures.head)) ∙ (sym c.is_queue.ensures ∙ c.if-is_queue.false))
+    (sym (ap class_by_type c.page-page.ensures.page) ∙ none)
+
+pub returns : goal.returns
+returns c =
+    let last = last_page c.args.linked.now ∙ sym (ap (λ (h : Head). h.last) c.head-head.ensures.head) in
+    by_type (file_of c.args.linked.now) c.args.number c.class_by_type.result (omega (arith, last, c.if-number-head.false))
+    (sym (ap is_meta c.page-page.ensures.page) ∙ (sym c.is_meta.ensures ∙ c.if-is_meta.false))
+    (ap is_queue (kind_is c.args.linked.now ∙ sym (ap (λ (h : Head). h.kind) c.head-head.ensures.head)) ∙ (sym c.is_queue.ensures ∙ c.if-is_queue.false))
+    (sym c.is_reserve.ensures ∙ c.if-is_reserve.false) (c.class_by_type.ensures ∙ ap class_by_type c.page-page.ensures.page)

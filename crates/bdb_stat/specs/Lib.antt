@@ -1,0 +1,6 @@
+pub mod Classes
+pub mod Unused
+pub mod Ends
+pub mod Starts
+pub mod Figures
+pub mod Laws

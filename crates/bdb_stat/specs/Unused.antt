@@ -1,0 +1,49 @@
+-- Bytes of pages that hold nothing. Source: docs/FORMAT.md, "Statistics".
+use Rattle.std.specs.Prelude.{ℕ, ◌+◌, ◌-◌, ◌*◌, nat_le, nat_lt, ◌==◌, ◌&&◌, not, if◌then◌else◌, Bool, length, slice_index, get_or}
+use Rattle.std.specs.List.{filter, list_any, range_with_len, sum_by}
+use Rattle.bdb_format.specs.File.{File, page_at}
+use Rattle.bdb_format.specs.Page.{Item, Listed, Page, Zero, Free, Meta, Hash, Internal, RecnoInternal, Leaf, RecnoLeaf, DupLeaf, Overflow, Queue, NoType}
+use Rattle.bdb_format.specs.References.{no_item}
+use Rattle.bdb_turned.specs.Fields.{no_internal}
+use Rattle.bdb_turned.specs.Overlaps.{internal_item_end, leaf_item_end}
+
+-- a place lies in one of n ranges, each from its begin up to its end
+abbrev pub lies_in : ℕ → (ℕ → ℕ) → (ℕ → ℕ) → ℕ → Bool
+lies_in n begin end k = list_any (λ i. nat_le (begin i) k && nat_lt k (end i)) (range_with_len 0 n)
+
+-- how many places from one up to another lie in none of n ranges
+abbrev pub places_outside : ℕ → ℕ → ℕ → (ℕ → ℕ) → (ℕ → ℕ) → ℕ
+places_outside from to n begin end = length (filter (λ k. not (lies_in n begin end k)) (range_with_len from (to - from)))
+
+-- how many bytes of a page of a size lie behind its index and in no item, whose ends are given by their places in the index
+unfoldable pub listed_unused : {I : Type 0} → ℕ → Listed I → (ℕ → ℕ) → ℕ
+listed_unused size page end = places_outside (26 + 2 * length page.offsets) size (length page.offsets) (λ i. slice_index page.offsets i) end
+
+-- an item of a hash page ends where the one before it begins, and the first at the page's end
+abbrev pub hash_unused : ℕ → Listed Item → ℕ
+hash_unused size page = listed_unused size page (λ i. if i == 0 then size else slice_index page.offsets (i - 1))
+
+abbrev pub leaf_unused : ℕ → Listed Item → ℕ
+leaf_unused size page = listed_unused size page (λ i. leaf_item_end (slice_index page.offsets i) (get_or page.items i no_item).content)
+
+-- how many bytes of a page of a size hold nothing, by its type
+unfoldable pub unused_in : ℕ → Page → ℕ
+unused_in size Zero = 0
+unused_in size (Free header) = 0
+unused_in size (Meta fields) = 0
+unused_in size (Hash page) = hash_unused size page
+unused_in size (Internal page) = listed_unused size page (λ i. internal_item_end (slice_index page.offsets i) (get_or page.items i no_internal).key)
+unused_in size (RecnoInternal page) = listed_unused size page (λ i. slice_index page.offsets i + 8)
+unused_in size (Leaf page) = leaf_unused size page
+unused_in size (RecnoLeaf page) = leaf_unused size page
+unused_in size (DupLeaf page) = leaf_unused size page
+unused_in size (Overflow header piece) = size - 26 - length piece
+unused_in size (Queue number records) = 0
+unused_in size NoType = 0
+
+-- those of the pages below a number, and of all
+abbrev pub unused_below : File → ℕ → ℕ
+unused_below file n = sum_by (λ p. unused_in file.size (page_at file p)) (range_with_len 0 n)
+
+abbrev pub unused : File → ℕ
+unused file = unused_below file file.count

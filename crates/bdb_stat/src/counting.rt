@@ -1,0 +1,49 @@
+//! The figures of a file, page by page.
+ghost use Rattle.std.specs.Prelude.{◌≡◌, IfOk, Some};
+ghost use Rattle.bdb_format.specs.File.{file_of};
+ghost use Rattle.bdb_stat.specs.Classes.{class_of, tree_level};
+ghost use Rattle.bdb_stat.specs.Figures.{IsStat};
+
+use crate::class::Class;
+use crate::classing::class_of;
+use crate::figures::Stat;
+use crate::unused::unused_on;
+use bdb_graph::Linked;
+use std::alloc::{AllocError, Global};
+
+/// The level of a page of a tree; 0 of a page of another class.
+fn tree_level(linked: &Linked<'_>, class: Class, number: u32) -> u8
+    requires { Some class ≡ class_of (file_of linked.now) number }
+    ensures { result ≡ tree_level (file_of linked.now) number }
+{
+    match class {
+        Class::Internal => linked.page(number).header().level,
+        Class::Leaf => linked.page(number).header().level,
+        Class::Meta
+        | Class::Hash
+        | Class::Overflow
+        | Class::Free
+        | Class::Reserve
+        | Class::Queue
+        | Class::Tail => 0,
+    }
+}
+
+/// What the pages of a sound file are; or want of memory, a page's size of which is taken. The image is the one that the file was
+/// linked from.
+pub fn stat(alloc: Global, linked: &Linked<'_>, image: &[u8]) -> Result<Stat, AllocError>
+    requires { image.now ≡ linked.now }
+    ensures { IfOk result (IsStat (file_of linked.now)) }
+{
+    let head = linked.head();
+    let mut room = vec![in alloc; 0; head.page_size as usize]?;
+    let starts = room.as_mut_slice();
+    let mut stat = Stat::of(head.pages);
+    for number in 0..head.pages {
+        let class = class_of(linked, number);
+        stat.count(class);
+        stat.levels = stat.levels.max(tree_level(linked, class, number));
+        stat.unused += unused_on(starts, image, &head, number) as u64;
+    }
+    Ok(stat)
+}

@@ -1,0 +1,18 @@
+//! What the pages of a sound file are, and how much of them holds nothing.
+#![tactic(auto)]
+
+mod class;
+mod classing;
+mod counting;
+mod ends;
+mod falling;
+mod figures;
+mod hash;
+mod image;
+pub mod laws;
+mod starts;
+mod unused;
+
+pub use class::Class;
+pub use counting::stat;
+pub use figures::Stat;

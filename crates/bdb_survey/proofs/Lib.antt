@@ -1,0 +1,9 @@
+pub mod PageLemmas
+pub mod SlotLemmas
+pub mod WalkLemmas
+pub mod ChainLemmas
+pub mod WholeLemmas
+pub mod SurveyLemmas
+pub mod WayLemmas
+pub mod DownLemmas
+pub mod RowLemmas

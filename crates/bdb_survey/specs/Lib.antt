@@ -1,0 +1,6 @@
+pub mod Items
+pub mod Links
+pub mod Reads
+pub mod Rows
+pub mod Slots
+pub mod Ways

@@ -1,0 +1,146 @@
+ghost use Rattle.std.specs.Prelude.{◌≡◌, ◌==◌, ◌∷◌, [], if◌then◌else◌, ℕ};
+ghost use Rattle.bdb_format.specs.Page.{Internal, InternalItem, Listed, RecnoInternal};
+ghost use Rattle.bdb_format.specs.declared.pages.RecnoItem.{RecnoItem};
+ghost use Rattle.bdb_form.specs.Seen.{page_seen};
+ghost use Rattle.std.specs.List.{list_any};
+ghost use Rattle.bdb_format.specs.File.{header_in, page_at};
+ghost use Rattle.bdb_format.specs.References.{has_type};
+ghost use Rattle.bdb_stored.specs.Salvage.{down, fits_below, set_start};
+ghost use Rattle.bdb_survey.specs.Ways.{fits_as, plain_type, way_from};
+ghost use Rattle.bdb_survey.specs.declared.down.Way.TheVariants.{Broken, Child};
+
+use crate::whole_pages::WholePages;
+use bdb_form::PageView;
+
+/// Where the way down goes on from a page.
+#[derive(Clone, Copy, Debug)]
+pub(crate) enum Way {
+    /// The page is no internal page.
+    Ends,
+    /// Its first child fits.
+    Child(u32),
+    /// Its first child doesn't fit.
+    Broken,
+}
+
+/// The type of a page but of metadata.
+fn page_type(page: &PageView<'_>) -> Option<u8>
+    ensures { result ≡ plain_type (page_seen page.now) }
+{
+    match page {
+        PageView::Zero(_) | PageView::Meta(_) => None,
+        PageView::Free(_) => Some(0),
+        PageView::Hash(view) => Some(view.header().page_type),
+        PageView::Internal(_) => Some(3),
+        PageView::RecnoInternal(_) => Some(4),
+        PageView::Leaf(_) => Some(5),
+        PageView::RecnoLeaf(_) => Some(6),
+        PageView::Overflow(_) => Some(7),
+        PageView::Queue(_) => Some(11),
+        PageView::DupLeaf(_) => Some(12),
+    }
+}
+
+/// Whether a type is one of these.
+fn is_one_of(types: &[u8], page_type: u8) -> bool
+    ensures { result ≡ list_any (λ type. type == page_type) types.now }
+{
+    types.iter().any(|one| *one == page_type)
+}
+
+/// Whether there is a type, and it's one of these.
+fn has_type(types: &[u8], page_type: Option<u8>) -> bool
+    ensures { result ≡ has_type types.now page_type }
+{
+    match page_type {
+        Some(page_type) => is_one_of(types, page_type),
+        None => false,
+    }
+}
+
+/// The level that the header of a page tells; 0 for metadata and pages of a queue.
+#[tactic(auto, using(crate::proofs::PageLemmas::level_seen))]
+fn level_on(page: &PageView<'_>) -> u8
+    ensures { result ≡ (header_in (page_seen page.now)).level }
+{
+    match page {
+        PageView::Meta(_) => 0,
+        PageView::Queue(_) => 0,
+        _ => page.header().level,
+    }
+}
+
+/// Whether a page above 0 has one of these types, and this level.
+fn fits(pages: &WholePages<'_>, types: &[u8], level: u8, child: u32) -> bool
+    ensures { result ≡ fits_as pages.now types.now level child }
+{
+    if child == 0 || child > pages.last() {
+        return false;
+    }
+    match pages.page(child) {
+        Some(page) => has_type(types, page_type(&page)) && level == level_on(&page),
+        None => false,
+    }
+}
+
+/// The types of the pages below an internal page of this level.
+fn keyed_types(level: u8) -> &'static [u8]
+    ensures { result.now ≡ if level == 2 then 5 ∷ 12 ∷ [] else 3 ∷ [] }
+{
+    if level == 2 { &[5, 12] } else { &[3] }
+}
+
+/// The types of the pages below an internal page of this level in a tree of records.
+fn record_types(level: u8) -> &'static [u8]
+    ensures { result.now ≡ if level == 2 then 6 ∷ [] else 4 ∷ [] }
+{
+    if level == 2 { &[6] } else { &[4] }
+}
+
+/// Whether a page fits as a child of an internal page of this level.
+#[tactic(auto, using(crate::proofs::WayLemmas::keyed_fits))]
+fn fits_keyed(pages: &WholePages<'_>, level: u8, child: u32) -> bool
+    ensures { (p : ℕ) (view : Listed InternalItem) → page_at pages.now p ≡ Internal view → view.header.level ≡ level
+        → result ≡ fits_below pages.now p child }
+{
+    fits(pages, keyed_types(level), level.saturating_sub(1), child)
+}
+
+/// The same in a tree of records.
+#[tactic(auto, using(crate::proofs::WayLemmas::record_fits))]
+fn fits_records(pages: &WholePages<'_>, level: u8, child: u32) -> bool
+    ensures { (p : ℕ) (view : Listed RecnoItem) → page_at pages.now p ≡ RecnoInternal view → view.header.level ≡ level
+        → result ≡ fits_below pages.now p child }
+{
+    fits(pages, record_types(level), level.saturating_sub(1), child)
+}
+
+fn way_to(fits: bool, child: u32) -> Way
+    ensures { result ≡ if fits then Child child else Broken }
+{
+    if fits { Way::Child(child) } else { Way::Broken }
+}
+
+/// Where the way down goes on from a page with this number.
+pub(crate) fn way_from(pages: &WholePages<'_>, number: u32, page: &PageView<'_>) -> Way
+    requires { page_seen page.now ≡ page_at pages.now number }
+    ensures { result ≡ way_from pages.now number }
+{
+    match page {
+        PageView::Internal(view) => {
+            if view.entries() == 0 {
+                return Way::Broken;
+            }
+            let child = view.item(0).child;
+            way_to(fits_keyed(pages, view.header().level, child), child)
+        }
+        PageView::RecnoInternal(view) => {
+            if view.entries() == 0 {
+                return Way::Broken;
+            }
+            let child = view.item(0).child;
+            way_to(fits_records(pages, view.header().level, child), child)
+        }
+        _ => Way::Ends,
+    }
+}

@@ -1,0 +1,18 @@
+//! The pages of a damaged image, and what begins at each: a whole chain, the leaves of a set, or a way down.
+#![tactic(auto)]
+
+mod chain;
+mod down;
+mod guess;
+mod links;
+mod row_leaves;
+mod slots;
+mod survey;
+mod whole_pages;
+
+pub use chain::chain_of;
+pub use guess::Guess;
+pub use row_leaves::RowPages;
+pub use slots::{Slots, entry_slots, paired_slots};
+pub use survey::Survey;
+pub use whole_pages::WholePages;

@@ -1,0 +1,143 @@
+ghost use Rattle.std.specs.Prelude.{◌≡◌, ◌/◌, ◌^◌, ◌<◌, ◌≤◌, IsTrue, length, ℕ};
+ghost use Rattle.bdb_format.specs.Page.{NoType};
+ghost use Rattle.bdb_form.specs.Seen.{page_seen};
+ghost use Rattle.bdb_format.specs.Chains.{piece_in, pieces_of};
+ghost use Rattle.bdb_layout.specs.Seen.{content_seen};
+ghost use Rattle.bdb_survey.specs.Items.{slot_at, slots_in};
+ghost use Rattle.bdb_format.specs.File.{page_at};
+ghost use Rattle.bdb_format.specs.HeadOf.{is_page_size};
+ghost use Rattle.bdb_overflow.specs.Whole.{bytes_of};
+ghost use Rattle.bdb_survey.specs.Links.{view_page};
+ghost use Rattle.bdb_stored.specs.Salvage.{is_overflow, is_row, salvaged_file};
+
+use crate::Guess;
+use crate::slots::slots_of;
+use bdb_form::{PageView, form, known_form};
+use bdb_layout::{Content, u32_at};
+use bdb_overflow::{Pieces, pieces_at};
+use std::marker::Model;
+
+/// The whole pages of an image, as a guess reads them.
+#[derive(Drop)]
+pub struct WholePages<'a> {
+    image: &'a [u8],
+    guess: Guess,
+}
+
+impl<'a> Model for WholePages<'a> {
+    ghost use Rattle.bdb_format.specs.File.{File};
+    ghost use Rattle.bdb_survey.specs.Reads.{IsRead};
+    ghost use Rattle.bdb_stored.specs.Salvage.{salvaged_file};
+
+    ghost Value = { File };
+
+    ghost view = { λ v. salvaged_file v.guess.order v.guess.page_size v.image.now };
+
+    ghost invariant = { λ v. IsRead v.guess.page_size v.image.now };
+}
+
+/// The bytes of a page that the image has whole.
+#[tactic(auto, using(bdb_overflow::proofs::WholeLemmas::page_room, bdb_overflow::proofs::WholeLemmas::page_length))]
+fn page_of<'a>(image: &'a [u8], size: u32, number: u32) -> &'a [u8]
+    requires some { 1 ≤ size }
+    requires there { number < length image.now / size }
+    ensures bytes { result.now ≡ bytes_of size image.now number }
+    ensures whole { length result.now ≡ size }
+{
+    let size = size as usize;
+    let start = number as usize * size;
+    &image[start..start + size]
+}
+
+#[tactic(auto, using(bdb_stored::proofs::PageLemmas::count_is, bdb_format::proofs::SizeLemmas::long_page, crate::proofs::PageLemmas::few))]
+impl<'a> WholePages<'a> {
+    /// The pages of an image.
+    pub fn over(image: &'a [u8], guess: Guess) -> WholePages<'a>
+        requires size { IsTrue (is_page_size guess.page_size) }
+        requires small { length image.now ≤ 2 ^ 30 }
+        ensures { result ≡ salvaged_file guess.order guess.page_size image.now }
+    {
+        WholePages { image, guess }
+    }
+
+    /// The same pages once more.
+    pub fn again(&self) -> WholePages<'a>
+        ensures { result ≡ self.now }
+    {
+        WholePages {
+            image: self.image,
+            guess: self.guess,
+        }
+    }
+
+    /// How many there are.
+    pub fn count(&self) -> u32
+        ensures count { result ≡ self.now.count }
+        ensures few { result ≤ 2 ^ 21 }
+        ensures past { (p : ℕ) → result ≤ p → page_at self.now p ≡ NoType }
+    {
+        (self.image.len() / self.guess.page_size as usize) as u32
+    }
+
+    /// The last one.
+    #[tactic(auto, using(bdb_stored::proofs::PageLemmas::last_is, bdb_stored::proofs::PageLemmas::count_is))]
+    pub fn last(&self) -> u32
+        ensures { result ≡ self.now.last }
+    {
+        let _ = &self.image;
+        self.count().saturating_sub(1)
+    }
+
+    /// A page by its number; none where there's no such page, or a row of form holds for it. Its own number
+    /// isn't looked at.
+    #[tactic(auto, using(bdb_stored::proofs::PageLemmas::page_past, bdb_format::proofs::SizeLemmas::long_page))]
+    pub fn page(&self, number: u32) -> Option<PageView<'a>>
+        ensures page { view_page result ≡ page_at self.now number }
+        ensures short { length (piece_in (view_page result)) ≤ 32768 }
+    {
+        if number as usize >= self.image.len() / self.guess.page_size as usize {
+            return None;
+        }
+        let page = page_of(self.image, self.guess.page_size, number);
+        let number = u32_at(page, 8, self.guess.order);
+        match form(page, number, self.guess.order) {
+            Ok(view) => Some(view),
+            Err(_) => None,
+        }
+    }
+
+    /// The pieces of a whole chain.
+    #[tactic(auto, using(crate::proofs::ChainLemmas::whole_chain, crate::proofs::ChainLemmas::same_pieces))]
+    pub fn pieces(&self, head: u32) -> Pieces<'a>
+        requires { IsTrue (is_row self.now is_overflow head) }
+        ensures { result ≡ pieces_of self.now head }
+    {
+        pieces_at(self.image, self.guess.order, self.guess.page_size, head)
+    }
+}
+
+impl<'a> WholePages<'a> {
+    /// The view of a page that is known to have no fault, without another look at its items.
+    fn known_page(&self, number: u32) -> PageView<'a>
+        requires { 1 ≤ length (slots_in (page_at self.now number)) }
+        ensures { page_seen result ≡ page_at self.now number }
+    {
+        let page = page_of(self.image, self.guess.page_size, number);
+        let number = u32_at(page, 8, self.guess.order);
+        known_form(page, number, self.guess.order)
+    }
+
+    /// What the item of a page holds.
+    pub fn content(&self, number: u32, index: u32) -> Content<'a>
+        requires { index < length (slots_in (page_at self.now number)) }
+        ensures { content_seen result ≡ (slot_at (slots_in (page_at self.now number)) index).content }
+    {
+        match slots_of(self.known_page(number)) {
+            Some(slots) => {
+                prove!(index < u32::from(slots.count()));
+                slots.content(index as u16)
+            }
+            None => Content::Inline(&[]),
+        }
+    }
+}

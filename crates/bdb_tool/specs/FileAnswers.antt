@@ -1,0 +1,68 @@
+-- What is answered over a file, by its verdict and what is asked. Source: README.md, "Use".
+use Rattle.std.specs.Prelude.{ℕ, ◌++◌, if◌then◌else◌, Bool, List, Option, Some, None, codes, decimal}
+use Rattle.bdb_format.specs.declared.kinds.Order.{Order}
+use Rattle.bdb_format.specs.Databases.{Database, databases, place_of}
+use Rattle.bdb_format.specs.File.{File, file_of}
+use Rattle.bdb_format.specs.Flags.{kind_of}
+use Rattle.bdb_format.specs.HeadOf.{head_of}
+use Rattle.bdb_format.specs.Lists.{list_of}
+use Rattle.bdb_format.specs.Verdict.{Faulty, Judgement, LeftOut}
+use Rattle.bdb_text_format.specs.LineEnd.{line}
+use Rattle.bdb_text_format.specs.Written.{is_btree}
+use Rattle.bdb_model.specs.Answers.{Answer, data_named, database_in, done, dumped, fault_line, found, list_text, not_btree, not_found, overlap_line, pairs_text, sound_line, told, unsupported_line}
+use Rattle.bdb_model.specs.Command.{Request, Verify, ListAll, Get, Dump, Range, Convert, Stat}
+use Rattle.bdb_range.specs.Ranges.{in_range}
+use Rattle.bdb_stat.specs.declared.class.Class.TheVariants.{Meta, Internal, Leaf, Hash, Overflow, Free, Reserve, Queue, Tail}
+use Rattle.bdb_stat.specs.Classes.{levels, pages_of}
+use Rattle.bdb_stat.specs.Unused.{unused}
+use Rattle.bdb_turned.specs.Flipped.{flip_of, overlap_in}
+
+-- `range`: the pairs of a btree with a key in the range
+abbrev pub range_answer : Bool → File → List ℕ → List ℕ → Option Database → Answer
+range_answer prints file from to None = not_found
+range_answer prints file from to (Some database) =
+    if is_btree (kind_of database.fields) then done (pairs_text prints (in_range (list_of file database.fields) from to)) else not_btree
+
+abbrev pub ranged : Bool → File → Option (List ℕ) → List ℕ → List ℕ → Answer
+ranged prints file name from to = range_answer prints file from to (database_in (databases file) (place_of name (databases file)))
+
+-- `convert`: the file in the byte order, or the first page that is in the way
+abbrev pub converted : Option ℕ → Order → List ℕ → Answer
+converted None order image = done (flip_of order image)
+converted (Some page) order image = told 13 (overlap_line page)
+
+-- `stat`: a line for each figure, with its name
+
+abbrev pub figure_line : List ℕ → ℕ → List ℕ
+figure_line name figure = name ++ (codes " " ++ line (decimal figure))
+
+unfoldable pub stat_text : File → List ℕ
+stat_text file =
+    figure_line (codes "pages") file.count
+    ++ (figure_line (codes "meta") (pages_of file Meta)
+    ++ (figure_line (codes "internal") (pages_of file Internal)
+    ++ (figure_line (codes "leaf") (pages_of file Leaf)
+    ++ (figure_line (codes "hash") (pages_of file Hash)
+    ++ (figure_line (codes "overflow") (pages_of file Overflow)
+    ++ (figure_line (codes "free") (pages_of file Free)
+    ++ (figure_line (codes "reserve") (pages_of file Reserve)
+    ++ (figure_line (codes "queue") (pages_of file Queue)
+    ++ (figure_line (codes "tail") (pages_of file Tail)
+    ++ (figure_line (codes "levels") (levels file)
+    ++ figure_line (codes "unused") (unused file)))))))))))
+
+-- what is answered over a sound file
+abbrev pub sound_answer : Request → List ℕ → Answer
+sound_answer Verify image = done (sound_line (head_of image).pages)
+sound_answer ListAll image = done (list_text (databases (file_of image)))
+sound_answer (Get name key prints) image = found prints (data_named (file_of image) name key)
+sound_answer (Dump name prints) image = dumped prints image name
+sound_answer (Range name from to prints) image = ranged prints (file_of image) name from to
+sound_answer (Convert order) image = converted (overlap_in order image) order image
+sound_answer Stat image = done (stat_text (file_of image))
+
+-- what is answered by the verdict
+abbrev pub judged_answer : Option Judgement → Request → List ℕ → Answer
+judged_answer None request image = sound_answer request image
+judged_answer (Some (Faulty fault)) request image = told 1 (fault_line fault)
+judged_answer (Some (LeftOut name page)) request image = told 3 (unsupported_line name page)

@@ -1,0 +1,54 @@
+//! The command that puts what is salvaged into a new file.
+ghost use Rattle.std.specs.Prelude.{◌⊎◌, ◌≤◌, ◌^◌, length};
+ghost use Rattle.bdb_model.specs.Change.{change};
+ghost use Rattle.bdb_model.specs.Lines.{memory_line};
+ghost use Rattle.bdb_tool.specs.Outputs.{IsRepairAnswer};
+ghost use Rattle.bdb_tool.specs.Parts.{Ends, Tells};
+ghost use Rattle.bdb_tool.specs.WordsSeen.{IsFitRepair};
+ghost use Rattle.bdb_writing.specs.Lines.{image_too_large_line};
+
+use crate::command::Repair;
+use crate::finish::{put, report, tell, tell_memory};
+use crate::status::{NO_META, TOO_LARGE};
+use bdb_format::Steps;
+use bdb_io::Sink;
+use bdb_repair::{RepairError, repair_as};
+use bdb_writing::image_too_large_line;
+use std::alloc::Global;
+use std::sync::ledger::Ledger;
+
+/// Tells that the image would have more bytes than its limit.
+fn tell_too_large<E: Sink>(alloc: Global, limit: u32, err: &mut E) -> u8
+    ensures { Tells (image_too_large_line limit) 6 (change E.written E.faults err.old err.new) result
+        ⊎ Tells memory_line 7 (change E.written E.faults err.old err.new) result }
+{
+    match image_too_large_line(alloc, limit) {
+        Ok(line) => tell(err, line.as_bytes(), TOO_LARGE),
+        Err(_) => tell_memory(err),
+    }
+}
+
+/// Answers `repair` of an image. Nothing is written before the new one stands whole.
+pub(crate) fn answer_repair<K: Sink, E: Sink, L: Ledger>(
+    alloc: Global,
+    image: &[u8],
+    asked: Repair,
+    limit: u32,
+    out: &mut K,
+    err: &mut E,
+    steps: &mut Steps<L>,
+) -> u8
+    requires size { length image.now ≤ 2 ^ 30 }
+    requires guess { IsFitRepair asked }
+    requires limit { limit ≤ 2 ^ 30 }
+    ensures { Ends (IsRepairAnswer limit asked.shape asked.guess image.now)
+        (change K.written K.faults out.old out.new) (change E.written E.faults err.old err.new) result }
+{
+    let max = u64::from(limit);
+    match repair_as(alloc, image, asked.shape, asked.guess, max, steps) {
+        Ok(built) => report(put(out, built.bytes()), err),
+        Err(RepairError::NoMeta) => tell(err, b"no metadata page\n", NO_META),
+        Err(RepairError::TooLarge) => tell_too_large(alloc, limit, err),
+        Err(RepairError::Memory) => tell_memory(err),
+    }
+}
