@@ -9,7 +9,7 @@ Prints a Markdown table. `verify` stands beside `db5.3_verify`, on a btree and a
 the clock, and how pages and seconds grew from the row above. A kind ends where a run takes a minute, or where ten times the pairs
 wouldn't fit into the longest input. `kinds` has `verify` on files of each kind of about 100 MB, and `chains` on chains of pages that
 grow longer, one by one: seconds of user time. `dump` stands beside `db5.3_dump -k`, on a file of each kind: seconds of user time, and peak
-memory. `range` stands beside `verify`, `get` and `dump`, on a btree of a million pairs: of ten pairs, of a thousand and of all. `load` stands beside `db5.3_load`, on the texts that `dump` gives of such files and of files with a quarter of the items. `convert` stands beside `verify` and a copy by `cat`, on a file of each kind. `stat` stands beside `verify` and `db5.3_stat -f`, on the files of `kinds`: seconds of user time. `salvage` stands beside
+memory. `range` stands beside `verify`, `get` and `dump`, on a btree of a million pairs: of ten pairs, of a thousand and of all. `load` stands beside `db5.3_load`, on the texts that `dump` gives of such files and of files with a quarter of the items. `convert` stands beside `verify` and a copy by `cat`, on a file of each kind, and `stat` beside `verify` and `db5.3_stat -f`: seconds of user and system time, of runs by turns. `salvage` stands beside
 `db5.3_dump -r`, on the files of `kinds`, and on each of them with every hundredth page overwritten by other bytes: seconds of user time,
 peak memory, and how many pairs or records each gives. `repair` stands beside `salvage | load`, on the same files: user time of both commands of the pipe together, and the greater peak. `before` has `verify` of two programs by turns, on the files of `kinds` and `chains` and on the
 files of `verify` that have a million pairs: the least user and system time of each, and their ratio. Where the program or the library's tools are missing, nothing is
@@ -77,10 +77,15 @@ class Step(NamedTuple):
 
 
 class Spent(NamedTuple):
-    """What a run took: seconds of user time, and bytes of memory at its peak."""
+    """What a run took: seconds of user time, bytes of memory at its peak, and seconds of system time."""
 
     user: float
     peak: int
+    system: float = 0.0
+
+    def processor(self):
+        """User and system time: both, since they are told apart by ticks of the clock alone, which is too coarse for a short run."""
+        return self.user + self.system
 
 
 class Sample(NamedTuple):
@@ -225,7 +230,7 @@ def spent(words, image):
         run.returncode = os.waitstatus_to_exitcode(status)
     if run.returncode != 0:
         sys.exit(f"{words} over {image.name}: status {run.returncode}")
-    return Spent(usage.ru_utime, 1024 * usage.ru_maxrss)
+    return Spent(usage.ru_utime, 1024 * usage.ru_maxrss, usage.ru_stime)
 
 
 def least(words, image, before=lambda: None):
@@ -235,6 +240,12 @@ def least(words, image, before=lambda: None):
         before()
         runs.append(spent(words, image))
     return Spent(min(run.user for run in runs), min(run.peak for run in runs))
+
+
+def by_turns(commands, image):
+    """The least processor time of each of some commands, which run by turns, and its least peak: so what else the machine does falls on all of them alike."""
+    rounds = [[spent(words, image) for words in commands] for _ in range(TURNS)]
+    return [(min(run.processor() for run in runs), min(run.peak for run in runs)) for runs in zip(*rounds)]
 
 
 def samples(share=1):
@@ -375,10 +386,11 @@ def copied(image):
 def print_convert(name, program, image):
     """A row of the table of `convert`."""
     size = image.stat().st_size
-    own, judged, copy = least([program, "convert", "big"], image), least([program, "verify"], image), copied(image)
-    above = (own.user - judged.user) / max(copy, 0.001)
+    (own, peak), (judged, _) = by_turns(([program, "convert", "big"], [program, "verify"]), image)
+    copy = copied(image)
     image.unlink()
-    print_row([name, f"{size:,}", f"{own.user:.3g}", f"{judged.user:.3g}", f"{copy:.3g}", f"{above:.3g}", f"{own.peak:,}", f"{own.peak / size:.2f}"])
+    times = [f"{own:.3g}", f"{judged:.3g}", f"{copy:.3g}", f"{(own - judged) / max(copy, 0.001):.3g}"]
+    print_row([name, f"{size:,}", *times, f"{peak:,}", f"{peak / size:.2f}"])
 
 
 def time_convert(program, folder):
@@ -395,10 +407,10 @@ STAT_COLUMNS = ("File", "Bytes of the file", "`stat`", "`verify`", "Ratio", "`db
 def print_stat(name, program, image):
     """A row of the table of `stat`."""
     size = image.stat().st_size
-    own, judged, original = least([program, "stat"], image), least([program, "verify"], image), least(["db5.3_stat", "-f", "-d", image], image)
+    (own, peak), (judged, _), (original, _) = by_turns(([program, "stat"], [program, "verify"], ["db5.3_stat", "-f", "-d", image]), image)
     image.unlink()
-    times = [f"{own.user:.3g}", f"{judged.user:.3g}", f"{own.user / max(judged.user, 0.001):.3g}", f"{original.user:.3g}"]
-    print_row([name, f"{size:,}", *times, f"{own.peak:,}", f"{own.peak / size:.2f}"])
+    times = [f"{own:.3g}", f"{judged:.3g}", f"{own / judged:.3g}", f"{original:.3g}"]
+    print_row([name, f"{size:,}", *times, f"{peak:,}", f"{peak / size:.2f}"])
 
 
 def time_stat(program, folder):
@@ -523,20 +535,11 @@ def growing(folder):
         yield f"{kind}, data of 0 to 63", make(f"{kind}-{MILLION}", kind, pairs(MILLION, 0), folder)
 
 
-def processor_seconds(words, image):
-    """The user and system time of a run: both, since they are told apart by ticks of the clock alone, which is too coarse for a short run."""
-    before = resource.getrusage(resource.RUSAGE_CHILDREN)
-    spent(words, image)
-    after = resource.getrusage(resource.RUSAGE_CHILDREN)
-    return after.ru_utime + after.ru_stime - before.ru_utime - before.ru_stime
-
-
 def time_before(program, before, folder):
     """The table of two programs. They run by turns, so that other work on the machine slows both."""
     print_head(BEFORE_COLUMNS)
     for name, image in itertools.chain(kinds(folder), growing(folder), chains(folder)):
-        rounds = [[processor_seconds([it, "verify"], image) for it in (program, before)] for _ in range(TURNS)]
-        own, other = map(min, zip(*rounds))
+        (own, _), (other, _) = by_turns(([program, "verify"], [before, "verify"]), image)
         print_row([name, f"{image.stat().st_size:,}", f"{own:.3g}", f"{other:.3g}", f"{own / max(other, 0.001):.3f}"])
         image.unlink()
 
