@@ -180,6 +180,8 @@ def changed_number(draw, image, places):
     """Another number at a place of a page: small, a page of the file, one beside the old one, or the greatest."""
     order = draw.choice(("little", "big"))
     width = draw.choice((2, 4))
+    if not places:
+        return
     at = draw.choice(places)
     if at + width > len(image):
         return
