@@ -154,7 +154,7 @@ CLASSES = (
     Class("deep-wide", "one child a page for 250 levels above many leaves", files.deep_wide, 10_000, "", SOUND + (get("00000000"),)),
     Class("deep-disorder", "such levels, and keys out of order", files.deep_disorder, 1_000, "KeyOrder", FAULTY),
     Class("deep-counts", "such levels of a btree with counts", files.deep_counts, 4_000, "", SOUND + (get("00000000"),)),
-    Class("deep-recno", "such levels of a recno", files.deep_recno, 10_000, "", SOUND + (get("1"),)),
+    Class("deep-recno", "such levels of a recno", files.deep_recno, 40_000, "", SOUND + (get("1"),)),
     Class("leaf-empty-recno", "leaves full of entries without bytes, of a recno", files.empty_entries, 256, "", SOUND + (get("1"),)),
     Class("leaf-empty-duplicates", "leaves full of data without bytes", files.empty_duplicates, 256, "", SOUND + (get("00000000"),)),
     Class("leaf-empty-sorted", "leaves full of sorted data without bytes", files.empty_sorted_duplicates, 256, "DuplicateOrder", FAULTY),
