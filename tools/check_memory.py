@@ -37,6 +37,7 @@ COMMANDS = [
     (["convert", "little"], LONG, 0),
     *[(["stat"], file, 0) for file in (NAMED, LONG)],
     *[(["load"], text, 0) for text in TEXTS],
+    *[(["load", "--onto", str(file)], text, 0) for file, text in zip((NAMED, LONG), TEXTS)],
     *[(["trial", kind, "1", "300"], None, 0) for kind in ("btree", "hash", "recno", "queue")],
     *[([command], file, 1) for command in ("verify", "list") for file in (OUT_OF_ORDER, NAMED_TWICE)],
     (["verify"], LEFT_OUT, 3),

@@ -13,7 +13,8 @@ printed one of a recno or queue. Then the dump of each real file that is sound, 
 none are given; 0 leaves these out) that the original makes, is loaded and dumped by PROGRAM: it is the same text, in either spelling. Each real file that is sound is put into the other byte order by PROGRAM's `convert`:
 the original's `db5.3_verify` tells of it what it tells of the first file, `db5.3_dump` gives the same text but for `db_lorder`, and converted back it is the first file byte for
 byte. Of each real file copies are damaged in the ways of DAMAGES, and each is repaired by PROGRAM's `repair`, without a shape and in each of SHAPES: the file passes `db5.3_verify`, and
-`db5.3_dump` of it has the names and pairs of what `salvage` gives of the copy, or of a shape the pairs that it keeps. Prints a line for each that is answered otherwise, and then how many hold; the exit status is 1 where one
+`db5.3_dump` of it has the names and pairs of what `salvage` gives of the copy, or of a shape the pairs that it keeps. Onto each real file that is sound, for the original too, PROGRAM loads a text, and `db5.3_dump` gives the pairs that it gives of a copy into which
+`db5.3_load` loaded the text. Prints a line for each that is answered otherwise, and then how many hold; the exit status is 1 where one
 doesn't hold. Without the original's tools nothing is asked.
 """
 import pathlib
@@ -286,6 +287,70 @@ def check_repaired(program, folder):
     return asked, held
 
 
+def text_onto(dump):
+    """A text with the sections of a dump, each with a pair whose key is there, where there is one, and two with other keys; and without what neither rule has."""
+    sections = []
+    for part in dump.split(b"VERSION=3\n")[1:]:
+        head, _, body = part.partition(b"\nHEADER=END\n")
+        lines = [line for line in body.split(b"\n") if line.startswith(b" ")]
+        length = re.search(rb"(?m)^re_len=(\d+)$", head)
+        value = b" " + (b"6f6e746f"[: 2 * int(length[1])] if length else b"6f6e746f")
+        if re.search(rb"(?m)^type=(recno|queue)$", head):
+            last = int(bytes.fromhex(lines[-2][1:].decode())) if lines else 0
+            keys = [b"1", b"%d" % (last + 1), b"%d" % (last + 3)]
+            more = [b" " + key.hex().encode() + b"\n" + value for key in keys]
+        else:
+            keys = lines[:1] + [b" 00ff6f6e746f", b" ff6f6e746f"]
+            more = [key + b"\n" + value for key in keys]
+        sections.append(b"VERSION=3\n" + head + b"\nHEADER=END\n" + b"".join(line + b"\n" for line in more) + b"DATA=END\n")
+    return b"".join(sections)
+
+
+def dump_within(file):
+    """What db5.3_dump gives of a file that db5.3_load added to; None where it doesn't end."""
+    try:
+        return run("db5.3_dump", "-k", str(file)).stdout
+    except subprocess.TimeoutExpired:
+        print(f"db5.3_dump doesn't end after db5.3_load added to a copy, {file.stat().st_size} bytes")
+        return None
+
+
+def onto_wrong(program, folder, image):
+    """What is wrong with a file that is built of a text and this one, beside the original's of the same text and a copy; None where nothing is."""
+    text = text_onto(run(program, "dump", given=image).stdout)
+    base, built, copy = folder / "base.db", folder / "onto.db", folder / "copy.db"
+    base.write_bytes(image)
+    copy.write_bytes(image)
+    ran = run(program, "load", "--onto", str(base), given=text)
+    if ran.returncode:
+        return f"load --onto: status {ran.returncode}, {ran.stderr.decode(errors='replace')}"
+    if base.read_bytes() != image:
+        return "load --onto: the base is another file"
+    built.write_bytes(ran.stdout)
+    if told := verifier_told(built):
+        return f"load --onto: db5.3_verify tells {told}"
+    run("db5.3_load", str(copy), given=text)
+    theirs = dump_within(copy)
+    if theirs is not None and databases(run("db5.3_dump", "-k", str(built)).stdout) != databases(theirs):
+        return "load --onto: db5.3_dump has other pairs than of what db5.3_load makes of a copy"
+    return None
+
+
+def check_onto(program, folder):
+    """How many real files are sound, for the original too, and have a database; and onto how many of them a text is loaded as the original does."""
+    asked = held = 0
+    for file in sorted((TOP / "crates/nothing_lost/data").iterdir()):
+        image = file.read_bytes()
+        if run(program, "verify", given=image).returncode or not run(program, "list", given=image).stdout or verifier_told(file):
+            continue
+        wrong = onto_wrong(program, folder, image)
+        asked += 1
+        held += wrong is None
+        if wrong:
+            print(f"{file.name}, {wrong}")
+    return asked, held
+
+
 def main():
     program = sys.argv[1] if len(sys.argv) > 1 else str(TOP / "crates/bdbtool/out/bdbtool")
     pairs = int(sys.argv[2]) if len(sys.argv) > 2 else 1_000_000
@@ -314,12 +379,14 @@ def main():
                         print(f"{file.name}, {order.decode()}, dump {' '.join(spelling)}: {wrong}")
         again, same = check_again(program, folder, pairs)
         converted, turned = check_converted(program, folder)
+        based, joined = check_onto(program, folder)
         repaired, mended = check_repaired(program, folder)
     print(f"{held} of {asked} hold; {refused} texts refused by name, {passed_over} dumps that the original can't load")
     print(f"{same} of {again} dumps are the same text, loaded and dumped")
     print(f"{turned} of {converted} files are the same in the other byte order")
+    print(f"{joined} of {based} files with a text loaded onto them have the pairs that the original gives a copy")
     print(f"{mended} of {repaired} repaired files have what was salvaged of damaged ones")
-    sys.exit(held != asked or same != again or turned != converted or mended != repaired)
+    sys.exit(held != asked or same != again or turned != converted or joined != based or mended != repaired)
 
 
 if __name__ == "__main__":

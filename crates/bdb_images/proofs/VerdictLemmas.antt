@@ -7,8 +7,8 @@ use Rattle.bdb_model.specs.Answers.{Answer, told, too_large_line}
 use Rattle.bdb_model.specs.Change.{Change, Gains, HasFailed}
 use Rattle.bdb_format.specs.Faults.{Rose}
 use Rattle.bdb_model.specs.Command.{Verify}
-use Rattle.bdb_tool.specs.Commands.{Ask, Command, command_of}
-use Rattle.bdb_tool.specs.Outputs.{IsAnswerBySize, IsAnswerTo, IsCommandAnswer, IsInput, verified}
+use Rattle.bdb_tool.specs.Commands.{Ask, Command, command_of, handed}
+use Rattle.bdb_tool.specs.Outputs.{IsAnswerBySize, IsAnswerTo, IsCommandAnswer, IsInput, asked_alone, verified}
 use Rattle.bdb_tool.specs.Runs.{IsAnswered, RunsAs}
 use Rattle.bdb_images.specs.Lines.{text_told, verify_answer, verify_words}
 
@@ -19,15 +19,15 @@ command_is : command_of verify_words ≡ Some verify_command
 unfolding command_of
 command_is = refl
 
-by_size : (beyond : Bool) (image : List ℕ) (answer : Answer) → IsAnswerBySize beyond verify_command image answer
+by_size : (beyond : Bool) (image : List ℕ) (answer : Answer) → IsAnswerBySize beyond verify_command image [] answer
     → answer ≡ (if beyond then told 6 (too_large_line (2 ^ 30)) else verified (faults_of image) image)
 by_size true image answer is = is
 by_size false image answer is = is
 
 -- there is one answer to `verify`
-one_answer : (image : List ℕ) (answer : Answer) → IsAnswerTo verify_words image answer → answer ≡ verify_answer image
+one_answer : (image : List ℕ) (answer : Answer) → IsAnswerTo (asked_alone verify_words) image answer → answer ≡ verify_answer image
 one_answer image answer is =
-    by_size (nat_lt (2 ^ 30) (length image)) image answer (subst (λ command. IsCommandAnswer command image answer) command_is is)
+    by_size (nat_lt (2 ^ 30) (length image)) image answer (subst (λ command. IsCommandAnswer command image [] answer) (ap (handed false) command_is) is)
 
 -- what was written is the answer
 pub record TellsVerdict (image : List ℕ) (out err : Change) (status : ℕ) : Type 0 where
@@ -35,7 +35,7 @@ pub record TellsVerdict (image : List ℕ) (out err : Change) (status : ℕ) : T
   pub out_is : Gains out (verify_answer image).out
   pub err_is : Gains err (verify_answer image).err
 
-pub tells_verdict : (image : List ℕ) (source out err : Change) (status : ℕ) → RunsAs verify_words source out err status → source.before ≡ Some image → IsAnswered status → TellsVerdict image out err status
+pub tells_verdict : (image : List ℕ) (source out err : Change) (status : ℕ) → RunsAs (asked_alone verify_words) source out err status → source.before ≡ Some image → IsAnswered status → TellsVerdict image out err status
 tells_verdict image source out err status runs before answered =
     let found = runs.answers answered in
     let input : found.0 ≡ image = subst (λ left. IsInput left found.0) before found.1 in
@@ -56,17 +56,17 @@ told_line : (answer : Answer) → answer.status ≢ 0 → answer.err ≡ text_to
 told_line answer other = rw (ne_eqb answer.status 0 other) refl
 
 -- the output where the command was done
-pub verdict_printed : (words : List (List ℕ)) (image printed : List ℕ) (source out err : Change) (status : ℕ) → words ≡ verify_words → RunsAs words source out err status → source.before ≡ Some image → status ≡ 0
+pub verdict_printed : (words : List (List ℕ)) (image printed : List ℕ) (source out err : Change) (status : ℕ) → words ≡ verify_words → RunsAs (asked_alone words) source out err status → source.before ≡ Some image → status ≡ 0
     → out.before ≡ Some [] → out.now ≡ Some printed → printed ≡ text_told (verify_answer image)
 verdict_printed words image printed source out err status words_are runs before is out_before out_now =
-    let tells = tells_verdict image source out err status (subst (λ ws. RunsAs ws source out err status) words_are runs) before (λ four. omega arith, λ five. omega arith, λ seven. omega arith) in
+    let tells = tells_verdict image source out err status (subst (λ ws. RunsAs (asked_alone ws) source out err status) words_are runs) before (λ four. omega arith, λ five. omega arith, λ seven. omega arith) in
     printed_whole out printed (verify_answer image).out out_before out_now tells.out_is ∙ told_done (verify_answer image) (sym tells.status_is ∙ is)
 
 -- the error line where it wasn't
-pub verdict_line : (words : List (List ℕ)) (image printed : List ℕ) (source out err : Change) (status : ℕ) → words ≡ verify_words → RunsAs words source out err status → source.before ≡ Some image → (HasFailed source → ⊥) → status ≢ 0 → status ≢ 5
+pub verdict_line : (words : List (List ℕ)) (image printed : List ℕ) (source out err : Change) (status : ℕ) → words ≡ verify_words → RunsAs (asked_alone words) source out err status → source.before ≡ Some image → (HasFailed source → ⊥) → status ≢ 0 → status ≢ 5
     → status ≢ 7 → err.before ≡ Some [] → err.now ≡ Some printed → printed ≡ text_told (verify_answer image)
 verdict_line words image printed source out err status words_are runs before never other no_fault no_memory err_before err_now =
-    let tells = tells_verdict image source out err status (subst (λ ws. RunsAs ws source out err status) words_are runs) before (λ four. never (runs.read_fault four).0, no_fault, no_memory) in
+    let tells = tells_verdict image source out err status (subst (λ ws. RunsAs (asked_alone ws) source out err status) words_are runs) before (λ four. never (runs.read_fault four).0, no_fault, no_memory) in
     printed_whole err printed (verify_answer image).err err_before err_now tells.err_is ∙ told_line (verify_answer image) (λ zero_is. other (tells.status_is ∙ zero_is))
 
 -- bytes that are a text

@@ -3,7 +3,7 @@
 use crate::images::{File, bytes_of};
 use bdb_io::{MemSink, MemSource, Sink, Source};
 use bdb_model::Words;
-use bdb_tool::run_counted;
+use bdb_tool::{run_counted, run_onto};
 use std::alloc::{AllocError, Global};
 use std::marker::Brand;
 use std::sync::ledger::Blank;
@@ -105,6 +105,28 @@ pub fn ran_over<S: Source>(
 pub fn ran_of(alloc: Global, given: &[&str], file: &File) -> Result<Ran, AllocError> {
     let mut source = source_over(alloc, file)?;
     ran_over(alloc, given, &mut source)
+}
+
+/// What a run with a base gave.
+pub fn ran_onto<S: Source, B: Source>(
+    alloc: Global,
+    given: &[&str],
+    source: &mut S,
+    base: &mut B,
+) -> Result<Ran, AllocError> {
+    let words = words_of(alloc, given)?;
+    let mut out = MemSink::new(alloc);
+    let mut err = MemSink::new(alloc);
+    let status = run_onto::<Brand, S, B, MemSink, MemSink>(
+        alloc,
+        &words,
+        source,
+        base,
+        &mut out,
+        &mut err,
+        Blank::new(1),
+    );
+    Ok(Ran { status, out, err })
 }
 
 /// Whether a run gave just what is told.

@@ -38,6 +38,11 @@ use Rattle.bdb_load.specs.Loading.{loading_error}
 use Rattle.bdb_writing.specs.declared.refusal.Refusal.{Refusal}
 use Rattle.bdb_writing.specs.declared.refusal.Refusal.TheVariants.{Faulty as FaultyText, TooLarge as TooLargeImage, Memory as MemoryRefusal}
 use Rattle.bdb_writing.specs.Loads.{IsLoadAnswerBy, IsErrorAnswer, IsLoadAnswer, IsTextAnswer}
+use Rattle.bdb_onto.specs.declared.base.Base.{Base}
+use Rattle.bdb_onto.specs.Bases.{base_of}
+use Rattle.bdb_onto.specs.Onto.{loading_error_onto}
+use Rattle.bdb_writing.specs.Ontos.{IsLoadOnto, IsTextOnto, IsTextOntoBy}
+use Rattle.bdb_tool.specs.Ontos.{IsOntoBy}
 use Rattle.bdb_writing.specs.Refusals.{IsRefusedAnswer}
 use Rattle.bdb_writing.specs.Trials.{IsTrialAnswer, IsTrialBy, trial_sections}
 use Rattle.bdb_tool.proofs.FinishLemmas.{memory_finishes, told_finishes, written_finishes}
@@ -225,6 +230,22 @@ text_own_by limit None text answer is = load_own limit (loading_error limit is.s
 
 pub text_own : (limit : ℕ) (text : List ℕ) (answer : Answer) → IsTextAnswer limit text answer → HasOwnStatus answer
 text_own limit text answer is = text_own_by limit (text_fault text) text answer is
+
+onto_load_own : (limit : ℕ) (error : Option LoadError) (base : Base) (sections : List Section) (answer : Answer) → IsLoadOnto limit error base sections answer → HasOwnStatus answer
+onto_load_own limit (Some error) base sections answer is = error_own limit error answer is
+onto_load_own limit None base sections answer is = done_own is.image answer is.answer_is
+
+onto_text_own : (limit : ℕ) (base : Base) (fault : Option TextFault) (text : List ℕ) (answer : Answer) → IsTextOntoBy limit base fault text answer → HasOwnStatus answer
+onto_text_own limit base (Some fault) text answer is = bad_own _ answer is
+onto_text_own limit base None text answer is = onto_load_own limit (loading_error_onto limit base is.sections) base is.sections answer is.answered
+
+onto_own_by : (limit : ℕ) (verdict : Option Judgement) (text image : List ℕ) (answer : Answer) → IsOntoBy limit verdict text image answer → HasOwnStatus answer
+onto_own_by limit (Some (Faulty fault)) text image answer is = rw is (low_own (told 1 (fault_line fault)) (omega arith))
+onto_own_by limit (Some (LeftOut name page)) text image answer is = rw is (low_own (told 3 (unsupported_line name page)) (omega arith))
+onto_own_by limit None text image answer is = onto_text_own limit (base_of image) (text_fault text) text answer is
+
+pub onto_own : (limit : ℕ) (text image : List ℕ) (answer : Answer) → IsOntoBy limit (verdict_of image) text image answer → HasOwnStatus answer
+onto_own limit text image answer is = onto_own_by limit (verdict_of image) text image answer is
 
 trial_own_by : (beyond : Bool) (limit : ℕ) (kind : Kind) (seed count : ℕ) (answer : Answer) → IsTrialBy beyond limit kind seed count answer → HasOwnStatus answer
 trial_own_by true limit kind seed count answer is = large_own _ answer is

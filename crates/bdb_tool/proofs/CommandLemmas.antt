@@ -45,6 +45,10 @@ pub dump_with : (given : List Given) (words : List (List ℕ)) (place : ℕ) →
 dump_with given words place within =
     let some : (length (drop place words) == 0) ≡ false = ne_eqb _ _ (λ none. omega (arith, length-drop place words)) in rw some refl
 
+pub load_with : (given : List Given) (words : List (List ℕ)) (place : ℕ) → place < length words → command_with load_row (Some (given_with given (drop place words))) ≡ None
+load_with given words place within =
+    let some : (length (drop place words) == 0) ≡ false = ne_eqb _ _ (λ none. omega (arith, length-drop place words)) in rw some refl
+
 pub salvage_with : (given : List Given) (words : List (List ℕ)) (place : ℕ) → place < length words → command_with salvage_row (Some (given_with given (drop place words))) ≡ None
 salvage_with given words place within =
     let some : (length (drop place words) == 0) ≡ false = ne_eqb _ _ (λ none. omega (arith, length-drop place words)) in rw some refl

@@ -7,8 +7,8 @@ use Rattle.std.proofs.lemmas.List.Folds.{list_any-append}
 use Rattle.bdb_model.specs.Command.{Given, hex_option, is_given, max_bytes, name_option, print_option, value_given}
 use Rattle.bdb_tool.specs.declared.options.Arguments.{Arguments}
 use Rattle.bdb_tool.specs.declared.options.GivenOption.{GivenOption}
-use Rattle.bdb_tool.specs.declared.options.GivenOption.TheVariants.{MaxBytes, Name, Order, PageSize, As, Hex, Print, Duplicates, Dupsort}
-use Rattle.bdb_tool.specs.Commands.{as_option, dupsort_option, duplicates_option, order_option, page_size_option}
+use Rattle.bdb_tool.specs.declared.options.GivenOption.TheVariants.{MaxBytes, Name, Order, PageSize, As, Onto, Hex, Print, Duplicates, Dupsort}
+use Rattle.bdb_tool.specs.Commands.{as_option, dupsort_option, duplicates_option, onto_option, order_option, page_size_option}
 use Rattle.bdb_tool.specs.WordsSeen.{HasGiven, IsNew, given_seen}
 
 -- One more option at the end.
@@ -89,6 +89,9 @@ pub has_kind : (read : Arguments) (option : GivenOption) (text : Bor (List ℕ))
     → IsTrue (is_given (given_seen option).word before)
 has_kind read option text before is some has = rw is (has_value as_option read.kind before some has.kind_is)
 
+pub has_onto : (read : Arguments) (option : GivenOption) (text : Bor (List ℕ)) (before : List Given) → option ≡ Onto text → is_some read.onto ≡ true → HasGiven read before → IsTrue (is_given (given_seen option).word before)
+has_onto read option text before is some has = rw is (has_value onto_option read.onto before some has.onto_is)
+
 -- One more option.
 
 pub with_max_bytes : (old read : Arguments) (option : GivenOption) (text : Bor (List ℕ)) (next : ℕ) (before : List Given) → option ≡ MaxBytes text → is_some old.max_bytes ≡ false → read ≡ record old { max_bytes = Some text } → HasGiven old before → IsNew before (given_seen option) (record read { operands = next })
@@ -102,6 +105,7 @@ with_max_bytes old read option text next before is none read_is has =
         order_is = value_other order_option before (given_seen (MaxBytes text)) refl ∙ has.order_is;
         page_size_is = value_other page_size_option before (given_seen (MaxBytes text)) refl ∙ has.page_size_is;
         kind_is = value_other as_option before (given_seen (MaxBytes text)) refl ∙ has.kind_is;
+        onto_is = value_other onto_option before (given_seen (MaxBytes text)) refl ∙ has.onto_is;
         hex_is = given_other hex_option before (given_seen (MaxBytes text)) old.hex refl has.hex_is;
         print_is = given_other print_option before (given_seen (MaxBytes text)) old.print refl has.print_is;
         duplicates_is = given_other duplicates_option before (given_seen (MaxBytes text)) old.duplicates refl has.duplicates_is;
@@ -120,6 +124,7 @@ with_name old read option text next before is none read_is has =
         order_is = value_other order_option before (given_seen (Name text)) refl ∙ has.order_is;
         page_size_is = value_other page_size_option before (given_seen (Name text)) refl ∙ has.page_size_is;
         kind_is = value_other as_option before (given_seen (Name text)) refl ∙ has.kind_is;
+        onto_is = value_other onto_option before (given_seen (Name text)) refl ∙ has.onto_is;
         hex_is = given_other hex_option before (given_seen (Name text)) old.hex refl has.hex_is;
         print_is = given_other print_option before (given_seen (Name text)) old.print refl has.print_is;
         duplicates_is = given_other duplicates_option before (given_seen (Name text)) old.duplicates refl has.duplicates_is;
@@ -138,6 +143,7 @@ with_order old read option text next before is none read_is has =
         order_is = value_now order_option before (given_seen (Order text)) refl lacks;
         page_size_is = value_other page_size_option before (given_seen (Order text)) refl ∙ has.page_size_is;
         kind_is = value_other as_option before (given_seen (Order text)) refl ∙ has.kind_is;
+        onto_is = value_other onto_option before (given_seen (Order text)) refl ∙ has.onto_is;
         hex_is = given_other hex_option before (given_seen (Order text)) old.hex refl has.hex_is;
         print_is = given_other print_option before (given_seen (Order text)) old.print refl has.print_is;
         duplicates_is = given_other duplicates_option before (given_seen (Order text)) old.duplicates refl has.duplicates_is;
@@ -156,6 +162,7 @@ with_page_size old read option text next before is none read_is has =
         order_is = value_other order_option before (given_seen (PageSize text)) refl ∙ has.order_is;
         page_size_is = value_now page_size_option before (given_seen (PageSize text)) refl lacks;
         kind_is = value_other as_option before (given_seen (PageSize text)) refl ∙ has.kind_is;
+        onto_is = value_other onto_option before (given_seen (PageSize text)) refl ∙ has.onto_is;
         hex_is = given_other hex_option before (given_seen (PageSize text)) old.hex refl has.hex_is;
         print_is = given_other print_option before (given_seen (PageSize text)) old.print refl has.print_is;
         duplicates_is = given_other duplicates_option before (given_seen (PageSize text)) old.duplicates refl has.duplicates_is;
@@ -174,10 +181,30 @@ with_kind old read option text next before is none read_is has =
         order_is = value_other order_option before (given_seen (As text)) refl ∙ has.order_is;
         page_size_is = value_other page_size_option before (given_seen (As text)) refl ∙ has.page_size_is;
         kind_is = value_now as_option before (given_seen (As text)) refl lacks;
+        onto_is = value_other onto_option before (given_seen (As text)) refl ∙ has.onto_is;
         hex_is = given_other hex_option before (given_seen (As text)) old.hex refl has.hex_is;
         print_is = given_other print_option before (given_seen (As text)) old.print refl has.print_is;
         duplicates_is = given_other duplicates_option before (given_seen (As text)) old.duplicates refl has.duplicates_is;
         dupsort_is = given_other dupsort_option before (given_seen (As text)) old.dupsort refl has.dupsort_is;
+      },
+    )
+
+pub with_onto : (old read : Arguments) (option : GivenOption) (text : Bor (List ℕ)) (next : ℕ) (before : List Given) → option ≡ Onto text → is_some old.onto ≡ false → read ≡ record old { onto = Some text } → HasGiven old before → IsNew before (given_seen option) (record read { operands = next })
+with_onto old read option text next before is none read_is has =
+    let lacks = has.onto_is ∙ copied_none old.onto none in
+    rw (is, read_is) (
+      not_given onto_option before lacks,
+      record {
+        max_bytes_is = value_other max_bytes before (given_seen (Onto text)) refl ∙ has.max_bytes_is;
+        name_is = value_other name_option before (given_seen (Onto text)) refl ∙ has.name_is;
+        order_is = value_other order_option before (given_seen (Onto text)) refl ∙ has.order_is;
+        page_size_is = value_other page_size_option before (given_seen (Onto text)) refl ∙ has.page_size_is;
+        kind_is = value_other as_option before (given_seen (Onto text)) refl ∙ has.kind_is;
+        onto_is = value_now onto_option before (given_seen (Onto text)) refl lacks;
+        hex_is = given_other hex_option before (given_seen (Onto text)) old.hex refl has.hex_is;
+        print_is = given_other print_option before (given_seen (Onto text)) old.print refl has.print_is;
+        duplicates_is = given_other duplicates_option before (given_seen (Onto text)) old.duplicates refl has.duplicates_is;
+        dupsort_is = given_other dupsort_option before (given_seen (Onto text)) old.dupsort refl has.dupsort_is;
       },
     )
 
@@ -191,6 +218,7 @@ with_hex old read option next before is none read_is has =
         order_is = value_other order_option before (given_seen Hex) refl ∙ has.order_is;
         page_size_is = value_other page_size_option before (given_seen Hex) refl ∙ has.page_size_is;
         kind_is = value_other as_option before (given_seen Hex) refl ∙ has.kind_is;
+        onto_is = value_other onto_option before (given_seen Hex) refl ∙ has.onto_is;
         hex_is = given_now hex_option before (given_seen Hex) refl;
         print_is = given_other print_option before (given_seen Hex) old.print refl has.print_is;
         duplicates_is = given_other duplicates_option before (given_seen Hex) old.duplicates refl has.duplicates_is;
@@ -208,6 +236,7 @@ with_print old read option next before is none read_is has =
         order_is = value_other order_option before (given_seen Print) refl ∙ has.order_is;
         page_size_is = value_other page_size_option before (given_seen Print) refl ∙ has.page_size_is;
         kind_is = value_other as_option before (given_seen Print) refl ∙ has.kind_is;
+        onto_is = value_other onto_option before (given_seen Print) refl ∙ has.onto_is;
         hex_is = given_other hex_option before (given_seen Print) old.hex refl has.hex_is;
         print_is = given_now print_option before (given_seen Print) refl;
         duplicates_is = given_other duplicates_option before (given_seen Print) old.duplicates refl has.duplicates_is;
@@ -225,6 +254,7 @@ with_duplicates old read option next before is none read_is has =
         order_is = value_other order_option before (given_seen Duplicates) refl ∙ has.order_is;
         page_size_is = value_other page_size_option before (given_seen Duplicates) refl ∙ has.page_size_is;
         kind_is = value_other as_option before (given_seen Duplicates) refl ∙ has.kind_is;
+        onto_is = value_other onto_option before (given_seen Duplicates) refl ∙ has.onto_is;
         hex_is = given_other hex_option before (given_seen Duplicates) old.hex refl has.hex_is;
         print_is = given_other print_option before (given_seen Duplicates) old.print refl has.print_is;
         duplicates_is = given_now duplicates_option before (given_seen Duplicates) refl;
@@ -242,6 +272,7 @@ with_dupsort old read option next before is none read_is has =
         order_is = value_other order_option before (given_seen Dupsort) refl ∙ has.order_is;
         page_size_is = value_other page_size_option before (given_seen Dupsort) refl ∙ has.page_size_is;
         kind_is = value_other as_option before (given_seen Dupsort) refl ∙ has.kind_is;
+        onto_is = value_other onto_option before (given_seen Dupsort) refl ∙ has.onto_is;
         hex_is = given_other hex_option before (given_seen Dupsort) old.hex refl has.hex_is;
         print_is = given_other print_option before (given_seen Dupsort) old.print refl has.print_is;
         duplicates_is = given_other duplicates_option before (given_seen Dupsort) old.duplicates refl has.duplicates_is;

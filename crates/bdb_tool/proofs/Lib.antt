@@ -1,5 +1,6 @@
 pub mod FinishLemmas
 pub mod RepairLemmas
+pub mod OntoLemmas
 pub mod RunLemmas
 pub mod CommandLemmas
 pub mod GivenLemmas

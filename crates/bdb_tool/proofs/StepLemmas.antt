@@ -8,7 +8,7 @@ use Rattle.std.proofs.lemmas.Option.{get_or_from_slice_get, slice_get_cases, sli
 use Rattle.std.proofs.lemmas.Slice.Eq.{bytes_eq-Decides}
 use Rattle.bdb_model.specs.Command.{Arguments, OptionRow, WordKind, End, Operand, Plain, Valued, Unknown, arguments, arguments_behind, is_option, only_operands, option_kind, row_of, with_option, word_kind}
 use Rattle.bdb_tool.specs.declared.options.OptionWord.{OptionWord}
-use Rattle.bdb_tool.specs.declared.options.OptionWord.TheVariants.{MaxBytes as MaxBytesWord, Name as NameWord, Order as OrderWord, PageSize as PageSizeWord, As as AsWord, Hex as HexWord, Print as PrintWord}
+use Rattle.bdb_tool.specs.declared.options.OptionWord.TheVariants.{MaxBytes as MaxBytesWord, Name as NameWord, Order as OrderWord, PageSize as PageSizeWord, As as AsWord, Onto as OntoWord, Hex as HexWord, Print as PrintWord}
 use Rattle.bdb_tool.specs.declared.options.OptionWord.TheVariants.{Duplicates as DuplicatesWord, Dupsort as DupsortWord}
 use Rattle.bdb_tool.specs.declared.options.GivenOption.{GivenOption}
 use Rattle.bdb_tool.specs.declared.options.Step.TheVariants.{Given as GivenStep}
@@ -176,6 +176,9 @@ step_given options words at word PageSizeWord given there not_end is row by =
 step_given options words at word AsWord given there not_end is row by =
     taken_step options words at word (given_seen given).value 2 given (row.1 ∙ sym by.0) refl by.1.1
     (step_valued options words at word (row_seen AsWord) (given_seen given).value there not_end is row.0 refl by.1.0)
+step_given options words at word OntoWord given there not_end is row by =
+    taken_step options words at word (given_seen given).value 2 given (row.1 ∙ sym by.0) refl by.1.1
+    (step_valued options words at word (row_seen OntoWord) (given_seen given).value there not_end is row.0 refl by.1.0)
 step_given options words at word HexWord given there not_end is row by =
     taken_step options words at word [] 1 given (row.1 ∙ sym by.0) by.1.0 by.1.1
     (step_alone options words at word (row_seen HexWord) there not_end is row.0 refl)

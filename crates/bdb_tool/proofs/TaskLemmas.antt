@@ -1,11 +1,11 @@
 -- From the words and the source to a task.
-use Rattle.std.proofs.Common.{◌≡◌, ℕ, ◌+◌, true, List, refl, subst, sym, ◌∙◌, ap}
+use Rattle.std.proofs.Common.{◌≡◌, ℕ, ◌+◌, false, true, List, refl, subst, sym, ◌∙◌, ap}
 use Rattle.std.specs.Prelude.{Option, Some, None, IsTrue, is_some}
 use Rattle.bdb_model.specs.Change.{Change}
 use Rattle.bdb_model.specs.Command.{Request}
 use Rattle.bdb_format.specs.Faults.{Took}
-use Rattle.bdb_tool.specs.Commands.{Action, Ask, Load, Command, asking, command_of, reads_input, within}
-use Rattle.bdb_tool.specs.declared.command.Action.TheVariants.{Ask as AskWord, Load as LoadWord, Salvage as SalvageWord, Repair as RepairWord}
+use Rattle.bdb_tool.specs.Commands.{Action, Ask, Load, LoadOnto, Command, asking, handed, reads_input, within}
+use Rattle.bdb_tool.specs.declared.command.Action.TheVariants.{Ask as AskWord, Load as LoadWord, Salvage as SalvageWord, Repair as RepairWord, Trial as TrialWord}
 use Rattle.bdb_tool.specs.declared.command.Request.{Request as CodeRequest}
 use Rattle.bdb_tool.specs.declared.command.Repair.{Repair as CodeRepair}
 use Rattle.bdb_tool.specs.declared.command.Salvage.{Salvage as CodeSalvage}
@@ -27,39 +27,43 @@ asks limit None is = absurd cc
 asks limit (Some asked) is = (asked, refl)
 
 -- a command that reads its input
-abbrev reading : (words : List (List ℕ)) (limit : ℕ) (action : Action) → command_of words ≡ Some (made limit action) → reads_input action ≡ true → AreReading words
-reading words limit action is reads = record { command = made limit action; command_is = is; reads = reads }
+abbrev reading : (said : Option Command) (limit : ℕ) (action : Action) → said ≡ Some (made limit action) → reads_input action ≡ true → AreReading said
+reading said limit action is reads = record { command = made limit action; command_is = is; reads = reads }
 
-pub is_asked : (words : List (List ℕ)) (source : Change) (limit : ℕ) (request : CodeRequest) (image : List ℕ) → IsSeen (command_of words) (record { limit = limit; action = AskWord request }) → IsInputWithin limit source image
-    → IsAsked words source request image
-is_asked words source limit request image seen input =
+pub is_asked : (said : Option Command) (source : Change) (limit : ℕ) (request : CodeRequest) (image : List ℕ) → IsSeen (said) (record { limit = limit; action = AskWord request }) → IsInputWithin limit source image
+    → IsAsked (handed false said) source request image
+is_asked said source limit request image seen input =
     let asked = asks limit (request_seen request) seen.1 in
     record {
       limit = limit;
       asked = asked.0;
       seen = asked.1;
-      read = record { command_is = seen.0 ∙ ap (λ it. within (Some limit) (asking it)) asked.1; reads = refl; input_is = input };
+      read = record { command_is = ap (handed false) (seen.0 ∙ ap (λ it. within (Some limit) (asking it)) asked.1); reads = refl; input_is = input };
     }
 
 -- no input, of a command that reads it
-not_read : (words : List (List ℕ)) (source : Change) (limit : ℕ) (action : Action) (stop : Stop) → command_of words ≡ Some (made limit action) → reads_input action ≡ true → IsUnreadable limit source stop → IsStopped words source stop
-not_read words source limit action Usage is reads unread = absurd unread
-not_read words source limit action (TooLarge longest) is reads unread =
-    record { reading = reading words limit action is reads; limit_is = unread.0; took = subst (λ n. Took (n + 1) source.before source.now) (sym unread.0) unread.1 }
-not_read words source limit action ReadFault is reads unread = (reading words limit action is reads, unread)
-not_read words source limit action Memory is reads unread = reading words limit action is reads
+pub not_read : (said : Option Command) (source : Change) (limit : ℕ) (action : Action) (stop : Stop) → said ≡ Some (made limit action) → reads_input action ≡ true → IsUnreadable limit source stop → IsStopped said source stop
+not_read said source limit action Usage is reads unread = absurd unread
+not_read said source limit action (TooLarge longest) is reads unread =
+    record { reading = reading said limit action is reads; limit_is = unread.0; took = subst (λ n. Took (n + 1) source.before source.now) (sym unread.0) unread.1 }
+not_read said source limit action ReadFault is reads unread = (reading said limit action is reads, unread)
+not_read said source limit action Memory is reads unread = reading said limit action is reads
 
-pub asked_unread : (words : List (List ℕ)) (source : Change) (limit : ℕ) (request : CodeRequest) (stop : Stop) → IsSeen (command_of words) (record { limit = limit; action = AskWord request }) → IsUnreadable limit source stop → IsStopped words source stop
-asked_unread words source limit request stop seen unread =
+pub asked_unread : (said : Option Command) (source : Change) (limit : ℕ) (request : CodeRequest) (stop : Stop) → IsSeen (said) (record { limit = limit; action = AskWord request }) → IsUnreadable limit source stop → IsStopped (handed false said) source stop
+asked_unread said source limit request stop seen unread =
     let asked = asks limit (request_seen request) seen.1 in
-    not_read words source limit (Ask asked.0) stop (seen.0 ∙ ap (λ it. within (Some limit) (asking it)) asked.1) refl unread
+    not_read (handed false said) source limit (Ask asked.0) stop (ap (handed false) (seen.0 ∙ ap (λ it. within (Some limit) (asking it)) asked.1)) refl unread
 
-pub text_unread : (words : List (List ℕ)) (source : Change) (limit : ℕ) (stop : Stop) → IsSeen (command_of words) (record { limit = limit; action = LoadWord }) → IsUnreadable limit source stop → IsStopped words source stop
-text_unread words source limit stop seen unread = not_read words source limit Load stop seen.0 refl unread
+pub text_unread : (said : Option Command) (source : Change) (limit : ℕ) (stop : Stop) → IsSeen (said) (record { limit = limit; action = LoadWord }) → IsUnreadable limit source stop → IsStopped (handed false said) source stop
+text_unread said source limit stop seen unread = not_read (handed false said) source limit Load stop (ap (handed false) seen.0) refl unread
 
-pub salvage_unread : (words : List (List ℕ)) (source : Change) (limit : ℕ) (asked : CodeSalvage) (stop : Stop) → IsSeen (command_of words) (record { limit = limit; action = SalvageWord asked }) → IsUnreadable limit source stop → IsStopped words source stop
-salvage_unread words source limit asked stop seen unread = not_read words source limit (salvage_seen asked) stop seen.0 refl unread
+pub salvage_unread : (said : Option Command) (source : Change) (limit : ℕ) (asked : CodeSalvage) (stop : Stop) → IsSeen (said) (record { limit = limit; action = SalvageWord asked }) → IsUnreadable limit source stop → IsStopped (handed false said) source stop
+salvage_unread said source limit asked stop seen unread = not_read (handed false said) source limit (salvage_seen asked) stop (ap (handed false) seen.0) refl unread
 
-pub repair_unread : (words : List (List ℕ)) (source : Change) (limit : ℕ) (asked : CodeRepair) (stop : Stop)
-    → IsSeen (command_of words) (record { limit = limit; action = RepairWord asked }) → IsUnreadable limit source stop → IsStopped words source stop
-repair_unread words source limit asked stop seen unread = not_read words source limit (repair_seen asked) stop seen.0 refl unread
+pub repair_unread : (said : Option Command) (source : Change) (limit : ℕ) (asked : CodeRepair) (stop : Stop)
+    → IsSeen said (record { limit = limit; action = RepairWord asked }) → IsUnreadable limit source stop → IsStopped (handed false said) source stop
+repair_unread said source limit asked stop seen unread = not_read (handed false said) source limit (repair_seen asked) stop (ap (handed false) seen.0) refl unread
+
+-- a command that reads a base is none without it
+pub onto_alone : (said : Option Command) (limit : ℕ) (file : List ℕ) → said ≡ Some (made limit (LoadOnto file)) → handed false said ≡ None
+onto_alone said limit file is = ap (handed false) is

@@ -1,5 +1,5 @@
 -- The commands, and what each does. Source: README.md, "Use".
-use Rattle.std.specs.Prelude.{ℕ, nat_le, ◌==◌, if◌then◌else◌, Bool, true, false, List, [], ◌∷◌, length, Option, Some, None, codes}
+use Rattle.std.specs.Prelude.{ℕ, nat_le, ◌==◌, ◌&&◌, not, if◌then◌else◌, Bool, true, false, List, [], ◌∷◌, length, Option, Some, None, codes}
 use Rattle.std.specs.Str.{bytes_eq}
 use Rattle.bdb_format.specs.declared.kinds.Kind.{Kind}
 use Rattle.bdb_format.specs.declared.kinds.Kind.TheVariants.{Btree, Recno, Hash, Queue}
@@ -13,12 +13,13 @@ use Rattle.bdb_repair.specs.declared.shape.Shape.{Shape}
 use Rattle.bdb_repair.specs.declared.shape.Shape.TheVariants.{Btree as BtreeShape, Hash as HashShape, Recno as RecnoShape}
 use Rattle.bdb_survey.specs.declared.guess.Guess.{Guess}
 
--- what a command does: it asks something of a file, loads a text, salvages an image by the guess that is given and prints the data or spells them by digits,
--- repairs an image by the guess that is given, into one database of a shape where one is given, or builds a file of pairs that are generated: their kind,
--- their seed, and how many
+-- what a command does: it asks something of a file, loads a text, or loads it onto the file of this word, salvages an image by the guess that is given and
+-- prints the data or spells them by digits, repairs an image by the guess that is given, into one database of a shape where one is given, or builds a file
+-- of pairs that are generated: their kind, their seed, and how many
 pub data Action : Type 0 where
   Ask : Request → Action
   Load : Action
+  LoadOnto : List ℕ → Action
   Salvage : Option Guess → Bool → Action
   Repair : Option Shape → Option Guess → Action
   Trial : Kind → ℕ → ℕ → Action
@@ -32,9 +33,18 @@ pub record Command : Type 0 where
 abbrev pub reads_input : Action → Bool
 reads_input (Ask request) = true
 reads_input Load = true
+reads_input (LoadOnto file) = true
 reads_input (Salvage guess print) = true
 reads_input (Repair shape guess) = true
 reads_input (Trial kind seed count) = false
+
+-- whether a command reads a base
+abbrev pub reads_base : Action → Bool
+reads_base (Ask request) = false
+reads_base Load = false
+reads_base (LoadOnto file) = true
+reads_base (Salvage guess print) = false
+reads_base (Trial kind seed count) = false
 
 abbrev pub asking : Option Request → Option Action
 asking None = None
@@ -146,6 +156,18 @@ repair_action all =
     repairing (shape_asked (value_given as_option all.given) (duplicates_named (is_given duplicates_option all.given) (is_given dupsort_option all.given)))
     (guess_asked (value_given order_option all.given) (value_given page_size_option all.given))
 
+-- The option of `load`.
+
+abbrev pub onto_option : List ℕ
+onto_option = codes "--onto"
+
+abbrev pub onto_row : OptionRow
+onto_row = record { word = onto_option; takes_value = true }
+
+abbrev pub loading : Option (List ℕ) → Action
+loading None = Load
+loading (Some file) = LoadOnto file
+
 -- Operands of `trial`.
 
 abbrev pub kind_named : List ℕ → Option Kind
@@ -214,7 +236,12 @@ abbrev pub dump_row : CommandRow
 dump_row = record { word = codes "dump"; options = max_bytes_row ∷ name_row ∷ print_row ∷ []; operands = 0; does = λ all. asking (dump_request all) }
 
 abbrev pub load_row : CommandRow
-load_row = plain_row (codes "load") Load
+load_row = record {
+  word = codes "load";
+  options = max_bytes_row ∷ onto_row ∷ [];
+  operands = 0;
+  does = λ all. Some (loading (value_given onto_option all.given));
+}
 
 abbrev pub salvage_row : CommandRow
 salvage_row = record { word = codes "salvage"; options = max_bytes_row ∷ order_row ∷ page_size_row ∷ print_row ∷ []; operands = 0; does = salvage_action }
@@ -261,3 +288,29 @@ command_in (row ∷ rows) word words = if bytes_eq word row.word then command_wi
 unfoldable pub command_of : List (List ℕ) → Option Command
 command_of [] = None
 command_of (word ∷ words) = command_in commands word words
+
+-- a command, where a base is handed in or not: one that reads a base is none without it
+abbrev pub handed : Bool → Option Command → Option Command
+handed has None = None
+handed has (Some command) = if reads_base command.action && not has then None else Some command
+
+-- the command that the words are, where a base is handed in or not
+abbrev pub command_on : List (List ℕ) → Bool → Option Command
+command_on words has = handed has (command_of words)
+
+-- The file that is opened as the base.
+
+abbrev pub file_of_action : Action → Option (List ℕ)
+file_of_action (Ask request) = None
+file_of_action Load = None
+file_of_action (LoadOnto file) = Some file
+file_of_action (Salvage guess print) = None
+file_of_action (Trial kind seed count) = None
+
+abbrev pub file_of_command : Option Command → Option (List ℕ)
+file_of_command None = None
+file_of_command (Some command) = file_of_action command.action
+
+-- the word of `--onto`, exactly where the words are a command that has it
+abbrev pub onto_file : List (List ℕ) → Option (List ℕ)
+onto_file words = file_of_command (command_of words)

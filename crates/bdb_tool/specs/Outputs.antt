@@ -1,4 +1,4 @@
--- The answers to words and an input: a status, and what is written to the output and to the error sink. Source: README.md, "Use".
+-- The answers to words, an input and a base: a status, and what is written to the output and to the error sink. Source: README.md, "Use".
 use Rattle.std.specs.Prelude.{◌≡◌, ◌⊎◌, ℕ, nat_lt, ◌&&◌, Bool, true, false, List, [], ◌∷◌, length, map, Option, Some, None, codes, ⊤}
 use Rattle.bdb_format.specs.declared.kinds.Fault.{Fault}
 use Rattle.bdb_format.specs.Verdict.{Judgement, faults_of, judgement_of, verdict_of}
@@ -15,7 +15,8 @@ use Rattle.bdb_repair.specs.declared.shape.Shape.{Shape}
 use Rattle.bdb_salvage.specs.Guesses.{chosen}
 use Rattle.bdb_survey.specs.declared.guess.Guess.{Guess}
 use Rattle.bdb_text_format.specs.declared.sections.Section.{Section}
-use Rattle.bdb_tool.specs.Commands.{Action, Ask, Command, Load, Repair, Salvage, Trial, command_of, reads_input}
+use Rattle.bdb_tool.specs.Commands.{Action, Ask, Command, Load, LoadOnto, Repair, Salvage, Trial, command_on, reads_input}
+use Rattle.bdb_tool.specs.Ontos.{IsOntoAnswer}
 use Rattle.bdb_writing.specs.Lines.{image_too_large_line}
 use Rattle.bdb_writing.specs.Loads.{IsImageAnswer, IsTextAnswer}
 use Rattle.bdb_writing.specs.Trials.{IsTrialAnswer}
@@ -68,35 +69,42 @@ IsRepairBy limit shape (Some guess) image answer =
 abbrev pub IsRepairAnswer : ℕ → Option Shape → Option Guess → List ℕ → Answer → Type 0
 IsRepairAnswer limit shape guess image answer = IsRepairBy limit shape (chosen guess image) image answer
 
--- an answer to an input that isn't too long; `load`, `repair` and `trial` may have several
-abbrev pub IsActionAnswer : Action → ℕ → List ℕ → Answer → Type 0
-IsActionAnswer (Ask request) limit input answer = answer ≡ asked_answer request input
-IsActionAnswer Load limit input answer = IsTextAnswer limit input answer
-IsActionAnswer (Salvage guess print) limit input answer = answer ≡ salvage_answer guess print input
-IsActionAnswer (Repair shape guess) limit input answer = IsRepairAnswer limit shape guess input answer
-IsActionAnswer (Trial kind seed count) limit input answer = IsTrialAnswer limit kind seed count answer
+-- an answer to an input that isn't too long, and a base, whose bytes are none where none is read; `load`, `repair` and `trial` may have several
+abbrev pub IsActionAnswer : Action → ℕ → List ℕ → List ℕ → Answer → Type 0
+IsActionAnswer (Ask request) limit input base answer = answer ≡ asked_answer request input
+IsActionAnswer Load limit input base answer = IsTextAnswer limit input answer
+IsActionAnswer (LoadOnto file) limit input base answer = IsOntoAnswer limit input base answer
+IsActionAnswer (Salvage guess print) limit input base answer = answer ≡ salvage_answer guess print input
+IsActionAnswer (Repair shape guess) limit input base answer = IsRepairAnswer limit shape guess input answer
+IsActionAnswer (Trial kind seed count) limit input base answer = IsTrialAnswer limit kind seed count answer
 
 -- an answer to an input, by whether it is too long
-abbrev pub IsAnswerBySize : Bool → Command → List ℕ → Answer → Type 0
-IsAnswerBySize true command input answer = answer ≡ told 6 (too_large_line command.limit)
-IsAnswerBySize false command input answer = IsActionAnswer command.action command.limit input answer
+abbrev pub IsAnswerBySize : Bool → Command → List ℕ → List ℕ → Answer → Type 0
+IsAnswerBySize true command input base answer = answer ≡ told 6 (too_large_line command.limit)
+IsAnswerBySize false command input base answer = IsActionAnswer command.action command.limit input base answer
 
 abbrev pub is_too_long : Command → List ℕ → Bool
 is_too_long command input = reads_input command.action && nat_lt command.limit (length input)
 
 -- an answer to a command, or to words that are none
-abbrev pub IsCommandAnswer : Option Command → List ℕ → Answer → Type 0
-IsCommandAnswer None input answer = answer ≡ usage
-IsCommandAnswer (Some command) input answer = IsAnswerBySize (is_too_long command input) command input answer
+abbrev pub IsCommandAnswer : Option Command → List ℕ → List ℕ → Answer → Type 0
+IsCommandAnswer None input base answer = answer ≡ usage
+IsCommandAnswer (Some command) input base answer = IsAnswerBySize (is_too_long command input) command input base answer
 
--- an answer to words and an input
-abbrev pub IsAnswerTo : List (List ℕ) → List ℕ → Answer → Type 0
-IsAnswerTo words input answer = IsCommandAnswer (command_of words) input answer
+-- what a run is asked: the command, unless the words are none, and the base that is handed in, with its bytes, or none and no bytes
+pub record Asked : Type 0 where
+  pub command : Option Command
+  pub base : Option Change
+  pub image : List ℕ
 
--- a status and two texts are an answer to these words and this input
-pub record Output (words : List (List ℕ)) (input out err : List ℕ) (status : ℕ) : Type 0 where
+-- an answer to what is asked, and an input
+abbrev pub IsAnswerTo : Asked → List ℕ → Answer → Type 0
+IsAnswerTo asked input answer = IsCommandAnswer asked.command input asked.image answer
+
+-- a status and two texts are an answer to what is asked, and this input
+pub record Output (asked : Asked) (input out err : List ℕ) (status : ℕ) : Type 0 where
   pub answer : Answer
-  pub answers : IsAnswerTo words input answer
+  pub answers : IsAnswerTo asked input answer
   pub out_is : out ≡ answer.out
   pub err_is : err ≡ answer.err
   pub status_is : status ≡ answer.status
@@ -106,18 +114,27 @@ abbrev pub IsInput : Option (List ℕ) → List ℕ → Type 0
 IsInput None input = ⊤
 IsInput (Some left) input = input ≡ left
 
--- the status and all that was written are an answer to the words and the input
-abbrev pub Answers : List (List ℕ) → Change → Change → Change → ℕ → Type 0
-Answers words source out err status =
-    (input : List ℕ) × IsInput source.before input × (written : List ℕ) × Gains out written × (told : List ℕ) × Gains err told × Output words input written told status
+-- the bytes of a base are what it had left, and none where none is handed in
+abbrev pub IsBaseInput : Option Change → List ℕ → Type 0
+IsBaseInput None image = image ≡ []
+IsBaseInput (Some base) image = IsInput base.before image
 
--- what was written to the output is a prefix of an answer to the words and the input, or nothing
-abbrev pub AnswersInPart : List (List ℕ) → Change → Change → Type 0
-AnswersInPart words source out =
-    Stays out ⊎ ((input : List ℕ) × IsInput source.before input × (written : List ℕ) × (told : List ℕ) × (status : ℕ) × Output words input written told status × GainsPart out written)
+-- the status and all that was written are an answer to what is asked, and the input
+abbrev pub Answers : Asked → Change → Change → Change → ℕ → Type 0
+Answers asked source out err status =
+    (input : List ℕ) × IsInput source.before input × (written : List ℕ) × Gains out written × (told : List ℕ) × Gains err told × Output asked input written told status
 
--- the status of an answer to these words and this input, whatever is written
+-- what was written to the output is a prefix of an answer to what is asked, and the input, or nothing
+abbrev pub AnswersInPart : Asked → Change → Change → Type 0
+AnswersInPart asked source out =
+    Stays out ⊎ ((input : List ℕ) × IsInput source.before input × (written : List ℕ) × (told : List ℕ) × (status : ℕ) × Output asked input written told status × GainsPart out written)
+
+-- what is asked by words where no base is handed in
+abbrev pub asked_alone : List (List ℕ) → Asked
+asked_alone words = record { command = command_on words false; base = None; image = [] }
+
+-- the status of an answer to these words and this input without a base, whatever is written
 pub record StatusIs (words : List (List ℕ)) (input : List ℕ) (status : ℕ) : Type 0 where
   pub written : List ℕ
   pub told : List ℕ
-  pub answer : Output words input written told status
+  pub answer : Output (asked_alone words) input written told status

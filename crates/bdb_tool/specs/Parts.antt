@@ -1,14 +1,18 @@
 -- The two halves of a run: what it takes from the words and the source, and how it writes the answer.
-use Rattle.std.specs.Prelude.{◌≡◌, ◌≢◌, ◌⊎◌, ℕ, List, [], Result, Ok, Err, Some, string_bytes}
+use Rattle.std.specs.Prelude.{◌≡◌, ◌≢◌, ◌⊎◌, ℕ, ◌+◌, List, [], Result, Ok, Err, Some, string_bytes}
 use Rattle.bdb_format.specs.declared.kinds.Verdict.{Verdict}
 use Rattle.bdb_format.specs.declared.kinds.Verdict.TheVariants.{Fault, Unsupported, Memory as MemoryVerdict}
-use Rattle.bdb_model.specs.Answers.{Answer, fault_line, too_large_line, unsupported_line, usage}
+use Rattle.bdb_model.specs.Answers.{Answer, fault_line, told, too_large_line, unsupported_line, usage}
 use Rattle.bdb_model.specs.Change.{Change, Gains, GainsPart, HasFailed, Stays}
 use Rattle.bdb_model.specs.Command.{Request}
 use Rattle.bdb_model.specs.Lines.{memory_line, read_fault_line, write_fault_line}
 use Rattle.bdb_lines.specs.declared.cut.Cut.{Cut}
 use Rattle.bdb_lines.specs.declared.cut.Cut.TheVariants.{WriteFault, Memory}
+use Rattle.bdb_format.specs.Faults.{Took}
+use Rattle.bdb_format.specs.Verdict.{verdict_of}
+use Rattle.bdb_tool.specs.Ontos.{IsOntoBy, base_too_large_line}
 use Rattle.bdb_tool.specs.Outputs.{IsRepairAnswer, asked_answer, salvage_answer}
+use Rattle.bdb_tool.specs.Tasks.{IsInputWithin}
 use Rattle.bdb_tool.specs.WordsSeen.{request_seen}
 use Rattle.bdb_tool.specs.declared.task.Task.{Task}
 use Rattle.bdb_tool.specs.declared.task.Task.TheVariants.{Ask as AskTask, Load as LoadTask, Salvage as SalvageTask, Repair as RepairTask, Trial as TrialTask}
@@ -32,6 +36,13 @@ IsToldStop Usage err status = Tells usage.err 2 err status
 IsToldStop (TooLarge limit) err status = Tells (too_large_line limit) 6 err status ⊎ Tells memory_line 7 err status
 IsToldStop ReadFault err status = Tells read_fault_line 4 err status
 IsToldStop MemoryStop err status = Tells memory_line 7 err status
+
+-- it was told why a base isn't read, or that memory was wanting
+abbrev pub IsToldOfBase : Stop → Change → ℕ → Type 0
+IsToldOfBase Usage err status = IsToldStop Usage err status
+IsToldOfBase (TooLarge limit) err status = Tells (base_too_large_line limit) 6 err status ⊎ Tells memory_line 7 err status
+IsToldOfBase ReadFault err status = IsToldStop ReadFault err status
+IsToldOfBase MemoryStop err status = IsToldStop MemoryStop err status
 
 -- it was told how a text was written: nothing where it was written whole
 abbrev pub Reports : Result Unit Cut → Change → ℕ → Type 0
@@ -72,6 +83,14 @@ IsRefusalTold MemoryRefusal err status = Tells memory_line 7 err status
 pub data Ends (allowed : Answer → Type 0) (out err : Change) (status : ℕ) : Type 0 where
   Answered : (answer : Answer) → allowed answer → Finishes answer out err status → Ends allowed out err status
   Unanswered : Stays out → Tells memory_line 7 err status → Ends allowed out err status
+
+-- how a text that was read was loaded onto a base: an answer was written, or memory was wanting; the base was too long, which was told; it failed; or
+-- memory was wanting to read it
+pub data EndsOnto (limit : ℕ) (text : List ℕ) (base out err : Change) (status : ℕ) : Type 0 where
+  BaseRead : (image : List ℕ) → IsInputWithin limit base image → Ends (IsOntoBy limit (verdict_of image) text image) out err status → EndsOnto limit text base out err status
+  BaseTooLong : Took (limit + 1) base.before base.now → Finishes (told 6 (base_too_large_line limit)) out err status → EndsOnto limit text base out err status
+  BaseFailed : HasFailed base → Stays out → Tells read_fault_line 4 err status → EndsOnto limit text base out err status
+  BaseUnread : Stays out → Tells memory_line 7 err status → EndsOnto limit text base out err status
 
 -- a task was answered
 abbrev pub IsTaskAnswered : Task → Change → Change → ℕ → Type 0

@@ -1,10 +1,10 @@
--- What a run takes from the words and the source before it answers.
-use Rattle.std.specs.Prelude.{◌≡◌, ℕ, ◌+◌, ◌≤◌, ◌^◌, IsTrue, true, List, length, Some, None, is_some}
+-- What a run takes from what the words say, and from the source, before it answers.
+use Rattle.std.specs.Prelude.{◌≡◌, ℕ, ◌+◌, ◌≤◌, ◌^◌, IsTrue, true, List, length, Option, Some, None, is_some}
 use Rattle.std.specs.Io.KnownBytes.{Consumes, IsAtEnd}
 use Rattle.bdb_model.specs.Change.{Change, HasFailed, IsUncalled}
 use Rattle.bdb_model.specs.Command.{Request}
 use Rattle.bdb_format.specs.Faults.{Took}
-use Rattle.bdb_tool.specs.Commands.{Ask, Command, Load, command_of, reads_input}
+use Rattle.bdb_tool.specs.Commands.{Ask, Command, Load, reads_input}
 use Rattle.bdb_tool.specs.WordsSeen.{IsFitRepair, IsFitSalvage, IsFitTrial, repair_seen, request_seen, salvage_seen, trial_seen}
 use Rattle.bdb_tool.specs.declared.command.Request.{Request as CodeRequest}
 use Rattle.bdb_tool.specs.declared.command.Repair.{Repair as CodeRepair}
@@ -33,64 +33,64 @@ IsUnreadable limit source Memory = Unit {0}
 -- Commands.
 
 -- the words are a command that reads its input
-pub record AreReading (words : List (List ℕ)) : Type 0 where
+pub record AreReading (said : Option Command) : Type 0 where
   pub command : Command
-  pub command_is : command_of words ≡ Some command
+  pub command_is : said ≡ Some command
   pub reads : reads_input command.action ≡ true
 
 -- the words are a command that reads its input, and these bytes are the input
-pub record IsRead (words : List (List ℕ)) (source : Change) (command : Command) (input : List ℕ) : Type 0 where
-  pub command_is : command_of words ≡ Some command
+pub record IsRead (said : Option Command) (source : Change) (command : Command) (input : List ℕ) : Type 0 where
+  pub command_is : said ≡ Some command
   pub reads : reads_input command.action ≡ true
   pub input_is : IsInputWithin command.limit source input
 
 -- the words are a command, of whose input one byte more than its limit was read
-pub record IsTooLong (words : List (List ℕ)) (source : Change) (limit : ℕ) : Type 0 where
-  pub reading : AreReading words
+pub record IsTooLong (said : Option Command) (source : Change) (limit : ℕ) : Type 0 where
+  pub reading : AreReading said
   pub limit_is : limit ≡ reading.command.limit
   pub took : Took (limit + 1) source.before source.now
 
 -- why there is no task
-abbrev pub IsStopped : List (List ℕ) → Change → Stop → Type 0
-IsStopped words source Usage = (command_of words ≡ None) × IsUncalled source
-IsStopped words source (TooLarge limit) = IsTooLong words source limit
-IsStopped words source ReadFault = AreReading words × HasFailed source
-IsStopped words source Memory = AreReading words
+abbrev pub IsStopped : Option Command → Change → Stop → Type 0
+IsStopped said source Usage = (said ≡ None) × IsUncalled source
+IsStopped said source (TooLarge limit) = IsTooLong said source limit
+IsStopped said source ReadFault = AreReading said × HasFailed source
+IsStopped said source Memory = AreReading said
 
 -- Tasks.
 
 -- the words ask this of a file, and the image is the input
-pub record IsAsked (words : List (List ℕ)) (source : Change) (request : CodeRequest) (image : List ℕ) : Type 0 where
+pub record IsAsked (said : Option Command) (source : Change) (request : CodeRequest) (image : List ℕ) : Type 0 where
   pub limit : ℕ
   pub asked : Request
   pub seen : request_seen request ≡ Some asked
-  pub read : IsRead words source (record { limit = limit; action = Ask asked }) image
+  pub read : IsRead said source (record { limit = limit; action = Ask asked }) image
 
 -- the words ask to load the text, which is the input
-pub record IsTextRead (words : List (List ℕ)) (source : Change) (text : List ℕ) (limit : ℕ) : Type 0 where
-  pub read : IsRead words source (record { limit = limit; action = Load }) text
+pub record IsTextRead (said : Option Command) (source : Change) (text : List ℕ) (limit : ℕ) : Type 0 where
+  pub read : IsRead said source (record { limit = limit; action = Load }) text
 
 -- the words ask to salvage the image, which is the input
-pub record IsSalvageRead (words : List (List ℕ)) (source : Change) (asked : CodeSalvage) (image : List ℕ) : Type 0 where
+pub record IsSalvageRead (said : Option Command) (source : Change) (asked : CodeSalvage) (image : List ℕ) : Type 0 where
   pub limit : ℕ
-  pub read : IsRead words source (record { limit = limit; action = salvage_seen asked }) image
+  pub read : IsRead said source (record { limit = limit; action = salvage_seen asked }) image
 
 -- the words ask to repair the image, which is the input
-pub record IsRepairRead (words : List (List ℕ)) (source : Change) (asked : CodeRepair) (image : List ℕ) (limit : ℕ) : Type 0 where
-  pub read : IsRead words source (record { limit = limit; action = repair_seen asked }) image
+pub record IsRepairRead (said : Option Command) (source : Change) (asked : CodeRepair) (image : List ℕ) (limit : ℕ) : Type 0 where
+  pub read : IsRead said source (record { limit = limit; action = repair_seen asked }) image
 
 -- the words ask for a trial, and nothing was read
-pub record IsTried (words : List (List ℕ)) (source : Change) (trial : CodeTrial) (limit : ℕ) : Type 0 where
-  pub command_is : command_of words ≡ Some (record { limit = limit; action = trial_seen trial })
+pub record IsTried (said : Option Command) (source : Change) (trial : CodeTrial) (limit : ℕ) : Type 0 where
+  pub command_is : said ≡ Some (record { limit = limit; action = trial_seen trial })
   pub uncalled : IsUncalled source
 
 -- what there is to do is what the words say
-abbrev pub IsTaskTaken : List (List ℕ) → Change → Task → Type 0
-IsTaskTaken words source (AskTask request image) = IsAsked words source request image
-IsTaskTaken words source (LoadTask text limit) = IsTextRead words source text limit
-IsTaskTaken words source (SalvageTask asked image) = IsSalvageRead words source asked image
-IsTaskTaken words source (RepairTask asked image limit) = IsRepairRead words source asked image limit
-IsTaskTaken words source (TrialTask trial limit) = IsTried words source trial limit
+abbrev pub IsTaskTaken : Option Command → Change → Task → Type 0
+IsTaskTaken said source (AskTask request image) = IsAsked said source request image
+IsTaskTaken said source (LoadTask text limit) = IsTextRead said source text limit
+IsTaskTaken said source (SalvageTask asked image) = IsSalvageRead said source asked image
+IsTaskTaken said source (RepairTask asked image limit) = IsRepairRead said source asked image limit
+IsTaskTaken said source (TrialTask trial limit) = IsTried said source trial limit
 
 -- a request that was read of words, of an image that isn't too long
 pub record IsFitAsk (request : CodeRequest) (image : List ℕ) : Type 0 where

@@ -2,18 +2,18 @@
 use Rattle.std.specs.Prelude.{ℕ, ◌≡◌, ◌<◌, ◌≤◌, ◌^◌, ◌++◌, Bool, true, false, not, List, [], ◌∷◌, drop, length, Option, Some, IfSome, IsTrue, is_some, option_copied, ⊤}
 use Rattle.bdb_format.specs.HeadOf.{is_page_size}
 use Rattle.bdb_model.specs.Command.{Request, Verify, ListAll, Convert, Stat, OptionRow, Given, Arguments, arguments, asked_name, bounds_request, hex_option, hex_row, is_given, key_request, max_bytes, max_bytes_row, name_option, name_row, only_operands, print_option, print_row, row_of, text_request, value_given, with_option}
-use Rattle.bdb_tool.specs.Commands.{Action, Load, Salvage, Trial, Command, Repair, as_option, as_row, asking, dupsort_option, dupsort_row, duplicates_option, duplicates_row, order_option, order_row, page_size_option, page_size_row, within}
+use Rattle.bdb_tool.specs.Commands.{Action, Load, LoadOnto, Salvage, Trial, Command, Repair, as_option, as_row, asking, command_of, dupsort_option, dupsort_row, duplicates_option, duplicates_row, onto_option, onto_row, order_option, order_row, page_size_option, page_size_row, within}
 use Rattle.bdb_text_format.specs.TextSpelling.{bytes_spelled}
 use Rattle.bdb_tool.specs.declared.options.OptionWord.{OptionWord}
-use Rattle.bdb_tool.specs.declared.options.OptionWord.TheVariants.{MaxBytes as MaxBytesWord, Name as NameWord, Order as OrderWord, PageSize as PageSizeWord, As as AsWord, Hex as HexWord, Print as PrintWord}
+use Rattle.bdb_tool.specs.declared.options.OptionWord.TheVariants.{MaxBytes as MaxBytesWord, Name as NameWord, Order as OrderWord, PageSize as PageSizeWord, As as AsWord, Onto as OntoWord, Hex as HexWord, Print as PrintWord}
 use Rattle.bdb_tool.specs.declared.options.OptionWord.TheVariants.{Duplicates as DuplicatesWord, Dupsort as DupsortWord}
 use Rattle.bdb_tool.specs.declared.options.GivenOption.{GivenOption}
-use Rattle.bdb_tool.specs.declared.options.GivenOption.TheVariants.{MaxBytes, Name, Order, PageSize, As, Hex, Print, Duplicates, Dupsort}
+use Rattle.bdb_tool.specs.declared.options.GivenOption.TheVariants.{MaxBytes, Name, Order, PageSize, As, Onto, Hex, Print, Duplicates, Dupsort}
 use Rattle.bdb_tool.specs.declared.options.Arguments.{Arguments as ReadArguments}
 use Rattle.bdb_tool.specs.declared.command.Request.{Request as CodeRequest}
 use Rattle.bdb_tool.specs.declared.command.Request.TheVariants.{Verify as VerifyWord, List as ListWord, Get as GetWord, Dump as DumpWord, Range as RangeWord, Convert as ConvertWord, Stat as StatWord}
 use Rattle.bdb_tool.specs.declared.command.Action.{Action as CodeAction}
-use Rattle.bdb_tool.specs.declared.command.Action.TheVariants.{Ask as AskWord, Load as LoadWord, Salvage as SalvageWord, Repair as RepairWord, Trial as TrialWord}
+use Rattle.bdb_tool.specs.declared.command.Action.TheVariants.{Ask as AskWord, Load as LoadWord, LoadOnto as LoadOntoWord, Salvage as SalvageWord, Repair as RepairWord, Trial as TrialWord}
 use Rattle.bdb_tool.specs.declared.command.Command.{Command as CodeCommand}
 use Rattle.bdb_tool.specs.declared.command.Repair.{Repair as CodeRepair}
 use Rattle.bdb_tool.specs.declared.command.Salvage.{Salvage as CodeSalvage}
@@ -29,6 +29,7 @@ row_seen NameWord = name_row
 row_seen OrderWord = order_row
 row_seen PageSizeWord = page_size_row
 row_seen AsWord = as_row
+row_seen OntoWord = onto_row
 row_seen HexWord = hex_row
 row_seen PrintWord = print_row
 row_seen DuplicatesWord = duplicates_row
@@ -40,6 +41,7 @@ given_seen (Name text) = record { word = name_option; value = text.now }
 given_seen (Order text) = record { word = order_option; value = text.now }
 given_seen (PageSize text) = record { word = page_size_option; value = text.now }
 given_seen (As text) = record { word = as_option; value = text.now }
+given_seen (Onto text) = record { word = onto_option; value = text.now }
 given_seen Hex = record { word = hex_option; value = [] }
 given_seen Print = record { word = print_option; value = [] }
 given_seen Duplicates = record { word = duplicates_option; value = [] }
@@ -52,6 +54,7 @@ word_count (Name text) = 2
 word_count (Order text) = 2
 word_count (PageSize text) = 2
 word_count (As text) = 2
+word_count (Onto text) = 2
 word_count Hex = 1
 word_count Print = 1
 word_count Duplicates = 1
@@ -78,6 +81,7 @@ pub record HasGiven (read : ReadArguments) (given : List Given) : Type 0 where
   pub order_is : value_given order_option given ≡ option_copied read.order
   pub page_size_is : value_given page_size_option given ≡ option_copied read.page_size
   pub kind_is : value_given as_option given ≡ option_copied read.kind
+  pub onto_is : value_given onto_option given ≡ option_copied read.onto
   pub hex_is : is_given hex_option given ≡ read.hex
   pub print_is : is_given print_option given ≡ read.print
   pub duplicates_is : is_given duplicates_option given ≡ read.duplicates
@@ -124,6 +128,7 @@ repair_seen asked = Repair asked.shape asked.guess
 abbrev pub action_seen : CodeAction → Option Action
 action_seen (AskWord request) = asking (request_seen request)
 action_seen LoadWord = Some Load
+action_seen (LoadOntoWord file) = Some (LoadOnto file.now)
 action_seen (SalvageWord asked) = Some (salvage_seen asked)
 action_seen (RepairWord asked) = Some (repair_seen asked)
 action_seen (TrialWord trial) = Some (trial_seen trial)
@@ -150,6 +155,7 @@ IsFitRepair asked = IfSome asked.guess (λ guess. IsTrue (is_page_size guess.pag
 abbrev pub IsFitAction : CodeAction → Type 0
 IsFitAction (AskWord request) = ⊤
 IsFitAction LoadWord = ⊤
+IsFitAction (LoadOntoWord file) = ⊤
 IsFitAction (SalvageWord asked) = IsFitSalvage asked
 IsFitAction (RepairWord asked) = IsFitRepair asked
 IsFitAction (TrialWord trial) = IsFitTrial trial
@@ -158,3 +164,9 @@ IsFitAction (TrialWord trial) = IsFitTrial trial
 pub record IsFitCommand (command : CodeCommand) : Type 0 where
   pub limit : command.limit ≤ 2 ^ 30
   pub action : IsFitAction command.action
+
+-- the words are a command that reads a base, with this limit
+pub record AreOnto (words : List (List ℕ)) (limit : ℕ) : Type 0 where
+  pub file : List ℕ
+  pub command_is : command_of words ≡ Some (record { limit = limit; action = LoadOnto file })
+  pub within : limit ≤ 2 ^ 30

@@ -217,7 +217,7 @@ fn status_of_first(all: &NamedList) -> u8
 }
 
 /// Tells why a file isn't sound: the first that holds.
-fn refuse<E: Sink>(alloc: Global, verdict: Verdict, err: &mut E) -> u8
+pub(crate) fn refuse<E: Sink>(alloc: Global, verdict: Verdict, err: &mut E) -> u8
     ensures { IsRefused verdict (change E.written E.faults err.old err.new) result }
 {
     match verdict {

@@ -1,17 +1,23 @@
 //! The commands that build a file.
 ghost use Rattle.std.specs.Prelude.{◌≤◌, ◌^◌, length};
 ghost use Rattle.bdb_model.specs.Change.{change};
+ghost use Rattle.bdb_format.specs.Verdict.{verdict_of};
+ghost use Rattle.bdb_tool.specs.Ontos.{IsOntoBy};
 ghost use Rattle.bdb_tool.specs.Parts.{Ends, IsRefusalTold};
 ghost use Rattle.bdb_tool.specs.WordsSeen.{IsFitTrial};
+ghost use Rattle.bdb_onto.specs.Bases.{IsBase};
 ghost use Rattle.bdb_writing.specs.Loads.{IsTextAnswer};
+ghost use Rattle.bdb_writing.specs.Ontos.{IsTextOnto};
 ghost use Rattle.bdb_writing.specs.Trials.{IsTrialAnswer};
 
+use crate::answer::refuse;
 use crate::command::Trial;
 use crate::finish::{put, report, tell, tell_memory};
 use crate::status::{BAD_TEXT, TOO_LARGE};
 use bdb_format::Steps;
 use bdb_io::{Image, Sink};
-use bdb_writing::{Refusal, load_text, trial_text};
+use bdb_onto::Base;
+use bdb_writing::{Refusal, base_of, load_text, load_text_onto, trial_text};
 use std::alloc::Global;
 use std::sync::ledger::Ledger;
 
@@ -41,6 +47,48 @@ pub(crate) fn answer_load<K: Sink, E: Sink>(
     match load_text(alloc, text, limit) {
         Ok(image) => report(put(out, image.bytes()), err),
         Err(refusal) => tell_refusal(refusal, err),
+    }
+}
+
+// Answers `load` of a text onto the base of a sound file.
+fn answer_on_base<K: Sink, E: Sink>(
+    alloc: Global,
+    text: Image,
+    base: Base,
+    limit: u32,
+    out: &mut K,
+    err: &mut E,
+) -> u8
+    requires text { length text ≤ 2 ^ 30 }
+    requires limit { limit ≤ 2 ^ 30 }
+    requires base { IsBase base }
+    ensures { Ends (IsTextOnto limit base text) (change K.written K.faults out.old out.new) (change E.written E.faults err.old err.new) result }
+{
+    match load_text_onto(alloc, text, base, limit) {
+        Ok(image) => report(put(out, image.bytes()), err),
+        Err(refusal) => tell_refusal(refusal, err),
+    }
+}
+
+/// Answers `load` of a text onto a base, whose image is given up once its databases are copied. Nothing is written before the image
+/// stands whole.
+pub(crate) fn answer_onto<K: Sink, E: Sink, L: Ledger>(
+    alloc: Global,
+    text: Image,
+    image: Image,
+    limit: u32,
+    out: &mut K,
+    err: &mut E,
+    steps: &mut Steps<L>,
+) -> u8
+    requires text { length text ≤ 2 ^ 30 }
+    requires image { length image ≤ 2 ^ 30 }
+    requires limit { limit ≤ 2 ^ 30 }
+    ensures { Ends (IsOntoBy limit (verdict_of image) text image) (change K.written K.faults out.old out.new) (change E.written E.faults err.old err.new) result }
+{
+    match base_of(alloc, image, steps) {
+        Ok(base) => answer_on_base(alloc, text, base, limit, out, err),
+        Err(verdict) => refuse(alloc, verdict, err),
     }
 }
 

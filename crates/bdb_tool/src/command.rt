@@ -1,9 +1,9 @@
 //! The command that the words of a command line are. Nothing here allocates.
-ghost use Rattle.std.specs.Prelude.{◌≡◌, ◌≢◌, ◌≤◌, ◌^◌, [], ◌∷◌, IfSome, Some, List, MatchOption, drop, is_some, length, not, option_copied, ℕ};
+ghost use Rattle.std.specs.Prelude.{◌≡◌, ◌≢◌, ◌≤◌, ◌^◌, [], ◌∷◌, IfSome, Some, List, MatchOption, drop, false, is_some, length, not, option_copied, true, ℕ};
 ghost use Rattle.bdb_format.specs.Digits.{number_in};
 ghost use Rattle.bdb_model.specs.Command.{arguments, asked_name, limit_of, once};
-ghost use Rattle.bdb_tool.specs.Commands.{Action as ModelAction, at_most, command_of, command_with, convert_row, dump_row, get_row, kind_named, plain_row, range_row, repair_row, salvage_row, trial_row};
-ghost use Rattle.bdb_tool.specs.WordsSeen.{IsFitAction, IsFitCommand, IsSeen, action_seen};
+ghost use Rattle.bdb_tool.specs.Commands.{Action as ModelAction, at_most, command_of, command_on, command_with, onto_file, convert_row, dump_row, get_row, kind_named, load_row, plain_row, range_row, repair_row, salvage_row, trial_row};
+ghost use Rattle.bdb_tool.specs.WordsSeen.{AreOnto, IsFitAction, IsFitCommand, IsSeen, action_seen};
 
 use crate::guesses::{guess_asked, order_named};
 use crate::options::{OptionWord, read_arguments};
@@ -88,6 +88,8 @@ pub struct Trial {
 pub enum Action<'w> {
     Ask(Request<'w>),
     Load,
+    /// A text is loaded onto the file of this word.
+    LoadOnto(&'w [u8]),
     Salvage(Salvage),
     Repair(Repair),
     Trial(Trial),
@@ -138,6 +140,9 @@ const LOOKUP: [OptionWord; 4] = [
 /// The options of `dump`.
 const SELECTION: [OptionWord; 3] = [OptionWord::MaxBytes, OptionWord::Name, OptionWord::Print];
 
+/// The options of `load`.
+const LOAD: [OptionWord; 2] = [OptionWord::MaxBytes, OptionWord::Onto];
+
 /// The options of `salvage`.
 const SALVAGE: [OptionWord; 4] = [
     OptionWord::MaxBytes,
@@ -175,7 +180,7 @@ pub fn command_of<'w>(words: &'w Words) -> Option<Command<'w>>
         return dump_command(words);
     }
     if word == b"load".as_slice() {
-        return plain_command(words, Action::Load);
+        return load_command(words);
     }
     if word == b"salvage".as_slice() {
         return salvage_command(words);
@@ -196,6 +201,27 @@ pub fn command_of<'w>(words: &'w Words) -> Option<Command<'w>>
         return repair_command(words);
     }
     None
+}
+
+/// The file that is opened as the base: that of a `load` with `--onto`. It takes no memory.
+pub fn onto_file(words: &Words) -> Option<&[u8]>
+    ensures { option_copied result ≡ onto_file words.now }
+{
+    match command_of(words)?.action {
+        Action::LoadOnto(file) => Some(file),
+        _ => None,
+    }
+}
+
+/// The limit of a command that asks for a base.
+pub(crate) fn base_limit(words: &Words) -> Option<u32>
+    ensures { MatchOption result (command_on words.now true ≡ command_on words.now false) (AreOnto words.now) }
+{
+    let command = command_of(words)?;
+    match command.action {
+        Action::LoadOnto(_) => Some(command.limit),
+        _ => None,
+    }
 }
 
 // A command without operands and without options of its own.
@@ -252,6 +278,23 @@ fn dump_command<'w>(words: &'w Words) -> Option<Command<'w>>
         print: read.print,
     };
     let action = Action::Ask(Request::Dump(selection));
+    Some(Command { limit, action })
+}
+
+// The command `load`.
+fn load_command<'w>(words: &'w Words) -> Option<Command<'w>>
+    ensures command { MatchOption result (command_with load_row (once (arguments load_row.options (drop 1 words.now))) ≡ None) (IsSeen (command_with load_row (once (arguments load_row.options (drop 1 words.now))))) }
+    ensures fit { IfSome result IsFitCommand }
+{
+    let read = read_arguments(words, &LOAD)?;
+    if read.operands < words.len() {
+        return None;
+    }
+    let limit = limit_of(read.max_bytes)?;
+    let action = match read.onto {
+        Some(file) => Action::LoadOnto(file),
+        None => Action::Load,
+    };
     Some(Command { limit, action })
 }
 

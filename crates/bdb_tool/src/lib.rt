@@ -20,4 +20,5 @@ pub mod status;
 mod task;
 mod text;
 
-pub use program::{run, run_counted};
+pub use command::onto_file;
+pub use program::{run, run_counted, run_onto};

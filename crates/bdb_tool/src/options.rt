@@ -13,6 +13,7 @@ pub enum OptionWord {
     Order,
     PageSize,
     As,
+    Onto,
     Hex,
     Print,
     Duplicates,
@@ -27,6 +28,7 @@ enum GivenOption<'w> {
     Order(&'w [u8]),
     PageSize(&'w [u8]),
     As(&'w [u8]),
+    Onto(&'w [u8]),
     Hex,
     Print,
     Duplicates,
@@ -41,6 +43,7 @@ pub struct Arguments<'w> {
     pub order: Option<&'w [u8]>,
     pub page_size: Option<&'w [u8]>,
     pub kind: Option<&'w [u8]>,
+    pub onto: Option<&'w [u8]>,
     pub hex: bool,
     pub print: bool,
     pub duplicates: bool,
@@ -112,6 +115,7 @@ fn word_of(option: OptionWord) -> &'static [u8]
         OptionWord::Order => b"--order",
         OptionWord::PageSize => b"--page-size",
         OptionWord::As => b"--as",
+        OptionWord::Onto => b"--onto",
         OptionWord::Hex => b"--hex",
         OptionWord::Print => b"--print",
         OptionWord::Duplicates => b"--duplicates",
@@ -129,6 +133,7 @@ fn given_option<'w>(option: OptionWord, next: Option<&'w [u8]>) -> Option<GivenO
         OptionWord::Order => GivenOption::Order(next?),
         OptionWord::PageSize => GivenOption::PageSize(next?),
         OptionWord::As => GivenOption::As(next?),
+        OptionWord::Onto => GivenOption::Onto(next?),
         OptionWord::Hex => GivenOption::Hex,
         OptionWord::Print => GivenOption::Print,
         OptionWord::Duplicates => GivenOption::Duplicates,
@@ -145,7 +150,8 @@ fn word_count(option: GivenOption<'_>) -> usize
         | GivenOption::Name(_)
         | GivenOption::Order(_)
         | GivenOption::PageSize(_)
-        | GivenOption::As(_) => 2,
+        | GivenOption::As(_)
+        | GivenOption::Onto(_) => 2,
         GivenOption::Hex | GivenOption::Print | GivenOption::Duplicates | GivenOption::Dupsort => 1,
     }
 }
@@ -160,6 +166,7 @@ fn no_arguments<'w>() -> Arguments<'w>
         order: None,
         page_size: None,
         kind: None,
+        onto: None,
         hex: false,
         print: false,
         duplicates: false,
@@ -179,6 +186,7 @@ fn take_option<'w>(read: &mut Arguments<'w>, option: GivenOption<'w>, next: usiz
         GivenOption::Order(text) if read.order.is_none() => read.order = Some(text),
         GivenOption::PageSize(text) if read.page_size.is_none() => read.page_size = Some(text),
         GivenOption::As(text) if read.kind.is_none() => read.kind = Some(text),
+        GivenOption::Onto(text) if read.onto.is_none() => read.onto = Some(text),
         GivenOption::Hex if !read.hex => read.hex = true,
         GivenOption::Print if !read.print => read.print = true,
         GivenOption::Duplicates if !read.duplicates => read.duplicates = true,

@@ -1,21 +1,26 @@
-ghost use Rattle.std.specs.Prelude.{◌≡◌};
-ghost use Rattle.bdb_model.specs.Change.{IsUntouched, change};
-ghost use Rattle.bdb_tool.specs.Parts.{IsToldStop};
-ghost use Rattle.bdb_tool.specs.Runs.{RunsAs};
+ghost use Rattle.std.specs.Prelude.{◌≡◌, ◌≤◌, ◌^◌, List, Some, false, length, ℕ};
+ghost use Rattle.bdb_model.specs.Change.{change};
+ghost use Rattle.bdb_tool.specs.Commands.{command_on};
+ghost use Rattle.bdb_tool.specs.Outputs.{Asked, asked_alone};
+ghost use Rattle.bdb_tool.specs.Parts.{EndsOnto, IsToldOfBase, IsToldStop};
+ghost use Rattle.bdb_tool.specs.Runs.{RunsAs, RunsOn, base_change};
+ghost use Rattle.bdb_tool.specs.WordsSeen.{AreOnto};
 
 use crate::answer::answer;
+use crate::building::answer_onto;
+use crate::command::base_limit;
 use crate::finish::{tell, tell_memory};
 use crate::status::{READ_FAULT, TOO_LARGE, USAGE};
-use crate::task::{Stop, task_of};
-use crate::text::too_large_line;
+use crate::task::{Stop, input_of, task_of};
+use crate::text::{base_too_large_line, too_large_line};
 use bdb_format::Steps;
-use bdb_io::{PureSource, Sink, Source};
+use bdb_io::{Image, PureSource, Sink, Source};
 use bdb_model::Words;
 use std::alloc::Global;
 use std::sync::ledger::{Blank, Ledger};
 
-/// All that the program does: reads the source where the words ask for it, writes to `out` and `err`, and answers the exit
-/// status, one of those in `status`. The base isn't called.
+/// All that the program does: reads the source where the words ask for it, and the base behind it where they ask for that, writes to
+/// `out` and `err`, and answers the exit status, one of those in `status`.
 pub fn run<S: Source, B: Source, K: Sink, E: Sink, L: Ledger>(
     alloc: Global,
     words: &Words,
@@ -25,13 +30,11 @@ pub fn run<S: Source, B: Source, K: Sink, E: Sink, L: Ledger>(
     err: &mut E,
     steps: &mut Steps<L>,
 ) -> u8
-    ensures runs { RunsAs words.now (change S.left S.faults source.old source.new) (change K.written K.faults out.old out.new) (change E.written E.faults err.old err.new) result }
-    ensures base { IsUntouched B.left B.faults base.entry base.exit }
+    ensures { RunsOn words.now (change S.left S.faults source.old source.new) (base_change B.left B.faults base.entry base.exit) (change K.written K.faults out.old out.new) (change E.written E.faults err.old err.new) result }
 {
-    let status = run_alone(alloc, words, source, out, err, steps);
     match base {
-        Some(_) => status,
-        None => status,
+        Some(base) => run_with(alloc, words, source, base, out, err, steps),
+        None => run_alone(alloc, words, source, out, err, steps),
     }
 }
 
@@ -47,14 +50,32 @@ pub fn run_counted<L: Ledger, S: Source, K: Sink, E: Sink>(
     requires name { blank.name ≡ L.name }
     requires parts { blank.parts ≡ L.parts }
     requires one { L.parts ≡ 1 }
-    ensures { RunsAs words.now (change S.left S.faults source.old source.new) (change K.written K.faults out.old out.new) (change E.written E.faults err.old err.new) result }
+    ensures { RunsAs (asked_alone words.now) (change S.left S.faults source.old source.new) (change K.written K.faults out.old out.new) (change E.written E.faults err.old err.new) result }
 {
     let mut steps = Steps::<L>::new(blank);
     run::<S, PureSource, K, E, L>(alloc, words, source, None, out, err, &mut steps)
 }
 
-// A run without a base.
-#[tactic(auto, using(crate::proofs::RunLemmas::taken_runs, crate::proofs::RunLemmas::stopped_runs))]
+/// The same with a counter of its own, and with a base.
+pub fn run_onto<L: Ledger, S: Source, B: Source, K: Sink, E: Sink>(
+    alloc: Global,
+    words: &Words,
+    source: &mut S,
+    base: &mut B,
+    out: &mut K,
+    err: &mut E,
+    blank: Blank,
+) -> u8
+    requires name { blank.name ≡ L.name }
+    requires parts { blank.parts ≡ L.parts }
+    requires one { L.parts ≡ 1 }
+    ensures { RunsOn words.now (change S.left S.faults source.old source.new) (Some (change B.left B.faults base.old base.new)) (change K.written K.faults out.old out.new) (change E.written E.faults err.old err.new) result }
+{
+    let mut steps = Steps::<L>::new(blank);
+    run::<S, B, K, E, L>(alloc, words, source, Some(base), out, err, &mut steps)
+}
+
+// A run without a base, or with one that the words don't ask for.
 fn run_alone<S: Source, K: Sink, E: Sink, L: Ledger>(
     alloc: Global,
     words: &Words,
@@ -63,11 +84,81 @@ fn run_alone<S: Source, K: Sink, E: Sink, L: Ledger>(
     err: &mut E,
     steps: &mut Steps<L>,
 ) -> u8
-    ensures { RunsAs words.now (change S.left S.faults source.old source.new) (change K.written K.faults out.old out.new) (change E.written E.faults err.old err.new) result }
+    ensures { (asked : Asked) → asked.command ≡ command_on words.now false → RunsAs asked (change S.left S.faults source.old source.new) (change K.written K.faults out.old out.new) (change E.written E.faults err.old err.new) result }
 {
     match task_of(alloc, words, source) {
         Ok(task) => answer(alloc, task, out, err, steps),
         Err(stop) => stopped(alloc, stop, err),
+    }
+}
+
+// A run with a base.
+fn run_with<S: Source, B: Source, K: Sink, E: Sink, L: Ledger>(
+    alloc: Global,
+    words: &Words,
+    source: &mut S,
+    base: &mut B,
+    out: &mut K,
+    err: &mut E,
+    steps: &mut Steps<L>,
+) -> u8
+    ensures { RunsOn words.now (change S.left S.faults source.old source.new) (Some (change B.left B.faults base.old base.new)) (change K.written K.faults out.old out.new) (change E.written E.faults err.old err.new) result }
+{
+    match base_limit(words) {
+        Some(limit) => load_onto(alloc, limit, source, base, out, err, steps),
+        None => run_alone(alloc, words, source, out, err, steps),
+    }
+}
+
+// Loads a text onto a base, each of at most so many bytes.
+fn load_onto<S: Source, B: Source, K: Sink, E: Sink, L: Ledger>(
+    alloc: Global,
+    limit: u32,
+    source: &mut S,
+    base: &mut B,
+    out: &mut K,
+    err: &mut E,
+    steps: &mut Steps<L>,
+) -> u8
+    requires { limit ≤ 2 ^ 30 }
+    ensures { (words : List (List ℕ)) → AreOnto words limit → RunsOn words (change S.left S.faults source.old source.new) (Some (change B.left B.faults base.old base.new)) (change K.written K.faults out.old out.new) (change E.written E.faults err.old err.new) result }
+{
+    match input_of(alloc, source, limit) {
+        Ok(text) => load_text_onto(alloc, text, limit, base, out, err, steps),
+        Err(stop) => stopped(alloc, stop, err),
+    }
+}
+
+// Loads a text onto a base that is read now.
+fn load_text_onto<B: Source, K: Sink, E: Sink, L: Ledger>(
+    alloc: Global,
+    text: Image,
+    limit: u32,
+    base: &mut B,
+    out: &mut K,
+    err: &mut E,
+    steps: &mut Steps<L>,
+) -> u8
+    requires text { length text ≤ 2 ^ 30 }
+    requires limit { limit ≤ 2 ^ 30 }
+    ensures { EndsOnto limit text (change B.left B.faults base.old base.new) (change K.written K.faults out.old out.new) (change E.written E.faults err.old err.new) result }
+{
+    match input_of(alloc, base, limit) {
+        Ok(image) => answer_onto(alloc, text, image, limit, out, err, steps),
+        Err(stop) => tell_unread_base(alloc, stop, err),
+    }
+}
+
+// Tells why a base isn't read.
+fn tell_unread_base<E: Sink>(alloc: Global, stop: Stop, err: &mut E) -> u8
+    ensures { IsToldOfBase stop (change E.written E.faults err.old err.new) result }
+{
+    match stop {
+        Stop::TooLarge(limit) => match base_too_large_line(alloc, limit) {
+            Ok(line) => tell(err, line.as_bytes(), TOO_LARGE),
+            Err(_) => tell_memory(err),
+        },
+        Stop::Usage | Stop::ReadFault | Stop::Memory => stopped(alloc, stop, err),
     }
 }
 

@@ -1,7 +1,7 @@
 //! What there is to do, and what it is done with.
-ghost use Rattle.std.specs.Prelude.{◌^◌, ◌≤◌, IfOk, IsTrue, List, MatchResult, is_some, ℕ};
+ghost use Rattle.std.specs.Prelude.{◌^◌, ◌≤◌, IfOk, IsTrue, MatchResult, Option, false, is_some};
 ghost use Rattle.bdb_model.specs.Change.{change};
-ghost use Rattle.bdb_tool.specs.Commands.{command_of};
+ghost use Rattle.bdb_tool.specs.Commands.{Command as ModelCommand, command_on, handed};
 ghost use Rattle.bdb_tool.specs.Tasks.{IsFitTask, IsInputWithin, IsStopped, IsTaskTaken, IsUnreadable};
 ghost use Rattle.bdb_tool.specs.WordsSeen.{IsFitCommand, IsSeen, command_seen};
 
@@ -28,7 +28,7 @@ pub(crate) enum Task<'w> {
 /// Why a run has no task to answer.
 #[derive(Clone, Copy, Debug, PartialEq, Eq)]
 pub(crate) enum Stop {
-    /// The words are no command.
+    /// The words are no command, or ask for a base that isn't handed in.
     Usage,
     /// The input is longer than this many bytes.
     TooLarge(u32),
@@ -36,8 +36,8 @@ pub(crate) enum Stop {
     Memory,
 }
 
-// What a source has to its end, of at most so many bytes.
-fn input_of<S: Source>(alloc: Global, source: &mut S, limit: u32) -> Result<Image, Stop>
+/// What a source has to its end, of at most so many bytes.
+pub(crate) fn input_of<S: Source>(alloc: Global, source: &mut S, limit: u32) -> Result<Image, Stop>
     requires { limit ≤ 2 ^ 30 }
     ensures { MatchResult result (IsInputWithin limit (change S.left S.faults source.old source.new)) (IsUnreadable limit (change S.left S.faults source.old source.new)) }
 {
@@ -49,14 +49,14 @@ fn input_of<S: Source>(alloc: Global, source: &mut S, limit: u32) -> Result<Imag
     }
 }
 
-// What a command does, with the input where it reads one.
+// What a command does without a base, with the input where it reads one.
 fn task_with<'w, S: Source>(
     alloc: Global,
     command: Command<'w>,
     source: &mut S,
 ) -> Result<Task<'w>, Stop>
     requires { IsFitCommand command }
-    ensures task { (words : List (List ℕ)) → IsSeen (command_of words) command.entry → MatchResult result (IsTaskTaken words (change S.left S.faults source.old source.new)) (IsStopped words (change S.left S.faults source.old source.new)) }
+    ensures task { (words : Option ModelCommand) → IsSeen words command.entry → MatchResult result (IsTaskTaken (handed false words) (change S.left S.faults source.old source.new)) (IsStopped (handed false words) (change S.left S.faults source.old source.new)) }
     ensures fit { IsTrue (is_some (command_seen command.entry)) → IfOk result IsFitTask }
 {
     match command.action {
@@ -68,6 +68,7 @@ fn task_with<'w, S: Source>(
             Ok(text) => Ok(Task::Load(text, command.limit)),
             Err(stop) => Err(stop),
         },
+        Action::LoadOnto(_) => Err(Stop::Usage),
         Action::Salvage(asked) => match input_of(alloc, source, command.limit) {
             Ok(image) => Ok(Task::Salvage(asked, image)),
             Err(stop) => Err(stop),
@@ -80,13 +81,13 @@ fn task_with<'w, S: Source>(
     }
 }
 
-/// What the words say is to be done, and the input where they ask for one.
+/// What the words say is to be done without a base, and the input where they ask for one.
 pub(crate) fn task_of<'w, S: Source>(
     alloc: Global,
     words: &'w Words,
     source: &mut S,
 ) -> Result<Task<'w>, Stop>
-    ensures task { MatchResult result (IsTaskTaken words.now (change S.left S.faults source.old source.new)) (IsStopped words.now (change S.left S.faults source.old source.new)) }
+    ensures task { MatchResult result (IsTaskTaken (command_on words.now false) (change S.left S.faults source.old source.new)) (IsStopped (command_on words.now false) (change S.left S.faults source.old source.new)) }
     ensures fit { IfOk result IsFitTask }
 {
     let Some(command) = command_of(words) else {

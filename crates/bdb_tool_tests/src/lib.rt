@@ -16,6 +16,8 @@ mod hostile;
 #[cfg(test)]
 mod made;
 #[cfg(test)]
+mod onto;
+#[cfg(test)]
 mod others;
 #[cfg(test)]
 mod ranging;

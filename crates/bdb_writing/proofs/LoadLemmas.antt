@@ -12,15 +12,24 @@ use Rattle.bdb_load.specs.Loading.{IsLoadRefusal, loading_error}
 use Rattle.bdb_load.proofs.BuildLemmas.{refusal_found}
 use Rattle.bdb_writing.specs.declared.refusal.Refusal.{Refusal}
 use Rattle.bdb_writing.specs.Lines.{reason_line}
-use Rattle.bdb_writing.specs.Loads.{IsErrorAnswer, IsLoadAnswer, IsLoadAnswerBy, IsTextAnswer}
+use Rattle.bdb_writing.specs.Loads.{IsErrorAnswer, IsFaultAnswer, IsLoadAnswer, IsLoadAnswerBy, IsTextAnswer}
 use Rattle.bdb_writing.specs.Refusals.{IsRefusedAnswer, Says}
 use Rattle.bdb_writing.proofs.RefusalLemmas.{says_allowed, still_refused}
 
 -- a text with a fault
-pub fault_refused : (limit : ℕ) (text : List ℕ) (fault : TextFault) (refusal : Refusal) → text_fault text ≡ Some fault → Says (told 8 (reason_line fault)) refusal → IsRefusedAnswer (IsTextAnswer limit text) refusal
-fault_refused limit text fault refusal is says =
-    says_allowed (IsTextAnswer limit text) (told 8 (reason_line fault)) refusal says
-    (subst (λ found. IsLoadAnswerBy limit found text (told 8 (reason_line fault))) (sym is) refl)
+pub fault_refused : (text : List ℕ) (fault : TextFault) (refusal : Refusal) → text_fault text ≡ Some fault → Says (told 8 (reason_line fault)) refusal
+    → IsRefusedAnswer (IsFaultAnswer (text_fault text)) refusal
+fault_refused text fault refusal is says =
+    says_allowed (IsFaultAnswer (text_fault text)) (told 8 (reason_line fault)) refusal says
+    (subst (λ found. IsFaultAnswer found (told 8 (reason_line fault))) (sym is) refl)
+
+fault_answer : (limit : ℕ) (text : List ℕ) (fault : Option TextFault) (answer : Answer) → IsFaultAnswer fault answer → IsLoadAnswerBy limit fault text answer
+fault_answer limit text None answer is = absurd is
+fault_answer limit text (Some fault) answer is = is
+
+pub text_refused : (limit : ℕ) (text : List ℕ) (refusal : Refusal) → IsRefusedAnswer (IsFaultAnswer (text_fault text)) refusal → IsRefusedAnswer (IsTextAnswer limit text) refusal
+text_refused limit text refusal refused =
+    still_refused (IsFaultAnswer (text_fault text)) (IsTextAnswer limit text) refusal (fault_answer limit text (text_fault text)) refused
 
 -- sections that aren't loaded
 pub load_refused : (limit most : ℕ) (sections : List Section) (error : LoadError) (refusal : Refusal) → most ≡ limit → IsLoadRefusal most sections error
@@ -37,7 +46,7 @@ no_fault : (fault : Option TextFault) → is_none fault ≡ true → fault ≡ N
 no_fault None is = refl
 no_fault (Some fault) is = absurd cc
 
-read_without_fault : (text : List ℕ) (sections : List Section) → Reads text sections → text_fault text ≡ None
+pub read_without_fault : (text : List ℕ) (sections : List Section) → Reads text sections → text_fault text ≡ None
 read_without_fault text sections read = no_fault (text_fault text) (sym (reads_or_faults text) ∙ ap is_some read)
 
 -- an answer to the sections that a text is read as

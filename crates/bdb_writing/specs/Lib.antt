@@ -1,4 +1,5 @@
 pub mod Lines
 pub mod Loads
+pub mod Ontos
 pub mod Refusals
 pub mod Trials

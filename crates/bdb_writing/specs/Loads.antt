@@ -38,6 +38,11 @@ pub record IsReadAnswer (limit : ℕ) (text : List ℕ) (answer : Answer) : Type
   pub read : Reads text sections
   pub answered : IsLoadAnswer limit (loading_error limit sections) sections answer
 
+-- the answer to a text with a fault
+abbrev pub IsFaultAnswer : Option TextFault → Answer → Type 0
+IsFaultAnswer None answer = ⊥
+IsFaultAnswer (Some fault) answer = answer ≡ told 8 (reason_line fault)
+
 -- an answer to a text, by its fault
 abbrev pub IsLoadAnswerBy : ℕ → Option TextFault → List ℕ → Answer → Type 0
 IsLoadAnswerBy limit (Some fault) text answer = answer ≡ told 8 (reason_line fault)

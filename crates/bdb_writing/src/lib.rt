@@ -1,6 +1,7 @@
 //! What the commands that build a file write: the image of a dump text, and the lines of a trial, or why there are none.
 #![tactic(auto)]
 
+mod base;
 mod loading;
 mod names;
 mod pairs;
@@ -8,7 +9,8 @@ mod refusal;
 mod texts;
 mod trial;
 
-pub use loading::load_text;
+pub use base::base_of;
+pub use loading::{load_text, load_text_onto};
 pub use refusal::Refusal;
 pub use texts::image_too_large_line;
 pub use trial::trial_text;

@@ -4,13 +4,18 @@ ghost use Rattle.bdb_model.specs.Answers.{done, told};
 ghost use Rattle.bdb_text_format.specs.Sections.{Reads};
 ghost use Rattle.bdb_load.specs.Loading.{AreLoadable, loading_error};
 ghost use Rattle.bdb_writing.specs.Lines.{image_too_large_line};
-ghost use Rattle.bdb_writing.specs.Loads.{IsErrorAnswer, IsLoadAnswer, IsTextAnswer};
+ghost use Rattle.bdb_text_format.specs.Reasons.{text_fault};
+ghost use Rattle.bdb_onto.specs.Bases.{IsBase};
+ghost use Rattle.bdb_onto.specs.Onto.{loading_error_onto};
+ghost use Rattle.bdb_writing.specs.Ontos.{IsLoadOnto, IsTextOnto};
+ghost use Rattle.bdb_writing.specs.Loads.{IsErrorAnswer, IsFaultAnswer, IsLoadAnswer, IsTextAnswer};
 ghost use Rattle.bdb_writing.specs.Refusals.{IsRefusedAnswer, Says};
 
 use crate::refusal::Refusal;
 use crate::texts::{error_line, image_too_large_line, reason_line};
 use bdb_io::Image;
 use bdb_load::load;
+use bdb_onto::{Base, load_onto};
 use bdb_settle::LoadError;
 use bdb_text::{TextError, read_dump};
 use bdb_text_format::{Sections, TextFault};
@@ -52,10 +57,10 @@ pub(crate) fn refusal_of(alloc: Global, error: LoadError, limit: u32) -> Refusal
 }
 
 // The sections of a text, which is given up.
-fn sections_of(alloc: Global, text: Image, limit: u32) -> Result<Sections, Refusal>
+fn sections_of(alloc: Global, text: Image) -> Result<Sections, Refusal>
     requires { length text ≤ 2 ^ 30 }
     ensures read { IfOk result (λ sections. Reads text sections) }
-    ensures refused { IfErr result (IsRefusedAnswer (IsTextAnswer limit text)) }
+    ensures refused { IfErr result (IsRefusedAnswer (IsFaultAnswer (text_fault text))) }
 {
     match read_dump(alloc, text.bytes()) {
         Ok(sections) => Ok(sections),
@@ -76,12 +81,41 @@ fn load_sections(alloc: Global, sections: Sections, limit: u32) -> Result<Image,
     }
 }
 
+// The image of sections that can be loaded, on a base.
+fn load_sections_onto(
+    alloc: Global,
+    base: Base,
+    sections: Sections,
+    limit: u32,
+) -> Result<Image, Refusal>
+    requires limit { limit ≤ 2 ^ 30 }
+    requires base { IsBase base }
+    requires fit { AreLoadable sections }
+    ensures { MatchResult result (λ image. IsLoadOnto limit (loading_error_onto limit base sections) base sections (done image)) (IsRefusedAnswer (IsLoadOnto limit (loading_error_onto limit base sections) base sections)) }
+{
+    match load_onto(alloc, base, sections, u64::from(limit)) {
+        Ok(image) => Ok(image),
+        Err(error) => Err(refusal_of(alloc, error, limit)),
+    }
+}
+
 /// The image of a dump text, of at most `limit` bytes, or why there is none. The text is given up as soon as it is read.
 pub fn load_text(alloc: Global, text: Image, limit: u32) -> Result<Image, Refusal>
     requires text { length text ≤ 2 ^ 30 }
     requires limit { limit ≤ 2 ^ 30 }
     ensures { MatchResult result (λ image. IsTextAnswer limit text (done image)) (IsRefusedAnswer (IsTextAnswer limit text)) }
 {
-    let sections = sections_of(alloc, text, limit)?;
+    let sections = sections_of(alloc, text)?;
     load_sections(alloc, sections, limit)
+}
+
+/// The image of a dump text that is loaded onto a base, of at most `limit` bytes, or why there is none. The text is given up as soon as it is read.
+pub fn load_text_onto(alloc: Global, text: Image, base: Base, limit: u32) -> Result<Image, Refusal>
+    requires text { length text ≤ 2 ^ 30 }
+    requires limit { limit ≤ 2 ^ 30 }
+    requires base { IsBase base }
+    ensures { MatchResult result (λ image. IsTextOnto limit base text (done image)) (IsRefusedAnswer (IsTextOnto limit base text)) }
+{
+    let sections = sections_of(alloc, text)?;
+    load_sections_onto(alloc, base, sections, limit)
 }

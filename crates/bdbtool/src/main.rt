@@ -4,13 +4,14 @@
 ghost use Rattle.std.specs.Prelude.{◌≡◌, IfOk, map, string_bytes};
 ghost use Rattle.std.specs.Vec.Iter.{into_iter_items};
 
-use bdb_io::{Sink, StdSink, StdSource, put_all};
+use bdb_io::{BaseSource, Sink, StdSink, StdSource, put_all};
 use bdb_model::Words;
-use bdb_tool::run_counted;
+use bdb_tool::{onto_file, run_counted, run_onto};
 use bdb_tool::status::{MEMORY, USAGE};
 use std::alloc::{AllocError, Global};
 use std::env::{self, Args};
-use std::io::ErrorKind;
+use std::fs::{self, File};
+use std::io::{self, ErrorKind};
 use std::marker::Brand;
 use std::process::ExitCode;
 use std::sync::ledger::Blank;
@@ -27,14 +28,41 @@ fn main(rt: HostRuntime) -> ExitCode {
     };
     let mut source = StdSource::new(rt.stdin());
     let mut out = StdSink::new(rt.stdout());
-    ExitCode::from(run_counted::<Brand, _, _, _>(
+    let Some(file) = onto_file(&words) else {
+        return ExitCode::from(run_counted::<Brand, _, _, _>(
+            rt.alloc(),
+            &words,
+            &mut source,
+            &mut out,
+            &mut err,
+            Blank::new(1),
+        ));
+    };
+    let mut base = match base_at(&rt, file) {
+        Ok(base) => base,
+        Err(error) => return refuse(&mut err, error.kind()),
+    };
+    ExitCode::from(run_onto::<Brand, _, _, _, _>(
         rt.alloc(),
         &words,
         &mut source,
+        &mut base,
         &mut out,
         &mut err,
         Blank::new(1),
     ))
+}
+
+// The file of a word, opened for reading alone. What can't be opened is shut, but where memory is wanting.
+fn base_at(rt: &HostRuntime, file: &[u8]) -> io::Result<BaseSource<File>> {
+    let Ok(path) = str::from_utf8(file) else {
+        return Ok(BaseSource::Shut { faults: 0 });
+    };
+    match fs::open(rt, path) {
+        Ok(file) => Ok(BaseSource::Reader(StdSource::new(file))),
+        Err(error) if error.kind() == ErrorKind::OutOfMemory => Err(error),
+        Err(_) => Ok(BaseSource::Shut { faults: 0 }),
+    }
 }
 
 // Ends where the words can't be collected: memory was wanting, or a word isn't UTF-8.

@@ -1,7 +1,7 @@
 use Rattle.std.proofs.Common.{refl, sym}
 use Rattle.std.specs.Prelude.{codes}
 use Rattle.bdb_model.specs.Command.{ListAll, Stat, Verify}
-use Rattle.bdb_tool.specs.Commands.{Ask, Load}
+use Rattle.bdb_tool.specs.Commands.{Ask}
 use Rattle.bdb_tool.proofs.CommandLemmas.{convert_word, dump_word, get_word, list_word, load_word, no_word, other_word, range_word, repair_word, salvage_word, stat_word, trial_word, verify_word}
 use Rattle.bdb_tool.proofs.command.command_of.Goals as goal
 
@@ -31,7 +31,7 @@ returns-then-eq-4-clause-command c =
 pub returns-then-eq-5-clause-command : goal.returns-then-eq-5-clause-command
 returns-then-eq-5-clause-command c =
     let words = load_word c.args.words.now c.in_ok-word.word.now c.in_ok-word.ensures (rw c.as_slice.ensures at (sym c.if-eq.ensures)) (rw c.as_slice-2.ensures at (sym c.if-eq-2.ensures)) (rw c.as_slice-3.ensures at (sym c.if-eq-3.ensures)) (rw c.as_slice-4.ensures at (sym c.if-eq-4.ensures)) (rw c.as_slice-5.ensures at (sym c.if-eq-5.ensures)) in
-    rw words (c.plain_command-then-eq-5.ensures.command (codes "load") Load refl)
+    rw words c.load_command.ensures.command
 
 pub returns-then-eq-6-clause-command : goal.returns-then-eq-6-clause-command
 returns-then-eq-6-clause-command c =

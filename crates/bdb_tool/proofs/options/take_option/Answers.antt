@@ -1,6 +1,6 @@
-use Rattle.bdb_tool.proofs.GivenLemmas.{has_kind, has_max_bytes, has_name, has_order, has_page_size, with_dupsort, with_duplicates, with_hex, with_kind, with_max_bytes, with_name, with_order, with_page_size, with_print}
+use Rattle.bdb_tool.proofs.GivenLemmas.{has_kind, has_max_bytes, has_name, has_onto, has_order, has_page_size, with_dupsort, with_duplicates, with_hex, with_kind, with_max_bytes, with_name, with_onto, with_order, with_page_size, with_print}
 use Rattle.bdb_tool.proofs.options.take_option.Goals as goal
-use Rattle.bdb_tool.proofs.options.take_option.Goals.{in-As, in-Dupsort, in-Duplicates, in-Hex, in-MaxBytes, in-Name, in-Order, in-PageSize, in-Print}
+use Rattle.bdb_tool.proofs.options.take_option.Goals.{in-As, in-Dupsort, in-Duplicates, in-Hex, in-MaxBytes, in-Name, in-Onto, in-Order, in-PageSize, in-Print}
 
 pub returns-in_default-clause-options : goal.returns-in_default-clause-options
 returns-in_default-clause-options c = λ before has. has_max_bytes c.args.read.now c.args.option c.in-MaxBytes.text before c.in-MaxBytes.is c.if-is_none.ensures has
@@ -17,6 +17,9 @@ returns-in_default-4-clause-options c = λ before has. has_page_size c.args.read
 pub returns-in_default-5-clause-options : goal.returns-in_default-5-clause-options
 returns-in_default-5-clause-options c = λ before has. has_kind c.args.read.now c.args.option c.in-As.text before c.in-As.is c.if-is_none-5.ensures has
 
+pub returns-in_default-6-clause-options : goal.returns-in_default-6-clause-options
+returns-in_default-6-clause-options c = λ before has. has_onto c.args.read.now c.args.option c.in-Onto.text before c.in-Onto.is c.if-is_none-6.ensures has
+
 pub returns-clause-options : goal.returns-clause-options
 returns-clause-options c =
     λ before has.
@@ -26,6 +29,7 @@ returns-clause-options c =
       | in-Order w ↦ with_order c.args.read.now c.match-option.read c.args.option w.in-Order.text c.args.next before w.in-Order.is w.if-is_none-3.ensures w.read-is has
       | in-PageSize w ↦ with_page_size c.args.read.now c.match-option.read c.args.option w.in-PageSize.text c.args.next before w.in-PageSize.is w.if-is_none-4.ensures w.read-is has
       | in-As w ↦ with_kind c.args.read.now c.match-option.read c.args.option w.in-As.text c.args.next before w.in-As.is w.if-is_none-5.ensures w.read-is has
+      | in-Onto w ↦ with_onto c.args.read.now c.match-option.read c.args.option w.in-Onto.text c.args.next before w.in-Onto.is w.if-is_none-6.ensures w.read-is has
       | in-Hex w ↦ with_hex c.args.read.now c.match-option.read c.args.option c.args.next before w.in-Hex.is w.if-not-read.true w.read-is has
       | in-Print w ↦ with_print c.args.read.now c.match-option.read c.args.option c.args.next before w.in-Print.is w.if-not-read-2.true w.read-is has
       | in-Duplicates w ↦ with_duplicates c.args.read.now c.match-option.read c.args.option c.args.next before w.in-Duplicates.is w.if-not-read-3.true w.read-is has

@@ -1,6 +1,8 @@
-use Rattle.std.proofs.Common.{refl}
-use Rattle.bdb_format.proofs.KnownLemmas.{keeps_itself}
+use Rattle.bdb_tool.proofs.OntoLemmas.{runs_without}
 use Rattle.bdb_tool.proofs.program.run.Goals as goal
 
-pub returns-in-Some-clause-base : goal.returns-in-Some-clause-base
-returns-in-Some-clause-base g c = rw c.in-Some.is (record { bytes = keeps_itself _; faults = refl })
+pub returns-in-Some : goal.returns-in-Some
+returns-in-Some g c = rw c.in-Some.is c.run_with.ensures
+
+pub returns-in-None : goal.returns-in-None
+returns-in-None g c = rw c.in-None.is (runs_without _ _ _ _ _ c.run_alone.ensures)

@@ -1,0 +1,10 @@
+pub mod BaseLemmas
+pub mod BuildLemmas
+pub mod ErrorLemmas
+pub mod FieldsLemmas
+pub mod FitLemmas
+pub mod JoinLemmas
+pub mod JoiningLemmas
+pub mod NothingLemmas
+pub mod OntoLemmas
+pub mod SearchLemmas

@@ -1,0 +1,45 @@
+-- The database of a name among databases in the order of their names, as a search by halving finds it.
+use Rattle.std.specs.Prelude.{◌≡◌, ℕ, ◌<◌, ⊤, Bool, true, List, length, Option, Some, None, Result, Ok, Err, is_some, slice_get}
+use Rattle.std.specs.Cmp.Lexicographic.{slice_cmp}
+use Rattle.std.specs.List.{Contains}
+use Rattle.std.specs.Ordering.{nat_cmp}
+use Rattle.std.specs.declared.cmp.Ordering.{Ordering}
+use Rattle.bdb_format.specs.Databases.{is_name}
+use Rattle.bdb_format.specs.Less.{Less}
+use Rattle.bdb_text_format.specs.declared.sections.Section.{Section}
+use Rattle.bdb_kept.proofs.LaterLemmas.{AllLater}
+use Rattle.bdb_load.specs.Builds.{name_of}
+
+-- the order of a database's name and a name
+abbrev pub order_of : List ℕ → Section → Ordering
+order_of name database = slice_cmp nat_cmp (name_of database) name
+
+abbrev pub has_name : List ℕ → Section → Bool
+has_name name database = is_name (Some name) database.name
+
+-- each name is less than all that come later
+abbrev pub NamesRise : List Section → Type 0
+NamesRise all = AllLater (λ a b. Less (name_of a) (name_of b)) all
+
+abbrev pub AllNamed : List Section → Type 0
+AllNamed all = (database : Section) → Contains all database → is_some database.name ≡ true
+
+-- the database at the place that a search answers
+abbrev pub place_in : List Section → Result ℕ ℕ → Option Section
+place_in all (Ok i) = slice_get all i
+place_in all (Err i) = None
+
+-- A place, where there is one.
+
+abbrev pub IsWithin : ℕ → Option ℕ → Type 0
+IsWithin n None = ⊤
+IsWithin n (Some i) = i < n
+
+abbrev pub at_place : List Section → Option ℕ → Option Section
+at_place all None = None
+at_place all (Some i) = slice_get all i
+
+-- a place among databases at which this one stands, or none where there is none
+pub record IsPlaceOf (all : List Section) (found : Option Section) (place : Option ℕ) : Type 0 where
+  pub within : IsWithin (length all) place
+  pub there : at_place all place ≡ found

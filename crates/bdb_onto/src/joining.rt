@@ -1,0 +1,147 @@
+//! The pairs of sections behind those of their partners, as if one text had both.
+ghost use Rattle.std.specs.Prelude.{◌≡◌, [], ◌++◌, IfOk, List, Some, length, map, option_to_list, reverse};
+ghost use Rattle.std.specs.List.{All, flat_map};
+ghost use Rattle.bdb_sections.specs.Fit.{AreNamedBehind};
+ghost use Rattle.bdb_onto.specs.Bases.{IsBase};
+ghost use Rattle.bdb_onto.specs.Joining.{IsPlaced, behind, emptied, placed_section, taken_at};
+ghost use Rattle.bdb_onto.specs.Onto.{joined};
+ghost use Rattle.bdb_onto.specs.Search.{IsWithin};
+
+use crate::Base;
+use crate::partners::place_of;
+use bdb_format::{Order, Settings};
+use bdb_text_format::{Section, Sections, TextPair, TextPairs};
+use std::alloc::{AllocError, Global};
+
+/// A section, and the place of its partner in the base, where it has one.
+#[derive(Drop)]
+struct Placed {
+    section: Section,
+    place: Option<usize>,
+}
+
+// Pairs, the last one first.
+fn backward(alloc: Global, pairs: TextPairs) -> Result<Vec<TextPair>, AllocError>
+    ensures { IfOk result (λ all. all.items ≡ reverse pairs) }
+{
+    let mut pairs = pairs;
+    let mut all = Vec::with_capacity(alloc, pairs.len())?;
+    while let Some(pair) = pairs.pop() {
+        all.push(pair)?;
+    }
+    Ok(all)
+}
+
+// Pairs behind others.
+fn pairs_behind(alloc: Global, before: TextPairs, pairs: TextPairs) -> Result<TextPairs, AllocError>
+    ensures { IfOk result (λ all. all ≡ before ++ pairs) }
+{
+    let mut all = before;
+    let mut rest = backward(alloc, pairs)?;
+    while let Some(pair) = rest.pop() {
+        all.push(pair)?;
+    }
+    Ok(all)
+}
+
+// A section behind its partner, where it has one, in a file of this page size and order.
+fn behind(
+    alloc: Global,
+    page_size: u32,
+    order: Order,
+    partner: Option<Section>,
+    section: Section,
+) -> Result<Section, AllocError>
+    ensures { IfOk result (λ joined. joined ≡ behind page_size order partner section) }
+{
+    let (settings, pairs) = match partner {
+        Some(partner) => (
+            partner.settings,
+            pairs_behind(alloc, partner.pairs, section.pairs)?,
+        ),
+        None => (section.settings, section.pairs),
+    };
+    Ok(Section {
+        name: section.name,
+        settings: Settings {
+            page_size,
+            order,
+            ..settings
+        },
+        header_line: section.header_line,
+        pairs,
+    })
+}
+
+// Sections with the places of their partners.
+fn with_places(alloc: Global, base: &Base, sections: Sections) -> Result<Vec<Placed>, AllocError>
+    requires { IsBase base.now }
+    ensures sections { IfOk result (λ all. map placed_section all.items ≡ sections) }
+    ensures places { IfOk result (λ all. All (IsPlaced base.now) all.items) }
+{
+    let mut sections = sections;
+    let mut all = Vec::with_capacity(alloc, sections.len())?;
+    while let Some(section) = sections.pop() {
+        let place = place_of(base, &section);
+        all.push(Placed { section, place })?;
+    }
+    all.reverse();
+    Ok(all)
+}
+
+// Databases, each in a place from which it can be taken.
+fn places_of(alloc: Global, databases: Sections) -> Result<Vec<Option<Section>>, AllocError>
+    ensures { IfOk result (λ all. all.items ≡ map Some databases) }
+{
+    let mut databases = databases;
+    let mut all = Vec::with_capacity(alloc, databases.len())?;
+    while let Some(database) = databases.pop() {
+        all.push(Some(database))?;
+    }
+    all.reverse();
+    Ok(all)
+}
+
+// Takes what stands at a place.
+fn take_at(places: &mut Vec<Option<Section>>, place: Option<usize>) -> Option<Section>
+    requires { IsWithin (length places.old.items) place }
+    ensures taken { result ≡ taken_at places.old.items place }
+    ensures left { places.new.items ≡ emptied places.old.items place }
+{
+    places[place?].take()
+}
+
+// Sections, and behind them what still stands in its place.
+fn with_left(all: Sections, places: Vec<Option<Section>>) -> Result<Sections, AllocError>
+    ensures { IfOk result (λ every. every ≡ all ++ flat_map option_to_list places.items) }
+{
+    let mut all = all;
+    for place in places {
+        if let Some(database) = place {
+            all.push(database)?;
+        }
+    }
+    Ok(all)
+}
+
+/// Sections behind their partners, and the databases of the base that are left. They are moved, not copied.
+pub(crate) fn joined(alloc: Global, base: Base, sections: Sections) -> Result<Sections, AllocError>
+    requires base { IsBase base }
+    requires apart { AreNamedBehind [] sections }
+    ensures { IfOk result (λ all. all ≡ joined base sections) }
+{
+    let sections = with_places(alloc, &base, sections)?;
+    let Base {
+        page_size,
+        order,
+        databases,
+        ..
+    } = base;
+    let mut places = places_of(alloc, databases)?;
+    let mut all = Sections::new(alloc);
+    for placed in sections {
+        let partner = take_at(&mut places, placed.place);
+        all.push(behind(alloc, page_size, order, partner, placed.section)?)?;
+    }
+    with_left(all, places)
+}

@@ -1,0 +1,13 @@
+//! From the sections of a dump text and the databases of a sound file to a sound file with both.
+#![tactic(auto)]
+
+mod base;
+mod errors;
+mod joining;
+pub mod laws;
+mod onto;
+mod partners;
+
+pub use base::Base;
+pub use errors::onto_error;
+pub use onto::{load_onto, settle_onto};

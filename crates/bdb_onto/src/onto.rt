@@ -1,0 +1,54 @@
+ghost use Rattle.std.specs.Prelude.{◌≡◌, ◌≤◌, ◌^◌, None, IfErr, IfOk, OnOk};
+ghost use Rattle.bdb_named.specs.Images.{HasBuiltTables};
+ghost use Rattle.bdb_settle.specs.LoadErrors.{IsSettleRefusal};
+ghost use Rattle.bdb_load.specs.Builds.{in_name_order};
+ghost use Rattle.bdb_load.specs.Loading.{AreLoadable};
+ghost use Rattle.bdb_onto.specs.Bases.{IsBase};
+ghost use Rattle.bdb_onto.specs.Onto.{BuildsOnto, IsOntoRefusal, loading_error_onto, onto_error, result_of};
+
+use crate::Base;
+use crate::errors::onto_error;
+use crate::joining::joined;
+use bdb_io::Image;
+use bdb_load::{LoadError, in_name_order, load, settle};
+use bdb_text_format::Sections;
+use std::alloc::Global;
+
+/// What loading sections onto a base gives: its databases in the order of their names, with their lists, and without lines. An error is the
+/// first of the sections on the base; where there is none, memory may be wanting.
+pub fn settle_onto(alloc: Global, base: Base, sections: Sections) -> Result<Sections, LoadError>
+    requires base { IsBase base }
+    requires fit { AreLoadable sections }
+    ensures lists { IfOk result (λ all. all ≡ in_name_order (result_of base sections)) }
+    ensures sound { OnOk result (onto_error base sections ≡ None) }
+    ensures refused { IfErr result (IsSettleRefusal (onto_error base sections)) }
+{
+    if let Some(error) = onto_error(&base, &sections) {
+        return Err(error);
+    }
+    let settled = settle(alloc, joined(alloc, base, sections)?)?;
+    Ok(in_name_order(alloc, settled)?)
+}
+
+/// The image of sections that are loaded onto a base: a sound file with the databases of both, of at most `max` bytes, in the page size and
+/// the order of the base. Pages of buckets have type 2, and the root of a tree of data says how many there are. An error is the first of the
+/// sections on the base; where there is none, that the image would have more than `max` bytes, or want of memory.
+pub fn load_onto(
+    alloc: Global,
+    base: Base,
+    sections: Sections,
+    max: u64,
+) -> Result<Image, LoadError>
+    requires max { max ≤ 2 ^ 30 }
+    requires base { IsBase base }
+    requires fit { AreLoadable sections }
+    ensures built { IfOk result (λ image. BuildsOnto base sections image) }
+    ensures tables { IfOk result (λ image. HasBuiltTables image) }
+    ensures sound { OnOk result (loading_error_onto max base sections ≡ None) }
+    ensures refused { IfErr result (IsOntoRefusal max base sections) }
+{
+    if let Some(error) = onto_error(&base, &sections) {
+        return Err(error);
+    }
+    load(alloc, joined(alloc, base, sections)?, max)
+}

@@ -1,0 +1,87 @@
+ghost use Rattle.std.specs.Prelude.{◌≡◌, option_copied};
+ghost use Rattle.std.specs.List.{find};
+ghost use Rattle.bdb_load.specs.Builds.{name_of};
+ghost use Rattle.bdb_onto.specs.Bases.{IsBase};
+ghost use Rattle.bdb_onto.specs.Onto.{is_misnamed, partner_of, settings_onto};
+ghost use Rattle.bdb_onto.specs.Search.{AllNamed, IsPlaceOf, NamesRise, has_name, order_of};
+
+use crate::Base;
+use bdb_format::Settings;
+use bdb_text_format::{Section, Sections};
+use std::cmp::Ordering;
+
+// The bytes of a database's name, none where it has none.
+fn name_of(database: &Section) -> &[u8]
+    ensures { result.now ≡ name_of database.now }
+{
+    match &database.name {
+        Some(name) => name.as_slice(),
+        None => &[],
+    }
+}
+
+// The order of a database's name and a name.
+fn order_of(database: &Section, name: &[u8]) -> Ordering
+    ensures { result ≡ order_of name.now database.now }
+{
+    name_of(database).cmp(name)
+}
+
+// The place of the database of a name among databases in the order of their names.
+fn place_named(databases: &Sections, name: &[u8]) -> Option<usize>
+    requires rise { NamesRise databases.now }
+    requires named { AllNamed databases.now }
+    ensures { IsPlaceOf databases.now (find (has_name name.now) databases.now) result }
+{
+    databases
+        .as_slice()
+        .binary_search_by(|database| order_of(database, name))
+        .ok()
+}
+
+/// Whether a section has a name and the base no master, or the other way round.
+pub(crate) fn is_misnamed(base: &Base, section: &Section) -> bool
+    ensures { result ≡ is_misnamed base.now section.now }
+{
+    section.name.is_some() != base.master
+}
+
+/// The place in a base of the database that a section is loaded onto, where there is one. Names ascend under a master; without one there is one database.
+pub(crate) fn place_of(base: &Base, section: &Section) -> Option<usize>
+    requires { IsBase base.now }
+    ensures { IsPlaceOf base.now.databases (partner_of base.now section.now) result }
+{
+    if is_misnamed(base, section) {
+        return None;
+    }
+    match &section.name {
+        Some(name) => place_named(&base.databases, name.as_slice()),
+        None if base.databases.is_empty() => None,
+        None => Some(0),
+    }
+}
+
+/// The database that a section is loaded onto, where there is one.
+pub(crate) fn partner_of<'b>(base: &'b Base, section: &Section) -> Option<&'b Section>
+    requires { IsBase base.now }
+    ensures { option_copied result ≡ partner_of base.now section.now }
+{
+    let place = place_of(base, section)?;
+    base.databases.get(place)
+}
+
+/// The settings of a section on a base.
+pub(crate) fn settings_onto(base: &Base, section: &Section) -> Settings
+    requires { IsBase base.now }
+    ensures { result ≡ settings_onto base.now section.now }
+{
+    let settings = match partner_of(base, section) {
+        Some(partner) => partner.settings,
+        None => section.settings,
+    };
+    Settings {
+        page_size: base.page_size,
+        order: base.order,
+        ..settings
+    }
+}

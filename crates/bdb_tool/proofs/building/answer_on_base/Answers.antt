@@ -1,0 +1,10 @@
+use Rattle.bdb_writing.specs.Ontos.{IsTextOnto}
+use Rattle.bdb_tool.proofs.AnswerLemmas.{refusal_ends, written_ends}
+use Rattle.bdb_tool.proofs.building.answer_on_base.Goals as goal
+
+pub returns-in-Ok : goal.returns-in-Ok
+returns-in-Ok g c =
+    written_ends (IsTextOnto c.args.limit c.args.base c.args.text) _ _ _ _ _ c.in-Ok.ensures (rw c.bytes.ensures at c.put.ensures) c.report.ensures
+
+pub returns-in-Err : goal.returns-in-Err
+returns-in-Err g c = refusal_ends (IsTextOnto c.args.limit c.args.base c.args.text) _ _ _ _ _ c.in-Err.ensures c.tell_refusal.ensures

@@ -1,0 +1,144 @@
+//! The databases of a sound file, copied out of it.
+ghost use Rattle.std.specs.Prelude.{◌≡◌, ◌<◌, ◌≤◌, ◌^◌, IfErr, IfOk, None, OnOk, is_some, length, map, option_copied};
+ghost use Rattle.bdb_file.specs.Named.{database_at};
+ghost use Rattle.bdb_file.specs.Whole.{IsVerdictOf};
+ghost use Rattle.bdb_format.specs.Databases.{databases};
+ghost use Rattle.bdb_format.specs.File.{file_of, page_at};
+ghost use Rattle.bdb_format.specs.Master.{master_in};
+ghost use Rattle.bdb_format.specs.Verdict.{verdict_of};
+ghost use Rattle.bdb_format.specs.declared.kinds.Verdict.TheVariants.{Memory};
+ghost use Rattle.bdb_onto.specs.Bases.{IsBaseOf, base_of, base_section, text_pair};
+ghost use Rattle.bdb_overflow.specs.Datum.{key_view_seen};
+ghost use Rattle.bdb_writing.specs.Ontos.{list_key};
+
+use bdb_file::{Db, Scan, Sound, verify};
+use bdb_format::{Bytes, Steps, Verdict};
+use bdb_graph::Meta;
+use bdb_io::Image;
+use bdb_onto::Base;
+use bdb_overflow::KeyView;
+use bdb_text_format::{Key, Section, Sections, TextPair, TextPairs};
+use std::alloc::{AllocError, Global};
+use std::sync::ledger::Ledger;
+
+// The same key once more.
+fn copied_key(alloc: Global, key: &KeyView<'_>) -> Result<Key, AllocError>
+    ensures { IfOk result (λ copy. copy ≡ list_key (key_view_seen key.now)) }
+{
+    match key {
+        KeyView::Bytes(bytes) => Ok(Key::Bytes(bytes.copy(alloc)?)),
+        KeyView::Number(number) => Ok(Key::Number(*number)),
+    }
+}
+
+// The same name once more.
+fn copied_name(alloc: Global, name: Option<&[u8]>) -> Result<Option<Bytes>, AllocError>
+    ensures { IfOk result (λ copy. copy ≡ option_copied name.entry) }
+{
+    let Some(name) = name else {
+        return Ok(None);
+    };
+    let mut copy = Bytes::new(alloc);
+    copy.push_all(name)?;
+    Ok(Some(copy))
+}
+
+// The pairs of a list, as if they stood in a text without numbers of lines.
+fn listed_pairs(alloc: Global, list: Scan<'_>) -> Result<TextPairs, AllocError>
+    ensures { IfOk result (λ pairs. pairs ≡ map text_pair list.entry) }
+{
+    let mut pairs = TextPairs::new(alloc);
+    for (key, value) in list {
+        let key = copied_key(alloc, &key)?;
+        let value = value.copy(alloc)?;
+        pairs.push(TextPair {
+            key,
+            value,
+            line: 0,
+        })?;
+    }
+    Ok(pairs)
+}
+
+// A database as a section with its list.
+fn base_section(alloc: Global, sound: &Sound<'_>, db: Db) -> Result<Section, AllocError>
+    requires { db < length (databases (file_of sound.now)) }
+    ensures { IfOk result (λ section. section ≡ base_section sound.now (database_at (file_of sound.now) db)) }
+{
+    let name = copied_name(alloc, sound.name(db))?;
+    let pairs = listed_pairs(alloc, sound.scan(alloc, db)?)?;
+    Ok(Section {
+        name,
+        settings: sound.settings(db),
+        header_line: 0,
+        pairs,
+    })
+}
+
+// All databases, in their order.
+fn base_sections(alloc: Global, sound: &Sound<'_>) -> Result<Sections, AllocError>
+    ensures { IfOk result (λ all. all ≡ map (base_section sound.now) (databases (file_of sound.now))) }
+{
+    let mut all = Sections::new(alloc);
+    for i in 0..sound.databases() {
+        all.push(base_section(alloc, sound, sound.database(i))?)?;
+    }
+    Ok(all)
+}
+
+// Whether page 0 is the metadata of a master.
+fn has_master(sound: &Sound<'_>) -> bool
+    ensures { result ≡ is_some (master_in (page_at (file_of sound.now) 0)) }
+{
+    match sound.linked().forest().meta(0) {
+        Some(Meta::Btree(meta)) => meta.flags & 0x20 != 0,
+        _ => false,
+    }
+}
+
+// The base that a sound file is.
+fn sound_base(alloc: Global, sound: &Sound<'_>) -> Result<Base, AllocError>
+    ensures { IfOk result (λ base. base ≡ base_of sound.now) }
+{
+    let databases = base_sections(alloc, sound)?;
+    let head = sound.head();
+    Ok(Base {
+        master: has_master(sound),
+        page_size: head.page_size,
+        order: head.order,
+        databases,
+    })
+}
+
+// The same of a sound file that is given up, or want of memory.
+fn base_within(alloc: Global, sound: Sound<'_>) -> Result<Base, Verdict>
+    ensures base { IfOk result (λ base. base ≡ base_of sound.entry) }
+    ensures refused { IfErr result (λ verdict. verdict ≡ Memory) }
+{
+    sound_base(alloc, &sound).map_err(|_| Verdict::Memory)
+}
+
+// The base that these bytes are.
+fn base_in<L: Ledger>(alloc: Global, image: &[u8], steps: &mut Steps<L>) -> Result<Base, Verdict>
+    requires { length image.now ≤ 2 ^ 30 }
+    ensures base { IfOk result (λ base. IsBaseOf image.now base) }
+    ensures sound { OnOk result (verdict_of image.now ≡ None) }
+    ensures refused { IfErr result (IsVerdictOf image.now) }
+{
+    let sound = verify(alloc, image, steps)?;
+    base_within(alloc, sound)
+}
+
+/// The base that an image is, where it is sound; else its verdict, or want of memory. The image is given up at the end.
+pub fn base_of<L: Ledger>(
+    alloc: Global,
+    image: Image,
+    steps: &mut Steps<L>,
+) -> Result<Base, Verdict>
+    requires { length image ≤ 2 ^ 30 }
+    ensures base { IfOk result (λ base. IsBaseOf image base) }
+    ensures sound { OnOk result (verdict_of image ≡ None) }
+    ensures refused { IfErr result (IsVerdictOf image) }
+{
+    base_in(alloc, image.bytes(), steps)
+}
