@@ -10,12 +10,15 @@ use Rattle.bdb_format.specs.Flags.{names_databases}
 use Rattle.bdb_format.specs.Master.{master_in}
 use Rattle.bdb_format.specs.Page.{BtreeFields, HashFields, Metadata, Page, QueueFields, Zero, Free, Meta, Hash, Internal, RecnoInternal, Leaf, RecnoLeaf, DupLeaf, Overflow, Queue, NoType}
 use Rattle.bdb_format.specs.Verdict.{verdict_of}
+use Rattle.bdb_format.specs.Lists.{ListKey, BytesKey, NumberKey}
+use Rattle.bdb_text_format.specs.declared.pairs.Key.{Key}
 use Rattle.bdb_text_format.specs.declared.sections.Section.{Section}
 use Rattle.bdb_graph.specs.Metas.{meta_in}
 use Rattle.bdb_file.specs.Named.{database_at, no_database}
 use Rattle.bdb_text.specs.WrittenLaw.{AreBytes}
 use Rattle.bdb_onto.specs.declared.base.Base.{Base}
-use Rattle.bdb_onto.specs.Bases.{IsBaseOf, base_of, base_section}
+use Rattle.bdb_onto.specs.Bases.{IsBaseOf, base_of, base_section, text_pair}
+use Rattle.bdb_writing.specs.Ontos.{list_key}
 
 abbrev pub is_master : Option Metadata → Bool
 is_master (Some (BtreeFields meta)) = names_databases meta
@@ -45,6 +48,11 @@ of_page NoType = refl
 
 pub master_of : (page : Page) (fields : Option Metadata) → fields ≡ meta_in page → is_master fields ≡ is_some (master_in page)
 master_of page fields is = ap is_master is ∙ sym (of_page page)
+
+-- a key and a value of a list in a section
+pub pair_listed : (key : ListKey) (value bytes : List ℕ) (copy : Key) → copy ≡ list_key key → bytes ≡ value → record { key = copy; value = bytes; line = 0 } ≡ text_pair (key, value)
+pair_listed (BytesKey key) value bytes copy key_is value_is = rw (key_is, value_is) refl
+pair_listed (NumberKey number) value bytes copy key_is value_is = rw (key_is, value_is) refl
 
 -- the database at a place, behind those before it
 pub more_sections : (image : List ℕ) (all : List Section) (i : ℕ) (section : Section) → i < length (databases (file_of image))

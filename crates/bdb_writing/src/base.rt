@@ -4,11 +4,11 @@ ghost use Rattle.bdb_file.specs.Named.{database_at};
 ghost use Rattle.bdb_file.specs.Whole.{IsVerdictOf};
 ghost use Rattle.bdb_format.specs.Databases.{databases};
 ghost use Rattle.bdb_format.specs.File.{file_of, page_at};
+ghost use Rattle.bdb_format.specs.Lists.{list_of};
 ghost use Rattle.bdb_format.specs.Master.{master_in};
 ghost use Rattle.bdb_format.specs.Verdict.{verdict_of};
-ghost use Rattle.bdb_format.specs.declared.kinds.Verdict.TheVariants.{Memory};
 ghost use Rattle.bdb_onto.specs.Bases.{IsBaseOf, base_of, base_section, text_pair};
-ghost use Rattle.bdb_overflow.specs.Datum.{key_view_seen};
+ghost use Rattle.bdb_overflow.specs.Datum.{datum_seen, key_view_seen};
 ghost use Rattle.bdb_writing.specs.Ontos.{list_key};
 
 use bdb_file::{Db, Scan, Sound, verify};
@@ -16,18 +16,25 @@ use bdb_format::{Bytes, Steps, Verdict};
 use bdb_graph::Meta;
 use bdb_io::Image;
 use bdb_onto::Base;
-use bdb_overflow::KeyView;
+use bdb_overflow::{Datum, KeyView};
 use bdb_text_format::{Key, Section, Sections, TextPair, TextPairs};
 use std::alloc::{AllocError, Global};
 use std::sync::ledger::Ledger;
 
+// The same bytes once more. The value is given up.
+fn copied_value(alloc: Global, value: Datum<'_>) -> Result<Bytes, AllocError>
+    ensures { IfOk result (λ copy. copy ≡ datum_seen value.entry) }
+{
+    value.copy(alloc)
+}
+
 // The same key once more.
-fn copied_key(alloc: Global, key: &KeyView<'_>) -> Result<Key, AllocError>
-    ensures { IfOk result (λ copy. copy ≡ list_key (key_view_seen key.now)) }
+fn copied_key(alloc: Global, key: KeyView<'_>) -> Result<Key, AllocError>
+    ensures { IfOk result (λ copy. copy ≡ list_key (key_view_seen key.entry)) }
 {
     match key {
-        KeyView::Bytes(bytes) => Ok(Key::Bytes(bytes.copy(alloc)?)),
-        KeyView::Number(number) => Ok(Key::Number(*number)),
+        KeyView::Bytes(bytes) => Ok(Key::Bytes(copied_value(alloc, bytes)?)),
+        KeyView::Number(number) => Ok(Key::Number(number)),
     }
 }
 
@@ -43,21 +50,38 @@ fn copied_name(alloc: Global, name: Option<&[u8]>) -> Result<Option<Bytes>, Allo
     Ok(Some(copy))
 }
 
-// The pairs of a list, as if they stood in a text without numbers of lines.
+// A pair of a list, as if it stood in a text without numbers of lines.
+#[tactic(auto, using(crate::proofs::BaseLemmas::pair_listed))]
+fn listed_pair(alloc: Global, key: KeyView<'_>, value: Datum<'_>) -> Result<TextPair, AllocError>
+    ensures { IfOk result (λ pair. pair ≡ text_pair (key_view_seen key.entry, datum_seen value.entry)) }
+{
+    let key = copied_key(alloc, key)?;
+    let value = copied_value(alloc, value)?;
+    Ok(TextPair {
+        key,
+        value,
+        line: 0,
+    })
+}
+
+// The pairs of a list.
 fn listed_pairs(alloc: Global, list: Scan<'_>) -> Result<TextPairs, AllocError>
     ensures { IfOk result (λ pairs. pairs ≡ map text_pair list.entry) }
 {
     let mut pairs = TextPairs::new(alloc);
     for (key, value) in list {
-        let key = copied_key(alloc, &key)?;
-        let value = value.copy(alloc)?;
-        pairs.push(TextPair {
-            key,
-            value,
-            line: 0,
-        })?;
+        pairs.push(listed_pair(alloc, key, value)?)?;
     }
     Ok(pairs)
+}
+
+// The pairs of a database.
+fn base_pairs(alloc: Global, sound: &Sound<'_>, db: Db) -> Result<TextPairs, AllocError>
+    requires { db < length (databases (file_of sound.now)) }
+    ensures { IfOk result (λ pairs. pairs ≡ map text_pair (list_of (file_of sound.now) (database_at (file_of sound.now) db).fields)) }
+{
+    let list = sound.scan(alloc, db)?;
+    listed_pairs(alloc, list)
 }
 
 // A database as a section with its list.
@@ -66,7 +90,7 @@ fn base_section(alloc: Global, sound: &Sound<'_>, db: Db) -> Result<Section, All
     ensures { IfOk result (λ section. section ≡ base_section sound.now (database_at (file_of sound.now) db)) }
 {
     let name = copied_name(alloc, sound.name(db))?;
-    let pairs = listed_pairs(alloc, sound.scan(alloc, db)?)?;
+    let pairs = base_pairs(alloc, sound, db)?;
     Ok(Section {
         name,
         settings: sound.settings(db),
@@ -110,12 +134,11 @@ fn sound_base(alloc: Global, sound: &Sound<'_>) -> Result<Base, AllocError>
     })
 }
 
-// The same of a sound file that is given up, or want of memory.
-fn base_within(alloc: Global, sound: Sound<'_>) -> Result<Base, Verdict>
-    ensures base { IfOk result (λ base. base ≡ base_of sound.entry) }
-    ensures refused { IfErr result (λ verdict. verdict ≡ Memory) }
+// The base that a sound file is, which is given up.
+fn base_within(alloc: Global, sound: Sound<'_>) -> Result<Base, AllocError>
+    ensures { IfOk result (λ base. base ≡ base_of sound.entry) }
 {
-    sound_base(alloc, &sound).map_err(|_| Verdict::Memory)
+    sound_base(alloc, &sound)
 }
 
 // The base that these bytes are.
@@ -126,7 +149,10 @@ fn base_in<L: Ledger>(alloc: Global, image: &[u8], steps: &mut Steps<L>) -> Resu
     ensures refused { IfErr result (IsVerdictOf image.now) }
 {
     let sound = verify(alloc, image, steps)?;
-    base_within(alloc, sound)
+    match base_within(alloc, sound) {
+        Ok(base) => Ok(base),
+        Err(_) => Err(Verdict::Memory),
+    }
 }
 
 /// The base that an image is, where it is sound; else its verdict, or want of memory. The image is given up at the end.
