@@ -155,7 +155,7 @@ fn base_in<L: Ledger>(alloc: Global, image: &[u8], steps: &mut Steps<L>) -> Resu
     }
 }
 
-/// The base that an image is, where it is sound; else its verdict, or want of memory. The image is given up at the end.
+/// The base that an image is, where it is sound; else the verdict on it, or want of memory. Keys and data are copied, and the image is given up.
 pub fn base_of<L: Ledger>(
     alloc: Global,
     image: Image,

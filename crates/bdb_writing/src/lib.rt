@@ -1,4 +1,4 @@
-//! What the commands that build a file write: the image of a dump text, and the lines of a trial, or why there are none.
+//! What the commands that build a file write: the image of a dump text, alone or onto a base, and the lines of a trial, or why there are none.
 #![tactic(auto)]
 
 mod base;
