@@ -44,6 +44,7 @@ reads_base (Ask request) = false
 reads_base Load = false
 reads_base (LoadOnto file) = true
 reads_base (Salvage guess print) = false
+reads_base (Repair shape guess) = false
 reads_base (Trial kind seed count) = false
 
 abbrev pub asking : Option Request → Option Action
@@ -305,6 +306,7 @@ file_of_action (Ask request) = None
 file_of_action Load = None
 file_of_action (LoadOnto file) = Some file
 file_of_action (Salvage guess print) = None
+file_of_action (Repair shape guess) = None
 file_of_action (Trial kind seed count) = None
 
 abbrev pub file_of_command : Option Command → Option (List ℕ)
