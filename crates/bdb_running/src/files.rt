@@ -24,113 +24,14 @@ pub const A_LEAF: [Field; 6] = [
     Field::Bytes(1020, &[1, 0, 1, 0x61]), // key a
 ];
 
-pub const NO_BYTES: File = File {
-    length: 0,
-    parts: &[],
-};
-
 pub const ONE_PAIR: File = File {
     length: 1024,
-    parts: &[&BTREE, &A_LEAF],
-};
-
-// The same numbers, each with its high byte first.
-const IN_HIGH_ORDER: [Field; 11] = [
-    Field::Bytes(12, &[0, 0x05, 0x31, 0x62]),
-    Field::Bytes(16, &[0, 0, 0, 9]),
-    Field::Bytes(20, &[0, 0, 2, 0]),
-    Field::Bytes(32, &[0, 0, 0, 1]),
-    Field::Bytes(76, &[0, 0, 0, 2]),
-    Field::Bytes(88, &[0, 0, 0, 1]),
-    Field::Bytes(520, &[0, 0, 0, 1]),
-    Field::Bytes(532, &[0, 2, 1, 0xf8]),
-    Field::Bytes(538, &[1, 0xfc, 1, 0xf8]),
-    Field::Bytes(1016, &[0, 1]),
-    Field::Bytes(1020, &[0, 1]),
-];
-
-pub const ONE_PAIR_BIG: File = File {
-    length: 1024,
-    parts: &[&BTREE, &A_LEAF, &IN_HIGH_ORDER],
-};
-
-// The data, of five bytes, go into the key behind them.
-pub const OVERLAPPING: File = File {
-    length: 1024,
-    parts: &[&BTREE, &A_LEAF, &[Field::Two(1016, 5)]],
-};
-
-// A page 2 without anything, above the last page.
-pub const ZERO_TAIL: File = File {
-    length: 1536,
-    parts: &[&BTREE, &A_LEAF],
-};
-
-pub const FREE_PAGE: File = File {
-    length: 1536,
-    parts: &[
-        &BTREE,
-        &A_LEAF,
-        &[
-            Field::Bytes(28, &[2]), // first free page
-            Field::Bytes(32, &[2]), // last page
-            Field::Bytes(1032, &[2]), // page 2
-        ],
-    ],
-};
-
-pub const ONE_PAGE: File = File {
-    length: 512,
-    parts: &[&BTREE, &A_LEAF],
-};
-
-pub const A_BYTE_SHORT: File = File {
-    length: 1023,
     parts: &[&BTREE, &A_LEAF],
 };
 
 pub const VERSION_10: File = File {
     length: 1024,
     parts: &[&BTREE, &A_LEAF, &[Field::Bytes(16, &[10])]],
-};
-
-pub const LARGE_PAGES: File = File {
-    length: 1024,
-    parts: &[&BTREE, &A_LEAF, &[Field::Bytes(20, &[0, 0, 1])]],
-};
-
-// Metadata of a compressed btree on page 2.
-const COMPRESSED: [Field; 4] = [
-    Field::Bytes(32, &[2]), // last page
-    Field::Bytes(1032, &[2, 0, 0, 0, 0x62, 0x31, 0x05, 0, 9, 0, 0, 0, 0, 2]), // page 2: magic number, version, page size
-    Field::Bytes(1049, &[9]), // type
-    Field::Bytes(1072, &[0x80]), // flags
-];
-
-/// Page 1 has another number, and page 2 is left out by name.
-pub const NUMBER_BEFORE_COMPRESSION: File = File {
-    length: 1536,
-    parts: &[&BTREE, &A_LEAF, &COMPRESSED, &[Field::Bytes(520, &[7])]],
-};
-
-/// Page 0 is left out by name, and page 1 has another number.
-pub const COMPRESSION_BEFORE_NUMBER: File = File {
-    length: 1024,
-    parts: &[
-        &BTREE,
-        &A_LEAF,
-        &[Field::Bytes(48, &[0x80]), Field::Bytes(520, &[7])],
-    ],
-};
-
-pub const DELETED_PAIR: File = File {
-    length: 1024,
-    parts: &[&BTREE, &A_LEAF, &[Field::Bytes(1018, &[0x81])]],
-};
-
-pub const NO_PAIR: File = File {
-    length: 1024,
-    parts: &[&BTREE, &A_LEAF, &[Field::Bytes(532, &[0, 0])]],
 };
 
 // The key 61 with x, and the key 6100 with y.
@@ -142,11 +43,6 @@ const TWO_KEYS: [Field; 6] = [
     Field::Bytes(1016, &[1, 0, 1, 0x78]), // data of the first
     Field::Bytes(1020, &[1, 0, 1, 0x61]), // first key
 ];
-
-pub const IN_ORDER: File = File {
-    length: 1024,
-    parts: &[&BTREE, &A_LEAF, &TWO_KEYS],
-};
 
 pub const OUT_OF_ORDER: File = File {
     length: 1024,
@@ -192,45 +88,6 @@ pub const LONG_VALUE: File = File {
     ],
 };
 
-// The key `--x` with the data 5c0a41.
-const SPELLED: [Field; 4] = [
-    Field::Bytes(532, &[2, 0, 0xf4, 1]),
-    Field::Bytes(538, &[0xfa, 1, 0xf4, 1]), // offsets
-    Field::Bytes(1012, &[3, 0, 1, 0x5c, 0x0a, 0x41]),
-    Field::Bytes(1018, &[3, 0, 1, 0x2d, 0x2d, 0x78]),
-];
-
-pub const KEY_OF_DASHES: File = File {
-    length: 1024,
-    parts: &[&BTREE, &A_LEAF, &SPELLED],
-};
-
-// The key `a` with the data 5c0a41.
-const UNPRINTED: [Field; 3] = [
-    Field::Bytes(534, &[0xf6, 1]),
-    Field::Bytes(538, &[0xfc, 1, 0xf6, 1]), // offsets
-    Field::Bytes(1014, &[3, 0, 1, 0x5c, 0x0a, 0x41]),
-];
-
-pub const UNPRINTED_DATA: File = File {
-    length: 1024,
-    parts: &[&BTREE, &A_LEAF, &UNPRINTED],
-};
-
-pub const NO_NAMES: File = File {
-    length: 1024,
-    parts: &[
-        &BTREE,
-        &A_LEAF,
-        &[Field::Bytes(48, &[0x20]), Field::Bytes(532, &[0, 0])],
-    ],
-};
-
-pub const SORTED_DATA: File = File {
-    length: 1024,
-    parts: &[&BTREE, &A_LEAF, &[Field::Bytes(48, &[0x41])]],
-};
-
 // A recno with the one record `a`.
 const RECORD: [Field; 5] = [
     Field::Bytes(48, &[2]), // flags
@@ -243,47 +100,6 @@ const RECORD: [Field; 5] = [
 pub const RECNO: File = File {
     length: 1024,
     parts: &[&BTREE, &A_LEAF, &RECORD],
-};
-
-// Leaves 2 and 3 below page 1. The key between them and the key of leaf 3 are one chain of 400 bytes, on page 4.
-const SHARED: [Field; 27] = [
-    Field::Bytes(32, &[4]), // last page
-    Field::Bytes(520, &[1]), // page 1
-    Field::Bytes(532, &[2, 0, 0xdc, 1]), // entries, high free offset
-    Field::Bytes(536, &[2, 3]), // level, type
-    Field::Bytes(538, &[0xf4, 1, 0xdc, 1]), // offsets
-    Field::Bytes(988, &[12, 0, 3, 0, 3]), // child 3, with a key in a chain
-    Field::Bytes(1002, &[3, 0, 4, 0, 0, 0, 0x90, 1]), // its head and length
-    Field::Bytes(1012, &[0, 0, 1, 0, 2]), // child 2, without a key
-    Field::Bytes(1032, &[2]), // page 2
-    Field::Bytes(1040, &[3]), // next
-    Field::Bytes(1044, &[2, 0, 0xf8, 1]),
-    Field::Bytes(1048, &[1, 5]),
-    Field::Bytes(1050, &[0xfc, 1, 0xf8, 1]),
-    Field::Bytes(1528, &[1, 0, 1, 0x31]), // data 1
-    Field::Bytes(1532, &[1, 0, 1, 0x61]), // key a
-    Field::Bytes(1544, &[3]), // page 3
-    Field::Bytes(1548, &[2]), // previous
-    Field::Bytes(1556, &[2, 0, 0xf0, 1]),
-    Field::Bytes(1560, &[1, 5]),
-    Field::Bytes(1562, &[0xf4, 1, 0xf0, 1]),
-    Field::Bytes(2032, &[1, 0, 1, 0x32]), // data 2
-    Field::Bytes(2036, &[0, 0, 3, 0, 4, 0, 0, 0, 0x90, 1]), // a key in a chain
-    Field::Bytes(2056, &[4]), // page 4
-    Field::Bytes(2068, &[2]), // how many items name it
-    Field::Bytes(2070, &[0x90, 1]), // bytes on the page
-    Field::Bytes(2073, &[7]), // type
-    Field::Bytes(2074, &[0x62; 400]),
-];
-
-pub const SHARED_CHAIN: File = File {
-    length: 2560,
-    parts: &[&BTREE, &SHARED],
-};
-
-pub const UNCOUNTED_CHAIN: File = File {
-    length: 2560,
-    parts: &[&BTREE, &SHARED, &[Field::Bytes(2068, &[1])]],
 };
 
 // Two overflow pages, each the next and the previous one of the other.
@@ -330,68 +146,10 @@ pub const TWO_OWNERS: File = File {
     parts: &[&BTREE, &SAME_CHILD],
 };
 
-/// Page 1 names both leaves, and neither names the other.
-pub const UNLINKED_LEAVES: File = File {
-    length: 2048,
-    parts: &[&BTREE, &SAME_CHILD, &[Field::Bytes(1003, &[3])]],
-};
-
 /// `TWO_OWNERS` without its metadata.
 pub const NO_METADATA: File = File {
     length: 2048,
     parts: &[&SAME_CHILD, &[Field::Bytes(32, &[0])]],
-};
-
-// Its leaf 2 alone.
-const A_LEAF_ALONE: [Field; 5] = [
-    Field::Bytes(8, &[2]), // page number
-    Field::Bytes(20, &[2, 0, 0xf8, 1, 1, 5]), // entries, high free offset, level, type
-    Field::Bytes(26, &[0xfc, 1, 0xf8, 1]), // offsets
-    Field::Bytes(504, &[1, 0, 1, 0x31]), // data 1
-    Field::Bytes(508, &[1, 0, 1, 0x61]), // key a
-];
-
-pub const LEAF_ALONE: File = File {
-    length: 512,
-    parts: &[&A_LEAF_ALONE],
-};
-
-/// A byte less than what a guess is read from.
-pub const HEAD_CUT: File = File {
-    length: 23,
-    parts: &[&BTREE],
-};
-
-/// What a guess is read from, and no whole page.
-pub const HEAD_ALONE: File = File {
-    length: 24,
-    parts: &[&BTREE],
-};
-
-// Three buckets, on pages 1 to 3, with the pair c, d in bucket 1, and a zero page in reserve.
-pub const BUCKETS: [Field; 17] = [
-    Field::Bytes(12, &[0x61, 0x15, 0x06, 0]), // magic number of page 0
-    Field::Bytes(16, &[9]), // version
-    Field::Bytes(20, &[0, 2]), // page size
-    Field::Bytes(25, &[8]), // type
-    Field::Bytes(32, &[4]), // last page
-    Field::Bytes(72, &[2, 0, 0, 0, 3, 0, 0, 0, 1]), // greatest bucket, masks
-    Field::Bytes(92, &[0xd1, 0x8d, 0x68, 0x5e]), // hash of a known key
-    Field::Bytes(96, &[1, 0, 0, 0, 1, 0, 0, 0, 1]), // spares
-    Field::Bytes(520, &[1]), // page 1
-    Field::Bytes(534, &[0, 2, 0, 13]), // high free offset, level, type
-    Field::Bytes(1032, &[2]), // page 2
-    Field::Bytes(1044, &[2, 0, 0xfc, 1, 0, 13]),
-    Field::Bytes(1050, &[0xfe, 1, 0xfc, 1]), // offsets
-    Field::Bytes(1532, &[1, 0x64]), // data d
-    Field::Bytes(1534, &[1, 0x63]), // key c
-    Field::Bytes(1544, &[3]), // page 3
-    Field::Bytes(1558, &[0, 2, 0, 13]),
-];
-
-pub const TABLE: File = File {
-    length: 2560,
-    parts: &[&BUCKETS],
 };
 
 // A master names a, whose metadata are page 2 and whose leaf is page 3, and b, a hash on pages 4 to 6. The number of a
@@ -444,44 +202,4 @@ pub const TWO_DATABASES: File = File {
 pub const PAIR_IN_A: File = File {
     length: 3584,
     parts: &[&BTREE, &MASTER, &IN_DATABASE_A],
-};
-
-pub const EMPTY_NAME: File = File {
-    length: 3584,
-    parts: &[&BTREE, &MASTER, &IN_DATABASE_A, &[Field::Bytes(1020, &[0])]],
-};
-
-pub const SAME_PAGE: File = File {
-    length: 3584,
-    parts: &[&BTREE, &MASTER, &[Field::Bytes(1006, &[2])]],
-};
-
-pub const LOW_ORDER_FIRST: File = File {
-    length: 3584,
-    parts: &[&BTREE, &MASTER, &[Field::Bytes(1003, &[4, 0, 0, 0])]],
-};
-
-// Records of four bytes: the first is 2, and the next one would be 4. Record 2 is valid, and record 3 isn't.
-const RECORDS: [Field; 8] = [
-    Field::Bytes(12, &[0x53, 0x22, 0x04, 0]), // magic number of page 0
-    Field::Bytes(16, &[4]), // version
-    Field::Bytes(20, &[0, 2]), // page size
-    Field::Bytes(25, &[10]), // type
-    Field::Bytes(72, &[2, 0, 0, 0, 4, 0, 0, 0, 4]), // first and next record, length of a record
-    Field::Bytes(88, &[60]), // records on a page
-    Field::Bytes(
-        520,
-        &[1, 0, 0, 0, 0, 0, 0, 0, 0, 0, 0, 0, 0, 0, 0, 0, 0, 11],
-    ), // page 1
-    Field::Bytes(548, &[1, 0x61, 0x62, 0x63, 0x64]), // record 2
-];
-
-pub const QUEUE: File = File {
-    length: 1024,
-    parts: &[&RECORDS],
-};
-
-pub const EXTENTS: File = File {
-    length: 1024,
-    parts: &[&RECORDS, &[Field::Bytes(92, &[1])]],
 };

@@ -192,24 +192,6 @@ pub const SETS_TEXT: File = File {
     )]],
 };
 
-// Two databases without pairs, out of order.
-pub const NAMES_TEXT: File = File {
-    length: 170,
-    parts: &[&[Field::Bytes(
-        0,
-        b"VERSION=3\nformat=bytevalue\ndatabase=b\ntype=recno\ndb_pagesize=512\nHEADER=END\nDATA=END\nVERSION=3\nformat=bytevalue\ndatabase=a\ntype=btree\ndb_pagesize=512\nHEADER=END\nDATA=END\n",
-    )]],
-};
-
-// Records with a gap.
-pub const RECORDS_TEXT: File = File {
-    length: 97,
-    parts: &[&[Field::Bytes(
-        0,
-        b"VERSION=3\nformat=bytevalue\ntype=recno\ndb_pagesize=512\nkeys=1\nHEADER=END\n 31\n 61\n 33\n 63\nDATA=END\n",
-    )]],
-};
-
 // The pairs that two are generated as from the seed 1, for a btree.
 pub const GENERATED_TEXT: File = File {
     length: 193,
