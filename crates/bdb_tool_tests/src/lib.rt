@@ -2,6 +2,10 @@
 #![tactic(auto)]
 
 #[cfg(test)]
+mod limits;
+#[cfg(test)]
+mod long_value;
+#[cfg(test)]
 mod onto;
 #[cfg(test)]
 mod others;

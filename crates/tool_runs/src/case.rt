@@ -8,6 +8,8 @@ pub(crate) struct Case<'a> {
     pub(crate) base: Option<&'a str>,
     /// The name under which the output is kept.
     pub(crate) kept: Option<&'a str>,
+    /// Whether it's also run where reads and writes fail.
+    pub(crate) fails: bool,
 }
 
 /// What the next piece of a line is.
@@ -19,13 +21,14 @@ enum Place {
     Kept,
 }
 
-/// The case of `WORDS < INPUT + BASE > KEPT`.
+/// The case of `WORDS < INPUT + BASE > KEPT !`.
 pub(crate) fn case_of<'a>(alloc: Global, line: &'a str) -> Result<Case<'a>, AllocError> {
     let mut case = Case {
         words: Vec::new(alloc),
         input: "",
         base: None,
         kept: None,
+        fails: false,
     };
     let mut place = Place::Word;
     for piece in line.split(' ') {
@@ -33,6 +36,7 @@ pub(crate) fn case_of<'a>(alloc: Global, line: &'a str) -> Result<Case<'a>, Allo
             "<" => place = Place::Input,
             "+" => place = Place::Base,
             ">" => place = Place::Kept,
+            "!" => case.fails = true,
             _ => put(&mut case, place, piece)?,
         }
     }

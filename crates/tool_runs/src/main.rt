@@ -2,10 +2,12 @@
 #![tactic(auto)]
 
 mod case;
+mod failing;
 mod files;
 mod told;
 
 use crate::case::{Case, case_of};
+use crate::failing::{Whole, is_told};
 use crate::files::Kept;
 use crate::told::{Reads, told_of};
 use bdb_format::Bytes;
@@ -73,7 +75,10 @@ fn told_of_run<R: Files + AllocGlobal>(
     };
     let base = base.as_ref().map(|bytes| bytes.as_slice());
     let (ran, reads) = ran_of(rt.alloc(), case.words.as_slice(), input.as_slice(), base)?;
-    let told = told_of(rt.alloc(), &ran, case.kept.is_some(), reads)?;
+    let mut told = told_of(rt.alloc(), &ran, case.kept.is_some(), reads)?;
+    if case.fails && !fails_well(rt.alloc(), case.words.as_slice(), input.as_slice(), &ran)? {
+        told.push_all(b"otherwise where a read or a write fails\n")?;
+    }
     if let Some(name) = case.kept {
         kept.keep(name, ran.out.bytes())?;
     }
@@ -95,4 +100,16 @@ fn ran_of(
     let mut below = Dripping::new(base, PIECE);
     let ran = ran_onto(alloc, words, &mut source, &mut below)?;
     Ok((ran, Reads::of_both(source.reads, below.reads)))
+}
+
+// Whether a run without a base ends as it has to where reads or writes fail.
+fn fails_well(alloc: Global, words: &[&str], input: &[u8], ran: &Ran) -> Result<bool, AllocError> {
+    let run = Whole {
+        words,
+        input,
+        status: ran.status,
+        out: ran.out.bytes(),
+        err: ran.err.bytes(),
+    };
+    is_told(alloc, run)
 }

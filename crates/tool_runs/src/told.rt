@@ -1,5 +1,4 @@
 use bdb_format::Bytes;
-use bdb_io::MemSink;
 use bdb_running::running::Ran;
 use std::alloc::{AllocError, Global};
 
