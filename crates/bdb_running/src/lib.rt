@@ -1,10 +1,8 @@
 //! For tests: runs of `run` over memory, what they give, and the files and texts that they read.
 #![tactic(auto)]
 
-pub mod answers;
 pub mod files;
 pub mod images;
 pub mod outside;
-pub mod refused;
 pub mod running;
 pub mod texts;

@@ -15,22 +15,6 @@ pub enum Told {
     Line(u8, &'static [u8]),
 }
 
-/// Words, the file that they're asked of, and what is told.
-pub type Row = (&'static [&'static str], &'static File, Told);
-
-/// Words, and what is told.
-pub type Question = (&'static [&'static str], Told);
-
-/// The usage line.
-pub const USAGE: Told = Told::Line(
-    2,
-    b"usage: bdbtool verify, list, get, dump, load, salvage, trial, range, convert, stat or repair\n",
-);
-
-pub const NOT_FOUND: Told = Told::Line(9, b"not found\n");
-
-pub const SOUND: &[u8] = b"sound, 2 pages\n";
-
 pub const READ_FAULT: &[u8] = b"read fault\n";
 
 pub const WRITE_FAULT: &[u8] = b"write fault\n";

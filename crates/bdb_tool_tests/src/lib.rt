@@ -1,35 +1,13 @@
-//! Tests of `run` over memory.
+//! Tests of `run` over memory: what a line of the table of `tool_runs` can't say.
 #![tactic(auto)]
 
 #[cfg(test)]
-mod asking;
+mod limits;
 #[cfg(test)]
-mod building;
-#[cfg(test)]
-mod checking;
-#[cfg(test)]
-mod converting;
-#[cfg(test)]
-mod dumping;
-#[cfg(test)]
-mod hostile;
-#[cfg(test)]
-mod made;
+mod long_value;
 #[cfg(test)]
 mod onto;
 #[cfg(test)]
 mod others;
 #[cfg(test)]
-mod ranging;
-#[cfg(test)]
-mod repairing;
-#[cfg(test)]
-mod salvaging;
-#[cfg(test)]
-mod sizes;
-#[cfg(test)]
-mod stating;
-#[cfg(test)]
-mod usage;
-#[cfg(test)]
-mod verifying;
+mod trials;
