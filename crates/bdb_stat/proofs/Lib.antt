@@ -1,5 +1,5 @@
 pub mod PlaceLemmas
-pub mod FallLemmas
+pub mod MarkLemmas
 pub mod SweepLemmas
 pub mod ItemLemmas
 pub mod ClassLemmas

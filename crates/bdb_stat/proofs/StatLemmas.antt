@@ -1,7 +1,8 @@
 -- The figures of the pages below a number.
-use Rattle.std.proofs.Common.{◌≡◌, ◌≢◌, ◌∙◌, ℕ, zero, suc, ◌+◌, ◌-◌, ◌*◌, ◌^◌, ◌<◌, ◌≤◌, true, false, List, [], ◌∷◌, ◌++◌, length, length-append, refl, sym, ap, subst, arith}
-use Rattle.std.specs.Prelude.{◌==◌, cond, get_or, Bool, Option, Some, None, max, map, nat_lt, slice_index}
-use Rattle.std.specs.List.{filter, fold, range_with_len, sum_by}
+use Rattle.std.proofs.Common.{◌≡◌, ◌≢◌, ◌∙◌, ℕ, zero, suc, ◌+◌, ◌-◌, ◌*◌, ◌/◌, ◌^◌, ◌<◌, ◌≤◌, true, false, List, [], ◌∷◌, ◌++◌, length, length-append, refl, sym, ap, subst, arith}
+use Rattle.std.specs.Prelude.{◌==◌, ◌||◌, cond, get_or, Bool, Option, Some, None, max, map, nat_lt, slice_index}
+use Rattle.std.specs.List.{filter, fold, list_any, range_with_len, sum_by}
+use Rattle.std.proofs.lemmas.Bool.{eqb-true}
 use Rattle.std.proofs.lemmas.Bool.Decides.{nat_tests}
 use Rattle.std.proofs.lemmas.List.{map-append}
 use Rattle.std.proofs.lemmas.List.Elements.{filter-append}
@@ -14,12 +15,14 @@ use Rattle.bdb_format.proofs.SizeLemmas.{size_bounds}
 use Rattle.bdb_format.proofs.VerdictLemmas.{no_stage, none_in}
 use Rattle.bdb_format.specs.File.{File, file_of, page_at}
 use Rattle.bdb_format.specs.Graph.{is_meta, is_reserve}
-use Rattle.bdb_format.specs.HeadOf.{head_of}
+use Rattle.bdb_format.specs.declared.metadata.Head.{Head}
+use Rattle.bdb_format.specs.HeadOf.{head_of, is_page_size}
 use Rattle.bdb_format.specs.Page.{Listed, Page, Zero, Free, Meta as MetaPage, Hash as HashPage, Internal as InternalPage, RecnoInternal, Leaf as LeafPage, RecnoLeaf, DupLeaf, Overflow as OverflowPage, Queue as QueuePage, NoType}
 use Rattle.bdb_format.specs.Rows.{is_queue}
 use Rattle.bdb_format.specs.Verdict.{faults_of}
 use Rattle.bdb_graph.proofs.FirstLemmas.{formed_accepted}
 use Rattle.bdb_graph.proofs.FormedLemmas.{IsPaged, accepted_paged}
+use Rattle.bdb_graph.specs.Formed.{IsAccepted}
 use Rattle.bdb_graph.specs.Linked.{IsForest}
 use Rattle.bdb_stat.specs.Classes.{class_by_type, class_of, is_class, levels_below, pages_below, same_class, tree_level}
 use Rattle.bdb_format.specs.References.{no_item}
@@ -114,6 +117,29 @@ is_small image forest =
       pages = omega (arith, count_is image, paged.few);
       size = omega (arith, size_is image, (size_bounds (head_of image).page_size paged.legal).1);
     }
+
+-- a page size is a multiple of 64
+
+abbrev AreWhole : List ℕ → Type 0
+AreWhole [] = Unit {0}
+AreWhole (size ∷ sizes) = (64 * (size / 64) ≡ size) × AreWhole sizes
+
+whole_in : (n : ℕ) (sizes : List ℕ) → AreWhole sizes → list_any (λ size. size == n) sizes ≡ true → 64 * (n / 64) ≡ n
+whole_in n [] all one = absurd cc
+whole_in n (size ∷ sizes) all one =
+    elim (size == n) as (λ b. (size == n) ≡ b → (b || list_any (λ s. s == n) sizes) ≡ true → 64 * (n / 64) ≡ n) [
+      | true ↦ λ same some. subst (λ (m : ℕ). 64 * (m / 64) ≡ m) (eqb-true size n same) all.0
+      | false ↦ λ same some. whole_in n sizes all.1 some
+    ] refl one
+
+words_of : (size : ℕ) → is_page_size size ≡ true → 64 * (size / 64) ≡ size
+words_of size legal =
+    whole_in size (512 ∷ 1024 ∷ 2048 ∷ 4096 ∷ 8192 ∷ 16384 ∷ 32768 ∷ []) (refl, (refl, (refl, (refl, (refl, (refl, (refl, tt))))))) legal
+
+pub by_words : (image : List ℕ) (head : Head) → IsForest image → head ≡ head_of image → 64 * (head.page_size / 64) ≡ head.page_size
+by_words image head forest is =
+    let paged : IsPaged image head = accepted_paged image head (subst (IsAccepted image) (sym is) (formed_accepted image (head_of image) forest.formed)) in
+    words_of head.page_size paged.legal
 
 pub unused_fits : (image : List ℕ) (n : ℕ) → IsForest image → n < (file_of image).count
     → unused_below (file_of image) n + unused_in (file_of image).size (page_at (file_of image) n) ≤ 2 ^ 36

@@ -1,54 +1,14 @@
 -- The places outside all items, as the marked places are gone over in order.
-use Rattle.std.proofs.Common.{◌≡◌, ◌∙◌, inl, inr, ℕ, ◌+◌, ◌-◌, ◌<◌, ◌≤◌, Bool, true, false, List, [], ◌∷◌, drop, take, length, length-drop, refl, sym, ap, subst, arith}
+use Rattle.std.proofs.Common.{◌≡◌, ◌∙◌, inl, inr, ℕ, ◌+◌, ◌-◌, ◌<◌, ◌≤◌, Bool, true, false, List, [], ◌∷◌, length, refl, sym, ap, subst, arith}
 use Rattle.std.specs.Prelude.{◌==◌, ◌||◌, ◌++◌, cond, get_or, max, slice_index}
 use Rattle.std.specs.List.{Contains, list_any, range_with_len}
-use Rattle.std.proofs.Math.Seq.{take-length}
-use Rattle.std.proofs.lemmas.List.{get_or-drop}
 use Rattle.std.proofs.lemmas.Bool.{cases_Bool, cases_lt, eq-eqb, eqb-true}
-use Rattle.memchr.specs.Find.{NoneBefore, Nowhere, Passes, is_byte}
 use Rattle.bdb_format.proofs.ListLemmas.{any_member, passes_here, range_more}
 use Rattle.bdb_format.proofs.MemberLemmas.{in_range, of_range}
 use Rattle.bdb_stat.specs.Unused.{lies_in, places_outside}
 use Rattle.bdb_stat.proofs.PlaceLemmas.{all_outside, few_outside, is_inside, is_outside, none_outside, outside_parts}
 use Rattle.bdb_stat.specs.Ends.{IsPlaced}
 use Rattle.bdb_stat.specs.Starts.{AreStarts, IsNext, NoStart}
-
--- The first marked place from one on, by the places behind it.
-
-unmarked_at : (starts : List ℕ) (from k : ℕ) → from ≤ k → ¬ Passes (is_byte 1) (drop from starts) (k - from) → (slice_index starts k == 1) ≡ false
-unmarked_at starts from k low no' =
-    let same : from + (k - from) ≡ k = omega arith in
-    let there : slice_index (drop from starts) (k - from) ≡ slice_index starts k = get_or-drop from starts (k - from) 0 ∙ ap (slice_index starts) same in
-    elim (cases_Bool (slice_index starts k == 1)) [
-      | inl marked ↦ absurd (no' (ap (λ b. b == 1) there ∙ marked))
-      | inr not' ↦ not'
-    ]
-
--- the bytes from one on, as a slice has them
-abbrev ahead_of : List ℕ → ℕ → List ℕ
-ahead_of starts from = take (length starts - from) (drop from starts)
-
-ahead_is : (starts : List ℕ) (from : ℕ) → ahead_of starts from ≡ drop from starts
-ahead_is starts from = ap (λ n. take n (drop from starts)) (sym (length-drop from starts)) ∙ take-length (drop from starts)
-
-pub none_ahead : (starts : List ℕ) (from : ℕ) → Nowhere (Passes (is_byte 1) (ahead_of starts from)) 0 (length (ahead_of starts from)) → NoStart starts from (length starts)
-none_ahead starts from nowhere = λ k low high.
-    let none : Nowhere (Passes (is_byte 1) (drop from starts)) 0 (length (drop from starts)) =
-    subst (λ xs. Nowhere (Passes (is_byte 1) xs) 0 (length xs)) (ahead_is starts from) nowhere in
-    unmarked_at starts from k low (none (k - from) (omega arith) (omega (arith, length-drop from starts)))
-
-pub next_ahead : (starts : List ℕ) (from ahead : ℕ) → from ≤ length starts → NoneBefore (Passes (is_byte 1) (ahead_of starts from)) 0 (length (ahead_of starts from)) ahead
-    → Passes (is_byte 1) (ahead_of starts from) ahead → IsNext starts from (from + ahead)
-next_ahead starts from ahead room before here =
-    let first : NoneBefore (Passes (is_byte 1) (drop from starts)) 0 (length (drop from starts)) ahead =
-    subst (λ xs. NoneBefore (Passes (is_byte 1) xs) 0 (length xs) ahead) (ahead_is starts from) before in
-    let marked_here : Passes (is_byte 1) (drop from starts) ahead = subst (λ xs. Passes (is_byte 1) xs ahead) (ahead_is starts from) here in
-    record {
-      low = omega arith;
-      high = omega (arith, length-drop from starts, first.high);
-      marked = ap (λ b. b == 1) (sym (get_or-drop from starts ahead 0)) ∙ marked_here;
-      none = λ k low high. unmarked_at starts from k low (first.before (k - from) (omega arith) (omega arith));
-    }
 
 -- an item that begins there is marked, and what is marked begins an item
 

@@ -1,6 +1,7 @@
 pub mod Classes
 pub mod Unused
 pub mod Ends
+pub mod Marked
 pub mod Starts
 pub mod Figures
 pub mod Laws

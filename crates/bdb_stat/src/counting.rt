@@ -7,6 +7,7 @@ ghost use Rattle.bdb_stat.specs.Figures.{IsStat};
 use crate::class::Class;
 use crate::classing::class_of;
 use crate::figures::Stat;
+use crate::marks::Marks;
 use crate::unused::unused_on;
 use bdb_graph::Linked;
 use std::alloc::{AllocError, Global};
@@ -29,21 +30,20 @@ fn tree_level(linked: &Linked<'_>, class: Class, number: u32) -> u8
     }
 }
 
-/// What the pages of a sound file are; or want of memory, a page's size of which is taken. The image is the one that the file was
+/// What the pages of a sound file are; or want of memory, an eighth of a page's size of which is taken. The image is the one that the file was
 /// linked from.
 pub fn stat(alloc: Global, linked: &Linked<'_>, image: &[u8]) -> Result<Stat, AllocError>
     requires { image.now ≡ linked.now }
     ensures { IfOk result (IsStat (file_of linked.now)) }
 {
     let head = linked.head();
-    let mut room = vec![in alloc; 0; head.page_size as usize]?;
-    let starts = room.as_mut_slice();
+    let mut starts = Marks::new(alloc, head.page_size as usize)?;
     let mut stat = Stat::of(head.pages);
     for number in 0..head.pages {
         let class = class_of(linked, number);
         stat.count(class);
         stat.levels = stat.levels.max(tree_level(linked, class, number));
-        stat.unused += unused_on(starts, image, &head, number) as u64;
+        stat.unused += unused_on(&mut starts, image, &head, number) as u64;
     }
     Ok(stat)
 }

@@ -5,11 +5,11 @@ mod class;
 mod classing;
 mod counting;
 mod ends;
-mod falling;
 mod figures;
 mod hash;
 mod image;
 pub mod laws;
+mod marks;
 mod starts;
 mod unused;
 

@@ -1,27 +1,17 @@
 //! The bytes of a page that lie in no item, by the places where items begin.
-ghost use Rattle.std.specs.Prelude.{◌≡◌, ◌<◌, ◌≤◌, ◌==◌, ℕ, MatchOption, get_or, if◌then◌else◌, length};
+ghost use Rattle.std.specs.Prelude.{◌≡◌, ◌<◌, ◌≤◌, ℕ, length};
 ghost use Rattle.bdb_format.specs.Reading.{entries_of, index_end, offset_of};
 ghost use Rattle.bdb_stat.specs.Unused.{places_outside};
 ghost use Rattle.bdb_stat.specs.Ends.{ArePlaced};
-ghost use Rattle.bdb_stat.specs.Starts.{AreStarts, IsNext, NoStart};
+ghost use Rattle.bdb_stat.specs.Starts.{AreStarts};
 
 use crate::ends::Ends;
-use crate::falling::outside_falling;
+use crate::marks::Marks;
 use bdb_format::Order;
 use bdb_layout::{index_end, offset_at, u16_at};
-use memchr::memchr;
-
-/// Marks a place.
-fn mark(starts: &mut [u8], at: usize)
-    requires { at < length starts.old }
-    ensures same { length starts.new ≡ length starts.old }
-    ensures each { (k : ℕ) → k < length starts.old → get_or starts.new k 0 ≡ (if at == k then 1 else get_or starts.old k 0) }
-{
-    starts[at] = 1;
-}
 
 /// Marks the places where the items of a page begin, and no others. Items that begin at one place have one mark.
-fn mark_starts(starts: &mut [u8], page: &[u8], order: Order)
+fn mark_starts(starts: &mut Marks, page: &[u8], order: Order)
     requires header { 26 ≤ length page.now }
     requires room { index_end order page.now ≤ length page.now }
     requires items { (i : ℕ) → i < entries_of order page.now → offset_of order page.now i < length page.now }
@@ -29,24 +19,15 @@ fn mark_starts(starts: &mut [u8], page: &[u8], order: Order)
     ensures marked { AreStarts starts.new (entries_of order page.now) (offset_of order page.now) }
     ensures same { length starts.new ≡ length starts.old }
 {
-    starts.fill(0);
+    starts.clear();
     for i in 0..u16_at(page, 20, order) {
-        mark(starts, usize::from(offset_at(page, order, i)));
+        starts.mark(usize::from(offset_at(page, order, i)));
     }
-}
-
-/// The first marked place from one on.
-fn next_start(starts: &[u8], from: usize) -> Option<usize>
-    requires { from ≤ length starts.now }
-    ensures { MatchOption result (NoStart starts.now from (length starts.now)) (IsNext starts.now from) }
-{
-    let ahead = memchr(1, &starts[from..])?;
-    Some(from + ahead)
 }
 
 /// How many bytes behind the index lie in no item: those before each item that are past the ends of all items before it, and
 /// those past all ends. An item that begins within another is reached in its turn.
-fn bytes_outside<E: Ends>(starts: &[u8], page: &[u8], order: Order) -> usize
+fn bytes_outside<E: Ends>(starts: &Marks, page: &[u8], order: Order) -> usize
     requires header { 26 ≤ length page.now }
     requires room { index_end order page.now ≤ length page.now }
     requires items { ArePlaced order page.now E.least (E.end order page.now) }
@@ -58,7 +39,7 @@ fn bytes_outside<E: Ends>(starts: &[u8], page: &[u8], order: Order) -> usize
     let mut from = index_end(page, order);
     let mut reached = from;
     let mut outside = 0;
-    while let Some(at) = next_start(starts, from) {
+    while let Some(at) = starts.next(from) {
         outside += at.saturating_sub(reached);
         reached = reached.max(E::end_at(page, order, at));
         from = at + 1;
@@ -68,7 +49,7 @@ fn bytes_outside<E: Ends>(starts: &[u8], page: &[u8], order: Order) -> usize
 
 /// How many bytes of a page with an index lie in no item, nor in its header or its index. What was marked of another page
 /// is cleared.
-pub(crate) fn unused_behind<E: Ends>(starts: &mut [u8], page: &[u8], order: Order) -> usize
+pub(crate) fn unused_behind<E: Ends>(starts: &mut Marks, page: &[u8], order: Order) -> usize
     requires header { 26 ≤ length page.now }
     requires room { index_end order page.now ≤ length page.now }
     requires items { ArePlaced order page.now E.least (E.end order page.now) }
@@ -77,9 +58,6 @@ pub(crate) fn unused_behind<E: Ends>(starts: &mut [u8], page: &[u8], order: Orde
         (λ i. E.end order page.now (offset_of order page.now i)) }
     ensures same { length starts.new ≡ length starts.old }
 {
-    if let Some(outside) = outside_falling::<E>(page, order) {
-        return outside;
-    }
     mark_starts(starts, page, order);
     bytes_outside::<E>(starts, page, order)
 }

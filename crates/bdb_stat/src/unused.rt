@@ -11,13 +11,14 @@ ghost use Rattle.bdb_stat.specs.Unused.{unused_in};
 use crate::ends::{InternalItems, LeafItems, RecnoItems};
 use crate::hash::unused_before_items;
 use crate::image::page_of;
+use crate::marks::Marks;
 use crate::starts::unused_behind;
 use bdb_form::is_zero;
 use bdb_format::{Head, Order};
 use bdb_layout::u16_at;
 
 /// How many bytes of a page that isn't zero hold nothing, by its type.
-fn typed_unused(starts: &mut [u8], page: &[u8], order: Order) -> usize
+fn typed_unused(starts: &mut Marks, page: &[u8], order: Order) -> usize
     requires long { 512 ≤ length page.now }
     requires code { body_code order page.now (page_type (byte_at page.now 25)) ≡ None }
     requires size { length starts.old ≡ length page.now }
@@ -37,9 +38,9 @@ fn typed_unused(starts: &mut [u8], page: &[u8], order: Order) -> usize
     }
 }
 
-/// How many bytes of a page hold nothing; none of a page above the last one. `starts` is room for marks, a byte for each of a
+/// How many bytes of a page hold nothing; none of a page above the last one. `starts` is room for a mark of each byte of a
 /// page.
-pub(crate) fn unused_on(starts: &mut [u8], image: &[u8], head: &Head, number: u32) -> usize
+pub(crate) fn unused_on(starts: &mut Marks, image: &[u8], head: &Head, number: u32) -> usize
     requires forest { IsForest image.now }
     requires head { head.now ≡ head_of image.now }
     requires size { length starts.old ≡ head.now.page_size }

@@ -3,7 +3,7 @@ use Rattle.bdb_format.proofs.FileLemmas.{count_is}
 use Rattle.bdb_format.specs.declared.metadata.Head.{Head}
 use Rattle.bdb_format.specs.File.{file_of, page_at}
 use Rattle.bdb_stat.specs.Unused.{unused_in}
-use Rattle.bdb_stat.proofs.StatLemmas.{all_below, few_pages, is_small, none_below, one_below, unused_fits}
+use Rattle.bdb_stat.proofs.StatLemmas.{all_below, by_words, few_pages, is_small, none_below, one_below, unused_fits}
 use Rattle.bdb_stat.proofs.counting.stat.Goals as goal
 
 -- No page is counted yet.
@@ -12,7 +12,7 @@ loop-number-init c = record {
   below = none_below (file_of c.args.linked.now) c.of-stat.result
       (c.of-stat.ensures.pages ∙ (ap (λ (h : Head). h.pages) c.head-head.ensures.head ∙ sym (count_is c.args.linked.now)))
       c.of-stat.ensures.classes c.of-stat.ensures.levels c.of-stat.ensures.unused;
-  long = omega (arith, c.as_mut_slice-starts.ensures.len, c.in_ok-room.ensures.len);
+  long = c.in_ok-starts.ensures ∙ by_words c.args.linked.now c.head-head.result c.head-head.ensures.forest c.head-head.ensures.head;
 }
 
 pub count-requires : goal.count-requires

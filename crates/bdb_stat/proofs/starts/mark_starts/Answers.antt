@@ -6,7 +6,7 @@ use Rattle.bdb_stat.proofs.starts.mark_starts.Goals as goal
 
 pub loop-i-preserved : goal.loop-i-preserved
 loop-i-preserved c = record {
-  marked = marked_next c.loop-i.starts c.mark.new.starts c.loop-i.i c.from.result (offset_of c.args.order c.args.page.now) c.loop-i.invariant.marked
+  marked = marked_next c.loop-i.starts c.mark.new.self c.loop-i.i c.from.result (offset_of c.args.order c.args.page.now) c.loop-i.invariant.marked
       c.mark.ensures.same c.mark.ensures.each (c.from.ensures ∙ c.offset_at.ensures);
   same = c.mark.ensures.same ∙ c.loop-i.invariant.same;
 }
