@@ -5,7 +5,9 @@ use bdb_running::files::ONE_PAIR;
 use bdb_running::images::bytes_of;
 use bdb_running::outside::{Dripping, Narrow};
 use bdb_running::running::Told::Line;
-use bdb_running::running::{READ_FAULT, WRITE_FAULT, gave, is_start, ran_of, ran_over, source_over, status_of};
+use bdb_running::running::{
+    READ_FAULT, WRITE_FAULT, gave, is_start, ran_of, ran_over, source_over, status_of,
+};
 use std::alloc::{AllocError, Global};
 use std::test::Fail;
 

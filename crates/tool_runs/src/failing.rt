@@ -28,12 +28,14 @@ pub(crate) struct Whole<'a> {
 
 /// Whether it gives the same of short reads, and ends as it has to where a read or a write fails.
 pub(crate) fn is_told(alloc: Global, run: Whole<'_>) -> Result<bool, AllocError> {
-    Ok(gives_the_same(alloc, run)?
-        && tells_read_faults(alloc, run)?
-        && tells_write_faults(alloc, run)?
-        && ends_where_errors_fail(alloc, run)?
-        && ends_where_both_sinks_fail(alloc, run)?
-        && ends_where_source_and_errors_fail(alloc, run)?)
+    Ok(
+        gives_the_same(alloc, run)?
+            && tells_read_faults(alloc, run)?
+            && tells_write_faults(alloc, run)?
+            && ends_where_errors_fail(alloc, run)?
+            && ends_where_both_sinks_fail(alloc, run)?
+            && ends_where_source_and_errors_fail(alloc, run)?,
+    )
 }
 
 fn is_same(run: Whole<'_>, ran: &Ran) -> bool {
@@ -94,9 +96,11 @@ fn is_write_fault(alloc: Global, run: Whole<'_>, taken: usize) -> Result<bool, A
     let mut out = Narrow::cut_after(alloc, taken)?;
     let mut err = MemSink::new(alloc);
     let status = status_of(alloc, run.words, &mut source, &mut out, &mut err)?;
-    Ok(status == WRITE_FAILED
-        && is_start(run.out, taken, out.sink.bytes())
-        && err.bytes() == WRITE_FAULT)
+    Ok(
+        status == WRITE_FAILED
+            && is_start(run.out, taken, out.sink.bytes())
+            && err.bytes() == WRITE_FAULT,
+    )
 }
 
 fn tells_write_faults(alloc: Global, run: Whole<'_>) -> Result<bool, AllocError> {

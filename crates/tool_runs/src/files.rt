@@ -27,7 +27,11 @@ impl Kept {
 
     // What was kept last under a name.
     fn kept(&self, name: &str) -> Option<&[u8]> {
-        let (_, bytes) = self.files.iter().rev().find(|file| file.0.as_str() == name)?;
+        let (_, bytes) = self
+            .files
+            .iter()
+            .rev()
+            .find(|file| file.0.as_str() == name)?;
         Some(bytes.as_slice())
     }
 
