@@ -1,7 +1,9 @@
 ghost use Rattle.std.specs.Prelude.{◌≡◌, ◌&&◌, IfOk, OnOk, not};
 ghost use Rattle.bdb_faults.specs.Notes.{Notes};
-ghost use Rattle.bdb_hash.specs.Noted.{is_unsorted, told_faults};
+ghost use Rattle.bdb_hash.specs.Noted.{told_faults};
 ghost use Rattle.bdb_format.specs.ContentRows.{ascends, is_duplicate};
+ghost use Rattle.bdb_format.specs.Contents.{data_of};
+ghost use Rattle.bdb_format.specs.File.{file_of};
 ghost use Rattle.bdb_format.specs.Flags.{has_duplicates, is_sorted};
 ghost use Rattle.bdb_format.specs.Hashing.{bucket};
 ghost use Rattle.bdb_format.specs.Page.{HashFields};
@@ -60,16 +62,12 @@ fn is_refused(meta: &HashMeta, pair: &Pair<'_>) -> bool
     !has_duplicates(meta) && pair.is_duplicate()
 }
 
-/// Whether the data of a pair are out of order, where they ought to be in order. An error is want of memory, for chains in a
-/// set off the page.
-fn is_unsorted(meta: &HashMeta, pair: Pair<'_>, known: &mut Chains<'_>) -> Result<bool, AllocError>
+/// Whether the data of a pair are out of order. An error is want of memory, for chains in a set off the page.
+fn is_out_of_order(pair: Pair<'_>, known: &mut Chains<'_>) -> Result<bool, AllocError>
     requires { pair.image ≡ known.old }
-    ensures unsorted { IfOk result (λ is. is ≡ is_unsorted meta.now pair.entry) }
+    ensures order { IfOk result (λ is. is ≡ not (ascends (data_of (file_of pair.entry.image) pair.entry.pair.data_item))) }
     ensures same { known.new ≡ known.old }
 {
-    if !is_sorted(meta) {
-        return Ok(false);
-    }
     let ascends = match pair.set_root() {
         Some(root) => known.set_ascends(root)?,
         None => ascends(pair.into_data()),
@@ -104,7 +102,7 @@ pub(crate) fn note_pair<F: FaultSink>(
         page,
         is_wrong_set,
     )?;
-    let is_unsorted = is_unsorted(meta, pair, known)?;
+    let is_unsorted = is_sorted(meta) && is_out_of_order(pair, known)?;
     note_if(
         found,
         Row::Contents(ContentsRow::DuplicateOrder),
