@@ -5,7 +5,7 @@ ghost use Rattle.bdb_format.specs.Databases.{databases};
 ghost use Rattle.bdb_format.specs.File.{file_of};
 ghost use Rattle.bdb_format.specs.Verdict.{verdict_of};
 
-use bdb_file::{Db, Sound, verify};
+use bdb_file::{Db, Found, Scan, Sound, verify};
 use bdb_format::{Bytes, Steps};
 use bdb_overflow::{Datum, KeyView, is_same};
 use bdb_text_format::{Key, PairList};
@@ -33,18 +33,31 @@ pub fn is_pair_at(list: &PairList, place: usize, key: &KeyView<'_>, datum: &Datu
     }
 }
 
+// The same, of a pair that isn't asked for again.
+fn is_next_pair(list: &PairList, place: usize, key: KeyView<'_>, datum: Datum<'_>) -> bool {
+    is_pair_at(list, place, &key, &datum)
+}
+
+// Whether what a database lists are just the pairs of a list.
+fn are_pairs(listed: Scan<'_>, list: &PairList) -> bool {
+    let mut place: usize = 0;
+    for (key, value) in listed {
+        if !is_next_pair(list, place, key, value) {
+            return false;
+        }
+        place = place.saturating_add(1);
+    }
+    place == list.len()
+}
+
 // Whether a database has just the pairs of a list.
 fn scans(alloc: Global, sound: &Sound<'_>, db: Db, list: &PairList) -> Result<bool, AllocError>
     requires { db < length (databases (file_of sound.now)) }
 {
-    let mut place: usize = 0;
-    for (key, value) in sound.scan(alloc, db)? {
-        if !is_pair_at(list, place, &key, &value) {
-            return Ok(false);
-        }
-        place = place.saturating_add(1);
+    match sound.scan(alloc, db) {
+        Ok(listed) => Ok(are_pairs(listed, list)),
+        Err(_) => Err(AllocError),
     }
-    Ok(place == list.len())
 }
 
 // A key as `get` is asked for it: a number by its digits.
@@ -68,6 +81,29 @@ fn same_key(list: &PairList, a: usize, b: usize) -> bool {
     }
 }
 
+// Whether a datum is that at a place of a list, under the key at another place.
+fn is_next_datum(list: &PairList, start: usize, place: usize, datum: Datum<'_>) -> bool {
+    match list.values().get(place) {
+        Some(value) => same_key(list, start, place) && is_datum(&datum, value),
+        None => false,
+    }
+}
+
+// The place behind the pairs that have the key at a place, where these data are just theirs.
+fn run_end(found: Found<'_>, list: &PairList, start: usize) -> Option<usize> {
+    let mut place = start;
+    for datum in found {
+        if !is_next_datum(list, start, place, datum) {
+            return None;
+        }
+        place = place.saturating_add(1);
+    }
+    if same_key(list, start, place) {
+        return None;
+    }
+    Some(place)
+}
+
 // The place behind the pairs that have the key at a place, where a database has just their data under it.
 fn found_run<L: Ledger>(
     alloc: Global,
@@ -83,19 +119,7 @@ fn found_run<L: Ledger>(
         return Ok(None);
     };
     let key = asked(alloc, key)?;
-    let mut place = start;
-    for datum in sound.get(db, key.as_slice(), steps) {
-        match list.values().get(place) {
-            Some(value) if same_key(list, start, place) && is_datum(&datum, value) => {
-                place = place.saturating_add(1);
-            }
-            _ => return Ok(None),
-        }
-    }
-    if same_key(list, start, place) {
-        return Ok(None);
-    }
-    Ok(Some(place))
+    Ok(run_end(sound.get(db, key.as_slice(), steps), list, start))
 }
 
 // Whether a database has under each key of a list just its data.
@@ -121,6 +145,34 @@ fn finds<L: Ledger>(
     Ok(start == list.len())
 }
 
+// Whether a database has nothing under a key.
+fn has_none<L: Ledger>(sound: &Sound<'_>, db: Db, key: &[u8], steps: &mut Steps<L>) -> bool
+    requires { db < length (databases (file_of sound.now)) }
+{
+    let mut found = sound.get(db, key, steps);
+    let first = found.next();
+    first.is_none()
+}
+
+// Whether a file has one database, with just the pairs of a list, and nothing under another key.
+fn has_just<L: Ledger>(
+    alloc: Global,
+    sound: &Sound<'_>,
+    list: &PairList,
+    absent: &[u8],
+    steps: &mut Steps<L>,
+) -> Result<bool, AllocError> {
+    if sound.databases() != 1 {
+        return Ok(false);
+    }
+    let db = sound.database(0);
+    Ok(
+        has_none(sound, db, absent, steps)
+            && scans(alloc, sound, db, list)?
+            && finds(alloc, sound, db, list, steps)?,
+    )
+}
+
 fn gives_counted<L: Ledger>(
     alloc: Global,
     image: &[u8],
@@ -133,15 +185,10 @@ fn gives_counted<L: Ledger>(
     if image.len() > 1 << 30 {
         return Ok(false);
     }
-    let Ok(sound) = verify(alloc, image, steps) else {
-        return Ok(false);
-    };
-    if sound.databases() != 1 {
-        return Ok(false);
+    match verify(alloc, image, steps) {
+        Ok(sound) => has_just(alloc, &sound, list, absent, steps),
+        Err(_) => Ok(false),
     }
-    let db = sound.database(0);
-    let none = sound.get(db, absent, steps).next().is_none();
-    Ok(none && scans(alloc, &sound, db, list)? && finds(alloc, &sound, db, list, steps)?)
 }
 
 fn gives_blank<L: Ledger>(

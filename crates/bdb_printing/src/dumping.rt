@@ -1,12 +1,13 @@
 // What `dump` prints.
-ghost use Rattle.std.specs.Prelude.{◌≡◌, ◌++◌, ◌<◌, length};
+ghost use Rattle.std.specs.Prelude.{◌≡◌, ◌++◌, ◌<◌, length, option_copied};
 ghost use Rattle.std.specs.List.{flat_map};
 ghost use Rattle.bdb_file.specs.Named.{database_at};
 ghost use Rattle.bdb_model.specs.Change.{change};
 ghost use Rattle.bdb_format.specs.Databases.{databases};
 ghost use Rattle.bdb_format.specs.File.{file_of};
 ghost use Rattle.bdb_text_format.specs.LineEnd.{line};
-ghost use Rattle.bdb_text_format.specs.Written.{data_end, data_line, database_text, dump_text, key_bytes};
+ghost use Rattle.bdb_format.specs.Lists.{list_of};
+ghost use Rattle.bdb_text_format.specs.Written.{data_end, data_line, database_text, dump_text, header_text, key_bytes};
 ghost use Rattle.bdb_overflow.specs.Datum.{datum_seen, key_view_seen};
 ghost use Rattle.bdb_printing.specs.Printers.{Adds, pair_text};
 ghost use Rattle.bdb_lines.specs.Printing.{Writes};
@@ -14,7 +15,7 @@ ghost use Rattle.std.specs.Fmt.{decimal};
 
 use crate::printing::Printer;
 use bdb_file::{Db, Scan, Sound};
-use bdb_format::Bytes;
+use bdb_format::{Bytes, Settings};
 use bdb_io::Sink;
 use bdb_lines::Cut;
 use bdb_overflow::{Datum, KeyView};
@@ -24,8 +25,8 @@ use std::alloc::Global;
 impl<'k, K: Sink> Printer<'k, K> {
     /// Prints the data line of a value.
     #[tactic(auto, using(crate::proofs::PrinterLemmas::then_adds_byte, crate::proofs::PrinterLemmas::byte_cut))]
-    fn data_line(&mut self, value: Datum<'_>, print: bool) -> Result<(), Cut>
-        ensures { Adds K.written K.faults self.old self.new (line (data_line print (datum_seen value.entry))) result }
+    fn data_line(&mut self, value: &Datum<'_>, print: bool) -> Result<(), Cut>
+        ensures { Adds K.written K.faults self.old self.new (line (data_line print (datum_seen value.now))) result }
     {
         self.text(b" ")?;
         self.value_line(value, print)
@@ -36,19 +37,27 @@ impl<'k, K: Sink> Printer<'k, K> {
         ensures { Adds K.written K.faults self.old self.new (line (data_line print (decimal number))) result }
     {
         match number_text(self.alloc, number) {
-            Ok(digits) => self.data_line(Datum::Inline(digits.as_slice()), print),
+            Ok(digits) => self.data_line(&Datum::Inline(digits.as_slice()), print),
             Err(_) => Err(Cut::Memory),
         }
     }
 
     /// Prints the data line of a key.
-    fn key_line(&mut self, key: KeyView<'_>, print: bool) -> Result<(), Cut>
-        ensures { Adds K.written K.faults self.old self.new (line (data_line print (key_bytes (key_view_seen key.entry)))) result }
+    fn key_line(&mut self, key: &KeyView<'_>, print: bool) -> Result<(), Cut>
+        ensures { Adds K.written K.faults self.old self.new (line (data_line print (key_bytes (key_view_seen key.now)))) result }
     {
         match key {
             KeyView::Bytes(key) => self.data_line(key, print),
-            KeyView::Number(number) => self.number_line(number, print),
+            KeyView::Number(number) => self.number_line(*number, print),
         }
+    }
+
+    /// Prints the data lines of a key and of a value.
+    fn both_lines(&mut self, key: &KeyView<'_>, value: &Datum<'_>, print: bool) -> Result<(), Cut>
+        ensures { Adds K.written K.faults self.old self.new (pair_text print (key_view_seen key.now, datum_seen value.now)) result }
+    {
+        self.key_line(key, print)?;
+        self.data_line(value, print)
     }
 
     /// Prints the two data lines of a pair.
@@ -60,8 +69,7 @@ impl<'k, K: Sink> Printer<'k, K> {
     ) -> Result<(), Cut>
         ensures { Adds K.written K.faults self.old self.new (pair_text print (key_view_seen key.entry, datum_seen value.entry)) result }
     {
-        self.key_line(key, print)?;
-        self.data_line(value, print)
+        self.both_lines(&key, &value, print)
     }
 
     /// Prints the data lines of a list.
@@ -83,29 +91,41 @@ impl<'k, K: Sink> Printer<'k, K> {
         self.text(b"DATA=END\n")
     }
 
-    /// Prints a section: its header, the data lines of its list, and the line that ends them.
-    #[tactic(auto, using(crate::proofs::PrinterLemmas::then_adds, crate::proofs::PrinterLemmas::adds_cut))]
-    fn section(&mut self, header: &[u8], list: Scan<'_>, print: bool) -> Result<(), Cut>
-        ensures { Adds K.written K.faults self.old self.new (header.now ++ (flat_map (pair_text print) list.entry ++ line data_end)) result }
+    /// Prints the header of a section.
+    pub(crate) fn header(
+        &mut self,
+        name: Option<&[u8]>,
+        settings: &Settings,
+        print: bool,
+    ) -> Result<(), Cut>
+        ensures { Adds K.written K.faults self.old self.new (header_text print (option_copied name.entry) settings.now) result }
     {
-        self.text(header)?;
-        self.data(list, print)
+        match header_text(self.alloc, name, settings, print) {
+            Ok(header) => self.text(header.as_slice()),
+            Err(_) => Err(Cut::Memory),
+        }
+    }
+
+    /// Prints the data lines of the list of a database, and the line that ends them.
+    fn database_data(&mut self, sound: &Sound<'_>, db: Db, print: bool) -> Result<(), Cut>
+        requires { db < length (databases (file_of sound.now)) }
+        ensures { Adds K.written K.faults self.old self.new
+            (flat_map (pair_text print) (list_of (file_of sound.now) (database_at (file_of sound.now) db).fields) ++ line data_end) result }
+    {
+        match sound.scan(self.alloc, db) {
+            Ok(list) => self.data(list, print),
+            Err(_) => Err(Cut::Memory),
+        }
     }
 
     /// Prints the section of a database.
-    #[tactic(auto, using(crate::proofs::DumpLemmas::section_by_parts))]
+    #[tactic(auto, using(crate::proofs::DumpLemmas::section_by_parts, crate::proofs::PrinterLemmas::then_adds, crate::proofs::PrinterLemmas::adds_cut))]
     fn database_section(&mut self, sound: &Sound<'_>, db: Db, print: bool) -> Result<(), Cut>
         requires { db < length (databases (file_of sound.now)) }
         ensures { Adds K.written K.faults self.old self.new (database_text print sound.now (database_at (file_of sound.now) db)) result }
     {
-        let settings = sound.settings(db);
-        let Ok(header) = header_text(self.alloc, sound.name(db), &settings, print) else {
-            return Err(Cut::Memory);
-        };
-        match sound.scan(self.alloc, db) {
-            Ok(list) => self.section(header.as_slice(), list, print),
-            Err(_) => Err(Cut::Memory),
-        }
+        self.header(sound.name(db), &sound.settings(db), print)?;
+        self.database_data(sound, db, print)
     }
 
     /// Prints the section of each database.

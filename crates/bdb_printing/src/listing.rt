@@ -70,12 +70,19 @@ impl<'k, K: Sink> Printer<'k, K> {
         Ok(())
     }
 
+    /// Prints a value of several on a line of its own.
+    fn found_line(&mut self, value: Datum<'_>, print: bool) -> Result<(), Cut>
+        ensures { Adds K.written K.faults self.old self.new (value_line print (datum_seen value.entry)) result }
+    {
+        self.value_line(&value, print)
+    }
+
     /// Prints values, each on a line of its own.
     fn value_lines(&mut self, values: Found<'_>, print: bool) -> Result<(), Cut>
         ensures { Adds K.written K.faults self.old self.new (values_text print values.entry) result }
     {
         for value in values {
-            self.value_line(value, print)?;
+            self.found_line(value, print)?;
         }
         Ok(())
     }
@@ -85,7 +92,7 @@ impl<'k, K: Sink> Printer<'k, K> {
     fn found(&mut self, first: Datum<'_>, others: Found<'_>, print: bool) -> Result<(), Cut>
         ensures { Adds K.written K.faults self.old self.new (value_line print (datum_seen first.entry) ++ values_text print others.entry) result }
     {
-        self.value_line(first, print)?;
+        self.found_line(first, print)?;
         self.value_lines(others, print)
     }
 }

@@ -79,19 +79,19 @@ impl<'k, K: Sink> Printer<'k, K> {
     }
 
     /// Prints the spelling of a value.
-    pub(crate) fn datum(&mut self, value: Datum<'_>, print: bool) -> Result<(), Cut>
-        ensures { Adds K.written K.faults self.old self.new (spelling print (datum_seen value.entry)) result }
+    pub(crate) fn datum(&mut self, value: &Datum<'_>, print: bool) -> Result<(), Cut>
+        ensures { Adds K.written K.faults self.old self.new (spelling print (datum_seen value.now)) result }
     {
         match value {
             Datum::Inline(bytes) => self.spelled(bytes, print),
-            Datum::Chained(pieces) => self.pieces(pieces, print),
+            Datum::Chained(pieces) => self.pieces(pieces.again(), print),
         }
     }
 
     /// Prints the spelling of a value, and ends its line.
     #[tactic(auto, using(crate::proofs::PrinterLemmas::then_adds, crate::proofs::PrinterLemmas::adds_cut))]
-    pub(crate) fn value_line(&mut self, value: Datum<'_>, print: bool) -> Result<(), Cut>
-        ensures { Adds K.written K.faults self.old self.new (value_line print (datum_seen value.entry)) result }
+    pub(crate) fn value_line(&mut self, value: &Datum<'_>, print: bool) -> Result<(), Cut>
+        ensures { Adds K.written K.faults self.old self.new (value_line print (datum_seen value.now)) result }
     {
         self.datum(value, print)?;
         self.text(b"\n")

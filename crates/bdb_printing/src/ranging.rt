@@ -6,6 +6,7 @@ ghost use Rattle.bdb_text_format.specs.Written.{key_bytes};
 ghost use Rattle.bdb_overflow.specs.Datum.{datum_seen, key_view_seen};
 ghost use Rattle.bdb_printing.specs.Printers.{Adds};
 ghost use Rattle.bdb_lines.specs.Printing.{Writes};
+ghost use Rattle.std.specs.Fmt.{decimal};
 
 use crate::printing::Printer;
 use bdb_format::Bytes;
@@ -17,25 +18,39 @@ use bdb_text::number_text;
 use std::alloc::Global;
 
 impl<'k, K: Sink> Printer<'k, K> {
-    /// Prints a key on a line of its own; a number is spelled as the bytes of its digits.
-    fn key_alone(&mut self, key: KeyView<'_>, print: bool) -> Result<(), Cut>
-        ensures { Adds K.written K.faults self.old self.new (value_line print (key_bytes (key_view_seen key.entry))) result }
+    /// Prints a number on a line of its own: it's spelled as the bytes of its digits.
+    fn number_alone(&mut self, number: u32, print: bool) -> Result<(), Cut>
+        ensures { Adds K.written K.faults self.old self.new (value_line print (decimal number)) result }
+    {
+        match number_text(self.alloc, number) {
+            Ok(digits) => self.value_line(&Datum::Inline(digits.as_slice()), print),
+            Err(_) => Err(Cut::Memory),
+        }
+    }
+
+    /// Prints a key on a line of its own.
+    fn key_alone(&mut self, key: &KeyView<'_>, print: bool) -> Result<(), Cut>
+        ensures { Adds K.written K.faults self.old self.new (value_line print (key_bytes (key_view_seen key.now))) result }
     {
         match key {
             KeyView::Bytes(key) => self.value_line(key, print),
-            KeyView::Number(number) => match number_text(self.alloc, number) {
-                Ok(digits) => self.value_line(Datum::Inline(digits.as_slice()), print),
-                Err(_) => Err(Cut::Memory),
-            },
+            KeyView::Number(number) => self.number_alone(*number, print),
         }
     }
 
     /// Prints a pair, the key and the datum each on a line.
-    fn pair_lines(&mut self, key: KeyView<'_>, value: Datum<'_>, print: bool) -> Result<(), Cut>
-        ensures { Adds K.written K.faults self.old self.new (pair_lines print (key_view_seen key.entry, datum_seen value.entry)) result }
+    fn pair_lines(&mut self, key: &KeyView<'_>, value: &Datum<'_>, print: bool) -> Result<(), Cut>
+        ensures { Adds K.written K.faults self.old self.new (pair_lines print (key_view_seen key.now, datum_seen value.now)) result }
     {
         self.key_alone(key, print)?;
         self.value_line(value, print)
+    }
+
+    /// Prints a pair of a range.
+    fn pair_of_range(&mut self, key: KeyView<'_>, value: Datum<'_>, print: bool) -> Result<(), Cut>
+        ensures { Adds K.written K.faults self.old self.new (pair_lines print (key_view_seen key.entry, datum_seen value.entry)) result }
+    {
+        self.pair_lines(&key, &value, print)
     }
 
     /// Prints pairs.
@@ -43,7 +58,7 @@ impl<'k, K: Sink> Printer<'k, K> {
         ensures { Adds K.written K.faults self.old self.new (pairs_text print pairs.entry) result }
     {
         for (key, value) in pairs {
-            self.pair_lines(key, value, print)?;
+            self.pair_of_range(key, value, print)?;
         }
         Ok(())
     }

@@ -3,7 +3,7 @@ ghost use Rattle.std.specs.Prelude.{◌≡◌, ◌<◌, ◌≤◌, ◌^◌, ◌+
 ghost use Rattle.std.specs.List.{enumerate_from, flat_map};
 ghost use Rattle.bdb_model.specs.Change.{change};
 ghost use Rattle.bdb_text_format.specs.LineEnd.{line};
-ghost use Rattle.bdb_text_format.specs.Written.{data_end, header_text, section_text};
+ghost use Rattle.bdb_text_format.specs.Written.{data_end, section_text};
 ghost use Rattle.bdb_overflow.specs.Datum.{datum_seen};
 ghost use Rattle.bdb_printing.specs.Printers.{Adds, pair_text};
 ghost use Rattle.bdb_lines.specs.Printing.{Writes};
@@ -18,7 +18,6 @@ use bdb_io::Sink;
 use bdb_lines::Cut;
 use bdb_overflow::{Datum, KeyView};
 use bdb_salvage::{Guess, SalvagePairs, SalvageValues, Salvaged};
-use bdb_text::header_text;
 use std::alloc::Global;
 
 // The settings of the section of the loose records.
@@ -53,16 +52,6 @@ fn stored_settings(guess: Guess) -> Settings
 }
 
 impl<'k, K: Sink> Printer<'k, K> {
-    /// Prints the header of a section with a name.
-    fn header(&mut self, name: &[u8], settings: &Settings, print: bool) -> Result<(), Cut>
-        ensures { Adds K.written K.faults self.old self.new (header_text print (Some name.now) settings.now) result }
-    {
-        match header_text(self.alloc, Some(name), settings, print) {
-            Ok(header) => self.text(header.as_slice()),
-            Err(_) => Err(Cut::Memory),
-        }
-    }
-
     /// Prints the data lines of stored pairs.
     fn stored_pairs(&mut self, pairs: SalvagePairs<'_, '_>, print: bool) -> Result<(), Cut>
         ensures { Adds K.written K.faults self.old self.new (flat_map (pair_text print) (map bytes_pair pairs.entry)) result }
@@ -92,7 +81,7 @@ impl<'k, K: Sink> Printer<'k, K> {
     ) -> Result<(), Cut>
         ensures { Adds K.written K.faults self.old self.new (stored_section print guess pairs.entry) result }
     {
-        self.header(b"salvaged", &stored_settings(guess), print)?;
+        self.header(Some(b"salvaged"), &stored_settings(guess), print)?;
         self.stored_data(pairs, print)
     }
 
@@ -133,7 +122,7 @@ impl<'k, K: Sink> Printer<'k, K> {
         ensures { Adds K.written K.faults self.old self.new
             (section_text print (Some (codes "loose")) (loose_settings guess) (map numbered_record (enumerate_from 1 records.entry))) result }
     {
-        self.header(b"loose", &loose_settings(guess), print)?;
+        self.header(Some(b"loose"), &loose_settings(guess), print)?;
         self.records_data(records, print)
     }
 

@@ -3,15 +3,23 @@
 ghost use Rattle.std.specs.Prelude.{◌≡◌, ◌<◌, ◌≤◌, ◌^◌, length};
 
 use crate::held::Held;
-use bdb_file::{Sound, verify};
+use bdb_file::{Scan, Sound, verify};
 use bdb_format::{Bytes, FileKind, Steps};
 use bdb_graph::Meta;
-use bdb_salvage::{SalvageError, Salvaged, salvage};
+use bdb_salvage::{SalvageError, SalvagePairs, SalvageValues, Salvaged, salvage};
 use std::alloc::{AllocError, Global};
 use std::marker::Brand;
 use std::sync::ledger::{Blank, Ledger};
 
-/// Adds the list of a master, where there is one: its keys are names.
+/// Adds the list of a master: its keys are names.
+fn add_names<'a>(held: &mut Held<'a>, list: bdb_btree::Scan<'a>) -> Result<(), AllocError> {
+    for (key, value) in list {
+        held.add_entry(key, value)?;
+    }
+    Ok(())
+}
+
+/// Adds the list of a master, where there is one.
 #[tactic(auto, using(bdb_file::proofs::DatabaseLemmas::has_metadata, bdb_file::proofs::SoundLemmas::no_structure))]
 fn add_master<'a>(held: &mut Held<'a>, sound: &Sound<'a>) -> Result<(), AllocError> {
     let linked = sound.linked();
@@ -23,35 +31,48 @@ fn add_master<'a>(held: &mut Held<'a>, sound: &Sound<'a>) -> Result<(), AllocErr
         && number == 0
         && meta.flags & 0x20 != 0
     {
-        for (key, value) in bdb_btree::scan(linked, &meta) {
-            held.add_entry(key, value)?;
-        }
+        return add_names(held, bdb_btree::scan(linked, &meta));
     }
     Ok(())
 }
 
-/// What the master and the databases of a file list.
-fn listed<'a>(alloc: Global, sound: &Sound<'a>) -> Result<Held<'a>, AllocError> {
-    let mut held = Held::new(alloc);
-    add_master(&mut held, sound)?;
-    for i in 0..sound.databases() {
-        for (key, value) in sound.scan(alloc, sound.database(i))? {
-            held.add_entry(key, value)?;
-        }
+/// Adds the list of a database.
+fn add_list<'a>(held: &mut Held<'a>, list: Scan<'a>) -> Result<(), AllocError> {
+    for (key, value) in list {
+        held.add_entry(key, value)?;
     }
-    Ok(held)
+    Ok(())
 }
 
-/// What is salvaged of an image.
-fn salvaged<'s>(alloc: Global, found: &'s Salvaged<'_>) -> Result<Held<'s>, AllocError> {
-    let mut held = Held::new(alloc);
-    for (key, value) in found.pairs() {
+/// Adds what the master and the databases of a file list.
+fn add_listed<'a>(alloc: Global, held: &mut Held<'a>, sound: &Sound<'a>) -> Result<(), AllocError> {
+    add_master(held, sound)?;
+    for i in 0..sound.databases() {
+        add_list(held, sound.scan(alloc, sound.database(i))?)?;
+    }
+    Ok(())
+}
+
+/// Adds stored pairs that are salvaged.
+fn add_stored<'s>(held: &mut Held<'s>, pairs: SalvagePairs<'s, '_>) -> Result<(), AllocError> {
+    for (key, value) in pairs {
         held.add_pair(key, value)?;
     }
-    for value in found.loose() {
+    Ok(())
+}
+
+/// Adds loose records that are salvaged.
+fn add_loose<'s>(held: &mut Held<'s>, records: SalvageValues<'s, '_>) -> Result<(), AllocError> {
+    for value in records {
         held.add_record(value)?;
     }
-    Ok(held)
+    Ok(())
+}
+
+/// Adds what is salvaged of an image.
+fn add_salvaged<'s>(held: &mut Held<'s>, found: &'s Salvaged<'_>) -> Result<(), AllocError> {
+    add_stored(held, found.pairs())?;
+    add_loose(held, found.loose())
 }
 
 fn bytes_of(alloc: Global, text: &str) -> Result<Bytes, AllocError> {
@@ -63,18 +84,61 @@ fn bytes_of(alloc: Global, text: &str) -> Result<Bytes, AllocError> {
 /// What is told of two sides.
 fn compared(
     alloc: Global,
-    mut listed: Held<'_>,
-    mut salvaged: Held<'_>,
+    listed: &mut Held<'_>,
+    salvaged: &mut Held<'_>,
 ) -> Result<Bytes, AllocError> {
     listed.sort();
     salvaged.sort();
     let pairs = listed.pairs();
     let records = listed.records();
-    if !listed.is_same(&salvaged) {
+    if !listed.is_same(salvaged) {
         return bytes_of(alloc, "another census");
     }
     let text = format!(in alloc; "{pairs} pairs, {records} records")?;
     bytes_of(alloc, text.as_str())
+}
+
+/// Fills both sides, and tells of them.
+fn told_of_sides<'a, 's>(
+    alloc: Global,
+    listed: &mut Held<'a>,
+    salvaged: &mut Held<'s>,
+    sound: &Sound<'a>,
+    found: &'s Salvaged<'_>,
+) -> Result<Bytes, AllocError> {
+    add_listed(alloc, listed, sound)?;
+    add_salvaged(salvaged, found)?;
+    compared(alloc, listed, salvaged)
+}
+
+/// What is told of a sound file and of what is salvaged of it.
+fn told_of_both(
+    alloc: Global,
+    sound: &Sound<'_>,
+    found: &Salvaged<'_>,
+) -> Result<Bytes, AllocError> {
+    let mut listed = Held::new(alloc);
+    let mut salvaged = Held::new(alloc);
+    told_of_sides(alloc, &mut listed, &mut salvaged, sound, found)
+}
+
+/// What is told of a sound file.
+fn told_of_sound<L: Ledger>(
+    alloc: Global,
+    image: &[u8],
+    sound: &Sound<'_>,
+    steps: &mut Steps<L>,
+) -> Result<Bytes, AllocError>
+    requires { length image.now ≤ 2 ^ 30 }
+{
+    if sound.head().kind == FileKind::Queue {
+        return bytes_of(alloc, "a queue");
+    }
+    match salvage(alloc, image, None, steps) {
+        Ok(found) => told_of_both(alloc, sound, &found),
+        Err(SalvageError::NoMeta) => bytes_of(alloc, "no guess"),
+        Err(SalvageError::Memory) => Err(AllocError),
+    }
 }
 
 fn told_by<L: Ledger>(alloc: Global, image: &[u8], blank: Blank) -> Result<Bytes, AllocError>
@@ -84,17 +148,9 @@ fn told_by<L: Ledger>(alloc: Global, image: &[u8], blank: Blank) -> Result<Bytes
     requires small { length image.now ≤ 2 ^ 30 }
 {
     let mut steps = Steps::<L>::new(blank);
-    let Ok(sound) = verify(alloc, image, &mut steps) else {
-        return bytes_of(alloc, "not sound");
-    };
-    if sound.head().kind == FileKind::Queue {
-        return bytes_of(alloc, "a queue");
-    }
-    let listed = listed(alloc, &sound)?;
-    match salvage(alloc, image, None, &mut steps) {
-        Ok(found) => compared(alloc, listed, salvaged(alloc, &found)?),
-        Err(SalvageError::NoMeta) => bytes_of(alloc, "no guess"),
-        Err(SalvageError::Memory) => Err(AllocError),
+    match verify(alloc, image, &mut steps) {
+        Ok(sound) => told_of_sound(alloc, image, &sound, &mut steps),
+        Err(_) => bytes_of(alloc, "not sound"),
     }
 }
 

@@ -3,8 +3,8 @@ use Rattle.bdb_overflow.specs.Datum.{datum_seen}
 use Rattle.bdb_printing.proofs.PrinterLemmas.{adds_cut, cut_up}
 use Rattle.bdb_printing.proofs.printing.Printer.found.Goals as goal
 
-pub returns-in_err-value_line : goal.returns-in_err-value_line
-returns-in_err-value_line g c =
-    let is = cut_up c.from_residual.result c.in_err-value_line.field-0.0 c.from_residual.ensures.1 in
+pub returns-in_err-found_line : goal.returns-in_err-found_line
+returns-in_err-found_line g c =
+    let is = cut_up c.from_residual.result c.in_err-found_line.field-0.0 c.from_residual.ensures.1 in
     adds_cut _ _ _ _ (value_line c.args.print (datum_seen c.args.first)) (values_text c.args.print c.args.others) _ _ _
-    c.in_err-value_line.was is c.value_line.ensures
+    c.in_err-found_line.was is c.found_line.ensures

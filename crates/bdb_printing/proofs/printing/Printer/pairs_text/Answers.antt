@@ -11,13 +11,13 @@ loop-key-init g c =
 
 pub loop-key-preserved : goal.loop-key-preserved
 loop-key-preserved g c =
-    item_added _ _ _ _ _ (pair_lines c.args.print) _ _ _ _ _ c.in-Some.ensures.steps c.in_ok-pair_lines.was c.loop-key.invariant c.pair_lines.ensures
+    item_added _ _ _ _ _ (pair_lines c.args.print) _ _ _ _ _ c.in-Some.ensures.steps c.in_ok-pair_of_range.was c.loop-key.invariant c.pair_of_range.ensures
 
-pub returns-in_err-pair_lines : goal.returns-in_err-pair_lines
-returns-in_err-pair_lines g c =
-    let is = cut_up c.from_residual.result c.in_err-pair_lines.field-0.0 c.from_residual.ensures.1 in
-    item_cut _ _ _ _ _ (pair_lines c.args.print) _ _ _ _ _ _ _ c.in-Some.ensures.steps c.in_err-pair_lines.was is c.loop-key.invariant
-    c.pair_lines.ensures
+pub returns-in_err-pair_of_range : goal.returns-in_err-pair_of_range
+returns-in_err-pair_of_range g c =
+    let is = cut_up c.from_residual.result c.in_err-pair_of_range.field-0.0 c.from_residual.ensures.1 in
+    item_cut _ _ _ _ _ (pair_lines c.args.print) _ _ _ _ _ _ _ c.in-Some.ensures.steps c.in_err-pair_of_range.was is c.loop-key.invariant
+    c.pair_of_range.ensures
 
 pub returns : goal.returns
 returns g c = items_added _ _ _ _ (pair_lines c.args.print) _ _ c.in-None.ensures.steps.0 c.loop-key.invariant

@@ -10,12 +10,12 @@ loop-value-init g c =
     begins _ _ _ _ _ (ap (values_text c.args.print) same)
 
 pub loop-value-preserved : goal.loop-value-preserved
-loop-value-preserved g c = item_added _ _ _ _ _ (value_line c.args.print) _ _ _ _ _ c.in-Some.ensures.steps c.in_ok-value_line.was c.loop-value.invariant c.value_line.ensures
+loop-value-preserved g c = item_added _ _ _ _ _ (value_line c.args.print) _ _ _ _ _ c.in-Some.ensures.steps c.in_ok-found_line.was c.loop-value.invariant c.found_line.ensures
 
-pub returns-in_err-value_line : goal.returns-in_err-value_line
-returns-in_err-value_line g c =
-    let is = cut_up c.from_residual.result c.in_err-value_line.field-0.0 c.from_residual.ensures.1 in
-    item_cut _ _ _ _ _ (value_line c.args.print) _ _ _ _ _ _ _ c.in-Some.ensures.steps c.in_err-value_line.was is c.loop-value.invariant c.value_line.ensures
+pub returns-in_err-found_line : goal.returns-in_err-found_line
+returns-in_err-found_line g c =
+    let is = cut_up c.from_residual.result c.in_err-found_line.field-0.0 c.from_residual.ensures.1 in
+    item_cut _ _ _ _ _ (value_line c.args.print) _ _ _ _ _ _ _ c.in-Some.ensures.steps c.in_err-found_line.was is c.loop-value.invariant c.found_line.ensures
 
 pub returns : goal.returns
 returns g c = items_added _ _ _ _ (value_line c.args.print) _ _ c.in-None.ensures.steps.0 c.loop-value.invariant
