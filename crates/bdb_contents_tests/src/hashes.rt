@@ -326,23 +326,22 @@ fn is_value(datum: &Datum<'_>, bytes: &[u8]) -> bool {
     }
 }
 
+/// Whether the next datum that is found is this one.
+fn next_is(found: &mut Found<'_>, value: &[u8]) -> bool {
+    match found.next() {
+        Some(datum) => is_value(&datum, value),
+        None => false,
+    }
+}
+
 /// Whether exactly these data are found, in order.
-fn has_all(found: Found<'_>, values: &[&[u8]]) -> bool {
-    let mut found = found;
+fn has_all(found: &mut Found<'_>, values: &[&[u8]]) -> bool {
     for value in values {
-        match found.next() {
-            Some(datum) => {
-                if !is_value(&datum, value) {
-                    return false;
-                }
-            }
-            None => return false,
+        if !next_is(found, value) {
+            return false;
         }
     }
-    match found.next() {
-        Some(_) => false,
-        None => true,
-    }
+    found.next().is_none()
 }
 
 fn is_entry(key: &KeyView<'_>, datum: &Datum<'_>, bytes: &[u8], value: &[u8]) -> bool {
@@ -352,36 +351,32 @@ fn is_entry(key: &KeyView<'_>, datum: &Datum<'_>, bytes: &[u8], value: &[u8]) ->
     }
 }
 
-/// What is left of a list behind a key with each of these data, if it begins so.
-fn list_after<'a>(list: Scan<'a>, key: &[u8], values: &[&[u8]]) -> Option<Scan<'a>> {
-    let mut list = list;
-    for value in values {
-        let (one, datum) = list.next()?;
-        if !is_entry(&one, &datum, key, value) {
-            return None;
-        }
+/// Whether the next entry that is left is this one.
+fn next_entry_is(list: &mut Scan<'_>, key: &[u8], value: &[u8]) -> bool {
+    match list.next() {
+        Some((one, datum)) => is_entry(&one, &datum, key, value),
+        None => false,
     }
-    Some(list)
 }
 
-fn is_over(list: Scan<'_>) -> bool {
-    let mut list = list;
-    match list.next() {
-        Some(_) => false,
-        None => true,
+/// Whether what is left of a list begins with a key with each of these data, which are taken off.
+fn begins_with(list: &mut Scan<'_>, key: &[u8], values: &[&[u8]]) -> bool {
+    for value in values {
+        if !next_entry_is(list, key, value) {
+            return false;
+        }
     }
+    true
 }
 
 /// Whether a list has exactly these entries, in order.
-fn lists(list: Scan<'_>, found: &[Entry]) -> bool {
-    let mut list = list;
+fn lists(list: &mut Scan<'_>, found: &[Entry]) -> bool {
     for (key, values) in found {
-        match list_after(list, key, values) {
-            Some(rest) => list = rest,
-            None => return false,
+        if !begins_with(list, key, values) {
+            return false;
         }
     }
-    is_over(list)
+    list.next().is_none()
 }
 
 fn finds<L: Ledger>(
@@ -395,7 +390,7 @@ fn finds<L: Ledger>(
     requires contents { database_faults (file_of linked.now) (HashFields meta.now) ≡ [] }
 {
     for (key, values) in found {
-        if !has_all(find(linked, meta, key, steps), values) {
+        if !has_all(&mut find(linked, meta, key, steps), values) {
             return false;
         }
     }
@@ -416,7 +411,7 @@ fn holds<L: Ledger>(
         return false;
     }
     match scan(alloc, linked, meta) {
-        Ok(list) => lists(list, found) && finds(linked, meta, found, steps),
+        Ok(mut list) => lists(&mut list, found) && finds(linked, meta, found, steps),
         Err(_) => false,
     }
 }

@@ -7,7 +7,7 @@ ghost use Rattle.bdb_format.specs.File.{file_of};
 use crate::files::TWO_DATABASES;
 use crate::judging::SIZE;
 use crate::worked::{ONE_PAIR, QUEUE};
-use bdb_file::{Db, Sound, verify};
+use bdb_file::{Db, Scan, Sound, verify};
 use bdb_fixtures::{Field, write};
 use bdb_format::{Bytes, Kind, Order, Steps};
 use bdb_overflow::{Datum, KeyView};
@@ -53,14 +53,20 @@ fn add_pair(
     add_datum(alloc, text, value)
 }
 
-/// Adds ` KEY=VALUE` for each pair of the list of a database.
-fn add_list(alloc: Global, text: &mut Bytes, sound: &Sound<'_>, db: Db) -> Result<(), AllocError>
-    requires { db < length (databases (file_of sound.now)) }
-{
-    for (key, value) in sound.scan(alloc, db)? {
+/// Adds ` KEY=VALUE` for each pair of a list.
+fn add_pairs(alloc: Global, text: &mut Bytes, list: &mut Scan<'_>) -> Result<(), AllocError> {
+    for (key, value) in list {
         add_pair(alloc, text, &key, &value)?;
     }
     Ok(())
+}
+
+/// Adds the list of a database.
+fn add_list(alloc: Global, text: &mut Bytes, sound: &Sound<'_>, db: Db) -> Result<(), AllocError>
+    requires { db < length (databases (file_of sound.now)) }
+{
+    let mut list = sound.scan(alloc, db)?;
+    add_pairs(alloc, text, &mut list)
 }
 
 /// Adds `KIND NAME:`, the list, and a line feed.

@@ -12,7 +12,7 @@ use std::marker::Brand;
 use std::sync::ledger::{Blank, Ledger};
 
 /// Adds the list of a master: its keys are names.
-fn add_names<'a>(held: &mut Held<'a>, list: bdb_btree::Scan<'a>) -> Result<(), AllocError> {
+fn add_names<'a>(held: &mut Held<'a>, list: &mut bdb_btree::Scan<'a>) -> Result<(), AllocError> {
     for (key, value) in list {
         held.add_entry(key, value)?;
     }
@@ -31,13 +31,13 @@ fn add_master<'a>(held: &mut Held<'a>, sound: &Sound<'a>) -> Result<(), AllocErr
         && number == 0
         && meta.flags & 0x20 != 0
     {
-        return add_names(held, bdb_btree::scan(linked, &meta));
+        return add_names(held, &mut bdb_btree::scan(linked, &meta));
     }
     Ok(())
 }
 
 /// Adds the list of a database.
-fn add_list<'a>(held: &mut Held<'a>, list: Scan<'a>) -> Result<(), AllocError> {
+fn add_list<'a>(held: &mut Held<'a>, list: &mut Scan<'a>) -> Result<(), AllocError> {
     for (key, value) in list {
         held.add_entry(key, value)?;
     }
@@ -48,13 +48,13 @@ fn add_list<'a>(held: &mut Held<'a>, list: Scan<'a>) -> Result<(), AllocError> {
 fn add_listed<'a>(alloc: Global, held: &mut Held<'a>, sound: &Sound<'a>) -> Result<(), AllocError> {
     add_master(held, sound)?;
     for i in 0..sound.databases() {
-        add_list(held, sound.scan(alloc, sound.database(i))?)?;
+        add_list(held, &mut sound.scan(alloc, sound.database(i))?)?;
     }
     Ok(())
 }
 
 /// Adds stored pairs that are salvaged.
-fn add_stored<'s>(held: &mut Held<'s>, pairs: SalvagePairs<'s, '_>) -> Result<(), AllocError> {
+fn add_stored<'s>(held: &mut Held<'s>, pairs: &mut SalvagePairs<'s, '_>) -> Result<(), AllocError> {
     for (key, value) in pairs {
         held.add_pair(key, value)?;
     }
@@ -62,7 +62,10 @@ fn add_stored<'s>(held: &mut Held<'s>, pairs: SalvagePairs<'s, '_>) -> Result<()
 }
 
 /// Adds loose records that are salvaged.
-fn add_loose<'s>(held: &mut Held<'s>, records: SalvageValues<'s, '_>) -> Result<(), AllocError> {
+fn add_loose<'s>(
+    held: &mut Held<'s>,
+    records: &mut SalvageValues<'s, '_>,
+) -> Result<(), AllocError> {
     for value in records {
         held.add_record(value)?;
     }
@@ -71,8 +74,8 @@ fn add_loose<'s>(held: &mut Held<'s>, records: SalvageValues<'s, '_>) -> Result<
 
 /// Adds what is salvaged of an image.
 fn add_salvaged<'s>(held: &mut Held<'s>, found: &'s Salvaged<'_>) -> Result<(), AllocError> {
-    add_stored(held, found.pairs())?;
-    add_loose(held, found.loose())
+    add_stored(held, &mut found.pairs())?;
+    add_loose(held, &mut found.loose())
 }
 
 fn bytes_of(alloc: Global, text: &str) -> Result<Bytes, AllocError> {
