@@ -9,7 +9,7 @@ Prints a Markdown table. `verify` stands beside `db5.3_verify`, on a btree and a
 the clock, and how pages and seconds grew from the row above. A kind ends where a run takes a minute, or where ten times the pairs
 wouldn't fit into the longest input. `kinds` has `verify` on files of each kind of about 100 MB, and `chains` on chains of pages that
 grow longer, one by one: seconds of user time. `dump` stands beside `db5.3_dump -k`, on a file of each kind: seconds of user time, and peak
-memory. `range` stands beside `verify`, `get` and `dump`, on a btree of a million pairs: of ten pairs, of a thousand and of all. `load` stands beside `db5.3_load`, on the texts that `dump` gives of such files and of files with a quarter of the items. `convert` stands beside `verify` and a copy by `cat`, on a file of each kind, and `stat` beside `verify` and `db5.3_stat -f`: seconds of user and system time, of runs by turns. `salvage` stands beside
+memory. `range` stands beside `verify`, `get` and `dump`, on a btree of a million pairs: of ten pairs, of a thousand and of all. `load` stands beside `db5.3_load`, on the texts that `dump` gives of such files and of files with a quarter of the items. `convert` stands beside `verify` and a copy by `cat`, on a file of each kind, and `stat` beside `verify` and `db5.3_stat -f`: seconds of user time, and of user and system time, of runs by turns. `salvage` stands beside
 `db5.3_dump -r`, on the files of `kinds`, and on each of them with every hundredth page overwritten by other bytes: seconds of user time,
 peak memory, and how many pairs or records each gives. `repair` stands beside `salvage | load`, on the same files: user time of both commands of the pipe together, and the greater peak. `before` has `verify` of two programs by turns, on the files of `kinds` and `chains` and on the
 files of `verify` that have a million pairs: the least user and system time of each, and their ratio. Where the program or the library's tools are missing, nothing is
@@ -242,10 +242,14 @@ def least(words, image, before=lambda: None):
     return Spent(min(run.user for run in runs), min(run.peak for run in runs))
 
 
+def turns(commands, image):
+    """What each of some commands took, which run by turns: so what else the machine does falls on all of them alike."""
+    return list(zip(*([spent(words, image) for words in commands] for _ in range(TURNS))))
+
+
 def by_turns(commands, image):
-    """The least processor time of each of some commands, which run by turns, and its least peak: so what else the machine does falls on all of them alike."""
-    rounds = [[spent(words, image) for words in commands] for _ in range(TURNS)]
-    return [(min(run.processor() for run in runs), min(run.peak for run in runs)) for runs in zip(*rounds)]
+    """The least processor time of each of some commands, which run by turns, and its least peak."""
+    return [(min(run.processor() for run in runs), min(run.peak for run in runs)) for runs in turns(commands, image)]
 
 
 def samples(share=1):
@@ -401,15 +405,18 @@ def time_convert(program, folder):
 
 
 # `stat`
-STAT_COLUMNS = ("File", "Bytes of the file", "`stat`", "`verify`", "Ratio", "`db5.3_stat -f`", "Peak of `bdbtool`, bytes", "Peak by file")
+STAT_COLUMNS = ("File", "Bytes of the file", "`stat`, user", "`verify`, user", "Ratio", "Ratio with system time", "`db5.3_stat -f`, both", "Peak of `bdbtool`, bytes", "Peak by file")
 
 
 def print_stat(name, program, image):
     """A row of the table of `stat`."""
     size = image.stat().st_size
-    (own, peak), (judged, _), (original, _) = by_turns(([program, "stat"], [program, "verify"], ["db5.3_stat", "-f", "-d", image]), image)
+    own, judged, original = turns(([program, "stat"], [program, "verify"], ["db5.3_stat", "-f", "-d", image]), image)
     image.unlink()
-    times = [f"{own:.3g}", f"{judged:.3g}", f"{own / judged:.3g}", f"{original:.3g}"]
+    users = [min(run.user for run in runs) for runs in (own, judged)]
+    both = [min(run.processor() for run in runs) for runs in (own, judged, original)]
+    times = [*(f"{time:.3g}" for time in users), f"{users[0] / users[1]:.3g}", f"{both[0] / both[1]:.3g}", f"{both[2]:.3g}"]
+    peak = min(run.peak for run in own)
     print_row([name, f"{size:,}", *times, f"{peak:,}", f"{peak / size:.2f}"])
 
 
