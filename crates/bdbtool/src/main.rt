@@ -6,8 +6,8 @@ ghost use Rattle.std.specs.Vec.Iter.{into_iter_items};
 
 use bdb_io::{BaseSource, Sink, StdSink, StdSource, put_all};
 use bdb_model::Words;
-use bdb_tool::{onto_file, run_counted, run_onto};
 use bdb_tool::status::{MEMORY, USAGE};
+use bdb_tool::{onto_file, run_counted, run_onto};
 use std::alloc::{AllocError, Global};
 use std::env::{self, Args};
 use std::fs::{self, File};
