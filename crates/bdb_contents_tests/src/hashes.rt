@@ -326,22 +326,23 @@ fn is_value(datum: &Datum<'_>, bytes: &[u8]) -> bool {
     }
 }
 
-/// Whether the next datum that is found is this one.
-fn next_is(found: &mut Found<'_>, value: &[u8]) -> bool {
-    match found.next() {
-        Some(datum) => is_value(&datum, value),
-        None => false,
-    }
-}
-
 /// Whether exactly these data are found, in order.
-fn has_all(found: &mut Found<'_>, values: &[&[u8]]) -> bool {
+fn has_all(found: Found<'_>, values: &[&[u8]]) -> bool {
+    let mut found = found;
     for value in values {
-        if !next_is(found, value) {
-            return false;
+        match found.next() {
+            Some(datum) => {
+                if !is_value(&datum, value) {
+                    return false;
+                }
+            }
+            None => return false,
         }
     }
-    found.next().is_none()
+    match found.next() {
+        Some(_) => false,
+        None => true,
+    }
 }
 
 fn is_entry(key: &KeyView<'_>, datum: &Datum<'_>, bytes: &[u8], value: &[u8]) -> bool {
@@ -351,32 +352,36 @@ fn is_entry(key: &KeyView<'_>, datum: &Datum<'_>, bytes: &[u8], value: &[u8]) ->
     }
 }
 
-/// Whether the next entry that is left is this one.
-fn next_entry_is(list: &mut Scan<'_>, key: &[u8], value: &[u8]) -> bool {
-    match list.next() {
-        Some((one, datum)) => is_entry(&one, &datum, key, value),
-        None => false,
-    }
-}
-
-/// Whether what is left of a list begins with a key with each of these data, which are taken off.
-fn begins_with(list: &mut Scan<'_>, key: &[u8], values: &[&[u8]]) -> bool {
+/// What is left of a list behind a key with each of these data, if it begins so.
+fn list_after<'a>(list: Scan<'a>, key: &[u8], values: &[&[u8]]) -> Option<Scan<'a>> {
+    let mut list = list;
     for value in values {
-        if !next_entry_is(list, key, value) {
-            return false;
+        let (one, datum) = list.next()?;
+        if !is_entry(&one, &datum, key, value) {
+            return None;
         }
     }
-    true
+    Some(list)
+}
+
+fn is_over(list: Scan<'_>) -> bool {
+    let mut list = list;
+    match list.next() {
+        Some(_) => false,
+        None => true,
+    }
 }
 
 /// Whether a list has exactly these entries, in order.
-fn lists(list: &mut Scan<'_>, found: &[Entry]) -> bool {
+fn lists(list: Scan<'_>, found: &[Entry]) -> bool {
+    let mut list = list;
     for (key, values) in found {
-        if !begins_with(list, key, values) {
-            return false;
+        match list_after(list, key, values) {
+            Some(rest) => list = rest,
+            None => return false,
         }
     }
-    list.next().is_none()
+    is_over(list)
 }
 
 fn finds<L: Ledger>(
@@ -390,7 +395,7 @@ fn finds<L: Ledger>(
     requires contents { database_faults (file_of linked.now) (HashFields meta.now) ≡ [] }
 {
     for (key, values) in found {
-        if !has_all(&mut find(linked, meta, key, steps), values) {
+        if !has_all(find(linked, meta, key, steps), values) {
             return false;
         }
     }
@@ -411,7 +416,7 @@ fn holds<L: Ledger>(
         return false;
     }
     match scan(alloc, linked, meta) {
-        Ok(mut list) => lists(&mut list, found) && finds(linked, meta, found, steps),
+        Ok(list) => lists(list, found) && finds(linked, meta, found, steps),
         Err(_) => false,
     }
 }

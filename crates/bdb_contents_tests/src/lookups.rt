@@ -9,7 +9,7 @@ ghost use Rattle.bdb_format.specs.Verdict.{structure_faults};
 ghost use Rattle.bdb_format.specs.Flags.{is_recno};
 
 use crate::lookup_cases::{CASES, Case, Entry, Part};
-use bdb_btree::{Found, Scan, check, find, scan};
+use bdb_btree::{Found, check, find, scan};
 use bdb_fixtures::{btree_of, has_sound_trees, is_keyed, write};
 use bdb_format::{BtreeMeta, Order, Steps};
 use bdb_graph::{Linked, link, open_image};
@@ -34,30 +34,23 @@ pub fn is_entry(key: &KeyView<'_>, value: &Datum<'_>, entry: &Entry) -> bool {
     }
 }
 
-/// Whether the next entry that is left is this one.
-fn next_entry_is(left: &mut Scan<'_>, entry: &Entry) -> bool {
-    match left.next() {
-        Some((key, value)) => is_entry(&key, &value, entry),
-        None => false,
-    }
-}
-
-/// Whether exactly these entries are left, in order.
-fn are_left(left: &mut Scan<'_>, list: &[Entry]) -> bool {
-    for entry in list {
-        if !next_entry_is(left, entry) {
-            return false;
-        }
-    }
-    left.next().is_none()
-}
-
 /// Whether a scan gives exactly these entries, in order.
 fn lists(linked: &Linked<'_>, meta: &BtreeMeta, list: &[Entry]) -> bool
     requires meta { HasMetadata (file_of linked.now) (BtreeFields meta.now) }
     requires stage { structure_faults (file_of linked.now) ≡ [] }
 {
-    are_left(&mut scan(linked, meta), list)
+    let mut left = scan(linked, meta);
+    for entry in list {
+        match left.next() {
+            Some((key, value)) => {
+                if !is_entry(&key, &value, entry) {
+                    return false;
+                }
+            }
+            None => return false,
+        }
+    }
+    left.next().is_none()
 }
 
 /// Whether the next value that is found has these bytes.
@@ -66,16 +59,6 @@ fn next_is(found: &mut Found<'_>, bytes: &[u8]) -> bool {
         Some(value) => is_value(&value, bytes),
         None => false,
     }
-}
-
-/// Whether exactly the data that a list has under a key are left, in order.
-fn are_data(found: &mut Found<'_>, key: &[u8], list: &[Entry]) -> bool {
-    for entry in list {
-        if entry.key == key && !next_is(found, entry.value) {
-            return false;
-        }
-    }
-    found.next().is_none()
 }
 
 /// Whether exactly the data that a list has under a key are found, in order.
@@ -91,7 +74,13 @@ fn finds<L: Ledger>(
     requires stage { structure_faults (file_of linked.now) ≡ [] }
     requires contents { database_faults (file_of linked.now) (BtreeFields meta.now) ≡ [] }
 {
-    are_data(&mut find(linked, meta, key, steps), key, list)
+    let mut found = find(linked, meta, key, steps);
+    for entry in list {
+        if entry.key == key && !next_is(&mut found, entry.value) {
+            return false;
+        }
+    }
+    found.next().is_none()
 }
 
 /// Whether each key of the list, and each of the keys that it hasn't, has what the list says.

@@ -9,7 +9,7 @@ use bdb_fixtures::{Field, write};
 use bdb_format::{Order, QueueMeta, Steps};
 use bdb_graph::{Linked, Meta, link, open_image};
 use bdb_overflow::{Datum, KeyView};
-use bdb_queue::{Found, Scan, find, scan};
+use bdb_queue::{find, scan};
 use std::alloc::Global;
 use std::marker::Brand;
 use std::sync::ledger::{Blank, Ledger};
@@ -117,37 +117,24 @@ const CASES: [Case; 3] = [
     },
 ];
 
-/// Whether the next record that is left is this one.
-fn next_record_is(records: &mut Scan<'_>, number: u32, bytes: &[u8]) -> bool {
-    match records.next() {
-        Some((KeyView::Number(n), Datum::Inline(record))) => n == number && record == bytes,
-        _ => false,
-    }
-}
-
-/// Whether exactly these records are left, in order.
-fn are_left(records: &mut Scan<'_>, listed: &[(u32, [u8; 4])]) -> bool {
-    for (number, bytes) in listed {
-        if !next_record_is(records, *number, bytes.as_slice()) {
-            return false;
-        }
-    }
-    records.next().is_none()
-}
-
 /// Whether a list has exactly these records, in order.
 fn lists(linked: &Linked<'_>, meta: &QueueMeta, listed: &[(u32, [u8; 4])]) -> bool
     requires { HasMetadata (file_of linked.now) (QueueFields meta.now) }
 {
-    are_left(&mut scan(linked, meta), listed)
-}
-
-/// Whether the first that is found is this record, or there is none.
-fn first_is(found: &mut Found<'_>, bytes: Option<[u8; 4]>) -> bool {
-    match (found.next(), bytes) {
-        (Some(Datum::Inline(record)), Some(bytes)) => record == bytes.as_slice(),
-        (None, None) => true,
-        _ => false,
+    let mut records = scan(linked, meta);
+    for (number, bytes) in listed {
+        match records.next() {
+            Some((KeyView::Number(n), Datum::Inline(record))) => {
+                if n != *number || record != bytes.as_slice() {
+                    return false;
+                }
+            }
+            _ => return false,
+        }
+    }
+    match records.next() {
+        Some(_) => false,
+        None => true,
     }
 }
 
@@ -161,7 +148,12 @@ fn finds<L: Ledger>(
 ) -> bool
     requires { HasMetadata (file_of linked.now) (QueueFields meta.now) }
 {
-    first_is(&mut find(linked, meta, number, steps), bytes)
+    let mut found = find(linked, meta, number, steps);
+    match (found.next(), bytes) {
+        (Some(Datum::Inline(record)), Some(bytes)) => record == bytes.as_slice(),
+        (None, None) => true,
+        _ => false,
+    }
 }
 
 fn holds<L: Ledger>(

@@ -221,19 +221,16 @@ const ASKED: [Asked; 8] = [
     },
 ];
 
-/// Whether the next pair that is left is this one.
-fn next_pair_is(left: &mut RangePairs<'_, '_>, entry: &Entry) -> bool {
-    match left.next() {
-        Some((key, value)) => is_entry(&key, &value, entry),
-        None => false,
-    }
-}
-
 /// Whether exactly these pairs are left, in order.
-fn are_left(left: &mut RangePairs<'_, '_>, pairs: &[Entry]) -> bool {
+fn are_left(mut left: RangePairs<'_, '_>, pairs: &[Entry]) -> bool {
     for entry in pairs {
-        if !next_pair_is(left, entry) {
-            return false;
+        match left.next() {
+            Some((key, value)) => {
+                if !is_entry(&key, &value, entry) {
+                    return false;
+                }
+            }
+            None => return false,
         }
     }
     left.next().is_none()
@@ -256,7 +253,7 @@ fn is_range<L: Ledger>(
         return false;
     }
     are_left(
-        &mut pairs_of(linked, meta, &leaves, asked.from, asked.to),
+        pairs_of(linked, meta, &leaves, asked.from, asked.to),
         asked.pairs,
     )
 }

@@ -14,7 +14,7 @@ use bdb_fixtures::{Field, btree_of, has_sound_trees, is_recno, write};
 use bdb_format::{BtreeMeta, Order, Steps};
 use bdb_graph::{Linked, link, open_image};
 use bdb_overflow::{Datum, KeyView};
-use bdb_recno::{Found, Scan, check, find, scan};
+use bdb_recno::{check, find, scan};
 use std::alloc::Global;
 use std::marker::Brand;
 use std::sync::ledger::{Blank, Ledger};
@@ -205,40 +205,24 @@ fn is_byte(value: &Datum<'_>, byte: u8) -> bool {
     }
 }
 
-/// Whether the next record that is left is this one.
-fn next_record_is(records: &mut Scan<'_>, number: u32, byte: u8) -> bool {
-    match records.next() {
-        Some((KeyView::Number(n), value)) => n == number && is_byte(&value, byte),
-        _ => false,
-    }
-}
-
-/// Whether exactly these records are left, in order.
-fn are_left(records: &mut Scan<'_>, listed: &[(u32, u8)]) -> bool {
-    for (number, byte) in listed {
-        if !next_record_is(records, *number, *byte) {
-            return false;
-        }
-    }
-    records.next().is_none()
-}
-
 /// Whether a list has exactly these records, in order.
 fn lists(linked: &Linked<'_>, meta: &BtreeMeta, listed: &[(u32, u8)]) -> bool
     requires meta { HasMetadata (file_of linked.now) (BtreeFields meta.now) }
     requires recno { IsTrue (is_recno meta.now) }
     requires stage { structure_faults (file_of linked.now) ≡ [] }
 {
-    are_left(&mut scan(linked, meta), listed)
-}
-
-/// Whether the first that is found is this record, or there is none.
-fn first_is(found: &mut Found<'_>, byte: Option<u8>) -> bool {
-    match (found.next(), byte) {
-        (Some(value), Some(byte)) => is_byte(&value, byte),
-        (None, None) => true,
-        _ => false,
+    let mut records = scan(linked, meta);
+    for (number, byte) in listed {
+        match records.next() {
+            Some((KeyView::Number(n), value)) => {
+                if n != *number || !is_byte(&value, *byte) {
+                    return false;
+                }
+            }
+            _ => return false,
+        }
     }
+    records.next().is_none()
 }
 
 /// Whether this record alone is found under a number, or none.
@@ -253,7 +237,12 @@ fn finds<L: Ledger>(
     requires recno { IsTrue (is_recno meta.now) }
     requires contents { database_faults (file_of linked.now) (BtreeFields meta.now) ≡ [] }
 {
-    first_is(&mut find(linked, meta, number, steps), byte)
+    let mut found = find(linked, meta, number, steps);
+    match (found.next(), byte) {
+        (Some(value), Some(byte)) => is_byte(&value, byte),
+        (None, None) => true,
+        _ => false,
+    }
 }
 
 /// Whether each of these is found, or isn't.
