@@ -1,9 +1,11 @@
 //! Both sides of a file, and what is told of them.
 
 ghost use Rattle.std.specs.Prelude.{◌≡◌, ◌<◌, ◌≤◌, ◌^◌, length};
+ghost use Rattle.bdb_format.specs.Databases.{databases};
+ghost use Rattle.bdb_format.specs.File.{file_of};
 
 use crate::held::Held;
-use bdb_file::{Scan, Sound, verify};
+use bdb_file::{Db, Scan, Sound, verify};
 use bdb_format::{Bytes, FileKind, Steps};
 use bdb_graph::Meta;
 use bdb_salvage::{SalvageError, SalvagePairs, SalvageValues, Salvaged, salvage};
@@ -44,11 +46,31 @@ fn add_list<'a>(held: &mut Held<'a>, list: &mut Scan<'a>) -> Result<(), AllocErr
     Ok(())
 }
 
+/// Adds the same list, which is given up.
+fn add_whole<'a>(held: &mut Held<'a>, mut list: Scan<'a>) -> Result<(), AllocError> {
+    add_list(held, &mut list)
+}
+
+/// Adds what a database lists.
+fn add_database<'a>(
+    alloc: Global,
+    held: &mut Held<'a>,
+    sound: &Sound<'a>,
+    db: Db,
+) -> Result<(), AllocError>
+    requires { db < length (databases (file_of sound.now)) }
+{
+    match sound.scan(alloc, db) {
+        Ok(list) => add_whole(held, list),
+        Err(_) => Err(AllocError),
+    }
+}
+
 /// Adds what the master and the databases of a file list.
 fn add_listed<'a>(alloc: Global, held: &mut Held<'a>, sound: &Sound<'a>) -> Result<(), AllocError> {
     add_master(held, sound)?;
     for i in 0..sound.databases() {
-        add_list(held, &mut sound.scan(alloc, sound.database(i))?)?;
+        add_database(alloc, held, sound, sound.database(i))?;
     }
     Ok(())
 }
