@@ -3,11 +3,9 @@ use Rattle.std.proofs.Common.{◌≡◌, ℕ, Bool, true, false, ◌||◌, cond,
 use Rattle.std.specs.Prelude.{Result, Ok, Err, OnOk, OnErr}
 use Rattle.std.specs.BTreeSet.{BTreeSet, IsUnchanged, Updates}
 use Rattle.std.specs.Cmp.Lexicographic.{slice_cmp}
-use Rattle.std.specs.Cmp.{nat_cmp_is}
-use Rattle.std.specs.Ordering.{is_eq, nat_cmp}
-use Rattle.std.specs.declared.cmp.Ordering.TheVariants.{Less, Greater}
+use Rattle.std.specs.Ordering.{nat_cmp}
 use Rattle.std.specs.Str.{bytes_eq}
-use Rattle.std.proofs.lemmas.Bool.{cases_Bool, cases_eq, cases_order}
+use Rattle.std.proofs.lemmas.Bool.{cases_Bool, cases_eq}
 use Rattle.std.proofs.lemmas.Map.Text.{is_eq-slice_cmp}
 use Rattle.bdb_faults.specs.Notes.{Notes}
 use Rattle.bdb_format.specs.declared.kinds.Fault.{Fault}
@@ -17,6 +15,7 @@ use Rattle.bdb_format.specs.File.{file_of}
 use Rattle.bdb_format.specs.Page.{Content, Inline, Set, Chain, Tree, Unknown}
 use Rattle.bdb_format.proofs.LessLemmas.{eq_self, eq_same}
 use Rattle.bdb_overflow.specs.Keys.{has_item, has_key}
+use Rattle.bdb_overflow.proofs.HeldLemmas.{apart}
 use Rattle.bdb_hash.specs.Chained.{AreAllOf, AreAmong, AreOf, IsHeaded, Seen, chain_head, chain_value}
 use Rattle.bdb_hash.specs.Noted.{repeat_fault}
 use Rattle.bdb_hash.specs.Passed.{NotesRepeats, key_of}
@@ -107,13 +106,6 @@ among_unchanged image old new heads among same = record {
   each = λ head is. rw same (among.each head is);
 }
 
-apart_cmp : (a b : ℕ) → (a ≡ b → ⊥) → is_eq (nat_cmp a b) ≡ false
-apart_cmp a b apart =
-    elim (cases_order a b) [
-      | inl same ↦ absurd (apart same)
-      | inr rest ↦ elim rest [ inl less ↦ ap is_eq (sym (nat_cmp_is a b Less less)) | inr more ↦ ap is_eq (sym (nat_cmp_is a b Greater more)) ]
-    ]
-
 -- and one head more, of a key that is
 pub among_more : (seen : Seen) (old new : BTreeSet ℕ) (head : ℕ) → AreAmong seen old → has_key seen.keys (chain_value seen.image head) ≡ true
     → Updates nat_cmp old new head true → AreAmong seen new
@@ -121,7 +113,7 @@ among_more seen old new head among has updates = record {
   each = λ other is.
       elim (cases_eq head other) [
         | inl same ↦ ap (λ h. has_key seen.keys (chain_value seen.image h)) (sym same) ∙ has
-        | inr apart ↦ among.each other (sym (updates.2 other (apart_cmp head other apart)) ∙ is)
+        | inr differ ↦ among.each other (sym (updates.2 other (apart head other differ)) ∙ is)
       ];
 }
 

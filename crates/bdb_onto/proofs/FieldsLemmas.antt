@@ -3,7 +3,7 @@ use Rattle.std.proofs.Common.{◌≡◌, ℕ, ◌+◌, ◌^◌, ◌<◌, ◌≤�
 use Rattle.std.specs.Prelude.{◌&&◌, IsTrue, nat_lt}
 use Rattle.std.specs.List.{All, Contains, range_with_len, sum_by}
 use Rattle.std.proofs.lemmas.Bool.Decides.{nat_tests}
-use Rattle.std.proofs.lemmas.List.Elements.{All-cons, All-head, All-map, All-nil, All-tail, All-weaker}
+use Rattle.std.proofs.lemmas.List.Elements.{All-cons, All-head, All-map, All-nil, All-tail}
 use Rattle.std.proofs.lemmas.List.Sums.{sum_by-cons, get_or-le-sum_by}
 use Rattle.bdb_format.specs.declared.kinds.Order.{Order}
 use Rattle.bdb_format.specs.declared.metadata.BtreeMeta.{BtreeMeta}
@@ -29,9 +29,9 @@ use Rattle.bdb_graph.proofs.FirstLemmas.{formed_accepted}
 use Rattle.bdb_graph.proofs.FormedLemmas.{accepted_paged}
 use Rattle.bdb_graph.proofs.HeldLemmas.{table_formed}
 use Rattle.bdb_graph.proofs.ReadLemmas.{IsMetaPage, flags_fit, page_of_meta}
-use Rattle.bdb_text_format.specs.declared.pairs.TextPair.{TextPair}
 use Rattle.bdb_text_format.specs.Written.{holds_records}
 use Rattle.bdb_sections.specs.Fit.{AreFitSettings, IsFitPair, IsFitSection}
+use Rattle.bdb_sections.proofs.PairLemmas.{fit_longer}
 use Rattle.bdb_text.specs.WrittenLaw.{AreBytes, IsPairOf}
 use Rattle.bdb_kept.specs.Kept.{IsSound, settings_in}
 use Rattle.bdb_kept.proofs.BytesLemmas.{FileHoldsBytes, file_holds, page_all}
@@ -116,12 +116,6 @@ fit_pair true (NumberKey number) value is = record { key = refl; key_length = om
 fit_pair false (BytesKey bytes) value is = record { key = refl; key_length = omega arith; length = omega arith }
 fit_pair false (NumberKey number) value is = absurd is.0
 
-pub longer : (numbered : Bool) (least most : ℕ) (pairs : List TextPair) → least ≤ most → All (IsFitPair numbered least) pairs
-    → All (IsFitPair numbered most) pairs
-longer numbered least most pairs low =
-    All-weaker (IsFitPair numbered least) (IsFitPair numbered most)
-    (λ pair fit. record { key = fit.key; key_length = omega (arith, low, fit.key_length); length = omega (arith, low, fit.length) }) pairs
-
 fit_pairs : (numbered : Bool) (list : List (ListKey × List ℕ)) → All (IsPairOf numbered) list
     → All (IsFitPair numbered (sum_by pair_size list)) (map text_pair list)
 fit_pairs numbered [] all = All-nil (IsFitPair numbered 0)
@@ -131,7 +125,7 @@ fit_pairs numbered (pair ∷ list) all =
     let first : IsFitPair numbered (pair_size pair) (text_pair pair) = fit_pair numbered pair.0 pair.1 (All-head (IsPairOf numbered) pair list all) in
     All-cons (IsFitPair numbered most) (text_pair pair) (map text_pair list)
     (record { key = first.key; key_length = omega (arith, sum, first.key_length); length = omega (arith, sum, first.length) })
-    (longer numbered (sum_by pair_size list) most (map text_pair list) (omega (arith, sum))
+    (fit_longer numbered (sum_by pair_size list) most (map text_pair list) (omega (arith, sum))
     (fit_pairs numbered list (All-tail (IsPairOf numbered) pair list all)))
 
 -- Each database.
@@ -211,7 +205,7 @@ section_fits image most database sound bytes at low =
     let numbered : Bool = holds_records (settings_in image database.fields).kind in
     record {
       settings = fit.settings_fit;
-      pairs = longer numbered (sum_by pair_size list) most (map text_pair list) low (fit_pairs numbered list fit.pairs);
+      pairs = fit_longer numbered (sum_by pair_size list) most (map text_pair list) low (fit_pairs numbered list fit.pairs);
     }
 
 at_most_all : (image : List ℕ) (all : List Database) (database : Database) → Contains all database

@@ -16,11 +16,11 @@ use Rattle.bdb_format.specs.File.{file_of}
 use Rattle.bdb_format.proofs.LessLemmas.{eq_same, eq_self}
 use Rattle.bdb_format.proofs.ListLemmas.{all_of}
 use Rattle.bdb_format.proofs.MemberLemmas.{first_member, in_map, later_member, none_pass, none_passes, of_filter, of_map}
-use Rattle.bdb_text_format.specs.declared.pairs.TextPair.{TextPair}
 use Rattle.bdb_text_format.specs.declared.sections.Section.{Section}
 use Rattle.bdb_text_format.specs.Reasons.{is_first}
 use Rattle.bdb_text_format.specs.Written.{holds_records}
 use Rattle.bdb_sections.specs.Fit.{AreFitSettings, AreNamedBehind, IsFitPair, IsFitSection}
+use Rattle.bdb_sections.proofs.PairLemmas.{fit_longer}
 use Rattle.bdb_text.specs.WrittenLaw.{AreNamedApart, CanStandTogether}
 use Rattle.bdb_kept.proofs.LaterLemmas.{AllLater, later_one}
 use Rattle.bdb_kept.proofs.NameLemmas.{all_together}
@@ -196,22 +196,10 @@ names_behind base sections loadable master =
 
 -- Settings and pairs.
 
-more_pair : (numbered : Bool) (least most : ℕ) (pair : TextPair) → least ≤ most → IsFitPair numbered least pair → IsFitPair numbered most pair
-more_pair numbered least most pair low fit = record {
-  key = fit.key;
-  key_length = omega (arith, low, fit.key_length);
-  length = omega (arith, low, fit.length);
-}
-
-more_pairs : (numbered : Bool) (least most : ℕ) (pairs : List TextPair) → least ≤ most → All (IsFitPair numbered least) pairs
-    → All (IsFitPair numbered most) pairs
-more_pairs numbered least most pairs low fit =
-    All-weaker (IsFitPair numbered least) (IsFitPair numbered most) (λ pair one. more_pair numbered least most pair low one) pairs fit
-
 more_section : (least most : ℕ) (section : Section) → least ≤ most → IsFitSection least section → IsFitSection most section
 more_section least most section low fit = record {
   settings = fit.settings;
-  pairs = more_pairs (holds_records section.settings.kind) least most section.pairs low fit.pairs;
+  pairs = fit_longer (holds_records section.settings.kind) least most section.pairs low fit.pairs;
 }
 
 -- settings in the file of a base are as fit as they were

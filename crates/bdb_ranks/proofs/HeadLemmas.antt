@@ -1,31 +1,31 @@
 -- A page of a chain that has no page before it is the head of a chain: a reference names it, and it's none to a next page.
 use Rattle.std.proofs.Common.{◌≡◌, ◌⊎◌, ℕ, zero, suc, ◌+◌, ◌≤◌, Bool, true, false, cond, not, ◌&&◌, ◌||◌, List, [], ◌∷◌, map, Option, Some, None, arith, refl, sym, ◌∙◌, ap, subst, inl, inr, true≢false}
 use Rattle.std.specs.Prelude.{◌==◌}
-use Rattle.std.specs.List.{Contains, enumerate_from, flat_map, range_with_len}
+use Rattle.std.specs.List.{Contains, flat_map, range_with_len}
 use Rattle.std.proofs.lemmas.Bool.{cases_Bool, eqb-true, not-false, or_from}
 use Rattle.std.proofs.lemmas.List.Elements.{Contains-append_cases}
 use Rattle.bdb_format.specs.declared.kinds.Order.{Order}
 use Rattle.bdb_format.specs.declared.metadata.FileKind.{FileKind}
-use Rattle.bdb_format.specs.declared.metadata.FileKind.TheVariants.{Btree, Queue as QueueFile}
+use Rattle.bdb_format.specs.declared.metadata.FileKind.TheVariants.{Btree}
 use Rattle.bdb_format.specs.declared.metadata.Head.{Head}
 use Rattle.bdb_format.specs.declared.pages.RecnoItem.{RecnoItem}
 use Rattle.bdb_format.specs.declared.references.Reference.{Reference}
 use Rattle.bdb_format.specs.declared.references.Sort.{Sort}
 use Rattle.bdb_format.specs.declared.references.Sort.TheVariants.{Free as FreeRef, Root, Bucket, HashNext, Child, OverflowHead, OverflowNext, DuplicateRoot}
 use Rattle.bdb_format.specs.File.{File, file_of, header_in, page_at, page_bytes, type_in}
-use Rattle.bdb_format.specs.Graph.{Owner, all_references, first_holder, is_anchor, is_anchor_in, is_meta, is_reserve, is_spare, owners}
+use Rattle.bdb_format.specs.Graph.{Owner, all_references, first_holder, is_anchor, is_meta, is_reserve, is_spare, owners}
 use Rattle.bdb_format.specs.Hashing.{first_page}
 use Rattle.bdb_format.specs.HeadOf.{head_of}
 use Rattle.bdb_format.specs.Numbers.{byte_at}
 use Rattle.bdb_format.specs.Page.{BtreeFields, HashFields, Content, Chain, Tree, InternalItem, Page}
 use Rattle.bdb_format.specs.Page.{Free, Meta, Hash, Internal, RecnoInternal, Leaf, RecnoLeaf, DupLeaf, Overflow}
 use Rattle.bdb_format.specs.Reading.{abstract_page, is_zero, page_as, page_type}
-use Rattle.bdb_format.specs.References.{asked_by, child_types, content_targets, contents_in, first_free, fit_code, fit_rows, has_type, internal_targets, is_asked, is_zero_page, refs, root_types, targets_in, targets_of, unless_zero}
+use Rattle.bdb_format.specs.References.{asked_by, child_types, content_targets, contents_in, first_free, fit_code, fit_rows, has_type, internal_targets, is_asked, is_zero_page, root_types, targets_in, unless_zero}
 use Rattle.bdb_format.specs.Rows.{form_code, type_of}
 use Rattle.bdb_format.proofs.FileLemmas.{last_page, page_is}
 use Rattle.bdb_format.proofs.GraphLemmas.{IsOwner, is_owner, owner_fits, reserve_is, typed_page, zero_page}
 use Rattle.bdb_format.proofs.ListLemmas.{only_member}
-use Rattle.bdb_format.proofs.MemberLemmas.{first_member, later_member, member_cases, no_member, of_filter, of_flat_map, of_map}
+use Rattle.bdb_format.proofs.MemberLemmas.{first_member, member_cases, no_member, of_filter, of_flat_map, of_map}
 use Rattle.bdb_format.proofs.VerdictLemmas.{AllFail, none_is_first_row}
 use Rattle.bdb_form.specs.Formed.{OverflowPage}
 use Rattle.bdb_form.specs.Seen.{page_seen}
@@ -34,10 +34,10 @@ use Rattle.bdb_form.specs.declared.view.PageView.TheVariants.{Overflow as Overfl
 use Rattle.bdb_graph.specs.Forest.{IsWayUp, is_top}
 use Rattle.bdb_graph.specs.Linked.{FitsChain, IsForest}
 use Rattle.bdb_graph.proofs.ChildLemmas.{is_queue_page}
-use Rattle.bdb_graph.proofs.CodeLemmas.{is_same, two_none}
 use Rattle.bdb_graph.proofs.FirstLemmas.{formed_page}
 use Rattle.bdb_graph.proofs.ForestLemmas.{each_page_leads_up, sound_graph}
-use Rattle.bdb_graph.proofs.HeldLemmas.{identity_none}
+use Rattle.bdb_tree.proofs.BelongLemmas.{no_anchor_in, own_type}
+use Rattle.bdb_tree.proofs.RootLemmas.{of_refs}
 use Rattle.bdb_tree.proofs.ShapeLemmas.{no_queue}
 
 abbrev is_chain_page : Page → Bool
@@ -49,25 +49,6 @@ is_next OverflowNext = true
 is_next sort = false
 
 -- What holds a reference to a next page.
-
-of_placed : (n : ℕ) (names : List (Sort × ℕ)) (reference : Reference)
-    → Contains (map (λ (named : ℕ × (Sort × ℕ)). record { place = named.0; sort = named.1.0; target = named.1.1 }) (enumerate_from n names)) reference
-    → Contains names (reference.sort, reference.target)
-of_placed n [] reference at = absurd (no_member [] reference refl at)
-of_placed n (name ∷ names) reference at =
-    elim (member_cases (record { place = n; sort = name.0; target = name.1 }) _ reference at) [
-      | inl same ↦ subst (λ (r : Reference). Contains (name ∷ names) (r.sort, r.target)) same (first_member name names)
-      | inr later ↦ later_member name names (reference.sort, reference.target) (of_placed (n + 1) names reference later)
-    ]
-
-of_targets : (kind : FileKind) (p : ℕ) (page : Page) (name : Sort × ℕ) → Contains (targets_of kind p page) name → Contains (targets_in p page) name
-of_targets QueueFile p page name at = absurd (no_member [] name refl at)
-of_targets kind p page name at = at
-
-of_refs : (file : File) (p : ℕ) (reference : Reference) → Contains (refs file p) reference
-    → Contains (targets_in p (page_at file p)) (reference.sort, reference.target)
-unfolding refs
-of_refs file p reference at = of_targets file.kind p (page_at file p) _ (of_placed 0 (targets_of file.kind p (page_at file p)) reference at)
 
 other_sort : (a b : Sort × ℕ) → is_next a.0 ≡ false → a ≡ b → is_next b.0 ≡ true → ⊥
 other_sort a b other same next = true≢false (sym next ∙ (ap (λ (name : Sort × ℕ). is_next name.0) (sym same) ∙ other))
@@ -130,10 +111,6 @@ names_next p (Overflow header piece) name next at = refl
 names_next p page name next at = absurd (no_member [] name refl at)
 
 -- Page 0 is metadata.
-
-own_type : (head : Head) (page : List ℕ) → form_code head 0 page ≡ None → byte_at page 25 ≡ type_of head.kind
-unfolding form_code
-own_type head page none = is_same (byte_at page 25) (type_of head.kind) (two_none _ _ (identity_none _ _ none))
 
 no_chain_type : (kind : FileKind) (order : Order) (page : List ℕ) (byte : ℕ) → byte ≡ type_of kind → is_chain_page (page_as order page (page_type byte)) ≡ false
 no_chain_type Btree order page byte is = ap (λ b. is_chain_page (page_as order page (page_type b))) is
@@ -211,10 +188,6 @@ target_of file p owner at is =
     record { owner = owner; held = passed.0; sort_is = is; target_is = (is_owner file p owner at).names }
 
 -- It is neither an anchor nor a reserve.
-
-no_anchor_in : (kind : FileKind) (page : Page) → (kind ≡ QueueFile → ⊥) → is_meta page ≡ false → is_anchor_in kind page ≡ false
-no_anchor_in QueueFile page other none = absurd (other refl)
-no_anchor_in kind page other none = none
 
 no_top : (image : List ℕ) (p : ℕ) (view : OverflowPage) → IsForest image → p ≤ (file_of image).last → page_at (file_of image) p ≡ Overflow view.header view.bytes
     → is_top (file_of image) p ≡ true → ⊥

@@ -1,15 +1,15 @@
 -- What is salvaged can be loaded, without an error.
-use Rattle.std.proofs.Common.{◌≡◌, ℕ, ◌+◌, ◌≤◌, ◌==◌, Bool, true, false, List, [], ◌∷◌, length, map, Option, Some, None, arith, refl, ne_eqb}
+use Rattle.std.proofs.Common.{◌≡◌, ℕ, ◌+◌, ◌≤◌, ◌==◌, true, false, List, [], ◌∷◌, length, map, Option, Some, None, arith, refl, ne_eqb}
 use Rattle.std.specs.Prelude.{IsTrue}
 use Rattle.std.specs.List.{All, enumerate_from, flat_map, sum_by}
-use Rattle.std.proofs.lemmas.List.Elements.{All-cons, All-nil, All-weaker}
+use Rattle.std.proofs.lemmas.List.Elements.{All-cons, All-nil}
 use Rattle.std.proofs.lemmas.List.Sums.{sum_by-cons}
 use Rattle.bdb_format.specs.declared.kinds.Kind.TheVariants.{Queue}
 use Rattle.bdb_format.specs.HeadOf.{is_page_size}
 use Rattle.bdb_format.specs.File.{File}
-use Rattle.bdb_text_format.specs.declared.pairs.TextPair.{TextPair}
 use Rattle.bdb_text_format.specs.Written.{holds_records}
 use Rattle.bdb_sections.specs.Fit.{AreFitSettings, IsFitPair, IsFitSection}
+use Rattle.bdb_sections.proofs.PairLemmas.{fit_longer}
 use Rattle.bdb_settle.specs.LoadErrors.{load_error, pair_errors}
 use Rattle.bdb_load.specs.Loading.{AreLoadable}
 use Rattle.bdb_survey.specs.declared.guess.Guess.{Guess}
@@ -67,19 +67,13 @@ pair_length pair = length pair.0 + length pair.1
 abbrev total_length : List (List ℕ) → ℕ
 total_length values = sum_by (λ (value : List ℕ). length value) values
 
--- a greater bound holds too
-more : (numbered : Bool) (least most : ℕ) (pairs : List TextPair) → least ≤ most → All (IsFitPair numbered least) pairs → All (IsFitPair numbered most) pairs
-more numbered least most pairs low =
-    All-weaker (IsFitPair numbered least) (IsFitPair numbered most)
-    (λ pair fit. record { key = fit.key; key_length = omega (arith, low, fit.key_length); length = omega (arith, low, fit.length) }) pairs
-
 fit_stored : (pairs : List (List ℕ × List ℕ)) → All (IsFitPair false (sum_by pair_length pairs)) (stored_pairs pairs)
 fit_stored [] = All-nil (IsFitPair false 0)
 fit_stored (pair ∷ pairs) =
     let sum = sum_by-cons pair_length pair pairs in
     All-cons (IsFitPair false (sum_by pair_length (pair ∷ pairs))) (stored_pair pair) (stored_pairs pairs)
     (record { key = refl; key_length = omega (arith, sum); length = omega (arith, sum) })
-    (more false (sum_by pair_length pairs) (sum_by pair_length (pair ∷ pairs)) (stored_pairs pairs) (omega (arith, sum)) (fit_stored pairs))
+    (fit_longer false (sum_by pair_length pairs) (sum_by pair_length (pair ∷ pairs)) (stored_pairs pairs) (omega (arith, sum)) (fit_stored pairs))
 
 fit_numbered : (n : ℕ) (records : List (List ℕ)) → All (IsFitPair true (total_length records)) (map loose_pair (enumerate_from n records))
 fit_numbered n [] = All-nil (IsFitPair true 0)
@@ -87,7 +81,7 @@ fit_numbered n (value ∷ records) =
     let sum = sum_by-cons (λ (one : List ℕ). length one) value records in
     All-cons (IsFitPair true (total_length (value ∷ records))) (loose_pair (n, value)) (map loose_pair (enumerate_from (n + 1) records))
     (record { key = refl; key_length = omega arith; length = omega (arith, sum) })
-    (more true (total_length records) (total_length (value ∷ records)) (map loose_pair (enumerate_from (n + 1) records)) (omega (arith, sum))
+    (fit_longer true (total_length records) (total_length (value ∷ records)) (map loose_pair (enumerate_from (n + 1) records)) (omega (arith, sum))
     (fit_numbered (n + 1) records))
 
 -- Fit settings.
@@ -146,12 +140,12 @@ named_are_loadable guess pairs (first ∷ records) legal =
             All-cons (IsFitSection most) (stored_section guess pairs) (loose_section guess (first ∷ records) ∷ [])
             (record {
               settings = fit_settings guess (BtreeShape Unsorted) legal;
-              pairs = more false (sum_by pair_length pairs) most (stored_pairs pairs) (omega arith) (fit_stored pairs);
+              pairs = fit_longer false (sum_by pair_length pairs) most (stored_pairs pairs) (omega arith) (fit_stored pairs);
             })
             (All-cons (IsFitSection most) (loose_section guess (first ∷ records)) []
             (record {
               settings = fit_settings guess RecnoShape legal;
-              pairs = more true (total_length (first ∷ records)) most (loose_pairs (first ∷ records)) (omega arith) (fit_numbered 1 (first ∷ records));
+              pairs = fit_longer true (total_length (first ∷ records)) most (loose_pairs (first ∷ records)) (omega arith) (fit_numbered 1 (first ∷ records));
             }) (All-nil (IsFitSection most)));
         names = (refl, refl, (refl, refl, tt));
       };

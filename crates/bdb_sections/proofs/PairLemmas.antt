@@ -1,7 +1,7 @@
 -- Pairs of data lines.
 use Rattle.std.proofs.Common.{◌≡◌, ℕ, zero, suc, ◌+◌, ◌==◌, if◌then◌else◌, ◌≤◌, Bool, true, false, List, [], ◌∷◌, length, get_or, Option, Some, None, refl, sym, ap, subst, arith}
 use Rattle.std.specs.List.{All}
-use Rattle.std.proofs.lemmas.List.Elements.{All-cons, All-head, All-tail}
+use Rattle.std.proofs.lemmas.List.Elements.{All-cons, All-head, All-tail, All-weaker}
 use Rattle.bdb_format.specs.Digits.{digits_value}
 use Rattle.bdb_text_format.specs.declared.pairs.Key.{Key}
 use Rattle.bdb_text_format.specs.declared.pairs.Key.TheVariants.{Bytes, Number}
@@ -166,3 +166,12 @@ counted_fit print most number at (value ∷ lines) pairs short is =
     (record { key_is = ap is_number (sym e); short = let z : 0 ≡ key_length stands.of_key = ap key_length e in omega arith })
     (line_read print most value first stands.of_value stands.value_is)
     (counted_fit print most (number + 1) (at + 1) lines stands.others (All-tail (IsShort most) value lines short) stands.rest_is)
+
+-- Fit pairs.
+
+-- pairs that are fit by a bound are fit by a greater one
+pub fit_longer : (numbered : Bool) (least most : ℕ) (pairs : List TextPair) → least ≤ most → All (IsFitPair numbered least) pairs
+    → All (IsFitPair numbered most) pairs
+fit_longer numbered least most pairs low =
+    All-weaker (IsFitPair numbered least) (IsFitPair numbered most)
+    (λ pair fit. record { key = fit.key; key_length = omega (arith, low, fit.key_length); length = omega (arith, low, fit.length) }) pairs

@@ -41,7 +41,7 @@ plain : (page : Page) → is_tree_in page ≡ true → (is_queue_page page ≡ f
 plain (Internal page) is = (refl, refl, refl)
 plain page is = (cc, cc, cc)
 
-no_anchor_in : (kind : FileKind) (page : Page) → (kind ≡ QueueFile → ⊥) → is_meta page ≡ false → is_anchor_in kind page ≡ false
+pub no_anchor_in : (kind : FileKind) (page : Page) → (kind ≡ QueueFile → ⊥) → is_meta page ≡ false → is_anchor_in kind page ≡ false
 no_anchor_in QueueFile page other none = absurd (other refl)
 no_anchor_in kind page other none = none
 
@@ -175,7 +175,7 @@ up image p (h ∷ hs) forest tree way =
 
 -- Page 0.
 
-own_type : (head : Head) (page : List ℕ) → form_code head 0 page ≡ None → byte_at page 25 ≡ type_of head.kind
+pub own_type : (head : Head) (page : List ℕ) → form_code head 0 page ≡ None → byte_at page 25 ≡ type_of head.kind
 unfolding form_code
 own_type head page none =
     is_same (byte_at page 25) (type_of head.kind)

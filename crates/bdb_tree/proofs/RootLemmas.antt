@@ -49,7 +49,7 @@ of_targets : (kind : FileKind) (p : ℕ) (page : Page) (name : Sort × ℕ) → 
 of_targets QueueFile p page name at = absurd (no_member [] name refl at)
 of_targets kind p page name at = at
 
-of_refs : (file : File) (p : ℕ) (reference : Reference) → Contains (refs file p) reference
+pub of_refs : (file : File) (p : ℕ) (reference : Reference) → Contains (refs file p) reference
     → Contains (targets_in p (page_at file p)) (reference.sort, reference.target)
 unfolding refs
 of_refs file p reference at = of_targets file.kind p (page_at file p) _ (of_placed 0 (targets_of file.kind p (page_at file p)) reference at)
