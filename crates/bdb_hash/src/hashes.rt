@@ -21,11 +21,11 @@ use std::collections::BTreeSet;
 fn push_page(
     hashes: &mut Vec<u32>,
     known: &mut Chains<'_>,
-    page: PagePairs<'_>,
+    page: &mut PagePairs<'_>,
 ) -> Result<(), AllocError>
-    requires { AreOf known.old page }
+    requires { AreOf known.old page.old }
     ensures same { known.new ≡ known.old }
-    ensures hashes { OnOk result (hashes.new.items ≡ hashes.old.items ++ map key_hash page.entry) }
+    ensures hashes { OnOk result (hashes.new.items ≡ hashes.old.items ++ map key_hash page.old) }
 {
     for pair in page {
         let hash = known.hash_of(&pair)?;
@@ -45,8 +45,8 @@ fn push_bucket(
     ensures same { known.new ≡ known.old }
     ensures hashes { OnOk result (hashes.new.items ≡ hashes.old.items ++ map key_hash (joined_pages pages.entry)) }
 {
-    for page in pages {
-        push_page(hashes, known, page)?;
+    for mut page in pages {
+        push_page(hashes, known, &mut page)?;
     }
     Ok(())
 }

@@ -31,13 +31,11 @@ pub(crate) fn is_sorted(meta: &HashMeta) -> bool
 }
 
 /// Whether data ascend strictly.
-pub(crate) fn ascends(values: Data<'_>) -> bool
-    ensures { result ≡ ascends values.entry }
+pub(crate) fn ascends(values: &mut Data<'_>) -> bool
+    ensures { result ≡ ascends values.old }
 {
-    let mut values = values;
-    let mut last = match values.next() {
-        Some(first) => first,
-        None => return true,
+    let Some(mut last) = values.next() else {
+        return true;
     };
     for next in values {
         if !is_less(&last, &next) {
@@ -70,9 +68,21 @@ fn is_out_of_order(pair: Pair<'_>, known: &mut Chains<'_>) -> Result<bool, Alloc
 {
     let ascends = match pair.set_root() {
         Some(root) => known.set_ascends(root)?,
-        None => ascends(pair.into_data()),
+        None => ascends(&mut pair.into_data()),
     };
     Ok(!ascends)
+}
+
+/// Whether the data of a pair are out of order in a table where they ascend. An error is want of memory, as above.
+fn is_unsorted(pair: Pair<'_>, meta: &HashMeta, known: &mut Chains<'_>) -> Result<bool, AllocError>
+    requires { pair.image ≡ known.old }
+    ensures order { IfOk result (λ is. is ≡ (is_sorted (HashFields meta.now) && not (ascends (data_of (file_of pair.entry.image) pair.entry.pair.data_item)))) }
+    ensures same { known.new ≡ known.old }
+{
+    if !is_sorted(meta) {
+        return Ok(false);
+    }
+    is_out_of_order(pair, known)
 }
 
 /// Notes each row that holds for a pair by itself, which is a stray or isn't. An error is want of memory: the sink's, or that for
@@ -89,26 +99,15 @@ pub(crate) fn note_pair<F: FaultSink>(
     ensures same { known.new ≡ known.old }
 {
     let page = pair.page();
+    let is_refused = is_refused(meta, &pair);
     let is_wrong_set = pair.is_wrong_set(is_sorted(meta));
-    note_if(
-        found,
-        Row::Contents(ContentsRow::Duplicates),
-        page,
-        is_refused(meta, &pair),
-    )?;
-    note_if(
-        found,
-        Row::Contents(ContentsRow::DuplicateKind),
-        page,
-        is_wrong_set,
-    )?;
-    let is_unsorted = is_sorted(meta) && is_out_of_order(pair, known)?;
-    note_if(
-        found,
-        Row::Contents(ContentsRow::DuplicateOrder),
-        page,
-        is_unsorted,
-    )?;
+    let is_unsorted = is_unsorted(pair, meta, known)?;
+    let duplicates = Row::Contents(ContentsRow::Duplicates);
+    let kind = Row::Contents(ContentsRow::DuplicateKind);
+    let order = Row::Contents(ContentsRow::DuplicateOrder);
+    note_if(found, duplicates, page, is_refused)?;
+    note_if(found, kind, page, is_wrong_set)?;
+    note_if(found, order, page, is_unsorted)?;
     note_if(found, Row::Contents(ContentsRow::Bucket), page, is_stray)?;
     Ok(())
 }
