@@ -2,14 +2,14 @@
 use Rattle.std.proofs.Common.{◌≡◌, ◌⊎◌, ℕ, zero, suc, ◌+◌, ◌-◌, ◌<◌, ◌≤◌, Bool, true, false, cond, List, [], length, get_or, Option, Some, arith, refl, sym, ◌∙◌, ap, subst, inl, inr, Bor, true≢false, le-ltb, lt-ltb}
 use Rattle.std.specs.Prelude.{nat_lt, None, ◌&&◌}
 use Rattle.std.specs.BTreeMap.{BTreeMap, Updates, get}
-use Rattle.std.specs.Cmp.{IsStrictWeakOrder}
+use Rattle.std.specs.Cmp.{IsStrictWeakOrder, nat_cmp_is}
 use Rattle.std.specs.Fn.{Called, ComparesAs, Mut}
 use Rattle.std.specs.List.{Contains}
 use Rattle.std.specs.List.Sorted.{IsPermutation, IsSortedBy}
-use Rattle.std.specs.Ordering.{is_lt, nat_cmp}
+use Rattle.std.specs.Ordering.{is_eq, is_lt, nat_cmp}
 use Rattle.std.specs.declared.cmp.Ordering.{Ordering}
 use Rattle.std.specs.declared.cmp.Ordering.TheVariants.{Less as Below, Equal, Greater}
-use Rattle.std.proofs.lemmas.Bool.{cases_Bool, cases_eq, false_from_ne_true, ltb-false}
+use Rattle.std.proofs.lemmas.Bool.{cases_Bool, cases_eq, cases_order, false_from_ne_true, ltb-false}
 use Rattle.std.proofs.lemmas.Fn.{always_returns_same}
 use Rattle.std.proofs.lemmas.List.Elements.{Contains-get_or}
 use Rattle.std.proofs.lemmas.List.Sorted.{Contains-permutation, IsPermutation-sym}
@@ -18,7 +18,6 @@ use Rattle.bdb_format.specs.Less.{less, Less}
 use Rattle.bdb_format.proofs.LessLemmas.{below_less, less_above, less_not_back, less_self, same_unless_less}
 use Rattle.bdb_layout.specs.Seen.{OrderingIs}
 use Rattle.bdb_overflow.specs.Held.{chain_value}
-use Rattle.bdb_overflow.proofs.HeldLemmas.{apart}
 use Rattle.bdb_overflow.proofs.KeyLemmas.{is_less}
 use Rattle.bdb_ranks.specs.Ranks.{AreBelow, AreRanked, AreRanks, is_above, no_chain, value_at, value_less}
 use Rattle.bdb_ranks.specs.Shared.{AreShared, ChainValue, IsShared}
@@ -52,6 +51,13 @@ shared_moved image old new are moved = record {
 }
 
 -- One more rank.
+
+pub apart : (a b : ℕ) → (a ≡ b → ⊥) → is_eq (nat_cmp a b) ≡ false
+apart a b differ =
+    elim (cases_order a b) [
+      | inl same ↦ absurd (differ same)
+      | inr rest ↦ elim rest [ inl less' ↦ ap is_eq (sym (nat_cmp_is a b Below less')) | inr more ↦ ap is_eq (sym (nat_cmp_is a b Greater more)) ]
+    ]
 
 one_rank : (m n : ℕ) → Some m ≡ Some n → m ≡ n
 one_rank m n is = cc
