@@ -2,11 +2,9 @@
 use Rattle.std.proofs.Common.{◌≡◌, ℕ, ◌+◌, ◌<◌, ◌≤◌, List, [], ◌∷◌, ◌++◌, length, map, take, arith, refl, sym, ◌∙◌, ap, subst, append_assoc}
 use Rattle.std.proofs.Common.{append-nil, inl, inr, true}
 use Rattle.std.specs.Prelude.{Option, Some, None}
-use Rattle.std.specs.List.{All, Contains, flat_map, slice_get}
+use Rattle.std.specs.List.{All, Contains, flat_map}
 use Rattle.std.specs.Option.{unwrap_or}
-use Rattle.std.proofs.lemmas.List.{map-append, take_more}
 use Rattle.std.proofs.lemmas.List.Elements.{All-contains}
-use Rattle.std.proofs.lemmas.Option.{get_or_from_slice_get}
 use Rattle.bdb_form.specs.declared.view.PageView.{PageView}
 use Rattle.bdb_form.specs.Seen.{header_seen, page_seen}
 use Rattle.bdb_format.specs.declared.pages.Header.{Header}
@@ -21,15 +19,17 @@ use Rattle.bdb_tree.proofs.ShapeLemmas.{tree_header}
 use Rattle.bdb_tree.proofs.TreeLemmas.{IsChild, child_is, leaves_of_inner, leaves_of_leaf, level, tree_cases}
 use Rattle.bdb_format.proofs.ListLemmas.{flat_map_twice, only_member, all_of, flat_map_same}
 
--- one item more
-pub children_more : {X : Type 0} (child : X → ℕ) (before : List ℕ) (items : List X) (i : ℕ) (item : X) → i < length items
-    → slice_get items i ≡ Some item
-    → (before ++ map child (take i items)) ++ (child item ∷ []) ≡ before ++ map child (take (i + 1) items)
-children_more child before items i item below at =
-    append_assoc before (map child (take i items)) (child item ∷ [])
-    ∙ ap (λ cs. before ++ cs)
-    (sym (ap (map child) (take_more items i item below ∙ ap (λ x. take i items ++ (x ∷ [])) (get_or_from_slice_get items i item item at))
-    ∙ map-append child (take i items) (item ∷ [])))
+-- one item more, of those that are left
+pub children_more : {X : Type 0} (child : X → ℕ) (next before : List ℕ) (item : X) (rest left items : List X) → left ≡ item ∷ rest
+    → next ++ map child left ≡ before ++ map child items
+    → (next ++ (child item ∷ [])) ++ map child rest ≡ before ++ map child items
+children_more child next before item rest left items is had =
+    append_assoc next (child item ∷ []) (map child rest) ∙ (ap (λ xs. next ++ map child xs) (sym is) ∙ had)
+
+-- none left
+pub children_all : {X : Type 0} (child : X → ℕ) (next before : List ℕ) (left items : List X) → left ≡ []
+    → next ++ map child left ≡ before ++ map child items → next ≡ before ++ map child items
+children_all child next before left items none had = sym (append-nil next) ∙ (ap (λ xs. next ++ map child xs) (sym none) ∙ had)
 
 -- the header of a page of a tree, as its view tells it
 pub seen_level : (file : File) (p : ℕ) (view : PageView) → IsTreePage file p → page_seen view ≡ page_at file p

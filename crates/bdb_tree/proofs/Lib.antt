@@ -2,6 +2,7 @@ pub mod BelongLemmas
 pub mod DescentLemmas
 pub mod DownLemmas
 pub mod EntryLemmas
+pub mod InnerLemmas
 pub mod LevelLemmas
 pub mod LinkLemmas
 pub mod NotedLemmas

@@ -15,8 +15,8 @@ use std::alloc::{AllocError, Global};
 fn push_recno(next: &mut Vec<u32>, page: &RecnoInternalView<'_>) -> Result<(), AllocError>
     ensures { OnOk result (next.new.items ≡ next.old.items ++ map (λ item. item.child) page.now.items) }
 {
-    for i in 0..page.entries() {
-        next.push(page.item(i).child)?;
+    for item in page.items() {
+        next.push(item.child)?;
     }
     Ok(())
 }
@@ -25,8 +25,8 @@ fn push_recno(next: &mut Vec<u32>, page: &RecnoInternalView<'_>) -> Result<(), A
 fn push_internal(next: &mut Vec<u32>, page: &InternalView<'_>) -> Result<(), AllocError>
     ensures { OnOk result (next.new.items ≡ next.old.items ++ map (λ item. item.child) page.now.items) }
 {
-    for i in 0..page.entries() {
-        next.push(page.item(i).child)?;
+    for item in page.items() {
+        next.push(item.child)?;
     }
     Ok(())
 }

@@ -1,13 +1,12 @@
-use Rattle.std.proofs.Common.{arith, ap, ◌∙◌, ◌++◌, ◌∷◌, []}
+use Rattle.std.proofs.Common.{ap, ◌∙◌, ◌++◌, map}
 use Rattle.bdb_layout.specs.Seen.{internal_item_seen}
 use Rattle.bdb_format.specs.Page.{InternalItem}
 use Rattle.bdb_tree.proofs.LevelLemmas.{children_more}
 use Rattle.bdb_tree.proofs.level.push_internal.Goals as goal
 
 -- The child of this item follows those of the items before it.
-pub loop-i-preserved : goal.loop-i-preserved
-loop-i-preserved c =
-    c.in_ok-push.ensures.items
-    ∙ (ap (λ children. children ++ (c.item.result.child ∷ [])) c.loop-i.invariant
-    ∙ children_more (λ (item : InternalItem). item.child) c.args.next.now.items c.args.page.now.items c.loop-i.i (internal_item_seen c.item.result)
-    (omega arith) c.item.ensures)
+pub loop-item-preserved : goal.loop-item-preserved
+loop-item-preserved c =
+    ap (λ children. children ++ map (λ (item : InternalItem). item.child) c.next.new.self) c.in_ok-push.ensures.items
+    ∙ children_more (λ (item : InternalItem). item.child) c.loop-item.next.items c.args.next.now.items (internal_item_seen c.in-Some.item) c.next.new.self
+    c.loop-item.item-iterator c.args.page.now.items c.in-Some.ensures.steps c.loop-item.invariant

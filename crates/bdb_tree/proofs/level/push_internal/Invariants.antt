@@ -1,7 +1,8 @@
-use Rattle.std.proofs.Common.{◌≡◌, ◌++◌, map, take}
+use Rattle.std.proofs.Common.{◌≡◌, ◌++◌, map}
 use Rattle.bdb_format.specs.Page.{InternalItem}
 use Rattle.bdb_tree.proofs.level.push_internal.Given as goal
 
--- The children of the items passed are added.
-abbrev pub invariant-loop-i : goal.invariant-loop-i
-invariant-loop-i l = l.next.items ≡ l.fn.next.items ++ map (λ (item : InternalItem). item.child) (take l.i l.page.items)
+-- The children added and those of the items that are left make up the whole.
+abbrev pub invariant-loop-item : goal.invariant-loop-item
+invariant-loop-item l =
+    l.next.items ++ map (λ (item : InternalItem). item.child) l.item-iterator ≡ l.fn.next.items ++ map (λ (item : InternalItem). item.child) l.page.items
