@@ -1,132 +1,39 @@
--- Counting the entries below a page, and noting the internal pages whose counts are wrong.
+-- The entries below the items of an internal page counted, and the internal pages whose counts are wrong noted.
 use Rattle.std.proofs.lemmas.Bool.Decides.{nat_tests}
-use Rattle.std.proofs.Common.{◌≡◌, ℕ, suc, ◌+◌, ◌-◌, ◌<◌, ◌≤◌, true, false, cond, List, [], ◌∷◌, ◌++◌, length, take}
-use Rattle.std.proofs.Common.{append-nil, append_assoc, arith, refl, sym, ◌∙◌, ap, subst, inl, inr}
-use Rattle.std.specs.Prelude.{◌==◌, nat_eq, slice_index_or}
-use Rattle.std.specs.List.{All, Contains, filter, flat_map}
-use Rattle.std.specs.Option.{is_some, unwrap_or}
-use Rattle.std.proofs.lemmas.Bool.{ne_eqb}
-use Rattle.std.proofs.lemmas.Grind.{flat_map-append}
-use Rattle.std.proofs.lemmas.List.{take_all}
-use Rattle.std.proofs.lemmas.List.Elements.{All-contains, Contains-get_or}
-use Rattle.std.proofs.lemmas.List.Folds.{length-flat_map-take}
-use Rattle.bdb_faults.specs.Notes.{NotesAll}
-use Rattle.bdb_faults.proofs.SinkLemmas.{notes_both, notes_none}
+use Rattle.std.proofs.Common.{◌≡◌, ℕ, ◌+◌, ◌-◌, ◌^◌, ◌<◌, ◌≤◌, Bool, false, List, [], ◌∷◌, ◌++◌, length, length-append, map, not, arith, refl, sym, ◌∙◌}
+use Rattle.std.proofs.Common.{append-nil, append_assoc, ap, subst, inl, inr}
+use Rattle.std.specs.Prelude.{◌==◌, ◌||◌}
+use Rattle.std.specs.List.{All, Contains, flat_map, list_any}
+use Rattle.std.specs.Option.{unwrap_or}
+use Rattle.std.proofs.lemmas.List.Elements.{All-contains}
+use Rattle.std.proofs.Math.Bool.{or-false, or_assoc}
+use Rattle.bdb_faults.specs.Notes.{Notes, NotesAll}
+use Rattle.bdb_faults.proofs.SinkLemmas.{notes_both, notes_none, notes_one}
 use Rattle.bdb_faults.specs.Rows.{fault_if}
+use Rattle.bdb_faults.specs.declared.rows.ContentsRow.TheVariants.{Count}
 use Rattle.bdb_faults.specs.declared.rows.Row.TheVariants.{Contents}
 use Rattle.bdb_format.specs.declared.kinds.Fault.{Fault}
 use Rattle.bdb_format.specs.declared.pages.RecnoItem.{RecnoItem}
-use Rattle.bdb_format.specs.ContentRows.{has_wrong_count, inner_in, inner_pages}
-use Rattle.bdb_format.specs.Page.{Listed, Page, Internal, RecnoInternal}
-use Rattle.bdb_format.proofs.MemberLemmas.{in_map, no_member, of_flat_map}
-use Rattle.bdb_graph.specs.Linked.{IsForest}
-use Rattle.bdb_format.specs.Contents.{entries_in, tree_entries}
+use Rattle.bdb_format.specs.ContentRows.{has_wrong_count, inner_pages}
+use Rattle.bdb_format.specs.Contents.{tree_entries}
 use Rattle.bdb_format.specs.File.{File, file_of, header_in, page_at}
-use Rattle.bdb_format.specs.Leaves.{children_in, leaves}
-use Rattle.bdb_recno.specs.Noted.{count_faults, fault_on}
-use Rattle.bdb_faults.specs.declared.rows.ContentsRow.TheVariants.{Count}
-use Rattle.bdb_recno.specs.Pages.{IsRecnoPage, IsRecnoLeaf}
-use Rattle.bdb_tree.specs.Entries.{entries_on}
-use Rattle.bdb_tree.proofs.EntryLemmas.{entries_are}
-use Rattle.bdb_recno.proofs.PageLemmas.{child_recno, leaves_recno, recno_cases}
+use Rattle.bdb_format.specs.Leaves.{children_in}
+use Rattle.bdb_format.specs.Page.{Item, Listed, RecnoInternal, RecnoLeaf}
 use Rattle.bdb_format.proofs.ListLemmas.{all_of, only_member}
+use Rattle.bdb_format.proofs.MemberLemmas.{in_map, later_member, no_member, of_flat_map}
+use Rattle.bdb_graph.specs.Linked.{IsForest}
+use Rattle.bdb_tree.proofs.InnerLemmas.{faults_below, inner_noted, leads_down, no_inner}
+use Rattle.bdb_recno.specs.Counts.{counted, miscounts}
+use Rattle.bdb_recno.specs.Noted.{count_faults, fault_on}
+use Rattle.bdb_recno.specs.Pages.{IsRecnoPage}
+use Rattle.bdb_recno.proofs.PageLemmas.{child_of, child_recno, entries_below, entries_of_leaf, recno_cases}
 
 pub all_one : (P : ℕ → Type 0) (x : ℕ) → P x → All P (x ∷ [])
 all_one P x here = all_of P (x ∷ []) (λ y at. subst P (only_member x y at) here)
 
--- Entries below a page.
-
--- a leaf of the list is one of records
-pub listed_leaf : (image : List ℕ) (p : ℕ) (ps : List ℕ) (i : ℕ) → IsForest image → IsRecnoPage (file_of image) p → ps ≡ leaves (file_of image) p
-    → i < length ps → IsRecnoLeaf (file_of image) (slice_index_or ps i 0)
-listed_leaf image p ps i forest recno is below =
-    leaves_recno image p (slice_index_or ps i 0) forest recno (subst (λ qs. Contains qs (slice_index_or ps i 0)) is (Contains-get_or ps i 0 below))
-
--- fewer are left of a count than the next leaf has entries
-pub too_many : (file : File) (p : ℕ) (ps : List ℕ) (i left count : ℕ) → ps ≡ leaves file p → i < length ps
-    → left + length (entries_on file (take i ps)) ≡ count
-    → left < length (entries_in (page_at file (slice_index_or ps i 0))) → false ≡ (count == length (tree_entries file p))
-too_many file p ps i left count is below sum over =
-    let all : length (tree_entries file p) ≡ length (entries_on file ps) =
-    ap length (entries_are file p) ∙ ap (λ qs. length (entries_on file qs)) (sym is) in
-    let part : length (entries_on file (take i ps)) + length (entries_in (page_at file (slice_index_or ps i 0))) ≤ length (entries_on file ps) =
-    length-flat_map-take (λ q. entries_in (page_at file q)) ps i 0 below in
-    sym (ne_eqb count (length (tree_entries file p)) (λ same. omega arith))
-
-same_zero : (left n count : ℕ) → left + n ≡ count → nat_eq left 0 ≡ (count == n)
-same_zero left n count sum = grind (arith, nat_tests)
-
--- what is left of a count once all leaves are passed
-pub all_counted : (file : File) (p : ℕ) (ps : List ℕ) (i left count : ℕ) → ps ≡ leaves file p → length ps ≤ i
-    → left + length (entries_on file (take i ps)) ≡ count
-    → nat_eq left 0 ≡ (count == length (tree_entries file p))
-all_counted file p ps i left count is all sum =
-    let entries : entries_on file (take i ps) ≡ tree_entries file p = ap (entries_on file) (take_all i ps all ∙ is) ∙ sym (entries_are file p) in
-    same_zero left (length (tree_entries file p)) count (ap (λ items. left + length items) (sym entries) ∙ sum)
-
--- The items of an internal page.
-
--- the items of an internal page of records lead to pages of records
-pub items_recno : (image : List ℕ) (p : ℕ) (page : Listed RecnoItem) → IsForest image → RecnoInternal page ≡ page_at (file_of image) p
-    → All (λ (item : RecnoItem). IsRecnoPage (file_of image) item.child) page.items
-items_recno image p page forest is =
-    all_of (λ (item : RecnoItem). IsRecnoPage (file_of image) item.child) page.items
-    (λ item at. child_recno image p page item.child forest (sym is) (in_map (λ (it : RecnoItem). it.child) page.items item at))
-
--- The internal pages of a tree.
-
-right_is_outer : (file : File) (p : ℕ) → is_some (children_in (page_at file p)) ≡ false → has_wrong_count file (page_at file p) ≡ false
-right_is_outer file p outer = right (page_at file p) outer
-  where
-    right : (page : Page) → is_some (children_in page) ≡ false → has_wrong_count file page ≡ false
-    right (Internal page) outer = absurd cc
-    right (RecnoInternal page) outer = absurd cc
-    right page outer = refl
-
--- of these pages the internal ones alone have faults
-inner_alone : (file : File) (ps : List ℕ) → count_faults file (filter (λ p. is_some (children_in (page_at file p))) ps) ≡ count_faults file ps
-inner_alone file [] = refl
-inner_alone file (p ∷ ps) =
-    elim (is_some (children_in (page_at file p)))
-    as (λ b. is_some (children_in (page_at file p)) ≡ b
-    → count_faults file (cond b (p ∷ filter (λ q. is_some (children_in (page_at file q))) ps) (filter (λ q. is_some (children_in (page_at file q))) ps))
-    ≡ fault_on file Count (has_wrong_count file) p ++ count_faults file ps) [
-      | true ↦ λ inner. ap (λ fs. fault_on file Count (has_wrong_count file) p ++ fs) (inner_alone file ps)
-      | false ↦ λ outer. inner_alone file ps ∙ ap (λ b. fault_if (Contents Count) p b ++ count_faults file ps) (sym (right_is_outer file p outer))
-    ] refl
-
 -- the pages right below these
 abbrev pub level_below : File → List ℕ → List ℕ
 level_below file pages = flat_map (λ p. unwrap_or (children_in (page_at file p)) []) pages
-
-level_noted : (n : ℕ) (file : File) (pages : List ℕ)
-    → count_faults file pages ++ count_faults file (inner_in n file (level_below file pages)) ≡ count_faults file (inner_in (suc n) file pages)
-level_noted n file pages =
-    let inner : List ℕ = filter (λ p. is_some (children_in (page_at file p))) pages in
-    let below : List ℕ = inner_in n file (level_below file pages) in
-    ap (λ fs. fs ++ count_faults file below) (sym (inner_alone file pages))
-    ∙ sym (flat_map-append (fault_on file Count (has_wrong_count file)) inner below)
-
--- the pages of a level, after this many levels, whose faults are noted
-pub record IsNotedSoFar (before now : List Fault → Type 0) (file : File) (root levels : ℕ) (pages : List ℕ) : Type 0 where
-  pub recno : All (IsRecnoPage file) pages
-  pub passed : List Fault
-  pub noted : NotesAll before now passed
-  pub rest : passed ++ count_faults file (inner_in ((header_in (page_at file root)).level - levels) file pages)
-      ≡ count_faults file (inner_pages file root)
-
-pub noted_none : (has : List Fault → Type 0) (file : File) (root : ℕ) (pages : List ℕ) → IsRecnoPage file root → pages ≡ root ∷ []
-    → IsNotedSoFar has has file root 0 pages
-unfolding inner_pages
-noted_none has file root pages recno is =
-    let all : (header_in (page_at file root)).level - 0 ≡ (header_in (page_at file root)).level = omega arith in
-    subst (λ ps. IsNotedSoFar has has file root 0 ps) (sym is)
-    (record {
-      recno = all_one (IsRecnoPage file) root recno;
-      passed = [];
-      noted = notes_none has;
-      rest = ap (λ n. count_faults file (inner_in n file (root ∷ []))) all;
-    })
 
 pub next_recno : (image : List ℕ) (pages : List ℕ) → IsForest image → All (IsRecnoPage (file_of image)) pages
     → All (IsRecnoPage (file_of image)) (level_below (file_of image) pages)
@@ -140,30 +47,120 @@ next_recno image pages forest all =
       | inr leaf ↦ absurd (no_member [] c refl (subst (λ q. Contains (unwrap_or (children_in q) []) c) leaf.1 found.2))
     ])
 
-pub noted_more : (before middle after : List Fault → Type 0) (image : List ℕ) (root levels : ℕ) (pages next : List ℕ) → IsForest image
-    → IsNotedSoFar before middle (file_of image) root levels pages
-    → levels < (header_in (page_at (file_of image) root)).level → NotesAll middle after (count_faults (file_of image) pages)
-    → next ≡ level_below (file_of image) pages
-    → IsNotedSoFar before after (file_of image) root (levels + 1) next
-noted_more before middle after image root levels pages next forest so_far below here is_next =
-    let file : File = file_of image in
-    let left : ℕ = (header_in (page_at file root)).level - (levels + 1) in
-    let one : suc left ≡ (header_in (page_at file root)).level - levels = omega arith in
-    subst (IsNotedSoFar before after file root (levels + 1)) (sym is_next)
+-- The items of an internal page.
+
+abbrev pub level : File → ℕ → ℕ
+level file p = (header_in (page_at file p)).level
+
+-- the entries below these items
+abbrev entries_under : File → List RecnoItem → List Item
+entries_under file items = flat_map (λ (item : RecnoItem). tree_entries file item.child) items
+
+-- the faults of counts at the internal pages at or below an item
+abbrev faults_under : File → RecnoItem → List Fault
+faults_under file item = faults_below (λ (it : RecnoItem). it.child) (fault_on file Count (has_wrong_count file)) file item
+
+-- what an item names is a page of records one level below
+abbrev pub IsBelow : File → ℕ → RecnoItem → Type 0
+IsBelow file p item = IsRecnoPage file item.child × (level file item.child + 1 ≡ level file p)
+
+-- the items of page p that are left, where those before them are counted and what is below them is noted
+pub record IsPassed (before now : List Fault → Type 0) (file : File) (p entries : ℕ) (wrong : Bool) (left : List RecnoItem) : Type 0 where
+  pub page : Listed RecnoItem
+  pub here : page_at file p ≡ RecnoInternal page
+  pub below : (item : RecnoItem) → Contains left item → IsBelow file p item
+  pub low : entries ≤ 2 ^ 64 - 1
+  pub sum : counted (entries + length (entries_under file left)) ≡ counted (length (entries_under file page.items))
+  pub told : (wrong || list_any (miscounts file) left) ≡ list_any (miscounts file) page.items
+  pub passed : List Fault
+  pub noted : NotesAll before now passed
+  pub rest : passed ++ flat_map (faults_under file) left ≡ flat_map (faults_under file) page.items
+
+pub none_passed : (has : List Fault → Type 0) (image : List ℕ) (p : ℕ) (page : Listed RecnoItem) (left : List RecnoItem) → IsForest image
+    → RecnoInternal page ≡ page_at (file_of image) p → left ≡ page.items → IsPassed has has (file_of image) p 0 false left
+none_passed has image p page left forest is all =
+    subst (λ items. IsPassed has has (file_of image) p 0 false items) (sym all)
     (record {
-      recno = next_recno image pages forest so_far.recno;
-      passed = so_far.passed ++ count_faults file pages;
-      noted = notes_both before middle after so_far.passed (count_faults file pages) so_far.noted here;
-      rest =
-          append_assoc so_far.passed (count_faults file pages) (count_faults file (inner_in left file (level_below file pages)))
-          ∙ (ap (λ fs. so_far.passed ++ fs) (level_noted left file pages)
-          ∙ (ap (λ n. so_far.passed ++ count_faults file (inner_in n file pages)) one ∙ so_far.rest));
+      page = page;
+      here = sym is;
+      below = λ item at.
+          let child = in_map (λ (it : RecnoItem). it.child) page.items item at in
+          (child_recno image p page item.child forest (sym is) child, (child_of image p page item.child forest (sym is) child).level);
+      low = omega arith;
+      sum = omega arith;
+      told = refl;
+      passed = [];
+      noted = notes_none has;
+      rest = refl;
     })
 
--- once all levels are passed
-pub noted_whole : (before after : List Fault → Type 0) (file : File) (root levels : ℕ) (pages : List ℕ) → IsNotedSoFar before after file root levels pages
-    → (header_in (page_at file root)).level ≤ levels → NotesAll before after (count_faults file (inner_pages file root))
-noted_whole before after file root levels pages so_far all =
-    let none : (header_in (page_at file root)).level - levels ≡ 0 = omega arith in
-    subst (NotesAll before after)
-    (sym (append-nil so_far.passed) ∙ (ap (λ n. so_far.passed ++ count_faults file (inner_in n file pages)) (sym none) ∙ so_far.rest)) so_far.noted
+same_told : (below count n : ℕ) → below ≡ counted n → count < 2 ^ 32 → (below == count) ≡ (count == n)
+same_told below count n is small = grind (arith, nat_tests)
+
+-- one more item
+pub more_passed : (before now after : List Fault → Type 0) (file : File) (p entries below sum count : ℕ) (wrong : Bool) (item : RecnoItem)
+    (rest left : List RecnoItem)
+    → left ≡ item ∷ rest → sum ≡ counted (entries + below) → count ≡ item.count → count < 2 ^ 32 → IsPassed before now file p entries wrong left
+    → below ≡ counted (length (tree_entries file item.child)) → NotesAll now after (count_faults file (inner_pages file item.child))
+    → IsPassed before after file p sum (wrong || not (below == count)) rest
+more_passed before now after file p entries below sum count wrong item rest left next added kept small so_far is noted =
+    let all : IsPassed before now file p entries wrong (item ∷ rest) = subst (IsPassed before now file p entries wrong) next so_far in
+    let split : length (entries_under file (item ∷ rest)) ≡ length (tree_entries file item.child) + length (entries_under file rest) =
+    length-append (tree_entries file item.child) (entries_under file rest) in
+    record {
+      page = all.page;
+      here = all.here;
+      below = λ other at. all.below other (later_member item rest other at);
+      low = omega arith;
+      sum = let had = all.sum in let low = all.low in omega arith;
+      told =
+          or_assoc wrong (not (below == count)) (list_any (miscounts file) rest)
+          ∙ (ap (λ b. wrong || (not b || list_any (miscounts file) rest))
+          (same_told below count (length (tree_entries file item.child)) is small ∙ ap (λ n. n == length (tree_entries file item.child)) kept)
+          ∙ all.told);
+      passed = all.passed ++ count_faults file (inner_pages file item.child);
+      noted = notes_both before now after all.passed (count_faults file (inner_pages file item.child)) all.noted noted;
+      rest = append_assoc all.passed (faults_under file item) (flat_map (faults_under file) rest) ∙ all.rest;
+    }
+
+joined : (file : File) (items : List RecnoItem) → entries_under file items ≡ flat_map (tree_entries file) (map (λ (it : RecnoItem). it.child) items)
+joined file [] = refl
+joined file (item ∷ items) = ap (λ es. tree_entries file item.child ++ es) (joined file items)
+
+-- once all items are passed
+
+pub all_counted : (before now : List Fault → Type 0) (image : List ℕ) (p entries : ℕ) (wrong : Bool) (left : List RecnoItem) → IsForest image → left ≡ []
+    → IsPassed before now (file_of image) p entries wrong left → entries ≡ counted (length (tree_entries (file_of image) p))
+all_counted before now image p entries wrong left forest none so_far =
+    let all : IsPassed before now (file_of image) p entries wrong [] = subst (IsPassed before now (file_of image) p entries wrong) none so_far in
+    let same : length (tree_entries (file_of image) p) ≡ length (entries_under (file_of image) all.page.items) =
+    ap length (entries_below image p all.page forest all.here ∙ sym (joined (file_of image) all.page.items)) in
+    let had = all.sum in
+    let low = all.low in
+    omega arith
+
+pub all_passed : (before now after : List Fault → Type 0) (image : List ℕ) (p entries : ℕ) (wrong : Bool) (left : List RecnoItem) → IsForest image
+    → left ≡ [] → IsPassed before now (file_of image) p entries wrong left → Notes now after (fault_if (Contents Count) p wrong)
+    → NotesAll before after (count_faults (file_of image) (inner_pages (file_of image) p))
+all_passed before now after image p entries wrong left forest none so_far last =
+    let file : File = file_of image in
+    let give : ℕ → List Fault = fault_on file Count (has_wrong_count file) in
+    let all : IsPassed before now file p entries wrong [] = subst (IsPassed before now file p entries wrong) none so_far in
+    let right : wrong ≡ has_wrong_count file (page_at file p) = sym (or-false wrong) ∙ (all.told ∙ ap (has_wrong_count file) (sym all.here)) in
+    inner_noted (λ (it : RecnoItem). it.child) give before after file p all.page.items
+    (leads_down (λ (it : RecnoItem). it.child) image p all.page.items forest (ap children_in all.here))
+    (notes_both before now after (flat_map (faults_under file) all.page.items) (give p)
+    (subst (NotesAll before now) (sym (append-nil all.passed) ∙ all.rest) all.noted)
+    (subst (λ b. NotesAll now after (fault_if (Contents Count) p b)) right (notes_one now after (fault_if (Contents Count) p wrong) last)))
+
+-- A leaf.
+
+pub leaf_counted : (image : List ℕ) (p n : ℕ) (page : Listed Item) → IsForest image → RecnoLeaf page ≡ page_at (file_of image) p → n < 2 ^ 32
+    → n ≡ length page.items → n ≡ counted (length (tree_entries (file_of image) p))
+leaf_counted image p n page forest is small count =
+    let all : length (tree_entries (file_of image) p) ≡ length page.items = ap length (entries_of_leaf image p page forest (sym is)) in omega arith
+
+pub leaf_noted : (has : List Fault → Type 0) (file : File) (p : ℕ) (page : Listed Item) → RecnoLeaf page ≡ page_at file p
+    → NotesAll has has (count_faults file (inner_pages file p))
+leaf_noted has file p page is =
+    subst (λ ps. NotesAll has has (count_faults file ps)) (sym (no_inner file p (ap children_in (sym is)))) (notes_none has)

@@ -1,85 +1,41 @@
 -- How the counts of internal pages lead to an entry.
-use Rattle.bdb_format.proofs.ListLemmas.{only_member}
-use Rattle.std.proofs.Common.{◌≡◌, ℕ, zero, suc, ◌+◌, ◌-◌, ◌<◌, ◌≤◌, Bool, true, false, cond, List, [], ◌∷◌, ◌++◌, drop, length, map, Option, Some}
+use Rattle.std.proofs.Common.{◌≡◌, ℕ, zero, suc, ◌+◌, ◌-◌, ◌<◌, ◌≤◌, true, false, cond, List, [], ◌∷◌, ◌++◌, drop, length, map, Option, Some}
 use Rattle.std.proofs.Common.{None, arith, refl, sym, ◌∙◌, ap, subst, inl, inr}
 use Rattle.std.specs.Prelude.{nat_lt, slice_get}
-use Rattle.std.specs.List.{Contains, filter, flat_map, list_any}
-use Rattle.std.specs.Option.{is_some, unwrap_or}
+use Rattle.std.specs.List.{Contains, flat_map, list_any}
 use Rattle.std.proofs.lemmas.Bool.{eqb-true, le-ltb, lt-ltb, ltb-false, ltb-true, not-false, or_parts}
 use Rattle.std.proofs.lemmas.List.{drop_more}
-use Rattle.std.proofs.lemmas.List.Elements.{Contains-append_cases, Contains-append_left, Contains-append_right}
 use Rattle.std.proofs.lemmas.Option.{get_or_from_slice_get, slice_get_within}
 use Rattle.bdb_graph.specs.Linked.{IsForest}
 use Rattle.bdb_format.specs.declared.pages.RecnoItem.{RecnoItem}
-use Rattle.bdb_format.specs.ContentRows.{has_wrong_count, inner_in, inner_pages}
+use Rattle.bdb_format.specs.ContentRows.{has_wrong_count, inner_pages}
 use Rattle.bdb_format.specs.Contents.{tree_entries}
 use Rattle.bdb_format.specs.File.{File, file_of, header_in, page_at}
 use Rattle.bdb_format.specs.Leaves.{children_in}
 use Rattle.bdb_format.specs.Page.{Item, Listed, RecnoInternal, RecnoLeaf}
-use Rattle.bdb_format.proofs.MemberLemmas.{first_member, in_filter, in_flat_map, later_member, of_filter, of_flat_map}
-use Rattle.bdb_tree.proofs.TreeLemmas.{IsChild, tree_cases}
+use Rattle.bdb_format.proofs.MemberLemmas.{first_member, later_member, of_map}
+use Rattle.bdb_tree.proofs.InnerLemmas.{LeadDown, child_inner, itself_inner, leads_down}
+use Rattle.bdb_tree.proofs.TreeLemmas.{tree_cases}
 use Rattle.bdb_recno.specs.Counts.{HasRightCounts, child_by_count, miscounts}
 use Rattle.bdb_recno.specs.Pages.{IsRecnoPage}
-use Rattle.bdb_recno.proofs.CountLemmas.{level_below}
 use Rattle.bdb_recno.proofs.PageLemmas.{child_of, child_recno, children_of, entries_below, entries_of_leaf, recno_tree}
 
 -- The internal pages below a page.
 
--- each of these pages is one of those
-abbrev AreAmong : List ℕ → List ℕ → Type 0
-AreAmong ps qs = (p : ℕ) → Contains ps p → Contains qs p
-
-inner_among : (n : ℕ) (file : File) (ps qs : List ℕ) → AreAmong ps qs → AreAmong (inner_in n file ps) (inner_in n file qs)
-inner_among zero file ps qs among p at = at
-inner_among (suc n) file ps qs among p at =
-    let inner : ℕ → Bool = λ q. is_some (children_in (page_at file q)) in
-    let below : ℕ → List ℕ = λ q. unwrap_or (children_in (page_at file q)) [] in
-    elim (Contains-append_cases (filter inner ps) (inner_in n file (level_below file ps)) p at) [
-      | inl here ↦
-          let passed = of_filter inner ps p here in
-          Contains-append_left (filter inner qs) (inner_in n file (level_below file qs)) p (in_filter inner qs p (among p passed.0) passed.1)
-      | inr later ↦
-          Contains-append_right (filter inner qs) (inner_in n file (level_below file qs)) p
-          (inner_among n file (level_below file ps) (level_below file qs)
-          (λ c there. let found = of_flat_map below ps c there in in_flat_map below qs found.0 c (among found.0 found.1) found.2) p later)
-    ]
-
-one_among : (p : ℕ) (qs : List ℕ) → Contains qs p → AreAmong (p ∷ []) qs
-one_among p qs at q there = subst (Contains qs) (only_member p q there) at
-
--- the internal pages of a child are some of its parent's
-child_among : (n : ℕ) (file : File) (p c : ℕ) (page : Listed RecnoItem) → page_at file p ≡ RecnoInternal page → Contains (children_of page) c
-    → (header_in (page_at file c)).level ≡ n → (header_in (page_at file p)).level ≡ suc n
-    → AreAmong (inner_pages file c) (inner_pages file p)
-unfolding inner_pages
-child_among n file p c page is at low high q there =
-    let inner : ℕ → Bool = λ r. is_some (children_in (page_at file r)) in
-    let below : Contains (level_below file (p ∷ [])) c =
-    in_flat_map (λ r. unwrap_or (children_in (page_at file r)) []) (p ∷ []) p c (first_member p [])
-    (subst (λ pg. Contains (unwrap_or (children_in pg) []) c) (sym is) at) in
-    subst (λ k. Contains (inner_in k file (p ∷ [])) q) (sym high)
-    (Contains-append_right (filter inner (p ∷ [])) (inner_in n file (level_below file (p ∷ []))) q
-    (inner_among n file (c ∷ []) (level_below file (p ∷ [])) (one_among c (level_below file (p ∷ [])) below) q
-    (subst (λ k. Contains (inner_in k file (c ∷ [])) q) low there)))
-
-itself_among : (n : ℕ) (file : File) (p : ℕ) (page : Listed RecnoItem) → page_at file p ≡ RecnoInternal page
-    → (header_in (page_at file p)).level ≡ suc n → Contains (inner_pages file p) p
-unfolding inner_pages
-itself_among n file p page is high =
-    let inner : ℕ → Bool = λ r. is_some (children_in (page_at file r)) in
-    subst (λ k. Contains (inner_in k file (p ∷ [])) p) (sym high)
-    (Contains-append_left (filter inner (p ∷ [])) (inner_in n file (level_below file (p ∷ []))) p
-    (in_filter inner (p ∷ []) p (first_member p []) (ap (λ pg. is_some (children_in pg)) is)))
+down : (image : List ℕ) (p : ℕ) (page : Listed RecnoItem) → IsForest image → page_at (file_of image) p ≡ RecnoInternal page
+    → LeadDown (λ (item : RecnoItem). item.child) (file_of image) p page.items
+down image p page forest is = leads_down (λ (item : RecnoItem). item.child) image p page.items forest (ap children_in is)
 
 pub child_counts : (image : List ℕ) (p c : ℕ) (page : Listed RecnoItem) → IsForest image → page_at (file_of image) p ≡ RecnoInternal page
     → Contains (children_of page) c → HasRightCounts (file_of image) p
     → HasRightCounts (file_of image) c
 child_counts image p c page forest is at counts =
     let file : File = file_of image in
-    let child : IsChild file p c = child_of image p page c forest is at in
+    let found = of_map (λ (item : RecnoItem). item.child) page.items c at in
     record {
       right = λ q there. counts.right q
-          (child_among (header_in (page_at file c)).level file p c page is at refl (omega (arith, child.level)) q there);
+          (child_inner (λ (item : RecnoItem). item.child) file p q page.items found.0 (down image p page forest is) found.1
+          (subst (λ d. Contains (inner_pages file d) q) (sym found.2) there));
     }
 
 pub some_level : (image : List ℕ) (p : ℕ) → IsForest image → IsRecnoPage (file_of image) p → 1 ≤ (header_in (page_at (file_of image) p)).level
@@ -88,13 +44,12 @@ some_level image p forest recno =
     [ inl inner ↦ omega (arith, inner.level) | inr leaf ↦ omega (arith, leaf.level) ]
 
 -- the counts of a page's own items
-pub own_counts : (image : List ℕ) (p : ℕ) (page : Listed RecnoItem) → IsForest image → IsRecnoPage (file_of image) p
-    → page_at (file_of image) p ≡ RecnoInternal page → HasRightCounts (file_of image) p
-    → list_any (miscounts (file_of image)) page.items ≡ false
-own_counts image p page forest recno is counts =
+pub own_counts : (image : List ℕ) (p : ℕ) (page : Listed RecnoItem) → IsForest image → page_at (file_of image) p ≡ RecnoInternal page
+    → HasRightCounts (file_of image) p → list_any (miscounts (file_of image)) page.items ≡ false
+own_counts image p page forest is counts =
     let file : File = file_of image in
-    let high : 1 ≤ (header_in (page_at file p)).level = some_level image p forest recno in
-    sym (ap (has_wrong_count file) is) ∙ counts.right p (itself_among ((header_in (page_at file p)).level - 1) file p page is (omega arith))
+    sym (ap (has_wrong_count file) is)
+    ∙ counts.right p (itself_inner (λ (item : RecnoItem). item.child) file p page.items (down image p page forest is))
 
 -- The entry at a place.
 
@@ -179,7 +134,7 @@ way_leads : (image : List ℕ) (root place page left : ℕ) (inner : Listed Recn
     → found ≡ child_by_count inner.items left → LeadsTo (file_of image) inner.items left found
 way_leads image root place page left inner found forest way is same =
     subst (LeadsTo (file_of image) inner.items left) (sym same)
-    (count_leads (file_of image) inner.items left (own_counts image page inner forest way.recno (sym is) way.counts))
+    (count_leads (file_of image) inner.items left (own_counts image page inner forest (sym is) way.counts))
 
 -- the child is on the way too, and a level below
 pub way_down : (image : List ℕ) (root place page left child below : ℕ) (inner : Listed RecnoItem) → IsForest image

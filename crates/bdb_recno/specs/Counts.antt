@@ -1,5 +1,5 @@
 -- How the counts of internal pages lead to an entry. Source: docs/FORMAT.md, "Databases of a file".
-use Rattle.std.specs.Prelude.{◌≡◌, ℕ, ◌-◌, ◌==◌, nat_lt, not, if◌then◌else◌, Bool, false, List, [], ◌∷◌, length, Option, Some, None}
+use Rattle.std.specs.Prelude.{◌≡◌, ℕ, ◌-◌, ◌^◌, ◌==◌, min, nat_lt, not, if◌then◌else◌, Bool, false, List, [], ◌∷◌, length, Option, Some, None}
 use Rattle.std.specs.List.{Contains}
 use Rattle.bdb_format.specs.declared.pages.RecnoItem.{RecnoItem}
 use Rattle.bdb_format.specs.Contents.{tree_entries}
@@ -19,3 +19,7 @@ child_by_count (item ∷ items) place =
 -- an item of an internal page with another count than entries stand below its child
 abbrev pub miscounts : File → RecnoItem → Bool
 miscounts file item = not (item.count == length (tree_entries file item.child))
+
+-- how many there are, up to the greatest number of 64 bits
+abbrev pub counted : ℕ → ℕ
+counted n = min (2 ^ 64 - 1) n

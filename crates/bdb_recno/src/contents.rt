@@ -21,8 +21,7 @@ use bdb_graph::{Forest, Linked};
 use std::alloc::{AllocError, Global};
 
 /// The contents of a recno: the counts of its internal pages and, where records have a fixed length, the
-/// lengths of the live ones. A refusal is the first fault, or want of memory: 4 bytes for each page of the tree,
-/// and while it runs as many again.
+/// lengths of the live ones. A refusal is the first fault. No memory is taken.
 pub fn check(alloc: Global, linked: &Linked<'_>, meta: &BtreeMeta) -> Result<(), CheckError>
     requires meta { HasMetadata (file_of linked.now) (BtreeFields meta.now) }
     requires recno { IsTrue (is_recno meta.now) }
@@ -56,10 +55,9 @@ pub fn all_faults(
 }
 
 /// Notes each row on what a recno holds at each page where it holds: the counts of its internal pages and, where records
-/// have a fixed length, the lengths of the live ones. An error is want of memory: the sink's, or that of 4 bytes for
-/// each page of the tree and while it runs as many again.
+/// have a fixed length, the lengths of the live ones. An error is want of memory, the sink's: no other is taken.
 pub fn note_contents<F: FaultSink>(
-    alloc: Global,
+    _alloc: Global,
     linked: &Linked<'_>,
     meta: &BtreeMeta,
     found: &mut F,
@@ -70,7 +68,7 @@ pub fn note_contents<F: FaultSink>(
     ensures { OnOk result (NotesAll (F.has_noted found.old) (F.has_noted found.new) (database_faults (file_of linked.now) (BtreeFields meta.now))) }
 {
     let forest = pages_of(linked, meta);
-    note_counts(alloc, &forest, meta.root, found)?;
+    note_counts(&forest, meta.root, found)?;
     note_fixed(linked, &forest, meta, found)?;
     Ok(())
 }

@@ -1,7 +1,6 @@
-ghost use Rattle.std.specs.Prelude.{◌≡◌, IsTrue, length};
+ghost use Rattle.std.specs.Prelude.{◌≡◌, IsTrue};
 ghost use Rattle.bdb_graph.specs.Linked.{FitsTreeRoot, HasMetadata, IsForest};
-ghost use Rattle.bdb_format.specs.Contents.{entries_in};
-ghost use Rattle.bdb_format.specs.File.{file_of, header_in, page_at};
+ghost use Rattle.bdb_format.specs.File.{file_of, page_at};
 ghost use Rattle.bdb_format.specs.Page.{BtreeFields, RecnoLeaf};
 ghost use Rattle.bdb_format.specs.Flags.{is_recno};
 ghost use Rattle.bdb_recno.specs.Pages.{IsRecnoLeaf, IsRecnoPage};
@@ -46,18 +45,6 @@ pub(crate) fn recno_page<'a>(forest: &Forest<'a>, page: u32) -> RecnoPage<'a>
     }
 }
 
-/// The level of a page of records.
-pub(crate) fn level_of(forest: &Forest<'_>, page: u32) -> u8
-    requires forest { IsForest forest.now }
-    requires page { IsRecnoPage (file_of forest.now) page }
-    ensures { result ≡ (header_in (page_at (file_of forest.now) page)).level }
-{
-    match recno_page(forest, page) {
-        RecnoPage::Internal(view) => view.header().level,
-        RecnoPage::Leaf(view) => view.header().level,
-    }
-}
-
 /// A leaf of records.
 #[tactic(auto, using(crate::proofs::PageLemmas::leaf_recno, crate::proofs::PageLemmas::leaf_no_internal))]
 pub(crate) fn leaf_at<'a>(forest: &Forest<'a>, page: u32) -> RecnoLeafView<'a>
@@ -69,13 +56,4 @@ pub(crate) fn leaf_at<'a>(forest: &Forest<'a>, page: u32) -> RecnoLeafView<'a>
         RecnoPage::Leaf(view) => view,
         RecnoPage::Internal(_) => unreachable!(),
     }
-}
-
-/// How many entries a leaf of records has, deleted ones too.
-pub(crate) fn entries_at(forest: &Forest<'_>, page: u32) -> u16
-    requires forest { IsForest forest.now }
-    requires leaf { IsRecnoLeaf (file_of forest.now) page }
-    ensures { result ≡ length (entries_in (page_at (file_of forest.now) page)) }
-{
-    leaf_at(forest, page).entries()
 }

@@ -6,4 +6,4 @@ pub returns : goal.returns
 returns g c =
     all_noted (g.F.FaultSink.has_noted c.args.found.now) (g.F.FaultSink.has_noted c.note_counts.new.found)
     (g.F.FaultSink.has_noted c.note_fixed.new.found) c.args.linked.now c.args.meta.now c.pages_of-forest.ensures.forest c.requires.meta c.requires.recno
-    (rw c.pages_of-forest.ensures.pages at c.in_ok-note_counts.ensures) (rw c.pages_of-forest.ensures.pages at c.in_ok-note_fixed.ensures)
+    (rw c.pages_of-forest.ensures.pages at c.in_ok-note_counts.ensures.noted) (rw c.pages_of-forest.ensures.pages at c.in_ok-note_fixed.ensures)
