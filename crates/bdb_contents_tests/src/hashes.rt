@@ -326,23 +326,22 @@ fn is_value(datum: &Datum<'_>, bytes: &[u8]) -> bool {
     }
 }
 
-/// Whether exactly these data are found, in order.
-fn has_all(found: Found<'_>, values: &[&[u8]]) -> bool {
-    let mut found = found;
+/// Whether what comes next is a datum of these bytes.
+fn is_next_value(next: Option<Datum<'_>>, bytes: &[u8]) -> bool {
+    match next {
+        Some(datum) => is_value(&datum, bytes),
+        None => false,
+    }
+}
+
+/// Whether exactly these data are left, in order.
+fn has_all(left: &mut Found<'_>, values: &[&[u8]]) -> bool {
     for value in values {
-        match found.next() {
-            Some(datum) => {
-                if !is_value(&datum, value) {
-                    return false;
-                }
-            }
-            None => return false,
+        if !is_next_value(left.next(), value) {
+            return false;
         }
     }
-    match found.next() {
-        Some(_) => false,
-        None => true,
-    }
+    left.next().is_none()
 }
 
 fn is_entry(key: &KeyView<'_>, datum: &Datum<'_>, bytes: &[u8], value: &[u8]) -> bool {
@@ -352,36 +351,24 @@ fn is_entry(key: &KeyView<'_>, datum: &Datum<'_>, bytes: &[u8], value: &[u8]) ->
     }
 }
 
-/// What is left of a list behind a key with each of these data, if it begins so.
-fn list_after<'a>(list: Scan<'a>, key: &[u8], values: &[&[u8]]) -> Option<Scan<'a>> {
-    let mut list = list;
-    for value in values {
-        let (one, datum) = list.next()?;
-        if !is_entry(&one, &datum, key, value) {
-            return None;
-        }
-    }
-    Some(list)
-}
-
-fn is_over(list: Scan<'_>) -> bool {
-    let mut list = list;
-    match list.next() {
-        Some(_) => false,
-        None => true,
+/// Whether what comes next is this key with this datum.
+fn is_next_entry(next: Option<(KeyView<'_>, Datum<'_>)>, bytes: &[u8], value: &[u8]) -> bool {
+    match next {
+        Some((key, datum)) => is_entry(&key, &datum, bytes, value),
+        None => false,
     }
 }
 
-/// Whether a list has exactly these entries, in order.
-fn lists(list: Scan<'_>, found: &[Entry]) -> bool {
-    let mut list = list;
+/// Whether exactly these entries are left, in order.
+fn lists(left: &mut Scan<'_>, found: &[Entry]) -> bool {
     for (key, values) in found {
-        match list_after(list, key, values) {
-            Some(rest) => list = rest,
-            None => return false,
+        for value in *values {
+            if !is_next_entry(left.next(), key, value) {
+                return false;
+            }
         }
     }
-    is_over(list)
+    left.next().is_none()
 }
 
 fn finds<L: Ledger>(
@@ -395,7 +382,7 @@ fn finds<L: Ledger>(
     requires contents { database_faults (file_of linked.now) (HashFields meta.now) ≡ [] }
 {
     for (key, values) in found {
-        if !has_all(find(linked, meta, key, steps), values) {
+        if !has_all(&mut find(linked, meta, key, steps), values) {
             return false;
         }
     }
@@ -416,7 +403,7 @@ fn holds<L: Ledger>(
         return false;
     }
     match scan(alloc, linked, meta) {
-        Ok(list) => lists(list, found) && finds(linked, meta, found, steps),
+        Ok(mut list) => lists(&mut list, found) && finds(linked, meta, found, steps),
         Err(_) => false,
     }
 }

@@ -9,7 +9,7 @@ ghost use Rattle.bdb_format.specs.Verdict.{structure_faults};
 ghost use Rattle.bdb_format.specs.Flags.{is_recno};
 
 use crate::lookup_cases::{CASES, Case, Entry, Part};
-use bdb_btree::{Found, check, find, scan};
+use bdb_btree::{Found, Scan, check, find, scan};
 use bdb_fixtures::{btree_of, has_sound_trees, is_keyed, write};
 use bdb_format::{BtreeMeta, Order, Steps};
 use bdb_graph::{Linked, link, open_image};
@@ -34,31 +34,53 @@ pub fn is_entry(key: &KeyView<'_>, value: &Datum<'_>, entry: &Entry) -> bool {
     }
 }
 
-/// Whether a scan gives exactly these entries, in order.
-fn lists(linked: &Linked<'_>, meta: &BtreeMeta, list: &[Entry]) -> bool
-    requires meta { HasMetadata (file_of linked.now) (BtreeFields meta.now) }
-    requires stage { structure_faults (file_of linked.now) ≡ [] }
-{
-    let mut left = scan(linked, meta);
+/// Whether what comes next is this entry.
+pub fn is_next_entry(next: Option<(KeyView<'_>, Datum<'_>)>, entry: &Entry) -> bool {
+    match next {
+        Some((key, value)) => is_entry(&key, &value, entry),
+        None => false,
+    }
+}
+
+/// Whether exactly these entries are left, in order.
+fn are_left(left: &mut Scan<'_>, list: &[Entry]) -> bool {
     for entry in list {
-        match left.next() {
-            Some((key, value)) => {
-                if !is_entry(&key, &value, entry) {
-                    return false;
-                }
-            }
-            None => return false,
+        if !is_next_entry(left.next(), entry) {
+            return false;
         }
     }
     left.next().is_none()
 }
 
-/// Whether the next value that is found has these bytes.
-fn next_is(found: &mut Found<'_>, bytes: &[u8]) -> bool {
-    match found.next() {
+/// Whether a scan gives exactly these entries, in order.
+fn lists(linked: &Linked<'_>, meta: &BtreeMeta, list: &[Entry]) -> bool
+    requires meta { HasMetadata (file_of linked.now) (BtreeFields meta.now) }
+    requires stage { structure_faults (file_of linked.now) ≡ [] }
+{
+    are_left(&mut scan(linked, meta), list)
+}
+
+/// Whether the next value that is left has these bytes.
+fn next_is(left: &mut Found<'_>, bytes: &[u8]) -> bool {
+    match left.next() {
         Some(value) => is_value(&value, bytes),
         None => false,
     }
+}
+
+/// Whether nothing is left.
+fn is_over(left: &mut Found<'_>) -> bool {
+    left.next().is_none()
+}
+
+/// Whether exactly the data that a list has under a key are left, in order.
+fn are_data(left: &mut Found<'_>, key: &[u8], list: &[Entry]) -> bool {
+    for entry in list {
+        if entry.key == key && !next_is(left, entry.value) {
+            return false;
+        }
+    }
+    is_over(left)
 }
 
 /// Whether exactly the data that a list has under a key are found, in order.
@@ -74,13 +96,7 @@ fn finds<L: Ledger>(
     requires stage { structure_faults (file_of linked.now) ≡ [] }
     requires contents { database_faults (file_of linked.now) (BtreeFields meta.now) ≡ [] }
 {
-    let mut found = find(linked, meta, key, steps);
-    for entry in list {
-        if entry.key == key && !next_is(&mut found, entry.value) {
-            return false;
-        }
-    }
-    found.next().is_none()
+    are_data(&mut find(linked, meta, key, steps), key, list)
 }
 
 /// Whether each key of the list, and each of the keys that it hasn't, has what the list says.

@@ -9,7 +9,7 @@ use bdb_fixtures::{Field, write};
 use bdb_format::{Order, QueueMeta, Steps};
 use bdb_graph::{Linked, Meta, link, open_image};
 use bdb_overflow::{Datum, KeyView};
-use bdb_queue::{find, scan};
+use bdb_queue::{Scan, find, scan};
 use std::alloc::Global;
 use std::marker::Brand;
 use std::sync::ledger::{Blank, Ledger};
@@ -117,24 +117,37 @@ const CASES: [Case; 3] = [
     },
 ];
 
+/// Whether what comes next is this record.
+fn is_next_record(next: Option<(KeyView<'_>, Datum<'_>)>, number: u32, bytes: &[u8]) -> bool {
+    match next {
+        Some((KeyView::Number(n), Datum::Inline(record))) => n == number && record == bytes,
+        _ => false,
+    }
+}
+
+/// Whether exactly these records are left, in order.
+fn are_left(left: &mut Scan<'_>, listed: &[(u32, [u8; 4])]) -> bool {
+    for (number, bytes) in listed {
+        if !is_next_record(left.next(), *number, bytes.as_slice()) {
+            return false;
+        }
+    }
+    left.next().is_none()
+}
+
 /// Whether a list has exactly these records, in order.
 fn lists(linked: &Linked<'_>, meta: &QueueMeta, listed: &[(u32, [u8; 4])]) -> bool
     requires { HasMetadata (file_of linked.now) (QueueFields meta.now) }
 {
-    let mut records = scan(linked, meta);
-    for (number, bytes) in listed {
-        match records.next() {
-            Some((KeyView::Number(n), Datum::Inline(record))) => {
-                if n != *number || record != bytes.as_slice() {
-                    return false;
-                }
-            }
-            _ => return false,
-        }
-    }
-    match records.next() {
-        Some(_) => false,
-        None => true,
+    are_left(&mut scan(linked, meta), listed)
+}
+
+/// Whether the first that is found is this record, or there is none.
+fn is_found(first: Option<Datum<'_>>, bytes: Option<[u8; 4]>) -> bool {
+    match (first, bytes) {
+        (Some(Datum::Inline(record)), Some(bytes)) => record == bytes.as_slice(),
+        (None, None) => true,
+        _ => false,
     }
 }
 
@@ -148,12 +161,7 @@ fn finds<L: Ledger>(
 ) -> bool
     requires { HasMetadata (file_of linked.now) (QueueFields meta.now) }
 {
-    let mut found = find(linked, meta, number, steps);
-    match (found.next(), bytes) {
-        (Some(Datum::Inline(record)), Some(bytes)) => record == bytes.as_slice(),
-        (None, None) => true,
-        _ => false,
-    }
+    is_found(find(linked, meta, number, steps).next(), bytes)
 }
 
 fn holds<L: Ledger>(

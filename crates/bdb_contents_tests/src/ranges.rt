@@ -9,7 +9,7 @@ ghost use Rattle.bdb_format.specs.Verdict.{structure_faults};
 ghost use Rattle.bdb_format.specs.Flags.{is_recno};
 
 use crate::lookup_cases::{Entry, Part};
-use crate::lookups::{is_entry, write_part};
+use crate::lookups::{is_next_entry, write_part};
 use bdb_btree::check;
 use bdb_fixtures::{Field, btree_of, has_sound_trees, is_keyed};
 use bdb_format::{BtreeMeta, Order, Steps};
@@ -222,15 +222,10 @@ const ASKED: [Asked; 8] = [
 ];
 
 /// Whether exactly these pairs are left, in order.
-fn are_left(mut left: RangePairs<'_, '_>, pairs: &[Entry]) -> bool {
+fn are_left(left: &mut RangePairs<'_, '_>, pairs: &[Entry]) -> bool {
     for entry in pairs {
-        match left.next() {
-            Some((key, value)) => {
-                if !is_entry(&key, &value, entry) {
-                    return false;
-                }
-            }
-            None => return false,
+        if !is_next_entry(left.next(), entry) {
+            return false;
         }
     }
     left.next().is_none()
@@ -253,7 +248,7 @@ fn is_range<L: Ledger>(
         return false;
     }
     are_left(
-        pairs_of(linked, meta, &leaves, asked.from, asked.to),
+        &mut pairs_of(linked, meta, &leaves, asked.from, asked.to),
         asked.pairs,
     )
 }

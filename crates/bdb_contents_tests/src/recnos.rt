@@ -14,7 +14,7 @@ use bdb_fixtures::{Field, btree_of, has_sound_trees, is_recno, write};
 use bdb_format::{BtreeMeta, Order, Steps};
 use bdb_graph::{Linked, link, open_image};
 use bdb_overflow::{Datum, KeyView};
-use bdb_recno::{check, find, scan};
+use bdb_recno::{Scan, check, find, scan};
 use std::alloc::Global;
 use std::marker::Brand;
 use std::sync::ledger::{Blank, Ledger};
@@ -205,24 +205,40 @@ fn is_byte(value: &Datum<'_>, byte: u8) -> bool {
     }
 }
 
+/// Whether what comes next is this record.
+fn is_next_record(next: Option<(KeyView<'_>, Datum<'_>)>, number: u32, byte: u8) -> bool {
+    match next {
+        Some((KeyView::Number(n), value)) => n == number && is_byte(&value, byte),
+        _ => false,
+    }
+}
+
+/// Whether exactly these records are left, in order.
+fn are_left(left: &mut Scan<'_>, listed: &[(u32, u8)]) -> bool {
+    for (number, byte) in listed {
+        if !is_next_record(left.next(), *number, *byte) {
+            return false;
+        }
+    }
+    left.next().is_none()
+}
+
 /// Whether a list has exactly these records, in order.
 fn lists(linked: &Linked<'_>, meta: &BtreeMeta, listed: &[(u32, u8)]) -> bool
     requires meta { HasMetadata (file_of linked.now) (BtreeFields meta.now) }
     requires recno { IsTrue (is_recno meta.now) }
     requires stage { structure_faults (file_of linked.now) ≡ [] }
 {
-    let mut records = scan(linked, meta);
-    for (number, byte) in listed {
-        match records.next() {
-            Some((KeyView::Number(n), value)) => {
-                if n != *number || !is_byte(&value, *byte) {
-                    return false;
-                }
-            }
-            _ => return false,
-        }
+    are_left(&mut scan(linked, meta), listed)
+}
+
+/// Whether the first that is found is this record, or there is none.
+fn is_found(first: Option<Datum<'_>>, byte: Option<u8>) -> bool {
+    match (first, byte) {
+        (Some(value), Some(byte)) => is_byte(&value, byte),
+        (None, None) => true,
+        _ => false,
     }
-    records.next().is_none()
 }
 
 /// Whether this record alone is found under a number, or none.
@@ -237,12 +253,7 @@ fn finds<L: Ledger>(
     requires recno { IsTrue (is_recno meta.now) }
     requires contents { database_faults (file_of linked.now) (BtreeFields meta.now) ≡ [] }
 {
-    let mut found = find(linked, meta, number, steps);
-    match (found.next(), byte) {
-        (Some(value), Some(byte)) => is_byte(&value, byte),
-        (None, None) => true,
-        _ => false,
-    }
+    is_found(find(linked, meta, number, steps).next(), byte)
 }
 
 /// Whether each of these is found, or isn't.

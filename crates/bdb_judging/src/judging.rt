@@ -34,15 +34,15 @@ pub fn is_pair_at(list: &PairList, place: usize, key: &KeyView<'_>, datum: &Datu
 }
 
 // The same, of a pair that isn't asked for again.
-fn is_next_pair(list: &PairList, place: usize, key: KeyView<'_>, datum: Datum<'_>) -> bool {
-    is_pair_at(list, place, &key, &datum)
+fn is_next_pair(list: &PairList, place: usize, pair: (KeyView<'_>, Datum<'_>)) -> bool {
+    is_pair_at(list, place, &pair.0, &pair.1)
 }
 
 // Whether what a database lists are just the pairs of a list.
-fn are_pairs(listed: Scan<'_>, list: &PairList) -> bool {
+fn are_pairs(listed: &mut Scan<'_>, list: &PairList) -> bool {
     let mut place: usize = 0;
-    for (key, value) in listed {
-        if !is_next_pair(list, place, key, value) {
+    for pair in listed {
+        if !is_next_pair(list, place, pair) {
             return false;
         }
         place = place.saturating_add(1);
@@ -55,7 +55,7 @@ fn scans(alloc: Global, sound: &Sound<'_>, db: Db, list: &PairList) -> Result<bo
     requires { db < length (databases (file_of sound.now)) }
 {
     match sound.scan(alloc, db) {
-        Ok(listed) => Ok(are_pairs(listed, list)),
+        Ok(mut listed) => Ok(are_pairs(&mut listed, list)),
         Err(_) => Err(AllocError),
     }
 }
@@ -90,7 +90,7 @@ fn is_next_datum(list: &PairList, start: usize, place: usize, datum: Datum<'_>) 
 }
 
 // The place behind the pairs that have the key at a place, where these data are just theirs.
-fn run_end(found: Found<'_>, list: &PairList, start: usize) -> Option<usize> {
+fn run_end(found: &mut Found<'_>, list: &PairList, start: usize) -> Option<usize> {
     let mut place = start;
     for datum in found {
         if !is_next_datum(list, start, place, datum) {
@@ -119,7 +119,7 @@ fn found_run<L: Ledger>(
         return Ok(None);
     };
     let key = asked(alloc, key)?;
-    Ok(run_end(sound.get(db, key.as_slice(), steps), list, start))
+    Ok(run_end(&mut sound.get(db, key.as_slice(), steps), list, start))
 }
 
 // Whether a database has under each key of a list just its data.
@@ -145,13 +145,16 @@ fn finds<L: Ledger>(
     Ok(start == list.len())
 }
 
+// Whether nothing is found.
+fn is_none(found: &mut Found<'_>) -> bool {
+    found.next().is_none()
+}
+
 // Whether a database has nothing under a key.
 fn has_none<L: Ledger>(sound: &Sound<'_>, db: Db, key: &[u8], steps: &mut Steps<L>) -> bool
     requires { db < length (databases (file_of sound.now)) }
 {
-    let mut found = sound.get(db, key, steps);
-    let first = found.next();
-    first.is_none()
+    is_none(&mut sound.get(db, key, steps))
 }
 
 // Whether a file has one database, with just the pairs of a list, and nothing under another key.

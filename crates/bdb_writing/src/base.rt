@@ -65,8 +65,8 @@ fn listed_pair(alloc: Global, key: KeyView<'_>, value: Datum<'_>) -> Result<Text
 }
 
 // The pairs of a list.
-fn listed_pairs(alloc: Global, list: Scan<'_>) -> Result<TextPairs, AllocError>
-    ensures { IfOk result (λ pairs. pairs ≡ map text_pair list.entry) }
+fn listed_pairs(alloc: Global, list: &mut Scan<'_>) -> Result<TextPairs, AllocError>
+    ensures { IfOk result (λ pairs. pairs ≡ map text_pair list.old) }
 {
     let mut pairs = TextPairs::new(alloc);
     for (key, value) in list {
@@ -80,8 +80,10 @@ fn base_pairs(alloc: Global, sound: &Sound<'_>, db: Db) -> Result<TextPairs, All
     requires { db < length (databases (file_of sound.now)) }
     ensures { IfOk result (λ pairs. pairs ≡ map text_pair (list_of (file_of sound.now) (database_at (file_of sound.now) db).fields)) }
 {
-    let list = sound.scan(alloc, db)?;
-    listed_pairs(alloc, list)
+    match sound.scan(alloc, db) {
+        Ok(mut list) => listed_pairs(alloc, &mut list),
+        Err(_) => Err(AllocError),
+    }
 }
 
 // A database as a section with its list.
