@@ -116,7 +116,7 @@ fn dump_named<K: Sink, E: Sink>(
     ensures { Finishes (dumped print sound.now (Some name.now)) (change K.written K.faults out.old out.new) (change E.written E.faults err.old err.new) result }
 {
     match sound.by_name(Some(name)) {
-        Some(db) => report(write_section(alloc, out, sound, db, print), err),
+        Some(db) => report(write_section(alloc, out, sound.readable(), db, print), err),
         None => tell(err, b"not found\n", NOT_FOUND),
     }
 }
@@ -137,7 +137,7 @@ fn answer_dump<K: Sink, E: Sink>(
     };
     match name {
         Some(name) => dump_named(alloc, sound, name.as_slice(), selection.print, out, err),
-        None => report(write_sections(alloc, out, sound, selection.print), err),
+        None => report(write_sections(alloc, out, sound.readable(), selection.print), err),
     }
 }
 
@@ -155,7 +155,7 @@ fn answer_sound<K: Sink, E: Sink, L: Ledger>(
 {
     match request {
         Request::Verify => report(print_sound(alloc, sound, out), err),
-        Request::List => report(write_list(alloc, out, sound), err),
+        Request::List => report(write_list(alloc, out, sound.readable()), err),
         Request::Get(lookup) => answer_lookup(alloc, sound, lookup, out, err, steps),
         Request::Dump(selection) => answer_dump(alloc, sound, selection, out, err),
         Request::Range(bounds) => answer_range(alloc, sound, bounds, out, err, steps),
