@@ -33,5 +33,5 @@ pub use lookup::Found;
 pub use readable::Readable;
 pub use rows::Rows;
 pub use sound::Sound;
-pub use verdict::{verify, verify_any_order};
-pub use verdict_all::{verify_all, verify_all_any_order};
+pub use verdict::{verify, verify_by};
+pub use verdict_all::{verify_all, verify_all_by};

@@ -41,7 +41,7 @@ impl<'a> Sound<'a> {
     }
 
     /// The same file, as one whose lists and settings are read.
-    pub fn readable(&self) -> &Readable<'a>
+    pub(crate) fn readable(&self) -> &Readable<'a>
         ensures file { result.now ≡ self.now }
         ensures sound { faults_of self.now ≡ [] }
     {

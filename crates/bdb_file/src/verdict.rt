@@ -1,6 +1,5 @@
 ghost use Rattle.std.specs.Prelude.{◌≡◌, ◌≤◌, ◌+◌, ◌^◌, [], ◌∷◌, IfErr, IfOk, None, OnOk, length};
-ghost use Rattle.bdb_file.specs.declared.rows.Rows.TheVariants.{AnyOrder};
-ghost use Rattle.bdb_file.specs.AnyOrder.{faults_by_rows, verdict_by};
+ghost use Rattle.bdb_file.specs.AnyOrder.{faults_by_rows};
 ghost use Rattle.bdb_file.specs.Whole.{IsVerdictBy, IsVerdictOf, told_as};
 ghost use Rattle.bdb_format.specs.File.{file_of};
 ghost use Rattle.bdb_format.specs.Verdict.{faults_in, verdict_of};
@@ -43,9 +42,11 @@ fn checked<'a, L: Ledger>(
     Ok(Readable::over(linked, databases))
 }
 
-/// An image as a readable file, or its verdict by the rows that count.
+/// An image as a file whose databases can be read, or its verdict by the rows that count: the least page, and there the least code,
+/// of the first of the eight stages in which such a row holds, or the case that is left out by name. `Memory` is want of memory. It
+/// takes no more steps than the image has whole pages.
 #[tactic(auto, using(crate::proofs::VerdictLemmas::form_refused, crate::proofs::VerdictLemmas::whole_pages))]
-fn judged<'a, L: Ledger>(
+pub fn verify_by<'a, L: Ledger>(
     alloc: Global,
     image: &'a [u8],
     rows: Rows,
@@ -61,9 +62,7 @@ fn judged<'a, L: Ledger>(
     checked(alloc, formed, rows, steps).map_err(told_as)
 }
 
-/// An image as a sound file, or its verdict: the least page, and there the least code, of the first of the eight
-/// stages in which a row holds, or the case that is left out by name. `Memory` is want of memory. It takes no
-/// more steps than the image has whole pages.
+/// An image as a sound file, or its verdict: that of `verify_by` where all rows count.
 #[tactic(auto, using(crate::proofs::RowsLemmas::all_accepted, crate::proofs::RowsLemmas::all_verdict, crate::proofs::RowsLemmas::all_refusal))]
 pub fn verify<'a, L: Ledger>(
     alloc: Global,
@@ -76,23 +75,6 @@ pub fn verify<'a, L: Ledger>(
     ensures refusal { IfErr result (IsVerdictOf image.now) }
     ensures cost { steps.new ≤ steps.old + (file_of image.now).count }
 {
-    let readable = judged(alloc, image, Rows::All, steps)?;
+    let readable = verify_by(alloc, image, Rows::All, steps)?;
     Ok(Sound::over(readable))
-}
-
-/// An image as a file whose databases can be read, or its verdict in any order: as `verify`, but rows that say in which order keys
-/// and data stand count of a master alone. `Memory` is want of memory. It takes no more steps than the image has whole pages.
-#[tactic(auto, using(crate::proofs::RowsLemmas::no_verdict))]
-pub fn verify_any_order<'a, L: Ledger>(
-    alloc: Global,
-    image: &'a [u8],
-    steps: &mut Steps<L>,
-) -> Result<Readable<'a>, Verdict>
-    requires { length image.now ≤ 2 ^ 30 }
-    ensures readable { IfOk result (λ readable. readable ≡ image.now) }
-    ensures accepted { OnOk result (verdict_by AnyOrder image.now ≡ None) }
-    ensures refusal { IfErr result (IsVerdictBy AnyOrder image.now) }
-    ensures cost { steps.new ≤ steps.old + (file_of image.now).count }
-{
-    judged(alloc, image, Rows::AnyOrder, steps)
 }

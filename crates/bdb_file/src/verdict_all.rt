@@ -1,6 +1,5 @@
 ghost use Rattle.std.specs.Prelude.{◌≡◌, ◌≤◌, ◌+◌, ◌^◌, [], ◌∷◌, IfErr, IfOk, OnOk, length};
 ghost use Rattle.bdb_faults.specs.All.{IsAllOf};
-ghost use Rattle.bdb_file.specs.declared.rows.Rows.TheVariants.{AnyOrder};
 ghost use Rattle.bdb_file.specs.AnyOrder.{faults_by_rows, stages_by};
 ghost use Rattle.bdb_file.specs.Entries.{master_entries};
 ghost use Rattle.bdb_format.specs.File.{file_of};
@@ -57,9 +56,11 @@ fn readable_or_all<'a, L: Ledger>(
     Ok(Readable::over(linked, databases))
 }
 
-/// An image as a readable file, or all faults of the first stage that has any that count.
+/// An image as a file whose databases can be read, or all faults that count of the first of the eight stages in which one holds, page
+/// by page and code by code, each once; a case that is left out by name stands among them. `Memory` is want of memory. It takes no
+/// more steps than the image has whole pages, and at most 24 bytes for each fault beside what `verify_by` takes.
 #[tactic(auto, using(crate::proofs::VerdictLemmas::form_all, crate::proofs::VerdictLemmas::whole_pages))]
-fn judged_all<'a, L: Ledger>(
+pub fn verify_all_by<'a, L: Ledger>(
     alloc: Global,
     image: &'a [u8],
     rows: Rows,
@@ -75,9 +76,8 @@ fn judged_all<'a, L: Ledger>(
     readable_or_all(alloc, formed, rows, steps)
 }
 
-/// An image as a sound file, or all faults of the first of the eight stages in which a row holds, page by page and code by
-/// code, each once; a case that is left out by name stands among them. `Memory` is want of memory. It takes no more steps
-/// than the image has whole pages, and at most 24 bytes for each fault beside what `verify` takes.
+/// An image as a sound file, or all faults of the first of the eight stages in which a row holds: those of `verify_all_by` where all
+/// rows count.
 #[tactic(auto, using(crate::proofs::RowsLemmas::all_accepted, crate::proofs::RowsLemmas::all_told))]
 pub fn verify_all<'a, L: Ledger>(
     alloc: Global,
@@ -90,22 +90,6 @@ pub fn verify_all<'a, L: Ledger>(
     ensures refusal { IfErr result (IsAllOf (faults_of image.now)) }
     ensures cost { steps.new ≤ steps.old + (file_of image.now).count }
 {
-    let readable = judged_all(alloc, image, Rows::All, steps)?;
+    let readable = verify_all_by(alloc, image, Rows::All, steps)?;
     Ok(Sound::over(readable))
-}
-
-/// An image as a file whose databases can be read, or all faults of the first stage that has any that count in any order: as
-/// `verify_all`, but rows that say in which order keys and data stand count of a master alone.
-pub fn verify_all_any_order<'a, L: Ledger>(
-    alloc: Global,
-    image: &'a [u8],
-    steps: &mut Steps<L>,
-) -> Result<Readable<'a>, AllError>
-    requires { length image.now ≤ 2 ^ 30 }
-    ensures readable { IfOk result (λ readable. readable ≡ image.now) }
-    ensures accepted { OnOk result (faults_by_rows AnyOrder image.now ≡ []) }
-    ensures refusal { IfErr result (IsAllOf (faults_by_rows AnyOrder image.now)) }
-    ensures cost { steps.new ≤ steps.old + (file_of image.now).count }
-{
-    judged_all(alloc, image, Rows::AnyOrder, steps)
 }

@@ -5,7 +5,7 @@ ghost use Rattle.std.specs.Prelude.{◌≡◌};
 use crate::files::TWO_DATABASES;
 use crate::judging::SIZE;
 use bdb_faults::{AllError, Named};
-use bdb_file::{Readable, verify_all, verify_all_any_order, verify_any_order};
+use bdb_file::{Readable, Rows, verify_all, verify_all_by, verify_by};
 use bdb_fixtures::{Field, write};
 use bdb_format::{Fault, Order, Steps, Verdict};
 use bdb_naming::is_list_of;
@@ -151,11 +151,11 @@ fn is_named<L: Ledger>(alloc: Global, image: &[u8; SIZE], case: &Case, blank: Bl
     let mut steps = Steps::<L>::new(blank);
     names_all(alloc, image, case.named, &mut steps)
         && are_all(
-            verify_all_any_order(alloc, image, &mut steps),
+            verify_all_by(alloc, image, Rows::AnyOrder, &mut steps),
             case.in_any_order,
         )
         && is_first(
-            verify_any_order(alloc, image, &mut steps),
+            verify_by(alloc, image, Rows::AnyOrder, &mut steps),
             case.in_any_order,
         )
 }

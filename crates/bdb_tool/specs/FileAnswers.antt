@@ -1,7 +1,5 @@
 -- What is answered over a file, by its verdict and what is asked. Source: README.md, "Use".
 use Rattle.std.specs.Prelude.{ℕ, ◌++◌, if◌then◌else◌, Bool, List, Option, Some, None, codes, decimal}
-use Rattle.bdb_file.specs.AnyOrder.{verdict_by}
-use Rattle.bdb_file.specs.declared.rows.Rows.{Rows}
 use Rattle.bdb_format.specs.declared.kinds.Order.{Order}
 use Rattle.bdb_format.specs.Databases.{Database, databases, place_of}
 use Rattle.bdb_format.specs.File.{File, file_of}
@@ -68,8 +66,3 @@ abbrev pub judged_answer : Option Judgement → Request → List ℕ → Answer
 judged_answer None request image = sound_answer request image
 judged_answer (Some (Faulty fault)) request image = told 1 (fault_line fault)
 judged_answer (Some (LeftOut name page)) request image = told 3 (unsupported_line name page)
-
--- what is answered by the rows that count. With `--any-order`, which `verify`, `list` and `dump` take, they are those of any order; `verify` tells all faults of
--- its stage in place of the first, as without it
-abbrev pub answer_by : Rows → Request → List ℕ → Answer
-answer_by rows request image = judged_answer (verdict_by rows image) request image

@@ -10,7 +10,7 @@ ghost use Rattle.bdb_writing.specs.Loads.{IsTextAnswer};
 ghost use Rattle.bdb_writing.specs.Ontos.{IsTextOnto};
 ghost use Rattle.bdb_writing.specs.Trials.{IsTrialAnswer};
 
-use crate::answer::refuse;
+use crate::telling::refuse;
 use crate::command::Trial;
 use crate::finish::{put, report, tell, tell_memory};
 use crate::status::{BAD_TEXT, TOO_LARGE};
