@@ -34,12 +34,7 @@ fn lines_of_file<R: Files + AllocGlobal>(rt: &R, name: &str) -> Result<Bytes, Al
         Ok(image) => {
             let told = verdict_on(rt.alloc(), image.as_slice(), Rows::All)?;
             let in_any_order = verdict_on(rt.alloc(), image.as_slice(), Rows::AnyOrder)?;
-            lines_on(
-                rt.alloc(),
-                name,
-                told.as_slice(),
-                in_any_order.as_slice(),
-            )
+            lines_on(rt.alloc(), name, told.as_slice(), in_any_order.as_slice())
         }
         Err(_) => unreadable(rt.alloc(), name),
     }

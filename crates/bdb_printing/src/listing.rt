@@ -99,11 +99,7 @@ impl<'k, K: Sink> Printer<'k, K> {
 
 /// Writes the line of each database.
 #[tactic(auto, using(crate::proofs::PrinterLemmas::all_cut))]
-pub fn write_list<K: Sink>(
-    alloc: Global,
-    out: &mut K,
-    readable: &Readable<'_>,
-) -> Result<(), Cut>
+pub fn write_list<K: Sink>(alloc: Global, out: &mut K, readable: &Readable<'_>) -> Result<(), Cut>
     ensures { Writes (list_text (databases (file_of readable.now))) (change K.written K.faults out.old out.new) result }
 {
     let mut pending = Bytes::new(alloc);
