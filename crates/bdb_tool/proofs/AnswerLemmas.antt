@@ -124,14 +124,14 @@ judged_own (Some (LeftOut name page)) request image = low_own (told 3 (unsupport
 
 -- A file on which no row that counts holds.
 
-pub sound_finishes : (verdict : Option Judgement) (image file : List ℕ) (asked : Request) (out err : Change) (status : ℕ) → Finishes (sound_answer asked file) out err status
-    → verdict ≡ None → file ≡ image → Finishes (judged_answer verdict asked image) out err status
+pub sound_finishes : (verdict : Option Judgement) (image file : List ℕ) (asked : Request) (out err : Change) (status : ℕ)
+    → Finishes (sound_answer asked file) out err status → verdict ≡ None → file ≡ image → Finishes (judged_answer verdict asked image) out err status
 sound_finishes verdict image file asked out err status finishes sound same =
     subst (λ it. Finishes (judged_answer it asked image) out err status) (sym sound)
     (subst (λ bytes. Finishes (sound_answer asked bytes) out err status) same finishes)
 
-pub readable_finishes : (rows : Rows) (image file : List ℕ) (asked : Request) (out err : Change) (status : ℕ) → Finishes (sound_answer asked file) out err status
-    → faults_by_rows rows image ≡ [] → file ≡ image → Finishes (judged_answer (verdict_by rows image) asked image) out err status
+pub readable_finishes : (rows : Rows) (image file : List ℕ) (asked : Request) (out err : Change) (status : ℕ)
+    → Finishes (sound_answer asked file) out err status → faults_by_rows rows image ≡ [] → file ≡ image → Finishes (judged_answer (verdict_by rows image) asked image) out err status
 readable_finishes rows image file asked out err status finishes none same =
     sound_finishes (verdict_by rows image) image file asked out err status finishes (no_verdict rows image none) same
 
@@ -143,8 +143,8 @@ IsOf verdict (Fault fault) = verdict ≡ Some (Faulty fault)
 IsOf verdict (Unsupported name page) = verdict ≡ Some (LeftOut name page)
 IsOf verdict MemoryVerdict = ⊤
 
-verdict_told : (of : Option Judgement) (verdict : Verdict) (request : Request) (image : List ℕ) (written : Option (List ℕ)) (faults : ℕ) (err : Change) (status : ℕ)
-    → IsOf of verdict → IsRefused verdict err status → Finishes (judged_answer of request image) (moved written written faults faults) err status
+verdict_told : (of : Option Judgement) (verdict : Verdict) (request : Request) (image : List ℕ) (written : Option (List ℕ)) (faults : ℕ) (err : Change)
+    (status : ℕ) → IsOf of verdict → IsRefused verdict err status → Finishes (judged_answer of request image) (moved written written faults faults) err status
 unfolding IsOf
 verdict_told of (Fault fault) request image written faults err status is (inl tells) =
     subst (λ it. Finishes (judged_answer it request image) (moved written written faults faults) err status) (sym is)
@@ -171,7 +171,8 @@ of_rows rows (Fault fault) image is = is
 of_rows rows (Unsupported name page) image is = is
 of_rows rows MemoryVerdict image is = tt
 
-pub refused_finishes : (verdict : Verdict) (request : Request) (image : List ℕ) (written : Option (List ℕ)) (faults : ℕ) (err : Change) (status : ℕ) → IsVerdictOf image verdict → IsRefused verdict err status
+pub refused_finishes : (verdict : Verdict) (request : Request) (image : List ℕ) (written : Option (List ℕ)) (faults : ℕ) (err : Change) (status : ℕ)
+    → IsVerdictOf image verdict → IsRefused verdict err status
     → Finishes (judged_answer (verdict_of image) request image) (moved written written faults faults) err status
 refused_finishes verdict request image written faults err status is refused =
     verdict_told (verdict_of image) verdict request image written faults err status (of_file verdict image is) refused

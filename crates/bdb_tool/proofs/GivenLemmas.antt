@@ -290,7 +290,8 @@ with_dupsort old read option next before is none read_is has =
       },
     )
 
-pub with_any_order : (old read : Arguments) (option : GivenOption) (next : ℕ) (before : List Given) → option ≡ AnyOrder → old.any_order ≡ false → read ≡ record old { any_order = true } → HasGiven old before → IsNew before (given_seen option) (record read { operands = next })
+pub with_any_order : (old read : Arguments) (option : GivenOption) (next : ℕ) (before : List Given) → option ≡ AnyOrder → old.any_order ≡ false
+    → read ≡ record old { any_order = true } → HasGiven old before → IsNew before (given_seen option) (record read { operands = next })
 with_any_order old read option next before is none read_is has =
     rw (is, read_is) (
       has.any_order_is ∙ none,

@@ -25,7 +25,8 @@ abbrev made : ℕ → Action → Command
 made limit action = record { limit = limit; action = action }
 
 -- a command that asks something
-asks : (limit : ℕ) (rows : Rows) (request : Option Request) → IsTrue (is_some (within (Some limit) (asking rows request))) → (asked : Request) × (request ≡ Some asked)
+asks : (limit : ℕ) (rows : Rows) (request : Option Request) → IsTrue (is_some (within (Some limit) (asking rows request)))
+    → (asked : Request) × (request ≡ Some asked)
 asks limit rows None is = absurd cc
 asks limit rows (Some asked) is = (asked, refl)
 
@@ -53,7 +54,8 @@ asked_input said source limit rows request image seen input =
       read = record { command_is = said_is said limit rows request asked.0 seen.0 asked.1; reads = refl; input_is = input };
     }
 
-pub is_asked : (said : Option Command) (source : Change) (limit : ℕ) (request : CodeRequest) (image : List ℕ) → IsSeen said (record { limit = limit; action = AskWord request }) → IsInputWithin limit source image
+pub is_asked : (said : Option Command) (source : Change) (limit : ℕ) (request : CodeRequest) (image : List ℕ)
+    → IsSeen said (record { limit = limit; action = AskWord request }) → IsInputWithin limit source image
     → IsAsked (handed false said) source All (request_seen request) image
 is_asked said source limit request image seen input = asked_input said source limit All (request_seen request) image seen input
 
@@ -76,7 +78,8 @@ no_input said source limit rows request stop seen unread =
     let asked = asks limit rows request seen.1 in
     not_read (handed false said) source limit (Ask rows asked.0) stop (said_is said limit rows request asked.0 seen.0 asked.1) refl unread
 
-pub asked_unread : (said : Option Command) (source : Change) (limit : ℕ) (request : CodeRequest) (stop : Stop) → IsSeen said (record { limit = limit; action = AskWord request }) → IsUnreadable limit source stop → IsStopped (handed false said) source stop
+pub asked_unread : (said : Option Command) (source : Change) (limit : ℕ) (request : CodeRequest) (stop : Stop)
+    → IsSeen said (record { limit = limit; action = AskWord request }) → IsUnreadable limit source stop → IsStopped (handed false said) source stop
 asked_unread said source limit request stop seen unread = no_input said source limit All (request_seen request) stop seen unread
 
 pub reading_unread : (said : Option Command) (source : Change) (limit : ℕ) (rows : Rows) (reading : Reading) (stop : Stop)

@@ -118,7 +118,8 @@ fn answer_file<K: Sink, E: Sink, L: Ledger>(
 ) -> u8
     requires size { length image.now ≤ 2 ^ 30 }
     requires seen { IsTrue (is_some (request_seen request.now)) }
-    ensures { (asked : ModelRequest) → request_seen request.now ≡ Some asked → Finishes (asked_answer All asked image.now) (change K.written K.faults out.old out.new) (change E.written E.faults err.old err.new) result }
+    ensures { (asked : ModelRequest) → request_seen request.now ≡ Some asked
+        → Finishes (asked_answer All asked image.now) (change K.written K.faults out.old out.new) (change E.written E.faults err.old err.new) result }
 {
     match verify(alloc, image, steps) {
         Ok(sound) => answer_sound(alloc, &sound, request, out, err, steps),

@@ -45,7 +45,8 @@ fn dump_named<K: Sink, E: Sink>(
     out: &mut K,
     err: &mut E,
 ) -> u8
-    ensures { Finishes (dumped print readable.now (Some name.now)) (change K.written K.faults out.old out.new) (change E.written E.faults err.old err.new) result }
+    ensures { Finishes (dumped print readable.now (Some name.now)) (change K.written K.faults out.old out.new)
+        (change E.written E.faults err.old err.new) result }
 {
     match readable.by_name(Some(name)) {
         Some(db) => report(write_section(alloc, out, readable, db, print), err),
@@ -63,7 +64,8 @@ fn dump_selected<K: Sink, E: Sink>(
 ) -> u8
     requires { IsTrue (is_some (text_request (asked_name (option_copied selection.now.name)) selection.now.print)) }
     ensures { (name : Option (List ℕ)) → asked_name (option_copied selection.now.name) ≡ Some name
-        → Finishes (dumped selection.now.print readable.now name) (change K.written K.faults out.old out.new) (change E.written E.faults err.old err.new) result }
+        → Finishes (dumped selection.now.print readable.now name) (change K.written K.faults out.old out.new)
+        (change E.written E.faults err.old err.new) result }
 {
     let Ok(name) = name_sought(alloc, selection.name) else {
         return tell_memory(err);

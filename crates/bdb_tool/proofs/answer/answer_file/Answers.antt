@@ -9,4 +9,5 @@ returns-in-Err g c = λ asked is.
 pub returns-in-Ok : goal.returns-in-Ok
 returns-in-Ok g c = λ asked is.
     asked_finishes c.args.request.now asked _ _ _ _ is
-    (sound_finishes (verdict_of c.args.image.now) c.args.image.now c.in-Ok.sound asked _ _ _ (c.answer_sound.ensures asked is) c.in-Ok.ensures.accepted c.in-Ok.ensures.sound)
+    (sound_finishes (verdict_of c.args.image.now) c.args.image.now c.in-Ok.sound asked _ _ _ (c.answer_sound.ensures asked is)
+    c.in-Ok.ensures.accepted c.in-Ok.ensures.sound)
