@@ -73,8 +73,8 @@ impl<'k, K: Sink> Printer<'k, K> {
     }
 
     /// Prints the data lines of a list.
-    fn pairs(&mut self, list: Scan<'_>, print: bool) -> Result<(), Cut>
-        ensures { Adds K.written K.faults self.old self.new (flat_map (pair_text print) list.entry) result }
+    fn pairs(&mut self, list: &mut Scan<'_>, print: bool) -> Result<(), Cut>
+        ensures { Adds K.written K.faults self.old self.new (flat_map (pair_text print) list.old) result }
     {
         for (key, value) in list {
             self.pair(key, value, print)?;
@@ -84,8 +84,8 @@ impl<'k, K: Sink> Printer<'k, K> {
 
     /// Prints the data lines of a list, and the line that ends them.
     #[tactic(auto, using(crate::proofs::PrinterLemmas::then_adds, crate::proofs::PrinterLemmas::adds_cut))]
-    fn data(&mut self, list: Scan<'_>, print: bool) -> Result<(), Cut>
-        ensures { Adds K.written K.faults self.old self.new (flat_map (pair_text print) list.entry ++ line data_end) result }
+    fn data(&mut self, list: &mut Scan<'_>, print: bool) -> Result<(), Cut>
+        ensures { Adds K.written K.faults self.old self.new (flat_map (pair_text print) list.old ++ line data_end) result }
     {
         self.pairs(list, print)?;
         self.text(b"DATA=END\n")
@@ -113,7 +113,7 @@ impl<'k, K: Sink> Printer<'k, K> {
             (flat_map (pair_text print) (list_of (file_of readable.now) (database_at (file_of readable.now) db).fields) ++ line data_end) result }
     {
         match readable.scan(self.alloc, db) {
-            Ok(list) => self.data(list, print),
+            Ok(mut list) => self.data(&mut list, print),
             Err(_) => Err(Cut::Memory),
         }
     }

@@ -78,8 +78,8 @@ impl<'k, K: Sink> Printer<'k, K> {
     }
 
     /// Prints values, each on a line of its own.
-    fn value_lines(&mut self, values: Found<'_>, print: bool) -> Result<(), Cut>
-        ensures { Adds K.written K.faults self.old self.new (values_text print values.entry) result }
+    fn value_lines(&mut self, values: &mut Found<'_>, print: bool) -> Result<(), Cut>
+        ensures { Adds K.written K.faults self.old self.new (values_text print values.old) result }
     {
         for value in values {
             self.found_line(value, print)?;
@@ -89,11 +89,23 @@ impl<'k, K: Sink> Printer<'k, K> {
 
     /// Prints a value and others, each on a line of its own.
     #[tactic(auto, using(crate::proofs::PrinterLemmas::then_adds, crate::proofs::PrinterLemmas::adds_cut), unfolding(bdb_model::specs::Answers::values_text))]
-    fn found(&mut self, first: Datum<'_>, others: Found<'_>, print: bool) -> Result<(), Cut>
+    fn found_lines(
+        &mut self,
+        first: &Datum<'_>,
+        others: &mut Found<'_>,
+        print: bool,
+    ) -> Result<(), Cut>
+        ensures { Adds K.written K.faults self.old self.new (value_line print (datum_seen first.now) ++ values_text print others.old) result }
+    {
+        self.value_line(first, print)?;
+        self.value_lines(others, print)
+    }
+
+    /// The same, of values that are given up.
+    fn found(&mut self, first: Datum<'_>, mut others: Found<'_>, print: bool) -> Result<(), Cut>
         ensures { Adds K.written K.faults self.old self.new (value_line print (datum_seen first.entry) ++ values_text print others.entry) result }
     {
-        self.found_line(first, print)?;
-        self.value_lines(others, print)
+        self.found_lines(&first, &mut others, print)
     }
 }
 

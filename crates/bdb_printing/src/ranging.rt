@@ -54,13 +54,20 @@ impl<'k, K: Sink> Printer<'k, K> {
     }
 
     /// Prints pairs.
-    fn pairs_text(&mut self, pairs: RangePairs<'_, '_>, print: bool) -> Result<(), Cut>
-        ensures { Adds K.written K.faults self.old self.new (pairs_text print pairs.entry) result }
+    fn range_lines(&mut self, pairs: &mut RangePairs<'_, '_>, print: bool) -> Result<(), Cut>
+        ensures { Adds K.written K.faults self.old self.new (pairs_text print pairs.old) result }
     {
         for (key, value) in pairs {
             self.pair_of_range(key, value, print)?;
         }
         Ok(())
+    }
+
+    /// The same, of pairs that are given up.
+    fn pairs_text(&mut self, mut pairs: RangePairs<'_, '_>, print: bool) -> Result<(), Cut>
+        ensures { Adds K.written K.faults self.old self.new (pairs_text print pairs.entry) result }
+    {
+        self.range_lines(&mut pairs, print)
     }
 }
 

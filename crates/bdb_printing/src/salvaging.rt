@@ -53,8 +53,8 @@ fn stored_settings(guess: Guess) -> Settings
 
 impl<'k, K: Sink> Printer<'k, K> {
     /// Prints the data lines of stored pairs.
-    fn stored_pairs(&mut self, pairs: SalvagePairs<'_, '_>, print: bool) -> Result<(), Cut>
-        ensures { Adds K.written K.faults self.old self.new (flat_map (pair_text print) (map bytes_pair pairs.entry)) result }
+    fn stored_pairs(&mut self, pairs: &mut SalvagePairs<'_, '_>, print: bool) -> Result<(), Cut>
+        ensures { Adds K.written K.faults self.old self.new (flat_map (pair_text print) (map bytes_pair pairs.old)) result }
     {
         for (key, value) in pairs {
             self.pair(KeyView::Bytes(key), value, print)?;
@@ -64,8 +64,8 @@ impl<'k, K: Sink> Printer<'k, K> {
 
     /// Prints the data lines of stored pairs, and the line that ends them.
     #[tactic(auto, using(crate::proofs::PrinterLemmas::then_adds, crate::proofs::PrinterLemmas::adds_cut))]
-    fn stored_data(&mut self, pairs: SalvagePairs<'_, '_>, print: bool) -> Result<(), Cut>
-        ensures { Adds K.written K.faults self.old self.new (flat_map (pair_text print) (map bytes_pair pairs.entry) ++ line data_end) result }
+    fn stored_data(&mut self, pairs: &mut SalvagePairs<'_, '_>, print: bool) -> Result<(), Cut>
+        ensures { Adds K.written K.faults self.old self.new (flat_map (pair_text print) (map bytes_pair pairs.old) ++ line data_end) result }
     {
         self.stored_pairs(pairs, print)?;
         self.text(b"DATA=END\n")
@@ -73,16 +73,28 @@ impl<'k, K: Sink> Printer<'k, K> {
 
     /// Prints the section of stored pairs.
     #[tactic(auto, using(crate::proofs::DumpLemmas::section_by_parts, crate::proofs::PrinterLemmas::then_adds, crate::proofs::PrinterLemmas::adds_cut))]
+    fn pairs_section(
+        &mut self,
+        guess: Guess,
+        pairs: &mut SalvagePairs<'_, '_>,
+        print: bool,
+    ) -> Result<(), Cut>
+        ensures { Adds K.written K.faults self.old self.new (stored_section print guess pairs.old) result }
+    {
+        self.header(Some(b"salvaged"), &stored_settings(guess), print)?;
+        self.stored_data(pairs, print)
+    }
+
+    /// The same, of pairs that are given up.
     fn stored_section(
         &mut self,
         guess: Guess,
-        pairs: SalvagePairs<'_, '_>,
+        mut pairs: SalvagePairs<'_, '_>,
         print: bool,
     ) -> Result<(), Cut>
         ensures { Adds K.written K.faults self.old self.new (stored_section print guess pairs.entry) result }
     {
-        self.header(Some(b"salvaged"), &stored_settings(guess), print)?;
-        self.stored_data(pairs, print)
+        self.pairs_section(guess, &mut pairs, print)
     }
 
     /// Prints the data lines of records, which are numbered from 1.

@@ -5,11 +5,12 @@ ghost use Rattle.bdb_format.specs.File.{page_at};
 ghost use Rattle.bdb_format.specs.Page.{Chain};
 ghost use Rattle.bdb_format.specs.HeadOf.{is_page_size};
 ghost use Rattle.bdb_salvage.specs.Guesses.{chosen};
-ghost use Rattle.bdb_salvage.specs.Kept.{IsKeptValue, file_in, item_of, kept_pairs, thin_from, value_at, values_on};
+ghost use Rattle.bdb_salvage.specs.Kept.{IsKeptValue, IsTable, file_in, item_of, kept_pairs, loose_values, set_from, thin_from, value_at, values_on};
+ghost use Rattle.bdb_salvage.specs.Marks.{Marks};
 ghost use Rattle.bdb_layout.specs.Seen.{content_seen};
 ghost use Rattle.bdb_survey.specs.Items.{is_valued, slots_in};
 ghost use Rattle.bdb_overflow.specs.Datum.{datum_seen};
-ghost use Rattle.bdb_stored.specs.Salvage.{is_overflow, is_row, is_whole, live_whole, loose, set_starts, stored};
+ghost use Rattle.bdb_stored.specs.Salvage.{is_overflow, is_row, is_whole, live_whole, loose, salvaged_file, set_starts, stored};
 ghost use Rattle.bdb_salvage.specs.declared.error.SalvageError.TheVariants.{Memory, NoMeta};
 
 use crate::guess::chosen;
@@ -76,6 +77,60 @@ pub fn salvage<'a, L: Ledger>(
     Ok(salvage_as(alloc, image, guess, steps)?)
 }
 
+/// The loose records, where the first leaves of the sets of pairs are marked.
+fn loose_beside(
+    alloc: Global,
+    survey: &Survey<'_>,
+    starts: &[bool],
+) -> Result<Vec<KeptValue>, AllocError>
+    requires { Marks survey.now.count starts.now (set_starts survey.now) }
+    ensures { IfOk result (λ kept. kept.items ≡ loose_values survey.now) }
+{
+    let taken = taken_pages(alloc, survey.pages(), starts)?;
+    loose_values(alloc, survey, &taken)
+}
+
+/// The loose records, and the values of the sets of pairs.
+fn values_beside(
+    alloc: Global,
+    survey: &Survey<'_>,
+    pairs: &[KeptPair],
+) -> Result<(Vec<KeptValue>, SetTable), AllocError>
+    requires { pairs.now ≡ kept_pairs survey.now }
+    ensures loose { IfOk result (λ kept. kept.0.items ≡ loose_values survey.now) }
+    ensures sets { IfOk result (λ kept. IsTable (set_from survey.now) survey.now.count kept.1.bounds.items kept.1.values.items) }
+{
+    let starts = first_leaves(alloc, survey.pages(), pairs)?;
+    let values = loose_beside(alloc, survey, &starts)?;
+    let sets = set_table(alloc, survey, &starts)?;
+    Ok((values, sets))
+}
+
+/// What an image still has, whose pages are surveyed.
+fn salvaged_in<'a>(
+    alloc: Global,
+    image: &'a [u8],
+    guess: Guess,
+    survey: &Survey<'_>,
+) -> Result<Salvaged<'a>, AllocError>
+    requires size { IsTrue (is_page_size guess.page_size) }
+    requires small { length image.now ≤ 2 ^ 30 }
+    requires survey { survey.now ≡ salvaged_file guess.order guess.page_size image.now }
+    ensures { IfOk result (λ salvaged. salvaged ≡ record { guess = guess; image = image.now }) }
+{
+    let pairs = kept_pairs(alloc, survey)?;
+    let (values, sets) = values_beside(alloc, survey, &pairs)?;
+    let thin = thin_table(alloc, survey)?;
+    Ok(Salvaged {
+        image,
+        guess,
+        pairs,
+        values,
+        sets,
+        thin,
+    })
+}
+
 /// Finds what an image still has, by a guess.
 fn salvage_as<'a, L: Ledger>(
     alloc: Global,
@@ -88,20 +143,7 @@ fn salvage_as<'a, L: Ledger>(
     ensures { IfOk result (λ salvaged. salvaged ≡ record { guess = guess; image = image.now }) }
 {
     let survey = Survey::of(alloc, WholePages::over(image, guess), steps)?;
-    let pairs = kept_pairs(alloc, &survey)?;
-    let starts = first_leaves(alloc, survey.pages(), &pairs)?;
-    let taken = taken_pages(alloc, survey.pages(), &starts)?;
-    let values = loose_values(alloc, &survey, &taken)?;
-    let sets = set_table(alloc, &survey, &starts)?;
-    let thin = thin_table(alloc, &survey)?;
-    Ok(Salvaged {
-        image,
-        guess,
-        pairs,
-        values,
-        sets,
-        thin,
-    })
+    salvaged_in(alloc, image, guess, &survey)
 }
 
 impl<'a> Salvaged<'a> {

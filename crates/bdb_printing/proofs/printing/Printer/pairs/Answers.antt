@@ -7,7 +7,7 @@ use Rattle.bdb_printing.proofs.printing.Printer.pairs.Goals as goal
 pub loop-key-init : goal.loop-key-init
 loop-key-init g c =
     let same = c.into_iter-key-iterator.ensures.into_iter_gives in
-    begins _ _ _ _ _ (ap (flat_map (pair_text c.args.print)) same)
+    begins _ _ _ _ _ (ap (λ list. flat_map (pair_text c.args.print) list.now) same)
 
 pub loop-key-preserved : goal.loop-key-preserved
 loop-key-preserved g c = item_added _ _ _ _ _ (pair_text c.args.print) _ _ _ _ _ c.in-Some.ensures.steps c.in_ok-pair.was c.loop-key.invariant c.pair.ensures

@@ -8,7 +8,7 @@ use Rattle.bdb_printing.proofs.printing.Printer.stored_pairs.Goals as goal
 pub loop-key-init : goal.loop-key-init
 loop-key-init g c =
     let same = c.into_iter-key-iterator.ensures.into_iter_gives in
-    begins _ _ _ _ _ (ap (λ pairs. flat_map (pair_text c.args.print) (map bytes_pair pairs)) same)
+    begins _ _ _ _ _ (ap (λ pairs. flat_map (pair_text c.args.print) (map bytes_pair pairs.now)) same)
 
 pub loop-key-preserved : goal.loop-key-preserved
 loop-key-preserved g c =

@@ -7,7 +7,7 @@ pub loop-value-init : goal.loop-value-init
 unfolding values_text
 loop-value-init g c =
     let same = c.into_iter-value-iterator.ensures.into_iter_gives in
-    begins _ _ _ _ _ (ap (values_text c.args.print) same)
+    begins _ _ _ _ _ (ap (λ values. values_text c.args.print values.now) same)
 
 pub loop-value-preserved : goal.loop-value-preserved
 loop-value-preserved g c = item_added _ _ _ _ _ (value_line c.args.print) _ _ _ _ _ c.in-Some.ensures.steps c.in_ok-found_line.was c.loop-value.invariant c.found_line.ensures

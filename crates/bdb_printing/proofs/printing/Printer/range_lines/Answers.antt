@@ -1,13 +1,13 @@
 use Rattle.std.proofs.Common.{ap}
 use Rattle.bdb_model.specs.Answers.{pair_lines, pairs_text}
 use Rattle.bdb_printing.proofs.PrinterLemmas.{begins, cut_up, item_added, item_cut, items_added}
-use Rattle.bdb_printing.proofs.printing.Printer.pairs_text.Goals as goal
+use Rattle.bdb_printing.proofs.printing.Printer.range_lines.Goals as goal
 
 pub loop-key-init : goal.loop-key-init
 unfolding pairs_text
 loop-key-init g c =
     let same = c.into_iter-key-iterator.ensures.into_iter_gives in
-    begins _ _ _ _ _ (ap (pairs_text c.args.print) same)
+    begins _ _ _ _ _ (ap (λ pairs. pairs_text c.args.print pairs.now) same)
 
 pub loop-key-preserved : goal.loop-key-preserved
 loop-key-preserved g c =

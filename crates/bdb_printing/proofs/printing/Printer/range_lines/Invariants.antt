@@ -1,7 +1,7 @@
 use Rattle.std.specs.List.{flat_map}
 use Rattle.bdb_model.specs.Answers.{pair_lines, pairs_text}
 use Rattle.bdb_printing.specs.Printers.{HasAdded}
-use Rattle.bdb_printing.proofs.printing.Printer.pairs_text.Given as goal
+use Rattle.bdb_printing.proofs.printing.Printer.range_lines.Given as goal
 
 -- What was printed, and the lines of the pairs that are left, are those of all.
 abbrev pub invariant-loop-key : goal.invariant-loop-key

@@ -6,12 +6,12 @@ use Rattle.bdb_printing.specs.Printers.{Adds, pair_text}
 use Rattle.bdb_printing.specs.SalvageText.{bytes_pair, stored_settings}
 use Rattle.bdb_printing.proofs.DumpLemmas.{section_by_parts}
 use Rattle.bdb_printing.proofs.PrinterLemmas.{adds_cut, cut_up}
-use Rattle.bdb_printing.proofs.printing.Printer.stored_section.Goals as goal
+use Rattle.bdb_printing.proofs.printing.Printer.pairs_section.Goals as goal
 
 pub returns-in_err-header : goal.returns-in_err-header
 returns-in_err-header g c =
     let settings = stored_settings c.args.guess in
-    let list = map bytes_pair c.args.pairs in
+    let list = map bytes_pair c.args.pairs.now in
     let is = cut_up c.from_residual.result c.in_err-header.field-0.0 c.from_residual.ensures.1 in
     subst (λ (text : List ℕ). Adds g.K.Sink.written g.K.Sink.faults c.args.self.now c.header.new.self text c.from_residual.result)
     (sym (section_by_parts c.args.print (Some (codes "salvaged")) settings list))
