@@ -389,6 +389,7 @@ fn finds<L: Ledger>(
     true
 }
 
+#[tactic(auto, using(bdb_hash::proofs::LookupLemmas::no_key_twice))]
 fn holds<L: Ledger>(
     alloc: Global,
     linked: &Linked<'_>,

@@ -1,4 +1,4 @@
--- A sound file has no more databases than pages.
+-- A file that can be read has no more databases than pages.
 use Rattle.std.proofs.Common.{◌≡◌, ℕ, ◌+◌, ◌<◌, ◌≤◌, true, false, eqb, List, [], ◌∷◌, length, map, Option, Some, None, arith, refl, sym, ◌∙◌, ap}
 use Rattle.std.proofs.Common.{length-append, inl, inr}
 use Rattle.std.specs.Prelude.{nat_lt, unwrap_or}
@@ -14,12 +14,14 @@ use Rattle.bdb_format.specs.Graph.{is_meta}
 use Rattle.bdb_format.specs.HeadOf.{head_of}
 use Rattle.bdb_format.specs.Master.{is_named_kind, is_page, master_in}
 use Rattle.bdb_format.specs.Page.{Page, Meta}
-use Rattle.bdb_format.specs.Verdict.{faults_of, master_faults}
+use Rattle.bdb_format.specs.Verdict.{master_faults}
 use Rattle.bdb_format.proofs.MemberLemmas.{first_member, in_filter, later_member, no_member, of_map}
-use Rattle.bdb_format.proofs.VerdictLemmas.{no_stage}
 use Rattle.bdb_graph.specs.Linked.{IsForest}
+use Rattle.bdb_file.specs.AnyOrder.{faults_by_rows}
 use Rattle.bdb_file.specs.Entries.{NamedPair, entries_naming, fault_at, master_entries}
 use Rattle.bdb_file.specs.Named.{entry_database}
+use Rattle.bdb_file.specs.declared.rows.Rows.TheVariants.{AnyOrder}
+use Rattle.bdb_file.proofs.RowsLemmas.{master_kept}
 use Rattle.bdb_format.proofs.ListLemmas.{any_member}
 use Rattle.bdb_format.proofs.FileLemmas.{last_page}
 use Rattle.bdb_file.proofs.MasterLemmas.{at_meta, count_five, in_naming, master_inside}
@@ -154,8 +156,8 @@ few_entries image forest none =
         let same : q ≡ found.0 = eqb-true q found.0 found.2 in
         omega arith
 
-pub few_databases : (image : List ℕ) → IsForest image → faults_of image ≡ [] → length (databases (file_of image)) ≤ (head_of image).last + 1
-few_databases image forest sound = step (master_in (page_at (file_of image) 0)) refl
+pub few_databases : (image : List ℕ) → IsForest image → faults_by_rows AnyOrder image ≡ [] → length (databases (file_of image)) ≤ (head_of image).last + 1
+few_databases image forest none = step (master_in (page_at (file_of image) 0)) refl
   where
     step : (found : Option BtreeMeta) → master_in (page_at (file_of image) 0) ≡ found → length (databases (file_of image)) ≤ (head_of image).last + 1
     step None is = omega (arith, ap length (one_unnamed (file_of image) (sym is)), one_database (file_of image) None (Some 0))
@@ -164,6 +166,6 @@ few_databases image forest sound = step (master_in (page_at (file_of image) 0)) 
           arith,
           ap length (all_named (file_of image) meta (sym is)),
           few_in (file_of image) (master_entries (file_of image)),
-          few_entries image forest (no_stage image 7 sound),
+          few_entries image forest (master_kept image none),
           last_page image,
         )

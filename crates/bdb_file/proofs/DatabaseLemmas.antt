@@ -1,6 +1,8 @@
 -- The faults of what the databases of a file hold, by its metadata pages.
-use Rattle.std.proofs.Common.{◌≡◌, ℕ, ◌+◌, ◌≤◌, List, [], length, append-nil, Some, arith, refl, sym, ◌∙◌, ap, subst}
-use Rattle.std.specs.Prelude.{take}
+use Rattle.std.proofs.Common.{◌≡◌, ℕ, ◌+◌, ◌≤◌, true, false, cond, List, [], append-nil, Some, arith, refl, sym, ◌∙◌, ap, subst}
+use Rattle.std.specs.Prelude.{◌==◌, ◌&&◌, take}
+use Rattle.std.specs.Option.{is_some}
+use Rattle.bdb_format.specs.Master.{master_in}
 use Rattle.std.specs.List.{Contains, flat_map, range_with_len, slice_get}
 use Rattle.bdb_format.specs.declared.kinds.Fault.{Fault}
 use Rattle.bdb_format.specs.declared.metadata.QueueMeta.{QueueMeta}
@@ -17,10 +19,12 @@ use Rattle.bdb_format.proofs.FileLemmas.{page_is}
 use Rattle.bdb_graph.specs.Linked.{HasMetadata, meta_pages}
 use Rattle.bdb_graph.proofs.ReadLemmas.{is_of_page}
 use Rattle.bdb_faults.specs.Notes.{NotesAll}
-use Rattle.bdb_faults.proofs.SinkLemmas.{notes_none, notes_same}
-use Rattle.bdb_file.specs.Contents.{by_database, faults_on}
+use Rattle.bdb_faults.proofs.SinkLemmas.{notes_none}
+use Rattle.bdb_file.specs.Contents.{faults_on}
+use Rattle.bdb_file.specs.Noted.{asked_on, is_asked, is_master}
+use Rattle.bdb_file.specs.declared.rows.Which.{Which}
 use Rattle.bdb_file.proofs.ContentLemmas.{in_contents, of_contents}
-use Rattle.bdb_file.proofs.NotingLemmas.{no_more, one_more}
+use Rattle.bdb_file.proofs.NotingLemmas.{one_more}
 
 pub has_metadata : (file : File) (p : ℕ) (fields : Metadata) → p ≤ file.last → page_at file p ≡ Meta fields → HasMetadata file fields
 has_metadata file p fields inside is = record { page = p; inside = inside; is = is }
@@ -69,7 +73,7 @@ in_fields image p fields at here =
     (subst (λ q. Contains (fields_in q) fields) (page_is image p (omega (arith, within.1))) here)
 
 -- the faults of all metadata pages are those of stage 8
-of_pages : (image : List ℕ) (fault : Fault)
+pub of_pages : (image : List ℕ) (fault : Fault)
     → Contains (flat_map (λ p. flat_map (database_faults (file_of image)) (fields_in (page_at (file_of image) p))) (meta_pages (file_of image))) fault
     → Contains (contents_faults (file_of image)) fault
 of_pages image fault at =
@@ -78,7 +82,7 @@ of_pages image fault at =
     let found = of_flat_map (database_faults file) (fields_in (page_at file page.0)) fault page.2 in
     in_contents file fault (in_flat_map (database_faults file) (fields_of file) found.0 fault (in_fields image page.0 found.0 page.1 found.1) found.2)
 
-in_pages : (image : List ℕ) (fault : Fault) → Contains (contents_faults (file_of image)) fault
+pub in_pages : (image : List ℕ) (fault : Fault) → Contains (contents_faults (file_of image)) fault
     → Contains (flat_map (λ p. flat_map (database_faults (file_of image)) (fields_in (page_at (file_of image) p))) (meta_pages (file_of image))) fault
 in_pages image fault at =
     let file : File = file_of image in
@@ -87,20 +91,27 @@ in_pages image fault at =
     in_flat_map (λ p. flat_map (database_faults file) (fields_in (page_at file p))) (meta_pages file) page.0 fault page.1
     (in_flat_map (database_faults file) (fields_in (page_at file page.0)) found.0 fault page.2 found.2)
 
--- those of all databases are those of stage 8
-pub contents_noted : (image : List ℕ) (before after : List Fault → Type 0) (i : ℕ) → i ≡ length (meta_pages (file_of image))
-    → NotesAll before after (flat_map (faults_on (file_of image)) (take i (meta_pages (file_of image))))
-    → NotesAll before after (contents_faults (file_of image))
-contents_noted image before after i all noted =
-    notes_same before after (by_database (file_of image)) (contents_faults (file_of image))
-    (no_more before after (faults_on (file_of image)) (meta_pages (file_of image)) i all noted)
-    (λ fault. (of_pages image fault, in_pages image fault))
-
 -- those of one more
-pub database_more : (before middle after : List Fault → Type 0) (file : File) (i p : ℕ) (fields : Metadata) → slice_get (meta_pages file) i ≡ Some p
-    → page_at file p ≡ Meta fields → NotesAll before middle (flat_map (faults_on file) (take i (meta_pages file)))
-    → NotesAll middle after (database_faults file fields) → NotesAll before after (flat_map (faults_on file) (take (i + 1) (meta_pages file)))
-database_more before middle after file i p fields is page first second =
-    let here : faults_on file p ≡ database_faults file fields =
-    ap (λ q. flat_map (database_faults file) (fields_in q)) page ∙ append-nil (database_faults file fields) in
-    one_more before middle after (faults_on file) (meta_pages file) i p is first (subst (NotesAll middle after) (sym here) second)
+pub database_more : (before middle after : List Fault → Type 0) (file : File) (which : Which) (i p : ℕ) (fields : Metadata)
+    → slice_get (meta_pages file) i ≡ Some p → page_at file p ≡ Meta fields → is_asked which (is_master file p) ≡ true
+    → NotesAll before middle (flat_map (asked_on which file) (take i (meta_pages file)))
+    → NotesAll middle after (database_faults file fields) → NotesAll before after (flat_map (asked_on which file) (take (i + 1) (meta_pages file)))
+database_more before middle after file which i p fields is page asked first second =
+    let here : asked_on which file p ≡ database_faults file fields =
+    ap (λ b. cond b (faults_on file p) []) asked
+    ∙ (ap (λ q. flat_map (database_faults file) (fields_in q)) page ∙ append-nil (database_faults file fields)) in
+    one_more before middle after (asked_on which file) (meta_pages file) i p is first (subst (NotesAll middle after) (sym here) second)
+
+-- those of one that isn't asked for
+pub database_passed : (before after : List Fault → Type 0) (file : File) (which : Which) (i p : ℕ) → slice_get (meta_pages file) i ≡ Some p
+    → is_asked which (is_master file p) ≡ false
+    → NotesAll before after (flat_map (asked_on which file) (take i (meta_pages file)))
+    → NotesAll before after (flat_map (asked_on which file) (take (i + 1) (meta_pages file)))
+database_passed before after file which i p is passed noted =
+    let here : asked_on which file p ≡ [] = ap (λ b. cond b (faults_on file p) []) passed in
+    one_more before after after (asked_on which file) (meta_pages file) i p is noted (subst (NotesAll after after) (sym here) (notes_none after))
+
+-- the metadata on a page is that of the master
+pub master_there : (file : File) (p : ℕ) (fields : Metadata) → page_at file p ≡ Meta fields
+    → is_master file p ≡ (p == 0 && is_some (master_in (Meta fields)))
+master_there file p fields page = ap (λ q. p == 0 && is_some (master_in q)) page

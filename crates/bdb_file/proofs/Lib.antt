@@ -8,7 +8,10 @@ pub mod MergeLemmas
 pub mod NameOrderLemmas
 pub mod NamedLemmas
 pub mod NotingLemmas
+pub mod OrderLemmas
+pub mod ReadableLemmas
 pub mod RepeatLemmas
+pub mod RowsLemmas
 pub mod PlaceLemmas
 pub mod SoundLemmas
 pub mod TargetLemmas

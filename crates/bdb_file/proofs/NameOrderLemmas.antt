@@ -1,5 +1,5 @@
 -- The names that a master gives ascend.
-use Rattle.std.proofs.Common.{◌≡◌, ℕ, ◌+◌, ◌≤◌, Bool, true, false, cond, List, [], ◌∷◌, ◌++◌, length, map, Option, Some, arith, refl, sym}
+use Rattle.std.proofs.Common.{◌≡◌, ℕ, ◌+◌, ◌<◌, ◌≤◌, Bool, true, false, cond, List, [], ◌∷◌, ◌++◌, length, map, Option, Some, arith, refl, sym}
 use Rattle.std.proofs.Common.{◌∙◌, ap, subst, inl}
 use Rattle.std.specs.Prelude.{◌==◌, ◌&&◌, ◌^◌, nat_lt}
 use Rattle.std.specs.List.{Contains, filter, flat_map, list_any}
@@ -15,11 +15,11 @@ use Rattle.bdb_format.specs.File.{File, file_of, page_at}
 use Rattle.bdb_format.specs.Graph.{is_meta}
 use Rattle.bdb_format.specs.HeadOf.{head_of}
 use Rattle.bdb_format.specs.Less.{less}
-use Rattle.bdb_format.specs.Master.{master_pairs, named_by, pairs_under}
+use Rattle.bdb_format.specs.Master.{master_in, master_pairs, named_by, pairs_under}
 use Rattle.bdb_format.specs.Page.{BtreeFields, Page, Meta}
-use Rattle.bdb_format.specs.Verdict.{faults_of, holding, master_faults}
+use Rattle.bdb_format.specs.Verdict.{holding, master_faults, stage_faults}
 use Rattle.bdb_format.proofs.MemberLemmas.{first_member, in_map, is_empty, later_member, no_member, none_passes, of_filter}
-use Rattle.bdb_format.proofs.VerdictLemmas.{AllFail, all_fail, no_codes_at, no_stage, none_in}
+use Rattle.bdb_format.proofs.VerdictLemmas.{AllFail, all_fail, no_codes_at, none_in}
 use Rattle.bdb_format.proofs.RepeatLemmas.{repeated_after, repeated_is}
 use Rattle.bdb_format.specs.Flags.{is_recno}
 use Rattle.bdb_graph.specs.Linked.{HasMetadata, IsForest}
@@ -29,11 +29,14 @@ use Rattle.bdb_btree.specs.Bounds.{DontFall, NoneBelow}
 use Rattle.bdb_btree.proofs.FallLemmas.{dont_fall, tree_keys}
 use Rattle.bdb_btree.proofs.PairLemmas.{tree_pair}
 use Rattle.bdb_file.specs.Entries.{fault_at, named}
-use Rattle.bdb_file.specs.Laws.{NamesAscend, name_bytes}
+use Rattle.bdb_file.specs.AnyOrder.{contents_by, faults_by_rows}
+use Rattle.bdb_file.specs.Laws.{NamesAscend, NamesAscendInAnyOrder, name_bytes}
+use Rattle.bdb_file.specs.declared.rows.Rows.TheVariants.{AnyOrder}
 use Rattle.bdb_file.proofs.DatabaseLemmas.{has_metadata}
 use Rattle.bdb_file.proofs.MasterLemmas.{AreInside, master_inside, repeat_here}
 use Rattle.bdb_file.proofs.NamedLemmas.{NamesMeta, entry_names}
-use Rattle.bdb_file.proofs.SoundLemmas.{no_contents}
+use Rattle.bdb_file.proofs.OrderLemmas.{master_counts}
+use Rattle.bdb_file.proofs.RowsLemmas.{contents_kept, early_kept, master_kept, sound_in_any_order}
 use Rattle.bdb_format.proofs.BoolLemmas.{second_false}
 use Rattle.bdb_format.proofs.PairLemmas.{neighbour_in, keyed_rows}
 use Rattle.bdb_format.proofs.LessLemmas.{eq_self, same_unless_less}
@@ -71,13 +74,20 @@ ascend : (pairs : List StoredPair) → DontFall pairs → repeated_after [] pair
 ascend [] fall none = refl
 ascend (pair ∷ pairs) fall none = ascend_from pair [] pairs fall.0 fall.1 none
 
--- The files without faults.
+-- The files on which no row counts in any order.
 
-forest_of : (image : List ℕ) → length image ≤ 2 ^ 30 → faults_of image ≡ [] → IsForest image
-forest_of image size sound = record {
-  formed = record { size = size; head_is = refl; form = none_in image (1 ∷ 2 ∷ []) (no_stage image 1 sound, (no_stage image 2 sound, tt)) };
-  linked = none_in image (3 ∷ 4 ∷ 5 ∷ []) (no_stage image 3 sound, (no_stage image 4 sound, (no_stage image 5 sound, tt)));
-}
+forest_of : (image : List ℕ) → length image ≤ 2 ^ 30 → faults_by_rows AnyOrder image ≡ [] → IsForest image
+forest_of image size none =
+    let kept : (stage : ℕ) → 1 ≤ stage → stage < 8 → stage_faults image stage ≡ [] = λ stage low high. early_kept image stage none low high in
+    record {
+      formed = record {
+        size = size;
+        head_is = refl;
+        form = none_in image (1 ∷ 2 ∷ []) (kept 1 (omega arith) (omega arith), (kept 2 (omega arith) (omega arith), tt));
+      };
+      linked = none_in image (3 ∷ 4 ∷ 5 ∷ [])
+          (kept 3 (omega arith) (omega arith), (kept 4 (omega arith) (omega arith), (kept 5 (omega arith) (omega arith), tt)));
+    }
 
 -- The pairs of a master.
 
@@ -129,22 +139,32 @@ all_names file (pair ∷ pairs) each =
     ∙ (ap (λ names. names ++ map name_bytes (flat_map (named_database file) pairs)) (each pair (first_member pair pairs))
     ∙ ap (λ names. pair.key ∷ names) (all_names file pairs (λ other at. each other (later_member pair pairs other at))))
 
-pub names_ascend : NamesAscend
+-- the master's own rules are kept
+master_rules : (image : List ℕ) (meta : BtreeMeta) → faults_by_rows AnyOrder image ≡ [] → master_in (page_at (file_of image) 0) ≡ Some meta
+    → database_faults (file_of image) (BtreeFields meta) ≡ []
+master_rules image meta counted is =
+    is_empty (database_faults (file_of image) (BtreeFields meta))
+    (λ fault at. no_member (contents_by AnyOrder (file_of image)) fault (contents_kept image counted) (master_counts image meta fault is at))
+
+pub names_ascend_in_any_order : NamesAscendInAnyOrder
 unfolding databases master_pairs
-names_ascend image meta size sound is =
+names_ascend_in_any_order image meta size counted is =
     let file : File = file_of image in
-    let forest : IsForest image = forest_of image size sound in
-    let none : master_faults file ≡ [] = no_stage image 7 sound in
+    let forest : IsForest image = forest_of image size counted in
+    let none : master_faults file ≡ [] = master_kept image counted in
     let inside : AreInside file = master_inside image forest in
     let page : page_at file 0 ≡ Meta (BtreeFields meta) = master_is (page_at file 0) meta is in
     let has : HasMetadata file (BtreeFields meta) = has_metadata file 0 (BtreeFields meta) (omega arith) page in
     let keys : is_recno meta ≡ false = master_keys image meta forest is in
     let pairs : List StoredPair = tree_pairs file meta.root in
     let fall : DontFall pairs =
-    dont_fall pairs (tree_keys image meta.root []) (keys_kept image meta forest has keys (no_contents image (BtreeFields meta) sound has)) in
+    dont_fall pairs (tree_keys image meta.root []) (keys_kept image meta forest has keys (master_rules image meta counted is)) in
     let live : master_pairs file ≡ filter (λ (pair : StoredPair). pair.live) pairs = ap (pairs_under file) is in
     let master_fall : DontFall (master_pairs file) = subst DontFall (sym live) (kept_fall (λ (pair : StoredPair). pair.live) pairs fall) in
     let names : map name_bytes (databases file) ≡ map (λ (pair : StoredPair). pair.key) (master_pairs file) =
     ap (λ found. map name_bytes (databases_under file found)) is
     ∙ all_names file (master_pairs file) (λ pair at. pair_name file pair inside none at) in
     ap ascends names ∙ ascend (master_pairs file) master_fall (sym (repeated_is (master_pairs file)) ∙ none_repeats file inside none)
+
+pub names_ascend : NamesAscend
+names_ascend image meta size sound is = names_ascend_in_any_order image meta size (sound_in_any_order image sound) is

@@ -4,12 +4,7 @@ use Rattle.std.specs.List.{flat_map}
 use Rattle.bdb_format.specs.declared.kinds.Fault.{Fault}
 use Rattle.bdb_format.specs.ContentRows.{database_faults, fields_in}
 use Rattle.bdb_format.specs.File.{File, page_at}
-use Rattle.bdb_graph.specs.Linked.{meta_pages}
 
 -- those of the database with the metadata on a page
 abbrev pub faults_on : File → ℕ → List Fault
 faults_on file p = flat_map (database_faults file) (fields_in (page_at file p))
-
--- those of all databases
-abbrev pub by_database : File → List Fault
-by_database file = flat_map (faults_on file) (meta_pages file)

@@ -1,8 +1,11 @@
--- What is left of the list of a database, by its kind.
+-- What is left of the list of a database, by its kind, and what a list asks for.
 use Rattle.std.specs.Prelude.{ℕ, List}
 use Rattle.bdb_file.specs.declared.listing.Entries.{Entries}
 use Rattle.bdb_file.specs.declared.listing.Entries.TheVariants.{Btree, Recno, Hash, Queue}
+use Rattle.bdb_format.specs.File.{File}
 use Rattle.bdb_format.specs.Lists.{ListKey}
+use Rattle.bdb_format.specs.Page.{Metadata, BtreeFields, HashFields, QueueFields}
+use Rattle.bdb_hash.specs.Scanned.{KeysDiffer}
 use Rattle.bdb_overflow.specs.Datum.{datum_seen, key_view_seen}
 use Rattle.bdb_overflow.specs.declared.datum.Datum.{Datum}
 use Rattle.bdb_overflow.specs.declared.datum.KeyView.{KeyView}
@@ -16,3 +19,9 @@ entries_left (Btree scan) = scan
 entries_left (Recno scan) = scan
 entries_left (Hash scan) = scan
 entries_left (Queue scan) = scan
+
+-- no key of a table comes twice
+abbrev pub HasNewKeys : File → Metadata → Type 0
+HasNewKeys file (BtreeFields meta) = Unit {0}
+HasNewKeys file (HashFields meta) = KeysDiffer file meta
+HasNewKeys file (QueueFields meta) = Unit {0}

@@ -1,10 +1,11 @@
--- The databases of a sound file, by their places, and how the code finds them. Source: docs/FORMAT.md, "Databases of a file".
+-- The databases of a file that can be read, by their places, and how the code finds them. Source: docs/FORMAT.md, "Databases of a file".
 use Rattle.std.specs.Prelude.{◌≡◌, ℕ, List, [], get_or, Some, None}
 use Rattle.bdb_format.specs.Databases.{Database, database_on, databases}
 use Rattle.bdb_format.specs.File.{File, file_of}
 use Rattle.bdb_format.specs.Page.{QueueFields}
-use Rattle.bdb_format.specs.Verdict.{faults_of}
+use Rattle.bdb_file.specs.AnyOrder.{faults_by_rows}
 use Rattle.bdb_file.specs.Entries.{NamedPair}
+use Rattle.bdb_file.specs.declared.rows.Rows.TheVariants.{AnyOrder}
 
 -- what stands past the last database
 abbrev pub no_database : Database
@@ -18,7 +19,7 @@ database_at file i = get_or (databases file) i no_database
 abbrev pub entry_database : File → NamedPair → List Database
 entry_database file entry = database_on file (Some entry.key) entry.names
 
--- no row of any stage holds for an image, and these are its databases
-pub record IsSound (image : List ℕ) (all : List Database) : Type 0 where
-  pub faultless : faults_of image ≡ []
+-- no row that counts in any order holds for an image, and these are its databases
+pub record IsReadable (image : List ℕ) (all : List Database) : Type 0 where
+  pub none_counts : faults_by_rows AnyOrder image ≡ []
   pub all_are : all ≡ databases (file_of image)

@@ -1,9 +1,11 @@
 ghost use Rattle.std.specs.Prelude.{◌≡◌, [], ◌∷◌, IfErr, IfOk, OnOk};
-ghost use Rattle.bdb_faults.specs.Notes.{NotesAll};
+ghost use Rattle.bdb_file.specs.AnyOrder.{stages_by};
 ghost use Rattle.bdb_file.specs.Entries.{master_entries};
+ghost use Rattle.bdb_file.specs.Noted.{HasJust};
 ghost use Rattle.bdb_format.specs.File.{file_of};
 ghost use Rattle.bdb_format.specs.Verdict.{IsFirstOf, faults_in};
 
+use crate::Rows;
 use crate::contents::note_contents;
 use crate::entry::{Entry, master_entries};
 use crate::master::note_master;
@@ -13,44 +15,54 @@ use bdb_format::CheckError;
 use bdb_graph::Linked;
 use std::alloc::{AllocError, Global};
 
-/// Notes the faults of the first of stages 6 to 8 that has any. The answer is the entries of the master, where none of
-/// them has. An error is want of memory. While it runs it takes a byte for each page, memory for each live pair of the
-/// master, and what the checks of trees and of each database take.
-pub(crate) fn note_file<'a, F: FaultSink>(
-    alloc: Global,
-    linked: &Linked<'a>,
-    found: &mut F,
-) -> Result<Vec<Entry<'a>>, AllocError>
-    requires { F.has_noted found.old [] }
-    ensures noted { OnOk result (NotesAll (F.has_noted found.old) (F.has_noted found.new) (faults_in (6 ∷ 7 ∷ 8 ∷ []) linked.now)) }
-    ensures entries { IfOk result (λ entries. faults_in (6 ∷ 7 ∷ 8 ∷ []) linked.now ≡ [] → entries.items ≡ master_entries (file_of linked.now)) }
-{
-    note_structure(alloc, linked, found)?;
-    if !found.is_empty() {
-        return Ok(Vec::new(alloc));
-    }
-    let entries = master_entries(alloc, linked)?;
-    note_master(alloc, linked, &entries, found)?;
-    if found.is_empty() {
-        note_contents(alloc, linked, found)?;
-    }
-    Ok(entries)
+/// A sink after stages 6 to 8, and the entries of the master where none of them has faults that count.
+#[derive(Drop)]
+pub(crate) struct Checked<'a, F> {
+    pub(crate) found: F,
+    pub(crate) entries: Vec<Entry<'a>>,
 }
 
-/// The entries of the master of a file in which no row of stages 6 to 8 holds. A refusal is the first fault of
+/// Notes the faults of the first of stages 6 to 8 that has any that count. An error is want of memory. While it runs it takes a byte
+/// for each page, memory for each live pair of the master, and what the checks of trees and of each database take.
+pub(crate) fn note_file<'a, F: FaultSink + Drop>(
+    alloc: Global,
+    linked: &Linked<'a>,
+    rows: Rows,
+    found: F,
+) -> Result<Checked<'a, F>, AllocError>
+    requires { F.has_noted found [] }
+    ensures noted { IfOk result (λ checked. HasJust (F.has_noted checked.found) (stages_by rows (6 ∷ 7 ∷ []) linked.now)) }
+    ensures entries { IfOk result (λ checked. stages_by rows (6 ∷ 7 ∷ []) linked.now ≡ [] → checked.entries.items ≡ master_entries (file_of linked.now)) }
+{
+    let mut found = found;
+    note_structure(alloc, linked, &mut found)?;
+    if !found.is_empty() {
+        let entries = Vec::new(alloc);
+        return Ok(Checked { found, entries });
+    }
+    let entries = master_entries(alloc, linked)?;
+    note_master(alloc, linked, &entries, &mut found)?;
+    if found.is_empty() {
+        found = note_contents(alloc, linked, rows, found)?;
+    }
+    Ok(Checked { found, entries })
+}
+
+/// The entries of the master of a file in which no row of stages 6 to 8 that counts holds. A refusal is the first fault of
 /// the first stage that has one; or want of memory.
 pub(crate) fn checked_entries<'a>(
     alloc: Global,
     linked: &Linked<'a>,
+    rows: Rows,
 ) -> Result<Vec<Entry<'a>>, CheckError>
     ensures entries { IfOk result (λ entries. entries.items ≡ master_entries (file_of linked.now)) }
-    ensures accepted { OnOk result (faults_in (6 ∷ 7 ∷ 8 ∷ []) linked.now ≡ []) }
-    ensures refusal { IfErr result (IsFirstOf (faults_in (6 ∷ 7 ∷ 8 ∷ []) linked.now)) }
+    ensures accepted { OnOk result (stages_by rows (6 ∷ 7 ∷ []) linked.now ≡ []) }
+    ensures refusal { IfErr result (IsFirstOf (stages_by rows (6 ∷ 7 ∷ []) linked.now)) }
 {
-    let mut found = First::new();
-    let Ok(entries) = note_file(alloc, linked, &mut found) else {
+    let Ok(checked) = note_file(alloc, linked, rows, First::new()) else {
         return Err(CheckError::Memory);
     };
+    let Checked { found, entries } = checked;
     match found.fault() {
         None => Ok(entries),
         Some(fault) => Err(CheckError::Fault(fault)),
@@ -60,10 +72,11 @@ pub(crate) fn checked_entries<'a>(
 /// No row of stages 6 to 8 holds. A refusal is the first fault of the first stage that has one: the least page,
 /// and there the least code; or want of memory. While it runs it takes a byte for each page, memory for each live
 /// pair of the master, and what the checks of trees and of each database take.
+#[tactic(auto, using(crate::proofs::RowsLemmas::late_stages, crate::proofs::RowsLemmas::late_refusal))]
 pub fn check_file(alloc: Global, linked: &Linked<'_>) -> Result<(), CheckError>
     ensures accepted { OnOk result (faults_in (6 ∷ 7 ∷ 8 ∷ []) linked.now ≡ []) }
     ensures refusal { IfErr result (IsFirstOf (faults_in (6 ∷ 7 ∷ 8 ∷ []) linked.now)) }
 {
-    checked_entries(alloc, linked)?;
+    checked_entries(alloc, linked, Rows::All)?;
     Ok(())
 }

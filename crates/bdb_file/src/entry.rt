@@ -85,7 +85,7 @@ pub(crate) fn master_of(linked: &Linked<'_>) -> Option<BtreeMeta>
 }
 
 /// These fields, where they are of a btree with the flag of subdatabases.
-fn master_among(meta: Meta) -> Option<BtreeMeta>
+pub(crate) fn master_among(meta: Meta) -> Option<BtreeMeta>
     ensures { result ≡ master_in (MetaPage (meta_seen meta)) }
 {
     match meta {

@@ -1,4 +1,4 @@
-//! Whole files: the verdict, and the databases of a sound one.
+//! Whole files: the verdict, and the databases of a sound one, or of one that is sound but for the order of its keys and data.
 #![tactic(auto)]
 
 mod check;
@@ -13,13 +13,16 @@ mod master;
 mod named;
 mod named_pages;
 mod noting;
+mod readable;
 mod reads;
 mod repeats;
+mod rows;
 mod seen_names;
 mod settings;
 mod sound;
 mod structure;
 mod targets;
+mod unordered;
 mod verdict;
 mod verdict_all;
 
@@ -27,6 +30,8 @@ pub use check::check_file;
 pub use db::Db;
 pub use listing::Scan;
 pub use lookup::Found;
+pub use readable::Readable;
+pub use rows::Rows;
 pub use sound::Sound;
-pub use verdict::verify;
-pub use verdict_all::verify_all;
+pub use verdict::{verify, verify_by};
+pub use verdict_all::{verify_all, verify_all_by};

@@ -2,8 +2,7 @@ ghost use Rattle.std.specs.Prelude.{◌≡◌, [], IfOk};
 ghost use Rattle.std.specs.Iterator.{YieldsFirstBy, item_count};
 ghost use Rattle.bdb_graph.specs.Linked.{HasMetadata};
 ghost use Rattle.bdb_graph.specs.Metas.{meta_seen};
-ghost use Rattle.bdb_file.specs.Listing.{entries_left, entry_seen};
-ghost use Rattle.bdb_format.specs.ContentRows.{database_faults};
+ghost use Rattle.bdb_file.specs.Listing.{HasNewKeys, entries_left, entry_seen};
 ghost use Rattle.bdb_format.specs.File.{file_of};
 ghost use Rattle.bdb_format.specs.Lists.{list_of};
 ghost use Rattle.bdb_format.specs.Page.{BtreeFields};
@@ -79,7 +78,7 @@ fn tree_entries<'a>(linked: &Linked<'a>, meta: &BtreeMeta) -> Entries<'a>
     }
 }
 
-/// The list of a database of a sound file. That of a table takes memory for each of its pairs, another one
+/// The list of a database, in which no key comes twice if it's a table. That of a table takes memory for each of its pairs, another one
 /// none; an error is want of it.
 pub(crate) fn scan_of<'a>(
     alloc: Global,
@@ -88,7 +87,7 @@ pub(crate) fn scan_of<'a>(
 ) -> Result<Scan<'a>, AllocError>
     requires meta { HasMetadata (file_of linked.now) (meta_seen meta.now) }
     requires stage { structure_faults (file_of linked.now) ≡ [] }
-    requires contents { database_faults (file_of linked.now) (meta_seen meta.now) ≡ [] }
+    requires keys { HasNewKeys (file_of linked.now) (meta_seen meta.now) }
     ensures { IfOk result (λ scan. scan ≡ list_of (file_of linked.now) (meta_seen meta.now)) }
 {
     let entries = match meta {

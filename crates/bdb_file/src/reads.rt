@@ -7,10 +7,22 @@ ghost use Rattle.bdb_format.specs.Lists.{list_of};
 
 use crate::listing::scan_of;
 use crate::lookup::found_in;
-use crate::{Db, Found, Scan, Sound};
+use crate::{Db, Found, Readable, Scan, Sound};
 use bdb_format::Steps;
 use std::alloc::{AllocError, Global};
 use std::sync::ledger::Ledger;
+
+impl<'a> Readable<'a> {
+    /// The list of a database: its live pairs in order. That of a table takes memory for each of its pairs,
+    /// another one none; an error is want of it.
+    #[tactic(auto, using(crate::proofs::ReadableLemmas::has_new_keys))]
+    pub fn scan(&self, alloc: Global, db: Db) -> Result<Scan<'a>, AllocError>
+        requires { db < length (databases (file_of self.now)) }
+        ensures { IfOk result (λ scan. scan ≡ list_of (file_of self.now) (database_at (file_of self.now) db).fields) }
+    {
+        scan_of(alloc, self.linked(), self.meta(db))
+    }
+}
 
 impl<'a> Sound<'a> {
     /// The list of a database: its live pairs in order. That of a table takes memory for each of its pairs,
@@ -19,7 +31,7 @@ impl<'a> Sound<'a> {
         requires { db < length (databases (file_of self.now)) }
         ensures { IfOk result (λ scan. scan ≡ list_of (file_of self.now) (database_at (file_of self.now) db).fields) }
     {
-        scan_of(alloc, self.linked(), self.meta(db))
+        self.readable().scan(alloc, db)
     }
 
     /// What a database has under a key, in order; none where the key isn't there. Of records the key says the

@@ -1,5 +1,5 @@
 ghost use Rattle.std.specs.Prelude.{◌≡◌, ◌<◌, [], IfSome, length, option_copied};
-ghost use Rattle.bdb_file.specs.Named.{IsSound, database_at};
+ghost use Rattle.bdb_file.specs.Named.{database_at};
 ghost use Rattle.bdb_graph.specs.Linked.{HasMetadata};
 ghost use Rattle.bdb_graph.specs.Metas.{meta_seen};
 ghost use Rattle.bdb_format.specs.ContentRows.{database_faults};
@@ -8,39 +8,44 @@ ghost use Rattle.bdb_format.specs.File.{file_of};
 ghost use Rattle.bdb_format.specs.HeadOf.{head_of};
 ghost use Rattle.bdb_format.specs.Verdict.{faults_of, structure_faults};
 
-use crate::Db;
-use crate::named::NamedMeta;
-use crate::settings::settings_of;
+use crate::{Db, Readable};
 use bdb_format::{Head, Settings};
 use bdb_graph::{Linked, Meta};
 use std::marker::Model;
 
 /// A file on which no row of any stage holds, with its databases: those that its master names, in the order of
-/// the master's list, or the one on page 0, which has no name.
+/// the master's list, or the one on page 0, which has no name. Its keys can be looked up.
 #[derive(Drop)]
 pub struct Sound<'a> {
-    linked: Linked<'a>,
-    databases: Vec<NamedMeta>,
+    readable: Readable<'a>,
 }
 
 impl<'a> Model for Sound<'a> {
-    ghost use Rattle.std.specs.Prelude.{List, ℕ};
-    ghost use Rattle.bdb_file.specs.Named.{IsSound};
+    ghost use Rattle.std.specs.Prelude.{◌≡◌, [], List, ℕ};
+    ghost use Rattle.bdb_format.specs.Verdict.{faults_of};
 
     ghost Value = { List ℕ };
 
-    ghost view = { λ v. v.linked };
+    ghost view = { λ v. v.readable };
 
-    ghost invariant = { λ v. IsSound v.linked v.databases.items };
+    ghost invariant = { λ v. faults_of v.readable ≡ [] };
 }
 
 impl<'a> Sound<'a> {
     // A file for which all stages are decided, with its databases.
-    pub(crate) fn over(linked: Linked<'a>, databases: Vec<NamedMeta>) -> Sound<'a>
-        requires { IsSound linked databases.items }
-        ensures { result ≡ linked.entry }
+    pub(crate) fn over(readable: Readable<'a>) -> Sound<'a>
+        requires { faults_of readable ≡ [] }
+        ensures { result ≡ readable.entry }
     {
-        Sound { linked, databases }
+        Sound { readable }
+    }
+
+    /// The same file, as one whose lists and settings are read.
+    pub(crate) fn readable(&self) -> &Readable<'a>
+        ensures file { result.now ≡ self.now }
+        ensures sound { faults_of self.now ≡ [] }
+    {
+        &self.readable
     }
 
     /// Its pages. No row of any stage holds for them.
@@ -48,23 +53,21 @@ impl<'a> Sound<'a> {
         ensures pages { result.now ≡ self.now }
         ensures sound { faults_of self.now ≡ [] }
     {
-        &self.linked
+        self.readable.linked()
     }
 
     /// What page 0 says of the whole file.
     pub fn head(&self) -> Head
         ensures { result ≡ head_of self.now }
     {
-        self.linked.head()
+        self.readable.head()
     }
 
     /// How many databases there are.
-    #[tactic(auto, using(crate::proofs::CountedLemmas::few_databases))]
     pub fn databases(&self) -> u32
         ensures { result ≡ length (databases (file_of self.now)) }
     {
-        prove!(self.databases.len() <= self.linked.head().last as usize + 1);
-        self.databases.len() as u32
+        self.readable.databases()
     }
 
     /// The database at a place, from 0.
@@ -72,7 +75,7 @@ impl<'a> Sound<'a> {
         requires { i < length (databases (file_of self.now)) }
         ensures { result ≡ i }
     {
-        Db::at(i)
+        self.readable.database(i)
     }
 
     /// The name of a database, if it has one.
@@ -80,7 +83,7 @@ impl<'a> Sound<'a> {
         requires { db < length (databases (file_of self.now)) }
         ensures { option_copied result ≡ (database_at (file_of self.now) db).name }
     {
-        self.named(db).name()
+        self.readable.name(db)
     }
 
     /// The settings of a database, as the header of its dump text shows them.
@@ -88,26 +91,19 @@ impl<'a> Sound<'a> {
         requires { db < length (databases (file_of self.now)) }
         ensures { result ≡ settings_of (head_of self.now).page_size (head_of self.now).order (database_at (file_of self.now) db).fields }
     {
-        settings_of(self.head(), self.named(db).meta())
+        self.readable.settings(db)
     }
 
     /// The database with a name, or the one without a name; `None` exactly where there is none. It takes no memory.
-    #[tactic(auto, using(crate::proofs::PlaceLemmas::place_found, crate::proofs::PlaceLemmas::place_later, crate::proofs::PlaceLemmas::place_none))]
     pub fn by_name(&self, name: Option<&[u8]>) -> Option<Db>
         ensures place { result ≡ place_of (option_copied name.entry) (databases (file_of self.now)) }
         ensures inside { IfSome result (λ db. db < length (databases (file_of self.now))) }
     {
-        for i in 0..self.databases() {
-            let db = Db::at(i);
-            if self.named(db).has_name(name) {
-                return Some(db);
-            }
-        }
-        None
+        self.readable.by_name(name)
     }
 
     /// The metadata of a database, which keeps the rules of structure and of contents.
-    #[tactic(auto, using(crate::proofs::SoundLemmas::has_metadata_at, crate::proofs::SoundLemmas::no_structure, crate::proofs::SoundLemmas::no_contents_at))]
+    #[tactic(auto, using(crate::proofs::SoundLemmas::no_contents_at))]
     pub fn meta(&self, db: Db) -> &Meta
         requires { db < length (databases (file_of self.now)) }
         ensures fields { meta_seen result.now ≡ (database_at (file_of self.now) db).fields }
@@ -115,14 +111,6 @@ impl<'a> Sound<'a> {
         ensures structure { structure_faults (file_of self.now) ≡ [] }
         ensures contents { database_faults (file_of self.now) (meta_seen result.now) ≡ [] }
     {
-        self.named(db).meta()
-    }
-
-    fn named(&self, db: Db) -> &NamedMeta
-        requires { db < length (databases (file_of self.now)) }
-        ensures database { result.now ≡ database_at (file_of self.now) db }
-        ensures sound { faults_of self.now ≡ [] }
-    {
-        &self.databases[db.place() as usize]
+        self.readable.meta(db)
     }
 }

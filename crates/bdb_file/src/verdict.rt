@@ -1,11 +1,12 @@
 ghost use Rattle.std.specs.Prelude.{◌≡◌, ◌≤◌, ◌+◌, ◌^◌, [], ◌∷◌, IfErr, IfOk, None, OnOk, length};
-ghost use Rattle.bdb_file.specs.Whole.{IsVerdictOf, told_as};
+ghost use Rattle.bdb_file.specs.AnyOrder.{faults_by_rows};
+ghost use Rattle.bdb_file.specs.Whole.{IsVerdictBy, IsVerdictOf, told_as};
 ghost use Rattle.bdb_format.specs.File.{file_of};
-ghost use Rattle.bdb_format.specs.Verdict.{faults_in, faults_of, verdict_of};
+ghost use Rattle.bdb_format.specs.Verdict.{faults_in, verdict_of};
 
-use crate::Sound;
 use crate::check::checked_entries;
 use crate::named::databases_of;
+use crate::{Readable, Rows, Sound};
 use bdb_format::{CheckError, Steps, Verdict};
 use bdb_graph::{Formed, link, open_image};
 use std::alloc::Global;
@@ -21,29 +22,48 @@ fn told_as(error: CheckError) -> Verdict
     }
 }
 
-/// A formed image as a sound file, or its refusal.
-#[tactic(auto, using(crate::proofs::VerdictLemmas::graph_refused, crate::proofs::VerdictLemmas::file_refused, crate::proofs::VerdictLemmas::file_accepted, crate::proofs::WholeLemmas::no_structure_fault, crate::proofs::WholeLemmas::no_master_fault))]
+/// A formed image as a readable file, or its refusal by the rows that count.
+#[tactic(auto, using(crate::proofs::VerdictLemmas::graph_refused, crate::proofs::VerdictLemmas::file_refused, crate::proofs::VerdictLemmas::file_accepted, crate::proofs::RowsLemmas::read_in_any_order, crate::proofs::WholeLemmas::no_structure_fault, crate::proofs::WholeLemmas::no_master_fault))]
 fn checked<'a, L: Ledger>(
     alloc: Global,
     formed: Formed<'a>,
+    rows: Rows,
     steps: &mut Steps<L>,
-) -> Result<Sound<'a>, CheckError>
+) -> Result<Readable<'a>, CheckError>
     requires { faults_in (1 ∷ 2 ∷ []) formed ≡ [] }
-    ensures sound { IfOk result (λ sound. sound ≡ formed.entry) }
-    ensures accepted { OnOk result (faults_of formed.entry ≡ []) }
-    ensures refusal { IfErr result (λ error. IsVerdictOf formed.entry (told_as error)) }
+    ensures readable { IfOk result (λ readable. readable ≡ formed.entry) }
+    ensures accepted { OnOk result (faults_by_rows rows formed.entry ≡ []) }
+    ensures refusal { IfErr result (λ error. IsVerdictBy rows formed.entry (told_as error)) }
     ensures cost { steps.new ≤ steps.old + ((file_of formed.entry).last + 1) }
 {
     let linked = link(alloc, formed, steps)?;
-    let entries = checked_entries(alloc, &linked)?;
+    let entries = checked_entries(alloc, &linked, rows)?;
     let databases = databases_of(alloc, &linked, &entries).map_err(|_| CheckError::Memory)?;
-    Ok(Sound::over(linked, databases))
+    Ok(Readable::over(linked, databases))
 }
 
-/// An image as a sound file, or its verdict: the least page, and there the least code, of the first of the eight
-/// stages in which a row holds, or the case that is left out by name. `Memory` is want of memory. It takes no
-/// more steps than the image has whole pages.
-#[tactic(auto, using(crate::proofs::VerdictLemmas::form_refused, crate::proofs::VerdictLemmas::no_verdict, crate::proofs::VerdictLemmas::whole_pages))]
+/// An image as a file whose databases can be read, or its verdict by the rows that count: the least page, and there the least code,
+/// of the first of the eight stages in which such a row holds, or the case that is left out by name. `Memory` is want of memory. It
+/// takes no more steps than the image has whole pages.
+#[tactic(auto, using(crate::proofs::VerdictLemmas::form_refused, crate::proofs::VerdictLemmas::whole_pages))]
+pub fn verify_by<'a, L: Ledger>(
+    alloc: Global,
+    image: &'a [u8],
+    rows: Rows,
+    steps: &mut Steps<L>,
+) -> Result<Readable<'a>, Verdict>
+    requires { length image.now ≤ 2 ^ 30 }
+    ensures readable { IfOk result (λ readable. readable ≡ image.now) }
+    ensures accepted { OnOk result (faults_by_rows rows image.now ≡ []) }
+    ensures refusal { IfErr result (IsVerdictBy rows image.now) }
+    ensures cost { steps.new ≤ steps.old + (file_of image.now).count }
+{
+    let formed = open_image(alloc, image)?;
+    checked(alloc, formed, rows, steps).map_err(told_as)
+}
+
+/// An image as a sound file, or its verdict: that of `verify_by` where all rows count.
+#[tactic(auto, using(crate::proofs::RowsLemmas::all_accepted, crate::proofs::RowsLemmas::all_verdict, crate::proofs::RowsLemmas::all_refusal))]
 pub fn verify<'a, L: Ledger>(
     alloc: Global,
     image: &'a [u8],
@@ -55,6 +75,6 @@ pub fn verify<'a, L: Ledger>(
     ensures refusal { IfErr result (IsVerdictOf image.now) }
     ensures cost { steps.new ≤ steps.old + (file_of image.now).count }
 {
-    let formed = open_image(alloc, image)?;
-    checked(alloc, formed, steps).map_err(told_as)
+    let readable = verify_by(alloc, image, Rows::All, steps)?;
+    Ok(Sound::over(readable))
 }

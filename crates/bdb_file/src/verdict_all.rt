@@ -1,59 +1,84 @@
 ghost use Rattle.std.specs.Prelude.{◌≡◌, ◌≤◌, ◌+◌, ◌^◌, [], ◌∷◌, IfErr, IfOk, OnOk, length};
 ghost use Rattle.bdb_faults.specs.All.{IsAllOf};
+ghost use Rattle.bdb_file.specs.AnyOrder.{faults_by_rows, stages_by};
 ghost use Rattle.bdb_file.specs.Entries.{master_entries};
 ghost use Rattle.bdb_format.specs.File.{file_of};
 ghost use Rattle.bdb_format.specs.Verdict.{faults_in, faults_of};
 
-use crate::Sound;
-use crate::check::note_file;
+use crate::check::{Checked, note_file};
 use crate::entry::Entry;
 use crate::named::databases_of;
+use crate::{Readable, Rows, Sound};
 use bdb_faults::{AllError, NamedList, refused_by};
 use bdb_format::Steps;
 use bdb_graph::{Formed, Linked, link_all, open_all};
 use std::alloc::Global;
 use std::sync::ledger::Ledger;
 
-/// The entries of the master of a file in which no row of stages 6 to 8 holds. A refusal has all faults of the
+/// The entries of the master of a file in which no row of stages 6 to 8 that counts holds. A refusal has all faults of the
 /// first stage that has one; or it's want of memory.
-fn entries_or_all<'a>(alloc: Global, linked: &Linked<'a>) -> Result<Vec<Entry<'a>>, AllError>
+fn entries_or_all<'a>(
+    alloc: Global,
+    linked: &Linked<'a>,
+    rows: Rows,
+) -> Result<Vec<Entry<'a>>, AllError>
     ensures entries { IfOk result (λ entries. entries.items ≡ master_entries (file_of linked.now)) }
-    ensures accepted { OnOk result (faults_in (6 ∷ 7 ∷ 8 ∷ []) linked.now ≡ []) }
-    ensures refusal { IfErr result (IsAllOf (faults_in (6 ∷ 7 ∷ 8 ∷ []) linked.now)) }
+    ensures accepted { OnOk result (stages_by rows (6 ∷ 7 ∷ []) linked.now ≡ []) }
+    ensures refusal { IfErr result (IsAllOf (stages_by rows (6 ∷ 7 ∷ []) linked.now)) }
 {
-    let mut found = NamedList::new(alloc);
-    let Ok(entries) = note_file(alloc, linked, &mut found) else {
+    let Ok(checked) = note_file(alloc, linked, rows, NamedList::new(alloc)) else {
         return Err(AllError::Memory);
     };
+    let Checked { found, entries } = checked;
     match refused_by(found) {
         Ok(()) => Ok(entries),
         Err(error) => Err(error),
     }
 }
 
-/// A formed image as a sound file, or all its faults.
-#[tactic(auto, using(crate::proofs::VerdictLemmas::graph_all, crate::proofs::VerdictLemmas::file_all, crate::proofs::VerdictLemmas::file_accepted, crate::proofs::WholeLemmas::no_structure_fault, crate::proofs::WholeLemmas::no_master_fault))]
-fn sound_or_all<'a, L: Ledger>(
+/// A formed image as a readable file, or all its faults that count.
+#[tactic(auto, using(crate::proofs::VerdictLemmas::graph_all, crate::proofs::VerdictLemmas::file_all, crate::proofs::VerdictLemmas::file_accepted, crate::proofs::RowsLemmas::read_in_any_order, crate::proofs::WholeLemmas::no_structure_fault, crate::proofs::WholeLemmas::no_master_fault))]
+fn readable_or_all<'a, L: Ledger>(
     alloc: Global,
     formed: Formed<'a>,
+    rows: Rows,
     steps: &mut Steps<L>,
-) -> Result<Sound<'a>, AllError>
+) -> Result<Readable<'a>, AllError>
     requires { faults_in (1 ∷ 2 ∷ []) formed ≡ [] }
-    ensures sound { IfOk result (λ sound. sound ≡ formed.entry) }
-    ensures accepted { OnOk result (faults_of formed.entry ≡ []) }
-    ensures refusal { IfErr result (IsAllOf (faults_of formed.entry)) }
+    ensures readable { IfOk result (λ readable. readable ≡ formed.entry) }
+    ensures accepted { OnOk result (faults_by_rows rows formed.entry ≡ []) }
+    ensures refusal { IfErr result (IsAllOf (faults_by_rows rows formed.entry)) }
     ensures cost { steps.new ≤ steps.old + ((file_of formed.entry).last + 1) }
 {
     let linked = link_all(alloc, formed, steps)?;
-    let entries = entries_or_all(alloc, &linked)?;
+    let entries = entries_or_all(alloc, &linked, rows)?;
     let databases = databases_of(alloc, &linked, &entries).map_err(|_| AllError::Memory)?;
-    Ok(Sound::over(linked, databases))
+    Ok(Readable::over(linked, databases))
 }
 
-/// An image as a sound file, or all faults of the first of the eight stages in which a row holds, page by page and code by
-/// code, each once; a case that is left out by name stands among them. `Memory` is want of memory. It takes no more steps
-/// than the image has whole pages, and at most 24 bytes for each fault beside what `verify` takes.
+/// An image as a file whose databases can be read, or all faults that count of the first of the eight stages in which one holds, page
+/// by page and code by code, each once; a case that is left out by name stands among them. `Memory` is want of memory. It takes no
+/// more steps than the image has whole pages, and at most 24 bytes for each fault beside what `verify_by` takes.
 #[tactic(auto, using(crate::proofs::VerdictLemmas::form_all, crate::proofs::VerdictLemmas::whole_pages))]
+pub fn verify_all_by<'a, L: Ledger>(
+    alloc: Global,
+    image: &'a [u8],
+    rows: Rows,
+    steps: &mut Steps<L>,
+) -> Result<Readable<'a>, AllError>
+    requires { length image.now ≤ 2 ^ 30 }
+    ensures readable { IfOk result (λ readable. readable ≡ image.now) }
+    ensures accepted { OnOk result (faults_by_rows rows image.now ≡ []) }
+    ensures refusal { IfErr result (IsAllOf (faults_by_rows rows image.now)) }
+    ensures cost { steps.new ≤ steps.old + (file_of image.now).count }
+{
+    let formed = open_all(alloc, image)?;
+    readable_or_all(alloc, formed, rows, steps)
+}
+
+/// An image as a sound file, or all faults of the first of the eight stages in which a row holds: those of `verify_all_by` where all
+/// rows count.
+#[tactic(auto, using(crate::proofs::RowsLemmas::all_accepted, crate::proofs::RowsLemmas::all_told))]
 pub fn verify_all<'a, L: Ledger>(
     alloc: Global,
     image: &'a [u8],
@@ -65,6 +90,6 @@ pub fn verify_all<'a, L: Ledger>(
     ensures refusal { IfErr result (IsAllOf (faults_of image.now)) }
     ensures cost { steps.new ≤ steps.old + (file_of image.now).count }
 {
-    let formed = open_all(alloc, image)?;
-    sound_or_all(alloc, formed, steps)
+    let readable = verify_all_by(alloc, image, Rows::All, steps)?;
+    Ok(Sound::over(readable))
 }

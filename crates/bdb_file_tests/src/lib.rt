@@ -4,6 +4,8 @@
 #[cfg(test)]
 mod all_faults;
 #[cfg(test)]
+mod any_order;
+#[cfg(test)]
 mod files;
 #[cfg(test)]
 mod judging;

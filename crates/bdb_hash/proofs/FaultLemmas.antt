@@ -105,7 +105,7 @@ own_in image meta b fault table has listed at =
     (repeated (table_pairs file meta)) b pair.0 code.0 listed pair.1 code.1)))
 
 -- so is a repeat of a key
-repeat_in : (image : List ℕ) (meta : HashMeta) (pair : StoredPair) → IsTable image → HasMetadata (file_of image) (HashFields meta)
+pub repeat_in : (image : List ℕ) (meta : HashMeta) (pair : StoredPair) → IsTable image → HasMetadata (file_of image) (HashFields meta)
     → Contains (repeated (stored (table_told image meta))) pair
     → Contains (database_faults (file_of image) (HashFields meta)) (repeat_fault pair)
 repeat_in image meta pair table has held =

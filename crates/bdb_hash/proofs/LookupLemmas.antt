@@ -20,11 +20,15 @@ use Rattle.bdb_format.proofs.LessLemmas.{eq_same, not_less_same}
 use Rattle.bdb_format.proofs.MemberLemmas.{first_member, in_range, is_empty, later_member, member_cases, no_member, none_passes, of_range}
 use Rattle.bdb_format.proofs.VerdictLemmas.{AllFail, no_rows_at}
 use Rattle.bdb_format.proofs.PairLemmas.{get_append}
-use Rattle.bdb_format.proofs.RepeatLemmas.{has_key as key_among, of_repeated, repeated_after, repeated_is}
+use Rattle.bdb_format.proofs.RepeatLemmas.{has_key as key_among, repeated_after, repeated_is}
 use Rattle.bdb_graph.specs.Linked.{HasMetadata}
+use Rattle.bdb_faults.specs.Rows.{fault_at}
+use Rattle.bdb_faults.specs.declared.rows.ContentsRow.TheVariants.{KeyTwice}
+use Rattle.bdb_faults.specs.declared.rows.Row.TheVariants.{Contents}
+use Rattle.bdb_hash.specs.Scanned.{KeysDiffer}
 use Rattle.bdb_hash.specs.Told.{IsSought, Told, bucket_told, has_key, joined_pages, told}
 use Rattle.bdb_hash.specs.Views.{IsTable}
-use Rattle.bdb_hash.proofs.FaultLemmas.{bucket_is, few_buckets, table_plain}
+use Rattle.bdb_hash.proofs.FaultLemmas.{bucket_is, few_buckets, repeat_in, table_stored}
 use Rattle.bdb_hash.proofs.PlainLemmas.{IsPlain, bucket_plain}
 use Rattle.bdb_hash.proofs.RowLemmas.{ArePlain, buckets_of}
 use Rattle.bdb_format.proofs.ListLemmas.{passes_here, flat_map_twice}
@@ -172,17 +176,19 @@ own_bucket image meta b pair table has none listed held =
     (not-false (bucket_of_key meta pair.key == b)
     (second_false (pair.page == pair.page) (not (bucket_of_key meta pair.key == b)) (eq-eqb pair.page pair.page refl) passes))
 
+-- nor does KeyTwice
+pub no_key_twice : (file : File) (meta : HashMeta) → database_faults file (HashFields meta) ≡ [] → KeysDiffer file meta
+no_key_twice file meta none =
+    record { none_comes_twice = λ p at. no_member (database_faults file (HashFields meta)) (fault_at (Contents KeyTwice) p) none at }
+
 -- no key repeats
-pub none_repeats : (image : List ℕ) (meta : HashMeta) → IsTable image → HasMetadata (file_of image) (HashFields meta)
-    → database_faults (file_of image) (HashFields meta) ≡ []
+none_repeats : (image : List ℕ) (meta : HashMeta) → IsTable image → HasMetadata (file_of image) (HashFields meta)
+    → KeysDiffer (file_of image) meta
     → repeated (table_pairs (file_of image) meta) ≡ []
-none_repeats image meta table has none =
-    let file : File = file_of image in
-    let again : List StoredPair = repeated (table_pairs file meta) in
-    is_empty again (λ pair at.
-    let plain : IsPlain file pair = table_plain image meta table has pair (of_repeated (table_pairs file meta) pair at) in
-    let fail : AllFail (hash_contents file meta pair.page) = all_fail_at image meta pair.page none plain.inside in
-    true≢false (sym (passes_here (λ (one : StoredPair). one.page == pair.page) again pair at (eq-eqb pair.page pair.page refl)) ∙ fail.1.1.1.1.0))
+none_repeats image meta table has differ =
+    is_empty (repeated (table_pairs (file_of image) meta)) (λ pair at.
+    differ.none_comes_twice pair.page
+    (repeat_in image meta pair table has (subst (λ pairs. Contains (repeated pairs) pair) (sym (table_stored image meta)) at)))
 
 -- each pair has another key than those after it
 abbrev pub AreApart : List StoredPair → Type 0
@@ -212,11 +218,11 @@ apart_where_none earlier (pair ∷ pairs) none =
     )
 
 -- the keys of a table are apart
-pub table_apart : (image : List ℕ) (meta : HashMeta) → IsTable image → HasMetadata (file_of image) (HashFields meta)
-    → database_faults (file_of image) (HashFields meta) ≡ [] → AreApart (table_pairs (file_of image) meta)
-table_apart image meta table has none =
+pub keys_apart : (image : List ℕ) (meta : HashMeta) → IsTable image → HasMetadata (file_of image) (HashFields meta)
+    → KeysDiffer (file_of image) meta → AreApart (table_pairs (file_of image) meta)
+keys_apart image meta table has differ =
     apart_where_none [] (table_pairs (file_of image) meta)
-    (sym (repeated_is (table_pairs (file_of image) meta)) ∙ none_repeats image meta table has none)
+    (sym (repeated_is (table_pairs (file_of image) meta)) ∙ none_repeats image meta table has differ)
 
 apart_parts : (xs ys : List StoredPair) → AreApart (xs ++ ys) → AreApart xs × AreApart ys
 apart_parts [] ys apart = (tt, apart)
@@ -235,7 +241,8 @@ bucket_apart : (image : List ℕ) (meta : HashMeta) (b : ℕ) → IsTable image 
     → Contains (buckets_of meta) b → AreApart (bucket_pairs (file_of image) meta b)
 unfolding table_pairs
 bucket_apart image meta b table has none listed =
-    apart_part (bucket_pairs (file_of image) meta) (buckets_of meta) b (table_apart image meta table has none) listed
+    apart_part (bucket_pairs (file_of image) meta) (buckets_of meta) b
+    (keys_apart image meta table has (no_key_twice (file_of image) meta none)) listed
 
 -- The first pair with a key.
 

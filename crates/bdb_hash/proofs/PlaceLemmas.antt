@@ -17,7 +17,6 @@ use Rattle.std.proofs.lemmas.List.Elements.{Contains-get_or}
 use Rattle.std.proofs.lemmas.List.Sorted.{Contains-permutation, IsPermutation-map, IsPermutation-sym, ranks_by}
 use Rattle.bdb_format.specs.declared.metadata.HashMeta.{HashMeta}
 use Rattle.bdb_format.specs.Chains.{value_of}
-use Rattle.bdb_format.specs.ContentRows.{database_faults}
 use Rattle.bdb_format.specs.Contents.{StoredPair, bucket_pages, table_pairs}
 use Rattle.bdb_format.specs.File.{File, file_of, page_at}
 use Rattle.bdb_format.specs.Page.{Hash, HashFields, Item}
@@ -31,7 +30,7 @@ use Rattle.bdb_overflow.proofs.PrefixLemmas.{prefix_order}
 use Rattle.bdb_hash.specs.declared.place.Place.{Place}
 use Rattle.bdb_hash.specs.Places.{Adds, AreAt, ArePlaces, IsAt, IsCollected, has_pair, key_at, key_in, pair_on, place_cmp, place_less}
 use Rattle.bdb_hash.specs.Places.{told_at}
-use Rattle.bdb_hash.specs.Scanned.{ranked}
+use Rattle.bdb_hash.specs.Scanned.{KeysDiffer, ranked}
 use Rattle.bdb_hash.specs.Told.{Told, bucket_told, joined_pages, page_told, table_told, told, told_cmp}
 use Rattle.bdb_hash.specs.Views.{IsTable}
 use Rattle.bdb_hash.proofs.FaultLemmas.{table_is_told}
@@ -215,10 +214,10 @@ pub record AreRanked (image : List ℕ) (meta : HashMeta) (forest : List ℕ) (p
 
 pub sorted_places : (image : List ℕ) (meta : HashMeta) (forest : List ℕ) (old new : List Place) → forest ≡ image → IsTable image
     → HasMetadata (file_of image) (HashFields meta)
-    → database_faults (file_of image) (HashFields meta) ≡ [] → AreAt old (table_told image meta) → IsPermutation old new
+    → KeysDiffer (file_of image) meta → AreAt old (table_told image meta) → IsPermutation old new
     → IsSortedBy (place_less forest) new
     → AreRanked image meta forest new
-sorted_places image meta forest old new same table has none at moved sorted =
+sorted_places image meta forest old new same table has differ at moved sorted =
     let pairs : List StoredPair = table_pairs (file_of image) meta in
     let own : AreAt old (map (told image) pairs) = subst (AreAt old) (table_is_told image meta) at in
     let are : ArePlaces image new =
@@ -226,7 +225,7 @@ sorted_places image meta forest old new same table has none at moved sorted =
       table = table;
       each = λ place in'. told_each image pairs old own place (Contains-permutation new old place (IsPermutation-sym old new moved) in');
     } in
-    let told' = sorted_ranked image meta (map (told_at image) old) (map (told_at image) new) table has none
+    let told' = sorted_ranked image meta (map (told_at image) old) (map (told_at image) new) table has differ
     (told_all image pairs old own ∙ sym (table_is_told image meta))
     (IsPermutation-map (told_at image) old new moved) (sorted_told image new are (subst (λ f. IsSortedBy (place_less f) new) same sorted)) in
     subst (λ f. AreRanked image meta f new) (sym same) (record { are = are; told = told' })

@@ -17,7 +17,6 @@ use Rattle.std.proofs.lemmas.Map.Keys.{IsDistinct-IsPermutation}
 use Rattle.bdb_layout.specs.Seen.{OrderingIs}
 use Rattle.bdb_layout.proofs.KeyLemmas.{slice_cmp-is}
 use Rattle.bdb_format.specs.declared.metadata.HashMeta.{HashMeta}
-use Rattle.bdb_format.specs.ContentRows.{database_faults}
 use Rattle.bdb_format.specs.Contents.{StoredPair, table_pairs}
 use Rattle.bdb_format.specs.File.{file_of}
 use Rattle.bdb_format.specs.Less.{less, Less}
@@ -27,14 +26,14 @@ use Rattle.bdb_format.proofs.ListLemmas.{all_of}
 use Rattle.bdb_format.proofs.LessLemmas.{eq_same, eq_self, less_trans, not_less_both, not_less_same}
 use Rattle.bdb_format.proofs.MemberLemmas.{first_member, in_map, later_member, member_cases, no_member, of_map}
 use Rattle.bdb_graph.specs.Linked.{HasMetadata}
-use Rattle.bdb_hash.specs.Scanned.{ranked}
+use Rattle.bdb_hash.specs.Scanned.{KeysDiffer, ranked}
 use Rattle.bdb_hash.specs.Noted.{stored}
 use Rattle.bdb_hash.specs.Passed.{key_of}
 use Rattle.bdb_hash.specs.Told.{Told, listed_told, table_told, told, told_cmp}
 use Rattle.bdb_hash.specs.Views.{IsTable}
 use Rattle.bdb_hash.proofs.FaultLemmas.{table_is_told, table_stored}
 use Rattle.bdb_overflow.proofs.KeyLemmas.{is_order}
-use Rattle.bdb_hash.proofs.LookupLemmas.{AreApart, same_key, table_apart}
+use Rattle.bdb_hash.proofs.LookupLemmas.{AreApart, keys_apart, same_key}
 
 -- The order of keys.
 
@@ -190,11 +189,11 @@ sorted_rising (t ∷ ts) sorted apart = (
 
 -- the pairs of a table, sorted, are in the order of its list
 pub sorted_ranked : (image : List ℕ) (meta : HashMeta) (old new : List Told) → IsTable image
-    → HasMetadata (file_of image) (HashFields meta) → database_faults (file_of image) (HashFields meta) ≡ []
+    → HasMetadata (file_of image) (HashFields meta) → KeysDiffer (file_of image) meta
     → old ≡ table_told image meta → IsPermutation old new → IsSorted told_cmp new → new ≡ ranked image meta
-sorted_ranked image meta old new table has none are moved sorted =
+sorted_ranked image meta old new table has differ are moved sorted =
     let pairs : List StoredPair = table_pairs (file_of image) meta in
-    let apart : AreApart pairs = table_apart image meta table has none in
+    let apart : AreApart pairs = keys_apart image meta table has differ in
     let old_stored : stored old ≡ pairs = ap stored are ∙ table_stored image meta in
     let old_told : old ≡ map (told image) pairs = are ∙ table_is_told image meta in
     let distinct : IsDistinct share_key new =

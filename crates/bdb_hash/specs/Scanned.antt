@@ -1,18 +1,27 @@
 -- The list of a table as the code gives it.
 use Rattle.std.specs.Prelude.{◌≡◌, ℕ, ◌++◌, List, map}
-use Rattle.std.specs.List.{flat_map}
+use Rattle.std.specs.List.{Contains, flat_map}
+use Rattle.bdb_faults.specs.Rows.{fault_at}
+use Rattle.bdb_faults.specs.declared.rows.ContentsRow.TheVariants.{KeyTwice}
+use Rattle.bdb_faults.specs.declared.rows.Row.TheVariants.{Contents}
 use Rattle.bdb_overflow.specs.declared.datum.Datum.{Datum}
 use Rattle.bdb_overflow.specs.declared.datum.KeyView.{KeyView}
 use Rattle.bdb_overflow.specs.Datum.{datum_seen, key_view_seen}
 use Rattle.bdb_hash.specs.Told.{Told, entry_list, listed_told, told}
 use Rattle.bdb_format.specs.declared.metadata.HashMeta.{HashMeta}
+use Rattle.bdb_format.specs.ContentRows.{database_faults}
 use Rattle.bdb_format.specs.Contents.{table_pairs}
-use Rattle.bdb_format.specs.File.{file_of}
+use Rattle.bdb_format.specs.File.{File, file_of}
 use Rattle.bdb_format.specs.Lists.{ListKey, by_key}
+use Rattle.bdb_format.specs.Page.{HashFields}
 
 -- a pair of a list
 abbrev pub entry_seen : (KeyView × Datum) → ListKey × List ℕ
 entry_seen entry = (key_view_seen entry.0, datum_seen entry.1)
+
+-- KeyTwice doesn't hold for a table
+pub record KeysDiffer (file : File) (meta : HashMeta) : Type 0 where
+  pub none_comes_twice : (p : ℕ) → Contains (database_faults file (HashFields meta)) (fault_at (Contents KeyTwice) p) → ⊥
 
 -- the pairs of a table in the order of their keys
 abbrev pub ranked : List ℕ → HashMeta → List Told

@@ -2,10 +2,9 @@ ghost use Rattle.std.specs.Prelude.{◌≡◌, ◌+◌, ◌-◌, ◌^◌, [], If
 ghost use Rattle.std.specs.List.Sorted.{IsPermutation, IsSortedBy};
 ghost use Rattle.bdb_graph.specs.Linked.{HasMetadata};
 ghost use Rattle.bdb_hash.specs.Places.{Adds, AreAt, place_less};
-ghost use Rattle.bdb_hash.specs.Scanned.{ranked};
+ghost use Rattle.bdb_hash.specs.Scanned.{KeysDiffer, ranked};
 ghost use Rattle.bdb_hash.specs.Told.{joined_pages, table_told};
 ghost use Rattle.bdb_hash.specs.Views.{IsTable};
-ghost use Rattle.bdb_format.specs.ContentRows.{database_faults};
 ghost use Rattle.bdb_format.specs.File.{file_of};
 ghost use Rattle.bdb_format.specs.Lists.{hash_list};
 ghost use Rattle.bdb_format.specs.Page.{HashFields};
@@ -106,7 +105,7 @@ fn ranked_pairs<'a>(
 ) -> Result<Ranked<'a>, AllocError>
     requires meta { HasMetadata (file_of linked.now) (HashFields meta.now) }
     requires stage { structure_faults (file_of linked.now) ≡ [] }
-    requires contents { database_faults (file_of linked.now) (HashFields meta.now) ≡ [] }
+    requires keys { KeysDiffer (file_of linked.now) meta.now }
     ensures { IfOk result (λ pairs. pairs ≡ ranked linked.now meta.now) }
 {
     let mut places = table_places(alloc, linked, meta)?;
@@ -115,13 +114,13 @@ fn ranked_pairs<'a>(
     Ok(Ranked::over(&forest, places))
 }
 
-/// The list of a table, in the order of its keys. It takes sixteen bytes for each pair of the table; an error is want
+/// The list of a table without repeated keys, in the order of its keys. It takes sixteen bytes for each pair of the table; an error is want
 /// of memory.
 #[tactic(auto, using(crate::proofs::ScanLemmas::ranked_list))]
 pub fn scan<'a>(alloc: Global, linked: &Linked<'a>, meta: &HashMeta) -> Result<Scan<'a>, AllocError>
     requires meta { HasMetadata (file_of linked.now) (HashFields meta.now) }
     requires stage { structure_faults (file_of linked.now) ≡ [] }
-    requires contents { database_faults (file_of linked.now) (HashFields meta.now) ≡ [] }
+    requires keys { KeysDiffer (file_of linked.now) meta.now }
     ensures { IfOk result (λ scan. scan ≡ hash_list (file_of linked.now) meta.now) }
 {
     let pairs = ranked_pairs(alloc, linked, meta)?;

@@ -1,4 +1,4 @@
-//! Tells the verdict on each image that standard input names.
+//! Tells the verdict on each image that standard input names, by all rows and in any order.
 #![tactic(auto)]
 
 ghost use Rattle.std.specs.Prelude.{IfOk};
@@ -7,8 +7,9 @@ ghost use Rattle.bdb_images.specs.Lines.{AreLinesOnFile};
 mod lines;
 mod verdict;
 
-use crate::lines::lines_on;
+use crate::lines::{lines_on, unreadable};
 use crate::verdict::verdict_on;
+use bdb_file::Rows;
 use bdb_format::Bytes;
 use std::alloc::AllocError;
 use std::io::Write;
@@ -31,9 +32,10 @@ fn lines_of_file<R: Files + AllocGlobal>(rt: &R, name: &str) -> Result<Bytes, Al
 {
     match fs::read(rt, name) {
         Ok(image) => {
-            let verdict = verdict_on(rt.alloc(), image.as_slice())?;
-            lines_on(rt.alloc(), name, verdict.as_slice())
+            let told = verdict_on(rt.alloc(), image.as_slice(), Rows::All)?;
+            let in_any_order = verdict_on(rt.alloc(), image.as_slice(), Rows::AnyOrder)?;
+            lines_on(rt.alloc(), name, told.as_slice(), in_any_order.as_slice())
         }
-        Err(_) => lines_on(rt.alloc(), name, b"can't be read\n"),
+        Err(_) => unreadable(rt.alloc(), name),
     }
 }

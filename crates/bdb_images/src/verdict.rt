@@ -1,6 +1,7 @@
 ghost use Rattle.std.specs.Prelude.{◌≡◌, IfOk};
 ghost use Rattle.bdb_images.specs.Lines.{verdict_on, verify_words};
 
+use bdb_file::Rows;
 use bdb_format::Bytes;
 use bdb_io::{MemSink, PureSource};
 use bdb_model::Words;
@@ -10,11 +11,11 @@ use std::alloc::{AllocError, Global};
 use std::marker::Brand;
 use std::sync::ledger::Blank;
 
-/// What the answer to `verify` over an image tells: the line of a sound file, or a line for each fault.
-pub fn verdict_on(alloc: Global, image: &[u8]) -> Result<Bytes, AllocError>
-    ensures { IfOk result (λ verdict. verdict ≡ verdict_on image.now) }
+/// What the answer to `verify` over an image tells, by the rows that count: the line of a sound file, or a line for each fault.
+pub fn verdict_on(alloc: Global, image: &[u8], rows: Rows) -> Result<Bytes, AllocError>
+    ensures { IfOk result (λ verdict. verdict ≡ verdict_on rows image.now) }
 {
-    let words = verify_words(alloc)?;
+    let words = verify_words(alloc, rows)?;
     let mut source = PureSource::new(bytes_of(alloc, image)?);
     let mut out = MemSink::new(alloc);
     let mut err = MemSink::new(alloc);
@@ -33,11 +34,14 @@ pub fn verdict_on(alloc: Global, image: &[u8]) -> Result<Bytes, AllocError>
     }
 }
 
-fn verify_words(alloc: Global) -> Result<Words, AllocError>
-    ensures { IfOk result (λ words. words ≡ verify_words) }
+fn verify_words(alloc: Global, rows: Rows) -> Result<Words, AllocError>
+    ensures { IfOk result (λ words. words ≡ verify_words rows) }
 {
     let mut words = Words::new(alloc);
     words.push("verify")?;
+    if matches!(rows, Rows::AnyOrder) {
+        words.push("--any-order")?;
+    }
     Ok(words)
 }
 

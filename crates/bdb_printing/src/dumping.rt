@@ -14,7 +14,7 @@ ghost use Rattle.bdb_lines.specs.Printing.{Writes};
 ghost use Rattle.std.specs.Fmt.{decimal};
 
 use crate::printing::Printer;
-use bdb_file::{Db, Scan, Sound};
+use bdb_file::{Db, Readable, Scan};
 use bdb_format::{Bytes, Settings};
 use bdb_io::Sink;
 use bdb_lines::Cut;
@@ -107,12 +107,12 @@ impl<'k, K: Sink> Printer<'k, K> {
     }
 
     /// Prints the data lines of the list of a database, and the line that ends them.
-    fn database_data(&mut self, sound: &Sound<'_>, db: Db, print: bool) -> Result<(), Cut>
-        requires { db < length (databases (file_of sound.now)) }
+    fn database_data(&mut self, readable: &Readable<'_>, db: Db, print: bool) -> Result<(), Cut>
+        requires { db < length (databases (file_of readable.now)) }
         ensures { Adds K.written K.faults self.old self.new
-            (flat_map (pair_text print) (list_of (file_of sound.now) (database_at (file_of sound.now) db).fields) ++ line data_end) result }
+            (flat_map (pair_text print) (list_of (file_of readable.now) (database_at (file_of readable.now) db).fields) ++ line data_end) result }
     {
-        match sound.scan(self.alloc, db) {
+        match readable.scan(self.alloc, db) {
             Ok(mut list) => self.data(&mut list, print),
             Err(_) => Err(Cut::Memory),
         }
@@ -120,20 +120,20 @@ impl<'k, K: Sink> Printer<'k, K> {
 
     /// Prints the section of a database.
     #[tactic(auto, using(crate::proofs::DumpLemmas::section_by_parts, crate::proofs::PrinterLemmas::then_adds, crate::proofs::PrinterLemmas::adds_cut))]
-    fn database_section(&mut self, sound: &Sound<'_>, db: Db, print: bool) -> Result<(), Cut>
-        requires { db < length (databases (file_of sound.now)) }
-        ensures { Adds K.written K.faults self.old self.new (database_text print sound.now (database_at (file_of sound.now) db)) result }
+    fn database_section(&mut self, readable: &Readable<'_>, db: Db, print: bool) -> Result<(), Cut>
+        requires { db < length (databases (file_of readable.now)) }
+        ensures { Adds K.written K.faults self.old self.new (database_text print readable.now (database_at (file_of readable.now) db)) result }
     {
-        self.header(sound.name(db), &sound.settings(db), print)?;
-        self.database_data(sound, db, print)
+        self.header(readable.name(db), &readable.settings(db), print)?;
+        self.database_data(readable, db, print)
     }
 
     /// Prints the section of each database.
-    fn sections(&mut self, sound: &Sound<'_>, print: bool) -> Result<(), Cut>
-        ensures { Adds K.written K.faults self.old self.new (dump_text print sound.now (databases (file_of sound.now))) result }
+    fn sections(&mut self, readable: &Readable<'_>, print: bool) -> Result<(), Cut>
+        ensures { Adds K.written K.faults self.old self.new (dump_text print readable.now (databases (file_of readable.now))) result }
     {
-        for i in 0..sound.databases() {
-            self.database_section(sound, sound.database(i), print)?;
+        for i in 0..readable.databases() {
+            self.database_section(readable, readable.database(i), print)?;
         }
         Ok(())
     }
@@ -144,12 +144,12 @@ impl<'k, K: Sink> Printer<'k, K> {
 pub fn write_section<K: Sink>(
     alloc: Global,
     out: &mut K,
-    sound: &Sound<'_>,
+    readable: &Readable<'_>,
     db: Db,
     print: bool,
 ) -> Result<(), Cut>
-    requires { db < length (databases (file_of sound.now)) }
-    ensures { Writes (database_text print sound.now (database_at (file_of sound.now) db)) (change K.written K.faults out.old out.new) result }
+    requires { db < length (databases (file_of readable.now)) }
+    ensures { Writes (database_text print readable.now (database_at (file_of readable.now) db)) (change K.written K.faults out.old out.new) result }
 {
     let mut pending = Bytes::new(alloc);
     let mut printer = Printer {
@@ -157,7 +157,7 @@ pub fn write_section<K: Sink>(
         out,
         pending: &mut pending,
     };
-    printer.database_section(sound, db, print)?;
+    printer.database_section(readable, db, print)?;
     printer.flush()
 }
 
@@ -166,10 +166,10 @@ pub fn write_section<K: Sink>(
 pub fn write_sections<K: Sink>(
     alloc: Global,
     out: &mut K,
-    sound: &Sound<'_>,
+    readable: &Readable<'_>,
     print: bool,
 ) -> Result<(), Cut>
-    ensures { Writes (dump_text print sound.now (databases (file_of sound.now))) (change K.written K.faults out.old out.new) result }
+    ensures { Writes (dump_text print readable.now (databases (file_of readable.now))) (change K.written K.faults out.old out.new) result }
 {
     let mut pending = Bytes::new(alloc);
     let mut printer = Printer {
@@ -177,6 +177,6 @@ pub fn write_sections<K: Sink>(
         out,
         pending: &mut pending,
     };
-    printer.sections(sound, print)?;
+    printer.sections(readable, print)?;
     printer.flush()
 }

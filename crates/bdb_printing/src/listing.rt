@@ -12,7 +12,7 @@ ghost use Rattle.bdb_printing.specs.Printers.{Adds};
 ghost use Rattle.bdb_lines.specs.Printing.{Writes};
 
 use crate::printing::Printer;
-use bdb_file::{Found, Sound};
+use bdb_file::{Found, Readable};
 use bdb_format::{Bytes, Kind};
 use bdb_io::Sink;
 use bdb_lines::Cut;
@@ -59,13 +59,13 @@ impl<'k, K: Sink> Printer<'k, K> {
     }
 
     /// Prints the line of each database.
-    fn database_lines(&mut self, sound: &Sound<'_>) -> Result<(), Cut>
-        ensures { Adds K.written K.faults self.old self.new (list_text (databases (file_of sound.now))) result }
+    fn database_lines(&mut self, readable: &Readable<'_>) -> Result<(), Cut>
+        ensures { Adds K.written K.faults self.old self.new (list_text (databases (file_of readable.now))) result }
     {
-        for i in 0..sound.databases() {
-            let db = sound.database(i);
-            let kind = sound.settings(db).kind;
-            self.database_line(kind, sound.name(db))?;
+        for i in 0..readable.databases() {
+            let db = readable.database(i);
+            let kind = readable.settings(db).kind;
+            self.database_line(kind, readable.name(db))?;
         }
         Ok(())
     }
@@ -111,8 +111,8 @@ impl<'k, K: Sink> Printer<'k, K> {
 
 /// Writes the line of each database.
 #[tactic(auto, using(crate::proofs::PrinterLemmas::all_cut))]
-pub fn write_list<K: Sink>(alloc: Global, out: &mut K, sound: &Sound<'_>) -> Result<(), Cut>
-    ensures { Writes (list_text (databases (file_of sound.now))) (change K.written K.faults out.old out.new) result }
+pub fn write_list<K: Sink>(alloc: Global, out: &mut K, readable: &Readable<'_>) -> Result<(), Cut>
+    ensures { Writes (list_text (databases (file_of readable.now))) (change K.written K.faults out.old out.new) result }
 {
     let mut pending = Bytes::new(alloc);
     let mut printer = Printer {
@@ -120,7 +120,7 @@ pub fn write_list<K: Sink>(alloc: Global, out: &mut K, sound: &Sound<'_>) -> Res
         out,
         pending: &mut pending,
     };
-    printer.database_lines(sound)?;
+    printer.database_lines(readable)?;
     printer.flush()
 }
 

@@ -329,6 +329,7 @@ fn hash_finds<L: Ledger>(
     }
 }
 
+#[tactic(auto, using(bdb_hash::proofs::LookupLemmas::no_key_twice))]
 fn hash_lists(alloc: Global, linked: &Linked<'_>, meta: &HashMeta, text: &str) -> bool
     requires meta { HasMetadata (file_of linked.now) (HashFields meta.now) }
     requires stage { structure_faults (file_of linked.now) ≡ [] }

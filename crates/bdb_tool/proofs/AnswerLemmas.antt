@@ -1,6 +1,6 @@
 -- Answers over a sound file.
 use Rattle.std.proofs.Common.{◌≡◌, ℕ, ◌<◌, Bool, true, false, List, [], ◌∷◌, ◌++◌, length, inl, inr, sym, subst, ◌∙◌, ap, arith, ◌≤◌}
-use Rattle.std.specs.Prelude.{if◌then◌else◌, Option, Some, None, Ok, Err, Result, nat_lt, codes, string_bytes}
+use Rattle.std.specs.Prelude.{if◌then◌else◌, Option, Some, None, Ok, Err, Result, nat_lt, codes, not, option_copied, string_bytes, ⊤}
 use Rattle.std.specs.Io.KnownBytes.{Appends}
 use Rattle.std.proofs.lemmas.Option.{slice_get-get_or}
 use Rattle.bdb_format.specs.declared.kinds.Order.{Order}
@@ -11,7 +11,7 @@ use Rattle.bdb_text_format.specs.Written.{database_text, dump_text, is_btree}
 use Rattle.bdb_model.specs.Answers.{Answer, done, data_at, data_named, data_of_database, fault_line, found, not_found, told, unsupported_line, not_btree, pairs_text, value_line, values_text, database_in, dumped, section_answer}
 use Rattle.bdb_tool.specs.FileAnswers.{converted, judged_answer, range_answer, ranged, sound_answer}
 use Rattle.bdb_model.specs.Change.{Change}
-use Rattle.bdb_model.specs.Command.{Request, Verify, ListAll, Get, Dump, Range, Convert, Stat}
+use Rattle.bdb_model.specs.Command.{Request, Verify, ListAll, Get, Dump, Range, Convert, Stat, asked_name, bounds_request, key_request}
 use Rattle.bdb_format.specs.Databases.{Database, data_under, databases, place_of}
 use Rattle.bdb_format.specs.File.{File, file_of}
 use Rattle.bdb_format.specs.Flags.{kind_of}
@@ -20,11 +20,19 @@ use Rattle.bdb_turned.specs.Flipped.{overlap_in}
 use Rattle.bdb_range.specs.Ranges.{in_range}
 use Rattle.bdb_format.specs.Verdict.{Faulty, Judgement, LeftOut, verdict_of}
 use Rattle.bdb_file.specs.Named.{database_at, no_database}
-use Rattle.bdb_file.specs.Whole.{IsVerdictOf}
+use Rattle.bdb_file.specs.AnyOrder.{faults_by_rows, verdict_by}
+use Rattle.bdb_file.specs.Whole.{IsVerdictBy, IsVerdictOf}
+use Rattle.bdb_file.specs.declared.rows.Rows.{Rows}
+use Rattle.bdb_file.specs.declared.rows.Rows.TheVariants.{All}
+use Rattle.bdb_file.proofs.RowsLemmas.{all_are_of_all, no_verdict}
 use Rattle.bdb_printing.specs.SalvageText.{salvage_text}
 use Rattle.bdb_salvage.specs.Guesses.{chosen}
 use Rattle.bdb_survey.specs.declared.guess.Guess.{Guess}
-use Rattle.bdb_tool.specs.Outputs.{salvage_answer, salvaged_answer}
+use Rattle.bdb_text_format.specs.TextSpelling.{bytes_spelled}
+use Rattle.bdb_tool.specs.Outputs.{asked_answer, salvage_answer, salvaged_answer}
+use Rattle.bdb_tool.specs.WordsSeen.{request_seen}
+use Rattle.bdb_tool.specs.declared.command.Request.{Request as CodeRequest}
+use Rattle.bdb_tool.specs.declared.command.Request.TheVariants.{Get as GetWord, Range as RangeWord, Convert as ConvertWord, Stat as StatWord}
 use Rattle.bdb_tool.specs.Parts.{Answered, Ends, Finishes, HasOwnStatus, IsRefusalTold, IsRefused, Reports, Tells, Unanswered}
 use Rattle.bdb_format.specs.declared.kinds.Kind.{Kind}
 use Rattle.bdb_format.proofs.KnownLemmas.{keeps_itself}
@@ -109,38 +117,107 @@ sound_own (Range name from to prints) image = ranged_own prints (file_of image) 
 sound_own (Convert order) image = converted_own (overlap_in order image) order image
 sound_own Stat image = low_own (sound_answer Stat image) (omega arith)
 
-judged_own : (verdict : Option Judgement) (request : Request) (image : List ℕ) → HasOwnStatus (judged_answer verdict request image)
+pub judged_own : (verdict : Option Judgement) (request : Request) (image : List ℕ) → HasOwnStatus (judged_answer verdict request image)
 judged_own None request image = sound_own request image
 judged_own (Some (Faulty fault)) request image = low_own (told 1 (fault_line fault)) (omega arith)
 judged_own (Some (LeftOut name page)) request image = low_own (told 3 (unsupported_line name page)) (omega arith)
 
-pub answer_own : (request : Request) (image : List ℕ) → HasOwnStatus (judged_answer (verdict_of image) request image)
-answer_own request image = judged_own (verdict_of image) request image
+-- A file on which no row that counts holds.
 
--- A sound file.
-
-pub sound_finishes : (image file : List ℕ) (asked : Request) (out err : Change) (status : ℕ) → Finishes (sound_answer asked file) out err status → verdict_of image ≡ None → file ≡ image
-    → Finishes (judged_answer (verdict_of image) asked image) out err status
-sound_finishes image file asked out err status finishes sound same =
-    subst (λ verdict. Finishes (judged_answer verdict asked image) out err status) (sym sound)
+pub sound_finishes : (verdict : Option Judgement) (image file : List ℕ) (asked : Request) (out err : Change) (status : ℕ)
+    → Finishes (sound_answer asked file) out err status → verdict ≡ None → file ≡ image → Finishes (judged_answer verdict asked image) out err status
+sound_finishes verdict image file asked out err status finishes sound same =
+    subst (λ it. Finishes (judged_answer it asked image) out err status) (sym sound)
     (subst (λ bytes. Finishes (sound_answer asked bytes) out err status) same finishes)
+
+pub readable_finishes : (rows : Rows) (image file : List ℕ) (asked : Request) (out err : Change) (status : ℕ)
+    → Finishes (sound_answer asked file) out err status → faults_by_rows rows image ≡ [] → file ≡ image → Finishes (judged_answer (verdict_by rows image) asked image) out err status
+readable_finishes rows image file asked out err status finishes none same =
+    sound_finishes (verdict_by rows image) image file asked out err status finishes (no_verdict rows image none) same
 
 -- A file that isn't sound.
 
-pub refused_finishes : (verdict : Verdict) (request : Request) (image : List ℕ) (written : Option (List ℕ)) (faults : ℕ) (err : Change) (status : ℕ) → IsVerdictOf image verdict → IsRefused verdict err status
-    → Finishes (judged_answer (verdict_of image) request image) (moved written written faults faults) err status
-refused_finishes (Fault fault) request image written faults err status is (inl tells) =
-    subst (λ verdict. Finishes (judged_answer verdict request image) (moved written written faults faults) err status) (sym is)
+-- the refusal tells a verdict
+IsOf : Option Judgement → Verdict → Type 0
+IsOf verdict (Fault fault) = verdict ≡ Some (Faulty fault)
+IsOf verdict (Unsupported name page) = verdict ≡ Some (LeftOut name page)
+IsOf verdict MemoryVerdict = ⊤
+
+verdict_told : (of : Option Judgement) (verdict : Verdict) (request : Request) (image : List ℕ) (written : Option (List ℕ)) (faults : ℕ) (err : Change)
+    (status : ℕ) → IsOf of verdict → IsRefused verdict err status → Finishes (judged_answer of request image) (moved written written faults faults) err status
+unfolding IsOf
+verdict_told of (Fault fault) request image written faults err status is (inl tells) =
+    subst (λ it. Finishes (judged_answer it request image) (moved written written faults faults) err status) (sym is)
     (told_finishes 1 (fault_line fault) written faults err status (λ five. omega arith) (λ seven. omega arith) tells)
-refused_finishes (Fault fault) request image written faults err status is (inr tells) =
-    memory_finishes (judged_answer (verdict_of image) request image) written faults err status (answer_own request image) tells
-refused_finishes (Unsupported name page) request image written faults err status is (inl tells) =
-    subst (λ verdict. Finishes (judged_answer verdict request image) (moved written written faults faults) err status) (sym is)
+verdict_told of (Fault fault) request image written faults err status is (inr tells) =
+    memory_finishes (judged_answer of request image) written faults err status (judged_own of request image) tells
+verdict_told of (Unsupported name page) request image written faults err status is (inl tells) =
+    subst (λ it. Finishes (judged_answer it request image) (moved written written faults faults) err status) (sym is)
     (told_finishes 3 (unsupported_line name page) written faults err status (λ five. omega arith) (λ seven. omega arith) tells)
-refused_finishes (Unsupported name page) request image written faults err status is (inr tells) =
-    memory_finishes (judged_answer (verdict_of image) request image) written faults err status (answer_own request image) tells
-refused_finishes MemoryVerdict request image written faults err status is tells =
-    memory_finishes (judged_answer (verdict_of image) request image) written faults err status (answer_own request image) tells
+verdict_told of (Unsupported name page) request image written faults err status is (inr tells) =
+    memory_finishes (judged_answer of request image) written faults err status (judged_own of request image) tells
+verdict_told of MemoryVerdict request image written faults err status is tells =
+    memory_finishes (judged_answer of request image) written faults err status (judged_own of request image) tells
+
+of_file : (verdict : Verdict) (image : List ℕ) → IsVerdictOf image verdict → IsOf (verdict_of image) verdict
+unfolding IsOf
+of_file (Fault fault) image is = is
+of_file (Unsupported name page) image is = is
+of_file MemoryVerdict image is = tt
+
+of_rows : (rows : Rows) (verdict : Verdict) (image : List ℕ) → IsVerdictBy rows image verdict → IsOf (verdict_by rows image) verdict
+unfolding IsOf
+of_rows rows (Fault fault) image is = is
+of_rows rows (Unsupported name page) image is = is
+of_rows rows MemoryVerdict image is = tt
+
+pub refused_finishes : (verdict : Verdict) (request : Request) (image : List ℕ) (written : Option (List ℕ)) (faults : ℕ) (err : Change) (status : ℕ)
+    → IsVerdictOf image verdict → IsRefused verdict err status
+    → Finishes (judged_answer (verdict_of image) request image) (moved written written faults faults) err status
+refused_finishes verdict request image written faults err status is refused =
+    verdict_told (verdict_of image) verdict request image written faults err status (of_file verdict image is) refused
+
+pub refused_by : (rows : Rows) (verdict : Verdict) (request : Request) (image : List ℕ) (written : Option (List ℕ)) (faults : ℕ) (err : Change) (status : ℕ)
+    → IsVerdictBy rows image verdict → IsRefused verdict err status
+    → Finishes (judged_answer (verdict_by rows image) request image) (moved written written faults faults) err status
+refused_by rows verdict request image written faults err status is refused =
+    verdict_told (verdict_by rows image) verdict request image written faults err status (of_rows rows verdict image is) refused
+
+-- What is asked of a sound file.
+
+not_verify_key : (name : Option (Option (List ℕ))) (key : Option (List ℕ)) (prints : Bool) → key_request name key prints ≡ Some Verify → ⊥
+not_verify_key None key prints is = cc
+not_verify_key (Some name) None prints is = cc
+not_verify_key (Some name) (Some key) prints is = cc
+
+not_verify_bounds : (name : Option (Option (List ℕ))) (from to : Option (List ℕ)) (prints : Bool) → bounds_request name from to prints ≡ Some Verify → ⊥
+not_verify_bounds None from to prints is = cc
+not_verify_bounds (Some name) None to prints is = cc
+not_verify_bounds (Some name) (Some from) None prints is = cc
+not_verify_bounds (Some name) (Some from) (Some to) prints is = cc
+
+not_verify : (request : CodeRequest) → request_seen request ≡ Some Verify → ⊥
+not_verify (GetWord it) is = not_verify_key (asked_name (option_copied it.name)) (bytes_spelled (not it.hex) it.key.now) it.print is
+not_verify (RangeWord it) is =
+    not_verify_bounds (asked_name (option_copied it.name)) (bytes_spelled (not it.hex) it.from.now) (bytes_spelled (not it.hex) it.to.now) it.print is
+not_verify (ConvertWord order) is = cc
+not_verify StatWord is = cc
+
+by_all : (asked : Request) (image : List ℕ) (out err : Change) (status : ℕ) → Finishes (judged_answer (verdict_of image) asked image) out err status
+    → Finishes (judged_answer (verdict_by All image) asked image) out err status
+by_all asked image out err status finishes =
+    subst (λ it. Finishes (judged_answer it asked image) out err status) (sym (all_are_of_all image).1) finishes
+
+-- all rows count, and the first that holds is told
+pub asked_finishes : (request : CodeRequest) (asked : Request) (image : List ℕ) (out err : Change) (status : ℕ) → request_seen request ≡ Some asked
+    → Finishes (judged_answer (verdict_of image) asked image) out err status → Finishes (asked_answer All asked image) out err status
+asked_finishes request Verify image out err status is finishes = absurd (not_verify request is)
+asked_finishes request ListAll image out err status is finishes = by_all ListAll image out err status finishes
+asked_finishes request (Get name key prints) image out err status is finishes = by_all (Get name key prints) image out err status finishes
+asked_finishes request (Dump name prints) image out err status is finishes = by_all (Dump name prints) image out err status finishes
+asked_finishes request (Range name from to prints) image out err status is finishes = by_all (Range name from to prints) image out err status finishes
+asked_finishes request (Convert order) image out err status is finishes = by_all (Convert order) image out err status finishes
+asked_finishes request Stat image out err status is finishes = by_all Stat image out err status finishes
 
 -- A sound file.
 

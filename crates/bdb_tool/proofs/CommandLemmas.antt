@@ -4,8 +4,8 @@ use Rattle.std.specs.Prelude.{Some, None, codes, slice_get}
 use Rattle.std.specs.Str.{bytes_eq}
 use Rattle.std.proofs.lemmas.List.{drop_all}
 use Rattle.std.proofs.lemmas.Option.{slice_get_within}
-use Rattle.bdb_model.specs.Command.{Arguments, Given, arguments, limit_of, max_bytes, once, value_given}
-use Rattle.bdb_tool.specs.Commands.{command_of, command_with, convert_row, dump_row, get_row, list_row, load_row, range_row, repair_row, salvage_row, stat_row, trial_action, trial_row, verify_row, within}
+use Rattle.bdb_model.specs.Command.{Arguments, Given, Request, arguments, limit_of, max_bytes, once, value_given}
+use Rattle.bdb_tool.specs.Commands.{command_of, command_with, convert_row, dump_row, get_row, list_row, load_row, range_row, reading_row, repair_row, salvage_row, stat_row, trial_action, trial_row, verify_row, within}
 use Rattle.bdb_tool.proofs.StepLemmas.{from_place, past_place}
 
 -- Operands.
@@ -40,6 +40,11 @@ convert_without given [] other = refl
 convert_without given (order ∷ []) other = absurd (other order refl)
 convert_without given (order ∷ second ∷ operands) other =
     let many : (length (order ∷ second ∷ operands) == 1) ≡ false = ne_eqb _ _ (λ one. omega arith) in rw many refl
+
+pub reading_with : (word : List ℕ) (asked : Request) (given : List Given) (words : List (List ℕ)) (place : ℕ) → place < length words
+    → command_with (reading_row word asked) (Some (given_with given (drop place words))) ≡ None
+reading_with word asked given words place within =
+    let some : (length (drop place words) == 0) ≡ false = ne_eqb _ _ (λ none. omega (arith, length-drop place words)) in rw some refl
 
 pub dump_with : (given : List Given) (words : List (List ℕ)) (place : ℕ) → place < length words → command_with dump_row (Some (given_with given (drop place words))) ≡ None
 dump_with given words place within =

@@ -7,8 +7,8 @@ use Rattle.std.proofs.lemmas.List.Folds.{list_any-append}
 use Rattle.bdb_model.specs.Command.{Given, hex_option, is_given, max_bytes, name_option, print_option, value_given}
 use Rattle.bdb_tool.specs.declared.options.Arguments.{Arguments}
 use Rattle.bdb_tool.specs.declared.options.GivenOption.{GivenOption}
-use Rattle.bdb_tool.specs.declared.options.GivenOption.TheVariants.{MaxBytes, Name, Order, PageSize, As, Onto, Hex, Print, Duplicates, Dupsort}
-use Rattle.bdb_tool.specs.Commands.{as_option, dupsort_option, duplicates_option, onto_option, order_option, page_size_option}
+use Rattle.bdb_tool.specs.declared.options.GivenOption.TheVariants.{MaxBytes, Name, Order, PageSize, As, Onto, Hex, Print, Duplicates, Dupsort, AnyOrder}
+use Rattle.bdb_tool.specs.Commands.{any_order_option, as_option, dupsort_option, duplicates_option, onto_option, order_option, page_size_option}
 use Rattle.bdb_tool.specs.WordsSeen.{HasGiven, IsNew, given_seen}
 
 -- One more option at the end.
@@ -110,6 +110,7 @@ with_max_bytes old read option text next before is none read_is has =
         print_is = given_other print_option before (given_seen (MaxBytes text)) old.print refl has.print_is;
         duplicates_is = given_other duplicates_option before (given_seen (MaxBytes text)) old.duplicates refl has.duplicates_is;
         dupsort_is = given_other dupsort_option before (given_seen (MaxBytes text)) old.dupsort refl has.dupsort_is;
+        any_order_is = given_other any_order_option before (given_seen (MaxBytes text)) old.any_order refl has.any_order_is;
       },
     )
 
@@ -129,6 +130,7 @@ with_name old read option text next before is none read_is has =
         print_is = given_other print_option before (given_seen (Name text)) old.print refl has.print_is;
         duplicates_is = given_other duplicates_option before (given_seen (Name text)) old.duplicates refl has.duplicates_is;
         dupsort_is = given_other dupsort_option before (given_seen (Name text)) old.dupsort refl has.dupsort_is;
+        any_order_is = given_other any_order_option before (given_seen (Name text)) old.any_order refl has.any_order_is;
       },
     )
 
@@ -148,6 +150,7 @@ with_order old read option text next before is none read_is has =
         print_is = given_other print_option before (given_seen (Order text)) old.print refl has.print_is;
         duplicates_is = given_other duplicates_option before (given_seen (Order text)) old.duplicates refl has.duplicates_is;
         dupsort_is = given_other dupsort_option before (given_seen (Order text)) old.dupsort refl has.dupsort_is;
+        any_order_is = given_other any_order_option before (given_seen (Order text)) old.any_order refl has.any_order_is;
       },
     )
 
@@ -167,6 +170,7 @@ with_page_size old read option text next before is none read_is has =
         print_is = given_other print_option before (given_seen (PageSize text)) old.print refl has.print_is;
         duplicates_is = given_other duplicates_option before (given_seen (PageSize text)) old.duplicates refl has.duplicates_is;
         dupsort_is = given_other dupsort_option before (given_seen (PageSize text)) old.dupsort refl has.dupsort_is;
+        any_order_is = given_other any_order_option before (given_seen (PageSize text)) old.any_order refl has.any_order_is;
       },
     )
 
@@ -186,6 +190,7 @@ with_kind old read option text next before is none read_is has =
         print_is = given_other print_option before (given_seen (As text)) old.print refl has.print_is;
         duplicates_is = given_other duplicates_option before (given_seen (As text)) old.duplicates refl has.duplicates_is;
         dupsort_is = given_other dupsort_option before (given_seen (As text)) old.dupsort refl has.dupsort_is;
+        any_order_is = given_other any_order_option before (given_seen (As text)) old.any_order refl has.any_order_is;
       },
     )
 
@@ -205,6 +210,7 @@ with_onto old read option text next before is none read_is has =
         print_is = given_other print_option before (given_seen (Onto text)) old.print refl has.print_is;
         duplicates_is = given_other duplicates_option before (given_seen (Onto text)) old.duplicates refl has.duplicates_is;
         dupsort_is = given_other dupsort_option before (given_seen (Onto text)) old.dupsort refl has.dupsort_is;
+        any_order_is = given_other any_order_option before (given_seen (Onto text)) old.any_order refl has.any_order_is;
       },
     )
 
@@ -223,6 +229,7 @@ with_hex old read option next before is none read_is has =
         print_is = given_other print_option before (given_seen Hex) old.print refl has.print_is;
         duplicates_is = given_other duplicates_option before (given_seen Hex) old.duplicates refl has.duplicates_is;
         dupsort_is = given_other dupsort_option before (given_seen Hex) old.dupsort refl has.dupsort_is;
+        any_order_is = given_other any_order_option before (given_seen Hex) old.any_order refl has.any_order_is;
       },
     )
 
@@ -241,6 +248,7 @@ with_print old read option next before is none read_is has =
         print_is = given_now print_option before (given_seen Print) refl;
         duplicates_is = given_other duplicates_option before (given_seen Print) old.duplicates refl has.duplicates_is;
         dupsort_is = given_other dupsort_option before (given_seen Print) old.dupsort refl has.dupsort_is;
+        any_order_is = given_other any_order_option before (given_seen Print) old.any_order refl has.any_order_is;
       },
     )
 
@@ -259,6 +267,7 @@ with_duplicates old read option next before is none read_is has =
         print_is = given_other print_option before (given_seen Duplicates) old.print refl has.print_is;
         duplicates_is = given_now duplicates_option before (given_seen Duplicates) refl;
         dupsort_is = given_other dupsort_option before (given_seen Duplicates) old.dupsort refl has.dupsort_is;
+        any_order_is = given_other any_order_option before (given_seen Duplicates) old.any_order refl has.any_order_is;
       },
     )
 
@@ -277,5 +286,26 @@ with_dupsort old read option next before is none read_is has =
         print_is = given_other print_option before (given_seen Dupsort) old.print refl has.print_is;
         duplicates_is = given_other duplicates_option before (given_seen Dupsort) old.duplicates refl has.duplicates_is;
         dupsort_is = given_now dupsort_option before (given_seen Dupsort) refl;
+        any_order_is = given_other any_order_option before (given_seen Dupsort) old.any_order refl has.any_order_is;
+      },
+    )
+
+pub with_any_order : (old read : Arguments) (option : GivenOption) (next : ℕ) (before : List Given) → option ≡ AnyOrder → old.any_order ≡ false
+    → read ≡ record old { any_order = true } → HasGiven old before → IsNew before (given_seen option) (record read { operands = next })
+with_any_order old read option next before is none read_is has =
+    rw (is, read_is) (
+      has.any_order_is ∙ none,
+      record {
+        max_bytes_is = value_other max_bytes before (given_seen AnyOrder) refl ∙ has.max_bytes_is;
+        name_is = value_other name_option before (given_seen AnyOrder) refl ∙ has.name_is;
+        order_is = value_other order_option before (given_seen AnyOrder) refl ∙ has.order_is;
+        page_size_is = value_other page_size_option before (given_seen AnyOrder) refl ∙ has.page_size_is;
+        kind_is = value_other as_option before (given_seen AnyOrder) refl ∙ has.kind_is;
+        onto_is = value_other onto_option before (given_seen AnyOrder) refl ∙ has.onto_is;
+        hex_is = given_other hex_option before (given_seen AnyOrder) old.hex refl has.hex_is;
+        print_is = given_other print_option before (given_seen AnyOrder) old.print refl has.print_is;
+        duplicates_is = given_other duplicates_option before (given_seen AnyOrder) old.duplicates refl has.duplicates_is;
+        dupsort_is = given_other dupsort_option before (given_seen AnyOrder) old.dupsort refl has.dupsort_is;
+        any_order_is = given_now any_order_option before (given_seen AnyOrder) refl;
       },
     )

@@ -12,3 +12,4 @@ pub mod AnswerLemmas
 pub mod RangeLemmas
 pub mod ConvertLemmas
 pub mod FigureLemmas
+pub mod OrderLemmas

@@ -5,6 +5,7 @@ use Rattle.std.specs.Io.KnownBytes.{Consumes, IsAtEnd}
 use Rattle.std.proofs.lemmas.Bool.{le-ltb, lt-ltb}
 use Rattle.bdb_model.specs.Answers.{Answer, told, too_large_line, usage}
 use Rattle.bdb_model.specs.Change.{Change, GainsPart, HasFailed, IsUncalled, Stays}
+use Rattle.bdb_file.specs.declared.rows.Rows.TheVariants.{All}
 use Rattle.bdb_format.specs.Faults.{Rose, Took}
 use Rattle.bdb_model.specs.Lines.{memory_line, read_fault_line, write_fault_line}
 use Rattle.bdb_format.proofs.KnownLemmas.{keeps_itself}
@@ -21,7 +22,7 @@ use Rattle.bdb_tool.specs.declared.command.Trial.{Trial as CodeTrial}
 use Rattle.bdb_tool.specs.declared.task.Stop.{Stop}
 use Rattle.bdb_tool.specs.declared.task.Stop.TheVariants.{Usage, TooLarge, ReadFault, Memory as MemoryStop}
 use Rattle.bdb_tool.specs.declared.task.Task.{Task}
-use Rattle.bdb_tool.specs.declared.task.Task.TheVariants.{Ask as AskTask, Load as LoadTask, Salvage as SalvageTask, Repair as RepairTask, Trial as TrialTask}
+use Rattle.bdb_tool.specs.declared.task.Task.TheVariants.{Ask as AskTask, Read as ReadTask, Load as LoadTask, Salvage as SalvageTask, Repair as RepairTask, Trial as TrialTask}
 use Rattle.bdb_tool.proofs.TellingLemmas.{asked_own}
 use Rattle.bdb_tool.proofs.AnswerLemmas.{salvage_own, text_own, trial_own}
 use Rattle.bdb_tool.proofs.FinishLemmas.{memory_finishes, told_finishes}
@@ -232,9 +233,14 @@ tried_runs asks source out err limit trial status is uncalled ends =
     (λ _. uncalled) (calls_nothing asks source command status is refl uncalled) ends
 
 pub taken_runs : (asks : Asked) (source out err : Change) (task : Task) (status : ℕ) → IsTaskTaken asks.command source task → IsTaskAnswered task out err status → RunsAs asks source out err status
+taken_runs asks source out err (ReadTask rows reading image) status taken answered =
+    let command : Command = record { limit = taken.limit; action = Ask rows taken.asked } in
+    asked_runs asks source out err command image (asked_answer rows taken.asked image) status taken.read refl (asked_own rows taken.asked image).no_read_fault
+    (answered taken.asked taken.seen)
 taken_runs asks source out err (AskTask request image) status taken answered =
-    let command : Command = record { limit = taken.limit; action = Ask taken.asked } in
-    asked_runs asks source out err command image (asked_answer taken.asked image) status taken.read refl (asked_own taken.asked image).no_read_fault (answered taken.asked taken.seen)
+    let command : Command = record { limit = taken.limit; action = Ask All taken.asked } in
+    asked_runs asks source out err command image (asked_answer All taken.asked image) status taken.read refl (asked_own All taken.asked image).no_read_fault
+    (answered taken.asked taken.seen)
 taken_runs asks source out err (LoadTask text limit) status taken answered = loaded_runs asks source out err limit text status taken.read answered
 taken_runs asks source out err (SalvageTask asked image) status taken answered =
     let command : Command = record { limit = taken.limit; action = salvage_seen asked } in

@@ -9,7 +9,7 @@ use Rattle.std.proofs.lemmas.Slice.Eq.{bytes_eq-Decides}
 use Rattle.bdb_model.specs.Command.{Arguments, OptionRow, WordKind, End, Operand, Plain, Valued, Unknown, arguments, arguments_behind, is_option, only_operands, option_kind, row_of, with_option, word_kind}
 use Rattle.bdb_tool.specs.declared.options.OptionWord.{OptionWord}
 use Rattle.bdb_tool.specs.declared.options.OptionWord.TheVariants.{MaxBytes as MaxBytesWord, Name as NameWord, Order as OrderWord, PageSize as PageSizeWord, As as AsWord, Onto as OntoWord, Hex as HexWord, Print as PrintWord}
-use Rattle.bdb_tool.specs.declared.options.OptionWord.TheVariants.{Duplicates as DuplicatesWord, Dupsort as DupsortWord}
+use Rattle.bdb_tool.specs.declared.options.OptionWord.TheVariants.{AnyOrder as AnyOrderWord, Duplicates as DuplicatesWord, Dupsort as DupsortWord}
 use Rattle.bdb_tool.specs.declared.options.GivenOption.{GivenOption}
 use Rattle.bdb_tool.specs.declared.options.Step.TheVariants.{Given as GivenStep}
 use Rattle.bdb_tool.specs.WordsSeen.{IsGivenBy, IsRowOf, IsStep, given_seen, row_seen, word_count}
@@ -191,3 +191,6 @@ step_given options words at word DuplicatesWord given there not_end is row by =
 step_given options words at word DupsortWord given there not_end is row by =
     taken_step options words at word [] 1 given (row.1 ∙ sym by.0) by.1.0 by.1.1
     (step_alone options words at word (row_seen DupsortWord) there not_end is row.0 refl)
+step_given options words at word AnyOrderWord given there not_end is row by =
+    taken_step options words at word [] 1 given (row.1 ∙ sym by.0) by.1.0 by.1.1
+    (step_alone options words at word (row_seen AnyOrderWord) there not_end is row.0 refl)

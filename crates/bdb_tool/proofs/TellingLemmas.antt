@@ -4,6 +4,8 @@ use Rattle.std.specs.Prelude.{Option, Ok, Err, Result}
 use Rattle.bdb_faults.specs.All.{IsAllOf}
 use Rattle.bdb_faults.specs.declared.named.AllError.{AllError}
 use Rattle.bdb_faults.specs.declared.named.AllError.TheVariants.{Faults}
+use Rattle.bdb_file.specs.AnyOrder.{faults_by_rows, verdict_by}
+use Rattle.bdb_file.specs.declared.rows.Rows.{Rows}
 use Rattle.bdb_format.specs.declared.kinds.Fault.{Fault}
 use Rattle.bdb_lines.specs.Printing.{Writes}
 use Rattle.bdb_lines.specs.Telling.{judgement_status, judgements_text}
@@ -13,10 +15,10 @@ use Rattle.bdb_lines.proofs.PrintingLemmas.{moved}
 use Rattle.bdb_model.specs.Change.{Change}
 use Rattle.bdb_model.specs.Command.{Convert, Dump, Get, ListAll, Range, Request, Stat, Verify}
 use Rattle.bdb_model.specs.Lines.{memory_line}
-use Rattle.bdb_format.specs.Verdict.{Faulty, Judgement, LeftOut, faults_of, judgement_of}
+use Rattle.bdb_format.specs.Verdict.{Faulty, Judgement, LeftOut, judgement_of}
 use Rattle.bdb_tool.specs.Outputs.{asked_answer, first_status, verified}
 use Rattle.bdb_tool.specs.Parts.{Finishes, HasOwnStatus, Tells}
-use Rattle.bdb_tool.proofs.AnswerLemmas.{answer_own, low_own}
+use Rattle.bdb_tool.proofs.AnswerLemmas.{judged_own, low_own}
 use Rattle.bdb_tool.proofs.FinishLemmas.{memory_finishes, told_finishes}
 
 -- Statuses.
@@ -69,14 +71,14 @@ pub verified_own : (faults : List Fault) (image : List ℕ) → HasOwnStatus (ve
 verified_own [] image = low_own (verified [] image) (omega arith)
 verified_own (fault ∷ faults) image = low_own (verified (fault ∷ faults) image) (list_own (map judgement_of (fault ∷ faults)))
 
-pub asked_own : (request : Request) (image : List ℕ) → HasOwnStatus (asked_answer request image)
-asked_own Verify image = verified_own (faults_of image) image
-asked_own ListAll image = answer_own ListAll image
-asked_own (Get name key prints) image = answer_own (Get name key prints) image
-asked_own (Dump name prints) image = answer_own (Dump name prints) image
-asked_own (Range name from to prints) image = answer_own (Range name from to prints) image
-asked_own (Convert order) image = answer_own (Convert order) image
-asked_own Stat image = answer_own Stat image
+pub asked_own : (rows : Rows) (request : Request) (image : List ℕ) → HasOwnStatus (asked_answer rows request image)
+asked_own rows Verify image = verified_own (faults_by_rows rows image) image
+asked_own rows ListAll image = judged_own (verdict_by rows image) ListAll image
+asked_own rows (Get name key prints) image = judged_own (verdict_by rows image) (Get name key prints) image
+asked_own rows (Dump name prints) image = judged_own (verdict_by rows image) (Dump name prints) image
+asked_own rows (Range name from to prints) image = judged_own (verdict_by rows image) (Range name from to prints) image
+asked_own rows (Convert order) image = judged_own (verdict_by rows image) (Convert order) image
+asked_own rows Stat image = judged_own (verdict_by rows image) Stat image
 
 -- a file without faults
 pub sound_verified : (faults : List Fault) (file image : List ℕ) (out err : Change) (status : ℕ) → faults ≡ [] → file ≡ image → Finishes (verified [] file) out err status
@@ -107,5 +109,3 @@ pub all_finish : (faults : List Fault) (image : List ℕ) (error : AllError) (al
     → (Tells (judgements_text all) (first_status all) err status ⊎ Tells memory_line 7 err status)
     → Finishes (verified faults image) (moved written written count count) err status
 all_finish faults image error all written count err status is are told = faults_finish faults image all written count err status (all_of faults error all is are) told
-
--- What else is asked.

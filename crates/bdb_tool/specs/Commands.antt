@@ -1,23 +1,25 @@
 -- The commands, and what each does. Source: README.md, "Use".
 use Rattle.std.specs.Prelude.{ℕ, nat_le, ◌==◌, ◌&&◌, not, if◌then◌else◌, Bool, true, false, List, [], ◌∷◌, length, Option, Some, None, codes}
 use Rattle.std.specs.Str.{bytes_eq}
+use Rattle.bdb_file.specs.declared.rows.Rows.{Rows}
+use Rattle.bdb_file.specs.declared.rows.Rows.TheVariants.{All, AnyOrder}
 use Rattle.bdb_format.specs.declared.kinds.Kind.{Kind}
 use Rattle.bdb_format.specs.declared.kinds.Kind.TheVariants.{Btree, Recno, Hash, Queue}
 use Rattle.bdb_format.specs.declared.kinds.Order.{Order}
 use Rattle.bdb_format.specs.declared.kinds.Order.TheVariants.{Big, Little}
 use Rattle.bdb_format.specs.Digits.{number_in}
-use Rattle.bdb_model.specs.Command.{Arguments, OptionRow, Request, Verify, ListAll, Convert, Stat, arguments, dump_request, get_request, hex_row, is_given, limit_of, max_bytes, max_bytes_row, name_row, once, print_option, print_row, range_request, value_given}
+use Rattle.bdb_model.specs.Command.{Arguments, Given, OptionRow, Request, Verify, ListAll, Convert, Stat, arguments, dump_request, get_request, hex_row, is_given, limit_of, max_bytes, max_bytes_row, name_row, once, print_option, print_row, range_request, value_given}
 use Rattle.bdb_repair.specs.declared.shape.Duplicates.{Duplicates}
 use Rattle.bdb_repair.specs.declared.shape.Duplicates.TheVariants.{No, Unsorted, Sorted}
 use Rattle.bdb_repair.specs.declared.shape.Shape.{Shape}
 use Rattle.bdb_repair.specs.declared.shape.Shape.TheVariants.{Btree as BtreeShape, Hash as HashShape, Recno as RecnoShape}
 use Rattle.bdb_survey.specs.declared.guess.Guess.{Guess}
 
--- what a command does: it asks something of a file, loads a text, or loads it onto the file of this word, salvages an image by the guess that is given and
--- prints the data or spells them by digits, repairs an image by the guess that is given, into one database of a shape where one is given, or builds a file
--- of pairs that are generated: their kind, their seed, and how many
+-- what a command does: it asks something of a file by the rows that count, loads a text, or loads it onto the file of this word, salvages an image by the
+-- guess that is given and prints the data or spells them by digits, repairs an image by the guess that is given, into one database of a shape where one is
+-- given, or builds a file of pairs that are generated: their kind, their seed, and how many
 pub data Action : Type 0 where
-  Ask : Request → Action
+  Ask : Rows → Request → Action
   Load : Action
   LoadOnto : List ℕ → Action
   Salvage : Option Guess → Bool → Action
@@ -31,7 +33,7 @@ pub record Command : Type 0 where
 
 -- whether a command reads its input
 abbrev pub reads_input : Action → Bool
-reads_input (Ask request) = true
+reads_input (Ask rows request) = true
 reads_input Load = true
 reads_input (LoadOnto file) = true
 reads_input (Salvage guess print) = true
@@ -40,16 +42,16 @@ reads_input (Trial kind seed count) = false
 
 -- whether a command reads a base
 abbrev pub reads_base : Action → Bool
-reads_base (Ask request) = false
+reads_base (Ask rows request) = false
 reads_base Load = false
 reads_base (LoadOnto file) = true
 reads_base (Salvage guess print) = false
 reads_base (Repair shape guess) = false
 reads_base (Trial kind seed count) = false
 
-abbrev pub asking : Option Request → Option Action
-asking None = None
-asking (Some request) = Some (Ask request)
+abbrev pub asking : Rows → Option Request → Option Action
+asking rows None = None
+asking rows (Some request) = Some (Ask rows request)
 
 -- The order of `salvage`, `repair` and `convert`, and the page size of `salvage` and `repair`.
 
@@ -169,6 +171,22 @@ abbrev pub loading : Option (List ℕ) → Action
 loading None = Load
 loading (Some file) = LoadOnto file
 
+-- The option of `verify`, `list` and `dump`.
+
+abbrev pub any_order_option : List ℕ
+any_order_option = codes "--any-order"
+
+abbrev pub any_order_row : OptionRow
+any_order_row = record { word = any_order_option; takes_value = false }
+
+-- the rows that count, by whether it is given
+abbrev pub rows_by : Bool → Rows
+rows_by true = AnyOrder
+rows_by false = All
+
+abbrev pub rows_of : Arguments → Rows
+rows_of all = rows_by (is_given any_order_option all.given)
+
 -- Operands of `trial`.
 
 abbrev pub kind_named : List ℕ → Option Kind
@@ -205,7 +223,7 @@ trial_action (kind ∷ seed ∷ count ∷ operands) = trial_of (kind_named kind)
 
 abbrev pub converting : Option Order → Option Action
 converting None = None
-converting (Some order) = Some (Ask (Convert order))
+converting (Some order) = Some (Ask All (Convert order))
 
 abbrev pub convert_action : List (List ℕ) → Option Action
 convert_action [] = None
@@ -224,17 +242,27 @@ pub record CommandRow : Type 0 where
 abbrev pub plain_row : List ℕ → Action → CommandRow
 plain_row word action = record { word = word; options = max_bytes_row ∷ []; operands = 0; does = λ all. Some action }
 
+-- a command without operands that asks this of a file, in any order where that is given
+abbrev pub reading_row : List ℕ → Request → CommandRow
+reading_row word request =
+    record { word = word; options = max_bytes_row ∷ any_order_row ∷ []; operands = 0; does = λ all. Some (Ask (rows_of all) request) }
+
 abbrev pub verify_row : CommandRow
-verify_row = plain_row (codes "verify") (Ask Verify)
+verify_row = reading_row (codes "verify") Verify
 
 abbrev pub list_row : CommandRow
-list_row = plain_row (codes "list") (Ask ListAll)
+list_row = reading_row (codes "list") ListAll
 
 abbrev pub get_row : CommandRow
-get_row = record { word = codes "get"; options = max_bytes_row ∷ name_row ∷ hex_row ∷ print_row ∷ []; operands = 1; does = λ all. asking (get_request all) }
+get_row = record { word = codes "get"; options = max_bytes_row ∷ name_row ∷ hex_row ∷ print_row ∷ []; operands = 1; does = λ all. asking All (get_request all) }
 
 abbrev pub dump_row : CommandRow
-dump_row = record { word = codes "dump"; options = max_bytes_row ∷ name_row ∷ print_row ∷ []; operands = 0; does = λ all. asking (dump_request all) }
+dump_row = record {
+  word = codes "dump";
+  options = max_bytes_row ∷ name_row ∷ print_row ∷ any_order_row ∷ [];
+  operands = 0;
+  does = λ all. asking (rows_of all) (dump_request all);
+}
 
 abbrev pub load_row : CommandRow
 load_row = record {
@@ -251,13 +279,13 @@ abbrev pub trial_row : CommandRow
 trial_row = record { word = codes "trial"; options = max_bytes_row ∷ []; operands = 3; does = λ all. trial_action all.operands }
 
 abbrev pub range_row : CommandRow
-range_row = record { word = codes "range"; options = max_bytes_row ∷ name_row ∷ hex_row ∷ print_row ∷ []; operands = 2; does = λ all. asking (range_request all) }
+range_row = record { word = codes "range"; options = max_bytes_row ∷ name_row ∷ hex_row ∷ print_row ∷ []; operands = 2; does = λ all. asking All (range_request all) }
 
 abbrev pub convert_row : CommandRow
 convert_row = record { word = codes "convert"; options = max_bytes_row ∷ []; operands = 1; does = λ all. convert_action all.operands }
 
 abbrev pub stat_row : CommandRow
-stat_row = plain_row (codes "stat") (Ask Stat)
+stat_row = plain_row (codes "stat") (Ask All Stat)
 
 abbrev pub repair_row : CommandRow
 repair_row = record {
@@ -302,7 +330,7 @@ command_on words has = handed has (command_of words)
 -- The file that is opened as the base.
 
 abbrev pub file_of_action : Action → Option (List ℕ)
-file_of_action (Ask request) = None
+file_of_action (Ask rows request) = None
 file_of_action Load = None
 file_of_action (LoadOnto file) = Some file
 file_of_action (Salvage guess print) = None

@@ -1,7 +1,9 @@
 -- The answers to words, an input and a base: a status, and what is written to the output and to the error sink. Source: README.md, "Use".
 use Rattle.std.specs.Prelude.{◌≡◌, ◌⊎◌, ℕ, nat_lt, ◌&&◌, Bool, true, false, List, [], ◌∷◌, length, map, Option, Some, None, codes, ⊤}
+use Rattle.bdb_file.specs.AnyOrder.{faults_by_rows, verdict_by}
+use Rattle.bdb_file.specs.declared.rows.Rows.{Rows}
 use Rattle.bdb_format.specs.declared.kinds.Fault.{Fault}
-use Rattle.bdb_format.specs.Verdict.{Judgement, faults_of, judgement_of, verdict_of}
+use Rattle.bdb_format.specs.Verdict.{Judgement, judgement_of}
 use Rattle.bdb_lines.specs.Telling.{judgement_status, judgements_text}
 use Rattle.bdb_model.specs.Command.{Convert, Dump, Get, ListAll, Range, Request, Stat, Verify}
 use Rattle.bdb_model.specs.Answers.{Answer, done, told, too_large_line, usage}
@@ -32,15 +34,15 @@ verified [] image = sound_answer Verify image
 verified (fault ∷ faults) image =
     told (first_status (map judgement_of (fault ∷ faults))) (judgements_text (map judgement_of (fault ∷ faults)))
 
--- what is asked of a file; but for `verify` the first fault alone is told
-abbrev pub asked_answer : Request → List ℕ → Answer
-asked_answer Verify image = verified (faults_of image) image
-asked_answer ListAll image = judged_answer (verdict_of image) ListAll image
-asked_answer (Get name key prints) image = judged_answer (verdict_of image) (Get name key prints) image
-asked_answer (Dump name prints) image = judged_answer (verdict_of image) (Dump name prints) image
-asked_answer (Range name from to prints) image = judged_answer (verdict_of image) (Range name from to prints) image
-asked_answer (Convert order) image = judged_answer (verdict_of image) (Convert order) image
-asked_answer Stat image = judged_answer (verdict_of image) Stat image
+-- what is asked of a file, by the rows that count; but for `verify` the first fault alone is told
+abbrev pub asked_answer : Rows → Request → List ℕ → Answer
+asked_answer rows Verify image = verified (faults_by_rows rows image) image
+asked_answer rows ListAll image = judged_answer (verdict_by rows image) ListAll image
+asked_answer rows (Get name key prints) image = judged_answer (verdict_by rows image) (Get name key prints) image
+asked_answer rows (Dump name prints) image = judged_answer (verdict_by rows image) (Dump name prints) image
+asked_answer rows (Range name from to prints) image = judged_answer (verdict_by rows image) (Range name from to prints) image
+asked_answer rows (Convert order) image = judged_answer (verdict_by rows image) (Convert order) image
+asked_answer rows Stat image = judged_answer (verdict_by rows image) Stat image
 
 abbrev pub no_metadata : Answer
 no_metadata = told 10 (line (codes "no metadata page"))
@@ -71,7 +73,7 @@ IsRepairAnswer limit shape guess image answer = IsRepairBy limit shape (chosen g
 
 -- an answer to an input that isn't too long, and a base, whose bytes are none where none is read; `load`, `repair` and `trial` may have several
 abbrev pub IsActionAnswer : Action → ℕ → List ℕ → List ℕ → Answer → Type 0
-IsActionAnswer (Ask request) limit input base answer = answer ≡ asked_answer request input
+IsActionAnswer (Ask rows request) limit input base answer = answer ≡ asked_answer rows request input
 IsActionAnswer Load limit input base answer = IsTextAnswer limit input answer
 IsActionAnswer (LoadOnto file) limit input base answer = IsOntoAnswer limit input base answer
 IsActionAnswer (Salvage guess print) limit input base answer = answer ≡ salvage_answer guess print input

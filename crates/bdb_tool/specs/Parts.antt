@@ -1,5 +1,6 @@
 -- The two halves of a run: what it takes from the words and the source, and how it writes the answer.
 use Rattle.std.specs.Prelude.{◌≡◌, ◌≢◌, ◌⊎◌, ℕ, ◌+◌, List, [], Result, Ok, Err, Some, string_bytes}
+use Rattle.bdb_file.specs.declared.rows.Rows.TheVariants.{All}
 use Rattle.bdb_format.specs.declared.kinds.Verdict.{Verdict}
 use Rattle.bdb_format.specs.declared.kinds.Verdict.TheVariants.{Fault, Unsupported, Memory as MemoryVerdict}
 use Rattle.bdb_model.specs.Answers.{Answer, fault_line, told, too_large_line, unsupported_line, usage}
@@ -13,9 +14,9 @@ use Rattle.bdb_format.specs.Verdict.{verdict_of}
 use Rattle.bdb_tool.specs.Ontos.{IsOntoBy, base_too_large_line}
 use Rattle.bdb_tool.specs.Outputs.{IsRepairAnswer, asked_answer, salvage_answer}
 use Rattle.bdb_tool.specs.Tasks.{IsInputWithin}
-use Rattle.bdb_tool.specs.WordsSeen.{request_seen}
+use Rattle.bdb_tool.specs.WordsSeen.{reading_seen, request_seen}
 use Rattle.bdb_tool.specs.declared.task.Task.{Task}
-use Rattle.bdb_tool.specs.declared.task.Task.TheVariants.{Ask as AskTask, Load as LoadTask, Salvage as SalvageTask, Repair as RepairTask, Trial as TrialTask}
+use Rattle.bdb_tool.specs.declared.task.Task.TheVariants.{Ask as AskTask, Read as ReadTask, Load as LoadTask, Salvage as SalvageTask, Repair as RepairTask, Trial as TrialTask}
 use Rattle.bdb_tool.specs.declared.task.Stop.{Stop}
 use Rattle.bdb_tool.specs.declared.task.Stop.TheVariants.{Usage, TooLarge, ReadFault, Memory as MemoryStop}
 use Rattle.bdb_writing.specs.declared.refusal.Refusal.{Refusal}
@@ -94,8 +95,10 @@ pub data EndsOnto (limit : ℕ) (text : List ℕ) (base out err : Change) (statu
 
 -- a task was answered
 abbrev pub IsTaskAnswered : Task → Change → Change → ℕ → Type 0
+IsTaskAnswered (ReadTask rows reading image) out err status =
+    (asked : Request) → reading_seen reading ≡ Some asked → Finishes (asked_answer rows asked image) out err status
 IsTaskAnswered (AskTask request image) out err status =
-    (asked : Request) → request_seen request ≡ Some asked → Finishes (asked_answer asked image) out err status
+    (asked : Request) → request_seen request ≡ Some asked → Finishes (asked_answer All asked image) out err status
 IsTaskAnswered (LoadTask text limit) out err status = Ends (IsTextAnswer limit text) out err status
 IsTaskAnswered (SalvageTask asked image) out err status = Finishes (salvage_answer asked.guess asked.print image) out err status
 IsTaskAnswered (RepairTask asked image limit) out err status = Ends (IsRepairAnswer limit asked.shape asked.guess image) out err status

@@ -3,15 +3,16 @@ use Rattle.std.specs.Prelude.{◌≡◌, ℕ, ◌+◌, ◌≤◌, ◌^◌, IsTru
 use Rattle.std.specs.Io.KnownBytes.{Consumes, IsAtEnd}
 use Rattle.bdb_model.specs.Change.{Change, HasFailed, IsUncalled}
 use Rattle.bdb_model.specs.Command.{Request}
+use Rattle.bdb_file.specs.declared.rows.Rows.{Rows}
+use Rattle.bdb_file.specs.declared.rows.Rows.TheVariants.{All}
 use Rattle.bdb_format.specs.Faults.{Took}
 use Rattle.bdb_tool.specs.Commands.{Ask, Command, Load, reads_input}
-use Rattle.bdb_tool.specs.WordsSeen.{IsFitRepair, IsFitSalvage, IsFitTrial, repair_seen, request_seen, salvage_seen, trial_seen}
-use Rattle.bdb_tool.specs.declared.command.Request.{Request as CodeRequest}
+use Rattle.bdb_tool.specs.WordsSeen.{IsFitRepair, IsFitSalvage, IsFitTrial, reading_seen, repair_seen, request_seen, salvage_seen, trial_seen}
 use Rattle.bdb_tool.specs.declared.command.Repair.{Repair as CodeRepair}
 use Rattle.bdb_tool.specs.declared.command.Salvage.{Salvage as CodeSalvage}
 use Rattle.bdb_tool.specs.declared.command.Trial.{Trial as CodeTrial}
 use Rattle.bdb_tool.specs.declared.task.Task.{Task}
-use Rattle.bdb_tool.specs.declared.task.Task.TheVariants.{Ask as AskTask, Load as LoadTask, Salvage as SalvageTask, Repair as RepairTask, Trial as TrialTask}
+use Rattle.bdb_tool.specs.declared.task.Task.TheVariants.{Ask as AskTask, Read as ReadTask, Load as LoadTask, Salvage as SalvageTask, Repair as RepairTask, Trial as TrialTask}
 use Rattle.bdb_tool.specs.declared.task.Stop.{Stop}
 use Rattle.bdb_tool.specs.declared.task.Stop.TheVariants.{Usage, TooLarge, ReadFault, Memory}
 
@@ -59,12 +60,12 @@ IsStopped said source Memory = AreReading said
 
 -- Tasks.
 
--- the words ask this of a file, and the image is the input
-pub record IsAsked (said : Option Command) (source : Change) (request : CodeRequest) (image : List ℕ) : Type 0 where
+-- the words ask this of a file, by the rows that count, and the image is the input
+pub record IsAsked (said : Option Command) (source : Change) (rows : Rows) (request : Option Request) (image : List ℕ) : Type 0 where
   pub limit : ℕ
   pub asked : Request
-  pub seen : request_seen request ≡ Some asked
-  pub read : IsRead said source (record { limit = limit; action = Ask asked }) image
+  pub seen : request ≡ Some asked
+  pub read : IsRead said source (record { limit = limit; action = Ask rows asked }) image
 
 -- the words ask to load the text, which is the input
 pub record IsTextRead (said : Option Command) (source : Change) (text : List ℕ) (limit : ℕ) : Type 0 where
@@ -86,15 +87,16 @@ pub record IsTried (said : Option Command) (source : Change) (trial : CodeTrial)
 
 -- what there is to do is what the words say
 abbrev pub IsTaskTaken : Option Command → Change → Task → Type 0
-IsTaskTaken said source (AskTask request image) = IsAsked said source request image
+IsTaskTaken said source (ReadTask rows reading image) = IsAsked said source rows (reading_seen reading) image
+IsTaskTaken said source (AskTask request image) = IsAsked said source All (request_seen request) image
 IsTaskTaken said source (LoadTask text limit) = IsTextRead said source text limit
 IsTaskTaken said source (SalvageTask asked image) = IsSalvageRead said source asked image
 IsTaskTaken said source (RepairTask asked image limit) = IsRepairRead said source asked image limit
 IsTaskTaken said source (TrialTask trial limit) = IsTried said source trial limit
 
 -- a request that was read of words, of an image that isn't too long
-pub record IsFitAsk (request : CodeRequest) (image : List ℕ) : Type 0 where
-  pub seen : IsTrue (is_some (request_seen request))
+pub record IsFitAsk (request : Option Request) (image : List ℕ) : Type 0 where
+  pub seen : IsTrue (is_some request)
   pub size : length image ≤ 2 ^ 30
 
 pub record IsFitLoad (text : List ℕ) (limit : ℕ) : Type 0 where
@@ -108,7 +110,8 @@ pub record IsFitToRepair (asked : CodeRepair) (image : List ℕ) (limit : ℕ) :
 
 -- a task that can be done
 abbrev pub IsFitTask : Task → Type 0
-IsFitTask (AskTask request image) = IsFitAsk request image
+IsFitTask (ReadTask rows reading image) = IsFitAsk (reading_seen reading) image
+IsFitTask (AskTask request image) = IsFitAsk (request_seen request) image
 IsFitTask (LoadTask text limit) = IsFitLoad text limit
 IsFitTask (SalvageTask asked image) = IsFitSalvage asked × (length image ≤ 2 ^ 30)
 IsFitTask (RepairTask asked image limit) = IsFitToRepair asked image limit

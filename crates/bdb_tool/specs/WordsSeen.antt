@@ -1,19 +1,22 @@
 -- What the values of the code are in the definitions of a command line's words.
 use Rattle.std.specs.Prelude.{ℕ, ◌≡◌, ◌<◌, ◌≤◌, ◌^◌, ◌++◌, Bool, true, false, not, List, [], ◌∷◌, drop, length, Option, Some, IfSome, IsTrue, is_some, option_copied, ⊤}
+use Rattle.bdb_file.specs.declared.rows.Rows.TheVariants.{All}
 use Rattle.bdb_format.specs.HeadOf.{is_page_size}
 use Rattle.bdb_model.specs.Command.{Request, Verify, ListAll, Convert, Stat, OptionRow, Given, Arguments, arguments, asked_name, bounds_request, hex_option, hex_row, is_given, key_request, max_bytes, max_bytes_row, name_option, name_row, only_operands, print_option, print_row, row_of, text_request, value_given, with_option}
-use Rattle.bdb_tool.specs.Commands.{Action, Load, LoadOnto, Salvage, Trial, Command, Repair, as_option, as_row, asking, command_of, dupsort_option, dupsort_row, duplicates_option, duplicates_row, onto_option, onto_row, order_option, order_row, page_size_option, page_size_row, within}
+use Rattle.bdb_tool.specs.Commands.{Action, Load, LoadOnto, Salvage, Trial, Command, Repair, any_order_option, any_order_row, as_option, as_row, asking, command_of, dupsort_option, dupsort_row, duplicates_option, duplicates_row, onto_option, onto_row, order_option, order_row, page_size_option, page_size_row, within}
 use Rattle.bdb_text_format.specs.TextSpelling.{bytes_spelled}
 use Rattle.bdb_tool.specs.declared.options.OptionWord.{OptionWord}
 use Rattle.bdb_tool.specs.declared.options.OptionWord.TheVariants.{MaxBytes as MaxBytesWord, Name as NameWord, Order as OrderWord, PageSize as PageSizeWord, As as AsWord, Onto as OntoWord, Hex as HexWord, Print as PrintWord}
-use Rattle.bdb_tool.specs.declared.options.OptionWord.TheVariants.{Duplicates as DuplicatesWord, Dupsort as DupsortWord}
+use Rattle.bdb_tool.specs.declared.options.OptionWord.TheVariants.{AnyOrder as AnyOrderWord, Duplicates as DuplicatesWord, Dupsort as DupsortWord}
 use Rattle.bdb_tool.specs.declared.options.GivenOption.{GivenOption}
-use Rattle.bdb_tool.specs.declared.options.GivenOption.TheVariants.{MaxBytes, Name, Order, PageSize, As, Onto, Hex, Print, Duplicates, Dupsort}
+use Rattle.bdb_tool.specs.declared.options.GivenOption.TheVariants.{MaxBytes, Name, Order, PageSize, As, Onto, Hex, Print, Duplicates, Dupsort, AnyOrder}
 use Rattle.bdb_tool.specs.declared.options.Arguments.{Arguments as ReadArguments}
+use Rattle.bdb_tool.specs.declared.command.Reading.{Reading}
+use Rattle.bdb_tool.specs.declared.command.Reading.TheVariants.{Verify as VerifyWord, List as ListWord, Dump as DumpWord}
 use Rattle.bdb_tool.specs.declared.command.Request.{Request as CodeRequest}
-use Rattle.bdb_tool.specs.declared.command.Request.TheVariants.{Verify as VerifyWord, List as ListWord, Get as GetWord, Dump as DumpWord, Range as RangeWord, Convert as ConvertWord, Stat as StatWord}
+use Rattle.bdb_tool.specs.declared.command.Request.TheVariants.{Get as GetWord, Range as RangeWord, Convert as ConvertWord, Stat as StatWord}
 use Rattle.bdb_tool.specs.declared.command.Action.{Action as CodeAction}
-use Rattle.bdb_tool.specs.declared.command.Action.TheVariants.{Ask as AskWord, Load as LoadWord, LoadOnto as LoadOntoWord, Salvage as SalvageWord, Repair as RepairWord, Trial as TrialWord}
+use Rattle.bdb_tool.specs.declared.command.Action.TheVariants.{Ask as AskWord, Read as ReadWord, Load as LoadWord, LoadOnto as LoadOntoWord, Salvage as SalvageWord, Repair as RepairWord, Trial as TrialWord}
 use Rattle.bdb_tool.specs.declared.command.Command.{Command as CodeCommand}
 use Rattle.bdb_tool.specs.declared.command.Repair.{Repair as CodeRepair}
 use Rattle.bdb_tool.specs.declared.command.Salvage.{Salvage as CodeSalvage}
@@ -34,6 +37,7 @@ row_seen HexWord = hex_row
 row_seen PrintWord = print_row
 row_seen DuplicatesWord = duplicates_row
 row_seen DupsortWord = dupsort_row
+row_seen AnyOrderWord = any_order_row
 
 abbrev pub given_seen : GivenOption → Given
 given_seen (MaxBytes text) = record { word = max_bytes; value = text.now }
@@ -46,6 +50,7 @@ given_seen Hex = record { word = hex_option; value = [] }
 given_seen Print = record { word = print_option; value = [] }
 given_seen Duplicates = record { word = duplicates_option; value = [] }
 given_seen Dupsort = record { word = dupsort_option; value = [] }
+given_seen AnyOrder = record { word = any_order_option; value = [] }
 
 -- how many words an option takes
 abbrev pub word_count : GivenOption → ℕ
@@ -59,6 +64,7 @@ word_count Hex = 1
 word_count Print = 1
 word_count Duplicates = 1
 word_count Dupsort = 1
+word_count AnyOrder = 1
 
 -- the word of an option of these, and its row
 abbrev pub IsRowOf : List OptionRow → List ℕ → OptionWord → Type 0
@@ -86,6 +92,7 @@ pub record HasGiven (read : ReadArguments) (given : List Given) : Type 0 where
   pub print_is : is_given print_option given ≡ read.print
   pub duplicates_is : is_given duplicates_option given ≡ read.duplicates
   pub dupsort_is : is_given dupsort_option given ≡ read.dupsort
+  pub any_order_is : is_given any_order_option given ≡ read.any_order
 
 -- an option that wasn't given before, and what is read with it
 abbrev pub IsNew : List Given → Given → ReadArguments → Type 0
@@ -106,11 +113,13 @@ pub record AreArguments (all : Option Arguments) (words : List (List ℕ)) (read
 
 -- Commands.
 
+abbrev pub reading_seen : Reading → Option Request
+reading_seen VerifyWord = Some Verify
+reading_seen ListWord = Some ListAll
+reading_seen (DumpWord it) = text_request (asked_name (option_copied it.name)) it.print
+
 abbrev pub request_seen : CodeRequest → Option Request
-request_seen VerifyWord = Some Verify
-request_seen ListWord = Some ListAll
 request_seen (GetWord it) = key_request (asked_name (option_copied it.name)) (bytes_spelled (not it.hex) it.key.now) it.print
-request_seen (DumpWord it) = text_request (asked_name (option_copied it.name)) it.print
 request_seen (RangeWord it) =
     bounds_request (asked_name (option_copied it.name)) (bytes_spelled (not it.hex) it.from.now) (bytes_spelled (not it.hex) it.to.now) it.print
 request_seen (ConvertWord order) = Some (Convert order)
@@ -126,7 +135,8 @@ abbrev pub repair_seen : CodeRepair → Action
 repair_seen asked = Repair asked.shape asked.guess
 
 abbrev pub action_seen : CodeAction → Option Action
-action_seen (AskWord request) = asking (request_seen request)
+action_seen (ReadWord rows reading) = asking rows (reading_seen reading)
+action_seen (AskWord request) = asking All (request_seen request)
 action_seen LoadWord = Some Load
 action_seen (LoadOntoWord file) = Some (LoadOnto file.now)
 action_seen (SalvageWord asked) = Some (salvage_seen asked)
@@ -153,6 +163,7 @@ abbrev pub IsFitRepair : CodeRepair → Type 0
 IsFitRepair asked = IfSome asked.guess (λ guess. IsTrue (is_page_size guess.page_size))
 
 abbrev pub IsFitAction : CodeAction → Type 0
+IsFitAction (ReadWord rows reading) = ⊤
 IsFitAction (AskWord request) = ⊤
 IsFitAction LoadWord = ⊤
 IsFitAction (LoadOntoWord file) = ⊤

@@ -10,10 +10,10 @@ ghost use Rattle.bdb_writing.specs.Loads.{IsTextAnswer};
 ghost use Rattle.bdb_writing.specs.Ontos.{IsTextOnto};
 ghost use Rattle.bdb_writing.specs.Trials.{IsTrialAnswer};
 
-use crate::answer::refuse;
 use crate::command::Trial;
 use crate::finish::{put, report, tell, tell_memory};
 use crate::status::{BAD_TEXT, TOO_LARGE};
+use crate::telling::refuse;
 use bdb_format::Steps;
 use bdb_io::{Image, Sink};
 use bdb_onto::Base;

@@ -1,13 +1,14 @@
 //! The command that the words of a command line are. Nothing here allocates.
 ghost use Rattle.std.specs.Prelude.{◌≡◌, ◌≢◌, ◌≤◌, ◌^◌, [], ◌∷◌, IfSome, Some, List, MatchOption, drop, false, is_some, length, not, option_copied, true, ℕ};
 ghost use Rattle.bdb_format.specs.Digits.{number_in};
-ghost use Rattle.bdb_model.specs.Command.{arguments, asked_name, limit_of, once};
-ghost use Rattle.bdb_tool.specs.Commands.{Action as ModelAction, at_most, command_of, command_on, command_with, onto_file, convert_row, dump_row, get_row, kind_named, load_row, plain_row, range_row, repair_row, salvage_row, trial_row};
-ghost use Rattle.bdb_tool.specs.WordsSeen.{AreOnto, IsFitAction, IsFitCommand, IsSeen, action_seen};
+ghost use Rattle.bdb_model.specs.Command.{Request as ModelRequest, arguments, asked_name, limit_of, once};
+ghost use Rattle.bdb_tool.specs.Commands.{Action as ModelAction, at_most, command_of, command_on, command_with, onto_file, convert_row, dump_row, get_row, kind_named, load_row, plain_row, reading_row, rows_by, range_row, repair_row, salvage_row, trial_row};
+ghost use Rattle.bdb_tool.specs.WordsSeen.{AreOnto, IsFitAction, IsFitCommand, IsSeen, action_seen, reading_seen};
 
 use crate::guesses::{guess_asked, order_named};
 use crate::options::{OptionWord, read_arguments};
 use crate::shapes::{duplicates_named, shape_asked};
+use bdb_file::Rows;
 use bdb_format::{Kind, Order, number_in};
 use bdb_model::Words;
 use bdb_repair::Shape;
@@ -47,13 +48,18 @@ pub struct Bounds<'w> {
     pub print: bool,
 }
 
+/// What is asked of a file whose databases can be read.
+#[derive(Clone, Copy)]
+pub enum Reading<'w> {
+    Verify,
+    List,
+    Dump(Selection<'w>),
+}
+
 /// What is asked of a sound file.
 #[derive(Clone, Copy)]
 pub enum Request<'w> {
-    Verify,
-    List,
     Get(Lookup<'w>),
-    Dump(Selection<'w>),
     Range(Bounds<'w>),
     /// The file in a byte order.
     Convert(Order),
@@ -86,6 +92,8 @@ pub struct Trial {
 /// What a command does.
 #[derive(Clone, Copy)]
 pub enum Action<'w> {
+    /// Something is read of a file on which none of these rows holds.
+    Read(Rows, Reading<'w>),
     Ask(Request<'w>),
     Load,
     /// A text is loaded onto the file of this word.
@@ -137,8 +145,16 @@ const LOOKUP: [OptionWord; 4] = [
     OptionWord::Print,
 ];
 
+/// The options of `verify` and `list`.
+const READING: [OptionWord; 2] = [OptionWord::MaxBytes, OptionWord::AnyOrder];
+
 /// The options of `dump`.
-const SELECTION: [OptionWord; 3] = [OptionWord::MaxBytes, OptionWord::Name, OptionWord::Print];
+const SELECTION: [OptionWord; 4] = [
+    OptionWord::MaxBytes,
+    OptionWord::Name,
+    OptionWord::Print,
+    OptionWord::AnyOrder,
+];
 
 /// The options of `load`.
 const LOAD: [OptionWord; 2] = [OptionWord::MaxBytes, OptionWord::Onto];
@@ -168,10 +184,10 @@ pub fn command_of<'w>(words: &'w Words) -> Option<Command<'w>>
 {
     let word = words.get(0)?;
     if word == b"verify".as_slice() {
-        return plain_command(words, Action::Ask(Request::Verify));
+        return reading_command(words, Reading::Verify);
     }
     if word == b"list".as_slice() {
-        return plain_command(words, Action::Ask(Request::List));
+        return reading_command(words, Reading::List);
     }
     if word == b"get".as_slice() {
         return lookup_command(words);
@@ -239,6 +255,22 @@ fn plain_command<'w>(words: &'w Words, action: Action<'w>) -> Option<Command<'w>
     Some(Command { limit, action })
 }
 
+// A command without operands that reads this of a file.
+fn reading_command<'w>(words: &'w Words, reading: Reading<'w>) -> Option<Command<'w>>
+    ensures command { (word : List ℕ) (asked : ModelRequest) → reading_seen reading.entry ≡ Some asked
+        → MatchOption result (command_with (reading_row word asked) (once (arguments (reading_row word asked).options (drop 1 words.now))) ≡ None)
+        (IsSeen (command_with (reading_row word asked) (once (arguments (reading_row word asked).options (drop 1 words.now))))) }
+    ensures fit { IfSome result IsFitCommand }
+{
+    let read = read_arguments(words, &READING)?;
+    if read.operands < words.len() {
+        return None;
+    }
+    let limit = limit_of(read.max_bytes)?;
+    let action = Action::Read(rows_by(read.any_order), reading);
+    Some(Command { limit, action })
+}
+
 // The command `get`.
 fn lookup_command<'w>(words: &'w Words) -> Option<Command<'w>>
     ensures command { MatchOption result (command_with get_row (once (arguments get_row.options (drop 1 words.now))) ≡ None) (IsSeen (command_with get_row (once (arguments get_row.options (drop 1 words.now))))) }
@@ -277,7 +309,7 @@ fn dump_command<'w>(words: &'w Words) -> Option<Command<'w>>
         name: read.name,
         print: read.print,
     };
-    let action = Action::Ask(Request::Dump(selection));
+    let action = Action::Read(rows_by(read.any_order), Reading::Dump(selection));
     Some(Command { limit, action })
 }
 
@@ -445,6 +477,13 @@ fn number_to(most: u32, word: &[u8]) -> Option<u32>
         return None;
     }
     Some(number)
+}
+
+// The rows that count, by whether the option for any order is given.
+fn rows_by(any_order: bool) -> Rows
+    ensures { result ≡ rows_by any_order }
+{
+    if any_order { Rows::AnyOrder } else { Rows::All }
 }
 
 // The one word from a place on, if there is just one.

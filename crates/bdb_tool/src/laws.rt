@@ -1,5 +1,6 @@
 //! What follows from the promise of `run`.
 ghost use Rattle.std.specs.Prelude.{◌≢◌};
+ghost use Rattle.bdb_tool.specs.Laws.{SameAnswersWithoutOrder};
 ghost use Rattle.bdb_tool.specs.Outputs.{StatusIs};
 
 use crate::run;
@@ -29,3 +30,9 @@ pub fn run_pure<L: Ledger>(alloc: Global, words: &Words, bytes: Bytes, steps: &m
         steps,
     )
 }
+
+/// On a file on which no row of order holds, what is asked is answered in any order as by all rows.
+#[tactic(auto, using(crate::proofs::OrderLemmas::same_answers_without_order))]
+pub fn same_answers_without_order()
+    ensures { SameAnswersWithoutOrder }
+{}

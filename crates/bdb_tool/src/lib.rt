@@ -11,6 +11,7 @@ pub mod laws;
 mod options;
 mod program;
 mod ranging;
+mod reading;
 mod repairing;
 mod salvaging;
 mod shapes;
@@ -18,6 +19,7 @@ mod spelled;
 mod stating;
 pub mod status;
 mod task;
+mod telling;
 mod text;
 
 pub use command::onto_file;

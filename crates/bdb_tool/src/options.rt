@@ -18,6 +18,7 @@ pub enum OptionWord {
     Print,
     Duplicates,
     Dupsort,
+    AnyOrder,
 }
 
 /// An option that is given, with its value where it takes one.
@@ -33,6 +34,7 @@ enum GivenOption<'w> {
     Print,
     Duplicates,
     Dupsort,
+    AnyOrder,
 }
 
 /// The words after the command: the options that are given, and the place of the first operand.
@@ -48,6 +50,7 @@ pub struct Arguments<'w> {
     pub print: bool,
     pub duplicates: bool,
     pub dupsort: bool,
+    pub any_order: bool,
     pub operands: usize,
 }
 
@@ -120,6 +123,7 @@ fn word_of(option: OptionWord) -> &'static [u8]
         OptionWord::Print => b"--print",
         OptionWord::Duplicates => b"--duplicates",
         OptionWord::Dupsort => b"--dupsort",
+        OptionWord::AnyOrder => b"--any-order",
     }
 }
 
@@ -138,6 +142,7 @@ fn given_option<'w>(option: OptionWord, next: Option<&'w [u8]>) -> Option<GivenO
         OptionWord::Print => GivenOption::Print,
         OptionWord::Duplicates => GivenOption::Duplicates,
         OptionWord::Dupsort => GivenOption::Dupsort,
+        OptionWord::AnyOrder => GivenOption::AnyOrder,
     })
 }
 
@@ -152,7 +157,11 @@ fn word_count(option: GivenOption<'_>) -> usize
         | GivenOption::PageSize(_)
         | GivenOption::As(_)
         | GivenOption::Onto(_) => 2,
-        GivenOption::Hex | GivenOption::Print | GivenOption::Duplicates | GivenOption::Dupsort => 1,
+        GivenOption::Hex
+        | GivenOption::Print
+        | GivenOption::Duplicates
+        | GivenOption::Dupsort
+        | GivenOption::AnyOrder => 1,
     }
 }
 
@@ -171,6 +180,7 @@ fn no_arguments<'w>() -> Arguments<'w>
         print: false,
         duplicates: false,
         dupsort: false,
+        any_order: false,
         operands: 1,
     }
 }
@@ -191,6 +201,7 @@ fn take_option<'w>(read: &mut Arguments<'w>, option: GivenOption<'w>, next: usiz
         GivenOption::Print if !read.print => read.print = true,
         GivenOption::Duplicates if !read.duplicates => read.duplicates = true,
         GivenOption::Dupsort if !read.dupsort => read.dupsort = true,
+        GivenOption::AnyOrder if !read.any_order => read.any_order = true,
         _ => return None,
     }
     read.operands = next;

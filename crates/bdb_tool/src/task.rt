@@ -5,7 +5,8 @@ ghost use Rattle.bdb_tool.specs.Commands.{Command as ModelCommand, command_on, h
 ghost use Rattle.bdb_tool.specs.Tasks.{IsFitTask, IsInputWithin, IsStopped, IsTaskTaken, IsUnreadable};
 ghost use Rattle.bdb_tool.specs.WordsSeen.{IsFitCommand, IsSeen, command_seen};
 
-use crate::command::{Action, Command, Repair, Request, Salvage, Trial, command_of};
+use crate::command::{Action, Command, Reading, Repair, Request, Salvage, Trial, command_of};
+use bdb_file::Rows;
 use bdb_io::{Image, ReadError, Source, read_image};
 use bdb_model::Words;
 use std::alloc::Global;
@@ -13,7 +14,9 @@ use std::alloc::Global;
 /// What there is to do. A number is the limit of the command, in bytes.
 #[derive(Drop)]
 pub(crate) enum Task<'w> {
-    /// Something is asked of an image.
+    /// Something is read of an image on which none of these rows holds.
+    Read(Rows, Reading<'w>, Image),
+    /// Something is asked of a sound image.
     Ask(Request<'w>, Image),
     /// A text is loaded.
     Load(Image, u32),
@@ -60,6 +63,10 @@ fn task_with<'w, S: Source>(
     ensures fit { IsTrue (is_some (command_seen command.entry)) → IfOk result IsFitTask }
 {
     match command.action {
+        Action::Read(rows, reading) => match input_of(alloc, source, command.limit) {
+            Ok(image) => Ok(Task::Read(rows, reading, image)),
+            Err(stop) => Err(stop),
+        },
         Action::Ask(request) => match input_of(alloc, source, command.limit) {
             Ok(image) => Ok(Task::Ask(request, image)),
             Err(stop) => Err(stop),

@@ -1,6 +1,7 @@
 use Rattle.std.proofs.Common.{refl, sym}
 use Rattle.std.specs.Prelude.{codes}
 use Rattle.bdb_model.specs.Command.{ListAll, Stat, Verify}
+use Rattle.bdb_file.specs.declared.rows.Rows.TheVariants.{All}
 use Rattle.bdb_tool.specs.Commands.{Ask}
 use Rattle.bdb_tool.proofs.CommandLemmas.{convert_word, dump_word, get_word, list_word, load_word, no_word, other_word, range_word, repair_word, salvage_word, stat_word, trial_word, verify_word}
 use Rattle.bdb_tool.proofs.command.command_of.Goals as goal
@@ -11,12 +12,12 @@ returns-in_err-word-clause-command c = rw c.from_residual.ensures (no_word c.arg
 pub returns-then-eq-clause-command : goal.returns-then-eq-clause-command
 returns-then-eq-clause-command c =
     let words = verify_word c.args.words.now c.in_ok-word.word.now c.in_ok-word.ensures (rw c.as_slice.ensures at (sym c.if-eq.ensures)) in
-    rw words (c.plain_command.ensures.command (codes "verify") (Ask Verify) refl)
+    rw words (c.reading_command.ensures.command (codes "verify") Verify refl)
 
 pub returns-then-eq-2-clause-command : goal.returns-then-eq-2-clause-command
 returns-then-eq-2-clause-command c =
     let words = list_word c.args.words.now c.in_ok-word.word.now c.in_ok-word.ensures (rw c.as_slice.ensures at (sym c.if-eq.ensures)) (rw c.as_slice-2.ensures at (sym c.if-eq-2.ensures)) in
-    rw words (c.plain_command-then-eq-2.ensures.command (codes "list") (Ask ListAll) refl)
+    rw words (c.reading_command-then-eq-2.ensures.command (codes "list") ListAll refl)
 
 pub returns-then-eq-3-clause-command : goal.returns-then-eq-3-clause-command
 returns-then-eq-3-clause-command c =
@@ -56,7 +57,7 @@ returns-then-eq-9-clause-command c =
 pub returns-then-eq-10-clause-command : goal.returns-then-eq-10-clause-command
 returns-then-eq-10-clause-command c =
     let words = stat_word c.args.words.now c.in_ok-word.word.now c.in_ok-word.ensures (rw c.as_slice.ensures at (sym c.if-eq.ensures)) (rw c.as_slice-2.ensures at (sym c.if-eq-2.ensures)) (rw c.as_slice-3.ensures at (sym c.if-eq-3.ensures)) (rw c.as_slice-4.ensures at (sym c.if-eq-4.ensures)) (rw c.as_slice-5.ensures at (sym c.if-eq-5.ensures)) (rw c.as_slice-6.ensures at (sym c.if-eq-6.ensures)) (rw c.as_slice-7.ensures at (sym c.if-eq-7.ensures)) (rw c.as_slice-8.ensures at (sym c.if-eq-8.ensures)) (rw c.as_slice-9.ensures at (sym c.if-eq-9.ensures)) (rw c.as_slice-10.ensures at (sym c.if-eq-10.ensures)) in
-    rw words (c.plain_command-then-eq-10.ensures.command (codes "stat") (Ask Stat) refl)
+    rw words (c.plain_command.ensures.command (codes "stat") (Ask All Stat) refl)
 
 pub returns-then-eq-11-clause-command : goal.returns-then-eq-11-clause-command
 returns-then-eq-11-clause-command c =

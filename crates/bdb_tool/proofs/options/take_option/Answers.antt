@@ -1,6 +1,6 @@
-use Rattle.bdb_tool.proofs.GivenLemmas.{has_kind, has_max_bytes, has_name, has_onto, has_order, has_page_size, with_dupsort, with_duplicates, with_hex, with_kind, with_max_bytes, with_name, with_onto, with_order, with_page_size, with_print}
+use Rattle.bdb_tool.proofs.GivenLemmas.{has_kind, has_max_bytes, has_name, has_onto, has_order, has_page_size, with_any_order, with_dupsort, with_duplicates, with_hex, with_kind, with_max_bytes, with_name, with_onto, with_order, with_page_size, with_print}
 use Rattle.bdb_tool.proofs.options.take_option.Goals as goal
-use Rattle.bdb_tool.proofs.options.take_option.Goals.{in-As, in-Dupsort, in-Duplicates, in-Hex, in-MaxBytes, in-Name, in-Onto, in-Order, in-PageSize, in-Print}
+use Rattle.bdb_tool.proofs.options.take_option.Goals.{in-AnyOrder, in-As, in-Dupsort, in-Duplicates, in-Hex, in-MaxBytes, in-Name, in-Onto, in-Order, in-PageSize, in-Print}
 
 pub returns-in_default-clause-options : goal.returns-in_default-clause-options
 returns-in_default-clause-options c = λ before has. has_max_bytes c.args.read.now c.args.option c.in-MaxBytes.text before c.in-MaxBytes.is c.if-is_none.ensures has
@@ -34,4 +34,5 @@ returns-clause-options c =
       | in-Print w ↦ with_print c.args.read.now c.match-option.read c.args.option c.args.next before w.in-Print.is w.if-not-read-2.true w.read-is has
       | in-Duplicates w ↦ with_duplicates c.args.read.now c.match-option.read c.args.option c.args.next before w.in-Duplicates.is w.if-not-read-3.true w.read-is has
       | in-Dupsort w ↦ with_dupsort c.args.read.now c.match-option.read c.args.option c.args.next before w.in-Dupsort.is w.if-not-read-4.true w.read-is has
+      | in-AnyOrder w ↦ with_any_order c.args.read.now c.match-option.read c.args.option c.args.next before w.in-AnyOrder.is w.if-not-read-5.true w.read-is has
     ]

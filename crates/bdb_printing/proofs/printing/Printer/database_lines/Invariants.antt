@@ -9,5 +9,5 @@ use Rattle.bdb_printing.proofs.printing.Printer.database_lines.Given as goal
 -- What was printed, and the lines of the databases from this one on, are those of all.
 abbrev pub invariant-loop-i : goal.invariant-loop-i
 invariant-loop-i g l =
-    HasAdded g.K.Sink.written g.K.Sink.faults l.initial.self l.self (flat_map database_line (drop l.i (databases (file_of l.sound))))
-    (list_text (databases (file_of l.sound)))
+    HasAdded g.K.Sink.written g.K.Sink.faults l.initial.self l.self (flat_map database_line (drop l.i (databases (file_of l.readable))))
+    (list_text (databases (file_of l.readable)))

@@ -14,7 +14,7 @@ use Rattle.bdb_printing.proofs.printing.Printer.database_section.Goals as goal
 
 pub returns-in_err-header : goal.returns-in_err-header
 returns-in_err-header g c =
-    let image = c.args.sound.now in
+    let image = c.args.readable.now in
     let database = database_at (file_of image) c.args.db in
     let settings = settings_of (head_of image).page_size (head_of image).order database.fields in
     let list = list_of (file_of image) database.fields in

@@ -9,5 +9,5 @@ use Rattle.bdb_printing.proofs.printing.Printer.sections.Given as goal
 -- What was printed, and the sections of the databases from this one on, are those of all.
 abbrev pub invariant-loop-i : goal.invariant-loop-i
 invariant-loop-i g l =
-    HasAdded g.K.Sink.written g.K.Sink.faults l.initial.self l.self (flat_map (database_text l.print l.sound) (drop l.i (databases (file_of l.sound))))
-    (dump_text l.print l.sound (databases (file_of l.sound)))
+    HasAdded g.K.Sink.written g.K.Sink.faults l.initial.self l.self (flat_map (database_text l.print l.readable) (drop l.i (databases (file_of l.readable))))
+    (dump_text l.print l.readable (databases (file_of l.readable)))

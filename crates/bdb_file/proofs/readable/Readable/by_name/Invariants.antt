@@ -2,7 +2,7 @@ use Rattle.std.proofs.Common.{◌≡◌, drop}
 use Rattle.std.specs.Prelude.{option_copied}
 use Rattle.bdb_format.specs.Databases.{databases, place_from, place_of}
 use Rattle.bdb_format.specs.File.{file_of}
-use Rattle.bdb_file.proofs.sound.Sound.by_name.Given as goal
+use Rattle.bdb_file.proofs.readable.Readable.by_name.Given as goal
 
 -- The name is none of the databases so far.
 abbrev pub invariant-loop-i : goal.invariant-loop-i

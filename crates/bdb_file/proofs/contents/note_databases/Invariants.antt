@@ -3,14 +3,14 @@ use Rattle.std.specs.List.{flat_map}
 use Rattle.bdb_format.specs.File.{file_of}
 use Rattle.bdb_faults.specs.Notes.{NotesAll}
 use Rattle.bdb_graph.specs.Linked.{meta_pages}
-use Rattle.bdb_file.specs.Contents.{faults_on}
-use Rattle.bdb_file.proofs.contents.note_contents.Given as goal
+use Rattle.bdb_file.specs.Noted.{asked_on}
+use Rattle.bdb_file.proofs.contents.note_databases.Given as goal
 
--- The faults of the databases so far are noted.
+-- The faults of those databases so far that are asked for are noted.
 abbrev pub invariant-loop-i : goal.invariant-loop-i
 invariant-loop-i g l = record {
   noted : NotesAll (g.F.FaultSink.has_noted l.fn.found) (g.F.FaultSink.has_noted l.found)
-      (flat_map (faults_on (file_of l.linked)) (take l.i (meta_pages (file_of l.linked))));
+      (flat_map (asked_on l.which (file_of l.linked)) (take l.i (meta_pages (file_of l.linked))));
   known : l.known ≡ l.linked;
   chains : l.chains ≡ l.linked;
 }

@@ -1,6 +1,6 @@
 use Rattle.std.proofs.Common.{sym}
 use Rattle.bdb_tool.proofs.AnswerLemmas.{no_section, section_finishes}
-use Rattle.bdb_tool.proofs.answer.dump_named.Goals as goal
+use Rattle.bdb_tool.proofs.reading.dump_named.Goals as goal
 
 pub returns-in-Some : goal.returns-in-Some
 returns-in-Some g c =

@@ -1,0 +1,44 @@
+-- In a table of a file on which no row counts in any order no key comes twice.
+use Rattle.std.proofs.Common.{◌≡◌, ℕ, List, [], refl, sym, ap, subst}
+use Rattle.std.specs.List.{Contains}
+use Rattle.bdb_faults.specs.Rows.{fault_at}
+use Rattle.bdb_faults.specs.declared.rows.ContentsRow.TheVariants.{KeyTwice}
+use Rattle.bdb_faults.specs.declared.rows.Row.TheVariants.{Contents}
+use Rattle.bdb_format.specs.declared.metadata.HashMeta.{HashMeta}
+use Rattle.bdb_format.specs.ContentRows.{database_faults, fields_in}
+use Rattle.bdb_format.specs.File.{File, file_of, page_at}
+use Rattle.bdb_format.specs.Graph.{is_meta}
+use Rattle.bdb_format.specs.Page.{Metadata, BtreeFields, HashFields, QueueFields}
+use Rattle.bdb_format.specs.Verdict.{contents_faults}
+use Rattle.bdb_format.proofs.MemberLemmas.{first_member, in_filter, in_flat_map, no_member}
+use Rattle.bdb_graph.specs.Linked.{HasMetadata, meta_pages}
+use Rattle.bdb_hash.specs.Scanned.{KeysDiffer}
+use Rattle.bdb_file.specs.AnyOrder.{contents_by, counts, faults_by_rows}
+use Rattle.bdb_file.specs.Contents.{faults_on}
+use Rattle.bdb_file.specs.Listing.{HasNewKeys}
+use Rattle.bdb_file.specs.declared.rows.Rows.TheVariants.{AnyOrder}
+use Rattle.bdb_file.proofs.DatabaseLemmas.{of_pages}
+use Rattle.bdb_file.proofs.MasterLemmas.{at_meta}
+use Rattle.bdb_file.proofs.RowsLemmas.{contents_kept}
+
+keys_differ : (image : List ℕ) (meta : HashMeta) → faults_by_rows AnyOrder image ≡ [] → HasMetadata (file_of image) (HashFields meta)
+    → KeysDiffer (file_of image) meta
+keys_differ image meta none has = record {
+  none_comes_twice = λ p at.
+      let file : File = file_of image in
+      let on : Contains (faults_on file has.page) (fault_at (Contents KeyTwice) p) =
+      in_flat_map (database_faults file) (fields_in (page_at file has.page)) (HashFields meta) (fault_at (Contents KeyTwice) p)
+      (subst (λ page. Contains (fields_in page) (HashFields meta)) (sym has.is) (first_member (HashFields meta) [])) at in
+      let listed : Contains (contents_faults file) (fault_at (Contents KeyTwice) p) =
+      of_pages image (fault_at (Contents KeyTwice) p)
+      (in_flat_map (faults_on file) (meta_pages file) has.page (fault_at (Contents KeyTwice) p)
+      (at_meta file has.page has.inside (ap is_meta has.is)) on) in
+      no_member (contents_by AnyOrder file) (fault_at (Contents KeyTwice) p) (contents_kept image none)
+      (in_filter (counts file) (contents_faults file) (fault_at (Contents KeyTwice) p) listed refl);
+}
+
+pub has_new_keys : (image : List ℕ) (fields : Metadata) → faults_by_rows AnyOrder image ≡ [] → HasMetadata (file_of image) fields
+    → HasNewKeys (file_of image) fields
+has_new_keys image (BtreeFields meta) none has = tt
+has_new_keys image (HashFields meta) none has = keys_differ image meta none has
+has_new_keys image (QueueFields meta) none has = tt
