@@ -151,14 +151,6 @@ part_falls f (q ∷ ps) p fall at =
     let parts = fall_parts (f q) (flat_map f ps) fall in
     elim (member_cases q ps p at) [ inl same ↦ subst (λ r. DontFall (f r)) same parts.0 | inr later ↦ part_falls f ps p parts.1 later ]
 
-pub leaf_ordered : (file : File) (child : ℕ) (items : List ℕ) (i : ℕ) → DontFall (tree_pairs file child)
-    → items ≡ leaves file child → i < length items
-    → DontFall (pairs_of file (get_or items i 0))
-unfolding tree_pairs
-leaf_ordered file child items i fall are low =
-    part_falls (pairs_of file) (leaves file child) (get_or items i 0) fall
-    (subst (λ ps. Contains ps (get_or items i 0)) are (Contains-get_or items i 0 low))
-
 pub child_ordered : (image : List ℕ) (ordered : Bool) (p c : ℕ) (children : List ℕ) → IsForest image → OrderedIf ordered (file_of image) p
     → children_in (page_at (file_of image) p) ≡ Some children → Contains children c
     → OrderedIf ordered (file_of image) c
@@ -168,11 +160,3 @@ child_ordered image ordered p c children forest is are at told =
     (subst DontFall (ap (flat_map (pairs_of (file_of image))) (leaves_of_inner image p children forest are)
     ∙ flat_map_twice (pairs_of (file_of image))
     (leaves (file_of image)) children) (is told)) at
-
-pub items_ordered : (image : List ℕ) (ordered : Bool) (p : ℕ) (page : Listed InternalItem) → IsForest image → OrderedIf ordered (file_of image) p
-    → page_at (file_of image) p ≡ Internal page
-    → All (λ (item : InternalItem). OrderedIf ordered (file_of image) item.child) page.items
-items_ordered image ordered p page forest is here =
-    all_of (λ (item : InternalItem). OrderedIf ordered (file_of image) item.child) page.items (λ item at.
-    child_ordered image ordered p item.child (map (λ (other : InternalItem). other.child) page.items) forest is (ap children_in here)
-    (in_map (λ (other : InternalItem). other.child) page.items item at))
