@@ -6,7 +6,7 @@ use Rattle.std.specs.List.{Contains, list_any}
 use Rattle.std.proofs.lemmas.Bool.{and_parts, eq-eqb, eqb-true, or_cases, or_right}
 use Rattle.std.proofs.lemmas.List.Folds.{list_any-append}
 use Rattle.bdb_faults.specs.Notes.{AreSame, Notes, NotesAll}
-use Rattle.bdb_faults.proofs.SinkLemmas.{notes_then}
+use Rattle.bdb_faults.proofs.SinkLemmas.{notes_both, notes_one, notes_same}
 use Rattle.bdb_format.specs.declared.kinds.Fault.{Fault}
 use Rattle.bdb_format.specs.declared.metadata.BtreeMeta.{BtreeMeta}
 use Rattle.bdb_format.specs.ContentRows.{btree_contents, database_faults, groups, has_duplicate, has_unsorted, has_wrong_count, has_wrong_separator}
@@ -255,30 +255,25 @@ noted_same image rules meta forest fits keyed flags duplicates sorted =
     (λ p. table_below image meta p forest fits keyed) (λ fault. noted_has file rules meta fault duplicates sorted))
 
 -- the rows on pairs, then separators, then counts
-pub all_noted : (image : List ℕ) (rules : Rules) (meta : BtreeMeta) (counts : Bool) (pages others : List ℕ)
-    (before first second after : List Fault → Type 0)
+pub all_noted : (image : List ℕ) (rules : Rules) (meta : BtreeMeta) (counts : Bool) (before first second after : List Fault → Type 0)
     → IsForest image → FitsTreeRoot (file_of image) meta.root → IsKeyed (file_of image) meta.root → has_bit meta.flags 2 ≡ false
     → rules.duplicates ≡ has_duplicates (BtreeFields meta) → rules.sorted ≡ is_sorted (BtreeFields meta) → counts ≡ counts_records meta
-    → pages ≡ inner_pages (file_of image) meta.root → others ≡ inner_pages (file_of image) meta.root
     → Notes before first (pairs_faults (file_of image) rules no_pairs_passed (tree_pairs (file_of image) meta.root))
-    → Notes first second (faults_at Separator (λ p. has_wrong_separator (file_of image) (page_at (file_of image) p)) pages)
-    → Notes second after (cond counts (faults_at Count (λ p. has_wrong_count (file_of image) (page_at (file_of image) p)) others) [])
+    → NotesAll first second
+    (faults_at Separator (λ p. has_wrong_separator (file_of image) (page_at (file_of image) p)) (inner_pages (file_of image) meta.root))
+    → NotesAll second after
+    (cond counts (faults_at Count (λ p. has_wrong_count (file_of image) (page_at (file_of image) p)) (inner_pages (file_of image) meta.root)) [])
     → NotesAll before after (database_faults (file_of image) (BtreeFields meta))
-all_noted image rules meta counts pages others before first second after forest fits keyed flags duplicates sorted keeps these those one two three =
+all_noted image rules meta counts before first second after forest fits keyed flags duplicates sorted keeps one two three =
     let file : File = file_of image in
     let pairs : List Fault = pairs_faults file rules no_pairs_passed (tree_pairs file meta.root) in
-    let separators : List ℕ → List Fault = faults_at Separator (λ p. has_wrong_separator file (page_at file p)) in
-    let wrong : List ℕ → List Fault = faults_at Count (λ p. has_wrong_count file (page_at file p)) in
-    let same : (pairs ++ separators pages) ++ cond counts (wrong others) [] ≡ btree_noted file rules (counts_records meta) meta.root =
-    ap (λ ps. (pairs ++ separators ps) ++ cond counts (wrong others) []) these
-    ∙ (ap (λ b. (pairs ++ separators (inner_pages file meta.root)) ++ cond b (wrong others) []) keeps
-    ∙ ap (λ ps. (pairs ++ separators (inner_pages file meta.root)) ++ cond (counts_records meta) (wrong ps) []) those) in (
-      btree_noted file rules (counts_records meta) meta.root,
-      noted_same image rules meta forest fits keyed flags duplicates sorted,
-      λ faults is. subst (λ (more : List Fault). after (faults ++ more)) same
-          (notes_then before second after (pairs ++ separators pages) (cond counts (wrong others) [])
-          (notes_then before first second pairs (separators pages) one two) three faults is),
-    )
+    let separators : List Fault = faults_at Separator (λ p. has_wrong_separator file (page_at file p)) (inner_pages file meta.root) in
+    let wrong : List Fault = faults_at Count (λ p. has_wrong_count file (page_at file p)) (inner_pages file meta.root) in
+    notes_same before after (btree_noted file rules (counts_records meta) meta.root) (database_faults file (BtreeFields meta))
+    (notes_both before second after (pairs ++ separators) (cond (counts_records meta) wrong [])
+    (notes_both before first second pairs separators (notes_one before first pairs one) two)
+    (subst (λ b. NotesAll second after (cond b wrong [])) keeps three))
+    (noted_same image rules meta forest fits keyed flags duplicates sorted)
 
 -- the faults of a btree are all of stage 8, and the first comes before all of them
 pub in_order : (file : File) (meta : BtreeMeta) → has_bit meta.flags 2 ≡ false → InOrder 8 (database_faults file (BtreeFields meta))

@@ -1,8 +1,8 @@
 -- Pairs whose keys don't fall: those of a tree where none is out of order, and so those below each of its pages.
-use Rattle.std.proofs.Common.{◌≡◌, ℕ, ◌*◌, ◌-◌, ◌<◌, true, false, List, [], ◌∷◌, ◌++◌, length, map, get_or, arith, refl}
+use Rattle.std.proofs.Common.{◌≡◌, ℕ, ◌*◌, ◌-◌, ◌<◌, true, false, List, [], ◌∷◌, ◌++◌, length, get_or, arith, refl}
 use Rattle.std.proofs.Common.{sym, ◌∙◌, ap, subst, inl, inr, true≢false, Bool, not, Some}
 use Rattle.std.specs.Prelude.{◌&&◌, slice_index}
-use Rattle.std.specs.List.{flat_map, fold, All, Contains}
+use Rattle.std.specs.List.{flat_map, fold, Contains}
 use Rattle.std.proofs.lemmas.Bool.{cases_lt, eqb-true, false_from_ne_true}
 use Rattle.std.proofs.lemmas.List.{get_or_past}
 use Rattle.bdb_format.specs.declared.kinds.Order.{Order}
@@ -12,17 +12,17 @@ use Rattle.bdb_format.specs.HeadOf.{head_of}
 use Rattle.bdb_format.specs.Chains.{value_of}
 use Rattle.bdb_format.specs.Leaves.{leaves, children_in}
 use Rattle.bdb_format.specs.Numbers.{byte_at}
-use Rattle.bdb_format.specs.Page.{Item, Listed, Page, Zero, Leaf, NoType, PageType, LeafPage, InternalItem, Internal}
+use Rattle.bdb_format.specs.Page.{Item, Listed, Page, Zero, Leaf, NoType, PageType, LeafPage}
 use Rattle.bdb_format.specs.Reading.{abstract_page, entries_of, is_zero, leaf_item_at, listed, page_as, page_type}
 use Rattle.bdb_format.specs.References.{no_item}
 use Rattle.bdb_format.proofs.PageLemmas.{index_offset, length_items}
 use Rattle.bdb_format.proofs.LeafLemmas.{leaf_item_is, one_offset}
-use Rattle.std.proofs.lemmas.List.Elements.{Contains-append_left, Contains-get_or}
+use Rattle.std.proofs.lemmas.List.Elements.{Contains-append_left}
 use Rattle.bdb_format.specs.ContentRows.{is_out_of_order, neighbours, neighbours_from}
 use Rattle.bdb_format.specs.Less.{less}
 use Rattle.bdb_format.proofs.LessLemmas.{less_above, less_not_back, less_self}
-use Rattle.bdb_format.proofs.ListLemmas.{all_of, flat_map_twice}
-use Rattle.bdb_format.proofs.MemberLemmas.{first_member, in_map, later_member, member_cases, no_member}
+use Rattle.bdb_format.proofs.ListLemmas.{flat_map_twice}
+use Rattle.bdb_format.proofs.MemberLemmas.{first_member, later_member, member_cases, no_member}
 use Rattle.bdb_format.proofs.FileLemmas.{last_page, page_is, pages_counted}
 use Rattle.bdb_graph.specs.Linked.{IsForest}
 use Rattle.bdb_tree.proofs.TreeLemmas.{leaves_of_inner}
@@ -151,14 +151,6 @@ part_falls f (q ∷ ps) p fall at =
     let parts = fall_parts (f q) (flat_map f ps) fall in
     elim (member_cases q ps p at) [ inl same ↦ subst (λ r. DontFall (f r)) same parts.0 | inr later ↦ part_falls f ps p parts.1 later ]
 
-pub leaf_ordered : (file : File) (child : ℕ) (items : List ℕ) (i : ℕ) → DontFall (tree_pairs file child)
-    → items ≡ leaves file child → i < length items
-    → DontFall (pairs_of file (get_or items i 0))
-unfolding tree_pairs
-leaf_ordered file child items i fall are low =
-    part_falls (pairs_of file) (leaves file child) (get_or items i 0) fall
-    (subst (λ ps. Contains ps (get_or items i 0)) are (Contains-get_or items i 0 low))
-
 pub child_ordered : (image : List ℕ) (ordered : Bool) (p c : ℕ) (children : List ℕ) → IsForest image → OrderedIf ordered (file_of image) p
     → children_in (page_at (file_of image) p) ≡ Some children → Contains children c
     → OrderedIf ordered (file_of image) c
@@ -168,11 +160,3 @@ child_ordered image ordered p c children forest is are at told =
     (subst DontFall (ap (flat_map (pairs_of (file_of image))) (leaves_of_inner image p children forest are)
     ∙ flat_map_twice (pairs_of (file_of image))
     (leaves (file_of image)) children) (is told)) at
-
-pub items_ordered : (image : List ℕ) (ordered : Bool) (p : ℕ) (page : Listed InternalItem) → IsForest image → OrderedIf ordered (file_of image) p
-    → page_at (file_of image) p ≡ Internal page
-    → All (λ (item : InternalItem). OrderedIf ordered (file_of image) item.child) page.items
-items_ordered image ordered p page forest is here =
-    all_of (λ (item : InternalItem). OrderedIf ordered (file_of image) item.child) page.items (λ item at.
-    child_ordered image ordered p item.child (map (λ (other : InternalItem). other.child) page.items) forest is (ap children_in here)
-    (in_map (λ (other : InternalItem). other.child) page.items item at))

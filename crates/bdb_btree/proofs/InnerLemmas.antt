@@ -1,47 +1,23 @@
--- The internal pages of a tree, level by level.
-use Rattle.std.proofs.Common.{◌≡◌, ℕ, zero, suc, ◌+◌, ◌-◌, ◌<◌, Bool, true, List, [], ◌∷◌, ◌++◌, get_or, arith, refl, sym, ◌∙◌, ap, subst}
-use Rattle.std.proofs.Common.{append_assoc, inl, inr, Option, Some, None}
-use Rattle.std.specs.List.{All, Contains, filter, flat_map}
+-- The internal pages of a tree, and their types.
+use Rattle.std.proofs.Common.{◌≡◌, ℕ, zero, suc, ◌-◌, Bool, true, List, [], ◌∷◌, refl, subst}
+use Rattle.std.proofs.Common.{inl, inr, Option, Some, None}
+use Rattle.std.specs.List.{Contains, filter, flat_map}
 use Rattle.std.specs.Option.{is_some, unwrap_or}
 use Rattle.std.proofs.lemmas.List.Elements.{Contains-append_cases}
 use Rattle.bdb_format.specs.ContentRows.{inner_in, inner_pages}
 use Rattle.bdb_format.specs.File.{File, file_of, header_in, page_at, type_in}
 use Rattle.bdb_format.specs.Leaves.{children_in}
 use Rattle.bdb_format.specs.References.{child_types, has_type}
-use Rattle.bdb_format.proofs.ListLemmas.{all_of, only_member}
+use Rattle.bdb_format.proofs.ListLemmas.{only_member}
 use Rattle.bdb_format.proofs.MemberLemmas.{no_member, of_filter, of_flat_map}
 use Rattle.bdb_graph.specs.Linked.{IsForest}
-use Rattle.bdb_btree.specs.Bounds.{OrderedIf}
 use Rattle.bdb_btree.specs.Counts.{IsKeyed}
-use Rattle.bdb_btree.proofs.FallLemmas.{child_ordered}
-use Rattle.bdb_tree.specs.Trees.{IsTreePage, children_at}
+use Rattle.bdb_tree.specs.Trees.{children_at}
 use Rattle.bdb_tree.proofs.TreeLemmas.{child_is}
 use Rattle.bdb_format.proofs.TypeLemmas.{of_type, keyed_below}
 
 abbrev is_inner : File → ℕ → Bool
 is_inner file p = is_some (children_in (page_at file p))
-
-pub first_inner : (file : File) (root n : ℕ) (found level : List ℕ) → found ≡ [] → level ≡ root ∷ [] → n ≡ (header_in (page_at file root)).level
-    → found ++ inner_in (n - 0) file level ≡ inner_pages file root
-unfolding inner_pages
-first_inner file root n found level none one is =
-    let whole : n - 0 ≡ (header_in (page_at file root)).level = omega arith in
-    ap (λ ps. ps ++ inner_in (n - 0) file level) none ∙ (ap (λ ps. inner_in (n - 0) file ps) one ∙ ap (λ k. inner_in k file (root ∷ [])) whole)
-
-pub first_tree : (file : File) (root : ℕ) (level : List ℕ) → level ≡ root ∷ [] → IsTreePage file root → All (IsTreePage file) level
-first_tree file root level one tree =
-    subst (All (IsTreePage file)) (sym one) (λ k d low. let first : k ≡ 0 = omega arith in
-    subst (λ i. IsTreePage file (get_or (root ∷ []) i d)) (sym first) tree)
-
-pub more_inner : (file : File) (n turn : ℕ) (found new level next all : List ℕ) → turn < n → new ≡ found ++ filter (is_inner file) level
-    → next ≡ flat_map (children_at file) level
-    → found ++ inner_in (n - turn) file level ≡ all → new ++ inner_in (n - (turn + 1)) file next ≡ all
-more_inner file n turn found new level next all low added children left =
-    let more : n - turn ≡ suc (n - (turn + 1)) = omega arith in
-    ap (λ ps. ps ++ inner_in (n - (turn + 1)) file next) added
-    ∙ (ap (λ ps. (found ++ filter (is_inner file) level) ++ inner_in (n - (turn + 1)) file ps) children
-    ∙ (append_assoc found (filter (is_inner file) level) (inner_in (n - (turn + 1)) file (flat_map (children_at file) level))
-    ∙ (ap (λ k. found ++ inner_in k file level) (sym more) ∙ left)))
 
 -- Types.
 
@@ -83,17 +59,3 @@ pub inner_pages_keyed : (image : List ℕ) (root q : ℕ) → IsForest image →
 inner_pages_keyed image root q forest keyed at =
     inner_pages_have (file_of image) (IsKeyed (file_of image)) root q
     (λ p c children has are child. child_keyed image p c children forest has are child) keyed at
-
-pub all_keyed : (image : List ℕ) (root : ℕ) (pages : List ℕ) → IsForest image → IsKeyed (file_of image) root
-    → pages ≡ inner_pages (file_of image) root → All (IsKeyed (file_of image)) pages
-all_keyed image root pages forest keyed are =
-    all_of (IsKeyed (file_of image)) pages (λ q at. inner_pages_keyed image root q forest keyed (subst (λ ps. Contains ps q) are at))
-
--- below each internal page of a tree in order the keys are in order
-pub all_ordered : (image : List ℕ) (ordered : Bool) (root : ℕ) (pages : List ℕ) → IsForest image → OrderedIf ordered (file_of image) root
-    → pages ≡ inner_pages (file_of image) root → All (OrderedIf ordered (file_of image)) pages
-all_ordered image ordered root pages forest is are =
-    all_of (OrderedIf ordered (file_of image)) pages (λ q at.
-    inner_pages_have (file_of image) (OrderedIf ordered (file_of image)) root q
-    (λ p c children has of child. child_ordered image ordered p c children forest
-    has of child) is (subst (λ ps. Contains ps q) are at))

@@ -1,9 +1,11 @@
 pub mod CheckLemmas
 pub mod CountLemmas
+pub mod EndLemmas
 pub mod FallLemmas
 pub mod FindLemmas
 pub mod HeldLemmas
 pub mod InnerLemmas
+pub mod ItemLemmas
 pub mod NotedLemmas
 pub mod OrderLemmas
 pub mod PairLemmas

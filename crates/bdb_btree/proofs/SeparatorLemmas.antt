@@ -1,6 +1,6 @@
 -- An internal page gone through once: what is kept decides its separators.
-use Rattle.std.proofs.Common.{◌≡◌, ℕ, zero, suc, ◌+◌, ◌*◌, ◌-◌, ◌/◌, ◌<◌, ◌≤◌, Bool, true, false, not, cond, List, [], ◌∷◌, ◌++◌, length, map, get_or}
-use Rattle.std.proofs.Common.{take, drop, Option, Some, None, arith, refl, sym, ◌∙◌, ap, subst, inl, inr, append-nil}
+use Rattle.std.proofs.Common.{◌≡◌, ℕ, zero, suc, ◌+◌, ◌-◌, ◌<◌, ◌≤◌, Bool, true, false, not, cond, List, [], ◌∷◌, ◌++◌, length, get_or}
+use Rattle.std.proofs.Common.{take, drop, Option, Some, None, arith, refl, sym, ◌∙◌, ap, append-nil}
 use Rattle.std.specs.Prelude.{◌&&◌, ◌||◌, nat_le}
 use Rattle.std.specs.List.{flat_map, fold, list_any, range_with_len}
 use Rattle.std.proofs.lemmas.Bool.{le-leb, false_from_ne_true, not-false, or_parts, true≢false}
@@ -11,18 +11,12 @@ use Rattle.std.proofs.lemmas.Grind.{flat_map-append}
 use Rattle.std.proofs.lemmas.Bool.Decides.{nat_tests}
 use Rattle.std.proofs.Math.Bool.{or-false, or_assoc}
 use Rattle.bdb_format.specs.Less.{less, Less}
-use Rattle.bdb_format.specs.Contents.{StoredPair, pair_at, pairs_of}
-use Rattle.bdb_format.specs.File.{File, page_at}
-use Rattle.bdb_format.specs.Page.{Item, Listed, Leaf}
-use Rattle.bdb_format.specs.Chains.{value_of}
-use Rattle.bdb_format.specs.References.{is_shared_key, item_at}
 use Rattle.bdb_format.specs.ContentRows.{Separated, breaks, no_separator}
-use Rattle.bdb_format.proofs.MemberLemmas.{first_member, in_map, in_range, member_cases, none_pass, none_passes, of_range}
-use Rattle.bdb_btree.specs.Bounds.{Bounds, DontFall, beyond, bounds_of, greater_of, is_below, no_bounds, past, under, under_pair}
+use Rattle.bdb_format.proofs.MemberLemmas.{in_range, none_pass, none_passes, of_range}
+use Rattle.bdb_btree.specs.Bounds.{Bounds, beyond, bounds_of, greater_of, is_below, no_bounds, past, under}
 use Rattle.bdb_btree.specs.Runs.{is_not_above}
-use Rattle.bdb_btree.proofs.WalkLemmas.{all_pairs}
 use Rattle.bdb_format.proofs.BoolLemmas.{second_false}
-use Rattle.bdb_format.proofs.LessLemmas.{below_less, less_above, less_self, less_trans, same_unless_less}
+use Rattle.bdb_format.proofs.LessLemmas.{below_less, less_above, less_self, less_trans}
 
 -- Keys below an item.
 
@@ -53,67 +47,6 @@ not_above_greater (other ∷ keys) (Some bound) key =
     not_above_greater keys (greater_of (Some bound) other) key
     ∙ (ap (λ b. b || list_any (λ x. not (less x key)) keys) (greater_step bound other key (less bound other) refl)
     ∙ or_assoc (not (less bound key)) (not (less other key)) (list_any (λ x. not (less x key)) keys))
-
--- Keys that don't fall: the first and the last bound the others.
-
-greater_two : (low high : List ℕ) → less high low ≡ false → greater_of (Some low) high ≡ Some high
-greater_two low high up = grind (arith, nat_tests, same_unless_less low high)
-
-greater_skip : (greatest : Option (List ℕ)) (low high : List ℕ) → less high low ≡ false
-    → greater_of (greater_of greatest low) high ≡ greater_of greatest high
-greater_skip None low high up = greater_two low high up
-greater_skip (Some bound) low high up = grind (arith, nat_tests, less_above bound low high, greater_two low high up)
-
-below_skip : (bound : Option (List ℕ)) (wrong : Bool) (low high : List ℕ) → less high low ≡ false
-    → ((wrong || is_below bound low) || is_below bound high) ≡ (wrong || is_below bound low)
-below_skip None wrong low high up = or-false (wrong || false)
-below_skip (Some bound) wrong low high up = grind (arith, nat_tests, below_less low high bound)
-
-under_again : (bounds : Bounds) (key : List ℕ) → under (under bounds key) key ≡ under bounds key
-under_again bounds key =
-    rw (greater_skip bounds.greatest key key (less_self key), below_skip bounds.separator bounds.wrong key key (less_self key)) refl
-
-under_skip : (bounds : Bounds) (low key high : List ℕ) → less key low ≡ false → less high key ≡ false
-    → under (under (under bounds low) key) high ≡ under (under bounds low) high
-under_skip bounds low key high above below =
-    rw (greater_skip (greater_of bounds.greatest low) key high below, below_skip bounds.separator bounds.wrong low key above) refl
-
-ends_bound : (pair_of : ℕ → StoredPair) (m i last : ℕ) (bounds : Bounds) → i + m ≡ last → DontFall (map pair_of (range_with_len i (suc m)))
-    → fold under_pair bounds (map pair_of (range_with_len i (suc m))) ≡ under (under bounds (pair_of i).key) (pair_of last).key
-ends_bound pair_of zero i last bounds is fall =
-    let same : i ≡ last =
-    omega arith in sym (ap (λ j. under (under bounds (pair_of i).key) (pair_of j).key) (sym same) ∙ under_again bounds (pair_of i).key)
-ends_bound pair_of (suc m) i last bounds is fall =
-    let next : StoredPair = pair_of (i + 1) in
-    let later : List StoredPair = map pair_of (range_with_len (i + 1 + 1) m) in
-    ends_bound pair_of m (i + 1) last (under bounds (pair_of i).key) (omega arith) fall.1
-    ∙ under_skip bounds (pair_of i).key next.key (pair_of last).key (fall.0 next (first_member next later))
-    (elim (member_cases next later (pair_of last) (in_map pair_of (range_with_len (i + 1) (suc m)) last
-    (in_range (i + 1) (suc m) last (omega arith) (omega arith)))) [
-      | inl same ↦ ap (λ (pair : StoredPair). less pair.key next.key) (sym same) ∙ less_self next.key
-      | inr after ↦ fall.1.0 (pair_of last) after
-    ])
-
-pub no_ends : (file : File) (p n : ℕ) (leaf : Listed Item) (bounds : Bounds) → Leaf leaf ≡ page_at file p → 2 * n ≡ length leaf.items → n ≡ 0
-    → bounds ≡ fold under_pair bounds (pairs_of file p)
-no_ends file p n leaf bounds is count none =
-    let empty : length leaf.items / 2 ≡ 0 = omega arith in
-    sym (ap (fold under_pair bounds) (sym (all_pairs file p leaf is)
-    ∙ ap (λ k. map (pair_at file p leaf (λ j. is_shared_key leaf.offsets (2 * j))) (range_with_len 0 k)) empty))
-
--- those of a leaf that has pairs
-pub leaf_ends : (file : File) (p n : ℕ) (leaf : Listed Item) (bounds : Bounds) (first last : List ℕ) → Leaf leaf ≡ page_at file p
-    → 2 * n ≡ length leaf.items → 0 < n → DontFall (pairs_of file p)
-    → first ≡ value_of file (item_at leaf 0).content → last ≡ value_of file (item_at leaf (2 * (n - 1))).content
-    → under (under bounds first) last ≡ fold under_pair bounds (pairs_of file p)
-leaf_ends file p n leaf bounds first last is count some fall first_is last_is =
-    let pair_of : ℕ → StoredPair = pair_at file p leaf (λ j. is_shared_key leaf.offsets (2 * j)) in
-    let more : suc (n - 1) ≡ length leaf.items / 2 = omega arith in
-    let are : map pair_of (range_with_len 0 (suc (n - 1))) ≡ pairs_of file p =
-    ap (λ k. map pair_of (range_with_len 0 k)) more ∙ all_pairs file p leaf is in
-    ap (λ key. under (under bounds key) last) first_is
-    ∙ (ap (under (under bounds (pair_of 0).key)) last_is
-    ∙ (sym (ends_bound pair_of (n - 1) 0 (n - 1) bounds (omega arith) (subst DontFall (sym are) fall)) ∙ ap (fold under_pair bounds) are))
 
 -- Items.
 

@@ -7,7 +7,7 @@ use Rattle.bdb_overflow.specs.Datum.{FitsContent}
 use Rattle.bdb_tree.specs.Trees.{IsTreePage}
 use Rattle.bdb_format.specs.Less.{less}
 use Rattle.bdb_format.specs.ContentRows.{Separated}
-use Rattle.bdb_format.specs.Contents.{StoredPair, pairs_of, tree_pairs}
+use Rattle.bdb_format.specs.Contents.{StoredPair, tree_pairs}
 use Rattle.bdb_format.specs.File.{File}
 use Rattle.bdb_btree.specs.Runs.{is_not_above}
 
@@ -25,11 +25,6 @@ abbrev pub is_below : Option (List ℕ) → List ℕ → Bool
 is_below None value = false
 is_below (Some bound) value = less value bound
 
--- a value is above the greatest one so far, or the first
-abbrev pub exceeds : Option (List ℕ) → List ℕ → Bool
-exceeds None value = true
-exceeds (Some greatest) value = less greatest value
-
 abbrev pub greater_of : Option (List ℕ) → List ℕ → Option (List ℕ)
 greater_of None value = Some value
 greater_of (Some bound) value = if less bound value then Some value else Some bound
@@ -44,10 +39,6 @@ under bounds key = record {
 
 abbrev pub under_pair : Bounds → StoredPair → Bounds
 under_pair bounds pair = under bounds pair.key
-
--- the keys of a leaf below the last item
-abbrev pub under_page : File → Bounds → ℕ → Bounds
-under_page file bounds p = fold under_pair bounds (pairs_of file p)
 
 -- the key of the next item
 abbrev pub beyond : Bounds → List ℕ → Bounds
@@ -82,6 +73,56 @@ pub record ItemFits (file : File) (item : InternalItem) : Type 0 where
 
 abbrev pub ItemsFit : File → List InternalItem → Type 0
 ItemsFit file items = (i : ℕ) (item : InternalItem) → slice_get items i ≡ Some item → ItemFits file item
+
+-- The least and the greatest of keys, which tell of them what separators ask.
+
+abbrev pub lesser_of : Option (List ℕ) → List ℕ → Option (List ℕ)
+lesser_of None value = Some value
+lesser_of (Some bound) value = if less value bound then Some value else Some bound
+
+-- the least and the greatest of some keys, if there are any
+pub record Ends : Type 0 where
+  pub least : Option (List ℕ)
+  pub greatest : Option (List ℕ)
+
+abbrev pub no_ends : Ends
+no_ends = record { least = None; greatest = None }
+
+-- one more key
+abbrev pub widen : Ends → List ℕ → Ends
+widen ends key = record { least = lesser_of ends.least key; greatest = greater_of ends.greatest key }
+
+abbrev pub widen_by : Ends → StoredPair → Ends
+widen_by ends pair = widen ends pair.key
+
+-- those of these pairs
+abbrev pub ends_of : List StoredPair → Ends
+ends_of pairs = fold widen_by no_ends pairs
+
+-- where a second value may be missing
+abbrev pub least_of : Option (List ℕ) → Option (List ℕ) → Option (List ℕ)
+least_of a None = a
+least_of a (Some value) = lesser_of a value
+
+abbrev pub greatest_of : Option (List ℕ) → Option (List ℕ) → Option (List ℕ)
+greatest_of a None = a
+greatest_of a (Some value) = greater_of a value
+
+-- more keys, of which the ends are known
+abbrev pub joined : Ends → Ends → Ends
+joined ends more = record { least = least_of ends.least more.least; greatest = greatest_of ends.greatest more.greatest }
+
+abbrev pub is_any_below : Option (List ℕ) → Option (List ℕ) → Bool
+is_any_below bound None = false
+is_any_below bound (Some least) = is_below bound least
+
+-- keys below the last item, of which the ends are known
+abbrev pub under_ends : Bounds → Ends → Bounds
+under_ends bounds ends = record {
+  separator = bounds.separator;
+  greatest = greatest_of bounds.greatest ends.greatest;
+  wrong = bounds.wrong || is_any_below bounds.separator ends.least;
+}
 
 -- Where keys are in order.
 

@@ -1,23 +1,24 @@
 -- How many pairs are below an item, live ones and all, counted up to the greatest number of 64 bits.
-use Rattle.std.specs.Prelude.{ℕ, ◌+◌, ◌-◌, ◌^◌, min, if◌then◌else◌, IsTrue, [], ◌∷◌}
-use Rattle.std.specs.List.{fold}
-use Rattle.bdb_format.specs.Contents.{StoredPair, pairs_of}
+use Rattle.std.specs.Prelude.{ℕ, ◌+◌, ◌-◌, ◌^◌, min, if◌then◌else◌, IsTrue, List, [], ◌∷◌, length}
+use Rattle.std.specs.List.{filter}
+use Rattle.bdb_format.specs.Contents.{StoredPair}
 use Rattle.bdb_format.specs.File.{File, page_at, type_in}
 use Rattle.bdb_format.specs.References.{has_type}
 use Rattle.bdb_btree.specs.declared.counts.Counts.{Counts}
 
-abbrev pub one_more : ℕ → ℕ
-one_more n = min (2 ^ 64 - 1) (n + 1)
+abbrev pub counted : ℕ → ℕ
+counted n = min (2 ^ 64 - 1) n
 
-abbrev pub no_pairs_counted : Counts
-no_pairs_counted = record { live = 0; all = 0 }
+-- those of these pairs
+abbrev pub counts_of : List StoredPair → Counts
+counts_of pairs = record { live = counted (length (filter (λ (pair : StoredPair). pair.live) pairs)); all = counted (length pairs) }
 
+-- with one more, and with more of which the counts are known
 abbrev pub count_pair : Counts → StoredPair → Counts
-count_pair counts pair = record { live = if pair.live then one_more counts.live else counts.live; all = one_more counts.all }
+count_pair counts pair = record { live = if pair.live then counted (counts.live + 1) else counts.live; all = counted (counts.all + 1) }
 
--- the pairs of a leaf
-abbrev pub count_page : File → Counts → ℕ → Counts
-count_page file counts p = fold count_pair counts (pairs_of file p)
+abbrev pub added : Counts → Counts → Counts
+added counts more = record { live = counted (counts.live + more.live); all = counted (counts.all + more.all) }
 
 -- the pages of a tree of pairs, or of sorted data
 abbrev pub IsKeyed : File → ℕ → Type 0

@@ -1,5 +1,5 @@
 -- Pairs of leaves as their items hold them, and what is kept of them. Source: docs/FORMAT.md, "Items".
-use Rattle.std.specs.Prelude.{ℕ, not, Bool, true, List, [], ◌++◌, map, Option, Some, None}
+use Rattle.std.specs.Prelude.{ℕ, not, Bool, true, List, [], ◌++◌, map, Option}
 use Rattle.std.specs.List.{flat_map}
 use Rattle.std.specs.Option.{option_map}
 use Rattle.bdb_format.specs.Chains.{value_of}
@@ -12,12 +12,12 @@ use Rattle.bdb_form.specs.Pairs.{PairOf, pairs_from}
 use Rattle.bdb_layout.specs.Seen.{leaf_item_seen}
 use Rattle.bdb_overflow.specs.Datum.{FitsContent}
 use Rattle.bdb_overflow.specs.Held.{FitsAny, value_held}
-use Rattle.bdb_overflow.specs.declared.held.Held.{Held}
-use Rattle.bdb_btree.specs.Bounds.{Bounds, under}
+use Rattle.bdb_btree.specs.Bounds.{Bounds, Ends}
 use Rattle.bdb_btree.specs.Pairs.{Each, left_of}
 use Rattle.bdb_btree.specs.Rows.{Passed}
 use Rattle.bdb_btree.specs.Runs.{KeyOrder, Run}
 use Rattle.bdb_btree.specs.declared.data_order.Run.{Run as CodeRun}
+use Rattle.bdb_btree.specs.declared.ends.Ends.{Ends as CodeEnds}
 use Rattle.bdb_btree.specs.declared.held.HeldPair.{HeldPair}
 use Rattle.bdb_btree.specs.declared.order.KeyOrder.{KeyOrder as CodeKeyOrder}
 use Rattle.bdb_btree.specs.declared.pair_rows.Passed.{Passed as CodePassed}
@@ -89,15 +89,17 @@ pub record FitsPassed (file : File) (passed : CodePassed) : Type 0 where
 abbrev pub bounds_seen : File → CodeBounds → Bounds
 bounds_seen file bounds = record {
   separator = option_map (value_held file) bounds.separator;
-  greatest = option_map (value_held file) bounds.greatest;
+  greatest = option_map (value_held file) bounds.ends.greatest;
   wrong = bounds.wrong;
 }
 
--- the first and the last key of a leaf, if it has any, below the last item
-abbrev pub under_ends : File → Bounds → Option (Held × Held) → Bounds
-under_ends file bounds None = bounds
-under_ends file bounds (Some ends) = under (under bounds (value_held file ends.0)) (value_held file ends.1)
+abbrev pub ends_seen : File → CodeEnds → Ends
+ends_seen file ends = record { least = option_map (value_held file) ends.least; greatest = option_map (value_held file) ends.greatest }
+
+pub record FitsEnds (file : File) (ends : CodeEnds) : Type 0 where
+  pub least : FitsAny file ends.least
+  pub greatest : FitsAny file ends.greatest
 
 pub record FitsBounds (file : File) (bounds : CodeBounds) : Type 0 where
   pub separator : FitsAny file bounds.separator
-  pub greatest : FitsAny file bounds.greatest
+  pub ends : FitsEnds file bounds.ends

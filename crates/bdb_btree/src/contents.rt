@@ -1,9 +1,8 @@
 ghost use Rattle.std.specs.Prelude.{◌≡◌, [], false, IfErr, OnOk, if◌then◌else◌};
-ghost use Rattle.std.specs.List.{All};
 ghost use Rattle.bdb_graph.specs.Linked.{FitsTreeRoot, HasMetadata, IsForest};
 ghost use Rattle.bdb_faults.specs.Named.{HasNoted};
-ghost use Rattle.bdb_faults.specs.Notes.{Notes, NotesAll};
-ghost use Rattle.bdb_format.specs.ContentRows.{database_faults, has_wrong_count};
+ghost use Rattle.bdb_faults.specs.Notes.{NotesAll};
+ghost use Rattle.bdb_format.specs.ContentRows.{database_faults, has_wrong_count, inner_pages};
 ghost use Rattle.bdb_format.specs.File.{file_of, page_at};
 ghost use Rattle.bdb_format.specs.Numbers.{has_bit};
 ghost use Rattle.bdb_format.specs.Page.{BtreeFields};
@@ -14,7 +13,6 @@ ghost use Rattle.bdb_btree.specs.Noted.{faults_at};
 ghost use Rattle.bdb_faults.specs.declared.rows.ContentsRow.TheVariants.{Count};
 
 use crate::counts::note_counts;
-use crate::inner::inner_pages;
 use crate::pair_rows::{Rules, note_pairs};
 use crate::separators::note_separators;
 use bdb_faults::{FaultSink, First, NamedList};
@@ -24,7 +22,7 @@ use bdb_ranks::Values;
 use std::alloc::{AllocError, Global};
 
 /// No row on what a btree holds holds. A refusal is the first fault: the least page, and there the least code;
-/// or want of memory. While it runs it takes 4 bytes for each internal page, and 8 for each page below one.
+/// or want of memory, for chains that are shared.
 pub fn check(alloc: Global, linked: &Linked<'_>, meta: &BtreeMeta) -> Result<(), CheckError>
     requires meta { HasMetadata (file_of linked.now) (BtreeFields meta.now) }
     requires keyed { is_recno meta.now ≡ false }
@@ -74,10 +72,10 @@ fn note_alone<F: FaultSink>(
 }
 
 /// Notes each row on what a btree holds at each page where it holds, in any order and repeats allowed. What is found of chains
-/// that are shared is kept for other databases of the file. An error is want of memory: the sink's, that for these chains, or
-/// that of 4 bytes for each internal page and 8 for each page below one.
+/// that are shared is kept for other databases of the file. An error is want of memory: the sink's, or that for these
+/// chains.
 pub fn note_contents<'a, F: FaultSink>(
-    alloc: Global,
+    _alloc: Global,
     linked: &Linked<'a>,
     meta: &BtreeMeta,
     known: &mut Values<'a>,
@@ -93,14 +91,13 @@ pub fn note_contents<'a, F: FaultSink>(
 {
     linked.root(meta);
     let forest = linked.forest();
-    note_forest(alloc, &forest, meta, known, found)?;
+    note_forest(&forest, meta, known, found)?;
     Ok(())
 }
 
 /// The same, of the forest of a file.
-#[tactic(auto, using(crate::proofs::RootLemmas::root_keyed, crate::proofs::CountLemmas::keyed_is_tree, crate::proofs::InnerLemmas::all_ordered))]
+#[tactic(auto, using(crate::proofs::RootLemmas::root_keyed))]
 fn note_forest<'a, F: FaultSink>(
-    alloc: Global,
     forest: &Forest<'a>,
     meta: &BtreeMeta,
     known: &mut Values<'a>,
@@ -121,9 +118,8 @@ fn note_forest<'a, F: FaultSink>(
         sorted: has_bit(meta.flags, 0x40),
     };
     let ordered = note_pairs(known, meta.root, rules, found)?;
-    let pages = inner_pages(alloc, forest, meta.root)?;
-    note_separators(alloc, known, &pages, ordered, found)?;
-    note_counted(alloc, forest, has_bit(meta.flags, 0x04), &pages, found)?;
+    note_separators(known, meta.root, ordered, found)?;
+    note_counted(forest, has_bit(meta.flags, 0x04), meta.root, found)?;
     Ok(())
 }
 
@@ -134,20 +130,20 @@ fn has_bit(flags: u32, bits: u32) -> bool
     flags & bits != 0
 }
 
-/// Notes those of these pages with a wrong count, if counts are kept.
+/// Notes the internal pages of a tree that have a wrong count, if counts are kept.
+#[tactic(auto, using(bdb_faults::proofs::SinkLemmas::notes_none))]
 fn note_counted<F: FaultSink>(
-    alloc: Global,
     forest: &Forest<'_>,
     keeps_counts: bool,
-    pages: &[u32],
+    root: u32,
     found: &mut F,
 ) -> Result<(), AllocError>
-    requires { All (IsKeyed (file_of forest.now)) pages.now }
-    ensures { OnOk result (Notes (F.has_noted found.old) (F.has_noted found.new)
-        (if keeps_counts then faults_at Count (λ p. has_wrong_count (file_of forest.now) (page_at (file_of forest.now) p)) pages.now else [])) }
+    requires { IsKeyed (file_of forest.now) root }
+    ensures { OnOk result (NotesAll (F.has_noted found.old) (F.has_noted found.new)
+        (if keeps_counts then faults_at Count (λ p. has_wrong_count (file_of forest.now) (page_at (file_of forest.now) p)) (inner_pages (file_of forest.now) root) else [])) }
 {
     if keeps_counts {
-        note_counts(alloc, forest, pages, found)?;
+        note_counts(forest, root, found)?;
     }
     Ok(())
 }

@@ -6,6 +6,7 @@ mod counts;
 mod data;
 mod data_order;
 mod duplicates;
+mod ends;
 mod entries;
 mod found;
 mod held;

@@ -1,0 +1,174 @@
+ghost use Rattle.std.specs.Prelude.{◌≡◌, IfOk, OnOk, Some};
+ghost use Rattle.std.specs.Option.{option_map};
+ghost use Rattle.bdb_format.specs.Contents.{tree_pairs};
+ghost use Rattle.bdb_format.specs.File.{File, file_of};
+ghost use Rattle.bdb_graph.specs.Linked.{FitsLeafPage};
+ghost use Rattle.bdb_overflow.specs.Held.{FitsAny, FitsHeld, value_held};
+ghost use Rattle.bdb_btree.specs.Bounds.{DontFall, OrderedIf, ends_of, greater_of, joined, lesser_of, no_ends, widen};
+ghost use Rattle.bdb_btree.specs.Held.{FitsEnds, ends_seen};
+
+use crate::held::page_items;
+use crate::order::is_less;
+use crate::pair::key_at;
+use bdb_form::PageView;
+use bdb_graph::Forest;
+use bdb_overflow::{Held, leaf_held};
+use bdb_ranks::Values;
+use std::alloc::AllocError;
+
+/// The lesser of two values, the first of which may be missing. An error is want of memory, for chains that are shared.
+fn lesser_of<'a>(
+    known: &mut Values<'a>,
+    least: Option<Held<'a>>,
+    value: Held<'a>,
+) -> Result<Held<'a>, AllocError>
+    requires least { FitsAny (file_of known.old) least }
+    requires value { FitsHeld (file_of known.old) value }
+    ensures lesser { IfOk result (λ lesser. Some (value_held (file_of known.old) lesser)
+        ≡ lesser_of (option_map (value_held (file_of known.old)) least.entry) (value_held (file_of known.old) value.entry)) }
+    ensures fits { IfOk result (FitsHeld (file_of known.old)) }
+    ensures same { known.new ≡ known.old }
+{
+    match least {
+        Some(least) => {
+            let is_lesser = is_less(known, value, least)?;
+            Ok(if is_lesser { value } else { least })
+        }
+        None => Ok(value),
+    }
+}
+
+/// The greater of them.
+fn greater_of<'a>(
+    known: &mut Values<'a>,
+    greatest: Option<Held<'a>>,
+    value: Held<'a>,
+) -> Result<Held<'a>, AllocError>
+    requires greatest { FitsAny (file_of known.old) greatest }
+    requires value { FitsHeld (file_of known.old) value }
+    ensures greater { IfOk result (λ greater. Some (value_held (file_of known.old) greater)
+        ≡ greater_of (option_map (value_held (file_of known.old)) greatest.entry) (value_held (file_of known.old) value.entry)) }
+    ensures fits { IfOk result (FitsHeld (file_of known.old)) }
+    ensures same { known.new ≡ known.old }
+{
+    match greatest {
+        Some(greatest) => {
+            let is_greater = is_less(known, greatest, value)?;
+            Ok(if is_greater { value } else { greatest })
+        }
+        None => Ok(value),
+    }
+}
+
+/// The least and the greatest of some keys, if there are any.
+#[derive(Clone, Copy)]
+pub(crate) struct Ends<'a> {
+    pub(crate) least: Option<Held<'a>>,
+    pub(crate) greatest: Option<Held<'a>>,
+}
+
+impl<'a> Ends<'a> {
+    /// Those of no keys.
+    pub(crate) fn new() -> Ends<'a>
+        ensures none { (file : File) → ends_seen file result ≡ no_ends }
+        ensures fits { (file : File) → FitsEnds file result }
+    {
+        Ends {
+            least: None,
+            greatest: None,
+        }
+    }
+
+    /// One more key. An error is want of memory.
+    fn see_key(&mut self, known: &mut Values<'a>, key: Held<'a>) -> Result<(), AllocError>
+        requires ends { FitsEnds (file_of known.old) self.old }
+        requires key { FitsHeld (file_of known.old) key }
+        ensures ends { OnOk result (ends_seen (file_of known.old) self.new
+            ≡ widen (ends_seen (file_of known.old) self.old) (value_held (file_of known.old) key.entry)) }
+        ensures fits { OnOk result (FitsEnds (file_of known.old) self.new) }
+        ensures same { known.new ≡ known.old }
+    {
+        self.least = Some(lesser_of(known, self.least, key)?);
+        self.greatest = Some(greater_of(known, self.greatest, key)?);
+        Ok(())
+    }
+
+    /// More keys, by their ends. An error is want of memory.
+    pub(crate) fn join(&mut self, known: &mut Values<'a>, more: Ends<'a>) -> Result<(), AllocError>
+        requires ends { FitsEnds (file_of known.old) self.old }
+        requires more { FitsEnds (file_of known.old) more }
+        ensures ends { OnOk result (ends_seen (file_of known.old) self.new
+            ≡ joined (ends_seen (file_of known.old) self.old) (ends_seen (file_of known.old) more.entry)) }
+        ensures fits { OnOk result (FitsEnds (file_of known.old) self.new) }
+        ensures same { known.new ≡ known.old }
+    {
+        if let Some(least) = more.least {
+            self.least = Some(lesser_of(known, self.least, least)?);
+        }
+        if let Some(greatest) = more.greatest {
+            self.greatest = Some(greater_of(known, self.greatest, greatest)?);
+        }
+        Ok(())
+    }
+}
+
+/// Those of the keys of a leaf that don't fall: the first and the last.
+#[tactic(auto, using(bdb_tree::proofs::TreeLemmas::leaf_inside))]
+fn ordered_ends<'a>(forest: &Forest<'a>, leaf: u32) -> Ends<'a>
+    requires leaf { FitsLeafPage (file_of forest.now) leaf }
+    requires order { DontFall (tree_pairs (file_of forest.now) leaf) }
+    ensures ends { ends_seen (file_of forest.now) result ≡ ends_of (tree_pairs (file_of forest.now) leaf) }
+    ensures fits { FitsEnds (file_of forest.now) result }
+{
+    let PageView::Leaf(view) = forest.page(leaf) else {
+        return Ends::new();
+    };
+    let pairs = view.pairs();
+    if pairs == 0 {
+        return Ends::new();
+    }
+    Ends {
+        least: Some(key_at(forest, leaf, &view, 0)),
+        greatest: Some(key_at(forest, leaf, &view, pairs - 1)),
+    }
+}
+
+/// Those of all keys of a leaf, each of which is compared. An error is want of memory.
+fn compared_ends<'a>(known: &mut Values<'a>, leaf: u32) -> Result<Ends<'a>, AllocError>
+    requires leaf { FitsLeafPage (file_of known.old) leaf }
+    ensures ends { IfOk result (λ ends. ends_seen (file_of known.old) ends ≡ ends_of (tree_pairs (file_of known.old) leaf)) }
+    ensures fits { IfOk result (FitsEnds (file_of known.old)) }
+    ensures same { known.new ≡ known.old }
+{
+    let items = {
+        let forest = known.forest();
+        page_items(&forest, leaf)
+    };
+    let Some(pairs) = items else {
+        return Ok(Ends::new());
+    };
+    let mut ends = Ends::new();
+    for pair in pairs {
+        ends.see_key(known, leaf_held(&pair.key))?;
+    }
+    Ok(ends)
+}
+
+/// The least and the greatest key of a leaf. Where its keys are told not to fall, two of them are read. An error is want of memory.
+pub(crate) fn leaf_ends<'a>(
+    known: &mut Values<'a>,
+    leaf: u32,
+    ordered: bool,
+) -> Result<Ends<'a>, AllocError>
+    requires leaf { FitsLeafPage (file_of known.old) leaf }
+    requires order { OrderedIf ordered (file_of known.old) leaf }
+    ensures ends { IfOk result (λ ends. ends_seen (file_of known.old) ends ≡ ends_of (tree_pairs (file_of known.old) leaf)) }
+    ensures fits { IfOk result (FitsEnds (file_of known.old)) }
+    ensures same { known.new ≡ known.old }
+{
+    if ordered {
+        Ok(ordered_ends(&known.forest(), leaf))
+    } else {
+        compared_ends(known, leaf)
+    }
+}
