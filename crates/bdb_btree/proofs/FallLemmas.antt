@@ -1,8 +1,8 @@
 -- Pairs whose keys don't fall: those of a tree where none is out of order, and so those below each of its pages.
-use Rattle.std.proofs.Common.{◌≡◌, ℕ, ◌*◌, ◌-◌, ◌<◌, true, false, List, [], ◌∷◌, ◌++◌, length, map, get_or, arith, refl}
+use Rattle.std.proofs.Common.{◌≡◌, ℕ, ◌*◌, ◌-◌, ◌<◌, true, false, List, [], ◌∷◌, ◌++◌, length, get_or, arith, refl}
 use Rattle.std.proofs.Common.{sym, ◌∙◌, ap, subst, inl, inr, true≢false, Bool, not, Some}
 use Rattle.std.specs.Prelude.{◌&&◌, slice_index}
-use Rattle.std.specs.List.{flat_map, fold, All, Contains}
+use Rattle.std.specs.List.{flat_map, fold, Contains}
 use Rattle.std.proofs.lemmas.Bool.{cases_lt, eqb-true, false_from_ne_true}
 use Rattle.std.proofs.lemmas.List.{get_or_past}
 use Rattle.bdb_format.specs.declared.kinds.Order.{Order}
@@ -12,17 +12,17 @@ use Rattle.bdb_format.specs.HeadOf.{head_of}
 use Rattle.bdb_format.specs.Chains.{value_of}
 use Rattle.bdb_format.specs.Leaves.{leaves, children_in}
 use Rattle.bdb_format.specs.Numbers.{byte_at}
-use Rattle.bdb_format.specs.Page.{Item, Listed, Page, Zero, Leaf, NoType, PageType, LeafPage, InternalItem, Internal}
+use Rattle.bdb_format.specs.Page.{Item, Listed, Page, Zero, Leaf, NoType, PageType, LeafPage}
 use Rattle.bdb_format.specs.Reading.{abstract_page, entries_of, is_zero, leaf_item_at, listed, page_as, page_type}
 use Rattle.bdb_format.specs.References.{no_item}
 use Rattle.bdb_format.proofs.PageLemmas.{index_offset, length_items}
 use Rattle.bdb_format.proofs.LeafLemmas.{leaf_item_is, one_offset}
-use Rattle.std.proofs.lemmas.List.Elements.{Contains-append_left, Contains-get_or}
+use Rattle.std.proofs.lemmas.List.Elements.{Contains-append_left}
 use Rattle.bdb_format.specs.ContentRows.{is_out_of_order, neighbours, neighbours_from}
 use Rattle.bdb_format.specs.Less.{less}
 use Rattle.bdb_format.proofs.LessLemmas.{less_above, less_not_back, less_self}
-use Rattle.bdb_format.proofs.ListLemmas.{all_of, flat_map_twice}
-use Rattle.bdb_format.proofs.MemberLemmas.{first_member, in_map, later_member, member_cases, no_member}
+use Rattle.bdb_format.proofs.ListLemmas.{flat_map_twice}
+use Rattle.bdb_format.proofs.MemberLemmas.{first_member, later_member, member_cases, no_member}
 use Rattle.bdb_format.proofs.FileLemmas.{last_page, page_is, pages_counted}
 use Rattle.bdb_graph.specs.Linked.{IsForest}
 use Rattle.bdb_tree.proofs.TreeLemmas.{leaves_of_inner}

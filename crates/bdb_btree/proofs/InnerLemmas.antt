@@ -1,20 +1,24 @@
 -- The internal pages of a tree, and their types.
+<<<<<<< HEAD
 use Rattle.std.proofs.Common.{◌≡◌, ℕ, zero, suc, ◌+◌, ◌-◌, ◌<◌, Bool, true, List, [], ◌∷◌, ◌++◌, get_or, arith, refl, sym, ◌∙◌, ap, subst}
 use Rattle.std.proofs.Common.{append_assoc, inl, inr, Option, Some, None}
 use Rattle.std.specs.List.{All, Contains, filter, flat_map}
+=======
+use Rattle.std.proofs.Common.{◌≡◌, ℕ, zero, suc, ◌-◌, Bool, true, List, [], ◌∷◌, refl, subst}
+use Rattle.std.proofs.Common.{inl, inr, Option, Some, None}
+use Rattle.std.specs.List.{Contains, filter, flat_map}
+>>>>>>> 6fff2269ba54264ae15e99b5749e9f18b7108f68
 use Rattle.std.specs.Option.{is_some, unwrap_or}
 use Rattle.std.proofs.lemmas.List.Elements.{Contains-append_cases}
 use Rattle.bdb_format.specs.ContentRows.{inner_in, inner_pages}
 use Rattle.bdb_format.specs.File.{File, file_of, header_in, page_at, type_in}
 use Rattle.bdb_format.specs.Leaves.{children_in}
 use Rattle.bdb_format.specs.References.{child_types, has_type}
-use Rattle.bdb_format.proofs.ListLemmas.{all_of, only_member}
+use Rattle.bdb_format.proofs.ListLemmas.{only_member}
 use Rattle.bdb_format.proofs.MemberLemmas.{no_member, of_filter, of_flat_map}
 use Rattle.bdb_graph.specs.Linked.{IsForest}
-use Rattle.bdb_btree.specs.Bounds.{OrderedIf}
 use Rattle.bdb_btree.specs.Counts.{IsKeyed}
-use Rattle.bdb_btree.proofs.FallLemmas.{child_ordered}
-use Rattle.bdb_tree.specs.Trees.{IsTreePage, children_at}
+use Rattle.bdb_tree.specs.Trees.{children_at}
 use Rattle.bdb_tree.proofs.TreeLemmas.{child_is}
 use Rattle.bdb_format.proofs.TypeLemmas.{of_type, keyed_below}
 

@@ -1,6 +1,6 @@
 -- An internal page gone through once: what is kept decides its separators.
-use Rattle.std.proofs.Common.{◌≡◌, ℕ, zero, suc, ◌+◌, ◌*◌, ◌-◌, ◌/◌, ◌<◌, ◌≤◌, Bool, true, false, not, cond, List, [], ◌∷◌, ◌++◌, length, map, get_or}
-use Rattle.std.proofs.Common.{take, drop, Option, Some, None, arith, refl, sym, ◌∙◌, ap, subst, inl, inr, append-nil}
+use Rattle.std.proofs.Common.{◌≡◌, ℕ, zero, suc, ◌+◌, ◌-◌, ◌<◌, ◌≤◌, Bool, true, false, not, cond, List, [], ◌∷◌, ◌++◌, length, get_or}
+use Rattle.std.proofs.Common.{take, drop, Option, Some, None, arith, refl, sym, ◌∙◌, ap, append-nil}
 use Rattle.std.specs.Prelude.{◌&&◌, ◌||◌, nat_le}
 use Rattle.std.specs.List.{flat_map, fold, list_any, range_with_len}
 use Rattle.std.proofs.lemmas.Bool.{le-leb, false_from_ne_true, not-false, or_parts, true≢false}
@@ -11,18 +11,12 @@ use Rattle.std.proofs.lemmas.Grind.{flat_map-append}
 use Rattle.std.proofs.lemmas.Bool.Decides.{nat_tests}
 use Rattle.std.proofs.Math.Bool.{or-false, or_assoc}
 use Rattle.bdb_format.specs.Less.{less, Less}
-use Rattle.bdb_format.specs.Contents.{StoredPair, pair_at, pairs_of}
-use Rattle.bdb_format.specs.File.{File, page_at}
-use Rattle.bdb_format.specs.Page.{Item, Listed, Leaf}
-use Rattle.bdb_format.specs.Chains.{value_of}
-use Rattle.bdb_format.specs.References.{is_shared_key, item_at}
 use Rattle.bdb_format.specs.ContentRows.{Separated, breaks, no_separator}
-use Rattle.bdb_format.proofs.MemberLemmas.{first_member, in_map, in_range, member_cases, none_pass, none_passes, of_range}
-use Rattle.bdb_btree.specs.Bounds.{Bounds, DontFall, beyond, bounds_of, greater_of, is_below, no_bounds, past, under, under_pair}
+use Rattle.bdb_format.proofs.MemberLemmas.{in_range, none_pass, none_passes, of_range}
+use Rattle.bdb_btree.specs.Bounds.{Bounds, beyond, bounds_of, greater_of, is_below, no_bounds, past, under}
 use Rattle.bdb_btree.specs.Runs.{is_not_above}
-use Rattle.bdb_btree.proofs.WalkLemmas.{all_pairs}
 use Rattle.bdb_format.proofs.BoolLemmas.{second_false}
-use Rattle.bdb_format.proofs.LessLemmas.{below_less, less_above, less_self, less_trans, same_unless_less}
+use Rattle.bdb_format.proofs.LessLemmas.{below_less, less_above, less_self, less_trans}
 
 -- Keys below an item.
 

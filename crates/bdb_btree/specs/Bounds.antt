@@ -7,7 +7,7 @@ use Rattle.bdb_overflow.specs.Datum.{FitsContent}
 use Rattle.bdb_tree.specs.Trees.{IsTreePage}
 use Rattle.bdb_format.specs.Less.{less}
 use Rattle.bdb_format.specs.ContentRows.{Separated}
-use Rattle.bdb_format.specs.Contents.{StoredPair, pairs_of, tree_pairs}
+use Rattle.bdb_format.specs.Contents.{StoredPair, tree_pairs}
 use Rattle.bdb_format.specs.File.{File}
 use Rattle.bdb_btree.specs.Runs.{is_not_above}
 

@@ -1,5 +1,5 @@
 -- Pairs of leaves as their items hold them, and what is kept of them. Source: docs/FORMAT.md, "Items".
-use Rattle.std.specs.Prelude.{ℕ, not, Bool, true, List, [], ◌++◌, map, Option, Some, None}
+use Rattle.std.specs.Prelude.{ℕ, not, Bool, true, List, [], ◌++◌, map, Option}
 use Rattle.std.specs.List.{flat_map}
 use Rattle.std.specs.Option.{option_map}
 use Rattle.bdb_format.specs.Chains.{value_of}
@@ -12,7 +12,10 @@ use Rattle.bdb_form.specs.Pairs.{PairOf, pairs_from}
 use Rattle.bdb_layout.specs.Seen.{leaf_item_seen}
 use Rattle.bdb_overflow.specs.Datum.{FitsContent}
 use Rattle.bdb_overflow.specs.Held.{FitsAny, value_held}
+<<<<<<< HEAD
 use Rattle.bdb_overflow.specs.declared.held.Held.{Held}
+=======
+>>>>>>> 6fff2269ba54264ae15e99b5749e9f18b7108f68
 use Rattle.bdb_btree.specs.Bounds.{Bounds, Ends}
 use Rattle.bdb_btree.specs.Pairs.{Each, left_of}
 use Rattle.bdb_btree.specs.Rows.{Passed}
