@@ -17,20 +17,12 @@ use Rattle.bdb_format.specs.Contents.{StoredPair, tree_pairs}
 use Rattle.bdb_format.specs.File.{File, file_of, page_at}
 use Rattle.bdb_format.specs.Leaves.{children_in}
 use Rattle.bdb_format.specs.Page.{InternalItem, Listed, Internal}
-<<<<<<< HEAD
-use Rattle.bdb_format.proofs.MemberLemmas.{first_member, later_member}
-=======
 use Rattle.bdb_format.proofs.MemberLemmas.{later_member}
->>>>>>> 6fff2269ba54264ae15e99b5749e9f18b7108f68
 use Rattle.bdb_graph.specs.Linked.{IsForest}
 use Rattle.bdb_btree.specs.Counts.{IsKeyed, added, count_pair, counted, counts_of}
 use Rattle.bdb_btree.specs.Noted.{faults_at}
 use Rattle.bdb_btree.specs.declared.counts.Counts.{Counts}
-<<<<<<< HEAD
-use Rattle.bdb_btree.proofs.BelowLemmas.{faults_below, inner_noted, leads_down}
-=======
 use Rattle.bdb_tree.proofs.InnerLemmas.{faults_below, inner_noted, leads_down}
->>>>>>> 6fff2269ba54264ae15e99b5749e9f18b7108f68
 use Rattle.bdb_btree.proofs.ItemLemmas.{keyed_child, level, pairs_joined}
 
 -- Pairs.

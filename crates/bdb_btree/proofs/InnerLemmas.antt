@@ -1,13 +1,7 @@
 -- The internal pages of a tree, and their types.
-<<<<<<< HEAD
-use Rattle.std.proofs.Common.{◌≡◌, ℕ, zero, suc, ◌+◌, ◌-◌, ◌<◌, Bool, true, List, [], ◌∷◌, ◌++◌, get_or, arith, refl, sym, ◌∙◌, ap, subst}
-use Rattle.std.proofs.Common.{append_assoc, inl, inr, Option, Some, None}
-use Rattle.std.specs.List.{All, Contains, filter, flat_map}
-=======
 use Rattle.std.proofs.Common.{◌≡◌, ℕ, zero, suc, ◌-◌, Bool, true, List, [], ◌∷◌, refl, subst}
 use Rattle.std.proofs.Common.{inl, inr, Option, Some, None}
 use Rattle.std.specs.List.{Contains, filter, flat_map}
->>>>>>> 6fff2269ba54264ae15e99b5749e9f18b7108f68
 use Rattle.std.specs.Option.{is_some, unwrap_or}
 use Rattle.std.proofs.lemmas.List.Elements.{Contains-append_cases}
 use Rattle.bdb_format.specs.ContentRows.{inner_in, inner_pages}

@@ -23,21 +23,13 @@ use Rattle.bdb_overflow.proofs.ContentLemmas.{key_fits}
 use Rattle.bdb_btree.specs.Bounds.{OrderedIf}
 use Rattle.bdb_btree.specs.Counts.{IsKeyed}
 use Rattle.bdb_btree.specs.Noted.{faults_at}
-<<<<<<< HEAD
-use Rattle.bdb_btree.proofs.BelowLemmas.{no_inner}
-=======
 use Rattle.bdb_tree.proofs.InnerLemmas.{no_inner}
->>>>>>> 6fff2269ba54264ae15e99b5749e9f18b7108f68
 use Rattle.bdb_btree.proofs.FallLemmas.{child_ordered}
 use Rattle.bdb_btree.proofs.FindLemmas.{keyed_inner}
 use Rattle.bdb_btree.proofs.InnerLemmas.{child_keyed}
 use Rattle.bdb_tree.specs.Trees.{IsTreePage}
 use Rattle.bdb_tree.proofs.ShapeLemmas.{IsLeafPage}
-<<<<<<< HEAD
-use Rattle.bdb_tree.proofs.TreeLemmas.{child_is, leaf_is_tree, leaves_of_inner, leaves_of_leaf, tree_cases, tree_inside, typed_inside}
-=======
 use Rattle.bdb_tree.proofs.TreeLemmas.{child_is, leaf_is_tree, leaves_of_inner, leaves_of_leaf, tree_cases, typed_inside}
->>>>>>> 6fff2269ba54264ae15e99b5749e9f18b7108f68
 
 abbrev pub level : File → ℕ → ℕ
 level file p = (header_in (page_at file p)).level

@@ -1,4 +1,3 @@
-pub mod BelowLemmas
 pub mod CheckLemmas
 pub mod CountLemmas
 pub mod EndLemmas

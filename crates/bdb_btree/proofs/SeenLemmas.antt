@@ -1,9 +1,5 @@
 -- The items of an internal page seen one after another.
-<<<<<<< HEAD
-use Rattle.std.proofs.Common.{◌≡◌, ℕ, zero, suc, ◌+◌, ◌≤◌, Bool, true, false, cond, List, [], ◌∷◌, ◌++◌, length, map, take, Some, arith, refl}
-=======
 use Rattle.std.proofs.Common.{◌≡◌, ℕ, zero, suc, ◌+◌, ◌≤◌, true, false, cond, List, [], ◌∷◌, ◌++◌, length, map, take, Some, arith, refl}
->>>>>>> 6fff2269ba54264ae15e99b5749e9f18b7108f68
 use Rattle.std.proofs.Common.{sym, ◌∙◌, ap, subst, add-one, append-nil}
 use Rattle.std.specs.Prelude.{◌==◌}
 use Rattle.std.specs.List.{flat_map, fold, slice_get}
@@ -25,20 +21,12 @@ use Rattle.bdb_format.specs.Leaves.{children_in}
 use Rattle.bdb_format.specs.Page.{InternalItem, Listed, Internal}
 use Rattle.bdb_graph.specs.Linked.{IsForest}
 use Rattle.bdb_overflow.proofs.ContentLemmas.{got}
-<<<<<<< HEAD
-use Rattle.bdb_btree.specs.Bounds.{Bounds, Ends, beyond, bounds_of, ends_of, joined, no_bounds, no_ends, past, see_item, see_items, under, under_ends, under_pair}
-=======
 use Rattle.bdb_btree.specs.Bounds.{Bounds, beyond, bounds_of, ends_of, joined, no_bounds, no_ends, past, see_item, see_items, under, under_ends, under_pair}
->>>>>>> 6fff2269ba54264ae15e99b5749e9f18b7108f68
 use Rattle.bdb_btree.specs.Held.{FitsBounds, bounds_seen, ends_seen}
 use Rattle.bdb_btree.specs.Noted.{faults_at}
 use Rattle.bdb_btree.specs.declared.separators.Bounds.{Bounds as CodeBounds}
 use Rattle.bdb_btree.specs.declared.ends.Ends.{Ends as CodeEnds}
-<<<<<<< HEAD
-use Rattle.bdb_btree.proofs.BelowLemmas.{faults_below, inner_noted, leads_down}
-=======
 use Rattle.bdb_tree.proofs.InnerLemmas.{faults_below, inner_noted, leads_down}
->>>>>>> 6fff2269ba54264ae15e99b5749e9f18b7108f68
 use Rattle.bdb_btree.proofs.EndLemmas.{ends_joined, under_all}
 use Rattle.bdb_btree.proofs.ItemLemmas.{pairs_joined}
 use Rattle.bdb_btree.proofs.SeparatorLemmas.{wrong_separators}

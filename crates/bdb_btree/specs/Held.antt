@@ -12,10 +12,6 @@ use Rattle.bdb_form.specs.Pairs.{PairOf, pairs_from}
 use Rattle.bdb_layout.specs.Seen.{leaf_item_seen}
 use Rattle.bdb_overflow.specs.Datum.{FitsContent}
 use Rattle.bdb_overflow.specs.Held.{FitsAny, value_held}
-<<<<<<< HEAD
-use Rattle.bdb_overflow.specs.declared.held.Held.{Held}
-=======
->>>>>>> 6fff2269ba54264ae15e99b5749e9f18b7108f68
 use Rattle.bdb_btree.specs.Bounds.{Bounds, Ends}
 use Rattle.bdb_btree.specs.Pairs.{Each, left_of}
 use Rattle.bdb_btree.specs.Rows.{Passed}

@@ -1,8 +1,4 @@
-<<<<<<< HEAD
-use Rattle.std.proofs.Common.{◌≡◌, ◌∙◌, ◌<◌, ◌≤◌, List, ℕ, arith, cond, length, refl, rules, subst, sym}
-=======
 use Rattle.std.proofs.Common.{◌≡◌, ◌∙◌, ◌<◌, List, ℕ, arith, cond, refl, rules, subst, sym}
->>>>>>> 6fff2269ba54264ae15e99b5749e9f18b7108f68
 use Rattle.std.specs.Prelude.{◌==◌}
 use Rattle.bdb_faults.specs.Notes.{NotesAll}
 use Rattle.bdb_faults.specs.declared.rows.ContentsRow.TheVariants.{Separator}
