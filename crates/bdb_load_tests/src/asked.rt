@@ -27,6 +27,33 @@ fn copy_of(alloc: Global, image: &[u8]) -> Result<Bytes, AllocError> {
     Ok(bytes)
 }
 
+// Runs the tool on what is lent, and compares the status and what is written.
+fn run_and_compare(
+    rt: &impl Abort,
+    alloc: Global,
+    words: &Words,
+    source: &mut MemSource,
+    out: &mut MemSink,
+    err: &mut MemSink,
+    status: u8,
+    text: &[u8],
+) {
+    let told = run_counted::<Brand, MemSource, MemSink, MemSink>(
+        alloc,
+        words,
+        source,
+        out,
+        err,
+        Blank::new(1),
+    );
+    assert_eq!(rt; told, status);
+    if status == 0 {
+        assert_eq!(rt; out.bytes(), text);
+    } else {
+        assert_eq!(rt; err.bytes(), text);
+    }
+}
+
 /// Asks, and compares the status and what is written.
 pub(crate) fn ask(
     rt: &impl Abort,
@@ -40,20 +67,16 @@ pub(crate) fn ask(
     let mut source = MemSource::new(alloc, copy_of(alloc, image)?);
     let mut out = MemSink::new(alloc);
     let mut err = MemSink::new(alloc);
-    let told = run_counted::<Brand, MemSource, MemSink, MemSink>(
+    run_and_compare(
+        rt,
         alloc,
         &words,
         &mut source,
         &mut out,
         &mut err,
-        Blank::new(1),
+        status,
+        text,
     );
-    assert_eq!(rt; told, status);
-    if status == 0 {
-        assert_eq!(rt; out.bytes(), text);
-    } else {
-        assert_eq!(rt; err.bytes(), text);
-    }
     Ok(())
 }
 

@@ -5,7 +5,7 @@ use bdb_format::{Bytes, Kind};
 use bdb_gen::generate;
 use bdb_judging::gives;
 use bdb_text::push_line_text;
-use bdb_text_format::Key;
+use bdb_text_format::{Key, PairList};
 use std::alloc::{AllocError, Global};
 use std::process::Abort;
 use std::test::Fail;
@@ -40,15 +40,25 @@ pub(crate) fn text_of(alloc: Global, kind: Kind, header: &[u8]) -> Result<Bytes,
     Ok(text)
 }
 
+// Loads a text, and compares what its file gives with a list.
+fn load_and_compare(
+    rt: &impl Abort,
+    alloc: Global,
+    text: &[u8],
+    list: &PairList,
+) -> Result<(), AllocError> {
+    match loaded(alloc, text, 1073741824) {
+        Answer::Image(image) => assert!(rt; gives(alloc, image.bytes(), list, b"0")?),
+        _ => assert!(rt; false),
+    }
+    Ok(())
+}
+
 fn check(rt: &impl Abort, alloc: Global, kind: Kind, header: &[u8]) -> Result<(), AllocError> {
     let text = text_of(alloc, kind, header)?;
     let list = list_of(alloc, text.as_slice())?;
     assert_eq!(rt; list.len(), 200000);
-    match loaded(alloc, text.as_slice(), 1073741824) {
-        Answer::Image(image) => assert!(rt; gives(alloc, image.bytes(), &list, b"0")?),
-        _ => assert!(rt; false),
-    }
-    Ok(())
+    load_and_compare(rt, alloc, text.as_slice(), &list)
 }
 
 #[test]

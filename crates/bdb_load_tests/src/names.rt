@@ -171,31 +171,64 @@ fn push_spelled(name: &mut Bytes, byte: u8) -> Result<(), AllocError> {
     }
 }
 
+// Behind a text, the section of a byte as a name.
+fn push_escaped_name(alloc: Global, text: &mut Bytes, byte: u8) -> Result<(), AllocError> {
+    let mut name = Bytes::new(alloc);
+    push_escaped(&mut name, byte)?;
+    push_section(text, name.as_slice())
+}
+
+// The same, as it is dumped.
+fn push_spelled_name(alloc: Global, dumped: &mut Bytes, byte: u8) -> Result<(), AllocError> {
+    let mut name = Bytes::new(alloc);
+    push_spelled(&mut name, byte)?;
+    push_section(dumped, name.as_slice())
+}
+
+// Behind a text, the section of a name of all bytes.
+fn push_escaped_bytes(alloc: Global, text: &mut Bytes) -> Result<(), AllocError> {
+    let mut all = Bytes::new(alloc);
+    for byte in 0..=255u8 {
+        push_escaped(&mut all, byte)?;
+    }
+    push_section(text, all.as_slice())
+}
+
+// The same, as it is dumped.
+fn push_spelled_bytes(alloc: Global, dumped: &mut Bytes) -> Result<(), AllocError> {
+    let mut all = Bytes::new(alloc);
+    for byte in 0..=255u8 {
+        push_spelled(&mut all, byte)?;
+    }
+    push_section(dumped, all.as_slice())
+}
+
+// A name of all bytes, and each byte as a name.
+fn escaped_names(alloc: Global) -> Result<Bytes, AllocError> {
+    let mut text = Bytes::new(alloc);
+    push_escaped_bytes(alloc, &mut text)?;
+    for byte in 0..=255u8 {
+        push_escaped_name(alloc, &mut text, byte)?;
+    }
+    Ok(text)
+}
+
+// The same, as they are dumped: the name of all bytes stands behind that of its first byte.
+fn spelled_names(alloc: Global) -> Result<Bytes, AllocError> {
+    let mut dumped = Bytes::new(alloc);
+    push_spelled_name(alloc, &mut dumped, 0)?;
+    push_spelled_bytes(alloc, &mut dumped)?;
+    for byte in 1..=255u8 {
+        push_spelled_name(alloc, &mut dumped, byte)?;
+    }
+    Ok(dumped)
+}
+
 #[test]
 fn names_have_every_byte(rt: HostRuntime) -> Result<(), Fail> {
     let alloc = rt.alloc();
-    // a name of all bytes, and each byte as a name
-    let mut text = Bytes::new(alloc);
-    let mut dumped = Bytes::new(alloc);
-    let mut all = Bytes::new(alloc);
-    let mut spelled = Bytes::new(alloc);
-    for byte in 0..=255u8 {
-        push_escaped(&mut all, byte)?;
-        push_spelled(&mut spelled, byte)?;
-    }
-    push_section(&mut text, all.as_slice())?;
-    for byte in 0..=255u8 {
-        let mut name = Bytes::new(alloc);
-        push_escaped(&mut name, byte)?;
-        push_section(&mut text, name.as_slice())?;
-        let mut name = Bytes::new(alloc);
-        push_spelled(&mut name, byte)?;
-        push_section(&mut dumped, name.as_slice())?;
-        // the name of all bytes stands behind that of its first byte
-        if byte == 0 {
-            push_section(&mut dumped, spelled.as_slice())?;
-        }
-    }
+    let text = escaped_names(alloc)?;
+    let dumped = spelled_names(alloc)?;
     // a name of one byte takes 16 with its four, so a leaf takes 30 of them, and the long one, which has a page of its own, 24: nine
     // leaves, a root, that page, and 515 pages of metadata and empty leaves
     is_kept(

@@ -62,27 +62,58 @@ fn compared<R: Files + AllocGlobal>(
     Ok(told)
 }
 
-// What is told of a run, whose output is kept under the name that the case has for it.
+// The file that a run has as its base, where it has one.
+fn base_of<R: Files + AllocGlobal>(
+    rt: &R,
+    kept: &Kept,
+    case: &Case<'_>,
+) -> io::Result<Option<Bytes>> {
+    match case.base {
+        Some(name) => Ok(Some(kept.file(rt, name)?)),
+        None => Ok(None),
+    }
+}
+
+// What is told of a run and of the same run where reads or writes fail.
+fn told_beside(
+    alloc: Global,
+    case: &Case<'_>,
+    input: &[u8],
+    ran: &Ran,
+    reads: Reads,
+) -> Result<Bytes, AllocError> {
+    let mut told = told_of(alloc, ran, case.kept.is_some(), reads)?;
+    if case.fails && !fails_well(alloc, case.words.as_slice(), input, ran)? {
+        told.push_all(b"otherwise where a read or a write fails\n")?;
+    }
+    Ok(told)
+}
+
+// What is told of a run on these bytes, whose output is kept under the name that the case has for it.
+fn told_over(
+    alloc: Global,
+    kept: &mut Kept,
+    case: &Case<'_>,
+    input: &[u8],
+    base: Option<&[u8]>,
+) -> Result<Bytes, AllocError> {
+    let (ran, reads) = ran_of(alloc, case.words.as_slice(), input, base)?;
+    if let Some(name) = case.kept {
+        kept.keep(name, ran.out.bytes())?;
+    }
+    told_beside(alloc, case, input, &ran, reads)
+}
+
+// What is told of a run.
 fn told_of_run<R: Files + AllocGlobal>(
     rt: &R,
     kept: &mut Kept,
     case: &Case<'_>,
 ) -> io::Result<Bytes> {
     let input = kept.file(rt, case.input)?;
-    let base = match case.base {
-        Some(name) => Some(kept.file(rt, name)?),
-        None => None,
-    };
+    let base = base_of(rt, kept, case)?;
     let base = base.as_ref().map(|bytes| bytes.as_slice());
-    let (ran, reads) = ran_of(rt.alloc(), case.words.as_slice(), input.as_slice(), base)?;
-    let mut told = told_of(rt.alloc(), &ran, case.kept.is_some(), reads)?;
-    if case.fails && !fails_well(rt.alloc(), case.words.as_slice(), input.as_slice(), &ran)? {
-        told.push_all(b"otherwise where a read or a write fails\n")?;
-    }
-    if let Some(name) = case.kept {
-        kept.keep(name, ran.out.bytes())?;
-    }
-    Ok(told)
+    Ok(told_over(rt.alloc(), kept, case, input.as_slice(), base)?)
 }
 
 // A run, and what it read.

@@ -1,4 +1,4 @@
-use Rattle.bdb_load_tests.proofs.asked.ask.Given as goal
+use Rattle.bdb_load_tests.proofs.asked.run_and_compare.Given as goal
 
 abbrev pub ghosts-run_counted : goal.ghosts-run_counted
 ghosts-run_counted g a = record { name = a.blank.name; parts = a.blank.parts }
