@@ -21,14 +21,6 @@ struct Case {
     in_any_order: &'static [Named],
 }
 
-const fn contents_fault(page: u32, code: u8) -> Named {
-    Named::Fault(Fault {
-        stage: 8,
-        page,
-        code,
-    })
-}
-
 const CASES: [Case; 4] = [
     Case {
         fields: &[],
@@ -56,7 +48,11 @@ const CASES: [Case; 4] = [
             Field::Byte(2034, 1),
             Field::Byte(2035, 0x79),
         ],
-        named: &[contents_fault(3, 3)],
+        named: &[Named::Fault(Fault {
+            stage: 8,
+            page: 3,
+            code: 3,
+        })],
         in_any_order: &[],
     },
     // The names out of order, and a key of bucket 1 in bucket 0, on page 5.
@@ -71,8 +67,30 @@ const CASES: [Case; 4] = [
             Field::Byte(3068, 1),
             Field::Byte(3069, 0x64),
         ],
-        named: &[contents_fault(1, 3), contents_fault(5, 8)],
-        in_any_order: &[contents_fault(1, 3), contents_fault(5, 8)],
+        named: &[
+            Named::Fault(Fault {
+                stage: 8,
+                page: 1,
+                code: 3,
+            }),
+            Named::Fault(Fault {
+                stage: 8,
+                page: 5,
+                code: 8,
+            }),
+        ],
+        in_any_order: &[
+            Named::Fault(Fault {
+                stage: 8,
+                page: 1,
+                code: 3,
+            }),
+            Named::Fault(Fault {
+                stage: 8,
+                page: 5,
+                code: 8,
+            }),
+        ],
     },
     // The keys of a out of order, and that key in bucket 0.
     Case {
@@ -102,8 +120,23 @@ const CASES: [Case; 4] = [
             Field::Byte(3068, 1),
             Field::Byte(3069, 0x64),
         ],
-        named: &[contents_fault(3, 3), contents_fault(5, 8)],
-        in_any_order: &[contents_fault(5, 8)],
+        named: &[
+            Named::Fault(Fault {
+                stage: 8,
+                page: 3,
+                code: 3,
+            }),
+            Named::Fault(Fault {
+                stage: 8,
+                page: 5,
+                code: 8,
+            }),
+        ],
+        in_any_order: &[Named::Fault(Fault {
+            stage: 8,
+            page: 5,
+            code: 8,
+        })],
     },
 ];
 
