@@ -26,7 +26,7 @@ verdict_on rows image = text_told (verify_answer rows image)
 
 -- the lines on an image: its name, the verdict by all rows, and that in any order
 abbrev pub lines_on : List ℕ → List ℕ → List ℕ → List ℕ
-lines_on name told in_any_order = line name ++ (told ++ (line (codes "in any order") ++ in_any_order))
+lines_on name told in_any_order = line name ++ told ++ line (codes "in any order") ++ in_any_order
 
 abbrev pub unreadable : List ℕ
 unreadable = line (codes "can't be read")
