@@ -1,4 +1,5 @@
 pub mod PlaceLemmas
+pub mod GapLemmas
 pub mod MarkLemmas
 pub mod SweepLemmas
 pub mod ItemLemmas

@@ -79,12 +79,21 @@ pub few_outside : (from to n : ℕ) (begin end : ℕ → ℕ) → places_outside
 few_outside from to n begin end =
     omega (arith, few_kept (λ k. not (lies_in n begin end k)) (range_with_len from (to - from)), length-range_with_len from (to - from))
 
+kept_same : (f g : ℕ → Bool) (xs : List ℕ) → ((x : ℕ) → Contains xs x → f x ≡ g x) → length (filter f xs) ≡ length (filter g xs)
+kept_same f g [] same = refl
+kept_same f g (x ∷ xs) same =
+    let rest : length (filter f xs) ≡ length (filter g xs) = kept_same f g xs (λ y at. same y (later_member x xs y at)) in
+    elim (g x) as (λ b. f x ≡ b → length (cond (f x) (x ∷ filter f xs) (filter f xs)) ≡ length (cond b (x ∷ filter g xs) (filter g xs))) [
+      | true ↦ λ is. rw is (ap (λ n. suc n) rest)
+      | false ↦ λ is. rw is rest
+    ] (same x (first_member x xs))
+
 -- the same ranges have the same places outside
 pub same_outside : (from to n : ℕ) (begin end begin' end' : ℕ → ℕ) → ((i : ℕ) → i < n → begin i ≡ begin' i) → ((i : ℕ) → i < n → end i ≡ end' i)
     → places_outside from to n begin end ≡ places_outside from to n begin' end'
 same_outside from to n begin end begin' end' begins ends =
     kept_same (λ k. not (lies_in n begin end k)) (λ k. not (lies_in n begin' end' k)) (range_with_len from (to - from))
-    (λ k. ap not (any_same (λ i. nat_le (begin i) k && nat_lt k (end i)) (λ i. nat_le (begin' i) k && nat_lt k (end' i)) (range_with_len 0 n)
+    (λ k _. ap not (any_same (λ i. nat_le (begin i) k && nat_lt k (end i)) (λ i. nat_le (begin' i) k && nat_lt k (end' i)) (range_with_len 0 n)
     (λ i at. let range : (0 ≤ i) × (i < 0 + n) = of_range 0 n i at in
     let low : i < n = omega arith in
     both_same (begin i) (begin' i) (end i) (end' i) k (begins i low) (ends i low))))
@@ -96,34 +105,16 @@ same_outside from to n begin end begin' end' begins ends =
     any_same f g [] same = refl
     any_same f g (x ∷ xs) same = rw (same x (first_member x xs), any_same f g xs (λ y at. same y (later_member x xs y at))) refl
 
-    kept_same : (f g : ℕ → Bool) (xs : List ℕ) → ((x : ℕ) → f x ≡ g x) → length (filter f xs) ≡ length (filter g xs)
-    kept_same f g [] same = refl
-    kept_same f g (x ∷ xs) same =
-        let rest : length (filter f xs) ≡ length (filter g xs) = kept_same f g xs same in
-        elim (g x) as (λ b. f x ≡ b → length (cond (f x) (x ∷ filter f xs) (filter f xs)) ≡ length (cond b (x ∷ filter g xs) (filter g xs))) [
-          | true ↦ λ is. rw is (ap (λ n. suc n) rest)
-          | false ↦ λ is. rw is rest
-        ] (same x)
-
--- one range more that holds none of the places
-pub one_more_outside : (from to n : ℕ) (begin end : ℕ → ℕ) → ((k : ℕ) → from ≤ k → k < to → begin n ≤ k → k < end n → ⊥)
+-- one range more whose places lie in those before
+pub one_more_outside : (from to n : ℕ) (begin end : ℕ → ℕ) → ((k : ℕ) → from ≤ k → k < to → begin n ≤ k → k < end n → lies_in n begin end k ≡ true)
     → places_outside from to (n + 1) begin end ≡ places_outside from to n begin end
-one_more_outside from to n begin end none =
+one_more_outside from to n begin end held =
     kept_same (λ k. not (lies_in (n + 1) begin end k)) (λ k. not (lies_in n begin end k)) (range_with_len from (to - from))
     (λ k at. let range : (from ≤ k) × (k < from + (to - from)) = of_range from (to - from) k at in
-    ap not (one_more k (none k range.0 (omega arith))))
+    ap not (one_more k (held k range.0 (omega arith))))
   where
-    kept_same : (f g : ℕ → Bool) (xs : List ℕ) → ((x : ℕ) → Contains xs x → f x ≡ g x) → length (filter f xs) ≡ length (filter g xs)
-    kept_same f g [] same = refl
-    kept_same f g (x ∷ xs) same =
-        let rest : length (filter f xs) ≡ length (filter g xs) = kept_same f g xs (λ y at. same y (later_member x xs y at)) in
-        elim (g x) as (λ b. f x ≡ b → length (cond (f x) (x ∷ filter f xs) (filter f xs)) ≡ length (cond b (x ∷ filter g xs) (filter g xs))) [
-          | true ↦ λ is. rw is (ap (λ n. suc n) rest)
-          | false ↦ λ is. rw is rest
-        ] (same x (first_member x xs))
-
-    held_before : (k : ℕ) → (begin n ≤ k → k < end n → ⊥) → lies_in (n + 1) begin end k ≡ true → lies_in n begin end k ≡ true
-    held_before k other inside =
+    held_before : (k : ℕ) → (begin n ≤ k → k < end n → lies_in n begin end k ≡ true) → lies_in (n + 1) begin end k ≡ true → lies_in n begin end k ≡ true
+    held_before k here inside =
         let found : (i : ℕ) × Contains (range_with_len 0 (n + 1)) i × ((nat_le (begin i) k && nat_lt k (end i)) ≡ true) =
         any_member (λ i. nat_le (begin i) k && nat_lt k (end i)) (range_with_len 0 (n + 1)) inside in
         let range : (0 ≤ found.0) × (found.0 < 0 + (n + 1)) = of_range 0 (n + 1) found.0 found.1 in
@@ -133,11 +124,11 @@ one_more_outside from to n begin end none =
           | inl before ↦ is_inside n begin end k found.0 before low high
           | inr last ↦
               let same : found.0 ≡ n = omega arith in
-              absurd (other (subst (λ i. begin i ≤ k) same low) (subst (λ i. k < end i) same high))
+              here (subst (λ i. begin i ≤ k) same low) (subst (λ i. k < end i) same high)
         ]
 
-    one_more : (k : ℕ) → (begin n ≤ k → k < end n → ⊥) → lies_in (n + 1) begin end k ≡ lies_in n begin end k
-    one_more k other =
+    one_more : (k : ℕ) → (begin n ≤ k → k < end n → lies_in n begin end k ≡ true) → lies_in (n + 1) begin end k ≡ lies_in n begin end k
+    one_more k here =
         elim (cases_Bool (lies_in n begin end k)) [
           | inl inside ↦
               let found : (i : ℕ) × Contains (range_with_len 0 n) i × ((nat_le (begin i) k && nat_lt k (end i)) ≡ true) =
@@ -147,7 +138,7 @@ one_more_outside from to n begin end none =
               (high_of (nat_le (begin found.0) k) k (end found.0) found.2) ∙ sym inside
           | inr outside ↦
               elim (cases_Bool (lies_in (n + 1) begin end k)) [
-                | inl inside ↦ absurd (let held : lies_in n begin end k ≡ true = held_before k other inside in cc)
+                | inl inside ↦ absurd (let before : lies_in n begin end k ≡ true = held_before k here inside in cc)
                 | inr nowhere ↦ nowhere ∙ sym outside
               ]
         ]

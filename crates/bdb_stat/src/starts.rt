@@ -1,5 +1,5 @@
 //! The bytes of a page that lie in no item, by the places where items begin.
-ghost use Rattle.std.specs.Prelude.{◌≡◌, ◌<◌, ◌≤◌, ℕ, length};
+ghost use Rattle.std.specs.Prelude.{◌≡◌, ◌<◌, ◌≤◌, ◌↔◌, ◌-◌, ℕ, IfSome, length, true};
 ghost use Rattle.bdb_format.specs.Reading.{entries_of, index_end, offset_of};
 ghost use Rattle.bdb_stat.specs.Unused.{places_outside};
 ghost use Rattle.bdb_stat.specs.Ends.{ArePlaced};
@@ -47,6 +47,39 @@ fn bytes_outside<E: Ends>(starts: &Marks, page: &[u8], order: Order) -> usize
     outside + (page.len() - reached)
 }
 
+/// Whether an item is the one two entries before it once more, as the key of a pair is that has the key of the pair before.
+fn is_shared(page: &[u8], order: Order, entry: u16) -> bool
+    requires room { index_end order page.now ≤ length page.now }
+    requires there { entry < entries_of order page.now }
+    ensures { (result ≡ true) ↔ ((2 ≤ entry) × (offset_of order page.now entry ≡ offset_of order page.now (entry - 2))) }
+{
+    entry >= 2 && offset_at(page, order, entry) == offset_at(page, order, entry - 2)
+}
+
+/// How many bytes behind the index lie in no item, where the items lie one after another down from the page's end, as those of
+/// a page that was filled in order do: the gaps between them. `None` where one lies otherwise.
+fn bytes_between<E: Ends>(page: &[u8], order: Order) -> Option<usize>
+    requires header { 26 ≤ length page.now }
+    requires room { index_end order page.now ≤ length page.now }
+    requires items { ArePlaced order page.now E.least (E.end order page.now) }
+    ensures { IfSome result (λ outside. outside ≡ places_outside (index_end order page.now) (length page.now) (entries_of order page.now) (offset_of order page.now)
+        (λ i. E.end order page.now (offset_of order page.now i))) }
+{
+    let mut lowest = page.len();
+    let mut outside = 0;
+    for i in 0..u16_at(page, 20, order) {
+        let at = usize::from(offset_at(page, order, i));
+        let end = E::end_at(page, order, at);
+        if end <= lowest {
+            outside += lowest - end;
+            lowest = at;
+        } else if !is_shared(page, order, i) {
+            return None;
+        }
+    }
+    Some(outside + (lowest - index_end(page, order)))
+}
+
 /// How many bytes of a page with an index lie in no item, nor in its header or its index. What was marked of another page
 /// is cleared.
 pub(crate) fn unused_behind<E: Ends>(starts: &mut Marks, page: &[u8], order: Order) -> usize
@@ -58,6 +91,9 @@ pub(crate) fn unused_behind<E: Ends>(starts: &mut Marks, page: &[u8], order: Ord
         (λ i. E.end order page.now (offset_of order page.now i)) }
     ensures same { length starts.new ≡ length starts.old }
 {
+    if let Some(outside) = bytes_between::<E>(page, order) {
+        return outside;
+    }
     mark_starts(starts, page, order);
     bytes_outside::<E>(starts, page, order)
 }
