@@ -20,8 +20,8 @@ falling_start low size begin end room = record {
 }
 
 -- an item more that ends at or below the lowest place
-pub falling_next : (low size n : ℕ) (begin end : ℕ → ℕ) (lowest outside : ℕ) → IsFalling low size n begin end lowest outside → low ≤ begin n → begin n < end n
-    → end n ≤ lowest → IsFalling low size (n + 1) begin end (begin n) (outside + (lowest - end n))
+pub falling_next : (low size n : ℕ) (begin end : ℕ → ℕ) (lowest outside : ℕ) → IsFalling low size n begin end lowest outside → low ≤ begin n
+    → begin n < end n → end n ≤ lowest → IsFalling low size (n + 1) begin end (begin n) (outside + (lowest - end n))
 falling_next low size n begin end lowest outside falling behind some below = record {
   behind = behind;
   within = omega (arith, falling.within);
@@ -58,8 +58,8 @@ falling_next low size n begin end lowest outside falling behind some below = rec
         ])
 
 -- an item before once more
-pub falling_again : (low size n : ℕ) (begin end : ℕ → ℕ) (lowest outside j : ℕ) → IsFalling low size n begin end lowest outside → j < n → begin n ≡ begin j
-    → end n ≡ end j → IsFalling low size (n + 1) begin end lowest outside
+pub falling_again : (low size n : ℕ) (begin end : ℕ → ℕ) (lowest outside j : ℕ) → IsFalling low size n begin end lowest outside → j < n
+    → begin n ≡ begin j → end n ≡ end j → IsFalling low size (n + 1) begin end lowest outside
 falling_again low size n begin end lowest outside j falling there begins ends = record {
   behind = falling.behind;
   within = falling.within;

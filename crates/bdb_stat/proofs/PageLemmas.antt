@@ -48,7 +48,7 @@ formed_at image head p page forest is low bytes some =
     subst (λ (h : Head). body_code h.order page (page_type (byte_at page 25)) ≡ None) (sym is)
     (body_passed (head_of image) p page (ap (form_code (head_of image) p) same ∙ formed_page image p forest.formed.form inside) some)
 
-size_is : (image : List ℕ) → (file_of image).size ≡ (head_of image).page_size
+pub size_is : (image : List ℕ) → (file_of image).size ≡ (head_of image).page_size
 unfolding file_of
 size_is image = refl
 

@@ -10,7 +10,6 @@ use Rattle.std.proofs.lemmas.List.FromFn.{length-range_with_len}
 use Rattle.std.proofs.lemmas.List.Sums.{fold-append, sum_by_push}
 use Rattle.std.proofs.Math.Nat.{mul-le-mul_right}
 use Rattle.bdb_format.proofs.FileLemmas.{count_is}
-use Rattle.bdb_format.proofs.ListLemmas.{range_more}
 use Rattle.bdb_format.proofs.SizeLemmas.{size_bounds}
 use Rattle.bdb_format.proofs.VerdictLemmas.{no_stage, none_in}
 use Rattle.bdb_format.specs.File.{File, file_of, page_at}
@@ -32,7 +31,8 @@ use Rattle.bdb_stat.specs.Unused.{listed_unused, unused_below, unused_in}
 use Rattle.bdb_stat.specs.declared.class.Class.{Class}
 use Rattle.bdb_stat.specs.declared.class.Class.TheVariants.{Meta, Internal, Leaf, Hash, Overflow, Free as FreeClass, Reserve, Queue, Tail}
 use Rattle.bdb_stat.proofs.ClassLemmas.{has_class}
-use Rattle.bdb_stat.proofs.PlaceLemmas.{few_kept, few_outside}
+use Rattle.bdb_stat.proofs.PageLemmas.{size_is}
+use Rattle.bdb_stat.proofs.PlaceLemmas.{few_kept, few_outside, next_in}
 use Rattle.bdb_stat.specs.declared.figures.Stat.{Stat}
 use Rattle.bdb_stat.specs.Figures.{Counts, IsStat, count_in}
 use Rattle.bdb_stat.specs.Laws.{ClassesAddUp}
@@ -41,9 +41,6 @@ use Rattle.bdb_stat.specs.Laws.{ClassesAddUp}
 
 abbrev one : Class → Option Class → ℕ
 one class found = cond (is_class class found) 1 0
-
-next_in : (n : ℕ) → range_with_len 0 (n + 1) ≡ range_with_len 0 n ++ n ∷ []
-next_in n = let last : 0 + n ≡ n = omega arith in range_more 0 n ∙ ap (λ m. range_with_len 0 n ++ m ∷ []) last
 
 pub pages_more : (file : File) (class : Class) (n : ℕ) → pages_below file class (n + 1) ≡ pages_below file class n + one class (class_of file n)
 pages_more file class n =
@@ -100,10 +97,6 @@ few_below file (suc n) =
     let next : n + 1 ≡ suc n = omega arith in
     let more : unused_below file (suc n) ≡ unused_below file n + unused_in file.size (page_at file n) = ap (unused_below file) (sym next) ∙ unused_more file n in
     omega arith
-
-size_is : (image : List ℕ) → (file_of image).size ≡ (head_of image).page_size
-unfolding file_of
-size_is image = refl
 
 -- a file has few pages, and few bytes
 pub record IsSmall (image : List ℕ) : Type 0 where

@@ -62,7 +62,7 @@ fn bytes_between<E: Ends>(page: &[u8], order: Order) -> Option<usize>
     requires header { 26 ≤ length page.now }
     requires room { index_end order page.now ≤ length page.now }
     requires items { ArePlaced order page.now E.least (E.end order page.now) }
-    ensures { IfSome result (λ outside. outside ≡ places_outside (index_end order page.now) (length page.now) (entries_of order page.now) (offset_of order page.now)
+    ensures { IfSome result (λ n. n ≡ places_outside (index_end order page.now) (length page.now) (entries_of order page.now) (offset_of order page.now)
         (λ i. E.end order page.now (offset_of order page.now i))) }
 {
     let mut lowest = page.len();

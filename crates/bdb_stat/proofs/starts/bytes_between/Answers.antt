@@ -22,7 +22,12 @@ loop-i-preserved g c =
           rw (w.lowest-is, w.outside-is, c.end_at-end.ensures, c.from-at.ensures, c.offset_at.ensures)
           (falling_next (index_end c.args.order c.args.page.now) (length c.args.page.now) c.loop-i.i (offset_of c.args.order c.args.page.now)
           (λ i. g.E.Ends.end c.args.order c.args.page.now (offset_of c.args.order c.args.page.now i)) c.loop-i.lowest c.loop-i.outside c.loop-i.invariant
-          placed.behind placed.some (omega (arith, w.if-end-lowest.true, c.end_at-end.ensures, ap (g.E.Ends.end c.args.order c.args.page.now) begins)))
+          placed.behind placed.some (omega (
+            arith,
+            w.if-end-lowest.true,
+            c.end_at-end.ensures,
+            ap (g.E.Ends.end c.args.order c.args.page.now) begins,
+          )))
       | else-end-lowest+else-not-is_shared w ↦
           let shared = w.is_shared.ensures.0 w.if-not-is_shared.false in
           rw (w.lowest-is, w.outside-is)
