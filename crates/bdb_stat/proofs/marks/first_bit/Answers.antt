@@ -1,4 +1,4 @@
-use Rattle.std.proofs.Common.{arith, rules, w64}
+use Rattle.std.proofs.Common.{arith, w64}
 use Rattle.std.proofs.lemmas.Nat.Bits.{bit_at-trailing_zeros}
 use Rattle.bdb_stat.proofs.marks.first_bit.Goals as goal
 

@@ -1,4 +1,4 @@
-use Rattle.std.proofs.Common.{◌+◌, ◌*◌, ◌∙◌, ap, arith, get_or}
+use Rattle.std.proofs.Common.{◌*◌, arith, get_or}
 use Rattle.bdb_stat.proofs.MarkLemmas.{next_here, no_bit, none_more}
 use Rattle.bdb_stat.proofs.marks.first_from.Goals as goal
 
