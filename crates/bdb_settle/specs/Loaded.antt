@@ -61,13 +61,6 @@ loaded settings pairs = fold (with_loaded settings) [] (map (loaded_pair setting
 
 -- Lists whose records aren't filled up yet.
 
--- a pair without its line
-abbrev pub unlined : TextPair → Pair
-unlined pair = record { key = pair.key; value = pair.value }
-
-abbrev pub unlined_pairs : List TextPair → List Pair
-unlined_pairs pairs = map unlined pairs
-
 -- the list of pairs as they are
 abbrev pub ordered : Settings → List TextPair → List Pair
 ordered settings pairs = fold (with_loaded settings) [] (unlined_pairs pairs)
