@@ -5,7 +5,7 @@ use Rattle.bdb_text_format.specs.declared.pairs.Pair.{Pair}
 use Rattle.bdb_leaves.specs.Spread.{tree_size}
 use Rattle.bdb_mktree.specs.Lists.{units_in}
 use Rattle.bdb_mktree.specs.Units.{leaf_type_of}
-pub use Rattle.bdb_settle.specs.Loaded.{unlined_pairs, unlined}
+pub use Rattle.bdb_text_format.specs.Pairs.{unlined_pairs, unlined}
 
 -- the pages of the tree of a list
 abbrev pub tree_pages : Settings → List Pair → ℕ
