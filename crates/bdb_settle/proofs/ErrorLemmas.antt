@@ -10,6 +10,18 @@ use Rattle.bdb_settle.specs.declared.load_error.LoadError.{LoadError}
 use Rattle.bdb_settle.specs.declared.load_error.LoadError.TheVariants.{RecordTooLong, RecordZero}
 use Rattle.bdb_settle.specs.LoadErrors.{header_errors, is_sooner, is_too_long, is_zero, load_error, page_size_in, pair_errors, section_errors, sooner, where_so}
 
+-- the first error, with those of a pair more
+pub errors_more : (settings : Settings) (start now then_ : Option LoadError) (pairs : List TextPair) (i : ℕ) (pair : TextPair)
+    → now ≡ fold sooner start (flat_map (pair_errors settings) (take i pairs)) → slice_get pairs i ≡ Some pair → then_ ≡ fold sooner now (pair_errors settings pair)
+    → then_ ≡ fold sooner start (flat_map (pair_errors settings) (take (i + 1) pairs))
+errors_more settings start now then_ pairs i pair so at is =
+    is
+    ∙ ap (λ first. fold sooner first (pair_errors settings pair)) so
+    ∙ sym (fold-append sooner start (flat_map (pair_errors settings) (take i pairs)) (pair_errors settings pair))
+    ∙ ap (fold sooner start) (sym (ap (flat_map (pair_errors settings)) (taken_more pairs i pair at)
+    ∙ flat_map-append (pair_errors settings) (take i pairs) (pair ∷ [])
+    ∙ ap (λ errors. flat_map (pair_errors settings) (take i pairs) ++ errors) (append-nil (pair_errors settings pair))))
+
 still_some : (first : LoadError) (errors : List LoadError) → fold sooner (Some first) errors ≡ None → ⊥
 still_some first [] none = absurd cc
 still_some first (error ∷ errors) none = by_test (is_sooner error first) none (still_some error errors) (still_some first errors)

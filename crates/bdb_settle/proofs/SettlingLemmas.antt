@@ -9,7 +9,7 @@ use Rattle.std.proofs.lemmas.List.Elements.{All-head, All-tail, All-append, All-
 use Rattle.std.proofs.lemmas.List.{reverse-reverse}
 use Rattle.std.proofs.lemmas.Option.{slice_get-get_or}
 use Rattle.bdb_format.specs.declared.settings.Settings.{Settings}
-use Rattle.bdb_text_format.specs.declared.list.Pair.{Pair}
+use Rattle.bdb_text_format.specs.declared.pairs.Pair.{Pair}
 use Rattle.bdb_text_format.specs.declared.pairs.TextPair.{TextPair}
 use Rattle.bdb_settle.specs.Loaded.{keeps_data, put, stands_before, unnumbered, with_loaded}
 use Rattle.bdb_settle.specs.Settling.{Ascend, IsSettledTo, stays}

@@ -6,7 +6,7 @@ use Rattle.std.specs.List.{All, filter, fold}
 use Rattle.std.specs.List.Sorted.{ties}
 use Rattle.std.proofs.lemmas.Bool.{false_from_ne_true}
 use Rattle.std.proofs.lemmas.List.Elements.{All-head, All-tail, All-cons, All-nil, filter-append}
-use Rattle.bdb_text_format.specs.declared.list.Pair.{Pair}
+use Rattle.bdb_text_format.specs.declared.pairs.Pair.{Pair}
 use Rattle.bdb_settle.specs.Loaded.{put}
 use Rattle.bdb_settle.proofs.PutLemmas.{put_both}
 

@@ -1,7 +1,7 @@
 use Rattle.std.proofs.Common.{◌≡◌, [], List, map, ◌∙◌, ap, subst}
 use Rattle.std.specs.Prelude.{IfOk}
 use Rattle.std.specs.List.{fold}
-use Rattle.bdb_text_format.specs.declared.list.Pair.{Pair}
+use Rattle.bdb_text_format.specs.declared.pairs.Pair.{Pair}
 use Rattle.bdb_settle.specs.Loaded.{keeps_data, ordered, stands_before, unnumbered, with_loaded}
 use Rattle.bdb_settle.proofs.KeyOrderLemmas.{pairs_weakly}
 use Rattle.bdb_settle.proofs.StableLemmas.{fold_alike}
