@@ -1,11 +1,15 @@
 -- Where there is no first error, none holds.
-use Rattle.std.proofs.Common.{◌≡◌, Bool, true, false, cond, List, [], ◌∷◌, ◌++◌, length, refl, Some, None}
+use Rattle.std.proofs.Common.{◌≡◌, ◌∙◌, ◌+◌, ℕ, Option, ap, slice_get, sym, take, Bool, true, false, cond, List, [], ◌∷◌, ◌++◌, length, refl, Some, None}
 use Rattle.std.specs.List.{All, flat_map, fold}
 use Rattle.std.specs.Prelude.{◌==◌}
+use Rattle.std.proofs.lemmas.List.{append-nil}
 use Rattle.std.proofs.lemmas.List.Elements.{All-cons, All-nil, All-weaker}
+use Rattle.std.proofs.lemmas.Grind.{flat_map-append}
+use Rattle.std.proofs.lemmas.List.Sums.{fold-append}
 use Rattle.bdb_format.specs.declared.settings.Settings.{Settings}
 use Rattle.bdb_text_format.specs.declared.pairs.TextPair.{TextPair}
 use Rattle.bdb_text_format.specs.declared.sections.Section.{Section}
+use Rattle.bdb_text_format.proofs.PlacedLemmas.{taken_more}
 use Rattle.bdb_settle.specs.declared.load_error.LoadError.{LoadError}
 use Rattle.bdb_settle.specs.declared.load_error.LoadError.TheVariants.{RecordTooLong, RecordZero}
 use Rattle.bdb_settle.specs.LoadErrors.{header_errors, is_sooner, is_too_long, is_zero, load_error, page_size_in, pair_errors, section_errors, sooner, where_so}
