@@ -3,7 +3,7 @@ use Rattle.std.specs.Prelude.{◌≡◌, ℕ, Bool, true, List, [], ◌∷◌, �
 use Rattle.bdb_format.specs.ContentRows.{ascends}
 use Rattle.bdb_format.specs.Less.{less}
 use Rattle.bdb_format.specs.declared.kinds.Kind.TheVariants.{Btree}
-use Rattle.bdb_text_format.specs.declared.list.Pair.{Pair}
+use Rattle.bdb_text_format.specs.declared.pairs.Pair.{Pair}
 use Rattle.bdb_text_format.specs.declared.pairs.Key.TheVariants.{Number}
 use Rattle.bdb_pack.specs.Built.{Built}
 use Rattle.bdb_leaves.specs.Units.{key_of}
