@@ -1,13 +1,13 @@
 -- The last record of a list.
-use Rattle.std.proofs.Common.{◌≡◌, ℕ, ◌+◌, ◌-◌, ◌<◌, List, [], ◌∷◌, length, get_or, Some, arith, refl, sym, ◌∙◌, ap}
+use Rattle.std.proofs.Common.{◌≡◌, ℕ, ◌+◌, ◌-◌, ◌<◌, List, [], ◌∷◌, length, get_or, Some, None, arith, refl, sym, ◌∙◌, ap}
 use Rattle.std.specs.Prelude.{slice_get}
 use Rattle.std.proofs.lemmas.List.{get_or-map, length-map}
-use Rattle.std.proofs.lemmas.Option.{get_or_from_slice_get, slice_get_within}
+use Rattle.std.proofs.lemmas.Option.{get_or_from_slice_get, slice_get-get_or, slice_get_within}
 use Rattle.bdb_text_format.specs.Pairs.{number_of, unlined, unlined_pairs}
 use Rattle.bdb_text_format.specs.declared.pairs.Pair.{Pair}
 use Rattle.bdb_text_format.specs.declared.pairs.Key.{Key}
 use Rattle.bdb_text_format.specs.declared.pairs.TextPair.{TextPair}
-use Rattle.bdb_mkqueue.specs.Lists.{next_number}
+use Rattle.bdb_mkqueue.specs.Lists.{first_number, next_number}
 use Rattle.bdb_mkqueue.proofs.StepLemmas.{no_pair, pair_at}
 
 next_of : (x : Pair) (xs : List Pair) → next_number (number_of x.key + 1) xs ≡ number_of (pair_at (x ∷ xs) (length xs)).key + 1
@@ -45,3 +45,19 @@ last_key pairs pair at =
       some = omega (arith, low, length-map pairs unlined);
       is = ap (λ (pair : Pair). pair.key) (pair_here pairs (length pairs - 1) pair at) ∙ ap (λ i. (pair_at (unlined_pairs pairs) i).key) place;
     }
+
+-- the number of the first record, and where there is none
+pub first_is : (pairs : List TextPair) (pair : TextPair) → slice_get pairs 0 ≡ Some pair → number_of pair.key ≡ first_number (unlined_pairs pairs)
+first_is [] pair at = absurd (let low = slice_get_within {A = TextPair} [] 0 pair at in omega (arith, low))
+first_is (first ∷ pairs) pair at = ap (λ (pair : Pair). number_of pair.key) (pair_here (first ∷ pairs) 0 pair at)
+
+pub none_first : (pairs : List TextPair) → slice_get pairs 0 ≡ None → 1 ≡ first_number (unlined_pairs pairs)
+none_first [] none = refl
+none_first (first ∷ pairs) none = absurd cc
+
+pub none_last : (pairs : List TextPair) → slice_get pairs (length pairs - 1) ≡ None → 1 ≡ next_number 1 (unlined_pairs pairs)
+none_last [] none = refl
+none_last (first ∷ pairs) none =
+    let there = slice_get-get_or (first ∷ pairs) (length (first ∷ pairs) - 1) first (omega arith) in
+    let both : Some (get_or (first ∷ pairs) (length (first ∷ pairs) - 1) first) ≡ None = sym there ∙ none in
+    absurd cc
