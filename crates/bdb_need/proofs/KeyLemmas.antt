@@ -9,7 +9,7 @@ use Rattle.std.proofs.lemmas.List.Sums.{prefix_len-drop_no, prefix_len-drop_yes,
 use Rattle.bdb_format.specs.HeadOf.{is_page_size}
 use Rattle.bdb_format.proofs.SizeLemmas.{size_bounds}
 use Rattle.bdb_text_format.specs.Pairs.{keys_of, values_of}
-use Rattle.bdb_text_format.specs.declared.list.Pair.{Pair}
+use Rattle.bdb_text_format.specs.declared.pairs.Pair.{Pair}
 use Rattle.bdb_text_format.specs.declared.pairs.Key.{Key}
 use Rattle.bdb_text_format.specs.declared.pairs.Key.TheVariants.{Bytes}
 use Rattle.bdb_text_format.specs.declared.pairs.TextPair.{TextPair}

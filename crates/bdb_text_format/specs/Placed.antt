@@ -12,7 +12,9 @@ use Rattle.bdb_text_format.specs.declared.lent.PairRef.{PairRef}
 use Rattle.bdb_text_format.specs.declared.lent.PairSlice.{PairSlice}
 use Rattle.bdb_text_format.specs.declared.pairs.Key.{Key}
 use Rattle.bdb_text_format.specs.declared.pairs.Key.TheVariants.{Bytes, Number}
+use Rattle.bdb_text_format.specs.declared.pairs.Pair.{Pair}
 use Rattle.bdb_text_format.specs.declared.pairs.TextPair.{TextPair}
+use Rattle.bdb_text_format.specs.Pairs.{unlined_pairs}
 
 -- the key at a place
 abbrev pub placed_key : List ℕ → PlacedKey → Key
@@ -36,6 +38,9 @@ pair_seen pair = record { key = key_seen pair.key; value = pair.value.now; line 
 
 abbrev pub slice_seen : PairSlice → List TextPair
 slice_seen pairs = placed_pairs pairs.bytes.now pairs.places.now
+
+abbrev pub pairs_of : PairSlice → List Pair
+pairs_of pairs = unlined_pairs (slice_seen pairs)
 
 -- a run has all bytes of a key
 abbrev pub IsKeyPlaced : List ℕ → PlacedKey → Type 0
