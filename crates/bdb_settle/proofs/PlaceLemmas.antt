@@ -2,7 +2,7 @@
 use Rattle.std.proofs.Common.{◌≡◌, ℕ, ◌+◌, ◌<◌, ◌≤◌, Bool, true, false, List, [], ◌∷◌, ◌++◌, drop, drop_of_length-le, get_or, length, map, refl, sym, ◌∙◌, ap, set, subst, take, arith}
 use Rattle.std.specs.Prelude.{◌||◌}
 use Rattle.std.specs.Cmp.{IsStrictWeakOrder}
-use Rattle.std.specs.List.{All, fold}
+use Rattle.std.specs.List.{fold}
 use Rattle.std.specs.List.Sorted.{IsSortedBy, IsStableBy}
 use Rattle.std.proofs.lemmas.List.{drop-set-lt, drop_more, length-set, map-append, take_more_set}
 use Rattle.std.proofs.lemmas.List.Elements.{All-set, All-take}

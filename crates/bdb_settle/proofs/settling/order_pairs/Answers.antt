@@ -1,9 +1,6 @@
-use Rattle.std.proofs.Common.{◌≡◌, List, ℕ, ◌∙◌, ap, map, subst, sym}
+use Rattle.std.proofs.Common.{List, ℕ, ◌∙◌, subst, sym}
 use Rattle.std.proofs.lemmas.List.Sorted.{All-permutation}
-use Rattle.std.specs.List.{fold}
-use Rattle.bdb_text_format.specs.Pairs.{unlined_pairs}
-use Rattle.bdb_text_format.specs.Placed.{ArePlaced, IsPlaced, placed_pairs}
-use Rattle.bdb_settle.specs.Loaded.{unnumbered, with_loaded}
+use Rattle.bdb_text_format.specs.Placed.{ArePlaced, IsPlaced}
 use Rattle.bdb_settle.proofs.PlaceLemmas.{places_settled}
 use Rattle.bdb_settle.proofs.settling.order_pairs.Goals as goal
 
