@@ -1,17 +1,18 @@
 -- The list of pairs is made where their places lie.
-use Rattle.std.proofs.Common.{◌≡◌, ℕ, ◌+◌, ◌<◌, ◌≤◌, Bool, true, false, List, [], ◌∷◌, ◌++◌, drop, get_or, length, map, refl, sym, ◌∙◌, ap, set, subst, take, arith}
+use Rattle.std.proofs.Common.{◌≡◌, ℕ, ◌+◌, ◌<◌, ◌≤◌, Bool, true, false, List, [], ◌∷◌, ◌++◌, drop, drop_of_length-le, get_or, length, map, refl, sym, ◌∙◌, ap, set, subst, take, arith}
 use Rattle.std.specs.Prelude.{◌||◌}
 use Rattle.std.specs.Cmp.{IsStrictWeakOrder}
-use Rattle.std.specs.List.{All, fold}
+use Rattle.std.specs.List.{fold}
 use Rattle.std.specs.List.Sorted.{IsSortedBy, IsStableBy}
-use Rattle.std.proofs.lemmas.List.{drop-set-lt, drop_more, drop_of_length-le, length-set, map-append, take_more_set}
+use Rattle.std.proofs.lemmas.List.{drop-set-lt, drop_more, length-set, map-append, take_more_set}
 use Rattle.std.proofs.lemmas.List.Elements.{All-set, All-take}
 use Rattle.std.proofs.lemmas.List.Folds.{fold-map}
 use Rattle.bdb_format.specs.declared.settings.Settings.{Settings}
 use Rattle.bdb_places.specs.declared.place.Place.{Place}
 use Rattle.bdb_text_format.specs.Pairs.{unlined_pairs}
 use Rattle.bdb_text_format.specs.Placed.{ArePlaced, IsPlaced, placed_pair, placed_pairs}
-use Rattle.bdb_settle.specs.Loaded.{keeps_data, stands_before, unnumbered, with_loaded}
+use Rattle.bdb_text_format.specs.declared.pairs.TextPair.{TextPair}
+use Rattle.bdb_settle.specs.Loaded.{keeps_data, ordered, stands_before, unnumbered, with_loaded}
 use Rattle.bdb_settle.specs.Settling.{IsSettledAt, IsSettledTo, pair_on, place_before}
 use Rattle.bdb_settle.proofs.KeyOrderLemmas.{pairs_weakly}
 use Rattle.bdb_settle.proofs.PutLemmas.{put_both}
@@ -125,6 +126,27 @@ passed_at settings bytes all places kept last next item so within at test =
       placed = so.placed;
     }
 
+-- The same in the words of the loop.
+
+pub starts_with : (settings : Settings) (bytes : List ℕ) (all : List Place) (item last : Place) → 0 < length all → IsSortedBy (place_before settings bytes) all
+    → ArePlaced bytes all → item ≡ get_or all 0 item → last ≡ bare item → IsSettledAt settings bytes all all 0 last 1
+starts_with settings bytes all item last some sorted placed at is =
+    subst (λ place. IsSettledAt settings bytes all all 0 place 1) (sym is) (starts_at settings bytes all item some sorted placed (sym at))
+
+pub stays_with : (settings : Settings) (bytes : List ℕ) (all places places_then : List Place) (kept kept_then : ℕ) (last item place : Place) (next : ℕ)
+    → IsSettledAt settings bytes all places kept last next → next < length all → item ≡ get_or places next item → place ≡ bare item
+    → (place_before settings bytes last place || keeps_data settings) ≡ true → places_then ≡ set places kept last → kept_then ≡ kept + 1
+    → IsSettledAt settings bytes all places_then kept_then place (next + 1)
+stays_with settings bytes all places places_then kept kept_then last item place next so within at is test places_are kept_is =
+    rw (places_are, kept_is, is) (stays_at settings bytes all places kept last next item so within (sym at) (rw is at test))
+
+pub passed_with : (settings : Settings) (bytes : List ℕ) (all places places_then : List Place) (kept kept_then : ℕ) (last item place : Place) (next : ℕ)
+    → IsSettledAt settings bytes all places kept last next → next < length all → item ≡ get_or places next item → place ≡ bare item
+    → (place_before settings bytes last place || keeps_data settings) ≡ false → places_then ≡ places → kept_then ≡ kept
+    → IsSettledAt settings bytes all places_then kept_then place (next + 1)
+passed_with settings bytes all places places_then kept kept_then last item place next so within at is test places_are kept_is =
+    rw (places_are, kept_is, is) (passed_at settings bytes all places kept last next item so within (sym at) (rw is at test))
+
 -- no pair is left
 pub ends_at : (settings : Settings) (bytes : List ℕ) (all places : List Place) (kept : ℕ) (last : Place) (next : ℕ)
     → IsSettledAt settings bytes all places kept last next → length all ≤ next → kept < length places
@@ -139,3 +161,15 @@ pub kept_placed : (bytes : List ℕ) (places : List Place) (kept : ℕ) (last : 
     → ArePlaced bytes (take (kept + 1) (set places kept last))
 kept_placed bytes places kept last here placed =
     All-take (IsPlaced bytes) (kept + 1) (set places kept last) (All-set (IsPlaced bytes) places kept last here placed)
+
+-- places that were sorted and settled in a run that is lent twice
+pub places_settled : (settings : Settings) (bytes first second : List ℕ) (old sorted settled : List Place) (pairs : List TextPair) → first ≡ bytes → second ≡ bytes
+    → IsStableBy (place_before settings first) old sorted → placed_pairs bytes old ≡ pairs
+    → placed_pairs second settled ≡ map unnumbered (fold (with_loaded settings) [] (map (pair_on second) sorted))
+    → placed_pairs bytes settled ≡ map unnumbered (ordered settings pairs)
+places_settled settings bytes first second old sorted settled pairs first_is second_is stable are is =
+    let list : placed_pairs bytes settled ≡ map unnumbered (fold (with_loaded settings) [] (map (pair_on bytes) sorted)) =
+    subst (λ (run : List ℕ). placed_pairs run settled ≡ map unnumbered (fold (with_loaded settings) [] (map (pair_on run) sorted))) second_is is in
+    let same : IsStableBy (place_before settings bytes) old sorted = subst (λ (run : List ℕ). IsStableBy (place_before settings run) old sorted) first_is stable in
+    list
+    ∙ ap (map unnumbered) (list_alike settings bytes old sorted same ∙ ap (λ (ps : List TextPair). fold (with_loaded settings) [] (unlined_pairs ps)) are)

@@ -7,7 +7,7 @@ use Rattle.bdb_text_format.specs.declared.pairs.Pair.{Pair}
 use Rattle.bdb_text_format.specs.declared.pairs.Key.{Key}
 use Rattle.bdb_text_format.specs.declared.pairs.Key.TheVariants.{Bytes, Number}
 use Rattle.bdb_text_format.specs.declared.pairs.TextPair.{TextPair}
-use Rattle.bdb_text_format.specs.Pairs.{unlined_pairs}
+pub use Rattle.bdb_text_format.specs.Pairs.{unlined, unlined_pairs, unnumbered}
 use Rattle.bdb_text_format.specs.declared.sections.Section.{Section}
 use Rattle.bdb_text_format.specs.Written.{holds_records}
 
@@ -74,9 +74,6 @@ abbrev pub filled_pairs : Settings → List TextPair → List TextPair
 filled_pairs settings pairs = map (filled_pair settings) pairs
 
 -- Sections.
-
-abbrev pub unnumbered : Pair → TextPair
-unnumbered pair = record { key = pair.key; value = pair.value; line = 0 }
 
 -- a section with its list, in which no line has a number
 abbrev pub loaded_section : Section → Section

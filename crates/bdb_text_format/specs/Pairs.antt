@@ -14,6 +14,10 @@ unlined pair = record { key = pair.key; value = pair.value }
 abbrev pub unlined_pairs : List TextPair → List Pair
 unlined_pairs pairs = map unlined pairs
 
+-- a pair of a list in a section, without a line
+abbrev pub unnumbered : Pair → TextPair
+unnumbered pair = record { key = pair.key; value = pair.value; line = 0 }
+
 -- the key of the last pair; 0 where there is none
 abbrev pub last_key : List TextPair → Key
 last_key pairs = fold (λ key (pair : TextPair). pair.key) (Number 0) pairs

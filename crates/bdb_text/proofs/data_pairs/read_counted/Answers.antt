@@ -22,7 +22,7 @@ loop-rest-preserved c =
     let line = c.cut_line-cut.result.line.now in
     let other : is_data_end line ≡ false = ap (λ (s : List ℕ). bytes_eq line s) (sym c.as_slice.ensures) ∙ sym c.if-eq.ensures in
     let to = rw c.cut_line-cut.ensures.lines at c.loop-rest.invariant.to in
-    let value = rw c.prints-print.ensures at (c.in-Ok.ensures.ok ∙ ap Some (sym c.as_slice-in-loop-rest.ensures)) in
+    let value = rw c.prints-print.ensures at (c.in-Ok.ensures.ok ∙ ap Some (sym c.as_slice-in-loop-rest.ensures.value)) in
     record {
       to = rw c.in_ok-push.ensures.ok
           (counted_more (values_in c.args.fields.now) (text_lines c.args.text.now) c.args.start c.loop-rest.pairs line

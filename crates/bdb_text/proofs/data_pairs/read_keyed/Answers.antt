@@ -35,7 +35,7 @@ loop-rest-preserved c =
     let other : is_data_end line ≡ false = ap (λ (s : List ℕ). bytes_eq line s) (sym c.as_slice.ensures) ∙ sym c.if-eq.ensures in
     let to = rw (c.cut_line-cut.ensures.lines, datum.lines_are) at c.loop-rest.invariant.to in
     let key = rw (c.prints-print.ensures, c.has_record_type-numbered.ensures) at c.in-Ok.ensures.ok in
-    let value = rw c.prints-print.ensures at (datum.value_is ∙ ap Some (sym c.as_slice-in-loop-rest.ensures)) in
+    let value = rw c.prints-print.ensures at (datum.value_is ∙ ap Some (sym c.as_slice-in-loop-rest.ensures.value)) in
     record {
       to = rw c.in_ok-push.ensures.ok (keyed_more (values_in c.args.fields.now) (text_lines c.args.text.now) c.args.start c.loop-rest.pairs line datum.line
           (text_lines c.in-Ok-read_datum.behind.now) c.loop-rest.number (key_seen c.in-Ok.key) _ to c.requires.keys other datum.other key
