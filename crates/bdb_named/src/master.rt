@@ -54,7 +54,8 @@ fn push_entry(
         key: KeyRef::Bytes(name_of(section)),
         value: &value,
         line: 0,
-    })
+    })?;
+    Ok(())
 }
 
 // The pairs of sections whose metadata pages follow each other from a page on.
