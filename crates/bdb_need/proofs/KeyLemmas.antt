@@ -25,12 +25,12 @@ use Rattle.bdb_need.proofs.TreeLemmas.{KeyedTo, keyed_begun, keyed_end}
 pub length-pairs : (pairs : List TextPair) → length (unlined_pairs pairs) ≡ length pairs
 length-pairs pairs = length-map pairs unlined
 
-data_in : TreeUnit → ℕ
+abbrev data_in : TreeUnit → ℕ
 data_in (KeyedUnit key values) = length values
 data_in (EntryUnit value deleted) = 0
 
 one_more : (key value : List ℕ) (units : List TreeUnit) → sum_by data_in (onto_units key value units) ≡ 1 + sum_by data_in units
-one_more key value [] = omega (arith, sum_by-cons data_in (KeyedUnit key (value ∷ [])) [])
+one_more key value [] = sum_by-cons data_in (KeyedUnit key (value ∷ [])) []
 one_more key value (KeyedUnit other values ∷ units) = by_test (bytes_eq key other)
   where
     by_test : (b : Bool) → sum_by data_in (cond b (KeyedUnit other (value ∷ values) ∷ units) (KeyedUnit key (value ∷ []) ∷ KeyedUnit other values ∷ units))
@@ -49,7 +49,8 @@ pub run_many : (pairs : List Pair) (start end : ℕ) (key : List ℕ) (values : 
 run_many pairs start end key values run =
     let ahead = run.ahead in
     let within = run.within in
-    let split = ap (sum_by data_in) run.units ∙ sum_by-cons data_in (KeyedUnit key values) (keyed_units (drop end pairs)) in
+    let split : sum_by data_in (keyed_units (drop start pairs)) ≡ length values + sum_by data_in (keyed_units (drop end pairs)) =
+    ap (sum_by data_in) run.units ∙ sum_by-cons data_in (KeyedUnit key values) (keyed_units (drop end pairs)) in
     omega (
       arith,
       ahead,

@@ -20,6 +20,7 @@ pub fn data_chains(size: usize, values: Values<'_>) -> u128
     requires short { All IsShort (values_seen values) }
     ensures pages { result ≡ sum_by (chain_pages size) (values_seen values.entry) }
     ensures few { result ≤ length (values_seen values.entry) * 2 ^ 32 }
+    ensures small { result ≤ 2 ^ 96 }
 {
     let mut pages: u128 = 0;
     for i in 0..values.len() {
@@ -33,6 +34,7 @@ pub(crate) fn data_cost(size: usize, values: Values<'_>) -> u128
     requires { IsTrue (is_page_size size) }
     ensures cost { result ≡ more_cost size (values_seen values.entry) }
     ensures few { result ≤ length (values_seen values.entry) * 2 ^ 13 }
+    ensures small { result ≤ 2 ^ 77 }
 {
     let mut cost: u128 = 0;
     for i in 0..values.len() {
@@ -46,6 +48,7 @@ fn sorted_pages(alloc: Global, size: usize, values: Values<'_>) -> Result<u128, 
     requires { IsTrue (is_page_size size) }
     ensures pages { IfOk result (λ pages. pages ≡ leaves_and_levels SortedData size (data_units (values_seen values.entry))) }
     ensures few { IfOk result (λ pages. pages ≤ 3 * (length (values_seen values.entry) + 1)) }
+    ensures small { IfOk result (λ pages. pages ≤ 2 ^ 66) }
 {
     let mut leaves = KeyedLeaves::new(alloc, page_room(size));
     for i in 0..values.len() {
@@ -60,6 +63,7 @@ fn unsorted_pages(size: usize, values: Values<'_>) -> u128
     requires { IsTrue (is_page_size size) }
     ensures pages { result ≡ leaves_and_levels Records size (data_units (values_seen values.entry)) }
     ensures few { result ≤ 3 * (length (values_seen values.entry) + 1) }
+    ensures small { result ≤ 2 ^ 66 }
 {
     let mut open = OpenPage::new(page_room(size));
     for i in 0..values.len() {
@@ -78,6 +82,7 @@ pub fn data_pages(
     requires { IsTrue (is_page_size size) }
     ensures pages { IfOk result (λ pages. pages ≡ leaves_and_levels (set_type sorted) size (data_units (values_seen values.entry))) }
     ensures few { IfOk result (λ pages. pages ≤ 3 * (length (values_seen values.entry) + 1)) }
+    ensures small { IfOk result (λ pages. pages ≤ 2 ^ 66) }
 {
     if sorted {
         sorted_pages(alloc, size, values)
