@@ -202,6 +202,10 @@ keys_begun size bits room pages pairs left room_is pages_are left_is = record {
   few = omega (arith, pages_are);
 }
 
+-- a run has a datum
+pub run_some : (pairs : List Pair) (start end : ℕ) (key : List ℕ) (values : List (List ℕ)) → IsRunAt pairs start (KeyedUnit key values) end → 0 < length values
+run_some pairs start end key values at = let ahead = at.ahead in omega (arith, ahead, run_many pairs start end key values at)
+
 -- a run of pairs is put
 keys_next : (size bits start end pages pages_now : ℕ) (pairs : List TextPair) (key : List ℕ) (values : List (List ℕ)) (left left_now : List ℕ)
     → KeysPlaced size bits pairs start pages left → IsRunAt (unlined_pairs pairs) start (KeyedUnit key values) end

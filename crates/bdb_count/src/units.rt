@@ -74,6 +74,7 @@ fn data_own_pages(
     requires short { All IsShort (values_seen values) }
     ensures pages { IfOk result (λ pages. pages ≡ pages_in (data_form size (values_seen values.entry)) size sorted (values_seen values.entry)) }
     ensures few { IfOk result (λ pages. pages ≤ length (values_seen values.entry) * 2 ^ 33) }
+    ensures small { IfOk result (λ pages. pages ≤ 2 ^ 97) }
 {
     if values.len() == 1 {
         return Ok(chain_pages(size, values.at(0)));

@@ -7,7 +7,6 @@ use Rattle.std.proofs.lemmas.List.{append-nil, append_assoc, drop_more, length-m
 use Rattle.std.proofs.lemmas.List.Elements.{All-nil, All-push}
 use Rattle.bdb_levels.specs.declared.inner_type.InnerType.{InnerType}
 use Rattle.bdb_levels.specs.declared.inner_type.InnerType.TheVariants.{Keyed}
-use Rattle.bdb_text_format.specs.declared.pairs.TextPair.{TextPair}
 use Rattle.bdb_leaves.specs.Inner.{first_cost}
 use Rattle.bdb_leaves.specs.Laid.{inner_of}
 use Rattle.bdb_leaves.specs.Spread.{inner_cost, key_item_cost, leaf_key, leaves_and_levels, pages_over, spread_units, unit_key}
