@@ -17,7 +17,11 @@ use std::alloc::{AllocError, Global};
 
 /// The image of a queue with these settings and this list: page 0 is its metadata, and its pages follow. It is also refused where a record
 /// would stand on a page of 2^21 or above.
-pub fn queue_image(alloc: Global, settings: &Settings, list: PairSlice<'_>) -> Result<Image, AllocError>
+pub fn queue_image(
+    alloc: Global,
+    settings: &Settings,
+    list: PairSlice<'_>,
+) -> Result<Image, AllocError>
     requires kind { settings.now.kind ≡ QueueKind }
     requires own { settings.now ≡ file_settings settings.now }
     requires legal { IsTrue (is_page_size settings.now.page_size) }

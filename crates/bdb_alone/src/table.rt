@@ -26,7 +26,11 @@ pub fn element_count(list: PairSlice<'_>) -> Result<u32, AllocError>
 
 /// The image of a hash with these settings and this list: page 0 is its metadata, and the pages of its table follow, those of buckets of type 2.
 /// It is also refused where there would be more than 2^21 pages, or where the number of pairs doesn't fit its field.
-pub fn table_image(alloc: Global, settings: &Settings, list: PairSlice<'_>) -> Result<Image, AllocError>
+pub fn table_image(
+    alloc: Global,
+    settings: &Settings,
+    list: PairSlice<'_>,
+) -> Result<Image, AllocError>
     requires kind { settings.now.kind ≡ HashKind }
     requires own { settings.now ≡ file_settings settings.now }
     requires legal { IsTrue (is_page_size settings.now.page_size) }

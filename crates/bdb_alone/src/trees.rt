@@ -33,7 +33,11 @@ fn put_first(pages: &mut Pages, meta: &BtreeMeta)
 
 /// The image of a btree or recno with these settings and this list: page 0 is its metadata, and the pages of its tree follow. It is also
 /// refused where there would be more than 2^21 pages, and where a sum of counts doesn't fit its field.
-pub fn tree_image(alloc: Global, settings: &Settings, list: PairSlice<'_>) -> Result<Image, AllocError>
+pub fn tree_image(
+    alloc: Global,
+    settings: &Settings,
+    list: PairSlice<'_>,
+) -> Result<Image, AllocError>
     requires settings { IsTreeSettings settings.now }
     requires own { settings.now ≡ file_settings settings.now }
     requires list { IsTreeList settings.now (pairs_of list) }

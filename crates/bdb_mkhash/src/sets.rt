@@ -19,7 +19,11 @@ fn spell_length(order: Order, length: u16) -> [u8; 2]
 }
 
 /// The data of a set as they stand on its page: each between its length and its length again.
-pub(crate) fn spell_set(alloc: Global, order: Order, values: Values<'_>) -> Result<Bytes, AllocError>
+pub(crate) fn spell_set(
+    alloc: Global,
+    order: Order,
+    values: Values<'_>,
+) -> Result<Bytes, AllocError>
     requires { All (λ value. length value < 2 ^ 16) (values_seen values) }
     ensures { IfOk result (λ run. run ≡ flat_map (block_bytes order) (values_seen values.entry)) }
 {

@@ -42,11 +42,7 @@ fn name_of(section: &Section) -> &[u8]
 }
 
 // Adds the pair of a section in the master: its name, and the number of its metadata page.
-fn push_entry(
-    entries: &mut TextPairs,
-    number: u32,
-    section: &Section,
-) -> Result<(), AllocError>
+fn push_entry(entries: &mut TextPairs, number: u32, section: &Section) -> Result<(), AllocError>
     ensures { OnOk result (unlined_pairs entries.new ≡ unlined_pairs entries.old ++ entry_of number section.now ∷ []) }
 {
     let value = high_first(number);
