@@ -24,7 +24,10 @@ fn is_above(last: &Option<Bytes>, key: &[u8]) -> bool
 }
 
 // The place of a datum that a run begins with, up to its end; it has no key there.
-fn whole(end: u32) -> Place {
+fn whole(end: u32) -> Place
+    ensures start { result.value.start ≡ 0 }
+    ensures end { result.value.end ≡ end }
+{
     Place {
         key: PlacedKey::Number(0),
         value: Span { start: 0, end },

@@ -65,7 +65,6 @@ fn value_length(kind: Kind, x: u32) -> usize
 }
 
 // Adds the pair at a place, of the number there.
-#[tactic(auto, using(crate::proofs::PairLemmas::same_bytes))]
 fn push_pair(
     kind: Kind,
     x: u32,

@@ -39,21 +39,27 @@ fn behind(
 ) -> Result<Section, AllocError>
     ensures { IfOk result (λ joined. joined ≡ behind page_size order partner section) }
 {
+    let Section {
+        name,
+        settings,
+        header_line,
+        pairs,
+    } = section;
     let (settings, pairs) = match partner {
         Some(partner) => (
             partner.settings,
-            pairs_behind(partner.pairs, section.pairs.as_slice())?,
+            pairs_behind(partner.pairs, pairs.as_slice())?,
         ),
-        None => (section.settings, section.pairs),
+        None => (settings, pairs),
     };
     Ok(Section {
-        name: section.name,
+        name,
         settings: Settings {
             page_size,
             order,
             ..settings
         },
-        header_line: section.header_line,
+        header_line,
         pairs,
     })
 }
