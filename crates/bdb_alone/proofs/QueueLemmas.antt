@@ -15,7 +15,7 @@ use Rattle.bdb_format.specs.Page.{QueueFields}
 use Rattle.bdb_format.specs.Reading.{queue_fields}
 use Rattle.bdb_format.specs.Spelling.{queue_bytes, zeros}
 use Rattle.bdb_format.proofs.SizeLemmas.{size_bounds}
-use Rattle.bdb_text_format.specs.declared.list.Pair.{Pair}
+use Rattle.bdb_text_format.specs.declared.pairs.Pair.{Pair}
 use Rattle.bdb_pack.specs.Built.{AreWhole, Built, bytes_of, joined_pages, with_page, with_zeros, written_over}
 use Rattle.bdb_pack.proofs.CutLemmas.{written_whole}
 use Rattle.bdb_join.specs.Written.{AreLegal}

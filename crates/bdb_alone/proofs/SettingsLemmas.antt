@@ -12,7 +12,7 @@ use Rattle.bdb_format.specs.Page.{BtreeFields}
 use Rattle.bdb_format.specs.Table.{first_row}
 use Rattle.bdb_meta.specs.RowGroups.{flag_rows}
 use Rattle.bdb_text_format.specs.Written.{header_lines}
-use Rattle.bdb_text_format.specs.declared.list.Pair.{Pair}
+use Rattle.bdb_text_format.specs.declared.pairs.Pair.{Pair}
 use Rattle.bdb_leaves.proofs.RunLemmas.{all_map}
 use Rattle.bdb_mktree.specs.Lists.{IsKeyFor, IsTreeList, IsPairFor, is_in_order, may_follow}
 use Rattle.bdb_alone.specs.Trees.{IsTreeSettings}

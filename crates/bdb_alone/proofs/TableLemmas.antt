@@ -17,7 +17,7 @@ use Rattle.bdb_format.specs.Reading.{hash_fields}
 use Rattle.bdb_format.specs.Spelling.{table_bytes}
 use Rattle.bdb_format.proofs.SizeLemmas.{size_bounds}
 use Rattle.std.proofs.lemmas.List.FromFn.{length-map-range_with_len}
-use Rattle.bdb_text_format.specs.declared.list.Pair.{Pair}
+use Rattle.bdb_text_format.specs.declared.pairs.Pair.{Pair}
 use Rattle.bdb_text_format.specs.Pairs.{listed}
 use Rattle.bdb_pack.specs.Built.{AreWhole, Built, bytes_of, joined_pages, with_zeros, written_over}
 use Rattle.bdb_pack.proofs.CutLemmas.{written_whole}

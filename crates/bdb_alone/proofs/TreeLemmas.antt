@@ -12,7 +12,7 @@ use Rattle.bdb_format.specs.Page.{BtreeFields}
 use Rattle.bdb_format.specs.Reading.{btree_fields, is_zero}
 use Rattle.bdb_format.specs.Spelling.{btree_bytes}
 use Rattle.bdb_format.proofs.SizeLemmas.{size_bounds}
-use Rattle.bdb_text_format.specs.declared.list.Pair.{Pair}
+use Rattle.bdb_text_format.specs.declared.pairs.Pair.{Pair}
 use Rattle.bdb_text_format.specs.Pairs.{listed}
 use Rattle.bdb_grove.specs.Growing.{IsCounted, IsLater}
 use Rattle.bdb_grove.specs.Part.{between}

@@ -11,7 +11,7 @@ use Rattle.bdb_format.specs.Rows.{records_per_page}
 use Rattle.bdb_format.specs.Spelling.{queue_bytes, table_bytes}
 use Rattle.bdb_format.specs.Databases.{databases, settings_of}
 use Rattle.bdb_format.specs.Verdict.{verdict_of}
-use Rattle.bdb_text_format.specs.declared.list.Pair.{Pair}
+use Rattle.bdb_text_format.specs.declared.pairs.Pair.{Pair}
 use Rattle.bdb_text_format.specs.Pairs.{listed}
 use Rattle.bdb_buckets.specs.Tables.{HasBuiltBuckets, table_meta}
 use Rattle.bdb_mkhash.specs.Buckets.{table_bits, table_size, table_units}

@@ -9,7 +9,7 @@ use Rattle.bdb_format.specs.Lists.{list_of}
 use Rattle.bdb_format.specs.Spelling.{btree_bytes}
 use Rattle.bdb_format.specs.Databases.{databases, settings_of}
 use Rattle.bdb_format.specs.Verdict.{verdict_of}
-use Rattle.bdb_text_format.specs.declared.list.Pair.{Pair}
+use Rattle.bdb_text_format.specs.declared.pairs.Pair.{Pair}
 use Rattle.bdb_text_format.specs.Pairs.{listed}
 use Rattle.bdb_leaves.specs.Layout.{AreTreesIn}
 use Rattle.bdb_leaves.specs.Spread.{tree_size}

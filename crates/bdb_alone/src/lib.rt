@@ -3,13 +3,11 @@
 
 pub mod laws;
 mod metadata;
-mod pairs;
 mod queue;
 mod table;
 mod trees;
 
 pub use metadata::{file_settings, plain_settings, tree_meta};
-pub use pairs::listed_pairs;
 pub use queue::queue_image;
 pub use table::{element_count, table_image};
 pub use trees::tree_image;

@@ -1,6 +1,7 @@
 ghost use Rattle.std.specs.Prelude.{◌≡◌, ◌≤◌, ◌^◌, IfOk, IsTrue, length};
 ghost use Rattle.bdb_format.specs.HeadOf.{is_page_size};
 ghost use Rattle.bdb_format.specs.Reading.{btree_fields, is_zero};
+ghost use Rattle.bdb_text_format.specs.Placed.{pairs_of};
 ghost use Rattle.bdb_pack.specs.Built.{AreWhole, bytes_of, with_page};
 ghost use Rattle.bdb_mktree.specs.Lists.{IsTreeList};
 ghost use Rattle.bdb_alone.specs.Trees.{IsTreeImage, IsTreeSettings};
@@ -12,7 +13,7 @@ use bdb_io::Image;
 use bdb_meta::put_btree_meta;
 use bdb_mktree::build_tree;
 use bdb_pack::Pages;
-use bdb_text_format::PairList;
+use bdb_text_format::PairSlice;
 use std::alloc::{AllocError, Global};
 
 // Writes the metadata of a tree over page 0, which was kept for it.
@@ -32,11 +33,15 @@ fn put_first(pages: &mut Pages, meta: &BtreeMeta)
 
 /// The image of a btree or recno with these settings and this list: page 0 is its metadata, and the pages of its tree follow. It is also
 /// refused where there would be more than 2^21 pages, and where a sum of counts doesn't fit its field.
-pub fn tree_image(alloc: Global, settings: &Settings, list: &PairList) -> Result<Image, AllocError>
+pub fn tree_image(
+    alloc: Global,
+    settings: &Settings,
+    list: PairSlice<'_>,
+) -> Result<Image, AllocError>
     requires settings { IsTreeSettings settings.now }
     requires own { settings.now ≡ file_settings settings.now }
-    requires list { IsTreeList settings.now list.now }
-    ensures { IfOk result (λ image. IsTreeImage settings.now list.now image) }
+    requires list { IsTreeList settings.now (pairs_of list) }
+    ensures { IfOk result (λ image. IsTreeImage settings.now (pairs_of list.entry) image) }
 {
     let mut pages = Pages::new(alloc, settings.page_size, settings.order);
     pages.add()?;

@@ -3,17 +3,19 @@ use Rattle.std.specs.Prelude.{◌≡◌, ℕ, Bool, true, List, [], ◌∷◌, �
 use Rattle.bdb_format.specs.ContentRows.{ascends}
 use Rattle.bdb_format.specs.Less.{less}
 use Rattle.bdb_format.specs.declared.kinds.Kind.TheVariants.{Btree}
-use Rattle.bdb_text_format.specs.declared.list.Pair.{Pair}
+use Rattle.bdb_text_format.specs.declared.pairs.Pair.{Pair}
 use Rattle.bdb_text_format.specs.declared.pairs.Key.TheVariants.{Number}
 use Rattle.bdb_pack.specs.Built.{Built}
 use Rattle.bdb_leaves.specs.Units.{key_of}
 use Rattle.bdb_mktree.specs.Building.{Building, units_of}
 use Rattle.bdb_mktree.specs.declared.builder.TreeBuilder.{TreeBuilder}
-use Rattle.bdb_building_tests.specs.declared.tree_lists.One.{One}
+use Rattle.bdb_text_format.specs.declared.lent.PairRef.{PairRef}
+use Rattle.bdb_text_format.specs.Pairs.{unlined}
+use Rattle.bdb_text_format.specs.Placed.{pair_seen}
 
 -- a pair without where it lies in memory
-abbrev pub one_seen : One → Pair
-one_seen one = record { key = one.key.now; value = one.value.now }
+abbrev pub one_seen : PairRef → Pair
+one_seen pair = unlined (pair_seen pair)
 
 -- what is read past the end of a list
 abbrev pub no_pair : Pair

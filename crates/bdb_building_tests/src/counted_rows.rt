@@ -2,9 +2,9 @@
 
 use crate::counting::counted;
 use crate::settings::plain;
-use crate::values::value_of;
-use bdb_format::{Kind, Order, Settings};
-use bdb_text_format::{Key, Section, TextPair, TextPairs};
+use crate::values::{push, value_of};
+use bdb_format::{Bytes, Kind, Order, Settings};
+use bdb_text_format::{KeyRef, Section, TextPairs};
 use std::alloc::{AllocError, Global};
 use std::test::Fail;
 
@@ -31,24 +31,20 @@ struct Row {
     pages: u128,
 }
 
-fn key_of(alloc: Global, row: &Row, number: u32) -> Result<Key, AllocError> {
+fn key_of<'k>(row: &Row, number: u32, bytes: &'k Bytes) -> KeyRef<'k> {
     if row.kind == Kind::Recno {
-        return Ok(Key::Number(number));
+        return KeyRef::Number(number);
     }
-    Ok(Key::Bytes(value_of(alloc, number, row.key)?))
+    KeyRef::Bytes(bytes.as_slice())
 }
 
 fn pairs_of(alloc: Global, row: &Row) -> Result<TextPairs, AllocError> {
     let mut pairs = TextPairs::new(alloc);
     for number in 1..row.keys.saturating_add(1) {
         for place in 0..row.each {
-            let key = key_of(alloc, row, number)?;
+            let bytes = value_of(alloc, number, row.key)?;
             let value = value_of(alloc, place, row.long)?;
-            pairs.push(TextPair {
-                key,
-                value,
-                line: 0,
-            })?;
+            push(&mut pairs, key_of(row, number, &bytes), value.as_slice())?;
         }
     }
     Ok(pairs)

@@ -9,6 +9,7 @@ use bdb_format::{Bytes, Settings};
 use bdb_mktree::{TreeBuilder, Unit};
 use bdb_overflow::{Datum, is_less};
 use bdb_pack::Pages;
+use bdb_places::{Place, PlacedKey, Span, Values};
 use std::alloc::{AllocError, Global};
 use std::marker::Model;
 
@@ -19,6 +20,18 @@ fn is_above(last: &Option<Bytes>, key: &[u8]) -> bool
     match last {
         None => true,
         Some(last) => is_less(&Datum::Inline(last.as_slice()), &Datum::Inline(key)),
+    }
+}
+
+// The place of a datum that a run begins with, up to its end; it has no key there.
+fn whole(end: u32) -> Place
+    ensures start { result.value.start ≡ 0 }
+    ensures end { result.value.end ≡ end }
+{
+    Place {
+        key: PlacedKey::Number(0),
+        value: Span { start: 0, end },
+        line: 0,
     }
 }
 
@@ -62,17 +75,17 @@ impl Growing {
         if !is_above(&self.last, key) || key.len() >= 1 << 32 {
             return Ok(self);
         }
-        if value.as_slice().len() >= 1 << 32 {
+        let Ok(end) = u32::try_from(value.as_slice().len()) else {
             return Ok(self);
-        }
+        };
         let mut pages = self.pages;
         let mut builder = self.builder;
         let mut last = Bytes::new(alloc);
         last.push_all(key)?;
-        let values = [value];
+        let places = [whole(end)];
         let unit = Unit::Keyed {
             key,
-            values: &values,
+            values: Values::at_places(value.as_slice(), &places),
         };
         builder.push(&mut pages, &unit)?;
         Ok(Growing {

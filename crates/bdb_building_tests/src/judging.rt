@@ -4,7 +4,7 @@ use crate::built_table;
 use crate::trees::{TreeImage, built_tree};
 use bdb_format::Settings;
 use bdb_judging::gives;
-use bdb_text_format::PairList;
+use bdb_text_format::PairSlice;
 use std::alloc::{AllocError, Global};
 
 /// How many levels a tree has, and how many pages its file, the metadata among them.
@@ -27,7 +27,7 @@ fn has_shape(settings: &Settings, image: &TreeImage, shape: TreeShape) -> bool {
 pub fn is_tree_built(
     alloc: Global,
     settings: &Settings,
-    list: &PairList,
+    list: PairSlice<'_>,
     shape: TreeShape,
     absent: &[u8],
 ) -> Result<bool, AllocError> {
@@ -49,7 +49,7 @@ pub struct TableShape {
 pub fn is_table_built(
     alloc: Global,
     settings: &Settings,
-    list: &PairList,
+    list: PairSlice<'_>,
     shape: TableShape,
     absent: &[u8],
 ) -> Result<bool, AllocError> {

@@ -7,7 +7,7 @@ use bdb_format::{Bytes, Kind, Order};
 use bdb_gen::generate;
 use bdb_judging::gives;
 use bdb_layout::u32_at;
-use bdb_text_format::{Key, Pair, PairList};
+use bdb_text_format::{KeyRef, PairRef, TextPairs};
 use std::alloc::{AllocError, Global};
 use std::test::Fail;
 
@@ -206,20 +206,26 @@ const ROWS: [Row; 17] = [
     },
 ];
 
-// A record: its bytes are the low one of its number.
-fn record(alloc: Global, number: u32, long: u32) -> Result<Pair, AllocError> {
+// Adds a record: its bytes are the low one of its number.
+fn add_record(
+    alloc: Global,
+    number: u32,
+    long: u32,
+    list: &mut TextPairs,
+) -> Result<(), AllocError> {
     let [_, _, _, low] = number.to_be_bytes();
     let value = vec![in alloc; low; long.min(32768) as usize]?;
-    Ok(Pair {
-        key: Key::Number(number),
-        value: Bytes::from_vec(value),
+    list.push(PairRef {
+        key: KeyRef::Number(number),
+        value: value.as_slice(),
+        line: 0,
     })
 }
 
-fn list_of(alloc: Global, row: &Row) -> Result<PairList, AllocError> {
-    let mut list = PairList::new(alloc);
+fn list_of(alloc: Global, row: &Row) -> Result<TextPairs, AllocError> {
+    let mut list = TextPairs::new(alloc);
     for number in row.numbers {
-        list.push(record(alloc, *number, row.re_len)?)?;
+        add_record(alloc, *number, row.re_len, &mut list)?;
     }
     Ok(list)
 }
@@ -259,13 +265,13 @@ fn has_zero_pages(image: &[u8], row: &Row) -> bool {
 fn is_row_built(alloc: Global, order: Order, row: &Row) -> Result<bool, AllocError> {
     let list = list_of(alloc, row)?;
     let settings = queue_settings(order, row.page_size, row.re_len);
-    let Some(image) = built_queue(alloc, &settings, &list)? else {
+    let Some(image) = built_queue(alloc, &settings, list.as_slice())? else {
         return Ok(false);
     };
     let image = image.as_slice();
     let long = (row.pages as usize).saturating_mul(row.page_size as usize);
     let right = image.len() == long && says(image, order, row) && has_zero_pages(image, row);
-    Ok(right && gives(alloc, image, &list, b"58")?)
+    Ok(right && gives(alloc, image, list.as_slice(), b"58")?)
 }
 
 #[test]
@@ -285,11 +291,11 @@ fn is_generated(alloc: Global, count: u32, pages: usize) -> Result<bool, AllocEr
     }
     let list = generate(alloc, Kind::Queue, 1, count)?;
     let settings = queue_settings(Order::Little, 4096, 16);
-    let Some(image) = built_queue(alloc, &settings, &list)? else {
+    let Some(image) = built_queue(alloc, &settings, list.as_slice())? else {
         return Ok(false);
     };
     let image = image.as_slice();
-    Ok(image.len() == pages.saturating_mul(4096) && gives(alloc, image, &list, b"0")?)
+    Ok(image.len() == pages.saturating_mul(4096) && gives(alloc, image, list.as_slice(), b"0")?)
 }
 
 // (4096 - 28) / 20 = 203 records on a page.
@@ -302,10 +308,10 @@ fn generated_records_are_built(rt: HostRuntime) -> Result<(), Fail> {
 }
 
 // A list of records with numbers and lengths.
-fn listed(alloc: Global, records: &[(u32, u32)]) -> Result<PairList, AllocError> {
-    let mut list = PairList::new(alloc);
+fn listed(alloc: Global, records: &[(u32, u32)]) -> Result<TextPairs, AllocError> {
+    let mut list = TextPairs::new(alloc);
     for (number, long) in records {
-        list.push(record(alloc, *number, *long)?)?;
+        add_record(alloc, *number, *long, &mut list)?;
     }
     Ok(list)
 }
@@ -314,8 +320,22 @@ fn listed(alloc: Global, records: &[(u32, u32)]) -> Result<PairList, AllocError>
 fn a_record_behind_all_pages_is_refused(rt: HostRuntime) -> Result<(), Fail> {
     // 60 records on each of the pages up to the last that a file may have
     let list = listed(rt.alloc(), &[(1, 4), (125829061, 4)])?;
-    assert!(rt; built_queue(rt.alloc(), &queue_settings(Order::Little, 512, 4), &list).is_err());
+    assert!(rt;
+        built_queue(
+            rt.alloc(),
+            &queue_settings(Order::Little, 512, 4),
+            list.as_slice()
+        )
+        .is_err()
+    );
     let list = listed(rt.alloc(), &[(1, 4), (4294967294, 4)])?;
-    assert!(rt; built_queue(rt.alloc(), &queue_settings(Order::Little, 512, 4), &list).is_err());
+    assert!(rt;
+        built_queue(
+            rt.alloc(),
+            &queue_settings(Order::Little, 512, 4),
+            list.as_slice()
+        )
+        .is_err()
+    );
     Ok(())
 }

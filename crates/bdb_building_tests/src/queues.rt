@@ -3,6 +3,7 @@
 ghost use Rattle.std.specs.Prelude.{◌≤◌, ◌+◌, ◌-◌, IfOk, IsTrue};
 ghost use Rattle.bdb_format.specs.HeadOf.{is_page_size};
 ghost use Rattle.bdb_format.specs.Numbers.{pad4};
+ghost use Rattle.bdb_text_format.specs.Placed.{pairs_of};
 ghost use Rattle.bdb_mkqueue.specs.Layout.{queue_meta};
 ghost use Rattle.bdb_mkqueue.specs.Lists.{IsQueueList};
 ghost use Rattle.bdb_mkqueue.specs.Written.{IsSoundQueueOf};
@@ -13,7 +14,7 @@ use bdb_format::{Bytes, Settings};
 use bdb_meta::put_queue_meta;
 use bdb_mkqueue::build_queue;
 use bdb_pack::Pages;
-use bdb_text_format::PairList;
+use bdb_text_format::PairSlice;
 use std::alloc::{AllocError, Global};
 
 // Whether a page has room for a record.
@@ -25,11 +26,15 @@ fn has_room(settings: &Settings) -> bool
 }
 
 /// The file of the queue of a list, which is sound and has this list: its pages, with the metadata written over the first.
-pub fn queue_file(alloc: Global, settings: &Settings, list: &PairList) -> Result<Bytes, AllocError>
+pub fn queue_file(
+    alloc: Global,
+    settings: &Settings,
+    list: PairSlice<'_>,
+) -> Result<Bytes, AllocError>
     requires legal { IsTrue (is_page_size settings.now.page_size) }
     requires room { pad4 (settings.now.re_len + 1) ≤ settings.now.page_size - 28 }
-    requires list { IsQueueList settings.now list.now }
-    ensures { IfOk result (λ image. IsSoundQueueOf image (queue_meta settings.now list.now) list.now) }
+    requires list { IsQueueList settings.now (pairs_of list) }
+    ensures { IfOk result (λ image. IsSoundQueueOf image (queue_meta settings.now (pairs_of list.entry)) (pairs_of list.entry)) }
 {
     let mut pages = Pages::new(alloc, settings.page_size, settings.order);
     pages.add()?;
@@ -44,7 +49,7 @@ pub fn queue_file(alloc: Global, settings: &Settings, list: &PairList) -> Result
 pub fn built_queue(
     alloc: Global,
     settings: &Settings,
-    list: &PairList,
+    list: PairSlice<'_>,
 ) -> Result<Option<Bytes>, AllocError> {
     if !is_page_size(settings.page_size) || !has_room(settings) || !is_list_for(settings, list) {
         return Ok(None);

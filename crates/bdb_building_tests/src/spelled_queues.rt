@@ -23,7 +23,12 @@ fn is_spelled(image: &[u8], head: &[u8], fields: &[u8], page: &[u8]) -> bool {
 #[test]
 fn a_little_endian_queue_is_spelled(rt: HostRuntime) -> Result<(), Fail> {
     let list = numbered(rt.alloc(), &RECORDS)?;
-    let Some(image) = built_queue(rt.alloc(), &queue_settings(Order::Little, 512, 5), &list)? else {
+    let Some(image) = built_queue(
+        rt.alloc(),
+        &queue_settings(Order::Little, 512, 5),
+        list.as_slice(),
+    )?
+    else {
         assert!(rt; false);
         return Ok(());
     };
@@ -45,7 +50,12 @@ fn a_little_endian_queue_is_spelled(rt: HostRuntime) -> Result<(), Fail> {
 #[test]
 fn a_big_endian_queue_is_spelled(rt: HostRuntime) -> Result<(), Fail> {
     let list = numbered(rt.alloc(), &RECORDS)?;
-    let Some(image) = built_queue(rt.alloc(), &queue_settings(Order::Big, 512, 5), &list)? else {
+    let Some(image) = built_queue(
+        rt.alloc(),
+        &queue_settings(Order::Big, 512, 5),
+        list.as_slice(),
+    )?
+    else {
         assert!(rt; false);
         return Ok(());
     };

@@ -4,10 +4,10 @@ use crate::growing::Growing;
 use crate::judging::{TreeShape, is_tree_built};
 use crate::settings::{plain, tree_settings};
 use crate::trees::tree_image;
-use crate::values::{Keyed, Numbered, ORDERS, copy, keyed, numbered};
+use crate::values::{Keyed, Numbered, ORDERS, copy, keyed, numbered, push};
 use bdb_format::{Bytes, Kind, Order};
 use bdb_judging::gives;
-use bdb_text_format::{Key, Pair, PairList};
+use bdb_text_format::{KeyRef, TextPairs};
 use std::alloc::{AllocError, Global};
 use std::test::Fail;
 
@@ -51,7 +51,7 @@ fn builds_spelled_btrees(rt: HostRuntime) -> Result<(), Fail> {
                 is_tree_built(
                     rt.alloc(),
                     &settings,
-                    &list,
+                    list.as_slice(),
                     TreeShape { levels, pages },
                     absent
                 )?
@@ -71,7 +71,7 @@ fn builds_recnos_with_missing_records(rt: HostRuntime) -> Result<(), Fail> {
                 is_tree_built(
                     rt.alloc(),
                     &settings,
-                    &list,
+                    list.as_slice(),
                     TreeShape { levels, pages },
                     absent
                 )?
@@ -82,25 +82,23 @@ fn builds_recnos_with_missing_records(rt: HostRuntime) -> Result<(), Fail> {
 }
 
 // The root and the pages of a btree that takes the pairs of a list one by one.
-fn grown(alloc: Global, order: Order, list: &PairList) -> Result<(u32, Bytes), AllocError> {
+fn grown(alloc: Global, order: Order, list: &TextPairs) -> Result<(u32, Bytes), AllocError> {
     let settings = plain(Kind::Btree, order, 512);
     let mut tree = Growing::new(alloc, &settings)?;
-    for (key, value) in list.keys().iter().zip(list.values()) {
-        if let Key::Bytes(key) = key {
-            tree = tree.with_pair(alloc, key.as_slice(), copy(alloc, value.as_slice())?)?;
+    let pairs = list.as_slice();
+    for i in 0..pairs.len() {
+        if let KeyRef::Bytes(key) = pairs.at(i).key {
+            tree = tree.with_pair(alloc, key, copy(alloc, pairs.at(i).value)?)?;
         }
     }
     tree.finish()
 }
 
 // The keys 0x41 to 0x54 of a byte each, with data of 20 bytes: 4 + 28 a key, 15 a leaf.
-fn twenty(alloc: Global) -> Result<PairList, AllocError> {
-    let mut list = PairList::new(alloc);
+fn twenty(alloc: Global) -> Result<TextPairs, AllocError> {
+    let mut list = TextPairs::new(alloc);
     for key in 0x41u8..0x55 {
-        list.push(Pair {
-            key: Key::Bytes(copy(alloc, &[key])?),
-            value: copy(alloc, &[key; 20])?,
-        })?;
+        push(&mut list, KeyRef::Bytes(&[key]), &[key; 20])?;
     }
     Ok(list)
 }
@@ -114,7 +112,7 @@ fn grows_pair_by_pair(rt: HostRuntime) -> Result<(), Fail> {
         let settings = plain(Kind::Btree, order, 512);
         let image = tree_image(rt.alloc(), &settings, root, pages.as_slice())?;
         assert!(rt; image.root == 1 && image.bytes.as_slice().len() == 4 * 512);
-        assert!(rt; gives(rt.alloc(), image.bytes.as_slice(), &list, b"a")?);
+        assert!(rt; gives(rt.alloc(), image.bytes.as_slice(), list.as_slice(), b"a")?);
     }
     Ok(())
 }
@@ -134,25 +132,26 @@ fn sequence(alloc: Global, seed: u32, count: u32) -> Result<Vec<Seeded>, AllocEr
 }
 
 // Each number with its place, as a key or a record, with as many bytes as the number modulo 64, each the place modulo 256.
-fn generated(alloc: Global, kind: Kind, seed: u32, count: u32) -> Result<PairList, AllocError> {
+fn generated(alloc: Global, kind: Kind, seed: u32, count: u32) -> Result<TextPairs, AllocError> {
     let mut numbers = sequence(alloc, seed, count)?;
     if kind == Kind::Btree {
         numbers.sort_unstable();
     }
-    let mut list = PairList::new(alloc);
+    let mut list = TextPairs::new(alloc);
     for &(x, place) in numbers.as_slice() {
+        let mut bytes = copy(alloc, &x.to_be_bytes())?;
+        bytes.push_all(&place.to_be_bytes())?;
         let key = match kind {
-            Kind::Recno => Key::Number(place.saturating_add(1)),
-            _ => {
-                let mut key = copy(alloc, &x.to_be_bytes())?;
-                key.push_all(&place.to_be_bytes())?;
-                Key::Bytes(key)
-            }
+            Kind::Recno => KeyRef::Number(place.saturating_add(1)),
+            _ => KeyRef::Bytes(bytes.as_slice()),
         };
         let [_, _, _, low] = place.to_be_bytes();
         let letters = [low; 64];
-        let value = copy(alloc, letters.get(..x as usize % 64).unwrap_or(&[]))?;
-        list.push(Pair { key, value })?;
+        push(
+            &mut list,
+            key,
+            letters.get(..x as usize % 64).unwrap_or(&[]),
+        )?;
     }
     Ok(list)
 }
@@ -176,7 +175,7 @@ fn builds_generated_lists(rt: HostRuntime) -> Result<(), Fail> {
                 is_tree_built(
                     rt.alloc(),
                     &settings,
-                    &list,
+                    list.as_slice(),
                     TreeShape { levels, pages },
                     b"0"
                 )?

@@ -2,9 +2,9 @@
 
 use crate::judging::{TableShape, is_table_built};
 use crate::settings::table_settings;
-use crate::values::{ORDERS, keyed, value_of};
+use crate::values::{ORDERS, keyed, push, value_of};
 use bdb_format::Order;
-use bdb_text_format::{Key, Pair, PairList};
+use bdb_text_format::{KeyRef, TextPairs};
 use std::alloc::{AllocError, Global};
 use std::test::Fail;
 
@@ -27,19 +27,19 @@ struct Row {
 }
 
 // Adds the pairs of a key.
-fn add_key(alloc: Global, row: &Row, number: u32, list: &mut PairList) -> Result<(), AllocError> {
+fn add_key(alloc: Global, row: &Row, number: u32, list: &mut TextPairs) -> Result<(), AllocError> {
     for place in 0..row.data {
         let sorted = row.flags & 0x04 != 0;
         let datum = if sorted { place } else { row.data - 1 - place };
-        let key = Key::Bytes(value_of(alloc, number, row.key)?);
+        let key = value_of(alloc, number, row.key)?;
         let value = value_of(alloc, number.wrapping_add(datum), row.long)?;
-        list.push(Pair { key, value })?;
+        push(list, KeyRef::Bytes(key.as_slice()), value.as_slice())?;
     }
     Ok(())
 }
 
-fn list_of(alloc: Global, row: &Row) -> Result<PairList, AllocError> {
-    let mut list = PairList::new(alloc);
+fn list_of(alloc: Global, row: &Row) -> Result<TextPairs, AllocError> {
+    let mut list = TextPairs::new(alloc);
     for place in 0..row.keys {
         add_key(alloc, row, place.wrapping_mul(row.step), &mut list)?;
     }
@@ -53,7 +53,7 @@ fn is_row_built(alloc: Global, order: Order, row: &Row) -> Result<bool, AllocErr
         buckets: row.buckets,
         pages: row.pages,
     };
-    is_table_built(alloc, &settings, &list, shape, b"99999")
+    is_table_built(alloc, &settings, list.as_slice(), shape, b"99999")
 }
 
 /// Flags and page size, how far keys are apart, how many there are and how long, how many data each has and how long, buckets and pages.
@@ -153,7 +153,7 @@ fn builds_spelled_tables(rt: HostRuntime) -> Result<(), Fail> {
     for order in ORDERS {
         let list = keyed(rt.alloc(), &[(b"k1", b"v1"), (b"k2", b"v2")])?;
         let plain = table_settings(order, 4096, 0);
-        assert!(rt; is_table_built(rt.alloc(), &plain, &list, shape, b"k3")?);
+        assert!(rt; is_table_built(rt.alloc(), &plain, list.as_slice(), shape, b"k3")?);
         let empty = keyed(rt.alloc(), &[(b"", b"x"), (b"a", b"")])?;
         assert!(rt; is_table_built(rt.alloc(), &plain, &empty, shape, b"b")?);
         let twice = keyed(rt.alloc(), &[(b"a", b"3"), (b"a", b"1"), (b"a", b"3")])?;

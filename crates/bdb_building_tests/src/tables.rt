@@ -9,7 +9,7 @@ use bdb_format::{Bytes, HashMeta, Kind, Settings};
 use bdb_meta::put_hash_meta;
 use bdb_mkhash::build_table;
 use bdb_pack::Pages;
-use bdb_text_format::PairList;
+use bdb_text_format::PairSlice;
 use std::alloc::{AllocError, Global};
 
 // The bytes of the longest image.
@@ -50,7 +50,7 @@ fn table_image(
 pub fn built_table(
     alloc: Global,
     settings: &Settings,
-    list: &PairList,
+    list: PairSlice<'_>,
 ) -> Result<Option<TableImage>, AllocError> {
     if settings.kind != Kind::Hash || !is_page_size(settings.page_size) {
         return Ok(None);

@@ -2,69 +2,61 @@
 
 ghost use Rattle.std.specs.Prelude.{◌≡◌, ◌+◌, ◌<◌, IsTrue, drop, get_or, length};
 ghost use Rattle.bdb_text_format.specs.Pairs.{number_of};
+ghost use Rattle.bdb_text_format.specs.Placed.{key_seen, pairs_of};
 ghost use Rattle.bdb_mktree.specs.Lists.{IsKeyFor, IsTreeList, IsPairFor, bytes_in, keyed_follow, may_follow};
 ghost use Rattle.bdb_building_tests.specs.Trees.{no_pair, one_seen};
 
 use bdb_format::{Kind, Settings};
 use bdb_overflow::{Datum, is_less};
-use bdb_text_format::{Key, PairList};
+use bdb_text_format::{KeyRef, PairRef, PairSlice};
 
-/// A pair where it stands in its list.
-#[derive(Clone, Copy)]
-struct One<'a> {
-    key: &'a Key,
-    value: &'a [u8],
-}
-
-fn pair_at(list: &PairList, i: usize) -> One<'_>
-    requires { i < length list.now }
-    ensures { one_seen result ≡ get_or list.now i no_pair }
+#[tactic(auto, using(crate::proofs::CopyLemmas::one_at))]
+fn pair_at(list: PairSlice<'_>, i: usize) -> PairRef<'_>
+    requires { i < length (pairs_of list) }
+    ensures { one_seen result ≡ get_or (pairs_of list.entry) i no_pair }
 {
-    One {
-        key: &list.keys()[i],
-        value: list.values()[i].as_slice(),
-    }
+    list.at(i)
 }
 
-fn is_key_for(kind: Kind, key: &Key) -> bool
-    ensures { IsTrue result → IsKeyFor kind key.now }
+fn is_key_for(kind: Kind, key: KeyRef<'_>) -> bool
+    ensures { IsTrue result → IsKeyFor kind (key_seen key.entry) }
 {
     match (kind, key) {
-        (Kind::Btree, Key::Bytes(key)) => key.as_slice().len() < 1 << 32,
-        (Kind::Recno, Key::Number(number)) => *number >= 1,
+        (Kind::Btree, KeyRef::Bytes(key)) => key.len() < 1 << 32,
+        (Kind::Recno, KeyRef::Number(number)) => number >= 1,
         _ => false,
     }
 }
 
-fn is_pair_for(settings: &Settings, pair: &One<'_>) -> bool
-    ensures { IsTrue result → IsPairFor settings.now (one_seen pair.now) }
+fn is_pair_for(settings: &Settings, pair: PairRef<'_>) -> bool
+    ensures { IsTrue result → IsPairFor settings.now (one_seen pair.entry) }
 {
     is_key_for(settings.kind, pair.key)
         && pair.value.len() < 1 << 32
         && (!settings.fixed || pair.value.len() as u64 == u64::from(settings.re_len))
 }
 
-fn bytes_in(key: &Key) -> &[u8]
-    ensures { result.now ≡ bytes_in key.now }
+fn bytes_in(key: KeyRef<'_>) -> &[u8]
+    ensures { result.now ≡ bytes_in (key_seen key.entry) }
 {
     match key {
-        Key::Bytes(key) => key.as_slice(),
-        Key::Number(_) => &[],
+        KeyRef::Bytes(key) => key,
+        KeyRef::Number(_) => &[],
     }
 }
 
-fn number_of(key: &Key) -> u32
-    ensures { result ≡ number_of key.now }
+fn number_of(key: KeyRef<'_>) -> u32
+    ensures { result ≡ number_of (key_seen key.entry) }
 {
     match key {
-        Key::Bytes(_) => 0,
-        Key::Number(number) => *number,
+        KeyRef::Bytes(_) => 0,
+        KeyRef::Number(number) => number,
     }
 }
 
 // Whether a key is above the one before it, or its datum is a further one of the same key.
-fn keyed_follow(settings: &Settings, before: &One<'_>, pair: &One<'_>) -> bool
-    ensures { result ≡ keyed_follow settings.now (one_seen before.now) (one_seen pair.now) }
+fn keyed_follow(settings: &Settings, before: PairRef<'_>, pair: PairRef<'_>) -> bool
+    ensures { result ≡ keyed_follow settings.now (one_seen before.entry) (one_seen pair.entry) }
 {
     let key = bytes_in(pair.key);
     let other = bytes_in(before.key);
@@ -75,8 +67,8 @@ fn keyed_follow(settings: &Settings, before: &One<'_>, pair: &One<'_>) -> bool
                 || is_less(&Datum::Inline(before.value), &Datum::Inline(pair.value))))
 }
 
-fn may_follow(settings: &Settings, before: &One<'_>, pair: &One<'_>) -> bool
-    ensures { result ≡ may_follow settings.now.kind settings.now (one_seen before.now) (one_seen pair.now) }
+fn may_follow(settings: &Settings, before: PairRef<'_>, pair: PairRef<'_>) -> bool
+    ensures { result ≡ may_follow settings.now.kind settings.now (one_seen before.entry) (one_seen pair.entry) }
 {
     match settings.kind {
         Kind::Btree => keyed_follow(settings, before, pair),
@@ -86,25 +78,25 @@ fn may_follow(settings: &Settings, before: &One<'_>, pair: &One<'_>) -> bool
 }
 
 // Whether a pair may stand before those after it.
-fn fits_at(settings: &Settings, list: &PairList, i: usize) -> bool
-    requires { i < length list.now }
-    ensures { IsTrue result → IsTreeList settings.now (drop (i + 1) list.now) → IsTreeList settings.now (drop i list.now) }
+fn fits_at(settings: &Settings, list: PairSlice<'_>, i: usize) -> bool
+    requires { i < length (pairs_of list) }
+    ensures { IsTrue result → IsTreeList settings.now (drop (i + 1) (pairs_of list.entry)) → IsTreeList settings.now (drop i (pairs_of list.entry)) }
 {
     let count = list.len();
     let pair = pair_at(list, i);
-    if !is_pair_for(settings, &pair) {
+    if !is_pair_for(settings, pair) {
         return false;
     }
     if i + 1 == count {
         return true;
     }
     let next = pair_at(list, i + 1);
-    may_follow(settings, &pair, &next)
+    may_follow(settings, pair, next)
 }
 
 /// Whether a tree can be built of a list with these settings.
-pub fn is_list_for(settings: &Settings, list: &PairList) -> bool
-    ensures { IsTrue result → IsTreeList settings.now list.now }
+pub fn is_list_for(settings: &Settings, list: PairSlice<'_>) -> bool
+    ensures { IsTrue result → IsTreeList settings.now (pairs_of list.entry) }
 {
     let mut i = list.len();
     while i > 0 {

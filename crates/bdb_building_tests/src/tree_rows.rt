@@ -3,9 +3,9 @@
 use crate::judging::{TreeShape, is_tree_built};
 use crate::settings::tree_settings;
 use crate::trees::built_tree;
-use crate::values::{ORDERS, value_of};
-use bdb_format::Order;
-use bdb_text_format::{Key, Pair, PairList};
+use crate::values::{ORDERS, push, value_of};
+use bdb_format::{Bytes, Order};
+use bdb_text_format::{KeyRef, TextPairs};
 use std::alloc::{AllocError, Global};
 use std::test::Fail;
 
@@ -26,27 +26,27 @@ struct Row {
     pages: usize,
 }
 
-fn key_of(alloc: Global, row: &Row, number: u32) -> Result<Key, AllocError> {
+fn key_of<'k>(row: &Row, number: u32, bytes: &'k Bytes) -> KeyRef<'k> {
     if row.flags & 0x02 != 0 {
-        return Ok(Key::Number(number));
+        return KeyRef::Number(number);
     }
-    Ok(Key::Bytes(value_of(alloc, number, row.key)?))
+    KeyRef::Bytes(bytes.as_slice())
 }
 
 // Adds the pairs of a key.
-fn add_key(alloc: Global, row: &Row, number: u32, list: &mut PairList) -> Result<(), AllocError> {
+fn add_key(alloc: Global, row: &Row, number: u32, list: &mut TextPairs) -> Result<(), AllocError> {
     for place in 0..row.data {
         let sorted = row.flags & 0x40 != 0;
         let datum = if sorted { place } else { row.data - 1 - place };
-        let key = key_of(alloc, row, number)?;
+        let bytes = value_of(alloc, number, row.key)?;
         let value = value_of(alloc, number.wrapping_add(datum), row.long)?;
-        list.push(Pair { key, value })?;
+        push(list, key_of(row, number, &bytes), value.as_slice())?;
     }
     Ok(())
 }
 
-fn list_of(alloc: Global, row: &Row) -> Result<PairList, AllocError> {
-    let mut list = PairList::new(alloc);
+fn list_of(alloc: Global, row: &Row) -> Result<TextPairs, AllocError> {
+    let mut list = TextPairs::new(alloc);
     for number in row.first..row.first.saturating_add(row.keys) {
         add_key(alloc, row, number, &mut list)?;
     }
@@ -65,7 +65,7 @@ fn is_row_built(alloc: Global, order: Order, row: &Row) -> Result<bool, AllocErr
         levels: row.levels,
         pages: row.pages,
     };
-    is_tree_built(alloc, &settings, &list, shape, b"99999")
+    is_tree_built(alloc, &settings, list.as_slice(), shape, b"99999")
 }
 
 /// Flags and page size of metadata, the first key, how many there are and how long, how many data each has and how long, levels and pages.
@@ -193,7 +193,11 @@ fn names_the_chain_of_a_key_twice(rt: HostRuntime) -> Result<(), Fail> {
         for (keys, twice) in [(12, 0), (13, 1)] {
             let row = row_of(&(0, 512, 0, keys, 65, 1, 20, 1, 1));
             let list = list_of(rt.alloc(), &row)?;
-            let image = built_tree(rt.alloc(), &tree_settings(order, 512, 0, 0), &list)?;
+            let image = built_tree(
+                rt.alloc(),
+                &tree_settings(order, 512, 0, 0),
+                list.as_slice(),
+            )?;
             let named = image.map(|image| named_twice(image.bytes.as_slice()));
             assert!(rt; named == Some(twice));
         }

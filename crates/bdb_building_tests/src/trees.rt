@@ -9,7 +9,7 @@ use bdb_format::{BtreeMeta, Bytes, Kind, Settings};
 use bdb_meta::put_btree_meta;
 use bdb_mktree::build_tree;
 use bdb_pack::Pages;
-use bdb_text_format::PairList;
+use bdb_text_format::PairSlice;
 use std::alloc::{AllocError, Global};
 
 // The bytes of the longest image.
@@ -68,7 +68,7 @@ pub fn tree_image(
 pub fn built_tree(
     alloc: Global,
     settings: &Settings,
-    list: &PairList,
+    list: PairSlice<'_>,
 ) -> Result<Option<TreeImage>, AllocError> {
     if !is_page_size(settings.page_size) || !is_tree_kind(settings.kind) {
         return Ok(None);

@@ -1,7 +1,7 @@
 //! What lists are made of.
 
 use bdb_format::{Bytes, Order};
-use bdb_text_format::{Key, Pair, PairList};
+use bdb_text_format::{KeyRef, PairRef, TextPairs};
 use std::alloc::{AllocError, Global};
 
 pub const ORDERS: [Order; 2] = [Order::Little, Order::Big];
@@ -29,27 +29,30 @@ pub fn value_of(alloc: Global, number: u32, long: usize) -> Result<Bytes, AllocE
 /// A key of bytes and its datum.
 pub type Keyed = (&'static [u8], &'static [u8]);
 
-pub fn keyed(alloc: Global, pairs: &[Keyed]) -> Result<PairList, AllocError> {
-    let mut list = PairList::new(alloc);
+pub fn keyed(alloc: Global, pairs: &[Keyed]) -> Result<TextPairs, AllocError> {
+    let mut list = TextPairs::new(alloc);
     for &(key, value) in pairs {
-        list.push(Pair {
-            key: Key::Bytes(copy(alloc, key)?),
-            value: copy(alloc, value)?,
-        })?;
+        push(&mut list, KeyRef::Bytes(key), value)?;
     }
     Ok(list)
+}
+
+/// Adds a pair without a line.
+pub fn push(list: &mut TextPairs, key: KeyRef<'_>, value: &[u8]) -> Result<(), AllocError> {
+    list.push(PairRef {
+        key,
+        value,
+        line: 0,
+    })
 }
 
 /// The number of a record and its bytes.
 pub type Numbered = (u32, &'static [u8]);
 
-pub fn numbered(alloc: Global, pairs: &[Numbered]) -> Result<PairList, AllocError> {
-    let mut list = PairList::new(alloc);
+pub fn numbered(alloc: Global, pairs: &[Numbered]) -> Result<TextPairs, AllocError> {
+    let mut list = TextPairs::new(alloc);
     for &(number, value) in pairs {
-        list.push(Pair {
-            key: Key::Number(number),
-            value: copy(alloc, value)?,
-        })?;
+        push(&mut list, KeyRef::Number(number), value)?;
     }
     Ok(list)
 }

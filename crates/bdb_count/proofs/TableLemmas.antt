@@ -7,7 +7,7 @@ use Rattle.std.proofs.lemmas.Bool.{cases_eq, eq-eqb, le-leb, lt-leb, ne_eqb}
 use Rattle.std.proofs.lemmas.List.{get_or-set_other, get_or-set_same, get_or_default, length-replicate, length-set}
 use Rattle.std.proofs.lemmas.List.Elements.{All-head, All-tail}
 use Rattle.std.proofs.lemmas.List.Sums.{sum_by-cons}
-use Rattle.bdb_text_format.specs.declared.list.Pair.{Pair}
+use Rattle.bdb_text_format.specs.declared.pairs.Pair.{Pair}
 use Rattle.bdb_text_format.specs.declared.pairs.TextPair.{TextPair}
 use Rattle.bdb_leaves.specs.Units.{KeyedUnit, TreeUnit, page_room}
 use Rattle.bdb_mktree.specs.Lists.{IsRunAt, keyed_units}
@@ -16,10 +16,9 @@ use Rattle.bdb_buckets.specs.Tables.{Keyed, bucket_among, dealt}
 use Rattle.bdb_mkhash.specs.Buckets.{bits_for, buckets_of, spread_bucket, table_cost, table_units}
 use Rattle.bdb_mkhash.specs.Costs.{keyed_own_pages, keyed_cost}
 use Rattle.bdb_mkhash.proofs.BucketLemmas.{run_unit, found_at}
-use Rattle.bdb_need.specs.Counting.{values_in}
 use Rattle.bdb_need.specs.Need.{unlined_pairs}
 use Rattle.bdb_need.proofs.BehindLemmas.{behind, behind_new, behind_open, length-spread}
-use Rattle.bdb_need.proofs.KeyLemmas.{length-pairs}
+use Rattle.bdb_need.proofs.KeyLemmas.{length-pairs, run_many}
 use Rattle.bdb_count.specs.Counts.{keyed}
 
 -- How many buckets.
@@ -203,13 +202,17 @@ keys_begun size bits room pages pairs left room_is pages_are left_is = record {
   few = omega (arith, pages_are);
 }
 
+-- a run has a datum
+pub run_some : (pairs : List Pair) (start end : ℕ) (key : List ℕ) (values : List (List ℕ)) → IsRunAt pairs start (KeyedUnit key values) end → 0 < length values
+run_some pairs start end key values at = let ahead = at.ahead in omega (arith, ahead, run_many pairs start end key values at)
+
 -- a run of pairs is put
-keys_next : (size bits start pages pages_now n : ℕ) (pairs run : List TextPair) (key : List ℕ) (left left_now : List ℕ)
-    → KeysPlaced size bits pairs start pages left → IsRunAt (unlined_pairs pairs) start (KeyedUnit key (values_in run)) (start + n)
-    → (ArePlaced size bits (table_units (unlined_pairs pairs)) (keyed key run ∷ table_units (drop (start + n) (unlined_pairs pairs))) pages left
-    → ArePlaced size bits (table_units (unlined_pairs pairs)) (table_units (drop (start + n) (unlined_pairs pairs))) pages_now left_now)
-    → pages_now ≤ pages + 1 → KeysPlaced size bits pairs (start + n) pages_now left_now
-keys_next size bits start pages pages_now n pairs run key left left_now was at put few =
+keys_next : (size bits start end pages pages_now : ℕ) (pairs : List TextPair) (key : List ℕ) (values : List (List ℕ)) (left left_now : List ℕ)
+    → KeysPlaced size bits pairs start pages left → IsRunAt (unlined_pairs pairs) start (KeyedUnit key values) end
+    → (ArePlaced size bits (table_units (unlined_pairs pairs)) (keyed key values ∷ table_units (drop end (unlined_pairs pairs))) pages left
+    → ArePlaced size bits (table_units (unlined_pairs pairs)) (table_units (drop end (unlined_pairs pairs))) pages_now left_now)
+    → pages_now ≤ pages + 1 → KeysPlaced size bits pairs end pages_now left_now
+keys_next size bits start end pages pages_now pairs key values left left_now was at put few =
     let long = length-pairs pairs in
     let within = at.within in
     let ahead = at.ahead in
@@ -217,7 +220,7 @@ keys_next size bits start pages pages_now n pairs run key left left_now was at p
     record {
       low = omega (arith, within, long);
       placed = put (subst (λ us. ArePlaced size bits (table_units (unlined_pairs pairs)) us pages left)
-          (run_unit (unlined_pairs pairs) start (start + n) key (values_in run) at) was.placed);
+          (run_unit (unlined_pairs pairs) start end key values at) was.placed);
       few = omega (arith, before, few, ahead);
     }
 
@@ -227,29 +230,29 @@ room_here size bits start pages b seen pairs left was low is =
     let many = was.placed.many in is ∙ get_or_default left b seen 0 (omega (arith, low, many))
 
 -- on the open page of its bucket
-pub key_open : (size bits start pages pages_now n cost seen here b : ℕ) (pairs run : List TextPair) (key : List ℕ) (left left_now : List ℕ)
-    → KeysPlaced size bits pairs start pages left → IsRunAt (unlined_pairs pairs) start (KeyedUnit key (values_in run)) (start + n)
-    → b ≡ bucket_among bits key → b < 2 ^ bits → cost ≡ keyed_cost size (keyed key run) → seen ≡ get_or left b seen → here ≡ get_or left b here
-    → cost ≤ seen → pages_now ≡ pages → left_now ≡ set left b (here - cost) → KeysPlaced size bits pairs (start + n) pages_now left_now
-key_open size bits start pages pages_now n cost seen here b pairs run key left left_now was at b_is low cost_is seen_is here_is fits pages_is left_is =
+pub key_open : (size bits start end pages pages_now cost seen here b : ℕ) (pairs : List TextPair) (key : List ℕ) (values : List (List ℕ)) (left left_now : List ℕ)
+    → KeysPlaced size bits pairs start pages left → IsRunAt (unlined_pairs pairs) start (KeyedUnit key values) end
+    → b ≡ bucket_among bits key → b < 2 ^ bits → cost ≡ keyed_cost size (keyed key values) → seen ≡ get_or left b seen → here ≡ get_or left b here
+    → cost ≤ seen → pages_now ≡ pages → left_now ≡ set left b (here - cost) → KeysPlaced size bits pairs end pages_now left_now
+key_open size bits start end pages pages_now cost seen here b pairs key values left left_now was at b_is low cost_is seen_is here_is fits pages_is left_is =
     let room = room_here size bits start pages b here pairs left was low here_is in
     let same = room_here size bits start pages b seen pairs left was low seen_is in
-    keys_next size bits start pages pages_now n pairs run key left left_now was at
+    keys_next size bits start end pages pages_now pairs key values left left_now was at
     (λ placed_so_far. rw (pages_is, left_is)
-    (placed_open size bits pages cost here b (table_units (unlined_pairs pairs)) (table_units (drop (start + n) (unlined_pairs pairs))) (keyed key run) left
+    (placed_open size bits pages cost here b (table_units (unlined_pairs pairs)) (table_units (drop end (unlined_pairs pairs))) (keyed key values) left
     placed_so_far b_is low cost_is room (omega (arith, fits, room, same))))
     (omega (arith, pages_is))
 
 -- on a new one
-pub key_new : (size bits start pages pages_now n cost seen room b : ℕ) (pairs run : List TextPair) (key : List ℕ) (left left_now : List ℕ)
-    → KeysPlaced size bits pairs start pages left → IsRunAt (unlined_pairs pairs) start (KeyedUnit key (values_in run)) (start + n)
-    → b ≡ bucket_among bits key → b < 2 ^ bits → cost ≡ keyed_cost size (keyed key run) → room ≡ page_room size → seen ≡ get_or left b seen
-    → seen < cost → pages_now ≡ pages + 1 → left_now ≡ set left b (room - cost) → KeysPlaced size bits pairs (start + n) pages_now left_now
-key_new size bits start pages pages_now n cost seen room b pairs run key left left_now was at b_is low cost_is room_is seen_is full pages_is left_is =
+pub key_new : (size bits start end pages pages_now cost seen room b : ℕ) (pairs : List TextPair) (key : List ℕ) (values : List (List ℕ)) (left left_now : List ℕ)
+    → KeysPlaced size bits pairs start pages left → IsRunAt (unlined_pairs pairs) start (KeyedUnit key values) end
+    → b ≡ bucket_among bits key → b < 2 ^ bits → cost ≡ keyed_cost size (keyed key values) → room ≡ page_room size → seen ≡ get_or left b seen
+    → seen < cost → pages_now ≡ pages + 1 → left_now ≡ set left b (room - cost) → KeysPlaced size bits pairs end pages_now left_now
+key_new size bits start end pages pages_now cost seen room b pairs key values left left_now was at b_is low cost_is room_is seen_is full pages_is left_is =
     let same = room_here size bits start pages b seen pairs left was low seen_is in
-    keys_next size bits start pages pages_now n pairs run key left left_now was at
+    keys_next size bits start end pages pages_now pairs key values left left_now was at
     (λ placed_so_far. rw (pages_is, left_is)
-    (placed_new size bits pages cost seen room b (table_units (unlined_pairs pairs)) (table_units (drop (start + n) (unlined_pairs pairs))) (keyed key run)
+    (placed_new size bits pages cost seen room b (table_units (unlined_pairs pairs)) (table_units (drop end (unlined_pairs pairs))) (keyed key values)
     left placed_so_far b_is low cost_is room_is same full))
     (omega (arith, pages_is))
 
@@ -288,30 +291,30 @@ pub unit_short : (size : ℕ) (sorted : Bool) (pairs : List TextPair) (start end
 unit_short size sorted pairs start end cost own unit counted run =
     All-head IsShortUnit unit (keyed_units (drop end (unlined_pairs pairs))) (subst (All IsShortUnit) run.units counted.short)
 
-pub next_counted : (size : ℕ) (sorted : Bool) (pairs run : List TextPair) (start n cost own cost_more own_more : ℕ) (key : List ℕ)
-    → KeysCounted size sorted pairs start cost own → IsRunAt (unlined_pairs pairs) start (KeyedUnit key (values_in run)) (start + n)
-    → cost_more ≡ keyed_cost size (keyed key run) → cost_more ≤ 2 ^ 16 → own_more ≡ keyed_own_pages size sorted (keyed key run)
-    → own_more ≤ (n + 1) * 2 ^ 33 → KeysCounted size sorted pairs (start + n) (cost + cost_more) (own + own_more)
-next_counted size sorted pairs run start n cost own cost_more own_more key was at cost_is cost_low own_is own_low =
-    let rest : List Keyed = table_units (drop (start + n) (unlined_pairs pairs)) in
+pub next_counted : (size : ℕ) (sorted : Bool) (pairs : List TextPair) (start end cost own cost_more own_more : ℕ) (key : List ℕ) (values : List (List ℕ))
+    → KeysCounted size sorted pairs start cost own → IsRunAt (unlined_pairs pairs) start (KeyedUnit key values) end
+    → cost_more ≡ keyed_cost size (keyed key values) → cost_more ≤ 2 ^ 16 → own_more ≡ keyed_own_pages size sorted (keyed key values)
+    → own_more ≤ (length values + 1) * 2 ^ 33 → KeysCounted size sorted pairs end (cost + cost_more) (own + own_more)
+next_counted size sorted pairs start end cost own cost_more own_more key values was at cost_is cost_low own_is own_low =
+    let rest : List Keyed = table_units (drop end (unlined_pairs pairs)) in
     let long = length-pairs pairs in
     let ahead = at.ahead in
     let within = at.within in
-    let units = run_unit (unlined_pairs pairs) start (start + n) key (values_in run) at in
-    let cost_split = ap (table_cost size) units ∙ sum_by-cons (keyed_cost size) (keyed key run) rest in
-    let own_split = ap (sum_by (keyed_own_pages size sorted)) units ∙ sum_by-cons (keyed_own_pages size sorted) (keyed key run) rest in
+    let units = run_unit (unlined_pairs pairs) start end key values at in
+    let cost_split = ap (table_cost size) units ∙ sum_by-cons (keyed_cost size) (keyed key values) rest in
+    let own_split = ap (sum_by (keyed_own_pages size sorted)) units ∙ sum_by-cons (keyed_own_pages size sorted) (keyed key values) rest in
     let cost_sum = was.cost_sum in
     let own_sum = was.own_sum in
     let cost_before = was.cost_few in
     let own_before = was.own_few in
     record {
       low = omega (arith, within, long);
-      short = All-tail IsShortUnit (KeyedUnit key (values_in run)) (keyed_units (drop (start + n) (unlined_pairs pairs)))
+      short = All-tail IsShortUnit (KeyedUnit key values) (keyed_units (drop end (unlined_pairs pairs)))
           (subst (All IsShortUnit) at.units was.short);
       cost_sum = omega (arith, cost_split, cost_sum, cost_is);
       own_sum = omega (arith, own_split, own_sum, own_is);
       cost_few = omega (arith, cost_before, cost_low, ahead);
-      own_few = omega (arith, own_before, own_low, ahead);
+      own_few = omega (arith, own_before, own_low, ahead, run_many (unlined_pairs pairs) start end key values at);
     }
 
 pub all_counted : (size : ℕ) (sorted : Bool) (pairs : List TextPair) (start cost own : ℕ) → length pairs ≤ start

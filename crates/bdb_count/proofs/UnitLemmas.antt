@@ -4,61 +4,50 @@ use Rattle.std.specs.Prelude.{◌/◌, is_some}
 use Rattle.std.specs.List.{list_all, sum_by}
 use Rattle.bdb_format.specs.HeadOf.{is_page_size}
 use Rattle.bdb_format.proofs.SizeLemmas.{size_bounds}
-use Rattle.bdb_text_format.specs.declared.pairs.TextPair.{TextPair}
 use Rattle.bdb_leaves.specs.Spread.{leaves_and_levels, set_type}
 use Rattle.bdb_leaves.specs.Units.{chain_pages, page_room}
 use Rattle.bdb_mkhash.specs.Costs.{cost_in, data_cost, data_form, is_inline, hash_item_cost, pages_in, blocks_cost, stand_together}
 use Rattle.bdb_mkhash.proofs.CostLemmas.{cost_more, data_few, form_more, inline_more, item_few, long_apart, much_apart}
-use Rattle.bdb_need.specs.Counting.{data_units, values_in}
-use Rattle.bdb_need.proofs.DataLemmas.{length-values, value_here}
+use Rattle.bdb_need.specs.Counting.{data_units}
 use Rattle.bdb_count.specs.Counts.{set_or_none}
 
 -- The data before a place stand in their items, and take so much, which is not too much.
-pub record SetSoFar (size : ℕ) (pairs : List TextPair) (i cost : ℕ) : Type 0 where
-  pub sum : cost ≡ 3 + sum_by (λ value. 4 + length value) (take i (values_in pairs))
-  pub inline : list_all (is_inline size) (take i (values_in pairs)) ≡ true
+pub record SetSoFar (size : ℕ) (values : List (List ℕ)) (i cost : ℕ) : Type 0 where
+  pub sum : cost ≡ 3 + sum_by (λ value. 4 + length value) (take i values)
+  pub inline : list_all (is_inline size) (take i values) ≡ true
   pub few : cost ≤ (size - 26) / 4
 
-pub set_begun : (size : ℕ) (pairs : List TextPair) → is_page_size size ≡ true → SetSoFar size pairs 0 3
-set_begun size pairs legal =
+pub set_begun : (size : ℕ) (values : List (List ℕ)) → is_page_size size ≡ true → SetSoFar size values 0 3
+set_begun size values legal =
     let bounds = size_bounds size legal in record { sum = refl; inline = refl; few = omega (arith, bounds) }
 
-here : (pairs : List TextPair) (i : ℕ) (pair : TextPair) (value : List ℕ) (len : ℕ) → i < length pairs → pair ≡ get_or pairs i pair
-    → value ≡ pair.value → len ≡ length value → len ≡ length (get_or (values_in pairs) i [])
-here pairs i pair value len within is value_is long = long ∙ ap length (value_here pairs i pair value within is value_is)
+pub set_long : (size : ℕ) (values : List (List ℕ)) (i : ℕ) (value : List ℕ) (len : ℕ) → i < length values → value ≡ get_or values i [] → len ≡ length value
+    → size / 8 < len → None ≡ set_or_none size values
+set_long size values i value len within is long much =
+    let one = long ∙ ap length is in
+    sym (ap (λ b. cond b (Some (blocks_cost values)) None) (long_apart size values i within (omega (arith, one, much))))
 
-low : (pairs : List TextPair) (i : ℕ) → i < length pairs → i < length (values_in pairs)
-low pairs i within = let long = length-values pairs in omega (arith, within, long)
-
-pub set_long : (size : ℕ) (pairs : List TextPair) (i : ℕ) (pair : TextPair) (value : List ℕ) (len : ℕ) → i < length pairs
-    → pair ≡ get_or pairs i pair → value ≡ pair.value → len ≡ length value → size / 8 < len → None ≡ set_or_none size (values_in pairs)
-set_long size pairs i pair value len within is value_is long much =
-    let one = here pairs i pair value len within is value_is long in
-    sym (ap (λ b. cond b (Some (blocks_cost (values_in pairs))) None)
-    (long_apart size (values_in pairs) i (low pairs i within) (omega (arith, one, much))))
-
-pub set_more : (size : ℕ) (pairs : List TextPair) (i cost : ℕ) (pair : TextPair) (value : List ℕ) (len : ℕ) → SetSoFar size pairs i cost
-    → i < length pairs → pair ≡ get_or pairs i pair → value ≡ pair.value → len ≡ length value → len ≤ size / 8
-    → cost + (4 + len) ≤ (size - 26) / 4 → SetSoFar size pairs (i + 1) (cost + (4 + len))
-set_more size pairs i cost pair value len was within is value_is long short few =
-    let one = here pairs i pair value len within is value_is long in
-    let step = cost_more (values_in pairs) i (low pairs i within) in
+pub set_more : (size : ℕ) (values : List (List ℕ)) (i cost : ℕ) (value : List ℕ) (len : ℕ) → SetSoFar size values i cost → i < length values
+    → value ≡ get_or values i [] → len ≡ length value → len ≤ size / 8 → cost + (4 + len) ≤ (size - 26) / 4
+    → SetSoFar size values (i + 1) (cost + (4 + len))
+set_more size values i cost value len was within is long short few =
+    let one = long ∙ ap length is in
+    let step = cost_more values i within in
     let before = was.sum in
     record {
       sum = omega (arith, one, step, before);
-      inline = inline_more size (values_in pairs) i (low pairs i within) was.inline (omega (arith, one, short));
+      inline = inline_more size values i within was.inline (omega (arith, one, short));
       few = few;
     }
 
-pub set_much : (size : ℕ) (pairs : List TextPair) (i cost : ℕ) (pair : TextPair) (value : List ℕ) (len : ℕ) → SetSoFar size pairs i cost
-    → i < length pairs → pair ≡ get_or pairs i pair → value ≡ pair.value → len ≡ length value
-    → (size - 26) / 4 < cost + (4 + len) → None ≡ set_or_none size (values_in pairs)
-set_much size pairs i cost pair value len was within is value_is long much =
-    let one = here pairs i pair value len within is value_is long in
-    let step = cost_more (values_in pairs) i (low pairs i within) in
+pub set_much : (size : ℕ) (values : List (List ℕ)) (i cost : ℕ) (value : List ℕ) (len : ℕ) → SetSoFar size values i cost → i < length values
+    → value ≡ get_or values i [] → len ≡ length value → (size - 26) / 4 < cost + (4 + len) → None ≡ set_or_none size values
+set_much size values i cost value len was within is long much =
+    let one = long ∙ ap length is in
+    let step = cost_more values i within in
     let before = was.sum in
-    sym (ap (λ b. cond b (Some (blocks_cost (values_in pairs))) None)
-    (much_apart size (cost + (4 + len)) (values_in pairs) (i + 1) (omega (arith, one, step, before)) much))
+    sym (ap (λ b. cond b (Some (blocks_cost values)) None)
+    (much_apart size (cost + (4 + len)) values (i + 1) (omega (arith, one, step, before)) much))
 
 -- What the data take, and the pages of their own.
 
@@ -82,29 +71,23 @@ apart size values is = by_test (stand_together size values) refl is
     by_test true test same = absurd cc
     by_test false test same = test
 
-not_one : (pairs : List TextPair) → (length pairs ≡ 1 → ⊥) → length (values_in pairs) ≡ 1 → ⊥
-not_one pairs many one = let long = length-values pairs in many (omega (arith, one, long))
+not_none : (values : List (List ℕ)) → 0 < length values → length values ≡ 0 → ⊥
+not_none values some none = absurd (omega (arith, some, none))
 
-not_none : (pairs : List TextPair) → 0 < length pairs → length (values_in pairs) ≡ 0 → ⊥
-not_none pairs some none = let long = length-values pairs in absurd (omega (arith, some, long, none))
-
-pub apart_cost : (size : ℕ) (pairs : List TextPair) → 0 < length pairs → (length pairs ≡ 1 → ⊥)
-    → None ≡ set_or_none size (values_in pairs) → 10 ≡ data_cost size (values_in pairs)
-apart_cost size pairs some many is =
-    let values : List (List ℕ) = values_in pairs in
+pub apart_cost : (size : ℕ) (values : List (List ℕ)) → 0 < length values → (length values ≡ 1 → ⊥) → None ≡ set_or_none size values
+    → 10 ≡ data_cost size values
+apart_cost size values some many is =
     sym (ap (λ f. cost_in f size values)
-    (form_more size values (not_one pairs many) (not_none pairs some) ∙ when_false _ _ (stand_together size values) (apart size values is)))
+    (form_more size values many (not_none values some) ∙ when_false _ _ (stand_together size values) (apart size values is)))
 
-pub apart_pages : (size chains tree : ℕ) (sorted : Bool) (pairs : List TextPair) → 0 < length pairs → (length pairs ≡ 1 → ⊥)
-    → None ≡ set_or_none size (values_in pairs) → chains ≡ sum_by (chain_pages size) (values_in pairs)
-    → tree ≡ leaves_and_levels (set_type sorted) size (data_units (values_in pairs))
-    → chains + tree ≡ pages_in (data_form size (values_in pairs)) size sorted (values_in pairs)
-apart_pages size chains tree sorted pairs some many is chains_are tree_is =
-    let values : List (List ℕ) = values_in pairs in
+pub apart_pages : (size chains tree : ℕ) (sorted : Bool) (values : List (List ℕ)) → 0 < length values → (length values ≡ 1 → ⊥)
+    → None ≡ set_or_none size values → chains ≡ sum_by (chain_pages size) values
+    → tree ≡ leaves_and_levels (set_type sorted) size (data_units values) → chains + tree ≡ pages_in (data_form size values) size sorted values
+apart_pages size chains tree sorted values some many is chains_are tree_is =
     ap (λ n. n + tree) chains_are
     ∙ (ap (λ n. sum_by (chain_pages size) values + n) tree_is
     ∙ sym (ap (λ f. pages_in f size sorted values)
-    (form_more size values (not_one pairs many) (not_none pairs some) ∙ when_false _ _ (stand_together size values) (apart size values is))))
+    (form_more size values many (not_none values some) ∙ when_false _ _ (stand_together size values) (apart size values is))))
 
 -- a key with its data fits a page
 pub unit_fits : (size : ℕ) (key : List ℕ) (values : List (List ℕ)) → is_page_size size ≡ true

@@ -1,13 +1,11 @@
--- Keys with their data among the pairs of a text. Source: docs/FORMAT.md, "Built tables".
+-- Keys with their data. Source: docs/FORMAT.md, "Built tables".
 use Rattle.std.specs.Prelude.{ℕ, if◌then◌else◌, List, Option, Some, None}
-use Rattle.bdb_text_format.specs.declared.pairs.TextPair.{TextPair}
 use Rattle.bdb_buckets.specs.Tables.{Keyed}
 use Rattle.bdb_mkhash.specs.Costs.{blocks_cost, stand_together}
-use Rattle.bdb_need.specs.Counting.{values_in}
 
--- a key with the data of some pairs
-abbrev pub keyed : List ℕ → List TextPair → Keyed
-keyed key pairs = record { key = key; values = values_in pairs }
+-- a key with its data
+abbrev pub keyed : List ℕ → List (List ℕ) → Keyed
+keyed key values = record { key = key; values = values }
 
 -- what several data take as a set on the page, where they stand together
 abbrev pub set_or_none : ℕ → List (List ℕ) → Option ℕ

@@ -1,13 +1,14 @@
 ghost use Rattle.std.specs.Prelude.{◌≡◌, ◌<◌, ◌^◌, IfOk, IsTrue, map};
 ghost use Rattle.std.specs.List.{All};
 ghost use Rattle.bdb_format.specs.HeadOf.{is_page_size};
+ghost use Rattle.bdb_text_format.specs.Placed.{pair_seen};
 ghost use Rattle.bdb_leaves.specs.Runs.{IsShort};
 ghost use Rattle.bdb_count.specs.Need.{master_pages, master_settings, name_in, name_pair};
 
-use bdb_format::{Bytes, Kind, Order, Settings};
+use bdb_format::{Kind, Order, Settings};
 use bdb_need::tree_pages;
 use bdb_settle::settle;
-use bdb_text_format::{Key, Section, Sections, TextPair, TextPairs};
+use bdb_text_format::{KeyRef, PairRef, Section, Sections, TextPairs};
 use std::alloc::{AllocError, Global};
 
 // The settings of the master.
@@ -30,21 +31,25 @@ fn master_settings(size: u32) -> Settings
     }
 }
 
-// The pair of a section in the master. Which page its data name takes no part in the count.
-fn name_pair(alloc: Global, section: &Section) -> Result<TextPair, AllocError>
-    ensures { IfOk result (λ pair. pair ≡ name_pair section.now) }
+// The bytes of a section's name, none where it has none.
+fn name_of(section: &Section) -> &[u8]
+    ensures { result.now ≡ name_in section.now.name }
 {
-    let mut key = Bytes::new(alloc);
-    if let Some(name) = &section.name {
-        key.push_all(name.as_slice())?;
+    match &section.name {
+        Some(name) => name.as_slice(),
+        None => &[],
     }
-    let mut value = Bytes::new(alloc);
-    value.push_all(&[0, 0, 0, 0])?;
-    Ok(TextPair {
-        key: Key::Bytes(key),
-        value,
+}
+
+// The pair of a section in the master. Which page its data name takes no part in the count.
+fn name_pair(section: &Section) -> PairRef<'_>
+    ensures { pair_seen result ≡ name_pair section.now }
+{
+    PairRef {
+        key: KeyRef::Bytes(name_of(section)),
+        value: &[0, 0, 0, 0],
         line: 0,
-    })
+    }
 }
 
 // The pairs of the master, in the order of the sections.
@@ -53,7 +58,7 @@ fn name_pairs(alloc: Global, sections: &[Section]) -> Result<TextPairs, AllocErr
 {
     let mut pairs = TextPairs::new(alloc);
     for section in sections {
-        pairs.push(name_pair(alloc, section)?)?;
+        pairs.push(name_pair(section))?;
     }
     Ok(pairs)
 }

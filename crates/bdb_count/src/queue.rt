@@ -4,19 +4,20 @@ ghost use Rattle.bdb_format.specs.Numbers.{pad4};
 ghost use Rattle.bdb_format.specs.Rows.{records_per_page};
 ghost use Rattle.bdb_mkqueue.specs.Layout.{queue_size};
 ghost use Rattle.bdb_text_format.specs.Pairs.{AscendFrom, number_of};
+ghost use Rattle.bdb_text_format.specs.Placed.{key_seen};
 ghost use Rattle.bdb_need.specs.Need.{unlined_pairs};
 
 use bdb_format::Settings;
-use bdb_text_format::{Key, TextPairs};
+use bdb_text_format::{KeyRef, TextPairs};
 
 // The number of a record.
-fn number_of(key: &Key) -> u64
-    ensures number { result ≡ number_of key.now }
+fn number_of(key: KeyRef<'_>) -> u64
+    ensures number { result ≡ number_of (key_seen key.entry) }
     ensures few { result < 2 ^ 32 }
 {
     match key {
-        Key::Bytes(_) => 0,
-        Key::Number(number) => u64::from(*number),
+        KeyRef::Bytes(_) => 0,
+        KeyRef::Number(number) => u64::from(number),
     }
 }
 
@@ -46,7 +47,7 @@ pub fn queue_pages(settings: &Settings, list: &TextPairs) -> u64
 {
     let per_page = records_per_page(settings.page_size, settings.re_len);
     match list.as_slice().last() {
-        Some(pair) => 1 + (number_of(&pair.key) - 1) / per_page,
+        Some(pair) => 1 + (number_of(pair.key) - 1) / per_page,
         None => 0,
     }
 }

@@ -1,6 +1,7 @@
 ghost use Rattle.std.specs.Prelude.{◌≡◌, ◌+◌, ◌<◌, ◌≤◌, ◌*◌, ◌^◌, IfOk, IsTrue, length};
 ghost use Rattle.std.specs.List.{All, sum_by};
 ghost use Rattle.bdb_format.specs.HeadOf.{is_page_size};
+ghost use Rattle.bdb_text_format.specs.Placed.{pairs_of};
 ghost use Rattle.bdb_mktree.specs.Lists.{HasBytes, keyed_units};
 ghost use Rattle.bdb_mktree.specs.Units.{IsShortUnit};
 ghost use Rattle.bdb_buckets.specs.Tables.{bucket_among};
@@ -12,8 +13,8 @@ ghost use Rattle.bdb_need.specs.Need.{unlined_pairs};
 use crate::units::{keyed_cost, keyed_own_pages};
 use bdb_format::Settings;
 use bdb_layout::{bucket_of, hash5};
-use bdb_need::run_at;
-use bdb_text_format::{TextPair, TextPairs};
+use bdb_mktree::run_at;
+use bdb_text_format::{PairSlice, TextPairs};
 use std::alloc::{AllocError, Global};
 
 /// What all keys of a list take of the pages of buckets, and how many pages they have of their own.
@@ -28,13 +29,13 @@ fn count_totals(
     alloc: Global,
     size: usize,
     sorted: bool,
-    pairs: &[TextPair],
+    pairs: PairSlice<'_>,
 ) -> Result<Totals, AllocError>
     requires legal { IsTrue (is_page_size size) }
-    requires keys { All (λ pair. HasBytes pair.key) (unlined_pairs pairs.now) }
-    requires short { All IsShortUnit (keyed_units (unlined_pairs pairs.now)) }
-    ensures cost { IfOk result (λ totals. totals.cost ≡ table_cost size (table_units (unlined_pairs pairs.now))) }
-    ensures own { IfOk result (λ totals. totals.own ≡ sum_by (keyed_own_pages size sorted) (table_units (unlined_pairs pairs.now))) }
+    requires keys { All (λ pair. HasBytes pair.key) (pairs_of pairs) }
+    requires short { All IsShortUnit (keyed_units (pairs_of pairs)) }
+    ensures cost { IfOk result (λ totals. totals.cost ≡ table_cost size (table_units (pairs_of pairs.entry))) }
+    ensures own { IfOk result (λ totals. totals.own ≡ sum_by (keyed_own_pages size sorted) (table_units (pairs_of pairs.entry))) }
     ensures few { IfOk result (λ totals. totals.own < 2 ^ 100) }
 {
     let mut totals = Totals { cost: 0, own: 0 };
@@ -43,7 +44,7 @@ fn count_totals(
         let run = run_at(pairs, start);
         totals.cost += keyed_cost(size, &run) as u128;
         totals.own += keyed_own_pages(alloc, size, sorted, &run)?;
-        start += run.pairs.len();
+        start = run.end;
     }
     Ok(totals)
 }
@@ -90,13 +91,13 @@ fn bucket_pages(
     alloc: Global,
     size: usize,
     bits: u32,
-    pairs: &[TextPair],
+    pairs: PairSlice<'_>,
 ) -> Result<u128, AllocError>
     requires legal { IsTrue (is_page_size size) }
     requires some { 1 ≤ bits }
     requires few { bits ≤ 31 }
-    requires keys { All (λ pair. HasBytes pair.key) (unlined_pairs pairs.now) }
-    ensures pages { IfOk result (λ pages. pages ≡ sum_by (λ bucket. length (spread_bucket size bucket)) (buckets_of bits (table_units (unlined_pairs pairs.now)))) }
+    requires keys { All (λ pair. HasBytes pair.key) (pairs_of pairs) }
+    ensures pages { IfOk result (λ pages. pages ≡ sum_by (λ bucket. length (spread_bucket size bucket)) (buckets_of bits (table_units (pairs_of pairs.entry)))) }
     ensures few { IfOk result (λ pages. pages < 2 ^ 100) }
 {
     let room = (size - 26) as u16;
@@ -114,7 +115,7 @@ fn bucket_pages(
             pages += 1;
             left[b] = room - cost;
         }
-        start += run.pairs.len();
+        start = run.end;
     }
     Ok(pages)
 }

@@ -1,14 +1,15 @@
 ghost use Rattle.std.specs.Prelude.{◌≡◌, ◌+◌, ◌<◌, ◌≤◌, ◌*◌, ◌^◌, IfOk, IsTrue, length};
 ghost use Rattle.std.specs.List.{All};
 ghost use Rattle.bdb_format.specs.HeadOf.{is_page_size};
+ghost use Rattle.bdb_places.specs.Places.{values_seen};
 ghost use Rattle.bdb_leaves.specs.Runs.{IsShort};
 ghost use Rattle.bdb_leaves.specs.Units.{page_room};
 ghost use Rattle.bdb_mkhash.specs.Costs.{data_cost, data_form, hash_item_cost, keyed_own_pages, pages_in, keyed_cost};
-ghost use Rattle.bdb_need.specs.Counting.{values_in};
 ghost use Rattle.bdb_count.specs.Counts.{keyed, set_or_none};
 
-use bdb_need::{Run, chain_pages, data_chains, data_pages};
-use bdb_text_format::TextPair;
+use bdb_mktree::Run;
+use bdb_need::{chain_pages, data_chains, data_pages};
+use bdb_places::Values;
 use std::alloc::{AllocError, Global};
 
 // What the item of a tree of data takes of a page, with its entry.
@@ -27,14 +28,14 @@ fn hash_item_cost(size: usize, value: &[u8]) -> usize
 }
 
 // What several data take of a page as a set there, or `None` where they don't stand together.
-fn set_or_none(size: usize, pairs: &[TextPair]) -> Option<usize>
+fn set_or_none(size: usize, values: Values<'_>) -> Option<usize>
     requires { IsTrue (is_page_size size) }
-    ensures { result ≡ set_or_none size (values_in pairs.now) }
+    ensures { result ≡ set_or_none size (values_seen values.entry) }
 {
     let most = (size - 26) / 4;
     let mut cost = 3;
-    for pair in pairs {
-        let len = pair.value.as_slice().len();
+    for i in 0..values.len() {
+        let len = values.at(i).len();
         if len > size / 8 {
             return None;
         }
@@ -47,15 +48,15 @@ fn set_or_none(size: usize, pairs: &[TextPair]) -> Option<usize>
 }
 
 // What the data of a key take of a page.
-fn data_cost(size: usize, pairs: &[TextPair]) -> usize
+fn data_cost(size: usize, values: Values<'_>) -> usize
     requires legal { IsTrue (is_page_size size) }
-    requires some { 0 < length pairs.now }
-    ensures cost { result ≡ data_cost size (values_in pairs.now) }
+    requires some { 0 < length (values_seen values) }
+    ensures cost { result ≡ data_cost size (values_seen values.entry) }
 {
-    if pairs.len() == 1 {
-        return hash_item_cost(size, pairs[0].value.as_slice());
+    if values.len() == 1 {
+        return hash_item_cost(size, values.at(0));
     }
-    match set_or_none(size, pairs) {
+    match set_or_none(size, values) {
         Some(cost) => cost,
         None => TREE_COST,
     }
@@ -66,33 +67,34 @@ fn data_own_pages(
     alloc: Global,
     size: usize,
     sorted: bool,
-    pairs: &[TextPair],
+    values: Values<'_>,
 ) -> Result<u128, AllocError>
     requires legal { IsTrue (is_page_size size) }
-    requires some { 0 < length pairs.now }
-    requires short { All IsShort (values_in pairs.now) }
-    ensures pages { IfOk result (λ pages. pages ≡ pages_in (data_form size (values_in pairs.now)) size sorted (values_in pairs.now)) }
-    ensures few { IfOk result (λ pages. pages ≤ length pairs.now * 2 ^ 33) }
+    requires some { 0 < length (values_seen values) }
+    requires short { All IsShort (values_seen values) }
+    ensures pages { IfOk result (λ pages. pages ≡ pages_in (data_form size (values_seen values.entry)) size sorted (values_seen values.entry)) }
+    ensures few { IfOk result (λ pages. pages ≤ length (values_seen values.entry) * 2 ^ 33) }
+    ensures small { IfOk result (λ pages. pages ≤ 2 ^ 97) }
 {
-    if pairs.len() == 1 {
-        return Ok(chain_pages(size, pairs[0].value.as_slice()));
+    if values.len() == 1 {
+        return Ok(chain_pages(size, values.at(0)));
     }
-    if set_or_none(size, pairs).is_some() {
+    if set_or_none(size, values).is_some() {
         return Ok(0);
     }
-    let chains = data_chains(size, pairs);
-    let tree = data_pages(alloc, size, sorted, pairs)?;
+    let chains = data_chains(size, values);
+    let tree = data_pages(alloc, size, sorted, values)?;
     Ok(chains + tree)
 }
 
 /// What a key with its data takes of a page.
 pub(crate) fn keyed_cost(size: usize, run: &Run<'_>) -> usize
     requires legal { IsTrue (is_page_size size) }
-    requires some { 0 < length run.now.pairs.now }
-    ensures cost { result ≡ keyed_cost size (keyed run.now.key.now run.now.pairs.now) }
+    requires some { 0 < length (values_seen run.now.values) }
+    ensures cost { result ≡ keyed_cost size (keyed run.now.key.now (values_seen run.now.values)) }
     ensures fits { result ≤ page_room size }
 {
-    hash_item_cost(size, run.key) + data_cost(size, run.pairs)
+    hash_item_cost(size, run.key) + data_cost(size, run.values)
 }
 
 /// The pages that a key and its data have of their own.
@@ -103,12 +105,12 @@ pub(crate) fn keyed_own_pages(
     run: &Run<'_>,
 ) -> Result<u128, AllocError>
     requires legal { IsTrue (is_page_size size) }
-    requires some { 0 < length run.now.pairs.now }
+    requires some { 0 < length (values_seen run.now.values) }
     requires key { IsShort run.now.key.now }
-    requires short { All IsShort (values_in run.now.pairs.now) }
-    ensures pages { IfOk result (λ pages. pages ≡ keyed_own_pages size sorted (keyed run.now.key.now run.now.pairs.now)) }
-    ensures few { IfOk result (λ pages. pages ≤ (length run.now.pairs.now + 1) * 2 ^ 33) }
+    requires short { All IsShort (values_seen run.now.values) }
+    ensures pages { IfOk result (λ pages. pages ≡ keyed_own_pages size sorted (keyed run.now.key.now (values_seen run.now.values))) }
+    ensures few { IfOk result (λ pages. pages ≤ (length (values_seen run.now.values) + 1) * 2 ^ 33) }
 {
-    let data = data_own_pages(alloc, size, sorted, run.pairs)?;
+    let data = data_own_pages(alloc, size, sorted, run.values)?;
     Ok(chain_pages(size, run.key) + data)
 }

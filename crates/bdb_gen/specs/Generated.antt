@@ -7,7 +7,7 @@ use Rattle.bdb_format.specs.declared.kinds.Order.TheVariants.{Big}
 use Rattle.bdb_format.specs.Numbers.{spelled}
 use Rattle.bdb_text_format.specs.declared.pairs.Key.{Key}
 use Rattle.bdb_text_format.specs.declared.pairs.Key.TheVariants.{Bytes, Number}
-use Rattle.bdb_text_format.specs.declared.list.Pair.{Pair}
+use Rattle.bdb_text_format.specs.declared.pairs.Pair.{Pair}
 
 -- the number after a number
 abbrev pub next_number : ℕ → ℕ

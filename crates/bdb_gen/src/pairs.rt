@@ -1,12 +1,17 @@
-ghost use Rattle.std.specs.Prelude.{◌≡◌, ◌<◌, ◌≤◌, ◌^◌, ◌++◌, IfOk, replicate, ℕ};
+ghost use Rattle.std.specs.Prelude.{◌≡◌, ◌<◌, ◌≤◌, ◌^◌, ◌++◌, ◌∷◌, [], IfOk, OnOk, map};
 ghost use Rattle.std.specs.Int.{to_be_bytes};
 ghost use Rattle.bdb_format.specs.declared.kinds.Order.TheVariants.{Big};
 ghost use Rattle.bdb_format.specs.Numbers.{spelled};
+ghost use Rattle.bdb_text_format.specs.Pairs.{unnumbered};
+ghost use Rattle.bdb_text_format.specs.Placed.{key_seen};
 ghost use Rattle.bdb_gen.specs.Generated.{generated, next_number, pair_key, pair_of, value_length};
 
-use bdb_format::{Bytes, Kind};
-use bdb_text_format::{Key, Pair, PairList};
+use bdb_format::Kind;
+use bdb_text_format::{KeyRef, PairRef, TextPairs};
 use std::alloc::{AllocError, Global};
+
+/// More bytes than a datum has.
+const MOST: usize = 64;
 
 // The number after a number.
 fn next_number(x: u32) -> u32
@@ -24,25 +29,34 @@ fn high_first(x: u32) -> [u8; 4]
     x.to_be_bytes()
 }
 
-// The key of a pair: two numbers as bytes, or the number of its record.
-fn pair_key(alloc: Global, kind: Kind, x: u32, i: u32) -> Result<Key, AllocError>
+// Puts two numbers as bytes into a room.
+fn put_numbers(x: u32, i: u32, room: &mut Vec<u8>) -> Result<(), AllocError>
+    ensures { OnOk result (room.new.items ≡ spelled 4 Big x ++ spelled 4 Big i) }
+{
+    room.clear();
+    room.extend_from_slice(&high_first(x))?;
+    room.extend_from_slice(&high_first(i))?;
+    Ok(())
+}
+
+// The key of a pair: two numbers as bytes, which then lie in a room, or the number of its record.
+fn pair_key<'a>(kind: Kind, x: u32, i: u32, room: &'a mut Vec<u8>) -> Result<KeyRef<'a>, AllocError>
     requires { i < 200000 }
-    ensures { IfOk result (λ key. key ≡ pair_key kind x i) }
+    ensures { IfOk result (λ key. key_seen key ≡ pair_key kind x i) }
 {
     match kind {
         Kind::Btree | Kind::Hash => {
-            let mut key = Bytes::new(alloc);
-            key.push_all(&high_first(x))?;
-            key.push_all(&high_first(i))?;
-            Ok(Key::Bytes(key))
+            put_numbers(x, i, room)?;
+            Ok(KeyRef::Bytes(room.as_slice()))
         }
-        Kind::Recno | Kind::Queue => Ok(Key::Number(i + 1)),
+        Kind::Recno | Kind::Queue => Ok(KeyRef::Number(i + 1)),
     }
 }
 
 // How many bytes the data of a pair have.
 fn value_length(kind: Kind, x: u32) -> usize
-    ensures { result ≡ value_length kind x }
+    ensures length { result ≡ value_length kind x }
+    ensures below { result < MOST }
 {
     match kind {
         Kind::Btree | Kind::Recno | Kind::Hash => x as usize % 64,
@@ -50,36 +64,37 @@ fn value_length(kind: Kind, x: u32) -> usize
     }
 }
 
-// So many bytes, all the same.
-fn same_bytes(alloc: Global, n: usize, byte: u8) -> Result<Bytes, AllocError>
-    requires { n ≤ 64 }
-    ensures { IfOk result (λ bytes. bytes ≡ replicate n byte) }
-{
-    let bytes = vec![in alloc; byte; n]?;
-    Ok(Bytes::from_vec(bytes))
-}
-
-// The pair at a place, of the number there.
-fn pair_of(alloc: Global, kind: Kind, x: u32, i: u32) -> Result<Pair, AllocError>
+// Adds the pair at a place, of the number there.
+fn push_pair(
+    kind: Kind,
+    x: u32,
+    i: u32,
+    room: &mut Vec<u8>,
+    list: &mut TextPairs,
+) -> Result<(), AllocError>
     requires { i < 200000 }
-    ensures { IfOk result (λ pair. pair ≡ pair_of kind x i) }
+    ensures { OnOk result (list.new ≡ list.old ++ unnumbered (pair_of kind x i) ∷ []) }
 {
-    let key = pair_key(alloc, kind, x, i)?;
-    let value = same_bytes(alloc, value_length(kind, x), (i % 256) as u8)?;
-    Ok(Pair { key, value })
+    let data = [(i % 256) as u8; MOST];
+    list.push(PairRef {
+        key: pair_key(kind, x, i, room)?,
+        value: &data[..value_length(kind, x)],
+        line: 0,
+    })
 }
 
-/// So many pairs for a database of this kind, which follow from the seed.
+/// So many pairs for a database of this kind, which follow from the seed. None has a line.
 #[tactic(auto, using(crate::proofs::PairLemmas::number_next, crate::proofs::PairLemmas::pairs_none, crate::proofs::PairLemmas::pairs_next))]
-pub fn generate(alloc: Global, kind: Kind, seed: u32, count: u32) -> Result<PairList, AllocError>
+pub fn generate(alloc: Global, kind: Kind, seed: u32, count: u32) -> Result<TextPairs, AllocError>
     requires seed { seed < 2 ^ 31 }
     requires count { count ≤ 200000 }
-    ensures { IfOk result (λ list. list ≡ generated kind seed count) }
+    ensures { IfOk result (λ list. list ≡ map unnumbered (generated kind seed count)) }
 {
-    let mut list = PairList::new(alloc);
+    let mut room = Vec::new(alloc);
+    let mut list = TextPairs::new(alloc);
     let mut x = seed;
     for i in 0..count {
-        list.push(pair_of(alloc, kind, x, i)?)?;
+        push_pair(kind, x, i, &mut room, &mut list)?;
         x = next_number(x);
     }
     Ok(list)

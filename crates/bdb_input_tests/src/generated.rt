@@ -1,7 +1,7 @@
 // The first and the last pair of generated lists, worked out by hand from docs/FORMAT.md, "Generated pairs".
 use bdb_format::Kind;
 use bdb_gen::generate;
-use bdb_text_format::{Key, PairList};
+use bdb_text_format::{KeyRef, TextPairs};
 use std::alloc::{AllocError, Global};
 use std::test::Fail;
 
@@ -82,7 +82,7 @@ fn pairs_of(
     kind: Kind,
     seed: u32,
     count: u32,
-) -> Result<Option<PairList>, AllocError> {
+) -> Result<Option<TextPairs>, AllocError> {
     if seed > 2147483647 || count > 200000 {
         return Ok(None);
     }
@@ -90,29 +90,32 @@ fn pairs_of(
 }
 
 // Whether a key is this one, or the number of the record at a place.
-fn is_key(kind: Kind, key: &Key, bytes: &[u8], place: usize) -> bool {
+fn is_key(kind: Kind, key: KeyRef<'_>, bytes: &[u8], place: usize) -> bool {
     match (kind, key) {
-        (Kind::Btree | Kind::Hash, Key::Bytes(key)) => key.as_slice() == bytes,
-        (Kind::Recno | Kind::Queue, Key::Number(number)) => *number as usize
+        (Kind::Btree | Kind::Hash, KeyRef::Bytes(key)) => key == bytes,
+        (Kind::Recno | Kind::Queue, KeyRef::Number(number)) => number as usize
             == place.saturating_add(1),
         _ => false,
     }
 }
 
 // Whether the pair at a place has a key, and data of a length whose bytes all say the place.
-fn is_pair_at(kind: Kind, list: &PairList, place: usize, key: &[u8], long: usize) -> bool {
-    let (Some(other), Some(value)) = (list.keys().get(place), list.values().get(place)) else {
+fn is_pair_at(kind: Kind, list: &TextPairs, place: usize, key: &[u8], long: usize) -> bool {
+    if place >= list.len() {
         return false;
-    };
+    }
+    let pair = list.as_slice().at(place);
     let long = if kind == Kind::Queue { 16 } else { long };
-    let value = value.as_slice();
-    is_key(kind, other, key, place)
-        && value.len() == long
-        && value.iter().all(|byte| usize::from(*byte) == place % 256)
+    is_key(kind, pair.key, key, place)
+        && pair.value.len() == long
+        && pair
+            .value
+            .iter()
+            .all(|byte| usize::from(*byte) == place % 256)
 }
 
 // Whether a list has as many pairs as its row says, and the first and the last one of it.
-fn is_row(kind: Kind, list: &PairList, row: Row) -> bool {
+fn is_row(kind: Kind, list: &TextPairs, row: Row) -> bool {
     let (_, count, first, first_long, last, last_long) = row;
     let last_place = list.len().saturating_sub(1);
     list.len() == count as usize

@@ -1,6 +1,6 @@
 // Dump texts that the original library's `db_dump -k` printed, of files under real/: what is read is spelled again.
 use bdb_format::Bytes;
-use bdb_text::{Key, Section, TextPair, number_text, push_line_text, read_dump};
+use bdb_text::{KeyRef, PairRef, Section, number_text, push_line_text, read_dump};
 use std::alloc::{AllocError, Global};
 use std::test::Fail;
 
@@ -13,18 +13,19 @@ fn push_data_line(text: &mut Bytes, bytes: &[u8]) -> Result<(), AllocError> {
     text.push_all(b"\n")
 }
 
-fn push_pair(alloc: Global, text: &mut Bytes, pair: &TextPair) -> Result<(), AllocError> {
-    match &pair.key {
-        Key::Bytes(key) => push_data_line(text, key.as_slice())?,
-        Key::Number(number) => push_data_line(text, number_text(alloc, *number)?.as_slice())?,
+fn push_pair(alloc: Global, text: &mut Bytes, pair: PairRef<'_>) -> Result<(), AllocError> {
+    match pair.key {
+        KeyRef::Bytes(key) => push_data_line(text, key)?,
+        KeyRef::Number(number) => push_data_line(text, number_text(alloc, number)?.as_slice())?,
     }
-    push_data_line(text, pair.value.as_slice())
+    push_data_line(text, pair.value)
 }
 
 fn data_lines(alloc: Global, section: &Section) -> Result<Bytes, AllocError> {
     let mut text = Bytes::new(alloc);
-    for pair in section.pairs.as_slice() {
-        push_pair(alloc, &mut text, pair)?;
+    let pairs = section.pairs.as_slice();
+    for i in 0..pairs.len() {
+        push_pair(alloc, &mut text, pairs.at(i))?;
     }
     Ok(text)
 }

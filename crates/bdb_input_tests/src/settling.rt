@@ -2,17 +2,17 @@
 use bdb_format::Bytes;
 use bdb_settle::{LoadError, settle};
 use bdb_text::read_dump;
-use bdb_text_format::{Key, Section, Sections, TextPair};
+use bdb_text_format::{KeyRef, PairRef, Section, Sections};
 use std::alloc::{AllocError, Global};
 
 // A line of the key, a space and the datum.
-fn push_pair(alloc: Global, text: &mut Bytes, pair: &TextPair) -> Result<(), AllocError> {
-    match &pair.key {
-        Key::Bytes(key) => text.push_all(key.as_slice())?,
-        Key::Number(number) => text.push_all(format!(in alloc; "{number}")?.as_bytes())?,
+fn push_pair(alloc: Global, text: &mut Bytes, pair: PairRef<'_>) -> Result<(), AllocError> {
+    match pair.key {
+        KeyRef::Bytes(key) => text.push_all(key)?,
+        KeyRef::Number(number) => text.push_all(format!(in alloc; "{number}")?.as_bytes())?,
     }
     text.push_all(b" ")?;
-    text.push_all(pair.value.as_slice())?;
+    text.push_all(pair.value)?;
     text.push_all(b"\n")
 }
 
@@ -22,8 +22,9 @@ fn push_section(alloc: Global, text: &mut Bytes, section: &Section) -> Result<()
         text.push_all(name.as_slice())?;
         text.push_all(b":\n")?;
     }
-    for pair in section.pairs.as_slice() {
-        push_pair(alloc, text, pair)?;
+    let pairs = section.pairs.as_slice();
+    for i in 0..pairs.len() {
+        push_pair(alloc, text, pairs.at(i))?;
     }
     Ok(())
 }

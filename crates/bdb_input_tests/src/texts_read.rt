@@ -1,6 +1,6 @@
 // Dump texts that are read, field by field.
 use bdb_format::{Bytes, Kind, Order, Settings};
-use bdb_text::{Key, Section, Sections, TextError, TextPair, TextPairs, read_dump};
+use bdb_text::{KeyRef, PairRef, Section, Sections, TextError, TextPairs, read_dump};
 use std::alloc::Global;
 use std::test::Fail;
 
@@ -20,22 +20,23 @@ fn read(alloc: Global, text: &[u8]) -> Option<Sections> {
     read_dump(alloc, text).ok()
 }
 
-fn is_pair(pair: &TextPair, wanted: Wanted) -> bool {
+fn is_pair(pair: PairRef<'_>, wanted: Wanted) -> bool {
     let (key, value, line) = wanted;
-    let same = match (&pair.key, key) {
-        (Key::Bytes(bytes), WantedKey::Bytes(wanted)) => bytes.as_slice() == wanted,
-        (Key::Number(number), WantedKey::Number(wanted)) => *number == wanted,
+    let same = match (pair.key, key) {
+        (KeyRef::Bytes(bytes), WantedKey::Bytes(wanted)) => bytes == wanted,
+        (KeyRef::Number(number), WantedKey::Number(wanted)) => number == wanted,
         _ => false,
     };
-    same && pair.value.as_slice() == value && pair.line == line
+    same && pair.value == value && pair.line == line
 }
 
 fn are_pairs(pairs: &TextPairs, wanted: &[Wanted]) -> bool {
     if pairs.len() != wanted.len() {
         return false;
     }
-    for (pair, wanted) in pairs.as_slice().iter().zip(wanted) {
-        if !is_pair(pair, *wanted) {
+    let pairs = pairs.as_slice();
+    for i in 0..pairs.len() {
+        if !is_pair(pairs.at(i), wanted[i]) {
             return false;
         }
     }
@@ -302,11 +303,13 @@ fn long_lines_are_read(rt: HostRuntime) -> Result<(), Fail> {
         text.push_all(b"\nDATA=END\n")?;
         let sections = read(rt.alloc(), text.as_slice()).ok_or("nothing")?;
         let section = sections.get(0).ok_or("nothing")?;
-        let pair = section.pairs.get(0).ok_or("nothing")?;
-        let value = pair.value.as_slice();
+        let Some(pair) = section.pairs.as_slice().first() else {
+            return Err(Fail::from("nothing"));
+        };
+        let value = pair.value;
         assert!(rt; value.len() == 8 * 65541 || value.len() == 16 * 65541);
         assert!(rt; value.ends_with(b"abcdefgh") || value.ends_with(b"6162636465666768"));
-        assert!(rt; section.pairs.get(1).is_none());
+        assert_eq!(rt; section.pairs.len(), 1);
     }
     Ok(())
 }
@@ -317,16 +320,21 @@ fn lists_are_lists(rt: HostRuntime) -> Result<(), Fail> {
     let mut pairs = TextPairs::new(rt.alloc());
     assert!(rt; pairs.is_empty());
     for line in 0..3 {
-        pairs.push(TextPair {
-            key: Key::Number(7),
-            value: Bytes::new(rt.alloc()),
+        pairs.push(PairRef {
+            key: KeyRef::Number(7),
+            value: b"",
             line,
         })?;
     }
     assert_eq!(rt; pairs.len(), 3);
-    let last = pairs.pop().ok_or("nothing")?;
-    assert_eq!(rt; last.line, 2);
-    assert_eq!(rt; pairs.len(), 2);
+    pairs.push_with_last_key(b"more", 3)?;
+    assert!(rt;
+        pairs
+            .as_slice()
+            .last()
+            .is_some_and(|pair| is_pair(pair, (WantedKey::Number(7), b"more", 3)))
+    );
+    assert_eq!(rt; pairs.len(), 4);
     let mut sections = Sections::new(rt.alloc());
     assert!(rt; sections.pop().is_none());
     sections.push(Section {

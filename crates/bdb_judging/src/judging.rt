@@ -8,38 +8,47 @@ ghost use Rattle.bdb_format.specs.Verdict.{verdict_of};
 use bdb_file::{Db, Found, Scan, Sound, verify};
 use bdb_format::{Bytes, Steps};
 use bdb_overflow::{Datum, KeyView, is_same};
-use bdb_text_format::{Key, PairList};
+use bdb_text_format::{KeyRef, PairRef, PairSlice};
 use std::alloc::{AllocError, Global};
 use std::marker::Brand;
 use std::sync::ledger::{Blank, Ledger};
 
-fn is_datum(datum: &Datum<'_>, bytes: &Bytes) -> bool {
-    is_same(datum, &Datum::Inline(bytes.as_slice()))
+fn is_datum(datum: &Datum<'_>, bytes: &[u8]) -> bool {
+    is_same(datum, &Datum::Inline(bytes))
 }
 
-fn is_key(view: &KeyView<'_>, key: &Key) -> bool {
+fn is_key(view: &KeyView<'_>, key: KeyRef<'_>) -> bool {
     match (view, key) {
-        (KeyView::Bytes(datum), Key::Bytes(bytes)) => is_datum(datum, bytes),
-        (KeyView::Number(number), Key::Number(other)) => number == other,
+        (KeyView::Bytes(datum), KeyRef::Bytes(bytes)) => is_datum(datum, bytes),
+        (KeyView::Number(number), KeyRef::Number(other)) => *number == other,
         _ => false,
+    }
+}
+
+/// The pair at a place of a list, where there is one.
+pub fn pair_of(list: PairSlice<'_>, place: usize) -> Option<PairRef<'_>> {
+    if place < list.len() {
+        Some(list.at(place))
+    } else {
+        None
     }
 }
 
 /// Whether these are the key and the datum at a place of a list.
-pub fn is_pair_at(list: &PairList, place: usize, key: &KeyView<'_>, datum: &Datum<'_>) -> bool {
-    match (list.keys().get(place), list.values().get(place)) {
-        (Some(other), Some(value)) => is_key(key, other) && is_datum(datum, value),
-        _ => false,
+pub fn is_pair_at(list: PairSlice<'_>, place: usize, key: &KeyView<'_>, datum: &Datum<'_>) -> bool {
+    match pair_of(list, place) {
+        Some(pair) => is_key(key, pair.key) && is_datum(datum, pair.value),
+        None => false,
     }
 }
 
 // The same, of a pair that isn't asked for again.
-fn is_next_pair(list: &PairList, place: usize, pair: (KeyView<'_>, Datum<'_>)) -> bool {
+fn is_next_pair(list: PairSlice<'_>, place: usize, pair: (KeyView<'_>, Datum<'_>)) -> bool {
     is_pair_at(list, place, &pair.0, &pair.1)
 }
 
 // Whether what a database lists are just the pairs of a list.
-fn are_pairs(listed: &mut Scan<'_>, list: &PairList) -> bool {
+fn are_pairs(listed: &mut Scan<'_>, list: PairSlice<'_>) -> bool {
     let mut place: usize = 0;
     for pair in listed {
         if !is_next_pair(list, place, pair) {
@@ -51,7 +60,7 @@ fn are_pairs(listed: &mut Scan<'_>, list: &PairList) -> bool {
 }
 
 // Whether a database has just the pairs of a list.
-fn scans(alloc: Global, sound: &Sound<'_>, db: Db, list: &PairList) -> Result<bool, AllocError>
+fn scans(alloc: Global, sound: &Sound<'_>, db: Db, list: PairSlice<'_>) -> Result<bool, AllocError>
     requires { db < length (databases (file_of sound.now)) }
 {
     match sound.scan(alloc, db) {
@@ -61,11 +70,11 @@ fn scans(alloc: Global, sound: &Sound<'_>, db: Db, list: &PairList) -> Result<bo
 }
 
 // A key as `get` is asked for it: a number by its digits.
-fn asked(alloc: Global, key: &Key) -> Result<Bytes, AllocError> {
+fn asked(alloc: Global, key: KeyRef<'_>) -> Result<Bytes, AllocError> {
     let mut bytes = Bytes::new(alloc);
     match key {
-        Key::Bytes(key) => bytes.push_all(key.as_slice())?,
-        Key::Number(number) => {
+        KeyRef::Bytes(key) => bytes.push_all(key)?,
+        KeyRef::Number(number) => {
             let digits = format!(in alloc; "{number}")?;
             bytes.push_all(digits.as_bytes())?;
         }
@@ -73,24 +82,27 @@ fn asked(alloc: Global, key: &Key) -> Result<Bytes, AllocError> {
     Ok(bytes)
 }
 
-fn same_key(list: &PairList, a: usize, b: usize) -> bool {
-    match (list.keys().get(a), list.keys().get(b)) {
-        (Some(Key::Bytes(a)), Some(Key::Bytes(b))) => a.as_slice() == b.as_slice(),
-        (Some(Key::Number(a)), Some(Key::Number(b))) => a == b,
+fn same_key(list: PairSlice<'_>, a: usize, b: usize) -> bool {
+    let (Some(a), Some(b)) = (pair_of(list, a), pair_of(list, b)) else {
+        return false;
+    };
+    match (a.key, b.key) {
+        (KeyRef::Bytes(a), KeyRef::Bytes(b)) => a == b,
+        (KeyRef::Number(a), KeyRef::Number(b)) => a == b,
         _ => false,
     }
 }
 
 // Whether a datum is that at a place of a list, under the key at another place.
-fn is_next_datum(list: &PairList, start: usize, place: usize, datum: Datum<'_>) -> bool {
-    match list.values().get(place) {
-        Some(value) => same_key(list, start, place) && is_datum(&datum, value),
+fn is_next_datum(list: PairSlice<'_>, start: usize, place: usize, datum: Datum<'_>) -> bool {
+    match pair_of(list, place) {
+        Some(pair) => same_key(list, start, place) && is_datum(&datum, pair.value),
         None => false,
     }
 }
 
 // The place behind the pairs that have the key at a place, where these data are just theirs.
-fn run_end(found: &mut Found<'_>, list: &PairList, start: usize) -> Option<usize> {
+fn run_end(found: &mut Found<'_>, list: PairSlice<'_>, start: usize) -> Option<usize> {
     let mut place = start;
     for datum in found {
         if !is_next_datum(list, start, place, datum) {
@@ -109,16 +121,16 @@ fn found_run<L: Ledger>(
     alloc: Global,
     sound: &Sound<'_>,
     db: Db,
-    list: &PairList,
+    list: PairSlice<'_>,
     start: usize,
     steps: &mut Steps<L>,
 ) -> Result<Option<usize>, AllocError>
     requires { db < length (databases (file_of sound.now)) }
 {
-    let Some(key) = list.keys().get(start) else {
+    let Some(first) = pair_of(list, start) else {
         return Ok(None);
     };
-    let key = asked(alloc, key)?;
+    let key = asked(alloc, first.key)?;
     Ok(run_end(&mut sound.get(db, key.as_slice(), steps), list, start))
 }
 
@@ -127,7 +139,7 @@ fn finds<L: Ledger>(
     alloc: Global,
     sound: &Sound<'_>,
     db: Db,
-    list: &PairList,
+    list: PairSlice<'_>,
     steps: &mut Steps<L>,
 ) -> Result<bool, AllocError>
     requires { db < length (databases (file_of sound.now)) }
@@ -161,7 +173,7 @@ fn has_none<L: Ledger>(sound: &Sound<'_>, db: Db, key: &[u8], steps: &mut Steps<
 fn has_just<L: Ledger>(
     alloc: Global,
     sound: &Sound<'_>,
-    list: &PairList,
+    list: PairSlice<'_>,
     absent: &[u8],
     steps: &mut Steps<L>,
 ) -> Result<bool, AllocError> {
@@ -179,7 +191,7 @@ fn has_just<L: Ledger>(
 fn gives_counted<L: Ledger>(
     alloc: Global,
     image: &[u8],
-    list: &PairList,
+    list: PairSlice<'_>,
     absent: &[u8],
     steps: &mut Steps<L>,
 ) -> Result<bool, AllocError>
@@ -197,7 +209,7 @@ fn gives_counted<L: Ledger>(
 fn gives_blank<L: Ledger>(
     alloc: Global,
     image: &[u8],
-    list: &PairList,
+    list: PairSlice<'_>,
     absent: &[u8],
     blank: Blank,
 ) -> Result<bool, AllocError>
@@ -214,7 +226,7 @@ fn gives_blank<L: Ledger>(
 pub fn gives(
     alloc: Global,
     image: &[u8],
-    list: &PairList,
+    list: PairSlice<'_>,
     absent: &[u8],
 ) -> Result<bool, AllocError>
     ensures sound { IfOk result (λ so. so ≡ true → verdict_of image.now ≡ None) }

@@ -3,4 +3,4 @@
 
 mod judging;
 
-pub use judging::{gives, is_pair_at};
+pub use judging::{gives, is_pair_at, pair_of};

@@ -10,7 +10,7 @@ use Rattle.bdb_format.proofs.ListLemmas.{all_of, only_member}
 use Rattle.bdb_format.proofs.MemberLemmas.{first_member, later_member, no_member}
 use Rattle.bdb_format.proofs.LessLemmas.{less_not_back}
 use Rattle.std.proofs.lemmas.List.Elements.{Contains-append_cases}
-use Rattle.bdb_text_format.specs.declared.list.Pair.{Pair}
+use Rattle.bdb_text_format.specs.declared.pairs.Pair.{Pair}
 use Rattle.bdb_text_format.specs.declared.pairs.Key.{Key}
 use Rattle.bdb_text_format.specs.declared.pairs.Key.TheVariants.{Bytes, Number}
 use Rattle.bdb_text_format.specs.declared.pairs.TextPair.{TextPair}

@@ -2,6 +2,7 @@ ghost use Rattle.std.specs.Prelude.{◌≡◌, ◌≢◌, ◌≤◌, ◌<◌, �
 ghost use Rattle.std.specs.List.{All};
 ghost use Rattle.bdb_format.specs.HeadOf.{is_page_size};
 ghost use Rattle.bdb_pack.specs.Built.{bytes_of};
+ghost use Rattle.bdb_places.specs.Places.{values_seen};
 ghost use Rattle.bdb_leaves.specs.Filled.{AreSomeFilled};
 ghost use Rattle.bdb_leaves.specs.LeafEntries.{room_of};
 ghost use Rattle.bdb_leaves.specs.Runs.{HasWholePairs, IsShort};
@@ -12,9 +13,9 @@ ghost use Rattle.bdb_leaves.specs.declared.leaf_type.LeafType.TheVariants.{Pairs
 use crate::LeafType;
 use crate::leaves::Leaves;
 use crate::units::value_cost;
-use bdb_format::Bytes;
 use bdb_layout::LeafItem;
 use bdb_pack::Pages;
+use bdb_places::Values;
 use std::alloc::{AllocError, Global};
 
 // The type of the leaves of a set.
@@ -33,17 +34,17 @@ fn fill_set(
     alloc: Global,
     pages: &mut Pages,
     leaf_type: LeafType,
-    values: &[Bytes],
+    values: Values<'_>,
 ) -> Result<Leaves, AllocError>
     requires leaf { leaf_type ≢ Pairs }
-    requires short { All IsShort values.now }
+    requires short { All IsShort (values_seen values) }
     requires legal { IsTrue (is_page_size pages.old.size) }
     requires some { 1 ≤ length pages.old.pages }
-    ensures { IfOk result (λ leaves. IsSetFilled pages.old pages.new leaf_type values.now leaves) }
+    ensures { IfOk result (λ leaves. IsSetFilled pages.old pages.new leaf_type (values_seen values.entry) leaves) }
 {
     let mut leaves = Leaves::start(alloc, pages, leaf_type)?;
-    for value in values {
-        leaves.push_entry(pages, value.as_slice(), false)?;
+    for i in 0..values.len() {
+        leaves.push_entry(pages, values.at(i), false)?;
     }
     Ok(leaves)
 }
@@ -54,12 +55,12 @@ pub fn build_set(
     alloc: Global,
     pages: &mut Pages,
     sorted: bool,
-    values: &[Bytes],
+    values: Values<'_>,
 ) -> Result<u32, AllocError>
-    requires short { All IsShort values.now }
+    requires short { All IsShort (values_seen values) }
     requires legal { IsTrue (is_page_size pages.old.size) }
     requires some { 1 ≤ length pages.old.pages }
-    ensures { IfOk result (λ root. IsSetBuilt pages.old pages.new sorted values.now root) }
+    ensures { IfOk result (λ root. IsSetBuilt pages.old pages.new sorted (values_seen values.entry) root) }
 {
     let leaves = fill_set(alloc, pages, set_type(sorted), values)?;
     // That all pages are whole is known with their size.
@@ -76,15 +77,15 @@ impl Leaves {
         pages: &mut Pages,
         sorted: bool,
         key: &[u8],
-        values: &[Bytes],
+        values: Values<'_>,
     ) -> Result<(), AllocError>
         requires leaves { HasWholePairs self.now pages.old }
         requires key { IsShort key.now }
-        requires short { All IsShort values.now }
+        requires short { All IsShort (values_seen values) }
         requires legal { IsTrue (is_page_size pages.old.size) }
-        requires many { has_own_tree pages.old.size key.now values.now ≡ true }
+        requires many { has_own_tree pages.old.size key.now (values_seen values) ≡ true }
         requires room { value_cost pages.old.size key.now + 16 ≤ room_of pages.old.order (bytes_of pages.old self.now.last) }
-        ensures { IfOk result (λ _. IsTreePut self.now pages.old pages.new sorted key.now values.now) }
+        ensures { IfOk result (λ _. IsTreePut self.now pages.old pages.new sorted key.now (values_seen values.entry)) }
     {
         self.put(pages, key, false)?;
         let root = build_set(alloc, pages, sorted, values)?;
@@ -103,15 +104,15 @@ impl Leaves {
         pages: &mut Pages,
         sorted: bool,
         key: &[u8],
-        values: &[Bytes],
+        values: Values<'_>,
     ) -> Result<(), AllocError>
         requires leaf { self.old.leaf_type ≡ Pairs }
         requires key { IsShort key.now }
-        requires short { All IsShort values.now }
-        requires many { has_own_tree pages.old.size key.now values.now ≡ true }
+        requires short { All IsShort (values_seen values) }
+        requires many { has_own_tree pages.old.size key.now (values_seen values) ≡ true }
         requires legal { IsTrue (is_page_size pages.old.size) }
         requires filled { AreSomeFilled self.old pages.old }
-        ensures { IfOk result (λ _. IsKeyedPushed self.old self.new pages.old pages.new sorted (KeyedUnit key.now values.now)) }
+        ensures { IfOk result (λ _. IsKeyedPushed self.old self.new pages.old pages.new sorted (KeyedUnit key.now (values_seen values.entry))) }
     {
         let cost = value_cost(pages.size(), key) + 16;
         self.make_room(pages, cost)?;
@@ -121,20 +122,20 @@ impl Leaves {
 }
 
 // Whether the data of a key have a tree of their own. It ends where they take too much, so that no sum is too large.
-fn has_own_tree(size: usize, key: &[u8], values: &[Bytes]) -> bool
+fn has_own_tree(size: usize, key: &[u8], values: Values<'_>) -> bool
     requires { IsTrue (is_page_size size) }
-    ensures { result ≡ has_own_tree size key.now values.now }
+    ensures { result ≡ has_own_tree size key.now (values_seen values.entry) }
 {
     if values.len() <= 1 {
         return false;
     }
     let most = (size - 26) / 4;
     let mut cost = value_cost(size, key);
-    for value in values {
+    for i in 0..values.len() {
         if cost > most {
             return true;
         }
-        cost += 4 + value_cost(size, value.as_slice());
+        cost += 4 + value_cost(size, values.at(i));
     }
     cost > most
 }
@@ -148,15 +149,15 @@ impl Leaves {
         pages: &mut Pages,
         sorted: bool,
         key: &[u8],
-        values: &[Bytes],
+        values: Values<'_>,
     ) -> Result<(), AllocError>
         requires leaf { self.old.leaf_type ≡ Pairs }
         requires key { IsShort key.now }
-        requires some { 0 < length values.now }
-        requires short { All IsShort values.now }
+        requires some { 0 < length (values_seen values) }
+        requires short { All IsShort (values_seen values) }
         requires legal { IsTrue (is_page_size pages.old.size) }
         requires filled { AreSomeFilled self.old pages.old }
-        ensures pushed { IfOk result (λ _. IsKeyedPushed self.old self.new pages.old pages.new sorted (KeyedUnit key.now values.now)) }
+        ensures pushed { IfOk result (λ _. IsKeyedPushed self.old self.new pages.old pages.new sorted (KeyedUnit key.now (values_seen values.entry))) }
         ensures filled { IfOk result (λ _. AreSomeFilled self.new pages.new) }
     {
         if has_own_tree(pages.size(), key, values) {

@@ -1,14 +1,15 @@
 ghost use Rattle.std.specs.Prelude.{◌≡◌, ◌≢◌, ◌≤◌, ◌∷◌, [], false, IfOk, IsTrue, length};
 ghost use Rattle.std.specs.List.{All};
 ghost use Rattle.bdb_format.specs.HeadOf.{is_page_size};
+ghost use Rattle.bdb_places.specs.Places.{values_seen};
 ghost use Rattle.bdb_leaves.specs.Filled.{AreSomeFilled, IsPushed};
 ghost use Rattle.bdb_leaves.specs.Runs.{IsShort, more_cost};
 ghost use Rattle.bdb_leaves.specs.Units.{EntryUnit, KeyedUnit, has_own_tree, unit_cost, value_cost};
 ghost use Rattle.bdb_leaves.specs.declared.leaf_type.LeafType.TheVariants.{Pairs};
 
 use crate::leaves::Leaves;
-use bdb_format::Bytes;
 use bdb_pack::Pages;
+use bdb_places::Values;
 use std::alloc::AllocError;
 
 /// The bytes of a value's item on a leaf.
@@ -45,24 +46,24 @@ impl Leaves {
 }
 
 // What the data of a key but the first take of a leaf.
-fn more_cost(size: usize, more: &[Bytes]) -> usize
-    requires { more_cost size more.now ≤ size }
-    ensures { result ≡ more_cost size more.now }
+fn more_cost(size: usize, more: Values<'_>) -> usize
+    requires { more_cost size (values_seen more) ≤ size }
+    ensures { result ≡ more_cost size (values_seen more.entry) }
 {
     let mut cost = 0;
-    for value in more {
-        cost += 4 + value_cost(size, value.as_slice());
+    for i in 0..more.len() {
+        cost += 4 + value_cost(size, more.at(i));
     }
     cost
 }
 
 // What a key with its data takes of a leaf, where the data stand there.
-fn pairs_cost(size: usize, key: &[u8], first: &Bytes, more: &[Bytes]) -> usize
+fn pairs_cost(size: usize, key: &[u8], first: &[u8], more: Values<'_>) -> usize
     requires legal { IsTrue (is_page_size size) }
-    requires few { has_own_tree size key.now (first.now ∷ more.now) ≡ false }
-    ensures { result ≡ unit_cost size (KeyedUnit key.now (first.now ∷ more.now)) }
+    requires few { has_own_tree size key.now (first.now ∷ values_seen more) ≡ false }
+    ensures { result ≡ unit_cost size (KeyedUnit key.now (first.now ∷ values_seen more.entry)) }
 {
-    let first_pair = 4 + value_cost(size, key) + value_cost(size, first.as_slice());
+    let first_pair = 4 + value_cost(size, key) + value_cost(size, first);
     first_pair + more_cost(size, more)
 }
 
@@ -72,17 +73,17 @@ impl Leaves {
         &mut self,
         pages: &mut Pages,
         key: &[u8],
-        first: &Bytes,
-        more: &[Bytes],
+        first: &[u8],
+        more: Values<'_>,
     ) -> Result<(), AllocError>
         requires leaf { self.old.leaf_type ≡ Pairs }
         requires key { IsShort key.now }
         requires first { IsShort first.now }
-        requires more { All IsShort more.now }
-        requires few { has_own_tree pages.old.size key.now (first.now ∷ more.now) ≡ false }
+        requires more { All IsShort (values_seen more) }
+        requires few { has_own_tree pages.old.size key.now (first.now ∷ values_seen more) ≡ false }
         requires legal { IsTrue (is_page_size pages.old.size) }
         requires filled { AreSomeFilled self.old pages.old }
-        ensures pushed { IfOk result (λ _. IsPushed self.old self.new pages.old pages.new (KeyedUnit key.now (first.now ∷ more.now))) }
+        ensures pushed { IfOk result (λ _. IsPushed self.old self.new pages.old pages.new (KeyedUnit key.now (first.now ∷ values_seen more.entry))) }
         ensures filled { IfOk result (λ _. AreSomeFilled self.new pages.new) }
     {
         let cost = pairs_cost(pages.size(), key, first, more);

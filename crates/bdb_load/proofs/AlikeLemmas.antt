@@ -3,7 +3,7 @@ use Rattle.std.proofs.Common.{◌≡◌, ◌&&◌, Bool, false, List, [], ◌∷
 use Rattle.bdb_format.specs.declared.kinds.Kind.{Kind}
 use Rattle.bdb_format.specs.declared.kinds.Kind.TheVariants.{Btree, Recno, Hash, Queue}
 use Rattle.bdb_format.specs.declared.settings.Settings.{Settings}
-use Rattle.bdb_text_format.specs.declared.list.Pair.{Pair}
+use Rattle.bdb_text_format.specs.declared.pairs.Pair.{Pair}
 use Rattle.bdb_leaves.proofs.RunLemmas.{all_map}
 use Rattle.bdb_leaves.specs.Spread.{tree_size}
 use Rattle.bdb_mktree.specs.Lists.{IsKeyFor, IsTreeList, IsPairFor, is_in_order, may_follow, units_in}

@@ -4,7 +4,7 @@ use Rattle.bdb_format.specs.declared.kinds.Kind.{Kind}
 use Rattle.bdb_format.specs.declared.kinds.Kind.TheVariants.{Queue}
 use Rattle.bdb_format.specs.declared.settings.Settings.{Settings}
 use Rattle.bdb_format.specs.Page.{QueueFields}
-use Rattle.bdb_text_format.specs.declared.list.Pair.{Pair}
+use Rattle.bdb_text_format.specs.declared.pairs.Pair.{Pair}
 use Rattle.bdb_mktree.specs.Lists.{IsTreeList}
 use Rattle.bdb_mktree.specs.Units.{IsTreeKind}
 use Rattle.bdb_mkqueue.specs.Layout.{queue_meta}

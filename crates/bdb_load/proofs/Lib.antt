@@ -4,8 +4,9 @@ pub mod ApartLemmas
 pub mod BuildLemmas
 pub mod FitLemmas
 pub mod KindLemmas
+pub mod LengthLemmas
 pub mod LongLemmas
-pub mod ShortLemmas
 pub mod MasterLemmas
 pub mod NameLemmas
 pub mod ReadLemmas
+pub mod ShortLemmas

@@ -11,7 +11,7 @@ use Rattle.bdb_format.specs.Lists.{list_of}
 use Rattle.bdb_format.specs.Numbers.{pad4}
 use Rattle.bdb_format.specs.Page.{Metadata}
 use Rattle.bdb_format.specs.Verdict.{verdict_of}
-use Rattle.bdb_text_format.specs.declared.list.Pair.{Pair}
+use Rattle.bdb_text_format.specs.declared.pairs.Pair.{Pair}
 use Rattle.bdb_text_format.specs.declared.sections.Section.{Section}
 use Rattle.bdb_text_format.specs.Pairs.{listed}
 use Rattle.bdb_mktree.specs.Lists.{IsTreeList}

@@ -5,7 +5,7 @@ use bdb_format::{Bytes, Kind};
 use bdb_gen::generate;
 use bdb_judging::gives;
 use bdb_text::push_line_text;
-use bdb_text_format::{Key, PairList};
+use bdb_text_format::{KeyRef, PairSlice};
 use std::alloc::{AllocError, Global};
 use std::process::Abort;
 use std::test::Fail;
@@ -17,10 +17,10 @@ fn push_line(text: &mut Bytes, bytes: &[u8]) -> Result<(), AllocError> {
     text.push_all(b"\n")
 }
 
-fn push_key(alloc: Global, text: &mut Bytes, key: &Key) -> Result<(), AllocError> {
+fn push_key(alloc: Global, text: &mut Bytes, key: KeyRef<'_>) -> Result<(), AllocError> {
     match key {
-        Key::Bytes(bytes) => push_line(text, bytes.as_slice()),
-        Key::Number(number) => {
+        KeyRef::Bytes(bytes) => push_line(text, bytes),
+        KeyRef::Number(number) => {
             let digits = format!(in alloc; "{number}")?;
             push_line(text, digits.as_bytes())
         }
@@ -32,9 +32,10 @@ pub(crate) fn text_of(alloc: Global, kind: Kind, header: &[u8]) -> Result<Bytes,
     let list = generate(alloc, kind, 7, 200000)?;
     let mut text = Bytes::new(alloc);
     text.push_all(header)?;
-    for at in 0..list.len() {
-        push_key(alloc, &mut text, &list.keys()[at])?;
-        push_line(&mut text, list.values()[at].as_slice())?;
+    let pairs = list.as_slice();
+    for i in 0..pairs.len() {
+        push_key(alloc, &mut text, pairs.at(i).key)?;
+        push_line(&mut text, pairs.at(i).value)?;
     }
     text.push_all(b"DATA=END\n")?;
     Ok(text)
@@ -45,7 +46,7 @@ fn load_and_compare(
     rt: &impl Abort,
     alloc: Global,
     text: &[u8],
-    list: &PairList,
+    list: PairSlice<'_>,
 ) -> Result<(), AllocError> {
     match loaded(alloc, text, 1073741824) {
         Answer::Image(image) => assert!(rt; gives(alloc, image.bytes(), list, b"0")?),
@@ -58,7 +59,7 @@ fn check(rt: &impl Abort, alloc: Global, kind: Kind, header: &[u8]) -> Result<()
     let text = text_of(alloc, kind, header)?;
     let list = list_of(alloc, text.as_slice())?;
     assert_eq!(rt; list.len(), 200000);
-    load_and_compare(rt, alloc, text.as_slice(), &list)
+    load_and_compare(rt, alloc, text.as_slice(), list.as_slice())
 }
 
 #[test]

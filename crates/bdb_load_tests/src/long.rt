@@ -21,7 +21,7 @@ fn long_datum_is_found_in_its_chain(rt: HostRuntime) -> Result<(), Fail> {
         Answer::Image(image) => {
             // a page has room for 486 bytes: 500,000 pages, the leaf and the metadata
             assert_eq!(rt; image.bytes().len(), 256001024);
-            assert!(rt; gives(alloc, image.bytes(), &list, b"b")?);
+            assert!(rt; gives(alloc, image.bytes(), list.as_slice(), b"b")?);
         }
         _ => assert!(rt; false),
     }

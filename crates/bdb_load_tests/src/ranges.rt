@@ -14,9 +14,9 @@ use crate::settled::list_of;
 use bdb_file::{Db, Sound, verify};
 use bdb_format::{BtreeMeta, Kind, Steps};
 use bdb_graph::{Linked, Meta};
-use bdb_judging::is_pair_at;
+use bdb_judging::{is_pair_at, pair_of};
 use bdb_range::{pairs_of, span};
-use bdb_text_format::{Key, PairList};
+use bdb_text_format::{KeyRef, PairSlice};
 use std::alloc::Global;
 use std::marker::Brand;
 use std::sync::ledger::{Blank, Ledger};
@@ -29,10 +29,10 @@ const PAIRS: usize = 10;
 const APART: usize = 199;
 
 // The bytes of the key at a place of a list; none past its end.
-fn key_at(list: &PairList, place: usize) -> Option<&[u8]> {
-    match list.keys().get(place) {
-        Some(Key::Bytes(key)) => Some(key.as_slice()),
-        _ => None,
+fn key_at(list: PairSlice<'_>, place: usize) -> Option<&[u8]> {
+    match pair_of(list, place)?.key {
+        KeyRef::Bytes(key) => Some(key),
+        KeyRef::Number(_) => None,
     }
 }
 
@@ -40,7 +40,7 @@ fn key_at(list: &PairList, place: usize) -> Option<&[u8]> {
 fn is_range<L: Ledger>(
     linked: &Linked<'_>,
     meta: &BtreeMeta,
-    list: &PairList,
+    list: PairSlice<'_>,
     start: usize,
     steps: &mut Steps<L>,
 ) -> bool
@@ -68,7 +68,7 @@ fn is_range<L: Ledger>(
 fn are_ranges<L: Ledger>(
     linked: &Linked<'_>,
     meta: &BtreeMeta,
-    list: &PairList,
+    list: PairSlice<'_>,
     steps: &mut Steps<L>,
 ) -> bool
     requires meta { HasMetadata (file_of linked.now) (BtreeFields meta.now) }
@@ -87,7 +87,12 @@ fn are_ranges<L: Ledger>(
 }
 
 // Whether a database is a btree, and all its ranges are so.
-fn has_ranges<L: Ledger>(sound: &Sound<'_>, db: Db, list: &PairList, steps: &mut Steps<L>) -> bool
+fn has_ranges<L: Ledger>(
+    sound: &Sound<'_>,
+    db: Db,
+    list: PairSlice<'_>,
+    steps: &mut Steps<L>,
+) -> bool
     requires { db < length (databases (file_of sound.now)) }
 {
     match sound.meta(db) {
@@ -97,7 +102,12 @@ fn has_ranges<L: Ledger>(sound: &Sound<'_>, db: Db, list: &PairList, steps: &mut
 }
 
 // The same of the first database of an image.
-fn image_has_ranges<L: Ledger>(alloc: Global, image: &[u8], list: &PairList, blank: Blank) -> bool
+fn image_has_ranges<L: Ledger>(
+    alloc: Global,
+    image: &[u8],
+    list: PairSlice<'_>,
+    blank: Blank,
+) -> bool
     requires name { blank.name ≡ L.name }
     requires parts { blank.parts ≡ L.parts }
     requires one { L.parts ≡ 1 }
@@ -118,6 +128,6 @@ fn gives_a_thousand_ranges_of_a_large_file(rt: HostRuntime) -> Result<(), Fail> 
     let text = text_of(alloc, Kind::Btree, b"VERSION=3\ntype=btree\nHEADER=END\n")?;
     let list = list_of(alloc, text.as_slice())?;
     let image = image_of(alloc, text.as_slice())?;
-    assert!(rt; image_has_ranges::<Brand>(alloc, image.as_slice(), &list, Blank::new(1)));
+    assert!(rt; image_has_ranges::<Brand>(alloc, image.as_slice(), list.as_slice(), Blank::new(1)));
     Ok(())
 }

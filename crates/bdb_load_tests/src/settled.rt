@@ -1,13 +1,12 @@
 // The list that a dump text is loaded into.
-use bdb_alone::listed_pairs;
 use bdb_settle::settle;
 use bdb_text::read_dump;
-use bdb_text_format::PairList;
+use bdb_text_format::TextPairs;
 use std::alloc::{AllocError, Global};
 
 /// The list of the last section of a text; an empty one where there is none.
-pub(crate) fn list_of(alloc: Global, text: &[u8]) -> Result<PairList, AllocError> {
-    let empty = PairList::new(alloc);
+pub(crate) fn list_of(alloc: Global, text: &[u8]) -> Result<TextPairs, AllocError> {
+    let empty = TextPairs::new(alloc);
     if text.len() > 1073741824 {
         return Ok(empty);
     }
@@ -18,7 +17,7 @@ pub(crate) fn list_of(alloc: Global, text: &[u8]) -> Result<PairList, AllocError
         return Ok(empty);
     };
     match settled.pop() {
-        Some(section) => listed_pairs(alloc, section.pairs),
+        Some(section) => Ok(section.pairs),
         None => Ok(empty),
     }
 }

@@ -159,9 +159,8 @@ put_next p old now new sorted units n unit empty put low is one =
     (put_more p old now new sorted (take n units) unit empty put one)
 
 -- a key of a list
-pub seen_at : (units : List CodeUnit) (n : ℕ) (unit : CodeUnit) → n < length units → unit ≡ get_or units n unit
-    → unit_seen unit ≡ get_or (units_seen units) n no_unit
-seen_at units n unit low is = ap unit_seen is ∙ sym (get_or-map unit_seen units n unit no_unit low)
+pub seen_any : (units : List CodeUnit) (n : ℕ) (d : CodeUnit) → n < length units → unit_seen (get_or units n d) ≡ get_or (units_seen units) n no_unit
+seen_any units n d low = sym (get_or-map unit_seen units n d no_unit low)
 
 -- the units of a list from a place on
 pub seen_rest : (units : List CodeUnit) (n : ℕ) → units_seen (take (length units - n) (drop n units)) ≡ drop n (units_seen units)

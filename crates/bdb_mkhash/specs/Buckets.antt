@@ -2,7 +2,7 @@
 use Rattle.std.specs.Prelude.{ℕ, ◌+◌, ◌*◌, ◌/◌, ◌^◌, nat_le, Bool, List, [], length, map}
 use Rattle.std.specs.List.{find, range_with_len, sum_by}
 use Rattle.std.specs.Option.{unwrap_or}
-use Rattle.bdb_text_format.specs.declared.list.Pair.{Pair}
+use Rattle.bdb_text_format.specs.declared.pairs.Pair.{Pair}
 use Rattle.bdb_leaves.specs.Placed.{values_in}
 use Rattle.bdb_leaves.specs.Spread.{spread_on}
 use Rattle.bdb_leaves.specs.Units.{TreeUnit, key_of, page_room}

@@ -9,7 +9,7 @@ use Rattle.bdb_format.specs.Page.{HashFields}
 use Rattle.bdb_format.specs.Rows.{page_code}
 use Rattle.bdb_grove.specs.Growing.{IsCounted, IsLater}
 use Rattle.bdb_grove.specs.Part.{IsPart, between}
-use Rattle.bdb_text_format.specs.declared.list.Pair.{Pair}
+use Rattle.bdb_text_format.specs.declared.pairs.Pair.{Pair}
 use Rattle.bdb_pack.specs.Built.{Built, bytes_of, file_so_far}
 use Rattle.bdb_leaves.specs.Leaves.{KeepsAll}
 use Rattle.bdb_mktree.specs.Lists.{IsTreeList}

@@ -1,13 +1,14 @@
 -- Keys with their data in memory.
 use Rattle.std.specs.Prelude.{◌<◌, List, length, map}
 use Rattle.std.specs.List.{All}
+use Rattle.bdb_places.specs.Places.{values_seen}
 use Rattle.bdb_leaves.specs.Runs.{IsShort}
 use Rattle.bdb_buckets.specs.Tables.{Keyed}
 use Rattle.bdb_mkhash.specs.declared.unit.Unit.{Unit as CodeUnit}
 
 -- a key with its data, without where its bytes lie
 abbrev pub unit_seen : CodeUnit → Keyed
-unit_seen unit = record { key = unit.key.now; values = unit.values.now }
+unit_seen unit = record { key = unit.key.now; values = values_seen unit.values }
 
 -- it has a datum, and the lengths of its values fit their fields
 pub record IsShortUnit (unit : Keyed) : Type 0 where

@@ -1,6 +1,8 @@
 ghost use Rattle.std.specs.Prelude.{◌≡◌, ℕ, ◌+◌, ◌<◌, ◌≤◌, ◌^◌, List, IfOk, IsTrue, length, map, replicate, []};
 ghost use Rattle.std.specs.List.{All};
 ghost use Rattle.bdb_format.specs.HeadOf.{is_page_size};
+ghost use Rattle.bdb_places.specs.Places.{values_seen};
+ghost use Rattle.bdb_text_format.specs.Placed.{pairs_of};
 ghost use Rattle.bdb_buckets.specs.Tables.{Keyed, bucket_among};
 ghost use Rattle.bdb_mktree.specs.Lists.{HasBytes};
 ghost use Rattle.bdb_mkhash.specs.Buckets.{bits_for, buckets_of, table_cost, table_units};
@@ -9,13 +11,13 @@ ghost use Rattle.bdb_mkhash.specs.Units.{units_seen};
 use crate::unit::{Unit, keyed_cost};
 use bdb_layout::{bucket_of, hash5};
 use bdb_mktree::{Run, run_at};
-use bdb_text_format::PairList;
+use bdb_text_format::PairSlice;
 use std::alloc::{AllocError, Global};
 
 // A key of a list as it is stored.
 fn unit_of<'a>(run: &Run<'a>) -> Unit<'a>
     ensures key { result.key.now ≡ run.now.key.now }
-    ensures values { result.values.now ≡ run.now.values.now }
+    ensures values { values_seen result.values ≡ values_seen run.now.values }
 {
     Unit {
         key: run.key,
@@ -24,10 +26,10 @@ fn unit_of<'a>(run: &Run<'a>) -> Unit<'a>
 }
 
 /// What all keys of a list take of pages of so many bytes.
-pub(crate) fn table_cost(size: usize, list: &PairList) -> Result<u64, AllocError>
+pub(crate) fn table_cost(size: usize, list: PairSlice<'_>) -> Result<u64, AllocError>
     requires legal { IsTrue (is_page_size size) }
-    requires keys { All (λ pair. HasBytes pair.key) list.now }
-    ensures { IfOk result (λ cost. cost ≡ table_cost size (table_units list.now)) }
+    requires keys { All (λ pair. HasBytes pair.key) (pairs_of list) }
+    ensures { IfOk result (λ cost. cost ≡ table_cost size (table_units (pairs_of list.entry))) }
 {
     let mut cost: u64 = 0;
     let mut start = 0;
@@ -95,13 +97,13 @@ fn no_units<'a>(alloc: Global, bits: u32) -> Result<Vec<Vec<Unit<'a>>>, AllocErr
 /// The units of each bucket, in the order of the list.
 pub(crate) fn deal<'a>(
     alloc: Global,
-    list: &'a PairList,
+    list: PairSlice<'a>,
     bits: u32,
 ) -> Result<Vec<Vec<Unit<'a>>>, AllocError>
     requires some { 1 ≤ bits }
     requires few { bits ≤ 21 }
-    requires keys { All (λ pair. HasBytes pair.key) list.now }
-    ensures { IfOk result (λ buckets. map (λ bucket. units_seen bucket.items) buckets.items ≡ buckets_of bits (table_units list.now)) }
+    requires keys { All (λ pair. HasBytes pair.key) (pairs_of list) }
+    ensures { IfOk result (λ buckets. map (λ bucket. units_seen bucket.items) buckets.items ≡ buckets_of bits (table_units (pairs_of list.entry))) }
 {
     let mut buckets = no_units(alloc, bits)?;
     let mut start = 0;

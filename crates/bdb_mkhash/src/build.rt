@@ -1,6 +1,7 @@
 ghost use Rattle.std.specs.Prelude.{◌≡◌, ◌≤◌, ◌+◌, ◌-◌, ◌++◌, IfOk, length, replicate};
 ghost use Rattle.bdb_format.specs.declared.kinds.Kind.TheVariants.{Hash as HashKind};
 ghost use Rattle.bdb_text_format.specs.Pairs.{listed};
+ghost use Rattle.bdb_text_format.specs.Placed.{pairs_of};
 ghost use Rattle.bdb_buckets.specs.Tables.{table_meta};
 ghost use Rattle.bdb_mkhash.specs.Buckets.{table_units};
 ghost use Rattle.bdb_mkhash.specs.Table.{IsTableBuilt, IsTableList};
@@ -9,7 +10,7 @@ use crate::buckets::{bits_for, bucket_count, deal, table_cost};
 use crate::fill::{add_buckets, fill_buckets};
 use bdb_format::{HashMeta, Settings};
 use bdb_pack::Pages;
-use bdb_text_format::PairList;
+use bdb_text_format::PairSlice;
 use std::alloc::{AllocError, Global};
 
 // The spares of a table with so many bits to the number of a bucket, whose first page this is.
@@ -50,14 +51,14 @@ pub fn build_table(
     alloc: Global,
     pages: &mut Pages,
     settings: &Settings,
-    list: &PairList,
+    list: PairSlice<'_>,
 ) -> Result<HashMeta, AllocError>
     requires kind { settings.now.kind ≡ HashKind }
     requires size { pages.old.size ≡ settings.now.page_size }
     requires order { pages.old.order ≡ settings.now.order }
     requires some { 1 ≤ length pages.old.pages }
-    requires list { IsTableList settings.now list.now }
-    ensures { IfOk result (λ meta. IsTableBuilt settings.now pages.old pages.new (table_units list.now) (listed list.now) meta) }
+    requires list { IsTableList settings.now (pairs_of list) }
+    ensures { IfOk result (λ meta. IsTableBuilt settings.now pages.old pages.new (table_units (pairs_of list.entry)) (listed (pairs_of list.entry)) meta) }
 {
     let bits = bits_for(pages.size(), table_cost(pages.size(), list)?)?;
     let buckets = deal(alloc, list, bits)?;

@@ -1,6 +1,7 @@
 ghost use Rattle.std.specs.Prelude.{◌≡◌, ◌+◌, ◌<◌, ◌≤◌, ◌%◌, false, IfOk, IsTrue, length};
 ghost use Rattle.std.specs.List.{All};
 ghost use Rattle.bdb_format.specs.HeadOf.{is_page_size};
+ghost use Rattle.bdb_places.specs.Places.{values_seen};
 ghost use Rattle.bdb_leaves.specs.Runs.{IsShort};
 ghost use Rattle.bdb_mkhash.specs.Costs.{data_cost, data_form, hash_item_cost, keyed_cost};
 ghost use Rattle.bdb_mkhash.specs.Filling.{AreDataPut, IsHalfPage, IsOpenPage, IsUnitPut, IsValuePut, IsWholePage, room_on};
@@ -12,10 +13,10 @@ use crate::page::append_item;
 use crate::sets::spell_set;
 use crate::store::store;
 use crate::unit::{Unit, data_form};
-use bdb_format::Bytes;
 use bdb_layout::{DupBlocks, HashItem};
 use bdb_leaves::build_set;
 use bdb_pack::Pages;
+use bdb_places::Values;
 use std::alloc::{AllocError, Global};
 
 // Puts a value at the end of a page: its item, or that of a chain behind all pages.
@@ -32,15 +33,15 @@ fn put_value(pages: &mut Pages, page: u32, value: &[u8]) -> Result<(), AllocErro
 }
 
 // Puts one datum at the end of a page.
-fn put_one(pages: &mut Pages, page: u32, sorted: bool, values: &[Bytes]) -> Result<(), AllocError>
+fn put_one(pages: &mut Pages, page: u32, sorted: bool, values: Values<'_>) -> Result<(), AllocError>
     requires open { IsHalfPage page pages.old }
-    requires short { All IsShort values.now }
+    requires short { All IsShort (values_seen values) }
     requires legal { IsTrue (is_page_size pages.old.size) }
-    requires form { data_form pages.old.size values.now ≡ OneDatum }
-    requires room { data_cost pages.old.size values.now ≤ room_on pages.old page }
-    ensures { IfOk result (λ _. AreDataPut page pages.old pages.new sorted values.now) }
+    requires form { data_form pages.old.size (values_seen values) ≡ OneDatum }
+    requires room { data_cost pages.old.size (values_seen values) ≤ room_on pages.old page }
+    ensures { IfOk result (λ _. AreDataPut page pages.old pages.new sorted (values_seen values.entry)) }
 {
-    put_value(pages, page, values[0].as_slice())?;
+    put_value(pages, page, values.at(0))?;
     Ok(())
 }
 
@@ -50,13 +51,13 @@ fn put_set(
     pages: &mut Pages,
     page: u32,
     sorted: bool,
-    values: &[Bytes],
+    values: Values<'_>,
 ) -> Result<(), AllocError>
     requires open { IsHalfPage page pages.old }
     requires legal { IsTrue (is_page_size pages.old.size) }
-    requires form { data_form pages.old.size values.now ≡ SetOnPage }
-    requires room { data_cost pages.old.size values.now ≤ room_on pages.old page }
-    ensures { IfOk result (λ _. AreDataPut page pages.old pages.new sorted values.now) }
+    requires form { data_form pages.old.size (values_seen values) ≡ SetOnPage }
+    requires room { data_cost pages.old.size (values_seen values) ≤ room_on pages.old page }
+    ensures { IfOk result (λ _. AreDataPut page pages.old pages.new sorted (values_seen values.entry)) }
 {
     let order = pages.order();
     let run = spell_set(alloc, order, values)?;
@@ -73,15 +74,15 @@ fn put_tree(
     pages: &mut Pages,
     page: u32,
     sorted: bool,
-    values: &[Bytes],
+    values: Values<'_>,
 ) -> Result<(), AllocError>
     requires open { IsHalfPage page pages.old }
-    requires short { All IsShort values.now }
+    requires short { All IsShort (values_seen values) }
     requires legal { IsTrue (is_page_size pages.old.size) }
-    requires form { data_form pages.old.size values.now ≡ OwnTree }
-    requires some { 0 < length values.now }
-    requires room { data_cost pages.old.size values.now ≤ room_on pages.old page }
-    ensures { IfOk result (λ _. AreDataPut page pages.old pages.new sorted values.now) }
+    requires form { data_form pages.old.size (values_seen values) ≡ OwnTree }
+    requires some { 0 < length (values_seen values) }
+    requires room { data_cost pages.old.size (values_seen values) ≤ room_on pages.old page }
+    ensures { IfOk result (λ _. AreDataPut page pages.old pages.new sorted (values_seen values.entry)) }
 {
     let root = build_set(alloc, pages, sorted, values)?;
     append_item(pages, page, &HashItem::OffPage { root });
@@ -94,14 +95,14 @@ fn put_data(
     pages: &mut Pages,
     page: u32,
     sorted: bool,
-    values: &[Bytes],
+    values: Values<'_>,
 ) -> Result<(), AllocError>
     requires open { IsHalfPage page pages.old }
-    requires short { All IsShort values.now }
-    requires some { 0 < length values.now }
+    requires short { All IsShort (values_seen values) }
+    requires some { 0 < length (values_seen values) }
     requires legal { IsTrue (is_page_size pages.old.size) }
-    requires room { data_cost pages.old.size values.now ≤ room_on pages.old page }
-    ensures { IfOk result (λ _. AreDataPut page pages.old pages.new sorted values.now) }
+    requires room { data_cost pages.old.size (values_seen values) ≤ room_on pages.old page }
+    ensures { IfOk result (λ _. AreDataPut page pages.old pages.new sorted (values_seen values.entry)) }
 {
     match data_form(pages.size(), values) {
         DataForm::One => put_one(pages, page, sorted, values),

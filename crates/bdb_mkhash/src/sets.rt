@@ -2,9 +2,11 @@ ghost use Rattle.std.specs.Prelude.{◌≡◌, ◌<◌, ◌^◌, IfOk, length};
 ghost use Rattle.std.specs.List.{All, flat_map};
 ghost use Rattle.bdb_format.specs.Numbers.{spelled};
 ghost use Rattle.bdb_format.specs.Spelling.{block_bytes};
+ghost use Rattle.bdb_places.specs.Places.{values_seen};
 
 use bdb_format::{Bytes, Order};
 use bdb_layout::put_u16;
+use bdb_places::Values;
 use std::alloc::{AllocError, Global};
 
 // A length in two bytes.
@@ -17,15 +19,20 @@ fn spell_length(order: Order, length: u16) -> [u8; 2]
 }
 
 /// The data of a set as they stand on its page: each between its length and its length again.
-pub(crate) fn spell_set(alloc: Global, order: Order, values: &[Bytes]) -> Result<Bytes, AllocError>
-    requires { All (λ value. length value < 2 ^ 16) values.now }
-    ensures { IfOk result (λ run. run ≡ flat_map (block_bytes order) values.now) }
+pub(crate) fn spell_set(
+    alloc: Global,
+    order: Order,
+    values: Values<'_>,
+) -> Result<Bytes, AllocError>
+    requires { All (λ value. length value < 2 ^ 16) (values_seen values) }
+    ensures { IfOk result (λ run. run ≡ flat_map (block_bytes order) (values_seen values.entry)) }
 {
     let mut run = Bytes::new(alloc);
-    for value in values {
-        let length = spell_length(order, value.as_slice().len() as u16);
+    for i in 0..values.len() {
+        let value = values.at(i);
+        let length = spell_length(order, value.len() as u16);
         run.push_all(&length)?;
-        run.push_all(value.as_slice())?;
+        run.push_all(value)?;
         run.push_all(&length)?;
     }
     Ok(run)

@@ -11,7 +11,7 @@ use Rattle.bdb_format.specs.Numbers.{four_at}
 use Rattle.bdb_format.specs.Reading.{queue_fields}
 use Rattle.bdb_format.specs.Rows.{queue_code, queue_rows, records_per_page}
 use Rattle.bdb_format.specs.Table.{first_row}
-use Rattle.bdb_text_format.specs.declared.list.Pair.{Pair}
+use Rattle.bdb_text_format.specs.declared.pairs.Pair.{Pair}
 use Rattle.bdb_text_format.specs.Pairs.{AscendFrom, number_of}
 use Rattle.bdb_pack.specs.Built.{Built}
 use Rattle.bdb_mkqueue.specs.Building.{HasRoom, IsQueueBuilt, IsQueueOn, KeepsFirst, SaysQueue}

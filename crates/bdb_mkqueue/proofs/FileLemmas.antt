@@ -7,7 +7,7 @@ use Rattle.bdb_format.specs.HeadOf.{is_page_size}
 use Rattle.bdb_format.specs.Reading.{is_zero, queue_fields}
 use Rattle.bdb_format.specs.Spelling.{queue_bytes}
 use Rattle.bdb_format.proofs.SizeLemmas.{size_bounds}
-use Rattle.bdb_text_format.specs.declared.list.Pair.{Pair}
+use Rattle.bdb_text_format.specs.declared.pairs.Pair.{Pair}
 use Rattle.bdb_pack.specs.Built.{AreWhole, Built, bytes_of, joined_pages, with_zeros, written_over}
 use Rattle.bdb_pack.proofs.AddedLemmas.{added_zero}
 use Rattle.bdb_pack.proofs.CutLemmas.{written_whole}

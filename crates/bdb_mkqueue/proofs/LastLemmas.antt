@@ -1,12 +1,13 @@
 -- The last record of a list.
-use Rattle.std.proofs.Common.{◌≡◌, ℕ, ◌+◌, ◌-◌, ◌<◌, List, [], ◌∷◌, length, get_or, Some, arith, refl, sym, ◌∙◌, ap}
+use Rattle.std.proofs.Common.{◌≡◌, ℕ, ◌+◌, ◌-◌, ◌<◌, List, [], ◌∷◌, length, get_or, Some, None, arith, refl, sym, ◌∙◌, ap}
 use Rattle.std.specs.Prelude.{slice_get}
 use Rattle.std.proofs.lemmas.List.{get_or-map, length-map}
-use Rattle.std.proofs.lemmas.Option.{get_or_from_slice_get, slice_get_within}
-use Rattle.bdb_text_format.specs.Pairs.{keys_of, number_of, values_of}
-use Rattle.bdb_text_format.specs.declared.list.Pair.{Pair}
+use Rattle.std.proofs.lemmas.Option.{get_or_from_slice_get, slice_get-get_or, slice_get_within}
+use Rattle.bdb_text_format.specs.Pairs.{number_of, unlined, unlined_pairs}
+use Rattle.bdb_text_format.specs.declared.pairs.Pair.{Pair}
 use Rattle.bdb_text_format.specs.declared.pairs.Key.{Key}
-use Rattle.bdb_mkqueue.specs.Lists.{next_number}
+use Rattle.bdb_text_format.specs.declared.pairs.TextPair.{TextPair}
+use Rattle.bdb_mkqueue.specs.Lists.{first_number, next_number}
 use Rattle.bdb_mkqueue.proofs.StepLemmas.{no_pair, pair_at}
 
 next_of : (x : Pair) (xs : List Pair) → next_number (number_of x.key + 1) xs ≡ number_of (pair_at (x ∷ xs) (length xs)).key + 1
@@ -19,35 +20,44 @@ next_last (x ∷ xs) some =
     let last : length xs ≡ length (x ∷ xs) - 1 = omega arith in
     next_of x xs ∙ ap (λ i. number_of (pair_at (x ∷ xs) i).key + 1) last
 
--- the key at a place
-pub key_at : (list : List Pair) (place : ℕ) (d : Key) → place < length list → get_or (keys_of list) place d ≡ (pair_at list place).key
-key_at list place d low = get_or-map (λ (pair : Pair). pair.key) list place no_pair d low
+-- the pair at a place of pairs that are lent
+pub pair_here : (pairs : List TextPair) (place : ℕ) (pair : TextPair) → slice_get pairs place ≡ Some pair → unlined pair ≡ pair_at (unlined_pairs pairs) place
+pair_here pairs place pair at =
+    sym (get_or-map unlined pairs place pair no_pair (slice_get_within pairs place pair at) ∙ ap unlined (get_or_from_slice_get pairs place pair pair at))
+
+pub key_here : (pairs : List TextPair) (place number : ℕ) (pair : TextPair) → slice_get pairs place ≡ Some pair → number ≡ number_of pair.key
+    → number ≡ number_of (pair_at (unlined_pairs pairs) place).key
+key_here pairs place number pair at is = is ∙ ap (λ (pair : Pair). number_of pair.key) (pair_here pairs place pair at)
+
+pub value_here : (pairs : List TextPair) (place : ℕ) (pair : TextPair) → slice_get pairs place ≡ Some pair → pair.value ≡ (pair_at (unlined_pairs pairs) place).value
+value_here pairs place pair at = ap (λ (pair : Pair). pair.value) (pair_here pairs place pair at)
 
 -- the last key
 pub record IsLastOf (list : List Pair) (key : Key) : Type 0 where
   pub some : 0 < length list
   pub is : key ≡ (pair_at list (length list - 1)).key
 
-pub last_key : (list : List Pair) (keys : List Key) (key : Key) → keys ≡ keys_of list → Some key ≡ slice_get keys (length keys - 1)
-    → IsLastOf list key
-last_key list keys key all at =
-    let long : length keys ≡ length list = ap length all ∙ length-map list (λ (pair : Pair). pair.key) in
-    let low : length keys - 1 < length keys = slice_get_within keys (length keys - 1) key (sym at) in
-    let place : length keys - 1 ≡ length list - 1 = omega (arith, long) in
+pub last_key : (pairs : List TextPair) (pair : TextPair) → slice_get pairs (length pairs - 1) ≡ Some pair → IsLastOf (unlined_pairs pairs) pair.key
+last_key pairs pair at =
+    let low : length pairs - 1 < length pairs = slice_get_within pairs (length pairs - 1) pair at in
+    let place : length pairs - 1 ≡ length (unlined_pairs pairs) - 1 = omega (arith, length-map pairs unlined) in
     record {
-      some = omega (arith, low, long);
-      is = sym (get_or_from_slice_get keys (length keys - 1) key key (sym at))
-          ∙ (ap (λ ks. get_or ks (length keys - 1) key) all
-          ∙ (ap (λ i. get_or (keys_of list) i key) place ∙ key_at list (length list - 1) key (omega (arith, low, long))));
+      some = omega (arith, low, length-map pairs unlined);
+      is = ap (λ (pair : Pair). pair.key) (pair_here pairs (length pairs - 1) pair at) ∙ ap (λ i. (pair_at (unlined_pairs pairs) i).key) place;
     }
 
--- what an index gives of the row of keys, and of that of values
-pub key_here : (list : List Pair) (keys : List Key) (key : Key) (place number : ℕ) → place < length list → keys ≡ keys_of list
-    → key ≡ get_or keys place key → number ≡ number_of key → number ≡ number_of (pair_at list place).key
-key_here list keys key place number low all at is =
-    is ∙ ap number_of (at ∙ (ap (λ ks. get_or ks place key) all ∙ key_at list place key low))
+-- the number of the first record, and where there is none
+pub first_is : (pairs : List TextPair) (pair : TextPair) → slice_get pairs 0 ≡ Some pair → number_of pair.key ≡ first_number (unlined_pairs pairs)
+first_is [] pair at = absurd (let low = slice_get_within {A = TextPair} [] 0 pair at in omega (arith, low))
+first_is (first ∷ pairs) pair at = ap (λ (pair : Pair). number_of pair.key) (pair_here (first ∷ pairs) 0 pair at)
 
-pub value_here : (list : List Pair) (values : List (List ℕ)) (value bytes : List ℕ) (place : ℕ) → place < length list → values ≡ values_of list
-    → value ≡ get_or values place value → bytes ≡ value → bytes ≡ (pair_at list place).value
-value_here list values value bytes place low all at is =
-    is ∙ (at ∙ (ap (λ vs. get_or vs place value) all ∙ get_or-map (λ (pair : Pair). pair.value) list place no_pair value low))
+pub none_first : (pairs : List TextPair) → slice_get pairs 0 ≡ None → 1 ≡ first_number (unlined_pairs pairs)
+none_first [] none = refl
+none_first (first ∷ pairs) none = absurd cc
+
+pub none_last : (pairs : List TextPair) → slice_get pairs (length pairs - 1) ≡ None → 1 ≡ next_number 1 (unlined_pairs pairs)
+none_last [] none = refl
+none_last (first ∷ pairs) none =
+    let there = slice_get-get_or (first ∷ pairs) (length (first ∷ pairs) - 1) first (omega arith) in
+    let both : Some (get_or (first ∷ pairs) (length (first ∷ pairs) - 1) first) ≡ None = sym there ∙ none in
+    absurd cc

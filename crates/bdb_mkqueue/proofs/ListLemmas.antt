@@ -19,7 +19,7 @@ use Rattle.bdb_format.specs.Spelling.{zeros}
 use Rattle.bdb_format.proofs.ListLemmas.{range_more, range_parts}
 use Rattle.bdb_format.proofs.SpellingLemmas.{byte_at-in, slice_range-in}
 use Rattle.bdb_text_format.specs.Pairs.{AscendFrom, listed, listed_key, number_of}
-use Rattle.bdb_text_format.specs.declared.list.Pair.{Pair}
+use Rattle.bdb_text_format.specs.declared.pairs.Pair.{Pair}
 use Rattle.bdb_text_format.specs.declared.pairs.Key.{Key}
 use Rattle.bdb_text_format.specs.declared.pairs.Key.TheVariants.{Bytes, Number}
 use Rattle.bdb_pack.specs.Built.{Built}

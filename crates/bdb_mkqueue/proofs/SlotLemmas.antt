@@ -6,7 +6,7 @@ use Rattle.std.specs.List.{list_any, range_with_len}
 use Rattle.std.proofs.lemmas.Bool.{cases_lt}
 use Rattle.bdb_format.proofs.ListLemmas.{passes_here}
 use Rattle.bdb_format.proofs.MemberLemmas.{in_map, in_range, none_pass, of_map, of_range}
-use Rattle.bdb_text_format.specs.declared.list.Pair.{Pair}
+use Rattle.bdb_text_format.specs.declared.pairs.Pair.{Pair}
 use Rattle.bdb_text_format.specs.Pairs.{AscendFrom, number_of}
 use Rattle.bdb_pack.proofs.StandingLemmas.{map_same}
 use Rattle.bdb_mkqueue.specs.Layout.{page_of, queue_size, record_of, slot_of, slots_of}

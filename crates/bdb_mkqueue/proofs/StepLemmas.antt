@@ -15,7 +15,7 @@ use Rattle.bdb_format.specs.declared.metadata.QueueMeta.{QueueMeta}
 use Rattle.bdb_format.specs.Numbers.{overwritten, pad4}
 use Rattle.bdb_format.specs.Spelling.{header_bytes, zeros}
 use Rattle.bdb_format.proofs.SpellingLemmas.{length-overwritten}
-use Rattle.bdb_text_format.specs.declared.list.Pair.{Pair}
+use Rattle.bdb_text_format.specs.declared.pairs.Pair.{Pair}
 use Rattle.bdb_text_format.specs.declared.pairs.Key.TheVariants.{Number}
 use Rattle.bdb_text_format.specs.Pairs.{AscendFrom, number_of}
 use Rattle.bdb_pack.specs.Built.{AreWhole, Built, bytes_of, with_page, written_over}

@@ -10,7 +10,7 @@ use Rattle.bdb_format.specs.Spelling.{header_bytes, zeros}
 use Rattle.bdb_format.specs.Table.{first_row}
 use Rattle.bdb_format.specs.File.{File, page_at}
 use Rattle.bdb_format.specs.Lists.{list_of}
-use Rattle.bdb_text_format.specs.declared.list.Pair.{Pair}
+use Rattle.bdb_text_format.specs.declared.pairs.Pair.{Pair}
 use Rattle.bdb_text_format.specs.Pairs.{listed}
 use Rattle.bdb_pack.specs.Built.{Built, bytes_of, with_page}
 use Rattle.bdb_mkqueue.specs.Layout.{queue_meta, queue_page, queue_size, records_header, slots_of}

@@ -8,7 +8,7 @@ use Rattle.bdb_format.specs.declared.settings.Settings.{Settings}
 use Rattle.bdb_format.specs.Numbers.{pad4}
 use Rattle.bdb_format.specs.Rows.{records_per_page}
 use Rattle.bdb_format.specs.Spelling.{header_bytes, zeros}
-use Rattle.bdb_text_format.specs.declared.list.Pair.{Pair}
+use Rattle.bdb_text_format.specs.declared.pairs.Pair.{Pair}
 use Rattle.bdb_text_format.specs.Pairs.{number_of}
 use Rattle.bdb_mkqueue.specs.Lists.{first_number, next_number}
 

@@ -10,7 +10,7 @@ use Rattle.bdb_format.specs.File.{file_of}
 use Rattle.bdb_format.specs.Lists.{list_of}
 use Rattle.bdb_format.specs.Databases.{databases}
 use Rattle.bdb_format.specs.Verdict.{faults_of, verdict_of}
-use Rattle.bdb_text_format.specs.declared.list.Pair.{Pair}
+use Rattle.bdb_text_format.specs.declared.pairs.Pair.{Pair}
 use Rattle.bdb_text_format.specs.Pairs.{listed}
 use Rattle.bdb_pack.specs.Built.{Built, joined_pages, with_page}
 use Rattle.bdb_join.specs.Written.{AreLegal}

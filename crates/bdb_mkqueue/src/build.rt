@@ -4,13 +4,14 @@ ghost use Rattle.bdb_format.specs.Numbers.{pad4};
 ghost use Rattle.bdb_mkqueue.specs.Building.{HasRoom, IsQueueBuilt, IsQueueOn, KeepsFirst, reached, with_header, with_more, with_record};
 ghost use Rattle.bdb_mkqueue.specs.Layout.{queue_meta};
 ghost use Rattle.bdb_text_format.specs.Pairs.{AscendFrom};
+ghost use Rattle.bdb_text_format.specs.Placed.{pairs_of, slice_seen};
 ghost use Rattle.bdb_mkqueue.specs.Lists.{HasLength, HasNext, IsQueueList, first_number, next_number};
 
 use crate::records::{number_of, page_of, put_record, records_per_page, slot_of};
 use bdb_format::{Header, QueueMeta, Settings};
 use bdb_layout::put_header;
 use bdb_pack::Pages;
-use bdb_text_format::PairList;
+use bdb_text_format::PairSlice;
 use std::alloc::AllocError;
 
 // The longest file that is read has no more pages.
@@ -77,51 +78,52 @@ fn write_record(pages: &mut Pages, meta: &QueueMeta, page: u32, slot: u32, value
 fn push_record(
     pages: &mut Pages,
     meta: &QueueMeta,
-    list: &PairList,
+    list: PairSlice<'_>,
     place: usize,
 ) -> Result<(), AllocError>
-    requires ascend { AscendFrom 1 list.now }
-    requires long { All (HasLength meta.now.re_len) list.now }
+    requires ascend { AscendFrom 1 (pairs_of list) }
+    requires long { All (HasLength meta.now.re_len) (pairs_of list) }
     requires room { HasRoom pages.old.size meta.now }
-    requires place { place < length list.now }
-    requires queue { IsQueueOn meta.now (take place list.now) pages.old }
-    ensures queue { IfOk result (λ _. IsQueueOn meta.now (take (place + 1) list.now) pages.new) }
+    requires place { place < length (slice_seen list) }
+    requires queue { IsQueueOn meta.now (take place (pairs_of list)) pages.old }
+    ensures queue { IfOk result (λ _. IsQueueOn meta.now (take (place + 1) (pairs_of list.entry)) pages.new) }
     ensures kept { IfOk result (λ _. KeepsFirst pages.old pages.new) }
 {
-    let number = number_of(&list.keys()[place]);
+    let pair = list.at(place);
+    let number = number_of(pair.key);
     let page = page_of(meta, number);
     reach_page(pages, page)?;
     let slot = slot_of(meta, number);
-    write_record(pages, meta, page, slot, list.values()[place].as_slice());
+    write_record(pages, meta, page, slot, pair.value);
     Ok(())
 }
 
 // The number of the first record of a list, and the one after the last.
-fn first_number(list: &PairList) -> u32
-    ensures { result ≡ first_number list.now }
+fn first_number(list: PairSlice<'_>) -> u32
+    ensures { result ≡ first_number (pairs_of list.entry) }
 {
-    match list.keys().first() {
-        Some(key) => number_of(key),
+    match list.first() {
+        Some(pair) => number_of(pair.key),
         None => 1,
     }
 }
 
-fn next_number(list: &PairList) -> u32
-    requires { All HasNext list.now }
-    ensures { result ≡ next_number 1 list.now }
+fn next_number(list: PairSlice<'_>) -> u32
+    requires { All HasNext (pairs_of list) }
+    ensures { result ≡ next_number 1 (pairs_of list.entry) }
 {
-    match list.keys().last() {
-        Some(key) => number_of(key) + 1,
+    match list.last() {
+        Some(pair) => number_of(pair.key) + 1,
         None => 1,
     }
 }
 
 // The metadata of the queue of a list.
-fn queue_meta(settings: &Settings, list: &PairList) -> QueueMeta
+fn queue_meta(settings: &Settings, list: PairSlice<'_>) -> QueueMeta
     requires low { 28 ≤ settings.now.page_size }
     requires high { settings.now.page_size ≤ 32768 }
-    requires few { All HasNext list.now }
-    ensures { result ≡ queue_meta settings.now list.now }
+    requires few { All HasNext (pairs_of list) }
+    ensures { result ≡ queue_meta settings.now (pairs_of list.entry) }
 {
     QueueMeta {
         first: first_number(list),
@@ -137,14 +139,14 @@ fn queue_meta(settings: &Settings, list: &PairList) -> QueueMeta
 pub fn build_queue(
     pages: &mut Pages,
     settings: &Settings,
-    list: &PairList,
+    list: PairSlice<'_>,
 ) -> Result<QueueMeta, AllocError>
     requires size { pages.old.size ≡ settings.now.page_size }
     requires order { pages.old.order ≡ settings.now.order }
     requires one { length pages.old.pages ≡ 1 }
     requires room { pad4 (settings.now.re_len + 1) ≤ settings.now.page_size - 28 }
-    requires list { IsQueueList settings.now list.now }
-    ensures { IfOk result (λ meta. IsQueueBuilt settings.now list.now pages.old pages.new meta) }
+    requires list { IsQueueList settings.now (pairs_of list) }
+    ensures { IfOk result (λ meta. IsQueueBuilt settings.now (pairs_of list.entry) pages.old pages.new meta) }
 {
     // That it is a legal size is known with it.
     let _size = pages.size();

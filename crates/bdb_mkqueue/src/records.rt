@@ -3,9 +3,10 @@ ghost use Rattle.bdb_format.specs.Numbers.{overwritten, pad4};
 ghost use Rattle.bdb_format.specs.Rows.{records_per_page};
 ghost use Rattle.bdb_mkqueue.specs.Layout.{page_of, slot_of};
 ghost use Rattle.bdb_text_format.specs.Pairs.{number_of};
+ghost use Rattle.bdb_text_format.specs.Placed.{key_seen};
 
 use bdb_format::QueueMeta;
-use bdb_text_format::Key;
+use bdb_text_format::KeyRef;
 
 // What the first byte of a slot says of its record. Readers ask for the first bit alone; some tools of the original look for the second one.
 const VALID: u8 = 0x01;
@@ -13,12 +14,12 @@ const VALID: u8 = 0x01;
 const SET: u8 = 0x02;
 
 /// The number of a record.
-pub(crate) fn number_of(key: &Key) -> u32
-    ensures { result ≡ number_of key.now }
+pub(crate) fn number_of(key: KeyRef<'_>) -> u32
+    ensures { result ≡ number_of (key_seen key.entry) }
 {
     match key {
-        Key::Bytes(_) => 0,
-        Key::Number(number) => *number,
+        KeyRef::Bytes(_) => 0,
+        KeyRef::Number(number) => number,
     }
 }
 

@@ -1,17 +1,19 @@
 -- Lists and their units: the run of a key, the record that comes next, and the list that units give back.
-use Rattle.std.proofs.Common.{Bool, ◌≡◌, ℕ, suc, zero, ◌+◌, ◌-◌, ◌<◌, ◌≤◌, ◌^◌, true, false, cond, get_or, List, [], ◌∷◌, ◌++◌, length, take, drop, replicate}
+use Rattle.std.proofs.Common.{Bool, ◌≡◌, ℕ, suc, zero, ◌+◌, ◌-◌, ◌<◌, ◌≤◌, ◌^◌, true, false, cond, get_or, slice_get, Some, List, [], ◌∷◌, ◌++◌, length, map, take, drop, replicate}
 use Rattle.std.proofs.Common.{arith, refl, sym, ◌∙◌, ap, subst, inl, inr, true≢false}
 use Rattle.std.specs.List.{All, enumerate_from, flat_map, prefix_len}
 use Rattle.std.specs.Str.{bytes_eq}
 use Rattle.std.proofs.lemmas.Bool.{cases_Bool}
-use Rattle.std.proofs.lemmas.List.{drop-drop, drop_more, get_or-map, length-drop, length-map}
+use Rattle.std.proofs.lemmas.List.{drop-drop, drop-map, drop_all, drop_more, get_or-map, length-drop, length-map, take-map}
+use Rattle.std.proofs.lemmas.Option.{get_or_from_slice_get, slice_get_within}
 use Rattle.std.proofs.lemmas.List.Elements.{All-drop, All-head, All-tail}
 use Rattle.std.proofs.lemmas.List.Sums.{prefix_len-le-length}
 use Rattle.bdb_format.specs.declared.kinds.Kind.{Kind}
 use Rattle.bdb_format.specs.Lists.{BytesKey, NumberKey}
 use Rattle.bdb_format.proofs.LessLemmas.{eq_same, eq_self}
-use Rattle.bdb_text_format.specs.Pairs.{AscendFrom, keys_of, listed, listed_key, number_of, values_of}
-use Rattle.bdb_text_format.specs.declared.list.Pair.{Pair}
+use Rattle.bdb_text_format.specs.Pairs.{AscendFrom, keys_of, listed, listed_key, number_of, unlined, unlined_pairs, values_of}
+use Rattle.bdb_text_format.specs.declared.pairs.Pair.{Pair}
+use Rattle.bdb_text_format.specs.declared.pairs.TextPair.{TextPair}
 use Rattle.bdb_text_format.specs.declared.pairs.Key.{Key}
 use Rattle.bdb_text_format.specs.declared.pairs.Key.TheVariants.{Bytes, Number}
 use Rattle.bdb_leaves.specs.Units.{EntryUnit, KeyedUnit, TreeUnit, list_of_units, listed_keyed, listed_record}
@@ -126,68 +128,84 @@ record_missing next pair pairs later =
 abbrev pub no_pair : Pair
 no_pair = record { key = Number 0; value = [] }
 
-key_from : (pairs : List Pair) (start : ℕ) (keys : List Key) (d : Key) → start < length pairs → keys ≡ keys_of (drop start pairs)
-    → get_or keys 0 d ≡ (get_or pairs start no_pair).key
-key_from pairs start keys d more is = ap (λ ks. get_or ks 0 d) (is ∙ ap keys_of (drop_more pairs start no_pair more))
+-- the pairs of a list from a place on
+pairs_from : (pairs : List TextPair) (i : ℕ) (pair : TextPair) → slice_get pairs i ≡ Some pair → drop i pairs ≡ pair ∷ drop (i + 1) pairs
+pairs_from pairs i pair at =
+    drop_more pairs i pair (slice_get_within pairs i pair at) ∙ ap (λ p. p ∷ drop (i + 1) pairs) (get_or_from_slice_get pairs i pair pair at)
 
-pub first_has_bytes : (pairs : List Pair) (start : ℕ) (keys : List Key) (d : Key) → All (λ (pair : Pair). HasBytes pair.key) pairs
-    → start < length pairs → keys ≡ keys_of (drop start pairs) → HasBytes (get_or keys 0 d)
-first_has_bytes pairs start keys d all more is = subst HasBytes (sym (key_from pairs start keys d more is)) (all start no_pair more)
+pub pair_at : (pairs : List TextPair) (i : ℕ) (pair : TextPair) → slice_get pairs i ≡ Some pair → get_or (unlined_pairs pairs) i no_pair ≡ unlined pair
+pair_at pairs i pair at =
+    get_or-map unlined pairs i pair no_pair (slice_get_within pairs i pair at) ∙ ap unlined (get_or_from_slice_get pairs i pair pair at)
 
--- there are as many data as keys
-pub as_many_values : (pairs : List Pair) (start n : ℕ) (keys : List Key) (values : List (List ℕ)) (key : List ℕ)
-    → keys ≡ keys_of (drop start pairs) → values ≡ values_of (drop start pairs) → n ≡ prefix_len (has_key key) keys → n ≤ length values
-as_many_values pairs start n keys values key keys_are values_are long =
-    let le = prefix_len-le-length (has_key key) keys in
-    let one = ap length keys_are ∙ length-map (drop start pairs) (λ (pair : Pair). pair.key) in
-    let two = ap length values_are ∙ length-map (drop start pairs) (λ (pair : Pair). pair.value) in
-    omega (arith, le, long, one, two)
+pub has_bytes_at : (pairs : List TextPair) (i : ℕ) (pair : TextPair) → All (λ (pair : Pair). HasBytes pair.key) (unlined_pairs pairs)
+    → slice_get pairs i ≡ Some pair → HasBytes pair.key
+has_bytes_at pairs i pair all at =
+    subst (λ (pair : Pair). HasBytes pair.key) (pair_at pairs i pair at)
+    (all i no_pair (let low = slice_get_within pairs i pair at in omega (arith, low, length-map pairs unlined)))
+
+-- how many pairs of a key follow each other from a place on: one more than from the next place on, none, or none where none are left
+abbrev pub run_from : List ℕ → List TextPair → ℕ → ℕ
+run_from key pairs i = prefix_len (has_key key) (keys_of (unlined_pairs (drop i pairs)))
+
+pub run_goes_on : (key : List ℕ) (pairs : List TextPair) (i : ℕ) (pair : TextPair) → slice_get pairs i ≡ Some pair → has_key key pair.key ≡ true
+    → run_from key pairs i ≡ 1 + run_from key pairs (i + 1)
+run_goes_on key pairs i pair at same =
+    ap (λ ps. prefix_len (has_key key) (keys_of (unlined_pairs ps))) (pairs_from pairs i pair at)
+    ∙ ap (λ b. cond b (1 + run_from key pairs (i + 1)) 0) same
+
+pub run_ends : (key : List ℕ) (pairs : List TextPair) (i : ℕ) (pair : TextPair) → slice_get pairs i ≡ Some pair → has_key key pair.key ≡ false
+    → run_from key pairs i ≡ 0
+run_ends key pairs i pair at other =
+    ap (λ ps. prefix_len (has_key key) (keys_of (unlined_pairs ps))) (pairs_from pairs i pair at)
+    ∙ ap (λ b. cond b (1 + run_from key pairs (i + 1)) 0) other
+
+pub run_over : (key : List ℕ) (pairs : List TextPair) (i : ℕ) → length pairs ≤ i → run_from key pairs i ≡ 0
+run_over key pairs i over = ap (λ ps. prefix_len (has_key key) (keys_of (unlined_pairs ps))) (drop_all i pairs over)
+
+pub run_long : (key : List ℕ) (pairs : List TextPair) (n : ℕ) → n ≡ run_from key pairs 0 → n ≤ length pairs
+run_long key pairs n is =
+    let le = prefix_len-le-length (has_key key) (keys_of (unlined_pairs pairs)) in
+    omega (arith, is, le, length-map (unlined_pairs pairs) (λ (pair : Pair). pair.key), length-map pairs unlined)
+
+-- the data of pairs
+values_unlined : (pairs : List TextPair) → map (λ (pair : TextPair). pair.value) pairs ≡ values_of (unlined_pairs pairs)
+values_unlined [] = refl
+values_unlined (pair ∷ pairs) = ap (λ values. pair.value ∷ values) (values_unlined pairs)
 
 -- the pairs from a place on that have the key there are a unit
-pub is_run : (pairs : List Pair) (start n : ℕ) (keys : List Key) (values : List (List ℕ)) (key : List ℕ) (d : Key)
-    → All (λ (pair : Pair). HasBytes pair.key) pairs → start < length pairs → keys ≡ keys_of (drop start pairs)
-    → values ≡ values_of (drop start pairs) → get_or keys 0 d ≡ Bytes key → n ≡ prefix_len (has_key key) keys
-    → IsRunAt pairs start (KeyedUnit key (take n values)) (start + n)
-is_run pairs start n keys values key d all more keys_are values_are first long =
+pub is_run : (pairs : List TextPair) (start n : ℕ) (key : List ℕ) (pair : TextPair) → All (λ (pair : Pair). HasBytes pair.key) (unlined_pairs pairs)
+    → slice_get pairs start ≡ Some pair → pair.key ≡ Bytes key → n ≡ run_from key pairs start
+    → IsRunAt (unlined_pairs pairs) start (KeyedUnit key (map (λ (pair : TextPair). pair.value) (take n (drop start pairs)))) (start + n)
+is_run pairs start n key pair all at is long =
     record {
       ahead = omega (arith, some);
-      within = omega (arith, most, size, more);
+      within = omega (arith, most, size, inside, length-map pairs unlined);
       units =
-          run_is_unit key (drop start pairs) n (All-drop (λ (pair : Pair). HasBytes pair.key) start pairs all)
-          (sym (long ∙ ap (prefix_len (has_key key)) keys_are)) some
-          ∙ (ap (λ vs. KeyedUnit key (take n vs) ∷ keyed_units (drop n (drop start pairs))) (sym values_are)
-          ∙ ap (λ ps. KeyedUnit key (take n values) ∷ keyed_units ps) (drop-drop n start pairs));
+          run_is_unit key (drop start (unlined_pairs pairs)) n (All-drop (λ (pair : Pair). HasBytes pair.key) start (unlined_pairs pairs) all)
+          (ap (λ ps. prefix_len (has_key key) (keys_of ps)) from ∙ sym long) some
+          ∙ (ap (λ vs. KeyedUnit key vs ∷ keyed_units (drop n (drop start (unlined_pairs pairs)))) data_are
+          ∙ ap (λ ps. KeyedUnit key (map (λ (pair : TextPair). pair.value) (take n (drop start pairs))) ∷ keyed_units ps) (drop-drop n start (unlined_pairs pairs)));
     }
   where
-    rest : List Key
-    rest = keys_of (drop (start + 1) pairs)
+    from : drop start (unlined_pairs pairs) ≡ unlined_pairs (drop start pairs)
+    from = drop-map unlined start pairs
 
-    keys_is : keys ≡ (get_or pairs start no_pair).key ∷ rest
-    keys_is = keys_are ∙ ap keys_of (drop_more pairs start no_pair more)
-
-    same : has_key key (get_or pairs start no_pair).key ≡ true
-    same = ap (has_key key) (sym (key_from pairs start keys d more keys_are) ∙ first) ∙ eq_self key
+    inside : start < length pairs
+    inside = slice_get_within pairs start pair at
 
     some : 0 < n
-    some =
-        let one = ap (prefix_len (has_key key)) keys_is
-        ∙ ap (λ b. cond b (1 + prefix_len (has_key key) rest) 0) same in
-        omega (arith, long, one)
+    some = omega (arith, long, run_goes_on key pairs start pair at (ap (has_key key) is ∙ eq_self key))
 
-    most : n ≤ length keys
-    most = let le = prefix_len-le-length (has_key key) keys in omega (arith, long, le)
+    most : n ≤ length (drop start pairs)
+    most = run_long key (drop start pairs) n long
 
-    size : length keys ≡ length pairs - start
-    size = ap length keys_are ∙ (length-map (drop start pairs) (λ (pair : Pair). pair.key) ∙ length-drop start pairs)
+    size : length (drop start pairs) ≡ length pairs - start
+    size = length-drop start pairs
 
-pub value_at : (pairs : List Pair) (place : ℕ) (values : List (List ℕ)) (d : List ℕ) → place < length pairs → values ≡ values_of pairs
-    → get_or values place d ≡ (get_or pairs place no_pair).value
-value_at pairs place values d more is =
-    ap (λ vs. get_or vs place d) is ∙ get_or-map (λ (pair : Pair). pair.value) pairs place no_pair d more
-
-pub key_at : (pairs : List Pair) (place : ℕ) (keys : List Key) (d : Key) → place < length pairs → keys ≡ keys_of pairs
-    → get_or keys place d ≡ (get_or pairs place no_pair).key
-key_at pairs place keys d more is = ap (λ ks. get_or ks place d) is ∙ get_or-map (λ (pair : Pair). pair.key) pairs place no_pair d more
+    data_are : take n (values_of (drop start (unlined_pairs pairs))) ≡ map (λ (pair : TextPair). pair.value) (take n (drop start pairs))
+    data_are =
+        ap (λ ps. take n (values_of ps)) from
+        ∙ (ap (take n) (sym (values_unlined (drop start pairs))) ∙ take-map (λ (pair : TextPair). pair.value) n (drop start pairs))
 
 -- the record of a number is missing before the pair at a place
 pub is_missing : (pairs : List Pair) (place number there : ℕ) → AscendFrom number (drop place pairs) → place < length pairs

@@ -1,6 +1,7 @@
 -- Units as a builder takes them, and what the settings of a database ask of them. Source: docs/FORMAT.md, "Built trees" and "Settings".
 use Rattle.std.specs.Prelude.{◌≡◌, ◌⊎◌, ℕ, ◌<◌, Bool, true, false, List, [], ◌∷◌, ◌++◌, length, map}
 use Rattle.std.specs.List.{All}
+use Rattle.bdb_places.specs.Places.{values_seen}
 use Rattle.bdb_format.specs.declared.kinds.Kind.{Kind}
 use Rattle.bdb_format.specs.declared.kinds.Kind.TheVariants.{Btree, Recno, Hash, Queue}
 use Rattle.bdb_format.specs.declared.settings.Settings.{Settings}
@@ -14,7 +15,7 @@ use Rattle.bdb_mktree.specs.declared.unit.Unit.TheVariants.{Keyed, Entry}
 
 -- a unit without where its bytes lie in memory
 abbrev pub unit_seen : CodeUnit → TreeUnit
-unit_seen (Keyed key values) = KeyedUnit key.now values.now
+unit_seen (Keyed key values) = KeyedUnit key.now (values_seen values)
 unit_seen (Entry value deleted) = EntryUnit value.now deleted
 
 -- a tree is that of a btree or of a recno

@@ -1,6 +1,7 @@
 ghost use Rattle.std.specs.Prelude.{◌≡◌, ◌≤◌, ◌<◌, [], IfOk, drop, length};
 ghost use Rattle.std.specs.List.{All};
 ghost use Rattle.bdb_text_format.specs.Pairs.{AscendFrom, listed, number_of};
+ghost use Rattle.bdb_text_format.specs.Placed.{key_seen, pairs_of, slice_seen};
 ghost use Rattle.bdb_mktree.specs.Building.{ArePushed, CanBePushed, IsTreeBuilt};
 ghost use Rattle.bdb_mktree.specs.Lists.{AreKeysOf, HasBytes, IsTreeList, IsRecordAt, keyed_units, record_units, units_in};
 ghost use Rattle.bdb_mktree.specs.Units.{IsTreeKind, unit_seen};
@@ -9,7 +10,7 @@ use crate::runs::run_at;
 use crate::{TreeBuilder, Unit};
 use bdb_format::{Kind, Settings};
 use bdb_pack::Pages;
-use bdb_text_format::{Key, PairList};
+use bdb_text_format::{KeyRef, PairSlice};
 use std::alloc::{AllocError, Global};
 
 /// A record of a list, and the place of the next one to come.
@@ -23,11 +24,11 @@ struct Next<'a> {
 fn push_keys(
     builder: &mut TreeBuilder,
     pages: &mut Pages,
-    list: &PairList,
+    list: PairSlice<'_>,
 ) -> Result<(), AllocError>
-    requires keys { All (λ pair. HasBytes pair.key) list.now }
-    requires can { CanBePushed builder.old pages.old (keyed_units list.now) }
-    ensures { IfOk result (λ _. ArePushed builder.old builder.new pages.old pages.new (keyed_units list.now) []) }
+    requires keys { All (λ pair. HasBytes pair.key) (pairs_of list) }
+    requires can { CanBePushed builder.old pages.old (keyed_units (pairs_of list)) }
+    ensures { IfOk result (λ _. ArePushed builder.old builder.new pages.old pages.new (keyed_units (pairs_of list.entry)) []) }
 {
     let mut start = 0;
     while start < list.len() {
@@ -43,22 +44,23 @@ fn push_keys(
 }
 
 // The number of a record.
-fn number_of(key: &Key) -> u32
-    ensures { result ≡ number_of key.now }
+fn number_of(key: KeyRef<'_>) -> u32
+    ensures { result ≡ number_of (key_seen key.entry) }
 {
     match key {
-        Key::Bytes(_) => 0,
-        Key::Number(number) => *number,
+        KeyRef::Bytes(_) => 0,
+        KeyRef::Number(number) => number,
     }
 }
 
 // The record with a number: that of the pair at a place, or a missing one before it.
-fn record_at<'a>(list: &'a PairList, place: usize, number: u64) -> Next<'a>
-    requires ascend { AscendFrom number (drop place list.now) }
-    requires more { place < length list.now }
-    ensures { IsRecordAt list.now place number (unit_seen result.unit) result.end }
+fn record_at<'a>(list: PairSlice<'a>, place: usize, number: u64) -> Next<'a>
+    requires ascend { AscendFrom number (drop place (pairs_of list)) }
+    requires more { place < length (slice_seen list) }
+    ensures { IsRecordAt (pairs_of list.entry) place number (unit_seen result.unit) result.end }
 {
-    if number < u64::from(number_of(&list.keys()[place])) {
+    let pair = list.at(place);
+    if number < u64::from(number_of(pair.key)) {
         let unit = Unit::Entry {
             value: &[],
             deleted: true,
@@ -66,7 +68,7 @@ fn record_at<'a>(list: &'a PairList, place: usize, number: u64) -> Next<'a>
         return Next { unit, end: place };
     }
     let unit = Unit::Entry {
-        value: list.values()[place].as_slice(),
+        value: pair.value,
         deleted: false,
     };
     Next {
@@ -79,11 +81,11 @@ fn record_at<'a>(list: &'a PairList, place: usize, number: u64) -> Next<'a>
 fn push_records(
     builder: &mut TreeBuilder,
     pages: &mut Pages,
-    list: &PairList,
+    list: PairSlice<'_>,
 ) -> Result<(), AllocError>
-    requires keys { AscendFrom 1 list.now }
-    requires can { CanBePushed builder.old pages.old (record_units 1 list.now) }
-    ensures { IfOk result (λ _. ArePushed builder.old builder.new pages.old pages.new (record_units 1 list.now) []) }
+    requires keys { AscendFrom 1 (pairs_of list) }
+    requires can { CanBePushed builder.old pages.old (record_units 1 (pairs_of list)) }
+    ensures { IfOk result (λ _. ArePushed builder.old builder.new pages.old pages.new (record_units 1 (pairs_of list.entry)) []) }
 {
     let mut number = 1;
     let mut place = 0;
@@ -101,11 +103,11 @@ fn push_list(
     builder: &mut TreeBuilder,
     pages: &mut Pages,
     kind: Kind,
-    list: &PairList,
+    list: PairSlice<'_>,
 ) -> Result<(), AllocError>
-    requires keys { AreKeysOf kind list.now }
-    requires can { CanBePushed builder.old pages.old (units_in kind list.now) }
-    ensures { IfOk result (λ _. ArePushed builder.old builder.new pages.old pages.new (units_in kind list.now) []) }
+    requires keys { AreKeysOf kind (pairs_of list) }
+    requires can { CanBePushed builder.old pages.old (units_in kind (pairs_of list)) }
+    ensures { IfOk result (λ _. ArePushed builder.old builder.new pages.old pages.new (units_in kind (pairs_of list.entry)) []) }
 {
     match kind {
         Kind::Btree => push_keys(builder, pages, list),
@@ -120,15 +122,15 @@ pub fn build_tree(
     alloc: Global,
     pages: &mut Pages,
     settings: &Settings,
-    list: &PairList,
+    list: PairSlice<'_>,
 ) -> Result<u32, AllocError>
     requires kind { IsTreeKind settings.now.kind }
     requires size { pages.old.size ≡ settings.now.page_size }
     requires order { pages.old.order ≡ settings.now.order }
     requires some { 1 ≤ length pages.old.pages }
-    requires list { IsTreeList settings.now list.now }
+    requires list { IsTreeList settings.now (pairs_of list) }
     ensures { IfOk result (λ root. IsTreeBuilt settings.now (length pages.old.pages) pages.old pages.new
-        (units_in settings.now.kind list.now) (listed list.now) root) }
+        (units_in settings.now.kind (pairs_of list.entry)) (listed (pairs_of list.entry)) root) }
 {
     let mut builder = TreeBuilder::start(alloc, pages, settings)?;
     push_list(&mut builder, pages, settings.kind, list)?;

@@ -1,33 +1,34 @@
 ghost use Rattle.std.specs.Prelude.{◌≡◌, ◌≤◌, ◌<◌, length};
 ghost use Rattle.std.specs.List.{All, prefix_len};
+ghost use Rattle.bdb_places.specs.Places.{values_seen};
+ghost use Rattle.bdb_text_format.specs.Pairs.{keys_of};
+ghost use Rattle.bdb_text_format.specs.Placed.{key_seen, pairs_of, slice_seen};
 ghost use Rattle.bdb_leaves.specs.Units.{KeyedUnit};
 ghost use Rattle.bdb_mktree.specs.Lists.{HasBytes, IsRunAt, has_key};
 
-use bdb_format::Bytes;
-use bdb_text_format::{Key, PairList};
+use bdb_places::Values;
+use bdb_text_format::{KeyRef, PairSlice};
 
 // Whether a key of a list is this one.
-fn is_key(other: &Key, key: &[u8]) -> bool
-    ensures { result ≡ has_key key.now other.now }
+fn is_key(other: KeyRef<'_>, key: &[u8]) -> bool
+    ensures { result ≡ has_key key.now (key_seen other.entry) }
 {
     match other {
-        Key::Bytes(bytes) => bytes.as_slice() == key,
-        Key::Number(_) => false,
+        KeyRef::Bytes(bytes) => bytes == key,
+        KeyRef::Number(_) => false,
     }
 }
 
-// How many keys from the first on are this one.
-fn run_length(keys: &[Key], key: &[u8]) -> usize
-    ensures { result ≡ prefix_len (has_key key.now) keys.now }
+// How many pairs from the first on have this key.
+fn run_length(list: PairSlice<'_>, key: &[u8]) -> usize
+    ensures { result ≡ prefix_len (has_key key.now) (keys_of (pairs_of list.entry)) }
 {
-    let mut n = 0;
-    for other in keys {
-        if !is_key(other, key) {
+    for n in 0..list.len() {
+        if !is_key(list.at(n).key, key) {
             return n;
         }
-        n += 1;
     }
-    n
+    list.len()
 }
 
 /// A key with all its data, and the place behind its pairs.
@@ -36,27 +37,25 @@ pub struct Run<'a> {
     /// The key, once for all data.
     pub key: &'a [u8],
     /// The data, in the order of the list: one at least.
-    pub values: &'a [Bytes],
+    pub values: Values<'a>,
     /// The place of the next key, or the length of the list.
     pub end: usize,
 }
 
 /// The key at a place of a list, with all its data.
-pub fn run_at<'a>(list: &'a PairList, start: usize) -> Run<'a>
-    requires keys { All (λ pair. HasBytes pair.key) list.now }
-    requires more { start < length list.now }
-    ensures { IsRunAt list.now start (KeyedUnit result.key.now result.values.now) result.end }
+pub fn run_at<'a>(list: PairSlice<'a>, start: usize) -> Run<'a>
+    requires keys { All (λ pair. HasBytes pair.key) (pairs_of list) }
+    requires more { start < length (slice_seen list) }
+    ensures { IsRunAt (pairs_of list.entry) start (KeyedUnit result.key.now (values_seen result.values)) result.end }
 {
-    let (_, keys) = list.keys().split_at(start);
-    let (_, values) = list.values().split_at(start);
-    let Key::Bytes(key) = &keys[0] else {
+    let KeyRef::Bytes(key) = list.at(start).key else {
         unreachable!()
     };
-    let many = run_length(keys, key.as_slice());
-    let (values, _) = values.split_at(many);
+    let (_, rest) = list.split_at(start);
+    let (run, behind) = rest.split_at(run_length(rest, key));
     Run {
-        key: key.as_slice(),
-        values,
-        end: start + many,
+        key,
+        values: run.values(),
+        end: list.len() - behind.len(),
     }
 }

@@ -8,6 +8,7 @@ pub use bdb_format::{
     MetaFault, Order, QueueMeta, RecnoItem, Reference, Settings, Sort, Steps, Unsupported, Verdict,
 };
 pub use bdb_text_format::{
-    Judged, Key, Pair, PairList, Section, Sections, TextFault, TextPair, TextPairs,
+    Judged, Key, KeyRef, Pair, PairRef, PairSlice, Section, Sections, TextFault, TextPair,
+    TextPairs,
 };
 pub use words::Words;

@@ -13,7 +13,7 @@ use Rattle.bdb_format.specs.Spelling.{table_bytes}
 use Rattle.bdb_format.specs.Table.{first_row}
 use Rattle.bdb_meta.specs.RowGroups.{flag_rows}
 use Rattle.bdb_grove.specs.Part.{IsPart, between}
-use Rattle.bdb_text_format.specs.declared.list.Pair.{Pair}
+use Rattle.bdb_text_format.specs.declared.pairs.Pair.{Pair}
 use Rattle.bdb_text_format.specs.declared.sections.Section.{Section}
 use Rattle.bdb_text_format.specs.Pairs.{listed}
 use Rattle.bdb_pack.specs.Built.{Built}

@@ -19,7 +19,7 @@ use Rattle.bdb_format.specs.Numbers.{pad4}
 use Rattle.bdb_format.proofs.SpellingLemmas.{length-spelled}
 use Rattle.bdb_levels.specs.declared.inner_type.InnerType.{InnerType}
 use Rattle.bdb_levels.specs.declared.inner_type.InnerType.TheVariants.{Keyed, Numbered}
-use Rattle.bdb_text_format.specs.declared.list.Pair.{Pair}
+use Rattle.bdb_text_format.specs.declared.pairs.Pair.{Pair}
 use Rattle.bdb_text_format.specs.declared.pairs.Key.TheVariants.{Bytes}
 use Rattle.bdb_text_format.specs.declared.sections.Section.{Section}
 use Rattle.bdb_leaves.specs.declared.leaf_type.LeafType.{LeafType}

@@ -2,6 +2,7 @@ ghost use Rattle.std.specs.Prelude.{◌≡◌, ◌+◌, ◌≤◌, ◌<◌, ◌^
 ghost use Rattle.std.specs.List.{All};
 ghost use Rattle.bdb_format.specs.declared.kinds.Kind.TheVariants.{Hash as HashKind};
 ghost use Rattle.bdb_format.specs.HeadOf.{is_page_size};
+ghost use Rattle.bdb_text_format.specs.Placed.{pairs_of};
 ghost use Rattle.bdb_mktree.specs.Lists.{IsTreeList};
 ghost use Rattle.bdb_mkhash.specs.Table.{IsTableList};
 ghost use Rattle.bdb_alone.specs.Settled.{file_settings, own_settings};
@@ -10,12 +11,12 @@ ghost use Rattle.bdb_named.specs.Images.{IsNamed};
 ghost use Rattle.bdb_named.specs.Standing.{AreAdded, AreDatabasesBuilt, IsDatabaseBuilt, IsSectionBuilt};
 
 use crate::metadata::{DatabaseMeta, named_table_meta, named_tree_meta};
-use bdb_alone::{element_count, file_settings, listed_pairs};
+use bdb_alone::{element_count, file_settings};
 use bdb_format::{Kind, Order, Settings};
 use bdb_mkhash::build_table;
 use bdb_mktree::build_tree;
 use bdb_pack::Pages;
-use bdb_text_format::{PairList, Section, Sections};
+use bdb_text_format::{PairSlice, Section, Sections};
 use std::alloc::{AllocError, Global};
 
 /// Adds so many zero pages at the end.
@@ -46,15 +47,15 @@ fn build_named_tree(
     alloc: Global,
     pages: &mut Pages,
     settings: &Settings,
-    list: &PairList,
+    list: PairSlice<'_>,
 ) -> Result<DatabaseMeta, AllocError>
     requires fit { IsTreeSettings settings.now }
     requires own { settings.now ≡ file_settings settings.now }
     requires size { pages.old.size ≡ settings.now.page_size }
     requires order { pages.old.order ≡ settings.now.order }
     requires some { 1 ≤ length pages.old.pages }
-    requires list { IsTreeList settings.now list.now }
-    ensures { IfOk result (λ meta. IsDatabaseBuilt settings.now list.now pages.old pages.new meta) }
+    requires list { IsTreeList settings.now (pairs_of list) }
+    ensures { IfOk result (λ meta. IsDatabaseBuilt settings.now (pairs_of list.entry) pages.old pages.new meta) }
 {
     let root = build_tree(alloc, pages, settings, list)?;
     Ok(DatabaseMeta::Tree(named_tree_meta(settings, root)))
@@ -65,7 +66,7 @@ fn build_named_table(
     alloc: Global,
     pages: &mut Pages,
     settings: &Settings,
-    list: &PairList,
+    list: PairSlice<'_>,
 ) -> Result<DatabaseMeta, AllocError>
     requires kind { settings.now.kind ≡ HashKind }
     requires own { settings.now ≡ file_settings settings.now }
@@ -73,8 +74,8 @@ fn build_named_table(
     requires size { pages.old.size ≡ settings.now.page_size }
     requires order { pages.old.order ≡ settings.now.order }
     requires some { 1 ≤ length pages.old.pages }
-    requires list { IsTableList settings.now list.now }
-    ensures { IfOk result (λ meta. IsDatabaseBuilt settings.now list.now pages.old pages.new meta) }
+    requires list { IsTableList settings.now (pairs_of list) }
+    ensures { IfOk result (λ meta. IsDatabaseBuilt settings.now (pairs_of list.entry) pages.old pages.new meta) }
 {
     let elements = element_count(list)?;
     let meta = build_table(alloc, pages, settings, list)?;
@@ -97,10 +98,10 @@ fn build_database(
     ensures { IfOk result (λ meta. IsSectionBuilt section pages.old pages.new meta) }
 {
     let settings = settings_in(page_size, pages.order(), &section.settings);
-    let list = listed_pairs(alloc, section.pairs)?;
+    let list = section.pairs.as_slice();
     match settings.kind {
-        Kind::Btree | Kind::Recno => build_named_tree(alloc, pages, &settings, &list),
-        Kind::Hash => build_named_table(alloc, pages, &settings, &list),
+        Kind::Btree | Kind::Recno => build_named_tree(alloc, pages, &settings, list),
+        Kind::Hash => build_named_table(alloc, pages, &settings, list),
         Kind::Queue => unreachable!(),
     }
 }

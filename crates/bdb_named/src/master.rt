@@ -1,20 +1,20 @@
-ghost use Rattle.std.specs.Prelude.{◌≡◌, ◌+◌, ◌≤◌, ◌<◌, ◌^◌, IfOk, IsTrue, length};
+ghost use Rattle.std.specs.Prelude.{◌≡◌, ◌+◌, ◌≤◌, ◌<◌, ◌^◌, ◌∷◌, ◌++◌, [], IfOk, IsTrue, OnOk, length};
 ghost use Rattle.bdb_format.specs.declared.kinds.Order.TheVariants.{Big};
 ghost use Rattle.bdb_format.specs.HeadOf.{is_page_size};
 ghost use Rattle.bdb_format.specs.Numbers.{spelled};
 ghost use Rattle.bdb_count.specs.Need.{name_in};
-ghost use Rattle.bdb_need.specs.Need.{unlined_pairs, unlined};
+ghost use Rattle.bdb_need.specs.Need.{unlined_pairs};
 ghost use Rattle.bdb_named.specs.Images.{AreNamed, names_pages};
 ghost use Rattle.bdb_named.specs.Layout.{entries_from, entry_of, settings_of_master};
 ghost use Rattle.bdb_named.specs.Standing.{IsMasterBuilt};
 
 use crate::metadata::named_tree_meta;
-use bdb_alone::{listed_pairs, plain_settings};
-use bdb_format::{BtreeMeta, Bytes, Kind, Order, Settings};
+use bdb_alone::plain_settings;
+use bdb_format::{BtreeMeta, Kind, Order, Settings};
 use bdb_mktree::build_tree;
 use bdb_need::tree_pages;
 use bdb_pack::Pages;
-use bdb_text_format::{Key, Section, TextPair, TextPairs};
+use bdb_text_format::{KeyRef, PairRef, Section, TextPairs};
 use std::alloc::{AllocError, Global};
 
 // The settings of the master.
@@ -31,42 +31,40 @@ fn high_first(number: u32) -> [u8; 4]
     number.to_be_bytes()
 }
 
-// A copy of the name of a section.
-fn name_of(alloc: Global, section: &Section) -> Result<Bytes, AllocError>
-    ensures { IfOk result (λ name. name ≡ name_in section.now.name) }
+// The bytes of a section's name, none where it has none.
+fn name_of(section: &Section) -> &[u8]
+    ensures { result.now ≡ name_in section.now.name }
 {
-    let mut copy = Bytes::new(alloc);
-    if let Some(name) = &section.name {
-        copy.push_all(name.as_slice())?;
+    match &section.name {
+        Some(name) => name.as_slice(),
+        None => &[],
     }
-    Ok(copy)
 }
 
-// The pair of a section in the master: its name, and the number of its metadata page.
-fn entry_of(alloc: Global, number: u32, section: &Section) -> Result<TextPair, AllocError>
-    ensures { IfOk result (λ pair. unlined pair ≡ entry_of number section.now) }
+// Adds the pair of a section in the master: its name, and the number of its metadata page.
+fn push_entry(entries: &mut TextPairs, number: u32, section: &Section) -> Result<(), AllocError>
+    ensures { OnOk result (unlined_pairs entries.new ≡ unlined_pairs entries.old ++ entry_of number section.now ∷ []) }
 {
-    let key = name_of(alloc, section)?;
-    let mut value = Bytes::new(alloc);
-    value.push_all(&high_first(number))?;
-    Ok(TextPair {
-        key: Key::Bytes(key),
-        value,
+    let value = high_first(number);
+    entries.push(PairRef {
+        key: KeyRef::Bytes(name_of(section)),
+        value: &value,
         line: 0,
-    })
+    })?;
+    Ok(())
 }
 
 // The pairs of sections whose metadata pages follow each other from a page on.
 fn entries_from(alloc: Global, first: u32, sections: &[Section]) -> Result<TextPairs, AllocError>
     ensures { IfOk result (λ pairs. unlined_pairs pairs ≡ entries_from first sections.now) }
 {
-    let mut pairs = TextPairs::new(alloc);
+    let mut entries = TextPairs::new(alloc);
     let mut number = first;
     for section in sections {
-        pairs.push(entry_of(alloc, number, section)?)?;
+        push_entry(&mut entries, number, section)?;
         number = number.checked_add(1).ok_or(AllocError)?;
     }
-    Ok(pairs)
+    Ok(entries)
 }
 
 // How many pages the tree of the master has. The numbers in it take no part in the count.
@@ -100,7 +98,7 @@ pub(crate) fn build_master(
     let settings = settings_of_master(page_size, pages.order());
     let count = names_pages(alloc, &settings, sections)?;
     let first = pages.count().checked_add(count).ok_or(AllocError)?;
-    let list = listed_pairs(alloc, entries_from(alloc, first, sections)?)?;
-    let root = build_tree(alloc, pages, &settings, &list)?;
+    let entries = entries_from(alloc, first, sections)?;
+    let root = build_tree(alloc, pages, &settings, entries.as_slice())?;
     Ok(named_tree_meta(&settings, root))
 }

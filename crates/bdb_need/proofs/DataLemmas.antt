@@ -12,31 +12,30 @@ use Rattle.bdb_need.specs.Counting.{values_in}
 pub length-values : (pairs : List TextPair) → length (values_in pairs) ≡ length pairs
 length-values pairs = length-map pairs (λ (pair : TextPair). pair.value)
 
+pub values_within : (pairs : List TextPair) (i : ℕ) → i < length pairs → i < length (values_in pairs)
+values_within pairs i within = omega (arith, within, length-values pairs)
+
+pub values_past : (pairs : List TextPair) (i : ℕ) → length pairs ≤ i → length (values_in pairs) ≤ i
+values_past pairs i past = omega (arith, past, length-values pairs)
+
 pub value_here : (pairs : List TextPair) (i : ℕ) (pair : TextPair) (value : List ℕ) → i < length pairs → pair ≡ get_or pairs i pair
     → value ≡ pair.value → value ≡ get_or (values_in pairs) i []
 value_here pairs i pair value within is value_is =
     value_is ∙ (ap (λ (p : TextPair). p.value) is ∙ sym (get_or-map (λ (p : TextPair). p.value) pairs i pair [] within))
 
-pub short_here : (pairs : List TextPair) (i : ℕ) (value : List ℕ) → All IsShort (values_in pairs) → i < length pairs
-    → value ≡ get_or (values_in pairs) i [] → IsShort value
-short_here pairs i value short within is =
-    let long = length-values pairs in
-    rw is (All-get_or IsShort (values_in pairs) i [] (omega (arith, within, long)) short)
+pub short_here : (values : List (List ℕ)) (i : ℕ) (value : List ℕ) → All IsShort values → i < length values → value ≡ get_or values i [] → IsShort value
+short_here values i value short within is = rw is (All-get_or IsShort values i [] within short)
 
 -- a sum over the data passed, and one more
-pub sum_more : (f : List ℕ → ℕ) (pairs : List TextPair) (i : ℕ) (value : List ℕ) (total more most : ℕ) → i < length pairs
-    → value ≡ get_or (values_in pairs) i [] → (total ≡ sum_by f (take i (values_in pairs))) × (total ≤ i * most) → more ≡ f value → more ≤ most
-    → (total + more ≡ sum_by f (take (i + 1) (values_in pairs))) × (total + more ≤ (i + 1) * most)
-sum_more f pairs i value total more most within value_is so_far more_is few =
-    let long = length-values pairs in
-    let step = sum_by_more f (values_in pairs) i [] (omega (arith, within, long)) in
+pub sum_more : (f : List ℕ → ℕ) (values : List (List ℕ)) (i : ℕ) (value : List ℕ) (total more most : ℕ) → i < length values → value ≡ get_or values i []
+    → (total ≡ sum_by f (take i values)) × (total ≤ i * most) → more ≡ f value → more ≤ most
+    → (total + more ≡ sum_by f (take (i + 1) values)) × (total + more ≤ (i + 1) * most)
+sum_more f values i value total more most within value_is so_far more_is few =
+    let step = sum_by_more f values i [] within in
     let here = more_is ∙ ap f value_is in (
       omega (arith, step, here, so_far.0),
       omega (arith, so_far.1, few),
     )
 
-pub sum_end : (f : List ℕ → ℕ) (pairs : List TextPair) (i : ℕ) (total : ℕ) → length pairs ≤ i → total ≡ sum_by f (take i (values_in pairs))
-    → total ≡ sum_by f (values_in pairs)
-sum_end f pairs i total past is =
-    let long = length-values pairs in
-    is ∙ ap (sum_by f) (take_all i (values_in pairs) (omega (arith, past, long)))
+pub sum_end : (f : List ℕ → ℕ) (values : List (List ℕ)) (i : ℕ) (total : ℕ) → length values ≤ i → total ≡ sum_by f (take i values) → total ≡ sum_by f values
+sum_end f values i total past is = is ∙ ap (sum_by f) (take_all i values past)

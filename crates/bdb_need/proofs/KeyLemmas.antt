@@ -1,115 +1,66 @@
 -- The units of a btree: the run of a key, and what is counted of those that were passed.
-use Rattle.std.proofs.Common.{◌≡◌, ℕ, ◌+◌, ◌*◌, ◌<◌, ◌≤◌, ◌^◌, Bool, true, false, List, [], ◌∷◌, length, map, get_or, drop, take, arith, refl, sym, ◌∙◌, ap, subst, inl, inr}
+use Rattle.std.proofs.Common.{◌≡◌, ℕ, ◌+◌, ◌*◌, ◌<◌, ◌≤◌, ◌^◌, Bool, true, false, cond, List, [], ◌∷◌, length, drop, arith, refl, ◌∙◌, ap, subst, inl, inr}
 use Rattle.std.specs.Prelude.{◌⊎◌, ◌/◌}
-use Rattle.std.specs.List.{All, prefix_len, sum_by}
+use Rattle.std.specs.List.{All, sum_by}
+use Rattle.std.specs.Str.{bytes_eq}
 use Rattle.std.proofs.Math.ListN.{drop_of_length-le}
-use Rattle.std.proofs.lemmas.List.{drop-map, get_or-map, length-drop, length-map, length-take-le, take-map}
+use Rattle.std.proofs.lemmas.List.{length-drop, length-map}
 use Rattle.std.proofs.lemmas.List.Elements.{All-head, All-tail}
-use Rattle.std.proofs.lemmas.List.Sums.{prefix_len-drop_no, prefix_len-drop_yes, prefix_len-le-length, sum_by-cons}
+use Rattle.std.proofs.lemmas.List.Sums.{sum_by-cons}
 use Rattle.bdb_format.specs.HeadOf.{is_page_size}
 use Rattle.bdb_format.proofs.SizeLemmas.{size_bounds}
-use Rattle.bdb_text_format.specs.Pairs.{keys_of, values_of}
-use Rattle.bdb_text_format.specs.declared.list.Pair.{Pair}
-use Rattle.bdb_text_format.specs.declared.pairs.Key.{Key}
-use Rattle.bdb_text_format.specs.declared.pairs.Key.TheVariants.{Bytes}
+use Rattle.bdb_text_format.specs.declared.pairs.Pair.{Pair}
 use Rattle.bdb_text_format.specs.declared.pairs.TextPair.{TextPair}
 use Rattle.bdb_leaves.specs.Spread.{own_pages, pages_over, tree_size}
-use Rattle.bdb_leaves.specs.Units.{KeyedUnit, TreeUnit, page_room, set_cost, value_cost}
+use Rattle.bdb_leaves.specs.Units.{EntryUnit, KeyedUnit, TreeUnit, page_room, set_cost, value_cost}
 use Rattle.bdb_leaves.specs.declared.leaf_type.LeafType.TheVariants.{Pairs}
 use Rattle.bdb_leaves.proofs.PushLemmas.{cost_few}
-use Rattle.bdb_mktree.specs.Lists.{HasBytes, IsRunAt, has_key, keyed_units}
+use Rattle.bdb_mktree.specs.Lists.{IsRunAt, bytes_in, keyed_units, onto_units}
 use Rattle.bdb_mktree.specs.Units.{IsShortUnit}
-use Rattle.bdb_mktree.proofs.ListLemmas.{first_has_bytes, is_run}
-use Rattle.bdb_need.specs.Counting.{values_in}
 use Rattle.bdb_need.specs.Need.{unlined_pairs, unlined}
 use Rattle.bdb_need.proofs.TreeLemmas.{KeyedTo, keyed_begun, keyed_end}
 
--- Keys and data of pairs without lines.
-
-keys_are : (pairs : List TextPair) → keys_of (unlined_pairs pairs) ≡ map (λ (pair : TextPair). pair.key) pairs
-keys_are [] = refl
-keys_are (pair ∷ pairs) = ap (λ (keys : List Key). pair.key ∷ keys) (keys_are pairs)
-
-values_are : (pairs : List TextPair) → values_of (unlined_pairs pairs) ≡ values_in pairs
-values_are [] = refl
-values_are (pair ∷ pairs) = ap (λ (values : List (List ℕ)). pair.value ∷ values) (values_are pairs)
+-- How many pairs a run has.
 
 pub length-pairs : (pairs : List TextPair) → length (unlined_pairs pairs) ≡ length pairs
 length-pairs pairs = length-map pairs unlined
 
-length-keys : (pairs : List TextPair) → length (keys_of (unlined_pairs pairs)) ≡ length pairs
-length-keys pairs = ap length (keys_are pairs) ∙ length-map pairs (λ (pair : TextPair). pair.key)
+abbrev data_in : TreeUnit → ℕ
+data_in (KeyedUnit key values) = length values
+data_in (EntryUnit value deleted) = 0
 
-key_here : (pairs : List TextPair) (i : ℕ) (pair : TextPair) (d : Key) → i < length pairs → pair ≡ get_or pairs i pair
-    → get_or (keys_of (unlined_pairs pairs)) i d ≡ pair.key
-key_here pairs i pair d within is =
-    ap (λ (keys : List Key). get_or keys i d) (keys_are pairs)
-    ∙ (get_or-map (λ (p : TextPair). p.key) pairs i pair d within ∙ ap (λ (p : TextPair). p.key) (sym is))
+one_more : (key value : List ℕ) (units : List TreeUnit) → sum_by data_in (onto_units key value units) ≡ 1 + sum_by data_in units
+one_more key value [] = sum_by-cons data_in (KeyedUnit key (value ∷ [])) []
+one_more key value (KeyedUnit other values ∷ units) = by_test (bytes_eq key other)
+  where
+    by_test : (b : Bool) → sum_by data_in (cond b (KeyedUnit other (value ∷ values) ∷ units) (KeyedUnit key (value ∷ []) ∷ KeyedUnit other values ∷ units))
+        ≡ 1 + sum_by data_in (KeyedUnit other values ∷ units)
+    by_test true = omega (arith, sum_by-cons data_in (KeyedUnit other (value ∷ values)) units, sum_by-cons data_in (KeyedUnit other values) units)
+    by_test false = sum_by-cons data_in (KeyedUnit key (value ∷ [])) (KeyedUnit other values ∷ units)
+one_more key value (EntryUnit other deleted ∷ units) = sum_by-cons data_in (KeyedUnit key (value ∷ [])) (EntryUnit other deleted ∷ units)
 
--- The run of a key.
+all_data : (pairs : List Pair) → sum_by data_in (keyed_units pairs) ≡ length pairs
+all_data [] = refl
+all_data (pair ∷ pairs) = omega (arith, one_more (bytes_in pair.key) pair.value (keyed_units pairs), all_data pairs)
 
--- the keys from a place on that are this one, counted up to there
-pub run_passes : (key : List ℕ) (pairs : List TextPair) (i n : ℕ) (pair : TextPair) → i < length pairs → pair ≡ get_or pairs i pair
-    → has_key key pair.key ≡ true
-    → (n ≡ i) × (n + prefix_len (has_key key) (drop n (keys_of (unlined_pairs pairs))) ≡ prefix_len (has_key key) (keys_of (unlined_pairs pairs)))
-    → (n + 1 ≡ i + 1) × (n + 1 + prefix_len (has_key key) (drop (n + 1) (keys_of (unlined_pairs pairs)))
-    ≡ prefix_len (has_key key) (keys_of (unlined_pairs pairs)))
-run_passes key pairs i n pair within is same (at, so_far) =
-    let keys : List Key = keys_of (unlined_pairs pairs) in
-    let long = length-keys pairs in
-    let under : n < length keys = omega (arith, long, at, within) in
-    let test : has_key key (get_or keys n pair.key) ≡ true =
-    ap (λ k. has_key key (get_or keys k pair.key)) at ∙ (ap (has_key key) (key_here pairs i pair pair.key within is) ∙ same) in
-    let step = prefix_len-drop_yes (has_key key) keys n pair.key under test in
-    (omega (arith, at), omega (arith, step, so_far))
-
-pub run_stops : (key : List ℕ) (pairs : List TextPair) (i n : ℕ) (pair : TextPair) → i < length pairs → pair ≡ get_or pairs i pair
-    → has_key key pair.key ≡ false
-    → (n ≡ i) × (n + prefix_len (has_key key) (drop n (keys_of (unlined_pairs pairs))) ≡ prefix_len (has_key key) (keys_of (unlined_pairs pairs)))
-    → n ≡ prefix_len (has_key key) (keys_of (unlined_pairs pairs))
-run_stops key pairs i n pair within is other (at, so_far) =
-    let keys : List Key = keys_of (unlined_pairs pairs) in
-    let long = length-keys pairs in
-    let under : n < length keys = omega (arith, long, at, within) in
-    let test : has_key key (get_or keys n pair.key) ≡ false =
-    ap (λ k. has_key key (get_or keys k pair.key)) at ∙ (ap (has_key key) (key_here pairs i pair pair.key within is) ∙ other) in
-    let step = prefix_len-drop_no (has_key key) keys n pair.key under test in
-    omega (arith, step, so_far)
-
-pub run_long : (key : List ℕ) (pairs : List TextPair) (n : ℕ) → n ≡ prefix_len (has_key key) (keys_of (unlined_pairs pairs)) → n ≤ length pairs
-run_long key pairs n is =
-    let most = prefix_len-le-length (has_key key) (keys_of (unlined_pairs pairs)) in
-    let long = length-keys pairs in
-    omega (arith, most, long, is)
-
-dropped : (pairs rest : List TextPair) (start : ℕ) → rest ≡ drop start pairs → unlined_pairs rest ≡ drop start (unlined_pairs pairs)
-dropped pairs rest start is = ap unlined_pairs is ∙ sym (drop-map unlined start pairs)
-
-pub first_bytes : (pairs rest : List TextPair) (start : ℕ) (first : TextPair) → All (λ (pair : Pair). HasBytes pair.key) (unlined_pairs pairs)
-    → start < length pairs → rest ≡ drop start pairs → first ≡ get_or rest 0 first → HasBytes first.key
-first_bytes pairs rest start first all more rest_is is =
-    let long = length-pairs pairs in
-    let some : 0 < length rest = (let size = ap length rest_is ∙ length-drop start pairs in omega (arith, size, more)) in
-    subst HasBytes (key_here rest 0 first first.key some is)
-    (first_has_bytes (unlined_pairs pairs) start (keys_of (unlined_pairs rest)) first.key all (omega (arith, long, more))
-    (ap keys_of (dropped pairs rest start rest_is)))
-
-pub run_here : (pairs rest : List TextPair) (start n : ℕ) (first : TextPair) (key : List ℕ)
-    → All (λ (pair : Pair). HasBytes pair.key) (unlined_pairs pairs)
-    → start < length pairs → rest ≡ drop start pairs → first ≡ get_or rest 0 first → first.key ≡ Bytes key
-    → n ≡ prefix_len (has_key key) (keys_of (unlined_pairs rest))
-    → IsRunAt (unlined_pairs pairs) start (KeyedUnit key (values_in (take n rest))) (start + length (take n rest))
-run_here pairs rest start n first key all more rest_is is key_is long =
-    let size = length-pairs pairs in
-    let some : 0 < length rest = (let left = ap length rest_is ∙ length-drop start pairs in omega (arith, left, more)) in
-    let run = is_run (unlined_pairs pairs) start n (keys_of (unlined_pairs rest)) (values_of (unlined_pairs rest)) key first.key all (omega (arith, size, more))
-    (ap keys_of (dropped pairs rest start rest_is)) (ap values_of (dropped pairs rest start rest_is))
-    (key_here rest 0 first first.key some is ∙ key_is) long in
-    let values : take n (values_of (unlined_pairs rest)) ≡ values_in (take n rest) =
-    ap (take n) (values_are rest) ∙ take-map (λ (pair : TextPair). pair.value) n rest in
-    let taken : n ≡ length (take n rest) = sym (length-take-le n rest (run_long key rest n long)) in
-    subst (λ m. IsRunAt (unlined_pairs pairs) start (KeyedUnit key (values_in (take n rest))) (start + m)) taken
-    (subst (λ vs. IsRunAt (unlined_pairs pairs) start (KeyedUnit key vs) (start + n)) values run)
+-- a run has a pair for each of its data
+pub run_many : (pairs : List Pair) (start end : ℕ) (key : List ℕ) (values : List (List ℕ)) → IsRunAt pairs start (KeyedUnit key values) end
+    → end ≡ start + length values
+run_many pairs start end key values run =
+    let ahead = run.ahead in
+    let within = run.within in
+    let split : sum_by data_in (keyed_units (drop start pairs)) ≡ length values + sum_by data_in (keyed_units (drop end pairs)) =
+    ap (sum_by data_in) run.units ∙ sum_by-cons data_in (KeyedUnit key values) (keyed_units (drop end pairs)) in
+    omega (
+      arith,
+      ahead,
+      within,
+      split,
+      all_data (drop start pairs),
+      all_data (drop end pairs),
+      length-drop start pairs,
+      length-drop end pairs,
+    )
 
 -- What is counted of the units before a place.
 
@@ -146,13 +97,13 @@ pub leaves_here : (size : ℕ) (sorted : Bool) (pairs : List TextPair) (start en
 leaves_here size sorted pairs start end own left room items unit passed run =
     subst (λ us. KeyedTo size (keyed_units (unlined_pairs pairs)) us left items) run.units passed.leaves
 
-pub keys_next : (size : ℕ) (sorted : Bool) (pairs : List TextPair) (start n own left left_now room room_now more : ℕ) (items items_now : List ℕ)
-    (unit : TreeUnit) → KeysPassed size sorted pairs start own left room items → IsRunAt (unlined_pairs pairs) start unit (start + n)
-    → KeyedTo size (keyed_units (unlined_pairs pairs)) (keyed_units (drop (start + n) (unlined_pairs pairs))) left_now items_now → room_now ≡ room
+pub keys_next : (size : ℕ) (sorted : Bool) (pairs : List TextPair) (start end n own left left_now room room_now more : ℕ) (items items_now : List ℕ)
+    (unit : TreeUnit) → KeysPassed size sorted pairs start own left room items → IsRunAt (unlined_pairs pairs) start unit end → end ≡ start + n
+    → KeyedTo size (keyed_units (unlined_pairs pairs)) (keyed_units (drop end (unlined_pairs pairs))) left_now items_now → room_now ≡ room
     → length items_now ≤ length items + 1 → more ≡ own_pages size sorted unit → more ≤ (n + 1) * 2 ^ 33
-    → KeysPassed size sorted pairs (start + n) (own + more) left_now room_now items_now
-keys_next size sorted pairs start n own left left_now room room_now more items items_now unit passed run leaves room_is grown more_is few =
-    let rest : List TreeUnit = keyed_units (drop (start + n) (unlined_pairs pairs)) in
+    → KeysPassed size sorted pairs end (own + more) left_now room_now items_now
+keys_next size sorted pairs start end n own left left_now room room_now more items items_now unit passed run end_is leaves room_is grown more_is few =
+    let rest : List TreeUnit = keyed_units (drop end (unlined_pairs pairs)) in
     let long = length-pairs pairs in
     let ahead = run.ahead in
     let within = run.within in
@@ -164,7 +115,7 @@ keys_next size sorted pairs start n own left left_now room room_now more items i
       low = omega (arith, within, long);
       short = All-tail IsShortUnit unit rest (subst (All IsShortUnit) run.units passed.short);
       sum = omega (arith, split, sum, more_is);
-      few = omega (arith, before, few, ahead);
+      few = omega (arith, before, few, ahead, end_is);
       leaves = leaves;
       room_is = room_is ∙ passed.room_is;
       count = omega (arith, count, grown, ahead);

@@ -1,5 +1,5 @@
 -- The units of a recno: what is counted of those that were passed.
-use Rattle.std.proofs.Common.{◌≡◌, ℕ, zero, suc, ◌+◌, ◌-◌, ◌*◌, ◌<◌, ◌≤◌, ◌^◌, Bool, false, List, [], ◌∷◌, length, map, replicate, get_or, drop, arith, refl, sym, ◌∙◌, ap, subst}
+use Rattle.std.proofs.Common.{◌≡◌, ℕ, zero, suc, ◌+◌, ◌-◌, ◌*◌, ◌<◌, ◌≤◌, ◌^◌, Bool, false, List, [], ◌∷◌, length, map, replicate, get_or, slice_get, Some, drop, arith, refl, sym, ◌∙◌, ap, subst}
 use Rattle.std.specs.Prelude.{◌/◌}
 use Rattle.std.specs.List.{sum_by}
 use Rattle.std.proofs.Math.ListN.{drop_of_length-le}
@@ -7,8 +7,9 @@ use Rattle.std.proofs.lemmas.Bool.{le-leb}
 use Rattle.std.proofs.lemmas.List.{drop_more, get_or-map, length-map, length-replicate}
 use Rattle.std.proofs.lemmas.List.Folds.{sum_by-replicate}
 use Rattle.std.proofs.lemmas.List.Sums.{sum_by-append, sum_by-cons}
+use Rattle.std.proofs.lemmas.Option.{get_or_from_slice_get, slice_get_within}
 use Rattle.bdb_format.specs.declared.settings.Settings.{Settings}
-use Rattle.bdb_text_format.specs.declared.list.Pair.{Pair}
+use Rattle.bdb_text_format.specs.declared.pairs.Pair.{Pair}
 use Rattle.bdb_text_format.specs.declared.pairs.TextPair.{TextPair}
 use Rattle.bdb_text_format.specs.Pairs.{AscendFrom, number_of}
 use Rattle.bdb_leaves.specs.Spread.{own_pages, pages_over, tree_size}
@@ -63,6 +64,9 @@ here pairs i pair within is =
     let long = length-map pairs unlined in
     drop_more (unlined_pairs pairs) i (unlined pair) (omega (arith, within, long))
     ∙ ap (λ (p : Pair). p ∷ drop (i + 1) (unlined_pairs pairs)) (get_or-map unlined pairs i pair (unlined pair) within ∙ ap unlined (sym is))
+
+pub pair_here : (pairs : List TextPair) (i : ℕ) (pair : TextPair) → slice_get pairs i ≡ Some pair → (i < length pairs) × (pair ≡ get_or pairs i pair)
+pair_here pairs i pair at = (slice_get_within pairs i pair at, sym (get_or_from_slice_get pairs i pair pair at))
 
 -- The same records, filled up.
 

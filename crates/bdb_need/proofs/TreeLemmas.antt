@@ -7,7 +7,6 @@ use Rattle.std.proofs.lemmas.List.{append-nil, append_assoc, drop_more, length-m
 use Rattle.std.proofs.lemmas.List.Elements.{All-nil, All-push}
 use Rattle.bdb_levels.specs.declared.inner_type.InnerType.{InnerType}
 use Rattle.bdb_levels.specs.declared.inner_type.InnerType.TheVariants.{Keyed}
-use Rattle.bdb_text_format.specs.declared.pairs.TextPair.{TextPair}
 use Rattle.bdb_leaves.specs.Inner.{first_cost}
 use Rattle.bdb_leaves.specs.Laid.{inner_of}
 use Rattle.bdb_leaves.specs.Spread.{inner_cost, key_item_cost, leaf_key, leaves_and_levels, pages_over, spread_units, unit_key}
@@ -15,9 +14,8 @@ use Rattle.bdb_leaves.specs.Units.{EntryUnit, TreeUnit, page_room, unit_cost}
 use Rattle.bdb_leaves.specs.declared.leaf_type.LeafType.{LeafType}
 use Rattle.bdb_leaves.specs.declared.leaf_type.LeafType.TheVariants.{Records}
 use Rattle.bdb_need.specs.declared.open_page.OpenPage.{OpenPage}
-use Rattle.bdb_need.specs.Counting.{ArePut, data_units, pages_on, values_in}
+use Rattle.bdb_need.specs.Counting.{ArePut, data_units, pages_on}
 use Rattle.bdb_need.proofs.BehindLemmas.{behind, behind-map, behind_new, behind_open, length-spread, self, spread_from}
-use Rattle.bdb_need.proofs.DataLemmas.{length-values}
 use Rattle.bdb_need.proofs.OpenLemmas.{pages-behind}
 
 -- Trees whose items count records.
@@ -144,14 +142,10 @@ keyed_end type size total left room all items keyed counted room_is is =
 
 -- The data of a key.
 
-pub data_here : (pairs : List TextPair) (i : ℕ) (value : List ℕ) → i < length pairs → value ≡ get_or (values_in pairs) i []
-    → data_units (drop i (values_in pairs)) ≡ EntryUnit value false ∷ data_units (drop (i + 1) (values_in pairs))
-data_here pairs i value within is =
-    let long = length-values pairs in
-    ap data_units (drop_more (values_in pairs) i [] (omega (arith, within, long)))
-    ∙ ap (λ v. EntryUnit v false ∷ data_units (drop (i + 1) (values_in pairs))) (sym is)
+pub data_here : (values : List (List ℕ)) (i : ℕ) (value : List ℕ) → i < length values → value ≡ get_or values i []
+    → data_units (drop i values) ≡ EntryUnit value false ∷ data_units (drop (i + 1) values)
+data_here values i value within is =
+    ap data_units (drop_more values i [] within) ∙ ap (λ v. EntryUnit v false ∷ data_units (drop (i + 1) values)) (sym is)
 
-pub data_past : (pairs : List TextPair) (i : ℕ) → length pairs ≤ i → data_units (drop i (values_in pairs)) ≡ []
-data_past pairs i past =
-    let long = length-values pairs in
-    ap data_units (drop_of_length-le (values_in pairs) (omega (arith, past, long)))
+pub data_past : (values : List (List ℕ)) (i : ℕ) → length values ≤ i → data_units (drop i values) ≡ []
+data_past values i past = ap data_units (drop_of_length-le values past)

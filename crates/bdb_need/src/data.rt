@@ -1,68 +1,73 @@
 ghost use Rattle.std.specs.Prelude.{◌≡◌, ◌+◌, ◌≤◌, ◌*◌, ◌^◌, IfOk, IsTrue, length};
 ghost use Rattle.std.specs.List.{All, sum_by};
 ghost use Rattle.bdb_format.specs.HeadOf.{is_page_size};
+ghost use Rattle.bdb_places.specs.Places.{values_seen};
 ghost use Rattle.bdb_leaves.specs.Runs.{IsShort, more_cost};
 ghost use Rattle.bdb_leaves.specs.Spread.{leaves_and_levels, set_type};
 ghost use Rattle.bdb_leaves.specs.Units.{chain_pages};
 ghost use Rattle.bdb_leaves.specs.declared.leaf_type.LeafType.TheVariants.{Records, SortedData};
-ghost use Rattle.bdb_need.specs.Counting.{data_units, values_in};
+ghost use Rattle.bdb_need.specs.Counting.{data_units};
 
 use crate::costs::{chain_pages, key_item_cost, page_room, value_cost};
 use crate::keyed_leaves::KeyedLeaves;
 use crate::open_page::OpenPage;
-use bdb_text_format::TextPair;
+use bdb_places::Values;
 use std::alloc::{AllocError, Global};
 
 /// The pages of the chains of data.
-pub fn data_chains(size: usize, pairs: &[TextPair]) -> u128
+pub fn data_chains(size: usize, values: Values<'_>) -> u128
     requires legal { IsTrue (is_page_size size) }
-    requires short { All IsShort (values_in pairs.now) }
-    ensures pages { result ≡ sum_by (chain_pages size) (values_in pairs.now) }
-    ensures few { result ≤ length pairs.now * 2 ^ 32 }
+    requires short { All IsShort (values_seen values) }
+    ensures pages { result ≡ sum_by (chain_pages size) (values_seen values.entry) }
+    ensures few { result ≤ length (values_seen values.entry) * 2 ^ 32 }
+    ensures small { result ≤ 2 ^ 96 }
 {
     let mut pages: u128 = 0;
-    for pair in pairs {
-        pages += chain_pages(size, pair.value.as_slice());
+    for i in 0..values.len() {
+        pages += chain_pages(size, values.at(i));
     }
     pages
 }
 
 /// What data take of a leaf, each with its two entries.
-pub(crate) fn data_cost(size: usize, pairs: &[TextPair]) -> u128
+pub(crate) fn data_cost(size: usize, values: Values<'_>) -> u128
     requires { IsTrue (is_page_size size) }
-    ensures cost { result ≡ more_cost size (values_in pairs.now) }
-    ensures few { result ≤ length pairs.now * 2 ^ 13 }
+    ensures cost { result ≡ more_cost size (values_seen values.entry) }
+    ensures few { result ≤ length (values_seen values.entry) * 2 ^ 13 }
+    ensures small { result ≤ 2 ^ 77 }
 {
     let mut cost: u128 = 0;
-    for pair in pairs {
-        cost += (4 + value_cost(size, pair.value.as_slice())) as u128;
+    for i in 0..values.len() {
+        cost += (4 + value_cost(size, values.at(i))) as u128;
     }
     cost
 }
 
 // The leaves of sorted data, with the levels over them.
-fn sorted_pages(alloc: Global, size: usize, pairs: &[TextPair]) -> Result<u128, AllocError>
+fn sorted_pages(alloc: Global, size: usize, values: Values<'_>) -> Result<u128, AllocError>
     requires { IsTrue (is_page_size size) }
-    ensures pages { IfOk result (λ pages. pages ≡ leaves_and_levels SortedData size (data_units (values_in pairs.now))) }
-    ensures few { IfOk result (λ pages. pages ≤ 3 * (length pairs.now + 1)) }
+    ensures pages { IfOk result (λ pages. pages ≡ leaves_and_levels SortedData size (data_units (values_seen values.entry))) }
+    ensures few { IfOk result (λ pages. pages ≤ 3 * (length (values_seen values.entry) + 1)) }
+    ensures small { IfOk result (λ pages. pages ≤ 2 ^ 66) }
 {
     let mut leaves = KeyedLeaves::new(alloc, page_room(size));
-    for pair in pairs {
-        let value = pair.value.as_slice();
+    for i in 0..values.len() {
+        let value = values.at(i);
         leaves.put(2 + value_cost(size, value), key_item_cost(size, value))?;
     }
     Ok(leaves.tree_pages())
 }
 
 // The leaves of data in the order in which they came, with the levels over them.
-fn unsorted_pages(size: usize, pairs: &[TextPair]) -> u128
+fn unsorted_pages(size: usize, values: Values<'_>) -> u128
     requires { IsTrue (is_page_size size) }
-    ensures pages { result ≡ leaves_and_levels Records size (data_units (values_in pairs.now)) }
-    ensures few { result ≤ 3 * (length pairs.now + 1) }
+    ensures pages { result ≡ leaves_and_levels Records size (data_units (values_seen values.entry)) }
+    ensures few { result ≤ 3 * (length (values_seen values.entry) + 1) }
+    ensures small { result ≤ 2 ^ 66 }
 {
     let mut open = OpenPage::new(page_room(size));
-    for pair in pairs {
-        open.put(2 + value_cost(size, pair.value.as_slice()));
+    for i in 0..values.len() {
+        open.put(2 + value_cost(size, values.at(i)));
     }
     open.tree_pages()
 }
@@ -72,15 +77,16 @@ pub fn data_pages(
     alloc: Global,
     size: usize,
     sorted: bool,
-    pairs: &[TextPair],
+    values: Values<'_>,
 ) -> Result<u128, AllocError>
     requires { IsTrue (is_page_size size) }
-    ensures pages { IfOk result (λ pages. pages ≡ leaves_and_levels (set_type sorted) size (data_units (values_in pairs.now))) }
-    ensures few { IfOk result (λ pages. pages ≤ 3 * (length pairs.now + 1)) }
+    ensures pages { IfOk result (λ pages. pages ≡ leaves_and_levels (set_type sorted) size (data_units (values_seen values.entry))) }
+    ensures few { IfOk result (λ pages. pages ≤ 3 * (length (values_seen values.entry) + 1)) }
+    ensures small { IfOk result (λ pages. pages ≤ 2 ^ 66) }
 {
     if sorted {
-        sorted_pages(alloc, size, pairs)
+        sorted_pages(alloc, size, values)
     } else {
-        Ok(unsorted_pages(size, pairs))
+        Ok(unsorted_pages(size, values))
     }
 }

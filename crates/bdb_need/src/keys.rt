@@ -1,20 +1,20 @@
 ghost use Rattle.std.specs.Prelude.{◌≡◌, ◌+◌, ◌≤◌, ◌<◌, ◌*◌, ◌^◌, IfOk, IsTrue, drop, length};
 ghost use Rattle.std.specs.List.{All};
 ghost use Rattle.bdb_format.specs.HeadOf.{is_page_size};
+ghost use Rattle.bdb_places.specs.Places.{values_seen};
+ghost use Rattle.bdb_text_format.specs.Placed.{pairs_of};
 ghost use Rattle.bdb_leaves.specs.Runs.{IsShort};
 ghost use Rattle.bdb_leaves.specs.Spread.{own_pages, tree_size};
 ghost use Rattle.bdb_leaves.specs.Units.{KeyedUnit, has_own_tree, page_room, unit_cost};
 ghost use Rattle.bdb_leaves.specs.declared.leaf_type.LeafType.TheVariants.{Pairs};
 ghost use Rattle.bdb_mktree.specs.Lists.{HasBytes, keyed_units};
 ghost use Rattle.bdb_mktree.specs.Units.{IsShortUnit};
-ghost use Rattle.bdb_need.specs.Counting.{values_in};
-ghost use Rattle.bdb_need.specs.Need.{unlined_pairs};
 
 use crate::costs::{chain_pages, key_item_cost, page_room, value_cost};
 use crate::data::{data_chains, data_cost, data_pages};
 use crate::keyed_leaves::KeyedLeaves;
-use crate::runs::{Run, run_at};
-use bdb_text_format::TextPair;
+use bdb_mktree::{Run, run_at};
+use bdb_text_format::PairSlice;
 use std::alloc::{AllocError, Global};
 
 /// What a key with its data takes of its leaf.
@@ -25,50 +25,48 @@ struct Taken {
     has_tree: bool,
 }
 
-impl Run<'_> {
-    // What the key takes of its leaf: with all its data, or with the root of their tree where they would take too much.
-    fn taken(&self, size: usize) -> Taken
-        requires { IsTrue (is_page_size size) }
-        ensures cost { result.cost ≡ unit_cost size (KeyedUnit self.now.key.now (values_in self.now.pairs.now)) }
-        ensures tree { result.has_tree ≡ has_own_tree size self.now.key.now (values_in self.now.pairs.now) }
-        ensures fits { result.cost ≤ page_room size }
-    {
-        let key = value_cost(size, self.key);
-        let cost = key as u128 + data_cost(size, self.pairs);
-        let most = (page_room(size) / 4) as u128;
-        if self.pairs.len() > 1 && cost > most {
-            return Taken {
-                cost: key + 16,
-                has_tree: true,
-            };
-        }
-        Taken {
-            cost: cost as usize,
-            has_tree: false,
-        }
+// What a key takes of its leaf: with all its data, or with the root of their tree where they would take too much.
+fn taken_by(run: &Run<'_>, size: usize) -> Taken
+    requires { IsTrue (is_page_size size) }
+    ensures cost { result.cost ≡ unit_cost size (KeyedUnit run.now.key.now (values_seen run.now.values)) }
+    ensures tree { result.has_tree ≡ has_own_tree size run.now.key.now (values_seen run.now.values) }
+    ensures fits { result.cost ≤ page_room size }
+{
+    let key = value_cost(size, run.key);
+    let cost = key as u128 + data_cost(size, run.values);
+    let most = (page_room(size) / 4) as u128;
+    if run.values.len() > 1 && cost > most {
+        return Taken {
+            cost: key + 16,
+            has_tree: true,
+        };
     }
+    Taken {
+        cost: cost as usize,
+        has_tree: false,
+    }
+}
 
-    // The pages of its own: the chains of the key and its data, and the tree of the data where there is one.
-    fn own_pages(
-        &self,
-        alloc: Global,
-        size: usize,
-        sorted: bool,
-        has_tree: bool,
-    ) -> Result<u128, AllocError>
-        requires legal { IsTrue (is_page_size size) }
-        requires short { IsShortUnit (KeyedUnit self.now.key.now (values_in self.now.pairs.now)) }
-        requires tree { has_tree ≡ has_own_tree size self.now.key.now (values_in self.now.pairs.now) }
-        ensures pages { IfOk result (λ pages. pages ≡ own_pages size sorted (KeyedUnit self.now.key.now (values_in self.now.pairs.now))) }
-        ensures few { IfOk result (λ pages. pages ≤ (length self.now.pairs.now + 1) * 2 ^ 33) }
-    {
-        let chains = chain_pages(size, self.key) + data_chains(size, self.pairs);
-        if !has_tree {
-            return Ok(chains);
-        }
-        let tree = data_pages(alloc, size, sorted, self.pairs)?;
-        Ok(chains + tree)
+// The pages of its own: the chains of the key and its data, and the tree of the data where there is one.
+fn own_pages(
+    alloc: Global,
+    run: &Run<'_>,
+    size: usize,
+    sorted: bool,
+    has_tree: bool,
+) -> Result<u128, AllocError>
+    requires legal { IsTrue (is_page_size size) }
+    requires short { IsShortUnit (KeyedUnit run.now.key.now (values_seen run.now.values)) }
+    requires tree { has_tree ≡ has_own_tree size run.now.key.now (values_seen run.now.values) }
+    ensures pages { IfOk result (λ pages. pages ≡ own_pages size sorted (KeyedUnit run.now.key.now (values_seen run.now.values))) }
+    ensures few { IfOk result (λ pages. pages ≤ (length (values_seen run.now.values) + 1) * 2 ^ 33) }
+{
+    let chains = chain_pages(size, run.key) + data_chains(size, run.values);
+    if !has_tree {
+        return Ok(chains);
     }
+    let tree = data_pages(alloc, size, sorted, run.values)?;
+    Ok(chains + tree)
 }
 
 /// The pages of a btree with these pairs.
@@ -76,12 +74,12 @@ pub(crate) fn keyed_pages(
     alloc: Global,
     size: usize,
     sorted: bool,
-    pairs: &[TextPair],
+    pairs: PairSlice<'_>,
 ) -> Result<u128, AllocError>
     requires legal { IsTrue (is_page_size size) }
-    requires keys { All (λ pair. HasBytes pair.key) (unlined_pairs pairs.now) }
-    requires short { All IsShortUnit (keyed_units (unlined_pairs pairs.now)) }
-    ensures pages { IfOk result (λ pages. pages ≡ tree_size Pairs size sorted (keyed_units (unlined_pairs pairs.now))) }
+    requires keys { All (λ pair. HasBytes pair.key) (pairs_of pairs) }
+    requires short { All IsShortUnit (keyed_units (pairs_of pairs)) }
+    ensures pages { IfOk result (λ pages. pages ≡ tree_size Pairs size sorted (keyed_units (pairs_of pairs.entry))) }
     ensures few { IfOk result (λ pages. pages < 2 ^ 100) }
 {
     let mut leaves = KeyedLeaves::new(alloc, page_room(size));
@@ -89,10 +87,10 @@ pub(crate) fn keyed_pages(
     let mut start = 0;
     while start < pairs.len() {
         let run = run_at(pairs, start);
-        let taken = run.taken(size);
+        let taken = taken_by(&run, size);
         leaves.put(taken.cost, key_item_cost(size, run.key))?;
-        own += run.own_pages(alloc, size, sorted, taken.has_tree)?;
-        start += run.pairs.len();
+        own += own_pages(alloc, &run, size, sorted, taken.has_tree)?;
+        start = run.end;
     }
     Ok(own + leaves.tree_pages())
 }

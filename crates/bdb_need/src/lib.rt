@@ -8,10 +8,8 @@ mod keys;
 mod levels;
 mod open_page;
 mod records;
-mod runs;
 mod sections;
 
 pub use costs::chain_pages;
 pub use data::{data_chains, data_pages};
-pub use runs::{Run, run_at};
 pub use sections::{filled_tree_pages, tree_pages};

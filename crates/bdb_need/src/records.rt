@@ -5,6 +5,7 @@ ghost use Rattle.bdb_leaves.specs.Runs.{IsShort};
 ghost use Rattle.bdb_leaves.specs.Spread.{tree_size};
 ghost use Rattle.bdb_leaves.specs.declared.leaf_type.LeafType.TheVariants.{Records};
 ghost use Rattle.bdb_text_format.specs.Pairs.{AscendFrom, number_of};
+ghost use Rattle.bdb_text_format.specs.Placed.{key_seen, slice_seen};
 ghost use Rattle.bdb_mktree.specs.Lists.{record_units};
 ghost use Rattle.bdb_need.specs.Counting.{values_in};
 ghost use Rattle.bdb_need.specs.Need.{unlined_pairs};
@@ -14,36 +15,37 @@ use crate::costs::{length_chain, length_cost, page_room};
 use crate::open_page::OpenPage;
 use bdb_format::Settings;
 use bdb_settle::filled_len;
-use bdb_text_format::{Key, TextPair};
+use bdb_text_format::{KeyRef, PairSlice};
 
 // What a missing record takes of a leaf: an entry, and a deleted item without bytes.
 const MISSING_COST: usize = 6;
 
 // The number of a record.
-fn number_of(key: &Key) -> u64
-    ensures number { result ≡ number_of key.now }
+fn number_of(key: KeyRef<'_>) -> u64
+    ensures number { result ≡ number_of (key_seen key.entry) }
     ensures few { result < 2 ^ 32 }
 {
     match key {
-        Key::Bytes(_) => 0,
-        Key::Number(number) => u64::from(*number),
+        KeyRef::Bytes(_) => 0,
+        KeyRef::Number(number) => u64::from(number),
     }
 }
 
 /// The pages of a recno with these records, once they are filled up. Those that are missing before one are counted at once.
-pub(crate) fn record_pages(size: usize, settings: &Settings, pairs: &[TextPair]) -> u128
+pub(crate) fn record_pages(size: usize, settings: &Settings, pairs: PairSlice<'_>) -> u128
     requires legal { IsTrue (is_page_size size) }
-    requires ascend { AscendFrom 1 (unlined_pairs (filled_pairs settings.now pairs.now)) }
-    requires short { All IsShort (values_in (filled_pairs settings.now pairs.now)) }
-    ensures pages { (sorted : Bool) → result ≡ tree_size Records size sorted (record_units 1 (unlined_pairs (filled_pairs settings.now pairs.now))) }
+    requires ascend { AscendFrom 1 (unlined_pairs (filled_pairs settings.now (slice_seen pairs))) }
+    requires short { All IsShort (values_in (filled_pairs settings.now (slice_seen pairs))) }
+    ensures pages { (sorted : Bool) → result ≡ tree_size Records size sorted (record_units 1 (unlined_pairs (filled_pairs settings.now (slice_seen pairs.entry)))) }
     ensures few { result < 2 ^ 100 }
 {
     let mut open = OpenPage::new(page_room(size));
     let mut chains: u128 = 0;
     let mut next: u64 = 1;
-    for pair in pairs {
-        let number = number_of(&pair.key);
-        let len = filled_len(settings, &pair.value);
+    for i in 0..pairs.len() {
+        let pair = pairs.at(i);
+        let number = number_of(pair.key);
+        let len = filled_len(settings, pair.value);
         open.put_many(number - next, MISSING_COST);
         open.put(2 + length_cost(size, len));
         chains += length_chain(size, len);

@@ -71,7 +71,7 @@ fn with_section(
         is_misnamed(base, section),
         LoadError::OntoNames(line),
     );
-    with_pairs(first, &settings, &section.pairs)
+    with_pairs(first, &settings, section.pairs.as_slice())
 }
 
 /// The first error of sections on a base.

@@ -1,6 +1,7 @@
 //! The pairs of sections behind those of their partners, as if one text had both.
-ghost use Rattle.std.specs.Prelude.{◌≡◌, [], ◌++◌, IfOk, List, Some, length, map, option_to_list, reverse};
+ghost use Rattle.std.specs.Prelude.{◌≡◌, [], ◌++◌, IfOk, List, Some, length, map, option_to_list};
 ghost use Rattle.std.specs.List.{All, flat_map};
+ghost use Rattle.bdb_text_format.specs.Placed.{slice_seen};
 ghost use Rattle.bdb_sections.specs.Fit.{AreNamedBehind};
 ghost use Rattle.bdb_onto.specs.Bases.{IsBase};
 ghost use Rattle.bdb_onto.specs.Joining.{IsPlaced, behind, emptied, placed_section, taken_at};
@@ -10,7 +11,7 @@ ghost use Rattle.bdb_onto.specs.Search.{IsWithin};
 use crate::Base;
 use crate::partners::place_of;
 use bdb_format::{Order, Settings};
-use bdb_text_format::{Section, Sections, TextPair, TextPairs};
+use bdb_text_format::{PairSlice, Section, Sections, TextPairs};
 use std::alloc::{AllocError, Global};
 
 /// A section, and the place of its partner in the base, where it has one.
@@ -20,33 +21,17 @@ struct Placed {
     place: Option<usize>,
 }
 
-// Pairs, the last one first.
-fn backward(alloc: Global, pairs: TextPairs) -> Result<Vec<TextPair>, AllocError>
-    ensures { IfOk result (λ all. all.items ≡ reverse pairs) }
-{
-    let mut pairs = pairs;
-    let mut all = Vec::with_capacity(alloc, pairs.len())?;
-    while let Some(pair) = pairs.pop() {
-        all.push(pair)?;
-    }
-    Ok(all)
-}
-
 // Pairs behind others.
-fn pairs_behind(alloc: Global, before: TextPairs, pairs: TextPairs) -> Result<TextPairs, AllocError>
-    ensures { IfOk result (λ all. all ≡ before ++ pairs) }
+fn pairs_behind(before: TextPairs, pairs: PairSlice<'_>) -> Result<TextPairs, AllocError>
+    ensures { IfOk result (λ all. all ≡ before ++ slice_seen pairs.entry) }
 {
     let mut all = before;
-    let mut rest = backward(alloc, pairs)?;
-    while let Some(pair) = rest.pop() {
-        all.push(pair)?;
-    }
+    all.push_all(pairs)?;
     Ok(all)
 }
 
 // A section behind its partner, where it has one, in a file of this page size and order.
 fn behind(
-    alloc: Global,
     page_size: u32,
     order: Order,
     partner: Option<Section>,
@@ -54,21 +39,27 @@ fn behind(
 ) -> Result<Section, AllocError>
     ensures { IfOk result (λ joined. joined ≡ behind page_size order partner section) }
 {
+    let Section {
+        name,
+        settings,
+        header_line,
+        pairs,
+    } = section;
     let (settings, pairs) = match partner {
         Some(partner) => (
             partner.settings,
-            pairs_behind(alloc, partner.pairs, section.pairs)?,
+            pairs_behind(partner.pairs, pairs.as_slice())?,
         ),
-        None => (section.settings, section.pairs),
+        None => (settings, pairs),
     };
     Ok(Section {
-        name: section.name,
+        name,
         settings: Settings {
             page_size,
             order,
             ..settings
         },
-        header_line: section.header_line,
+        header_line,
         pairs,
     })
 }
@@ -124,7 +115,7 @@ fn with_left(all: Sections, places: Vec<Option<Section>>) -> Result<Sections, Al
     Ok(all)
 }
 
-/// Sections behind their partners, and the databases of the base that are left. They are moved, not copied.
+/// Sections behind their partners, and the databases of the base that are left. The pairs of a partner and of a section without one are moved, and the others copied once.
 pub(crate) fn joined(alloc: Global, base: Base, sections: Sections) -> Result<Sections, AllocError>
     requires base { IsBase base }
     requires apart { AreNamedBehind [] sections }
@@ -141,7 +132,7 @@ pub(crate) fn joined(alloc: Global, base: Base, sections: Sections) -> Result<Se
     let mut all = Sections::new(alloc);
     for placed in sections {
         let partner = take_at(&mut places, placed.place);
-        all.push(behind(alloc, page_size, order, partner, placed.section)?)?;
+        all.push(behind(page_size, order, partner, placed.section)?)?;
     }
     with_left(all, places)
 }

@@ -11,7 +11,7 @@ use Rattle.bdb_format.specs.declared.kinds.Kind.TheVariants.{Btree, Recno}
 use Rattle.bdb_format.specs.File.{File}
 use Rattle.bdb_format.specs.HeadOf.{is_page_size}
 use Rattle.bdb_format.proofs.SizeLemmas.{long_page}
-use Rattle.bdb_text_format.specs.declared.list.Pair.{Pair}
+use Rattle.bdb_text_format.specs.declared.pairs.Pair.{Pair}
 use Rattle.bdb_text_format.specs.declared.pairs.Key.TheVariants.{Number}
 use Rattle.bdb_text_format.specs.declared.sections.Section.{Section}
 use Rattle.bdb_text_format.specs.Pairs.{number_of}

@@ -1,16 +1,27 @@
 //! What is salvaged, as sections that can be loaded.
-ghost use Rattle.std.specs.Prelude.{◌≡◌, ◌<◌, ◌≤◌, ◌^◌, IfOk, Some, length};
+ghost use Rattle.std.specs.Prelude.{◌≡◌, ◌++◌, ◌∷◌, ◌<◌, ◌≤◌, ◌^◌, [], IfOk, OnOk, Some, length};
+ghost use Rattle.std.specs.List.{flat_map};
+ghost use Rattle.bdb_format.specs.Chains.{joined};
+ghost use Rattle.bdb_overflow.specs.Datum.{datum_seen};
 ghost use Rattle.bdb_repair.specs.Parts.{loose_pairs, loose_section, named_sections, repair_sections, shaped_pairs, shaped_section};
-ghost use Rattle.bdb_repair.specs.Parts.{stored_pairs, stored_section};
-ghost use Rattle.bdb_salvage.specs.Kept.{file_in};
+ghost use Rattle.bdb_repair.specs.Parts.{stored_pair, stored_pairs, stored_section};
+ghost use Rattle.bdb_salvage.specs.Kept.{file_in, pairs_under};
 ghost use Rattle.bdb_stored.specs.Salvage.{loose, stored};
 
 use crate::shape::shaped_settings;
 use crate::{Duplicates, Shape};
 use bdb_format::Bytes;
-use bdb_salvage::{SalvagePairs, SalvageValues, Salvaged};
-use bdb_text_format::{Key, Section, Sections, TextPair, TextPairs};
+use bdb_overflow::{Datum, Pieces};
+use bdb_salvage::{SalvageEntries, SalvageEntry, SalvageValues, Salvaged};
+use bdb_text_format::{KeyRef, PairRef, Section, Sections, TextPairs};
 use std::alloc::{AllocError, Global};
+
+/// Rooms in which the bytes of chains are joined, for all keys and data of a section.
+#[derive(Drop)]
+struct Rooms {
+    key: Vec<u8>,
+    value: Vec<u8>,
+}
 
 // A name of its own.
 fn named(alloc: Global, name: &[u8]) -> Result<Option<Bytes>, AllocError>
@@ -21,17 +32,76 @@ fn named(alloc: Global, name: &[u8]) -> Result<Option<Bytes>, AllocError>
     Ok(Some(copy))
 }
 
-// The pairs of a section of stored pairs.
-fn stored_pairs(alloc: Global, found: SalvagePairs<'_, '_>) -> Result<TextPairs, AllocError>
-    ensures { IfOk result (λ pairs. pairs ≡ stored_pairs found.entry) }
+// Puts pieces of a chain into a room, one behind the other.
+fn put_pieces(pieces: Pieces<'_>, room: &mut Vec<u8>) -> Result<(), AllocError>
+    ensures { OnOk result (room.new.items ≡ joined pieces.entry) }
 {
+    room.clear();
+    for piece in pieces {
+        room.extend_from_slice(piece)?;
+    }
+    Ok(())
+}
+
+// The bytes of a value: those of its page, or of its chain, which then lie in a room.
+fn bytes_of<'r>(value: Datum<'r>, room: &'r mut Vec<u8>) -> Result<&'r [u8], AllocError>
+    ensures { IfOk result (λ bytes. bytes.now ≡ datum_seen value.entry) }
+{
+    match value {
+        Datum::Inline(bytes) => Ok(bytes),
+        Datum::Chained(pieces) => {
+            put_pieces(pieces, room)?;
+            Ok(room.as_slice())
+        }
+    }
+}
+
+// Adds a stored pair.
+fn push_pair(
+    key: Datum<'_>,
+    value: Datum<'_>,
+    rooms: &mut Rooms,
+    pairs: &mut TextPairs,
+) -> Result<(), AllocError>
+    ensures { OnOk result (pairs.new ≡ pairs.old ++ stored_pair (datum_seen key.entry, datum_seen value.entry) ∷ []) }
+{
+    pairs.push(PairRef {
+        key: KeyRef::Bytes(bytes_of(key, &mut rooms.key)?),
+        value: bytes_of(value, &mut rooms.value)?,
+        line: 0,
+    })
+}
+
+// Adds a stored key with each of its data. The key is copied once, however many there are.
+fn push_entry(
+    entry: &mut SalvageEntry<'_, '_>,
+    rooms: &mut Rooms,
+    pairs: &mut TextPairs,
+) -> Result<(), AllocError>
+    ensures { OnOk result (pairs.new ≡ pairs.old ++ stored_pairs (pairs_under entry.old)) }
+{
+    let Some(first) = entry.next() else {
+        return Ok(());
+    };
+    push_pair(entry.key(), first, rooms, pairs)?;
+    while let Some(value) = entry.next() {
+        pairs.push_with_last_key(bytes_of(value, &mut rooms.value)?, 0)?;
+    }
+    Ok(())
+}
+
+// The pairs of a section of stored pairs.
+fn stored_pairs(alloc: Global, found: &mut SalvageEntries<'_, '_>) -> Result<TextPairs, AllocError>
+    ensures { IfOk result (λ pairs. pairs ≡ stored_pairs (flat_map pairs_under found.old)) }
+{
+    let mut rooms = Rooms {
+        key: Vec::new(alloc),
+        value: Vec::new(alloc),
+    };
     let mut pairs = TextPairs::new(alloc);
-    for (key, value) in found {
-        pairs.push(TextPair {
-            key: Key::Bytes(key.copy(alloc)?),
-            value: value.copy(alloc)?,
-            line: 0,
-        })?;
+    for entry in found {
+        let mut entry = entry;
+        push_entry(&mut entry, &mut rooms, &mut pairs)?;
     }
     Ok(pairs)
 }
@@ -41,13 +111,14 @@ fn numbered_pairs(alloc: Global, found: SalvageValues<'_, '_>) -> Result<TextPai
     requires { length found < 2 ^ 32 }
     ensures { IfOk result (λ pairs. pairs ≡ loose_pairs found.entry) }
 {
+    let mut room = Vec::new(alloc);
     let mut pairs = TextPairs::new(alloc);
     let mut number = 0;
     for value in found {
         number += 1;
-        pairs.push(TextPair {
-            key: Key::Number(number),
-            value: value.copy(alloc)?,
+        pairs.push(PairRef {
+            key: KeyRef::Number(number),
+            value: bytes_of(value, &mut room)?,
             line: 0,
         })?;
     }
@@ -62,6 +133,13 @@ fn loose_pairs(alloc: Global, salvaged: &Salvaged<'_>) -> Result<TextPairs, Allo
     numbered_pairs(alloc, salvaged.loose())
 }
 
+// The pairs of a section of all stored pairs.
+fn all_stored(alloc: Global, salvaged: &Salvaged<'_>) -> Result<TextPairs, AllocError>
+    ensures { IfOk result (λ pairs. pairs ≡ stored_pairs (stored (file_in salvaged.now))) }
+{
+    stored_pairs(alloc, &mut salvaged.entries())
+}
+
 // The section of the stored pairs, with its name.
 fn stored_section(alloc: Global, salvaged: &Salvaged<'_>) -> Result<Section, AllocError>
     ensures { IfOk result (λ section. section ≡ stored_section salvaged.now.guess (stored (file_in salvaged.now))) }
@@ -70,7 +148,7 @@ fn stored_section(alloc: Global, salvaged: &Salvaged<'_>) -> Result<Section, All
         name: named(alloc, b"salvaged")?,
         settings: shaped_settings(salvaged.guess(), Shape::Btree(Duplicates::Unsorted)),
         header_line: 0,
-        pairs: stored_pairs(alloc, salvaged.pairs())?,
+        pairs: all_stored(alloc, salvaged)?,
     })
 }
 
@@ -110,7 +188,7 @@ fn shaped_pairs(
     ensures { IfOk result (λ pairs. pairs ≡ shaped_pairs shape (file_in salvaged.now)) }
 {
     match shape {
-        Shape::Btree(_) | Shape::Hash(_) => stored_pairs(alloc, salvaged.pairs()),
+        Shape::Btree(_) | Shape::Hash(_) => all_stored(alloc, salvaged),
         Shape::Recno => loose_pairs(alloc, salvaged),
     }
 }

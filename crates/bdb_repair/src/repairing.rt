@@ -5,7 +5,7 @@ ghost use Rattle.bdb_salvage.specs.Guesses.{chosen};
 ghost use Rattle.bdb_repair.specs.Repairs.{IsRepaired, may_come, repair_answer, repair_refusal};
 
 use crate::parts::repair_sections;
-use crate::room::{Fit, Left, fit_of};
+use crate::room::{Fit, Room, fit_of};
 use crate::{RepairError, Shape};
 use bdb_format::Steps;
 use bdb_io::Image;
@@ -15,8 +15,8 @@ use bdb_settle::LoadError;
 use std::alloc::Global;
 use std::sync::ledger::Ledger;
 
-/// How many times the bytes of the limit and the image together the copies of what is salvaged may want: each datum is copied with its key, and a hostile
-/// file may give a long key to many.
+/// How many times the bytes of the limit and the image together the copies of what is salvaged may want: a key is copied once and each of its data once, but
+/// many items of a hostile file may name one chain or one set.
 const COPIES: u64 = 4;
 
 // Why what is salvaged isn't loaded.
@@ -64,9 +64,9 @@ pub fn repair_as<L: Ledger>(
     ensures { IsRepaired max shape (chosen guess image.now) image.now result }
 {
     let salvaged = salvage(alloc, image, guess, steps)?;
-    let room = Left {
+    let room = Room {
         file: max,
-        memory: Some(COPIES * (max + image.len() as u64)),
+        memory: COPIES * (max + image.len() as u64),
     };
     match fit_of(&salvaged, shape, room) {
         Fit::Fits => {}

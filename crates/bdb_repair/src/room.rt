@@ -5,9 +5,9 @@ ghost use Rattle.bdb_salvage.specs.Kept.{file_in};
 ghost use Rattle.bdb_repair.specs.Room.{IsFit, datum_room, least_room, pair_room, room_as};
 
 use crate::{Duplicates, Shape};
-use bdb_salvage::{SalvagePairs, SalvageValues, Salvaged};
+use bdb_salvage::{SalvageEntries, SalvageEntry, SalvagePairs, SalvageValues, Salvaged};
 
-/// What a copy of a pair takes of memory beside its bytes.
+/// What a copy of a datum takes of memory beside its bytes: its place, and its share of what grows by doubling.
 const COPY: u64 = 64;
 
 /// Whether what is salvaged can be loaded.
@@ -20,11 +20,11 @@ pub(crate) enum Fit {
     Scarce,
 }
 
-/// The bytes that are left: of the file, and of memory, unless copies would want more.
+/// The bytes that the file may have, and those that copies may want of memory.
 #[derive(Clone, Copy, Debug, PartialEq, Eq)]
-pub(crate) struct Left {
+pub(crate) struct Room {
     pub(crate) file: u64,
-    pub(crate) memory: Option<u64>,
+    pub(crate) memory: u64,
 }
 
 // What is left of so many bytes after those of a datum and four more; `None` where they are too few.
@@ -37,68 +37,44 @@ fn after_datum(room: u64, datum: u64) -> Option<u64>
     Some(room - 4 - datum)
 }
 
-// What is left of memory after a copy of a pair of such lengths; a record has no key.
-fn after_copy(memory: Option<u64>, key: u64, datum: u64) -> Option<u64> {
-    memory?
-        .checked_sub(COPY)?
-        .checked_sub(key)?
-        .checked_sub(datum)
-}
-
-// What is left after pairs, whose data stand in the file; `None` where they have no room there.
-fn after_pairs(room: Left, found: SalvagePairs<'_, '_>) -> Option<Left>
-    ensures { MatchOption result (room.file < sum_by pair_room found.entry) (λ left. left.file + sum_by pair_room found.entry ≡ room.file) }
+// What is left of a file after pairs, whose data stand in it; `None` where they have no room there.
+fn after_pairs(room: u64, found: SalvagePairs<'_, '_>) -> Option<u64>
+    ensures { MatchOption result (room < sum_by pair_room found.entry) (λ left. left + sum_by pair_room found.entry ≡ room) }
 {
     let mut left = room;
     for pair in found {
-        let file = after_datum(left.file, pair.1.len())?;
-        let memory = after_copy(left.memory, pair.0.len(), pair.1.len());
-        left = Left { file, memory };
+        left = after_datum(left, pair.1.len())?;
     }
     Some(left)
 }
 
-// What is left after records, which stand in the file.
-fn after_records(room: Left, found: SalvageValues<'_, '_>) -> Option<Left>
-    ensures { MatchOption result (room.file < sum_by datum_room found.entry) (λ left. left.file + sum_by datum_room found.entry ≡ room.file) }
+// What is left of a file after records, which stand in it.
+fn after_records(room: u64, found: SalvageValues<'_, '_>) -> Option<u64>
+    ensures { MatchOption result (room < sum_by datum_room found.entry) (λ left. left + sum_by datum_room found.entry ≡ room) }
 {
     let mut left = room;
     for value in found {
-        let file = after_datum(left.file, value.len())?;
-        let memory = after_copy(left.memory, 0, value.len());
-        left = Left { file, memory };
+        left = after_datum(left, value.len())?;
     }
     Some(left)
 }
 
-// What is left of memory after copies of pairs, of which one may take the place of another in the file.
-fn after_copies(memory: Option<u64>, found: SalvagePairs<'_, '_>) -> Option<u64> {
-    let mut left = memory;
-    for pair in found {
-        left = Some(after_copy(left, pair.0.len(), pair.1.len())?);
-    }
-    left
-}
-
-// What is left after the data of a shape.
-fn after_shape(room: Left, salvaged: &Salvaged<'_>, shape: Shape) -> Option<Left>
-    ensures { MatchOption result (room.file < room_as shape (file_in salvaged.now)) (λ left. left.file + room_as shape (file_in salvaged.now) ≡ room.file) }
+// What is left of a file after the data of a shape. Where one may take the place of another, none is sure to stand there.
+fn after_shape(room: u64, salvaged: &Salvaged<'_>, shape: Shape) -> Option<u64>
+    ensures { MatchOption result (room < room_as shape (file_in salvaged.now)) (λ left. left + room_as shape (file_in salvaged.now) ≡ room) }
 {
     match shape {
         Shape::Btree(Duplicates::Unsorted) => after_pairs(room, salvaged.pairs()),
         Shape::Recno => after_records(room, salvaged.loose()),
         Shape::Btree(Duplicates::No) | Shape::Btree(Duplicates::Sorted) | Shape::Hash(_) => {
-            Some(Left {
-                file: room.file,
-                memory: after_copies(room.memory, salvaged.pairs()),
-            })
+            Some(room)
         }
     }
 }
 
-// What is left after all that is loaded.
-fn after_all(room: Left, salvaged: &Salvaged<'_>, shape: Option<Shape>) -> Option<Left>
-    ensures { MatchOption result (room.file < least_room shape (file_in salvaged.now)) (λ left. left.file + least_room shape (file_in salvaged.now) ≡ room.file) }
+// What is left of a file after all that is loaded.
+fn after_all(room: u64, salvaged: &Salvaged<'_>, shape: Option<Shape>) -> Option<u64>
+    ensures { MatchOption result (room < least_room shape (file_in salvaged.now)) (λ left. left + least_room shape (file_in salvaged.now) ≡ room) }
 {
     match shape {
         None => after_records(after_pairs(room, salvaged.pairs())?, salvaged.loose()),
@@ -106,13 +82,60 @@ fn after_all(room: Left, salvaged: &Salvaged<'_>, shape: Option<Shape>) -> Optio
     }
 }
 
+// What is left of memory after a copy of so many bytes.
+fn after_copy(memory: u64, bytes: u64) -> Option<u64> {
+    memory.checked_sub(COPY)?.checked_sub(bytes)
+}
+
+// What is left of memory after copies of a key and of each of its data.
+fn after_entry(memory: u64, entry: &mut SalvageEntry<'_, '_>) -> Option<u64> {
+    let mut left = after_copy(memory, entry.key().len())?;
+    while let Some(value) = entry.next() {
+        left = after_copy(left, value.len())?;
+    }
+    Some(left)
+}
+
+// What is left of memory after copies of stored keys and their data.
+fn after_entries(memory: u64, found: &mut SalvageEntries<'_, '_>) -> Option<u64> {
+    let mut left = memory;
+    for entry in found {
+        let mut entry = entry;
+        left = after_entry(left, &mut entry)?;
+    }
+    Some(left)
+}
+
+// What is left of memory after copies of records.
+fn after_values(memory: u64, found: SalvageValues<'_, '_>) -> Option<u64> {
+    let mut left = memory;
+    for value in found {
+        left = after_copy(left, value.len())?;
+    }
+    Some(left)
+}
+
+// What is left of memory after copies of all that is loaded.
+fn after_copies(memory: u64, salvaged: &Salvaged<'_>, shape: Option<Shape>) -> Option<u64> {
+    match shape {
+        None => after_values(
+            after_entries(memory, &mut salvaged.entries())?,
+            salvaged.loose(),
+        ),
+        Some(Shape::Recno) => after_values(memory, salvaged.loose()),
+        Some(Shape::Btree(_) | Shape::Hash(_)) => after_entries(memory, &mut salvaged.entries()),
+    }
+}
+
 /// Whether what is salvaged has room. No more of it is looked at than the file or memory may have, and nothing is copied.
-pub(crate) fn fit_of(salvaged: &Salvaged<'_>, shape: Option<Shape>, room: Left) -> Fit
+pub(crate) fn fit_of(salvaged: &Salvaged<'_>, shape: Option<Shape>, room: Room) -> Fit
     ensures { IsFit (nat_lt room.file (least_room shape (file_in salvaged.now))) result }
 {
-    match after_all(room, salvaged, shape) {
+    match after_all(room.file, salvaged, shape) {
         None => Fit::Past,
-        Some(left) if left.memory.is_none() => Fit::Scarce,
-        Some(_) => Fit::Fits,
+        Some(_) => match after_copies(room.memory, salvaged, shape) {
+            None => Fit::Scarce,
+            Some(_) => Fit::Fits,
+        },
     }
 }

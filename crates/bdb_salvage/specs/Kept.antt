@@ -139,6 +139,16 @@ given file kept =
     under (value_of file (item_of file kept.page (2 * kept.index)).content)
     (data_at file (item_of file kept.page (2 * kept.index + 1)).content kept.place)
 
+-- the same as the key and the data; where it's deleted there are none
+abbrev pub keyed : File → KeptPair → (List ℕ × List (List ℕ))
+keyed file kept = (
+  value_of file (item_of file kept.page (2 * kept.index)).content,
+  if kept.live then data_at file (item_of file kept.page (2 * kept.index + 1)).content kept.place else [],
+)
+
+abbrev pub pairs_under : (List ℕ × List (List ℕ)) → List (List ℕ × List ℕ)
+pairs_under entry = under entry.0 entry.1
+
 -- what a kept pair gives: nothing where it's deleted
 abbrev pub given_live : File → KeptPair → List (List ℕ × List ℕ)
 given_live file kept = if kept.live then given file kept else []

@@ -14,7 +14,7 @@ use std::marker::Model;
 
 /// The data of a pair that are left.
 #[derive(Drop)]
-enum PairData<'s, 'a> {
+pub(crate) enum PairData<'s, 'a> {
     None,
     One(Datum<'s>),
     Blocks(DupBlocks<'a>),
@@ -53,7 +53,7 @@ fn data_here<'s, 'a>(salvaged: &'s Salvaged<'a>, content: Content<'a>) -> PairDa
 }
 
 /// The data of a pair.
-fn pair_data<'s, 'a>(salvaged: &'s Salvaged<'a>, pair: KeptPair) -> PairData<'s, 'a>
+pub(crate) fn pair_data<'s, 'a>(salvaged: &'s Salvaged<'a>, pair: KeptPair) -> PairData<'s, 'a>
     requires { IsKeptPair (file_in salvaged.now) pair }
     ensures { data_left result ≡ data_at (file_in salvaged.now) (item_of (file_in salvaged.now) pair.page (2 * pair.index + 1)).content pair.place }
 {
@@ -68,7 +68,7 @@ fn pair_data<'s, 'a>(salvaged: &'s Salvaged<'a>, pair: KeptPair) -> PairData<'s,
 
 impl<'s, 'a> PairData<'s, 'a> {
     /// The next datum.
-    fn next(&mut self) -> Option<Datum<'s>>
+    pub(crate) fn next(&mut self) -> Option<Datum<'s>>
         ensures { YieldsFirstBy datum_seen data_left self.old result self.new }
     {
         match self {

@@ -1,6 +1,7 @@
 //! What can be had from the pages of a damaged image, one by one.
 #![tactic(auto)]
 
+mod entries;
 mod entry;
 mod error;
 mod guess;
@@ -18,6 +19,7 @@ mod thin;
 mod values;
 
 pub use bdb_survey::{Guess, chain_of};
+pub use entries::{SalvageEntries, SalvageEntry};
 pub use error::SalvageError;
 pub use pairs::SalvagePairs;
 pub use salvaged::{Salvaged, salvage};

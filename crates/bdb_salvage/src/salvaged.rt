@@ -5,7 +5,7 @@ ghost use Rattle.bdb_format.specs.File.{page_at};
 ghost use Rattle.bdb_format.specs.Page.{Chain};
 ghost use Rattle.bdb_format.specs.HeadOf.{is_page_size};
 ghost use Rattle.bdb_salvage.specs.Guesses.{chosen};
-ghost use Rattle.bdb_salvage.specs.Kept.{IsKeptValue, IsTable, file_in, item_of, kept_pairs, loose_values, set_from, thin_from, value_at, values_on};
+ghost use Rattle.bdb_salvage.specs.Kept.{IsKeptValue, IsTable, file_in, item_of, kept_pairs, loose_values, pairs_under, set_from, thin_from, value_at, values_on};
 ghost use Rattle.bdb_salvage.specs.Marks.{Marks};
 ghost use Rattle.bdb_layout.specs.Seen.{content_seen};
 ghost use Rattle.bdb_survey.specs.Items.{is_valued, slots_in};
@@ -21,7 +21,7 @@ use crate::sets::{SetTable, set_table};
 use crate::starts::{first_leaves, taken_pages};
 use crate::tables::part;
 use crate::thin::{ThinTable, thin_table};
-use crate::{Guess, SalvageError, SalvagePairs, SalvageValues};
+use crate::{Guess, SalvageEntries, SalvageError, SalvagePairs, SalvageValues};
 use bdb_format::Steps;
 use bdb_layout::Content;
 use bdb_overflow::Datum;
@@ -160,6 +160,14 @@ impl<'a> Salvaged<'a> {
         ensures { result ≡ stored (file_in self.now) }
     {
         SalvagePairs::over(self)
+    }
+
+    /// The stored keys in their order, each with its data: together they are the stored pairs.
+    #[tactic(auto, using(crate::proofs::StoredLemmas::stored_is, crate::proofs::LeftLemmas::entries_give))]
+    pub fn entries<'s>(&'s self) -> SalvageEntries<'s, 'a>
+        ensures { flat_map pairs_under result ≡ stored (file_in self.now) }
+    {
+        SalvageEntries::over(self)
     }
 
     /// The loose records, in the order of page and slot.

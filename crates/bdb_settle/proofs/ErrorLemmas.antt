@@ -1,14 +1,30 @@
 -- Where there is no first error, none holds.
-use Rattle.std.proofs.Common.{◌≡◌, Bool, true, false, cond, List, [], ◌∷◌, ◌++◌, length, refl, Some, None}
+use Rattle.std.proofs.Common.{◌≡◌, ◌∙◌, ◌+◌, ℕ, Option, ap, slice_get, sym, take, Bool, true, false, cond, List, [], ◌∷◌, ◌++◌, length, refl, Some, None}
 use Rattle.std.specs.List.{All, flat_map, fold}
 use Rattle.std.specs.Prelude.{◌==◌}
+use Rattle.std.proofs.lemmas.List.{append-nil}
 use Rattle.std.proofs.lemmas.List.Elements.{All-cons, All-nil, All-weaker}
+use Rattle.std.proofs.lemmas.Grind.{flat_map-append}
+use Rattle.std.proofs.lemmas.List.Sums.{fold-append}
 use Rattle.bdb_format.specs.declared.settings.Settings.{Settings}
 use Rattle.bdb_text_format.specs.declared.pairs.TextPair.{TextPair}
 use Rattle.bdb_text_format.specs.declared.sections.Section.{Section}
+use Rattle.bdb_text_format.proofs.PlacedLemmas.{taken_more}
 use Rattle.bdb_settle.specs.declared.load_error.LoadError.{LoadError}
 use Rattle.bdb_settle.specs.declared.load_error.LoadError.TheVariants.{RecordTooLong, RecordZero}
 use Rattle.bdb_settle.specs.LoadErrors.{header_errors, is_sooner, is_too_long, is_zero, load_error, page_size_in, pair_errors, section_errors, sooner, where_so}
+
+-- the first error, with those of a pair more
+pub errors_more : (settings : Settings) (start now then_ : Option LoadError) (pairs : List TextPair) (i : ℕ) (pair : TextPair)
+    → now ≡ fold sooner start (flat_map (pair_errors settings) (take i pairs)) → slice_get pairs i ≡ Some pair → then_ ≡ fold sooner now (pair_errors settings pair)
+    → then_ ≡ fold sooner start (flat_map (pair_errors settings) (take (i + 1) pairs))
+errors_more settings start now then_ pairs i pair so at is =
+    is
+    ∙ ap (λ first. fold sooner first (pair_errors settings pair)) so
+    ∙ sym (fold-append sooner start (flat_map (pair_errors settings) (take i pairs)) (pair_errors settings pair))
+    ∙ ap (fold sooner start) (sym (ap (flat_map (pair_errors settings)) (taken_more pairs i pair at)
+    ∙ flat_map-append (pair_errors settings) (take i pairs) (pair ∷ [])
+    ∙ ap (λ errors. flat_map (pair_errors settings) (take i pairs) ++ errors) (append-nil (pair_errors settings pair))))
 
 still_some : (first : LoadError) (errors : List LoadError) → fold sooner (Some first) errors ≡ None → ⊥
 still_some first [] none = absurd cc

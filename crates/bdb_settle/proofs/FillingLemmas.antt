@@ -1,15 +1,18 @@
 -- Filling records up before their list is made, or after it, is the same.
-use Rattle.std.proofs.Common.{◌≡◌, ℕ, Bool, true, false, cond, not, List, [], ◌∷◌, map, refl, sym, ◌∙◌, ap}
+use Rattle.std.proofs.Common.{◌≡◌, ℕ, ◌+◌, Bool, true, false, cond, not, List, [], ◌∷◌, ◌++◌, Some, map, refl, slice_get, sym, take, ◌∙◌, ap}
 use Rattle.std.specs.Prelude.{◌&&◌, ◌||◌}
 use Rattle.std.specs.List.{fold}
 use Rattle.std.proofs.Math.Bool.{and-false}
+use Rattle.std.proofs.lemmas.List.{map-append}
 use Rattle.bdb_format.specs.declared.settings.Settings.{Settings}
-use Rattle.bdb_text_format.specs.declared.list.Pair.{Pair}
+use Rattle.bdb_text_format.specs.declared.pairs.Pair.{Pair}
 use Rattle.bdb_text_format.specs.declared.pairs.TextPair.{TextPair}
 use Rattle.bdb_text_format.specs.declared.sections.Section.{Section}
+use Rattle.bdb_text_format.specs.Pairs.{unlined, unlined_pairs}
 use Rattle.bdb_text_format.specs.Written.{holds_records}
-use Rattle.bdb_settle.specs.Loaded.{loaded_pair, filled_pairs, filled_section, filled_value, has_length, keeps_data, loaded, loaded_section}
-use Rattle.bdb_settle.specs.Loaded.{ordered, ordered_section, unlined_pairs, put, sorts_data, stands_before, unlined, unnumbered, with_loaded}
+use Rattle.bdb_text_format.proofs.PlacedLemmas.{taken_more}
+use Rattle.bdb_settle.specs.Loaded.{loaded_pair, filled_pair, filled_pairs, filled_section, filled_value, has_length, keeps_data, loaded, loaded_section}
+use Rattle.bdb_settle.specs.Loaded.{ordered, ordered_section, put, sorts_data, stands_before, unnumbered, with_loaded}
 
 -- where records have no length, nothing is filled up
 pub value_as_is : (settings : Settings) (value : List ℕ) → has_length settings ≡ false → filled_value settings value ≡ value
@@ -20,6 +23,13 @@ as_they_are settings [] none = refl
 as_they_are settings (pair ∷ pairs) none =
     ap (λ (value : List ℕ). record { key = pair.key; value = value; line = pair.line } ∷ filled_pairs settings pairs) (value_as_is settings pair.value none)
     ∙ ap (λ ps. pair ∷ ps) (as_they_are settings pairs none)
+
+-- a pair more
+pub filled_more : (settings : Settings) (all pairs : List TextPair) (i : ℕ) (pair : TextPair) → all ≡ filled_pairs settings (take i pairs)
+    → slice_get pairs i ≡ Some pair → all ++ filled_pair settings pair ∷ [] ≡ filled_pairs settings (take (i + 1) pairs)
+filled_more settings all pairs i pair is at =
+    ap (λ front. front ++ filled_pair settings pair ∷ []) is
+    ∙ sym (ap (filled_pairs settings) (taken_more pairs i pair at) ∙ map-append (filled_pair settings) (take i pairs) (pair ∷ []))
 
 -- a pair of a list, filled up
 abbrev pub fill : Settings → Pair → Pair

@@ -3,6 +3,7 @@ pub mod KeyOrderLemmas
 pub mod ListLawLemmas
 pub mod OrderedLemmas
 pub mod PutLemmas
+pub mod PlaceLemmas
 pub mod SettlingLemmas
 pub mod StableLemmas
 pub mod FillingLemmas

@@ -1,5 +1,5 @@
 -- One pass over pairs in their order makes the list.
-use Rattle.std.proofs.Common.{◌≡◌, suc, ◌+◌, Bool, true, false, not, List, [], ◌∷◌, ◌++◌, length}
+use Rattle.std.proofs.Common.{◌≡◌, ℕ, suc, ◌+◌, Bool, true, false, not, List, [], ◌∷◌, ◌++◌, length}
 use Rattle.std.proofs.Common.{get_or, map, refl, sym, ◌∙◌, ap, subst, arith, true≢false, append_assoc, ◌-◌, reverse}
 use Rattle.std.specs.Prelude.{◌&&◌, ◌||◌, if◌then◌else◌, None, slice_get}
 use Rattle.std.specs.Cmp.{IsStrictWeakOrder}
@@ -9,22 +9,27 @@ use Rattle.std.proofs.lemmas.List.Elements.{All-head, All-tail, All-append, All-
 use Rattle.std.proofs.lemmas.List.{reverse-reverse}
 use Rattle.std.proofs.lemmas.Option.{slice_get-get_or}
 use Rattle.bdb_format.specs.declared.settings.Settings.{Settings}
-use Rattle.bdb_text_format.specs.declared.list.Pair.{Pair}
+use Rattle.bdb_text_format.specs.declared.pairs.Pair.{Pair}
 use Rattle.bdb_text_format.specs.declared.pairs.TextPair.{TextPair}
 use Rattle.bdb_settle.specs.Loaded.{keeps_data, put, stands_before, unnumbered, with_loaded}
-use Rattle.bdb_settle.specs.Settling.{Ascend, IsSettledTo, stays}
+use Rattle.bdb_places.specs.declared.place.Place.{Place}
+use Rattle.bdb_settle.specs.Settling.{Ascend, IsSettledTo, pair_on, place_before, stays}
 use Rattle.bdb_settle.proofs.KeyOrderLemmas.{pairs_weakly}
 use Rattle.bdb_settle.proofs.PutLemmas.{put_behind}
 
-sorted_rest : (before : Pair → Pair → Bool) (x : Pair) (xs : List Pair) → IsSortedBy before (x ∷ xs) → IsSortedBy before xs
+sorted_rest : {X : Type 0} (before : X → X → Bool) (x : X) (xs : List X) → IsSortedBy before (x ∷ xs) → IsSortedBy before xs
 sorted_rest before x xs sorted k d low high =
     let e : suc k + 1 ≡ suc (k + 1) = omega arith in
     subst (λ n. before (get_or (x ∷ xs) n d) (get_or xs k d) ≡ false) e (sorted (suc k) d (omega arith) (omega arith))
 
-pub ascend_from : (before : Pair → Pair → Bool) (last : Pair) (rest : List Pair) → IsSortedBy before (last ∷ rest) → Ascend before last rest
-ascend_from before last [] sorted = tt
-ascend_from before last (x ∷ rest) sorted =
-    (sorted 0 x (omega arith) (omega arith), ascend_from before x rest (sorted_rest before last (x ∷ rest) sorted))
+-- places in the order of what stands there
+pub ascend_from : {X : Type 0} (before : Pair → Pair → Bool) (pair_of : X → Pair) (last : X) (rest : List X)
+    → IsSortedBy (λ a b. before (pair_of a) (pair_of b)) (last ∷ rest) → Ascend before (pair_of last) (map pair_of rest)
+ascend_from before pair_of last [] sorted = tt
+ascend_from before pair_of last (x ∷ rest) sorted = (
+  sorted 0 x (omega arith) (omega arith),
+  ascend_from before pair_of x rest (sorted_rest (λ a b. before (pair_of a) (pair_of b)) last (x ∷ rest) sorted),
+)
 
 -- what stays where a pair comes stays where a later one does
 module _ (before : Pair → Pair → Bool) (weak : IsStrictWeakOrder before) (keeps : Bool) where
@@ -62,13 +67,13 @@ module _ (before : Pair → Pair → Bool) (weak : IsStrictWeakOrder before) (ke
 
 -- The pass.
 
-pub begun : (settings : Settings) (last : Pair) (rest : List Pair) → IsSortedBy (stands_before settings) (last ∷ rest)
-    → IsSettledTo settings (last ∷ rest) [] last rest
-begun settings last rest sorted = record {
+pub begun : (settings : Settings) (bytes : List ℕ) (last : Place) (rest : List Place) → IsSortedBy (place_before settings bytes) (last ∷ rest)
+    → IsSettledTo settings (map (pair_on bytes) (last ∷ rest)) [] (pair_on bytes last) (map (pair_on bytes) rest)
+begun settings bytes last rest sorted = record {
   done = [];
   seen = refl;
-  stay = All-nil (λ other. stays (stands_before settings) (keeps_data settings) last other ≡ true);
-  ascend = ascend_from (stands_before settings) last rest sorted;
+  stay = All-nil (λ other. stays (stands_before settings) (keeps_data settings) (pair_on bytes last) other ≡ true);
+  ascend = ascend_from (stands_before settings) (pair_on bytes) last rest sorted;
   whole = refl;
 }
 
@@ -115,12 +120,6 @@ pub ended : (settings : Settings) (all : List Pair) (list : List TextPair) (last
 ended settings all list last so = ap (λ l. l ++ (unnumbered last ∷ [])) so.seen ∙ map_more so.done last ∙ ap (map unnumbered) (sym so.whole)
 
 -- One step, in the words of the loop.
-
-pub starts : (settings : Settings) (all : List Pair) (list : List TextPair) (last : Pair) (rest : List Pair) → list ≡ [] → all ≡ last ∷ rest
-    → IsSortedBy (stands_before settings) all → IsSettledTo settings all list last rest
-starts settings all list last rest none is sorted =
-    subst (λ l. IsSettledTo settings all l last rest) (sym none) (subst (λ a. IsSettledTo settings a [] last rest) (sym is)
-    (begun settings last rest (subst (IsSortedBy (stands_before settings)) is sorted)))
 
 pub goes_on : (settings : Settings) (all : List Pair) (list list_then : List TextPair) (last last_then pair : Pair) (left rest : List Pair) (b : Bool)
     → IsSettledTo settings all list last left → left ≡ pair ∷ rest → (stands_before settings last pair || keeps_data settings) ≡ b

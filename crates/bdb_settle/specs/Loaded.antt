@@ -3,10 +3,11 @@ use Rattle.std.specs.Prelude.{ℕ, ◌-◌, ◌%◌, nat_lt, ◌&&◌, ◌||◌,
 use Rattle.std.specs.List.{fold}
 use Rattle.bdb_format.specs.declared.settings.Settings.{Settings}
 use Rattle.bdb_format.specs.Less.{less}
-use Rattle.bdb_text_format.specs.declared.list.Pair.{Pair}
+use Rattle.bdb_text_format.specs.declared.pairs.Pair.{Pair}
 use Rattle.bdb_text_format.specs.declared.pairs.Key.{Key}
 use Rattle.bdb_text_format.specs.declared.pairs.Key.TheVariants.{Bytes, Number}
 use Rattle.bdb_text_format.specs.declared.pairs.TextPair.{TextPair}
+pub use Rattle.bdb_text_format.specs.Pairs.{unlined, unlined_pairs, unnumbered}
 use Rattle.bdb_text_format.specs.declared.sections.Section.{Section}
 use Rattle.bdb_text_format.specs.Written.{holds_records}
 
@@ -61,13 +62,6 @@ loaded settings pairs = fold (with_loaded settings) [] (map (loaded_pair setting
 
 -- Lists whose records aren't filled up yet.
 
--- a pair without its line
-abbrev pub unlined : TextPair → Pair
-unlined pair = record { key = pair.key; value = pair.value }
-
-abbrev pub unlined_pairs : List TextPair → List Pair
-unlined_pairs pairs = map unlined pairs
-
 -- the list of pairs as they are
 abbrev pub ordered : Settings → List TextPair → List Pair
 ordered settings pairs = fold (with_loaded settings) [] (unlined_pairs pairs)
@@ -80,9 +74,6 @@ abbrev pub filled_pairs : Settings → List TextPair → List TextPair
 filled_pairs settings pairs = map (filled_pair settings) pairs
 
 -- Sections.
-
-abbrev pub unnumbered : Pair → TextPair
-unnumbered pair = record { key = pair.key; value = pair.value; line = 0 }
 
 -- a section with its list, in which no line has a number
 abbrev pub loaded_section : Section → Section

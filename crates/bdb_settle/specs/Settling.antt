@@ -1,13 +1,23 @@
 -- Lists in the making. Source: docs/FORMAT.md, "What loading does to a list".
-use Rattle.std.specs.Prelude.{◌≡◌, Bool, true, false, not, ◌||◌, ◌&&◌, List, [], ◌∷◌, ◌++◌, map}
+use Rattle.std.specs.Prelude.{◌≡◌, Bool, true, false, not, ◌||◌, ◌&&◌, List, [], ◌∷◌, ◌++◌, ◌<◌, drop, length, map, take, ℕ}
 use Rattle.std.specs.List.{All, fold}
 use Rattle.std.specs.declared.cmp.Ordering.{Ordering}
 use Rattle.std.specs.declared.cmp.Ordering.TheVariants.{Less as Below, Equal, Greater}
-use Rattle.bdb_text_format.specs.declared.list.Pair.{Pair}
+use Rattle.bdb_text_format.specs.declared.pairs.Pair.{Pair}
 use Rattle.bdb_text_format.specs.declared.pairs.Key.{Key}
 use Rattle.bdb_text_format.specs.declared.pairs.TextPair.{TextPair}
 use Rattle.bdb_format.specs.declared.settings.Settings.{Settings}
+use Rattle.bdb_places.specs.declared.place.Place.{Place}
+use Rattle.bdb_text_format.specs.Pairs.{unlined}
+use Rattle.bdb_text_format.specs.Placed.{ArePlaced, IsPlaced, placed_pair, placed_pairs}
 use Rattle.bdb_settle.specs.Loaded.{keeps_data, key_less, stands_before, unnumbered, with_loaded}
+
+-- the pair at a place of a run, without its line, and the order of places by their pairs
+abbrev pub pair_on : List ℕ → Place → Pair
+pair_on bytes place = unlined (placed_pair bytes place)
+
+abbrev pub place_before : Settings → List ℕ → Place → Place → Bool
+place_before settings bytes a b = stands_before settings (pair_on bytes a) (pair_on bytes b)
 
 -- a pair that stays where another is put behind it
 abbrev pub stays : (Pair → Pair → Bool) → Bool → Pair → Pair → Bool
@@ -25,6 +35,15 @@ pub record IsSettledTo (settings : Settings) (all : List Pair) (list : List Text
   pub stay : All (λ other. stays (stands_before settings) (keeps_data settings) last other ≡ true) done
   pub ascend : Ascend (stands_before settings) last rest
   pub whole : fold (with_loaded settings) [] all ≡ fold (with_loaded settings) (done ++ last ∷ []) rest
+
+-- The same in place: of places in their order the first so many are of the list, the last pair waits, and from one on they are still to come.
+pub record IsSettledAt (settings : Settings) (bytes : List ℕ) (all places : List Place) (kept : ℕ) (last : Place) (next : ℕ) : Type 0 where
+  pub low : kept < next
+  pub same : length places ≡ length all
+  pub settled : IsSettledTo settings (map (pair_on bytes) all) (placed_pairs bytes (take kept places)) (pair_on bytes last) (map (pair_on bytes) (drop next places))
+  pub line : last.line ≡ 0
+  pub here : IsPlaced bytes last
+  pub placed : ArePlaced bytes places
 
 -- the answer of a comparison of two keys
 abbrev pub KeyOrderingIs : Ordering → Key → Key → Type 0

@@ -1,5 +1,6 @@
 ghost use Rattle.std.specs.Prelude.{◌≡◌, ◌+◌, ◌==◌, length};
 ghost use Rattle.std.specs.List.{flat_map, fold};
+ghost use Rattle.bdb_text_format.specs.Placed.{key_seen, pair_seen, slice_seen};
 ghost use Rattle.bdb_text_format.specs.Written.{is_queue};
 ghost use Rattle.bdb_settle.specs.LoadErrors.{header_errors, is_among_names, is_sooner, is_too_long, is_too_wide, is_zero};
 ghost use Rattle.bdb_settle.specs.LoadErrors.{line_of, code_of, load_error, pair_errors, page_size_in, section_errors, sooner, where_so};
@@ -8,7 +9,7 @@ ghost use Rattle.bdb_format.specs.Numbers.{pad4};
 use crate::LoadError;
 use crate::filling::has_length;
 use bdb_format::{Kind, Settings};
-use bdb_text_format::{Key, Section, Sections, TextPair, TextPairs};
+use bdb_text_format::{KeyRef, PairRef, PairSlice, Section, Sections};
 
 /// The line of an error.
 fn line_of(error: LoadError) -> u64
@@ -64,45 +65,45 @@ pub fn sooner_where(first: Option<LoadError>, holds: bool, error: LoadError) -> 
 }
 
 /// Whether a datum is longer than the fixed length.
-fn is_too_long(settings: &Settings, pair: &TextPair) -> bool
-    ensures { result ≡ is_too_long settings.now pair.now }
+fn is_too_long(settings: &Settings, pair: PairRef<'_>) -> bool
+    ensures { result ≡ is_too_long settings.now (pair_seen pair.entry) }
 {
-    has_length(settings) && (settings.re_len as usize) < pair.value.as_slice().len()
+    has_length(settings) && (settings.re_len as usize) < pair.value.len()
 }
 
 /// Whether a key is the number 0.
-fn is_zero(key: &Key) -> bool
-    ensures { result ≡ is_zero key.now }
+fn is_zero(key: KeyRef<'_>) -> bool
+    ensures { result ≡ is_zero (key_seen key.entry) }
 {
     match key {
-        Key::Bytes(_) => false,
-        Key::Number(number) => *number == 0,
+        KeyRef::Bytes(_) => false,
+        KeyRef::Number(number) => number == 0,
     }
 }
 
 /// The first error, with those of a pair.
-fn with_pair(first: Option<LoadError>, settings: &Settings, pair: &TextPair) -> Option<LoadError>
-    ensures { result ≡ fold sooner first (pair_errors settings.now pair.now) }
+fn with_pair(first: Option<LoadError>, settings: &Settings, pair: PairRef<'_>) -> Option<LoadError>
+    ensures { result ≡ fold sooner first (pair_errors settings.now (pair_seen pair.entry)) }
 {
     let first = sooner_where(
         first,
         is_too_long(settings, pair),
         LoadError::RecordTooLong(pair.line),
     );
-    sooner_where(first, is_zero(&pair.key), LoadError::RecordZero(pair.line))
+    sooner_where(first, is_zero(pair.key), LoadError::RecordZero(pair.line))
 }
 
 /// The first error, with those of pairs.
 pub fn with_pairs(
     first: Option<LoadError>,
     settings: &Settings,
-    pairs: &TextPairs,
+    pairs: PairSlice<'_>,
 ) -> Option<LoadError>
-    ensures { result ≡ fold sooner first (flat_map (pair_errors settings.now) pairs.now) }
+    ensures { result ≡ fold sooner first (flat_map (pair_errors settings.now) (slice_seen pairs.entry)) }
 {
     let mut first = first;
-    for pair in pairs.as_slice() {
-        first = with_pair(first, settings, pair);
+    for i in 0..pairs.len() {
+        first = with_pair(first, settings, pairs.at(i));
     }
     first
 }
@@ -170,7 +171,7 @@ fn with_section(
     ensures { result ≡ fold sooner first (section_errors size alone section.now) }
 {
     let first = with_header(first, size, alone, section);
-    with_pairs(first, &section.settings, &section.pairs)
+    with_pairs(first, &section.settings, section.pairs.as_slice())
 }
 
 /// The page size of the file that is made of sections: that of the first.

@@ -1,10 +1,11 @@
-ghost use Rattle.std.specs.Prelude.{◌≡◌, ◌%◌, length, map, reverse, IfOk};
+ghost use Rattle.std.specs.Prelude.{◌≡◌, ◌%◌, ◌++◌, ◌∷◌, [], length, map, reverse, IfOk, OnOk};
+ghost use Rattle.bdb_text_format.specs.Placed.{pair_seen, slice_seen};
 ghost use Rattle.bdb_settle.specs.Loaded.{filled_pair, filled_pairs, filled_section, filled_value, has_length};
 
 use crate::order::holds_records;
 use crate::turning::turned;
-use bdb_format::{Bytes, Settings};
-use bdb_text_format::{Section, Sections, TextPair, TextPairs};
+use bdb_format::Settings;
+use bdb_text_format::{PairRef, PairSlice, Section, Sections, TextPairs};
 use std::alloc::{AllocError, Global};
 
 /// Whether records have a fixed length.
@@ -15,14 +16,13 @@ pub(crate) fn has_length(settings: &Settings) -> bool
 }
 
 /// The length of a datum once it is filled up.
-pub fn filled_len(settings: &Settings, value: &Bytes) -> usize
+pub fn filled_len(settings: &Settings, value: &[u8]) -> usize
     ensures { result ≡ length (filled_value settings.now value.now) }
 {
-    let len = value.as_slice().len();
     if has_length(settings) {
-        len.max(settings.re_len as usize)
+        value.len().max(settings.re_len as usize)
     } else {
-        len
+        value.len()
     }
 }
 
@@ -33,61 +33,50 @@ fn padding(settings: &Settings) -> u8
     (settings.re_pad % 256) as u8
 }
 
-/// A datum, filled up where it is shorter than the fixed length.
-fn filled_value(alloc: Global, settings: &Settings, value: Bytes) -> Result<Bytes, AllocError>
-    ensures { IfOk result (λ all. all ≡ filled_value settings.now value) }
+/// Puts a datum into a room, filled up where it is shorter than the fixed length.
+fn fill(settings: &Settings, value: &[u8], room: &mut Vec<u8>) -> Result<(), AllocError>
+    ensures { OnOk result (room.new.items ≡ filled_value settings.now value.now) }
 {
-    let len = filled_len(settings, &value);
-    if len == value.as_slice().len() {
-        return Ok(value);
-    }
-    let mut all = Vec::with_capacity(alloc, len)?;
-    all.extend_from_slice(value.as_slice())?;
-    all.resize(len, padding(settings))?;
-    Ok(Bytes::from_vec(all))
+    room.clear();
+    room.extend_from_slice(value)?;
+    room.resize(filled_len(settings, value), padding(settings))?;
+    Ok(())
 }
 
-/// A pair with its record filled up.
-fn filled_pair(alloc: Global, settings: &Settings, pair: TextPair) -> Result<TextPair, AllocError>
-    ensures { IfOk result (λ filled. filled ≡ filled_pair settings.now pair) }
+/// Adds a pair with its record filled up. Each datum is filled up in the same room.
+fn push_filled(
+    settings: &Settings,
+    pair: PairRef<'_>,
+    room: &mut Vec<u8>,
+    all: &mut TextPairs,
+) -> Result<(), AllocError>
+    ensures { OnOk result (all.new ≡ all.old ++ filled_pair settings.now (pair_seen pair.entry) ∷ []) }
 {
-    let value = filled_value(alloc, settings, pair.value)?;
-    Ok(TextPair {
+    fill(settings, pair.value, room)?;
+    all.push(PairRef {
         key: pair.key,
-        value,
+        value: room.as_slice(),
         line: pair.line,
     })
 }
 
-/// Pairs with their records filled up, the last one first.
-fn fill_backward(
+/// Pairs with their records filled up, in a run of their own.
+fn fill_pairs(
     alloc: Global,
     settings: &Settings,
-    pairs: TextPairs,
-) -> Result<Vec<TextPair>, AllocError>
-    ensures { IfOk result (λ all. all.items ≡ reverse (filled_pairs settings.now pairs)) }
+    pairs: PairSlice<'_>,
+) -> Result<TextPairs, AllocError>
+    ensures { IfOk result (λ all. all ≡ filled_pairs settings.now (slice_seen pairs.entry)) }
 {
-    let mut pairs = pairs;
-    let mut all = Vec::with_capacity(alloc, pairs.len())?;
-    while let Some(pair) = pairs.pop() {
-        all.push(filled_pair(alloc, settings, pair)?)?;
-    }
-    Ok(all)
-}
-
-/// Pairs in the other order.
-fn turned_pairs(alloc: Global, pairs: Vec<TextPair>) -> Result<TextPairs, AllocError>
-    ensures { IfOk result (λ all. all ≡ reverse pairs.items) }
-{
-    let mut pairs = pairs;
+    let mut room = Vec::new(alloc);
     let mut all = TextPairs::new(alloc);
-    while let Some(pair) = pairs.pop() {
-        all.push(pair)?;
+    for i in 0..pairs.len() {
+        push_filled(settings, pairs.at(i), &mut room, &mut all)?;
     }
     Ok(all)
 }
 
-/// Pairs in their order, with their records filled up.
+/// Pairs with their records filled up. They are as they are where records have no fixed length.
 fn filled_pairs(
     alloc: Global,
     settings: &Settings,
@@ -98,7 +87,7 @@ fn filled_pairs(
     if !has_length(settings) {
         return Ok(pairs);
     }
-    turned_pairs(alloc, fill_backward(alloc, settings, pairs)?)
+    fill_pairs(alloc, settings, pairs.as_slice())
 }
 
 /// A section with its records filled up.

@@ -1,97 +1,69 @@
-ghost use Rattle.std.specs.Prelude.{◌≡◌, ◌||◌, [], map, IfOk, OnOk};
+ghost use Rattle.std.specs.Prelude.{◌≡◌, ◌||◌, ◌<◌, [], length, map, IfOk, OnOk};
 ghost use Rattle.std.specs.List.{fold};
-ghost use Rattle.std.specs.List.Sorted.{IsSortedBy, IsStableBy};
-ghost use Rattle.bdb_settle.specs.Loaded.{keeps_data, ordered, unlined_pairs, stands_before, unlined, unnumbered, with_loaded};
+ghost use Rattle.std.specs.List.Sorted.{IsPermutation, IsSortedBy, IsStableBy};
+ghost use Rattle.bdb_text_format.specs.Placed.{ArePlaced, placed_pairs};
+ghost use Rattle.bdb_settle.specs.Loaded.{keeps_data, ordered, unnumbered, with_loaded};
+ghost use Rattle.bdb_settle.specs.Settling.{pair_on, place_before};
 
 use crate::order::{compare_pairs, keeps_data, stands_before};
 use bdb_format::Settings;
-use bdb_text_format::{Pair, TextPair, TextPairs};
-use std::alloc::{AllocError, Global};
-use std::mem;
+use bdb_places::Place;
+use bdb_text_format::{PlacedPairs, TextPairs, pair_at};
+use std::alloc::AllocError;
 
-/// A pair without its line.
-fn unlined(pair: TextPair) -> Pair
-    ensures { result ≡ unlined pair }
+/// Puts places into the order of their pairs; those of which neither stands before the other keep theirs. No bytes are moved.
+fn sort_places(settings: &Settings, bytes: &[u8], places: &mut Vec<Place>) -> Result<(), AllocError>
+    ensures moved { IsPermutation places.old.items places.new.items }
+    ensures sorted { OnOk result (IsSortedBy (place_before settings.now bytes.now) places.new.items) }
+    ensures stable { IsStableBy (place_before settings.now bytes.now) places.old.items places.new.items }
 {
-    Pair {
-        key: pair.key,
-        value: pair.value,
-    }
-}
-
-/// A pair of a list, without a line.
-fn unnumbered(pair: Pair) -> TextPair
-    ensures { result ≡ unnumbered pair }
-{
-    TextPair {
-        key: pair.key,
-        value: pair.value,
-        line: 0,
-    }
-}
-
-/// Puts pairs into their order; those that neither stand before the other keep theirs.
-fn sort_pairs(settings: &Settings, pairs: &mut Vec<Pair>) -> Result<(), AllocError>
-    ensures sorted { OnOk result (IsSortedBy (stands_before settings.now) pairs.new.items) }
-    ensures stable { IsStableBy (stands_before settings.now) pairs.old.items pairs.new.items }
-{
-    pairs.sort_by(|a, b| compare_pairs(settings, a, b))
+    places.sort_by(|a, b| compare_pairs(settings, pair_at(bytes, *a), pair_at(bytes, *b)))
 }
 
 /// Whether a pair stays where the next one in their order comes.
-fn keeps_both(settings: &Settings, last: &Pair, pair: &Pair) -> bool
-    ensures { result ≡ (stands_before settings.now last.now pair.now || keeps_data settings.now) }
+fn keeps_both(settings: &Settings, bytes: &[u8], last: Place, place: Place) -> bool
+    ensures { result ≡ (place_before settings.now bytes.now last place || keeps_data settings.now) }
 {
-    stands_before(settings, last, pair) || keeps_data(settings)
+    stands_before(settings, pair_at(bytes, last), pair_at(bytes, place)) || keeps_data(settings)
 }
 
-/// The list of pairs that are in their order.
-fn settle_sorted(
-    alloc: Global,
-    settings: &Settings,
-    pairs: Vec<Pair>,
-) -> Result<TextPairs, AllocError>
-    requires { IsSortedBy (stands_before settings.now) pairs.items }
-    ensures { IfOk result (λ list. list ≡ map unnumbered (fold (with_loaded settings.now) [] pairs.items)) }
+/// A place whose pair is of no line.
+fn unlined(place: Place) -> Place
+    ensures { result ≡ record place { line = 0 } }
 {
-    let mut list = TextPairs::new(alloc);
-    let mut rest = pairs.into_iter();
-    let Some(mut last) = rest.next() else {
-        return Ok(list);
-    };
-    for pair in rest {
-        let both = keeps_both(settings, &last, &pair);
-        let before = mem::replace(&mut last, pair);
-        if both {
-            list.push(unnumbered(before))?;
+    Place { line: 0, ..place }
+}
+
+/// Of places in the order of their pairs, keeps those of the list, without lines. Each is written at its new place or further ahead, where it has been read.
+fn settle_sorted(settings: &Settings, bytes: &[u8], places: &mut Vec<Place>)
+    requires sorted { IsSortedBy (place_before settings.now bytes.now) places.old.items }
+    requires placed { ArePlaced bytes.now places.old.items }
+    ensures list { placed_pairs bytes.now places.new.items ≡ map unnumbered (fold (with_loaded settings.now) [] (map (pair_on bytes.now) places.old.items)) }
+    ensures placed { ArePlaced bytes.now places.new.items }
+{
+    if places.is_empty() {
+        return;
+    }
+    let mut kept = 0;
+    let mut last = unlined(places[0]);
+    for i in 1..places.len() {
+        let place = unlined(places[i]);
+        if keeps_both(settings, bytes, last, place) {
+            places[kept] = last;
+            kept += 1;
         }
+        last = place;
     }
-    list.push(unnumbered(last))?;
-    Ok(list)
-}
-
-/// Pairs in their order, without their lines.
-fn unlined_pairs(alloc: Global, pairs: TextPairs) -> Result<Vec<Pair>, AllocError>
-    ensures { IfOk result (λ all. all.items ≡ unlined_pairs pairs) }
-{
-    let mut pairs = pairs;
-    let mut all = Vec::with_capacity(alloc, pairs.len())?;
-    while let Some(pair) = pairs.pop() {
-        all.push(unlined(pair))?;
-    }
-    all.reverse();
-    Ok(all)
+    places[kept] = last;
+    places.truncate(kept + 1);
 }
 
 /// The list of the pairs of a section, whose records aren't filled up.
-pub(crate) fn order_pairs(
-    alloc: Global,
-    settings: &Settings,
-    pairs: TextPairs,
-) -> Result<TextPairs, AllocError>
+pub(crate) fn order_pairs(settings: &Settings, pairs: TextPairs) -> Result<TextPairs, AllocError>
     ensures { IfOk result (λ list. list ≡ map unnumbered (ordered settings.now pairs)) }
 {
-    let mut all = unlined_pairs(alloc, pairs)?;
-    sort_pairs(settings, &mut all)?;
-    settle_sorted(alloc, settings, all)
+    let PlacedPairs { bytes, mut places } = pairs.into_placed();
+    sort_places(settings, bytes.as_slice(), &mut places)?;
+    settle_sorted(settings, bytes.as_slice(), &mut places);
+    Ok(TextPairs::from_placed(PlacedPairs { bytes, places }))
 }

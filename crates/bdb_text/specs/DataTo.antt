@@ -10,7 +10,6 @@ use Rattle.bdb_text_format.specs.Reasons.{data_end_reason, data_line_reason, has
 use Rattle.bdb_text_format.specs.Sections.{counted_pairs, data_read, keyed_pairs, pairs_read}
 use Rattle.bdb_text.specs.DataLines.{line_reason}
 use Rattle.bdb_text.specs.declared.data_pairs.Data.{Data}
-use Rattle.bdb_text.specs.declared.data_pairs.Datum.{Datum}
 
 -- one data line after the other, none has a reason
 abbrev pub data_clean : Values → List (List ℕ) → List (List ℕ) → Bool
@@ -53,12 +52,12 @@ pub record IsKeyedTo (header : Values) (lines : List (List ℕ)) (start : ℕ) (
   pub even : has_odd_length before ≡ false
   pub pairs_are : keyed_pairs (prints header) (has_record_type header) start before ≡ Some pairs
 
--- a text begins with the line of a datum
-pub record IsDatum (print : Bool) (text : List ℕ) (datum : Datum) : Type 0 where
+-- a text begins with the line of a datum, behind which the rest stands
+pub record IsDatum (print : Bool) (text value rest : List ℕ) : Type 0 where
   pub line : List ℕ
-  pub lines_are : text_lines text ≡ line ∷ text_lines datum.rest.now
+  pub lines_are : text_lines text ≡ line ∷ text_lines rest
   pub other : is_data_end line ≡ false
-  pub value_is : data_read print line ≡ Some datum.value
+  pub value_is : data_read print line ≡ Some value
 
 -- the reason of the line behind a key
 abbrev pub datum_reason : Bool → List (List ℕ) → Option ℕ

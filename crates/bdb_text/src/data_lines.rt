@@ -1,13 +1,13 @@
 // The lines behind a header: a space and a spelling.
 ghost use Rattle.bdb_text_format.specs.Sections.{data_read, key_read};
+ghost use Rattle.bdb_text_format.specs.Placed.{key_seen};
 ghost use Rattle.bdb_text.specs.DataLines.{IsLineError, record_number};
-ghost use Rattle.std.specs.Prelude.{◌≡◌, if◌then◌else◌, Bool, IfOk, IfErr, Some};
+ghost use Rattle.std.specs.Prelude.{◌≡◌, if◌then◌else◌, Bool, IfOk, IfErr, OnOk, Some};
 
 use crate::runs::read_run;
 use crate::spellings::SpellError;
-use bdb_format::{Bytes, number_in};
-use bdb_text_format::Key;
-use std::alloc::Global;
+use bdb_format::number_in;
+use bdb_text_format::KeyRef;
 
 /// Why a data line isn't read.
 #[derive(Clone, Copy, Debug, PartialEq, Eq)]
@@ -18,9 +18,9 @@ pub enum LineError {
     Memory,
 }
 
-/// The bytes that a data line spells.
-pub fn read_data(alloc: Global, line: &[u8], print: bool) -> Result<Bytes, LineError>
-    ensures ok { IfOk result (λ bytes. data_read print line.now ≡ Some bytes) }
+/// Puts the bytes that a data line spells into a room, in the place of what it has.
+pub fn read_data(line: &[u8], print: bool, room: &mut Vec<u8>) -> Result<(), LineError>
+    ensures ok { OnOk result (data_read print line.now ≡ Some room.new.items) }
     ensures err { (numbered : Bool) → IfErr result (IsLineError print numbered line.now) }
 {
     let Some((&first, text)) = line.split_first() else {
@@ -29,8 +29,8 @@ pub fn read_data(alloc: Global, line: &[u8], print: bool) -> Result<Bytes, LineE
     if first != b' ' {
         return Err(LineError::Reason(8));
     }
-    match read_run(alloc, text, print) {
-        Ok(bytes) => Ok(bytes),
+    match read_run(text, print, room) {
+        Ok(()) => Ok(()),
         Err(SpellError::Memory) => Err(LineError::Memory),
         Err(SpellError::Bad) => Err(LineError::Reason(bad_spelling(print))),
     }
@@ -43,20 +43,25 @@ fn bad_spelling(print: bool) -> u8
     if print { 10 } else { 9 }
 }
 
-/// The key that a data line says: bytes, or the number of a record.
-pub fn read_key(alloc: Global, line: &[u8], print: bool, numbered: bool) -> Result<Key, LineError>
-    ensures ok { IfOk result (λ key. key_read numbered (data_read print line.now) ≡ Some key) }
+/// The key that a data line says: bytes, which then lie in a room, or the number of a record.
+pub fn read_key<'a>(
+    line: &[u8],
+    print: bool,
+    numbered: bool,
+    room: &'a mut Vec<u8>,
+) -> Result<KeyRef<'a>, LineError>
+    ensures ok { IfOk result (λ key. key_read numbered (data_read print line.now) ≡ Some (key_seen key)) }
     ensures err { IfErr result (IsLineError print numbered line.now) }
 {
-    let bytes = match read_data(alloc, line, print) {
-        Ok(bytes) => bytes,
+    match read_data(line, print, room) {
+        Ok(()) => {}
         Err(error) => return Err(error),
-    };
-    if !numbered {
-        return Ok(Key::Bytes(bytes));
     }
-    match record_number(bytes.as_slice()) {
-        Some(number) => Ok(Key::Number(number)),
+    if !numbered {
+        return Ok(KeyRef::Bytes(room.as_slice()));
+    }
+    match record_number(room.as_slice()) {
+        Some(number) => Ok(KeyRef::Number(number)),
         None => Err(LineError::Reason(12)),
     }
 }

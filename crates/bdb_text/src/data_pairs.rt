@@ -10,8 +10,7 @@ use crate::fields::Field;
 use crate::meant::{has_keys, has_record_type, prints};
 use crate::text_errors::TextError;
 use crate::text_lines::cut_line;
-use bdb_format::Bytes;
-use bdb_text_format::{Key, TextFault, TextPair, TextPairs};
+use bdb_text_format::{KeyRef, PairRef, TextFault, TextPairs};
 use std::alloc::Global;
 
 const DATA_END: [u8; 8] = *b"DATA=END";
@@ -22,13 +21,6 @@ pub struct Data<'a> {
     pub pairs: TextPairs,
     pub rest: &'a [u8],
     pub number: u64,
-}
-
-/// A datum and the text behind its line.
-#[derive(Drop)]
-pub struct Datum<'a> {
-    pub value: Bytes,
-    pub rest: &'a [u8],
 }
 
 // The error of a line with this number.
@@ -63,7 +55,7 @@ pub fn read_pairs<'a>(
     }
 }
 
-// The pairs of a section with keys.
+// The pairs of a section with keys. Each key and datum is decoded in a room of its own, which serves all of the section.
 fn read_keyed<'a>(
     alloc: Global,
     text: &'a [u8],
@@ -79,6 +71,8 @@ fn read_keyed<'a>(
     let print = prints(fields);
     let numbered = has_record_type(fields);
     let mut pairs = TextPairs::new(alloc);
+    let mut key_room = Vec::new(alloc);
+    let mut room = Vec::new(alloc);
     let mut number = start;
     let mut rest = text;
     while !rest.is_empty() {
@@ -90,22 +84,21 @@ fn read_keyed<'a>(
                 number: number + 1,
             });
         }
-        let key = match read_key(alloc, cut.line, print, numbered) {
+        let key = match read_key(cut.line, print, numbered, &mut key_room) {
             Ok(key) => key,
             Err(error) => return Err(error_at(number, error)),
         };
-        let datum = match read_datum(alloc, cut.rest, number + 1, print) {
-            Ok(datum) => datum,
+        let behind = match read_datum(cut.rest, number + 1, print, &mut room) {
+            Ok(behind) => behind,
             Err(error) => return Err(error),
         };
-        let line = number;
-        pairs.push(TextPair {
+        pairs.push(PairRef {
             key,
-            value: datum.value,
-            line,
+            value: room.as_slice(),
+            line: number,
         })?;
         number += 2;
-        rest = datum.rest;
+        rest = behind;
     }
     Err(TextError::Fault(TextFault {
         line: number,
@@ -113,10 +106,15 @@ fn read_keyed<'a>(
     }))
 }
 
-// The datum behind a key.
-fn read_datum(alloc: Global, text: &[u8], number: u64, print: bool) -> Result<Datum<'_>, TextError>
-    ensures ok { IfOk result (λ datum. IsDatum print text.now datum) }
-    ensures shorter { IfOk result (λ datum. length datum.rest.now < length text.now) }
+// Puts the datum behind a key into a room, and answers the text behind its line.
+fn read_datum<'a>(
+    text: &'a [u8],
+    number: u64,
+    print: bool,
+    room: &mut Vec<u8>,
+) -> Result<&'a [u8], TextError>
+    ensures ok { IfOk result (λ rest. IsDatum print text.now room.new.items rest.now) }
+    ensures shorter { IfOk result (λ rest. length rest.now < length text.now) }
     ensures err { IfErr result (OnFault (IsDatumFault print text.now number)) }
 {
     if text.is_empty() {
@@ -132,11 +130,8 @@ fn read_datum(alloc: Global, text: &[u8], number: u64, print: bool) -> Result<Da
             reason: 11,
         }));
     }
-    match read_data(alloc, cut.line, print) {
-        Ok(value) => Ok(Datum {
-            value,
-            rest: cut.rest,
-        }),
+    match read_data(cut.line, print, room) {
+        Ok(()) => Ok(cut.rest),
         Err(error) => Err(error_at(number, error)),
     }
 }
@@ -156,6 +151,7 @@ fn read_counted<'a>(
 {
     let print = prints(fields);
     let mut pairs = TextPairs::new(alloc);
+    let mut room = Vec::new(alloc);
     let mut number = start;
     let mut record_number: u32 = 1;
     let mut rest = text;
@@ -168,16 +164,15 @@ fn read_counted<'a>(
                 number: number + 1,
             });
         }
-        let value = match read_data(alloc, cut.line, print) {
-            Ok(value) => value,
+        match read_data(cut.line, print, &mut room) {
+            Ok(()) => {}
             Err(error) => return Err(error_at(number, error)),
-        };
-        let pair = TextPair {
-            key: Key::Number(record_number),
-            value,
+        }
+        pairs.push(PairRef {
+            key: KeyRef::Number(record_number),
+            value: room.as_slice(),
             line: number,
-        };
-        pairs.push(pair)?;
+        })?;
         number += 1;
         record_number += 1;
         rest = cut.rest;

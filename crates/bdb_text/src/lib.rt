@@ -21,7 +21,9 @@ mod spellings;
 mod text_errors;
 mod text_lines;
 
-pub use bdb_text_format::{Key, Section, Sections, TextFault, TextPair, TextPairs};
+pub use bdb_text_format::{
+    Key, KeyRef, PairRef, PairSlice, Section, Sections, TextFault, TextPair, TextPairs,
+};
 pub use dump::read_dump;
 pub use header::{header_text, kind_word};
 pub use lines::{line_text, push_line_text};

@@ -2,13 +2,11 @@
 ghost use Rattle.bdb_text_format.specs.TextSpelling.{bytes_spelled};
 ghost use Rattle.bdb_text.specs.Runs.{AddsSpelled, has_backslash};
 ghost use Rattle.bdb_text.specs.SpellErrors.{IsSpellError};
-ghost use Rattle.std.specs.Prelude.{◌≡◌, ◌≤◌, ◌/◌, if◌then◌else◌, None, IfOk, IfErr, Some, false, length, take, true};
+ghost use Rattle.std.specs.Prelude.{◌≡◌, ◌≤◌, ◌/◌, if◌then◌else◌, None, IfErr, OnOk, Some, false, length, take, true};
 
 use crate::printed::first_printed;
 use crate::spellings::SpellError;
-use bdb_format::Bytes;
 use memchr::memchr;
-use std::alloc::Global;
 
 /// How many digits are read at once.
 const RUN: usize = 1024;
@@ -16,33 +14,34 @@ const RUN: usize = 1024;
 /// How many bytes they spell.
 const BYTES: usize = 512;
 
-/// The bytes that a text spells, printed or by two digits each. `Bad` comes exactly where it is no spelling.
-pub fn read_run(alloc: Global, text: &[u8], print: bool) -> Result<Bytes, SpellError>
-    ensures ok { IfOk result (λ bytes. bytes_spelled print text.now ≡ Some bytes) }
+/// Puts the bytes that a text spells, printed or by two digits each, into a room, in the place of what it has. `Bad` comes exactly where the text is no
+/// spelling.
+pub fn read_run(text: &[u8], print: bool, room: &mut Vec<u8>) -> Result<(), SpellError>
+    ensures ok { OnOk result (bytes_spelled print text.now ≡ Some room.new.items) }
     ensures err { IfErr result (IsSpellError print text.now) }
 {
     if print {
-        read_printed(alloc, text)
+        read_printed(text, room)
     } else {
-        read_digits(alloc, text)
+        read_digits(text, room)
     }
 }
 
-// The bytes that digits spell.
-fn read_digits(alloc: Global, text: &[u8]) -> Result<Bytes, SpellError>
-    ensures ok { IfOk result (λ bytes. bytes_spelled false text.now ≡ Some bytes) }
+// Puts the bytes that digits spell into a room.
+fn read_digits(text: &[u8], room: &mut Vec<u8>) -> Result<(), SpellError>
+    ensures ok { OnOk result (bytes_spelled false text.now ≡ Some room.new.items) }
     ensures err { IfErr result (IsSpellError false text.now) }
 {
-    let mut bytes = Bytes::new(alloc);
+    room.clear();
     let mut rest = text;
     while !rest.is_empty() {
         let run = rest.len().min(RUN);
-        match push_decoded(&mut bytes, &rest[..run]) {
+        match push_decoded(room, &rest[..run]) {
             Ok(()) => rest = &rest[run..],
             Err(error) => return Err(error),
         }
     }
-    Ok(bytes)
+    Ok(())
 }
 
 // Puts the bytes that digits spell in their place, where they spell some.
@@ -54,26 +53,26 @@ fn is_decoded(run: &[u8], bytes: &mut [u8]) -> bool
 }
 
 // Adds the bytes that a run of digits spells.
-fn push_decoded(bytes: &mut Bytes, run: &[u8]) -> Result<(), SpellError>
+fn push_decoded(bytes: &mut Vec<u8>, run: &[u8]) -> Result<(), SpellError>
     requires { length run.now ≤ RUN }
-    ensures ok { IfOk result (λ _. AddsSpelled false run.now bytes.old bytes.new) }
+    ensures ok { OnOk result (AddsSpelled false run.now bytes.old.items bytes.new.items) }
     ensures err { IfErr result (IsSpellError false run.now) }
 {
-    let mut room = [0u8; BYTES];
-    let decoded = &mut room[..run.len() / 2];
+    let mut piece = [0u8; BYTES];
+    let decoded = &mut piece[..run.len() / 2];
     if !is_decoded(run, decoded) {
         return Err(SpellError::Bad);
     }
-    bytes.push_all(decoded)?;
+    bytes.extend_from_slice(decoded)?;
     Ok(())
 }
 
-// The bytes that a printed text spells.
-fn read_printed(alloc: Global, text: &[u8]) -> Result<Bytes, SpellError>
-    ensures ok { IfOk result (λ bytes. bytes_spelled true text.now ≡ Some bytes) }
+// Puts the bytes that a printed text spells into a room.
+fn read_printed(text: &[u8], room: &mut Vec<u8>) -> Result<(), SpellError>
+    ensures ok { OnOk result (bytes_spelled true text.now ≡ Some room.new.items) }
     ensures err { IfErr result (IsSpellError true text.now) }
 {
-    let mut bytes = Bytes::new(alloc);
+    room.clear();
     let mut rest = text;
     while !rest.is_empty() {
         let plain = plain_len(rest);
@@ -81,14 +80,14 @@ fn read_printed(alloc: Global, text: &[u8]) -> Result<Bytes, SpellError>
             let Some(first) = first_printed(rest) else {
                 return Err(SpellError::Bad);
             };
-            bytes.push_all(&[first.byte])?;
+            room.extend_from_slice(&[first.byte])?;
             rest = first.rest;
         } else {
-            bytes.push_all(&rest[..plain])?;
+            room.extend_from_slice(&rest[..plain])?;
             rest = &rest[plain..];
         }
     }
-    Ok(bytes)
+    Ok(())
 }
 
 // How many bytes stand before the first backslash.

@@ -1,2 +1,2 @@
-pub mod PairLemmas
+pub mod PlacedLemmas
 pub mod UnitLemmas

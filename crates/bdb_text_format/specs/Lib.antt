@@ -6,4 +6,5 @@ pub mod Keywords
 pub mod Header
 pub mod Reasons
 pub mod Pairs
+pub mod Placed
 pub mod Sections

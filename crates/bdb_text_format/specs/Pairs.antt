@@ -1,18 +1,26 @@
 -- Lists of pairs, as loading makes them and a database gives them. Source: docs/FORMAT.md, "Lists of databases".
 use Rattle.std.specs.Prelude.{◌≡◌, ℕ, ◌+◌, ◌≤◌, List, [], ◌∷◌, length, map}
+use Rattle.std.specs.List.{fold}
 use Rattle.bdb_format.specs.Lists.{ListKey, BytesKey, NumberKey}
 use Rattle.bdb_text_format.specs.declared.pairs.Key.{Key}
 use Rattle.bdb_text_format.specs.declared.pairs.Key.TheVariants.{Bytes, Number}
-use Rattle.bdb_text_format.specs.declared.list.Pair.{Pair}
+use Rattle.bdb_text_format.specs.declared.pairs.Pair.{Pair}
+use Rattle.bdb_text_format.specs.declared.pairs.TextPair.{TextPair}
 
--- keys and data, one with the other
-abbrev pub pairs_seen : List Key → List (List ℕ) → List Pair
-pairs_seen [] values = []
-pairs_seen (key ∷ keys) [] = []
-pairs_seen (key ∷ keys) (value ∷ values) = record { key = key; value = value } ∷ pairs_seen keys values
+-- a pair without the number of its line
+abbrev pub unlined : TextPair → Pair
+unlined pair = record { key = pair.key; value = pair.value }
 
-abbrev pub AreAsMany : List Key → List (List ℕ) → Type 0
-AreAsMany keys values = length keys ≡ length values
+abbrev pub unlined_pairs : List TextPair → List Pair
+unlined_pairs pairs = map unlined pairs
+
+-- a pair of a list in a section, without a line
+abbrev pub unnumbered : Pair → TextPair
+unnumbered pair = record { key = pair.key; value = pair.value; line = 0 }
+
+-- the key of the last pair; 0 where there is none
+abbrev pub last_key : List TextPair → Key
+last_key pairs = fold (λ key (pair : TextPair). pair.key) (Number 0) pairs
 
 abbrev pub keys_of : List Pair → List Key
 keys_of pairs = map (λ (pair : Pair). pair.key) pairs

@@ -3,12 +3,12 @@
 
 mod faults;
 mod keywords;
-mod list;
+mod lent;
 mod pairs;
 mod sections;
 
 pub use faults::TextFault;
 pub use keywords::Judged;
-pub use list::{Pair, PairList};
-pub use pairs::{Key, TextPair, TextPairs};
+pub use lent::{KeyRef, PairRef, PairSlice, pair_at};
+pub use pairs::{Key, Pair, PlacedPairs, TextPair, TextPairs};
 pub use sections::{Section, Sections};

@@ -1,6 +1,12 @@
-ghost use Rattle.std.specs.Prelude.{◌≡◌, ◌==◌, ◌-◌, List, [], ◌∷◌, ◌++◌, OnOk, OnErr, length, option_copied, option_to_list, slice_get};
+ghost use Rattle.std.specs.Prelude.{◌≡◌, ◌==◌, ◌<◌, ◌∷◌, ◌++◌, [], OnOk, OnErr, IfOk, ◌-◌, get_or, length};
+ghost use Rattle.std.specs.List.{All};
+ghost use Rattle.bdb_text_format.specs.Pairs.{last_key};
+ghost use Rattle.bdb_text_format.specs.Placed.{ArePlaced, IsKeyPlaced, IsKeyPut, IsPairPut, IsPiecePut, Keeps, pair_seen, pair_with, placed_key, placed_pairs, slice_seen};
+ghost use Rattle.bdb_text_format.specs.declared.pairs.TextPair.{TextPair};
 
+use crate::lent::{KeyRef, PairRef, PairSlice};
 use bdb_format::Bytes;
+use bdb_places::{Place, PlacedKey, Span};
 use std::alloc::{AllocError, Global};
 use std::marker::Model;
 
@@ -11,6 +17,13 @@ pub enum Key {
     Number(u32),
 }
 
+/// A pair of a list: its key, or the number of its record, and its datum.
+#[derive(Drop)]
+pub struct Pair {
+    pub key: Key,
+    pub value: Bytes,
+}
+
 /// A pair of a section, and the number of its first line in the text, counted from 1.
 #[derive(Drop)]
 pub struct TextPair {
@@ -19,19 +32,93 @@ pub struct TextPair {
     pub line: u64,
 }
 
-/// The pairs of a section.
+/// A run of bytes, and the places in it of pairs.
+#[derive(Drop)]
+pub struct PlacedPairs {
+    pub bytes: Vec<u8>,
+    pub places: Vec<Place>,
+}
+
+/// The pairs of a section. Their keys and data stand in one run of bytes, of less than 2^32.
 #[derive(Drop)]
 pub struct TextPairs {
-    items: Vec<TextPair>,
+    bytes: Vec<u8>,
+    places: Vec<Place>,
 }
 
 impl Model for TextPairs {
+    ghost use Rattle.bdb_text_format.specs.Placed.{ArePlaced, placed_pairs};
     ghost use Rattle.bdb_text_format.specs.declared.pairs.TextPair.{TextPair};
     ghost use Rattle.std.specs.Prelude.{List};
 
     ghost Value = { List TextPair };
 
-    ghost view = { λ pairs. pairs.items.items };
+    ghost view = { λ pairs. placed_pairs pairs.bytes.items pairs.places.items };
+
+    ghost invariant = { λ pairs. ArePlaced pairs.bytes.items pairs.places.items };
+}
+
+// Adds bytes at the end of a run, where it stays below 2^32, and answers where they stand.
+#[tactic(auto, using(crate::proofs::PlacedLemmas::kept_all, crate::proofs::PlacedLemmas::kept_more, crate::proofs::PlacedLemmas::piece_put))]
+fn put(bytes: &mut Vec<u8>, piece: &[u8]) -> Result<Span, AllocError>
+    ensures kept { Keeps bytes.old.items bytes.new.items }
+    ensures ok { IfOk result (IsPiecePut bytes.new.items piece.now) }
+{
+    let Ok(start) = u32::try_from(bytes.len()) else {
+        return Err(AllocError);
+    };
+    let Ok(len) = u32::try_from(piece.len()) else {
+        return Err(AllocError);
+    };
+    let end = start.checked_add(len).ok_or(AllocError)?;
+    bytes.extend_from_slice(piece)?;
+    Ok(Span { start, end })
+}
+
+// Adds a key at the end of a run, where that has bytes.
+#[tactic(auto, using(crate::proofs::PlacedLemmas::kept_all))]
+fn put_key(bytes: &mut Vec<u8>, key: KeyRef<'_>) -> Result<PlacedKey, AllocError>
+    ensures kept { Keeps bytes.old.items bytes.new.items }
+    ensures ok { IfOk result (IsKeyPut bytes.new.items key.entry) }
+{
+    match key {
+        KeyRef::Bytes(key) => Ok(PlacedKey::Bytes(put(bytes, key)?)),
+        KeyRef::Number(number) => Ok(PlacedKey::Number(number)),
+    }
+}
+
+// Adds a datum at the end of a run, as that of a key which is there.
+#[tactic(auto, using(crate::proofs::PlacedLemmas::pair_put))]
+fn put_value(
+    bytes: &mut Vec<u8>,
+    key: PlacedKey,
+    value: &[u8],
+    line: u64,
+) -> Result<Place, AllocError>
+    requires { IsKeyPlaced bytes.old.items key }
+    ensures kept { Keeps bytes.old.items bytes.new.items }
+    ensures ok { IfOk result (IsPairPut bytes.new.items (pair_with (placed_key bytes.old.items key) value.now line)) }
+{
+    let value = put(bytes, value)?;
+    Ok(Place { key, value, line })
+}
+
+// Adds a pair at the end of a run, and answers where it stands.
+#[tactic(auto, using(crate::proofs::PlacedLemmas::kept_on))]
+fn put_pair(bytes: &mut Vec<u8>, pair: PairRef<'_>) -> Result<Place, AllocError>
+    ensures kept { Keeps bytes.old.items bytes.new.items }
+    ensures ok { IfOk result (IsPairPut bytes.new.items (pair_seen pair.entry)) }
+{
+    let key = put_key(bytes, pair.key)?;
+    put_value(bytes, key, pair.value, pair.line)
+}
+
+// The last of some places.
+fn last_place(places: &[Place]) -> Place
+    requires { 0 < length places.now }
+    ensures { result ≡ get_or places.now (length places.now - 1) result }
+{
+    places[places.len() - 1]
 }
 
 impl TextPairs {
@@ -39,49 +126,82 @@ impl TextPairs {
         ensures { result ≡ [] }
     {
         TextPairs {
-            items: Vec::new(alloc),
+            bytes: Vec::new(alloc),
+            places: Vec::new(alloc),
         }
     }
 
-    /// Adds a pair at the end; on a refusal the pair is dropped.
-    pub fn push(&mut self, pair: TextPair) -> Result<(), AllocError>
-        ensures ok { OnOk result (self.new ≡ self.old ++ pair ∷ []) }
+    /// Adds a copy of a pair at the end; on a refusal the pairs are as before.
+    #[tactic(auto, using(crate::proofs::PlacedLemmas::pairs_stay, crate::proofs::PlacedLemmas::pairs_within, crate::proofs::PlacedLemmas::pairs_pushed, crate::proofs::PlacedLemmas::places_pushed))]
+    pub fn push(&mut self, pair: PairRef<'_>) -> Result<(), AllocError>
+        ensures ok { OnOk result (self.new ≡ self.old ++ pair_seen pair.entry ∷ []) }
         ensures err { OnErr result (self.new ≡ self.old) }
     {
-        self.items.push(pair)?;
+        let place = put_pair(&mut self.bytes, pair)?;
+        self.places.push(place)?;
+        Ok(())
+    }
+
+    /// Adds a datum with the key of the last pair, which isn't copied; on a refusal the pairs are as before.
+    #[tactic(auto, using(crate::proofs::PlacedLemmas::pairs_stay, crate::proofs::PlacedLemmas::pairs_within, crate::proofs::PlacedLemmas::pairs_pushed, crate::proofs::PlacedLemmas::places_pushed))]
+    pub fn push_with_last_key(&mut self, value: &[u8], line: u64) -> Result<(), AllocError>
+        requires { 0 < length self.old }
+        ensures ok { OnOk result (self.new ≡ self.old ++ pair_with (last_key self.old) value.now line ∷ []) }
+        ensures err { OnErr result (self.new ≡ self.old) }
+    {
+        let key = last_place(self.places.as_slice()).key;
+        let place = put_value(&mut self.bytes, key, value, line)?;
+        self.places.push(place)?;
+        Ok(())
+    }
+
+    /// Adds copies of pairs at the end.
+    pub fn push_all(&mut self, pairs: PairSlice<'_>) -> Result<(), AllocError>
+        ensures { OnOk result (self.new ≡ self.old ++ slice_seen pairs.entry) }
+    {
+        for i in 0..pairs.len() {
+            self.push(pairs.at(i))?;
+        }
         Ok(())
     }
 
     pub fn len(&self) -> usize
         ensures { result ≡ length self.now }
     {
-        self.items.len()
+        self.places.len()
     }
 
     pub fn is_empty(&self) -> bool
         ensures { result ≡ (length self.now == 0) }
     {
-        self.items.is_empty()
+        self.places.is_empty()
     }
 
-    /// The pair at a place, or `None` exactly where there is none.
-    pub fn get(&self, i: usize) -> Option<&TextPair>
-        ensures { option_copied result ≡ slice_get self.now i }
+    pub fn as_slice(&self) -> PairSlice<'_>
+        ensures { slice_seen result ≡ self.now }
     {
-        self.items.get(i)
+        PairSlice::at_places(self.bytes.as_slice(), self.places.as_slice())
     }
 
-    pub fn as_slice(&self) -> &[TextPair]
-        ensures { result.now ≡ self.now }
+    /// The run and the places.
+    pub fn into_placed(self) -> PlacedPairs
+        ensures pairs { placed_pairs result.bytes.items result.places.items ≡ self }
+        ensures placed { ArePlaced result.bytes.items result.places.items }
     {
-        self.items.as_slice()
+        PlacedPairs {
+            bytes: self.bytes,
+            places: self.places,
+        }
     }
 
-    /// Takes off the last pair, or `None` exactly where there is none.
-    pub fn pop(&mut self) -> Option<TextPair>
-        ensures last { result ≡ slice_get self.old (length self.old - 1) }
-        ensures others { self.old ≡ self.new ++ option_to_list result }
+    /// The pairs at places in a run.
+    pub fn from_placed(placed: PlacedPairs) -> TextPairs
+        requires { ArePlaced placed.bytes.items placed.places.items }
+        ensures { result ≡ placed_pairs placed.bytes.items placed.places.items }
     {
-        self.items.pop()
+        TextPairs {
+            bytes: placed.bytes,
+            places: placed.places,
+        }
     }
 }

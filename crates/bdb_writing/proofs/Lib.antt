@@ -2,6 +2,5 @@ pub mod BaseLemmas
 pub mod LoadLemmas
 pub mod NameLemmas
 pub mod OntoLemmas
-pub mod PairLemmas
 pub mod RefusalLemmas
 pub mod TrialLemmas

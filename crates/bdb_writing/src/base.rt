@@ -1,5 +1,5 @@
 //! The databases of a sound file, copied out of it.
-ghost use Rattle.std.specs.Prelude.{◌≡◌, ◌<◌, ◌≤◌, ◌^◌, IfErr, IfOk, None, OnOk, is_some, length, map, option_copied};
+ghost use Rattle.std.specs.Prelude.{◌≡◌, ◌++◌, ◌∷◌, ◌<◌, ◌≤◌, ◌^◌, [], IfErr, IfOk, None, OnOk, is_some, length, map, option_copied};
 ghost use Rattle.bdb_file.specs.Named.{database_at};
 ghost use Rattle.bdb_file.specs.Whole.{IsVerdictOf};
 ghost use Rattle.bdb_format.specs.Databases.{databases};
@@ -8,7 +8,9 @@ ghost use Rattle.bdb_format.specs.Lists.{list_of};
 ghost use Rattle.bdb_format.specs.Master.{master_in};
 ghost use Rattle.bdb_format.specs.Verdict.{verdict_of};
 ghost use Rattle.bdb_onto.specs.Bases.{IsBaseOf, base_of, base_section, text_pair};
+ghost use Rattle.bdb_format.specs.Chains.{joined};
 ghost use Rattle.bdb_overflow.specs.Datum.{datum_seen, key_view_seen};
+ghost use Rattle.bdb_text_format.specs.Placed.{key_seen};
 ghost use Rattle.bdb_writing.specs.Ontos.{list_key};
 
 use bdb_file::{Db, Scan, Sound, verify};
@@ -16,27 +18,10 @@ use bdb_format::{Bytes, Steps, Verdict};
 use bdb_graph::Meta;
 use bdb_io::Image;
 use bdb_onto::Base;
-use bdb_overflow::{Datum, KeyView};
-use bdb_text_format::{Key, Section, Sections, TextPair, TextPairs};
+use bdb_overflow::{Datum, KeyView, Pieces};
+use bdb_text_format::{KeyRef, PairRef, Section, Sections, TextPairs};
 use std::alloc::{AllocError, Global};
 use std::sync::ledger::Ledger;
-
-// The same bytes once more. The value is given up.
-fn copied_value(alloc: Global, value: Datum<'_>) -> Result<Bytes, AllocError>
-    ensures { IfOk result (λ copy. copy ≡ datum_seen value.entry) }
-{
-    value.copy(alloc)
-}
-
-// The same key once more.
-fn copied_key(alloc: Global, key: KeyView<'_>) -> Result<Key, AllocError>
-    ensures { IfOk result (λ copy. copy ≡ list_key (key_view_seen key.entry)) }
-{
-    match key {
-        KeyView::Bytes(bytes) => Ok(Key::Bytes(copied_value(alloc, bytes)?)),
-        KeyView::Number(number) => Ok(Key::Number(number)),
-    }
-}
 
 // The same name once more.
 fn copied_name(alloc: Global, name: Option<&[u8]>) -> Result<Option<Bytes>, AllocError>
@@ -50,27 +35,70 @@ fn copied_name(alloc: Global, name: Option<&[u8]>) -> Result<Option<Bytes>, Allo
     Ok(Some(copy))
 }
 
-// A pair of a list, as if it stood in a text without numbers of lines.
-#[tactic(auto, using(crate::proofs::BaseLemmas::pair_listed))]
-fn listed_pair(alloc: Global, key: KeyView<'_>, value: Datum<'_>) -> Result<TextPair, AllocError>
-    ensures { IfOk result (λ pair. pair ≡ text_pair (key_view_seen key.entry, datum_seen value.entry)) }
+// Puts pieces of a chain into a room, one behind the other.
+fn put_pieces(pieces: Pieces<'_>, room: &mut Vec<u8>) -> Result<(), AllocError>
+    ensures { OnOk result (room.new.items ≡ joined pieces.entry) }
 {
-    let key = copied_key(alloc, key)?;
-    let value = copied_value(alloc, value)?;
-    Ok(TextPair {
-        key,
-        value,
+    room.clear();
+    for piece in pieces {
+        room.extend_from_slice(piece)?;
+    }
+    Ok(())
+}
+
+// The bytes of a value: those of its page, or of its chain, which then lie in a room.
+fn bytes_of<'r>(value: Datum<'r>, room: &'r mut Vec<u8>) -> Result<&'r [u8], AllocError>
+    ensures { IfOk result (λ bytes. bytes.now ≡ datum_seen value.entry) }
+{
+    match value {
+        Datum::Inline(bytes) => Ok(bytes),
+        Datum::Chained(pieces) => {
+            put_pieces(pieces, room)?;
+            Ok(room.as_slice())
+        }
+    }
+}
+
+// The key of a list; the bytes of a chain then lie in a room.
+fn key_of<'r>(key: KeyView<'r>, room: &'r mut Vec<u8>) -> Result<KeyRef<'r>, AllocError>
+    ensures { IfOk result (λ lent. key_seen lent ≡ list_key (key_view_seen key.entry)) }
+{
+    match key {
+        KeyView::Bytes(value) => match bytes_of(value, room) {
+            Ok(bytes) => Ok(KeyRef::Bytes(bytes)),
+            Err(error) => Err(error),
+        },
+        KeyView::Number(number) => Ok(KeyRef::Number(number)),
+    }
+}
+
+// Adds a pair of a list, as if it stood in a text without numbers of lines.
+#[tactic(auto, using(crate::proofs::BaseLemmas::pair_listed))]
+fn push_listed(
+    key: KeyView<'_>,
+    value: Datum<'_>,
+    key_room: &mut Vec<u8>,
+    room: &mut Vec<u8>,
+    pairs: &mut TextPairs,
+) -> Result<(), AllocError>
+    ensures { OnOk result (pairs.new ≡ pairs.old ++ text_pair (key_view_seen key.entry, datum_seen value.entry) ∷ []) }
+{
+    pairs.push(PairRef {
+        key: key_of(key, key_room)?,
+        value: bytes_of(value, room)?,
         line: 0,
     })
 }
 
-// The pairs of a list.
+// The pairs of a list, as if they stood in a text without numbers of lines.
 fn listed_pairs(alloc: Global, list: &mut Scan<'_>) -> Result<TextPairs, AllocError>
     ensures { IfOk result (λ pairs. pairs ≡ map text_pair list.old) }
 {
+    let mut key_room = Vec::new(alloc);
+    let mut room = Vec::new(alloc);
     let mut pairs = TextPairs::new(alloc);
     for (key, value) in list {
-        pairs.push(listed_pair(alloc, key, value)?)?;
+        push_listed(key, value, &mut key_room, &mut room, &mut pairs)?;
     }
     Ok(pairs)
 }

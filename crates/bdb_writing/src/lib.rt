@@ -4,7 +4,6 @@
 mod base;
 mod loading;
 mod names;
-mod pairs;
 mod refusal;
 mod texts;
 mod trial;

@@ -9,7 +9,6 @@ ghost use Rattle.bdb_writing.specs.Refusals.{IsRefusedAnswer};
 ghost use Rattle.bdb_writing.specs.Trials.{IsTrialAnswer, trial_sections, trial_settings};
 
 use crate::loading::refusal_of;
-use crate::pairs::text_pairs;
 use crate::refusal::Refusal;
 use crate::texts::trial_lines;
 use bdb_file::verify;
@@ -52,13 +51,12 @@ fn trial_sections(alloc: Global, kind: Kind, seed: u32, count: u32) -> Result<Se
     requires count { count ≤ 200000 }
     ensures { IfOk result (λ sections. sections ≡ trial_sections kind seed count) }
 {
-    let list = generate(alloc, kind, seed, count)?;
     let mut sections = Sections::new(alloc);
     sections.push(Section {
         name: None,
         settings: trial_settings(kind),
         header_line: 0,
-        pairs: text_pairs(alloc, &list)?,
+        pairs: generate(alloc, kind, seed, count)?,
     })?;
     Ok(sections)
 }

@@ -5,7 +5,7 @@
 use bdb_format::Bytes;
 use bdb_io::{ReadError, Sink, StdSink, StdSource, put_all, read_image};
 use bdb_text::{TextError, header_text, number_text, push_line_text, read_dump};
-use bdb_text_format::{Key, Section, Sections, TextFault, TextPair};
+use bdb_text_format::{KeyRef, PairRef, Section, Sections, TextFault};
 use std::alloc::{AllocError, Global};
 use std::env;
 use std::process::ExitCode;
@@ -83,19 +83,20 @@ fn section_text(alloc: Global, section: &Section) -> Result<Bytes, AllocError> {
         None => None,
     };
     let mut text = header_text(alloc, name, &section.settings, false)?;
-    for pair in section.pairs.as_slice() {
-        push_pair(alloc, &mut text, pair)?;
+    let pairs = section.pairs.as_slice();
+    for i in 0..pairs.len() {
+        push_pair(alloc, &mut text, pairs.at(i))?;
     }
     text.push_all(b"DATA=END\n")?;
     Ok(text)
 }
 
-fn push_pair(alloc: Global, text: &mut Bytes, pair: &TextPair) -> Result<(), AllocError> {
-    match &pair.key {
-        Key::Bytes(key) => push_data_line(text, key.as_slice())?,
-        Key::Number(number) => push_data_line(text, number_text(alloc, *number)?.as_slice())?,
+fn push_pair(alloc: Global, text: &mut Bytes, pair: PairRef<'_>) -> Result<(), AllocError> {
+    match pair.key {
+        KeyRef::Bytes(key) => push_data_line(text, key)?,
+        KeyRef::Number(number) => push_data_line(text, number_text(alloc, number)?.as_slice())?,
     }
-    push_data_line(text, pair.value.as_slice())
+    push_data_line(text, pair.value)
 }
 
 fn push_data_line(text: &mut Bytes, bytes: &[u8]) -> Result<(), AllocError> {

@@ -9,7 +9,7 @@ use bdb_format::{Bytes, Settings};
 use bdb_io::{ReadError, StdSink, StdSource, put_all, read_image};
 use bdb_settle::settle;
 use bdb_text::read_dump;
-use bdb_text_format::{Pair, PairList, TextPair, TextPairs};
+use bdb_text_format::PairSlice;
 use std::alloc::{AllocError, Global};
 use std::env;
 use std::process::ExitCode;
@@ -65,14 +65,13 @@ fn answer(alloc: Global, text: &[u8], told: Told) -> Result<Bytes, AllocError>
     let Some(section) = sections.pop() else {
         return Ok(nothing);
     };
-    let list = list_of(alloc, section.pairs)?;
-    answer_of(alloc, &section.settings, &list, told)
+    answer_of(alloc, &section.settings, section.pairs.as_slice(), told)
 }
 
 fn answer_of(
     alloc: Global,
     settings: &Settings,
-    list: &PairList,
+    list: PairSlice<'_>,
     told: Told,
 ) -> Result<Bytes, AllocError> {
     if matches!(told, Told::Pairs) {
@@ -93,27 +92,4 @@ fn count(alloc: Global, count: usize, what: &str) -> Result<Bytes, AllocError> {
     let mut bytes = Bytes::new(alloc);
     bytes.push_all(line.as_bytes())?;
     Ok(bytes)
-}
-
-// The pairs from the last one to the first.
-fn reversed(alloc: Global, pairs: TextPairs) -> Result<Vec<TextPair>, AllocError> {
-    let mut pairs = pairs;
-    let mut reversed = Vec::new(alloc);
-    while let Some(pair) = pairs.pop() {
-        reversed.push(pair)?;
-    }
-    Ok(reversed)
-}
-
-// The pairs in their order, moved.
-fn list_of(alloc: Global, pairs: TextPairs) -> Result<PairList, AllocError> {
-    let mut reversed = reversed(alloc, pairs)?;
-    let mut list = PairList::new(alloc);
-    while let Some(pair) = reversed.pop() {
-        list.push(Pair {
-            key: pair.key,
-            value: pair.value,
-        })?;
-    }
-    Ok(list)
 }

@@ -1,4 +1,5 @@
 use Rattle.std.proofs.Common.{arith, sym, ◌∙◌, ap}
+use Rattle.bdb_text_format.specs.Placed.{pairs_of}
 use Rattle.bdb_format.specs.HeadOf.{is_page_size}
 use Rattle.bdb_mkqueue.proofs.FileLemmas.{zero_first}
 use Rattle.bdb_alone.proofs.QueueLemmas.{queue_filed}
@@ -11,7 +12,7 @@ put_queue_meta-requires-clause-zero c =
 
 pub returns : goal.returns
 returns c =
-    queue_filed c.args.settings.now c.args.list.now c.new-pages.result c.add.new.self c.build_queue.new.pages c.in_ok-meta.meta c.count-last.result
+    queue_filed c.args.settings.now (pairs_of c.args.list) c.new-pages.result c.add.new.self c.build_queue.new.pages c.in_ok-meta.meta c.count-last.result
     c.page_mut.result.now c.put_queue_meta.new.page c.from_bytes.result
     (record {
       kind = c.requires.kind;

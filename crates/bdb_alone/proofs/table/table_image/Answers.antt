@@ -1,4 +1,7 @@
 use Rattle.std.proofs.Common.{arith, sym, ◌∙◌, ap, subst, IsTrue}
+use Rattle.bdb_text_format.specs.Pairs.{unlined}
+use Rattle.bdb_text_format.specs.Placed.{pairs_of, slice_seen}
+use Rattle.std.proofs.lemmas.List.{length-map}
 use Rattle.bdb_format.specs.Reading.{is_zero}
 use Rattle.bdb_format.specs.HeadOf.{is_page_size}
 use Rattle.bdb_alone.proofs.TreeLemmas.{first_zero, still_zero}
@@ -13,7 +16,7 @@ put_hash_meta-requires-clause-zero c =
 
 pub returns : goal.returns
 returns c =
-    table_filed c.args.settings.now c.args.list.now c.new-pages.result c.add.new.self c.build_table.new.pages c.in_ok-meta.meta c.count-last.result
+    table_filed c.args.settings.now (pairs_of c.args.list) c.new-pages.result c.add.new.self c.build_table.new.pages c.in_ok-meta.meta c.count-last.result
     c.in_ok-elements.elements c.page_mut.result.now c.put_hash_meta.new.page c.from_bytes.result
     (record {
       kind = c.requires.kind;
@@ -28,7 +31,7 @@ returns c =
       whole = c.size-size.ensures.whole;
       count_is = c.count-last.ensures;
       few = omega arith;
-      elements_are = c.in_ok-elements.ensures;
+      elements_are = c.in_ok-elements.ensures ∙ sym (length-map (slice_seen c.args.list) unlined);
       lent_is = c.page_mut.ensures.value;
       bytes = c.put_hash_meta.ensures.page;
       fields = c.put_hash_meta.ensures.fields;

@@ -1,4 +1,5 @@
 use Rattle.std.proofs.Common.{ℕ, ◌∙◌, ap, subst, arith, IsTrue}
+use Rattle.bdb_text_format.specs.Placed.{pairs_of}
 use Rattle.bdb_format.specs.HeadOf.{is_page_size}
 use Rattle.bdb_text_format.specs.Pairs.{listed}
 use Rattle.bdb_pack.specs.Built.{Built, joined_pages}
@@ -17,10 +18,10 @@ returns c =
     let old : Built = c.add.new.self in
     let built : Built = c.build_tree.new.pages in
     let first = first_zero c.new-pages.result old c.new-pages.ensures.pages c.in_ok-add.ensures.ok in
-    let tree : IsTreeBuilt c.args.settings.now 1 old built (units_in c.args.settings.now.kind c.args.list.now) (listed c.args.list.now) c.in_ok-root.root =
-    subst (λ (n : ℕ). IsTreeBuilt c.args.settings.now n old built (units_in c.args.settings.now.kind c.args.list.now) (listed c.args.list.now) c.in_ok-root.root)
+    let tree : IsTreeBuilt c.args.settings.now 1 old built (units_in c.args.settings.now.kind (pairs_of c.args.list)) (listed (pairs_of c.args.list)) c.in_ok-root.root =
+    subst (λ (n : ℕ). IsTreeBuilt c.args.settings.now n old built (units_in c.args.settings.now.kind (pairs_of c.args.list)) (listed (pairs_of c.args.list)) c.in_ok-root.root)
     first.1 c.in_ok-root.ensures in
-    topped_image c.args.settings.now c.args.list.now old built c.in_ok-root.root c.tree_meta.result c.from_bytes.result
+    topped_image c.args.settings.now (pairs_of c.args.list) old built c.in_ok-root.root c.tree_meta.result c.from_bytes.result
     (record {
       fit = c.requires.settings;
       own = c.requires.own;

@@ -1,5 +1,6 @@
 use Rattle.std.proofs.Common.{arith, sym, ◌∙◌, ap}
 use Rattle.bdb_format.specs.HeadOf.{is_page_size}
+use Rattle.bdb_text_format.specs.Placed.{pairs_of}
 use Rattle.bdb_mkqueue.proofs.FileLemmas.{filed, zero_first}
 use Rattle.bdb_building_tests.proofs.queues.queue_file.Goals as goal
 
@@ -10,7 +11,7 @@ put_queue_meta-requires-clause-zero c =
 
 pub returns : goal.returns
 returns c =
-    filed c.args.settings.now c.args.list.now c.new-pages.result c.add.new.self c.build_queue.new.pages c.in_ok-meta.meta c.count-last.result
+    filed c.args.settings.now (pairs_of c.args.list) c.new-pages.result c.add.new.self c.build_queue.new.pages c.in_ok-meta.meta c.count-last.result
     c.page_mut.result.now c.put_queue_meta.new.page c.into_bytes.result c.new-pages.ensures.order c.in_ok-add.ensures.ok c.in_ok-meta.ensures
     (ap is_page_size (sym c.size-size.ensures.size) ∙ c.size-size.ensures.legal) c.size-size.ensures.whole c.count-last.ensures
     (omega arith) c.page_mut.ensures.value c.put_queue_meta.ensures.page

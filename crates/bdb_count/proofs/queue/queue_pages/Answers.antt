@@ -1,12 +1,15 @@
 use Rattle.std.proofs.Common.{◌≡◌, ◌-◌, Some, length, subst, sym, ◌∙◌, ap}
 use Rattle.std.specs.Prelude.{◌/◌, ◌+◌, slice_get}
+use Rattle.std.specs.Option.{option_map}
+use Rattle.bdb_text_format.specs.Placed.{pair_seen}
 use Rattle.bdb_count.proofs.QueueLemmas.{IsGreatest, last_greatest}
 use Rattle.bdb_count.proofs.queue.queue_pages.Goals as goal
 
 greatest : (c : goal.After-number_of) → IsGreatest c.args.list.now c.number_of.result
 greatest c =
-    last_greatest c.args.list.now c.in-Some.pair.now c.number_of.result
-    (subst (λ ps. Some c.in-Some.pair.now ≡ slice_get ps (length ps - 1)) c.as_slice.ensures c.in-Some.ensures.value)
+    last_greatest c.args.list.now (pair_seen c.in-Some.pair) c.number_of.result
+    (subst (λ ps. Some (pair_seen c.in-Some.pair) ≡ slice_get ps (length ps - 1)) c.as_slice.ensures
+    (sym (ap (option_map pair_seen) c.in-Some.is) ∙ c.last.ensures))
     c.number_of.ensures.number c.requires.ascend
 
 pub overflow_sub-result : goal.overflow_sub-result

@@ -1,34 +1,31 @@
-use Rattle.std.proofs.Common.{[], arith, ◌∙◌, ap}
-use Rattle.std.proofs.lemmas.List.{get_or_default, take_all}
+use Rattle.std.proofs.Common.{arith, ◌∙◌, ap}
+use Rattle.std.proofs.lemmas.List.{take_all}
+use Rattle.bdb_places.specs.Places.{values_seen}
 use Rattle.bdb_leaves.specs.Runs.{more_cost}
 use Rattle.bdb_leaves.specs.Units.{value_cost}
 use Rattle.bdb_leaves.proofs.PairsLemmas.{cost_left, cost_more}
 use Rattle.bdb_leaves.proofs.units.more_cost.Goals as goal
 
-pub overflow_add-cost-in-loop-value : goal.overflow_add-cost-in-loop-value
-overflow_add-cost-in-loop-value c =
-    let here = c.as_slice.ensures
-    ∙ (c.value-item.is ∙ get_or_default c.args.more.now c.loop-value.value-index c.value-item.result [] c.loop-value-test.true) in
+pub overflow_add-cost-in-loop-i : goal.overflow_add-cost-in-loop-i
+overflow_add-cost-in-loop-i c =
     omega (
       arith,
       c.requires,
       c.ranges.size,
-      c.loop-value.invariant,
-      c.value_cost.ensures ∙ ap (value_cost c.args.size) here,
-      cost_left c.args.size c.loop-value.value-index c.args.more.now c.loop-value-test.true,
+      c.loop-i.invariant,
+      c.value_cost.ensures ∙ ap (value_cost c.args.size) c.at.ensures,
+      cost_left c.args.size c.loop-i.i (values_seen c.args.more) (omega arith),
     )
 
-pub loop-value-preserved : goal.loop-value-preserved
-loop-value-preserved c =
-    let here = c.as_slice.ensures
-    ∙ (c.value-item.is ∙ get_or_default c.args.more.now c.loop-value.value-index c.value-item.result [] c.loop-value-test.true) in
+pub loop-i-preserved : goal.loop-i-preserved
+loop-i-preserved c =
     omega (
       arith,
-      c.loop-value.invariant,
-      c.value_cost.ensures ∙ ap (value_cost c.args.size) here,
-      cost_more c.args.size c.loop-value.value-index c.args.more.now c.loop-value-test.true,
+      c.loop-i.invariant,
+      c.value_cost.ensures ∙ ap (value_cost c.args.size) c.at.ensures,
+      cost_more c.args.size c.loop-i.i (values_seen c.args.more) (omega arith),
     )
 
 pub returns : goal.returns
 returns c =
-    c.loop-value.invariant ∙ ap (more_cost c.args.size) (take_all c.loop-value.value-index c.args.more.now (omega arith))
+    c.loop-i.invariant ∙ ap (more_cost c.args.size) (take_all c.loop-i.i (values_seen c.args.more) (omega arith))

@@ -1,5 +1,7 @@
 use Rattle.std.proofs.Common.{List, ℕ, [], ◌++◌, ◌∷◌, ◌∙◌, ap, arith, drop, get_or, map, set, subst, sym}
 use Rattle.std.proofs.lemmas.List.{length-map, map-append}
+use Rattle.bdb_places.specs.Places.{values_seen}
+use Rattle.bdb_text_format.specs.Placed.{pairs_of}
 use Rattle.bdb_buckets.specs.Tables.{Keyed}
 use Rattle.bdb_mkhash.specs.Units.{unit_seen, units_seen}
 use Rattle.bdb_mkhash.specs.Buckets.{table_units}
@@ -17,7 +19,7 @@ index_mut-requires c =
     )
 
 pub loop-start-init : goal.loop-start-init
-loop-start-init c = (omega arith, none_dealt c.args.bits (table_units c.args.list.now) _ c.in_ok-buckets.ensures)
+loop-start-init c = (omega arith, none_dealt c.args.bits (table_units (pairs_of c.args.list)) _ c.in_ok-buckets.ensures)
 
 pub loop-start-preserved : goal.loop-start-preserved
 loop-start-preserved c =
@@ -26,18 +28,18 @@ loop-start-preserved c =
     let many = dealt_length c.args.bits _ _ _ c.loop-start.invariant.1 in
     let long = length-map c.loop-start.buckets.items (λ bucket. units_seen bucket.items) in
     let low = c.bucket_among-b.ensures.low in
-    let after : List Keyed = table_units (drop c.run_at-run.result.end c.args.list.now) in
+    let after : List Keyed = table_units (drop c.run_at-run.result.end (pairs_of c.args.list)) in
     let keyed : List ℕ → List (List ℕ) → Keyed = λ key values. record { key = key; values = values } in
-    let same = ap (λ key. keyed key c.run_at-run.result.values.now) (sym c.unit_of-unit.ensures.key)
+    let same = ap (λ key. keyed key (values_seen c.run_at-run.result.values)) (sym c.unit_of-unit.ensures.key)
     ∙ ap (keyed c.unit_of-unit.result.key.now) (sym c.unit_of-unit.ensures.values) in
-    let run = run_unit c.args.list.now c.loop-start.start c.run_at-run.result.end _ _ c.run_at-run.ensures ∙ ap (λ u. u ∷ after) same in
+    let run = run_unit (pairs_of c.args.list) c.loop-start.start c.run_at-run.result.end _ _ c.run_at-run.ensures ∙ ap (λ u. u ∷ after) same in
     let pushed = pushed_seen (λ bucket. units_seen bucket.items) c.loop-start.buckets.items c.bucket_among-b.result c.index_mut.result.now
     c.push.new.self unit
     (omega (arith, many, long, low)) c.index_mut.ensures.value
     (ap (map unit_seen) c.in_ok-push.ensures.items ∙ map-append unit_seen c.index_mut.result.now.items (c.unit_of-unit.result ∷ [])) in (
       c.run_at-run.ensures.within,
-      one_dealt c.args.bits (table_units c.args.list.now) after unit seen _
-          (subst (λ left. AreDealt c.args.bits (table_units c.args.list.now) left seen) run c.loop-start.invariant.1)
+      one_dealt c.args.bits (table_units (pairs_of c.args.list)) after unit seen _
+          (subst (λ left. AreDealt c.args.bits (table_units (pairs_of c.args.list)) left seen) run c.loop-start.invariant.1)
           (omega (arith, low, c.bucket_among-b.ensures.bucket))
           (pushed ∙ ap (λ b. set seen b (get_or seen b [] ++ (unit ∷ []))) c.bucket_among-b.ensures.bucket),
     )

@@ -3,6 +3,7 @@ use Rattle.std.proofs.lemmas.List.{length-map}
 use Rattle.std.proofs.lemmas.List.FromFn.{length-map-range_with_len}
 use Rattle.std.specs.Prelude.{◌+◌, ◌^◌, ◌≡◌}
 use Rattle.std.specs.List.{All}
+use Rattle.bdb_text_format.specs.Placed.{pairs_of}
 use Rattle.bdb_buckets.specs.Tables.{dealt, table_meta}
 use Rattle.bdb_mkhash.specs.Buckets.{bits_for, table_cost, table_units}
 use Rattle.bdb_mkhash.specs.Filling.{AreEmptyPages, AreFilled}
@@ -12,14 +13,14 @@ use Rattle.bdb_mkhash.proofs.BucketLemmas.{two_at_least}
 use Rattle.bdb_mkhash.proofs.build.build_table.Goals as goal
 
 pub table_cost-requires-clause-keys : goal.table_cost-requires-clause-keys
-table_cost-requires-clause-keys c = keys_are c.args.settings.now c.args.list.now c.requires.list
+table_cost-requires-clause-keys c = keys_are c.args.settings.now (pairs_of c.args.list) c.requires.list
 
 pub deal-requires-clause-keys : goal.deal-requires-clause-keys
-deal-requires-clause-keys c = keys_are c.args.settings.now c.args.list.now c.requires.list
+deal-requires-clause-keys c = keys_are c.args.settings.now (pairs_of c.args.list) c.requires.list
 
 pub fill_buckets-requires-clause-empty : goal.fill_buckets-requires-clause-empty
 fill_buckets-requires-clause-empty c =
-    let units = table_units c.args.list.now in
+    let units = table_units (pairs_of c.args.list) in
     let are = ap (map (λ bucket. units_seen bucket.items)) c.as_slice.ensures.value ∙ c.in_ok-buckets.ensures in
     let many : length c.as_slice.result.now ≡ c.bucket_count.result =
     sym (length-map c.as_slice.result.now (λ bucket. units_seen bucket.items))
@@ -29,15 +30,15 @@ fill_buckets-requires-clause-empty c =
 
 pub fill_buckets-requires-clause-short : goal.fill_buckets-requires-clause-short
 fill_buckets-requires-clause-short c =
-    let units = table_units c.args.list.now in
+    let units = table_units (pairs_of c.args.list) in
     let are = ap (map (λ bucket. units_seen bucket.items)) c.as_slice.ensures.value ∙ c.in_ok-buckets.ensures in
     all_seen (All IsShortUnit) (λ bucket. units_seen bucket.items) c.as_slice.result.now
     (subst (All (All IsShortUnit)) (sym are)
-    (buckets_short c.in_ok-bits.bits units (all_short c.args.settings.now c.args.list.now c.requires.list)))
+    (buckets_short c.in_ok-bits.bits units (all_short c.args.settings.now (pairs_of c.args.list) c.requires.list)))
 
 pub fill_buckets-requires-clause-few : goal.fill_buckets-requires-clause-few
 fill_buckets-requires-clause-few c =
-    let units = table_units c.args.list.now in
+    let units = table_units (pairs_of c.args.list) in
     let are = ap (map (λ bucket. units_seen bucket.items)) c.as_slice.ensures.value ∙ c.in_ok-buckets.ensures in
     let many : length c.as_slice.result.now ≡ c.bucket_count.result =
     sym (length-map c.as_slice.result.now (λ bucket. units_seen bucket.items))
@@ -48,12 +49,12 @@ fill_buckets-requires-clause-few c =
 
 pub returns : goal.returns
 returns c =
-    let units = table_units c.args.list.now in
+    let units = table_units (pairs_of c.args.list) in
     let are = ap (map (λ bucket. units_seen bucket.items)) c.as_slice.ensures.value ∙ c.in_ok-buckets.ensures in
     let cost = c.in_ok-table_cost.ensures ∙ ap (λ s. table_cost s units) c.size-2.ensures.size in
     let bits = c.in_ok-bits.ensures.bits ∙ (ap (λ s. bits_for s c.in_ok-table_cost.field-0) c.size.ensures.size ∙ ap
     (bits_for c.args.pages.now.size) cost) in
-    table_built c.args.settings.now c.args.pages.now c.add_buckets.new.pages c.fill_buckets.new.pages c.args.list.now c.in_ok-bits.bits
+    table_built c.args.settings.now c.args.pages.now c.add_buckets.new.pages c.fill_buckets.new.pages (pairs_of c.args.list) c.in_ok-bits.bits
     (map (λ bucket. units_seen bucket.items) c.as_slice.result.now) c.table_meta.result c.requires.list c.requires.some bits c.in_ok-bits.ensures.some
     c.in_ok-bits.ensures.few are c.in_ok-add_buckets.ensures.kept
     (c.in_ok-add_buckets.ensures.count ∙ ap (λ n. length c.args.pages.now.pages + n) c.bucket_count.ensures.count)

@@ -1,32 +1,46 @@
-use Rattle.std.proofs.Common.{◌∙◌, ◌+◌, ap, drop, subst, sym, take}
-use Rattle.std.proofs.lemmas.List.{drop-map}
-use Rattle.bdb_text_format.specs.declared.pairs.Key.TheVariants.{Bytes}
+use Rattle.std.proofs.Common.{◌+◌, ◌-◌, ◌≡◌, List, ◌∙◌, ap, arith, drop, length, map, subst, sym, take}
+use Rattle.std.specs.List.{prefix_len}
+use Rattle.std.proofs.lemmas.List.{length-drop}
+use Rattle.bdb_places.specs.Places.{values_seen}
+use Rattle.bdb_text_format.specs.Pairs.{keys_of, unlined_pairs}
+use Rattle.bdb_text_format.specs.Placed.{key_seen, pairs_of, slice_seen}
+use Rattle.bdb_text_format.specs.declared.pairs.TextPair.{TextPair}
 use Rattle.bdb_leaves.specs.Units.{KeyedUnit}
-use Rattle.bdb_mktree.specs.Lists.{HasBytes, IsRunAt}
-use Rattle.bdb_mktree.proofs.ListLemmas.{as_many_values, first_has_bytes, is_run}
+use Rattle.bdb_mktree.specs.Lists.{HasBytes, IsRunAt, has_key}
+use Rattle.bdb_mktree.proofs.ListLemmas.{has_bytes_at, is_run, run_long}
 use Rattle.bdb_mktree.proofs.runs.run_at.Goals as goal
 
 pub unreachable-requires : goal.unreachable-requires
 unreachable-requires c =
-    let keys = c.split_at.ensures.back ∙ (ap (drop c.args.start) c.keys.ensures ∙ drop-map _ c.args.start c.args.list.now) in
-    subst HasBytes (sym c.index-keys-0.is ∙ c.in_default.is)
-    (first_has_bytes c.args.list.now c.args.start c.split_at.result.1.now c.index-keys-0.result c.requires.keys c.requires.more keys)
+    subst HasBytes (ap key_seen c.in_default.is) (has_bytes_at (slice_seen c.args.list) c.args.start _ c.requires.keys c.at.ensures)
 
-pub split_at-requires-3 : goal.split_at-requires-3
-split_at-requires-3 c =
-    let keys = c.split_at.ensures.back ∙ (ap (drop c.args.start) c.keys.ensures ∙ drop-map _ c.args.start c.args.list.now) in
-    let values = c.split_at-2.ensures.back ∙ (ap (drop c.args.start) c.values.ensures ∙ drop-map _ c.args.start c.args.list.now) in
-    as_many_values c.args.list.now c.args.start c.run_length-many.result c.split_at.result.1.now c.split_at-2.result.1.now _ keys values
-    c.run_length-many.ensures
+pub split_at-requires-2 : goal.split_at-requires-2
+split_at-requires-2 c = run_long c.in-Bytes.key.now (slice_seen c.split_at.result.1) c.run_length.result c.run_length.ensures
 
 pub returns : goal.returns
 returns c =
-    let keys = c.split_at.ensures.back ∙ (ap (drop c.args.start) c.keys.ensures ∙ drop-map _ c.args.start c.args.list.now) in
-    let values = c.split_at-2.ensures.back ∙ (ap (drop c.args.start) c.values.ensures ∙ drop-map _ c.args.start c.args.list.now) in
-    let n = c.run_length-many.result in
-    let run = is_run c.args.list.now c.args.start n c.split_at.result.1.now c.split_at-2.result.1.now c.as_slice.result.now c.index-keys-0.result
-    c.requires.keys c.requires.more keys values (sym c.index-keys-0.is ∙
-    (c.in-Bytes.is ∙ ap Bytes (sym c.as_slice.ensures))) c.run_length-many.ensures in
-    subst (λ vs. IsRunAt c.args.list.now c.args.start (KeyedUnit c.as_slice-2.result.now vs) (c.args.start + n)) (sym c.split_at-3.ensures.front)
-    (subst (λ k. IsRunAt c.args.list.now c.args.start (KeyedUnit k (take n c.split_at-2.result.1.now)) (c.args.start + n))
-    (c.as_slice.ensures ∙ sym c.as_slice-2.ensures) run)
+    let pairs : List TextPair = slice_seen c.args.list in
+    let key = c.in-Bytes.key.now in
+    let many = c.run_length.result in
+    let values : values_seen c.values.result ≡ map (λ (pair : TextPair). pair.value) (take many (drop c.args.start pairs)) =
+    c.values.ensures
+    ∙ (ap (map (λ (pair : TextPair). pair.value)) c.split_at-2.ensures.before
+    ∙ ap (λ ps. map (λ (pair : TextPair). pair.value) (take many ps)) c.split_at.ensures.rest) in
+    let long : many ≡ prefix_len (has_key key) (keys_of (unlined_pairs (drop c.args.start pairs))) =
+    c.run_length.ensures ∙ ap (λ ps. prefix_len (has_key key) (keys_of (unlined_pairs ps))) c.split_at.ensures.rest in
+    let most = run_long key (slice_seen c.split_at.result.1) many c.run_length.ensures in
+    let end : c.len.result - c.len-2.result ≡ c.args.start + many =
+    omega (
+      arith,
+      most,
+      c.requires.more,
+      c.len.ensures,
+      c.len-2.ensures,
+      ap length c.split_at.ensures.rest,
+      ap length c.split_at-2.ensures.rest,
+      length-drop c.args.start pairs,
+      length-drop many (slice_seen c.split_at.result.1),
+    ) in
+    subst (IsRunAt (pairs_of c.args.list) c.args.start (KeyedUnit key (values_seen c.values.result))) (sym end)
+    (subst (λ vs. IsRunAt (pairs_of c.args.list) c.args.start (KeyedUnit key vs) (c.args.start + many)) (sym values)
+    (is_run pairs c.args.start many key _ c.requires.keys c.at.ensures (ap key_seen c.in-Bytes.is) long))

@@ -1,9 +1,11 @@
 use Rattle.std.proofs.Common.{◌≡◌, ◌+◌, drop}
 use Rattle.std.specs.List.{prefix_len}
+use Rattle.bdb_text_format.specs.Pairs.{keys_of, unlined_pairs}
+use Rattle.bdb_text_format.specs.Placed.{pairs_of, slice_seen}
 use Rattle.bdb_mktree.specs.Lists.{has_key}
 use Rattle.bdb_mktree.proofs.runs.run_length.Given as goal
 
 -- All keys passed are this one.
-abbrev pub invariant-loop-other : goal.invariant-loop-other
-invariant-loop-other l =
-    (l.n ≡ l.other-index) × (l.n + prefix_len (has_key l.fn.key) (drop l.n l.fn.keys) ≡ prefix_len (has_key l.fn.key) l.fn.keys)
+abbrev pub invariant-loop-n : goal.invariant-loop-n
+invariant-loop-n l =
+    l.n + prefix_len (has_key l.fn.key) (keys_of (unlined_pairs (drop l.n (slice_seen l.fn.list)))) ≡ prefix_len (has_key l.fn.key) (keys_of (pairs_of l.fn.list))

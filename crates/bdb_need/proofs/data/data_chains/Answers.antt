@@ -1,20 +1,21 @@
-use Rattle.std.proofs.Common.{◌^◌}
+use Rattle.std.proofs.Common.{◌^◌, arith}
+use Rattle.bdb_places.specs.Places.{values_seen}
 use Rattle.bdb_leaves.specs.Units.{chain_pages}
-use Rattle.bdb_need.proofs.DataLemmas.{short_here, sum_end, sum_more, value_here}
+use Rattle.bdb_need.proofs.DataLemmas.{short_here, sum_end, sum_more}
 use Rattle.bdb_need.proofs.data.data_chains.Goals as goal
 
 pub chain_pages-pages-requires-clause-short : goal.chain_pages-pages-requires-clause-short
 chain_pages-pages-requires-clause-short c =
-    short_here c.args.pairs.now c.loop-pair.pair-index _ c.requires.short c.loop-pair-test.true
-    (value_here c.args.pairs.now c.loop-pair.pair-index c.pair-item.result _ c.loop-pair-test.true c.pair-item.is c.as_slice.ensures)
+    short_here (values_seen c.args.values) c.loop-i.i _ c.requires.short (omega arith)
+    c.at.ensures
 
-pub loop-pair-preserved : goal.loop-pair-preserved
-loop-pair-preserved c =
-    sum_more (chain_pages c.args.size) c.args.pairs.now c.loop-pair.pair-index _ c.loop-pair.pages c.chain_pages-pages.result (2 ^ 32)
-    c.loop-pair-test.true
-    (value_here c.args.pairs.now c.loop-pair.pair-index c.pair-item.result _ c.loop-pair-test.true c.pair-item.is c.as_slice.ensures)
-    c.loop-pair.invariant c.chain_pages-pages.ensures.pages c.chain_pages-pages.ensures.few
+pub loop-i-preserved : goal.loop-i-preserved
+loop-i-preserved c =
+    sum_more (chain_pages c.args.size) (values_seen c.args.values) c.loop-i.i _ c.loop-i.pages c.chain_pages-pages.result (2 ^ 32)
+    (omega arith)
+    c.at.ensures
+    c.loop-i.invariant c.chain_pages-pages.ensures.pages c.chain_pages-pages.ensures.few
 
 pub returns-clause-pages : goal.returns-clause-pages
 returns-clause-pages c =
-    sum_end (chain_pages c.args.size) c.args.pairs.now c.loop-pair.pair-index c.loop-pair.pages c.loop-pair-test.false c.loop-pair.invariant.0
+    sum_end (chain_pages c.args.size) (values_seen c.args.values) c.loop-i.i c.loop-i.pages (omega arith) c.loop-i.invariant.0

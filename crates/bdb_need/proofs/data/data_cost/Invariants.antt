@@ -1,8 +1,8 @@
 use Rattle.std.proofs.Common.{◌≡◌, ◌≤◌, ◌*◌, ◌^◌, take}
+use Rattle.bdb_places.specs.Places.{values_seen}
 use Rattle.bdb_leaves.specs.Runs.{more_cost}
-use Rattle.bdb_need.specs.Counting.{values_in}
 use Rattle.bdb_need.proofs.data.data_cost.Given as goal
 
 -- The cost so far is that of the data passed.
-abbrev pub invariant-loop-pair : goal.invariant-loop-pair
-invariant-loop-pair l = (l.cost ≡ more_cost l.size (take l.pair-index (values_in l.pairs))) × (l.cost ≤ l.pair-index * 2 ^ 13)
+abbrev pub invariant-loop-i : goal.invariant-loop-i
+invariant-loop-i l = (l.cost ≡ more_cost l.size (take l.i (values_seen l.values))) × (l.cost ≤ l.i * 2 ^ 13)

@@ -5,6 +5,7 @@ use Rattle.bdb_leaves.specs.Runs.{IsShort}
 use Rattle.bdb_leaves.specs.Spread.{tree_size}
 use Rattle.bdb_leaves.specs.declared.leaf_type.LeafType.TheVariants.{Pairs, Records}
 use Rattle.bdb_text_format.specs.Pairs.{AscendFrom}
+use Rattle.bdb_text_format.specs.Placed.{pairs_of}
 use Rattle.bdb_mktree.specs.Lists.{HasBytes, IsTreeList, keyed_units, record_units, units_in}
 use Rattle.bdb_mktree.specs.Units.{IsShortUnit, leaf_type_of}
 use Rattle.bdb_settle.specs.Loaded.{filled_pairs}
@@ -32,7 +33,7 @@ pub returns-in-Btree-clause-pages : goal.returns-in-Btree-clause-pages
 returns-in-Btree-clause-pages c =
     let settings = c.args.settings.now in
     let pairs = c.args.list.now in
-    let same : tree_size Pairs settings.page_size settings.sorted (keyed_units (unlined_pairs c.as_slice.result.now)) ≡ tree_pages settings (unlined_pairs (filled_pairs settings pairs)) =
+    let same : tree_size Pairs settings.page_size settings.sorted (keyed_units (pairs_of c.as_slice.result)) ≡ tree_pages settings (unlined_pairs (filled_pairs settings pairs)) =
     ap (λ ps. tree_size Pairs settings.page_size settings.sorted (keyed_units (unlined_pairs ps))) (c.as_slice.ensures ∙ sym (keyed_as_is settings pairs c.in-Btree.is))
     ∙ ap (λ k. tree_size (leaf_type_of k) settings.page_size settings.sorted (units_in k (unlined_pairs (filled_pairs settings pairs)))) (sym c.in-Btree.is) in
     subst (λ n. IfOk c.keyed_pages.result (λ pages. pages ≡ n)) same c.keyed_pages.ensures.pages

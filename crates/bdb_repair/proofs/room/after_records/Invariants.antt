@@ -5,4 +5,4 @@ use Rattle.bdb_repair.proofs.room.after_records.Given as goal
 
 -- What is left of the file lacks what the records before took.
 abbrev pub invariant-loop-value : goal.invariant-loop-value
-invariant-loop-value l = l.left.file + sum_by datum_room l.fn.found ≡ l.fn.room.file + sum_by datum_room l.value-iterator
+invariant-loop-value l = l.left + sum_by datum_room l.fn.found ≡ l.fn.room + sum_by datum_room l.value-iterator

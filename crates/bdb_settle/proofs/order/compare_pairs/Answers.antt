@@ -1,11 +1,14 @@
+use Rattle.bdb_text_format.specs.Pairs.{unlined}
+use Rattle.bdb_text_format.specs.Placed.{pair_seen}
 use Rattle.bdb_settle.proofs.KeyOrderLemmas.{by_data, by_greater, by_less}
 use Rattle.bdb_settle.proofs.order.compare_pairs.Goals as goal
 
 pub returns-in-Less : goal.returns-in-Less
-returns-in-Less c = by_less c.args.settings.now c.args.a.now c.args.b.now c.in-Less.ensures
+returns-in-Less c = by_less c.args.settings.now (unlined (pair_seen c.args.a)) (unlined (pair_seen c.args.b)) c.in-Less.ensures
 
 pub returns-in-Greater : goal.returns-in-Greater
-returns-in-Greater c = by_greater c.args.settings.now c.args.a.now c.args.b.now c.in-Greater.ensures
+returns-in-Greater c = by_greater c.args.settings.now (unlined (pair_seen c.args.a)) (unlined (pair_seen c.args.b)) c.in-Greater.ensures
 
 pub returns-in-Equal : goal.returns-in-Equal
-returns-in-Equal c = by_data c.args.settings.now c.args.a.now c.args.b.now c.compare_data.result c.in-Equal.ensures c.compare_data.ensures
+returns-in-Equal c =
+    by_data c.args.settings.now (unlined (pair_seen c.args.a)) (unlined (pair_seen c.args.b)) c.compare_data.result c.in-Equal.ensures c.compare_data.ensures

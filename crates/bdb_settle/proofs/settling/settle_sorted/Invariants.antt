@@ -1,7 +1,6 @@
-use Rattle.std.specs.Vec.Iter.{into_iter_items}
-use Rattle.bdb_settle.specs.Settling.{IsSettledTo}
+use Rattle.bdb_settle.specs.Settling.{IsSettledAt}
 use Rattle.bdb_settle.proofs.settling.settle_sorted.Given as goal
 
--- The pairs so far stand in the list, but for the last one.
-abbrev pub invariant-loop-pair : goal.invariant-loop-pair
-invariant-loop-pair l = IsSettledTo l.settings l.fn.pairs.items l.list l.last (into_iter_items l.pair-iterator)
+-- The places so far are those of the list, but for the last one.
+abbrev pub invariant-loop-i : goal.invariant-loop-i
+invariant-loop-i l = IsSettledAt l.settings l.bytes l.fn.places.items l.places.items l.kept l.last l.i

@@ -1,4 +1,4 @@
-use Rattle.std.proofs.Common.{List, ℕ, false, refl, sym, ap, ◌∙◌, ◌≡◌, arith}
+use Rattle.std.proofs.Common.{Some, List, ℕ, false, refl, sym, ap, ◌∙◌, ◌≡◌, arith}
 use Rattle.std.proofs.lemmas.Bool.{eqb-true}
 use Rattle.std.specs.Str.{bytes_eq}
 use Rattle.bdb_text_format.specs.TextLines.{is_data_end, text_lines}
@@ -22,12 +22,12 @@ loop-rest-preserved c =
     let line = c.cut_line-cut.result.line.now in
     let other : is_data_end line ≡ false = ap (λ (s : List ℕ). bytes_eq line s) (sym c.as_slice.ensures) ∙ sym c.if-eq.ensures in
     let to = rw c.cut_line-cut.ensures.lines at c.loop-rest.invariant.to in
-    let value = rw c.prints-print.ensures at c.in-Ok.ensures.ok in
+    let value = rw c.prints-print.ensures at (c.in-Ok.ensures.ok ∙ ap Some (sym c.as_slice-in-loop-rest.ensures.value)) in
     record {
       to = rw c.in_ok-push.ensures.ok
           (counted_more (values_in c.args.fields.now) (text_lines c.args.text.now) c.args.start c.loop-rest.pairs line
           (text_lines c.cut_line-cut.result.rest.now)
-          c.loop-rest.number c.loop-rest.record_number c.in-Ok.value to c.requires.keys other value);
+          c.loop-rest.number c.loop-rest.record_number _ to c.requires.keys other value);
       room = omega (arith, c.loop-rest.invariant.room, c.cut_line-cut.ensures.shorter);
       few = omega (arith, c.loop-rest.invariant.few, c.cut_line-cut.ensures.shorter);
     }

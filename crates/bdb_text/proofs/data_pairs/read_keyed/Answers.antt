@@ -1,6 +1,7 @@
-use Rattle.std.proofs.Common.{List, ℕ, false, sym, ap, ◌∙◌, ◌≡◌, refl, arith}
+use Rattle.std.proofs.Common.{Some, List, ℕ, false, sym, ap, ◌∙◌, ◌≡◌, refl, arith}
 use Rattle.std.proofs.lemmas.Bool.{eqb-true}
 use Rattle.std.specs.Str.{bytes_eq}
+use Rattle.bdb_text_format.specs.Placed.{key_seen}
 use Rattle.bdb_text_format.specs.TextLines.{is_data_end, text_lines}
 use Rattle.bdb_text.specs.Fields.{values_in}
 use Rattle.bdb_text.proofs.PairLemmas.{behind_key_error, data_ended, key_error, keyed_end, keyed_more}
@@ -24,7 +25,7 @@ returns-in-Err-read_datum-clause-err c =
     let key = rw (c.prints-print.ensures, c.has_record_type-numbered.ensures) at c.in-Ok.ensures.ok in
     let error = rw c.prints-print.ensures at c.in-Err-read_datum.ensures.err in
     behind_key_error (values_in c.args.fields.now) c.args.text.now c.args.start c.loop-rest.pairs line c.cut_line-cut.result.rest.now c.loop-rest.number
-    c.in-Ok.key c.in-Err-read_datum.error
+    (key_seen c.in-Ok.key) c.in-Err-read_datum.error
     to c.requires.keys other key error
 
 pub loop-rest-preserved : goal.loop-rest-preserved
@@ -34,10 +35,10 @@ loop-rest-preserved c =
     let other : is_data_end line ≡ false = ap (λ (s : List ℕ). bytes_eq line s) (sym c.as_slice.ensures) ∙ sym c.if-eq.ensures in
     let to = rw (c.cut_line-cut.ensures.lines, datum.lines_are) at c.loop-rest.invariant.to in
     let key = rw (c.prints-print.ensures, c.has_record_type-numbered.ensures) at c.in-Ok.ensures.ok in
-    let value = rw c.prints-print.ensures at datum.value_is in
+    let value = rw c.prints-print.ensures at (datum.value_is ∙ ap Some (sym c.as_slice-in-loop-rest.ensures.value)) in
     record {
       to = rw c.in_ok-push.ensures.ok (keyed_more (values_in c.args.fields.now) (text_lines c.args.text.now) c.args.start c.loop-rest.pairs line datum.line
-          (text_lines c.in-Ok-read_datum.datum.rest.now) c.loop-rest.number c.in-Ok.key c.in-Ok-read_datum.datum.value to c.requires.keys other datum.other key
+          (text_lines c.in-Ok-read_datum.behind.now) c.loop-rest.number (key_seen c.in-Ok.key) _ to c.requires.keys other datum.other key
           value);
       room = omega (arith, c.loop-rest.invariant.room, c.cut_line-cut.ensures.shorter, c.in-Ok-read_datum.ensures.shorter);
     }

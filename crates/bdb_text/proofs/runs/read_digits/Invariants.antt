@@ -5,7 +5,7 @@ use Rattle.bdb_text.proofs.runs.read_digits.Given as goal
 
 -- the text spells the bytes so far, and then what the rest of it spells
 abbrev pub invariant-loop-rest : goal.invariant-loop-rest
-invariant-loop-rest l = bytes_spelled false l.text ≡ joined l.bytes (bytes_spelled false l.rest)
+invariant-loop-rest l = bytes_spelled false l.text ≡ joined l.room.items (bytes_spelled false l.rest)
 
 abbrev pub decreases-loop-rest : goal.decreases-loop-rest
 decreases-loop-rest l = length l.rest

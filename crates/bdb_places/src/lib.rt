@@ -1,0 +1,10 @@
+//! Where keys and data stand in a run of bytes.
+#![tactic(auto)]
+
+mod place;
+mod span;
+mod values;
+
+pub use place::{Place, PlacedKey};
+pub use span::Span;
+pub use values::Values;
