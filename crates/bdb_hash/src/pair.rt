@@ -133,8 +133,14 @@ impl<'a> Pair<'a> {
     pub(crate) fn into_data(self) -> Data<'a>
         ensures { result ≡ data_of (file_of self.entry.image) self.entry.pair.data_item }
     {
-        let forest = self.forest.again();
-        let item = self.item;
+        let Pair {
+            forest,
+            page: _page,
+            index: _index,
+            head: _head,
+            key: _key,
+            item,
+        } = self;
         Data::of_item(&forest, item)
     }
 }

@@ -50,22 +50,21 @@ fn is_named(section: &Section, wanted: Option<&[u8]>) -> bool {
     }
 }
 
-const fn plain(kind: Kind) -> Settings {
-    Settings {
-        kind,
-        page_size: 4096,
-        order: Order::Little,
-        duplicates: false,
-        sorted: false,
-        recnum: false,
-        renumber: false,
-        fixed: false,
-        re_len: 0,
-        re_pad: 32,
-        minkey: 2,
-        ffactor: 0,
-    }
-}
+// A btree whose section says nothing else.
+const PLAIN: Settings = Settings {
+    kind: Kind::Btree,
+    page_size: 4096,
+    order: Order::Little,
+    duplicates: false,
+    sorted: false,
+    recnum: false,
+    renumber: false,
+    fixed: false,
+    re_len: 0,
+    re_pad: 32,
+    minkey: 2,
+    ffactor: 0,
+};
 
 // The settings of a text of one section.
 fn settings_of(alloc: Global, text: &[u8]) -> Option<Settings> {
@@ -99,7 +98,8 @@ fn is_second(section: &Section) -> bool {
     let settings = Settings {
         fixed: true,
         re_len: 3,
-        ..plain(Kind::Queue)
+        kind: Kind::Queue,
+        ..PLAIN
     };
     is_named(section, Some(b""))
         && section.header_line == 13
@@ -136,31 +136,35 @@ fn records_are_numbered(rt: HostRuntime) -> Result<(), Fail> {
 }
 
 const KEYWORDS: [(&[u8], Settings); 24] = [
-    (
-        b"VERSION=3\ntype=btree\nHEADER=END\nDATA=END\n",
-        plain(Kind::Btree),
-    ),
+    (b"VERSION=3\ntype=btree\nHEADER=END\nDATA=END\n", PLAIN),
     (
         b"VERSION=3\ntype=hash\nHEADER=END\nDATA=END\n",
-        plain(Kind::Hash),
+        Settings {
+            kind: Kind::Hash,
+            ..PLAIN
+        },
     ),
     (
         b"VERSION=3\ntype=recno\nHEADER=END\nDATA=END\n",
-        plain(Kind::Recno),
+        Settings {
+            kind: Kind::Recno,
+            ..PLAIN
+        },
     ),
     (
         b"VERSION=3\ntype=queue\nre_len=1\nHEADER=END\nDATA=END\n",
         Settings {
             fixed: true,
             re_len: 1,
-            ..plain(Kind::Queue)
+            kind: Kind::Queue,
+            ..PLAIN
         },
     ),
     (
         b"VERSION=3\nduplicates=1\ntype=btree\nHEADER=END\nDATA=END\n",
         Settings {
             duplicates: true,
-            ..plain(Kind::Btree)
+            ..PLAIN
         },
     ),
     (
@@ -168,80 +172,83 @@ const KEYWORDS: [(&[u8], Settings); 24] = [
         Settings {
             duplicates: true,
             sorted: true,
-            ..plain(Kind::Hash)
+            kind: Kind::Hash,
+            ..PLAIN
         },
     ),
     (
         b"VERSION=3\nrecnum=1\nduplicates=0\ntype=btree\nHEADER=END\nDATA=END\n",
         Settings {
             recnum: true,
-            ..plain(Kind::Btree)
+            ..PLAIN
         },
     ),
     (
         b"VERSION=3\nrecnum=0\nrenumber=0\nkeys=1\nchksum=0\ntype=btree\nHEADER=END\nDATA=END\n",
-        plain(Kind::Btree),
+        PLAIN,
     ),
     (
         b"VERSION=3\nrenumber=1\nkeys=0\ntype=recno\nHEADER=END\nDATA=END\n",
         Settings {
             renumber: true,
-            ..plain(Kind::Recno)
+            kind: Kind::Recno,
+            ..PLAIN
         },
     ),
     (
         b"VERSION=3\ndb_pagesize=512\ntype=btree\nHEADER=END\nDATA=END\n",
         Settings {
             page_size: 512,
-            ..plain(Kind::Btree)
+            ..PLAIN
         },
     ),
     (
         b"VERSION=3\ndb_pagesize=0x8000\ntype=btree\nHEADER=END\nDATA=END\n",
         Settings {
             page_size: 32768,
-            ..plain(Kind::Btree)
+            ..PLAIN
         },
     ),
     (
         b"VERSION=3\ndb_lorder=4321\ntype=btree\nHEADER=END\nDATA=END\n",
         Settings {
             order: Order::Big,
-            ..plain(Kind::Btree)
+            ..PLAIN
         },
     ),
     (
         b"VERSION=3\ndb_lorder=0x4d2\ntype=btree\nHEADER=END\nDATA=END\n",
-        plain(Kind::Btree),
+        PLAIN,
     ),
     (
         b"VERSION=3\nextentsize=0x00\ntype=btree\nHEADER=END\nDATA=END\n",
-        plain(Kind::Btree),
+        PLAIN,
     ),
     (
         b"VERSION=3\nbt_minkey=0\ntype=btree\nHEADER=END\nDATA=END\n",
-        Settings {
-            minkey: 0,
-            ..plain(Kind::Btree)
-        },
+        Settings { minkey: 0, ..PLAIN },
     ),
     (
         b"VERSION=3\nbt_minkey=4294967295\ntype=btree\nHEADER=END\nDATA=END\n",
         Settings {
             minkey: 4294967295,
-            ..plain(Kind::Btree)
+            ..PLAIN
         },
     ),
     (
         b"VERSION=3\nh_ffactor=0xFFFFffff\nh_nelem=0\ntype=hash\nHEADER=END\nDATA=END\n",
         Settings {
             ffactor: 4294967295,
-            ..plain(Kind::Hash)
+            kind: Kind::Hash,
+            ..PLAIN
         },
     ),
     (
         b"VERSION=3\nh_ffactor=0000000000\nh_nelem=4294967295\ntype=hash\nHEADER=END\nDATA=END\n",
-        plain(Kind::Hash),
+        Settings {
+            kind: Kind::Hash,
+            ..PLAIN
+        },
     ),
     (
         b"VERSION=3\nre_len=4294967295\nre_pad=0\ntype=recno\nHEADER=END\nDATA=END\n",
@@ -249,14 +256,16 @@ const KEYWORDS: [(&[u8], Settings); 24] = [
             fixed: true,
             re_len: 4294967295,
             re_pad: 0,
-            ..plain(Kind::Recno)
+            kind: Kind::Recno,
+            ..PLAIN
         },
     ),
     (
         b"VERSION=3\nre_len=0\nre_pad=0xffffffff\ntype=recno\nHEADER=END\nDATA=END\n",
         Settings {
             re_pad: 4294967295,
-            ..plain(Kind::Recno)
+            kind: Kind::Recno,
+            ..PLAIN
         },
     ),
     (
@@ -265,20 +274,27 @@ const KEYWORDS: [(&[u8], Settings); 24] = [
             fixed: true,
             re_len: 9,
             re_pad: 8,
-            ..plain(Kind::Queue)
+            kind: Kind::Queue,
+            ..PLAIN
         },
     ),
     (
         b"VERSION=3\nbt_minkey=9\nre_len=7\nre_pad=1\nrecnum=0\ntype=hash\nHEADER=END\nDATA=END\n",
-        plain(Kind::Hash),
+        Settings {
+            kind: Kind::Hash,
+            ..PLAIN
+        },
     ),
     (
         b"VERSION=3\nh_ffactor=9\nbt_minkey=7\nduplicates=0\ndupsort=0\ntype=recno\nHEADER=END\nDATA=END\n",
-        plain(Kind::Recno),
+        Settings {
+            kind: Kind::Recno,
+            ..PLAIN
+        },
     ),
     (
         b"VERSION=3\nformat=bytevalue\ndatabase=\\00=\ntype=btree\nHEADER=END\nDATA=END\n",
-        plain(Kind::Btree),
+        PLAIN,
     ),
 ];
 
@@ -352,7 +368,10 @@ fn sections_are_a_list(rt: HostRuntime) -> Result<(), Fail> {
     assert!(rt; sections.pop().is_none());
     sections.push(Section {
         name: None,
-        settings: plain(Kind::Hash),
+        settings: Settings {
+            kind: Kind::Hash,
+            ..PLAIN
+        },
         header_line: 9,
         pairs: TextPairs::new(rt.alloc()),
     })?;
