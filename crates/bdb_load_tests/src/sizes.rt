@@ -42,60 +42,59 @@ fn text_of(alloc: Global, shape: &Shape) -> Result<Bytes, AllocError> {
 // A row: a text, how many bytes its file has, and what `verify` says of it.
 type Row = (Shape, usize, &'static [u8]);
 
-const SHAPES: [Row; 4] = [
-    // a datum of 5,000 bytes: a leaf, and eleven pages of a chain, ten of 486 bytes and one of 140
-    (
-        Shape {
-            header: b"VERSION=3\nformat=print\ntype=btree\ndb_pagesize=512\ndb_lorder=1234\nHEADER=END\n",
-            pairs: 1,
-            first_key: b'a',
-            same_key: true,
-            zeros: 4998,
-        },
-        6656,
-        b"sound, 13 pages\n",
-    ),
-    // a key with its datum takes 32 bytes, so a leaf takes 15 of them: two leaves and a root
-    (
-        Shape {
-            header: b"VERSION=3\nformat=print\ntype=btree\ndb_pagesize=512\ndb_lorder=1234\nHEADER=END\n",
-            pairs: 20,
-            first_key: b'A',
-            same_key: false,
-            zeros: 18,
-        },
-        2048,
-        b"sound, 4 pages\n",
-    ),
-    // 40 data of one key would take 804 bytes, more than 121: a leaf, and a tree of two leaves and a root
-    (
-        Shape {
-            header: b"VERSION=3\nformat=print\ntype=btree\ndb_pagesize=512\ndb_lorder=4321\nduplicates=1\nHEADER=END\n",
-            pairs: 40,
-            first_key: b'a',
-            same_key: true,
-            zeros: 8,
-        },
-        2560,
-        b"sound, 5 pages\n",
-    ),
-    // the same, sorted
-    (
-        Shape {
-            header: b"VERSION=3\nformat=print\ntype=btree\ndb_pagesize=512\ndb_lorder=1234\nduplicates=1\ndupsort=1\nHEADER=END\n",
-            pairs: 40,
-            first_key: b'a',
-            same_key: true,
-            zeros: 8,
-        },
-        2560,
-        b"sound, 5 pages\n",
-    ),
-];
-
 #[test]
 fn files_have_the_counted_pages(rt: HostRuntime) -> Result<(), Fail> {
-    for (shape, long, verdict) in SHAPES {
+    let rows: [Row; 4] = [
+        // a datum of 5,000 bytes: a leaf, and eleven pages of a chain, ten of 486 bytes and one of 140
+        (
+            Shape {
+                header: b"VERSION=3\nformat=print\ntype=btree\ndb_pagesize=512\ndb_lorder=1234\nHEADER=END\n",
+                pairs: 1,
+                first_key: b'a',
+                same_key: true,
+                zeros: 4998,
+            },
+            6656,
+            b"sound, 13 pages\n",
+        ),
+        // a key with its datum takes 32 bytes, so a leaf takes 15 of them: two leaves and a root
+        (
+            Shape {
+                header: b"VERSION=3\nformat=print\ntype=btree\ndb_pagesize=512\ndb_lorder=1234\nHEADER=END\n",
+                pairs: 20,
+                first_key: b'A',
+                same_key: false,
+                zeros: 18,
+            },
+            2048,
+            b"sound, 4 pages\n",
+        ),
+        // 40 data of one key would take 804 bytes, more than 121: a leaf, and a tree of two leaves and a root
+        (
+            Shape {
+                header: b"VERSION=3\nformat=print\ntype=btree\ndb_pagesize=512\ndb_lorder=4321\nduplicates=1\nHEADER=END\n",
+                pairs: 40,
+                first_key: b'a',
+                same_key: true,
+                zeros: 8,
+            },
+            2560,
+            b"sound, 5 pages\n",
+        ),
+        // the same, sorted
+        (
+            Shape {
+                header: b"VERSION=3\nformat=print\ntype=btree\ndb_pagesize=512\ndb_lorder=1234\nduplicates=1\ndupsort=1\nHEADER=END\n",
+                pairs: 40,
+                first_key: b'a',
+                same_key: true,
+                zeros: 8,
+            },
+            2560,
+            b"sound, 5 pages\n",
+        ),
+    ];
+    for (shape, long, verdict) in rows {
         let text = text_of(rt.alloc(), &shape)?;
         let image = image_of(rt.alloc(), text.as_slice())?;
         assert_eq!(rt; image.as_slice().len(), long);
