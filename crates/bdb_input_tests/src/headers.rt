@@ -1,6 +1,5 @@
 use bdb_format::{Kind, Order, Settings};
 use bdb_text::{header_text, kind_word};
-use std::alloc::{AllocError, Global};
 use std::test::Fail;
 
 // A btree that says nothing of its own.
@@ -96,23 +95,17 @@ const ROWS: [Row; 7] = [
     ),
 ];
 
-fn is_shown(alloc: Global, row: &Row) -> Result<bool, AllocError> {
-    let (name, settings, print, want) = row;
-    Ok(header_text(alloc, *name, settings, *print)?.as_slice() == *want)
-}
-
 #[test]
 fn headers_show_settings(rt: HostRuntime) -> Result<(), Fail> {
-    for row in &ROWS {
-        assert!(rt; is_shown(rt.alloc(), row)?);
+    for (name, settings, print, want) in ROWS.iter() {
+        let text = header_text(rt.alloc(), *name, settings, *print)?;
+        assert_eq!(rt; text.as_slice(), *want);
     }
     Ok(())
 }
 
 #[test]
 fn kinds_have_words(rt: HostRuntime) {
-    assert!(rt;
-        kind_word(Kind::Btree) == b"btree".as_slice()
-            && kind_word(Kind::Queue) == b"queue".as_slice()
-    );
+    assert_eq!(rt; kind_word(Kind::Btree), b"btree".as_slice());
+    assert_eq!(rt; kind_word(Kind::Queue), b"queue".as_slice());
 }

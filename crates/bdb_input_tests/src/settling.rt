@@ -59,7 +59,7 @@ fn push_answer(
 }
 
 // What is answered to the sections of a dump text; nothing where it isn't read.
-fn settled(alloc: Global, text: &[u8]) -> Result<Bytes, AllocError> {
+pub(crate) fn settled(alloc: Global, text: &[u8]) -> Result<Bytes, AllocError> {
     let mut told = Bytes::new(alloc);
     if text.len() > 1048576 {
         return Ok(told);
@@ -68,9 +68,4 @@ fn settled(alloc: Global, text: &[u8]) -> Result<Bytes, AllocError> {
         push_answer(alloc, &mut told, settle(alloc, sections))?;
     }
     Ok(told)
-}
-
-// Whether this is answered to the sections of a dump text.
-pub(crate) fn is_settled(alloc: Global, text: &[u8], wanted: &[u8]) -> Result<bool, AllocError> {
-    Ok(settled(alloc, text)?.as_slice() == wanted)
 }

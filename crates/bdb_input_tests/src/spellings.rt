@@ -1,43 +1,36 @@
 use bdb_format::Bytes;
 use bdb_text::{SpellError, is_spelling, line_text, push_line_text, read_spelling};
-use std::alloc::{AllocError, Global};
 use std::test::Fail;
-
-const PRINTED: [(&[u8], &[u8]); 6] = [
-    (b"", b""),
-    (b"\x5c\x0a\x41", br"\\\0aA"),
-    (b"\xff", br"\ff"),
-    (b"\x7f", br"\7f"),
-    (b"\x20", b" "),
-    (b"\x7e", b"~"),
-];
-
-fn is_printed(alloc: Global, bytes: &[u8], want: &[u8]) -> Result<bool, AllocError> {
-    Ok(line_text(alloc, bytes, true)?.as_slice() == want)
-}
 
 #[test]
 fn bytes_are_printed(rt: HostRuntime) -> Result<(), Fail> {
-    for (bytes, want) in PRINTED {
-        assert!(rt; is_printed(rt.alloc(), bytes, want)?);
+    let alloc = rt.alloc();
+    let rows: [(&[u8], &[u8]); 6] = [
+        (b"", b""),
+        (b"\x5c\x0a\x41", br"\\\0aA"),
+        (b"\xff", br"\ff"),
+        (b"\x7f", br"\7f"),
+        (b"\x20", b" "),
+        (b"\x7e", b"~"),
+    ];
+    for (bytes, want) in rows {
+        assert_eq!(rt; line_text(alloc, bytes, true)?.as_slice(), want);
     }
     Ok(())
 }
 
-// The digits of a byte, and another as it's printed, behind a space.
-fn pushed(alloc: Global) -> Result<Bytes, AllocError> {
+#[test]
+fn bytes_are_digits(rt: HostRuntime) -> Result<(), Fail> {
+    let alloc = rt.alloc();
+    assert_eq!(rt;
+        line_text(alloc, b"\x5c\x0a\xff", false)?.as_slice(),
+        b"5c0aff".as_slice()
+    );
     let mut text = Bytes::new(alloc);
     text.push_all(b" ")?;
     push_line_text(&mut text, b"2", false)?;
     push_line_text(&mut text, b"2\\", true)?;
-    Ok(text)
-}
-
-#[test]
-fn bytes_are_digits(rt: HostRuntime) -> Result<(), Fail> {
-    let text = line_text(rt.alloc(), b"\x5c\x0a\xff", false)?;
-    assert!(rt; text.as_slice() == b"5c0aff".as_slice());
-    assert!(rt; pushed(rt.alloc())?.as_slice() == br" 322\\".as_slice());
+    assert_eq!(rt; text.as_slice(), br" 322\\".as_slice());
     Ok(())
 }
 
@@ -52,26 +45,25 @@ fn reads_as(read: &Result<Bytes, SpellError>, want: Result<&[u8], SpellError>) -
     }
 }
 
-const SPELLED: [Row; 12] = [
-    (b"", true, Ok(b"")),
-    (br"\\\0aA\0A", true, Ok(b"\\\nA\n")),
-    (b"\x00\xff", true, Ok(b"\x00\xff")),
-    (br"a\", true, Err(SpellError::Bad)),
-    (br"a\0", true, Err(SpellError::Bad)),
-    (br"\0g", true, Err(SpellError::Bad)),
-    (br"\n", true, Err(SpellError::Bad)),
-    (b"", false, Ok(b"")),
-    (b"5c0aFf", false, Ok(b"\\\n\xff")),
-    (b"5c0", false, Err(SpellError::Bad)),
-    (b"5g", false, Err(SpellError::Bad)),
-    (b" 5c", false, Err(SpellError::Bad)),
-];
-
 #[test]
 fn texts_are_read(rt: HostRuntime) {
     let alloc = rt.alloc();
-    for (text, print, want) in SPELLED {
-        let is_read = reads_as(&read_spelling(alloc, text, print), want);
-        assert!(rt; is_read && is_spelling(text, print) == want.is_ok());
+    let rows: [Row; 12] = [
+        (b"", true, Ok(b"")),
+        (br"\\\0aA\0A", true, Ok(b"\\\nA\n")),
+        (b"\x00\xff", true, Ok(b"\x00\xff")),
+        (br"a\", true, Err(SpellError::Bad)),
+        (br"a\0", true, Err(SpellError::Bad)),
+        (br"\0g", true, Err(SpellError::Bad)),
+        (br"\n", true, Err(SpellError::Bad)),
+        (b"", false, Ok(b"")),
+        (b"5c0aFf", false, Ok(b"\\\n\xff")),
+        (b"5c0", false, Err(SpellError::Bad)),
+        (b"5g", false, Err(SpellError::Bad)),
+        (b" 5c", false, Err(SpellError::Bad)),
+    ];
+    for (text, print, want) in rows {
+        assert!(rt; reads_as(&read_spelling(alloc, text, print), want));
+        assert_eq!(rt; is_spelling(text, print), want.is_ok());
     }
 }
