@@ -15,11 +15,20 @@ use bdb_tree::{Leaves, tree_leaves};
 use std::marker::Model;
 
 /// The pairs of one leaf that are left, in order.
-#[derive(Drop)]
 pub struct PagePairs<'a> {
     forest: Forest<'a>,
     page: u32,
     pairs: bdb_form::PagePairs<'a, LeafKind>,
+}
+
+impl Drop for PagePairs<'_> {
+    fn drop(self) {
+        let PagePairs {
+            forest: _forest,
+            page: _page,
+            pairs: _pairs,
+        } = self;
+    }
 }
 
 impl<'a> Model for PagePairs<'a> {
@@ -76,11 +85,20 @@ pub fn next_pair<'a>(pairs: &mut Option<PagePairs<'a>>) -> Option<Pair<'a>>
 }
 
 /// The pairs of a tree that are left, from left to right.
-#[derive(Drop)]
 pub(crate) struct Pairs<'a> {
     forest: Forest<'a>,
     here: Option<PagePairs<'a>>,
     leaves: Leaves<'a>,
+}
+
+impl Drop for Pairs<'_> {
+    fn drop(self) {
+        let Pairs {
+            forest: _forest,
+            here: _here,
+            leaves: _leaves,
+        } = self;
+    }
 }
 
 impl<'a> Model for Pairs<'a> {

@@ -106,7 +106,7 @@ fn notes_recno(alloc: Global, linked: &Linked<'_>, meta: &BtreeMeta, rows: &[(u3
     requires stage { structure_faults (file_of linked.now) ≡ [] }
 {
     let mut found = NamedList::new(alloc);
-    bdb_recno::all_faults(alloc, linked, meta, &mut found).is_ok() && has_rows(&found, 8, rows)
+    bdb_recno::all_faults(linked, meta, &mut found).is_ok() && has_rows(&found, 8, rows)
 }
 
 fn notes_table(alloc: Global, linked: &Linked<'_>, meta: &HashMeta, rows: &[(u32, u8)]) -> bool

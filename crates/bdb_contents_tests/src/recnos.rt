@@ -180,7 +180,7 @@ fn told_in<L: Ledger>(alloc: Global, image: &[u8], steps: &mut Steps<L>) -> Opti
     if !has_sound_trees(alloc, &linked) || !is_recno(&meta) {
         return None;
     }
-    Some(told_by(check(alloc, &linked, &meta)))
+    Some(told_by(check(&linked, &meta)))
 }
 
 fn told_blank<L: Ledger>(alloc: Global, image: &[u8], blank: Blank) -> Option<Told>
@@ -275,14 +275,14 @@ fn finds_all<L: Ledger>(
     true
 }
 
-/// Whether no row of stage 8 holds; not, where memory is wanting.
-fn has_sound_contents(alloc: Global, linked: &Linked<'_>, meta: &BtreeMeta) -> bool
+/// Whether no row of stage 8 holds.
+fn has_sound_contents(linked: &Linked<'_>, meta: &BtreeMeta) -> bool
     requires meta { HasMetadata (file_of linked.now) (BtreeFields meta.now) }
     requires recno { IsTrue (is_recno meta.now) }
     requires stage { structure_faults (file_of linked.now) ≡ [] }
     ensures { IsTrue result → database_faults (file_of linked.now) (BtreeFields meta.now) ≡ [] }
 {
-    check(alloc, linked, meta).is_ok()
+    check(linked, meta).is_ok()
 }
 
 fn holds_in<L: Ledger>(
@@ -300,7 +300,7 @@ fn holds_in<L: Ledger>(
     if !has_sound_trees(alloc, &linked) || !is_recno(&meta) {
         return None;
     }
-    if !has_sound_contents(alloc, &linked, &meta) {
+    if !has_sound_contents(&linked, &meta) {
         return None;
     }
     Some(lists(&linked, &meta, case.listed) && finds_all(&linked, &meta, case.found, steps))

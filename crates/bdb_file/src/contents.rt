@@ -44,7 +44,7 @@ fn note_database<'a, F: FaultSink>(
         Meta::Btree(meta) if meta.flags & 0x02 == 0 => note_btree(
             alloc, linked, meta, known, found,
         ),
-        Meta::Btree(meta) => note_recno(alloc, linked, meta, found),
+        Meta::Btree(meta) => note_recno(linked, meta, found),
         Meta::Hash(meta) => note_hash(alloc, linked, meta, chains, found),
         Meta::Queue(_) => Ok(()),
     }

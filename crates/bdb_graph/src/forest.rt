@@ -22,12 +22,21 @@ use std::marker::Model;
 
 /// The pages of an image on which no row of the first five stages holds. It is a handle that costs nothing
 /// to make, for an iterator that outlives the `Linked`.
-#[derive(Drop)]
 pub struct Forest<'a> {
     formed: Formed<'a>,
     kinds: Kinds,
     // Where some page of a chain has no data.
     blanks: Option<Blanks>,
+}
+
+impl Drop for Forest<'_> {
+    fn drop(self) {
+        let Forest {
+            formed: _formed,
+            kinds: _kinds,
+            blanks: _blanks,
+        } = self;
+    }
 }
 
 impl<'a> Model for Forest<'a> {

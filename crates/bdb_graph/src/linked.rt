@@ -19,7 +19,6 @@ use std::marker::Model;
 
 /// An image on which no row of the first five stages holds: its pages are a forest, whose roots its
 /// metadata names.
-#[derive(Drop)]
 pub struct Linked<'a> {
     forest: Forest<'a>,
     metas: Vec<u32>,
@@ -27,6 +26,17 @@ pub struct Linked<'a> {
     owned: Vec<u32>,
     // The length of each chain that an item names, at its head; empty where no item names one.
     lengths: Vec<u32>,
+}
+
+impl Drop for Linked<'_> {
+    fn drop(self) {
+        let Linked {
+            forest: _forest,
+            metas: _metas,
+            owned: _owned,
+            lengths: _lengths,
+        } = self;
+    }
 }
 
 impl<'a> Model for Linked<'a> {

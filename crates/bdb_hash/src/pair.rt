@@ -21,7 +21,6 @@ use bdb_overflow::{Datum, hash_datum, is_same, prefix};
 use std::marker::Model;
 
 /// A pair of a hash page, with its key.
-#[derive(Drop)]
 pub(crate) struct Pair<'a> {
     forest: Forest<'a>,
     page: u32,
@@ -30,6 +29,19 @@ pub(crate) struct Pair<'a> {
     head: Option<u32>,
     key: Datum<'a>,
     item: HashItem<'a>,
+}
+
+impl Drop for Pair<'_> {
+    fn drop(self) {
+        let Pair {
+            forest: _forest,
+            page: _page,
+            index: _index,
+            head: _head,
+            key: _key,
+            item: _item,
+        } = self;
+    }
 }
 
 impl<'a> Model for Pair<'a> {
@@ -121,8 +133,14 @@ impl<'a> Pair<'a> {
     pub(crate) fn into_data(self) -> Data<'a>
         ensures { result ≡ data_of (file_of self.entry.image) self.entry.pair.data_item }
     {
-        let forest = self.forest.again();
-        let item = self.item;
+        let Pair {
+            forest,
+            page: _page,
+            index: _index,
+            head: _head,
+            key: _key,
+            item,
+        } = self;
         Data::of_item(&forest, item)
     }
 }
@@ -139,9 +157,14 @@ impl<'a> Pair<'a> {
     pub(crate) fn into_entry(self) -> (Datum<'a>, Data<'a>)
         ensures { entry_list (datum_seen result.0) result.1 ≡ listed_told self.entry }
     {
-        let forest = self.forest.again();
-        let key = self.key;
-        let item = self.item;
+        let Pair {
+            forest,
+            page: _page,
+            index: _index,
+            head: _head,
+            key,
+            item,
+        } = self;
         (key, Data::of_item(&forest, item))
     }
 

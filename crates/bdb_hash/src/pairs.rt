@@ -12,11 +12,20 @@ use bdb_graph::Forest;
 use std::marker::Model;
 
 /// The pairs that are left on a page of a bucket; none where it's a zero page.
-#[derive(Drop)]
 pub(crate) struct PagePairs<'a> {
     forest: Forest<'a>,
     page: u32,
     pairs: Option<bdb_form::PagePairs<'a, HashKind>>,
+}
+
+impl Drop for PagePairs<'_> {
+    fn drop(self) {
+        let PagePairs {
+            forest: _forest,
+            page: _page,
+            pairs: _pairs,
+        } = self;
+    }
 }
 
 impl<'a> Model for PagePairs<'a> {

@@ -27,55 +27,66 @@ fn holds(words: &Words, i: usize, want: Option<&[u8]>) -> bool {
 }
 
 #[test]
-fn keeps_bytes_and_words(rt: HostRuntime) -> Result<(), Fail> {
-    let alloc = rt.alloc();
-    let bytes = bytes_of(alloc, &[b"ab", b"", b"c"])?;
+fn keeps_bytes(rt: HostRuntime) -> Result<(), Fail> {
+    let bytes = bytes_of(rt.alloc(), &[b"ab", b"", b"c"])?;
     assert_eq!(rt; bytes.as_slice(), b"abc".as_slice());
     assert_eq!(rt; Image::from_bytes(bytes).bytes(), b"abc".as_slice());
-    let mut words = Words::new(alloc);
+    Ok(())
+}
+
+#[test]
+fn keeps_words(rt: HostRuntime) -> Result<(), Fail> {
+    let mut words = Words::new(rt.alloc());
     words.push("get")?;
     words.push("é")?;
-    assert_eq!(rt; words.len(), 2);
-    assert!(rt; holds(&words, 0, Some(b"get")));
-    assert!(rt; holds(&words, 1, Some(b"\xc3\xa9")));
-    assert!(rt; holds(&words, 2, None));
+    let are_kept = holds(&words, 0, Some(b"get")) && holds(&words, 1, Some(b"\xc3\xa9"));
+    assert!(rt; are_kept && holds(&words, 2, None) && words.len() == 2);
     Ok(())
+}
+
+// Whether a source of more than three pieces of 65,536 bytes fails at this read, of four and one that gives nothing.
+fn fails_at_read(alloc: Global, call: u64) -> Result<bool, AllocError> {
+    let input = [7u8; 200_000];
+    let mut source = MemSource::new(alloc, bytes_of(alloc, &[&input])?);
+    source.fail_at(call)?;
+    let want = if call < 6 {
+        Err(ReadError::ReadFault)
+    } else {
+        Ok(input.as_slice())
+    };
+    Ok(gives(&read_image(alloc, &mut source, 200_000), want))
 }
 
 #[test]
 fn fails_at_each_read(rt: HostRuntime) -> Result<(), Fail> {
-    let alloc = rt.alloc();
-    // More than three pieces of 65,536 bytes: four reads, and one that gives nothing.
-    let input = [7u8; 200_000];
     for call in 1..7u64 {
-        let mut source = MemSource::new(alloc, bytes_of(alloc, &[&input])?);
-        source.fail_at(call)?;
-        let want = if call < 6 {
-            Err(ReadError::ReadFault)
-        } else {
-            Ok(input.as_slice())
-        };
-        assert!(rt;
-            gives(&read_image(alloc, &mut source, 200_000), want),
-            "at {call}"
-        );
+        assert!(rt; fails_at_read(rt.alloc(), call)?, "at {call}");
     }
     Ok(())
 }
 
+// Whether of three writes the one of this number fails, and no other.
+fn fails_once(sink: &mut MemSink, call: u64) -> bool {
+    for (number, piece) in [(1u64, b"ab"), (2, b"cd"), (3, b"ef")] {
+        if put_all(sink, piece).is_err() != (number == call) {
+            return false;
+        }
+    }
+    true
+}
+
+fn fails_at_write(alloc: Global, call: u64, want: &[u8]) -> Result<bool, AllocError> {
+    let mut sink = MemSink::new(alloc);
+    sink.fail_at(9)?;
+    sink.fail_at(call)?;
+    Ok(fails_once(&mut sink, call) && sink.bytes() == want)
+}
+
 #[test]
 fn fails_at_each_write(rt: HostRuntime) -> Result<(), Fail> {
-    let alloc = rt.alloc();
     let rows: [(u64, &[u8]); 4] = [(1, b"cdef"), (2, b"abef"), (3, b"abcd"), (4, b"abcdef")];
     for (call, want) in rows {
-        let mut sink = MemSink::new(alloc);
-        sink.fail_at(9)?;
-        sink.fail_at(call)?;
-        for (number, piece) in [(1u64, b"ab"), (2, b"cd"), (3, b"ef")] {
-            let fails = put_all(&mut sink, piece).is_err();
-            assert_eq!(rt; fails, number == call, "write {number} of {call}");
-        }
-        assert_eq!(rt; sink.bytes(), want);
+        assert!(rt; fails_at_write(rt.alloc(), call, want)?, "at {call}");
     }
     Ok(())
 }
@@ -97,14 +108,20 @@ fn moved<S: Source, K: Sink>(source: &mut S, sink: &mut K) -> Result<usize, Fail
     Ok(total)
 }
 
-#[test]
-fn moves_without_faults(rt: HostRuntime) -> Result<(), Fail> {
-    let alloc = rt.alloc();
+fn moves_to_memory(alloc: Global) -> Result<bool, AllocError> {
     let mut sink = MemSink::new(alloc);
     let mut source = PureSource::new(bytes_of(alloc, &[b"abcde"])?);
-    assert!(rt; moved(&mut source, &mut sink) == Ok(5));
-    assert_eq!(rt; sink.bytes(), b"abcde".as_slice());
+    Ok(moved(&mut source, &mut sink) == Ok(5) && sink.bytes() == b"abcde".as_slice())
+}
+
+fn moves_from_memory(alloc: Global) -> Result<bool, AllocError> {
     let mut source = MemSource::new(alloc, bytes_of(alloc, &[b"abc"])?);
-    assert!(rt; moved(&mut source, &mut PureSink::new()) == Ok(3));
+    Ok(moved(&mut source, &mut PureSink::new()) == Ok(3))
+}
+
+#[test]
+fn moves_without_faults(rt: HostRuntime) -> Result<(), Fail> {
+    assert!(rt; moves_to_memory(rt.alloc())?);
+    assert!(rt; moves_from_memory(rt.alloc())?);
     Ok(())
 }

@@ -1,5 +1,6 @@
 // Sources and sinks over a reader and a writer of std.
 use bdb_io::{Image, ReadError, StdSink, StdSource, WriteFault, put_all, read_image};
+use std::alloc::Global;
 use std::io;
 use std::io::{ErrorKind, Read, Write};
 use std::test::Fail;
@@ -36,25 +37,41 @@ pub fn gives(answer: &Result<Image, ReadError>, want: Result<&[u8], ReadError>) 
     }
 }
 
-#[test]
-fn reads_a_real_reader(rt: HostRuntime) {
-    let alloc = rt.alloc();
+// Whether a reader that fails once, behind so many bytes, is read on from there.
+fn reads_on(alloc: Global, before: usize) -> bool {
     let text = b"abcde";
-    for before in 0..6usize {
-        let mut source = StdSource::new(FailsOnce {
-            bytes: text,
-            before: Some(before),
-        });
-        let first = read_image(alloc, &mut source, 5);
-        assert!(rt; gives(&first, Err(ReadError::ReadFault)), "after {before}");
-        let rest = read_image(alloc, &mut source, 5);
-        assert!(rt; gives(&rest, Ok(&text[before.min(5)..])), "after {before}");
-    }
     let mut source = StdSource::new(FailsOnce {
         bytes: text,
+        before: Some(before),
+    });
+    gives(
+        &read_image(alloc, &mut source, 5),
+        Err(ReadError::ReadFault),
+    ) && gives(
+        &read_image(alloc, &mut source, 5),
+        Ok(&text[before.min(5)..]),
+    )
+}
+
+#[test]
+fn reads_a_real_reader(rt: HostRuntime) {
+    for before in 0..6usize {
+        assert!(rt; reads_on(rt.alloc(), before), "after {before}");
+    }
+}
+
+#[test]
+fn refuses_a_real_reader_that_has_too_much(rt: HostRuntime) {
+    let mut source = StdSource::new(FailsOnce {
+        bytes: b"abcde",
         before: None,
     });
-    assert!(rt; gives(&read_image(alloc, &mut source, 4), Err(ReadError::TooLarge)));
+    assert!(rt;
+        gives(
+            &read_image(rt.alloc(), &mut source, 4),
+            Err(ReadError::TooLarge)
+        )
+    );
 }
 
 // How a writer ends, once it has taken so many bytes.
@@ -89,24 +106,26 @@ impl Write for Narrow {
     }
 }
 
+fn writes_as(alloc: Global, end: End, want: Result<(), WriteFault>, taken: &[u8]) -> bool {
+    let mut writer = Narrow {
+        taken: Vec::new(alloc),
+        end,
+    };
+    put_all(&mut StdSink::new(&mut writer), b"abcde") == want && writer.taken.as_slice() == taken
+}
+
+const WRITTEN: [(End, Result<(), WriteFault>, &[u8]); 6] = [
+    (End::Never, Ok(()), b"abcde"),
+    (End::Fails(0), Err(WriteFault), b""),
+    (End::Fails(2), Err(WriteFault), b"ab"),
+    (End::Fails(5), Ok(()), b"abcde"),
+    (End::TakesNone(0), Err(WriteFault), b""),
+    (End::TakesNone(4), Err(WriteFault), b"abcd"),
+];
+
 #[test]
 fn writes_to_a_real_writer(rt: HostRuntime) {
-    let alloc = rt.alloc();
-    let rows: [(End, Result<(), WriteFault>, &[u8]); 6] = [
-        (End::Never, Ok(()), b"abcde"),
-        (End::Fails(0), Err(WriteFault), b""),
-        (End::Fails(2), Err(WriteFault), b"ab"),
-        (End::Fails(5), Ok(()), b"abcde"),
-        (End::TakesNone(0), Err(WriteFault), b""),
-        (End::TakesNone(4), Err(WriteFault), b"abcd"),
-    ];
-    for (end, want, taken) in rows {
-        let mut writer = Narrow {
-            taken: Vec::new(alloc),
-            end,
-        };
-        let answer = put_all(&mut StdSink::new(&mut writer), b"abcde");
-        assert!(rt; answer == want);
-        assert_eq!(rt; writer.taken.as_slice(), taken);
+    for (end, want, taken) in WRITTEN {
+        assert!(rt; writes_as(rt.alloc(), end, want, taken));
     }
 }

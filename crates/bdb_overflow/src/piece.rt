@@ -87,13 +87,24 @@ fn first_taken(image: &[u8], order: Order, size: u32, taken: &Taken, from: u32) 
 }
 
 /// The pieces of a value that are left, slices of the image: one for each page of its chain, or for each that has data.
-#[derive(Drop)]
 pub struct Pieces<'a> {
     image: &'a [u8],
     order: Order,
     size: u32,
     next: u32,
     taken: Taken,
+}
+
+impl Drop for Pieces<'_> {
+    fn drop(self) {
+        let Pieces {
+            image: _image,
+            order: _order,
+            size: _size,
+            next: _next,
+            taken: _taken,
+        } = self;
+    }
 }
 
 impl<'a> Model for Pieces<'a> {

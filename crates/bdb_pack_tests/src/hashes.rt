@@ -118,32 +118,48 @@ fn reads_back(sheet: &Sheet, order: Order, run: &[u8]) -> bool {
     }
 }
 
+// Whether a page takes a key with its set, and a chain with the root of a set. A set is no key, and a run in the other order is none in this one.
+fn takes_pairs(sheet: &mut Sheet, order: Order, run: &[u8], other: &[u8]) -> bool
+    requires { sheet.old.order ≡ order }
+    ensures { sheet.new.order ≡ order }
+{
+    !takes_set(sheet, order, run, 486)
+        && takes(sheet, &HashItem::Inline(b"k1"), 481)
+        && !takes_set(sheet, order, other, 467)
+        && takes_set(sheet, order, run, 467)
+        && takes(sheet, &CHAIN, 453)
+        && takes(sheet, &HashItem::OffPage { root: 6 }, 443)
+}
+
+// Whether a page takes two items more, which fill it, and no byte more.
+fn takes_filling(sheet: &mut Sheet) -> bool {
+    takes(sheet, &HashItem::Inline(b""), 440)
+        && !takes(sheet, &HashItem::Inline(&FILLING[..438]), 440)
+        && takes(sheet, &HashItem::Inline(&FILLING[..437]), 0)
+}
+
+fn runs_of(order: Order) -> (&'static [u8], &'static [u8]) {
+    match order {
+        Order::Little => (&LITTLE_RUN, &BIG_RUN),
+        Order::Big => (&BIG_RUN, &LITTLE_RUN),
+    }
+}
+
+fn fills(sheet: &mut Sheet, spelled: &Spelled, page_type: u8) -> bool
+    requires { sheet.old.order ≡ spelled.now.order }
+{
+    let (run, other) = runs_of(spelled.order);
+    takes_pairs(sheet, spelled.order, run, other)
+        && spelled.is(sheet.page()) == (page_type == 13)
+        && takes_filling(sheet)
+        && reads_back(sheet, spelled.order, run)
+}
+
 #[test]
 fn fills_hash_pages(rt: HostRuntime) -> Result<(), Fail> {
     for (spelled, page_type) in [(&PAIRS[0], 13), (&PAIRS[1], 13), (&PAIRS[1], 2)] {
-        let order = spelled.order;
-        let (run, other) = match order {
-            Order::Little => (LITTLE_RUN, BIG_RUN),
-            Order::Big => (BIG_RUN, LITTLE_RUN),
-        };
-        let mut sheet = Sheet::new(rt.alloc(), 512, order, &header(page_type, 0))?;
-        assert!(rt; !takes_set(&mut sheet, order, &run, 486), "a set is no key");
-        assert!(rt; takes(&mut sheet, &HashItem::Inline(b"k1"), 481));
-        assert!(rt;
-            !takes_set(&mut sheet, order, &other, 467),
-            "no run in this order"
-        );
-        assert!(rt; takes_set(&mut sheet, order, &run, 467));
-        assert!(rt; takes(&mut sheet, &CHAIN, 453));
-        assert!(rt; takes(&mut sheet, &HashItem::OffPage { root: 6 }, 443));
-        assert!(rt; spelled.is(sheet.page()) == (page_type == 13));
-        assert!(rt; takes(&mut sheet, &HashItem::Inline(b""), 440));
-        assert!(rt;
-            !takes(&mut sheet, &HashItem::Inline(&FILLING[..438]), 440),
-            "a byte too many"
-        );
-        assert!(rt; takes(&mut sheet, &HashItem::Inline(&FILLING[..437]), 0));
-        assert!(rt; reads_back(&sheet, order, &run));
+        let mut sheet = Sheet::new(rt.alloc(), 512, spelled.order, &header(page_type, 0))?;
+        assert!(rt; fills(&mut sheet, spelled, page_type));
     }
     Ok(())
 }

@@ -8,6 +8,7 @@ use crate::spelled::{FILLING, Spelled, header};
 use bdb_form::{PageView, form};
 use bdb_format::{Order, RecnoItem};
 use bdb_layout::{InternalItem, InternalKey};
+use std::alloc::{AllocError, Global};
 use std::test::Fail;
 
 const FIRST: InternalItem<'static> = InternalItem {
@@ -92,17 +93,32 @@ fn last(long: usize) -> InternalItem<'static>
     }
 }
 
+// Whether a page is full with a third item, and takes none with a byte more.
+fn takes_a_third(sheet: &mut Sheet) -> bool {
+    !sheet.add_internal(&last(429)) && takes_keys(sheet, &[(last(428), 0)])
+}
+
+// Whether a page reads as the three.
+fn reads_three(sheet: &Sheet, order: Order) -> bool {
+    reads_key(sheet, order, 0, &FIRST)
+        && reads_key(sheet, order, 1, &SECOND)
+        && reads_key(sheet, order, 2, &last(428))
+}
+
+fn fills(alloc: Global, spelled: &Spelled) -> Result<bool, AllocError> {
+    let mut sheet = Sheet::new(alloc, 512, spelled.order, &header(3, 2))?;
+    Ok(
+        takes_keys(&mut sheet, &[(FIRST, 468), (SECOND, 442)])
+            && spelled.is(sheet.page())
+            && takes_a_third(&mut sheet)
+            && reads_three(&sheet, spelled.order),
+    )
+}
+
 #[test]
 fn fills_internal_pages(rt: HostRuntime) -> Result<(), Fail> {
     for spelled in &KEYS {
-        let mut sheet = Sheet::new(rt.alloc(), 512, spelled.order, &header(3, 2))?;
-        assert!(rt; takes_keys(&mut sheet, &[(FIRST, 468), (SECOND, 442)]));
-        assert!(rt; spelled.is(sheet.page()));
-        assert!(rt; !sheet.add_internal(&last(429)), "a byte too many");
-        assert!(rt; takes_keys(&mut sheet, &[(last(428), 0)]));
-        assert!(rt; reads_key(&sheet, spelled.order, 0, &FIRST));
-        assert!(rt; reads_key(&sheet, spelled.order, 1, &SECOND));
-        assert!(rt; reads_key(&sheet, spelled.order, 2, &last(428)));
+        assert!(rt; fills(rt.alloc(), spelled)?);
     }
     Ok(())
 }
@@ -156,39 +172,55 @@ fn reads_count(sheet: &Sheet, order: Order, i: u16, item: RecnoItem) -> bool {
     }
 }
 
+fn places(alloc: Global, spelled: &Spelled) -> Result<bool, AllocError> {
+    let mut sheet = Sheet::new(alloc, 512, spelled.order, &header(4, 2))?;
+    Ok(
+        takes_count(&mut sheet, 0x0203, 7, 476)
+            && takes_count(&mut sheet, 4, 0x0506, 466)
+            && spelled.is(sheet.page()),
+    )
+}
+
 #[test]
 fn places_counts(rt: HostRuntime) -> Result<(), Fail> {
     for spelled in &COUNTS {
-        let mut sheet = Sheet::new(rt.alloc(), 512, spelled.order, &header(4, 2))?;
-        assert!(rt; takes_count(&mut sheet, 0x0203, 7, 476));
-        assert!(rt; takes_count(&mut sheet, 4, 0x0506, 466));
-        assert!(rt; spelled.is(sheet.page()));
+        assert!(rt; places(rt.alloc(), spelled)?);
     }
     Ok(())
 }
 
-// 407 items of ten bytes each fill a page of 4096 bytes.
-#[test]
-fn fills_a_page_with_counts(rt: HostRuntime) -> Result<(), Fail> {
-    for order in [Order::Little, Order::Big] {
-        let mut sheet = Sheet::new(rt.alloc(), 4096, order, &header(4, 2))?;
-        for i in 0..407u32 {
-            assert!(rt;
-                takes_count(&mut sheet, i, 1000 + i, 4060 - 10 * i),
-                "item {i}"
-            );
-        }
-        assert!(rt;
-            !sheet.add_recno(&RecnoItem { child: 1, count: 1 }),
-            "no byte is free"
-        );
-        for i in 0..407u16 {
-            let item = RecnoItem {
-                child: u32::from(i),
-                count: 1000 + u32::from(i),
-            };
-            assert!(rt; reads_count(&sheet, order, i, item), "item {i}");
+// Whether 407 items of ten bytes each fill a page of 4096 bytes.
+fn takes_407(sheet: &mut Sheet) -> bool {
+    for i in 0..407u32 {
+        if !takes_count(sheet, i, 1000 + i, 4060 - 10 * i) {
+            return false;
         }
     }
+    !sheet.add_recno(&RecnoItem { child: 1, count: 1 })
+}
+
+// Whether a page reads as these.
+fn reads_407(sheet: &Sheet, order: Order) -> bool {
+    for i in 0..407u16 {
+        let item = RecnoItem {
+            child: u32::from(i),
+            count: 1000 + u32::from(i),
+        };
+        if !reads_count(sheet, order, i, item) {
+            return false;
+        }
+    }
+    true
+}
+
+fn fills_with_counts(alloc: Global, order: Order) -> Result<bool, AllocError> {
+    let mut sheet = Sheet::new(alloc, 4096, order, &header(4, 2))?;
+    Ok(takes_407(&mut sheet) && reads_407(&sheet, order))
+}
+
+#[test]
+fn fills_a_page_with_counts(rt: HostRuntime) -> Result<(), Fail> {
+    assert!(rt; fills_with_counts(rt.alloc(), Order::Little)?);
+    assert!(rt; fills_with_counts(rt.alloc(), Order::Big)?);
     Ok(())
 }

@@ -6,6 +6,7 @@ use crate::spelled::{FILLING, Spelled, header};
 use bdb_form::{PageView, form};
 use bdb_format::Order;
 use bdb_layout::LeafItem;
+use std::alloc::{AllocError, Global};
 use std::test::Fail;
 
 const fn inline(bytes: &[u8]) -> LeafItem<'_> {
@@ -104,36 +105,52 @@ fn reads_pairs(sheet: &Sheet, order: Order, pairs: &[(LeafItem<'_>, LeafItem<'_>
     }
 }
 
+// Whether a page takes a key with two data and one with a set. A set is no key, and there is none to share before the first.
+fn takes_pairs(sheet: &mut Sheet) -> bool {
+    !sheet.add_leaf(&SET)
+        && !sheet.share()
+        && takes_leaves(sheet, &[(inline(b"a"), 480), (DELETED, 470)])
+        && sheet.share()
+        && takes_leaves(sheet, &[(CHAIN, 454), (inline(b""), 448), (SET, 434)])
+}
+
+// Whether a page takes two items more, which leave two bytes, and not one with a byte too many.
+fn takes_one_pair_more(sheet: &mut Sheet) -> bool {
+    !sheet.add_leaf(&inline(&FILLING[..430]))
+        && takes_leaves(sheet, &[(inline(&FILLING[..421]), 8), (inline(b""), 2)])
+}
+
+// Whether a leaf reads as all these pairs.
+fn reads_all(sheet: &Sheet, order: Order) -> bool {
+    let pairs = [
+        (inline(b"a"), DELETED, false),
+        (inline(b"a"), CHAIN, true),
+        (inline(b""), SET, false),
+        (inline(&FILLING[..421]), inline(b""), false),
+    ];
+    reads_pairs(sheet, order, &pairs)
+}
+
+// Whether the two bytes that are left take no item, but a shared key.
+fn takes_a_shared_key(sheet: &mut Sheet) -> bool {
+    !sheet.add_leaf(&inline(b"")) && sheet.share() && sheet.room() == 0
+}
+
+fn fills(alloc: Global, spelled: &Spelled) -> Result<bool, AllocError> {
+    let mut sheet = Sheet::new(alloc, 512, spelled.order, &header(5, 1))?;
+    Ok(
+        takes_pairs(&mut sheet)
+            && spelled.is(sheet.page())
+            && takes_one_pair_more(&mut sheet)
+            && reads_all(&sheet, spelled.order)
+            && takes_a_shared_key(&mut sheet),
+    )
+}
+
 #[test]
 fn fills_leaves_of_pairs(rt: HostRuntime) -> Result<(), Fail> {
-    for spelled in PAIRS {
-        let mut sheet = Sheet::new(rt.alloc(), 512, spelled.order, &header(5, 1))?;
-        assert!(rt; !sheet.add_leaf(&SET), "a set is no key");
-        assert!(rt; !sheet.share(), "no pair before");
-        assert!(rt; takes_leaves(&mut sheet, &[(inline(b"a"), 480), (DELETED, 470)]));
-        assert!(rt; sheet.share());
-        assert!(rt; takes_leaves(&mut sheet, &[(CHAIN, 454), (inline(b""), 448), (SET, 434)]));
-        assert!(rt; spelled.is(sheet.page()));
-        // Two more items leave two bytes, which a shared key takes.
-        assert!(rt;
-            !sheet.add_leaf(&inline(&FILLING[..430])),
-            "a byte too many"
-        );
-        assert!(rt;
-            takes_leaves(
-                &mut sheet,
-                &[(inline(&FILLING[..421]), 8), (inline(b""), 2)]
-            )
-        );
-        let pairs = [
-            (inline(b"a"), DELETED, false),
-            (inline(b"a"), CHAIN, true),
-            (inline(b""), SET, false),
-            (inline(&FILLING[..421]), inline(b""), false),
-        ];
-        assert!(rt; reads_pairs(&sheet, spelled.order, &pairs));
-        assert!(rt; !sheet.add_leaf(&inline(b"")), "two bytes take no item");
-        assert!(rt; sheet.share() && sheet.room() == 0);
+    for spelled in &PAIRS {
+        assert!(rt; fills(rt.alloc(), spelled)?);
     }
     Ok(())
 }
@@ -185,26 +202,32 @@ fn reads_item(sheet: &Sheet, order: Order, i: u16, item: &LeafItem<'_>) -> bool 
     }
 }
 
+// Whether a page takes no set, which stands neither off a set nor in a recno, no shared key, as it has no pairs, and no item with a byte too many.
+fn refuses_others(sheet: &mut Sheet) -> bool {
+    !sheet.add_leaf(&SET) && !sheet.share() && !sheet.add_leaf(&inline(&FILLING[..458]))
+}
+
+// Whether a page is full with a third item, and reads as the three.
+fn takes_a_third(sheet: &mut Sheet, order: Order) -> bool {
+    takes_leaves(sheet, &[(inline(&FILLING[..457]), 0)])
+        && reads_item(sheet, order, 0, &inline(b"xy"))
+        && reads_item(sheet, order, 1, &CHAIN)
+        && reads_item(sheet, order, 2, &inline(&FILLING[..457]))
+        && !sheet.add_leaf(&inline(b""))
+}
+
+fn fills_other(sheet: &mut Sheet, spelled: &Spelled, page_type: u8) -> bool {
+    takes_leaves(sheet, &[(inline(b"xy"), 476), (CHAIN, 462)])
+        && spelled.is(sheet.page()) == (page_type == 12)
+        && refuses_others(sheet)
+        && takes_a_third(sheet, spelled.order)
+}
+
 #[test]
 fn fills_other_leaves(rt: HostRuntime) -> Result<(), Fail> {
     for (spelled, page_type) in [(&ITEMS[0], 12), (&ITEMS[1], 12), (&ITEMS[0], 6)] {
         let mut sheet = Sheet::new(rt.alloc(), 512, spelled.order, &header(page_type, 1))?;
-        assert!(rt; takes_leaves(&mut sheet, &[(inline(b"xy"), 476), (CHAIN, 462)]));
-        assert!(rt; spelled.is(sheet.page()) == (page_type == 12));
-        assert!(rt;
-            !sheet.add_leaf(&SET),
-            "no set stands off a set, and none in a recno"
-        );
-        assert!(rt; !sheet.share(), "no pairs");
-        assert!(rt;
-            !sheet.add_leaf(&inline(&FILLING[..458])),
-            "a byte too many"
-        );
-        assert!(rt; takes_leaves(&mut sheet, &[(inline(&FILLING[..457]), 0)]));
-        assert!(rt; reads_item(&sheet, spelled.order, 0, &inline(b"xy")));
-        assert!(rt; reads_item(&sheet, spelled.order, 1, &CHAIN));
-        assert!(rt; reads_item(&sheet, spelled.order, 2, &inline(&FILLING[..457])));
-        assert!(rt; !sheet.add_leaf(&inline(b"")), "no byte is free");
+        assert!(rt; fills_other(&mut sheet, spelled, page_type));
     }
     Ok(())
 }

@@ -202,31 +202,43 @@ fn is_spelled(page: &[u8], header: &[u8; 26], bytes: &[u8]) -> bool {
     front == header.as_slice() && data == bytes && gap.iter().all(|byte| *byte == 0)
 }
 
+// Whether a value of 487 bytes stands on pages 1 and 2.
+fn spells(pages: &Pages, chain: &Chain) -> bool {
+    pages.count() >= 3
+        && is_spelled(pages.page(1), &chain.first, &[0x66; 486])
+        && is_spelled(pages.page(2), &chain.second, &[0x66])
+}
+
+// A zero page with the chain behind it.
+fn chain_of(alloc: Global, order: Order) -> Result<Pages, AllocError> {
+    let mut pages = Pages::new(alloc, 512, order);
+    pages.add()?;
+    push_value(&mut pages, &[0x66; 487])?;
+    Ok(pages)
+}
+
 #[test]
 fn spells_chains(rt: HostRuntime) -> Result<(), Fail> {
     for chain in &CHAINS {
-        let mut pages = Pages::new(rt.alloc(), 512, chain.order);
-        pages.add()?;
-        push_value(&mut pages, &[0x66; 487])?;
-        assert_eq!(rt; pages.count(), 3);
-        assert!(rt; is_spelled(pages.page(1), &chain.first, &[0x66; 486]));
-        assert!(rt; is_spelled(pages.page(2), &chain.second, &[0x66]));
+        let pages = chain_of(rt.alloc(), chain.order)?;
+        assert!(rt; pages.count() == 3 && spells(&pages, chain));
     }
     Ok(())
+}
+
+// Whether page 1 of a chain is copied to page 3, and the chain stays.
+fn copies(alloc: Global, chain: &Chain) -> Result<bool, AllocError> {
+    let mut pages = chain_of(alloc, chain.order)?;
+    if pages.count() != 3 || pages.add_copy(1)? != 3 || pages.count() != 4 {
+        return Ok(false);
+    }
+    Ok(spells(&pages, chain) && is_spelled(pages.page(3), &chain.first, &[0x66; 486]))
 }
 
 #[test]
 fn copies_a_page(rt: HostRuntime) -> Result<(), Fail> {
     for chain in &CHAINS {
-        let mut pages = Pages::new(rt.alloc(), 512, chain.order);
-        pages.add()?;
-        push_value(&mut pages, &[0x66; 487])?;
-        assert_eq!(rt; pages.count(), 3);
-        assert_eq!(rt; pages.add_copy(1)?, 3);
-        assert_eq!(rt; pages.count(), 4);
-        assert!(rt; is_spelled(pages.page(1), &chain.first, &[0x66; 486]));
-        assert!(rt; is_spelled(pages.page(2), &chain.second, &[0x66]));
-        assert!(rt; is_spelled(pages.page(3), &chain.first, &[0x66; 486]));
+        assert!(rt; copies(rt.alloc(), chain)?);
     }
     Ok(())
 }

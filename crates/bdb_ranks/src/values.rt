@@ -14,12 +14,21 @@ use std::marker::Model;
 
 /// The values of one file, to be compared. Chains that several items may name are ranked by one sort, once two of them are compared:
 /// from then on their ranks tell.
-#[derive(Drop)]
 pub struct Values<'a> {
     alloc: Global,
     values: OwnValues<'a>,
     // The ranks of shared chains by their heads.
     ranks: Option<BTreeMap<u32, usize>>,
+}
+
+impl Drop for Values<'_> {
+    fn drop(self) {
+        let Values {
+            alloc: _alloc,
+            values: _values,
+            ranks: _ranks,
+        } = self;
+    }
 }
 
 impl<'a> Model for Values<'a> {

@@ -256,7 +256,7 @@ fn recno_holds<L: Ledger>(
     let Some((first, last)) = ends(text) else {
         return false;
     };
-    bdb_recno::check(alloc, linked, meta).is_ok()
+    bdb_recno::check(linked, meta).is_ok()
         && lists(alloc, bdb_recno::scan(linked, meta), text)
         && recno_finds(alloc, linked, meta, text, first, steps)
         && recno_finds(alloc, linked, meta, text, last, steps)

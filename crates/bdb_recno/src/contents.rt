@@ -18,11 +18,11 @@ use crate::page::pages_of;
 use bdb_faults::{FaultSink, First, NamedList};
 use bdb_format::{BtreeMeta, CheckError};
 use bdb_graph::{Forest, Linked};
-use std::alloc::{AllocError, Global};
+use std::alloc::AllocError;
 
 /// The contents of a recno: the counts of its internal pages and, where records have a fixed length, the
 /// lengths of the live ones. A refusal is the first fault. No memory is taken.
-pub fn check(alloc: Global, linked: &Linked<'_>, meta: &BtreeMeta) -> Result<(), CheckError>
+pub fn check(linked: &Linked<'_>, meta: &BtreeMeta) -> Result<(), CheckError>
     requires meta { HasMetadata (file_of linked.now) (BtreeFields meta.now) }
     requires recno { IsTrue (is_recno meta.now) }
     requires stage { structure_faults (file_of linked.now) ≡ [] }
@@ -30,7 +30,7 @@ pub fn check(alloc: Global, linked: &Linked<'_>, meta: &BtreeMeta) -> Result<(),
     ensures refusal { IfErr result (IsFirstOf (database_faults (file_of linked.now) (BtreeFields meta.now))) }
 {
     let mut first = First::new();
-    let Ok(()) = note_contents(alloc, linked, meta, &mut first) else {
+    let Ok(()) = note_contents(linked, meta, &mut first) else {
         return Err(CheckError::Memory);
     };
     match first.fault() {
@@ -41,7 +41,6 @@ pub fn check(alloc: Global, linked: &Linked<'_>, meta: &BtreeMeta) -> Result<(),
 
 /// Notes each row on what a recno holds at each page where it holds, in a list of all. An error is want of memory.
 pub fn all_faults(
-    alloc: Global,
     linked: &Linked<'_>,
     meta: &BtreeMeta,
     found: &mut NamedList,
@@ -51,13 +50,12 @@ pub fn all_faults(
     requires stage { structure_faults (file_of linked.now) ≡ [] }
     ensures { OnOk result (NotesAll (HasNoted found.old) (HasNoted found.new) (database_faults (file_of linked.now) (BtreeFields meta.now))) }
 {
-    note_contents(alloc, linked, meta, found)
+    note_contents(linked, meta, found)
 }
 
 /// Notes each row on what a recno holds at each page where it holds: the counts of its internal pages and, where records
 /// have a fixed length, the lengths of the live ones. An error is want of memory, the sink's: no other is taken.
 pub fn note_contents<F: FaultSink>(
-    _alloc: Global,
     linked: &Linked<'_>,
     meta: &BtreeMeta,
     found: &mut F,

@@ -21,9 +21,14 @@ use std::marker::Model;
 use std::sync::ledger::Ledger;
 
 /// What a list has under a number: one value, or none.
-#[derive(Drop)]
 pub struct Found<'a> {
     value: Option<Datum<'a>>,
+}
+
+impl Drop for Found<'_> {
+    fn drop(self) {
+        let Found { value: _value } = self;
+    }
 }
 
 impl<'a> Model for Found<'a> {

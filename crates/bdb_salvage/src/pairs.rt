@@ -12,11 +12,20 @@ use bdb_overflow::Datum;
 use std::marker::Model;
 
 /// The stored pairs that are left.
-#[derive(Drop)]
 pub struct SalvagePairs<'s, 'a> {
     salvaged: &'s Salvaged<'a>,
     here: Option<Entry<'s, 'a>>,
     pairs: PairPlaces<'s>,
+}
+
+impl Drop for SalvagePairs<'_, '_> {
+    fn drop(self) {
+        let SalvagePairs {
+            salvaged: _salvaged,
+            here: _here,
+            pairs: _pairs,
+        } = self;
+    }
 }
 
 impl<'s, 'a> Model for SalvagePairs<'s, 'a> {

@@ -33,7 +33,6 @@ use std::sync::ledger::Ledger;
 /// What can be had from an image: places of the pairs, of the loose records and of the data of sets that are
 /// whole, at most one for each slot, of at most 16 bytes, and 17 bytes for each page. Values are read where they
 /// lie, but for those of whole chains that have fewer bytes than pages, which are kept.
-#[derive(Drop)]
 pub struct Salvaged<'a> {
     image: &'a [u8],
     guess: Guess,
@@ -41,6 +40,19 @@ pub struct Salvaged<'a> {
     values: Vec<KeptValue>,
     sets: SetTable,
     thin: ThinTable,
+}
+
+impl Drop for Salvaged<'_> {
+    fn drop(self) {
+        let Salvaged {
+            image: _image,
+            guess: _guess,
+            pairs: _pairs,
+            values: _values,
+            sets: _sets,
+            thin: _thin,
+        } = self;
+    }
 }
 
 impl<'a> Model for Salvaged<'a> {

@@ -14,10 +14,18 @@ use std::marker::Model;
 
 /// The data of a set off the page that are left: the values of the live entries of its leaves, from left to
 /// right.
-#[derive(Drop)]
 pub struct SetValues<'a> {
     forest: Forest<'a>,
     entries: TreeEntries<'a>,
+}
+
+impl Drop for SetValues<'_> {
+    fn drop(self) {
+        let SetValues {
+            forest: _forest,
+            entries: _entries,
+        } = self;
+    }
 }
 
 impl<'a> Model for SetValues<'a> {

@@ -9,10 +9,18 @@ use bdb_graph::{Forest, LeafPage, Ref};
 use std::marker::Model;
 
 /// The leaves of a tree from one on, by their next pages.
-#[derive(Drop)]
 pub struct Leaves<'a> {
     forest: Forest<'a>,
     next: u32,
+}
+
+impl Drop for Leaves<'_> {
+    fn drop(self) {
+        let Leaves {
+            forest: _forest,
+            next: _next,
+        } = self;
+    }
 }
 
 impl<'a> Model for Leaves<'a> {
