@@ -15,7 +15,7 @@ use Rattle.bdb_leaves.proofs.UnitLemmas.{ascends_later}
 use Rattle.bdb_kept.specs.Dumps.{AreKept, AreKeptAs, IsLoadedOf, bytes_of_section}
 use Rattle.bdb_kept.proofs.DumpLemmas.{dumps_are_kept, loaded_dumps_are_the_same}
 use Rattle.bdb_load.specs.Again.{DumpsLoadToThemselves, whole_dump}
-use Rattle.bdb_load.specs.Builds.{AreLoadedAs, IsLoadedAs, in_file_of, in_name_order, name_of, put_named}
+use Rattle.bdb_mkfile.specs.Builds.{AreLoadedAs, IsLoadedAs, in_file_of, in_name_order, name_of, put_named}
 
 -- sections that stand in the order of their names
 

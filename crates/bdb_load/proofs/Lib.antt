@@ -1,12 +1,1 @@
 pub mod AgainLemmas
-pub mod AlikeLemmas
-pub mod ApartLemmas
-pub mod BuildLemmas
-pub mod FitLemmas
-pub mod KindLemmas
-pub mod LengthLemmas
-pub mod LongLemmas
-pub mod MasterLemmas
-pub mod NameLemmas
-pub mod ReadLemmas
-pub mod ShortLemmas

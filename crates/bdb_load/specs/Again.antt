@@ -9,7 +9,7 @@ use Rattle.bdb_settle.specs.LoadErrors.{load_error}
 use Rattle.bdb_text.specs.WrittenLaw.{AreBytes}
 use Rattle.bdb_kept.specs.Dumps.{HasNoEmptyRecords}
 use Rattle.bdb_kept.specs.Kept.{IsSound}
-use Rattle.bdb_load.specs.Builds.{Builds}
+use Rattle.bdb_mkfile.specs.Builds.{Builds}
 
 -- the text of all databases of an image
 abbrev pub whole_dump : Bool → List ℕ → List ℕ

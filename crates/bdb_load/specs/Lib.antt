@@ -1,6 +1,1 @@
 pub mod Again
-pub mod Builds
-pub mod Lengths
-pub mod Loading
-pub mod Order
-pub mod Settled

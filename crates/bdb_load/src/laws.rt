@@ -3,7 +3,7 @@ ghost use Rattle.bdb_join.specs.Alone.{JoinsAlone};
 ghost use Rattle.bdb_join.specs.Masters.{JoinsAll};
 ghost use Rattle.bdb_join.specs.Queues.{QueuesAreSound};
 ghost use Rattle.bdb_load.specs.Again.{DumpsLoadToThemselves};
-ghost use Rattle.bdb_load.specs.Loading.{ReadSectionsAreLoadable};
+ghost use Rattle.bdb_mkfile.specs.Loading.{ReadSectionsAreLoadable};
 
 /// The sections that a text is read as are such that `load` takes them.
 pub fn read_sections_are_loadable()

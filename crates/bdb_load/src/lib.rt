@@ -1,13 +1,9 @@
-//! From the sections of a dump text to a sound image.
+//! From the sections of a dump text to a sound image: the calls, and what follows from their definitions. The code is that of `bdb_mkfile` and of the
+//! crates below it.
 #![tactic(auto)]
 
-mod alone;
 pub mod laws;
-mod lengths;
-mod loading;
-mod order;
 
 pub use bdb_count::need;
+pub use bdb_mkfile::{in_name_order, load};
 pub use bdb_settle::{LoadError, settle};
-pub use loading::load;
-pub use order::in_name_order;

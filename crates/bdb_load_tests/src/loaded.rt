@@ -1,7 +1,7 @@
 // The image of a dump text, or why there is none.
 use bdb_format::Bytes;
 use bdb_io::Image;
-use bdb_load::load;
+use bdb_mkfile::load;
 use bdb_settle::LoadError;
 use bdb_text::read_dump;
 use std::alloc::{AllocError, Global};
@@ -16,7 +16,7 @@ pub(crate) enum Answer {
 }
 
 /// Loads a text into an image of at most so many bytes; both have at most 2^30.
-#[tactic(auto, using(bdb_load::proofs::ReadLemmas::read_sections_are_loadable))]
+#[tactic(auto, using(bdb_mkfile::proofs::ReadLemmas::read_sections_are_loadable))]
 pub(crate) fn loaded(alloc: Global, text: &[u8], most: u64) -> Answer {
     if text.len() > 1073741824 || most > 1073741824 {
         return Answer::Other;

@@ -13,8 +13,8 @@ use Rattle.bdb_text_format.specs.Written.{header_lines}
 use Rattle.bdb_settle.specs.Loaded.{loaded, loaded_section}
 use Rattle.bdb_count.specs.Need.{need_of}
 use Rattle.bdb_count.proofs.NeedLemmas.{listed_again}
-use Rattle.bdb_load.specs.Builds.{Builds, IsLoadedAs, image_size, in_name_order}
-use Rattle.bdb_load.proofs.ApartLemmas.{order_all, order_map}
+use Rattle.bdb_mkfile.specs.Builds.{Builds, IsLoadedAs, image_size, in_name_order}
+use Rattle.bdb_mkfile.proofs.ApartLemmas.{order_all, order_map}
 use Rattle.bdb_onto.specs.declared.base.Base.{Base}
 use Rattle.bdb_onto.specs.Bases.{IsBase}
 use Rattle.bdb_onto.specs.Laws.{AreLoadableOnto, IsBuiltOnto, JoinedBuildOnto}

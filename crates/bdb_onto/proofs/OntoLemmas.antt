@@ -8,11 +8,11 @@ use Rattle.bdb_settle.specs.Loaded.{loaded_section}
 use Rattle.bdb_settle.specs.LoadErrors.{IsSettleRefusal, load_error}
 use Rattle.bdb_settle.specs.declared.load_error.LoadError.{LoadError}
 use Rattle.bdb_settle.specs.declared.load_error.LoadError.TheVariants.{TooLarge}
-use Rattle.bdb_load.specs.Builds.{in_name_order}
-use Rattle.bdb_load.specs.Loading.{AreLoadable, IsLoadRefusal, IsLoadRefusalBy, loading_error, or_else, size_error}
-use Rattle.bdb_load.specs.Order.{AreApart, IsApart, with_named}
-use Rattle.bdb_load.proofs.ApartLemmas.{all_named, alone_unnamed, fold_is_order, named_apart}
-use Rattle.bdb_load.proofs.ShortLemmas.{settled_apart}
+use Rattle.bdb_mkfile.specs.Builds.{in_name_order}
+use Rattle.bdb_mkfile.specs.Loading.{AreLoadable, IsLoadRefusal, IsLoadRefusalBy, loading_error, or_else, size_error}
+use Rattle.bdb_mkfile.specs.Order.{AreApart, IsApart, with_named}
+use Rattle.bdb_mkfile.proofs.ApartLemmas.{all_named, alone_unnamed, fold_is_order, named_apart}
+use Rattle.bdb_mkfile.proofs.ShortLemmas.{settled_apart}
 use Rattle.bdb_onto.specs.declared.base.Base.{Base}
 use Rattle.bdb_onto.specs.Bases.{IsBase}
 use Rattle.bdb_onto.specs.Laws.{AreLoadableOnto}

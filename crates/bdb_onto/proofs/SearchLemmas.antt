@@ -25,7 +25,7 @@ use Rattle.bdb_text_format.specs.declared.sections.Section.{Section}
 use Rattle.bdb_kept.specs.Kept.{IsSound, bytes_of_name}
 use Rattle.bdb_kept.proofs.KeyedLemmas.{Rise, ascends_rise}
 use Rattle.bdb_kept.proofs.NameLemmas.{in_order_of_names}
-use Rattle.bdb_load.specs.Builds.{name_of}
+use Rattle.bdb_mkfile.specs.Builds.{name_of}
 use Rattle.bdb_onto.specs.declared.base.Base.{Base}
 use Rattle.bdb_onto.specs.Bases.{IsBase, base_section}
 use Rattle.bdb_onto.specs.Onto.{differ, is_partner, partner_of}

@@ -3,8 +3,8 @@ use Rattle.std.specs.Prelude.{◌≡◌, ℕ, List, [], None}
 use Rattle.bdb_text_format.specs.declared.sections.Section.{Section}
 use Rattle.bdb_settle.specs.Loaded.{loaded_section}
 use Rattle.bdb_settle.specs.LoadErrors.{load_error}
-use Rattle.bdb_load.specs.Builds.{Builds, image_size}
-use Rattle.bdb_load.specs.Loading.{AreLoadable}
+use Rattle.bdb_mkfile.specs.Builds.{Builds, image_size}
+use Rattle.bdb_mkfile.specs.Loading.{AreLoadable}
 use Rattle.bdb_onto.specs.declared.base.Base.{Base}
 use Rattle.bdb_onto.specs.Bases.{IsBase}
 use Rattle.bdb_onto.specs.Onto.{BuildsOnto, HaveNoErrorsOnto, in_base, joined, loaded_onto, onto_error, size_onto}

@@ -20,8 +20,8 @@ use Rattle.bdb_settle.specs.LoadErrors.{is_among_names, is_too_wide, pair_errors
 use Rattle.bdb_need.specs.Need.{unlined_pairs}
 use Rattle.bdb_count.specs.Need.{need_of}
 use Rattle.bdb_kept.specs.Kept.{settings_in}
-use Rattle.bdb_load.specs.Builds.{in_name_order}
-use Rattle.bdb_load.specs.Loading.{IsLoadRefusalBy, or_else}
+use Rattle.bdb_mkfile.specs.Builds.{in_name_order}
+use Rattle.bdb_mkfile.specs.Loading.{IsLoadRefusalBy, or_else}
 use Rattle.bdb_onto.specs.declared.base.Base.{Base}
 
 -- Partners.

@@ -8,7 +8,7 @@ use Rattle.bdb_format.specs.Databases.{is_name}
 use Rattle.bdb_format.specs.Less.{Less}
 use Rattle.bdb_text_format.specs.declared.sections.Section.{Section}
 use Rattle.bdb_kept.proofs.LaterLemmas.{AllLater}
-use Rattle.bdb_load.specs.Builds.{name_of}
+use Rattle.bdb_mkfile.specs.Builds.{name_of}
 
 -- the order of a database's name and a name
 abbrev pub order_of : List ℕ → Section → Ordering

@@ -1,8 +1,8 @@
 ghost use Rattle.std.specs.Prelude.{◌≡◌, ◌≤◌, ◌^◌, None, IfErr, IfOk, OnOk};
 ghost use Rattle.bdb_named.specs.Images.{HasBuiltTables};
 ghost use Rattle.bdb_settle.specs.LoadErrors.{IsSettleRefusal};
-ghost use Rattle.bdb_load.specs.Builds.{in_name_order};
-ghost use Rattle.bdb_load.specs.Loading.{AreLoadable};
+ghost use Rattle.bdb_mkfile.specs.Builds.{in_name_order};
+ghost use Rattle.bdb_mkfile.specs.Loading.{AreLoadable};
 ghost use Rattle.bdb_onto.specs.Bases.{IsBase};
 ghost use Rattle.bdb_onto.specs.Onto.{BuildsOnto, IsOntoRefusal, loading_error_onto, onto_error, result_of};
 
@@ -10,7 +10,7 @@ use crate::Base;
 use crate::errors::onto_error;
 use crate::joining::joined;
 use bdb_io::Image;
-use bdb_load::{LoadError, in_name_order, load, settle};
+use bdb_mkfile::{LoadError, in_name_order, load, settle};
 use bdb_text_format::Sections;
 use std::alloc::Global;
 

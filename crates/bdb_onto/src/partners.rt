@@ -1,6 +1,6 @@
 ghost use Rattle.std.specs.Prelude.{◌≡◌, option_copied};
 ghost use Rattle.std.specs.List.{find};
-ghost use Rattle.bdb_load.specs.Builds.{name_of};
+ghost use Rattle.bdb_mkfile.specs.Builds.{name_of};
 ghost use Rattle.bdb_onto.specs.Bases.{IsBase};
 ghost use Rattle.bdb_onto.specs.Onto.{is_misnamed, partner_of, settings_onto};
 ghost use Rattle.bdb_onto.specs.Search.{AllNamed, IsPlaceOf, NamesRise, has_name, order_of};

@@ -22,7 +22,7 @@ use Rattle.bdb_mktree.specs.Units.{leaf_type_of}
 use Rattle.bdb_need.specs.Need.{tree_pages}
 use Rattle.bdb_count.specs.Need.{need_of, section_pages}
 use Rattle.bdb_count.proofs.NeedLemmas.{listed_again}
-use Rattle.bdb_load.specs.Builds.{image_size}
+use Rattle.bdb_mkfile.specs.Builds.{image_size}
 use Rattle.bdb_printing.specs.SalvageText.{loose_settings, stored_settings}
 use Rattle.bdb_survey.specs.declared.guess.Guess.{Guess}
 use Rattle.bdb_stored.specs.Salvage.{loose, salvaged_file, stored}

@@ -7,8 +7,8 @@ use Rattle.bdb_text_format.specs.declared.sections.Section.{Section}
 use Rattle.bdb_settle.specs.declared.load_error.LoadError.{LoadError}
 use Rattle.bdb_settle.specs.declared.load_error.LoadError.TheVariants.{TooLarge as TooLargeImage, Memory as MemoryForIt}
 use Rattle.bdb_settle.specs.LoadErrors.{load_error}
-use Rattle.bdb_load.specs.Builds.{Builds, image_size}
-use Rattle.bdb_load.specs.Loading.{AreLoadable, IsLoadRefusal, IsLoadRefusalBy, loading_error, or_else, size_error}
+use Rattle.bdb_mkfile.specs.Builds.{Builds, image_size}
+use Rattle.bdb_mkfile.specs.Loading.{AreLoadable, IsLoadRefusal, IsLoadRefusalBy, loading_error, or_else, size_error}
 use Rattle.bdb_survey.specs.declared.guess.Guess.{Guess}
 use Rattle.bdb_salvage.specs.Kept.{Reading, file_in}
 use Rattle.bdb_repair.specs.declared.error.RepairError.TheVariants.{TooLarge}

@@ -2,8 +2,8 @@
 use Rattle.std.specs.Prelude.{◌≡◌, ℕ, ◌/◌, ◌≤◌, ◌<◌, IsTrue, List, length, Option, None}
 use Rattle.bdb_format.specs.HeadOf.{is_page_size}
 use Rattle.bdb_settle.specs.LoadErrors.{load_error}
-use Rattle.bdb_load.specs.Builds.{image_size}
-use Rattle.bdb_load.specs.Loading.{AreLoadable}
+use Rattle.bdb_mkfile.specs.Builds.{image_size}
+use Rattle.bdb_mkfile.specs.Loading.{AreLoadable}
 use Rattle.bdb_repair.specs.declared.shape.Shape.{Shape}
 use Rattle.bdb_repair.specs.Parts.{repair_sections}
 use Rattle.bdb_repair.specs.Room.{least_room}

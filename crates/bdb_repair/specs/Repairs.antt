@@ -1,6 +1,6 @@
 -- What repairing an image gives. Source: docs/FORMAT.md, "Repair".
 use Rattle.std.specs.Prelude.{◌≡◌, ⊤, ℕ, nat_lt, Bool, true, false, List, Option, Some, None, Result, Ok, Err}
-use Rattle.bdb_load.specs.Builds.{Builds, image_size}
+use Rattle.bdb_mkfile.specs.Builds.{Builds, image_size}
 use Rattle.bdb_settle.specs.declared.load_error.LoadError.{LoadError}
 use Rattle.bdb_settle.specs.declared.load_error.LoadError.TheVariants.{RecordTooLong, RecordZero, OntoKind, OntoNames, QueueAmongNames}
 use Rattle.bdb_settle.specs.declared.load_error.LoadError.TheVariants.{TooLarge as TooLargeImage, Memory as MemoryForIt}

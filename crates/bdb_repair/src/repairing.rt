@@ -9,7 +9,7 @@ use crate::room::{Fit, Room, fit_of};
 use crate::{RepairError, Shape};
 use bdb_format::Steps;
 use bdb_io::Image;
-use bdb_load::load;
+use bdb_mkfile::load;
 use bdb_salvage::{Guess, salvage};
 use bdb_settle::LoadError;
 use std::alloc::Global;

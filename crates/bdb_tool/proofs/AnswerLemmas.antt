@@ -41,8 +41,8 @@ use Rattle.bdb_text_format.specs.declared.sections.Section.{Section}
 use Rattle.bdb_text_format.specs.Reasons.{text_fault}
 use Rattle.bdb_settle.specs.declared.load_error.LoadError.{LoadError}
 use Rattle.bdb_settle.specs.declared.load_error.LoadError.TheVariants.{RecordTooLong, RecordZero, TooLarge, QueueAmongNames, Memory as MemoryError, OntoKind, OntoNames}
-use Rattle.bdb_load.specs.Builds.{image_size}
-use Rattle.bdb_load.specs.Loading.{loading_error}
+use Rattle.bdb_mkfile.specs.Builds.{image_size}
+use Rattle.bdb_mkfile.specs.Loading.{loading_error}
 use Rattle.bdb_writing.specs.declared.refusal.Refusal.{Refusal}
 use Rattle.bdb_writing.specs.declared.refusal.Refusal.TheVariants.{Faulty as FaultyText, TooLarge as TooLargeImage, Memory as MemoryRefusal}
 use Rattle.bdb_writing.specs.Loads.{IsLoadAnswerBy, IsErrorAnswer, IsLoadAnswer, IsTextAnswer}

@@ -6,7 +6,7 @@ use Rattle.bdb_text_format.specs.declared.sections.Section.{Section}
 use Rattle.bdb_lines.specs.declared.cut.Cut.{Cut}
 use Rattle.bdb_lines.specs.Printing.{Writes}
 use Rattle.bdb_lines.proofs.PrintingLemmas.{moved}
-use Rattle.bdb_load.specs.Builds.{image_size}
+use Rattle.bdb_mkfile.specs.Builds.{image_size}
 use Rattle.bdb_model.specs.Answers.{Answer, done, told}
 use Rattle.bdb_model.specs.Change.{Change}
 use Rattle.bdb_model.specs.Lines.{memory_line}

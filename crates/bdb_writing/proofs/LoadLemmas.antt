@@ -8,8 +8,8 @@ use Rattle.bdb_text_format.specs.Reasons.{text_fault}
 use Rattle.bdb_text_format.specs.Sections.{Reads}
 use Rattle.bdb_text.proofs.ReadLemmas.{reads_or_faults}
 use Rattle.bdb_settle.specs.declared.load_error.LoadError.{LoadError}
-use Rattle.bdb_load.specs.Loading.{IsLoadRefusal, loading_error}
-use Rattle.bdb_load.proofs.BuildLemmas.{refusal_found}
+use Rattle.bdb_mkfile.specs.Loading.{IsLoadRefusal, loading_error}
+use Rattle.bdb_mkfile.proofs.BuildLemmas.{refusal_found}
 use Rattle.bdb_writing.specs.declared.refusal.Refusal.{Refusal}
 use Rattle.bdb_writing.specs.Lines.{reason_line}
 use Rattle.bdb_writing.specs.Loads.{IsErrorAnswer, IsFaultAnswer, IsLoadAnswer, IsLoadAnswerBy, IsTextAnswer}

@@ -8,7 +8,7 @@ use Rattle.bdb_text_format.specs.Sections.{Reads}
 use Rattle.bdb_model.specs.Answers.{Answer, done}
 use Rattle.bdb_settle.specs.declared.load_error.LoadError.{LoadError}
 use Rattle.bdb_settle.specs.declared.load_error.LoadError.TheVariants.{Memory}
-use Rattle.bdb_load.specs.Loading.{IsLoadRefusalBy, or_else}
+use Rattle.bdb_mkfile.specs.Loading.{IsLoadRefusalBy, or_else}
 use Rattle.bdb_onto.specs.declared.base.Base.{Base}
 use Rattle.bdb_onto.specs.Onto.{IsOntoRefusal, loading_error_onto, onto_error, size_error_onto}
 use Rattle.bdb_writing.specs.declared.refusal.Refusal.{Refusal}

@@ -18,9 +18,9 @@ use Rattle.bdb_settle.specs.declared.load_error.LoadError.TheVariants.{Memory, T
 use Rattle.bdb_settle.specs.Loaded.{unnumbered}
 use Rattle.bdb_settle.specs.LoadErrors.{load_error, pair_errors}
 use Rattle.bdb_gen.specs.Generated.{generated, number_from, pair_of}
-use Rattle.bdb_load.specs.Builds.{image_size}
-use Rattle.bdb_load.specs.Loading.{AreLoadable, IsLoadRefusal, loading_error, size_error}
-use Rattle.bdb_load.proofs.BuildLemmas.{refusal_found}
+use Rattle.bdb_mkfile.specs.Builds.{image_size}
+use Rattle.bdb_mkfile.specs.Loading.{AreLoadable, IsLoadRefusal, loading_error, size_error}
+use Rattle.bdb_mkfile.proofs.BuildLemmas.{refusal_found}
 use Rattle.bdb_model.specs.Answers.{Answer, told}
 use Rattle.bdb_writing.specs.declared.refusal.Refusal.{Refusal}
 use Rattle.bdb_writing.specs.Lines.{image_too_large_line}

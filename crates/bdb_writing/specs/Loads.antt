@@ -7,8 +7,8 @@ use Rattle.bdb_text_format.specs.Reasons.{text_fault}
 use Rattle.bdb_text_format.specs.Sections.{Reads}
 use Rattle.bdb_settle.specs.declared.load_error.LoadError.{LoadError}
 use Rattle.bdb_settle.specs.declared.load_error.LoadError.TheVariants.{RecordTooLong, RecordZero, TooLarge, QueueAmongNames, Memory, OntoKind, OntoNames}
-use Rattle.bdb_load.specs.Builds.{Builds}
-use Rattle.bdb_load.specs.Loading.{loading_error}
+use Rattle.bdb_mkfile.specs.Builds.{Builds}
+use Rattle.bdb_mkfile.specs.Loading.{loading_error}
 use Rattle.bdb_writing.specs.Lines.{error_line, image_too_large_line, reason_line}
 
 -- the answer to sections that have a load error; want of memory is none

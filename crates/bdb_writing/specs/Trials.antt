@@ -9,7 +9,7 @@ use Rattle.bdb_model.specs.Answers.{Answer, done, told}
 use Rattle.bdb_text_format.specs.Written.{is_queue}
 use Rattle.bdb_settle.specs.Loaded.{loaded_section, unnumbered}
 use Rattle.bdb_count.specs.Need.{need_of}
-use Rattle.bdb_load.specs.Builds.{Builds, image_size}
+use Rattle.bdb_mkfile.specs.Builds.{Builds, image_size}
 use Rattle.bdb_gen.specs.Generated.{generated}
 use Rattle.bdb_writing.specs.Lines.{image_too_large_line, trial_text}
 

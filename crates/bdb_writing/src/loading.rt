@@ -2,7 +2,7 @@
 ghost use Rattle.std.specs.Prelude.{◌≡◌, ◌≤◌, ◌^◌, IfErr, IfOk, List, MatchResult, length, string_bytes, ℕ};
 ghost use Rattle.bdb_model.specs.Answers.{done, told};
 ghost use Rattle.bdb_text_format.specs.Sections.{Reads};
-ghost use Rattle.bdb_load.specs.Loading.{AreLoadable, loading_error};
+ghost use Rattle.bdb_mkfile.specs.Loading.{AreLoadable, loading_error};
 ghost use Rattle.bdb_writing.specs.Lines.{image_too_large_line};
 ghost use Rattle.bdb_text_format.specs.Reasons.{text_fault};
 ghost use Rattle.bdb_onto.specs.Bases.{IsBase};
@@ -14,7 +14,7 @@ ghost use Rattle.bdb_writing.specs.Refusals.{IsRefusedAnswer, Says};
 use crate::refusal::Refusal;
 use crate::texts::{error_line, image_too_large_line, reason_line};
 use bdb_io::Image;
-use bdb_load::load;
+use bdb_mkfile::load;
 use bdb_onto::{Base, load_onto};
 use bdb_settle::LoadError;
 use bdb_text::{TextError, read_dump};

@@ -3,7 +3,7 @@ ghost use Rattle.std.specs.Prelude.{◌≡◌, ◌<◌, ◌≤◌, ◌^◌, ◌/
 ghost use Rattle.bdb_format.specs.Hashing.{hash5};
 ghost use Rattle.bdb_format.specs.Verdict.{verdict_of};
 ghost use Rattle.bdb_model.specs.Answers.{done};
-ghost use Rattle.bdb_load.specs.Builds.{Builds, image_size};
+ghost use Rattle.bdb_mkfile.specs.Builds.{Builds, image_size};
 ghost use Rattle.bdb_writing.specs.Lines.{trial_text};
 ghost use Rattle.bdb_writing.specs.Refusals.{IsRefusedAnswer};
 ghost use Rattle.bdb_writing.specs.Trials.{IsTrialAnswer, trial_sections, trial_settings};
@@ -16,7 +16,7 @@ use bdb_format::{Kind, Order, Settings, Steps, Verdict};
 use bdb_gen::generate;
 use bdb_io::Image;
 use bdb_layout::hash5;
-use bdb_load::load;
+use bdb_mkfile::load;
 use bdb_text_format::{Section, Sections};
 use std::alloc::{AllocError, Global};
 use std::sync::ledger::Ledger;

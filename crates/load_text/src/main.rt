@@ -6,7 +6,7 @@ ghost use Rattle.std.specs.Prelude.{◌≤◌, ◌^◌, length};
 
 use bdb_format::Bytes;
 use bdb_io::{Image, ReadError, StdSink, StdSource, put_all, read_image};
-use bdb_load::load;
+use bdb_mkfile::load;
 use bdb_settle::{LoadError, settle};
 use bdb_text::{TextError, read_dump};
 use bdb_text_format::Sections;
@@ -74,7 +74,7 @@ fn main(rt: HostRuntime) -> ExitCode {
 }
 
 // What is written of a text.
-#[tactic(auto, using(bdb_load::proofs::ReadLemmas::read_sections_are_loadable))]
+#[tactic(auto, using(bdb_mkfile::proofs::ReadLemmas::read_sections_are_loadable))]
 fn answer(alloc: Global, text: Image, task: Task) -> Result<Image, Refusal>
     requires { length text ≤ 2 ^ 30 }
 {

@@ -1,7 +1,7 @@
 use Rattle.std.proofs.Common.{◌≡◌, ◌∙◌, None, subst, sym}
 use Rattle.std.proofs.lemmas.Result.{IfErr-weaker, IfOk-weaker, on_ok_weaker}
-use Rattle.bdb_load.specs.Builds.{Builds}
-use Rattle.bdb_load.specs.Loading.{AreLoadable, IsLoadRefusal, loading_error}
+use Rattle.bdb_mkfile.specs.Builds.{Builds}
+use Rattle.bdb_mkfile.specs.Loading.{AreLoadable, IsLoadRefusal, loading_error}
 use Rattle.bdb_onto.specs.Onto.{BuildsOnto, IsOntoRefusal, onto_error}
 use Rattle.bdb_onto.proofs.BuildLemmas.{joined_build_onto}
 use Rattle.bdb_onto.proofs.FitLemmas.{joined_are_loadable}

@@ -1,4 +1,4 @@
-use Rattle.bdb_load.proofs.ReadLemmas.{read_sections_are_loadable}
+use Rattle.bdb_mkfile.proofs.ReadLemmas.{read_sections_are_loadable}
 use Rattle.bdb_writing.proofs.LoadLemmas.{text_loaded}
 use Rattle.bdb_writing.proofs.loading.load_text.Goals as goal
 

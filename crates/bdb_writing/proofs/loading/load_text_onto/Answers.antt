@@ -1,4 +1,4 @@
-use Rattle.bdb_load.proofs.ReadLemmas.{read_sections_are_loadable}
+use Rattle.bdb_mkfile.proofs.ReadLemmas.{read_sections_are_loadable}
 use Rattle.bdb_writing.proofs.OntoLemmas.{text_loaded_onto}
 use Rattle.bdb_writing.proofs.loading.load_text_onto.Goals as goal
 

@@ -1,0 +1,249 @@
+-- The image of sections with their lists is one that is built of the sections.
+use Rattle.std.proofs.Common.{◌≡◌, ℕ, ◌+◌, ◌-◌, ◌*◌, Result, Ok, Err, Bool, true, false, cond, List, [], ◌∷◌, length, map, Option, Some}
+use Rattle.std.proofs.Common.{◌⊎◌, None, refl, sym, ◌∙◌, ap, subst, arith, inl, inr}
+use Rattle.std.specs.Prelude.{is_some, nat_lt, slice_get, if◌then◌else◌, IfOk}
+use Rattle.std.specs.declared.alloc.AllocError.{AllocError}
+use Rattle.std.specs.List.{All, AllZip, fold, sum_by}
+use Rattle.std.proofs.lemmas.List.Elements.{All-cons, All-nil}
+use Rattle.bdb_format.specs.declared.kinds.Kind.{Kind}
+use Rattle.bdb_format.specs.declared.kinds.Kind.TheVariants.{Btree, Recno, Hash, Queue}
+use Rattle.bdb_format.specs.declared.kinds.Order.{Order}
+use Rattle.bdb_format.specs.declared.settings.Settings.{Settings}
+use Rattle.bdb_format.specs.Databases.{Database, databases}
+use Rattle.bdb_format.specs.File.{file_of}
+use Rattle.bdb_text_format.specs.declared.pairs.Pair.{Pair}
+use Rattle.bdb_text_format.specs.declared.sections.Section.{Section}
+use Rattle.bdb_text_format.specs.Pairs.{listed}
+use Rattle.bdb_text_format.specs.Written.{header_lines}
+use Rattle.bdb_settle.specs.declared.load_error.LoadError.{LoadError}
+use Rattle.bdb_settle.specs.declared.load_error.LoadError.TheVariants.{TooLarge, Memory}
+use Rattle.bdb_settle.specs.LoadErrors.{IsSettleRefusal, load_error, page_size_in}
+use Rattle.bdb_settle.specs.Loaded.{loaded, loaded_section}
+use Rattle.bdb_buckets.specs.Tables.{HasBuiltTable}
+use Rattle.bdb_need.specs.Need.{unlined_pairs}
+use Rattle.bdb_count.specs.Need.{list_pages, master_pages, need_of, section_pages}
+use Rattle.bdb_alone.specs.Settled.{file_settings, own_settings}
+use Rattle.bdb_alone.proofs.SettingsLemmas.{own_size, settings_shown}
+use Rattle.bdb_named.specs.Images.{AreNamed, HasBuiltTables, IsDatabaseOf, IsNamed, IsNamedImage, names_pages}
+use Rattle.bdb_mkfile.specs.Builds.{Builds, IsLoadedAs, image_size, in_file_of, in_name_order}
+use Rattle.bdb_mkfile.specs.Loading.{IsLoadRefusal, IsLoadRefusalBy, loading_error, or_else, size_error}
+use Rattle.bdb_mkfile.specs.Order.{with_named}
+use Rattle.bdb_mkfile.specs.Settled.{AreBuildable, AreNamedApart, IsAloneImage, IsBuildable, IsImageOfSections}
+use Rattle.bdb_mkfile.proofs.AlikeLemmas.{pages_own}
+use Rattle.bdb_mkfile.proofs.ApartLemmas.{fold_is_order, order_all, order_map, order_sum}
+use Rattle.bdb_mkfile.proofs.MasterLemmas.{master_same, names_ascend}
+use Rattle.bdb_count.proofs.NeedLemmas.{listed_again}
+
+-- One section alone.
+
+pub alone_built : (section : Section) (image : List ℕ) → is_some section.name ≡ false
+    → IsBuildable section.settings.kind section.settings (unlined_pairs section.pairs)
+    → IsAloneImage (file_settings section.settings) (unlined_pairs section.pairs) image → IsImageOfSections (section ∷ []) image
+alone_built section image unnamed buildable is =
+    let settings : Settings = section.settings in
+    let list : List Pair = unlined_pairs section.pairs in
+    let none : section.name ≡ None = no_name section.name unnamed in
+    let pages : 1 + list_pages settings.kind settings list ≡ need_of (section ∷ []) =
+    let test : cond (is_some section.name) (1 + master_pages settings.page_size (section ∷ [])) 0 ≡ 0 =
+    ap (λ b. cond b (1 + master_pages settings.page_size (section ∷ [])) 0) unnamed in omega (arith, test) in
+    let same : IsDatabaseOf settings.page_size settings.order image section (record { name = None; fields = is.fields }) =
+    record { name = sym none; settings_are = is.settings_are; list = is.list } in
+    record {
+      sound = is.sound;
+      size = is.size
+          ∙ (ap (λ n. (1 + n) * (file_settings settings).page_size) (pages_own settings list buildable)
+          ∙ (ap (λ n. (1 + list_pages settings.kind settings list) * n) (own_size settings.kind settings.page_size settings.order settings)
+          ∙ ap (λ n. n * settings.page_size) pages));
+      databases =
+          subst (AllZip (IsDatabaseOf settings.page_size settings.order image) (section ∷ [])) (sym is.alone) (same, tt);
+      tables =
+          let of : Database → Type 0 = λ database. HasBuiltTable (file_of image) database.fields in
+          subst (All of) (sym is.alone)
+          (All-cons of (record { name = None; fields = is.fields }) [] is.buckets (All-nil of));
+    }
+  where
+    no_name : (name : Option (List ℕ)) → is_some name ≡ false → name ≡ None
+    no_name None is = refl
+    no_name (Some name) is = absurd (cc is)
+
+-- Sections with names.
+
+-- sections in the order of their names can be written under them
+pub are_named : (size : ℕ) (sections sorted : List Section) → AreNamedApart size sections → sorted ≡ fold with_named [] sections
+    → AreNamed size sorted
+are_named size sections sorted named are =
+    let ordered : sorted ≡ in_name_order sections = are ∙ fold_is_order sections named.apart in
+    subst (AreNamed size) (sym ordered)
+    (record { each = order_all (IsNamed size) sections named.each; ascend = names_ascend sections named.apart })
+
+pub named_built : (first : Section) (rest sorted : List Section) (image : List ℕ) → is_some first.name ≡ true
+    → AreNamedApart first.settings.page_size (first ∷ rest) → sorted ≡ fold with_named [] (first ∷ rest)
+    → IsNamedImage first.settings.page_size first.settings.order sorted image → IsImageOfSections (first ∷ rest) image
+named_built first rest sorted image has named are is =
+    let sections : List Section = first ∷ rest in
+    let size : ℕ = first.settings.page_size in
+    let ordered : sorted ≡ in_name_order sections = are ∙ fold_is_order sections named.apart in
+    let there : IsNamedImage size first.settings.order (in_name_order sections) image =
+    subst (λ ss. IsNamedImage size first.settings.order ss image) ordered is in
+    let pages : 1 + names_pages size (in_name_order sections) + sum_by (section_pages size) (in_name_order sections) ≡ need_of sections =
+    let test : cond (is_some first.name) (1 + master_pages size sections) 0 ≡ 1 + master_pages size sections =
+    ap (λ b. cond b (1 + master_pages size sections) 0) has in
+    let master = master_same size sections named.apart in
+    let others = order_sum (section_pages size) sections in omega (arith, test, master, others) in
+    record { sound = there.sound; size = there.long ∙ ap (λ n. n * size) pages; databases = there.databases; tables = there.tables }
+
+-- The first section is found, and the only one is taken off.
+
+found_first : (sections : List Section) (found : Section) (built : AreBuildable sections) → Some found ≡ slice_get sections 0 → found ≡ built.first
+found_first sections found built at =
+    let same : Some found ≡ Some built.first = at ∙ ap (λ (ss : List Section). slice_get ss 0) built.are in cc same
+
+named_first : (sections : List Section) (found : Section) (built : AreBuildable sections) → Some found ≡ slice_get sections 0
+    → is_some found.name ≡ true → is_some built.first.name ≡ true
+named_first sections found built at has = ap (λ (s : Section). is_some s.name) (sym (found_first sections found built at)) ∙ has
+
+pub can_be_named : (sections sorted : List Section) (found : Section) → AreBuildable sections → Some found ≡ slice_get sections 0
+    → is_some found.name ≡ true → sorted ≡ fold with_named [] sections → AreNamed found.settings.page_size sorted
+can_be_named sections sorted found built at has are =
+    subst (λ (s : Section). AreNamed s.settings.page_size sorted) (sym (found_first sections found built at))
+    (are_named built.first.settings.page_size sections sorted (built.named (named_first sections found built at has)) are)
+
+pub named_image_built : (sections sorted : List Section) (found : Section) (result : Result (List ℕ) AllocError) → AreBuildable sections
+    → Some found ≡ slice_get sections 0 → is_some found.name ≡ true → sorted ≡ fold with_named [] sections
+    → IfOk result (λ image. IsNamedImage found.settings.page_size found.settings.order sorted image)
+    → IfOk result (λ image. IsImageOfSections sections image)
+named_image_built sections sorted found (Err error) built at has are is = tt
+named_image_built sections sorted found (Ok image) built at has are is =
+    let first : Section = built.first in
+    let named : AreNamedApart first.settings.page_size (first ∷ built.rest) =
+    subst (AreNamedApart first.settings.page_size) built.are (built.named (named_first sections found built at has)) in
+    subst (λ ss. IsImageOfSections ss image) (sym built.are)
+    (named_built first built.rest sorted image (named_first sections found built at has) named (are ∙ ap (fold with_named []) built.are)
+    (subst (λ (s : Section). IsNamedImage s.settings.page_size s.settings.order sorted image) (found_first sections found built at) is))
+
+-- the only section, which has no name
+pub record IsOnly (sections : List Section) (section : Section) : Type 0 where
+  pub one : sections ≡ section ∷ []
+  pub unnamed : is_some section.name ≡ false
+  pub built : IsBuildable section.settings.kind section.settings (unlined_pairs section.pairs)
+
+pub taken_only : (sections : List Section) (found section : Section) → AreBuildable sections → Some found ≡ slice_get sections 0
+    → is_some found.name ≡ false → Some section ≡ slice_get sections (length sections - 1) → IsOnly sections section
+taken_only sections found section built at none last =
+    let unnamed : is_some built.first.name ≡ false =
+    ap (λ (s : Section). is_some s.name) (sym (found_first sections found built at)) ∙ none in
+    let alone = built.unnamed unnamed in
+    let one : sections ≡ built.first ∷ [] = built.are ∙ ap (λ (ss : List Section). built.first ∷ ss) alone.none in
+    let taken : Some section ≡ Some built.first = last ∙ ap (λ (ss : List Section). slice_get ss (length ss - 1)) one in
+    let same : built.first ≡ section = cc taken in
+    subst (IsOnly sections) same (record { one = one; unnamed = unnamed; built = alone.built })
+
+pub alone_image : (sections : List Section) (found section : Section) (result : Result (List ℕ) AllocError) → AreBuildable sections
+    → Some found ≡ slice_get sections 0 → is_some found.name ≡ false → Some section ≡ slice_get sections (length sections - 1)
+    → IfOk result (λ image. IsAloneImage (file_settings section.settings) (unlined_pairs section.pairs) image)
+    → IfOk result (λ image. IsImageOfSections sections image)
+alone_image sections found section (Err error) built at none last is = tt
+alone_image sections found section (Ok image) built at none last is =
+    let only : IsOnly sections section = taken_only sections found section built at none last in
+    subst (λ ss. IsImageOfSections ss image) (sym only.one) (alone_built section image only.unnamed only.built is)
+
+-- The sections as they were given.
+
+own_alike : (k : Kind) (size : ℕ) (order : Order) (settings : Settings)
+    → own_settings k size order settings ≡ own_settings k size order (record settings { page_size = size; order = order })
+own_alike Btree size order settings = refl
+own_alike Recno size order settings = refl
+own_alike Hash size order settings = refl
+own_alike Queue size order settings = refl
+
+-- the database of a section with its list is that of the section
+loaded_as : (image : List ℕ) (first : Settings) (section : Section) (database : Database)
+    → IsDatabaseOf first.page_size first.order image (loaded_section section) database → IsLoadedAs image first section database
+loaded_as image first section database is = record {
+  name = is.name;
+  list = is.list ∙ ap listed (listed_again (loaded section.settings section.pairs));
+  settings = λ print name.
+      ap (header_lines print name) (is.settings_are ∙ own_alike section.settings.kind first.page_size first.order section.settings)
+      ∙ settings_shown print name (in_file_of first section.settings);
+}
+
+all_loaded_as : (image : List ℕ) (first : Settings) (sections : List Section) (all : List Database)
+    → AllZip (IsDatabaseOf first.page_size first.order image) (map loaded_section sections) all → AllZip (IsLoadedAs image first) sections all
+all_loaded_as image first [] [] zip = tt
+all_loaded_as image first [] (database ∷ all) zip = absurd zip
+all_loaded_as image first (section ∷ sections) [] zip = absurd zip
+all_loaded_as image first (section ∷ sections) (database ∷ all) zip =
+    (loaded_as image first section database zip.0, all_loaded_as image first sections all zip.1)
+
+builds_loaded : (sections : List Section) (image : List ℕ) → IsImageOfSections (map loaded_section sections) image → Builds sections image
+builds_loaded [] image never = absurd never
+builds_loaded (first ∷ rest) image is = record {
+  sound = is.sound;
+  size = is.size;
+  databases =
+      all_loaded_as image first.settings (in_name_order (first ∷ rest)) (databases (file_of image))
+      (subst (λ ss. AllZip (IsDatabaseOf first.settings.page_size first.settings.order image) ss (databases (file_of image)))
+      (order_map loaded_section (λ s. refl) (first ∷ rest)) is.databases);
+}
+
+-- the image of the settled sections is built of the sections
+pub builds : (sections settled : List Section) (image : List ℕ) → settled ≡ map loaded_section sections → IsImageOfSections settled image
+    → Builds sections image
+builds sections settled image lists is = builds_loaded sections image (subst (λ ss. IsImageOfSections ss image) lists is)
+
+-- and its buckets are as built
+pub built_tables : (settled : List Section) (image : List ℕ) → IsImageOfSections settled image → HasBuiltTables image
+built_tables [] image never = absurd never
+built_tables (section ∷ sections) image is = is.tables
+
+-- Errors.
+
+loaded_size : (sections : List Section) → need_of (map loaded_section sections) * page_size_in (map loaded_section sections) ≡ image_size sections
+loaded_size [] = refl
+loaded_size (section ∷ sections) = refl
+
+-- the bytes of the pages that are counted are those of the image
+pub counted_size : (sections settled : List Section) (pages : ℕ) → settled ≡ map loaded_section sections → pages ≡ need_of settled
+    → pages * page_size_in settled ≡ image_size sections
+counted_size sections settled pages lists pages_are =
+    ap (λ n. n * page_size_in settled) pages_are ∙ ap (λ ss. need_of ss * page_size_in ss) lists ∙ loaded_size sections
+
+pub no_error : (max pages : ℕ) (sections settled : List Section) → load_error sections ≡ None → settled ≡ map loaded_section sections
+    → pages ≡ need_of settled → nat_lt max (pages * page_size_in settled) ≡ false → loading_error max sections ≡ None
+no_error max pages sections settled none lists pages_are within =
+    let test : nat_lt max (image_size sections) ≡ false =
+    ap (nat_lt max) (sym (counted_size sections settled pages lists pages_are)) ∙ within in
+    ap (λ e. or_else e (size_error max sections)) none ∙ ap (λ (b : Bool). if b then Some TooLarge else None) test
+
+pub too_large : (max pages : ℕ) (sections settled : List Section) → settled ≡ map loaded_section sections
+    → pages ≡ need_of settled → nat_lt max (pages * page_size_in settled) ≡ true → size_error max sections ≡ Some TooLarge
+too_large max pages sections settled lists pages_are above =
+    let test : nat_lt max (image_size sections) ≡ true =
+    ap (nat_lt max) (sym (counted_size sections settled pages lists pages_are)) ∙ above in
+    ap (λ (b : Bool). if b then Some TooLarge else None) test
+
+-- Refusals.
+
+-- sections that have an error are refused by it
+pub refused_first : (most : ℕ) (sections : List Section) (error : LoadError) → IsSettleRefusal (load_error sections) error
+    → IsLoadRefusal most sections error
+refused_first most sections error is = by_first (load_error sections) is
+  where
+    by_first : (first : Option LoadError) → IsSettleRefusal first error → IsLoadRefusalBy first (size_error most sections) error
+    by_first (Some first) is = is
+    by_first None is = inl is
+
+-- others for want of memory, or by the size of their image
+pub refused_late : (most : ℕ) (sections : List Section) (error : LoadError) → load_error sections ≡ None
+    → (error ≡ Memory) ⊎ (size_error most sections ≡ Some error) → IsLoadRefusal most sections error
+refused_late most sections error none is = subst (λ first. IsLoadRefusalBy first (size_error most sections) error) (sym none) is
+
+-- a refusal is for want of memory, or gives the error that there is
+pub refusal_found : (most : ℕ) (sections : List Section) (error : LoadError) → IsLoadRefusal most sections error
+    → (error ≡ Memory) ⊎ (loading_error most sections ≡ Some error)
+refusal_found most sections error is = by_first (load_error sections) is
+  where
+    by_first : (first : Option LoadError) → IsLoadRefusalBy first (size_error most sections) error
+        → (error ≡ Memory) ⊎ (or_else first (size_error most sections) ≡ Some error)
+    by_first (Some first) is = inr (ap Some (sym is))
+    by_first None is = is

@@ -1,0 +1,91 @@
+-- The pairs of the master, in the order of the sections or of their names.
+use Rattle.std.proofs.Common.{◌≡◌, ℕ, Bool, true, false, cond, not, List, [], ◌∷◌, map, get_or, Option, None, Some, refl, sym, ◌∙◌, ap}
+use Rattle.std.specs.Prelude.{◌&&◌, ◌||◌, unwrap_or}
+use Rattle.std.specs.List.{All, fold}
+use Rattle.std.proofs.lemmas.List.Elements.{All-head, All-nil, All-tail}
+use Rattle.bdb_format.specs.Less.{less}
+use Rattle.bdb_format.specs.ContentRows.{ascends}
+use Rattle.bdb_text_format.specs.declared.sections.Section.{Section}
+use Rattle.bdb_settle.specs.Loaded.{loaded_pair, with_loaded}
+use Rattle.bdb_need.specs.Need.{tree_pages}
+use Rattle.bdb_count.specs.Need.{master_pages, master_settings, name_in, name_pair}
+use Rattle.bdb_named.specs.Images.{name_entry, names_pages}
+use Rattle.bdb_mkfile.specs.Builds.{in_name_order, name_of, put_named}
+use Rattle.bdb_mkfile.specs.Order.{AreApart, IsApart, named_before, with_named}
+use Rattle.bdb_mkfile.proofs.ApartLemmas.{fold_is_order, order_ascends, put_all}
+
+-- a name is the same in either word
+same_name : (name : Option (List ℕ)) → unwrap_or name [] ≡ name_in name
+same_name None = refl
+same_name (Some name) = refl
+
+same_names : (sections : List Section) → map name_of sections ≡ map (λ (section : Section). name_in section.name) sections
+same_names [] = refl
+same_names (section ∷ sections) =
+    ap (λ n. n ∷ map name_of sections) (same_name section.name) ∙ ap (λ ns. name_in section.name ∷ ns) (same_names sections)
+
+-- the names of sections in their order ascend
+pub names_ascend : (sections : List Section) → AreApart sections
+    → ascends (map (λ (section : Section). name_in section.name) (in_name_order sections)) ≡ true
+names_ascend sections apart = ap ascends (sym (same_names (in_name_order sections))) ∙ order_ascends sections apart
+
+same_test : (a b : Section) → less (name_in a.name) (name_in b.name) ≡ named_before a b
+same_test a b = ap (λ n. less n (name_in b.name)) (sym (same_name a.name)) ∙ ap (less (name_of a)) (sym (same_name b.name))
+
+other_way : (a b : Section) → IsApart a b → less (name_in a.name) (name_in b.name) ≡ false → less (name_in b.name) (name_in a.name) ≡ true
+other_way a b apart is = same_test b a ∙ by_tests (named_before a b) (named_before b a) apart (sym (same_test a b) ∙ is)
+  where
+    by_tests : (x y : Bool) → (not x && not y) ≡ false → x ≡ false → y ≡ true
+    by_tests x true apart is = refl
+    by_tests true false apart is = absurd cc
+    by_tests false false apart is = absurd cc
+
+put_entry : (size : ℕ) (section : Section) (list : List Section) → All (IsApart section) list
+    → with_loaded (master_settings size) (map name_entry list) (name_entry section) ≡ map name_entry (put_named section list)
+put_entry size section [] all = refl
+put_entry size section (other ∷ others) all =
+    by_tests (less (name_in section.name) (name_in other.name)) (less (name_in other.name) (name_in section.name))
+    (other_way section other (All-head (IsApart section) other others all))
+    (put_entry size section others (All-tail (IsApart section) other others all))
+    ∙ ap (λ b. map name_entry (cond b (section ∷ other ∷ others) (other ∷ put_named section others))) (same_test section other)
+  where
+    by_tests : (x y : Bool) → (x ≡ false → y ≡ true)
+        → with_loaded (master_settings size) (map name_entry others) (name_entry section) ≡ map name_entry (put_named section others)
+        → cond (x || (not y && false)) (name_entry section ∷ name_entry other ∷ map name_entry others)
+        (cond ((y || (not x && false)) || false) (name_entry other ∷ with_loaded (master_settings size) (map name_entry others) (name_entry section))
+        (name_entry section ∷ map name_entry others))
+        ≡ map name_entry (cond x (section ∷ other ∷ others) (other ∷ put_named section others))
+    by_tests true y after same = refl
+    by_tests false true after same = ap (λ l. name_entry other ∷ l) same
+    by_tests false false after same = absurd (let e : false ≡ true = after refl in cc e)
+
+apart_too : (a b : Section) → IsApart a b → IsApart b a
+apart_too a b apart = by_tests (named_before a b) (named_before b a) apart
+  where
+    by_tests : (x y : Bool) → (not x && not y) ≡ false → (not y && not x) ≡ false
+    by_tests true true is = refl
+    by_tests true false is = refl
+    by_tests false true is = refl
+    by_tests false false is = is
+
+put_entries : (size : ℕ) (list sections : List Section) → AreApart sections → All (λ section. All (IsApart section) list) sections
+    → fold (with_loaded (master_settings size)) (map name_entry list) (map name_entry sections) ≡ map name_entry (fold with_named list sections)
+put_entries size list [] apart all = refl
+put_entries size list (section ∷ sections) apart all =
+    ap (λ l. fold (with_loaded (master_settings size)) l (map name_entry sections))
+    (put_entry size section list (All-head (λ s. All (IsApart s) list) section sections all))
+    ∙ put_entries size (put_named section list) sections apart.1
+    (λ k d low. put_all (IsApart (get_or sections k d)) section list (apart_too section (get_or sections k d) (apart.0 k d low))
+    (All-tail (λ s. All (IsApart s) list) section sections all k d low))
+
+entries_are : (size : ℕ) (sections : List Section) → map (loaded_pair (master_settings size)) (map name_pair sections) ≡ map name_entry sections
+entries_are size [] = refl
+entries_are size (section ∷ sections) = ap (λ l. name_entry section ∷ l) (entries_are size sections)
+
+-- the master of sections has as many pages in the order of the text as in that of the names
+pub master_same : (size : ℕ) (sections : List Section) → AreApart sections → names_pages size (in_name_order sections) ≡ master_pages size sections
+master_same size sections apart =
+    ap (tree_pages (master_settings size))
+    (sym (ap (fold (with_loaded (master_settings size)) []) (entries_are size sections)
+    ∙ put_entries size [] sections apart (λ k d low. All-nil (IsApart (get_or sections k d)))
+    ∙ ap (map name_entry) (fold_is_order sections apart)))

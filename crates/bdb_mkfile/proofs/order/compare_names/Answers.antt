@@ -1,0 +1,10 @@
+use Rattle.std.proofs.Common.{◌∙◌, ap}
+use Rattle.bdb_format.specs.Less.{less}
+use Rattle.bdb_mkfile.specs.Builds.{name_of}
+use Rattle.bdb_mkfile.proofs.order.compare_names.Goals as goal
+use Rattle.bdb_settle.proofs.KeyOrderLemmas.{by_bytes}
+
+pub returns : goal.returns
+returns c =
+    by_bytes c.compare.result c.name_of.result.now c.name_of-2.result.now c.compare.ensures
+    ∙ (ap (λ n. less n c.name_of-2.result.now) c.name_of.ensures ∙ ap (less (name_of c.args.a.now)) c.name_of-2.ensures)

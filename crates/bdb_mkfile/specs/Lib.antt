@@ -1,0 +1,5 @@
+pub mod Builds
+pub mod Lengths
+pub mod Loading
+pub mod Order
+pub mod Settled

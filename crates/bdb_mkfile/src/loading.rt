@@ -1,0 +1,79 @@
+ghost use Rattle.std.specs.Prelude.{◌≡◌, ◌*◌, ◌≤◌, ◌^◌, nat_lt, None, IfErr, IfOk, OnOk};
+ghost use Rattle.bdb_named.specs.Images.{HasBuiltTables};
+ghost use Rattle.bdb_mkfile.specs.Builds.{Builds};
+ghost use Rattle.bdb_mkfile.specs.Loading.{AreLoadable, IsLoadRefusal, loading_error};
+ghost use Rattle.bdb_mkfile.specs.Settled.{AreBuildable, IsImageOfSections};
+ghost use Rattle.bdb_settle.specs.LoadErrors.{page_size_in};
+
+use crate::alone::section_image;
+use crate::lengths::are_short;
+use crate::order::in_name_order;
+use bdb_count::filled_need;
+use bdb_io::Image;
+use bdb_named::named_image;
+use bdb_settle::{LoadError, filled, ordered};
+use bdb_text_format::Sections;
+use std::alloc::{AllocError, Global};
+
+// Whether so many pages have more bytes than a number.
+fn are_too_many(pages: u128, page_size: u32, max: u64) -> bool
+    ensures { result ≡ nat_lt max (pages * page_size) }
+{
+    match pages.checked_mul(u128::from(page_size)) {
+        Some(bytes) => u128::from(max) < bytes,
+        None => true,
+    }
+}
+
+// The page size of the first section.
+fn page_size(sections: &Sections) -> u32
+    ensures { result ≡ page_size_in sections.now }
+{
+    match sections.get(0) {
+        Some(section) => section.settings.page_size,
+        None => 0,
+    }
+}
+
+// The image of sections with their lists: under their names where the first has one, and else that of the only one.
+fn settled_image(alloc: Global, settled: Sections) -> Result<Image, AllocError>
+    requires { AreBuildable settled }
+    ensures { IfOk result (λ image. IsImageOfSections settled image) }
+{
+    let Some(first) = settled.get(0) else {
+        unreachable!()
+    };
+    let settings = first.settings;
+    if first.name.is_some() {
+        let sorted = in_name_order(alloc, settled)?;
+        return named_image(alloc, settings.page_size, settings.order, sorted);
+    }
+    let mut settled = settled;
+    let Some(section) = settled.pop() else {
+        unreachable!()
+    };
+    section_image(alloc, section)
+}
+
+/// The image of sections: a sound file with their databases, of at most `max` bytes, in the page size and the order of the first. Pages of
+/// buckets have type 2, and the root of a tree of data says how many there are. An error is the first of the sections; where there is none,
+/// that the image would have more than `max` bytes, or want of memory.
+pub fn load(alloc: Global, sections: Sections, max: u64) -> Result<Image, LoadError>
+    requires max { max ≤ 2 ^ 30 }
+    requires fit { AreLoadable sections }
+    ensures built { IfOk result (λ image. Builds sections image) }
+    ensures tables { IfOk result (λ image. HasBuiltTables image) }
+    ensures sound { OnOk result (loading_error max sections ≡ None) }
+    ensures refused { IfErr result (IsLoadRefusal max sections) }
+{
+    let ordered = ordered(alloc, sections)?;
+    if !are_short(&ordered) {
+        return Err(LoadError::TooLarge);
+    }
+    let pages = filled_need(alloc, &ordered)?;
+    if are_too_many(pages, page_size(&ordered), max) {
+        return Err(LoadError::TooLarge);
+    }
+    let settled = filled(alloc, ordered)?;
+    Ok(settled_image(alloc, settled)?)
+}
