@@ -12,7 +12,7 @@ use Rattle.bdb_format.specs.ContentRows.{inner_pages}
 use Rattle.bdb_format.specs.Contents.{pairs_of, tree_pairs}
 use Rattle.bdb_format.specs.File.{File, file_of, header_in, page_at, type_in}
 use Rattle.bdb_format.specs.Leaves.{children_in, leaves}
-use Rattle.bdb_format.specs.Page.{InternalItem, Listed, Page, Internal, RecnoInternal}
+use Rattle.bdb_format.specs.Page.{InternalItem, Listed, Internal}
 use Rattle.bdb_format.specs.References.{has_type}
 use Rattle.bdb_format.proofs.ListLemmas.{flat_map_twice, member_of}
 use Rattle.bdb_format.proofs.MemberLemmas.{in_map}
@@ -23,13 +23,13 @@ use Rattle.bdb_overflow.proofs.ContentLemmas.{key_fits}
 use Rattle.bdb_btree.specs.Bounds.{OrderedIf}
 use Rattle.bdb_btree.specs.Counts.{IsKeyed}
 use Rattle.bdb_btree.specs.Noted.{faults_at}
+use Rattle.bdb_tree.proofs.BelongLemmas.{leaf_is}
 use Rattle.bdb_tree.proofs.InnerLemmas.{no_inner}
 use Rattle.bdb_btree.proofs.FallLemmas.{child_ordered}
 use Rattle.bdb_btree.proofs.FindLemmas.{keyed_inner}
 use Rattle.bdb_btree.proofs.InnerLemmas.{child_keyed}
 use Rattle.bdb_tree.specs.Trees.{IsTreePage}
-use Rattle.bdb_tree.proofs.ShapeLemmas.{IsLeafPage}
-use Rattle.bdb_tree.proofs.TreeLemmas.{child_is, leaf_is_tree, leaves_of_inner, leaves_of_leaf, tree_cases, typed_inside}
+use Rattle.bdb_tree.proofs.TreeLemmas.{child_is, leaves_of_inner, leaves_of_leaf, tree_cases, typed_inside}
 
 abbrev pub level : File → ℕ → ℕ
 level file p = (header_in (page_at file p)).level
@@ -57,18 +57,6 @@ keyed_leaf image p view forest keyed seen other =
           let page = keyed_inner (page_at (file_of image) p) inner.children inner.are keyed in
           let is = seen_inner view page.0 (seen ∙ page.1) in
           absurd (other is.0 is.1)
-    ]
-
-no_leaf : (page : Page) (children : List ℕ) → children_in page ≡ Some children → has_type (5 ∷ 6 ∷ 12 ∷ []) (type_in page) ≡ true → ⊥
-no_leaf (Internal page) children are leaf = absurd cc
-no_leaf (RecnoInternal page) children are leaf = absurd cc
-no_leaf page children are leaf = absurd cc
-
-leaf_is : (image : List ℕ) (p : ℕ) → IsForest image → FitsLeafPage (file_of image) p → IsLeafPage (page_at (file_of image) p)
-leaf_is image p forest leaf =
-    elim (tree_cases image p forest (leaf_is_tree (file_of image) p leaf)) [
-      | inr is ↦ is
-      | inl inner ↦ absurd (no_leaf (page_at (file_of image) p) inner.children inner.are leaf)
     ]
 
 -- the pairs of a leaf

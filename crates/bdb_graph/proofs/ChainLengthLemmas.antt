@@ -66,7 +66,7 @@ piece_there order page some seven =
     let is : abstract_page order page ≡ page_as order page (page_type 7) = typed_page order page some ∙ ap (λ b. page_as order page (page_type b)) seven in
     sym (ap (λ p. length (piece_in p)) is ∙ (length-take (two_at order page 22) (drop 26 page) ∙ ap (min (two_at order page 22)) (length-drop 26 page)))
 
-piece_fits : (order : Order) (page : List ℕ) → length (piece_in (abstract_page order page)) ≤ length page
+pub piece_fits : (order : Order) (page : List ℕ) → length (piece_in (abstract_page order page)) ≤ length page
 piece_fits order page =
     elim (cases_Bool (is_zero page)) [
       | inl empty ↦ omega (arith, zero_piece order page empty)
@@ -77,7 +77,7 @@ piece_fits order page =
           ]
     ]
 
-size_is : (image : List ℕ) → (file_of image).size ≡ (head_of image).page_size
+pub size_is : (image : List ℕ) → (file_of image).size ≡ (head_of image).page_size
 unfolding file_of
 size_is image = refl
 

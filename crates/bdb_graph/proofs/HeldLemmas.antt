@@ -80,6 +80,11 @@ pub identity_none : (identity typed : Option ℕ) → code_by false identity typ
 identity_none None typed none = refl
 identity_none (Some code) typed none = absurd cc
 
+-- page 0 of a well-formed image has the type of its kind
+pub own_type : (head : Head) (page : List ℕ) → form_code head 0 page ≡ None → byte_at page 25 ≡ type_of head.kind
+unfolding form_code
+own_type head page none = is_same (byte_at page 25) (type_of head.kind) (two_none _ _ (identity_none _ _ none))
+
 not_own : (kind : FileKind) (byte : ℕ) → byte ≡ type_of kind → (kind ≡ Queue → ⊥) → (byte ≡ 8 → ⊥) → (byte ≡ 9 → ⊥) → ⊥
 not_own Btree byte own forest table tree = tree own
 not_own Hash byte own forest table tree = table own

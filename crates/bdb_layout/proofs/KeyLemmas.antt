@@ -1,10 +1,12 @@
 -- The comparison of bytes as std makes it is the order of keys.
-use Rattle.std.proofs.Common.{◌≡◌, ℕ, ◌<◌, List, [], ◌∷◌, refl, arith}
+use Rattle.std.proofs.Common.{◌≡◌, ℕ, ◌<◌, List, [], ◌∷◌, refl, sym, arith}
 use Rattle.std.specs.declared.cmp.Ordering.{Ordering}
 use Rattle.std.specs.declared.cmp.Ordering.TheVariants.{Less as Below, Equal, Greater}
 use Rattle.std.specs.Cmp.Lexicographic.{slice_cmp}
-use Rattle.std.specs.Ordering.{MatchOrdering, nat_cmp, ordering_then}
+use Rattle.std.specs.Ordering.{MatchOrdering, is_lt, nat_cmp, ordering_then}
 use Rattle.std.specs.Cmp.{ranks}
+use Rattle.bdb_format.specs.Less.{less}
+use Rattle.bdb_format.proofs.LessLemmas.{less_not_back, less_self}
 use Rattle.bdb_layout.specs.Seen.{OrderingIs}
 use Rattle.std.proofs.lemmas.Bool.Decides.{nat_tests}
 
@@ -20,3 +22,9 @@ slice_cmp-is [] [] = refl
 slice_cmp-is [] (y ∷ ys) = refl
 slice_cmp-is (x ∷ xs) [] = refl
 slice_cmp-is (x ∷ xs) (y ∷ ys) = first_then (nat_cmp x y) (slice_cmp nat_cmp xs ys) x y xs ys (ranks x y) (slice_cmp-is xs ys)
+
+-- less by a comparison is less by the order
+pub by_bytes : (r : Ordering) (a b : List ℕ) → OrderingIs r a b → is_lt r ≡ less a b
+by_bytes Below a b is = sym is
+by_bytes Equal a b is = rw is (sym (less_self b))
+by_bytes Greater a b is = sym (less_not_back b a is)

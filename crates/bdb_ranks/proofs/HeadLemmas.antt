@@ -36,7 +36,8 @@ use Rattle.bdb_graph.specs.Linked.{FitsChain, IsForest}
 use Rattle.bdb_graph.proofs.ChildLemmas.{is_queue_page}
 use Rattle.bdb_graph.proofs.FirstLemmas.{formed_page}
 use Rattle.bdb_graph.proofs.ForestLemmas.{each_page_leads_up, sound_graph}
-use Rattle.bdb_tree.proofs.BelongLemmas.{no_anchor_in, own_type}
+use Rattle.bdb_graph.proofs.HeldLemmas.{own_type}
+use Rattle.bdb_tree.proofs.BelongLemmas.{no_anchor_in}
 use Rattle.bdb_tree.proofs.RootLemmas.{of_refs}
 use Rattle.bdb_tree.proofs.ShapeLemmas.{no_queue}
 

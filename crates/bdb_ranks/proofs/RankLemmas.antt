@@ -1,33 +1,25 @@
 -- The ranks of chains by their values.
 use Rattle.std.proofs.Common.{◌≡◌, ◌⊎◌, ℕ, zero, suc, ◌+◌, ◌-◌, ◌<◌, ◌≤◌, Bool, true, false, cond, List, [], length, get_or, Option, Some, arith, refl, sym, ◌∙◌, ap, subst, inl, inr, Bor, true≢false, le-ltb, lt-ltb}
-use Rattle.std.specs.Prelude.{nat_lt, None, ◌&&◌}
+use Rattle.std.specs.Prelude.{nat_lt, ◌&&◌}
 use Rattle.std.specs.BTreeMap.{BTreeMap, Updates, get}
 use Rattle.std.specs.Cmp.{IsStrictWeakOrder, nat_cmp_is}
 use Rattle.std.specs.Fn.{Called, ComparesAs, Mut}
-use Rattle.std.specs.List.{Contains}
 use Rattle.std.specs.List.Sorted.{IsPermutation, IsSortedBy}
 use Rattle.std.specs.Ordering.{is_eq, is_lt, nat_cmp}
 use Rattle.std.specs.declared.cmp.Ordering.{Ordering}
-use Rattle.std.specs.declared.cmp.Ordering.TheVariants.{Less as Below, Equal, Greater}
-use Rattle.std.proofs.lemmas.Bool.{cases_Bool, cases_eq, cases_order, false_from_ne_true, ltb-false}
+use Rattle.std.specs.declared.cmp.Ordering.TheVariants.{Less as Below, Greater}
+use Rattle.std.proofs.lemmas.Bool.{cases_eq, cases_order, false_from_ne_true, ltb-false}
 use Rattle.std.proofs.lemmas.Fn.{always_returns_same}
 use Rattle.std.proofs.lemmas.List.Elements.{Contains-get_or}
 use Rattle.std.proofs.lemmas.List.Sorted.{Contains-permutation, IsPermutation-sym}
 use Rattle.bdb_format.specs.File.{file_of}
 use Rattle.bdb_format.specs.Less.{less, Less}
 use Rattle.bdb_format.proofs.LessLemmas.{below_less, less_above, less_not_back, less_self, same_unless_less}
-use Rattle.bdb_layout.specs.Seen.{OrderingIs}
 use Rattle.bdb_overflow.specs.Held.{chain_value}
-use Rattle.bdb_overflow.proofs.KeyLemmas.{is_less}
 use Rattle.bdb_ranks.specs.Ranks.{AreBelow, AreRanked, AreRanks, is_above, no_chain, value_at, value_less}
 use Rattle.bdb_ranks.specs.Shared.{AreShared, ChainValue, IsShared}
 
 -- The sort.
-
-pub order_is : (r : Ordering) (a b : List ℕ) → OrderingIs r a b → is_lt r ≡ less a b
-order_is Below a b is = is_less Below a b is
-order_is Equal a b is = is_less Equal a b is
-order_is Greater a b is = is_less Greater a b is
 
 values_rank : IsStrictWeakOrder value_less
 values_rank = record {

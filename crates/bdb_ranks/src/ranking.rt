@@ -13,7 +13,7 @@ use std::cmp::Ordering;
 use std::collections::BTreeMap;
 
 /// The order of two chains by their values.
-#[tactic(auto, using(crate::proofs::RankLemmas::order_is))]
+#[tactic(auto, using(bdb_layout::proofs::KeyLemmas::by_bytes))]
 fn compare_chains(a: &SharedChain<'_>, b: &SharedChain<'_>) -> Ordering
     ensures { is_lt result ≡ less a.now.value b.now.value }
 {

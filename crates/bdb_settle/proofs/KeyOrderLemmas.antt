@@ -11,8 +11,8 @@ use Rattle.bdb_text_format.specs.declared.pairs.Pair.{Pair}
 use Rattle.bdb_text_format.specs.declared.pairs.Key.{Key}
 use Rattle.bdb_text_format.specs.declared.pairs.Key.TheVariants.{Bytes, Number}
 use Rattle.bdb_layout.specs.Seen.{OrderingIs}
+use Rattle.bdb_layout.proofs.KeyLemmas.{by_bytes}
 use Rattle.std.specs.declared.cmp.Ordering.{Ordering}
-use Rattle.std.specs.declared.cmp.Ordering.TheVariants.{Less as Below, Equal, Greater}
 use Rattle.std.specs.Ordering.{is_lt}
 use Rattle.bdb_settle.specs.Loaded.{key_less, sorts_data, stands_before}
 
@@ -80,11 +80,6 @@ pairs_weakly settings = record { one_way = one_way; chain = chain }
         (data_chain (sorts_data settings) a.value b.value c.value)
 
 -- Comparisons answer by it.
-
-pub by_bytes : (r : Ordering) (a b : List ℕ) → OrderingIs r a b → is_lt r ≡ less a b
-by_bytes Below a b is = sym is
-by_bytes Equal a b is = rw is (sym (less_self b))
-by_bytes Greater a b is = sym (less_not_back b a is)
 
 -- bytes that another list shows, where data are sorted
 pub by_shown : (settings : Settings) (a b a_shown b_shown : List ℕ) (r : Ordering) → sorts_data settings ≡ true → a_shown ≡ a → b_shown ≡ b

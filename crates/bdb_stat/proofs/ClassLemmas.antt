@@ -16,17 +16,17 @@ use Rattle.bdb_format.proofs.FileLemmas.{kind_is, last_page, page_is}
 use Rattle.bdb_format.proofs.GraphLemmas.{type_fits, typed_page, zero_page}
 use Rattle.bdb_format.proofs.PageLemmas.{later_type}
 use Rattle.bdb_format.proofs.TypeLemmas.{one_type}
-use Rattle.bdb_format.proofs.VerdictLemmas.{AllFail, no_rows_at, none_is_first_row, none_within}
+use Rattle.bdb_format.proofs.VerdictLemmas.{no_rows_at, none_within}
 use Rattle.bdb_format.specs.File.{File, file_of, header_in, page_at, page_bytes}
 use Rattle.bdb_format.specs.Graph.{is_anchor, is_anchor_in, is_hash_meta, is_meta, is_reserve, is_spare, owners}
 use Rattle.bdb_format.specs.HeadOf.{head_of}
 use Rattle.bdb_format.specs.Numbers.{byte_at}
 use Rattle.bdb_format.specs.Page.{Page}
 use Rattle.bdb_format.specs.Reading.{abstract_page, is_zero, page_as, page_type}
-use Rattle.bdb_format.specs.Rows.{form_code, is_queue, is_tree_type, may_have_type, metadata_rows, type_of}
+use Rattle.bdb_format.specs.Rows.{form_code, is_queue, is_tree_type, may_have_type, type_of}
 use Rattle.bdb_format.specs.Verdict.{ownership_faults, ownership_rows}
-use Rattle.bdb_graph.proofs.CodeLemmas.{first_page_code, is_same}
 use Rattle.bdb_graph.proofs.FirstLemmas.{formed_page}
+use Rattle.bdb_graph.proofs.HeldLemmas.{own_type}
 use Rattle.bdb_graph.specs.Linked.{IsForest}
 use Rattle.bdb_stat.specs.Classes.{class_by_type, class_of, is_class, same_class, tree_level}
 use Rattle.bdb_stat.specs.declared.class.Class.{Class}
@@ -63,13 +63,6 @@ zero_byte : (page : List ℕ) (k : ℕ) → is_zero page ≡ true → get_or pag
 zero_byte [] k zeros = refl
 zero_byte (b ∷ page) zero zeros = eqb-true b 0 (and_parts (b == 0) (is_zero page) zeros).0
 zero_byte (b ∷ page) (suc k) zeros = zero_byte page k (and_parts (b == 0) (is_zero page) zeros).1
-
-own_type : (head : Head) (page : List ℕ) → form_code head 0 page ≡ None → byte_at page 25 ≡ type_of head.kind
-unfolding metadata_rows
-own_type head page none =
-    let fail : AllFail (metadata_rows head.order page 0 head.last head.kind) =
-    none_is_first_row (metadata_rows head.order page 0 head.last head.kind) (sym (first_page_code head page) ∙ none) in
-    is_same (byte_at page 25) (type_of head.kind) fail.1.0
 
 meta_type : (kind : FileKind) (order : Order) (page : List ℕ) (byte : ℕ) → byte ≡ type_of kind → is_meta (page_as order page (page_type byte)) ≡ true
 meta_type Btree order page byte is = ap (λ b. is_meta (page_as order page (page_type b))) is

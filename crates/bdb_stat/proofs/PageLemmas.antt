@@ -48,10 +48,6 @@ formed_at image head p page forest is low bytes some =
     subst (λ (h : Head). body_code h.order page (page_type (byte_at page 25)) ≡ None) (sym is)
     (body_passed (head_of image) p page (ap (form_code (head_of image) p) same ∙ formed_page image p forest.formed.form inside) some)
 
-pub size_is : (image : List ℕ) → (file_of image).size ≡ (head_of image).page_size
-unfolding file_of
-size_is image = refl
-
 pub some_on : (image : List ℕ) (head : Head) (p : ℕ) (page : List ℕ) → head ≡ head_of image → p ≤ head.last → page ≡ page_bytes head image p
     → length page ≡ head.page_size → is_zero page ≡ false
     → unused_in (length page) (page_as head.order page (page_type (byte_at page 25))) ≡ unused_in (file_of image).size (page_at (file_of image) p)

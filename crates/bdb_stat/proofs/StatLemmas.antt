@@ -31,7 +31,7 @@ use Rattle.bdb_stat.specs.Unused.{listed_unused, unused_below, unused_in}
 use Rattle.bdb_stat.specs.declared.class.Class.{Class}
 use Rattle.bdb_stat.specs.declared.class.Class.TheVariants.{Meta, Internal, Leaf, Hash, Overflow, Free as FreeClass, Reserve, Queue, Tail}
 use Rattle.bdb_stat.proofs.ClassLemmas.{has_class}
-use Rattle.bdb_stat.proofs.PageLemmas.{size_is}
+use Rattle.bdb_graph.proofs.ChainLengthLemmas.{size_is}
 use Rattle.bdb_stat.proofs.PlaceLemmas.{few_kept, few_outside, next_in}
 use Rattle.bdb_stat.specs.declared.figures.Stat.{Stat}
 use Rattle.bdb_stat.specs.Figures.{Counts, IsStat, count_in}

@@ -1,5 +1,5 @@
 -- The pages that a guess reads.
-use Rattle.std.proofs.Common.{◌≡◌, ℕ, ◌*◌, ◌/◌, ◌^◌, ◌<◌, ◌≤◌, true, false, List, length, drop, arith, refl, sym, ◌∙◌, ap, length-drop, length-take}
+use Rattle.std.proofs.Common.{◌≡◌, ℕ, ◌*◌, ◌/◌, ◌^◌, ◌<◌, ◌≤◌, true, false, List, length, arith, refl, sym, ◌∙◌, ap}
 use Rattle.std.proofs.Common.{inl, inr}
 use Rattle.std.proofs.lemmas.Bool.{cases_lt}
 use Rattle.std.specs.Prelude.{Option, Some, None, Result, Ok, Err}
@@ -14,11 +14,12 @@ use Rattle.bdb_format.specs.declared.kinds.Order.{Order}
 use Rattle.bdb_format.specs.File.{File, header_in, page_at}
 use Rattle.bdb_format.specs.HeadOf.{is_page_size}
 use Rattle.bdb_format.specs.Chains.{piece_in}
-use Rattle.bdb_format.specs.Numbers.{byte_at, four_at, two_at}
-use Rattle.bdb_format.specs.Page.{Page, Zero, NoType, PageType, FreePage, HashPage, InternalPage, RecnoInternalPage, LeafPage, RecnoLeafPage, OverflowPage, HashMetaPage, BtreeMetaPage, QueueMetaPage, QueuePage, DupLeafPage, OtherPage}
-use Rattle.bdb_format.specs.Reading.{abstract_page, is_zero, page_as, page_type}
+use Rattle.bdb_format.specs.Numbers.{four_at}
+use Rattle.bdb_format.specs.Page.{Page, NoType}
+use Rattle.bdb_format.specs.Reading.{abstract_page}
 use Rattle.bdb_format.specs.Rows.{page_code}
 use Rattle.bdb_format.proofs.SizeLemmas.{size_bounds}
+use Rattle.bdb_graph.proofs.ChainLengthLemmas.{piece_fits}
 use Rattle.bdb_overflow.specs.Whole.{bytes_of}
 use Rattle.bdb_overflow.proofs.WholeLemmas.{page_length}
 use Rattle.bdb_survey.specs.Items.{slots_in}
@@ -36,31 +37,8 @@ few n size legal small = few_pages n size (size_bounds size legal).0 small
 
 -- The data on a page are no longer than a page.
 
-typed_short : (order : Order) (page : List ℕ) (t : PageType) → length (piece_in (page_as order page t)) ≤ length page
-typed_short order page FreePage = omega arith
-typed_short order page HashPage = omega arith
-typed_short order page InternalPage = omega arith
-typed_short order page RecnoInternalPage = omega arith
-typed_short order page LeafPage = omega arith
-typed_short order page RecnoLeafPage = omega arith
-typed_short order page OverflowPage = omega (arith, length-take (two_at order page 22) (drop 26 page), length-drop 26 page)
-typed_short order page HashMetaPage = omega arith
-typed_short order page BtreeMetaPage = omega arith
-typed_short order page QueueMetaPage = omega arith
-typed_short order page QueuePage = omega arith
-typed_short order page DupLeafPage = omega arith
-typed_short order page OtherPage = omega arith
-
-abstract_short : (order : Order) (page : List ℕ) → length (piece_in (abstract_page order page)) ≤ length page
-unfolding abstract_page
-abstract_short order page =
-    elim (is_zero page) as (λ b. length (piece_in (elim b [ true ↦ Zero | false ↦ page_as order page (page_type (byte_at page 25)) ])) ≤ length page) [
-      | true ↦ omega arith
-      | false ↦ typed_short order page (page_type (byte_at page 25))
-    ]
-
 coded_short : (order : Order) (page : List ℕ) (code : Option ℕ) → length (piece_in (unless_code code (abstract_page order page))) ≤ length page
-coded_short order page None = abstract_short order page
+coded_short order page None = piece_fits order page
 coded_short order page (Some code) = omega arith
 
 salvaged_short : (order : Order) (page : List ℕ) → length (piece_in (salvaged_page order page)) ≤ length page

@@ -27,10 +27,9 @@ use Rattle.bdb_format.proofs.FileLemmas.{page_is}
 use Rattle.bdb_graph.specs.Forest.{IsWayUp, LeadsUp, is_top}
 use Rattle.bdb_graph.specs.Linked.{FitsLeafPage, IsForest, IsTarget}
 use Rattle.bdb_graph.proofs.ChildLemmas.{children_are, is_child, is_queue_page}
-use Rattle.bdb_graph.proofs.CodeLemmas.{is_same, two_none}
 use Rattle.bdb_graph.proofs.FirstLemmas.{formed_page}
 use Rattle.bdb_graph.proofs.ForestLemmas.{each_page_leads_up, sound_graph}
-use Rattle.bdb_graph.proofs.HeldLemmas.{identity_none}
+use Rattle.bdb_graph.proofs.HeldLemmas.{own_type}
 use Rattle.bdb_tree.specs.Trees.{IsRoot, IsTreePage}
 use Rattle.bdb_tree.proofs.ShapeLemmas.{IsLeafPage, is_tree_in, no_queue}
 use Rattle.bdb_tree.proofs.TreeLemmas.{inner_type, leaf_is_tree, leaves_of_inner, leaves_of_leaf, tree_cases, tree_inside, tree_is}
@@ -174,12 +173,6 @@ up image p (h ∷ hs) forest tree way =
     ]
 
 -- Page 0.
-
-pub own_type : (head : Head) (page : List ℕ) → form_code head 0 page ≡ None → byte_at page 25 ≡ type_of head.kind
-unfolding form_code
-own_type head page none =
-    is_same (byte_at page 25) (type_of head.kind)
-    (two_none _ _ (identity_none _ _ none))
 
 no_tree_type : (kind : FileKind) (order : Order) (page : List ℕ) (byte : ℕ) → byte ≡ type_of kind
     → is_tree_in (page_as order page (page_type byte)) ≡ false
