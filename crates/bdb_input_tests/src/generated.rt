@@ -106,12 +106,8 @@ fn is_pair_at(kind: Kind, list: &TextPairs, place: usize, key: &[u8], long: usiz
     }
     let pair = list.as_slice().at(place);
     let long = if kind == Kind::Queue { 16 } else { long };
-    is_key(kind, pair.key, key, place)
-        && pair.value.len() == long
-        && pair
-            .value
-            .iter()
-            .all(|byte| usize::from(*byte) == place % 256)
+    let data = [(place % 256) as u8; 64];
+    is_key(kind, pair.key, key, place) && data.get(..long) == Some(pair.value)
 }
 
 // Whether a list has as many pairs as its row says, and the first and the last one of it.
