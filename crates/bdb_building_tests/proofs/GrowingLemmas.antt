@@ -7,8 +7,9 @@ use Rattle.bdb_format.specs.ContentRows.{ascends, ascends_from}
 use Rattle.bdb_format.specs.Less.{less}
 use Rattle.bdb_format.specs.Reading.{is_zero}
 use Rattle.bdb_pack.specs.Built.{Built}
-use Rattle.bdb_leaves.specs.Units.{KeyedUnit, key_of}
+use Rattle.bdb_leaves.specs.Units.{KeyedUnit, TreeUnit, key_of}
 use Rattle.bdb_mktree.specs.Building.{Building, units_of}
+use Rattle.bdb_mktree.specs.Units.{IsNext}
 use Rattle.bdb_mktree.specs.declared.builder.TreeBuilder.{TreeBuilder}
 use Rattle.bdb_building_tests.specs.Trees.{IsGrowing, is_above}
 
@@ -36,3 +37,10 @@ grown old_pages new_pages old new before key values growing above building setti
           subst (λ keys. ascends (keys ++ (other ∷ [])) ≡ true) (sym (ap (map key_of) units ∙ map-append key_of (units_of old old_pages) (KeyedUnit key values ∷ [])))
           (more (map key_of (units_of old old_pages)) key other (growing.next key above) higher);
     }
+
+-- a key above the last one of a tree comes next
+pub comes_next : (pages : Built) (builder : TreeBuilder) (last : Option (List ℕ)) (key : List ℕ) (values : List (List ℕ)) (unit : TreeUnit)
+    → IsGrowing pages builder last → is_above last key ≡ true → unit ≡ KeyedUnit key values → IsNext builder.settings (units_of builder pages) unit
+comes_next pages builder last key values unit growing above is = λ kind.
+    let keys = ap (λ u. map key_of (units_of builder pages ++ (u ∷ []))) is ∙ map-append key_of (units_of builder pages) (KeyedUnit key values ∷ []) in
+    ap ascends keys ∙ growing.next key above

@@ -1,8 +1,11 @@
 //! A btree that takes pairs one by one.
 
-ghost use Rattle.std.specs.Prelude.{◌≡◌, IsTrue};
+ghost use Rattle.std.specs.Prelude.{◌≡◌, ◌<◌, ◌^◌, ◌∷◌, [], IsTrue, length, map};
 ghost use Rattle.bdb_format.specs.HeadOf.{is_page_size};
 ghost use Rattle.bdb_format.specs.declared.kinds.Kind.TheVariants.{Btree};
+ghost use Rattle.bdb_places.specs.Places.{value_at};
+ghost use Rattle.bdb_leaves.specs.Units.{KeyedUnit};
+ghost use Rattle.bdb_mktree.specs.Units.{unit_seen};
 ghost use Rattle.bdb_building_tests.specs.Trees.{is_above};
 
 use bdb_format::{Bytes, Settings};
@@ -23,16 +26,29 @@ fn is_above(last: &Option<Bytes>, key: &[u8]) -> bool
     }
 }
 
-// The place of a datum that a run begins with, up to its end; it has no key there.
-fn whole(end: u32) -> Place
-    ensures start { result.value.start ≡ 0 }
-    ensures end { result.value.end ≡ end }
+// The place of a datum in its own bytes; it has no key there.
+#[tactic(auto, using(crate::proofs::CopyLemmas::whole_value))]
+fn whole(value: &[u8]) -> Place
+    requires { length value.now < 2 ^ 32 }
+    ensures { value_at value.now result ≡ value.now }
 {
     Place {
         key: PlacedKey::Number(0),
-        value: Span { start: 0, end },
+        value: Span {
+            start: 0,
+            end: value.len() as u32,
+        },
         line: 0,
     }
+}
+
+// A key with its one datum, which stands at the one of some places.
+fn unit_of<'u>(key: &'u [u8], value: &'u [u8], places: &'u [Place]) -> Unit<'u>
+    requires { map (value_at value.now) places.now ≡ value.now ∷ [] }
+    ensures { unit_seen result ≡ KeyedUnit key.now (value.now ∷ []) }
+{
+    let values = Values::at_places(value, places);
+    Unit::Keyed { key, values }
 }
 
 /// A btree that is being built behind a zero page, which is kept for its metadata.
@@ -71,22 +87,16 @@ impl Growing {
     }
 
     /// With a pair after the others. It stays as it is where the key isn't above theirs, or a value is too long.
-    pub fn with_pair(self, alloc: Global, key: &[u8], value: Bytes) -> Result<Growing, AllocError> {
-        if !is_above(&self.last, key) || key.len() >= 1 << 32 {
+    pub fn with_pair(self, alloc: Global, key: &[u8], value: &[u8]) -> Result<Growing, AllocError> {
+        if !is_above(&self.last, key) || key.len() >= 1 << 32 || value.len() >= 1 << 32 {
             return Ok(self);
         }
-        let Ok(end) = u32::try_from(value.as_slice().len()) else {
-            return Ok(self);
-        };
         let mut pages = self.pages;
         let mut builder = self.builder;
         let mut last = Bytes::new(alloc);
         last.push_all(key)?;
-        let places = [whole(end)];
-        let unit = Unit::Keyed {
-            key,
-            values: Values::at_places(value.as_slice(), &places),
-        };
+        let places = [whole(value)];
+        let unit = unit_of(key, value, &places);
         builder.push(&mut pages, &unit)?;
         Ok(Growing {
             pages,

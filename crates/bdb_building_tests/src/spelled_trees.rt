@@ -88,7 +88,7 @@ fn grown(alloc: Global, order: Order, list: &TextPairs) -> Result<(u32, Bytes), 
     let pairs = list.as_slice();
     for i in 0..pairs.len() {
         if let KeyRef::Bytes(key) = pairs.at(i).key {
-            tree = tree.with_pair(alloc, key, copy(alloc, pairs.at(i).value)?)?;
+            tree = tree.with_pair(alloc, key, pairs.at(i).value)?;
         }
     }
     tree.finish()

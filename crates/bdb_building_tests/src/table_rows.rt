@@ -2,7 +2,7 @@
 
 use crate::judging::{TableShape, is_table_built};
 use crate::settings::table_settings;
-use crate::values::{ORDERS, keyed, push, value_of};
+use crate::values::{Keyed, ORDERS, keyed, push, value_of};
 use bdb_format::Order;
 use bdb_text_format::{KeyRef, TextPairs};
 use std::alloc::{AllocError, Global};
@@ -143,22 +143,33 @@ fn builds_buckets_of_several_pages(rt: HostRuntime) -> Result<(), Fail> {
     Ok(())
 }
 
-// Two buckets behind the metadata, of pairs with an empty key and an empty datum too.
-#[test]
-fn builds_spelled_tables(rt: HostRuntime) -> Result<(), Fail> {
+/// Page size and flags, the pairs, and a key that isn't there; each has two buckets.
+type Spelled = (u32, u32, &'static [Keyed], &'static [u8]);
+
+// Pairs with an empty key and an empty datum too, and one datum twice.
+const SPELLED: [Spelled; 3] = [
+    (4096, 0, &[(b"k1", b"v1"), (b"k2", b"v2")], b"k3"),
+    (4096, 0, &[(b"", b"x"), (b"a", b"")], b"b"),
+    (512, 0x01, &[(b"a", b"3"), (b"a", b"1"), (b"a", b"3")], b""),
+];
+
+fn is_spelled_built(alloc: Global, order: Order, spelled: Spelled) -> Result<bool, AllocError> {
+    let (page_size, flags, pairs, absent) = spelled;
     let shape = TableShape {
         buckets: 2,
         pages: 3,
     };
+    let list = keyed(alloc, pairs)?;
+    let settings = table_settings(order, page_size, flags);
+    is_table_built(alloc, &settings, list.as_slice(), shape, absent)
+}
+
+#[test]
+fn builds_spelled_tables(rt: HostRuntime) -> Result<(), Fail> {
     for order in ORDERS {
-        let list = keyed(rt.alloc(), &[(b"k1", b"v1"), (b"k2", b"v2")])?;
-        let plain = table_settings(order, 4096, 0);
-        assert!(rt; is_table_built(rt.alloc(), &plain, list.as_slice(), shape, b"k3")?);
-        let empty = keyed(rt.alloc(), &[(b"", b"x"), (b"a", b"")])?;
-        assert!(rt; is_table_built(rt.alloc(), &plain, &empty, shape, b"b")?);
-        let twice = keyed(rt.alloc(), &[(b"a", b"3"), (b"a", b"1"), (b"a", b"3")])?;
-        let several = table_settings(order, 512, 0x01);
-        assert!(rt; is_table_built(rt.alloc(), &several, &twice, shape, b"")?);
+        for spelled in SPELLED {
+            assert!(rt; is_spelled_built(rt.alloc(), order, spelled)?);
+        }
     }
     Ok(())
 }

@@ -1,5 +1,6 @@
 use bdb_format::{Kind, Order, Settings};
 use bdb_text::{header_text, kind_word};
+use std::alloc::{AllocError, Global};
 use std::test::Fail;
 
 // A btree that says nothing of its own.
@@ -95,17 +96,24 @@ const ROWS: [Row; 7] = [
     ),
 ];
 
+fn is_header(alloc: Global, row: &Row) -> Result<bool, AllocError> {
+    let (name, settings, print, want) = *row;
+    Ok(header_text(alloc, name, &settings, print)?.as_slice() == want)
+}
+
 #[test]
 fn headers_show_settings(rt: HostRuntime) -> Result<(), Fail> {
-    for (name, settings, print, want) in ROWS.iter() {
-        let text = header_text(rt.alloc(), *name, settings, *print)?;
-        assert_eq!(rt; text.as_slice(), *want);
+    for row in &ROWS {
+        assert!(rt; is_header(rt.alloc(), row)?);
     }
     Ok(())
 }
 
+fn is_word(kind: Kind, want: &[u8]) -> bool {
+    kind_word(kind) == want
+}
+
 #[test]
 fn kinds_have_words(rt: HostRuntime) {
-    assert_eq!(rt; kind_word(Kind::Btree), b"btree".as_slice());
-    assert_eq!(rt; kind_word(Kind::Queue), b"queue".as_slice());
+    assert!(rt; is_word(Kind::Btree, b"btree") && is_word(Kind::Queue, b"queue"));
 }

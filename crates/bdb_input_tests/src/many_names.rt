@@ -43,16 +43,22 @@ fn counted(alloc: Global, text: &[u8]) -> Result<usize, Option<TextFault>> {
     }
 }
 
-#[test]
-fn a_hundred_thousand_names_are_read(rt: HostRuntime) -> Result<(), Fail> {
-    let mut text = text_of(rt.alloc())?;
-    assert_eq!(rt; counted(rt.alloc(), text.as_slice()), Ok(100000));
-    // the first of them again
-    push_section(&mut text, 0)?;
+// Whether all names are read, and the first of them again is told.
+fn are_told_apart(alloc: Global, text: &mut Bytes) -> Result<bool, AllocError> {
+    if counted(alloc, text.as_slice()) != Ok(100000) {
+        return Ok(false);
+    }
+    push_section(text, 0)?;
     let fault = TextFault {
         line: 500004,
         reason: 15,
     };
-    assert_eq!(rt; counted(rt.alloc(), text.as_slice()), Err(Some(fault)));
+    Ok(counted(alloc, text.as_slice()) == Err(Some(fault)))
+}
+
+#[test]
+fn a_hundred_thousand_names_are_read(rt: HostRuntime) -> Result<(), Fail> {
+    let mut text = text_of(rt.alloc())?;
+    assert!(rt; are_told_apart(rt.alloc(), &mut text)?);
     Ok(())
 }

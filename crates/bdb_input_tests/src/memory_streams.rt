@@ -26,21 +26,33 @@ fn holds(words: &Words, i: usize, want: Option<&[u8]>) -> bool {
     }
 }
 
+// Whether pieces are one row of bytes, and as an image too.
+fn are_kept(alloc: Global, pieces: &[&[u8]], want: &[u8]) -> Result<bool, AllocError> {
+    let bytes = bytes_of(alloc, pieces)?;
+    Ok(bytes.as_slice() == want && Image::from_bytes(bytes).bytes() == want)
+}
+
 #[test]
 fn keeps_bytes(rt: HostRuntime) -> Result<(), Fail> {
-    let bytes = bytes_of(rt.alloc(), &[b"ab", b"", b"c"])?;
-    assert_eq!(rt; bytes.as_slice(), b"abc".as_slice());
-    assert_eq!(rt; Image::from_bytes(bytes).bytes(), b"abc".as_slice());
+    assert!(rt; are_kept(rt.alloc(), &[b"ab", b"", b"c"], b"abc")?);
     Ok(())
+}
+
+// Adds two words, and says whether they stand, and no other.
+fn are_words_kept(words: &mut Words) -> Result<bool, AllocError> {
+    words.push("get")?;
+    words.push("é")?;
+    Ok(
+        words.len() == 2
+            && holds(words, 0, Some(b"get"))
+            && holds(words, 1, Some(b"\xc3\xa9"))
+            && holds(words, 2, None),
+    )
 }
 
 #[test]
 fn keeps_words(rt: HostRuntime) -> Result<(), Fail> {
-    let mut words = Words::new(rt.alloc());
-    words.push("get")?;
-    words.push("é")?;
-    let are_kept = holds(&words, 0, Some(b"get")) && holds(&words, 1, Some(b"\xc3\xa9"));
-    assert!(rt; are_kept && holds(&words, 2, None) && words.len() == 2);
+    assert!(rt; are_words_kept(&mut Words::new(rt.alloc()))?);
     Ok(())
 }
 
@@ -60,7 +72,7 @@ fn fails_at_read(alloc: Global, call: u64) -> Result<bool, AllocError> {
 #[test]
 fn fails_at_each_read(rt: HostRuntime) -> Result<(), Fail> {
     for call in 1..7u64 {
-        assert!(rt; fails_at_read(rt.alloc(), call)?, "at {call}");
+        assert!(rt; fails_at_read(rt.alloc(), call)?);
     }
     Ok(())
 }
@@ -82,11 +94,13 @@ fn fails_at_write(alloc: Global, call: u64, want: &[u8]) -> Result<bool, AllocEr
     Ok(fails_once(&mut sink, call) && sink.bytes() == want)
 }
 
+// Which write fails, and what is written.
+const LEFT: [(u64, &[u8]); 4] = [(1, b"cdef"), (2, b"abef"), (3, b"abcd"), (4, b"abcdef")];
+
 #[test]
 fn fails_at_each_write(rt: HostRuntime) -> Result<(), Fail> {
-    let rows: [(u64, &[u8]); 4] = [(1, b"cdef"), (2, b"abef"), (3, b"abcd"), (4, b"abcdef")];
-    for (call, want) in rows {
-        assert!(rt; fails_at_write(rt.alloc(), call, want)?, "at {call}");
+    for (call, want) in LEFT {
+        assert!(rt; fails_at_write(rt.alloc(), call, want)?);
     }
     Ok(())
 }
@@ -121,7 +135,6 @@ fn moves_from_memory(alloc: Global) -> Result<bool, AllocError> {
 
 #[test]
 fn moves_without_faults(rt: HostRuntime) -> Result<(), Fail> {
-    assert!(rt; moves_to_memory(rt.alloc())?);
-    assert!(rt; moves_from_memory(rt.alloc())?);
+    assert!(rt; moves_to_memory(rt.alloc())? && moves_from_memory(rt.alloc())?);
     Ok(())
 }

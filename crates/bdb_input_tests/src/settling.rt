@@ -60,7 +60,7 @@ fn push_answer(
 }
 
 // What is answered to the sections of a dump text; nothing where it isn't read.
-pub(crate) fn settled(alloc: Global, text: &[u8]) -> Result<Bytes, AllocError> {
+fn settled(alloc: Global, text: &[u8]) -> Result<Bytes, AllocError> {
     let mut told = Bytes::new(alloc);
     if text.len() > 1048576 {
         return Ok(told);
@@ -69,4 +69,21 @@ pub(crate) fn settled(alloc: Global, text: &[u8]) -> Result<Bytes, AllocError> {
         push_answer(alloc, &mut told, settle(alloc, sections))?;
     }
     Ok(told)
+}
+
+/// A dump text, and what is answered to its sections: a line for each name and each pair, or an error.
+pub(crate) type Row = (&'static [u8], &'static [u8]);
+
+fn is_settled(alloc: Global, row: &Row) -> Result<bool, AllocError> {
+    Ok(settled(alloc, row.0)?.as_slice() == row.1)
+}
+
+/// Whether each text is answered as its row says.
+pub(crate) fn are_settled(alloc: Global, rows: &[Row]) -> Result<bool, AllocError> {
+    for row in rows {
+        if !is_settled(alloc, row)? {
+            return Ok(false);
+        }
+    }
+    Ok(true)
 }

@@ -1,41 +1,66 @@
 use bdb_format::Bytes;
 use bdb_text::{SpellError, is_spelling, line_text, push_line_text, read_spelling};
+use std::alloc::{AllocError, Global};
 use std::test::Fail;
 
+// A row: bytes, whether they are printed, and how they are spelled.
+type Line = (&'static [u8], bool, &'static [u8]);
+
+const LINES: [Line; 7] = [
+    (b"", true, b""),
+    (b"\x5c\x0a\x41", true, br"\\\0aA"),
+    (b"\xff", true, br"\ff"),
+    (b"\x7f", true, br"\7f"),
+    (b"\x20", true, b" "),
+    (b"\x7e", true, b"~"),
+    (b"\x5c\x0a\xff", false, b"5c0aff"),
+];
+
+fn is_line(alloc: Global, line: Line) -> Result<bool, AllocError> {
+    let (bytes, print, want) = line;
+    Ok(line_text(alloc, bytes, print)?.as_slice() == want)
+}
+
 #[test]
-fn bytes_are_printed(rt: HostRuntime) -> Result<(), Fail> {
-    let alloc = rt.alloc();
-    let rows: [(&[u8], &[u8]); 6] = [
-        (b"", b""),
-        (b"\x5c\x0a\x41", br"\\\0aA"),
-        (b"\xff", br"\ff"),
-        (b"\x7f", br"\7f"),
-        (b"\x20", b" "),
-        (b"\x7e", b"~"),
-    ];
-    for (bytes, want) in rows {
-        assert_eq!(rt; line_text(alloc, bytes, true)?.as_slice(), want);
+fn bytes_are_spelled(rt: HostRuntime) -> Result<(), Fail> {
+    for line in LINES {
+        assert!(rt; is_line(rt.alloc(), line)?);
     }
     Ok(())
 }
 
-#[test]
-fn bytes_are_digits(rt: HostRuntime) -> Result<(), Fail> {
-    let alloc = rt.alloc();
-    assert_eq!(rt;
-        line_text(alloc, b"\x5c\x0a\xff", false)?.as_slice(),
-        b"5c0aff".as_slice()
-    );
-    let mut text = Bytes::new(alloc);
+// Both spellings behind what is there.
+fn push_both(text: &mut Bytes) -> Result<(), AllocError> {
     text.push_all(b" ")?;
-    push_line_text(&mut text, b"2", false)?;
-    push_line_text(&mut text, b"2\\", true)?;
-    assert_eq!(rt; text.as_slice(), br" 322\\".as_slice());
+    push_line_text(text, b"2", false)?;
+    push_line_text(text, b"2\\", true)
+}
+
+#[test]
+fn spellings_are_appended(rt: HostRuntime) -> Result<(), Fail> {
+    let mut text = Bytes::new(rt.alloc());
+    push_both(&mut text)?;
+    assert!(rt; text.as_slice() == br" 322\\".as_slice());
     Ok(())
 }
 
 // A row: a text, whether it is printed, and its bytes.
 type Row = (&'static [u8], bool, Result<&'static [u8], SpellError>);
+
+const TEXTS: [Row; 12] = [
+    (b"", true, Ok(b"")),
+    (br"\\\0aA\0A", true, Ok(b"\\\nA\n")),
+    (b"\x00\xff", true, Ok(b"\x00\xff")),
+    (br"a\", true, Err(SpellError::Bad)),
+    (br"a\0", true, Err(SpellError::Bad)),
+    (br"\0g", true, Err(SpellError::Bad)),
+    (br"\n", true, Err(SpellError::Bad)),
+    (b"", false, Ok(b"")),
+    (b"5c0aFf", false, Ok(b"\\\n\xff")),
+    (b"5c0", false, Err(SpellError::Bad)),
+    (b"5g", false, Err(SpellError::Bad)),
+    (b" 5c", false, Err(SpellError::Bad)),
+];
 
 fn reads_as(read: &Result<Bytes, SpellError>, want: Result<&[u8], SpellError>) -> bool {
     match (read, want) {
@@ -45,25 +70,15 @@ fn reads_as(read: &Result<Bytes, SpellError>, want: Result<&[u8], SpellError>) -
     }
 }
 
+// Whether a text is read as its row says, and is told to be a spelling exactly where it is read.
+fn is_read(alloc: Global, row: Row) -> bool {
+    let (text, print, want) = row;
+    is_spelling(text, print) == want.is_ok() && reads_as(&read_spelling(alloc, text, print), want)
+}
+
 #[test]
 fn texts_are_read(rt: HostRuntime) {
-    let alloc = rt.alloc();
-    let rows: [Row; 12] = [
-        (b"", true, Ok(b"")),
-        (br"\\\0aA\0A", true, Ok(b"\\\nA\n")),
-        (b"\x00\xff", true, Ok(b"\x00\xff")),
-        (br"a\", true, Err(SpellError::Bad)),
-        (br"a\0", true, Err(SpellError::Bad)),
-        (br"\0g", true, Err(SpellError::Bad)),
-        (br"\n", true, Err(SpellError::Bad)),
-        (b"", false, Ok(b"")),
-        (b"5c0aFf", false, Ok(b"\\\n\xff")),
-        (b"5c0", false, Err(SpellError::Bad)),
-        (b"5g", false, Err(SpellError::Bad)),
-        (b" 5c", false, Err(SpellError::Bad)),
-    ];
-    for (text, print, want) in rows {
-        assert!(rt; reads_as(&read_spelling(alloc, text, print), want));
-        assert_eq!(rt; is_spelling(text, print), want.is_ok());
+    for row in TEXTS {
+        assert!(rt; is_read(rt.alloc(), row));
     }
 }

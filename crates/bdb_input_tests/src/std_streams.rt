@@ -56,7 +56,7 @@ fn reads_on(alloc: Global, before: usize) -> bool {
 #[test]
 fn reads_a_real_reader(rt: HostRuntime) {
     for before in 0..6usize {
-        assert!(rt; reads_on(rt.alloc(), before), "after {before}");
+        assert!(rt; reads_on(rt.alloc(), before));
     }
 }
 

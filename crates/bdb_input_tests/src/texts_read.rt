@@ -1,17 +1,52 @@
 // Dump texts that are read, field by field.
 use bdb_format::{Bytes, Kind, Order, Settings};
-use bdb_text::{KeyRef, PairRef, Section, Sections, TextError, TextPairs, read_dump};
-use std::alloc::Global;
+use bdb_text::{KeyRef, PairRef, PairSlice, Section, Sections, TextPairs, read_dump};
+use std::alloc::{AllocError, Global};
 use std::test::Fail;
 
-// A pair as it is wanted: its key, its datum and its line.
-type Wanted = (WantedKey, &'static [u8], u64);
-
+// A key as it is wanted.
 #[derive(Clone, Copy)]
 enum WantedKey {
     Bytes(&'static [u8]),
     Number(u32),
 }
+
+// A pair as it is wanted: its key, its datum and its line.
+type Wanted = (WantedKey, &'static [u8], u64);
+
+// A section as it is wanted: its name, its settings, the line that ends its header, and its pairs.
+type WantedSection = (Option<&'static [u8]>, Settings, u64, &'static [Wanted]);
+
+// Settings as they are where the header says nothing else.
+const BTREE: Settings = Settings {
+    kind: Kind::Btree,
+    page_size: 4096,
+    order: Order::Little,
+    duplicates: false,
+    sorted: false,
+    recnum: false,
+    renumber: false,
+    fixed: false,
+    re_len: 0,
+    re_pad: 32,
+    minkey: 2,
+    ffactor: 0,
+};
+
+const HASH: Settings = Settings {
+    kind: Kind::Hash,
+    ..BTREE
+};
+
+const RECNO: Settings = Settings {
+    kind: Kind::Recno,
+    ..BTREE
+};
+
+const QUEUE: Settings = Settings {
+    kind: Kind::Queue,
+    ..BTREE
+};
 
 fn read(alloc: Global, text: &[u8]) -> Option<Sections> {
     if text.len() > 1073741824 {
@@ -20,21 +55,23 @@ fn read(alloc: Global, text: &[u8]) -> Option<Sections> {
     read_dump(alloc, text).ok()
 }
 
-fn is_pair(pair: PairRef<'_>, wanted: Wanted) -> bool {
-    let (key, value, line) = wanted;
-    let same = match (pair.key, key) {
+fn is_key(key: KeyRef<'_>, wanted: WantedKey) -> bool {
+    match (key, wanted) {
         (KeyRef::Bytes(bytes), WantedKey::Bytes(wanted)) => bytes == wanted,
         (KeyRef::Number(number), WantedKey::Number(wanted)) => number == wanted,
         _ => false,
-    };
-    same && pair.value == value && pair.line == line
+    }
 }
 
-fn are_pairs(pairs: &TextPairs, wanted: &[Wanted]) -> bool {
+fn is_pair(pair: PairRef<'_>, wanted: Wanted) -> bool {
+    let (key, value, line) = wanted;
+    is_key(pair.key, key) && pair.value == value && pair.line == line
+}
+
+fn are_pairs(pairs: PairSlice<'_>, wanted: &[Wanted]) -> bool {
     if pairs.len() != wanted.len() {
         return false;
     }
-    let pairs = pairs.as_slice();
     for i in 0..pairs.len() {
         if !is_pair(pairs.at(i), wanted[i]) {
             return false;
@@ -51,274 +88,299 @@ fn is_named(section: &Section, wanted: Option<&[u8]>) -> bool {
     }
 }
 
-fn plain(kind: Kind) -> Settings {
-    Settings {
-        kind,
-        page_size: 4096,
-        order: Order::Little,
-        duplicates: false,
-        sorted: false,
-        recnum: false,
-        renumber: false,
-        fixed: false,
-        re_len: 0,
-        re_pad: 32,
-        minkey: 2,
-        ffactor: 0,
+fn is_section(section: &Section, wanted: &WantedSection) -> bool {
+    let (name, settings, line, pairs) = *wanted;
+    is_named(section, name)
+        && section.settings == settings
+        && section.header_line == line
+        && are_pairs(section.pairs.as_slice(), pairs)
+}
+
+fn are_sections(sections: &[Section], wanted: &[WantedSection]) -> bool {
+    if sections.len() != wanted.len() {
+        return false;
+    }
+    for i in 0..sections.len() {
+        if !is_section(&sections[i], &wanted[i]) {
+            return false;
+        }
+    }
+    true
+}
+
+// Whether a text is read as these sections.
+fn is_read_as(alloc: Global, text: &[u8], wanted: &[WantedSection]) -> bool {
+    match read(alloc, text) {
+        Some(sections) => are_sections(sections.as_slice(), wanted),
+        None => false,
     }
 }
 
-// The settings of a text of one section.
-fn settings_of(alloc: Global, text: &[u8]) -> Option<Settings> {
-    let sections = read(alloc, text)?;
-    if sections.len() != 1 {
-        return None;
+const TEXTS: [(&[u8], &[WantedSection]); 3] = [
+    // printed pairs, one of them without bytes
+    (
+        b"VERSION=3\nformat=print\ntype=btree\nHEADER=END\n a\n b\\0a\\\\\n \n \nDATA=END\n",
+        &[(
+            None,
+            BTREE,
+            4,
+            &[
+                (WantedKey::Bytes(b"a"), b"b\n\\", 5),
+                (WantedKey::Bytes(b""), b"", 7),
+            ],
+        )],
+    ),
+    // two sections, one of numbered records
+    (
+        b"VERSION=3\ndatabase=a\ntype=btree\nHEADER=END\n 6A\n 6b\nDATA=END\nVERSION=3\ndatabase=\nkeys=1\nre_len=0x3\ntype=queue\nHEADER=END\n 34323934393637323935\n 6162\nDATA=END",
+        &[
+            (Some(b"a"), BTREE, 4, &[(WantedKey::Bytes(b"j"), b"k", 5)]),
+            (
+                Some(b""),
+                Settings {
+                    fixed: true,
+                    re_len: 3,
+                    ..QUEUE
+                },
+                13,
+                &[(WantedKey::Number(4294967295), b"ab", 14)],
+            ),
+        ],
+    ),
+    // records are numbered
+    (
+        b"VERSION=3\ntype=recno\nHEADER=END\n 61\n \n 62\nDATA=END\n",
+        &[(
+            None,
+            RECNO,
+            3,
+            &[
+                (WantedKey::Number(1), b"a", 4),
+                (WantedKey::Number(2), b"", 5),
+                (WantedKey::Number(3), b"b", 6),
+            ],
+        )],
+    ),
+];
+
+#[test]
+fn sections_are_read(rt: HostRuntime) {
+    for (text, wanted) in TEXTS {
+        assert!(rt; is_read_as(rt.alloc(), text, wanted));
     }
-    let section = sections.get(0)?;
-    Some(section.settings)
 }
 
-#[test]
-fn pairs_are_read(rt: HostRuntime) -> Result<(), Fail> {
-    let text = b"VERSION=3\nformat=print\ntype=btree\nHEADER=END\n a\n b\\0a\\\\\n \n \nDATA=END\n";
-    let sections = read(rt.alloc(), text).ok_or("nothing")?;
-    let section = sections.get(0).ok_or("nothing")?;
-    assert_eq!(rt; sections.len(), 1);
-    assert_eq!(rt; section.header_line, 4);
-    assert!(rt; is_named(section, None));
-    let wanted: [Wanted; 2] = [
-        (WantedKey::Bytes(b"a"), b"b\n\\", 5),
-        (WantedKey::Bytes(b""), b"", 7),
-    ];
-    assert!(rt; are_pairs(&section.pairs, &wanted));
-    Ok(())
+// Whether a text is read as one section with these settings.
+fn has_settings(alloc: Global, text: &[u8], wanted: &Settings) -> bool {
+    match read(alloc, text) {
+        Some(sections) => is_one(sections.as_slice(), wanted),
+        None => false,
+    }
 }
 
-#[test]
-fn two_sections_are_read(rt: HostRuntime) -> Result<(), Fail> {
-    let text =
-        b"VERSION=3\ndatabase=a\ntype=btree\nHEADER=END\n 6A\n 6b\nDATA=END\nVERSION=3\ndatabase=\nkeys=1\nre_len=0x3\ntype=queue\nHEADER=END\n 34323934393637323935\n 6162\nDATA=END";
-    let sections = read(rt.alloc(), text).ok_or("nothing")?;
-    assert_eq!(rt; sections.len(), 2);
-    let first = sections.get(0).ok_or("nothing")?;
-    assert!(rt; is_named(first, Some(b"a")));
-    assert!(rt; are_pairs(&first.pairs, &[(WantedKey::Bytes(b"j"), b"k", 5)]));
-    let second = sections.get(1).ok_or("nothing")?;
-    assert!(rt; is_named(second, Some(b"")));
-    assert_eq!(rt; second.header_line, 13);
-    assert!(rt; are_pairs(&second.pairs, &[(WantedKey::Number(4294967295), b"ab", 14)]));
-    assert_eq!(rt;
-        second.settings,
+fn is_one(sections: &[Section], wanted: &Settings) -> bool {
+    sections.len() == 1 && sections[0].settings == *wanted
+}
+
+const KEYWORDS: [(&[u8], Settings); 24] = [
+    (b"VERSION=3\ntype=btree\nHEADER=END\nDATA=END\n", BTREE),
+    (b"VERSION=3\ntype=hash\nHEADER=END\nDATA=END\n", HASH),
+    (b"VERSION=3\ntype=recno\nHEADER=END\nDATA=END\n", RECNO),
+    (
+        b"VERSION=3\ntype=queue\nre_len=1\nHEADER=END\nDATA=END\n",
         Settings {
             fixed: true,
-            re_len: 3,
-            ..plain(Kind::Queue)
-        }
-    );
-    Ok(())
-}
+            re_len: 1,
+            ..QUEUE
+        },
+    ),
+    (
+        b"VERSION=3\nduplicates=1\ntype=btree\nHEADER=END\nDATA=END\n",
+        Settings {
+            duplicates: true,
+            ..BTREE
+        },
+    ),
+    (
+        b"VERSION=3\nduplicates=0\ndupsort=1\ntype=hash\nHEADER=END\nDATA=END\n",
+        Settings {
+            duplicates: true,
+            sorted: true,
+            ..HASH
+        },
+    ),
+    (
+        b"VERSION=3\nrecnum=1\nduplicates=0\ntype=btree\nHEADER=END\nDATA=END\n",
+        Settings {
+            recnum: true,
+            ..BTREE
+        },
+    ),
+    (
+        b"VERSION=3\nrecnum=0\nrenumber=0\nkeys=1\nchksum=0\ntype=btree\nHEADER=END\nDATA=END\n",
+        BTREE,
+    ),
+    (
+        b"VERSION=3\nrenumber=1\nkeys=0\ntype=recno\nHEADER=END\nDATA=END\n",
+        Settings {
+            renumber: true,
+            ..RECNO
+        },
+    ),
+    (
+        b"VERSION=3\ndb_pagesize=512\ntype=btree\nHEADER=END\nDATA=END\n",
+        Settings {
+            page_size: 512,
+            ..BTREE
+        },
+    ),
+    (
+        b"VERSION=3\ndb_pagesize=0x8000\ntype=btree\nHEADER=END\nDATA=END\n",
+        Settings {
+            page_size: 32768,
+            ..BTREE
+        },
+    ),
+    (
+        b"VERSION=3\ndb_lorder=4321\ntype=btree\nHEADER=END\nDATA=END\n",
+        Settings {
+            order: Order::Big,
+            ..BTREE
+        },
+    ),
+    (
+        b"VERSION=3\ndb_lorder=0x4d2\ntype=btree\nHEADER=END\nDATA=END\n",
+        BTREE,
+    ),
+    (
+        b"VERSION=3\nextentsize=0x00\ntype=btree\nHEADER=END\nDATA=END\n",
+        BTREE,
+    ),
+    (
+        b"VERSION=3\nbt_minkey=0\ntype=btree\nHEADER=END\nDATA=END\n",
+        Settings { minkey: 0, ..BTREE },
+    ),
+    (
+        b"VERSION=3\nbt_minkey=4294967295\ntype=btree\nHEADER=END\nDATA=END\n",
+        Settings {
+            minkey: 4294967295,
+            ..BTREE
+        },
+    ),
+    (
+        b"VERSION=3\nh_ffactor=0xFFFFffff\nh_nelem=0\ntype=hash\nHEADER=END\nDATA=END\n",
+        Settings {
+            ffactor: 4294967295,
+            ..HASH
+        },
+    ),
+    (
+        b"VERSION=3\nh_ffactor=0000000000\nh_nelem=4294967295\ntype=hash\nHEADER=END\nDATA=END\n",
+        HASH,
+    ),
+    (
+        b"VERSION=3\nre_len=4294967295\nre_pad=0\ntype=recno\nHEADER=END\nDATA=END\n",
+        Settings {
+            fixed: true,
+            re_len: 4294967295,
+            re_pad: 0,
+            ..RECNO
+        },
+    ),
+    (
+        b"VERSION=3\nre_len=0\nre_pad=0xffffffff\ntype=recno\nHEADER=END\nDATA=END\n",
+        Settings {
+            re_pad: 4294967295,
+            ..RECNO
+        },
+    ),
+    (
+        b"VERSION=3\nre_len=0000000009\nre_pad=8\ntype=queue\nHEADER=END\nDATA=END\n",
+        Settings {
+            fixed: true,
+            re_len: 9,
+            re_pad: 8,
+            ..QUEUE
+        },
+    ),
+    (
+        b"VERSION=3\nbt_minkey=9\nre_len=7\nre_pad=1\nrecnum=0\ntype=hash\nHEADER=END\nDATA=END\n",
+        HASH,
+    ),
+    (
+        b"VERSION=3\nh_ffactor=9\nbt_minkey=7\nduplicates=0\ndupsort=0\ntype=recno\nHEADER=END\nDATA=END\n",
+        RECNO,
+    ),
+    (
+        b"VERSION=3\nformat=bytevalue\ndatabase=\\00=\ntype=btree\nHEADER=END\nDATA=END\n",
+        BTREE,
+    ),
+];
 
 #[test]
-fn records_are_numbered(rt: HostRuntime) -> Result<(), Fail> {
-    let text = b"VERSION=3\ntype=recno\nHEADER=END\n 61\n \n 62\nDATA=END\n";
-    let sections = read(rt.alloc(), text).ok_or("nothing")?;
-    let section = sections.get(0).ok_or("nothing")?;
-    let wanted: [Wanted; 3] = [
-        (WantedKey::Number(1), b"a", 4),
-        (WantedKey::Number(2), b"", 5),
-        (WantedKey::Number(3), b"b", 6),
-    ];
-    assert!(rt; are_pairs(&section.pairs, &wanted));
-    Ok(())
-}
-
-#[test]
-fn each_keyword_is_read(rt: HostRuntime) -> Result<(), Fail> {
-    let rows: [(&[u8], Settings); 24] = [
-        (
-            b"VERSION=3\ntype=btree\nHEADER=END\nDATA=END\n",
-            plain(Kind::Btree),
-        ),
-        (
-            b"VERSION=3\ntype=hash\nHEADER=END\nDATA=END\n",
-            plain(Kind::Hash),
-        ),
-        (
-            b"VERSION=3\ntype=recno\nHEADER=END\nDATA=END\n",
-            plain(Kind::Recno),
-        ),
-        (
-            b"VERSION=3\ntype=queue\nre_len=1\nHEADER=END\nDATA=END\n",
-            Settings {
-                fixed: true,
-                re_len: 1,
-                ..plain(Kind::Queue)
-            },
-        ),
-        (
-            b"VERSION=3\nduplicates=1\ntype=btree\nHEADER=END\nDATA=END\n",
-            Settings {
-                duplicates: true,
-                ..plain(Kind::Btree)
-            },
-        ),
-        (
-            b"VERSION=3\nduplicates=0\ndupsort=1\ntype=hash\nHEADER=END\nDATA=END\n",
-            Settings {
-                duplicates: true,
-                sorted: true,
-                ..plain(Kind::Hash)
-            },
-        ),
-        (
-            b"VERSION=3\nrecnum=1\nduplicates=0\ntype=btree\nHEADER=END\nDATA=END\n",
-            Settings {
-                recnum: true,
-                ..plain(Kind::Btree)
-            },
-        ),
-        (
-            b"VERSION=3\nrecnum=0\nrenumber=0\nkeys=1\nchksum=0\ntype=btree\nHEADER=END\nDATA=END\n",
-            plain(Kind::Btree),
-        ),
-        (
-            b"VERSION=3\nrenumber=1\nkeys=0\ntype=recno\nHEADER=END\nDATA=END\n",
-            Settings {
-                renumber: true,
-                ..plain(Kind::Recno)
-            },
-        ),
-        (
-            b"VERSION=3\ndb_pagesize=512\ntype=btree\nHEADER=END\nDATA=END\n",
-            Settings {
-                page_size: 512,
-                ..plain(Kind::Btree)
-            },
-        ),
-        (
-            b"VERSION=3\ndb_pagesize=0x8000\ntype=btree\nHEADER=END\nDATA=END\n",
-            Settings {
-                page_size: 32768,
-                ..plain(Kind::Btree)
-            },
-        ),
-        (
-            b"VERSION=3\ndb_lorder=4321\ntype=btree\nHEADER=END\nDATA=END\n",
-            Settings {
-                order: Order::Big,
-                ..plain(Kind::Btree)
-            },
-        ),
-        (
-            b"VERSION=3\ndb_lorder=0x4d2\ntype=btree\nHEADER=END\nDATA=END\n",
-            plain(Kind::Btree),
-        ),
-        (
-            b"VERSION=3\nextentsize=0x00\ntype=btree\nHEADER=END\nDATA=END\n",
-            plain(Kind::Btree),
-        ),
-        (
-            b"VERSION=3\nbt_minkey=0\ntype=btree\nHEADER=END\nDATA=END\n",
-            Settings {
-                minkey: 0,
-                ..plain(Kind::Btree)
-            },
-        ),
-        (
-            b"VERSION=3\nbt_minkey=4294967295\ntype=btree\nHEADER=END\nDATA=END\n",
-            Settings {
-                minkey: 4294967295,
-                ..plain(Kind::Btree)
-            },
-        ),
-        (
-            b"VERSION=3\nh_ffactor=0xFFFFffff\nh_nelem=0\ntype=hash\nHEADER=END\nDATA=END\n",
-            Settings {
-                ffactor: 4294967295,
-                ..plain(Kind::Hash)
-            },
-        ),
-        (
-            b"VERSION=3\nh_ffactor=0000000000\nh_nelem=4294967295\ntype=hash\nHEADER=END\nDATA=END\n",
-            plain(Kind::Hash),
-        ),
-        (
-            b"VERSION=3\nre_len=4294967295\nre_pad=0\ntype=recno\nHEADER=END\nDATA=END\n",
-            Settings {
-                fixed: true,
-                re_len: 4294967295,
-                re_pad: 0,
-                ..plain(Kind::Recno)
-            },
-        ),
-        (
-            b"VERSION=3\nre_len=0\nre_pad=0xffffffff\ntype=recno\nHEADER=END\nDATA=END\n",
-            Settings {
-                re_pad: 4294967295,
-                ..plain(Kind::Recno)
-            },
-        ),
-        (
-            b"VERSION=3\nre_len=0000000009\nre_pad=8\ntype=queue\nHEADER=END\nDATA=END\n",
-            Settings {
-                fixed: true,
-                re_len: 9,
-                re_pad: 8,
-                ..plain(Kind::Queue)
-            },
-        ),
-        (
-            b"VERSION=3\nbt_minkey=9\nre_len=7\nre_pad=1\nrecnum=0\ntype=hash\nHEADER=END\nDATA=END\n",
-            plain(Kind::Hash),
-        ),
-        (
-            b"VERSION=3\nh_ffactor=9\nbt_minkey=7\nduplicates=0\ndupsort=0\ntype=recno\nHEADER=END\nDATA=END\n",
-            plain(Kind::Recno),
-        ),
-        (
-            b"VERSION=3\nformat=bytevalue\ndatabase=\\00=\ntype=btree\nHEADER=END\nDATA=END\n",
-            plain(Kind::Btree),
-        ),
-    ];
-    for (text, want) in rows {
-        let settings = settings_of(rt.alloc(), text).ok_or("nothing")?;
-        assert_eq!(rt; settings, want);
+fn each_keyword_is_read(rt: HostRuntime) {
+    for (text, wanted) in &KEYWORDS {
+        assert!(rt; has_settings(rt.alloc(), text, wanted));
     }
-    Ok(())
 }
+
+// The first lines of a text, and of the one datum that it is read as the length and the end.
+type LongRow = (&'static [u8], usize, &'static [u8]);
 
 // Lines of a megabyte, in both spellings: many runs, the last of them short.
+const LONG: [LongRow; 2] = [
+    (
+        b"VERSION=3\ntype=recno\nHEADER=END\n ",
+        8 * 65541,
+        b"abcdefgh",
+    ),
+    (
+        b"VERSION=3\nformat=print\ntype=recno\nHEADER=END\n ",
+        16 * 65541,
+        b"6162636465666768",
+    ),
+];
+
+fn long_text(alloc: Global, head: &[u8]) -> Result<Bytes, AllocError> {
+    let mut text = Bytes::new(alloc);
+    text.push_all(head)?;
+    for _ in 0..65541 {
+        text.push_all(b"6162636465666768")?;
+    }
+    text.push_all(b"\nDATA=END\n")?;
+    Ok(text)
+}
+
+// Whether there is one pair, whose datum has this length and this end.
+fn is_long(pairs: PairSlice<'_>, len: usize, end: &[u8]) -> bool {
+    match pairs.first() {
+        Some(pair) => pairs.len() == 1 && pair.value.len() == len && pair.value.ends_with(end),
+        None => false,
+    }
+}
+
+fn is_long_read(alloc: Global, row: LongRow) -> Result<bool, AllocError> {
+    let (head, len, end) = row;
+    let text = long_text(alloc, head)?;
+    let Some(sections) = read(alloc, text.as_slice()) else {
+        return Ok(false);
+    };
+    match sections.get(0) {
+        Some(section) => Ok(is_long(section.pairs.as_slice(), len, end)),
+        None => Ok(false),
+    }
+}
+
 #[test]
 fn long_lines_are_read(rt: HostRuntime) -> Result<(), Fail> {
-    let heads: [&[u8]; 2] = [
-        b"VERSION=3\ntype=recno\nHEADER=END\n ",
-        b"VERSION=3\nformat=print\ntype=recno\nHEADER=END\n ",
-    ];
-    for head in heads {
-        let mut text = Bytes::new(rt.alloc());
-        text.push_all(head)?;
-        for _ in 0..65541 {
-            text.push_all(b"6162636465666768")?;
-        }
-        text.push_all(b"\nDATA=END\n")?;
-        let sections = read(rt.alloc(), text.as_slice()).ok_or("nothing")?;
-        let section = sections.get(0).ok_or("nothing")?;
-        let Some(pair) = section.pairs.as_slice().first() else {
-            return Err(Fail::from("nothing"));
-        };
-        let value = pair.value;
-        assert!(rt; value.len() == 8 * 65541 || value.len() == 16 * 65541);
-        assert!(rt; value.ends_with(b"abcdefgh") || value.ends_with(b"6162636465666768"));
-        assert_eq!(rt; section.pairs.len(), 1);
+    for row in LONG {
+        assert!(rt; is_long_read(rt.alloc(), row)?);
     }
     Ok(())
 }
 
-// Pairs and sections as lists.
-#[test]
-fn lists_are_lists(rt: HostRuntime) -> Result<(), Fail> {
-    let mut pairs = TextPairs::new(rt.alloc());
-    assert!(rt; pairs.is_empty());
+// Adds three pairs and a datum of the last one's key, and says whether all stand.
+fn are_pushed(pairs: &mut TextPairs) -> Result<bool, AllocError> {
     for line in 0..3 {
         pairs.push(PairRef {
             key: KeyRef::Number(7),
@@ -326,25 +388,45 @@ fn lists_are_lists(rt: HostRuntime) -> Result<(), Fail> {
             line,
         })?;
     }
-    assert_eq!(rt; pairs.len(), 3);
+    if pairs.len() != 3 {
+        return Ok(false);
+    }
     pairs.push_with_last_key(b"more", 3)?;
-    assert!(rt;
-        pairs
-            .as_slice()
-            .last()
-            .is_some_and(|pair| is_pair(pair, (WantedKey::Number(7), b"more", 3)))
-    );
-    assert_eq!(rt; pairs.len(), 4);
-    let mut sections = Sections::new(rt.alloc());
-    assert!(rt; sections.pop().is_none());
-    sections.push(Section {
+    Ok(are_pairs(pairs.as_slice(), &PUSHED))
+}
+
+const PUSHED: [Wanted; 4] = [
+    (WantedKey::Number(7), b"", 0),
+    (WantedKey::Number(7), b"", 1),
+    (WantedKey::Number(7), b"", 2),
+    (WantedKey::Number(7), b"more", 3),
+];
+
+#[test]
+fn pairs_are_a_list(rt: HostRuntime) -> Result<(), Fail> {
+    let mut pairs = TextPairs::new(rt.alloc());
+    assert!(rt; pairs.is_empty() && are_pushed(&mut pairs)?);
+    Ok(())
+}
+
+// Whether a section is taken off again.
+fn is_taken_off(sections: &mut Sections, section: Section) -> Result<bool, AllocError> {
+    sections.push(section)?;
+    Ok(match sections.pop() {
+        Some(section) => section.header_line == 9 && sections.is_empty(),
+        None => false,
+    })
+}
+
+#[test]
+fn sections_are_a_list(rt: HostRuntime) -> Result<(), Fail> {
+    let section = Section {
         name: None,
-        settings: plain(Kind::Hash),
+        settings: HASH,
         header_line: 9,
-        pairs,
-    })?;
-    let section = sections.pop().ok_or("nothing")?;
-    assert_eq!(rt; section.header_line, 9);
-    assert!(rt; sections.is_empty());
+        pairs: TextPairs::new(rt.alloc()),
+    };
+    let mut sections = Sections::new(rt.alloc());
+    assert!(rt; sections.pop().is_none() && is_taken_off(&mut sections, section)?);
     Ok(())
 }

@@ -1,6 +1,0 @@
-use Rattle.std.proofs.Common.{length}
-use Rattle.grow_table.proofs.list_of.Given as goal
-
--- Each turn takes a pair.
-abbrev pub decreases-loop-pair : goal.decreases-loop-pair
-decreases-loop-pair l = length l.reversed.items
