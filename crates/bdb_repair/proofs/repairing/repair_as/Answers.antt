@@ -1,8 +1,8 @@
 use Rattle.std.proofs.Common.{◌≡◌, true, sym, subst}
 use Rattle.std.specs.Prelude.{nat_lt}
-use Rattle.bdb_format.specs.HeadOf.{is_page_size}
 use Rattle.bdb_salvage.specs.Guesses.{chosen}
-use Rattle.bdb_salvage.specs.Kept.{Reading, file_in}
+use Rattle.bdb_salvage.specs.Kept.{file_in}
+use Rattle.bdb_salvage.proofs.GuessLemmas.{chosen_legal}
 use Rattle.bdb_repair.specs.Repairs.{IsRepaired}
 use Rattle.bdb_repair.specs.Room.{least_room}
 use Rattle.bdb_repair.proofs.RepairLemmas.{can_be_loaded, loaded_so, past_so, refusals_may_come, too_much}
@@ -15,7 +15,7 @@ returns-in-Past g c =
     (record {
       guess = c.in_ok-salvaged.ensures.guess;
       image_is = c.in_ok-salvaged.ensures.image;
-      legal = subst (λ (r : Reading). is_page_size r.guess.page_size ≡ true) c.salvaged.view_is c.salvaged.invariant.legal;
+      legal = chosen_legal c.args.guess c.args.image.now c.in_ok-salvaged.salvaged.guess c.requires.size c.in_ok-salvaged.ensures.guess;
     }) (past_so (nat_lt c.args.max (least_room c.args.shape (file_in c.in_ok-salvaged.salvaged))) c.fit_of.result c.in-Past.is c.fit_of.ensures)
 
 -- The sections can be loaded.
@@ -25,7 +25,7 @@ load-requires-clause-fit g c =
     (record {
       guess = c.in_ok-salvaged.ensures.guess;
       image_is = c.in_ok-salvaged.ensures.image;
-      legal = subst (λ (r : Reading). is_page_size r.guess.page_size ≡ true) c.salvaged.view_is c.salvaged.invariant.legal;
+      legal = chosen_legal c.args.guess c.args.image.now c.in_ok-salvaged.salvaged.guess c.requires.size c.in_ok-salvaged.ensures.guess;
     }) c.in_ok-sections.ensures
 
 -- No error of their pairs comes.
@@ -43,5 +43,5 @@ returns g c =
     (record {
       guess = c.in_ok-salvaged.ensures.guess;
       image_is = c.in_ok-salvaged.ensures.image;
-      legal = subst (λ (r : Reading). is_page_size r.guess.page_size ≡ true) c.salvaged.view_is c.salvaged.invariant.legal;
+      legal = chosen_legal c.args.guess c.args.image.now c.in_ok-salvaged.salvaged.guess c.requires.size c.in_ok-salvaged.ensures.guess;
     }) c.in_ok-sections.ensures c.load.ensures.built c.load.ensures.sound c.load.ensures.refused)
