@@ -18,13 +18,13 @@ use Rattle.bdb_format.specs.Verdict.{master_faults}
 use Rattle.bdb_format.proofs.MemberLemmas.{first_member, in_filter, later_member, no_member, of_map}
 use Rattle.bdb_graph.specs.Linked.{IsForest}
 use Rattle.bdb_file.specs.AnyOrder.{faults_by_rows}
-use Rattle.bdb_file.specs.Entries.{NamedPair, entries_naming, fault_at, master_entries}
+use Rattle.bdb_master.specs.Entries.{NamedPair, entries_naming, fault_at, master_entries}
 use Rattle.bdb_file.specs.Named.{entry_database}
 use Rattle.bdb_file.specs.declared.rows.Rows.TheVariants.{AnyOrder}
 use Rattle.bdb_file.proofs.RowsLemmas.{master_kept}
 use Rattle.bdb_format.proofs.ListLemmas.{any_member}
 use Rattle.bdb_format.proofs.FileLemmas.{last_page}
-use Rattle.bdb_file.proofs.MasterLemmas.{at_meta, count_five, in_naming, master_inside}
+use Rattle.bdb_master.proofs.MasterLemmas.{at_meta, count_five, in_naming, master_inside}
 use Rattle.bdb_file.proofs.NamedLemmas.{NamesMeta, all_named, entry_names, kind_inside, one_unnamed, with_name}
 
 -- A page has one database at most.

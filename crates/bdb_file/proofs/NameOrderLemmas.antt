@@ -28,12 +28,12 @@ use Rattle.bdb_graph.proofs.ReadLemmas.{master_is, master_keys}
 use Rattle.bdb_btree.specs.Bounds.{DontFall, NoneBelow}
 use Rattle.bdb_btree.proofs.FallLemmas.{dont_fall, tree_keys}
 use Rattle.bdb_btree.proofs.PairLemmas.{tree_pair}
-use Rattle.bdb_file.specs.Entries.{fault_at, named}
+use Rattle.bdb_master.specs.Entries.{fault_at, named}
 use Rattle.bdb_file.specs.AnyOrder.{contents_by, faults_by_rows}
 use Rattle.bdb_file.specs.Laws.{NamesAscend, NamesAscendInAnyOrder, name_bytes}
 use Rattle.bdb_file.specs.declared.rows.Rows.TheVariants.{AnyOrder}
 use Rattle.bdb_file.proofs.DatabaseLemmas.{has_metadata}
-use Rattle.bdb_file.proofs.MasterLemmas.{AreInside, master_inside, repeat_here}
+use Rattle.bdb_master.proofs.MasterLemmas.{AreInside, master_inside, repeat_here}
 use Rattle.bdb_file.proofs.NamedLemmas.{NamesMeta, entry_names}
 use Rattle.bdb_file.proofs.OrderLemmas.{master_counts}
 use Rattle.bdb_file.proofs.RowsLemmas.{contents_kept, early_kept, master_kept, sound_in_any_order}

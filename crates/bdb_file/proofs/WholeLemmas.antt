@@ -11,7 +11,7 @@ use Rattle.bdb_faults.proofs.SinkLemmas.{noted_all, notes_both}
 use Rattle.bdb_file.specs.AnyOrder.{contents_by, stages_by}
 use Rattle.bdb_file.specs.Noted.{HasJust}
 use Rattle.bdb_file.specs.declared.rows.Rows.{Rows}
-use Rattle.bdb_file.proofs.NotingLemmas.{none_noted, some_noted}
+use Rattle.bdb_master.proofs.NotingLemmas.{none_noted, some_noted}
 
 -- each of the stages, where none of them has faults
 

@@ -1,9 +1,7 @@
 pub mod AnyOrder
 pub mod Contents
-pub mod Entries
 pub mod Laws
 pub mod Named
-pub mod Names
 pub mod Noted
 pub mod Whole
 pub mod Listing

@@ -4,7 +4,7 @@ use Rattle.bdb_format.specs.Databases.{Database, database_on, databases}
 use Rattle.bdb_format.specs.File.{File, file_of}
 use Rattle.bdb_format.specs.Page.{QueueFields}
 use Rattle.bdb_file.specs.AnyOrder.{faults_by_rows}
-use Rattle.bdb_file.specs.Entries.{NamedPair}
+use Rattle.bdb_master.specs.Entries.{NamedPair}
 use Rattle.bdb_file.specs.declared.rows.Rows.TheVariants.{AnyOrder}
 
 -- what stands past the last database

@@ -1,18 +1,17 @@
 ghost use Rattle.std.specs.Prelude.{◌≡◌, [], ◌∷◌, IfErr, IfOk, OnOk};
 ghost use Rattle.bdb_file.specs.AnyOrder.{stages_by};
-ghost use Rattle.bdb_file.specs.Entries.{master_entries};
+ghost use Rattle.bdb_master.specs.Entries.{master_entries};
 ghost use Rattle.bdb_file.specs.Noted.{HasJust};
 ghost use Rattle.bdb_format.specs.File.{file_of};
 ghost use Rattle.bdb_format.specs.Verdict.{IsFirstOf, faults_in};
 
 use crate::Rows;
 use crate::contents::note_contents;
-use crate::entry::{Entry, master_entries};
-use crate::master::note_master;
 use crate::structure::note_structure;
 use bdb_faults::{FaultSink, First};
 use bdb_format::CheckError;
 use bdb_graph::Linked;
+use bdb_master::{Entry, master_entries, note_master};
 use std::alloc::{AllocError, Global};
 
 /// A sink after stages 6 to 8, and the entries of the master where none of them has faults that count.

@@ -12,13 +12,13 @@ ghost use Rattle.bdb_graph.specs.Metas.{meta_seen};
 ghost use Rattle.bdb_format.specs.File.{file_of};
 
 use crate::Rows;
-use crate::entry::master_among;
 use crate::rows::Which;
 use crate::unordered::Unordered;
 use bdb_btree::note_contents as note_btree;
 use bdb_faults::FaultSink;
 use bdb_graph::{Linked, Meta};
 use bdb_hash::{Chains, note_contents as note_hash};
+use bdb_master::master_among;
 use bdb_ranks::Values;
 use bdb_recno::note_contents as note_recno;
 use std::alloc::{AllocError, Global};

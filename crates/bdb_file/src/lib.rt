@@ -3,25 +3,17 @@
 
 mod check;
 mod contents;
-mod counts;
 mod db;
-mod entry;
 pub mod laws;
 mod listing;
 mod lookup;
-mod master;
 mod named;
-mod named_pages;
-mod noting;
 mod readable;
 mod reads;
-mod repeats;
 mod rows;
-mod seen_names;
 mod settings;
 mod sound;
 mod structure;
-mod targets;
 mod unordered;
 mod verdict;
 mod verdict_all;

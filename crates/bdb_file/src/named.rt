@@ -1,6 +1,6 @@
 ghost use Rattle.std.specs.Prelude.{◌≡◌, ◌≤◌, ◌++◌, [], IfOk, OnOk, Some, option_copied};
 ghost use Rattle.std.specs.Option.{ForSome};
-ghost use Rattle.bdb_file.specs.Entries.{master_entries};
+ghost use Rattle.bdb_master.specs.Entries.{master_entries};
 ghost use Rattle.bdb_file.specs.Named.{entry_database};
 ghost use Rattle.bdb_graph.specs.Metas.{meta_seen};
 ghost use Rattle.bdb_format.specs.Databases.{database_on, databases, is_name};
@@ -8,9 +8,9 @@ ghost use Rattle.std.specs.List.{flat_map};
 ghost use Rattle.bdb_format.specs.File.{file_of};
 ghost use Rattle.bdb_format.specs.Verdict.{master_faults, structure_faults};
 
-use crate::entry::{Entry, master_of};
 use bdb_format::Bytes;
 use bdb_graph::{Linked, Meta};
+use bdb_master::{Entry, master_of};
 use std::alloc::{AllocError, Global};
 use std::marker::Model;
 

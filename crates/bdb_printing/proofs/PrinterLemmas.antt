@@ -12,7 +12,7 @@ use Rattle.bdb_printing.specs.Printers.{Adds, HasAdded}
 use Rattle.bdb_lines.specs.declared.cut.Cut.{Cut}
 use Rattle.bdb_printing.specs.declared.printing.Printer.{Printer}
 use Rattle.bdb_lines.proofs.PrintingLemmas.{begins_cut, cut_short, nothing_printed, then_more, then_written}
-use Rattle.bdb_text.proofs.SpellingLemmas.{spelling-append}
+use Rattle.bdb_spelling.proofs.SpellingLemmas.{spelling-append}
 use Rattle.bdb_printing.proofs.SpellingLemmas.{spelling_none}
 
 -- a text and then another

@@ -9,7 +9,7 @@ ghost use Rattle.bdb_printing.specs.Printers.{Adds, pair_text};
 ghost use Rattle.bdb_lines.specs.Printing.{Writes};
 ghost use Rattle.bdb_printing.specs.SalvageText.{bytes_pair, loose_section, loose_settings, numbered_record, salvage_text};
 ghost use Rattle.bdb_printing.specs.SalvageText.{stored_section, stored_settings};
-ghost use Rattle.bdb_salvage.specs.Kept.{file_in};
+ghost use Rattle.bdb_rescue.specs.Kept.{file_in};
 ghost use Rattle.bdb_stored.specs.Salvage.{loose};
 
 use crate::printing::Printer;
@@ -17,7 +17,7 @@ use bdb_format::{Bytes, Kind, Settings};
 use bdb_io::Sink;
 use bdb_lines::Cut;
 use bdb_overflow::{Datum, KeyView};
-use bdb_salvage::{Guess, SalvagePairs, SalvageValues, Salvaged};
+use bdb_rescue::{Guess, SalvagePairs, SalvageValues, Salvaged};
 use std::alloc::Global;
 
 // The settings of the section of the loose records.

@@ -5,7 +5,7 @@ use Rattle.bdb_text_format.specs.declared.pairs.Key.TheVariants.{Bytes, Number}
 use Rattle.bdb_text_format.specs.declared.pairs.TextPair.{TextPair}
 use Rattle.bdb_text_format.specs.Pairs.{last_key}
 use Rattle.bdb_text_format.specs.Placed.{pair_with}
-use Rattle.bdb_salvage.specs.Kept.{under}
+use Rattle.bdb_rescue.specs.Kept.{under}
 use Rattle.bdb_repair.specs.Parts.{stored_pair, stored_pairs}
 
 pub last_pushed : (old new : List TextPair) (pair : TextPair) → new ≡ old ++ pair ∷ [] → last_key new ≡ pair.key

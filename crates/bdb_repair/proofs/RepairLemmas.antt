@@ -10,7 +10,7 @@ use Rattle.bdb_settle.specs.LoadErrors.{load_error}
 use Rattle.bdb_mkfile.specs.Builds.{Builds, image_size}
 use Rattle.bdb_mkfile.specs.Loading.{AreLoadable, IsLoadRefusal, IsLoadRefusalBy, loading_error, or_else, size_error}
 use Rattle.bdb_survey.specs.declared.guess.Guess.{Guess}
-use Rattle.bdb_salvage.specs.Kept.{Reading, file_in}
+use Rattle.bdb_rescue.specs.Kept.{Reading, file_in}
 use Rattle.bdb_repair.specs.declared.error.RepairError.TheVariants.{TooLarge}
 use Rattle.bdb_repair.specs.declared.shape.Shape.{Shape}
 use Rattle.bdb_repair.specs.declared.room.Fit.{Fit}

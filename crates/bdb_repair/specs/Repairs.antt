@@ -5,8 +5,8 @@ use Rattle.bdb_settle.specs.declared.load_error.LoadError.{LoadError}
 use Rattle.bdb_settle.specs.declared.load_error.LoadError.TheVariants.{RecordTooLong, RecordZero, OntoKind, OntoNames, QueueAmongNames}
 use Rattle.bdb_settle.specs.declared.load_error.LoadError.TheVariants.{TooLarge as TooLargeImage, Memory as MemoryForIt}
 use Rattle.bdb_survey.specs.declared.guess.Guess.{Guess}
-use Rattle.bdb_salvage.specs.declared.error.SalvageError.{SalvageError}
-use Rattle.bdb_salvage.specs.declared.error.SalvageError.TheVariants.{NoMeta as NoMetaThere, Memory as MemoryThere}
+use Rattle.bdb_rescue.specs.declared.error.SalvageError.{SalvageError}
+use Rattle.bdb_rescue.specs.declared.error.SalvageError.TheVariants.{NoMeta as NoMetaThere, Memory as MemoryThere}
 use Rattle.bdb_repair.specs.declared.error.RepairError.{RepairError}
 use Rattle.bdb_repair.specs.declared.error.RepairError.TheVariants.{NoMeta, TooLarge, Memory}
 use Rattle.bdb_repair.specs.declared.shape.Shape.{Shape}

@@ -1,6 +1,6 @@
 ghost use Rattle.std.specs.Prelude.{◌≡◌};
 
-use bdb_salvage::SalvageError;
+use bdb_rescue::SalvageError;
 use std::alloc::AllocError;
 
 /// Why nothing is repaired.

@@ -5,14 +5,14 @@ ghost use Rattle.bdb_format.specs.Chains.{joined};
 ghost use Rattle.bdb_overflow.specs.Datum.{datum_seen};
 ghost use Rattle.bdb_repair.specs.Parts.{loose_pairs, loose_section, named_sections, repair_sections, shaped_pairs, shaped_section};
 ghost use Rattle.bdb_repair.specs.Parts.{stored_pair, stored_pairs, stored_section};
-ghost use Rattle.bdb_salvage.specs.Kept.{file_in, pairs_under};
+ghost use Rattle.bdb_rescue.specs.Kept.{file_in, pairs_under};
 ghost use Rattle.bdb_stored.specs.Salvage.{loose, stored};
 
 use crate::shape::shaped_settings;
 use crate::{Duplicates, Shape};
 use bdb_format::Bytes;
 use bdb_overflow::{Datum, Pieces};
-use bdb_salvage::{SalvageEntries, SalvageEntry, SalvageValues, Salvaged};
+use bdb_rescue::{SalvageEntries, SalvageEntry, SalvageValues, Salvaged};
 use bdb_text_format::{KeyRef, PairRef, Section, Sections, TextPairs};
 use std::alloc::{AllocError, Global};
 

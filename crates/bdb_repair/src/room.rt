@@ -1,11 +1,11 @@
 //! Whether what is salvaged has room in a file and in memory, counted where it lies.
 ghost use Rattle.std.specs.Prelude.{◌≡◌, ◌+◌, ◌<◌, MatchOption, nat_lt};
 ghost use Rattle.std.specs.List.{sum_by};
-ghost use Rattle.bdb_salvage.specs.Kept.{file_in};
+ghost use Rattle.bdb_rescue.specs.Kept.{file_in};
 ghost use Rattle.bdb_repair.specs.Room.{IsFit, datum_room, least_room, pair_room, room_as};
 
 use crate::{Duplicates, Shape};
-use bdb_salvage::{SalvageEntries, SalvageEntry, SalvagePairs, SalvageValues, Salvaged};
+use bdb_rescue::{SalvageEntries, SalvageEntry, SalvagePairs, SalvageValues, Salvaged};
 
 /// What a copy of a key or a datum takes of memory beside its bytes: its place, and its share of what grows by doubling.
 const COPY: u64 = 64;

@@ -2,7 +2,7 @@ ghost use Rattle.std.specs.Prelude.{◌≡◌};
 ghost use Rattle.bdb_repair.specs.Shapes.{are_several, are_sorted, duplicates_of, kind_of, shaped_settings};
 
 use bdb_format::{Kind, Settings};
-use bdb_salvage::Guess;
+use bdb_rescue::Guess;
 
 /// The data that a key may have.
 #[derive(Clone, Copy, Debug, PartialEq, Eq)]

@@ -1,11 +1,1 @@
 pub mod ToldLemmas
-pub mod ListLemmas
-pub mod StoredLemmas
-pub mod LooseLemmas
-pub mod KeptLemmas
-pub mod MarkLemmas
-pub mod TableLemmas
-pub mod SetLemmas
-pub mod ThinLemmas
-pub mod GuessLemmas
-pub mod LeftLemmas

@@ -16,7 +16,7 @@ use Rattle.bdb_census.specs.Databases.{IsSoundForest}
 use Rattle.bdb_census.proofs.MetaLemmas.{sound_forest}
 use Rattle.bdb_whole.proofs.KeptLemmas.{sound_files_are_kept}
 use Rattle.bdb_survey.specs.declared.guess.Guess.{Guess}
-use Rattle.bdb_salvage.specs.Guesses.{chosen, guess_in, guess_of, is_known_magic}
+use Rattle.bdb_rescue.specs.Guesses.{chosen, guess_in, guess_of, is_known_magic}
 use Rattle.bdb_salvage.specs.KeepsAll.{SalvageKeepsAll, guess_told}
 
 -- what no row of page 0 says

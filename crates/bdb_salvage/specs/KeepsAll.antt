@@ -4,8 +4,8 @@ use Rattle.bdb_format.specs.File.{file_of}
 use Rattle.bdb_format.specs.HeadOf.{head_of}
 use Rattle.bdb_whole.specs.Kept.{IsSoundFile, KeepsLists}
 use Rattle.bdb_survey.specs.declared.guess.Guess.{Guess}
-use Rattle.bdb_salvage.specs.Guesses.{chosen}
-use Rattle.bdb_salvage.specs.Kept.{file_in}
+use Rattle.bdb_rescue.specs.Guesses.{chosen}
+use Rattle.bdb_rescue.specs.Kept.{file_in}
 
 -- the order and the page size of a file
 abbrev pub guess_told : List ℕ → Guess

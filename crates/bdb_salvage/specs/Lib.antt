@@ -1,5 +1,1 @@
-pub mod Entries
-pub mod Guesses
 pub mod KeepsAll
-pub mod Kept
-pub mod Marks

@@ -8,8 +8,8 @@ use Rattle.hex.proofs.HexLemmas.{IsDigits-lower_digits}
 use Rattle.bdb_text_format.specs.TextSpelling.{before, byte_before, byte_of_digits, bytes_spelled, digit_value, hex_digit, next_unit, printed, printed_unit, spelling, two_digits}
 use Rattle.bdb_text_format.proofs.UnitLemmas.{read_empty, read_unit}
 use Rattle.bdb_text.specs.Laws.{SpelledIsRead}
-use Rattle.bdb_text.proofs.SpellingLemmas.{lower_digit}
-use Rattle.bdb_text.proofs.ReadingLemmas.{digit_value-hex, escaped_digits}
+use Rattle.bdb_spelling.proofs.SpellingLemmas.{lower_digit}
+use Rattle.bdb_spelling.proofs.ReadingLemmas.{digit_value-hex, escaped_digits}
 
 -- the unit that spells a byte
 abbrev unit : Bool → ℕ → List ℕ

@@ -1,5 +1,3 @@
-pub mod SpellingLemmas
-pub mod ReadingLemmas
 pub mod LawLemmas
 pub mod BoolLemmas
 pub mod ReasonLemmas
@@ -12,10 +10,8 @@ pub mod ValueLemmas
 pub mod LookedLemmas
 pub mod WrittenLemmas
 pub mod HeaderLemmas
-pub mod DigitLemmas
 pub mod CutLemmas
 pub mod FieldLemmas
-pub mod RunLemmas
 pub mod HeaderReadLemmas
 pub mod PairLemmas
 pub mod SectionLemmas

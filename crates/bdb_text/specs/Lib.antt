@@ -1,12 +1,8 @@
-pub mod Spellings
-pub mod SpellErrors
 pub mod Headers
 pub mod Laws
 pub mod WrittenLaw
-pub mod DigitsIn
 pub mod Earlier
 pub mod Fields
-pub mod Runs
 pub mod DataLines
 pub mod ReadTo
 pub mod DataTo

@@ -4,9 +4,8 @@ ghost use Rattle.bdb_text_format.specs.Placed.{key_seen};
 ghost use Rattle.bdb_text.specs.DataLines.{IsLineError, record_number};
 ghost use Rattle.std.specs.Prelude.{◌≡◌, if◌then◌else◌, Bool, IfOk, IfErr, OnOk, Some};
 
-use crate::runs::read_run;
-use crate::spellings::SpellError;
 use bdb_format::number_in;
+use bdb_spelling::{SpellError, read_run};
 use bdb_text_format::KeyRef;
 
 /// Why a data line isn't read.

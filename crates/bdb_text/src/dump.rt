@@ -12,10 +12,10 @@ use crate::earlier::Earlier;
 use crate::fields::{Field, is_given, value_of};
 use crate::headers::read_header;
 use crate::meant::{conflicts, settings_in};
-use crate::spellings::{SpellError, read_spelling};
 use crate::text_errors::TextError;
 use crate::text_lines::cut_line;
 use bdb_format::Bytes;
+use bdb_spelling::{SpellError, read_spelling};
 use bdb_text_format::{Section, Sections, TextFault};
 use std::alloc::Global;
 

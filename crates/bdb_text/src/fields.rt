@@ -3,7 +3,7 @@ ghost use Rattle.bdb_text_format.specs.Header.{entry_of, gives, given, number_or
 ghost use Rattle.bdb_text.specs.Fields.{entries_in, entry_seen, values_in};
 ghost use Rattle.std.specs.Prelude.{◌≡◌, is_some, option_copied};
 
-use crate::digits::number_read;
+use bdb_spelling::number_read;
 use memchr::memchr;
 
 /// The keyword and the value of a header line.

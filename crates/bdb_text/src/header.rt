@@ -3,9 +3,8 @@ ghost use Rattle.bdb_text_format.specs.Written.{format_text, has_sets, header_ta
 ghost use Rattle.bdb_format.specs.Table.{◌:?◌};
 ghost use Rattle.bdb_text.specs.Headers.{row_seen, row_text, rows_text, value_seen};
 
-use crate::lines::push_line_text;
-use crate::numbers::number_text;
 use bdb_format::{Bytes, Kind, Order, Settings};
+use bdb_spelling::{number_text, push_line_text};
 use std::alloc::{AllocError, Global};
 
 /// What stands behind the equals sign of a header line.

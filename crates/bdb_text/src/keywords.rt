@@ -5,9 +5,8 @@ ghost use Rattle.bdb_text_format.specs.Reasons.{entry_reason, keyword_named};
 ghost use Rattle.bdb_text.specs.Fields.{entries_in, entry_in, judged_by};
 ghost use Rattle.std.specs.Prelude.{◌≡◌, ◌==◌, ◌∷◌, [], codes, false, not, IfOk, IfErr, Some, None};
 
-use crate::digits::number_read;
 use crate::fields::{Field, field_of, is_given};
-use crate::spellings::is_spelling;
+use bdb_spelling::{is_spelling, number_read};
 use bdb_text_format::Judged;
 
 const FORMAT: [u8; 6] = *b"format";

@@ -15,7 +15,7 @@ use Rattle.bdb_repair.specs.declared.error.RepairError.TheVariants.{NoMeta, TooL
 use Rattle.bdb_repair.specs.declared.shape.Shape.{Shape}
 use Rattle.bdb_repair.specs.Parts.{repair_sections}
 use Rattle.bdb_repair.specs.Repairs.{IsRepaired}
-use Rattle.bdb_salvage.specs.Guesses.{chosen}
+use Rattle.bdb_rescue.specs.Guesses.{chosen}
 use Rattle.bdb_survey.specs.declared.guess.Guess.{Guess}
 use Rattle.bdb_tool.specs.Outputs.{IsImageBy, IsRepairAnswer, IsRepairBy, no_metadata}
 use Rattle.bdb_tool.specs.Parts.{Answered, Ends, HasOwnStatus, Reports, Tells, Unanswered}

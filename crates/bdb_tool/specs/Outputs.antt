@@ -14,7 +14,7 @@ use Rattle.bdb_printing.specs.SalvageText.{salvage_text}
 use Rattle.bdb_mkfile.specs.Builds.{image_size}
 use Rattle.bdb_repair.specs.Parts.{repair_sections}
 use Rattle.bdb_repair.specs.declared.shape.Shape.{Shape}
-use Rattle.bdb_salvage.specs.Guesses.{chosen}
+use Rattle.bdb_rescue.specs.Guesses.{chosen}
 use Rattle.bdb_survey.specs.declared.guess.Guess.{Guess}
 use Rattle.bdb_text_format.specs.declared.sections.Section.{Section}
 use Rattle.bdb_tool.specs.Commands.{Action, Ask, Command, Load, LoadOnto, Repair, Salvage, Trial, command_on, reads_input}

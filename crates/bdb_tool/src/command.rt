@@ -12,7 +12,7 @@ use bdb_file::Rows;
 use bdb_format::{Kind, Order, number_in};
 use bdb_model::Words;
 use bdb_repair::Shape;
-use bdb_salvage::Guess;
+use bdb_rescue::Guess;
 use bdb_text::is_spelling;
 
 /// What `get` asks, with the name and the key as they are spelled.

@@ -11,7 +11,7 @@ use crate::status::NO_META;
 use bdb_format::Steps;
 use bdb_io::Sink;
 use bdb_printing::write_salvaged;
-use bdb_salvage::{SalvageError, salvage};
+use bdb_rescue::{SalvageError, salvage};
 use std::alloc::Global;
 use std::sync::ledger::Ledger;
 

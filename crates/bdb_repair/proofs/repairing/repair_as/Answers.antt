@@ -1,8 +1,8 @@
 use Rattle.std.proofs.Common.{◌≡◌, true, sym, subst}
 use Rattle.std.specs.Prelude.{nat_lt}
-use Rattle.bdb_salvage.specs.Guesses.{chosen}
-use Rattle.bdb_salvage.specs.Kept.{file_in}
-use Rattle.bdb_salvage.proofs.GuessLemmas.{chosen_legal}
+use Rattle.bdb_rescue.specs.Guesses.{chosen}
+use Rattle.bdb_rescue.specs.Kept.{file_in}
+use Rattle.bdb_rescue.proofs.GuessLemmas.{chosen_legal}
 use Rattle.bdb_repair.specs.Repairs.{IsRepaired}
 use Rattle.bdb_repair.specs.Room.{least_room}
 use Rattle.bdb_repair.proofs.RepairLemmas.{can_be_loaded, loaded_so, past_so, refusals_may_come, too_much}

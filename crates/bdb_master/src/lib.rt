@@ -1,0 +1,14 @@
+//! What the list of a master names, and what is wrong with it.
+#![tactic(auto)]
+
+mod counts;
+mod entry;
+mod master;
+mod named_pages;
+mod noting;
+mod repeats;
+mod seen_names;
+mod targets;
+
+pub use entry::{Entry, master_among, master_entries, master_of};
+pub use master::note_master;

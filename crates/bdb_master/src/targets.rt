@@ -1,0 +1,57 @@
+ghost use Rattle.std.specs.Prelude.{◌≡◌, OnOk};
+ghost use Rattle.bdb_faults.specs.Notes.{NotesAll};
+ghost use Rattle.bdb_master.specs.Entries.{by_target, target_fault};
+ghost use Rattle.bdb_format.specs.Master.{is_named_kind};
+ghost use Rattle.bdb_form.specs.Seen.{page_seen};
+ghost use Rattle.bdb_format.specs.File.{file_of};
+ghost use Rattle.bdb_format.specs.Graph.{is_meta};
+
+use crate::entry::Entry;
+use crate::noting::note_given;
+use bdb_faults::{FaultSink, MasterRow, Row};
+use bdb_form::PageView;
+use bdb_format::Fault;
+use bdb_graph::Linked;
+use std::alloc::AllocError;
+
+fn is_meta(view: &PageView<'_>) -> bool
+    ensures { result ≡ is_meta (page_seen view.now) }
+{
+    matches!(view, PageView::Meta(_))
+}
+
+/// Whether this page is a metadata page above page 0.
+#[tactic(auto, using(crate::proofs::TargetLemmas::not_there, bdb_format::proofs::FileLemmas::last_page))]
+fn is_named_kind(linked: &Linked<'_>, page: u32) -> bool
+    ensures { result ≡ is_named_kind (file_of linked.now) page }
+{
+    if page > linked.head().last {
+        return false;
+    }
+    page > 0 && is_meta(&linked.page(page))
+}
+
+/// The fault of a master's pair on this page that names another, if it has one.
+fn target_fault(linked: &Linked<'_>, page: u32, names: Option<u32>) -> Option<Fault>
+    ensures { result ≡ target_fault (file_of linked.now) page names }
+{
+    match names {
+        Some(named) if is_named_kind(linked, named) => None,
+        Some(_) => Some(Row::Master(MasterRow::EntryTarget).at(page)),
+        None => Some(Row::Master(MasterRow::EntrySize).at(page)),
+    }
+}
+
+/// Notes the master's pairs that name no metadata page above page 0.
+pub(crate) fn note_targets<F: FaultSink>(
+    linked: &Linked<'_>,
+    entries: &[Entry<'_>],
+    found: &mut F,
+) -> Result<(), AllocError>
+    ensures { OnOk result (NotesAll (F.has_noted found.old) (F.has_noted found.new) (by_target (file_of linked.now) entries.now)) }
+{
+    for entry in entries {
+        note_given(target_fault(linked, entry.page(), entry.names()), found)?;
+    }
+    Ok(())
+}

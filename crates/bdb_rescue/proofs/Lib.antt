@@ -1,0 +1,10 @@
+pub mod GuessLemmas
+pub mod KeptLemmas
+pub mod LeftLemmas
+pub mod ListLemmas
+pub mod LooseLemmas
+pub mod MarkLemmas
+pub mod SetLemmas
+pub mod StoredLemmas
+pub mod TableLemmas
+pub mod ThinLemmas

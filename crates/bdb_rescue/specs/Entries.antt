@@ -1,0 +1,17 @@
+-- What is left of a pair that is read.
+use Rattle.std.specs.Prelude.{List, ℕ, [], ◌∷◌}
+use Rattle.bdb_overflow.specs.Datum.{datum_seen}
+use Rattle.bdb_overflow.specs.declared.datum.Datum.{Datum}
+use Rattle.bdb_rescue.specs.declared.entry.PairData.{PairData}
+use Rattle.bdb_rescue.specs.declared.entry.PairData.TheVariants.{None as Ended, One, Blocks, Set}
+
+-- the data that are left
+abbrev pub data_left : PairData → List (List ℕ)
+data_left Ended = []
+data_left (One datum) = datum_seen datum ∷ []
+data_left (Blocks blocks) = blocks.blocks
+data_left (Set values) = values
+
+-- a pair without where its bytes lie
+abbrev pub pair_read : (Datum × Datum) → (List ℕ × List ℕ)
+pair_read pair = (datum_seen pair.0, datum_seen pair.1)

@@ -1,0 +1,4 @@
+pub mod Entries
+pub mod Guesses
+pub mod Kept
+pub mod Marks

@@ -1,0 +1,54 @@
+ghost use Rattle.std.specs.Prelude.{◌≡◌, ◌+◌, ◌≤◌, length};
+ghost use Rattle.bdb_format.specs.HeadOf.{is_page_size};
+ghost use Rattle.bdb_rescue.specs.Guesses.{chosen, guess_in, guess_of, is_known_magic};
+
+use bdb_format::Order;
+use bdb_layout::u32_at;
+use bdb_survey::Guess;
+
+/// The guess that is given, or else the one that page 0 tells.
+pub(crate) fn chosen(guess: Option<Guess>, image: &[u8]) -> Option<Guess>
+    ensures { result ≡ chosen guess image.now }
+{
+    match guess {
+        Some(guess) => Some(guess),
+        None => guess_of(image),
+    }
+}
+
+/// What page 0 tells of the image.
+#[tactic(auto, unfolding(crate::specs::Guesses::guess_of))]
+fn guess_of(image: &[u8]) -> Option<Guess>
+    ensures { result ≡ guess_of image.now }
+{
+    if image.len() < 24 {
+        return None;
+    }
+    guess_in(Order::Little, image).or(guess_in(Order::Big, image))
+}
+
+/// The same where page 0 is read in this order.
+fn guess_in(order: Order, image: &[u8]) -> Option<Guess>
+    requires { 24 ≤ length image.now }
+    ensures { result ≡ guess_in order image.now }
+{
+    let page_size = u32_at(image, 20, order);
+    if is_known_magic(u32_at(image, 12, order)) && is_page_size(page_size) {
+        Some(Guess { order, page_size })
+    } else {
+        None
+    }
+}
+
+/// Whether a number is the magic one of a btree, a hash or a queue.
+fn is_known_magic(number: u32) -> bool
+    ensures { result ≡ is_known_magic number }
+{
+    number == 0x053162 || number == 0x061561 || number == 0x042253
+}
+
+fn is_page_size(size: u32) -> bool
+    ensures { result ≡ is_page_size size }
+{
+    matches!(size, 512 | 1024 | 2048 | 4096 | 8192 | 16384 | 32768)
+}

@@ -1,0 +1,95 @@
+ghost use Rattle.std.specs.Prelude.{◌≡◌, ◌++◌, ◌+◌, ◌*◌, ◌^◌, ◌<◌, IfOk, OnOk, length};
+ghost use Rattle.bdb_layout.specs.Seen.{content_seen};
+ghost use Rattle.std.specs.Option.{option_to_list};
+ghost use Rattle.bdb_rescue.specs.Kept.{data_places, kept_in, kept_on, kept_pair, kept_pairs};
+ghost use Rattle.bdb_survey.specs.Slots.{slots_seen};
+
+use crate::kept::{DataPlace, KeptPair};
+use bdb_layout::Content;
+use bdb_survey::{Slots, Survey, paired_slots};
+use std::alloc::{AllocError, Global};
+
+/// Where the data of a data item are, if they are whole.
+fn data_place(survey: &Survey<'_>, content: &Content<'_>) -> Option<DataPlace>
+    ensures { option_to_list result ≡ data_places survey.now (content_seen content.now) }
+{
+    match content {
+        Content::Inline(_) | Content::Set(_) => Some(DataPlace::Here),
+        Content::Overflow { head, total } => {
+            if survey.is_whole(*head, *total) {
+                Some(DataPlace::Here)
+            } else {
+                None
+            }
+        }
+        Content::OffPage { root } => match survey.set_start(*root) {
+            Some(leaf) => Some(DataPlace::Set { leaf }),
+            None => None,
+        },
+    }
+}
+
+/// A pair of a page, if its key and its data are whole.
+fn kept_pair(survey: &Survey<'_>, slots: &Slots<'_>, page: u32, index: u16) -> Option<KeptPair>
+    requires there { 2 * index + 1 < length (slots_seen slots.now) }
+    requires small { 2 * index + 1 < 2 ^ 16 }
+    ensures { option_to_list result ≡ kept_pair survey.now page (slots_seen slots.now) index }
+{
+    if !survey.is_valued(&slots.content(2 * index)) {
+        return None;
+    }
+    let place = data_place(survey, &slots.content(2 * index + 1))?;
+    Some(KeptPair {
+        page,
+        index,
+        live: !slots.is_deleted(2 * index + 1),
+        place,
+    })
+}
+
+/// Adds a pair, if there is one.
+fn push_pair(kept: &mut Vec<KeptPair>, pair: Option<KeptPair>) -> Result<(), AllocError>
+    ensures { OnOk result (kept.new.items ≡ kept.old.items ++ option_to_list pair) }
+{
+    match pair {
+        Some(pair) => kept.push(pair)?,
+        None => {}
+    }
+    Ok(())
+}
+
+/// Adds the pairs among some items whose key and data are whole.
+fn keep_among(
+    kept: &mut Vec<KeptPair>,
+    survey: &Survey<'_>,
+    slots: &Slots<'_>,
+    page: u32,
+) -> Result<(), AllocError>
+    ensures { OnOk result (kept.new.items ≡ kept.old.items ++ kept_in survey.now page (slots_seen slots.now)) }
+{
+    for index in 0..slots.count() / 2 {
+        push_pair(kept, kept_pair(survey, slots, page, index))?;
+    }
+    Ok(())
+}
+
+/// The same of a page.
+fn keep_page(kept: &mut Vec<KeptPair>, survey: &Survey<'_>, page: u32) -> Result<(), AllocError>
+    ensures { OnOk result (kept.new.items ≡ kept.old.items ++ kept_on survey.now page) }
+{
+    match paired_slots(survey.pages().page(page)) {
+        Some(slots) => keep_among(kept, survey, &slots, page),
+        None => Ok(()),
+    }
+}
+
+/// The pairs of all pages whose key and data are whole, live or deleted, in the order of page and slot.
+pub(crate) fn kept_pairs(alloc: Global, survey: &Survey<'_>) -> Result<Vec<KeptPair>, AllocError>
+    ensures { IfOk result (λ kept. kept.items ≡ kept_pairs survey.now) }
+{
+    let mut kept = Vec::new(alloc);
+    for page in 0..survey.pages().count() {
+        keep_page(&mut kept, survey, page)?;
+    }
+    Ok(kept)
+}

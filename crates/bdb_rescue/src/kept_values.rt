@@ -1,0 +1,101 @@
+ghost use Rattle.std.specs.Prelude.{◌≡◌, ◌++◌, ◌<◌, IfOk, OnOk, if◌then◌else◌, [], length};
+ghost use Rattle.bdb_format.specs.Chains.{chain};
+ghost use Rattle.std.specs.List.{flat_map};
+ghost use Rattle.std.specs.Option.{option_to_list};
+ghost use Rattle.bdb_rescue.specs.Kept.{kept_value, loose_values, values_in, values_on};
+ghost use Rattle.bdb_rescue.specs.Marks.{Marks};
+ghost use Rattle.bdb_stored.specs.Salvage.{set_starts};
+ghost use Rattle.bdb_survey.specs.Slots.{slots_seen};
+
+use crate::kept::KeptValue;
+use crate::starts::is_marked;
+use bdb_survey::{Slots, Survey, entry_slots};
+use std::alloc::{AllocError, Global};
+
+/// The entry at a place, if it's live and has a whole value.
+fn kept_value(survey: &Survey<'_>, slots: &Slots<'_>, page: u32, index: u16) -> Option<KeptValue>
+    requires { index < length (slots_seen slots.now) }
+    ensures { option_to_list result ≡ kept_value survey.now page (slots_seen slots.now) index }
+{
+    if slots.is_deleted(index) {
+        return None;
+    }
+    if survey.is_valued(&slots.content(index)) {
+        Some(KeptValue { page, index })
+    } else {
+        None
+    }
+}
+
+/// Adds a value, if there is one.
+fn push_value(kept: &mut Vec<KeptValue>, value: Option<KeptValue>) -> Result<(), AllocError>
+    ensures { OnOk result (kept.new.items ≡ kept.old.items ++ option_to_list value) }
+{
+    match value {
+        Some(value) => kept.push(value)?,
+        None => {}
+    }
+    Ok(())
+}
+
+/// Adds the live entries among some items that have a whole value.
+fn keep_among(
+    kept: &mut Vec<KeptValue>,
+    survey: &Survey<'_>,
+    slots: &Slots<'_>,
+    page: u32,
+) -> Result<(), AllocError>
+    ensures { OnOk result (kept.new.items ≡ kept.old.items ++ values_in survey.now page (slots_seen slots.now)) }
+{
+    for index in 0..slots.count() {
+        push_value(kept, kept_value(survey, slots, page, index))?;
+    }
+    Ok(())
+}
+
+/// The same of a leaf.
+#[tactic(auto, unfolding(crate::specs::Kept::values_on))]
+pub(crate) fn keep_leaf(
+    kept: &mut Vec<KeptValue>,
+    survey: &Survey<'_>,
+    page: u32,
+) -> Result<(), AllocError>
+    ensures { OnOk result (kept.new.items ≡ kept.old.items ++ values_on survey.now page) }
+{
+    match entry_slots(survey.pages().page(page)) {
+        Some(slots) => keep_among(kept, survey, &slots, page),
+        None => Ok(()),
+    }
+}
+
+/// The same of a leaf that isn't taken.
+fn keep_loose(
+    kept: &mut Vec<KeptValue>,
+    survey: &Survey<'_>,
+    page: u32,
+    taken: bool,
+) -> Result<(), AllocError>
+    ensures { OnOk result (kept.new.items ≡ kept.old.items ++ (if taken then [] else values_on survey.now page)) }
+{
+    if taken {
+        return Ok(());
+    }
+    keep_leaf(kept, survey, page)
+}
+
+/// The live entries that have a whole value, of all leaves of records and of sorted data that belong to no whole
+/// set of a pair with a whole key, in the order of page and slot.
+pub(crate) fn loose_values(
+    alloc: Global,
+    survey: &Survey<'_>,
+    taken: &[bool],
+) -> Result<Vec<KeptValue>, AllocError>
+    requires { Marks survey.now.count taken.now (flat_map (chain survey.now) (set_starts survey.now)) }
+    ensures { IfOk result (λ kept. kept.items ≡ loose_values survey.now) }
+{
+    let mut kept = Vec::new(alloc);
+    for page in 0..survey.pages().count() {
+        keep_loose(&mut kept, survey, page, is_marked(taken, page))?;
+    }
+    Ok(kept)
+}

@@ -1,0 +1,25 @@
+//! What can be had from the pages of a damaged image, one by one.
+#![tactic(auto)]
+
+mod entries;
+mod entry;
+mod error;
+mod guess;
+mod kept;
+mod kept_pairs;
+mod kept_values;
+mod pairs;
+mod places;
+mod salvaged;
+mod sets;
+mod starts;
+mod tables;
+mod thin;
+mod values;
+
+pub use bdb_survey::Guess;
+pub use entries::{SalvageEntries, SalvageEntry};
+pub use error::SalvageError;
+pub use pairs::SalvagePairs;
+pub use salvaged::{Salvaged, salvage};
+pub use values::SalvageValues;

@@ -1,0 +1,277 @@
+ghost use Rattle.std.specs.Prelude.{◌≡◌, ◌≢◌, ◌^◌, ◌≤◌, ◌<◌, IfOk, IfSome, IsTrue, Err, None, Some, length};
+ghost use Rattle.std.specs.List.{Contains, flat_map};
+ghost use Rattle.bdb_format.specs.Chains.{chain, value_of};
+ghost use Rattle.bdb_format.specs.File.{page_at};
+ghost use Rattle.bdb_format.specs.Page.{Chain};
+ghost use Rattle.bdb_format.specs.HeadOf.{is_page_size};
+ghost use Rattle.bdb_rescue.specs.Guesses.{chosen};
+ghost use Rattle.bdb_rescue.specs.Kept.{IsKeptValue, IsTable, file_in, item_of, kept_pairs, loose_values, pairs_under, set_from, thin_from, value_at, values_on};
+ghost use Rattle.bdb_rescue.specs.Marks.{Marks};
+ghost use Rattle.bdb_layout.specs.Seen.{content_seen};
+ghost use Rattle.bdb_survey.specs.Items.{is_valued, slots_in};
+ghost use Rattle.bdb_overflow.specs.Datum.{datum_seen};
+ghost use Rattle.bdb_stored.specs.Salvage.{is_overflow, is_row, is_whole, live_whole, loose, salvaged_file, set_starts, stored};
+ghost use Rattle.bdb_rescue.specs.declared.error.SalvageError.TheVariants.{Memory, NoMeta};
+
+use crate::guess::chosen;
+use crate::kept::{KeptPair, KeptValue};
+use crate::kept_pairs::kept_pairs;
+use crate::kept_values::loose_values;
+use crate::sets::{SetTable, set_table};
+use crate::starts::{first_leaves, taken_pages};
+use crate::tables::part;
+use crate::thin::{ThinTable, thin_table};
+use crate::{Guess, SalvageEntries, SalvageError, SalvagePairs, SalvageValues};
+use bdb_format::Steps;
+use bdb_layout::Content;
+use bdb_overflow::Datum;
+use bdb_survey::{Survey, WholePages};
+use std::alloc::{AllocError, Global};
+use std::marker::Model;
+use std::sync::ledger::Ledger;
+
+/// What can be had from an image: places of the pairs, of the loose records and of the data of sets that are
+/// whole, at most one for each slot, of at most 16 bytes, and 17 bytes for each page. Values are read where they
+/// lie, but for those of whole chains that have fewer bytes than pages, which are kept.
+pub struct Salvaged<'a> {
+    image: &'a [u8],
+    guess: Guess,
+    pairs: Vec<KeptPair>,
+    values: Vec<KeptValue>,
+    sets: SetTable,
+    thin: ThinTable,
+}
+
+impl Drop for Salvaged<'_> {
+    fn drop(self) {
+        let Salvaged {
+            image: _image,
+            guess: _guess,
+            pairs: _pairs,
+            values: _values,
+            sets: _sets,
+            thin: _thin,
+        } = self;
+    }
+}
+
+impl<'a> Model for Salvaged<'a> {
+    ghost use Rattle.bdb_rescue.specs.Kept.{IsSalvaged, Reading};
+
+    ghost Value = { Reading };
+
+    ghost view = { λ v. record { guess = v.guess; image = v.image.now } };
+
+    ghost invariant = { λ v. IsSalvaged v.guess v.image.now v.pairs.items v.values.items v.sets.bounds.items v.sets.values.items v.thin.bounds.items v.thin.bytes.items };
+}
+
+/// Finds what an image still has, by the given guess or the one that page 0 tells. Where there is neither, no memory is asked for.
+///
+/// While it runs it keeps 18 bytes for each page, above all the verdict on the row that begins there, so that a chain
+/// or a set is followed once, however many items name it.
+#[tactic(auto, using(crate::proofs::GuessLemmas::chosen_legal))]
+pub fn salvage<'a, L: Ledger>(
+    alloc: Global,
+    image: &'a [u8],
+    guess: Option<Guess>,
+    steps: &mut Steps<L>,
+) -> Result<Salvaged<'a>, SalvageError>
+    requires size { IfSome guess (λ guess. IsTrue (is_page_size guess.page_size)) }
+    requires small { length image.now ≤ 2 ^ 30 }
+    ensures guess { IfOk result (λ salvaged. chosen guess image.now ≡ Some salvaged.guess) }
+    ensures image { IfOk result (λ salvaged. salvaged.image ≡ image.now) }
+    ensures no_meta { result ≡ Err NoMeta → chosen guess image.now ≡ None }
+    ensures memory { result ≡ Err Memory → chosen guess image.now ≢ None }
+{
+    let Some(guess) = chosen(guess, image) else {
+        return Err(SalvageError::NoMeta);
+    };
+    Ok(salvage_as(alloc, image, guess, steps)?)
+}
+
+/// The loose records, where the first leaves of the sets of pairs are marked.
+fn loose_beside(
+    alloc: Global,
+    survey: &Survey<'_>,
+    starts: &[bool],
+) -> Result<Vec<KeptValue>, AllocError>
+    requires { Marks survey.now.count starts.now (set_starts survey.now) }
+    ensures { IfOk result (λ kept. kept.items ≡ loose_values survey.now) }
+{
+    let taken = taken_pages(alloc, survey.pages(), starts)?;
+    loose_values(alloc, survey, &taken)
+}
+
+/// The loose records, and the values of the sets of pairs.
+fn values_beside(
+    alloc: Global,
+    survey: &Survey<'_>,
+    pairs: &[KeptPair],
+) -> Result<(Vec<KeptValue>, SetTable), AllocError>
+    requires { pairs.now ≡ kept_pairs survey.now }
+    ensures loose { IfOk result (λ kept. kept.0.items ≡ loose_values survey.now) }
+    ensures sets { IfOk result (λ kept. IsTable (set_from survey.now) survey.now.count kept.1.bounds.items kept.1.values.items) }
+{
+    let starts = first_leaves(alloc, survey.pages(), pairs)?;
+    let values = loose_beside(alloc, survey, &starts)?;
+    let sets = set_table(alloc, survey, &starts)?;
+    Ok((values, sets))
+}
+
+/// What an image still has, whose pages are surveyed.
+fn salvaged_in<'a>(
+    alloc: Global,
+    image: &'a [u8],
+    guess: Guess,
+    survey: &Survey<'_>,
+) -> Result<Salvaged<'a>, AllocError>
+    requires size { IsTrue (is_page_size guess.page_size) }
+    requires small { length image.now ≤ 2 ^ 30 }
+    requires survey { survey.now ≡ salvaged_file guess.order guess.page_size image.now }
+    ensures { IfOk result (λ salvaged. salvaged ≡ record { guess = guess; image = image.now }) }
+{
+    let pairs = kept_pairs(alloc, survey)?;
+    let (values, sets) = values_beside(alloc, survey, &pairs)?;
+    let thin = thin_table(alloc, survey)?;
+    Ok(Salvaged {
+        image,
+        guess,
+        pairs,
+        values,
+        sets,
+        thin,
+    })
+}
+
+/// Finds what an image still has, by a guess.
+fn salvage_as<'a, L: Ledger>(
+    alloc: Global,
+    image: &'a [u8],
+    guess: Guess,
+    steps: &mut Steps<L>,
+) -> Result<Salvaged<'a>, AllocError>
+    requires size { IsTrue (is_page_size guess.page_size) }
+    requires small { length image.now ≤ 2 ^ 30 }
+    ensures { IfOk result (λ salvaged. salvaged ≡ record { guess = guess; image = image.now }) }
+{
+    let survey = Survey::of(alloc, WholePages::over(image, guess), steps)?;
+    salvaged_in(alloc, image, guess, &survey)
+}
+
+impl<'a> Salvaged<'a> {
+    /// How the image is read.
+    pub fn guess(&self) -> Guess
+        ensures { result ≡ self.now.guess }
+    {
+        self.guess
+    }
+
+    /// The stored pairs, in the order of page, slot and place in a set.
+    #[tactic(auto, using(crate::proofs::StoredLemmas::stored_is))]
+    pub fn pairs<'s>(&'s self) -> SalvagePairs<'s, 'a>
+        ensures { result ≡ stored (file_in self.now) }
+    {
+        SalvagePairs::over(self)
+    }
+
+    /// The stored keys in their order, each with its data: together they are the stored pairs.
+    #[tactic(auto, using(crate::proofs::StoredLemmas::stored_is, crate::proofs::LeftLemmas::entries_give))]
+    pub fn entries<'s>(&'s self) -> SalvageEntries<'s, 'a>
+        ensures { flat_map pairs_under result ≡ stored (file_in self.now) }
+    {
+        SalvageEntries::over(self)
+    }
+
+    /// The loose records, in the order of page and slot.
+    #[tactic(auto, using(crate::proofs::LooseLemmas::loose_is, crate::proofs::KeptLemmas::all_loose))]
+    pub fn loose<'s>(&'s self) -> SalvageValues<'s, 'a>
+        ensures { result ≡ loose (file_in self.now) }
+    {
+        SalvageValues::over(self, &self.values)
+    }
+
+    /// The pages of the image.
+    pub(crate) fn pages(&self) -> WholePages<'a>
+        ensures { result ≡ file_in self.now }
+    {
+        WholePages::over(self.image, self.guess)
+    }
+
+    /// The places of the pairs.
+    pub(crate) fn kept_pairs(&self) -> &[KeptPair]
+        ensures { result.now ≡ kept_pairs (file_in self.now) }
+    {
+        &self.pairs
+    }
+
+    /// The bytes of a whole chain, where they are fewer than its pages; else none.
+    fn thin_bytes<'s>(&'s self, head: u32) -> &'s [u8]
+        requires { IsTrue (is_row (file_in self.now) is_overflow head) }
+        ensures { result.now ≡ thin_from (file_in self.now) head }
+    {
+        part(&self.thin.bounds, &self.thin.bytes, head)
+    }
+
+    /// The value in a whole chain. Pages without data are passed only where it has as many bytes as pages.
+    #[tactic(auto, using(bdb_survey::proofs::WholeLemmas::whole_row, crate::proofs::ThinLemmas::empty_value, crate::proofs::ThinLemmas::thin_value), unfolding(bdb_format::specs::Chains::value_of))]
+    pub(crate) fn chained<'s>(&'s self, head: u32, total: u32) -> Datum<'s>
+        requires { IsTrue (is_whole (file_in self.now) head total) }
+        ensures { datum_seen result ≡ value_of (file_in self.now) (Chain head total) }
+    {
+        if total == 0 {
+            return Datum::Inline(&[]);
+        }
+        let bytes = self.thin_bytes(head);
+        if !bytes.is_empty() {
+            return Datum::Inline(bytes);
+        }
+        Datum::Chained(self.pages().pieces(head))
+    }
+
+    /// The value of an item that has one by itself.
+    #[tactic(auto, unfolding(bdb_format::specs::Chains::value_of))]
+    fn datum<'s>(&'s self, content: Content<'a>) -> Datum<'s>
+        requires { IsTrue (is_valued (file_in self.now) (content_seen content)) }
+        ensures { datum_seen result ≡ value_of (file_in self.now) (content_seen content.entry) }
+    {
+        match content {
+            Content::Inline(bytes) => Datum::Inline(bytes),
+            Content::Overflow { head, total } => self.chained(head, total),
+            Content::Set(_) | Content::OffPage { .. } => Datum::Inline(&[]),
+        }
+    }
+
+    /// The value of the item of a page that has one by itself.
+    pub(crate) fn value_on<'s>(&'s self, page: u32, index: u32) -> Datum<'s>
+        requires there { index < length (slots_in (page_at (file_in self.now) page)) }
+        requires valued { IsTrue (is_valued (file_in self.now) (item_of (file_in self.now) page index).content) }
+        ensures { datum_seen result ≡ value_of (file_in self.now) (item_of (file_in self.now) page index).content }
+    {
+        self.datum(self.pages().content(page, index))
+    }
+
+    /// The value at a place.
+    pub(crate) fn value<'s>(&'s self, place: KeptValue) -> Datum<'s>
+        requires { IsKeptValue (file_in self.now) place }
+        ensures { datum_seen result ≡ value_at (file_in self.now) place }
+    {
+        self.value_on(place.page, u32::from(place.index))
+    }
+
+    /// The places of the values of the set that begins at a page.
+    fn places_in(&self, leaf: u32) -> &[KeptValue]
+        requires { Contains (set_starts (file_in self.now)) leaf }
+        ensures { result.now ≡ flat_map (values_on (file_in self.now)) (chain (file_in self.now) leaf) }
+    {
+        part(&self.sets.bounds, &self.sets.values, leaf)
+    }
+
+    /// The values of the set that begins at a page.
+    #[tactic(auto, using(crate::proofs::KeptLemmas::all_in_set, crate::proofs::LooseLemmas::set_values))]
+    pub(crate) fn set<'s>(&'s self, leaf: u32) -> SalvageValues<'s, 'a>
+        requires { Contains (set_starts (file_in self.now)) leaf }
+        ensures { result ≡ flat_map (live_whole (file_in self.now)) (chain (file_in self.now) leaf) }
+    {
+        SalvageValues::over(self, self.places_in(leaf))
+    }
+}

@@ -1,0 +1,50 @@
+ghost use Rattle.std.specs.Prelude.{◌≡◌, ◌++◌, IfOk, OnOk};
+ghost use Rattle.bdb_format.specs.Chains.{joined};
+ghost use Rattle.bdb_rescue.specs.Kept.{IsTable, bytes_in, thin_from};
+
+use bdb_overflow::Pieces;
+use bdb_survey::Survey;
+use std::alloc::{AllocError, Global};
+
+/// The bytes of the whole chains that have fewer bytes than pages, each chain's together, in the order of their
+/// heads: such a chain is walked once, however many items name it. They are fewer than the pages.
+#[derive(Drop)]
+pub(crate) struct ThinTable {
+    /// How many bytes are in chains that begin below each page, and below the end.
+    pub(crate) bounds: Vec<usize>,
+    pub(crate) bytes: Vec<u8>,
+}
+
+/// Adds the bytes of pieces.
+fn push_pieces(bytes: &mut Vec<u8>, pieces: Pieces<'_>) -> Result<(), AllocError>
+    ensures { OnOk result (bytes.new.items ≡ bytes.old.items ++ joined pieces.entry) }
+{
+    for piece in pieces {
+        bytes.extend_from_slice(piece)?;
+    }
+    Ok(())
+}
+
+/// The same where there are some.
+fn push_thin(bytes: &mut Vec<u8>, pieces: Option<Pieces<'_>>) -> Result<(), AllocError>
+    ensures { OnOk result (bytes.new.items ≡ bytes.old.items ++ bytes_in pieces.entry) }
+{
+    match pieces {
+        Some(pieces) => push_pieces(bytes, pieces),
+        None => Ok(()),
+    }
+}
+
+/// The bytes of all such chains.
+pub(crate) fn thin_table(alloc: Global, survey: &Survey<'_>) -> Result<ThinTable, AllocError>
+    ensures { IfOk result (λ table. IsTable (thin_from survey.now) survey.now.count table.bounds.items table.bytes.items) }
+{
+    let mut bounds = Vec::new(alloc);
+    let mut bytes: Vec<u8> = Vec::new(alloc);
+    bounds.push(0)?;
+    for page in 0..survey.pages().count() {
+        push_thin(&mut bytes, survey.thin_pieces(page))?;
+        bounds.push(bytes.len())?;
+    }
+    Ok(ThinTable { bounds, bytes })
+}

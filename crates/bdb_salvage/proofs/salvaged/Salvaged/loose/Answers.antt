@@ -1,9 +1,0 @@
-use Rattle.std.proofs.Common.{◌∙◌, ap}
-use Rattle.bdb_salvage.specs.Kept.{Reading, file_in, loose_values}
-use Rattle.bdb_salvage.proofs.KeptLemmas.{all_loose}
-use Rattle.bdb_salvage.proofs.salvaged.Salvaged.loose.Goals as goal
-
-pub over-requires : goal.over-requires
-over-requires c =
-    all_loose (file_in c.args.self.now) c.deref.result.now
-    (c.deref.ensures.value ∙ (c.self.invariant.values_are ∙ ap (λ (r : Reading). loose_values (file_in r)) c.self.view_is))

@@ -1,6 +1,0 @@
-use Rattle.bdb_salvage.specs.Kept.{file_in}
-use Rattle.bdb_salvage.proofs.KeptLemmas.{all_in_set}
-use Rattle.bdb_salvage.proofs.salvaged.Salvaged.set.Goals as goal
-
-pub over-requires : goal.over-requires
-over-requires c = all_in_set (file_in c.args.self.now) c.args.leaf c.places_in.result.now c.places_in.ensures

@@ -1,7 +1,0 @@
-use Rattle.std.proofs.Common.{◌≡◌, ◌++◌}
-use Rattle.bdb_format.specs.Chains.{joined}
-use Rattle.bdb_salvage.proofs.thin.push_pieces.Given as goal
-
--- What was added, and what is left, is all.
-abbrev pub invariant-loop-piece : goal.invariant-loop-piece
-invariant-loop-piece l = l.bytes.items ++ joined l.piece-iterator ≡ l.initial.bytes.items ++ joined l.fn.pieces

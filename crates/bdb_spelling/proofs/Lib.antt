@@ -1,0 +1,4 @@
+pub mod DigitLemmas
+pub mod ReadingLemmas
+pub mod RunLemmas
+pub mod SpellingLemmas

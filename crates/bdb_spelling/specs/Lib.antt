@@ -1,0 +1,4 @@
+pub mod DigitsIn
+pub mod Runs
+pub mod SpellErrors
+pub mod Spellings

@@ -1,0 +1,70 @@
+// Bytes as two hexadecimal digits each.
+ghost use Rattle.std.specs.Prelude.{◌≡◌, ◌≤◌, ◌++◌, length, OnOk, OnErr, take, true, false};
+ghost use Rattle.bdb_text_format.specs.TextSpelling.{byte_of_digits, digit_value, digits_unit, spelling, two_digits};
+ghost use Rattle.bdb_spelling.specs.Spellings.{AddsPart, first_seen};
+
+use crate::spellings::First;
+use bdb_format::Bytes;
+use std::alloc::AllocError;
+
+/// How many bytes are spelled at once.
+const PIECE: usize = 128;
+
+/// The digits of so many bytes.
+const DIGITS: usize = 256;
+
+/// The two digits of a byte, in lower case.
+pub fn two_digits(byte: u8) -> [u8; 2]
+    ensures { result ≡ two_digits byte }
+{
+    let mut digits = [0u8; 2];
+    hex::encode_to_slice([byte], &mut digits).unwrap();
+    digits
+}
+
+/// Adds two digits for each byte; for a first part of the bytes where memory is wanting.
+pub fn push_digits(text: &mut Bytes, bytes: &[u8]) -> Result<(), AllocError>
+    ensures ok { OnOk result (text.new ≡ text.old ++ spelling false bytes.now) }
+    ensures part { OnErr result (AddsPart (spelling false) bytes.now text.old text.new) }
+{
+    let mut done = 0;
+    while done < bytes.len() {
+        let end = bytes.len().min(done + PIECE);
+        push_piece(text, &bytes[done..end])?;
+        done = end;
+    }
+    Ok(())
+}
+
+// Adds two digits for each byte of a short piece, or nothing.
+fn push_piece(text: &mut Bytes, piece: &[u8]) -> Result<(), AllocError>
+    requires { length piece.now ≤ PIECE }
+    ensures ok { OnOk result (text.new ≡ text.old ++ spelling false piece.now) }
+    ensures err { OnErr result (text.new ≡ text.old) }
+{
+    let mut room = [0u8; DIGITS];
+    let digits = &mut room[..2 * piece.len()];
+    hex::encode_to_slice(piece, digits).unwrap();
+    text.push_all(digits)
+}
+
+/// The byte of two digits, in either case.
+pub fn byte_of(high: u8, low: u8) -> Option<u8>
+    ensures { result ≡ byte_of_digits (digit_value high) (digit_value low) }
+{
+    let mut byte = [0u8; 1];
+    match hex::decode_to_slice([high, low], &mut byte) {
+        Ok(()) => Some(byte[0]),
+        Err(_) => None,
+    }
+}
+
+/// The first byte that a text of digits spells, and the text behind it.
+pub fn first_of_digits(text: &[u8]) -> Option<First<'_>>
+    ensures { first_seen result ≡ digits_unit text.now }
+{
+    let (&high, rest) = text.split_first()?;
+    let (&low, rest) = rest.split_first()?;
+    let byte = byte_of(high, low)?;
+    Some(First { byte, rest })
+}

@@ -1,0 +1,16 @@
+//! How bytes and numbers are spelled in dump texts.
+#![tactic(auto)]
+
+mod bytevalue;
+mod digits;
+mod lines;
+mod numbers;
+mod printed;
+mod runs;
+mod spellings;
+
+pub use digits::number_read;
+pub use lines::{line_text, push_line_text};
+pub use numbers::number_text;
+pub use runs::read_run;
+pub use spellings::{SpellError, is_spelling, read_spelling};

@@ -1,0 +1,82 @@
+ghost use Rattle.std.specs.Prelude.{◌≡◌, is_some, IfOk, IfErr, None, Some};
+ghost use Rattle.bdb_text_format.specs.TextSpelling.{bytes_spelled, next_unit};
+ghost use Rattle.bdb_spelling.specs.Spellings.{first_seen};
+ghost use Rattle.bdb_spelling.specs.SpellErrors.{IsSpellError};
+
+use crate::bytevalue::first_of_digits;
+use crate::printed::first_printed;
+use bdb_format::Bytes;
+use std::alloc::{AllocError, Global};
+
+/// Why a text isn't read.
+#[derive(Clone, Copy, Debug, PartialEq, Eq)]
+pub enum SpellError {
+    /// It is no spelling.
+    Bad,
+    /// Memory is wanting.
+    Memory,
+}
+
+impl From<AllocError> for SpellError {
+    ghost use Rattle.bdb_spelling.specs.declared.spellings.SpellError.TheVariants.{Memory};
+
+    ghost from_gives = { λ _ error. error ≡ Memory };
+
+    fn from(_error: AllocError) -> SpellError {
+        SpellError::Memory
+    }
+}
+
+/// The first byte that a text spells, and the text behind it.
+#[derive(Clone, Copy)]
+pub struct First<'a> {
+    pub byte: u8,
+    pub rest: &'a [u8],
+}
+
+/// The bytes that a text spells, printed or by two digits each. `Bad` comes exactly where it is no spelling, and then nothing
+/// was allocated.
+pub fn read_spelling(alloc: Global, text: &[u8], print: bool) -> Result<Bytes, SpellError>
+    ensures ok { IfOk result (λ bytes. bytes_spelled print text.now ≡ Some bytes) }
+    ensures err { IfErr result (IsSpellError print text.now) }
+    ensures bad { bytes_spelled print text.now ≡ None → result ≡ Err SpellError.Bad }
+{
+    if !is_spelling(text, print) {
+        return Err(SpellError::Bad);
+    }
+    let mut bytes = Bytes::new(alloc);
+    let mut rest = text;
+    while !rest.is_empty() {
+        let Some(first) = first_of(rest, print) else {
+            unreachable!()
+        };
+        bytes.push_all(&[first.byte])?;
+        rest = first.rest;
+    }
+    Ok(bytes)
+}
+
+/// Whether a text is the spelling of some bytes, printed or by two digits each. It takes no memory.
+pub fn is_spelling(text: &[u8], print: bool) -> bool
+    ensures { result ≡ is_some (bytes_spelled print text.now) }
+{
+    let mut rest = text;
+    while !rest.is_empty() {
+        match first_of(rest, print) {
+            Some(first) => rest = first.rest,
+            None => return false,
+        }
+    }
+    true
+}
+
+// The first byte that a text spells.
+fn first_of(text: &[u8], print: bool) -> Option<First<'_>>
+    ensures { first_seen result ≡ next_unit print text.now }
+{
+    if print {
+        first_printed(text)
+    } else {
+        first_of_digits(text)
+    }
+}
