@@ -1,5 +1,8 @@
 pub mod ErrorLemmas
+pub mod AlikeLemmas
 pub mod KeyOrderLemmas
+pub mod LeadLemmas
+pub mod LedLemmas
 pub mod ListLawLemmas
 pub mod OrderedLemmas
 pub mod PutLemmas

@@ -1,10 +1,10 @@
 -- A list is the same for elements that a stable sort moved.
-use Rattle.std.proofs.Common.{◌≡◌, Bool, true, false, cond, not, List, [], ◌∷◌, ◌++◌, refl, sym, ◌∙◌, ap, true≢false}
+use Rattle.std.proofs.Common.{◌≡◌, Bool, true, false, cond, not, List, [], ◌∷◌, ◌++◌, refl, sym, ◌∙◌, ap, inl, inr, true≢false}
 use Rattle.std.specs.Prelude.{◌&&◌}
 use Rattle.std.specs.Cmp.{IsStrictWeakOrder}
 use Rattle.std.specs.List.{All, filter, fold}
 use Rattle.std.specs.List.Sorted.{ties}
-use Rattle.std.proofs.lemmas.Bool.{false_from_ne_true}
+use Rattle.std.proofs.lemmas.Bool.{cases_Bool, false_from_ne_true, true_from_ne_false}
 use Rattle.std.proofs.lemmas.List.Elements.{All-head, All-tail, All-cons, All-nil, filter-append}
 
 -- a list at its first element that passes a test
@@ -75,6 +75,17 @@ module _ {X : Type 0} (before : X → X → Bool) (weak : IsStrictWeakOrder befo
     where
       both : before x y ≡ false → before y x ≡ false → ties before x y ≡ true
       both xy yx = rw (xy, yx) refl
+
+  tied_back : (x y : X) → ties before x y ≡ true → ties before y x ≡ true
+  tied_back x y tied = let parts = tied_parts x y tied in rw (parts.0, parts.1) refl
+
+  -- two that tie, tie with the same
+  pub tied_alike : (z m x : X) → ties before z m ≡ true → ties before z x ≡ ties before m x
+  tied_alike z m x tied = elim (cases_Bool (ties before m x)) [
+    | inl is ↦
+        true_from_ne_false (ties before z x) (λ apart. true≢false (sym is ∙ untied m z x (tied_back z m tied) apart)) ∙ sym is
+    | inr apart ↦ untied z m x tied apart ∙ sym apart
+  ]
 
   -- what is made of elements in turn is the same for two of which one stands before the other, whichever comes first
   module _ {L : Type 0} (more : L → X → L) (either : (x y : X) → before x y ≡ true → (list : L) → more (more list y) x ≡ more (more list x) y) where

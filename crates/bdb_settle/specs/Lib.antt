@@ -1,3 +1,4 @@
+pub mod Leads
 pub mod ListLaw
 pub mod LoadErrors
 pub mod Loaded

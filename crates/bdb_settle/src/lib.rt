@@ -4,6 +4,7 @@
 mod errors;
 mod filling;
 pub mod laws;
+mod leads;
 mod load_error;
 mod order;
 mod sections;

@@ -11,11 +11,11 @@ use bdb_text_format::{Section, Sections};
 use std::alloc::{AllocError, Global};
 
 /// A section with its list, whose records aren't filled up.
-fn order_section(section: Section) -> Result<Section, AllocError>
+fn order_section(alloc: Global, section: Section) -> Result<Section, AllocError>
     ensures { IfOk result (λ ordered. ordered ≡ ordered_section section) }
 {
     let settings = section.settings;
-    let pairs = order_pairs(&settings, section.pairs)?;
+    let pairs = order_pairs(alloc, &settings, section.pairs)?;
     Ok(Section {
         name: section.name,
         settings,
@@ -31,7 +31,7 @@ fn order_backward(alloc: Global, sections: Sections) -> Result<Vec<Section>, All
     let mut sections = sections;
     let mut all = Vec::with_capacity(alloc, sections.len())?;
     while let Some(section) = sections.pop() {
-        all.push(order_section(section)?)?;
+        all.push(order_section(alloc, section)?)?;
     }
     Ok(all)
 }

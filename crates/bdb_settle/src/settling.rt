@@ -1,24 +1,16 @@
-ghost use Rattle.std.specs.Prelude.{◌≡◌, ◌||◌, ◌<◌, [], length, map, IfOk, OnOk};
+ghost use Rattle.std.specs.Prelude.{◌≡◌, ◌||◌, ◌<◌, [], length, map, IfOk};
 ghost use Rattle.std.specs.List.{fold};
-ghost use Rattle.std.specs.List.Sorted.{IsPermutation, IsSortedBy, IsStableBy};
+ghost use Rattle.std.specs.List.Sorted.{IsSortedBy};
 ghost use Rattle.bdb_text_format.specs.Placed.{ArePlaced, placed_pairs};
 ghost use Rattle.bdb_settle.specs.Loaded.{keeps_data, ordered, unnumbered, with_loaded};
 ghost use Rattle.bdb_settle.specs.Settling.{pair_on, place_before};
 
-use crate::order::{compare_pairs, keeps_data, stands_before};
+use crate::leads::sort_places;
+use crate::order::{keeps_data, stands_before};
 use bdb_format::Settings;
 use bdb_places::Place;
 use bdb_text_format::{PlacedPairs, TextPairs, pair_at};
-use std::alloc::AllocError;
-
-/// Puts places into the order of their pairs; those of which neither stands before the other keep theirs. No bytes are moved.
-fn sort_places(settings: &Settings, bytes: &[u8], places: &mut Vec<Place>) -> Result<(), AllocError>
-    ensures moved { IsPermutation places.old.items places.new.items }
-    ensures sorted { OnOk result (IsSortedBy (place_before settings.now bytes.now) places.new.items) }
-    ensures stable { IsStableBy (place_before settings.now bytes.now) places.old.items places.new.items }
-{
-    places.sort_by(|a, b| compare_pairs(settings, pair_at(bytes, *a), pair_at(bytes, *b)))
-}
+use std::alloc::{AllocError, Global};
 
 /// Whether a pair stays where the next one in their order comes.
 fn keeps_both(settings: &Settings, bytes: &[u8], last: Place, place: Place) -> bool
@@ -59,11 +51,15 @@ fn settle_sorted(settings: &Settings, bytes: &[u8], places: &mut Vec<Place>)
 }
 
 /// The list of the pairs of a section, whose records aren't filled up.
-pub(crate) fn order_pairs(settings: &Settings, pairs: TextPairs) -> Result<TextPairs, AllocError>
+pub(crate) fn order_pairs(
+    alloc: Global,
+    settings: &Settings,
+    pairs: TextPairs,
+) -> Result<TextPairs, AllocError>
     ensures { IfOk result (λ list. list ≡ map unnumbered (ordered settings.now pairs)) }
 {
     let PlacedPairs { bytes, mut places } = pairs.into_placed();
-    sort_places(settings, bytes.as_slice(), &mut places)?;
+    sort_places(alloc, settings, bytes.as_slice(), &mut places)?;
     settle_sorted(settings, bytes.as_slice(), &mut places);
     Ok(TextPairs::from_placed(PlacedPairs { bytes, places }))
 }

@@ -1,0 +1,43 @@
+-- Places that are sorted by the first bytes in which their keys may differ. Source: docs/FORMAT.md, "Order of keys".
+use Rattle.std.specs.Prelude.{◌≡◌, ℕ, zero, suc, ◌+◌, ◌*◌, nat_lt, ◌&&◌, ◌||◌, not, Bool, List, drop, get_or, length, map, take}
+use Rattle.std.specs.List.{All}
+use Rattle.bdb_format.specs.declared.settings.Settings.{Settings}
+use Rattle.bdb_places.specs.declared.place.Place.{Place}
+use Rattle.bdb_text_format.specs.Placed.{placed_key}
+use Rattle.bdb_text_format.specs.declared.pairs.Key.{Key}
+use Rattle.bdb_text_format.specs.declared.pairs.Key.TheVariants.{Bytes, Number}
+use Rattle.bdb_settle.specs.declared.leads.Led.{Led}
+use Rattle.bdb_settle.specs.Settling.{place_before}
+
+-- the first bytes as a number, the first of them the greatest; zeros behind the end
+abbrev pub number_of : ℕ → List ℕ → ℕ
+number_of zero bytes = 0
+number_of (suc n) bytes = number_of n bytes * 256 + get_or bytes n 0
+
+-- what a key is sorted by first, where all share so many bytes
+abbrev pub lead_of : ℕ → Key → ℕ
+lead_of shared (Bytes key) = number_of 8 (drop shared key)
+lead_of shared (Number n) = 0
+
+abbrev pub led : List ℕ → ℕ → Place → Led
+led bytes shared place = record { lead = lead_of shared (placed_key bytes place.key); place = place }
+
+-- a key of bytes begins with these
+abbrev pub Begins : List ℕ → Key → Type 0
+Begins start (Bytes key) = take (length start) key ≡ start
+Begins start (Number n) = Unit {0}
+
+-- the keys of bytes at these places share so many first bytes
+pub record Share (bytes : List ℕ) (places : List Place) (shared : ℕ) : Type 0 where
+  pub start : List ℕ
+  pub long : length start ≡ shared
+  pub begin : All (λ (place : Place). Begins start (placed_key bytes place.key)) places
+
+-- the order by leads, and by the pairs where these are the same
+abbrev pub led_before : Settings → List ℕ → Led → Led → Bool
+led_before settings bytes a b = nat_lt a.lead b.lead || (not (nat_lt b.lead a.lead) && place_before settings bytes a.place b.place)
+
+-- of places, the first so many are those of the leads
+pub record IsPutBack (leads : List Led) (places : List Place) (i : ℕ) : Type 0 where
+  pub long : length places ≡ length leads
+  pub put : take i places ≡ map (λ (item : Led). item.place) (take i leads)
