@@ -15,8 +15,8 @@ use bdb_settle::LoadError;
 use std::alloc::Global;
 use std::sync::ledger::Ledger;
 
-/// How many times the bytes of the limit and the image together the copies of what is salvaged may want: a key is copied once and each of its data once, but
-/// many items of a hostile file may name one chain or one set.
+/// How many times the bytes of the limit and the image together the copies of what is salvaged may want, where a key counts for each of its data: it is copied
+/// once, but compared for each. Many items of a hostile file may name one chain or one set, and the file that is built may hold it once.
 const COPIES: u64 = 4;
 
 // Why what is salvaged isn't loaded.
@@ -48,8 +48,8 @@ fn answer_of(loaded: Result<Image, LoadError>) -> Result<Image, RepairError>
 }
 
 /// The image of what is salvaged of an image by the given guess, or the one that page 0 tells: a sound file of at most `max` bytes, with one database
-/// of a shape where one is given, and else with those that `salvage` names. Nothing is copied where the copies would want more than four times the bytes
-/// of `max` and the image together: that is want of memory.
+/// of a shape where one is given, and else with those that `salvage` names. Nothing is copied where keys and data, a key for each of its data, have more than
+/// four times the bytes of `max` and the image together: that is want of memory.
 pub fn repair_as<L: Ledger>(
     alloc: Global,
     image: &[u8],

@@ -7,7 +7,7 @@ ghost use Rattle.bdb_repair.specs.Room.{IsFit, datum_room, least_room, pair_room
 use crate::{Duplicates, Shape};
 use bdb_salvage::{SalvageEntries, SalvageEntry, SalvagePairs, SalvageValues, Salvaged};
 
-/// What a copy of a datum takes of memory beside its bytes: its place, and its share of what grows by doubling.
+/// What a copy of a key or a datum takes of memory beside its bytes: its place, and its share of what grows by doubling.
 const COPY: u64 = 64;
 
 /// Whether what is salvaged can be loaded.
@@ -16,11 +16,11 @@ pub(crate) enum Fit {
     Fits,
     /// Its data alone have more bytes than the file may have.
     Past,
-    /// Its copies would want too much memory.
+    /// Its copies would want too much memory, or comparing them too much time.
     Scarce,
 }
 
-/// The bytes that the file may have, and those that copies may want of memory.
+/// The bytes that the file may have, and those that copies may want of memory. A key is copied once, but compared for each of its data, and counts for each.
 #[derive(Clone, Copy, Debug, PartialEq, Eq)]
 pub(crate) struct Room {
     pub(crate) file: u64,
@@ -87,11 +87,12 @@ fn after_copy(memory: u64, bytes: u64) -> Option<u64> {
     memory.checked_sub(COPY)?.checked_sub(bytes)
 }
 
-// What is left of memory after copies of a key and of each of its data.
+// What is left of memory after copies of a key and of each of its data, for each of which the key is compared.
 fn after_entry(memory: u64, entry: &mut SalvageEntry<'_, '_>) -> Option<u64> {
-    let mut left = after_copy(memory, entry.key().len())?;
+    let key = entry.key().len();
+    let mut left = after_copy(memory, key)?;
     while let Some(value) = entry.next() {
-        left = after_copy(left, value.len())?;
+        left = after_copy(left, value.len())?.checked_sub(key)?;
     }
     Some(left)
 }

@@ -1,12 +1,12 @@
 -- Places that are sorted with their leads are sorted by their pairs.
-use Rattle.std.proofs.Common.{◌≡◌, ◌⊎◌, ℕ, zero, suc, ◌+◌, ◌-◌, ◌<◌, ◌≤◌, Bool, true, false, cond, not, List, [], ◌∷◌, ◌++◌, get_or, length, map, set, take, refl, sym, ◌∙◌, ap, subst, inl, inr, arith, true≢false}
+use Rattle.std.proofs.Common.{◌≡◌, ◌⊎◌, ℕ, ◌+◌, ◌-◌, ◌<◌, ◌≤◌, Bool, true, false, not, List, [], ◌∷◌, get_or, length, map, take, refl, sym, ◌∙◌, ap, subst, inl, inr, arith, true≢false}
 use Rattle.std.specs.Prelude.{◌&&◌, ◌||◌, nat_lt}
 use Rattle.std.specs.Cmp.{IsStrictWeakOrder}
 use Rattle.std.specs.List.{All, Contains}
 use Rattle.std.specs.List.Sorted.{IsPermutation, IsSortedBy, IsSortedWithin, IsStableBy}
 use Rattle.std.proofs.lemmas.Bool.{cases_lt, le-ltb, lt-ltb}
 use Rattle.std.proofs.lemmas.Bool.Decides.{nat_tests}
-use Rattle.std.proofs.lemmas.List.{get_or_default, length-set, map-append, take_all, take_more, take_more_set}
+use Rattle.std.proofs.lemmas.List.{get_or_default, take_more}
 use Rattle.std.proofs.lemmas.List.Elements.{All-append, All-cons, All-contains, All-nil, All-weaker}
 use Rattle.std.proofs.lemmas.List.Sorted.{Contains-permutation, IsPermutation-map, IsPermutation-sym}
 use Rattle.bdb_format.specs.declared.settings.Settings.{Settings}
@@ -15,14 +15,12 @@ use Rattle.bdb_places.specs.declared.place.Place.{Place}
 use Rattle.bdb_text_format.specs.Pairs.{unlined}
 use Rattle.bdb_text_format.specs.Placed.{placed_key, placed_pair}
 use Rattle.bdb_text_format.specs.declared.pairs.TextPair.{TextPair}
-use Rattle.bdb_text_format.specs.declared.pairs.Key.{Key}
 use Rattle.bdb_settle.specs.declared.leads.Led.{Led}
 use Rattle.bdb_settle.specs.Loaded.{key_less, stands_before}
-use Rattle.bdb_settle.specs.Leads.{Begins, IsPutBack, Share, lead_of, led, led_before}
-use Rattle.bdb_settle.specs.Settling.{pair_on, place_before}
+use Rattle.bdb_settle.specs.Leads.{Begins, Share, lead_of, led, led_before}
+use Rattle.bdb_settle.specs.Settling.{place_before}
 use Rattle.bdb_settle.proofs.AlikeLemmas.{sorted_alike, stable_alike}
-use Rattle.bdb_settle.proofs.KeyOrderLemmas.{pairs_weakly}
-use Rattle.bdb_settle.proofs.LeadLemmas.{AreBytes, IsOfBytes, begins_less, lead_less, of_run}
+use Rattle.bdb_settle.proofs.LeadLemmas.{AreBytes, begins_less, lead_less, of_run}
 use Rattle.bdb_settle.proofs.PlaceLemmas.{places_weakly}
 
 -- The order by two tests.

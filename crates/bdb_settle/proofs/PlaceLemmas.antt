@@ -1,19 +1,20 @@
 -- The list of pairs is made where their places lie.
-use Rattle.std.proofs.Common.{◌≡◌, ℕ, ◌+◌, ◌<◌, ◌≤◌, Bool, true, false, List, [], ◌∷◌, ◌++◌, drop, drop_of_length-le, get_or, length, map, refl, sym, ◌∙◌, ap, set, subst, take, arith}
+use Rattle.std.proofs.Common.{◌≡◌, ℕ, ◌+◌, ◌<◌, ◌≤◌, true, false, List, [], ◌∷◌, ◌++◌, drop, drop_of_length-le, get_or, length, map, refl, sym, ◌∙◌, ap, set, subst, take, arith}
 use Rattle.std.specs.Prelude.{◌||◌}
 use Rattle.std.specs.Cmp.{IsStrictWeakOrder}
 use Rattle.std.specs.List.{fold}
-use Rattle.std.specs.List.Sorted.{IsSortedBy, IsStableBy}
-use Rattle.std.proofs.lemmas.List.{drop-set-lt, drop_more, length-set, map-append, take_more_set}
+use Rattle.std.specs.List.Sorted.{IsPermutation, IsSortedBy, IsStableBy}
+use Rattle.std.proofs.lemmas.List.{drop-set-lt, drop_more, get_or-map, length-map, length-set, map-append, take_more_set}
 use Rattle.std.proofs.lemmas.List.Elements.{All-set, All-take}
 use Rattle.std.proofs.lemmas.List.Folds.{fold-map}
 use Rattle.bdb_format.specs.declared.settings.Settings.{Settings}
 use Rattle.bdb_places.specs.declared.place.Place.{Place}
-use Rattle.bdb_text_format.specs.Pairs.{unlined_pairs}
+use Rattle.bdb_text_format.specs.Pairs.{unlined, unlined_pairs}
 use Rattle.bdb_text_format.specs.Placed.{ArePlaced, IsPlaced, placed_pair, placed_pairs}
 use Rattle.bdb_text_format.specs.declared.pairs.TextPair.{TextPair}
 use Rattle.bdb_settle.specs.Loaded.{keeps_data, ordered, stands_before, unnumbered, with_loaded}
-use Rattle.bdb_settle.specs.Settling.{IsSettledAt, IsSettledTo, pair_on, place_before}
+use Rattle.bdb_settle.specs.Settling.{IsSettledAt, IsSettledTo, IsSortedOf, pair_before, pair_on, place_before}
+use Rattle.bdb_settle.proofs.AlikeLemmas.{sorted_alike, stable_alike}
 use Rattle.bdb_settle.proofs.KeyOrderLemmas.{pairs_weakly}
 use Rattle.bdb_settle.proofs.PutLemmas.{put_both}
 use Rattle.bdb_settle.proofs.SettlingLemmas.{begun, ended, goes_on}
@@ -31,16 +32,72 @@ pub pairs_on : (bytes : List ℕ) (places : List Place) → map (pair_on bytes) 
 pairs_on bytes [] = refl
 pairs_on bytes (place ∷ places) = ap (λ pairs. pair_on bytes place ∷ pairs) (pairs_on bytes places)
 
--- a list is the same of places that a stable sort moved
-pub list_alike : (settings : Settings) (bytes : List ℕ) (old new : List Place) → IsStableBy (place_before settings bytes) old new
-    → fold (with_loaded settings) [] (map (pair_on bytes) new) ≡ fold (with_loaded settings) [] (unlined_pairs (placed_pairs bytes old))
-list_alike settings bytes old new stable =
-    fold-map (with_loaded settings) (pair_on bytes) [] new
-    ∙ fold_alike (place_before settings bytes) (places_weakly settings bytes) (λ list place. with_loaded settings list (pair_on bytes place))
-    (λ x y first list. put_both (stands_before settings) (pairs_weakly settings) (keeps_data settings) (pair_on bytes x) (pair_on bytes y) first list)
+texts_weakly : (settings : Settings) → IsStrictWeakOrder (pair_before settings)
+texts_weakly settings = record {
+  one_way = λ a b. (pairs_weakly settings).one_way (unlined a) (unlined b);
+  chain = λ a b c. (pairs_weakly settings).chain (unlined a) (unlined b) (unlined c);
+}
+
+-- a list is the same of pairs that a stable sort moved
+list_alike : (settings : Settings) (old new : List TextPair) → IsStableBy (pair_before settings) old new
+    → fold (with_loaded settings) [] (unlined_pairs new) ≡ fold (with_loaded settings) [] (unlined_pairs old)
+list_alike settings old new stable =
+    fold-map (with_loaded settings) unlined [] new
+    ∙ fold_alike (pair_before settings) (texts_weakly settings) (λ list pair. with_loaded settings list (unlined pair))
+    (λ x y first list. put_both (stands_before settings) (pairs_weakly settings) (keeps_data settings) (unlined x) (unlined y) first list)
     old new [] stable
-    ∙ sym (fold-map (with_loaded settings) (pair_on bytes) [] old)
-    ∙ ap (fold (with_loaded settings) []) (pairs_on bytes old)
+    ∙ sym (fold-map (with_loaded settings) unlined [] old)
+
+-- places of pairs in their order, both ways
+pub sorted_at : (settings : Settings) (bytes : List ℕ) (places : List Place) → IsSortedBy (place_before settings bytes) places
+    → IsSortedBy (pair_before settings) (placed_pairs bytes places)
+sorted_at settings bytes places sorted =
+    sorted_alike (placed_pair bytes) (place_before settings bytes) (pair_before settings) (texts_weakly settings) places (λ a b at_a at_b. refl) sorted
+
+pub sorted_places : (settings : Settings) (bytes : List ℕ) (places : List Place) → IsSortedBy (pair_before settings) (placed_pairs bytes places)
+    → IsSortedBy (place_before settings bytes) places
+sorted_places settings bytes [] sorted k d low high = absurd (omega (arith, high))
+sorted_places settings bytes (place ∷ places) sorted k d low high =
+    let all : List Place = place ∷ places in
+    let within : k + 1 < length all = omega (arith, high) in
+    let first : get_or (placed_pairs bytes all) k (placed_pair bytes d) ≡ placed_pair bytes (get_or all k d) =
+    get_or-map (placed_pair bytes) all k d (placed_pair bytes d) (omega (arith, within)) in
+    let second : get_or (placed_pairs bytes all) (k + 1) (placed_pair bytes d) ≡ placed_pair bytes (get_or all (k + 1) d) =
+    get_or-map (placed_pair bytes) all (k + 1) d (placed_pair bytes d) within in
+    let here : pair_before settings (get_or (placed_pairs bytes all) (k + 1) (placed_pair bytes d)) (get_or (placed_pairs bytes all) k (placed_pair bytes d)) ≡ false =
+    sorted k (placed_pair bytes d) low (omega (arith, within, length-map all (placed_pair bytes))) in
+    sym (ap (λ pair. pair_before settings pair (get_or (placed_pairs bytes all) k (placed_pair bytes d))) second
+    ∙ ap (pair_before settings (placed_pair bytes (get_or all (k + 1) d))) first) ∙ here
+
+pub stable_at : (settings : Settings) (bytes : List ℕ) (old new : List Place) → IsPermutation old new → IsStableBy (place_before settings bytes) old new
+    → IsStableBy (pair_before settings) (placed_pairs bytes old) (placed_pairs bytes new)
+stable_at settings bytes old new moved stable =
+    stable_alike (placed_pair bytes) (place_before settings bytes) (pair_before settings) (texts_weakly settings) old new (λ a b at_a at_b. refl) moved stable
+
+-- pairs that were moved as their places say
+pub sorted_of : (settings : Settings) (bytes first second : List ℕ) (old new lent : List Place) (pairs sorted : List TextPair)
+    → first ≡ bytes → second ≡ bytes → lent ≡ new → IsPermutation old new → IsSortedBy (place_before settings first) new
+    → IsStableBy (place_before settings first) old new → placed_pairs bytes old ≡ pairs → sorted ≡ placed_pairs second lent → IsSortedOf settings pairs sorted
+sorted_of settings bytes first second old new lent pairs sorted first_is second_is lent_is moved ascend stable are is =
+    let same : sorted ≡ placed_pairs bytes new = is ∙ (ap (λ run. placed_pairs run lent) second_is ∙ ap (placed_pairs bytes) lent_is) in
+    record {
+      ascend = subst (IsSortedBy (pair_before settings)) (sym same)
+          (sorted_at settings bytes new (subst (λ run. IsSortedBy (place_before settings run) new) first_is ascend));
+      stable = subst (IsStableBy (pair_before settings) pairs) (sym same) (subst (λ ps. IsStableBy (pair_before settings) ps (placed_pairs bytes new)) are
+          (stable_at settings bytes old new moved (subst (λ run. IsStableBy (place_before settings run) old new) first_is stable)));
+    }
+
+-- pairs that lie in their order already
+pub sorted_still : (settings : Settings) (bytes first : List ℕ) (places lent : List Place) (pairs sorted : List TextPair) → first ≡ bytes → lent ≡ places
+    → IsSortedBy (place_before settings first) lent → placed_pairs bytes places ≡ pairs → sorted ≡ placed_pairs bytes places → IsSortedOf settings pairs sorted
+sorted_still settings bytes first places lent pairs sorted first_is lent_is ascend are is =
+    let same : sorted ≡ pairs = is ∙ are in
+    let here : IsSortedBy (place_before settings bytes) places =
+    subst (IsSortedBy (place_before settings bytes)) lent_is (subst (λ run. IsSortedBy (place_before settings run) lent) first_is ascend) in
+    record {
+      ascend = subst (IsSortedBy (pair_before settings)) (sym is) (sorted_at settings bytes places here);
+      stable = subst (IsStableBy (pair_before settings) pairs) (sym same) (λ pair. refl);
+    }
 
 -- The pass.
 
@@ -162,14 +219,14 @@ pub kept_placed : (bytes : List ℕ) (places : List Place) (kept : ℕ) (last : 
 kept_placed bytes places kept last here placed =
     All-take (IsPlaced bytes) (kept + 1) (set places kept last) (All-set (IsPlaced bytes) places kept last here placed)
 
--- places that were sorted and settled in a run that is lent twice
-pub places_settled : (settings : Settings) (bytes first second : List ℕ) (old sorted settled : List Place) (pairs : List TextPair) → first ≡ bytes → second ≡ bytes
-    → IsStableBy (place_before settings first) old sorted → placed_pairs bytes old ≡ pairs
-    → placed_pairs second settled ≡ map unnumbered (fold (with_loaded settings) [] (map (pair_on second) sorted))
+-- the list of sorted pairs is that of the pairs as they came
+pub pairs_settled : (settings : Settings) (bytes lent : List ℕ) (places settled : List Place) (pairs sorted : List TextPair) → lent ≡ bytes
+    → IsSortedOf settings pairs sorted → placed_pairs bytes places ≡ sorted
+    → placed_pairs lent settled ≡ map unnumbered (fold (with_loaded settings) [] (map (pair_on lent) places))
     → placed_pairs bytes settled ≡ map unnumbered (ordered settings pairs)
-places_settled settings bytes first second old sorted settled pairs first_is second_is stable are is =
-    let list : placed_pairs bytes settled ≡ map unnumbered (fold (with_loaded settings) [] (map (pair_on bytes) sorted)) =
-    subst (λ (run : List ℕ). placed_pairs run settled ≡ map unnumbered (fold (with_loaded settings) [] (map (pair_on run) sorted))) second_is is in
-    let same : IsStableBy (place_before settings bytes) old sorted = subst (λ (run : List ℕ). IsStableBy (place_before settings run) old sorted) first_is stable in
+pairs_settled settings bytes lent places settled pairs sorted lent_is so are is =
+    let list : placed_pairs bytes settled ≡ map unnumbered (fold (with_loaded settings) [] (map (pair_on bytes) places)) =
+    subst (λ (run : List ℕ). placed_pairs run settled ≡ map unnumbered (fold (with_loaded settings) [] (map (pair_on run) places))) lent_is is in
     list
-    ∙ ap (map unnumbered) (list_alike settings bytes old sorted same ∙ ap (λ (ps : List TextPair). fold (with_loaded settings) [] (unlined_pairs ps)) are)
+    ∙ ap (λ ps. map unnumbered (fold (with_loaded settings) [] ps)) (pairs_on bytes places ∙ ap unlined_pairs are)
+    ∙ ap (map unnumbered) (list_alike settings pairs sorted so.stable)

@@ -1,6 +1,7 @@
 -- Lists in the making. Source: docs/FORMAT.md, "What loading does to a list".
 use Rattle.std.specs.Prelude.{◌≡◌, Bool, true, false, not, ◌||◌, ◌&&◌, List, [], ◌∷◌, ◌++◌, ◌<◌, drop, length, map, take, ℕ}
 use Rattle.std.specs.List.{All, fold}
+use Rattle.std.specs.List.Sorted.{IsSortedBy, IsStableBy}
 use Rattle.std.specs.declared.cmp.Ordering.{Ordering}
 use Rattle.std.specs.declared.cmp.Ordering.TheVariants.{Less as Below, Equal, Greater}
 use Rattle.bdb_text_format.specs.declared.pairs.Pair.{Pair}
@@ -18,6 +19,15 @@ pair_on bytes place = unlined (placed_pair bytes place)
 
 abbrev pub place_before : Settings → List ℕ → Place → Place → Bool
 place_before settings bytes a b = stands_before settings (pair_on bytes a) (pair_on bytes b)
+
+-- the order of the pairs of a text
+abbrev pub pair_before : Settings → TextPair → TextPair → Bool
+pair_before settings a b = stands_before settings (unlined a) (unlined b)
+
+-- pairs in their order; those of which neither stands before the other keep theirs
+pub record IsSortedOf (settings : Settings) (pairs sorted : List TextPair) : Type 0 where
+  pub ascend : IsSortedBy (pair_before settings) sorted
+  pub stable : IsStableBy (pair_before settings) pairs sorted
 
 -- a pair that stays where another is put behind it
 abbrev pub stays : (Pair → Pair → Bool) → Bool → Pair → Pair → Bool

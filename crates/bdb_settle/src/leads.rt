@@ -151,8 +151,8 @@ fn put_back(leads: &[Led], places: &mut Vec<Place>)
     }
 }
 
-// Whether no pair stands before the one ahead of it.
-fn are_sorted(settings: &Settings, bytes: &[u8], places: &[Place]) -> bool
+/// Whether no pair stands before the one ahead of it.
+pub(crate) fn are_sorted(settings: &Settings, bytes: &[u8], places: &[Place]) -> bool
     ensures { result ≡ true → IsSortedBy (place_before settings.now bytes.now) places.now }
 {
     for i in 1..places.len() {
@@ -176,9 +176,6 @@ pub(crate) fn sort_places(
     ensures stable { IsStableBy (place_before settings.now bytes.now) places.old.items places.new.items }
 {
     let unsorted = places.as_slice();
-    if are_sorted(settings, bytes, unsorted) {
-        return Ok(());
-    }
     let shared = shared_len(bytes, unsorted);
     let mut leads = led_all(alloc, bytes, shared, unsorted)?;
     sort_led(settings, bytes, &mut leads)?;

@@ -3,13 +3,13 @@ ghost use Rattle.std.specs.List.{fold};
 ghost use Rattle.std.specs.List.Sorted.{IsSortedBy};
 ghost use Rattle.bdb_text_format.specs.Placed.{ArePlaced, placed_pairs};
 ghost use Rattle.bdb_settle.specs.Loaded.{keeps_data, ordered, unnumbered, with_loaded};
-ghost use Rattle.bdb_settle.specs.Settling.{pair_on, place_before};
+ghost use Rattle.bdb_settle.specs.Settling.{IsSortedOf, pair_on, place_before};
 
-use crate::leads::sort_places;
+use crate::leads::{are_sorted, sort_places};
 use crate::order::{keeps_data, stands_before};
 use bdb_format::Settings;
 use bdb_places::Place;
-use bdb_text_format::{PlacedPairs, TextPairs, pair_at};
+use bdb_text_format::{PairSlice, PlacedPairs, TextPairs, pair_at};
 use std::alloc::{AllocError, Global};
 
 /// Whether a pair stays where the next one in their order comes.
@@ -50,6 +50,25 @@ fn settle_sorted(settings: &Settings, bytes: &[u8], places: &mut Vec<Place>)
     places.truncate(kept + 1);
 }
 
+/// Pairs in their order; those of which neither stands before the other keep theirs. Where they have another order, their bytes are moved too: so
+/// what goes through them after this finds them one behind the other.
+fn sorted_pairs(
+    alloc: Global,
+    settings: &Settings,
+    pairs: TextPairs,
+) -> Result<TextPairs, AllocError>
+    ensures { IfOk result (λ sorted. IsSortedOf settings.now pairs sorted) }
+{
+    let PlacedPairs { bytes, mut places } = pairs.into_placed();
+    if are_sorted(settings, bytes.as_slice(), places.as_slice()) {
+        return Ok(TextPairs::from_placed(PlacedPairs { bytes, places }));
+    }
+    sort_places(alloc, settings, bytes.as_slice(), &mut places)?;
+    let mut sorted = TextPairs::new(alloc);
+    sorted.push_all(PairSlice::at_places(bytes.as_slice(), places.as_slice()))?;
+    Ok(sorted)
+}
+
 /// The list of the pairs of a section, whose records aren't filled up.
 pub(crate) fn order_pairs(
     alloc: Global,
@@ -58,8 +77,7 @@ pub(crate) fn order_pairs(
 ) -> Result<TextPairs, AllocError>
     ensures { IfOk result (λ list. list ≡ map unnumbered (ordered settings.now pairs)) }
 {
-    let PlacedPairs { bytes, mut places } = pairs.into_placed();
-    sort_places(alloc, settings, bytes.as_slice(), &mut places)?;
+    let PlacedPairs { bytes, mut places } = sorted_pairs(alloc, settings, pairs)?.into_placed();
     settle_sorted(settings, bytes.as_slice(), &mut places);
     Ok(TextPairs::from_placed(PlacedPairs { bytes, places }))
 }

@@ -9,6 +9,7 @@ use Rattle.bdb_format.specs.HeadOf.{head_of}
 use Rattle.bdb_format.specs.Numbers.{byte_at}
 use Rattle.bdb_format.specs.Reading.{abstract_page, is_zero, page_as, page_type}
 use Rattle.bdb_format.specs.Rows.{body_code, form_code}
+use Rattle.bdb_graph.proofs.ChainLengthLemmas.{size_is}
 use Rattle.bdb_graph.proofs.FirstLemmas.{formed_accepted, formed_page}
 use Rattle.bdb_graph.specs.Formed.{IsAccepted}
 use Rattle.bdb_graph.specs.Linked.{IsForest}

@@ -23,8 +23,8 @@ pub returns-in_default-clause-noted : goal.returns-in_default-clause-noted
 returns-in_default-clause-noted g t c =
     leaf_noted (g.F.FaultSink.has_noted c.args.found.now) c.args.known.now c.args.page Separator
     (λ p. has_wrong_separator (file_of c.args.known.now) (page_at (file_of c.args.known.now) p))
-    (subst IsForest c.forest.ensures c.inner_view-2.ensures.forest)
-    (subst (λ (of : List ℕ). FitsLeafPage (file_of of) c.args.page) c.forest.ensures (c.inner_view-2.ensures.leaf c.in_default.is))
+    (subst IsForest c.forest.ensures c.inner_view.ensures.forest)
+    (subst (λ (of : List ℕ). FitsLeafPage (file_of of) c.args.page) c.forest.ensures (c.inner_view.ensures.leaf c.in_default.is))
 
 pub loop-i-init : goal.loop-i-init
 loop-i-init g t c =
@@ -43,7 +43,7 @@ note_separators-requires g t c =
     let same : c.loop-i.known ≡ image = c.loop-i.invariant.same in
     let leads : LeadsTo (file_of image) c.args.ordered c.args.page (internal_item_seen c.item-item.result) =
     leads_to image c.args.ordered c.args.page c.in-Some.view c.loop-i.i (internal_item_seen c.item-item.result)
-    (subst IsForest c.forest.ensures c.inner_view-2.ensures.forest) c.requires.keyed c.requires.order
+    (subst IsForest c.forest.ensures c.inner_view.ensures.forest) c.requires.keyed c.requires.order
     (subst (λ (of : List ℕ). page_at (file_of of) c.args.page ≡ Internal c.in-Some.view) c.forest.ensures c.in-Some.ensures.inner)
     c.item-item.ensures in
     let keyed : IsKeyed (file_of c.loop-i.known) c.item-item.result.child =
@@ -60,7 +60,7 @@ see_item-requires-clause-key g t c =
     let image : List ℕ = c.args.known.now in
     let leads : LeadsTo (file_of image) c.args.ordered c.args.page (internal_item_seen c.item-item.result) =
     leads_to image c.args.ordered c.args.page c.in-Some.view c.loop-i.i (internal_item_seen c.item-item.result)
-    (subst IsForest c.forest.ensures c.inner_view-2.ensures.forest) c.requires.keyed c.requires.order
+    (subst IsForest c.forest.ensures c.inner_view.ensures.forest) c.requires.keyed c.requires.order
     (subst (λ (of : List ℕ). page_at (file_of of) c.args.page ≡ Internal c.in-Some.view) c.forest.ensures c.in-Some.ensures.inner)
     c.item-item.ensures in
     subst (λ (of : List ℕ). FitsContent (file_of of) (key_seen c.item-item.result.key))
@@ -94,7 +94,7 @@ loop-i-preserved g t c =
 pub returns-clause-ends : goal.returns-clause-ends
 returns-clause-ends g t c =
     all_ends (g.F.FaultSink.has_noted c.args.found.now) (g.F.FaultSink.has_noted c.loop-i.found) c.args.known.now c.args.page c.in-Some.view
-    c.loop-i.bounds (subst IsForest c.forest.ensures c.inner_view-2.ensures.forest)
+    c.loop-i.bounds (subst IsForest c.forest.ensures c.inner_view.ensures.forest)
     (subst (λ (of : List ℕ). page_at (file_of of) c.args.page ≡ Internal c.in-Some.view) c.forest.ensures c.in-Some.ensures.inner)
     (whole_seen (g.F.FaultSink.has_noted c.args.found.now) (g.F.FaultSink.has_noted c.loop-i.found) (file_of c.args.known.now) c.loop-i.bounds
     c.in-Some.view.items c.loop-i.i (omega (arith, c.loop-i-test.false, c.entries-i-end.ensures)) c.loop-i.invariant.seen)
@@ -102,7 +102,7 @@ returns-clause-ends g t c =
 pub returns-clause-noted : goal.returns-clause-noted
 returns-clause-noted g t c =
     all_seen (g.F.FaultSink.has_noted c.args.found.now) (g.F.FaultSink.has_noted c.loop-i.found) (g.F.FaultSink.has_noted c.note_if.new.found)
-    c.args.known.now c.args.page c.in-Some.view c.loop-i.bounds (subst IsForest c.forest.ensures c.inner_view-2.ensures.forest)
+    c.args.known.now c.args.page c.in-Some.view c.loop-i.bounds (subst IsForest c.forest.ensures c.inner_view.ensures.forest)
     (subst (λ (of : List ℕ). page_at (file_of of) c.args.page ≡ Internal c.in-Some.view) c.forest.ensures c.in-Some.ensures.inner)
     (whole_seen (g.F.FaultSink.has_noted c.args.found.now) (g.F.FaultSink.has_noted c.loop-i.found) (file_of c.args.known.now) c.loop-i.bounds
     c.in-Some.view.items c.loop-i.i (omega (arith, c.loop-i-test.false, c.entries-i-end.ensures)) c.loop-i.invariant.seen)

@@ -1,4 +1,4 @@
-use Rattle.std.proofs.Common.{◌≡◌, List, length, map, ◌∙◌, ap, arith, subst}
+use Rattle.std.proofs.Common.{List, length, map, ◌∙◌, ap, arith, subst}
 use Rattle.std.proofs.lemmas.List.{length-map}
 use Rattle.std.proofs.lemmas.List.Sorted.{length_permutation}
 use Rattle.bdb_places.specs.declared.place.Place.{Place}

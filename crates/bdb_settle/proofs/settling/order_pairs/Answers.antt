@@ -1,20 +1,26 @@
 use Rattle.std.proofs.Common.{List, ℕ, ◌∙◌, subst, sym}
-use Rattle.std.proofs.lemmas.List.Sorted.{All-permutation}
-use Rattle.bdb_text_format.specs.Placed.{ArePlaced, IsPlaced}
-use Rattle.bdb_settle.proofs.PlaceLemmas.{places_settled}
+use Rattle.std.specs.List.Sorted.{IsSortedBy}
+use Rattle.bdb_text_format.specs.Placed.{ArePlaced}
+use Rattle.bdb_text_format.specs.declared.pairs.TextPair.{TextPair}
+use Rattle.bdb_settle.specs.Settling.{pair_before, place_before}
+use Rattle.bdb_settle.proofs.PlaceLemmas.{pairs_settled, sorted_places}
 use Rattle.bdb_settle.proofs.settling.order_pairs.Goals as goal
 
--- A sort leaves places within the run.
+pub settle_sorted-requires-clause-sorted : goal.settle_sorted-requires-clause-sorted
+settle_sorted-requires-clause-sorted c =
+    subst (λ (run : List ℕ). IsSortedBy (place_before c.args.settings.now run) c.into_placed-bytes.result.places.items) (sym c.as_slice.ensures.value)
+    (sorted_places c.args.settings.now c.into_placed-bytes.result.bytes.items c.into_placed-bytes.result.places.items
+    (subst (λ (ps : List TextPair). IsSortedBy (pair_before c.args.settings.now) ps) (sym c.into_placed-bytes.ensures.pairs)
+    c.in_ok-sorted_pairs.ensures.ascend))
+
 pub settle_sorted-requires-clause-placed : goal.settle_sorted-requires-clause-placed
 settle_sorted-requires-clause-placed c =
-    subst (λ (bytes : List ℕ). ArePlaced bytes c.sort_places.new.places.items) (sym c.as_slice-2.ensures.value)
-    (All-permutation (IsPlaced c.into_placed-bytes.result.bytes.items) c.into_placed-bytes.result.places.items c.sort_places.new.places.items
-    c.sort_places.ensures.moved c.into_placed-bytes.ensures.placed)
+    subst (λ (bytes : List ℕ). ArePlaced bytes c.into_placed-bytes.result.places.items) (sym c.as_slice.ensures.value) c.into_placed-bytes.ensures.placed
 
 -- The list of sorted pairs is that of the pairs as they came.
 pub returns : goal.returns
 returns c =
     c.from_placed.ensures
-    ∙ places_settled c.args.settings.now c.into_placed-bytes.result.bytes.items c.as_slice.result.now c.as_slice-2.result.now
-    c.into_placed-bytes.result.places.items c.sort_places.new.places.items c.settle_sorted.new.places.items c.args.pairs c.as_slice.ensures.value
-    c.as_slice-2.ensures.value c.sort_places.ensures.stable c.into_placed-bytes.ensures.pairs c.settle_sorted.ensures.list
+    ∙ pairs_settled c.args.settings.now c.into_placed-bytes.result.bytes.items c.as_slice.result.now c.into_placed-bytes.result.places.items
+    c.settle_sorted.new.places.items c.args.pairs c.in_ok-sorted_pairs.field-0 c.as_slice.ensures.value c.in_ok-sorted_pairs.ensures
+    c.into_placed-bytes.ensures.pairs c.settle_sorted.ensures.list

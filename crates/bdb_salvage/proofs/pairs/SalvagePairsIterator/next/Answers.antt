@@ -14,8 +14,8 @@ loop-pair-preserved c =
       kept = pairs_rest file c.loop-pair.self-inside.pairs c.next.new.self c.in_ok-pair.pair c.in_ok-pair.ensures.steps c.loop-pair.invariant.kept;
     }
 
-pub loop-pair-preserved-in_ok-pair-5 : goal.loop-pair-preserved-in_ok-pair-5
-loop-pair-preserved-in_ok-pair-5 c =
+pub loop-pair-preserved-in_ok-pair-3 : goal.loop-pair-preserved-in_ok-pair-3
+loop-pair-preserved-in_ok-pair-3 c =
     let file : File = file_in c.loop-pair.self-inside.salvaged.now in
     let none : left_of c.loop-pair.self-inside.here ≡ [] = c.in-None.ensures.0 in
     record {
