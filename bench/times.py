@@ -9,7 +9,7 @@ Prints a Markdown table. `verify` stands beside `db5.3_verify`, on a btree and a
 the clock, and how pages and seconds grew from the row above. A kind ends where a run takes a minute, or where ten times the pairs
 wouldn't fit into the longest input. `kinds` has `verify` on files of each kind of about 100 MB, and `chains` on chains of pages that
 grow longer, one by one: seconds of user time. `dump` stands beside `db5.3_dump -k`, on a file of each kind: seconds of user time, and peak
-memory. `range` stands beside `verify`, `get` and `dump`, on a btree of a million pairs: of ten pairs, of a thousand and of all. `load` stands beside `db5.3_load`, on the texts that `dump` gives of such files and of files with a quarter of the items. `convert` stands beside `verify` and a copy by `cat`, on a file of each kind, and `stat` beside `verify` and `db5.3_stat -f`: seconds of user time, and of user and system time, of runs by turns. `salvage` stands beside
+memory. `range` stands beside `verify`, `get` and `dump`, on a btree of a million pairs: of ten pairs, of a thousand and of all. `load` stands beside `db5.3_load`, on the texts that `dump` gives of such files and of files with a quarter of the items, and on those of a btree and a hash with their pairs in no order. `convert` stands beside `verify` and a copy by `cat`, on a file of each kind, and `stat` beside `verify` and `db5.3_stat -f`: seconds of user time, and of user and system time, of runs by turns. `salvage` stands beside
 `db5.3_dump -r`, on the files of `kinds`, and on each of them with every hundredth page overwritten by other bytes: seconds of user time,
 peak memory, and how many pairs or records each gives. `repair` stands beside `salvage | load`, on the same files: user time of both commands of the pipe together, and the greater peak. `before` has `verify` of two programs by turns, on the files of `kinds` and `chains` and on the
 files of `verify` that have a million pairs: the least user and system time of each, and their ratio. Where the program or the library's tools are missing, nothing is
@@ -61,7 +61,8 @@ RANGES = (10, 1_000)
 RANGE_COLUMNS = ("Command", "Pairs", "`bdbtool`", "Above `verify`", "Peak of `bdbtool`, bytes", "Peak by file")
 
 # `load`
-LOAD_COLUMNS = ("Text", "Items", "Bytes of the text", "Bytes of the file", "`bdbtool`", "`db5.3_load`", "Ratio", "`bdbtool` grew", "Peak of `bdbtool`, bytes", "Bytes an item above the text and two files")
+LOAD_COLUMNS = ("Text", "Items", "Bytes of the text", "Bytes of the file", "`bdbtool`", "`db5.3_load`", "Ratio", "`bdbtool` grew", "Peak of `bdbtool`, bytes", "Bytes an item above the text and the file")
+SCATTERED = ("btree", "hash")
 
 # `salvage`
 DAMAGED, SEED = 100, 20261128
@@ -302,29 +303,52 @@ def time_range(program, folder):
     print_range("`dump`", MILLION, least([program, "dump"], image), judged, size)
 
 
-def print_load(program, sample, folder, before):
-    """A row of the table of `load`, and what the program took."""
-    image, text, built = make(sample.name, sample.kind, sample.lines, folder), folder / "text", folder / "built.db"
-    for words, given, taken in (([program, "dump"], image, text), ([program, "load"], text, built)):
-        with given.open("rb") as standard_input, taken.open("wb") as standard_output:
-            subprocess.run(words, stdin=standard_input, stdout=standard_output, check=True)
-    image.unlink()
+def scatter(text):
+    """Puts the pairs of a dump text into an order of no kind, always the same."""
+    lines = text.read_bytes().splitlines(keepends=True)
+    first = lines.index(b"HEADER=END\n") + 1
+    pairs = list(zip(lines[first:-1:2], lines[first + 1 : -1 : 2]))
+    random.Random(MILLION).shuffle(pairs)
+    with text.open("wb") as shuffled:
+        shuffled.writelines(lines[:first])
+        shuffled.writelines(itertools.chain.from_iterable(pairs))
+        shuffled.write(lines[-1])
+
+
+def print_load(program, name, sample, folder, before):
+    """A row of the table of `load`, on a text that is already there, and what the program took."""
+    text, built = folder / "text", folder / "built.db"
+    with text.open("rb") as standard_input, built.open("wb") as standard_output:
+        subprocess.run([program, "load"], stdin=standard_input, stdout=standard_output, check=True)
     size = built.stat().st_size
     own = least([program, "load"], text)
     original = least(["db5.3_load", "-h", folder, built], text, lambda: built.unlink(missing_ok=True))
     long = text.stat().st_size
     grew = "–" if before is None else f"× {own.user / before.user:.1f}"
-    above = max(0, own.peak - long - 2 * size) / sample.items
+    above = max(0, own.peak - long - size) / sample.items
     times = [f"{own.user:.3g}", f"{original.user:.3g}", f"{own.user / original.user:.3g}"]
-    print_row([sample.name, f"{sample.items:,}", f"{long:,}", f"{size:,}", *times, grew, f"{own.peak:,}", f"{above:.1f}"])
+    print_row([name, f"{sample.items:,}", f"{long:,}", f"{size:,}", *times, grew, f"{own.peak:,}", f"{above:.1f}"])
     return own
+
+
+def load_both(program, sample, folder, before):
+    """The rows of the text that `dump` gives of a file, and of the same text with its pairs in no order where the kind has keys."""
+    image, text = make(sample.name, sample.kind, sample.lines, folder), folder / "text"
+    with image.open("rb") as standard_input, text.open("wb") as standard_output:
+        subprocess.run([program, "dump"], stdin=standard_input, stdout=standard_output, check=True)
+    image.unlink()
+    spent = [print_load(program, sample.name, sample, folder, before[0])]
+    if sample.name in SCATTERED:
+        scatter(text)
+        spent.append(print_load(program, f"{sample.name}, in no order", sample, folder, before[-1]))
+    return spent
 
 
 def time_load(program, folder):
     """The table of `load`."""
     print_head(LOAD_COLUMNS)
     for quarter, whole in zip(samples(4), samples()):
-        print_load(program, whole, folder, print_load(program, quarter, folder, None))
+        load_both(program, whole, folder, load_both(program, quarter, folder, [None, None]))
 
 
 def free_list(pages, folder):
