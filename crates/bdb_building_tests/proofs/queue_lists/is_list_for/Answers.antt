@@ -1,5 +1,6 @@
-use Rattle.std.proofs.Common.{List, ℕ, ◌-◌, ◌<◌, ◌≡◌, length, length-map, ap, arith, sym, ◌∙◌, ◌+◌, subst}
+use Rattle.std.proofs.Common.{List, ℕ, ◌-◌, ◌<◌, ◌≡◌, length, ap, arith, sym, ◌∙◌, ◌+◌, subst}
 use Rattle.std.proofs.lemmas.Bool.{leb-true}
+use Rattle.std.proofs.lemmas.List.{length-map}
 use Rattle.bdb_text_format.specs.Pairs.{unlined}
 use Rattle.bdb_text_format.specs.Placed.{pair_seen, pairs_of, slice_seen}
 use Rattle.bdb_mkqueue.proofs.LastLemmas.{key_here, value_here}
@@ -22,7 +23,7 @@ loop-i-preserved c =
     (key_here seen (c.loop-i.i - 1) c.number_of-number.result (pair_seen c.at-pair.result) c.at-pair.ensures c.number_of-number.ensures)
     (omega (arith, c.if-number-beyond.false))
     (sym (ap (λ (value : List ℕ). length value) (value_here seen (c.loop-i.i - 1) (pair_seen c.at-pair.result) c.at-pair.ensures))
-    ∙ (c.if-len-from.false ∙ c.from.ensures))
+    ∙ (c.if-pair-from.false ∙ c.from.ensures))
     (subst (λ i. MayStandFrom settings list i c.loop-i.beyond) place c.loop-i.invariant)
 
 pub returns : goal.returns
