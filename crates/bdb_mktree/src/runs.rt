@@ -1,6 +1,5 @@
 ghost use Rattle.std.specs.Prelude.{◌≡◌, ◌≤◌, ◌<◌, length};
 ghost use Rattle.std.specs.List.{All, prefix_len};
-ghost use Rattle.std.specs.Str.{bytes_eq};
 ghost use Rattle.bdb_places.specs.Places.{values_seen};
 ghost use Rattle.bdb_text_format.specs.Pairs.{keys_of};
 ghost use Rattle.bdb_text_format.specs.Placed.{key_seen, pairs_of, slice_seen};
@@ -10,19 +9,12 @@ ghost use Rattle.bdb_mktree.specs.Lists.{HasBytes, IsRunAt, has_key};
 use bdb_places::Values;
 use bdb_text_format::{KeyRef, PairSlice};
 
-// Whether bytes are the same. Keys in their order mostly differ in their length or in the last byte, which is looked at first.
-fn is_same(a: &[u8], b: &[u8]) -> bool
-    ensures { result ≡ bytes_eq a.now b.now }
-{
-    a.len() == b.len() && a.last() == b.last() && a == b
-}
-
 // Whether a key of a list is this one.
 fn is_key(other: KeyRef<'_>, key: &[u8]) -> bool
     ensures { result ≡ has_key key.now (key_seen other.entry) }
 {
     match other {
-        KeyRef::Bytes(bytes) => is_same(bytes, key),
+        KeyRef::Bytes(bytes) => bytes == key,
         KeyRef::Number(_) => false,
     }
 }
