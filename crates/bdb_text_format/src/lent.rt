@@ -28,8 +28,8 @@ pub struct PairSlice<'a> {
     places: &'a [Place],
 }
 
-// The key at a place of a run of bytes.
-fn key_at<'a>(bytes: &'a [u8], key: PlacedKey) -> KeyRef<'a>
+/// The key at a place of a run of bytes.
+pub fn key_at<'a>(bytes: &'a [u8], key: PlacedKey) -> KeyRef<'a>
     ensures { key_seen result ≡ placed_key bytes.now key }
 {
     match key {
