@@ -1,4 +1,5 @@
-use Rattle.std.proofs.Common.{arith, sym, true≢false, ◌∙◌}
+use Rattle.std.proofs.Common.{arith, sym, ◌∙◌}
+use Rattle.std.proofs.lemmas.Bool.Decides.{nat_tests}
 use Rattle.bdb_text_format.specs.Placed.{slice_seen}
 use Rattle.bdb_text_format.proofs.PlacedLemmas.{joined_more, last_shared}
 use Rattle.bdb_text_format.proofs.pairs.TextPairs.push_all.Goals as goal
@@ -11,7 +12,7 @@ push_beside-requires-clause-same c =
       | then-i-gt0 w ↦ λ shared.
           last_shared c.args.self.now c.loop-i.self (slice_seen c.args.pairs) c.loop-i.i _ c.loop-i.invariant (omega (arith, w.if-i-gt0.true)) c.at.ensures
           (w.share_key-shares_key.ensures.same (sym w.shares_key-is ∙ shared))
-      | else-i-gt0 w ↦ λ shared. absurd (true≢false (sym shared ∙ (w.shares_key-is ∙ w.if-i-gt0.false)))
+      | else-i-gt0 w ↦ λ shared. absurd (let is = sym shared ∙ w.shares_key-is in grind (arith, nat_tests, is, w.if-i-gt0.false))
     ]
 
 pub loop-i-preserved : goal.loop-i-preserved
