@@ -12,4 +12,4 @@ returns-in-Greater c = by_greater c.args.settings.now (pair_on c.args.bytes.now 
 pub returns-in-Equal : goal.returns-in-Equal
 returns-in-Equal c =
     by_data c.args.settings.now (pair_on c.args.bytes.now c.args.a) (pair_on c.args.bytes.now c.args.b) c.compare_data.result c.in-Equal.ensures
-    (c.compare_data.ensures ∙ rw (c.of.ensures, c.of-2.ensures) refl)
+    (c.compare_data.ensures ∙ rw (c.of.ensures, c.of-in-Equal.ensures) refl)
