@@ -595,7 +595,7 @@ def own_sets(count):
 
 
 def set_of_long_key(count):
-    """One key in a chain, whose data are a set; the chain has as many bytes as all data, four for each, take pages."""
+    """The chain of the key takes about as many bytes as its data with their pages."""
     image = Image()
     key = long_item(image.chain([b"k" * ROOM] * max(1, count // 10), 1))
     items = in_turn((inline(b"%04x" % (at * 7919 % 65536)) for at in range(count)), lambda item: 2 + len(item))

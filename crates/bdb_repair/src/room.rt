@@ -111,11 +111,7 @@ fn after_entry(memory: u64, compared: u64, entry: &mut SalvageEntry<'_, '_>) -> 
 }
 
 // What is left of memory after copies of stored keys and their data.
-fn after_entries(
-    memory: u64,
-    compared: u64,
-    found: &mut SalvageEntries<'_, '_>,
-) -> Option<u64> {
+fn after_entries(memory: u64, compared: u64, found: &mut SalvageEntries<'_, '_>) -> Option<u64> {
     let mut left = memory;
     for entry in found {
         let mut entry = entry;

@@ -9,9 +9,10 @@ loop-n-init c = (omega (arith, goes_on_at c.args.key.now (slice_seen c.args.list
 
 pub loop-n-preserved : goal.loop-n-preserved
 loop-n-preserved c =
-    let same : has_key_at c.args.key.now (slice_seen c.args.list) c.loop-n.n ≡ Some true = c.has_key_at.ensures ∙ ap Some c.if-not-has_key_at.false in
-    (omega (arith, c.loop-n.invariant.0, goes_on_at c.args.key.now (slice_seen c.args.list) c.loop-n.n same),
-    subst (λ n. has_key_at c.args.key.now (slice_seen c.args.list) n ≡ Some true) (omega arith) same)
+    let same : has_key_at c.args.key.now (slice_seen c.args.list) c.loop-n.n ≡ Some true = c.has_key_at.ensures ∙ ap Some c.if-not-has_key_at.false in (
+      omega (arith, c.loop-n.invariant.0, goes_on_at c.args.key.now (slice_seen c.args.list) c.loop-n.n same),
+      subst (λ n. has_key_at c.args.key.now (slice_seen c.args.list) n ≡ Some true) (omega arith) same,
+    )
 
 pub returns-then-not-has_key_at : goal.returns-then-not-has_key_at
 returns-then-not-has_key_at c =
