@@ -71,6 +71,8 @@ FAULTY = (Run(("verify",), 1), Run(("dump",), 1), Run(("salvage",), 0))
 JUDGED, REFUTED = SOUND[:1], FAULTY[:2]
 # What is salvaged is far longer than the input, and the limit above all inputs of the class.
 CUT_OFF = (Run(("repair", "--max-bytes", "1000000"), 6),)
+# The sections of such a file would be too long to write as a text.
+REPAIRED = (Run(("repair",), 0),)
 BY_HAND = tuple(Run(("salvage", "--order", "little", "--page-size", size), 0) for size in ("512", "32768"))
 
 # At the largest size a run whose time grows as its input takes some hundredths of a second, up to a few tenths.
@@ -138,6 +140,7 @@ CLASSES = (
     # Sets off the page.
     Class("set-own", "each key has a set of its own", files.own_sets, 32_000, "", SOUND + (get("00000000"),)),
     Class("set-shared", "keys share a set", files.shared_set, 8_000, "TooMany", FAULTY),
+    Class("set-long-key", "one key in a long chain, with a set of many short data", files.set_of_long_key, 60_000, "", JUDGED + REPAIRED),
     Class("set-shared-blank", "keys share a set of leaves without entries", files.shared_blank_set, 16_000, "TooMany", FAULTY),
     Class("set-shared-sparse", "keys share a set of leaves of which the last alone has an entry", files.shared_sparse_set, 16_000, "TooMany", FAULTY),
     Class("set-joined", "keys have sets of their own, whose roots share leaves without entries", files.joined_sets, 16_000, "TooMany", FAULTY),

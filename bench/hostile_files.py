@@ -594,6 +594,14 @@ def own_sets(count):
     return image.btree(image.tree((inline(key_of(at)), set_item(root)) for at, root in enumerate(roots)), DUPLICATES)
 
 
+def set_of_long_key(count):
+    """The chain of the key takes about as many bytes as its data with their pages."""
+    image = Image()
+    key = long_item(image.chain([b"k" * ROOM] * max(1, count // 10), 1))
+    items = in_turn((inline(b"%04x" % (at * 7919 % 65536)) for at in range(count)), lambda item: 2 + len(item))
+    return image.btree(image.tree([(key, set_item(set_of(image, [(row, range(len(row))) for row in items], RECORD_LEAF)))]), DUPLICATES)
+
+
 def keys_of_one_set(image, root, count):
     """The pages of a btree whose keys share a set."""
     return image.btree(image.tree((inline(key_of(at)), set_item(root)) for at in range(count)), DUPLICATES)

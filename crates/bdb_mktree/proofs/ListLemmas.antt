@@ -1,11 +1,11 @@
 -- Lists and their units: the run of a key, the record that comes next, and the list that units give back.
-use Rattle.std.proofs.Common.{Bool, ◌≡◌, ℕ, suc, zero, ◌+◌, ◌-◌, ◌<◌, ◌≤◌, ◌^◌, true, false, cond, get_or, slice_get, Some, List, [], ◌∷◌, ◌++◌, length, map, take, drop, replicate}
+use Rattle.std.proofs.Common.{Bool, ◌≡◌, ℕ, suc, zero, ◌+◌, ◌-◌, ◌<◌, ◌≤◌, ◌^◌, true, false, cond, get_or, slice_get, None, Option, Some, option_map, List, [], ◌∷◌, ◌++◌, length, map, take, drop, replicate}
 use Rattle.std.proofs.Common.{arith, refl, sym, ◌∙◌, ap, subst, inl, inr, true≢false}
 use Rattle.std.specs.List.{All, enumerate_from, flat_map, prefix_len}
 use Rattle.std.specs.Str.{bytes_eq}
 use Rattle.std.proofs.lemmas.Bool.{cases_Bool}
 use Rattle.std.proofs.lemmas.List.{drop-drop, drop-map, drop_all, drop_more, get_or-map, length-drop, length-map, take-map}
-use Rattle.std.proofs.lemmas.Option.{get_or_from_slice_get, slice_get_within}
+use Rattle.std.proofs.lemmas.Option.{get_or_from_slice_get, none-some, same_Some, slice_get_within}
 use Rattle.std.proofs.lemmas.List.Elements.{All-drop, All-head, All-tail}
 use Rattle.std.proofs.lemmas.List.Sums.{prefix_len-le-length}
 use Rattle.bdb_format.specs.declared.kinds.Kind.{Kind}
@@ -17,7 +17,7 @@ use Rattle.bdb_text_format.specs.declared.pairs.TextPair.{TextPair}
 use Rattle.bdb_text_format.specs.declared.pairs.Key.{Key}
 use Rattle.bdb_text_format.specs.declared.pairs.Key.TheVariants.{Bytes, Number}
 use Rattle.bdb_leaves.specs.Units.{EntryUnit, KeyedUnit, TreeUnit, list_of_units, listed_keyed, listed_record}
-use Rattle.bdb_mktree.specs.Lists.{AreKeysOf, HasBytes, IsRecordAt, IsRunAt, bytes_in, has_key, keyed_units, missing, record_units, units_in}
+use Rattle.bdb_mktree.specs.Lists.{AreKeysOf, HasBytes, IsRecordAt, IsRunAt, bytes_in, has_key, has_key_at, keyed_units, missing, record_units, units_in}
 use Rattle.bdb_mktree.specs.Lists.{onto_units}
 use Rattle.bdb_mktree.specs.Units.{IsTreeKind}
 
@@ -158,6 +158,51 @@ pub run_ends : (key : List ℕ) (pairs : List TextPair) (i : ℕ) (pair : TextPa
 run_ends key pairs i pair at other =
     ap (λ ps. prefix_len (has_key key) (keys_of (unlined_pairs ps))) (pairs_from pairs i pair at)
     ∙ ap (λ b. cond b (1 + run_from key pairs (i + 1)) 0) other
+
+-- the same, by whether a pair of the list has the key
+pub goes_on_at : (key : List ℕ) (pairs : List TextPair) (i : ℕ) → has_key_at key pairs i ≡ Some true → run_from key pairs i ≡ 1 + run_from key pairs (i + 1)
+goes_on_at key pairs i same = by_pair (slice_get pairs i) refl
+  where
+    by_pair : (found : Option TextPair) → slice_get pairs i ≡ found → run_from key pairs i ≡ 1 + run_from key pairs (i + 1)
+    by_pair None at = absurd (none-some true (sym (ap (option_map (λ (pair : TextPair). has_key key pair.key)) at) ∙ same))
+    by_pair (Some pair) at =
+        run_goes_on key pairs i pair at (same_Some (has_key key pair.key) true (sym (ap (option_map (λ (pair : TextPair). has_key key pair.key)) at) ∙ same))
+
+pub ends_at : (key : List ℕ) (pairs : List TextPair) (i : ℕ) → has_key_at key pairs i ≡ Some false → run_from key pairs i ≡ 0
+ends_at key pairs i other = by_pair (slice_get pairs i) refl
+  where
+    by_pair : (found : Option TextPair) → slice_get pairs i ≡ found → run_from key pairs i ≡ 0
+    by_pair None at = absurd (none-some false (sym (ap (option_map (λ (pair : TextPair). has_key key pair.key)) at) ∙ other))
+    by_pair (Some pair) at =
+        run_ends key pairs i pair at (same_Some (has_key key pair.key) false (sym (ap (option_map (λ (pair : TextPair). has_key key pair.key)) at) ∙ other))
+
+pub key_within : (key : List ℕ) (pairs : List TextPair) (i : ℕ) → has_key_at key pairs i ≡ Some true → i < length pairs
+key_within key pairs i same = by_pair (slice_get pairs i) refl
+  where
+    by_pair : (found : Option TextPair) → slice_get pairs i ≡ found → i < length pairs
+    by_pair None at = absurd (none-some true (sym (ap (option_map (λ (pair : TextPair). has_key key pair.key)) at) ∙ same))
+    by_pair (Some pair) at = slice_get_within pairs i pair at
+
+pub first_has_key : (key : List ℕ) (pairs rest : List TextPair) (start : ℕ) (pair : TextPair) → slice_get pairs start ≡ Some pair → pair.key ≡ Bytes key
+    → rest ≡ drop start pairs → has_key_at key rest 0 ≡ Some true
+first_has_key key pairs rest start pair at is from =
+    ap (λ ps. has_key_at key ps 0) (from ∙ pairs_from pairs start pair at) ∙ ap Some (ap (has_key key) is ∙ eq_self key)
+
+-- two pairs of one key
+of_key : (key : List ℕ) (found : Option TextPair)
+    → option_map (λ (pair : TextPair). has_key key pair.key) found ≡ option_map (has_key key) (option_map (λ (pair : TextPair). pair.key) found)
+of_key key None = refl
+of_key key (Some pair) = refl
+
+pub has_key_too : (key : List ℕ) (pairs : List TextPair) (i j : ℕ)
+    → option_map (λ (pair : TextPair). pair.key) (slice_get pairs i) ≡ option_map (λ (pair : TextPair). pair.key) (slice_get pairs j)
+    → has_key_at key pairs i ≡ has_key_at key pairs j
+has_key_too key pairs i j same =
+    of_key key (slice_get pairs i) ∙ (ap (option_map (has_key key)) same ∙ sym (of_key key (slice_get pairs j)))
+
+pub has_key_here : (key : List ℕ) (pairs : List TextPair) (i : ℕ) (pair : TextPair) → slice_get pairs i ≡ Some pair
+    → has_key_at key pairs i ≡ Some (has_key key pair.key)
+has_key_here key pairs i pair at = ap (option_map (λ (pair : TextPair). has_key key pair.key)) at
 
 pub run_over : (key : List ℕ) (pairs : List TextPair) (i : ℕ) → length pairs ≤ i → run_from key pairs i ≡ 0
 run_over key pairs i over = ap (λ ps. prefix_len (has_key key) (keys_of (unlined_pairs ps))) (drop_all i pairs over)

@@ -1,5 +1,5 @@
 -- The units of a list of pairs, and the lists that a tree can be built of. Source: docs/FORMAT.md, "Built trees".
-use Rattle.std.specs.Prelude.{◌≡◌, ℕ, ◌+◌, ◌-◌, ◌≤◌, ◌<◌, ◌^◌, drop, ◌&&◌, ◌||◌, nat_lt, not, if◌then◌else◌, Bool, true, false, List, [], ◌∷◌, ◌++◌, length, replicate}
+use Rattle.std.specs.Prelude.{◌≡◌, ℕ, ◌+◌, ◌-◌, ◌≤◌, ◌<◌, ◌^◌, drop, ◌&&◌, ◌||◌, nat_lt, not, if◌then◌else◌, Bool, true, false, List, [], ◌∷◌, ◌++◌, length, replicate, Option, option_map, slice_get}
 use Rattle.std.specs.List.{All}
 use Rattle.std.specs.Str.{bytes_eq}
 use Rattle.bdb_format.specs.declared.kinds.Kind.{Kind}
@@ -9,6 +9,7 @@ use Rattle.bdb_format.specs.Less.{less}
 use Rattle.bdb_text_format.specs.declared.pairs.Pair.{Pair}
 use Rattle.bdb_text_format.specs.declared.pairs.Key.{Key}
 use Rattle.bdb_text_format.specs.declared.pairs.Key.TheVariants.{Bytes, Number}
+use Rattle.bdb_text_format.specs.declared.pairs.TextPair.{TextPair}
 use Rattle.bdb_text_format.specs.Pairs.{AscendFrom, number_of}
 use Rattle.bdb_leaves.specs.Runs.{IsShort}
 use Rattle.bdb_leaves.specs.Units.{TreeUnit, KeyedUnit, EntryUnit}
@@ -18,6 +19,10 @@ use Rattle.bdb_leaves.specs.Units.{TreeUnit, KeyedUnit, EntryUnit}
 abbrev pub has_key : List ℕ → Key → Bool
 has_key key (Bytes other) = bytes_eq other key
 has_key key (Number number) = false
+
+-- whether the key of a pair is this one; nothing where there is none
+abbrev pub has_key_at : List ℕ → List TextPair → ℕ → Option Bool
+has_key_at key pairs n = option_map (λ (pair : TextPair). has_key key pair.key) (slice_get pairs n)
 
 abbrev pub bytes_in : Key → List ℕ
 bytes_in (Bytes key) = key

@@ -1,10 +1,10 @@
-ghost use Rattle.std.specs.Prelude.{◌≡◌, ◌≤◌, ◌<◌, length};
+ghost use Rattle.std.specs.Prelude.{◌≡◌, ◌≤◌, ◌<◌, ◌-◌, Some, length, true};
 ghost use Rattle.std.specs.List.{All, prefix_len};
 ghost use Rattle.bdb_places.specs.Places.{values_seen};
 ghost use Rattle.bdb_text_format.specs.Pairs.{keys_of};
 ghost use Rattle.bdb_text_format.specs.Placed.{key_seen, pairs_of, slice_seen};
 ghost use Rattle.bdb_leaves.specs.Units.{KeyedUnit};
-ghost use Rattle.bdb_mktree.specs.Lists.{HasBytes, IsRunAt, has_key};
+ghost use Rattle.bdb_mktree.specs.Lists.{HasBytes, IsRunAt, has_key, has_key_at};
 
 use bdb_places::Values;
 use bdb_text_format::{KeyRef, PairSlice};
@@ -19,12 +19,22 @@ fn is_key(other: KeyRef<'_>, key: &[u8]) -> bool
     }
 }
 
-// How many pairs from the first on have this key.
+// Whether the key of a pair is this one, as that of the pair before it is.
+fn has_key_at(list: PairSlice<'_>, n: usize, key: &[u8]) -> bool
+    requires within { 0 < n × (n < length (slice_seen list)) }
+    requires before { has_key_at key.now (slice_seen list) (n - 1) ≡ Some true }
+    ensures { has_key_at key.now (slice_seen list.entry) n ≡ Some result }
+{
+    list.share_key(n - 1, n) || is_key(list.at(n).key, key)
+}
+
+// How many pairs from the first on have its key.
 fn run_length(list: PairSlice<'_>, key: &[u8]) -> usize
+    requires { has_key_at key.now (slice_seen list) 0 ≡ Some true }
     ensures { result ≡ prefix_len (has_key key.now) (keys_of (pairs_of list.entry)) }
 {
-    for n in 0..list.len() {
-        if !is_key(list.at(n).key, key) {
+    for n in 1..list.len() {
+        if !has_key_at(list, n, key) {
             return n;
         }
     }

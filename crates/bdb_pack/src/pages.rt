@@ -20,6 +20,9 @@ use bdb_layout::{
 use std::alloc::{AllocError, Global};
 use std::marker::Model;
 
+/// The bytes of an empty page of the greatest size.
+const ZEROS: [u8; 32768] = [0; 32768];
+
 /// The pages of a file that is being built.
 #[derive(Drop)]
 pub struct Pages {
@@ -89,8 +92,7 @@ impl Pages {
         ensures err { OnErr result (self.new ≡ self.old) }
     {
         let number = self.count;
-        let end = self.bytes.len() + self.size;
-        self.bytes.resize(end, 0)?;
+        self.bytes.extend_from_slice(&ZEROS[..self.size])?;
         self.count += 1;
         Ok(number)
     }

@@ -20,7 +20,8 @@ pub(crate) enum Fit {
     Scarce,
 }
 
-/// The bytes that the file may have, and those that copies may want of memory. A key is copied once, but compared for each of its data, and counts for each.
+/// The bytes that the file may have, and those that copies may want of memory. A key is copied once for all data of its item, but may be compared with
+/// those of other items for each, and counts for each as far as the longest of these goes.
 #[derive(Clone, Copy, Debug, PartialEq, Eq)]
 pub(crate) struct Room {
     pub(crate) file: u64,
@@ -87,24 +88,42 @@ fn after_copy(memory: u64, bytes: u64) -> Option<u64> {
     memory.checked_sub(COPY)?.checked_sub(bytes)
 }
 
-// What is left of memory after copies of a key and of each of its data, for each of which the key is compared.
-fn after_entry(memory: u64, entry: &mut SalvageEntry<'_, '_>) -> Option<u64> {
+// How long the longest key but one is: no comparison of the keys of two items goes further.
+fn second_longest(found: &mut SalvageEntries<'_, '_>) -> u64 {
+    let mut longest = 0;
+    let mut second = 0;
+    for entry in found {
+        let key = entry.key().len();
+        second = key.min(longest).max(second);
+        longest = key.max(longest);
+    }
+    second
+}
+
+// What is left of memory after copies of a key and of each of its data, for each of which so many bytes of the key at most are compared with those of others.
+fn after_entry(memory: u64, compared: u64, entry: &mut SalvageEntry<'_, '_>) -> Option<u64> {
     let key = entry.key().len();
     let mut left = after_copy(memory, key)?;
     while let Some(value) = entry.next() {
-        left = after_copy(left, value.len())?.checked_sub(key)?;
+        left = after_copy(left, value.len())?.checked_sub(key.min(compared))?;
     }
     Some(left)
 }
 
 // What is left of memory after copies of stored keys and their data.
-fn after_entries(memory: u64, found: &mut SalvageEntries<'_, '_>) -> Option<u64> {
+fn after_entries(memory: u64, compared: u64, found: &mut SalvageEntries<'_, '_>) -> Option<u64> {
     let mut left = memory;
     for entry in found {
         let mut entry = entry;
-        left = after_entry(left, &mut entry)?;
+        left = after_entry(left, compared, &mut entry)?;
     }
     Some(left)
+}
+
+// What is left of memory after copies of all stored keys and their data.
+fn after_stored(memory: u64, salvaged: &Salvaged<'_>) -> Option<u64> {
+    let compared = second_longest(&mut salvaged.entries());
+    after_entries(memory, compared, &mut salvaged.entries())
 }
 
 // What is left of memory after copies of records.
@@ -119,12 +138,9 @@ fn after_values(memory: u64, found: SalvageValues<'_, '_>) -> Option<u64> {
 // What is left of memory after copies of all that is loaded.
 fn after_copies(memory: u64, salvaged: &Salvaged<'_>, shape: Option<Shape>) -> Option<u64> {
     match shape {
-        None => after_values(
-            after_entries(memory, &mut salvaged.entries())?,
-            salvaged.loose(),
-        ),
+        None => after_values(after_stored(memory, salvaged)?, salvaged.loose()),
         Some(Shape::Recno) => after_values(memory, salvaged.loose()),
-        Some(Shape::Btree(_) | Shape::Hash(_)) => after_entries(memory, &mut salvaged.entries()),
+        Some(Shape::Btree(_) | Shape::Hash(_)) => after_stored(memory, salvaged),
     }
 }
 

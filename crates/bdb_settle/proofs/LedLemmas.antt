@@ -49,37 +49,36 @@ leads_weakly settings bytes = record {
 }
 
 -- one more pair doesn't stand before the one ahead of it
-pub sorted_step : (settings : Settings) (bytes : List ℕ) (places : List Place) (i : ℕ) (this last : TextPair) (d e : Place)
-    → IsSortedWithin (place_before settings bytes) places 0 i → 1 ≤ i → i < length places → this ≡ placed_pair bytes (get_or places i d)
-    → last ≡ placed_pair bytes (get_or places (i - 1) e) → stands_before settings (unlined this) (unlined last) ≡ false
-    → IsSortedWithin (place_before settings bytes) places 0 (i + 1)
-sorted_step settings bytes places i this last d e so least within this_is last_is not_before k f low high =
+pub sorted_step : (settings : Settings) (bytes : List ℕ) (places : List Place) (i : ℕ) (d e : Place)
+    → IsSortedWithin (place_before settings bytes) places 0 i → 1 ≤ i → i < length places
+    → place_before settings bytes (get_or places i d) (get_or places (i - 1) e) ≡ false → IsSortedWithin (place_before settings bytes) places 0 (i + 1)
+sorted_step settings bytes places i d e so least within not_before k f low high =
     elim (cases_lt (k + 1) i) [
       | inl before ↦ so k f low before
       | inr here ↦
           let at : k + 1 ≡ i = omega (arith, here, high) in
           let behind : k ≡ i - 1 = omega (arith, at) in
-          let second : placed_pair bytes (get_or places (k + 1) f) ≡ this =
-          ap (λ j. placed_pair bytes (get_or places j f)) at ∙ ap (placed_pair bytes) (get_or_default places i f d within) ∙ sym this_is in
-          let first : placed_pair bytes (get_or places k f) ≡ last =
-          ap (λ j. placed_pair bytes (get_or places j f)) behind ∙ ap (placed_pair bytes) (get_or_default places (i - 1) f e (omega (arith, within)))
-          ∙ sym last_is in
-          ap (λ pair. stands_before settings (unlined pair) (unlined (placed_pair bytes (get_or places k f)))) second
-          ∙ ap (λ pair. stands_before settings (unlined this) (unlined pair)) first ∙ not_before
+          let second : get_or places (k + 1) f ≡ get_or places i d = ap (λ j. get_or places j f) at ∙ get_or_default places i f d within in
+          let first : get_or places k f ≡ get_or places (i - 1) e =
+          ap (λ j. get_or places j f) behind ∙ get_or_default places (i - 1) f e (omega (arith, within)) in
+          ap (λ place. place_before settings bytes place (get_or places k f)) second
+          ∙ (ap (λ place. place_before settings bytes (get_or places i d) place) first ∙ not_before)
     ]
 
+-- The first bytes that keys share.
+
 -- one more key begins with fewer bytes
-pub shared_step : (bytes start first : List ℕ) (places : List Place) (i : ℕ) (this : TextPair) (d : Place)
+pub shared_step : (bytes start first : List ℕ) (places : List Place) (i : ℕ) (d : Place)
     → All (λ (place : Place). Begins start (placed_key bytes place.key)) (take i places) → i < length places
-    → this ≡ placed_pair bytes (get_or places i d) → Begins first this.key → first ≡ take (length first) start
+    → Begins first (placed_key bytes (get_or places i d).key) → first ≡ take (length first) start
     → All (λ (place : Place). Begins first (placed_key bytes place.key)) (take (i + 1) places)
-shared_step bytes start first places i this d so within this_is begins is =
+shared_step bytes start first places i d so within begins is =
     subst (All (λ (place : Place). Begins first (placed_key bytes place.key))) (sym (take_more places i d within))
     (All-append (λ (place : Place). Begins first (placed_key bytes place.key)) (take i places) (get_or places i d ∷ [])
     (All-weaker (λ (place : Place). Begins start (placed_key bytes place.key)) (λ (place : Place). Begins first (placed_key bytes place.key))
     (λ place begun. begins_less start first (placed_key bytes place.key) is begun) (take i places) so)
-    (All-cons (λ (place : Place). Begins first (placed_key bytes place.key)) (get_or places i d) []
-    (subst (λ (pair : TextPair). Begins first pair.key) this_is begins) (All-nil (λ (place : Place). Begins first (placed_key bytes place.key)))))
+    (All-cons (λ (place : Place). Begins first (placed_key bytes place.key)) (get_or places i d) [] begins
+    (All-nil (λ (place : Place). Begins first (placed_key bytes place.key)))))
 
 -- Leads of keys that begin alike.
 

@@ -1,14 +1,14 @@
 ghost use Rattle.std.specs.Prelude.{◌≡◌, ◌≤◌, get_or, length, map, take, true, IfOk, OnOk};
 ghost use Rattle.std.specs.List.Sorted.{IsPermutation, IsSortedBy, IsStableBy};
 ghost use Rattle.std.specs.Ordering.{is_lt};
-ghost use Rattle.bdb_text_format.specs.Placed.{key_seen};
+ghost use Rattle.bdb_text_format.specs.Placed.{key_seen, placed_key};
 ghost use Rattle.bdb_settle.specs.Leads.{Begins, Share, lead_of, led, led_before, number_of};
 ghost use Rattle.bdb_settle.specs.Settling.{place_before};
 
-use crate::order::{compare_pairs, stands_before};
+use crate::order::{compare_places, stands_before};
 use bdb_format::Settings;
 use bdb_places::{Place, PlacedKey};
-use bdb_text_format::{KeyRef, pair_at};
+use bdb_text_format::{KeyRef, are_one, key_at};
 use std::alloc::{AllocError, Global};
 use std::cmp::Ordering;
 
@@ -45,16 +45,26 @@ fn shared_with<'a>(start: &'a [u8], key: KeyRef<'_>) -> &'a [u8]
     }
 }
 
-// The bytes of the first key.
-fn first_key<'a>(bytes: &'a [u8], places: &[Place]) -> &'a [u8] {
-    match places.first() {
-        Some(
-            Place {
-                key: PlacedKey::Bytes(span),
-                ..
-            },
-        ) => span.of(bytes),
-        _ => &[],
+// Of some bytes, the first of them with which a key of a run begins, where the last key that was looked at begins with them all.
+fn shared_on<'a>(start: &'a [u8], bytes: &[u8], last: PlacedKey, key: PlacedKey) -> &'a [u8]
+    requires { Begins start.now (placed_key bytes.now last) }
+    ensures begins { Begins result.now (placed_key bytes.now key) }
+    ensures first { result.now ≡ take (length result.now) start.now }
+{
+    if are_one(last, key) {
+        start
+    } else {
+        shared_with(start, key_at(bytes, key))
+    }
+}
+
+// The bytes of a key.
+fn bytes_of(bytes: &[u8], key: PlacedKey) -> &[u8]
+    ensures { Begins result.now (placed_key bytes.now key) }
+{
+    match key {
+        PlacedKey::Bytes(span) => span.of(bytes),
+        PlacedKey::Number(_) => &[],
     }
 }
 
@@ -62,9 +72,14 @@ fn first_key<'a>(bytes: &'a [u8], places: &[Place]) -> &'a [u8] {
 fn shared_len(bytes: &[u8], places: &[Place]) -> usize
     ensures { Share bytes.now places.now result }
 {
-    let mut start = first_key(bytes, places);
+    let Some(first) = places.first() else {
+        return 0;
+    };
+    let mut last = first.key;
+    let mut start = bytes_of(bytes, last);
     for place in places {
-        start = shared_with(start, pair_at(bytes, *place).key);
+        start = shared_on(start, bytes, last, place.key);
+        last = place.key;
     }
     start.len()
 }
@@ -112,7 +127,7 @@ fn led_all(
     let mut leads = Vec::with_capacity(alloc, places.len())?;
     for place in places {
         leads.push(Led {
-            lead: lead(pair_at(bytes, *place).key, shared),
+            lead: lead(key_at(bytes, place.key), shared),
             place: *place,
         })?;
     }
@@ -126,9 +141,7 @@ fn compare_led(settings: &Settings, bytes: &[u8], a: Led, b: Led) -> Ordering
     match a.lead.cmp(&b.lead) {
         Ordering::Less => Ordering::Less,
         Ordering::Greater => Ordering::Greater,
-        Ordering::Equal => {
-            compare_pairs(settings, pair_at(bytes, a.place), pair_at(bytes, b.place))
-        }
+        Ordering::Equal => compare_places(settings, bytes, a.place, b.place),
     }
 }
 
@@ -156,8 +169,7 @@ pub(crate) fn are_sorted(settings: &Settings, bytes: &[u8], places: &[Place]) ->
     ensures { result ≡ true → IsSortedBy (place_before settings.now bytes.now) places.now }
 {
     for i in 1..places.len() {
-        let last = pair_at(bytes, places[i - 1]);
-        if stands_before(settings, pair_at(bytes, places[i]), last) {
+        if stands_before(settings, bytes, places[i], places[i - 1]) {
             return false;
         }
     }

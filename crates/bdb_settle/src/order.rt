@@ -1,15 +1,15 @@
 ghost use Rattle.std.specs.Prelude.{◌≡◌, ◌&&◌};
 ghost use Rattle.std.specs.Ordering.{is_lt};
-ghost use Rattle.bdb_text_format.specs.Pairs.{unlined};
-ghost use Rattle.bdb_text_format.specs.Placed.{key_seen, pair_seen};
+ghost use Rattle.bdb_text_format.specs.Placed.{key_seen, placed_key};
 ghost use Rattle.bdb_text_format.specs.Written.{holds_records};
-ghost use Rattle.bdb_settle.specs.Loaded.{keeps_data, sorts_data, stands_before};
+ghost use Rattle.bdb_settle.specs.Loaded.{keeps_data, sorts_data};
 ghost use Rattle.bdb_format.specs.Less.{less};
-ghost use Rattle.bdb_settle.specs.Settling.{KeyOrderingIs};
+ghost use Rattle.bdb_settle.specs.Settling.{KeyOrderingIs, place_before};
 
 use bdb_format::{Kind, Settings};
 use bdb_layout::compare;
-use bdb_text_format::{KeyRef, PairRef};
+use bdb_places::{Place, PlacedKey};
+use bdb_text_format::{KeyRef, are_one, key_at};
 use std::cmp::Ordering;
 
 /// Whether keys are numbers of records.
@@ -59,22 +59,32 @@ fn compare_data(settings: &Settings, a: &[u8], b: &[u8]) -> Ordering
     }
 }
 
-/// The order of two pairs: that of their keys, and of their data where these are sorted.
-pub(crate) fn compare_pairs(settings: &Settings, a: PairRef<'_>, b: PairRef<'_>) -> Ordering
-    ensures { is_lt result ≡ stands_before settings.now (unlined (pair_seen a.entry)) (unlined (pair_seen b.entry)) }
+/// The order of two keys of a run. A key is the same as itself, and its bytes aren't looked at.
+fn compare_placed_keys(bytes: &[u8], a: PlacedKey, b: PlacedKey) -> Ordering
+    ensures { KeyOrderingIs result (placed_key bytes.now a) (placed_key bytes.now b) }
 {
-    match compare_keys(a.key, b.key) {
+    if are_one(a, b) {
+        return Ordering::Equal;
+    }
+    compare_keys(key_at(bytes, a), key_at(bytes, b))
+}
+
+/// The order of the pairs at two places of a run: that of their keys, and of their data where these are sorted.
+pub(crate) fn compare_places(settings: &Settings, bytes: &[u8], a: Place, b: Place) -> Ordering
+    ensures { is_lt result ≡ place_before settings.now bytes.now a b }
+{
+    match compare_placed_keys(bytes, a.key, b.key) {
         Ordering::Less => Ordering::Less,
         Ordering::Greater => Ordering::Greater,
-        Ordering::Equal => compare_data(settings, a.value, b.value),
+        Ordering::Equal => compare_data(settings, a.value.of(bytes), b.value.of(bytes)),
     }
 }
 
-/// Whether a pair stands before another.
-pub(crate) fn stands_before(settings: &Settings, a: PairRef<'_>, b: PairRef<'_>) -> bool
-    ensures { result ≡ stands_before settings.now (unlined (pair_seen a.entry)) (unlined (pair_seen b.entry)) }
+/// Whether the pair at a place of a run stands before that at another.
+pub(crate) fn stands_before(settings: &Settings, bytes: &[u8], a: Place, b: Place) -> bool
+    ensures { result ≡ place_before settings.now bytes.now a b }
 {
-    match compare_pairs(settings, a, b) {
+    match compare_places(settings, bytes, a, b) {
         Ordering::Less => true,
         Ordering::Equal | Ordering::Greater => false,
     }

@@ -9,14 +9,14 @@ use crate::leads::{are_sorted, sort_places};
 use crate::order::{keeps_data, stands_before};
 use bdb_format::Settings;
 use bdb_places::Place;
-use bdb_text_format::{PairSlice, PlacedPairs, TextPairs, pair_at};
+use bdb_text_format::{PairSlice, PlacedPairs, TextPairs};
 use std::alloc::{AllocError, Global};
 
 /// Whether a pair stays where the next one in their order comes.
 fn keeps_both(settings: &Settings, bytes: &[u8], last: Place, place: Place) -> bool
     ensures { result ≡ (place_before settings.now bytes.now last place || keeps_data settings.now) }
 {
-    stands_before(settings, pair_at(bytes, last), pair_at(bytes, place)) || keeps_data(settings)
+    stands_before(settings, bytes, last, place) || keeps_data(settings)
 }
 
 /// A place whose pair is of no line.

@@ -1,8 +1,9 @@
 -- Pairs at places of a run stay when the run grows.
-use Rattle.std.proofs.Common.{◌≡◌, ℕ, ◌≤◌, ◌<◌, ◌+◌, ◌-◌, List, Option, Some, slice_get, [], ◌∷◌, ◌++◌, get_or, length, take, drop, map, arith, refl, ap, sym, ◌∙◌, subst, length-append, length-drop, append_assoc}
+use Rattle.std.proofs.Common.{◌≡◌, ℕ, ◌≤◌, ◌<◌, ◌+◌, ◌-◌, List, Option, None, Some, option_map, slice_get, [], ◌∷◌, ◌++◌, get_or, length, take, drop, map, arith, refl, ap, sym, ◌∙◌, subst, length-append, length-drop, append_assoc}
 use Rattle.std.specs.List.{All, fold}
 use Rattle.std.proofs.lemmas.List.{length-map, map-append, take-append-drop, take-append-le, drop-append-le, take_all, take_more}
-use Rattle.std.proofs.lemmas.Option.{get_or_from_slice_get, slice_get_within}
+use Rattle.std.proofs.lemmas.List.Sums.{fold-append}
+use Rattle.std.proofs.lemmas.Option.{get_or_from_slice_get, none-some, same_Some, slice_get_within}
 use Rattle.std.proofs.lemmas.List.Elements.{All-head, All-push, All-tail}
 use Rattle.std.proofs.Math.Seq.{drop-append_seam}
 use native.Mathlib.Numerals.{unary_clauses}
@@ -127,6 +128,27 @@ pub joined_more : (before now : List TextPair) (pairs : List TextPair) (i : ℕ)
     → now ++ pair ∷ [] ≡ before ++ take (i + 1) pairs
 joined_more before now pairs i pair is at =
     ap (λ front. front ++ pair ∷ []) is ∙ (append_assoc before (take i pairs) (pair ∷ []) ∙ ap (λ more. before ++ more) (sym (taken_more pairs i pair at)))
+
+-- the last of pairs that were added
+last_added : (before : List TextPair) (more : List TextPair) (pair : TextPair) → last_key (before ++ (more ++ pair ∷ [])) ≡ pair.key
+last_added before more pair =
+    ap last_key (sym (append_assoc before more (pair ∷ []))) ∙ fold-append (λ key (pair : TextPair). pair.key) (Number 0) (before ++ more) (pair ∷ [])
+
+-- it has the key of the next one, where the two share it
+pub last_shared : (before now pairs : List TextPair) (i : ℕ) (this : TextPair) → now ≡ before ++ take i pairs → 0 < i → slice_get pairs i ≡ Some this
+    → option_map (λ (pair : TextPair). pair.key) (slice_get pairs (i - 1)) ≡ option_map (λ (pair : TextPair). pair.key) (slice_get pairs i)
+    → last_key now ≡ this.key
+last_shared before now pairs i this is some at same = by_last (slice_get pairs (i - 1)) refl
+  where
+    by_last : (last : Option TextPair) → slice_get pairs (i - 1) ≡ last → last_key now ≡ this.key
+    by_last None none = absurd (none-some (this.key) (sym (ap (option_map (λ (pair : TextPair). pair.key)) none) ∙ (same ∙ ap (option_map (λ (pair : TextPair). pair.key)) at)))
+    by_last (Some last) last_at =
+        let more : take i pairs ≡ take (i - 1) pairs ++ last ∷ [] =
+        subst (λ n. take n pairs ≡ take (i - 1) pairs ++ last ∷ []) (omega (arith, some)) (taken_more pairs (i - 1) last last_at) in
+        let all : now ≡ before ++ (take (i - 1) pairs ++ last ∷ []) = is ∙ ap (λ ps. before ++ ps) more in
+        let key : Some last.key ≡ Some this.key =
+        sym (ap (option_map (λ (pair : TextPair). pair.key)) last_at) ∙ (same ∙ ap (option_map (λ (pair : TextPair). pair.key)) at) in
+        ap last_key all ∙ (last_added before (take (i - 1) pairs) last ∙ same_Some last.key this.key key)
 
 -- data of pairs
 pub values_of_pairs : (bytes : List ℕ) (places : List Place) → map (value_at bytes) places ≡ map (λ (pair : TextPair). pair.value) (placed_pairs bytes places)

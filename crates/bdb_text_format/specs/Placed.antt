@@ -1,5 +1,5 @@
 -- Pairs by the places of their keys and data in a run of bytes, and pairs that are lent.
-use Rattle.std.specs.Prelude.{◌≡◌, ◌≤◌, ℕ, List, length, map, take}
+use Rattle.std.specs.Prelude.{◌≡◌, ◌==◌, ◌&&◌, ◌≤◌, ℕ, Bool, false, List, get_or, length, map, take}
 use Rattle.std.specs.List.{All}
 use Rattle.bdb_places.specs.Places.{span_in, value_at}
 use Rattle.bdb_places.specs.declared.place.Place.{Place}
@@ -28,6 +28,13 @@ placed_pair bytes place = record { key = placed_key bytes place.key; value = val
 abbrev pub placed_pairs : List ℕ → List Place → List TextPair
 placed_pairs bytes places = map (placed_pair bytes) places
 
+-- whether two keys are one: bytes at one place, or one number
+abbrev pub are_one : PlacedKey → PlacedKey → Bool
+are_one (BytesAt a) (BytesAt b) = (a.start == b.start) && (a.end == b.end)
+are_one (BytesAt a) (NumberAt n) = false
+are_one (NumberAt m) (BytesAt b) = false
+are_one (NumberAt m) (NumberAt n) = m == n
+
 -- what is lent
 abbrev pub key_seen : KeyRef → Key
 key_seen (BytesRef bytes) = Bytes bytes.now
@@ -38,6 +45,14 @@ pair_seen pair = record { key = key_seen pair.key; value = pair.value.now; line 
 
 abbrev pub slice_seen : PairSlice → List TextPair
 slice_seen pairs = placed_pairs pairs.bytes.now pairs.places.now
+
+-- where the key of a pair stands
+abbrev pub key_place : PairSlice → ℕ → PlacedKey
+key_place pairs i = get_or (map (λ (place : Place). place.key) pairs.places.now) i (NumberAt 0)
+
+-- whether two pairs have one key
+abbrev pub share_key : PairSlice → ℕ → ℕ → Bool
+share_key pairs i j = are_one (key_place pairs i) (key_place pairs j)
 
 abbrev pub pairs_of : PairSlice → List Pair
 pairs_of pairs = unlined_pairs (slice_seen pairs)

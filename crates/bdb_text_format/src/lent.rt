@@ -1,7 +1,7 @@
-ghost use Rattle.std.specs.Prelude.{◌≡◌, ◌==◌, ◌<◌, ◌≤◌, ◌-◌, Some, drop, length, map, slice_get, take};
+ghost use Rattle.std.specs.Prelude.{◌≡◌, ◌==◌, ◌<◌, ◌≤◌, ◌-◌, Some, drop, true, length, map, slice_get, take};
 ghost use Rattle.std.specs.Option.{option_map};
 ghost use Rattle.bdb_places.specs.Places.{values_seen};
-ghost use Rattle.bdb_text_format.specs.Placed.{pair_seen, placed_key, placed_pair, placed_pairs, key_seen, slice_seen};
+ghost use Rattle.bdb_text_format.specs.Placed.{pair_seen, placed_key, placed_pair, placed_pairs, are_one, key_seen, share_key, slice_seen};
 ghost use Rattle.bdb_text_format.specs.declared.pairs.TextPair.{TextPair};
 
 use bdb_places::{Place, PlacedKey, Values};
@@ -28,8 +28,8 @@ pub struct PairSlice<'a> {
     places: &'a [Place],
 }
 
-// The key at a place of a run of bytes.
-fn key_at<'a>(bytes: &'a [u8], key: PlacedKey) -> KeyRef<'a>
+/// The key at a place of a run of bytes.
+pub fn key_at<'a>(bytes: &'a [u8], key: PlacedKey) -> KeyRef<'a>
     ensures { key_seen result ≡ placed_key bytes.now key }
 {
     match key {
@@ -47,6 +47,14 @@ pub fn pair_at<'a>(bytes: &'a [u8], place: Place) -> PairRef<'a>
         value: place.value.of(bytes),
         line: place.line,
     }
+}
+
+/// Whether two keys of a run are one: bytes at one place, or one number. Then they are the same, and no byte of them needs to be compared.
+pub fn are_one(a: PlacedKey, b: PlacedKey) -> bool
+    ensures one { result ≡ are_one a b }
+    ensures same { result ≡ true → a ≡ b }
+{
+    a == b
 }
 
 impl<'a> PairSlice<'a> {
@@ -91,6 +99,16 @@ impl<'a> PairSlice<'a> {
     {
         let place = self.places.last()?;
         Some(pair_at(self.bytes, *place))
+    }
+
+    /// Whether two pairs have one key, as they do where it wasn't copied for each. Keys that aren't one may still be the same.
+    pub fn share_key(&self, i: usize, j: usize) -> bool
+        requires first { i < length (slice_seen self.now) }
+        requires second { j < length (slice_seen self.now) }
+        ensures one { result ≡ share_key self.now i j }
+        ensures same { result ≡ true → option_map (λ (pair : TextPair). pair.key) (slice_get (slice_seen self.now) i) ≡ option_map (λ (pair : TextPair). pair.key) (slice_get (slice_seen self.now) j) }
+    {
+        are_one(self.places[i].key, self.places[j].key)
     }
 
     /// The pairs before a place, and those from there on.

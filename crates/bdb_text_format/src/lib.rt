@@ -9,6 +9,6 @@ mod sections;
 
 pub use faults::TextFault;
 pub use keywords::Judged;
-pub use lent::{KeyRef, PairRef, PairSlice, pair_at};
+pub use lent::{KeyRef, PairRef, PairSlice, are_one, key_at, pair_at};
 pub use pairs::{Key, Pair, PlacedPairs, TextPair, TextPairs};
 pub use sections::{Section, Sections};

@@ -1,7 +1,7 @@
-ghost use Rattle.std.specs.Prelude.{◌≡◌, ◌==◌, ◌<◌, ◌∷◌, ◌++◌, [], OnOk, OnErr, IfOk, ◌-◌, get_or, length};
+ghost use Rattle.std.specs.Prelude.{◌≡◌, ◌==◌, ◌<◌, ◌∷◌, ◌++◌, [], OnOk, OnErr, IfOk, true, ◌-◌, get_or, length};
 ghost use Rattle.std.specs.List.{All};
 ghost use Rattle.bdb_text_format.specs.Pairs.{last_key};
-ghost use Rattle.bdb_text_format.specs.Placed.{ArePlaced, IsKeyPlaced, IsKeyPut, IsPairPut, IsPiecePut, Keeps, pair_seen, pair_with, placed_key, placed_pairs, slice_seen};
+ghost use Rattle.bdb_text_format.specs.Placed.{ArePlaced, IsKeyPlaced, IsKeyPut, IsPairPut, IsPiecePut, Keeps, key_seen, pair_seen, pair_with, placed_key, placed_pairs, slice_seen};
 ghost use Rattle.bdb_text_format.specs.declared.pairs.TextPair.{TextPair};
 
 use crate::lent::{KeyRef, PairRef, PairSlice};
@@ -155,12 +155,26 @@ impl TextPairs {
         Ok(())
     }
 
-    /// Adds copies of pairs at the end.
+    // Adds a copy of a pair at the end, but not of its key where that is the last one.
+    fn push_beside(&mut self, shares_key: bool, pair: PairRef<'_>) -> Result<(), AllocError>
+        requires some { shares_key ≡ true → 0 < length self.old }
+        requires same { shares_key ≡ true → last_key self.old ≡ key_seen pair.key }
+        ensures { OnOk result (self.new ≡ self.old ++ pair_seen pair.entry ∷ []) }
+    {
+        if shares_key {
+            self.push_with_last_key(pair.value, pair.line)
+        } else {
+            self.push(pair)
+        }
+    }
+
+    /// Adds copies of pairs at the end. A key that several of them have one behind the other, and that is one for them, is copied once.
     pub fn push_all(&mut self, pairs: PairSlice<'_>) -> Result<(), AllocError>
         ensures { OnOk result (self.new ≡ self.old ++ slice_seen pairs.entry) }
     {
         for i in 0..pairs.len() {
-            self.push(pairs.at(i))?;
+            let shares_key = i > 0 && pairs.share_key(i - 1, i);
+            self.push_beside(shares_key, pairs.at(i))?;
         }
         Ok(())
     }

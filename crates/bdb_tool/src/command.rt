@@ -1,15 +1,21 @@
 //! The command that the words of a command line are. Nothing here allocates.
 ghost use Rattle.std.specs.Prelude.{◌≡◌, ◌≢◌, ◌≤◌, ◌^◌, [], ◌∷◌, IfSome, Some, List, MatchOption, drop, false, is_some, length, not, option_copied, true, ℕ};
 ghost use Rattle.bdb_format.specs.Digits.{number_in};
+ghost use Rattle.bdb_model.specs.Answers.{usage};
+ghost use Rattle.bdb_model.specs.Change.{change};
 ghost use Rattle.bdb_model.specs.Command.{Request as ModelRequest, arguments, asked_name, limit_of, once};
 ghost use Rattle.bdb_tool.specs.Commands.{Action as ModelAction, at_most, command_of, command_on, command_with, onto_file, convert_row, dump_row, get_row, kind_named, load_row, plain_row, reading_row, rows_by, range_row, repair_row, salvage_row, trial_row};
+ghost use Rattle.bdb_tool.specs.Parts.{Tells};
 ghost use Rattle.bdb_tool.specs.WordsSeen.{AreOnto, IsFitAction, IsFitCommand, IsSeen, action_seen, reading_seen};
 
+use crate::finish::tell;
 use crate::guesses::{guess_asked, order_named};
 use crate::options::{OptionWord, read_arguments};
 use crate::shapes::{duplicates_named, shape_asked};
+use crate::status::USAGE;
 use bdb_file::Rows;
 use bdb_format::{Kind, Order, number_in};
+use bdb_io::Sink;
 use bdb_model::Words;
 use bdb_repair::Shape;
 use bdb_rescue::Guess;
@@ -217,6 +223,17 @@ pub fn command_of<'w>(words: &'w Words) -> Option<Command<'w>>
         return repair_command(words);
     }
     None
+}
+
+/// Tells the names of all commands, where the words are none of them, and answers the status of that or of a write fault.
+pub fn tell_usage<E: Sink>(err: &mut E) -> u8
+    ensures { Tells usage.err 2 (change E.written E.faults err.old err.new) result }
+{
+    tell(
+        err,
+        b"usage: bdbtool verify, list, get, dump, load, salvage, trial, range, convert, stat or repair\n",
+        USAGE,
+    )
 }
 
 /// The file that is opened as the base: that of a `load` with `--onto`. It takes no memory.

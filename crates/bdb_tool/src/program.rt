@@ -8,9 +8,9 @@ ghost use Rattle.bdb_tool.specs.WordsSeen.{AreOnto};
 
 use crate::answer::answer;
 use crate::building::answer_onto;
-use crate::command::base_limit;
+use crate::command::{base_limit, tell_usage};
 use crate::finish::{tell, tell_memory};
-use crate::status::{READ_FAULT, TOO_LARGE, USAGE};
+use crate::status::{READ_FAULT, TOO_LARGE};
 use crate::task::{Stop, input_of, task_of};
 use crate::text::{base_too_large_line, too_large_line};
 use bdb_format::Steps;
@@ -167,11 +167,7 @@ fn stopped<E: Sink>(alloc: Global, stop: Stop, err: &mut E) -> u8
     ensures { IsToldStop stop (change E.written E.faults err.old err.new) result }
 {
     match stop {
-        Stop::Usage => tell(
-            err,
-            b"usage: bdbtool verify, list, get, dump, load, salvage, trial, range, convert, stat or repair\n",
-            USAGE,
-        ),
+        Stop::Usage => tell_usage(err),
         Stop::TooLarge(limit) => match too_large_line(alloc, limit) {
             Ok(line) => tell(err, line.as_bytes(), TOO_LARGE),
             Err(_) => tell_memory(err),

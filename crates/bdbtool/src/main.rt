@@ -7,7 +7,7 @@ ghost use Rattle.std.specs.Vec.Iter.{into_iter_items};
 use bdb_io::{BaseSource, Sink, StdSink, StdSource, put_all};
 use bdb_model::Words;
 use bdb_tool::status::{MEMORY, USAGE};
-use bdb_tool::{onto_file, run_counted, run_onto};
+use bdb_tool::{onto_file, run_counted, run_onto, tell_usage};
 use std::alloc::{AllocError, Global};
 use std::env::{self, Args};
 use std::fs::{self, File};
@@ -71,10 +71,7 @@ fn refuse<E: Sink>(err: &mut E, cause: ErrorKind) -> ExitCode {
         let _ = put_all(err, b"out of memory\n");
         return ExitCode::from(MEMORY);
     }
-    let _ = put_all(
-        err,
-        b"usage: bdbtool verify, list, get, dump, load, salvage, trial, range, convert, stat or repair\n",
-    );
+    let _ = tell_usage(err);
     ExitCode::from(USAGE)
 }
 

@@ -7,12 +7,17 @@ use Rattle.bdb_text_format.specs.Placed.{key_seen, pairs_of, slice_seen}
 use Rattle.bdb_text_format.specs.declared.pairs.TextPair.{TextPair}
 use Rattle.bdb_leaves.specs.Units.{KeyedUnit}
 use Rattle.bdb_mktree.specs.Lists.{HasBytes, IsRunAt, has_key}
-use Rattle.bdb_mktree.proofs.ListLemmas.{has_bytes_at, is_run, run_long}
+use Rattle.bdb_mktree.proofs.ListLemmas.{first_has_key, has_bytes_at, is_run, run_long}
 use Rattle.bdb_mktree.proofs.runs.run_at.Goals as goal
 
 pub unreachable-requires : goal.unreachable-requires
 unreachable-requires c =
     subst HasBytes (ap key_seen c.in_default.is) (has_bytes_at (slice_seen c.args.list) c.args.start _ c.requires.keys c.at.ensures)
+
+pub run_length-requires : goal.run_length-requires
+run_length-requires c =
+    first_has_key c.in-Bytes.key.now (slice_seen c.args.list) (slice_seen c.split_at.result.1) c.args.start _ c.at.ensures (ap key_seen c.in-Bytes.is)
+    c.split_at.ensures.rest
 
 pub split_at-requires-2 : goal.split_at-requires-2
 split_at-requires-2 c = run_long c.in-Bytes.key.now (slice_seen c.split_at.result.1) c.run_length.result c.run_length.ensures
