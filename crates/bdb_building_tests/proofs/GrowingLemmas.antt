@@ -7,7 +7,7 @@ use Rattle.bdb_format.specs.ContentRows.{ascends, ascends_from}
 use Rattle.bdb_format.specs.Less.{less}
 use Rattle.bdb_format.specs.Reading.{is_zero}
 use Rattle.bdb_pack.specs.Built.{Built}
-use Rattle.bdb_leaves.specs.Units.{KeyedUnit, TreeUnit, key_of}
+use Rattle.bdb_mkleaves.specs.Units.{KeyedUnit, TreeUnit, key_of}
 use Rattle.bdb_mktree.specs.Building.{Building, units_of}
 use Rattle.bdb_mktree.specs.Units.{IsNext}
 use Rattle.bdb_mktree.specs.declared.builder.TreeBuilder.{TreeBuilder}

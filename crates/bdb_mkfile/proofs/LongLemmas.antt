@@ -18,16 +18,16 @@ use Rattle.bdb_format.proofs.SizeLemmas.{size_bounds}
 use Rattle.bdb_text_format.specs.declared.pairs.Pair.{Pair}
 use Rattle.bdb_text_format.specs.declared.pairs.Key.{Key}
 use Rattle.bdb_text_format.specs.declared.pairs.Key.TheVariants.{Bytes, Number}
-use Rattle.bdb_leaves.specs.Placed.{values_in}
-use Rattle.bdb_leaves.specs.Spread.{leaves_and_levels, own_pages, set_pages, set_type}
-use Rattle.bdb_leaves.specs.Units.{EntryUnit, KeyedUnit, TreeUnit, chain_pages, has_own_tree, key_of}
+use Rattle.bdb_mkleaves.specs.Placed.{values_in}
+use Rattle.bdb_mkleaves.specs.Spread.{leaves_and_levels, own_pages, set_pages, set_type}
+use Rattle.bdb_mkleaves.specs.Units.{EntryUnit, KeyedUnit, TreeUnit, chain_pages, has_own_tree, key_of}
 use Rattle.bdb_mktree.specs.Lists.{HasNumber, bytes_in, keyed_units, missing, onto_units, record_units}
 use Rattle.bdb_text_format.specs.Pairs.{number_of}
 use Rattle.bdb_mkhash.specs.Buckets.{keyed_of, table_units}
 use Rattle.bdb_mkhash.specs.Costs.{data_form, keyed_own_pages, pages_in, stand_together}
 use Rattle.bdb_mkhash.proofs.CostLemmas.{together_inline}
 use Rattle.bdb_settle.specs.ListLaw.{HasShortBytes}
-use Rattle.bdb_count.specs.Need.{list_pages}
+use Rattle.bdb_need.specs.Need.{list_pages}
 
 -- One value.
 

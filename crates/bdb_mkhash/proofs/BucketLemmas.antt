@@ -9,9 +9,9 @@ use Rattle.std.proofs.lemmas.List.Elements.{filter-append}
 use Rattle.std.proofs.lemmas.List.FromFn.{get_or-map-range_with_len, length-map-range_with_len}
 use Rattle.std.proofs.lemmas.Nat.{pow_pos}
 use Rattle.bdb_text_format.specs.declared.pairs.Pair.{Pair}
-use Rattle.bdb_leaves.specs.Units.{KeyedUnit, page_room}
+use Rattle.bdb_mkleaves.specs.Units.{KeyedUnit, page_room}
 use Rattle.bdb_mktree.specs.Lists.{IsRunAt}
-use Rattle.bdb_buckets.specs.Tables.{Keyed, bucket_among, dealt}
+use Rattle.bdb_law_buckets.specs.Tables.{Keyed, bucket_among, dealt}
 use Rattle.bdb_mkhash.specs.Buckets.{bits_for, buckets_of, keyed_of, table_units}
 
 -- How many buckets.

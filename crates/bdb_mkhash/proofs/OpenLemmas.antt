@@ -11,15 +11,15 @@ use Rattle.bdb_format.specs.File.{File, page_at}
 use Rattle.bdb_format.specs.Page.{Content, Hash, Item, Listed, NoType, Overflow, Page}
 use Rattle.bdb_format.specs.Reading.{abstract_page}
 use Rattle.bdb_format.specs.Rows.{page_code}
-use Rattle.bdb_grove.specs.Growing.{IsCounted, IsLater, IsSamePage}
-use Rattle.bdb_grove.specs.Part.{between}
-use Rattle.bdb_grove.proofs.ChainLemmas.{between_is, is_between}
+use Rattle.bdb_law_grove.specs.Growing.{IsCounted, IsLater, IsSamePage}
+use Rattle.bdb_law_grove.specs.Part.{between}
+use Rattle.bdb_law_grove.proofs.ChainLemmas.{between_is, is_between}
 use Rattle.bdb_pack.specs.Built.{Built, bytes_of, file_so_far}
-use Rattle.bdb_leaves.specs.Spread.{spread_on}
-use Rattle.bdb_leaves.specs.Units.{page_room}
-use Rattle.bdb_leaves.proofs.RunLemmas.{later_before}
-use Rattle.bdb_buckets.specs.Pages.{IsHashIn}
-use Rattle.bdb_buckets.specs.Tables.{BucketStands, Keyed, PlacedUnit, UnitsStand, contents_on, unit_of}
+use Rattle.bdb_mkleaves.specs.Spread.{spread_on}
+use Rattle.bdb_mkleaves.specs.Units.{page_room}
+use Rattle.bdb_mkleaves.proofs.RunLemmas.{later_before}
+use Rattle.bdb_law_buckets.specs.Pages.{IsHashIn}
+use Rattle.bdb_law_buckets.specs.Tables.{BucketStands, Keyed, PlacedUnit, UnitsStand, contents_on, unit_of}
 use Rattle.bdb_mkhash.specs.Costs.{keyed_own_pages, keyed_cost}
 use Rattle.bdb_mkhash.specs.Filling.{IsBucketFilled, IsBucketOpen, IsFollowed, IsPageFilled, closed_of, no_unit, of_bucket, room_on}
 use Rattle.bdb_mkhash.specs.Pages.{HoldsContents, HoldsContentsOn}

@@ -16,7 +16,7 @@ use Rattle.bdb_text_format.specs.declared.pairs.Pair.{Pair}
 use Rattle.bdb_text_format.specs.declared.pairs.TextPair.{TextPair}
 use Rattle.bdb_text_format.specs.declared.pairs.Key.{Key}
 use Rattle.bdb_text_format.specs.declared.pairs.Key.TheVariants.{Bytes, Number}
-use Rattle.bdb_leaves.specs.Units.{EntryUnit, KeyedUnit, TreeUnit, list_of_units, listed_keyed, listed_record}
+use Rattle.bdb_mkleaves.specs.Units.{EntryUnit, KeyedUnit, TreeUnit, list_of_units, listed_keyed, listed_record}
 use Rattle.bdb_mktree.specs.Lists.{AreKeysOf, HasBytes, IsRecordAt, IsRunAt, bytes_in, has_key, has_key_at, keyed_units, missing, record_units, units_in}
 use Rattle.bdb_mktree.specs.Lists.{onto_units}
 use Rattle.bdb_mktree.specs.Units.{IsTreeKind}

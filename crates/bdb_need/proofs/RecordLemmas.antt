@@ -12,14 +12,14 @@ use Rattle.bdb_format.specs.declared.settings.Settings.{Settings}
 use Rattle.bdb_text_format.specs.declared.pairs.Pair.{Pair}
 use Rattle.bdb_text_format.specs.declared.pairs.TextPair.{TextPair}
 use Rattle.bdb_text_format.specs.Pairs.{AscendFrom, number_of}
-use Rattle.bdb_leaves.specs.Spread.{own_pages, pages_over, tree_size}
-use Rattle.bdb_leaves.specs.Units.{EntryUnit, TreeUnit, chain_pages, unit_cost, value_cost}
-use Rattle.bdb_leaves.specs.declared.leaf_type.LeafType.TheVariants.{Records}
+use Rattle.bdb_mkleaves.specs.Spread.{own_pages, pages_over, tree_size}
+use Rattle.bdb_mkleaves.specs.Units.{EntryUnit, TreeUnit, chain_pages, unit_cost, value_cost}
+use Rattle.bdb_mkleaves.specs.declared.leaf_type.LeafType.TheVariants.{Records}
 use Rattle.bdb_mktree.specs.Lists.{missing, record_units}
 use Rattle.bdb_settle.specs.Loaded.{filled_pair, filled_pairs}
 use Rattle.bdb_need.specs.declared.open_page.OpenPage.{OpenPage}
 use Rattle.bdb_need.specs.Counting.{ArePut, values_in}
-use Rattle.bdb_need.specs.Need.{unlined_pairs, unlined}
+use Rattle.bdb_need.specs.TreePages.{unlined_pairs, unlined}
 use Rattle.bdb_need.proofs.TreeLemmas.{CountedTo, counted_end, counted_next}
 
 -- A missing record.

@@ -13,8 +13,8 @@ use Rattle.bdb_format.proofs.LessLemmas.{eq_same, eq_self}
 use Rattle.bdb_format.proofs.ListLemmas.{member_of}
 use Rattle.bdb_format.proofs.MemberLemmas.{first_member, later_member, member_cases, no_member, none_pass, none_passes}
 use Rattle.bdb_text_format.specs.declared.sections.Section.{Section}
-use Rattle.bdb_sections.specs.Fit.{AreNamedBehind}
-use Rattle.bdb_kept.proofs.LaterLemmas.{AllLater}
+use Rattle.bdb_law_sections.specs.Fit.{AreNamedBehind}
+use Rattle.bdb_law_kept.proofs.LaterLemmas.{AllLater}
 use Rattle.bdb_onto.specs.declared.base.Base.{Base}
 use Rattle.bdb_onto.specs.declared.joining.Placed.{Placed}
 use Rattle.bdb_onto.specs.Bases.{IsBase}

@@ -22,9 +22,9 @@ use Rattle.bdb_format.proofs.MemberLemmas.{first_member, in_map, later_member, o
 use Rattle.bdb_layout.specs.Seen.{OrderingIs}
 use Rattle.bdb_layout.proofs.KeyLemmas.{slice_cmp-is}
 use Rattle.bdb_text_format.specs.declared.sections.Section.{Section}
-use Rattle.bdb_kept.specs.Kept.{IsSound, bytes_of_name}
-use Rattle.bdb_kept.proofs.KeyedLemmas.{Rise, ascends_rise}
-use Rattle.bdb_kept.proofs.NameLemmas.{in_order_of_names}
+use Rattle.bdb_law_kept.specs.Kept.{IsSound, bytes_of_name}
+use Rattle.bdb_law_kept.proofs.KeyedLemmas.{Rise, ascends_rise}
+use Rattle.bdb_law_kept.proofs.NameLemmas.{in_order_of_names}
 use Rattle.bdb_mkfile.specs.Builds.{name_of}
 use Rattle.bdb_onto.specs.declared.base.Base.{Base}
 use Rattle.bdb_onto.specs.Bases.{IsBase, base_section}

@@ -2,7 +2,7 @@
 ghost use Rattle.std.specs.Prelude.{◌≡◌, [], ◌++◌, IfOk, List, Some, length, map, option_to_list};
 ghost use Rattle.std.specs.List.{All, flat_map};
 ghost use Rattle.bdb_text_format.specs.Placed.{slice_seen};
-ghost use Rattle.bdb_sections.specs.Fit.{AreNamedBehind};
+ghost use Rattle.bdb_law_sections.specs.Fit.{AreNamedBehind};
 ghost use Rattle.bdb_onto.specs.Bases.{IsBase};
 ghost use Rattle.bdb_onto.specs.Joining.{IsPlaced, behind, emptied, placed_section, taken_at};
 ghost use Rattle.bdb_onto.specs.Onto.{joined};

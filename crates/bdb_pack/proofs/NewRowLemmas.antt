@@ -14,7 +14,7 @@ use Rattle.bdb_format.specs.Rows.{hash_rows, internal_rows, is_hash_kind, is_lea
 use Rattle.bdb_format.specs.Spelling.{IsHashContent, IsKey, IsLeafContent, block_bytes, hash_bytes, internal_bytes, kind_byte, leaf_bytes, recno_bytes, zeros}
 use Rattle.bdb_format.proofs.SpellingLemmas.{byte_at-in, length-spelled, number_at-in, slice_range-in}
 use Rattle.bdb_layout.proofs.WritingLemmas.{length-hash_chain, length-hash_tree, length-internal_chain, length-internal_inline, length-leaf_chain, length-leaf_tree}
-use Rattle.bdb_grove.proofs.GroveLemmas.{above}
+use Rattle.bdb_law_grove.proofs.GroveLemmas.{above}
 use Rattle.bdb_pack.specs.Items.{IsHashPlace, IsLeafPlace}
 use Rattle.bdb_pack.proofs.OpenLemmas.{length-recno}
 use Rattle.bdb_pack.proofs.RowsLemmas.{three_none}

@@ -10,8 +10,8 @@ use Rattle.bdb_format.specs.Page.{NoType, Overflow, Page}
 use Rattle.bdb_format.specs.File.{File, header_in, page_at}
 use Rattle.bdb_format.specs.Reading.{abstract_page}
 use Rattle.bdb_format.specs.Chains.{joined, piece_in}
-use Rattle.bdb_grove.specs.Growing.{IsLink, IsRun, IsSamePage, chain_header}
-use Rattle.bdb_grove.proofs.ChainLemmas.{chains_stand, is_between}
+use Rattle.bdb_law_grove.specs.Growing.{IsLink, IsRun, IsSamePage, chain_header}
+use Rattle.bdb_law_grove.proofs.ChainLemmas.{chains_stand, is_between}
 use Rattle.bdb_pack.specs.Built.{bytes_of, file_so_far}
 use Rattle.bdb_pack.specs.Stored.{AreFull, StoredValuesStand}
 use Rattle.bdb_pack.specs.Values.{AreChainPages, chain_page, piece_length, piece_next}

@@ -16,16 +16,16 @@ use Rattle.bdb_text_format.specs.declared.pairs.Key.TheVariants.{Number}
 use Rattle.bdb_text_format.specs.declared.sections.Section.{Section}
 use Rattle.bdb_text_format.specs.Pairs.{number_of}
 use Rattle.bdb_settle.specs.Loaded.{loaded, loaded_pair, loaded_section, put, stands_before, unlined_pairs, unnumbered, with_loaded}
-use Rattle.bdb_leaves.specs.Units.{TreeUnit, KeyedUnit, EntryUnit}
+use Rattle.bdb_mkleaves.specs.Units.{TreeUnit, KeyedUnit, EntryUnit}
 use Rattle.bdb_mktree.specs.Lists.{bytes_in, keyed_units, missing, onto_units, record_units}
 use Rattle.bdb_mktree.specs.Units.{leaf_type_of}
-use Rattle.bdb_need.specs.Need.{tree_pages}
-use Rattle.bdb_count.specs.Need.{need_of, section_pages}
-use Rattle.bdb_count.proofs.NeedLemmas.{listed_again}
+use Rattle.bdb_need.specs.TreePages.{tree_pages}
+use Rattle.bdb_need.specs.Need.{need_of, section_pages}
+use Rattle.bdb_need.proofs.NeedLemmas.{listed_again}
 use Rattle.bdb_mkfile.specs.Builds.{image_size}
-use Rattle.bdb_printing.specs.SalvageText.{loose_settings, stored_settings}
+use Rattle.bdb_tool_print.specs.SalvageText.{loose_settings, stored_settings}
 use Rattle.bdb_survey.specs.declared.guess.Guess.{Guess}
-use Rattle.bdb_stored.specs.Salvage.{loose, salvaged_file, stored}
+use Rattle.bdb_survey.specs.Salvage.{loose, salvaged_file, stored}
 use Rattle.bdb_repair.specs.declared.shape.Duplicates.TheVariants.{No, Unsorted, Sorted}
 use Rattle.bdb_repair.specs.declared.shape.Shape.{Shape}
 use Rattle.bdb_repair.specs.declared.shape.Shape.TheVariants.{Btree as BtreeShape, Hash as HashShape, Recno as RecnoShape}

@@ -18,9 +18,9 @@ use Rattle.bdb_format.specs.Rows.{page_code}
 use Rattle.bdb_format.proofs.MemberLemmas.{no_member, of_flat_map, of_map}
 use Rattle.bdb_format.proofs.ListLemmas.{only_member}
 use Rattle.bdb_text.specs.WrittenLaw.{AreBytes}
-use Rattle.bdb_kept.proofs.BytesLemmas.{FileHoldsBytes, HoldsBytes, PageHoldsBytes, entry_holds, page_holds, value_holds}
-use Rattle.bdb_stored.specs.Salvage.{ItemPair, is_taken, is_whole, item_pairs, live_value, live_whole, loose, loose_on, pair_in, paired_items, salvaged_file, salvaged_page}
-use Rattle.bdb_stored.specs.Salvage.{stored, stored_on, stored_pair, unless_code, whole_data, whole_set, whole_values}
+use Rattle.bdb_law_kept.proofs.BytesLemmas.{FileHoldsBytes, HoldsBytes, PageHoldsBytes, entry_holds, page_holds, value_holds}
+use Rattle.bdb_survey.specs.Salvage.{ItemPair, is_taken, is_whole, item_pairs, live_value, live_whole, loose, loose_on, pair_in, paired_items, salvaged_file, salvaged_page}
+use Rattle.bdb_survey.specs.Salvage.{stored, stored_on, stored_pair, unless_code, whole_data, whole_set, whole_values}
 
 abbrev IsByte : ℕ → Type 0
 IsByte byte = byte < 256

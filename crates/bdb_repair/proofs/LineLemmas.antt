@@ -16,7 +16,7 @@ use Rattle.bdb_settle.specs.declared.load_error.LoadError.TheVariants.{RecordToo
 use Rattle.bdb_settle.specs.Loaded.{loaded, loaded_pair, loaded_section, unnumbered, with_loaded}
 use Rattle.bdb_settle.specs.LoadErrors.{header_errors, is_among_names, is_sooner, is_too_long, is_too_wide, is_zero, load_error, page_size_in, pair_errors}
 use Rattle.bdb_settle.specs.LoadErrors.{section_errors, sooner, where_so}
-use Rattle.bdb_count.specs.Need.{need_of}
+use Rattle.bdb_need.specs.Need.{need_of}
 use Rattle.bdb_mkfile.specs.Builds.{AreLoadedAs, IsLoadedAs, image_size, in_name_order, name_of, put_named}
 use Rattle.bdb_repair.specs.Reads.{LinesHaveNoPart, unlined, without_lines}
 

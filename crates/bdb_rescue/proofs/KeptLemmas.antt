@@ -12,7 +12,7 @@ use Rattle.bdb_rescue.specs.declared.kept.KeptPair.{KeptPair}
 use Rattle.bdb_rescue.specs.declared.kept.KeptValue.{KeptValue}
 use Rattle.bdb_rescue.specs.Kept.{IsKeptPair, IsKeptValue, data_places, is_held, item_of, kept_in, kept_on, kept_pair, kept_pairs, kept_value, loose_values, untaken_on, values_in, values_on}
 use Rattle.bdb_survey.specs.Items.{is_valued, slot_at, slots_in}
-use Rattle.bdb_stored.specs.Salvage.{is_taken, is_whole, paired_items, set_starts}
+use Rattle.bdb_survey.specs.Salvage.{is_taken, is_whole, paired_items, set_starts}
 use Rattle.bdb_rescue.proofs.ListLemmas.{all_none, all_one, all_pieces}
 use Rattle.bdb_rescue.specs.Marks.{leaf_in, start_of}
 use Rattle.bdb_format.specs.Chains.{chain}

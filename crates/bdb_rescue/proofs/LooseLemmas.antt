@@ -13,7 +13,7 @@ use Rattle.bdb_format.specs.Page.{Item, Page, Zero, Free, Meta, Hash, Internal, 
 use Rattle.bdb_format.specs.References.{no_item}
 use Rattle.bdb_survey.specs.Items.{is_valued, slot_at, slots_in}
 use Rattle.bdb_rescue.specs.Kept.{kept_value, loose_values, untaken_on, value_at, values_in, values_on}
-use Rattle.bdb_stored.specs.Salvage.{is_taken, live_value, live_whole, loose, loose_on}
+use Rattle.bdb_survey.specs.Salvage.{is_taken, live_value, live_whole, loose, loose_on}
 use Rattle.bdb_rescue.proofs.ListLemmas.{flat_map_alike}
 use Rattle.bdb_rescue.proofs.StoredLemmas.{AreOn, values_are}
 

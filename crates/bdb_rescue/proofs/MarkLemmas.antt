@@ -19,7 +19,7 @@ use Rattle.bdb_rescue.specs.declared.kept.KeptPair.{KeptPair}
 use Rattle.bdb_rescue.specs.Kept.{data_places, kept_in, kept_on, kept_pair, kept_pairs}
 use Rattle.bdb_survey.specs.Items.{is_valued, slot_at}
 use Rattle.bdb_rescue.specs.Marks.{Marks, is_among, leaf_in, row_of, start_of, starts_of}
-use Rattle.bdb_stored.specs.Salvage.{ItemPair, down, follows, is_like, is_link, is_row, is_whole, item_pairs, pair_in, pair_start, paired_items, row_from, set_start, set_starts, start_in, whole_values}
+use Rattle.bdb_survey.specs.Salvage.{ItemPair, down, follows, is_like, is_link, is_row, is_whole, item_pairs, pair_in, pair_start, paired_items, row_from, set_start, set_starts, start_in, whole_values}
 use Rattle.bdb_rescue.proofs.ListLemmas.{flat_map_alike}
 use Rattle.bdb_rescue.proofs.StoredLemmas.{append_nil, values_are}
 use Rattle.bdb_survey.proofs.SurveyLemmas.{no_leaf}

@@ -8,8 +8,8 @@ use Rattle.bdb_format.specs.Chains.{chain}
 use Rattle.bdb_format.specs.File.{File}
 use Rattle.bdb_format.specs.declared.kinds.Order.{Order}
 use Rattle.bdb_rescue.specs.Kept.{set_from, values_on}
-use Rattle.bdb_stored.specs.Salvage.{salvaged_file, set_starts}
-use Rattle.bdb_stored.proofs.PageLemmas.{count_is, page_past}
+use Rattle.bdb_survey.specs.Salvage.{salvaged_file, set_starts}
+use Rattle.bdb_survey.proofs.StoredPageLemmas.{count_is, page_past}
 use Rattle.bdb_rescue.proofs.MarkLemmas.{IsPast}
 
 -- a set that begins at a page

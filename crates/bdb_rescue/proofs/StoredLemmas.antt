@@ -12,7 +12,7 @@ use Rattle.bdb_rescue.specs.declared.kept.DataPlace.TheVariants.{Set as OnLeaves
 use Rattle.bdb_rescue.specs.declared.kept.KeptPair.{KeptPair}
 use Rattle.bdb_rescue.specs.Kept.{data_at, data_places, given, given_live, item_of, kept_in, kept_on, kept_pair, kept_pairs, under}
 use Rattle.bdb_survey.specs.Items.{is_valued, slot_at}
-use Rattle.bdb_stored.specs.Salvage.{is_whole, item_pairs, live_whole, pair_in, paired_items, set_start, stored, stored_on, stored_pair, whole_data, whole_values}
+use Rattle.bdb_survey.specs.Salvage.{is_whole, item_pairs, live_whole, pair_in, paired_items, set_start, stored, stored_on, stored_pair, whole_data, whole_values}
 use Rattle.bdb_rescue.proofs.ListLemmas.{flat_map_alike, flat_map_none}
 
 pub append_nil : {X : Type 0} (xs : List X) → xs ++ [] ≡ xs

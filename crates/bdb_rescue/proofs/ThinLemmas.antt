@@ -7,7 +7,7 @@ use Rattle.bdb_format.specs.File.{File}
 use Rattle.bdb_format.specs.Page.{Chain}
 use Rattle.bdb_rescue.specs.Kept.{bytes_in, thin_from}
 use Rattle.bdb_survey.specs.Rows.{is_thin_row, row_at}
-use Rattle.bdb_stored.specs.Salvage.{is_overflow, is_row, is_whole}
+use Rattle.bdb_survey.specs.Salvage.{is_overflow, is_row, is_whole}
 use Rattle.bdb_survey.proofs.SurveyLemmas.{no_row_here}
 use Rattle.bdb_survey.proofs.WholeLemmas.{no_row}
 use Rattle.bdb_rescue.proofs.MarkLemmas.{IsPast}

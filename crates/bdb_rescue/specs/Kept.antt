@@ -13,7 +13,7 @@ use Rattle.bdb_rescue.specs.declared.kept.KeptPair.{KeptPair}
 use Rattle.bdb_rescue.specs.declared.kept.KeptValue.{KeptValue}
 use Rattle.bdb_survey.specs.Items.{is_valued, slot_at, slots_in}
 use Rattle.bdb_survey.specs.Rows.{thin_pieces}
-use Rattle.bdb_stored.specs.Salvage.{is_taken, is_whole, live_whole, paired_items, salvaged_file, set_start, set_starts}
+use Rattle.bdb_survey.specs.Salvage.{is_taken, is_whole, live_whole, paired_items, salvaged_file, set_start, set_starts}
 
 -- An image and how it's read.
 pub record Reading : Type 0 where

@@ -10,7 +10,7 @@ ghost use Rattle.bdb_rescue.specs.Marks.{Marks};
 ghost use Rattle.bdb_layout.specs.Seen.{content_seen};
 ghost use Rattle.bdb_survey.specs.Items.{is_valued, slots_in};
 ghost use Rattle.bdb_overflow.specs.Datum.{datum_seen};
-ghost use Rattle.bdb_stored.specs.Salvage.{is_overflow, is_row, is_whole, live_whole, loose, salvaged_file, set_starts, stored};
+ghost use Rattle.bdb_survey.specs.Salvage.{is_overflow, is_row, is_whole, live_whole, loose, salvaged_file, set_starts, stored};
 ghost use Rattle.bdb_rescue.specs.declared.error.SalvageError.TheVariants.{Memory, NoMeta};
 
 use crate::guess::chosen;

@@ -16,9 +16,9 @@ use Rattle.bdb_form.specs.Formed.{HoldsData}
 use Rattle.bdb_form.proofs.FormedLemmas.{holds_data, tree_body}
 use Rattle.bdb_overflow.specs.Whole.{EndsIn, IsLink, IsWholeChain, bytes_of, next_at}
 use Rattle.bdb_overflow.proofs.WholeLemmas.{page_as_is, page_length}
-use Rattle.bdb_stored.specs.Salvage.{follows, is_link, is_overflow, is_row, salvaged_file, salvaged_page, unless_code}
-use Rattle.bdb_stored.proofs.PageLemmas.{count_is, page_is, page_past}
-use Rattle.bdb_census.proofs.HashLemmas.{no_turn, turn_is}
+use Rattle.bdb_survey.specs.Salvage.{follows, is_link, is_overflow, is_row, salvaged_file, salvaged_page, unless_code}
+use Rattle.bdb_survey.proofs.StoredPageLemmas.{count_is, page_is, page_past}
+use Rattle.bdb_law_sums.proofs.HashLemmas.{no_turn, turn_is}
 
 -- An overflow page by its bytes.
 

@@ -12,7 +12,7 @@ use Rattle.bdb_survey.specs.declared.survey.Row.TheVariants.{Nothing, Chain as C
 use Rattle.bdb_survey.specs.Rows.{chain_row, is_leaf_row, leaf_row, row_at, row_by, way_row}
 use Rattle.bdb_survey.specs.Links.{extent_of}
 use Rattle.bdb_survey.specs.Ways.{way_by, way_from}
-use Rattle.bdb_stored.specs.Salvage.{fits_below, is_overflow, is_record_leaf, is_sorted_leaf, row_from, set_start}
+use Rattle.bdb_survey.specs.Salvage.{fits_below, is_overflow, is_record_leaf, is_sorted_leaf, row_from, set_start}
 use Rattle.bdb_survey.proofs.SurveyLemmas.{leaves_whole}
 use Rattle.bdb_survey.proofs.WayLemmas.{IsOnWay, at_broken, at_child, at_end, at_ends, at_zero}
 

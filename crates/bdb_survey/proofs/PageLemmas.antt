@@ -23,8 +23,8 @@ use Rattle.bdb_graph.proofs.ChainLengthLemmas.{piece_fits}
 use Rattle.bdb_overflow.specs.Whole.{bytes_of}
 use Rattle.bdb_overflow.proofs.WholeLemmas.{page_length}
 use Rattle.bdb_survey.specs.Items.{slots_in}
-use Rattle.bdb_stored.specs.Salvage.{salvaged_file, salvaged_page, unless_code}
-use Rattle.bdb_stored.proofs.PageLemmas.{page_is, page_past}
+use Rattle.bdb_survey.specs.Salvage.{salvaged_file, salvaged_page, unless_code}
+use Rattle.bdb_survey.proofs.StoredPageLemmas.{page_is, page_past}
 
 few_pages : (n size : ℕ) → 512 ≤ size → n ≤ 2 ^ 30 → n / size ≤ 2 ^ 21
 few_pages n size large small = div-le_of_le-mul size (omega (arith, small, bound size large))

@@ -4,7 +4,7 @@ use Rattle.std.specs.Prelude.{◌==◌, Option, Some, None}
 use Rattle.bdb_format.specs.Chains.{chain_in, next_of}
 use Rattle.bdb_format.specs.File.{File}
 use Rattle.bdb_survey.specs.Rows.{leaves_from, unless_zero}
-use Rattle.bdb_census.proofs.HashLemmas.{no_turn, turn_is}
+use Rattle.bdb_law_sums.proofs.HashLemmas.{no_turn, turn_is}
 
 pub no_turn_left : (file : File) (turns : ℕ) (p : ℕ) → turns ≡ 0 → leaves_from turns file (Some p) ≡ []
 no_turn_left file turns p none = ap (λ t. leaves_from t file (Some p)) none ∙ no_turn file p

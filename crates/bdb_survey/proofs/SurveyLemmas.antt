@@ -15,7 +15,7 @@ use Rattle.bdb_survey.specs.declared.down.Way.{Way}
 use Rattle.bdb_survey.specs.declared.down.Way.TheVariants.{Ends, Child, Broken}
 use Rattle.bdb_survey.specs.Ways.{way_from}
 use Rattle.bdb_survey.specs.Links.{link_in, link_of, extent_of}
-use Rattle.bdb_stored.specs.Salvage.{is_like, is_overflow, is_record_leaf, is_row, is_sorted_leaf, is_whole}
+use Rattle.bdb_survey.specs.Salvage.{is_like, is_overflow, is_record_leaf, is_row, is_sorted_leaf, is_whole}
 use Rattle.bdb_survey.proofs.WalkLemmas.{rest_none, whole_is_rest}
 use Rattle.bdb_survey.proofs.WholeLemmas.{no_row, not_whole, some_row, whole_by, whole_row}
 

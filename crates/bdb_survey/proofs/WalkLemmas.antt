@@ -8,8 +8,8 @@ use Rattle.bdb_format.specs.Page.{Page}
 use Rattle.bdb_survey.specs.declared.links.Extent.{Extent}
 use Rattle.bdb_survey.specs.declared.links.Link.{Link}
 use Rattle.bdb_survey.specs.Links.{link_in, link_of, rest_extent, extent_of}
-use Rattle.bdb_stored.specs.Salvage.{follows, is_link}
-use Rattle.bdb_census.proofs.HashLemmas.{no_turn, turn_is}
+use Rattle.bdb_survey.specs.Salvage.{follows, is_link}
+use Rattle.bdb_law_sums.proofs.HashLemmas.{no_turn, turn_is}
 
 -- the length of the data of some pages
 abbrev pub size_of : File → List ℕ → ℕ

@@ -11,7 +11,7 @@ use Rattle.bdb_format.specs.References.{asked_by, fit_code, has_type, is_zero_pa
 use Rattle.bdb_format.specs.Table.{◌:?◌, first_row}
 use Rattle.bdb_survey.specs.declared.down.Way.{Way}
 use Rattle.bdb_survey.specs.declared.down.Way.TheVariants.{Ends, Child as ChildWay, Broken}
-use Rattle.bdb_stored.specs.Salvage.{down, down_by, down_in, fits_below}
+use Rattle.bdb_survey.specs.Salvage.{down, down_by, down_in, fits_below}
 use Rattle.bdb_survey.specs.Ways.{fits_as, go_on, plain_type, way_by, way_from}
 
 -- Children that fit.

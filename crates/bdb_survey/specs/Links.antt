@@ -9,7 +9,7 @@ use Rattle.bdb_survey.specs.declared.links.Extent.{Extent}
 use Rattle.bdb_survey.specs.declared.links.Link.{Link}
 use Rattle.bdb_survey.specs.declared.links.RowKind.{RowKind}
 use Rattle.bdb_survey.specs.declared.links.RowKind.TheVariants.{Overflow, Records, SortedData}
-use Rattle.bdb_stored.specs.Salvage.{follows, is_overflow, is_record_leaf, is_row, is_sorted_leaf}
+use Rattle.bdb_survey.specs.Salvage.{follows, is_overflow, is_record_leaf, is_row, is_sorted_leaf}
 
 -- the page of a view; one without a type where there's none
 abbrev pub view_page : Option PageView → Page

@@ -25,7 +25,7 @@ use Rattle.bdb_file.specs.Whole.{IsVerdictBy, IsVerdictOf}
 use Rattle.bdb_file.specs.declared.rows.Rows.{Rows}
 use Rattle.bdb_file.specs.declared.rows.Rows.TheVariants.{All}
 use Rattle.bdb_file.proofs.RowsLemmas.{all_are_of_all, no_verdict}
-use Rattle.bdb_printing.specs.SalvageText.{salvage_text}
+use Rattle.bdb_tool_print.specs.SalvageText.{salvage_text}
 use Rattle.bdb_rescue.specs.Guesses.{chosen}
 use Rattle.bdb_survey.specs.declared.guess.Guess.{Guess}
 use Rattle.bdb_text_format.specs.TextSpelling.{bytes_spelled}
@@ -43,22 +43,22 @@ use Rattle.bdb_settle.specs.declared.load_error.LoadError.{LoadError}
 use Rattle.bdb_settle.specs.declared.load_error.LoadError.TheVariants.{RecordTooLong, RecordZero, TooLarge, QueueAmongNames, Memory as MemoryError, OntoKind, OntoNames}
 use Rattle.bdb_mkfile.specs.Builds.{image_size}
 use Rattle.bdb_mkfile.specs.Loading.{loading_error}
-use Rattle.bdb_writing.specs.declared.refusal.Refusal.{Refusal}
-use Rattle.bdb_writing.specs.declared.refusal.Refusal.TheVariants.{Faulty as FaultyText, TooLarge as TooLargeImage, Memory as MemoryRefusal}
-use Rattle.bdb_writing.specs.Loads.{IsLoadAnswerBy, IsErrorAnswer, IsLoadAnswer, IsTextAnswer}
+use Rattle.bdb_tool_build.specs.declared.refusal.Refusal.{Refusal}
+use Rattle.bdb_tool_build.specs.declared.refusal.Refusal.TheVariants.{Faulty as FaultyText, TooLarge as TooLargeImage, Memory as MemoryRefusal}
+use Rattle.bdb_tool_build.specs.Loads.{IsLoadAnswerBy, IsErrorAnswer, IsLoadAnswer, IsTextAnswer}
 use Rattle.bdb_onto.specs.declared.base.Base.{Base}
 use Rattle.bdb_onto.specs.Bases.{base_of}
 use Rattle.bdb_onto.specs.Onto.{loading_error_onto}
-use Rattle.bdb_writing.specs.Ontos.{IsLoadOnto, IsTextOnto, IsTextOntoBy}
+use Rattle.bdb_tool_build.specs.Ontos.{IsLoadOnto, IsTextOnto, IsTextOntoBy}
 use Rattle.bdb_tool.specs.Ontos.{IsOntoBy}
-use Rattle.bdb_writing.specs.Refusals.{IsRefusedAnswer}
-use Rattle.bdb_writing.specs.Trials.{IsTrialAnswer, IsTrialBy, trial_sections}
+use Rattle.bdb_tool_build.specs.Refusals.{IsRefusedAnswer}
+use Rattle.bdb_tool_build.specs.Trials.{IsTrialAnswer, IsTrialBy, trial_sections}
 use Rattle.bdb_tool.proofs.FinishLemmas.{memory_finishes, told_finishes, written_finishes}
 use Rattle.bdb_format.specs.Faults.{AppendsPrefix, Rose}
-use Rattle.bdb_lines.specs.declared.cut.Cut.{Cut}
-use Rattle.bdb_lines.specs.declared.cut.Cut.TheVariants.{WriteFault, Memory}
-use Rattle.bdb_lines.specs.Printing.{Writes}
-use Rattle.bdb_lines.proofs.PrintingLemmas.{moved, nothing_of}
+use Rattle.bdb_tool_lines.specs.declared.cut.Cut.{Cut}
+use Rattle.bdb_tool_lines.specs.declared.cut.Cut.TheVariants.{WriteFault, Memory}
+use Rattle.bdb_tool_lines.specs.Printing.{Writes}
+use Rattle.bdb_tool_lines.proofs.PrintingLemmas.{moved, nothing_of}
 
 -- One line.
 

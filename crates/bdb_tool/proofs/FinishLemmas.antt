@@ -6,11 +6,11 @@ use Rattle.bdb_model.specs.Answers.{Answer, done}
 use Rattle.bdb_model.specs.Change.{Change, Gains, GainsPart}
 use Rattle.bdb_format.proofs.KnownLemmas.{appends_nothing}
 use Rattle.bdb_model.specs.Lines.{memory_line}
-use Rattle.bdb_lines.specs.declared.cut.Cut.{Cut}
-use Rattle.bdb_lines.specs.declared.cut.Cut.TheVariants.{WriteFault, Memory}
+use Rattle.bdb_tool_lines.specs.declared.cut.Cut.{Cut}
+use Rattle.bdb_tool_lines.specs.declared.cut.Cut.TheVariants.{WriteFault, Memory}
 use Rattle.bdb_tool.specs.Parts.{Finishes, HasOwnStatus, Reports, Tells}
-use Rattle.bdb_lines.specs.Printing.{Writes}
-use Rattle.bdb_lines.proofs.PrintingLemmas.{moved}
+use Rattle.bdb_tool_lines.specs.Printing.{Writes}
+use Rattle.bdb_tool_lines.proofs.PrintingLemmas.{moved}
 
 -- what was written whole was written in part
 whole_part : (text : List ℕ) (out : Change) → Gains out text → GainsPart out text

@@ -12,10 +12,10 @@ use Rattle.bdb_file.specs.Whole.{IsVerdictOf}
 use Rattle.bdb_model.specs.Answers.{Answer, fault_line, told, unsupported_line}
 use Rattle.bdb_model.specs.Change.{Change, HasFailed, IsUncalled, Stays}
 use Rattle.bdb_model.specs.Lines.{memory_line, read_fault_line}
-use Rattle.bdb_lines.proofs.PrintingLemmas.{moved}
+use Rattle.bdb_tool_lines.proofs.PrintingLemmas.{moved}
 use Rattle.bdb_onto.specs.declared.base.Base.{Base}
 use Rattle.bdb_onto.specs.Bases.{IsBaseOf}
-use Rattle.bdb_writing.specs.Ontos.{IsTextOnto}
+use Rattle.bdb_tool_build.specs.Ontos.{IsTextOnto}
 use Rattle.bdb_tool.specs.Commands.{Command, LoadOnto, command_of, command_on, handed, reads_base}
 use Rattle.bdb_tool.specs.Ontos.{IsOntoAnswer, IsOntoBy, IsOntoBySize, base_too_large_line}
 use Rattle.bdb_tool.specs.Outputs.{Asked, asked_alone}

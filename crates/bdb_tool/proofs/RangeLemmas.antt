@@ -9,9 +9,9 @@ use Rattle.bdb_format.specs.Flags.{is_recno, kind_of}
 use Rattle.bdb_format.specs.Lists.{ListKey, btree_list, list_of}
 use Rattle.bdb_format.specs.Page.{Metadata, BtreeFields}
 use Rattle.bdb_file.specs.Named.{database_at, no_database}
-use Rattle.bdb_lines.specs.declared.cut.Cut.{Cut}
-use Rattle.bdb_lines.specs.Printing.{Writes}
-use Rattle.bdb_lines.proofs.PrintingLemmas.{moved}
+use Rattle.bdb_tool_lines.specs.declared.cut.Cut.{Cut}
+use Rattle.bdb_tool_lines.specs.Printing.{Writes}
+use Rattle.bdb_tool_lines.proofs.PrintingLemmas.{moved}
 use Rattle.bdb_model.specs.Answers.{database_in, done, not_btree, not_found, pairs_text}
 use Rattle.bdb_tool.specs.FileAnswers.{range_answer, ranged}
 use Rattle.bdb_model.specs.Change.{Change}

@@ -3,9 +3,9 @@ use Rattle.std.proofs.Common.{◌≡◌, ◌⊎◌, ℕ, Bool, true, false, List
 use Rattle.std.specs.Prelude.{nat_lt}
 use Rattle.bdb_format.proofs.KnownLemmas.{keeps_itself}
 use Rattle.bdb_text_format.specs.declared.sections.Section.{Section}
-use Rattle.bdb_lines.specs.declared.cut.Cut.{Cut}
-use Rattle.bdb_lines.specs.Printing.{Writes}
-use Rattle.bdb_lines.proofs.PrintingLemmas.{moved}
+use Rattle.bdb_tool_lines.specs.declared.cut.Cut.{Cut}
+use Rattle.bdb_tool_lines.specs.Printing.{Writes}
+use Rattle.bdb_tool_lines.proofs.PrintingLemmas.{moved}
 use Rattle.bdb_mkfile.specs.Builds.{image_size}
 use Rattle.bdb_model.specs.Answers.{Answer, done, told}
 use Rattle.bdb_model.specs.Change.{Change}
@@ -20,7 +20,7 @@ use Rattle.bdb_survey.specs.declared.guess.Guess.{Guess}
 use Rattle.bdb_tool.specs.Outputs.{IsImageBy, IsRepairAnswer, IsRepairBy, no_metadata}
 use Rattle.bdb_tool.specs.Parts.{Answered, Ends, HasOwnStatus, Reports, Tells, Unanswered}
 use Rattle.bdb_tool.proofs.FinishLemmas.{told_finishes, written_finishes}
-use Rattle.bdb_writing.specs.Lines.{image_too_large_line}
+use Rattle.bdb_tool_build.specs.Lines.{image_too_large_line}
 
 -- What is repaired is an answer.
 

@@ -9,8 +9,8 @@ use Rattle.bdb_file.specs.declared.rows.Rows.TheVariants.{All}
 use Rattle.bdb_format.specs.Faults.{Rose, Took}
 use Rattle.bdb_model.specs.Lines.{memory_line, read_fault_line, write_fault_line}
 use Rattle.bdb_format.proofs.KnownLemmas.{keeps_itself}
-use Rattle.bdb_writing.specs.Loads.{IsTextAnswer}
-use Rattle.bdb_writing.specs.Trials.{IsTrialAnswer}
+use Rattle.bdb_tool_build.specs.Loads.{IsTextAnswer}
+use Rattle.bdb_tool_build.specs.Trials.{IsTrialAnswer}
 use Rattle.bdb_tool.specs.Commands.{Ask, Command, Load, command_on, reads_input}
 use Rattle.bdb_tool.specs.Outputs.{AnswersInPart, Asked, IsActionAnswer, IsAnswerBySize, IsAnswerTo, IsCommandAnswer, IsInput, IsRepairAnswer, Output, StatusIs, asked_alone, asked_answer, salvage_answer}
 use Rattle.bdb_tool.specs.Parts.{Answered, Ends, Finishes, IsTaskAnswered, IsToldStop, Tells, Unanswered}
@@ -27,7 +27,7 @@ use Rattle.bdb_tool.proofs.TellingLemmas.{asked_own}
 use Rattle.bdb_tool.proofs.AnswerLemmas.{salvage_own, text_own, trial_own}
 use Rattle.bdb_tool.proofs.FinishLemmas.{memory_finishes, told_finishes}
 use Rattle.bdb_tool.proofs.RepairLemmas.{repair_own}
-use Rattle.bdb_lines.proofs.PrintingLemmas.{moved}
+use Rattle.bdb_tool_lines.proofs.PrintingLemmas.{moved}
 
 -- The input.
 

@@ -7,11 +7,11 @@ use Rattle.bdb_faults.specs.declared.named.AllError.TheVariants.{Faults}
 use Rattle.bdb_file.specs.AnyOrder.{faults_by_rows, verdict_by}
 use Rattle.bdb_file.specs.declared.rows.Rows.{Rows}
 use Rattle.bdb_format.specs.declared.kinds.Fault.{Fault}
-use Rattle.bdb_lines.specs.Printing.{Writes}
-use Rattle.bdb_lines.specs.Telling.{judgement_status, judgements_text}
-use Rattle.bdb_lines.specs.declared.cut.Cut.{Cut}
-use Rattle.bdb_lines.specs.declared.cut.Cut.TheVariants.{WriteFault}
-use Rattle.bdb_lines.proofs.PrintingLemmas.{moved}
+use Rattle.bdb_tool_lines.specs.Printing.{Writes}
+use Rattle.bdb_tool_lines.specs.Telling.{judgement_status, judgements_text}
+use Rattle.bdb_tool_lines.specs.declared.cut.Cut.{Cut}
+use Rattle.bdb_tool_lines.specs.declared.cut.Cut.TheVariants.{WriteFault}
+use Rattle.bdb_tool_lines.proofs.PrintingLemmas.{moved}
 use Rattle.bdb_model.specs.Change.{Change}
 use Rattle.bdb_model.specs.Command.{Convert, Dump, Get, ListAll, Range, Request, Stat, Verify}
 use Rattle.bdb_model.specs.Lines.{memory_line}

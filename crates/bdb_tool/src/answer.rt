@@ -27,7 +27,7 @@ use crate::telling::refuse;
 use bdb_file::{Found, Sound, verify};
 use bdb_format::Steps;
 use bdb_io::Sink;
-use bdb_printing::write_found;
+use bdb_tool_print::write_found;
 use std::alloc::Global;
 use std::sync::ledger::Ledger;
 

@@ -3,8 +3,8 @@ use Rattle.std.specs.Prelude.{IfOk}
 use Rattle.bdb_format.specs.declared.settings.Settings.{Settings}
 use Rattle.bdb_text_format.specs.Placed.{pairs_of}
 use Rattle.bdb_text_format.specs.declared.pairs.TextPair.{TextPair}
-use Rattle.bdb_need.specs.Need.{unlined_pairs}
-use Rattle.bdb_alone.specs.Settled.{file_settings}
+use Rattle.bdb_need.specs.TreePages.{unlined_pairs}
+use Rattle.bdb_mkfile.specs.FileSettings.{file_settings}
 use Rattle.bdb_mkfile.specs.Settled.{IsAloneImage, IsBuildable}
 use Rattle.bdb_mkfile.proofs.AlikeLemmas.{buildable_own}
 use Rattle.bdb_mkfile.proofs.alone.section_image.Goals as goal

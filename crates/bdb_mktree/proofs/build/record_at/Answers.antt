@@ -1,6 +1,6 @@
 use Rattle.std.proofs.Common.{◌+◌, ◌∙◌, ap, arith, subst, sym, false}
 use Rattle.std.proofs.lemmas.List.{length-map}
-use Rattle.bdb_leaves.specs.Units.{EntryUnit}
+use Rattle.bdb_mkleaves.specs.Units.{EntryUnit}
 use Rattle.bdb_text_format.specs.Pairs.{number_of, unlined}
 use Rattle.bdb_text_format.specs.Placed.{pairs_of, slice_seen}
 use Rattle.bdb_text_format.specs.declared.pairs.Pair.{Pair}

@@ -1,6 +1,6 @@
 use Rattle.std.proofs.Common.{◌<◌, ◌++◌, [], cond, ◌∙◌, ap, arith}
 use Rattle.bdb_rescue.specs.Kept.{loose_values, untaken_on, values_on}
-use Rattle.bdb_stored.specs.Salvage.{is_taken}
+use Rattle.bdb_survey.specs.Salvage.{is_taken}
 use Rattle.bdb_rescue.proofs.ListLemmas.{more_pieces}
 use Rattle.bdb_rescue.proofs.kept_values.loose_values.Goals as goal
 

@@ -4,8 +4,8 @@ use Rattle.std.proofs.lemmas.Bool.{eq-eqb, ne_eqb}
 use Rattle.bdb_format.specs.Chains.{pieces_of}
 use Rattle.bdb_format.specs.File.{File}
 use Rattle.bdb_survey.specs.Links.{extent_of}
-use Rattle.bdb_stored.specs.Salvage.{is_overflow, salvaged_file}
-use Rattle.bdb_stored.proofs.PageLemmas.{count_is}
+use Rattle.bdb_survey.specs.Salvage.{is_overflow, salvaged_file}
+use Rattle.bdb_survey.proofs.StoredPageLemmas.{count_is}
 use Rattle.bdb_survey.proofs.WholeLemmas.{not_whole, some_row, whole_by}
 use Rattle.bdb_survey.proofs.chain.chain_of.Goals as goal
 

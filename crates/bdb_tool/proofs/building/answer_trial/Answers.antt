@@ -1,4 +1,4 @@
-use Rattle.bdb_writing.specs.Trials.{IsTrialAnswer}
+use Rattle.bdb_tool_build.specs.Trials.{IsTrialAnswer}
 use Rattle.bdb_tool.proofs.AnswerLemmas.{refusal_ends, written_ends}
 use Rattle.bdb_tool.proofs.building.answer_trial.Goals as goal
 

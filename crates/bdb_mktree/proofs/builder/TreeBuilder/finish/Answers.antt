@@ -1,6 +1,6 @@
 use Rattle.std.proofs.Common.{subst}
-use Rattle.bdb_leaves.specs.Finished.{HasFirstRoot}
-use Rattle.bdb_leaves.specs.Moved.{first_leaf}
+use Rattle.bdb_mkleaves.specs.Finished.{HasFirstRoot}
+use Rattle.bdb_mkleaves.specs.Moved.{first_leaf}
 use Rattle.bdb_mktree.proofs.FinishLemmas.{tree_built}
 use Rattle.bdb_mktree.proofs.builder.TreeBuilder.finish.Goals as goal
 

@@ -1,6 +1,6 @@
 use Rattle.std.proofs.Common.{sym, ◌∙◌, ap, arith}
 use Rattle.bdb_format.specs.File.{File, page_at}
-use Rattle.bdb_stored.proofs.PageLemmas.{page_past}
+use Rattle.bdb_survey.proofs.StoredPageLemmas.{page_past}
 use Rattle.bdb_survey.proofs.whole_pages.WholePages.count.Goals as goal
 
 pub returns-clause-past : goal.returns-clause-past
