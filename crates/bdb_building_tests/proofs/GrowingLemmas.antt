@@ -34,7 +34,8 @@ grown old_pages new_pages old new before key values growing above building setti
       building = building;
       kind = ap (λ s. s.kind) settings ∙ growing.kind;
       next = λ other higher.
-          subst (λ keys. ascends (keys ++ (other ∷ [])) ≡ true) (sym (ap (map key_of) units ∙ map-append key_of (units_of old old_pages) (KeyedUnit key values ∷ [])))
+          subst (λ keys. ascends (keys ++ (other ∷ [])) ≡ true) (sym (ap (map key_of) units ∙ map-append key_of (units_of old old_pages)
+          (KeyedUnit key values ∷ [])))
           (more (map key_of (units_of old old_pages)) key other (growing.next key above) higher);
     }
 

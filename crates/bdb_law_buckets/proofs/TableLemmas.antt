@@ -1,5 +1,6 @@
 -- A table that stands is the part of the database with its metadata.
-use Rattle.std.proofs.Common.{◌≡◌, ℕ, zero, suc, ◌+◌, ◌-◌, ◌<◌, ◌≤◌, Bool, true, false, cond, List, [], ◌∷◌, ◌++◌, get_or, map, length, replicate, None, arith, refl, sym, ◌∙◌, ap, subst}
+use Rattle.std.proofs.Common.{◌≡◌, ℕ, zero, suc, ◌+◌, ◌-◌, ◌<◌, ◌≤◌, Bool, true, false, cond, List, [], ◌∷◌, ◌++◌, get_or, map, length, replicate, None, arith}
+use Rattle.std.proofs.Common.{refl, sym, ◌∙◌, ap, subst}
 use Rattle.std.specs.Prelude.{◌^◌, ◌/◌, ◌==◌, ◌&&◌, ◌||◌, not, nat_lt, bit_and}
 use Rattle.std.specs.List.{Contains, filter, flat_map, list_any, range_with_len}
 use Rattle.std.proofs.lemmas.Bool.{and_right, eq-eqb, lt-ltb, ltb-true, or_from}
@@ -12,7 +13,8 @@ use Rattle.bdb_format.specs.declared.settings.Settings.{Settings}
 use Rattle.bdb_format.specs.ByPage.{holding}
 use Rattle.bdb_format.specs.Chains.{chain_in}
 use Rattle.bdb_format.specs.Contents.{StoredPair, bucket_pairs, pairs_of, table_pairs}
-use Rattle.bdb_format.specs.ContentRows.{ascends, bucket_of_key, database_rows, has_duplicate, has_unsorted, has_wrong_bucket, has_wrong_set, is_duplicate, is_set, is_wrong_set, repeated}
+use Rattle.bdb_format.specs.ContentRows.{ascends, bucket_of_key, database_rows, has_duplicate, has_unsorted, has_wrong_bucket, has_wrong_set, is_duplicate}
+use Rattle.bdb_format.specs.ContentRows.{is_set, is_wrong_set, repeated}
 use Rattle.bdb_format.specs.Flags.{has_duplicates, is_sorted}
 use Rattle.bdb_format.specs.File.{File, header_in, page_at}
 use Rattle.bdb_format.specs.Hashing.{bucket, first_page, group, hash5}

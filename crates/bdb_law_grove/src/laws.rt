@@ -1,7 +1,8 @@
 //! Laws of groves. A grove is pages whose references stay among them, each led up to from an entrance: a page of the grove that no other page of it
 //! names.
 ghost use Rattle.bdb_law_grove.specs.Branch.{BranchIsKnown, BranchesFollow, BranchesStandTogether, ChainIsBranch, NoBranch, PagesStandOverBranch};
-ghost use Rattle.bdb_law_grove.specs.Growing.{ChainsStand, GroveKeepsFaces, GroveLasts, GroveShares, GroveTakesIn, GrovesStandTogether, PageAlone, ReferencesComeLast};
+ghost use Rattle.bdb_law_grove.specs.Growing.{ChainsStand, GroveKeepsFaces, GroveLasts, GroveShares, GroveTakesIn, GrovesStandTogether, PageAlone};
+ghost use Rattle.bdb_law_grove.specs.Growing.{ReferencesComeLast};
 ghost use Rattle.bdb_law_grove.specs.Leaves.{LeavesStandOver};
 ghost use Rattle.bdb_law_grove.specs.Standing.{GroveIsKnown, GrovesFollow, NoPagesStand, PageStandsOver, PagesStandOver};
 

@@ -186,12 +186,14 @@ as_many print image (database ∷ all) [] read = absurd read
 as_many print image (database ∷ all) (section ∷ sections) read = ap (λ n. suc n) (as_many print image all sections read.1)
 
 no_errors : (print : Bool) (image : List ℕ) (alone : Bool) (all : List Database) (sections : List Section) → AreReadAs print image all sections
-    → ((database : Database) → databases (file_of image) ≡ database ∷ [] → alone ≡ true) → flat_map (section_errors (head_of image).page_size alone) sections ≡ []
+    → ((database : Database) → databases (file_of image) ≡ database ∷ [] → alone ≡ true) → flat_map (section_errors (head_of image).page_size alone) sections
+    ≡ []
 no_errors print image alone [] [] read when = refl
 no_errors print image alone [] (section ∷ sections) read when = absurd read
 no_errors print image alone (database ∷ all) [] read when = absurd read
 no_errors print image alone (database ∷ all) (section ∷ sections) read when =
-    ap (λ errors. errors ++ flat_map (section_errors (head_of image).page_size alone) sections) (one_section print image database section alone read.0 (when database))
+    ap (λ errors. errors ++ flat_map (section_errors (head_of image).page_size alone) sections)
+    (one_section print image database section alone read.0 (when database))
     ∙ no_errors print image alone all sections read.1 when
 
 -- the file that is made of them has the page size of the image

@@ -1,5 +1,6 @@
 -- What a header that fits says.
-use Rattle.std.proofs.Common.{◌≡◌, ◌⊎◌, ℕ, ◌==◌, ◌&&◌, ◌||◌, if◌then◌else◌, Bool, true, false, not, List, [], ◌∷◌, ◌++◌, Option, Some, None, refl, sym, ◌∙◌, ap, subst, arith, inl, inr, ◌-◌, ◌*◌, ◌^◌, ◌<◌, ◌≤◌, length, drop, take, length-drop, lit<, ◌+◌}
+use Rattle.std.proofs.Common.{◌≡◌, ◌⊎◌, ℕ, ◌==◌, ◌&&◌, ◌||◌, if◌then◌else◌, Bool, true, false, not, List, [], ◌∷◌, ◌++◌, Option, Some, None, refl, sym, ◌∙◌, ap}
+use Rattle.std.proofs.Common.{subst, arith, inl, inr, ◌-◌, ◌*◌, ◌^◌, ◌<◌, ◌≤◌, length, drop, take, length-drop, lit<, ◌+◌}
 use Rattle.std.specs.Prelude.{codes, is_none, is_some, nat_le}
 use Rattle.std.specs.List.{cons_option, fold, list_all, list_any}
 use Rattle.std.proofs.lemmas.Bool.Decides.{nat_tests}
@@ -8,7 +9,8 @@ use Rattle.std.specs.Str.{bytes_eq}
 use Rattle.bdb_format.specs.declared.kinds.Kind.TheVariants.{Queue}
 use Rattle.bdb_format.specs.HeadOf.{is_page_size}
 use Rattle.bdb_text_format.specs.declared.keywords.Judged.TheVariants.{Fits, Bad, LeftOut}
-use Rattle.bdb_text_format.specs.Header.{Values, conflicts, entries, entry_of, given, gives, has_record_type, has_type, is_on, name_in, number_or, repeats, settings_in, values}
+use Rattle.bdb_text_format.specs.Header.{Values, conflicts, entries, entry_of, given, gives, has_record_type, has_type, is_on, name_in, number_or, repeats}
+use Rattle.bdb_text_format.specs.Header.{settings_in, values}
 use Rattle.bdb_text_format.specs.Keywords.{fitting, hex_value, is_hex, judged_number, legal_size, number_read, or_zero}
 use Rattle.bdb_format.specs.Digits.{digits_value, is_number}
 use Rattle.bdb_text_format.specs.TextSpelling.{digit_value}
@@ -32,7 +34,8 @@ entry_there before (Some entry) is =
 value_if : (name value : List ℕ) (entry : Entry) (others : Option (List ℕ)) (b : Bool) → b ≡ bytes_eq entry.name name
     → (if b then Some entry.value else others) ≡ Some value
     → keyword_fits entry (keyword_named entry.name) ≡ true
-    → (others ≡ Some value → (found : Entry) × (found.value ≡ value) × (bytes_eq found.name name ≡ true) × (keyword_fits found (keyword_named found.name) ≡ true))
+    → (others ≡ Some value → (found : Entry) × (found.value ≡ value) × (bytes_eq found.name name ≡ true)
+    × (keyword_fits found (keyword_named found.name) ≡ true))
     → (found : Entry) × (found.value ≡ value) × (bytes_eq found.name name ≡ true) × (keyword_fits found (keyword_named found.name) ≡ true)
 value_if name value entry others true is given_is fits rest = (entry, (let e : entry.value ≡ value = cc given_is in e), sym is, fits)
 value_if name value entry others false is given_is fits rest = rest given_is
@@ -44,7 +47,8 @@ given_fits before [] name value fit is = absurd (cc is)
 given_fits before (line ∷ lines) name value fit is =
     let first = entry_there (entries before) (entry_of line)
     (and_parts (entry_fits (entries before) (entry_of line)) (lines_fit (before ++ (line ∷ [])) lines) fit).0 in
-    let rest : lines_fit (before ++ (line ∷ [])) lines ≡ true = (and_parts (entry_fits (entries before) (entry_of line)) (lines_fit (before ++ (line ∷ [])) lines) fit).1 in
+    let rest : lines_fit (before ++ (line ∷ [])) lines ≡ true = (and_parts (entry_fits (entries before) (entry_of line))
+    (lines_fit (before ++ (line ∷ [])) lines) fit).1 in
     let there : given name (first.0 ∷ entries lines) ≡ Some value = subst (λ o. given name (cons_option o (entries lines)) ≡ Some value) first.1 is in
     value_if name value first.0 (given name (entries lines)) (bytes_eq first.0.name name) refl there first.2
     (λ e. given_fits (before ++ (line ∷ [])) lines name value rest e)
@@ -173,7 +177,8 @@ fitting_small : (n : ℕ) (b : Bool) → b ≡ nat_le n 4294967295 → or_zero (
 fitting_small n false is = lit< tt
 fitting_small n true is = let h : n ≤ 4294967295 = least n 4294967295 (sym is) in omega arith
 
-read_small : (text : List ℕ) (b : Bool) → or_zero (if b then fitting (digits_value text) else (if is_hex text then Some (hex_value (drop 2 text)) else None)) < 2 ^ 32
+read_small : (text : List ℕ) (b : Bool) → or_zero (if b then fitting (digits_value text) else (if is_hex text then Some (hex_value (drop 2 text)) else None)) <
+    2 ^ 32
 read_small text true = fitting_small (digits_value text) (nat_le (digits_value text) 4294967295) refl
 read_small text false = hex_small text (is_hex text) refl
 
@@ -295,7 +300,8 @@ fit_header names header fit =
     let conflict = conflicts (values header) in
     let missing = name_missing names (name_in (values header)) in
     let twice = list_any (is_name (name_in (values header))) names in
-    let rest : (typed && (not conflict && (not missing && not twice))) ≡ true = (and_parts lines (typed && (not conflict && (not missing && not twice))) fit).1 in
+    let rest : (typed && (not conflict && (not missing && not twice))) ≡ true = (and_parts lines (typed && (not conflict && (not missing && not twice))) fit).1
+    in
     let more : (not conflict && (not missing && not twice)) ≡ true = (and_parts typed (not conflict && (not missing && not twice)) rest).1 in
     let last : (not missing && not twice) ≡ true = (and_parts (not conflict) (not missing && not twice) more).1 in
     let fits : lines ≡ true = (and_parts lines (typed && (not conflict && (not missing && not twice))) fit).0 in

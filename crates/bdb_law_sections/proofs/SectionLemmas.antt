@@ -1,5 +1,6 @@
 -- Sections of a text that is read.
-use Rattle.std.proofs.Common.{◌≡◌, ℕ, ◌+◌, ◌==◌, if◌then◌else◌, ◌||◌, not, Bool, true, false, List, [], ◌∷◌, ◌++◌, length, Option, Some, None, length-append, refl, sym, ap, subst, arith}
+use Rattle.std.proofs.Common.{◌≡◌, ℕ, ◌+◌, ◌==◌, if◌then◌else◌, ◌||◌, not, Bool, true, false, List, [], ◌∷◌, ◌++◌, length, Option, Some, None, length-append}
+use Rattle.std.proofs.Common.{refl, sym, ap, subst, arith}
 use Rattle.std.specs.Prelude.{codes}
 use Rattle.std.specs.List.{All, list_any}
 use Rattle.std.specs.Str.{bytes_eq}
@@ -10,7 +11,8 @@ use Rattle.bdb_text_format.specs.declared.pairs.TextPair.{TextPair}
 use Rattle.bdb_text_format.specs.declared.sections.Section.{Section}
 use Rattle.bdb_text_format.specs.Header.{Values, has_keys, has_record_type, is_on, name_in, prints, settings_in, values}
 use Rattle.bdb_text_format.specs.Reasons.{Parts, lines_with, name_missing, name_of, name_of_parts, names_with, parts_of, with_line}
-use Rattle.bdb_text_format.specs.Sections.{begin_with, counted_pairs, header_fits, keyed_pairs, nothing_left, pairs_read, parts_read, section_read, sections_from, sections_in, text_sections, with_pairs, with_section}
+use Rattle.bdb_text_format.specs.Sections.{begin_with, counted_pairs, header_fits, keyed_pairs, nothing_left, pairs_read, parts_read, section_read}
+use Rattle.bdb_text_format.specs.Sections.{sections_from, sections_in, text_sections, with_pairs, with_section}
 use Rattle.bdb_text_format.specs.TextLines.{is_data_end, is_header_end, text_lines}
 use Rattle.bdb_text_format.specs.Written.{holds_records, version_line}
 use Rattle.bdb_law_sections.specs.Fit.{AreFit, AreNamedBehind, HasBytes, IsFitPair, IsFitSection, ReadSectionsAreFit, ReadQueuesHaveBytes}
@@ -74,12 +76,19 @@ paired most at names header section (Some pairs) fit each is =
     let all : All (IsFitPair (holds_records here.settings.kind) most) pairs =
     subst (λ b. All (IsFitPair b most) pairs) (sym (records_held (values header) fit.says.typed)) (each pairs refl) in
     let is_fit : IsFitBehind most names here =
-    record { fit = record { settings = settings_fit (values header) fit.says; pairs = all }; there = fit.there; apart = fit.apart; bytes = records_have_bytes (values header) fit.says } in
+    record {
+      fit = record { settings = settings_fit (values header) fit.says; pairs = all };
+      there = fit.there;
+      apart = fit.apart;
+      bytes = records_have_bytes
+          (values header) fit.says;
+    } in
     (subst (IsFitBehind most names) e is_fit, ap (λ (s : Section). s.name) (sym e))
 
 headed : (most at : ℕ) (names : List (Option (List ℕ))) (parts : Parts) (section : Section) (b : Bool) → b ≡ header_fits names parts.header
     → AreShort most parts.data_lines
-    → (if b then with_pairs (at + length parts.header) (values parts.header) (pairs_read (values parts.header) (at + length parts.header + 1) parts.data_lines) else None)
+    → (if b then with_pairs (at + length parts.header) (values parts.header) (pairs_read (values parts.header) (at + length parts.header + 1) parts.data_lines)
+    else None)
     ≡ Some section → IsFitBehind most names section × (section.name ≡ name_in (values parts.header))
 headed most at names parts section false is short read = absurd (cc read)
 headed most at names parts section true is short read =
@@ -124,7 +133,8 @@ left_behind : (most : ℕ) (names : List (Option (List ℕ))) (before : List (Li
 left_behind most names [] sections is = none_behind most names sections is
 left_behind most names (line ∷ lines) sections is = absurd (cc is)
 
-one_before : (most : ℕ) (names : List (Option (List ℕ))) (lines : List (List ℕ)) (section : Option Section) (others : Option (List Section)) (sections : List Section)
+one_before : (most : ℕ) (names : List (Option (List ℕ))) (lines : List (List ℕ)) (section : Option Section) (others : Option (List Section))
+    (sections : List Section)
     → with_section section others ≡ Some sections
     → ((s : Section) → section ≡ Some s → IsFitBehind most names s × (s.name ≡ name_of lines))
     → ((all : List Section) → others ≡ Some all → AreFitBehind most (names ++ (name_of lines ∷ [])) all)

@@ -10,7 +10,8 @@ use Rattle.bdb_format.specs.Chains.{chain_in, chains_in, content_chains, is_wron
 use Rattle.bdb_format.specs.File.{File, file_of, header_in, page_at, page_bytes, type_in}
 use Rattle.bdb_format.specs.HeadOf.{head_of}
 use Rattle.bdb_format.specs.Numbers.{byte_at}
-use Rattle.bdb_format.specs.Page.{Chain, Page, Overflow, PageType, FreePage, HashPage, InternalPage, RecnoInternalPage, LeafPage, RecnoLeafPage, OverflowPage, HashMetaPage, BtreeMetaPage, QueueMetaPage, QueuePage, DupLeafPage, OtherPage}
+use Rattle.bdb_format.specs.Page.{Chain, Page, Overflow, PageType, FreePage, HashPage, InternalPage, RecnoInternalPage, LeafPage, RecnoLeafPage, OverflowPage}
+use Rattle.bdb_format.specs.Page.{HashMetaPage, BtreeMetaPage, QueueMetaPage, QueuePage, DupLeafPage, OtherPage}
 use Rattle.bdb_format.specs.Reading.{abstract_page, is_zero, listed, page_as, page_type}
 use Rattle.bdb_format.specs.References.{asked_by, contents_in, fit_code, fit_rows, is_zero_page, has_type, refs, targets_in}
 use Rattle.bdb_format.specs.Verdict.{reference_faults, structure_faults, structure_rows}

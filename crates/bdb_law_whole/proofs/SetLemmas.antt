@@ -1,6 +1,7 @@
 -- Each set off the page of a sound file is whole: the way down fits, and its leaves are a whole row of pages of one type.
 use Rattle.std.proofs.Common.{append-nil}
-use Rattle.std.proofs.Common.{◌≡◌, ◌⊎◌, ℕ, zero, suc, ◌+◌, ◌-◌, ◌*◌, ◌<◌, ◌≤◌, Bool, true, false, cond, List, [], ◌∷◌, ◌++◌, length, get_or, drop, arith, refl, sym, ◌∙◌, ap, subst, inl, inr}
+use Rattle.std.proofs.Common.{◌≡◌, ◌⊎◌, ℕ, zero, suc, ◌+◌, ◌-◌, ◌*◌, ◌<◌, ◌≤◌, Bool, true, false, cond, List, [], ◌∷◌, ◌++◌, length, get_or, drop, arith, refl}
+use Rattle.std.proofs.Common.{sym, ◌∙◌, ap, subst, inl, inr}
 use Rattle.std.specs.Prelude.{◌==◌, ◌&&◌, nat_lt, if◌then◌else◌, slice_get, Option, Some, None}
 use Rattle.std.specs.List.{Contains, flat_map}
 use Rattle.std.proofs.lemmas.Bool.{and_parts, cases_lt, eq-eqb, eqb-true, le-ltb, ne_eqb, not-false}
@@ -14,7 +15,8 @@ use Rattle.bdb_format.specs.File.{File, file_of, header_in, page_at, page_bytes,
 use Rattle.bdb_format.specs.HeadOf.{head_of}
 use Rattle.bdb_format.specs.Leaves.{LeafPlace, children_in, is_wrong_leaf, is_wrong_link, leaf_places, leaves, places_from, wrong_leaf_types}
 use Rattle.bdb_format.specs.Numbers.{byte_at}
-use Rattle.bdb_format.specs.Page.{Page, Zero, NoType, RecnoLeaf, DupLeaf, PageType, FreePage, HashPage, InternalPage, RecnoInternalPage, LeafPage, RecnoLeafPage, OverflowPage, HashMetaPage, BtreeMetaPage, QueueMetaPage, QueuePage, DupLeafPage, OtherPage}
+use Rattle.bdb_format.specs.Page.{Page, Zero, NoType, RecnoLeaf, DupLeaf, PageType, FreePage, HashPage, InternalPage, RecnoInternalPage, LeafPage}
+use Rattle.bdb_format.specs.Page.{RecnoLeafPage, OverflowPage, HashMetaPage, BtreeMetaPage, QueueMetaPage, QueuePage, DupLeafPage, OtherPage}
 use Rattle.bdb_format.specs.Reading.{abstract_page, is_zero, listed, page_as, page_type}
 use Rattle.bdb_format.specs.References.{child_types, fit_code, has_type}
 use Rattle.bdb_format.specs.Verdict.{structure_faults, structure_rows}
@@ -30,7 +32,8 @@ use Rattle.bdb_tree.specs.Links.{pages_from}
 use Rattle.bdb_tree.specs.Trees.{IsTreePage}
 use Rattle.bdb_tree.proofs.BelongLemmas.{leaf_above, tree_above}
 use Rattle.bdb_tree.proofs.LinkLemmas.{all_pages}
-use Rattle.bdb_tree.proofs.TreeLemmas.{IsChild, child_is, dup_leaf_page, inner_type, leaf_fits, leaf_low, leaves_of_inner, leaves_of_leaf, level, link_is_right, place_of_root, recno_leaf, recno_leaf_page, root_is_tree, tree_cases, tree_inside, tree_level}
+use Rattle.bdb_tree.proofs.TreeLemmas.{IsChild, child_is, dup_leaf_page, inner_type, leaf_fits, leaf_low, leaves_of_inner, leaves_of_leaf, level, link_is_right}
+use Rattle.bdb_tree.proofs.TreeLemmas.{place_of_root, recno_leaf, recno_leaf_page, root_is_tree, tree_cases, tree_inside, tree_level}
 use Rattle.bdb_tree.proofs.NotedLemmas.{place_leaf}
 use Rattle.bdb_law_sums.proofs.LeafLemmas.{keyed_leaf}
 use Rattle.bdb_law_whole.specs.Guessed.{guessed}

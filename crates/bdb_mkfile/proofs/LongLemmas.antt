@@ -202,14 +202,16 @@ pub short_keyed : (settings : Settings) (pages : ℕ) (list : List Pair) → is_
 short_keyed settings pages list legal few (inl tree) =
     let units : List TreeUnit = keyed_units list in
     let low = sum_low (chains settings.page_size) (own_pages settings.page_size settings.sorted) (own_holds settings.page_size settings.sorted) units in
-    short_pairs settings.page_size (sum_by (chains settings.page_size) units) pages list legal (omega (arith, low, tree)) few (keyed_held settings.page_size list)
+    short_pairs settings.page_size (sum_by (chains settings.page_size) units) pages list legal (omega (arith, low, tree)) few
+    (keyed_held settings.page_size list)
 short_keyed settings pages list legal few (inr table) =
     let units : List TreeUnit = keyed_units list in
     let own : TreeUnit → ℕ = λ unit. keyed_own_pages settings.page_size settings.sorted (keyed_of unit) in
     let low = sum_low (chains settings.page_size) own (keyed_holds settings.page_size settings.sorted) units in
     let same : sum_by (keyed_own_pages settings.page_size settings.sorted) (table_units list) ≡ sum_by own units =
     fold-map (λ sum unit. sum + keyed_own_pages settings.page_size settings.sorted unit) keyed_of 0 units in
-    short_pairs settings.page_size (sum_by (chains settings.page_size) units) pages list legal (omega (arith, low, same, table)) few (keyed_held settings.page_size list)
+    short_pairs settings.page_size (sum_by (chains settings.page_size) units) pages list legal (omega (arith, low, same, table)) few
+    (keyed_held settings.page_size list)
 
 -- and that of a recno
 pub short_records : (settings : Settings) (pages : ℕ) (list : List Pair) → settings.kind ≡ Recno → is_page_size settings.page_size ≡ true

@@ -125,7 +125,8 @@ all_built g joints [] [] each zip = All-nil (λ (database : Database). HasBuiltT
 all_built g joints [] (database ∷ found) each zip = absurd zip
 all_built g joints (entry ∷ entries) [] each zip = absurd zip
 all_built g joints (entry ∷ entries) (database ∷ found) each zip =
-    All-cons (λ (one : Database). HasBuiltTable g one.fields) database found (subst (HasBuiltTable g) (sym zip.0.fields) (each zip.0.joint zip.0.at)) (all_built g joints entries found each zip.1)
+    All-cons (λ (one : Database). HasBuiltTable g one.fields) database found (subst (HasBuiltTable g) (sym zip.0.fields) (each zip.0.joint zip.0.at))
+    (all_built g joints entries found each zip.1)
 
 -- what an image has of pages with metadata and of those before
 record IsImageIn (size : ℕ) (order : Order) (image : List ℕ) (last_one base : ℕ) (built after : Built) : Type 0 where

@@ -124,7 +124,14 @@ settings_shown print name settings = shown settings.kind print name settings
 fit_own : (k : Kind) (size : ℕ) (order : Order) (settings : Settings) → (k ≡ Btree) ⊎ (k ≡ Recno) → is_page_size size ≡ true
     → (settings.sorted ≡ true → settings.duplicates ≡ true) → (settings.recnum ≡ true → settings.duplicates ≡ false)
     → IsTreeSettings (own_settings k size order settings)
-fit_own Btree size order settings tree legal sorted counted = record { kind = inl refl; page_size = legal; sorted = sorted; counted = counted; records = λ e. absurd (cc e) }
+fit_own Btree size order settings tree legal sorted counted = record {
+  kind = inl refl;
+  page_size = legal;
+  sorted = sorted;
+  counted = counted;
+  records = λ e.
+      absurd (cc e);
+}
 fit_own Recno size order settings tree legal sorted counted =
     record { kind = inr refl; page_size = legal; sorted = λ on. absurd (cc on); counted = λ on. absurd (cc on); records = λ e. refl }
 fit_own Hash size order settings tree legal sorted counted = absurd (elim tree [ inl e ↦ cc e | inr e ↦ cc e ])

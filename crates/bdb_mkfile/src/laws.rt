@@ -1,7 +1,8 @@
 //! What follows from the definitions alone.
 ghost use Rattle.bdb_mkfile.specs.Lists.{LoadIntoQueues, LoadIntoTables, QueuesAreAlone, RecordsAreFew};
 ghost use Rattle.bdb_mkfile.specs.WrittenTables.{WrittenTablesAreSound};
-ghost use Rattle.bdb_mkfile.specs.NamedLaws.{EntriesAreListed, EntriesNameDatabases, EntriesNameMetas, EntriesTakePages, TablesAreSpelled, TablesHaveNames, TreesHaveNames};
+ghost use Rattle.bdb_mkfile.specs.NamedLaws.{EntriesAreListed, EntriesNameDatabases, EntriesNameMetas, EntriesTakePages, TablesAreSpelled, TablesHaveNames};
+ghost use Rattle.bdb_mkfile.specs.NamedLaws.{TreesHaveNames};
 
 /// The pages of a table under its metadata, which is written over page 0, are a sound file with one database, without a name, whose
 /// list is that of the table.

@@ -1,5 +1,6 @@
 -- The keys of a bucket, page by page.
-use Rattle.std.proofs.Common.{◌≡◌, ◌⊎◌, ℕ, ◌+◌, ◌-◌, ◌<◌, ◌≤◌, Bool, true, List, [], ◌∷◌, ◌++◌, map, length, get_or, take, take-add, drop, None, append_assoc, arith, refl, sym}
+use Rattle.std.proofs.Common.{◌≡◌, ◌⊎◌, ℕ, ◌+◌, ◌-◌, ◌<◌, ◌≤◌, Bool, true, List, [], ◌∷◌, ◌++◌, map, length, get_or, take, take-add, drop, None, append_assoc}
+use Rattle.std.proofs.Common.{arith, refl, sym}
 use Rattle.std.proofs.Common.{◌∙◌, ap, subst, inl, inr, length-append, length-drop, true≢false}
 use Rattle.std.specs.Prelude.{◌==◌, ◌&&◌, not}
 use Rattle.std.specs.List.{sum_by}
@@ -333,7 +334,8 @@ module _ (p : ℕ) (old now mid new : Built) (sorted : Bool) (units : List Keyed
         let added = filled.put.count in
         let sums : sum_by (keyed_own_pages old.size sorted) (take (done + m) units)
         ≡ sum_by (keyed_own_pages old.size sorted) (take done units) + sum_by (keyed_own_pages old.size sorted) (take m (drop done units)) =
-        ap (sum_by (keyed_own_pages old.size sorted)) take_both ∙ sum_by-append (keyed_own_pages old.size sorted) (take done units) (take m (drop done units)) in
+        ap (sum_by (keyed_own_pages old.size sorted)) take_both ∙ sum_by-append (keyed_own_pages old.size sorted) (take done units) (take m (drop done units))
+        in
         omega (arith, before, one, added, sums, own_same (take m (drop done units)), length-append was.closed (was.last ∷ []));
   }
     where

@@ -1,5 +1,6 @@
 -- Trees that are being built: the units that are read from their leaves, and one more.
-use Rattle.std.proofs.Common.{Bool, ◌≡◌, ℕ, ◌+◌, ◌<◌, ◌≤◌, true, false, List, [], ◌∷◌, ◌++◌, length, map, arith, refl, sym, ◌∙◌, ap, subst, inl, inr, length-append}
+use Rattle.std.proofs.Common.{Bool, ◌≡◌, ℕ, ◌+◌, ◌<◌, ◌≤◌, true, false, List, [], ◌∷◌, ◌++◌, length, map, arith, refl, sym, ◌∙◌, ap, subst, inl, inr}
+use Rattle.std.proofs.Common.{length-append}
 use Rattle.std.specs.Prelude.{◌⊎◌}
 use Rattle.std.specs.List.{All, flat_map}
 use Rattle.std.proofs.lemmas.List.{append_assoc, map-append}
@@ -19,7 +20,8 @@ use Rattle.bdb_mkleaves.specs.Laid.{AreLaid}
 use Rattle.bdb_mkleaves.specs.Leaves.{KeepsBefore, KeepsOthers, LeavesFrom, first_of, has_room}
 use Rattle.bdb_mkleaves.specs.Moved.{first_leaf, numbers_of}
 use Rattle.bdb_mkleaves.specs.Rooted.{placed_on}
-use Rattle.bdb_mkleaves.specs.Placed.{HoldsUnits, LeafUnits, Placed, PlacedEntry, PlacedPairs, PlacedTree, StandsPlaced, entries_of, has_wrong_root, pages_of, unit_of}
+use Rattle.bdb_mkleaves.specs.Placed.{HoldsUnits, LeafUnits, Placed, PlacedEntry, PlacedPairs, PlacedTree, StandsPlaced, entries_of, has_wrong_root, pages_of}
+use Rattle.bdb_mkleaves.specs.Placed.{unit_of}
 use Rattle.bdb_mkleaves.specs.Sets.{IsKeyedPushed}
 use Rattle.bdb_mkleaves.specs.Units.{EntryUnit, TreeUnit, unit_cost, units_on}
 use Rattle.bdb_mkleaves.specs.declared.leaf_type.LeafType.{LeafType}

@@ -25,7 +25,8 @@ use Rattle.bdb_mkleaves.specs.Finished.{HasFirstRoot, HasLaidTree}
 use Rattle.bdb_mkleaves.specs.Laid.{Counts, Suits as SuitsTree, is_laid}
 use Rattle.bdb_mkleaves.specs.Layout.{HasTreeOn, HaveTreesOn, IsTreeOn, contents_below, placed_below}
 use Rattle.bdb_mkleaves.specs.Moved.{first_leaf, numbers_of}
-use Rattle.bdb_mkleaves.specs.Placed.{HasLength, IsAllowed, IsPlacedBySize, LeafUnits, Placed, PlacedEntry, PlacedPairs, PlacedTree, has_several, has_wrong_root, unit_of, units_in, values_in}
+use Rattle.bdb_mkleaves.specs.Placed.{HasLength, IsAllowed, IsPlacedBySize, LeafUnits, Placed, PlacedEntry, PlacedPairs, PlacedTree, has_several}
+use Rattle.bdb_mkleaves.specs.Placed.{has_wrong_root, unit_of, units_in, values_in}
 use Rattle.bdb_mkleaves.specs.Rooted.{CountsLeaves}
 use Rattle.bdb_mkleaves.specs.Spread.{tree_size}
 use Rattle.bdb_mkleaves.specs.Units.{key_of, list_of_units}

@@ -38,7 +38,8 @@ alone settings key value btree short_key short = record {
   values = [];
   others = [];
   is = refl;
-  suit = All-cons (Suits settings) (KeyedUnit key (value ∷ [])) [] (record { kind = btree; some = omega arith; single = λ none. refl; in_order = λ sorted. refl })
+  suit = All-cons (Suits settings) (KeyedUnit key (value ∷ [])) [] (record
+      { kind = btree; some = omega arith; single = λ none. refl; in_order = λ sorted. refl })
       (All-nil (Suits settings));
   short = All-cons IsShortUnit (KeyedUnit key (value ∷ [])) [] (short_key, All-cons IsShort value [] short (All-nil IsShort)) (All-nil IsShortUnit);
   keys = refl;

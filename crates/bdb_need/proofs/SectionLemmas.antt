@@ -51,7 +51,8 @@ pub keyed_as_is : (settings : Settings) (pairs : List TextPair) → settings.kin
 keyed_as_is settings pairs btree =
     as_they_are settings pairs (ap (λ k. settings.fixed && holds_records k) btree ∙ and-false settings.fixed)
 
-value_before : (settings : Settings) (value : List ℕ) → length value ≡ settings.re_len → (b : Bool) → has_length settings ≡ b → filled_value settings value ≡ value
+value_before : (settings : Settings) (value : List ℕ) → length value ≡ settings.re_len → (b : Bool) → has_length settings ≡ b
+    → filled_value settings value ≡ value
 value_before settings value long false is = value_as_is settings value is
 value_before settings value long true is =
     let none : settings.re_len - length value ≡ 0 = omega (arith, long) in

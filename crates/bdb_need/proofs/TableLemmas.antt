@@ -1,5 +1,6 @@
 -- The buckets of a table: how many they are, and their pages, counted as keys are put on them one after the other.
-use Rattle.std.proofs.Common.{◌≡◌, ℕ, zero, suc, ◌+◌, ◌-◌, ◌*◌, ◌<◌, ◌≤◌, ◌^◌, Bool, cond, List, [], ◌∷◌, length, map, replicate, get_or, set, drop, arith, refl, sym, ◌∙◌, ap, subst, inl, inr}
+use Rattle.std.proofs.Common.{◌≡◌, ℕ, zero, suc, ◌+◌, ◌-◌, ◌*◌, ◌<◌, ◌≤◌, ◌^◌, Bool, cond, List, [], ◌∷◌, length, map, replicate, get_or, set, drop, arith}
+use Rattle.std.proofs.Common.{refl, sym, ◌∙◌, ap, subst, inl, inr}
 use Rattle.std.specs.Prelude.{◌/◌, nat_le}
 use Rattle.std.specs.List.{All, range_with_len, sum_by}
 use Rattle.std.proofs.Math.ListN.{drop_of_length-le}
@@ -230,7 +231,8 @@ room_here size bits start pages b seen pairs left was low is =
     let many = was.placed.many in is ∙ get_or_default left b seen 0 (omega (arith, low, many))
 
 -- on the open page of its bucket
-pub key_open : (size bits start end pages pages_now cost seen here b : ℕ) (pairs : List TextPair) (key : List ℕ) (values : List (List ℕ)) (left left_now : List ℕ)
+pub key_open : (size bits start end pages pages_now cost seen here b : ℕ) (pairs : List TextPair) (key : List ℕ) (values : List (List ℕ))
+    (left left_now : List ℕ)
     → KeysPlaced size bits pairs start pages left → IsRunAt (unlined_pairs pairs) start (KeyedUnit key values) end
     → b ≡ bucket_among bits key → b < 2 ^ bits → cost ≡ keyed_cost size (keyed key values) → seen ≡ get_or left b seen → here ≡ get_or left b here
     → cost ≤ seen → pages_now ≡ pages → left_now ≡ set left b (here - cost) → KeysPlaced size bits pairs end pages_now left_now
@@ -244,7 +246,8 @@ key_open size bits start end pages pages_now cost seen here b pairs key values l
     (omega (arith, pages_is))
 
 -- on a new one
-pub key_new : (size bits start end pages pages_now cost seen room b : ℕ) (pairs : List TextPair) (key : List ℕ) (values : List (List ℕ)) (left left_now : List ℕ)
+pub key_new : (size bits start end pages pages_now cost seen room b : ℕ) (pairs : List TextPair) (key : List ℕ) (values : List (List ℕ))
+    (left left_now : List ℕ)
     → KeysPlaced size bits pairs start pages left → IsRunAt (unlined_pairs pairs) start (KeyedUnit key values) end
     → b ≡ bucket_among bits key → b < 2 ^ bits → cost ≡ keyed_cost size (keyed key values) → room ≡ page_room size → seen ≡ get_or left b seen
     → seen < cost → pages_now ≡ pages + 1 → left_now ≡ set left b (room - cost) → KeysPlaced size bits pairs end pages_now left_now

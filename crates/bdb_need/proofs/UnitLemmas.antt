@@ -1,5 +1,6 @@
 -- What a key with its data takes of a page of a table, and the pages of its own.
-use Rattle.std.proofs.Common.{◌≡◌, ℕ, ◌+◌, ◌-◌, ◌<◌, ◌≤◌, Bool, true, false, cond, List, [], length, get_or, take, Option, Some, None, arith, refl, sym, ◌∙◌, ap}
+use Rattle.std.proofs.Common.{◌≡◌, ℕ, ◌+◌, ◌-◌, ◌<◌, ◌≤◌, Bool, true, false, cond, List, [], length, get_or, take, Option, Some, None, arith, refl, sym, ◌∙◌}
+use Rattle.std.proofs.Common.{ap}
 use Rattle.std.specs.Prelude.{◌/◌, is_some}
 use Rattle.std.specs.List.{list_all, sum_by}
 use Rattle.bdb_format.specs.HeadOf.{is_page_size}

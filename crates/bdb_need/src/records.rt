@@ -36,7 +36,8 @@ pub(crate) fn record_pages(size: usize, settings: &Settings, pairs: PairSlice<'_
     requires legal { IsTrue (is_page_size size) }
     requires ascend { AscendFrom 1 (unlined_pairs (filled_pairs settings.now (slice_seen pairs))) }
     requires short { All IsShort (values_in (filled_pairs settings.now (slice_seen pairs))) }
-    ensures pages { (sorted : Bool) → result ≡ tree_size Records size sorted (record_units 1 (unlined_pairs (filled_pairs settings.now (slice_seen pairs.entry)))) }
+    ensures pages { (sorted : Bool) → result ≡ tree_size Records size sorted
+        (record_units 1 (unlined_pairs (filled_pairs settings.now (slice_seen pairs.entry)))) }
     ensures few { result < 2 ^ 100 }
 {
     let mut open = OpenPage::new(page_room(size));

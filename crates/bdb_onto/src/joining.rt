@@ -115,7 +115,8 @@ fn with_left(all: Sections, places: Vec<Option<Section>>) -> Result<Sections, Al
     Ok(all)
 }
 
-/// Sections behind their partners, and the databases of the base that are left. The pairs of a partner and of a section without one are moved, and the others copied once.
+/// Sections behind their partners, and the databases of the base that are left. The pairs of a partner and of a section without one are moved, and the others
+/// copied once.
 pub(crate) fn joined(alloc: Global, base: Base, sections: Sections) -> Result<Sections, AllocError>
     requires base { IsBase base }
     requires apart { AreNamedBehind [] sections }

@@ -1,5 +1,6 @@
 -- The text that salvage writes reads as the sections of what is salvaged.
-use Rattle.std.proofs.Common.{◌≡◌, ℕ, ◌<◌, ◌^◌, Bool, true, false, List, [], ◌∷◌, ◌++◌, length, map, Option, Some, None, arith, codes, refl, ◌∙◌, ap, subst, append-nil}
+use Rattle.std.proofs.Common.{◌≡◌, ℕ, ◌<◌, ◌^◌, Bool, true, false, List, [], ◌∷◌, ◌++◌, length, map, Option, Some, None, arith, codes, refl, ◌∙◌, ap, subst}
+use Rattle.std.proofs.Common.{append-nil}
 use Rattle.std.specs.Prelude.{◌-◌, ◌&&◌, nat_lt}
 use Rattle.std.specs.List.{All, enumerate_from}
 use Rattle.std.proofs.lemmas.Bool.{and_parts, ltb-true}
@@ -28,7 +29,8 @@ use Rattle.bdb_text.proofs.WrittenLemmas.{section_of, sections_of, written_are_t
 use Rattle.bdb_law_kept.proofs.BytesLemmas.{FileHoldsBytes}
 use Rattle.bdb_law_kept.proofs.LaterLemmas.{of_enumerate}
 use Rattle.bdb_tool_print.proofs.SalvageLemmas.{loose_few}
-use Rattle.bdb_tool_print.specs.SalvageText.{bytes_pair, loose_section as loose_text, loose_settings, numbered_record, salvage_text, stored_section as stored_text, stored_settings}
+use Rattle.bdb_tool_print.specs.SalvageText.{bytes_pair, loose_section as loose_text, loose_settings, numbered_record, salvage_text}
+use Rattle.bdb_tool_print.specs.SalvageText.{stored_section as stored_text, stored_settings}
 use Rattle.bdb_survey.specs.declared.guess.Guess.{Guess}
 use Rattle.bdb_survey.specs.Salvage.{loose, salvaged_file, stored}
 use Rattle.bdb_repair.specs.Parts.{loose_pair, loose_part, loose_section, stored_pair, stored_pairs, stored_section}

@@ -17,7 +17,8 @@ pub chain_there : (file : File) (head : ℕ) → IsPast file → is_row file is_
 chain_there file head past row =
     elim (cases_lt head file.count) [
       | inl lt ↦ lt
-      | inr ge ↦ absurd (let no : true ≡ false = sym row ∙ no_row file is_overflow head (no_row_here file is_overflow head (ap is_overflow (past head ge))) in cc)
+      | inr ge ↦ absurd (let no : true ≡ false = sym row ∙ no_row file is_overflow head (no_row_here file is_overflow head (ap is_overflow (past head ge))) in
+          cc)
     ]
 
 no_items : {X : Type 0} (xs : List X) → length xs ≡ 0 → xs ≡ []

@@ -57,7 +57,8 @@ pub built_ends : (limit : ℕ) (shape : Option Shape) (given : Option Guess) (im
 built_ends limit shape given image built out err written status is writes reports =
     Answered (done built) (built_by limit shape (chosen given image) image built is) (written_finishes built out err written status writes reports)
 
-pub no_guess_ends : (limit : ℕ) (shape : Option Shape) (given : Option Guess) (image : List ℕ) (written : Option (List ℕ)) (faults : ℕ) (err : Change) (status : ℕ)
+pub no_guess_ends : (limit : ℕ) (shape : Option Shape) (given : Option Guess) (image : List ℕ) (written : Option (List ℕ)) (faults : ℕ) (err : Change)
+    (status : ℕ)
     → IsRepaired limit shape (chosen given image) image (Err NoMeta) → Tells no_metadata.err 10 err status
     → Ends (IsRepairAnswer limit shape given image) (moved written written faults faults) err status
 no_guess_ends limit shape given image written faults err status is tells =

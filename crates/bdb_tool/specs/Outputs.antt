@@ -124,12 +124,14 @@ IsBaseInput (Some base) image = IsInput base.before image
 -- the status and all that was written are an answer to what is asked, and the input
 abbrev pub Answers : Asked → Change → Change → Change → ℕ → Type 0
 Answers asked source out err status =
-    (input : List ℕ) × IsInput source.before input × (written : List ℕ) × Gains out written × (told : List ℕ) × Gains err told × Output asked input written told status
+    (input : List ℕ) × IsInput source.before input × (written : List ℕ) × Gains out written × (told : List ℕ) × Gains err told
+    × Output asked input written told status
 
 -- what was written to the output is a prefix of an answer to what is asked, and the input, or nothing
 abbrev pub AnswersInPart : Asked → Change → Change → Type 0
 AnswersInPart asked source out =
-    Stays out ⊎ ((input : List ℕ) × IsInput source.before input × (written : List ℕ) × (told : List ℕ) × (status : ℕ) × Output asked input written told status × GainsPart out written)
+    Stays out ⊎ ((input : List ℕ) × IsInput source.before input × (written : List ℕ) × (told : List ℕ) × (status : ℕ) × Output asked input written told status
+    × GainsPart out written)
 
 -- what is asked by words where no base is handed in
 abbrev pub asked_alone : List (List ℕ) → Asked

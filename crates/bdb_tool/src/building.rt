@@ -103,7 +103,8 @@ pub(crate) fn answer_trial<K: Sink, E: Sink, L: Ledger>(
 ) -> u8
     requires trial { IsFitTrial trial }
     requires limit { limit ≤ 2 ^ 30 }
-    ensures { Ends (IsTrialAnswer limit trial.kind trial.seed trial.count) (change K.written K.faults out.old out.new) (change E.written E.faults err.old err.new) result }
+    ensures { Ends (IsTrialAnswer limit trial.kind trial.seed trial.count) (change K.written K.faults out.old out.new)
+        (change E.written E.faults err.old err.new) result }
 {
     match trial_text(alloc, trial.kind, trial.seed, trial.count, limit, steps) {
         Ok(text) => report(put(out, text.as_bytes()), err),

@@ -1,5 +1,6 @@
 -- The base that a sound image is.
-use Rattle.std.proofs.Common.{◌≡◌, ℕ, ◌+◌, ◌^◌, ◌<◌, ◌≤◌, Bool, true, false, cond, List, [], ◌∷◌, ◌++◌, length, get_or, map, suc, take, Option, Some, None, refl, sym, ◌∙◌, ap}
+use Rattle.std.proofs.Common.{◌≡◌, ℕ, ◌+◌, ◌^◌, ◌<◌, ◌≤◌, Bool, true, false, cond, List, [], ◌∷◌, ◌++◌, length, get_or, map, suc, take, Option, Some, None}
+use Rattle.std.proofs.Common.{refl, sym, ◌∙◌, ap}
 use Rattle.std.specs.Prelude.{is_some}
 use Rattle.std.proofs.lemmas.List.{map_more}
 use Rattle.std.proofs.lemmas.List.Elements.{All-cons, All-nil}
@@ -8,7 +9,8 @@ use Rattle.bdb_format.specs.Databases.{databases}
 use Rattle.bdb_format.specs.File.{file_of}
 use Rattle.bdb_format.specs.Flags.{names_databases}
 use Rattle.bdb_format.specs.Master.{master_in}
-use Rattle.bdb_format.specs.Page.{BtreeFields, HashFields, Metadata, Page, QueueFields, Zero, Free, Meta, Hash, Internal, RecnoInternal, Leaf, RecnoLeaf, DupLeaf, Overflow, Queue, NoType}
+use Rattle.bdb_format.specs.Page.{BtreeFields, HashFields, Metadata, Page, QueueFields, Zero, Free, Meta, Hash, Internal, RecnoInternal, Leaf, RecnoLeaf}
+use Rattle.bdb_format.specs.Page.{DupLeaf, Overflow, Queue, NoType}
 use Rattle.bdb_format.specs.Verdict.{verdict_of}
 use Rattle.bdb_format.specs.Lists.{ListKey, BytesKey, NumberKey}
 use Rattle.bdb_text_format.specs.declared.pairs.Key.{Key}
@@ -50,7 +52,8 @@ pub master_of : (page : Page) (fields : Option Metadata) → fields ≡ meta_in 
 master_of page fields is = ap is_master is ∙ sym (of_page page)
 
 -- a key and a value of a list in a section
-pub pair_listed : (key : ListKey) (value bytes : List ℕ) (copy : Key) → copy ≡ list_key key → bytes ≡ value → record { key = copy; value = bytes; line = 0 } ≡ text_pair (key, value)
+pub pair_listed : (key : ListKey) (value bytes : List ℕ) (copy : Key) → copy ≡ list_key key → bytes ≡ value → record { key = copy; value = bytes; line = 0 }
+    ≡ text_pair (key, value)
 pair_listed (BytesKey key) value bytes copy key_is value_is = rw (key_is, value_is) refl
 pair_listed (NumberKey number) value bytes copy key_is value_is = rw (key_is, value_is) refl
 

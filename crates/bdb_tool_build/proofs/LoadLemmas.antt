@@ -27,7 +27,8 @@ fault_answer : (limit : ℕ) (text : List ℕ) (fault : Option TextFault) (answe
 fault_answer limit text None answer is = absurd is
 fault_answer limit text (Some fault) answer is = is
 
-pub text_refused : (limit : ℕ) (text : List ℕ) (refusal : Refusal) → IsRefusedAnswer (IsFaultAnswer (text_fault text)) refusal → IsRefusedAnswer (IsTextAnswer limit text) refusal
+pub text_refused : (limit : ℕ) (text : List ℕ) (refusal : Refusal) → IsRefusedAnswer (IsFaultAnswer (text_fault text)) refusal
+    → IsRefusedAnswer (IsTextAnswer limit text) refusal
 text_refused limit text refusal refused =
     still_refused (IsFaultAnswer (text_fault text)) (IsTextAnswer limit text) refusal (fault_answer limit text (text_fault text)) refused
 
@@ -50,15 +51,19 @@ pub read_without_fault : (text : List ℕ) (sections : List Section) → Reads t
 read_without_fault text sections read = no_fault (text_fault text) (sym (reads_or_faults text) ∙ ap is_some read)
 
 -- an answer to the sections that a text is read as
-pub sections_answer : (limit : ℕ) (text : List ℕ) (sections : List Section) (answer : Answer) → Reads text sections → IsLoadAnswer limit (loading_error limit sections) sections answer
+pub sections_answer : (limit : ℕ) (text : List ℕ) (sections : List Section) (answer : Answer) → Reads text sections
+    → IsLoadAnswer limit (loading_error limit sections) sections answer
     → IsTextAnswer limit text answer
 sections_answer limit text sections answer read answered =
-    subst (λ found. IsLoadAnswerBy limit found text answer) (sym (read_without_fault text sections read)) (record { sections = sections; read = read; answered = answered })
+    subst (λ found. IsLoadAnswerBy limit found text answer) (sym (read_without_fault text sections read))
+    (record { sections = sections; read = read; answered = answered })
 
 -- what loading the sections of a text gives is what loading the text gives
 pub text_loaded : (limit : ℕ) (text : List ℕ) (sections : List Section) (loaded : Result (List ℕ) Refusal) → Reads text sections
-    → MatchResult loaded (λ image. IsLoadAnswer limit (loading_error limit sections) sections (done image)) (IsRefusedAnswer (IsLoadAnswer limit (loading_error limit sections) sections))
+    → MatchResult loaded (λ image. IsLoadAnswer limit (loading_error limit sections) sections (done image))
+    (IsRefusedAnswer (IsLoadAnswer limit (loading_error limit sections) sections))
     → MatchResult loaded (λ image. IsTextAnswer limit text (done image)) (IsRefusedAnswer (IsTextAnswer limit text))
 text_loaded limit text sections (Ok image) read answered = sections_answer limit text sections (done image) read answered
 text_loaded limit text sections (Err refusal) read refused =
-    still_refused (IsLoadAnswer limit (loading_error limit sections) sections) (IsTextAnswer limit text) refusal (λ answer. sections_answer limit text sections answer read) refused
+    still_refused (IsLoadAnswer limit (loading_error limit sections) sections) (IsTextAnswer limit text) refusal
+    (λ answer. sections_answer limit text sections answer read) refused

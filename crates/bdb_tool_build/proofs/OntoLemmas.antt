@@ -18,7 +18,8 @@ use Rattle.bdb_tool_build.specs.Refusals.{IsRefusedAnswer}
 use Rattle.bdb_tool_build.proofs.LoadLemmas.{read_without_fault}
 use Rattle.bdb_tool_build.proofs.RefusalLemmas.{still_refused}
 
-fault_onto : (limit : ℕ) (base : Base) (text : List ℕ) (fault : Option TextFault) (answer : Answer) → IsFaultAnswer fault answer → IsTextOntoBy limit base fault text answer
+fault_onto : (limit : ℕ) (base : Base) (text : List ℕ) (fault : Option TextFault) (answer : Answer) → IsFaultAnswer fault answer
+    → IsTextOntoBy limit base fault text answer
 fault_onto limit base text None answer is = absurd is
 fault_onto limit base text (Some fault) answer is = is
 
@@ -35,7 +36,8 @@ error_found None large error (inl memory) = inl memory
 error_found None large error (inr is) = inr is
 
 -- sections that aren't loaded
-pub onto_refused : (limit most : ℕ) (base : Base) (sections : List Section) (error : LoadError) (refusal : Refusal) → most ≡ limit → IsOntoRefusal most base sections error
+pub onto_refused : (limit most : ℕ) (base : Base) (sections : List Section) (error : LoadError) (refusal : Refusal) → most ≡ limit
+    → IsOntoRefusal most base sections error
     → IsRefusedAnswer (IsErrorAnswer limit error) refusal → IsRefusedAnswer (IsLoadOnto limit (loading_error_onto limit base sections) base sections) refusal
 onto_refused limit most base sections error refusal same found refused =
     still_refused (IsErrorAnswer limit error) (IsLoadOnto limit (loading_error_onto limit base sections) base sections) refusal

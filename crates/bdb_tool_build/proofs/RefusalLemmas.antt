@@ -13,7 +13,8 @@ says_allowed allowed answer (TooLarge line) says is = subst allowed says is
 says_allowed allowed answer Memory says is = tt
 
 -- what is allowed by one rule is allowed by another
-pub still_refused : (allowed others : Answer → Type 0) (refusal : Refusal) → ((answer : Answer) → allowed answer → others answer) → IsRefusedAnswer allowed refusal → IsRefusedAnswer others refusal
+pub still_refused : (allowed others : Answer → Type 0) (refusal : Refusal) → ((answer : Answer) → allowed answer → others answer)
+    → IsRefusedAnswer allowed refusal → IsRefusedAnswer others refusal
 still_refused allowed others (Faulty line) wider refused = wider (told 8 (string_bytes line)) refused
 still_refused allowed others (TooLarge line) wider refused = wider (told 6 (string_bytes line)) refused
 still_refused allowed others Memory wider refused = tt

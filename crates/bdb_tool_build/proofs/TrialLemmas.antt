@@ -1,5 +1,6 @@
 -- The section of generated pairs can be loaded, and has no load error.
-use Rattle.std.proofs.Common.{◌≡◌, ◌⊎◌, ℕ, ◌+◌, ◌%◌, ◌==◌, ◌≤◌, ne_eqb, Bool, true, false, List, [], ◌∷◌, ◌++◌, length, length-append, arith, inl, inr, refl, subst, sym, ◌∙◌}
+use Rattle.std.proofs.Common.{◌≡◌, ◌⊎◌, ℕ, ◌+◌, ◌%◌, ◌==◌, ◌≤◌, ne_eqb, Bool, true, false, List, [], ◌∷◌, ◌++◌, length, length-append, arith, inl, inr, refl}
+use Rattle.std.proofs.Common.{subst, sym, ◌∙◌}
 use Rattle.std.specs.Prelude.{Some, None, if◌then◌else◌, map, nat_lt, replicate}
 use Rattle.std.specs.List.{All, flat_map}
 use Rattle.std.proofs.lemmas.List.{length-replicate}
@@ -71,7 +72,8 @@ good_pairs kind seed count =
 all_fit : (kind : Kind) (pairs : List TextPair) → All (IsGoodPair kind) pairs → All (IsFitPair (holds_records kind) 64) pairs
 all_fit kind [] good = All-nil (IsFitPair (holds_records kind) 64)
 all_fit kind (pair ∷ pairs) good =
-    All-cons (IsFitPair (holds_records kind) 64) pair pairs (All-head (IsGoodPair kind) pair pairs good).fit (all_fit kind pairs (All-tail (IsGoodPair kind) pair pairs good))
+    All-cons (IsFitPair (holds_records kind) 64) pair pairs (All-head (IsGoodPair kind) pair pairs good).fit
+    (all_fit kind pairs (All-tail (IsGoodPair kind) pair pairs good))
 
 no_errors : (kind : Kind) (pairs : List TextPair) → All (IsGoodPair kind) pairs → flat_map (pair_errors (trial_settings kind)) pairs ≡ []
 no_errors kind [] good = refl
@@ -81,9 +83,33 @@ no_errors kind (pair ∷ pairs) good =
 -- The section.
 
 fit_settings : (kind : Kind) → AreFitSettings (trial_settings kind)
-fit_settings Btree = record { page_size = refl; sorted = λ is. absurd cc; counted = λ is. refl; records = λ is. refl; re_len = omega arith; fixed = λ is. absurd cc }
-fit_settings Recno = record { page_size = refl; sorted = λ is. absurd cc; counted = λ is. refl; records = λ is. refl; re_len = omega arith; fixed = λ is. absurd cc }
-fit_settings Hash = record { page_size = refl; sorted = λ is. absurd cc; counted = λ is. refl; records = λ is. refl; re_len = omega arith; fixed = λ is. absurd cc }
+fit_settings Btree = record {
+  page_size = refl;
+  sorted = λ is. absurd cc;
+  counted = λ is. refl;
+  records = λ is. refl;
+  re_len = omega arith;
+  fixed = λ is. absurd
+      cc;
+}
+fit_settings Recno = record {
+  page_size = refl;
+  sorted = λ is. absurd cc;
+  counted = λ is. refl;
+  records = λ is. refl;
+  re_len = omega arith;
+  fixed = λ is. absurd
+      cc;
+}
+fit_settings Hash = record {
+  page_size = refl;
+  sorted = λ is. absurd cc;
+  counted = λ is. refl;
+  records = λ is. refl;
+  re_len = omega arith;
+  fixed = λ is. absurd
+      cc;
+}
 fit_settings Queue = record { page_size = refl; sorted = λ is. absurd cc; counted = λ is. refl; records = λ is. refl; re_len = omega arith; fixed = λ is. refl }
 
 pub trial_loadable : (kind : Kind) (seed count : ℕ) → AreLoadable (trial_sections kind seed count)
@@ -91,19 +117,22 @@ trial_loadable kind seed count = record {
   most = 64;
   fit = record {
     some = refl;
-    each = All-cons (IsFitSection 64) (trial_section kind seed count) [] (record { settings = fit_settings kind; pairs = all_fit kind _ (good_pairs kind seed count) }) (All-nil (IsFitSection 64));
+    each = All-cons (IsFitSection 64) (trial_section kind seed count) []
+        (record { settings = fit_settings kind; pairs = all_fit kind _ (good_pairs kind seed count) }) (All-nil (IsFitSection 64));
     names = (refl, refl, tt);
   };
 }
 
-no_load_error : (kind : Kind) (seed count : ℕ) → flat_map (pair_errors (trial_settings kind)) (map unnumbered (generated kind seed count)) ≡ [] → load_error (trial_sections kind seed count) ≡ None
+no_load_error : (kind : Kind) (seed count : ℕ) → flat_map (pair_errors (trial_settings kind)) (map unnumbered (generated kind seed count)) ≡ []
+    → load_error (trial_sections kind seed count) ≡ None
 no_load_error Btree seed count none = rw none refl
 no_load_error Recno seed count none = rw none refl
 no_load_error Hash seed count none = rw none refl
 no_load_error Queue seed count none = rw none refl
 
 -- a trial has no load error but that its image may be too large
-pub trial_error : (limit : ℕ) (kind : Kind) (seed count : ℕ) → loading_error limit (trial_sections kind seed count) ≡ size_error limit (trial_sections kind seed count)
+pub trial_error : (limit : ℕ) (kind : Kind) (seed count : ℕ) → loading_error limit (trial_sections kind seed count)
+    ≡ size_error limit (trial_sections kind seed count)
 trial_error limit kind seed count =
     rw (no_load_error kind seed count (no_errors kind _ (good_pairs kind seed count))) refl
 
@@ -112,7 +141,8 @@ large_or_none true error is = let same : TooLarge ≡ error = cc in (sym same, r
 large_or_none false error is = absurd cc
 
 -- a refusal of a trial is that its image would be too large, or want of memory
-trial_refusal : (limit most : ℕ) (kind : Kind) (seed count : ℕ) (sections : List Section) (error : LoadError) → sections ≡ trial_sections kind seed count → most ≡ limit → IsLoadRefusal most sections error
+trial_refusal : (limit most : ℕ) (kind : Kind) (seed count : ℕ) (sections : List Section) (error : LoadError) → sections ≡ trial_sections kind seed count
+    → most ≡ limit → IsLoadRefusal most sections error
     → (error ≡ Memory) ⊎ ((error ≡ TooLarge) × (nat_lt limit (image_size (trial_sections kind seed count)) ≡ true))
 trial_refusal limit most kind seed count sections error sections_are most_is found = elim (refusal_found most sections error found) [
   | inl memory ↦ inl memory
@@ -120,11 +150,13 @@ trial_refusal limit most kind seed count sections error sections_are most_is fou
       (sym (trial_error limit kind seed count) ∙ (rw (sections_are, most_is) at is)))
 ]
 
-large_answers : (limit : ℕ) (kind : Kind) (seed count : ℕ) (answer : Answer) → nat_lt limit (image_size (trial_sections kind seed count)) ≡ true → answer ≡ told 6 (image_too_large_line limit) → IsTrialAnswer limit kind seed count answer
+large_answers : (limit : ℕ) (kind : Kind) (seed count : ℕ) (answer : Answer) → nat_lt limit (image_size (trial_sections kind seed count)) ≡ true
+    → answer ≡ told 6 (image_too_large_line limit) → IsTrialAnswer limit kind seed count answer
 large_answers limit kind seed count answer beyond is = subst (λ b. IsTrialBy b limit kind seed count answer) (sym beyond) is
 
 -- so what is told of it is an answer
-pub trial_refused : (limit most : ℕ) (kind : Kind) (seed count : ℕ) (sections : List Section) (error : LoadError) (refusal : Refusal) → sections ≡ trial_sections kind seed count → most ≡ limit
+pub trial_refused : (limit most : ℕ) (kind : Kind) (seed count : ℕ) (sections : List Section) (error : LoadError) (refusal : Refusal)
+    → sections ≡ trial_sections kind seed count → most ≡ limit
     → IsLoadRefusal most sections error → IsRefusedAnswer (IsErrorAnswer limit error) refusal → IsRefusedAnswer (IsTrialAnswer limit kind seed count) refusal
 trial_refused limit most kind seed count sections error refusal sections_are most_is found refused =
     still_refused (IsErrorAnswer limit error) (IsTrialAnswer limit kind seed count) refusal

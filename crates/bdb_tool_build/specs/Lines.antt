@@ -9,8 +9,10 @@ use Rattle.bdb_text_format.specs.Written.{kind_text}
 -- the names of the reasons of a text's line, numbered from one on
 abbrev pub reason_names : List (List ℕ)
 reason_names =
-    codes "NoVersion" ∷ codes "Version" ∷ codes "UnknownKeyword" ∷ codes "BadValue" ∷ codes "RepeatedKeyword" ∷ codes "NoType" ∷ codes "Unsupported" ∷ codes "NoSpace"
-    ∷ codes "BadDigit" ∷ codes "BadEscape" ∷ codes "KeyWithoutData" ∷ codes "BadNumber" ∷ codes "NoEnd" ∷ codes "NameMissing" ∷ codes "NameTwice" ∷ codes "Conflict" ∷ []
+    codes "NoVersion" ∷ codes "Version" ∷ codes "UnknownKeyword" ∷ codes "BadValue" ∷ codes "RepeatedKeyword" ∷ codes "NoType" ∷ codes "Unsupported"
+    ∷ codes "NoSpace"
+    ∷ codes "BadDigit" ∷ codes "BadEscape" ∷ codes "KeyWithoutData" ∷ codes "BadNumber" ∷ codes "NoEnd" ∷ codes "NameMissing" ∷ codes "NameTwice"
+    ∷ codes "Conflict" ∷ []
 
 -- the line of a text's fault
 abbrev pub reason_line : TextFault → List ℕ
@@ -28,4 +30,5 @@ image_too_large_line limit = codes "image longer than " ++ (decimal limit ++ lin
 -- the two lines of a trial: how many pairs and pages there are, and the hash of the image
 abbrev pub trial_text : Kind → ℕ → ℕ → ℕ → List ℕ
 trial_text kind count pages hash =
-    kind_text kind ++ (codes ": " ++ (decimal count ++ (codes " pairs, " ++ (decimal pages ++ (line (codes " pages, sound") ++ (codes "hash5 " ++ line (decimal hash)))))))
+    kind_text kind ++ (codes ": "
+    ++ (decimal count ++ (codes " pairs, " ++ (decimal pages ++ (line (codes " pages, sound") ++ (codes "hash5 " ++ line (decimal hash)))))))

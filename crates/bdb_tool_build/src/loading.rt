@@ -73,7 +73,8 @@ fn sections_of(alloc: Global, text: Image) -> Result<Sections, Refusal>
 fn load_sections(alloc: Global, sections: Sections, limit: u32) -> Result<Image, Refusal>
     requires limit { limit ≤ 2 ^ 30 }
     requires fit { AreLoadable sections }
-    ensures { MatchResult result (λ image. IsLoadAnswer limit (loading_error limit sections) sections (done image)) (IsRefusedAnswer (IsLoadAnswer limit (loading_error limit sections) sections)) }
+    ensures { MatchResult result (λ image. IsLoadAnswer limit (loading_error limit sections) sections (done image))
+        (IsRefusedAnswer (IsLoadAnswer limit (loading_error limit sections) sections)) }
 {
     match load(alloc, sections, u64::from(limit)) {
         Ok(image) => Ok(image),
@@ -91,7 +92,8 @@ fn load_sections_onto(
     requires limit { limit ≤ 2 ^ 30 }
     requires base { IsBase base }
     requires fit { AreLoadable sections }
-    ensures { MatchResult result (λ image. IsLoadOnto limit (loading_error_onto limit base sections) base sections (done image)) (IsRefusedAnswer (IsLoadOnto limit (loading_error_onto limit base sections) base sections)) }
+    ensures { MatchResult result (λ image. IsLoadOnto limit (loading_error_onto limit base sections) base sections (done image))
+        (IsRefusedAnswer (IsLoadOnto limit (loading_error_onto limit base sections) base sections)) }
 {
     match load_onto(alloc, base, sections, u64::from(limit)) {
         Ok(image) => Ok(image),

@@ -135,7 +135,8 @@ pub fn trial_text<L: Ledger>(
     requires seed { seed < 2 ^ 31 }
     requires count { count ≤ 200000 }
     requires limit { limit ≤ 2 ^ 30 }
-    ensures { MatchResult result (λ text. IsTrialAnswer limit kind seed count (done (string_bytes text))) (IsRefusedAnswer (IsTrialAnswer limit kind seed count)) }
+    ensures { MatchResult result (λ text. IsTrialAnswer limit kind seed count (done (string_bytes text)))
+        (IsRefusedAnswer (IsTrialAnswer limit kind seed count)) }
 {
     let image = trial_image(alloc, kind, seed, count, limit)?;
     match lines_of(alloc, kind, count, image.bytes(), steps) {

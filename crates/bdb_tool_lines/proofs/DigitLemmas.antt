@@ -1,5 +1,6 @@
 -- The digits of a number, from the low end on.
-use Rattle.std.proofs.Common.{◌≡◌, ◌∙◌, ℕ, suc, zero, ◌+◌, ◌-◌, ◌*◌, ◌/◌, ◌%◌, ◌^◌, ◌<◌, ◌≤◌, List, [], ◌∷◌, ◌++◌, length, drop, set, ap, sym, subst, arith, append_assoc, append-nil}
+use Rattle.std.proofs.Common.{◌≡◌, ◌∙◌, ℕ, suc, zero, ◌+◌, ◌-◌, ◌*◌, ◌/◌, ◌%◌, ◌^◌, ◌<◌, ◌≤◌, List, [], ◌∷◌, ◌++◌, length, drop, set, ap, sym, subst, arith}
+use Rattle.std.proofs.Common.{append_assoc, append-nil}
 use Rattle.std.specs.Fmt.{decimal}
 use Rattle.std.proofs.lemmas.Fmt.{decimal_digit, decimal_step}
 use Rattle.std.proofs.Math.Nat.{pow-succ'}
@@ -22,7 +23,8 @@ begins number bytes room low = record {
   so_far = sym (append-nil (decimal number)) ∙ ap (λ rest. decimal number ++ rest) (sym (drop_all 10 bytes (omega arith)));
 }
 
-behind : (number : ℕ) (bytes : List ℕ) (start left byte : ℕ) → IsSpelled number bytes start left → drop (start - 1) (set bytes (start - 1) byte) ≡ byte ∷ drop start bytes
+behind : (number : ℕ) (bytes : List ℕ) (start left byte : ℕ) → IsSpelled number bytes start left → drop (start - 1) (set bytes (start - 1) byte) ≡ byte
+    ∷ drop start bytes
 behind number bytes start left byte is =
     let some = is.some in
     let within = is.within in

@@ -46,7 +46,8 @@ nothing_printed a f pending = record {
 
 -- Two calls.
 
-both_on_way : (a b c : Option (List ℕ)) (f g h : ℕ) (before mid now one two : List ℕ) → IsOnItsWay before mid one (moved a b f g) → IsOnItsWay mid now two (moved b c g h) → IsOnItsWay before now (one ++ two) (moved a c f h)
+both_on_way : (a b c : Option (List ℕ)) (f g h : ℕ) (before mid now one two : List ℕ) → IsOnItsWay before mid one (moved a b f g)
+    → IsOnItsWay mid now two (moved b c g h) → IsOnItsWay before now (one ++ two) (moved a c f h)
 both_on_way a b c f g h before mid now one two first second = record {
   written = first.written ++ second.written;
   gained = Appends-trans a b c first.written second.written first.gained second.gained;
@@ -58,7 +59,8 @@ both_on_way a b c f g h before mid now one two first second = record {
       ∙ append_assoc before one two;
 }
 
-cut_later : (a b c : Option (List ℕ)) (f g h : ℕ) (before mid one two : List ℕ) (cut : Cut) → f ≤ g → IsOnItsWay before mid one (moved a b f g) → IsCutOff mid two (moved b c g h) cut → IsCutOff before (one ++ two) (moved a c f h) cut
+cut_later : (a b c : Option (List ℕ)) (f g h : ℕ) (before mid one two : List ℕ) (cut : Cut) → f ≤ g → IsOnItsWay before mid one (moved a b f g)
+    → IsCutOff mid two (moved b c g h) cut → IsCutOff before (one ++ two) (moved a c f h) cut
 cut_later a b c f g h before mid one two cut later first second = record {
   part =
       subst (AppendsPrefix a c) (sym (append_assoc first.written mid two) ∙ ap (λ begun. begun ++ two) first.whole ∙ append_assoc before one two)
@@ -67,7 +69,8 @@ cut_later a b c f g h before mid one two cut later first second = record {
 }
 
 -- a text and then another
-pub then_prints : (a b c : Option (List ℕ)) (f g h : ℕ) (before mid now one two : List ℕ) (result : Result Unit Cut) → Prints before mid one (moved a b f g) (Ok tt) → Prints mid now two (moved b c g h) result → Prints before now (one ++ two) (moved a c f h) result
+pub then_prints : (a b c : Option (List ℕ)) (f g h : ℕ) (before mid now one two : List ℕ) (result : Result Unit Cut)
+    → Prints before mid one (moved a b f g) (Ok tt) → Prints mid now two (moved b c g h) result → Prints before now (one ++ two) (moved a c f h) result
 then_prints a b c f g h before mid now one two (Ok unit) first second = record {
   printed = both_on_way a b c f g h before mid now one two first.printed second.printed;
   later = let one_later : f ≤ g = first.later in let two_later : g ≤ h = second.later in omega arith;
@@ -77,12 +80,14 @@ then_prints a b c f g h before mid now one two (Err cut) first second = record {
   later = let one_later : f ≤ g = first.later in let two_later : g ≤ h = second.later in omega arith;
 }
 
-pub then_more : (a b c : Option (List ℕ)) (f g h : ℕ) (before mid now one two : List ℕ) (given result : Result Unit Cut) → given ≡ Ok tt → Prints before mid one (moved a b f g) given → Prints mid now two (moved b c g h) result → Prints before now (one ++ two) (moved a c f h) result
+pub then_more : (a b c : Option (List ℕ)) (f g h : ℕ) (before mid now one two : List ℕ) (given result : Result Unit Cut) → given ≡ Ok tt
+    → Prints before mid one (moved a b f g) given → Prints mid now two (moved b c g h) result → Prints before now (one ++ two) (moved a c f h) result
 then_more a b c f g h before mid now one two given result was first second =
     then_prints a b c f g h before mid now one two result (subst (Prints before mid one (moved a b f g)) was first) second
 
 -- where the first is cut off, both are
-pub cut_before : (out : Change) (before now mid one two : List ℕ) (cut : Cut) → Prints before mid one out (Err cut) → Prints before now (one ++ two) out (Err cut)
+pub cut_before : (out : Change) (before now mid one two : List ℕ) (cut : Cut) → Prints before mid one out (Err cut)
+    → Prints before now (one ++ two) out (Err cut)
 cut_before out before now mid one two cut first = record {
   printed = record {
     part = subst (GainsPart out) (append_assoc before one two) (part_extends out.before out.now (before ++ one) two first.printed.part);
@@ -91,24 +96,29 @@ cut_before out before now mid one two cut first = record {
   later = first.later;
 }
 
-pub begins_cut : (out : Change) (before now mid one two : List ℕ) (given result : Result Unit Cut) (cut : Cut) → given ≡ Err cut → result ≡ Err cut → Prints before mid one out given → Prints before now (one ++ two) out result
+pub begins_cut : (out : Change) (before now mid one two : List ℕ) (given result : Result Unit Cut) (cut : Cut) → given ≡ Err cut → result ≡ Err cut
+    → Prints before mid one out given → Prints before now (one ++ two) out result
 begins_cut out before now mid one two given result cut was is printed =
-    subst (λ r. Prints before now (one ++ two) out r) (sym is) (cut_before out before now mid one two cut (subst (λ r. Prints before mid one out r) was printed))
+    subst (λ r. Prints before now (one ++ two) out r) (sym is) (cut_before out before now mid one two cut
+    (subst (λ r. Prints before mid one out r) was printed))
 
 -- The whole of a text.
 
 -- a text was printed, and then all that was pending was written
-pub then_written : (a b c : Option (List ℕ)) (f g h : ℕ) (mid now text : List ℕ) (result : Result Unit Cut) → Prints [] mid text (moved a b f g) (Ok tt) → Prints mid now [] (moved b c g h) result → OnOk result (now ≡ [])
+pub then_written : (a b c : Option (List ℕ)) (f g h : ℕ) (mid now text : List ℕ) (result : Result Unit Cut) → Prints [] mid text (moved a b f g) (Ok tt)
+    → Prints mid now [] (moved b c g h) result → OnOk result (now ≡ [])
     → Writes text (moved a c f h) result
 then_written a b c f g h mid now text (Ok unit) first second empty =
     let both : Prints [] now (text ++ []) (moved a c f h) (Ok tt) = then_prints a b c f g h [] mid now text [] (Ok tt) first second in
-    let whole : both.printed.written ≡ text = sym (append-nil both.printed.written) ∙ ap (λ rest. both.printed.written ++ rest) (sym empty) ∙ both.printed.whole ∙ append-nil text in
+    let whole : both.printed.written ≡ text = sym (append-nil both.printed.written) ∙ ap (λ rest. both.printed.written ++ rest) (sym empty) ∙ both.printed.whole
+    ∙ append-nil text in
     record { written = subst (Appends a c) whole both.printed.gained; later = both.later }
 then_written a b c f g h mid now text (Err cut) first second empty =
     let both : Prints [] now (text ++ []) (moved a c f h) (Err cut) = then_prints a b c f g h [] mid now text [] (Err cut) first second in
     record { written = subst (λ whole. IsCutOff [] whole (moved a c f h) cut) (append-nil text) both.printed; later = both.later }
 
-pub cut_short : (out : Change) (now text : List ℕ) (given result : Result Unit Cut) (cut : Cut) → given ≡ Err cut → result ≡ Err cut → Prints [] now text out given → Writes text out result
+pub cut_short : (out : Change) (now text : List ℕ) (given result : Result Unit Cut) (cut : Cut) → given ≡ Err cut → result ≡ Err cut
+    → Prints [] now text out given → Writes text out result
 cut_short out now text given result cut was same prints =
     subst (Writes text out) (sym same) (step (subst (Prints [] now text out) was prints))
   where

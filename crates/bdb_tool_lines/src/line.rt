@@ -116,7 +116,8 @@ impl<'k, K: Sink> Printer<'k, K> {
     /// Adds the line of a fault, by its parts.
     #[tactic(auto, using(crate::proofs::PassingLemmas::then_passes, crate::proofs::PassingLemmas::passes_cut))]
     fn fault_parts(&mut self, fault: Fault) -> Result<(), Cut>
-        ensures passes { Passes K.written K.faults self.old self.new ((stage_part fault.stage ++ (page_part fault.page ++ code_part fault.code)) ++ name_part (fault_name fault.stage fault.code)) result }
+        ensures passes { Passes K.written K.faults self.old self.new ((stage_part fault.stage ++ (page_part fault.page ++ code_part fault.code))
+            ++ name_part (fault_name fault.stage fault.code)) result }
         ensures cause { IfErr result (λ cut. cut ≡ WriteFault) }
     {
         self.row(fault)?;
@@ -183,7 +184,8 @@ impl<'k, K: Sink> Printer<'k, K> {
     /// Adds the line of the one at a place of a list.
     pub(crate) fn item(&mut self, all: &NamedList, i: usize) -> Result<(), Cut>
         requires { i < length all.now }
-        ensures passes { (judgement : Judgement) → slice_get all.now i ≡ Some judgement → Passes K.written K.faults self.old self.new (judgement_line judgement) result }
+        ensures passes { (judgement : Judgement) → slice_get all.now i ≡ Some judgement
+            → Passes K.written K.faults self.old self.new (judgement_line judgement) result }
         ensures cause { IfErr result (λ cut. cut ≡ WriteFault) }
     {
         match all.get(i) {

@@ -13,7 +13,8 @@ use Rattle.bdb_format.specs.Numbers.{has_bit}
 use Rattle.bdb_format.specs.Page.{Metadata, BtreeFields, HashFields, QueueFields}
 use Rattle.bdb_text_format.specs.Written.{kind_text}
 
-chosen_kind : (has : Bool) (size : ℕ) (order : Order) (meta : BtreeMeta) → (if has then recno_settings size order meta else btree_settings size order meta).kind ≡ (if has then Recno else Btree)
+chosen_kind : (has : Bool) (size : ℕ) (order : Order) (meta : BtreeMeta) → (if has then recno_settings size order meta else btree_settings size order meta).kind
+    ≡ (if has then Recno else Btree)
 chosen_kind true size order meta = refl
 chosen_kind false size order meta = refl
 
@@ -23,7 +24,8 @@ settings_kind size order (HashFields meta) = refl
 settings_kind size order (QueueFields meta) = refl
 
 -- the line of a database, from its settings and its name
-pub line_of_database : (size : ℕ) (order : Order) (database : Database) (settings : Settings) (name : Option (List ℕ)) → settings ≡ settings_of size order database.fields → name ≡ database.name
+pub line_of_database : (size : ℕ) (order : Order) (database : Database) (settings : Settings) (name : Option (List ℕ))
+    → settings ≡ settings_of size order database.fields → name ≡ database.name
     → line (kind_text settings.kind ++ name_text name) ≡ database_line database
 line_of_database size order database settings name is named =
     let kind : settings.kind ≡ kind_of database.fields = ap (λ (s : Settings). s.kind) is ∙ settings_kind size order database.fields in

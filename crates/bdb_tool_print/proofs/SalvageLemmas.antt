@@ -1,5 +1,6 @@
 -- How many loose records there are: an index takes two bytes for each.
-use Rattle.std.proofs.Common.{◌≡◌, ℕ, ◌*◌, ◌/◌, ◌≤◌, Bool, true, false, List, [], ◌∷◌, length, map, take, drop, arith, refl, sym, ◌∙◌, ap, subst, inl, inr, length-append, length-take, ltb-false}
+use Rattle.std.proofs.Common.{◌≡◌, ℕ, ◌*◌, ◌/◌, ◌≤◌, Bool, true, false, List, [], ◌∷◌, length, map, take, drop, arith, refl, sym, ◌∙◌, ap, subst, inl, inr}
+use Rattle.std.proofs.Common.{length-append, length-take, ltb-false}
 use Rattle.std.specs.Prelude.{Option, Some, None, if◌then◌else◌}
 use Rattle.std.specs.List.{flat_map, range_with_len}
 use Rattle.std.proofs.Math.Nat.{mul_comm}
@@ -63,7 +64,8 @@ entries_short order size image p =
     elim (cases_lt p (length image / size)) [
       | inl there ↦
           subst (λ page. 2 * length (entries_in page) ≤ size)
-          (sym (get_or-map-range_with_len (λ q. salvaged_page order (take size (drop (q * size) image))) 0 (length image / size) p p NoType there (omega arith)))
+          (sym (get_or-map-range_with_len (λ q. salvaged_page order (take size (drop (q * size) image))) 0 (length image / size) p p NoType there
+          (omega arith)))
           (omega (arith, page_room order (take size (drop (p * size) image)), length-take size (drop (p * size) image)))
       | inr past ↦
           subst (λ page. 2 * length (entries_in page) ≤ size)
@@ -99,7 +101,8 @@ live_short order size image p =
     omega (
       arith,
       entries_short order size image p,
-      joined_short (live_value (salvaged_file order size image)) 2 (entries_in (page_at (salvaged_file order size image) p)) (one_live (salvaged_file order size image)),
+      joined_short (live_value (salvaged_file order size image)) 2 (entries_in (page_at (salvaged_file order size image) p))
+          (one_live (salvaged_file order size image)),
     )
 
 loose_short : (order : Order) (size : ℕ) (image : List ℕ) (p : ℕ) → 2 * length (loose_on (salvaged_file order size image) p) ≤ size

@@ -30,7 +30,8 @@ by_size false rows image answer is = is
 -- there is one answer to `verify`
 one_answer : (rows : Rows) (image : List ℕ) (answer : Answer) → IsAnswerTo (asked_alone (verify_words rows)) image answer → answer ≡ verify_answer rows image
 one_answer rows image answer is =
-    by_size (nat_lt (2 ^ 30) (length image)) rows image answer (subst (λ command. IsCommandAnswer command image [] answer) (ap (handed false) (command_is rows)) is)
+    by_size (nat_lt (2 ^ 30) (length image)) rows image answer (subst (λ command. IsCommandAnswer command image [] answer) (ap (handed false) (command_is rows))
+    is)
 
 -- what was written is the answer
 pub record TellsVerdict (rows : Rows) (image : List ℕ) (out err : Change) (status : ℕ) : Type 0 where
@@ -38,7 +39,8 @@ pub record TellsVerdict (rows : Rows) (image : List ℕ) (out err : Change) (sta
   pub out_is : Gains out (verify_answer rows image).out
   pub err_is : Gains err (verify_answer rows image).err
 
-pub tells_verdict : (rows : Rows) (image : List ℕ) (source out err : Change) (status : ℕ) → RunsAs (asked_alone (verify_words rows)) source out err status → source.before ≡ Some image → IsAnswered status → TellsVerdict rows image out err status
+pub tells_verdict : (rows : Rows) (image : List ℕ) (source out err : Change) (status : ℕ) → RunsAs (asked_alone (verify_words rows)) source out err status
+    → source.before ≡ Some image → IsAnswered status → TellsVerdict rows image out err status
 tells_verdict rows image source out err status runs before answered =
     let found = runs.answers answered in
     let input : found.0 ≡ image = subst (λ left. IsInput left found.0) before found.1 in
@@ -59,19 +61,25 @@ told_line : (answer : Answer) → answer.status ≢ 0 → answer.err ≡ text_to
 told_line answer other = rw (ne_eqb answer.status 0 other) refl
 
 -- the output where the command was done
-pub verdict_printed : (rows : Rows) (words : List (List ℕ)) (image printed : List ℕ) (source out err : Change) (status : ℕ) → words ≡ verify_words rows → RunsAs (asked_alone words) source out err status → source.before ≡ Some image → status ≡ 0
+pub verdict_printed : (rows : Rows) (words : List (List ℕ)) (image printed : List ℕ) (source out err : Change) (status : ℕ) → words ≡ verify_words rows
+    → RunsAs (asked_alone words) source out err status → source.before ≡ Some image → status ≡ 0
     → out.before ≡ Some [] → out.now ≡ Some printed → printed ≡ text_told (verify_answer rows image)
 verdict_printed rows words image printed source out err status words_are runs before is out_before out_now =
-    let tells = tells_verdict rows image source out err status (subst (λ ws. RunsAs (asked_alone ws) source out err status) words_are runs) before (λ four. omega arith, λ five. omega arith, λ seven. omega arith) in
+    let tells = tells_verdict rows image source out err status (subst (λ ws. RunsAs (asked_alone ws) source out err status) words_are runs) before
+    (λ four. omega arith, λ five. omega arith, λ seven. omega arith) in
     printed_whole out printed (verify_answer rows image).out out_before out_now tells.out_is ∙ told_done (verify_answer rows image) (sym tells.status_is ∙ is)
 
 -- the error line where it wasn't
-pub verdict_line : (rows : Rows) (words : List (List ℕ)) (image printed : List ℕ) (source out err : Change) (status : ℕ) → words ≡ verify_words rows → RunsAs (asked_alone words) source out err status → source.before ≡ Some image → (HasFailed source → ⊥) → status ≢ 0 → status ≢ 5
+pub verdict_line : (rows : Rows) (words : List (List ℕ)) (image printed : List ℕ) (source out err : Change) (status : ℕ) → words ≡ verify_words rows
+    → RunsAs (asked_alone words) source out err status → source.before ≡ Some image → (HasFailed source → ⊥) → status ≢ 0 → status ≢ 5
     → status ≢ 7 → err.before ≡ Some [] → err.now ≡ Some printed → printed ≡ text_told (verify_answer rows image)
 verdict_line rows words image printed source out err status words_are runs before never other no_fault no_memory err_before err_now =
-    let tells = tells_verdict rows image source out err status (subst (λ ws. RunsAs (asked_alone ws) source out err status) words_are runs) before (λ four. never (runs.read_fault four).0, no_fault, no_memory) in
-    printed_whole err printed (verify_answer rows image).err err_before err_now tells.err_is ∙ told_line (verify_answer rows image) (λ zero_is. other (tells.status_is ∙ zero_is))
+    let tells = tells_verdict rows image source out err status (subst (λ ws. RunsAs (asked_alone ws) source out err status) words_are runs) before
+    (λ four. never (runs.read_fault four).0, no_fault, no_memory) in
+    printed_whole err printed (verify_answer rows image).err err_before err_now tells.err_is
+    ∙ told_line (verify_answer rows image) (λ zero_is. other (tells.status_is ∙ zero_is))
 
 -- bytes that are a text
-pub bytes_told : {E : Type 0} (result : Result (List ℕ) E) (piece text whole : List ℕ) → piece ≡ whole → whole ≡ text → IfOk result (λ bytes. bytes ≡ piece) → IfOk result (λ verdict. verdict ≡ text)
+pub bytes_told : {E : Type 0} (result : Result (List ℕ) E) (piece text whole : List ℕ) → piece ≡ whole → whole ≡ text → IfOk result (λ bytes. bytes ≡ piece)
+    → IfOk result (λ verdict. verdict ≡ text)
 bytes_told result piece text whole piece_is text_is ok = subst (λ it. IfOk result (λ bytes. bytes ≡ it)) (piece_is ∙ text_is) ok

@@ -1,7 +1,8 @@
 -- Files with chains, whose items tell a total length. Source: docs/FORMAT.md, "Other pages" and "Stage 6, chains and trees".
 use Rattle.std.specs.Prelude.{ℕ, ◌+◌, ◌-◌, List, [], ◌∷◌, ◌++◌, map, replicate, codes}
 use Rattle.std.specs.List.{range_with_len}
-use Rattle.sample_contents.specs.Fields.{Entry, text, chain, set, deleted, child, child_by_chain, hash_text, hash_chain, pair, again, live, leaf, recno_leaf, dup_leaf, internal, hash_page, overflow, btree, recno, table}
+use Rattle.sample_contents.specs.Fields.{Entry, text, chain, set, deleted, child, child_by_chain, hash_text, hash_chain, pair, again, live, leaf, recno_leaf}
+use Rattle.sample_contents.specs.Fields.{dup_leaf, internal, hash_page, overflow, btree, recno, table}
 
 -- pages 2 to 12, ten of 486 bytes and one of 140: 5,000 bytes in all
 abbrev pub eleven_pages : List (List ℕ)

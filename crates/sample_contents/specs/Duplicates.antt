@@ -1,7 +1,8 @@
 -- Btrees with keys that have several data, on their page and off it. Source: docs/FORMAT.md, "Items", "Trees of duplicates" and "Stage 8, contents".
 use Rattle.std.specs.Prelude.{ℕ, List, [], ◌∷◌, map}
 use Prim.Native.String.{String}
-use Rattle.sample_contents.specs.Fields.{text, set, deleted, child, recno_child, pair, again, live, leaf, recno_leaf, dup_leaf, internal, recno_internal, btree, one_leaf}
+use Rattle.sample_contents.specs.Fields.{text, set, deleted, child, recno_child, pair, again, live, leaf, recno_leaf, dup_leaf, internal, recno_internal, btree}
+use Rattle.sample_contents.specs.Fields.{one_leaf}
 
 -- a pair for each of these items, all with the key `a`
 abbrev pub under_one_key : ℕ → List ℕ → List (List ℕ) → List ℕ

@@ -1,6 +1,7 @@
 -- Files whose leaves have links and types that are given. Source: docs/FORMAT.md, "Stage 6, chains and trees".
 use Rattle.std.specs.Prelude.{ℕ, List, [], ◌∷◌}
-use Rattle.sample_contents.specs.Fields.{text, set, child, recno_child, hash_tree, hash_text, pair, live, leaf, recno_leaf, dup_leaf, internal, recno_internal, hash_page, btree, recno, table}
+use Rattle.sample_contents.specs.Fields.{text, set, child, recno_child, hash_tree, hash_text, pair, live, leaf, recno_leaf, dup_leaf, internal, recno_internal}
+use Rattle.sample_contents.specs.Fields.{hash_page, btree, recno, table}
 
 abbrev pub linked_leaf : (previous next : ℕ) → List ℕ
 linked_leaf previous next = btree 0 (leaf 1 previous next (live "a" ∷ []) ∷ [])

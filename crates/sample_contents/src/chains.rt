@@ -1,4 +1,6 @@
-ghost use Rattle.sample_contents.specs.Chains.{chain_in_a_set, chain_of_data, chain_of_deleted_data, chain_of_deleted_record, chain_of_first_key, chain_of_hash_key, chain_of_key, chain_of_shared_key, chain_of_two, chain_of_two_leaves, empty_chain, long_value};
+ghost use Rattle.sample_contents.specs.Chains.{chain_in_a_set, chain_of_data, chain_of_deleted_data, chain_of_deleted_record, chain_of_first_key};
+ghost use Rattle.sample_contents.specs.Chains.{chain_of_hash_key, chain_of_key, chain_of_shared_key, chain_of_two, chain_of_two_leaves, empty_chain};
+ghost use Rattle.sample_contents.specs.Chains.{long_value};
 ghost use Rattle.sample_graphs.specs.Named.{fault};
 ghost use Rattle.bdb_format.specs.Chains.{chain, pieces_of, value_of};
 ghost use Rattle.bdb_format.specs.File.{file_of};

@@ -1,4 +1,6 @@
-ghost use Rattle.sample_contents.specs.ContentFaults.{contents_bucket_many, contents_count, contents_duplicate_kind, contents_duplicate_order, contents_duplicates, contents_duplicates_many, contents_key_order, contents_key_order_many, contents_key_twice, contents_record_length, contents_separator_many};
+ghost use Rattle.sample_contents.specs.ContentFaults.{contents_bucket_many, contents_count, contents_duplicate_kind, contents_duplicate_order};
+ghost use Rattle.sample_contents.specs.ContentFaults.{contents_duplicates, contents_duplicates_many, contents_key_order, contents_key_order_many};
+ghost use Rattle.sample_contents.specs.ContentFaults.{contents_key_twice, contents_record_length, contents_separator_many};
 ghost use Rattle.sample_graphs.specs.Named.{fault};
 ghost use Rattle.bdb_format.specs.Verdict.{faults_of};
 ghost use Rattle.std.specs.Prelude.{◌≡◌, [], ◌∷◌};

@@ -1,6 +1,7 @@
 ghost use Rattle.sample_contents.specs.Fields.{chain, inline, live, one_leaf, pair, recno_leaf, set, text};
 ghost use Rattle.sample_contents.specs.Judged.{under};
-ghost use Rattle.sample_contents.specs.Masters.{btree_fields, gone_name, hash_fields, holds, master, master_above, nameless, queue_fields, the_btree, the_hash, value_on_7};
+ghost use Rattle.sample_contents.specs.Masters.{btree_fields, gone_name, hash_fields, holds, master, master_above, nameless, queue_fields, the_btree, the_hash};
+ghost use Rattle.sample_contents.specs.Masters.{value_on_7};
 ghost use Rattle.sample_contents.specs.Named.{names, two_databases};
 ghost use Rattle.sample_contents.specs.Queues.{second_of_three};
 ghost use Rattle.sample_contents.specs.Records.{first_and_third};
@@ -20,15 +21,18 @@ pub fn with_names()
 
 /// Names and numbers in chains.
 pub fn chains()
-    ensures number { databases (file_of (master_above (value_on_7 (0 ∷ 0 ∷ 0 ∷ []) (4 ∷ [])) (names "a" 2 ∷ pair (text "b") (chain 7 4) ∷ []))) ≡ the_btree "a" ∷ the_hash "b" ∷ [] }
-    ensures name { databases (file_of (master_above (value_on_7 (98 ∷ []) (99 ∷ [])) (names "a" 2 ∷ pair (chain 7 2) (inline (0 ∷ 0 ∷ 0 ∷ 4 ∷ [])) ∷ []))) ≡ the_btree "a" ∷ the_hash "bc" ∷ [] }
+    ensures number { databases (file_of (master_above (value_on_7 (0 ∷ 0 ∷ 0 ∷ []) (4 ∷ [])) (names "a" 2 ∷ pair (text "b") (chain 7 4) ∷ []))) ≡ the_btree "a"
+        ∷ the_hash "b" ∷ [] }
+    ensures name { databases (file_of (master_above (value_on_7 (98 ∷ []) (99 ∷ [])) (names "a" 2 ∷ pair (chain 7 2) (inline (0 ∷ 0 ∷ 0 ∷ 4 ∷ [])) ∷ [])))
+        ≡ the_btree "a" ∷ the_hash "bc" ∷ [] }
 {}
 
 /// In a file that breaks the rules of masters: a pair that names no metadata gives no database, and page 0 isn't left out.
 pub fn not_sound()
     ensures size { databases (file_of (master (names "a" 2 ∷ holds "b" (0 ∷ 0 ∷ 4 ∷ []) ∷ []))) ≡ the_btree "a" ∷ [] }
     ensures leaf { databases (file_of (master (names "a" 3 ∷ names "b" 4 ∷ []))) ≡ the_hash "b" ∷ [] }
-    ensures set { databases (file_of (master_above (recno_leaf 7 0 0 (inline (0 ∷ 0 ∷ 0 ∷ 4 ∷ []) ∷ []) ∷ []) (names "a" 2 ∷ pair (text "b") (set 7) ∷ []))) ≡ the_btree "a" ∷ [] }
+    ensures set { databases (file_of (master_above (recno_leaf 7 0 0 (inline (0 ∷ 0 ∷ 0 ∷ 4 ∷ []) ∷ []) ∷ []) (names "a" 2 ∷ pair (text "b") (set 7) ∷ [])))
+        ≡ the_btree "a" ∷ [] }
     ensures twice { databases (file_of (master (names "a" 2 ∷ names "a" 4 ∷ []))) ≡ the_btree "a" ∷ the_hash "a" ∷ [] }
 {}
 

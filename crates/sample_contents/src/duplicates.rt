@@ -1,5 +1,6 @@
 ghost use Rattle.sample_contents.specs.Chains.{five_bytes, leaf_with_chain};
-ghost use Rattle.sample_contents.specs.Duplicates.{set_and_pair, set_on_two_leaves, sorted_items, sorted_level, under_one_key, unsorted_items, unsorted_level, with_item, with_set};
+ghost use Rattle.sample_contents.specs.Duplicates.{set_and_pair, set_on_two_leaves, sorted_items, sorted_level, under_one_key, unsorted_items, unsorted_level};
+ghost use Rattle.sample_contents.specs.Duplicates.{with_item, with_set};
 ghost use Rattle.sample_contents.specs.Fields.{again, chain, deleted, dup_leaf, live, one_leaf, pair, set, text};
 ghost use Rattle.sample_graphs.specs.Named.{fault};
 ghost use Rattle.bdb_format.specs.Verdict.{faults_of};

@@ -44,7 +44,8 @@ pub fn chains()
 /// A recno: deleted entries keep their numbers, over all leaves.
 pub fn recnos()
     ensures leaf { list_at first_and_third 0 ≡ numbered 1 "a" ∷ numbered 3 "c" ∷ [] }
-    ensures leaves { list_at (counted_records 2 0 2 2 (deleted (text "a") ∷ text "b" ∷ []) (text "c" ∷ deleted (text "d") ∷ [])) 0 ≡ numbered 2 "b" ∷ numbered 3 "c" ∷ [] }
+    ensures leaves { list_at (counted_records 2 0 2 2 (deleted (text "a") ∷ text "b" ∷ []) (text "c" ∷ deleted (text "d") ∷ [])) 0 ≡ numbered 2 "b"
+        ∷ numbered 3 "c" ∷ [] }
     ensures empty { list_at (records 2 0 []) 0 ≡ [] }
 {}
 
@@ -68,7 +69,8 @@ pub fn queues()
 pub fn hashes()
     ensures order { list_at five_keys 0 ≡ entry "a" "1" ∷ entry "ab" "1" ∷ entry "b" "1" ∷ entry "c" "1" ∷ entry "d" "1" ∷ [] }
     ensures sets { list_at set_in_a_bucket 0 ≡ entry "a" "1" ∷ entry "b" "2" ∷ entry "b" "1" ∷ entry "b" "2" ∷ [] }
-    ensures tree { list_at (with_hash_item 1 (hash_tree 3) (recno_leaf 3 0 0 (text "2" ∷ deleted (text "3") ∷ text "1" ∷ []) ∷ [])) 0 ≡ entry "a" "2" ∷ entry "a" "1" ∷ [] }
+    ensures tree { list_at (with_hash_item 1 (hash_tree 3) (recno_leaf 3 0 0 (text "2" ∷ deleted (text "3") ∷ text "1" ∷ []) ∷ [])) 0 ≡ entry "a" "2"
+        ∷ entry "a" "1" ∷ [] }
     ensures empty_set { list_at empty_set_in_a_bucket 0 ≡ entry "b" "1" ∷ entry "c" "1" ∷ [] }
     ensures empty_tree { list_at (with_hash_item 1 (hash_tree 3) (recno_leaf 3 0 0 (deleted (text "1") ∷ []) ∷ [])) 0 ≡ [] }
     ensures zero_page { list_at (zero_bucket (hash_live "b" ∷ [])) 0 ≡ entry "b" "1" ∷ [] }

@@ -18,7 +18,8 @@ pub fn sound()
 pub fn chains()
     ensures number { faults_of (master_above (value_on_7 (0 ∷ 0 ∷ 0 ∷ []) (4 ∷ [])) (names "a" 2 ∷ pair (text "b") (chain 7 4) ∷ [])) ≡ [] }
     ensures name { faults_of (master_above (value_on_7 (98 ∷ []) (99 ∷ [])) (names "a" 2 ∷ pair (chain 7 2) (inline (0 ∷ 0 ∷ 0 ∷ 4 ∷ [])) ∷ [])) ≡ [] }
-    ensures three_bytes { faults_of (master_above (value_on_7 (0 ∷ 0 ∷ []) (4 ∷ [])) (names "a" 2 ∷ pair (text "b") (chain 7 3) ∷ [])) ≡ fault 7 1 2 ∷ fault 7 4 1 ∷ [] }
+    ensures three_bytes { faults_of (master_above (value_on_7 (0 ∷ 0 ∷ []) (4 ∷ [])) (names "a" 2 ∷ pair (text "b") (chain 7 3) ∷ [])) ≡ fault 7 1 2
+        ∷ fault 7 4 1 ∷ [] }
 {}
 
 /// A deleted pair names nothing, breaks no row, and its name may come again.
@@ -43,7 +44,8 @@ pub fn sizes()
     ensures three { faults_of (master (names "a" 2 ∷ names "b" 4 ∷ holds "c" (0 ∷ 0 ∷ 4 ∷ []) ∷ [])) ≡ fault 7 1 2 ∷ [] }
     ensures five { faults_of (master (names "a" 2 ∷ names "b" 4 ∷ holds "c" (0 ∷ 0 ∷ 0 ∷ 4 ∷ 0 ∷ []) ∷ [])) ≡ fault 7 1 2 ∷ [] }
     ensures none { faults_of (master (names "a" 2 ∷ holds "b" [] ∷ [])) ≡ fault 7 1 2 ∷ fault 7 4 1 ∷ [] }
-    ensures set { faults_of (master_above (recno_leaf 7 0 0 (inline (0 ∷ 0 ∷ 0 ∷ 4 ∷ []) ∷ []) ∷ []) (names "a" 2 ∷ pair (text "b") (set 7) ∷ [])) ≡ fault 7 1 2 ∷ fault 7 4 1 ∷ [] }
+    ensures set { faults_of (master_above (recno_leaf 7 0 0 (inline (0 ∷ 0 ∷ 0 ∷ 4 ∷ []) ∷ []) ∷ []) (names "a" 2 ∷ pair (text "b") (set 7) ∷ [])) ≡ fault 7 1 2
+        ∷ fault 7 4 1 ∷ [] }
 {}
 
 /// EntryTarget: a page that has no metadata, or isn't there, and page 0. The high byte comes first.
@@ -72,7 +74,8 @@ pub fn pages_twice()
 
 /// Several rows, at one page and at others; a wrong link of stage 6 comes before all of them.
 pub fn many()
-    ensures rows { faults_of (master (names "a" 2 ∷ names "a" 2 ∷ holds "b" [] ∷ names "c" 0 ∷ [])) ≡ fault 7 1 2 ∷ fault 7 1 3 ∷ fault 7 1 4 ∷ fault 7 2 5 ∷ fault 7 4 1 ∷ [] }
+    ensures rows { faults_of (master (names "a" 2 ∷ names "a" 2 ∷ holds "b" [] ∷ names "c" 0 ∷ [])) ≡ fault 7 1 2 ∷ fault 7 1 3 ∷ fault 7 1 4 ∷ fault 7 2 5
+        ∷ fault 7 4 1 ∷ [] }
     ensures leaves { faults_of (master_of_two_leaves (names "a" 0 ∷ []) (holds "b" [] ∷ names "c" 6 ∷ [])) ≡ fault 7 2 3 ∷ fault 7 3 2 ∷ fault 7 4 1 ∷ [] }
     ensures link { faults_of (overwritten (master []) (512 + 12) (3 ∷ [])) ≡ fault 6 1 3 ∷ [] }
 {}

@@ -1,5 +1,6 @@
 ghost use Rattle.sample_contents.specs.Fields.{dup_leaf, leaf, live, text};
-ghost use Rattle.sample_contents.specs.Trees.{linked_leaf, mixed_leaves, record_leaves, set_above, set_in_a_table, three_levels, turned_leaves, two_leaves, two_sets};
+ghost use Rattle.sample_contents.specs.Trees.{linked_leaf, mixed_leaves, record_leaves, set_above, set_in_a_table, three_levels, turned_leaves, two_leaves};
+ghost use Rattle.sample_contents.specs.Trees.{two_sets};
 ghost use Rattle.sample_graphs.specs.Named.{fault};
 ghost use Rattle.bdb_format.specs.Numbers.{overwritten};
 ghost use Rattle.bdb_format.specs.Verdict.{faults_of};

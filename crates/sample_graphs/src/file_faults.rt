@@ -2,7 +2,8 @@ ghost use Rattle.bdb_format.specs.Verdict.{LeftOut, faults_of, verdict_of};
 ghost use Rattle.bdb_format.specs.declared.kinds.Unsupported.TheVariants.{Checksum, Encryption, Heap, LargePage, Partition, Version};
 ghost use Rattle.sample_graphs.specs.Named.{fault};
 ghost use Rattle.sample_graphs.specs.Tails.{file_tail, file_tail_many};
-ghost use Rattle.sample_pages.specs.FileFaults.{file_checksum, file_encryption, file_heap, file_large_page, file_last_page, file_magic, file_page_size, file_partition, file_ragged, file_short, file_version};
+ghost use Rattle.sample_pages.specs.FileFaults.{file_checksum, file_encryption, file_heap, file_large_page, file_last_page, file_magic, file_page_size};
+ghost use Rattle.sample_pages.specs.FileFaults.{file_partition, file_ragged, file_short, file_version};
 ghost use Rattle.std.specs.Prelude.{◌≡◌, Some, [], ◌∷◌};
 
 /// Rows of the magic number, the version and the page size.

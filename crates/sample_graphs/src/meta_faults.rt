@@ -1,8 +1,13 @@
 ghost use Rattle.bdb_format.specs.Verdict.{LeftOut, faults_of, verdict_of};
 ghost use Rattle.bdb_format.specs.declared.kinds.Unsupported.TheVariants.{Checksum, Compression, Encryption, Extent, OwnHash, Partition, Version, WrappedQueue};
-ghost use Rattle.sample_graphs.specs.MetaForms.{form_btree_flags_one, form_checksum_many, form_compression_one, form_encryption_many, form_extent_many, form_hash_buckets_many, form_hash_flags_many, form_hash_masks_many, form_meta_magic_one, form_meta_page_size_many, form_own_hash_many, form_page_number_many, form_page_type_one, form_partition_one, form_queue_first_many, form_queue_record_many, form_version_many, form_wrapped_queue_many};
+ghost use Rattle.sample_graphs.specs.MetaForms.{form_btree_flags_one, form_checksum_many, form_compression_one, form_encryption_many, form_extent_many};
+ghost use Rattle.sample_graphs.specs.MetaForms.{form_hash_buckets_many, form_hash_flags_many, form_hash_masks_many, form_meta_magic_one};
+ghost use Rattle.sample_graphs.specs.MetaForms.{form_meta_page_size_many, form_own_hash_many, form_page_number_many, form_page_type_one, form_partition_one};
+ghost use Rattle.sample_graphs.specs.MetaForms.{form_queue_first_many, form_queue_record_many, form_version_many, form_wrapped_queue_many};
 ghost use Rattle.sample_graphs.specs.Named.{fault};
-ghost use Rattle.sample_pages.specs.MetaFaults.{form_btree_flags, form_checksum, form_compression, form_encryption, form_extent, form_hash_buckets, form_hash_flags, form_hash_masks, form_meta_magic, form_meta_page_size, form_own_hash, form_page_number, form_page_type, form_partition, form_queue_first, form_queue_record, form_version, form_wrapped_queue};
+ghost use Rattle.sample_pages.specs.MetaFaults.{form_btree_flags, form_checksum, form_compression, form_encryption, form_extent, form_hash_buckets};
+ghost use Rattle.sample_pages.specs.MetaFaults.{form_hash_flags, form_hash_masks, form_meta_magic, form_meta_page_size, form_own_hash, form_page_number};
+ghost use Rattle.sample_pages.specs.MetaFaults.{form_page_type, form_partition, form_queue_first, form_queue_record, form_version, form_wrapped_queue};
 ghost use Rattle.std.specs.Prelude.{◌≡◌, Some, [], ◌∷◌};
 
 /// Rows of every page.

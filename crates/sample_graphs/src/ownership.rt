@@ -1,6 +1,7 @@
 ghost use Rattle.bdb_format.specs.Verdict.{faults_of};
 ghost use Rattle.sample_graphs.specs.Named.{fault};
-ghost use Rattle.sample_graphs.specs.Ownership.{owner_no_owner, owner_no_owner_many, owner_too_many, owner_too_many_many, reach_unreached, reach_unreached_many};
+ghost use Rattle.sample_graphs.specs.Ownership.{owner_no_owner, owner_no_owner_many, owner_too_many, owner_too_many_many, reach_unreached};
+ghost use Rattle.sample_graphs.specs.Ownership.{reach_unreached_many};
 ghost use Rattle.std.specs.Prelude.{◌≡◌, [], ◌∷◌};
 
 /// Pages without an owner.

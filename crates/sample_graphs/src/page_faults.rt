@@ -1,7 +1,9 @@
 ghost use Rattle.bdb_format.specs.Verdict.{faults_of};
 ghost use Rattle.sample_graphs.specs.Named.{fault};
-ghost use Rattle.sample_graphs.specs.PageForms.{form_entry_count_one, form_index_room_one, form_item_extent_many, form_item_offset_many, form_item_type_one, form_level_many, form_overflow_room_many};
-ghost use Rattle.sample_pages.specs.PageFaults.{form_entry_count, form_index_room, form_item_extent, form_item_offset, form_item_type, form_level, form_overflow_room};
+ghost use Rattle.sample_graphs.specs.PageForms.{form_entry_count_one, form_index_room_one, form_item_extent_many, form_item_offset_many, form_item_type_one};
+ghost use Rattle.sample_graphs.specs.PageForms.{form_level_many, form_overflow_room_many};
+ghost use Rattle.sample_pages.specs.PageFaults.{form_entry_count, form_index_room, form_item_extent, form_item_offset, form_item_type, form_level};
+ghost use Rattle.sample_pages.specs.PageFaults.{form_overflow_room};
 ghost use Rattle.std.specs.Prelude.{◌≡◌, [], ◌∷◌};
 
 /// Rows of the index, the level and the number of entries.

@@ -2,7 +2,8 @@ ghost use Rattle.bdb_format.specs.Verdict.{Faulty, LeftOut, faults_of, verdict_o
 ghost use Rattle.bdb_format.specs.declared.kinds.Unsupported.TheVariants.{LargePage, Version};
 ghost use Rattle.sample_graphs.specs.Named.{fault};
 ghost use Rattle.sample_graphs.specs.Worked.{empty_queue_big};
-ghost use Rattle.sample_pages.specs.Formed.{formed_btree_big, formed_btree_little, formed_hash_big, formed_hash_free_big, formed_hash_little, formed_queue_big, formed_queue_little, formed_sets_big};
+ghost use Rattle.sample_pages.specs.Formed.{formed_btree_big, formed_btree_little, formed_hash_big, formed_hash_free_big, formed_hash_little, formed_queue_big};
+ghost use Rattle.sample_pages.specs.Formed.{formed_queue_little, formed_sets_big};
 ghost use Rattle.sample_pages.specs.OnePair.{large_page, one_pair, one_pair_big, other_version};
 ghost use Rattle.std.specs.Prelude.{◌≡◌, take, None, Some, [], ◌∷◌};
 

@@ -1,6 +1,7 @@
 ghost use Rattle.bdb_format.specs.declared.kinds.Unsupported.TheVariants.{Checksum, Encryption, Heap, LargePage, Partition, Version};
 ghost use Rattle.bdb_format.specs.declared.metadata.MetaFault.TheVariants.{Fault, Unsupported as LeftOut};
-ghost use Rattle.sample_pages.specs.FileFaults.{file_checksum, file_encryption, file_heap, file_large_page, file_last_page, file_magic, file_page_size, file_partition, file_ragged, file_short, file_version};
+ghost use Rattle.sample_pages.specs.FileFaults.{file_checksum, file_encryption, file_heap, file_large_page, file_last_page, file_magic, file_page_size};
+ghost use Rattle.sample_pages.specs.FileFaults.{file_partition, file_ragged, file_short, file_version};
 ghost use Rattle.sample_pages.specs.Verdicts.{head_answer};
 ghost use Rattle.std.specs.Prelude.{◌≡◌, Err, [], ◌∷◌};
 

@@ -1,7 +1,9 @@
 ghost use Rattle.bdb_format.specs.Reading.{abstract_page};
 ghost use Rattle.bdb_format.specs.declared.kinds.Order.TheVariants.{Big, Little};
 ghost use Rattle.bdb_format.specs.declared.metadata.FileKind.TheVariants.{Btree, Hash, Queue};
-ghost use Rattle.sample_pages.specs.Formed.{btree_big_pages, formed_btree_big, formed_btree_little, formed_hash_big, formed_hash_free_big, formed_hash_little, formed_internal_little, formed_queue_big, formed_queue_little, formed_sets_big, internal_page, set_page, sets_big_page};
+ghost use Rattle.sample_pages.specs.Formed.{btree_big_pages, formed_btree_big, formed_btree_little, formed_hash_big, formed_hash_free_big, formed_hash_little};
+ghost use Rattle.sample_pages.specs.Formed.{formed_internal_little, formed_queue_big, formed_queue_little, formed_sets_big, internal_page, set_page};
+ghost use Rattle.sample_pages.specs.Formed.{sets_big_page};
 ghost use Rattle.sample_pages.specs.Verdicts.{abstract_pages, form_codes, head_answer, page_at};
 ghost use Rattle.std.specs.Prelude.{◌≡◌, Ok, None, [], ◌∷◌};
 

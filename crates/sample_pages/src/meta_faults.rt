@@ -1,7 +1,10 @@
 ghost use Rattle.bdb_format.specs.HeadOf.{form_fault, head_fault};
-ghost use Rattle.bdb_format.specs.declared.kinds.Unsupported.TheVariants.{Checksum, Compression, Encryption, Extent, Heap, LargePage, OwnHash, Partition, Version, WrappedQueue};
+ghost use Rattle.bdb_format.specs.declared.kinds.Unsupported.TheVariants.{Checksum, Compression, Encryption, Extent, Heap, LargePage, OwnHash, Partition};
+ghost use Rattle.bdb_format.specs.declared.kinds.Unsupported.TheVariants.{Version, WrappedQueue};
 ghost use Rattle.bdb_format.specs.declared.metadata.MetaFault.TheVariants.{Fault, Unsupported as LeftOut};
-ghost use Rattle.sample_pages.specs.MetaFaults.{form_btree_flags, form_checksum, form_compression, form_encryption, form_extent, form_hash_buckets, form_hash_flags, form_hash_masks, form_meta_magic, form_meta_page_size, form_own_hash, form_page_number, form_page_type, form_partition, form_queue_first, form_queue_record, form_version, form_wrapped_queue};
+ghost use Rattle.sample_pages.specs.MetaFaults.{form_btree_flags, form_checksum, form_compression, form_encryption, form_extent, form_hash_buckets};
+ghost use Rattle.sample_pages.specs.MetaFaults.{form_hash_flags, form_hash_masks, form_meta_magic, form_meta_page_size, form_own_hash, form_page_number};
+ghost use Rattle.sample_pages.specs.MetaFaults.{form_page_type, form_partition, form_queue_first, form_queue_record, form_version, form_wrapped_queue};
 ghost use Rattle.sample_pages.specs.Verdicts.{form_codes, page_codes, queue_codes};
 ghost use Rattle.std.specs.List.{range_with_len};
 ghost use Rattle.std.specs.Prelude.{◌≡◌, map, Ok, None, Some, [], ◌∷◌};
@@ -53,8 +56,10 @@ pub fn queue()
 
 /// The codes of rows that are cases left out by name.
 pub fn left_out()
-    ensures file { map head_fault (3 ∷ 4 ∷ 6 ∷ 7 ∷ 8 ∷ 9 ∷ []) ≡ LeftOut Heap ∷ LeftOut Version ∷ LeftOut LargePage ∷ LeftOut Encryption ∷ LeftOut Checksum ∷ LeftOut Partition ∷ [] }
-    ensures form { map form_fault (4 ∷ 6 ∷ 7 ∷ 8 ∷ 9 ∷ 11 ∷ 15 ∷ 18 ∷ []) ≡ LeftOut Version ∷ LeftOut Encryption ∷ LeftOut Checksum ∷ LeftOut Partition ∷ LeftOut Compression ∷ LeftOut OwnHash ∷ LeftOut Extent ∷ LeftOut WrappedQueue ∷ [] }
+    ensures file { map head_fault (3 ∷ 4 ∷ 6 ∷ 7 ∷ 8 ∷ 9 ∷ []) ≡ LeftOut Heap ∷ LeftOut Version ∷ LeftOut LargePage ∷ LeftOut Encryption ∷ LeftOut Checksum
+        ∷ LeftOut Partition ∷ [] }
+    ensures form { map form_fault (4 ∷ 6 ∷ 7 ∷ 8 ∷ 9 ∷ 11 ∷ 15 ∷ 18 ∷ []) ≡ LeftOut Version ∷ LeftOut Encryption ∷ LeftOut Checksum ∷ LeftOut Partition
+        ∷ LeftOut Compression ∷ LeftOut OwnHash ∷ LeftOut Extent ∷ LeftOut WrappedQueue ∷ [] }
 {}
 
 /// The codes of all other rows.

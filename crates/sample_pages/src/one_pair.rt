@@ -2,7 +2,8 @@ ghost use Rattle.bdb_format.specs.declared.kinds.Order.TheVariants.{Big, Little}
 ghost use Rattle.bdb_format.specs.declared.kinds.Unsupported.TheVariants.{LargePage, Version};
 ghost use Rattle.bdb_format.specs.declared.metadata.FileKind.TheVariants.{Btree};
 ghost use Rattle.bdb_format.specs.declared.metadata.MetaFault.TheVariants.{Fault, Unsupported as LeftOut};
-ghost use Rattle.sample_pages.specs.OnePair.{b_item, deleted, large_page, misnumbered, one_pair, one_pair_big, other_kind, other_version, pages_with, past_by_one, past_end, to_end};
+ghost use Rattle.sample_pages.specs.OnePair.{b_item, deleted, large_page, misnumbered, one_pair, one_pair_big, other_kind, other_version, pages_with};
+ghost use Rattle.sample_pages.specs.OnePair.{past_by_one, past_end, to_end};
 ghost use Rattle.sample_pages.specs.Verdicts.{abstract_pages, form_codes, head_answer};
 ghost use Rattle.std.specs.Prelude.{◌≡◌, take, true, false, Ok, Err, None, Some, [], ◌∷◌};
 

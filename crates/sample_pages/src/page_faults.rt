@@ -1,4 +1,5 @@
-ghost use Rattle.sample_pages.specs.PageFaults.{form_entry_count, form_index_room, form_item_extent, form_item_offset, form_item_type, form_level, form_overflow_room};
+ghost use Rattle.sample_pages.specs.PageFaults.{form_entry_count, form_index_room, form_item_extent, form_item_offset, form_item_type, form_level};
+ghost use Rattle.sample_pages.specs.PageFaults.{form_overflow_room};
 ghost use Rattle.sample_pages.specs.Verdicts.{form_codes, page_codes};
 ghost use Rattle.std.specs.Prelude.{◌≡◌, Ok, None, Some, [], ◌∷◌};
 

@@ -1,7 +1,10 @@
 ghost use Rattle.bdb_format.specs.Page.{NoType, Zero};
 ghost use Rattle.bdb_format.specs.Reading.{abstract_page};
 ghost use Rattle.bdb_format.specs.declared.kinds.Order.TheVariants.{Big, Little};
-ghost use Rattle.sample_pages.specs.Pages.{btree_page, btree_read, dup_leaf_page, dup_leaf_read, free_page, free_read, hash_page, hash_read, internal_page, internal_read, leaf_page, leaf_read, overflow_page, overflow_read, page_without_type, queue_meta_page, queue_meta_read, queue_page, queue_read, recno_internal_page, recno_internal_read, recno_leaf_page, recno_leaf_read, table_page, table_read, zero_page};
+ghost use Rattle.sample_pages.specs.Pages.{btree_page, btree_read, dup_leaf_page, dup_leaf_read, free_page, free_read, hash_page, hash_read, internal_page};
+ghost use Rattle.sample_pages.specs.Pages.{internal_read, leaf_page, leaf_read, overflow_page, overflow_read, page_without_type, queue_meta_page};
+ghost use Rattle.sample_pages.specs.Pages.{queue_meta_read, queue_page, queue_read, recno_internal_page, recno_internal_read, recno_leaf_page, recno_leaf_read};
+ghost use Rattle.sample_pages.specs.Pages.{table_page, table_read, zero_page};
 ghost use Rattle.std.specs.Prelude.{◌≡◌};
 
 /// Leaves of pairs, of records, and of sorted duplicates.

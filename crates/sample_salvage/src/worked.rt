@@ -22,7 +22,8 @@ pub fn sets()
     ensures pairs { stored (salvaged_file Little 512 (set_on_two_leaves (text "1" ∷ []) (text "2" ∷ []))) ≡ (97 ∷ [], 49 ∷ []) ∷ (97 ∷ [], 50 ∷ []) ∷ [] }
     ensures none { loose (salvaged_file Little 512 (set_on_two_leaves (text "1" ∷ []) (text "2" ∷ []))) ≡ [] }
     ensures broken { stored (salvaged_file Little 512 (overwritten (set_on_two_leaves (text "1" ∷ []) (text "2" ∷ [])) (4 * 512 + 12) (2 ∷ []))) ≡ [] }
-    ensures loose_then { loose (salvaged_file Little 512 (overwritten (set_on_two_leaves (text "1" ∷ []) (text "2" ∷ [])) (4 * 512 + 12) (2 ∷ []))) ≡ (49 ∷ []) ∷ (50 ∷ []) ∷ [] }
+    ensures loose_then { loose (salvaged_file Little 512 (overwritten (set_on_two_leaves (text "1" ∷ []) (text "2" ∷ [])) (4 * 512 + 12) (2 ∷ []))) ≡ (49 ∷ [])
+        ∷ (50 ∷ []) ∷ [] }
 {}
 
 /// A chain of one page.

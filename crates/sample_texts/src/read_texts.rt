@@ -59,9 +59,12 @@ pub fn header_ends()
     ensures conflict_renumber { IsFaulty (headed ("type=btree" ∷ "renumber=1" ∷ "HEADER=END" ∷ [])) 4 16 }
     ensures conflict_before_missing { IsFaulty (headed ("type=btree" ∷ "HEADER=END" ∷ "DATA=END" ∷ "VERSION=3" ∷ "type=queue" ∷ "HEADER=END" ∷ [])) 7 16 }
     ensures missing { IsFaulty (headed ("type=btree" ∷ "HEADER=END" ∷ "DATA=END" ∷ "VERSION=3" ∷ "database=a" ∷ "type=btree" ∷ "HEADER=END" ∷ [])) 8 14 }
-    ensures missing_second { IsFaulty (headed ("database=a" ∷ "type=btree" ∷ "HEADER=END" ∷ "DATA=END" ∷ "VERSION=3" ∷ "type=btree" ∷ "HEADER=END" ∷ "DATA=END" ∷ [])) 8 14 }
-    ensures missing_before_twice { IsFaulty (headed ("type=btree" ∷ "HEADER=END" ∷ "DATA=END" ∷ "VERSION=3" ∷ "type=btree" ∷ "HEADER=END" ∷ "DATA=END" ∷ [])) 7 14 }
-    ensures twice { IsFaulty (headed ("database=a" ∷ "type=btree" ∷ "HEADER=END" ∷ "DATA=END" ∷ "VERSION=3" ∷ "database=\\61" ∷ "type=btree" ∷ "HEADER=END" ∷ "DATA=END" ∷ [])) 9 15 }
+    ensures missing_second { IsFaulty (headed ("database=a" ∷ "type=btree" ∷ "HEADER=END" ∷ "DATA=END" ∷ "VERSION=3" ∷ "type=btree" ∷ "HEADER=END" ∷ "DATA=END"
+        ∷ [])) 8 14 }
+    ensures missing_before_twice { IsFaulty (headed ("type=btree" ∷ "HEADER=END" ∷ "DATA=END" ∷ "VERSION=3" ∷ "type=btree" ∷ "HEADER=END" ∷ "DATA=END" ∷ [])) 7
+        14 }
+    ensures twice { IsFaulty (headed ("database=a" ∷ "type=btree" ∷ "HEADER=END" ∷ "DATA=END" ∷ "VERSION=3" ∷ "database=\\61" ∷ "type=btree" ∷ "HEADER=END"
+        ∷ "DATA=END" ∷ [])) 9 15 }
 {}
 
 /// Data lines, and the end of the text.
@@ -90,9 +93,37 @@ pub fn two_faulty_lines()
 /// Texts that are read: records without keys, keywords that the type leaves aside, two names of which one is empty, numbers with `0x`,
 /// a last line without its line feed, digits in both cases.
 pub fn sections()
-    ensures keys_off { IsRead (headed ("type=recno" ∷ "keys=0" ∷ "HEADER=END" ∷ " 4A4b" ∷ " " ∷ "DATA=END" ∷ [])) (record { name = None; settings = plain_settings Recno 4096 Little; header_line = 4; pairs = record { key = Number 1; value = (74 ∷ 75 ∷ []); line = 5 } ∷ record { key = Number 2; value = []; line = 6 } ∷ [] } ∷ []) }
-    ensures ignored { IsRead (headed ("type=hash" ∷ "bt_minkey=7" ∷ "re_len=9" ∷ "h_ffactor=0xFf" ∷ "dupsort=1" ∷ "duplicates=0" ∷ "HEADER=END" ∷ " 00" ∷ " 01" ∷ "DATA=END" ∷ [])) (record { name = None; settings = record (plain_settings Hash 4096 Little) { duplicates = true; sorted = true; ffactor = 255 }; header_line = 8; pairs = record { key = Bytes (0 ∷ []); value = (1 ∷ []); line = 9 } ∷ [] } ∷ []) }
-    ensures two { IsRead (headed ("database=a" ∷ "type=btree" ∷ "HEADER=END" ∷ "DATA=END" ∷ "VERSION=3" ∷ "database=" ∷ "type=hash" ∷ "HEADER=END" ∷ "DATA=END" ∷ [])) (record { name = Some (97 ∷ []); settings = plain_settings Btree 4096 Little; header_line = 4; pairs = [] } ∷ record { name = Some []; settings = plain_settings Hash 4096 Little; header_line = 9; pairs = [] } ∷ []) }
-    ensures recno { IsRead (headed ("type=recno" ∷ "re_pad=0x20" ∷ "format=print" ∷ "re_len=0x3" ∷ "duplicates=0" ∷ "HEADER=END" ∷ " abc" ∷ " d\\65f" ∷ []) ++ codes "DATA=END") (record { name = None; settings = record (plain_settings Recno 4096 Little) { fixed = true; re_len = 3 }; header_line = 7; pairs = record { key = Number 1; value = (97 ∷ 98 ∷ 99 ∷ []); line = 8 } ∷ record { key = Number 2; value = (100 ∷ 101 ∷ 102 ∷ []); line = 9 } ∷ [] } ∷ []) }
-    ensures queue { IsRead (headed ("h_nelem=7" ∷ "db_lorder=0x10E1" ∷ "type=queue" ∷ "keys=1" ∷ "re_len=2" ∷ "extentsize=00" ∷ "HEADER=END" ∷ " 3031" ∷ " ff00" ∷ "DATA=END" ∷ [])) (record { name = None; settings = record (plain_settings Queue 4096 Big) { fixed = true; re_len = 2 }; header_line = 8; pairs = record { key = Number 1; value = (255 ∷ 0 ∷ []); line = 9 } ∷ [] } ∷ []) }
+    ensures keys_off { IsRead (headed ("type=recno" ∷ "keys=0" ∷ "HEADER=END" ∷ " 4A4b" ∷ " " ∷ "DATA=END" ∷ []))
+        (record {
+          name = None;
+          settings = plain_settings Recno 4096 Little;
+          header_line = 4;
+          pairs = record { key = Number 1; value = (74 ∷ 75 ∷ []); line = 5 }
+              ∷ record { key = Number 2; value = []; line = 6 } ∷ [];
+        } ∷ []) }
+    ensures ignored { IsRead (headed ("type=hash" ∷ "bt_minkey=7" ∷ "re_len=9" ∷ "h_ffactor=0xFf" ∷ "dupsort=1" ∷ "duplicates=0" ∷ "HEADER=END" ∷ " 00" ∷ " 01"
+        ∷ "DATA=END" ∷ [])) (record {
+          name = None;
+          settings = record (plain_settings Hash 4096 Little) { duplicates = true; sorted = true; ffactor = 255 };
+          header_line = 8;
+          pairs = record { key = Bytes (0 ∷ []); value = (1 ∷ []); line = 9 } ∷ [];
+        } ∷ []) }
+    ensures two { IsRead (headed ("database=a" ∷ "type=btree" ∷ "HEADER=END" ∷ "DATA=END" ∷ "VERSION=3" ∷ "database=" ∷ "type=hash" ∷ "HEADER=END" ∷ "DATA=END"
+        ∷ [])) (record { name = Some (97 ∷ []); settings = plain_settings Btree 4096 Little; header_line = 4; pairs = [] }
+        ∷ record { name = Some []; settings = plain_settings Hash 4096 Little; header_line = 9; pairs = [] } ∷ []) }
+    ensures recno { IsRead (headed ("type=recno" ∷ "re_pad=0x20" ∷ "format=print" ∷ "re_len=0x3" ∷ "duplicates=0" ∷ "HEADER=END" ∷ " abc" ∷ " d\\65f" ∷ [])
+        ++ codes "DATA=END") (record {
+          name = None;
+          settings = record (plain_settings Recno 4096 Little) { fixed = true; re_len = 3 };
+          header_line = 7;
+          pairs = record { key = Number 1; value = (97 ∷ 98 ∷ 99 ∷ []); line = 8 } ∷ record { key = Number 2; value = (100 ∷ 101 ∷ 102 ∷ []); line = 9 } ∷ [];
+        }
+        ∷ []) }
+    ensures queue { IsRead (headed ("h_nelem=7" ∷ "db_lorder=0x10E1" ∷ "type=queue" ∷ "keys=1" ∷ "re_len=2" ∷ "extentsize=00" ∷ "HEADER=END" ∷ " 3031" ∷ " ff00"
+        ∷ "DATA=END" ∷ [])) (record {
+          name = None;
+          settings = record (plain_settings Queue 4096 Big) { fixed = true; re_len = 2 };
+          header_line = 8;
+          pairs = record { key = Number 1; value = (255 ∷ 0 ∷ []); line = 9 } ∷ [];
+        } ∷ []) }
 {}

@@ -14,7 +14,8 @@ ghost use Rattle.std.specs.Prelude.{◌≡◌, ◌++◌, [], ◌∷◌, false, t
 /// The sample file in either order, the same with its pair deleted, and a pair of bytes that aren't printed as they are.
 pub fn one_pair()
     ensures little { text_of false one_pair ≡ section "bytevalue" "btree" [] (" 61" ∷ " 62" ∷ []) }
-    ensures big { text_of false one_pair_big ≡ lines ("VERSION=3" ∷ "format=bytevalue" ∷ "type=btree" ∷ "db_pagesize=512" ∷ "db_lorder=4321" ∷ "HEADER=END" ∷ " 61" ∷ " 62" ∷ "DATA=END" ∷ []) }
+    ensures big { text_of false one_pair_big ≡ lines ("VERSION=3" ∷ "format=bytevalue" ∷ "type=btree" ∷ "db_pagesize=512" ∷ "db_lorder=4321" ∷ "HEADER=END"
+        ∷ " 61" ∷ " 62" ∷ "DATA=END" ∷ []) }
     ensures deleted { text_of false deleted ≡ section "bytevalue" "btree" [] [] }
     ensures digits { text_of false unprinted_pair ≡ section "bytevalue" "btree" [] (" 61" ∷ " 5c0a41" ∷ []) }
     ensures printed { text_of true unprinted_pair ≡ section "print" "btree" [] (" a" ∷ " \\\\\\0aA" ∷ []) }
@@ -34,7 +35,8 @@ pub fn btrees()
 /// The pairs of a btree, with the key for each datum; values in chains.
 pub fn pairs()
     ensures several { text_of true several_data ≡ section "print" "btree" ("duplicates=1" ∷ []) (" a" ∷ " 2" ∷ " a" ∷ " 1" ∷ " b" ∷ " 1" ∷ []) }
-    ensures set { text_of true (with_set 0x41 (sorted_items (text "1" ∷ text "2" ∷ []))) ≡ section "print" "btree" ("duplicates=1" ∷ "dupsort=1" ∷ []) (" a" ∷ " 1" ∷ " a" ∷ " 2" ∷ []) }
+    ensures set { text_of true (with_set 0x41 (sorted_items (text "1" ∷ text "2" ∷ []))) ≡ section "print" "btree" ("duplicates=1" ∷ "dupsort=1" ∷ [])
+        (" a" ∷ " 1" ∷ " a" ∷ " 2" ∷ []) }
     ensures empty { text_of false (one_leaf 0 (live "" ∷ [])) ≡ section "bytevalue" "btree" [] (" " ∷ " 31" ∷ []) }
     ensures long_datum { text_of true (chain_of_data 5) ≡ section "print" "btree" [] (" a" ∷ " abcde" ∷ []) }
     ensures long_key { text_of false (chain_of_key 5) ≡ section "bytevalue" "btree" [] (" 6162636465" ∷ " 31" ∷ []) }
@@ -62,12 +64,18 @@ pub fn hashes()
 pub fn queues()
     ensures one { text_of false second_of_three ≡ section "bytevalue" "queue" ("re_len=4" ∷ "re_pad=0" ∷ "keys=1" ∷ []) (" 32" ∷ " 61626364" ∷ []) }
     ensures padded { text_of false padded_queue ≡ section "bytevalue" "queue" ("re_len=4" ∷ "re_pad=42" ∷ "keys=1" ∷ []) (" 32" ∷ " 61626364" ∷ []) }
-    ensures two_digits { text_of true over_two_pages ≡ section "print" "queue" ("re_len=4" ∷ "re_pad=0" ∷ "keys=1" ∷ []) (" 60" ∷ " bbbb" ∷ " 61" ∷ " cccc" ∷ []) }
+    ensures two_digits { text_of true over_two_pages ≡ section "print" "queue" ("re_len=4" ∷ "re_pad=0" ∷ "keys=1" ∷ [])
+        (" 60" ∷ " bbbb" ∷ " 61" ∷ " cccc" ∷ []) }
 {}
 
 /// Databases with names, each with its section; names are always printed. A master that names nothing gives the empty text.
 pub fn named()
-    ensures two { text_of false (two_databases (live "c" ∷ []) (hash_live "d" ∷ [])) ≡ lines ("VERSION=3" ∷ "format=bytevalue" ∷ "database=a" ∷ "type=btree" ∷ "db_pagesize=512" ∷ "db_lorder=1234" ∷ "HEADER=END" ∷ " 63" ∷ " 31" ∷ "DATA=END" ∷ "VERSION=3" ∷ "format=bytevalue" ∷ "database=b" ∷ "type=hash" ∷ "db_pagesize=512" ∷ "db_lorder=1234" ∷ "HEADER=END" ∷ " 64" ∷ " 31" ∷ "DATA=END" ∷ []) }
-    ensures spelled { text_of false (master (names "" 4 ∷ names "a\\\n" 2 ∷ [])) ≡ lines ("VERSION=3" ∷ "format=bytevalue" ∷ "database=" ∷ "type=hash" ∷ "db_pagesize=512" ∷ "db_lorder=1234" ∷ "HEADER=END" ∷ "DATA=END" ∷ "VERSION=3" ∷ "format=bytevalue" ∷ "database=a\\\\\\0a" ∷ "type=btree" ∷ "db_pagesize=512" ∷ "db_lorder=1234" ∷ "HEADER=END" ∷ "DATA=END" ∷ []) }
+    ensures two { text_of false (two_databases (live "c" ∷ []) (hash_live "d" ∷ []))
+        ≡ lines ("VERSION=3" ∷ "format=bytevalue" ∷ "database=a" ∷ "type=btree" ∷ "db_pagesize=512" ∷ "db_lorder=1234" ∷ "HEADER=END" ∷ " 63" ∷ " 31"
+        ∷ "DATA=END" ∷ "VERSION=3" ∷ "format=bytevalue" ∷ "database=b" ∷ "type=hash" ∷ "db_pagesize=512" ∷ "db_lorder=1234" ∷ "HEADER=END" ∷ " 64" ∷ " 31"
+        ∷ "DATA=END" ∷ []) }
+    ensures spelled { text_of false (master (names "" 4 ∷ names "a\\\n" 2 ∷ []))
+        ≡ lines ("VERSION=3" ∷ "format=bytevalue" ∷ "database=" ∷ "type=hash" ∷ "db_pagesize=512" ∷ "db_lorder=1234" ∷ "HEADER=END" ∷ "DATA=END" ∷ "VERSION=3"
+        ∷ "format=bytevalue" ∷ "database=a\\\\\\0a" ∷ "type=btree" ∷ "db_pagesize=512" ∷ "db_lorder=1234" ∷ "HEADER=END" ∷ "DATA=END" ∷ []) }
     ensures no_names { text_of false (one_leaf 0x20 []) ≡ [] }
 {}

@@ -18,7 +18,8 @@ all_spelled n order x bytes long =
 -- Fields that are written one after another.
 
 pub written_more : (order : Order) (bytes now next : List ℕ) (fields : List Field) (i : ℕ) (d : Field) → i < length fields
-    → now ≡ fold (field_put order) bytes (take i fields) → next ≡ field_put order now (get_or fields i d) → next ≡ fold (field_put order) bytes (take (i + 1) fields)
+    → now ≡ fold (field_put order) bytes (take i fields) → next ≡ field_put order now (get_or fields i d)
+    → next ≡ fold (field_put order) bytes (take (i + 1) fields)
 written_more order bytes now next fields i d more so e =
     e ∙ ap (λ (bs : List ℕ). field_put order bs (get_or fields i d)) so ∙ sym (fold_more (field_put order) bytes fields i d more)
 

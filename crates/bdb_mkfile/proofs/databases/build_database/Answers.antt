@@ -9,7 +9,8 @@ use Rattle.bdb_mkfile.proofs.databases.build_database.Goals as goal
 pub returns-in-Btree : goal.returns-in-Btree
 returns-in-Btree c =
     IfOk-weaker c.build_named_tree.result _ _ (λ meta built.
-    section_built c.args.section c.args.page_size c.settings_in-settings.result (pairs_of c.as_slice-list.result) c.args.pages.now c.build_named_tree.new.pages meta
+    section_built c.args.section c.args.page_size c.settings_in-settings.result (pairs_of c.as_slice-list.result) c.args.pages.now c.build_named_tree.new.pages
+    meta
     (record {
       named = c.requires.named;
       size_is = c.requires.size;

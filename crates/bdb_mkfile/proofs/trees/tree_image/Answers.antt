@@ -18,8 +18,10 @@ returns c =
     let old : Built = c.add.new.self in
     let built : Built = c.build_tree.new.pages in
     let first = first_zero c.new-pages.result old c.new-pages.ensures.pages c.in_ok-add.ensures.ok in
-    let tree : IsTreeBuilt c.args.settings.now 1 old built (units_in c.args.settings.now.kind (pairs_of c.args.list)) (listed (pairs_of c.args.list)) c.in_ok-root.root =
-    subst (λ (n : ℕ). IsTreeBuilt c.args.settings.now n old built (units_in c.args.settings.now.kind (pairs_of c.args.list)) (listed (pairs_of c.args.list)) c.in_ok-root.root)
+    let tree : IsTreeBuilt c.args.settings.now 1 old built (units_in c.args.settings.now.kind (pairs_of c.args.list)) (listed (pairs_of c.args.list))
+    c.in_ok-root.root =
+    subst (λ (n : ℕ). IsTreeBuilt c.args.settings.now n old built (units_in c.args.settings.now.kind (pairs_of c.args.list)) (listed (pairs_of c.args.list))
+    c.in_ok-root.root)
     first.1 c.in_ok-root.ensures in
     topped_image c.args.settings.now (pairs_of c.args.list) old built c.in_ok-root.root c.tree_meta.result c.from_bytes.result
     (record {

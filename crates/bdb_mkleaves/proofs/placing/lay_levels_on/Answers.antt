@@ -25,5 +25,7 @@ place_root-requires-clause-first c =
 
 pub returns : goal.returns
 returns c = λ nodes are.
-    tower_on c.args.inner c.args.pages.now c.lay_levels.new.pages c.place_root.new.pages nodes c.args.first c.in_ok-root.root c.in_ok-sum.sum c.args.below.items are
-    c.requires.many c.requires.first c.requires.blank (c.in_ok-root.ensures nodes are) (c.in_ok-sum.ensures ∙ ap (sum_by (λ (child : Child). child.count)) c.deref.ensures.value) c.place_root.ensures
+    tower_on c.args.inner c.args.pages.now c.lay_levels.new.pages c.place_root.new.pages nodes c.args.first c.in_ok-root.root c.in_ok-sum.sum c.args.below.items
+    are
+    c.requires.many c.requires.first c.requires.blank (c.in_ok-root.ensures nodes are)
+    (c.in_ok-sum.ensures ∙ ap (sum_by (λ (child : Child). child.count)) c.deref.ensures.value) c.place_root.ensures

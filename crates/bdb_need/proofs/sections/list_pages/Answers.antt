@@ -21,7 +21,8 @@ pub returns-in-Hash-clause-pages : goal.returns-in-Hash-clause-pages
 returns-in-Hash-clause-pages c =
     let settings = c.args.settings.now in
     let pairs = c.args.list.now in
-    let same : table_size settings.page_size settings.sorted (table_units (unlined_pairs pairs)) ≡ list_pages settings.kind settings (unlined_pairs (filled_pairs settings pairs)) =
+    let same : table_size settings.page_size settings.sorted (table_units (unlined_pairs pairs))
+    ≡ list_pages settings.kind settings (unlined_pairs (filled_pairs settings pairs)) =
     ap (λ ps. table_size settings.page_size settings.sorted (table_units (unlined_pairs ps))) (sym (table_as_is settings pairs c.in-Hash.is))
     ∙ ap (λ k. list_pages k settings (unlined_pairs (filled_pairs settings pairs))) (sym c.in-Hash.is) in
     subst (λ n. IfOk c.table_pages.result (λ pages. pages ≡ n)) same c.table_pages.ensures.pages

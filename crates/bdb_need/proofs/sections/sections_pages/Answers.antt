@@ -16,6 +16,7 @@ loop-section-preserved c =
     let here : f (get_or c.args.sections.now c.loop-section.section-index section) ≡ f section = ap f (sym c.section-item.is) in
     let more : 1 + c.in_ok-more.more ≡ f section =
     ap (λ n. 1 + n) (c.in_ok-more.ensures.pages ∙ ap (λ (s : Settings). list_pages s.kind s (unlined_pairs (filled_pairs s section.pairs))) c.sized.ensures) in
-    let sum : c.in_ok-pages.pages ≡ c.loop-section.pages + (1 + c.in_ok-more.more) = grind (arith, c.in_ok-pages.ensures, c.ok_or.ensures, c.checked_add.ensures) in
+    let sum : c.in_ok-pages.pages ≡ c.loop-section.pages + (1 + c.in_ok-more.more) = grind
+    (arith, c.in_ok-pages.ensures, c.ok_or.ensures, c.checked_add.ensures) in
     let so_far = c.loop-section.invariant in
     omega (arith, step, here, more, sum, so_far)

@@ -31,4 +31,5 @@ loop-start-preserved c =
 
 pub returns-clause-pages : goal.returns-clause-pages
 returns-clause-pages c =
-    keys_end c.args.size c.args.bits c.loop-start.start c.loop-start.pages (slice_seen c.args.pairs) c.loop-start.left.items c.loop-start.invariant (omega arith)
+    keys_end c.args.size c.args.bits c.loop-start.start c.loop-start.pages (slice_seen c.args.pairs) c.loop-start.left.items c.loop-start.invariant
+    (omega arith)

@@ -10,11 +10,13 @@ returns-in-RecordTooLong c =
 
 pub returns-in-RecordZero : goal.returns-in-RecordZero
 returns-in-RecordZero c =
-    rw c.in-RecordZero.is (says_allowed (IsErrorAnswer c.args.limit (RecordZero _)) _ _ (c.faulty-in-RecordZero.ensures _ c.error_line-in-RecordZero.ensures) refl)
+    rw c.in-RecordZero.is (says_allowed (IsErrorAnswer c.args.limit (RecordZero _)) _ _ (c.faulty-in-RecordZero.ensures _ c.error_line-in-RecordZero.ensures)
+    refl)
 
 pub returns-in-QueueAmongNames : goal.returns-in-QueueAmongNames
 returns-in-QueueAmongNames c =
-    rw c.in-QueueAmongNames.is (says_allowed (IsErrorAnswer c.args.limit (QueueAmongNames _)) _ _ (c.faulty-in-QueueAmongNames.ensures _ c.error_line-in-QueueAmongNames.ensures) refl)
+    rw c.in-QueueAmongNames.is (says_allowed (IsErrorAnswer c.args.limit (QueueAmongNames _)) _ _
+    (c.faulty-in-QueueAmongNames.ensures _ c.error_line-in-QueueAmongNames.ensures) refl)
 
 pub returns-in-OntoKind : goal.returns-in-OntoKind
 returns-in-OntoKind c =

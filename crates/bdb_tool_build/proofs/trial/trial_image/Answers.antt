@@ -6,4 +6,5 @@ load-requires-clause-fit c = rw c.in-Ok.ensures (trial_loadable c.args.kind c.ar
 
 pub returns-in-Err-clause-refused : goal.returns-in-Err-clause-refused
 returns-in-Err-clause-refused c =
-    trial_refused c.args.limit c.from.result c.args.kind c.args.seed c.args.count c.in-Ok.sections c.in-Err.error c.refusal_of.result c.in-Ok.ensures c.from.ensures c.in-Err.ensures.refused c.refusal_of.ensures
+    trial_refused c.args.limit c.from.result c.args.kind c.args.seed c.args.count c.in-Ok.sections c.in-Err.error c.refusal_of.result c.in-Ok.ensures
+    c.from.ensures c.in-Err.ensures.refused c.refusal_of.ensures

@@ -11,10 +11,12 @@ loop-i-preserved g c =
 pub returns-in_err-item-clause-passes : goal.returns-in_err-item-clause-passes
 unfolding judgements_text
 returns-in_err-item-clause-passes g c =
-    place_cut g.K.Sink.written g.K.Sink.faults c.args.printer.now c.loop-i.printer c.item.new.self judgement_line c.args.all.now c.loop-i.i c.item.result c.from_residual.result
+    place_cut g.K.Sink.written g.K.Sink.faults c.args.printer.now c.loop-i.printer c.item.new.self judgement_line c.args.all.now c.loop-i.i c.item.result
+    c.from_residual.result
     c.in_err-item.field-0.0 (omega (arith, c.loop-i-test.true, c.len-i-end.ensures)) c.in_err-item.was (search rules) c.loop-i.invariant c.item.ensures.passes
 
 pub returns-clause-passes : goal.returns-clause-passes
 unfolding judgements_text
 returns-clause-passes g c =
-    all_passed g.K.Sink.written g.K.Sink.faults c.args.printer.now c.loop-i.printer judgement_line c.args.all.now c.loop-i.i (omega (arith, c.loop-i-test.false, c.len-i-end.ensures)) c.loop-i.invariant
+    all_passed g.K.Sink.written g.K.Sink.faults c.args.printer.now c.loop-i.printer judgement_line c.args.all.now c.loop-i.i
+    (omega (arith, c.loop-i-test.false, c.len-i-end.ensures)) c.loop-i.invariant

@@ -5,4 +5,5 @@ use Rattle.bdb_survey.proofs.whole_pages.WholePages.count.Goals as goal
 
 pub returns-clause-past : goal.returns-clause-past
 returns-clause-past c = λ p past.
-    ap (λ (f : File). page_at f p) (sym c.self.view_is) ∙ page_past c.self.inside.guess.order c.self.inside.guess.page_size c.self.inside.image.now p (omega (arith, past))
+    ap (λ (f : File). page_at f p) (sym c.self.view_is) ∙ page_past c.self.inside.guess.order c.self.inside.guess.page_size c.self.inside.image.now p
+    (omega (arith, past))

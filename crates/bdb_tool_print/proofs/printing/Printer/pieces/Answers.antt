@@ -10,7 +10,8 @@ loop-piece-init g c =
     begins _ _ _ _ _ (ap (flat_map (spelling c.args.print)) same ∙ spelling_joined c.args.print c.args.pieces)
 
 pub loop-piece-preserved : goal.loop-piece-preserved
-loop-piece-preserved g c = item_added _ _ _ _ _ (spelling c.args.print) _ _ _ _ _ c.in-Some.ensures.steps c.in_ok-spelled.was c.loop-piece.invariant c.spelled.ensures
+loop-piece-preserved g c = item_added _ _ _ _ _ (spelling c.args.print) _ _ _ _ _ c.in-Some.ensures.steps c.in_ok-spelled.was c.loop-piece.invariant
+    c.spelled.ensures
 
 pub returns-in_err-spelled : goal.returns-in_err-spelled
 returns-in_err-spelled g c =

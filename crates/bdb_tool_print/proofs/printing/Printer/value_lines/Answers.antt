@@ -10,7 +10,8 @@ loop-value-init g c =
     begins _ _ _ _ _ (ap (λ values. values_text c.args.print values.now) same)
 
 pub loop-value-preserved : goal.loop-value-preserved
-loop-value-preserved g c = item_added _ _ _ _ _ (value_line c.args.print) _ _ _ _ _ c.in-Some.ensures.steps c.in_ok-found_line.was c.loop-value.invariant c.found_line.ensures
+loop-value-preserved g c = item_added _ _ _ _ _ (value_line c.args.print) _ _ _ _ _ c.in-Some.ensures.steps c.in_ok-found_line.was c.loop-value.invariant
+    c.found_line.ensures
 
 pub returns-in_err-found_line : goal.returns-in_err-found_line
 returns-in_err-found_line g c =
